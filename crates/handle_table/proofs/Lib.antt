@@ -9,3 +9,4 @@ pub mod Merging
 pub mod Letting
 pub mod Absorbing
 pub mod Crews
+pub mod Manning

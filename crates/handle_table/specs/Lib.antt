@@ -11,3 +11,5 @@ pub mod Visits
 pub mod Parting
 pub mod Programs
 pub mod Leading
+pub mod Staffs
+pub mod Peeks

@@ -47,6 +47,10 @@ Clashes ss ts k why = ⊥
 abbrev pub WhyNotJoined : List Slot → List Slot → Fault → Type 0
 WhyNotJoined ss ts why = (k : ℕ) × Clashes ss ts k why × ((i : ℕ) → i < k → IsFree ss ts i)
 
+-- a desk gives no part of it, or there was no memory for that
+abbrev pub IsRefusedPart : Refusal → Type 0
+IsRefusedPart why = (why ≡ Limit) ⊎ ((why ≡ Full) ⊎ (why ≡ Memory))
+
 module _ {V : Type 0} where
   -- why a desk gives no part of allowance a, with k blocks and n handles: each refusal just where none before it comes
   pub record WhyNoPart (d : DeskNow V) (a k n : ℕ) (why : Refusal) : Type 0 where

@@ -12,6 +12,7 @@ mod opening;
 mod parting;
 mod program;
 mod slots;
+mod staff;
 mod table;
 
 pub use atomic_cells::SharedMember;
@@ -19,6 +20,8 @@ pub use cells::Cell;
 pub use ends::Remains;
 pub use fault::{Fault, Returned};
 pub use leading::{Leader, run_leader};
+pub use looks::Peeked;
 pub use program::{Crew, Manned, Program, Ran, Team, run};
 pub use shared_handle::{Gone, Round};
+pub use staff::{Share, Work, run_workers};
 pub use table::{HandleTable, Home};

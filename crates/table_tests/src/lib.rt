@@ -29,4 +29,6 @@ mod slots;
 #[cfg(test)]
 mod splits;
 #[cfg(test)]
+mod staff;
+#[cfg(test)]
 mod teams;

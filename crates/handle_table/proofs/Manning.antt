@@ -1,0 +1,117 @@
+-- Workers and tables that are put together and taken apart from the ends of their lists, and what each worker did.
+use Rattle.std.proofs.Common.{◌≡◌, ℕ, suc, ◌<◌, List, [], ◌∷◌, ◌++◌, length, map, reverse, ap, sym, ◌∙◌, subst, arith, refl}
+use Rattle.std.specs.Prelude.{All, slice_index_or}
+use Rattle.std.specs.List.{AllZip}
+use Rattle.std.proofs.lemmas.List.{append_assoc, map-append, reverse-append}
+use Rattle.std.proofs.lemmas.List.Elements.{AllZip-push}
+use Rattle.control_word.specs.declared.shape.Shape.{Shape}
+use Rattle.control_block.specs.Census.{CensusNow}
+use Rattle.control_block.specs.Desks.{Begins, DeskNow, DomainNow}
+use Rattle.handle_table.specs.Parting.{AbsorbsAll, IsNew, IsPartedInto, WindsUp}
+use Rattle.handle_table.specs.Programs.{IsClosed}
+use Rattle.handle_table.specs.Staffs.{Doing, EachDoes, Shifts, Staffs, StaffsIn, StaffsOut}
+use Rattle.handle_table.specs.Tables.{TableNow}
+use Rattle.handle_table.specs.declared.staff.Share.{Share}
+
+-- a list from its end
+turned : {X B : Type 0} (f : X → B) (xs : List X) (x : X) → reverse (map f (xs ++ x ∷ [])) ≡ f x ∷ reverse (map f xs)
+turned f xs x = ap reverse (map-append f xs (x ∷ [])) ∙ reverse-append (map f xs) (f x ∷ [])
+
+-- the last of what is left is put behind what was
+pub put : {X B : Type 0} (f : X → B) (all now rest : List B) (xs ys : List X) (x : X) → all ≡ now ++ reverse (map f xs)
+    → now ≡ rest ++ f x ∷ [] → ys ≡ xs ++ x ∷ []
+    → all ≡ rest ++ reverse (map f ys)
+put f all now rest xs ys x is last more =
+    is
+    ∙ (ap (λ l. l ++ reverse (map f xs)) last
+    ∙ (append_assoc rest (f x ∷ []) (reverse (map f xs))
+    ∙ ap (λ l. rest ++ l) (sym (ap (λ l. reverse (map f l)) more ∙ turned f xs x))))
+
+-- the last of what is there goes behind what went
+pub gone : {X B : Type 0} (f : X → B) (all went now : List B) (xs ys : List X) (x : X) → all ≡ went ++ reverse (map f xs)
+    → xs ≡ ys ++ x ∷ [] → now ≡ went ++ f x ∷ []
+    → all ≡ now ++ reverse (map f ys)
+gone f all went now xs ys x is last more =
+    is
+    ∙ (ap (λ l. went ++ l) (ap (λ l. reverse (map f l)) last ∙ turned f ys x)
+    ∙ (sym (append_assoc went (f x ∷ []) (reverse (map f ys)))
+    ∙ ap (λ l. l ++ reverse (map f ys)) (sym more)))
+
+-- two lists whose places are so
+pub zipped : {X : Type 0} (R : X → X → Type 0) (xs ys : List X) → length ys ≡ length xs
+    → ((i : ℕ) (d : X) → i < length xs → R (slice_index_or xs i d) (slice_index_or ys i d)) → AllZip R xs ys
+zipped R [] [] e h = tt
+zipped R [] (y ∷ ys) e h = let no : ⊥ = omega (arith, e) in absurd no
+zipped R (x ∷ xs) [] e h = let no : ⊥ = omega (arith, e) in absurd no
+zipped R (x ∷ xs) (y ∷ ys) e h =
+    (h 0 x (omega arith), zipped R xs ys (omega (arith, e)) (λ i d lt. h (suc i) d (omega (arith, lt))))
+
+reversed : {X : Type 0} (x : X) (xs : List X) → reverse (x ∷ xs) ≡ reverse xs ++ x ∷ []
+reversed x xs = reverse-append (x ∷ []) xs
+
+zip_reversed : {X : Type 0} (R : X → X → Type 0) (xs ys : List X) → AllZip R xs ys → AllZip R (reverse xs) (reverse ys)
+zip_reversed R [] [] h = tt
+zip_reversed R [] (y ∷ ys) h = absurd h
+zip_reversed R (x ∷ xs) [] h = absurd h
+zip_reversed R (x ∷ xs) (y ∷ ys) h =
+    subst (λ l. AllZip R l (reverse (y ∷ ys))) (sym (reversed x xs))
+    (subst (λ l. AllZip R (reverse xs ++ x ∷ []) l) (sym (reversed y ys))
+    (AllZip-push R (reverse xs) (reverse ys) x y (zip_reversed R xs ys h.1) h.0))
+
+map_reversed : {X B : Type 0} (f : X → B) (xs : List X) → map f (reverse xs) ≡ reverse (map f xs)
+map_reversed f [] = refl
+map_reversed f (x ∷ xs) =
+    ap (map f) (reversed x xs)
+    ∙ (map-append f (reverse xs) (x ∷ [])
+    ∙ (ap (λ l. l ++ f x ∷ []) (map_reversed f xs) ∙ sym (reversed (f x) (map f xs))))
+
+module _ {V W X : Type 0} (worker : X → W) (table : X → TableNow V) (does : Doing V W) where
+  each_of : (xs ys : List X) → AllZip (λ p q. does (worker p) (table p) (worker q) (table q)) xs ys
+      → EachDoes does (map worker xs) (map table xs) (map worker ys) (map table ys)
+  each_of [] [] h = tt
+  each_of [] (y ∷ ys) h = absurd h
+  each_of (x ∷ xs) [] h = absurd h
+  each_of (x ∷ xs) (y ∷ ys) h = (h.0, each_of xs ys h.1)
+
+  -- all of them worked, and their tables were absorbed
+  pub staffed : (t x u : TableNow V) (share : Share) (had has : List W) (lent left : List (TableNow V)) (posts after : List X)
+      → IsPartedInto t.desk share.allowance share.blocks lent x.desk → All (IsNew share.slots) lent
+      → (x.slots ≡ t.slots) × (x.endings ≡ t.endings)
+      → lent ≡ reverse (map table posts) → had ≡ reverse (map worker posts)
+      → left ≡ reverse (map table after) → has ≡ reverse (map worker after)
+      → AllZip (λ p q. does (worker p) (table p) (worker q) (table q)) posts after → AbsorbsAll x left u
+      → Staffs does t share had has u
+  staffed t x u share had has lent left posts after parts new rest a b c d all absorbs =
+      let is : x ≡ record t { desk = x.desk } = λ i. record { desk = x.desk; slots = rest.0 i; endings = rest.1 i } in
+      let each = each_of (reverse posts) (reverse after)
+      (zip_reversed (λ p q. does (worker p) (table p) (worker q) (table q)) posts after all) in
+      record {
+        lent = lent;
+        between = x.desk;
+        parts = parts;
+        new = new;
+        left = left;
+        each = subst (λ l. EachDoes does l lent has left) (map_reversed worker posts ∙ sym b)
+            (subst (λ l. EachDoes does (map worker (reverse posts)) l has left) (map_reversed table posts ∙ sym a)
+            (subst (λ l. EachDoes does (map worker (reverse posts)) (map table (reverse posts)) l left) (map_reversed worker after ∙ sym d)
+            (subst (λ l. EachDoes does (map worker (reverse posts)) (map table (reverse posts)) (map worker (reverse after)) l)
+            (map_reversed table after ∙ sym c) each)));
+        absorbs = subst (λ (y : TableNow V). AbsorbsAll y left u) is absorbs;
+      }
+
+module _ {V W : Type 0} (does : Doing V W) where
+  pub staffs_out : (t u : TableNow V) (share : Share) (had has : List W) (last : DeskNow V) → Staffs does t share had has u → WindsUp u last
+      → StaffsOut does t share had has last
+  staffs_out t u share had has last staffs winds = record { after = u; staffs = staffs; winds_up = winds }
+
+  pub staffs_in : (domain : DomainNow) (d : DeskNow V) (t : TableNow V) (share : Share) (had has : List W) (last : DeskNow V) → Begins domain d
+      → t.desk ≡ d → IsNew share.slots t → StaffsOut does t share had has last
+      → StaffsIn does domain share had has last
+  staffs_in domain d t share had has last begins is new out =
+      record { first = t; begins = subst (λ (x : DeskNow V). Begins domain x) (sym is) begins; new = new; out = out }
+
+  pub shifts : (domain : DomainNow) (shape : Shape) (share : Share) (had has : List W) (last : DeskNow V) (c : CensusNow) → domain.shape ≡ shape
+      → StaffsIn does domain share had has last → IsClosed last domain.shape c
+      → Shifts V does shape share had has c
+  shifts domain shape share had has last c of works is =
+      record { domain = domain; of = of; last = last; works = works; closed = subst (λ (s : Shape). IsClosed last s c) of is }

@@ -1,0 +1,239 @@
+//! Workers with a state of their own over a domain of their own, with a table for each.
+ghost use Rattle.std.specs.Prelude.{◌≡◌, ◌⊎◌, ◌↔◌, ◌≤◌, [], All, length, map, reverse};
+ghost use Rattle.std.specs.Prelude.{vec_capacity};
+ghost use Rattle.std.specs.Prelude.{IfErr, IfNone, IfOk, IfSome};
+ghost use Rattle.std.specs.List.{AllZip};
+ghost use Rattle.control_word.specs.Layout.{IsWithinLimits};
+ghost use Rattle.control_block.specs.Desks.{Begins, Belongs, DeskNow, endings_of};
+ghost use Rattle.shared_handle.specs.Piles.{Bears};
+ghost use Rattle.handle_table.specs.Parting.{IsRefusedPart};
+ghost use Rattle.handle_table.specs.Staffs.{Shifts, Staffs, StaffsIn, StaffsOut};
+ghost use Rattle.handle_table.specs.Tables.{AllVacant, Fits, on_pile};
+
+use crate::opening::{Opened, open_domain};
+use crate::program::{Crew, Team, close_bare, first_table};
+use crate::table::{HandleTable, Home};
+use control_block::census::Census;
+use control_block::desk::Desk;
+use control_block::domain::Domain;
+use control_word::{Refusal, Shape};
+use shared_handle::{Held, Pile};
+use std::alloc::Global;
+use std::marker::Brand;
+use std::sync::Wait;
+use std::thread::{Threads, for_each_mut};
+
+/// What a worker with a state of its own does, in a thread with a table of its own. `does` says what comes of it: by
+/// the worker and its table before and after. A worker that gives no such member says nothing.
+pub trait Work<V: Drop + Send, R: Threads + Wait + Sync> {
+    ghost use Rattle.handle_table.specs.Tables.{TableNow};
+
+    ghost does: { Self → TableNow V → Self → TableNow V → Type 0 } = { λ _ _ _ _. Unit {0} };
+
+    fn work<H: Home>(&mut self, rt: &R, table: &mut HandleTable<'_, V, H>)
+        ensures { does self.old table.old self.new table.new };
+}
+
+/// What each worker gets: slots, a part of the allowance, and vacant blocks.
+#[derive(Clone, Copy, Drop)]
+pub struct Share {
+    pub slots: usize,
+    pub allowance: u32,
+    pub blocks: u32,
+}
+
+/// A worker with its table.
+struct Post<'d, V: Drop + Send, H: Home, W> {
+    worker: W,
+    table: HandleTable<'d, V, H>,
+}
+
+/// Each worker is with the table of its number.
+fn man<'d, V: Drop + Send, H: Home, W>(
+    tables: &mut Vec<HandleTable<'d, V, H>>,
+    workers: &mut Vec<W>,
+    posts: &mut Vec<Post<'d, V, H, W>>,
+)
+    requires many { length tables.old.items ≡ length workers.old.items }
+    requires room { (posts.old.items ≡ []) × (length workers.old.items ≤ vec_capacity posts.old) }
+    ensures tables { tables.old.items ≡ reverse (map (λ p. p.table) posts.new.items) }
+    ensures workers { workers.old.items ≡ reverse (map (λ p. p.worker) posts.new.items) }
+    ensures none { (tables.new.items ≡ []) × (workers.new.items ≡ []) }
+    ensures room { (vec_capacity tables.new ≡ vec_capacity tables.old)
+        × (vec_capacity workers.new ≡ vec_capacity workers.old) }
+{
+    while let Some(table) = tables.pop() {
+        match workers.pop() {
+            Some(worker) => posts.push_reserved(Post { worker, table }),
+            None => unreachable!(),
+        }
+    }
+}
+
+/// The workers, and the tables that they leave.
+fn dismiss<'d, V: Drop + Send, H: Home, W>(
+    posts: &mut Vec<Post<'d, V, H, W>>,
+    tables: &mut Vec<HandleTable<'d, V, H>>,
+    workers: &mut Vec<W>,
+)
+    requires tables { (tables.old.items ≡ []) × (length posts.old.items ≤ vec_capacity tables.old) }
+    requires workers { (workers.old.items ≡ []) × (length posts.old.items ≤ vec_capacity workers.old) }
+    ensures tables { tables.new.items ≡ reverse (map (λ p. p.table) posts.old.items) }
+    ensures workers { workers.new.items ≡ reverse (map (λ p. p.worker) posts.old.items) }
+    ensures none { posts.new.items ≡ [] }
+{
+    while let Some(post) = posts.pop() {
+        let Post { worker, table } = post;
+        tables.push_reserved(table);
+        workers.push_reserved(worker);
+    }
+}
+
+/// Each worker works, in a thread with its table.
+fn post_all<
+    'd,
+    V: Drop + Send,
+    H: Home + Send + Sync,
+    R: Threads + Wait + Sync,
+    W: Work<V, R> + Send,
+>(rt: &R, posts: &mut Vec<Post<'d, V, H, W>>, threads: usize)
+    ensures { AllZip (λ p q. W.does p.worker p.table q.worker q.table) posts.old.items posts.new.items }
+{
+    let work = |_: usize, post: &mut Post<'_, V, H, W>|
+        ensures { W.does post.old.worker post.old.table post.new.worker post.new.table }
+    { post.worker.work::<H>(rt, &mut post.table) };
+    for_each_mut(rt, posts.as_mut_slice(), threads.max(1), &work);
+}
+
+impl<'d, V: Drop + Send, H: Home + Send + Sync> HandleTable<'d, V, H> {
+    /// Each worker works, in a thread with a table of its own, and all that they leave with these comes back: the
+    /// handles in their slots leave, and what is left to end does so (own). Or why a worker had no table: then none
+    /// works.
+    pub(crate) fn staff<R: Threads + Wait + Sync, W: Work<V, R> + Send>(
+        &mut self,
+        rt: &R,
+        alloc: Global,
+        share: Share,
+        workers: &mut Vec<W>,
+    ) -> Option<Refusal>
+        ensures staffs { IfNone result (Staffs W.does self.old share workers.old.items workers.new.items self.new) }
+        ensures refused { IfSome result (λ why. IsRefusedPart why × (workers.new.items ≡ workers.old.items)) }
+    {
+        let many = workers.len();
+        let Ok(mut posts) = Vec::with_capacity(alloc, many) else {
+            return Some(Refusal::Memory);
+        };
+        let Share {
+            slots,
+            allowance,
+            blocks,
+        } = share;
+        let team = Team {
+            workers: many,
+            slots,
+            allowance,
+            blocks,
+        };
+        let crew = self.team(alloc, team);
+        let Crew { tables, fewer } = crew;
+        let mut tables = tables;
+        if let Some(why) = fewer {
+            posts.destroy_empty();
+            self.absorb_all(rt, tables);
+            return Some(why);
+        }
+        man(&mut tables, workers, &mut posts);
+        post_all::<V, H, R, W>(rt, &mut posts, many);
+        dismiss(&mut posts, &mut tables, workers);
+        posts.destroy_empty();
+        self.absorb_all(rt, tables);
+        None
+    }
+}
+
+/// The workers work, and the desk that has all they leave closes the domain.
+fn staff_at<V: Drop + Send, H: Home + Send + Sync, R: Threads + Wait + Sync, W: Work<V, R> + Send>(
+    rt: &R,
+    alloc: Global,
+    table: HandleTable<'_, V, H>,
+    share: Share,
+    workers: &mut Vec<W>,
+) -> (Desk<V>, Option<Refusal>)
+    ensures here { Belongs result.0 H.domain }
+    ensures none { Fits result.0 [] × (endings_of result.0 ≡ 0) }
+    ensures works { IfNone result.1
+        (StaffsOut W.does table.entry share workers.old.items workers.new.items result.0) }
+    ensures refused { IfSome result.1 (λ why. IsRefusedPart why × (workers.new.items ≡ workers.old.items)) }
+{
+    let mut table = table;
+    let refused = table.staff::<R, W>(rt, alloc, share, workers);
+    (table.into_desk(rt), refused)
+}
+
+/// The same in a domain with its first desk.
+fn staff_in<V: Drop + Send, H: Home + Send + Sync, R: Threads + Wait + Sync, W: Work<V, R> + Send>(
+    rt: &R,
+    alloc: Global,
+    domain: &Domain<V>,
+    desk: Desk<V>,
+    slots: Vec<Option<Held>>,
+    pile: Pile<V>,
+    share: Share,
+    workers: &mut Vec<W>,
+) -> (Desk<V>, Option<Refusal>)
+    requires home { domain.now ≡ H.domain }
+    requires desk { Begins domain.now desk }
+    requires slots { AllVacant slots.items × (length slots.items ≡ share.slots) }
+    requires pile { (d : DeskNow V) → Belongs d domain.now → endings_of d ≡ 0 → Bears domain.now d pile }
+    requires empty { on_pile pile ≡ [] }
+    ensures here { Belongs result.0 domain.now }
+    ensures none { Fits result.0 [] × (endings_of result.0 ≡ 0) }
+    ensures works { IfNone result.1
+        (StaffsIn W.does domain.now share workers.old.items workers.new.items result.0) }
+    ensures refused { IfSome result.1 (λ why. IsRefusedPart why × (workers.new.items ≡ workers.old.items)) }
+{
+    let table = first_table::<V, H>(domain, desk, slots, pile);
+    staff_at::<V, H, R, W>(rt, alloc, table, share, workers)
+}
+
+/// A domain is opened, each worker does its part in a thread with a table of its own, and the domain is closed (own).
+/// The handles that a worker leaves in its slots leave, and what is left to end does so. What `Work::does` says of a
+/// worker and its table holds of each, and the tables are parts of a first one, which has all again at the end.
+///
+/// It is refused `Shape` just where the shape is outside the limits, `Memory` only where a growth was really refused,
+/// `Limit` or `Full` where there is no such share for each, and `NotSole` where a worker kept a table for itself. Only
+/// with the last has any worked.
+pub fn run_workers<V: Drop + Send, R: Threads + Wait + Sync, W: Work<V, R> + Send>(
+    rt: &R,
+    alloc: Global,
+    shape: Shape,
+    share: Share,
+    workers: &mut Vec<W>,
+) -> Result<Census<V>, Refusal>
+    ensures works { IfOk result
+        (Shifts V W.does shape share workers.old.items workers.new.items) }
+    ensures within { IfOk result (λ _. IsWithinLimits shape) }
+    ensures shape { IfErr result (λ why. why ≡ Refusal.Shape ↔ (IsWithinLimits shape → ⊥)) }
+    ensures refused { IfErr result
+        (λ why. (why ≡ Refusal.Shape) ⊎ ((why ≡ Refusal.NotSole) ⊎ IsRefusedPart why)) }
+    ensures kept { IfErr result
+        (λ why. (why ≡ Refusal.NotSole) ⊎ (workers.new.items ≡ workers.old.items)) }
+{
+    let Opened {
+        domain,
+        desk,
+        slots,
+        pile,
+    } = open_domain::<V>(alloc, shape, share.slots)?;
+    let (desk, refused) = staff_in::<V, Brand, R, W>(
+        rt, alloc, &domain, desk, slots, pile, share, workers,
+    );
+    let closed = close_bare(domain, desk);
+    match refused {
+        None => closed,
+        Some(why) => {
+            drop(closed);
+            Err(why)
+        }
+    }
+}
