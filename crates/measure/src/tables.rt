@@ -3,7 +3,7 @@ use crate::rounds::FIELDS;
 use crate::rows::line_of;
 use crate::timing::{CHUNKS, SPAN, Spent, nanos};
 use control_word::Shape;
-use handle_table::{Cell, HandleTable, Home, Program, Team, run};
+use handle_table::{Cell, Fault, HandleTable, Home, Program, Team, run};
 use std::alloc::Global;
 use std::io;
 use std::rt::Clock;
@@ -62,19 +62,35 @@ impl Work {
     }
 }
 
+/// Whether a call was done.
+fn done<T: Drop>(told: Result<T, Fault>) -> bool {
+    match told {
+        Ok(_) => true,
+        Err(_) => false,
+    }
+}
+
+/// A new object of the worker's in a slot: whether there is one.
+fn made<H: Home>(table: &mut HandleTable<'_, (), H>, to: usize) -> bool {
+    match table.make(to, FIELDS, false, ()) {
+        Ok(()) => true,
+        Err(_) => false,
+    }
+}
+
 /// The slots and the cell are filled: whether no call was refused.
 fn fill<H: Home>(table: &mut HandleTable<'_, (), H>) -> bool {
-    table.make(OWN, FIELDS, false, ()).is_ok()
-        && table.downgrade(OWN, WEAK).is_ok()
-        && table.copy(OWN, SPARE).is_ok()
-        && table.store(SPARE, CELL).is_ok()
+    made(table, OWN)
+        && done(table.downgrade(OWN, WEAK))
+        && done(table.copy(OWN, SPARE))
+        && done(table.store(SPARE, CELL))
 }
 
 fn make_and_end<H: Home, R: Wait>(rt: &R, table: &mut HandleTable<'_, (), H>) -> bool {
     let mut whole = true;
     for _ in 0..CHUNK {
-        whole &= table.make(SPARE, FIELDS, false, ()).is_ok();
-        whole &= table.reset(SPARE).is_ok();
+        whole &= made(table, SPARE);
+        whole &= done(table.reset(SPARE));
         table.settle(rt);
     }
     whole
@@ -83,8 +99,8 @@ fn make_and_end<H: Home, R: Wait>(rt: &R, table: &mut HandleTable<'_, (), H>) ->
 fn copy_and_reset<H: Home>(table: &mut HandleTable<'_, (), H>) -> bool {
     let mut whole = true;
     for _ in 0..CHUNK {
-        whole &= table.copy(OWN, SPARE).is_ok();
-        whole &= table.reset(SPARE).is_ok();
+        whole &= done(table.copy(OWN, SPARE));
+        whole &= done(table.reset(SPARE));
     }
     whole
 }
@@ -92,8 +108,8 @@ fn copy_and_reset<H: Home>(table: &mut HandleTable<'_, (), H>) -> bool {
 fn lock_and_reset<H: Home, R: Wait>(rt: &R, table: &mut HandleTable<'_, (), H>) -> bool {
     let mut whole = true;
     for _ in 0..CHUNK {
-        whole &= table.lock(rt, WEAK, SPARE).is_ok();
-        whole &= table.reset(SPARE).is_ok();
+        whole &= done(table.lock(rt, WEAK, SPARE));
+        whole &= done(table.reset(SPARE));
     }
     whole
 }
@@ -101,8 +117,8 @@ fn lock_and_reset<H: Home, R: Wait>(rt: &R, table: &mut HandleTable<'_, (), H>) 
 fn load_and_reset<H: Home, R: Wait>(rt: &R, table: &mut HandleTable<'_, (), H>) -> bool {
     let mut whole = true;
     for _ in 0..CHUNK {
-        whole &= table.load(rt, CELL, SPARE).is_ok();
-        whole &= table.reset(SPARE).is_ok();
+        whole &= done(table.load(rt, CELL, SPARE));
+        whole &= done(table.reset(SPARE));
     }
     whole
 }
