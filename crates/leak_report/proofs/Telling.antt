@@ -23,7 +23,7 @@ use Rattle.owner_graph.proofs.Stepping.{same_at}
 use Rattle.std.specs.Global.{Vec}
 use Rattle.leak_report.specs.Findings.{Findings, held_at, ties_at}
 use Rattle.holders.specs.Holdings.{AllCounted}
-use Rattle.leak_report.specs.Left.{IsCountedAt, IsLeft, IsLeftText, TellsOf}
+use Rattle.leak_report.specs.Left.{IsCountedAt, IsLeftText, TellsOf}
 use Rattle.leak_report.specs.Circles.{circles}
 use Rattle.leak_report.specs.Lines.{all_lines, held_lines_if, holder_lines, left_lines, left_text, listing}
 
@@ -76,19 +76,15 @@ counted_at c blocks hs all is h =
     (subst (λ (l : List Holding). AllCounted c.extent.shape.shared_cells blocks (state_in c) l) is h)
 
 -- what was answered may be forgotten
-pub forgotten_as : (draws leaks : Bool) (fault : Fault) (bytes list text : List ℕ) → IsRun (IsLeft draws (Ok leaks)) bytes list text
-    → IsRun (IsLeft draws (Err fault)) bytes list text
-forgotten_as draws leaks fault bytes list text h = record {
+pub forgotten : (draws leaks : Bool) (fault : Fault) (bytes list text : List ℕ) → IsRun (IsLeftText draws (Ok leaks)) bytes list text
+    → IsRun (IsLeftText draws (Err fault)) bytes list text
+forgotten draws leaks fault bytes list text h = record {
   script = h.script;
   turns = h.turns;
   reads = h.reads;
   listed = h.listed;
   says = record { last = h.says.last; runs = h.says.runs; leaks = h.says.leaks; tells = h.says.tells; answers = tt };
 }
-
-pub forgotten : (leaks : Bool) (fault : Fault) (bytes list text : List ℕ) → IsRun (IsLeftText (Ok leaks)) bytes list text
-    → IsRun (IsLeftText (Err fault)) bytes list text
-forgotten leaks fault bytes list text h = forgotten_as false leaks fault bytes list text h
 
 -- a mark, and a row, at a block's number
 pub mark_is : (xs : List Bool) (i n : ℕ) (r : Bool) → i ≡ n → n < length xs → r ≡ get_or xs i r → r ≡ slice_index_or xs n false
@@ -106,7 +102,7 @@ row_is rows i n v items held is lt e it h =
 
 -- a run's end, and what is told of it
 pub left_told : (bytes list : List ℕ) (c : Scene) (draws leaks : Bool) (text : List ℕ) → IsEnd bytes list c → TellsOf c draws leaks text
-    → IsRun (IsLeft draws (Ok leaks)) bytes list text
+    → IsRun (IsLeftText draws (Ok leaks)) bytes list text
 left_told bytes list c draws leaks text e t = record {
   script = e.script;
   turns = e.turns;

@@ -65,18 +65,10 @@ Answers (Ok answer) leaks = answer ≡ leaks
 Answers (Err fault) leaks = Unit {0}
 
 -- a script's run with these turns comes to this end, and the text tells what is left there, or draws it
-pub record IsLeft (draws : Bool) (answer : Result Bool Fault) (script : ScriptView) (turns text : List ℕ)
+pub record IsLeftText (draws : Bool) (answer : Result Bool Fault) (script : ScriptView) (turns text : List ℕ)
     : Type 0 where
   pub last : Scene
   pub runs : IsRunOut turns (script_scene script) last
   pub leaks : Bool
   pub tells : TellsOf last draws leaks text
   pub answers : Answers answer leaks
-
--- the text tells it
-abbrev pub IsLeftText : Result Bool Fault → ScriptView → List ℕ → List ℕ → Type 0
-IsLeftText answer = IsLeft false answer
-
--- the text draws it
-abbrev pub IsLeftGraph : Result Bool Fault → ScriptView → List ℕ → List ℕ → Type 0
-IsLeftGraph answer = IsLeft true answer

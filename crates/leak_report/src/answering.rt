@@ -3,7 +3,7 @@ ghost use Rattle.std.specs.Prelude.{◌≡◌, ℕ, IfErr, IfOk, false, string_b
 ghost use Rattle.script_stepper.specs.Ends.{IsEnd, IsRefused};
 ghost use Rattle.script_stepper.specs.Runs.{Delivers, Tells, is_output};
 ghost use Rattle.step_core.specs.Worlds.{scene};
-ghost use Rattle.leak_report.specs.Left.{IsLeft, IsLeftGraph, IsLeftText, TellsOf};
+ghost use Rattle.leak_report.specs.Left.{IsLeftText, TellsOf};
 
 use crate::graph::drawn_at;
 use crate::listing::{Left, left_at};
@@ -24,7 +24,7 @@ fn told_at(alloc: Global, end: &End, draws: bool) -> Result<Left, AllocError>
 
 /// Runs a script, and tells what is left at its end, or draws it.
 fn left_of(alloc: Global, script: &[u8], turns: &[u8], draws: bool) -> Result<Left, Fault>
-    ensures told { IfOk result (λ left. Tells (IsLeft draws (Ok left.leaks)) script.now turns.now
+    ensures told { IfOk result (λ left. Tells (IsLeftText draws (Ok left.leaks)) script.now turns.now
         (Ok (string_bytes left.text))) }
     ensures refused { IfErr result (λ fault. IsRefused script.now turns.now fault) }
 {
@@ -33,24 +33,6 @@ fn left_of(alloc: Global, script: &[u8], turns: &[u8], draws: bool) -> Result<Le
         Ok(left) => Ok(left),
         Err(_) => Err(Fault::Memory),
     }
-}
-
-/// Runs a script, and writes what is left at its end, told or drawn.
-fn write_left<S: Sink>(
-    alloc: Global,
-    script: &[u8],
-    turns: &[u8],
-    draws: bool,
-    writer: &mut S,
-) -> Result<bool, Fault>
-    requires { S.has_failed writer.old ≡ false }
-    ensures holds { Delivers (Tells (IsLeft draws result) script.now turns.now) result
-        (S.taken writer.old) (S.taken writer.new) }
-    ensures failed { S.has_failed writer.new ≡ is_output result }
-{
-    let left = left_of(alloc, script, turns, draws)?;
-    write_text(left.text.as_bytes(), writer)?;
-    Ok(left.leaks)
 }
 
 /// Runs a script with a list of turns, as [`script_stepper::step_text`] does, and writes what is left at its end, in
@@ -62,6 +44,10 @@ fn write_left<S: Sink>(
 /// for a member of the object in block 2. These handles are just those that N and K count. The last line is
 /// `made M ended E left L`.
 ///
+/// Where `draws` is so, it writes the same as a graph for Graphviz instead: a node `bB` for each such block, with the
+/// fields of its object, and a line for each handle from the block or the free cell where it is to the block that it
+/// is on.
+///
 /// Refused, in this order: by 1 where a growth was refused, by 10 just where a line of the script is faulty, by 11 just
 /// where a number of the list is, with nothing written; by 12 just where the writer has failed, which then took a
 /// beginning of the text. The writer hasn't failed before.
@@ -69,30 +55,15 @@ pub fn left_text<S: Sink>(
     alloc: Global,
     script: &[u8],
     turns: &[u8],
+    draws: bool,
     writer: &mut S,
 ) -> Result<bool, Fault>
     requires { S.has_failed writer.old ≡ false }
-    ensures holds { Delivers (Tells (IsLeftText result) script.now turns.now) result
+    ensures holds { Delivers (Tells (IsLeftText draws result) script.now turns.now) result
         (S.taken writer.old) (S.taken writer.new) }
     ensures failed { S.has_failed writer.new ≡ is_output result }
 {
-    write_left(alloc, script, turns, false, writer)
-}
-
-/// The same, drawn (own): a graph for Graphviz, with a node `bB` for each block B that isn't vacant, which shows the
-/// fields of its object, and a line for each handle, from the block or the free cell where it is to the block that it
-/// is on. Blocks of a knot that owners tie are orange, other leaked ones grey; owners are full lines, red where they
-/// tie a knot and bold where they cut it, and weak handles dashed. It is refused as [`left_text`] is.
-pub fn left_graph<S: Sink>(
-    alloc: Global,
-    script: &[u8],
-    turns: &[u8],
-    writer: &mut S,
-) -> Result<bool, Fault>
-    requires { S.has_failed writer.old ≡ false }
-    ensures holds { Delivers (Tells (IsLeftGraph result) script.now turns.now) result
-        (S.taken writer.old) (S.taken writer.new) }
-    ensures failed { S.has_failed writer.new ≡ is_output result }
-{
-    write_left(alloc, script, turns, true, writer)
+    let left = left_of(alloc, script, turns, draws)?;
+    write_text(left.text.as_bytes(), writer)?;
+    Ok(left.leaks)
 }

@@ -10,4 +10,4 @@ mod knotting;
 mod lines;
 mod listing;
 
-pub use answering::{left_graph, left_text};
+pub use answering::left_text;

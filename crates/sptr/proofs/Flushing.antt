@@ -27,12 +27,12 @@ delivers_flushed {A} told (Err f) a b c h k e =
     subst (λ (g : Fault). Delivers {A = A} told (Err g) a c) (sym e) (h.0, h.1, all_of a c h.0 (kept_after a b c h.0 h.2 k))
 
 -- what was answered is forgotten where the flush fails
-pub left_unflushed : (bytes list : List ℕ) (leaks : Bool) (fault : Fault) (a b c : Option (List ℕ))
-    → (text : List ℕ) × Tells (IsLeftText (Ok leaks)) bytes list (Ok text) × Appends a b text
-    → Keeps b c → fault ≡ Output → Delivers {A = Bool} (Tells (IsLeftText (Err fault)) bytes list) (Err fault) a c
-left_unflushed bytes list leaks fault a b c h k e =
-    subst (λ (f : Fault). Delivers {A = Bool} (Tells (IsLeftText (Err f)) bytes list) (Err f) a c) (sym e)
-    (h.0, forgotten leaks Output bytes list h.0 h.1, all_of a c h.0 (kept_after a b c h.0 h.2 k))
+pub left_unflushed : (draws : Bool) (bytes list : List ℕ) (leaks : Bool) (fault : Fault) (a b c : Option (List ℕ))
+    → (text : List ℕ) × Tells (IsLeftText draws (Ok leaks)) bytes list (Ok text) × Appends a b text
+    → Keeps b c → fault ≡ Output → Delivers {A = Bool} (Tells (IsLeftText draws (Err fault)) bytes list) (Err fault) a c
+left_unflushed draws bytes list leaks fault a b c h k e =
+    subst (λ (f : Fault). Delivers {A = Bool} (Tells (IsLeftText draws (Err f)) bytes list) (Err f) a c) (sym e)
+    (h.0, forgotten draws leaks Output bytes list h.0 h.1, all_of a c h.0 (kept_after a b c h.0 h.2 k))
 
 delivers_unless : {A : Type 0} (told : Result (List ℕ) Fault → Type 0) (r : Result A Fault) (a b : Option (List ℕ)) → Delivers told r a b
     → Delivers (UnlessInput told) r a b

@@ -9,7 +9,7 @@ use Rattle.clap.specs.declared.error.kind.ErrorKind.TheVariants as kind
 use Rattle.clap.proofs.OnLiterals.{clap_on_literals}
 use Rattle.sptr.specs.CommandLine.{Asks, AsksPlainly, IsLine, check_line, command_named, convert_line, file_word}
 use Rattle.sptr.specs.CommandLine.{fine_line, left_line, names_file, program, run_line, step_line}
-use Rattle.sptr.specs.CommandLine.{turns_file_option, turns_given, turns_option}
+use Rattle.sptr.specs.CommandLine.{dot_option, dot_words, draws_given, turns_file_option, turns_given, turns_option}
 use Rattle.sptr.specs.declared.command.Asked.{Asked}
 use Rattle.sptr.specs.declared.command.Asked.TheVariants.{Check, Convert, Fine, Left, Run, Step}
 
@@ -18,66 +18,84 @@ IsFor command list words = (fault_of program words ≡ []) × (command_named wor
     × (names_file words ≡ false)
 
 check_alone : (name : Text) → IsFor (codes "check") [] (name ∷ codes "check" ∷ [])
-unfolding program check_line convert_line step_line fine_line run_line left_line file_word turns_option turns_file_option clap_on_literals
+unfolding program check_line convert_line step_line fine_line run_line left_line file_word turns_option turns_file_option dot_option clap_on_literals
 check_alone name = (refl, refl, refl, refl)
 
 convert_alone : (name : Text) → IsFor (codes "convert") [] (name ∷ codes "convert" ∷ [])
-unfolding program check_line convert_line step_line fine_line run_line left_line file_word turns_option turns_file_option clap_on_literals
+unfolding program check_line convert_line step_line fine_line run_line left_line file_word turns_option turns_file_option dot_option clap_on_literals
 convert_alone name = (refl, refl, refl, refl)
 
 run_alone : (name : Text) → IsFor (codes "run") [] (name ∷ codes "run" ∷ [])
-unfolding program check_line convert_line step_line fine_line run_line left_line file_word turns_option turns_file_option clap_on_literals
+unfolding program check_line convert_line step_line fine_line run_line left_line file_word turns_option turns_file_option dot_option clap_on_literals
 run_alone name = (refl, refl, refl, refl)
 
 step_alone : (name : Text) → IsFor (codes "step") [] (name ∷ codes "step" ∷ [])
-unfolding program check_line convert_line step_line fine_line run_line left_line file_word turns_option turns_file_option clap_on_literals
+unfolding program check_line convert_line step_line fine_line run_line left_line file_word turns_option turns_file_option dot_option clap_on_literals
 step_alone name = (refl, refl, refl, refl)
 
 step_joined : (name list : Text) → IsFor (codes "step") list (name ∷ codes "step" ∷ (codes "--turns=" ++ list) ∷ [])
-unfolding program check_line convert_line step_line fine_line run_line left_line file_word turns_option turns_file_option clap_on_literals
+unfolding program check_line convert_line step_line fine_line run_line left_line file_word turns_option turns_file_option dot_option clap_on_literals
 step_joined name list = (refl, refl, refl, refl)
 
 step_apart : (name list : Text) → bytes_eq list (45 ∷ 45 ∷ []) ≡ false → long_of list ≡ None → short_of list ≡ None
     → IsFor (codes "step") list (name ∷ codes "step" ∷ codes "--turns" ∷ list ∷ [])
-unfolding program check_line convert_line step_line fine_line run_line left_line file_word turns_option turns_file_option clap_on_literals
+unfolding program check_line convert_line step_line fine_line run_line left_line file_word turns_option turns_file_option dot_option clap_on_literals
 step_apart name list dashes long short = (rw (dashes, long, short) refl, refl, rw (dashes, long, short) refl, rw (dashes, long, short) refl)
 
 fine_alone : (name : Text) → IsFor (codes "fine") [] (name ∷ codes "fine" ∷ [])
-unfolding program check_line convert_line step_line fine_line run_line left_line file_word turns_option turns_file_option clap_on_literals
+unfolding program check_line convert_line step_line fine_line run_line left_line file_word turns_option turns_file_option dot_option clap_on_literals
 fine_alone name = (refl, refl, refl, refl)
 
 fine_joined : (name list : Text) → IsFor (codes "fine") list (name ∷ codes "fine" ∷ (codes "--turns=" ++ list) ∷ [])
-unfolding program check_line convert_line step_line fine_line run_line left_line file_word turns_option turns_file_option clap_on_literals
+unfolding program check_line convert_line step_line fine_line run_line left_line file_word turns_option turns_file_option dot_option clap_on_literals
 fine_joined name list = (refl, refl, refl, refl)
 
 fine_apart : (name list : Text) → bytes_eq list (45 ∷ 45 ∷ []) ≡ false → long_of list ≡ None → short_of list ≡ None
     → IsFor (codes "fine") list (name ∷ codes "fine" ∷ codes "--turns" ∷ list ∷ [])
-unfolding program check_line convert_line step_line fine_line run_line left_line file_word turns_option turns_file_option clap_on_literals
+unfolding program check_line convert_line step_line fine_line run_line left_line file_word turns_option turns_file_option dot_option clap_on_literals
 fine_apart name list dashes long short = (rw (dashes, long, short) refl, refl, rw (dashes, long, short) refl, rw (dashes, long, short) refl)
 
-left_alone : (name : Text) → IsFor (codes "left") [] (name ∷ codes "left" ∷ [])
-unfolding program check_line convert_line step_line fine_line run_line left_line file_word turns_option turns_file_option clap_on_literals
-left_alone name = (refl, refl, refl, refl)
+abbrev IsForLeft : Bool → Text → List Text → Type 0
+IsForLeft draws list words = IsFor (codes "left") list words × (draws_given words ≡ draws)
 
-left_joined : (name list : Text) → IsFor (codes "left") list (name ∷ codes "left" ∷ (codes "--turns=" ++ list) ∷ [])
-unfolding program check_line convert_line step_line fine_line run_line left_line file_word turns_option turns_file_option clap_on_literals
-left_joined name list = (refl, refl, refl, refl)
+left_alone : (name : Text) → IsForLeft false [] (name ∷ codes "left" ∷ [])
+unfolding program check_line convert_line step_line fine_line run_line left_line file_word turns_option turns_file_option dot_option clap_on_literals
+left_alone name = ((refl, refl, refl, refl), refl)
+
+left_joined : (name list : Text) → IsForLeft false list (name ∷ codes "left" ∷ (codes "--turns=" ++ list) ∷ [])
+unfolding program check_line convert_line step_line fine_line run_line left_line file_word turns_option turns_file_option dot_option clap_on_literals
+left_joined name list = ((refl, refl, refl, refl), refl)
 
 left_apart : (name list : Text) → bytes_eq list (45 ∷ 45 ∷ []) ≡ false → long_of list ≡ None → short_of list ≡ None
-    → IsFor (codes "left") list (name ∷ codes "left" ∷ codes "--turns" ∷ list ∷ [])
-unfolding program check_line convert_line step_line fine_line run_line left_line file_word turns_option turns_file_option clap_on_literals
-left_apart name list dashes long short = (rw (dashes, long, short) refl, refl, rw (dashes, long, short) refl, rw (dashes, long, short) refl)
+    → IsForLeft false list (name ∷ codes "left" ∷ codes "--turns" ∷ list ∷ [])
+unfolding program check_line convert_line step_line fine_line run_line left_line file_word turns_option turns_file_option dot_option clap_on_literals
+left_apart name list dashes long short =
+    ((rw (dashes, long, short) refl, refl, rw (dashes, long, short) refl, rw (dashes, long, short) refl), rw (dashes, long, short) refl)
+
+drawn_alone : (name : Text) → IsForLeft true [] (name ∷ codes "left" ∷ codes "--dot" ∷ [])
+unfolding program check_line convert_line step_line fine_line run_line left_line file_word turns_option turns_file_option dot_option clap_on_literals
+drawn_alone name = ((refl, refl, refl, refl), refl)
+
+drawn_joined : (name list : Text) → IsForLeft true list (name ∷ codes "left" ∷ codes "--dot" ∷ (codes "--turns=" ++ list) ∷ [])
+unfolding program check_line convert_line step_line fine_line run_line left_line file_word turns_option turns_file_option dot_option clap_on_literals
+drawn_joined name list = ((refl, refl, refl, refl), refl)
+
+drawn_apart : (name list : Text) → bytes_eq list (45 ∷ 45 ∷ []) ≡ false → long_of list ≡ None → short_of list ≡ None
+    → IsForLeft true list (name ∷ codes "left" ∷ codes "--dot" ∷ codes "--turns" ∷ list ∷ [])
+unfolding program check_line convert_line step_line fine_line run_line left_line file_word turns_option turns_file_option dot_option clap_on_literals
+drawn_apart name list dashes long short =
+    ((rw (dashes, long, short) refl, refl, rw (dashes, long, short) refl, rw (dashes, long, short) refl), rw (dashes, long, short) refl)
 
 pub help_asked : (name : Text) → fault_of program (name ∷ codes "--help" ∷ []) ≡ kind.DisplayHelp ∷ []
-unfolding program check_line convert_line step_line fine_line run_line left_line file_word turns_option turns_file_option clap_on_literals
+unfolding program check_line convert_line step_line fine_line run_line left_line file_word turns_option turns_file_option dot_option clap_on_literals
 help_asked name = refl
 
 pub version_asked : (name : Text) → fault_of program (name ∷ codes "--version" ∷ []) ≡ kind.DisplayVersion ∷ []
-unfolding program check_line convert_line step_line fine_line run_line left_line file_word turns_option turns_file_option clap_on_literals
+unfolding program check_line convert_line step_line fine_line run_line left_line file_word turns_option turns_file_option dot_option clap_on_literals
 version_asked name = refl
 
 pub no_command : (name : Text) → fault_of program (name ∷ []) ≡ kind.MissingSubcommand ∷ []
-unfolding program check_line convert_line step_line fine_line run_line left_line file_word turns_option turns_file_option clap_on_literals
+unfolding program check_line convert_line step_line fine_line run_line left_line file_word turns_option turns_file_option dot_option clap_on_literals
 no_command name = refl
 
 no_dashes : (list : Text) → slice_get list 0 ≢ Some 45 → (bytes_eq list (45 ∷ 45 ∷ []) ≡ false) × (long_of list ≡ None)
@@ -91,17 +109,22 @@ no_dashes (b ∷ bs) h = go (b == 45) refl
     go false e = (rw e refl, rw e refl, rw e refl)
 
 -- what holds of the three lines of a command with turns holds of each of its plain lines
-module _ (command : Text) (alone : (name : Text) → IsFor command [] (name ∷ command ∷ []))
-    (joined : (name list : Text) → IsFor command list (name ∷ command ∷ (codes "--turns=" ++ list) ∷ []))
+module _ (command : Text) (options : List Text) (Is : Text → List Text → Type 0) (alone : (name : Text) → Is [] (name ∷ command ∷ options))
+    (joined : (name list : Text) → Is list (name ∷ command ∷ options ++ (codes "--turns=" ++ list) ∷ []))
     (apart : (name list : Text) → bytes_eq list (45 ∷ 45 ∷ []) ≡ false → long_of list ≡ None → short_of list ≡ None
-    → IsFor command list (name ∷ command ∷ codes "--turns" ∷ list ∷ [])) where
-  with_turns : (name list : Text) (words : List Text) → IsLine command name list words → IsFor command list words
+    → Is list (name ∷ command ∷ options ++ codes "--turns" ∷ list ∷ [])) where
+  with_turns : (name list : Text) (words : List Text) → IsLine command options name list words → Is list words
   with_turns name list words (inl h) =
-      subst (λ ws. IsFor command list ws) (sym h.0) (subst (λ l. IsFor command l (name ∷ command ∷ [])) (sym h.1) (alone name))
-  with_turns name list words (inr (inl is)) = subst (λ ws. IsFor command list ws) (sym is) (joined name list)
+      subst (λ ws. Is list ws) (sym h.0) (subst (λ l. Is l (name ∷ command ∷ options)) (sym h.1) (alone name))
+  with_turns name list words (inr (inl is)) = subst (λ ws. Is list ws) (sym is) (joined name list)
   with_turns name list words (inr (inr h)) =
       let n = no_dashes list h.1 in
-      subst (λ ws. IsFor command list ws) (sym h.0) (apart name list n.0 n.1 n.2)
+      subst (λ ws. Is list ws) (sym h.0) (apart name list n.0 n.1 n.2)
+
+left_with_turns : (draws : Bool) (name list : Text) (words : List Text) → IsLine (codes "left") (dot_words draws) name list words
+    → IsForLeft draws list words
+left_with_turns false = with_turns (codes "left") [] (IsForLeft false) left_alone left_joined left_apart
+left_with_turns true = with_turns (codes "left") (codes "--dot" ∷ []) (IsForLeft true) drawn_alone drawn_joined drawn_apart
 
 -- the words have no fault, ask for this, and name no file
 pub record IsPlain (words : List Text) (asked : Asked) : Type 0 where
@@ -117,14 +140,14 @@ plainly_asks words Convert h =
     let found : IsFor (codes "convert") [] words = subst (λ ws. IsFor (codes "convert") [] ws) (sym h.1) (convert_alone h.0) in
     record { faultless = found.0; asks = found.1; no_file = found.3 }
 plainly_asks words (Step turns) h =
-    let found = with_turns (codes "step") step_alone step_joined step_apart h.0 turns.now words h.1 in
+    let found = with_turns (codes "step") [] (IsFor (codes "step")) step_alone step_joined step_apart h.0 turns.now words h.1 in
     record { faultless = found.0; asks = (found.1, sym found.2); no_file = found.3 }
 plainly_asks words (Fine turns) h =
-    let found = with_turns (codes "fine") fine_alone fine_joined fine_apart h.0 turns.now words h.1 in
+    let found = with_turns (codes "fine") [] (IsFor (codes "fine")) fine_alone fine_joined fine_apart h.0 turns.now words h.1 in
     record { faultless = found.0; asks = (found.1, sym found.2); no_file = found.3 }
 plainly_asks words Run h =
     let found : IsFor (codes "run") [] words = subst (λ ws. IsFor (codes "run") [] ws) (sym h.1) (run_alone h.0) in
     record { faultless = found.0; asks = found.1; no_file = found.3 }
-plainly_asks words (Left turns) h =
-    let found = with_turns (codes "left") left_alone left_joined left_apart h.0 turns.now words h.1 in
-    record { faultless = found.0; asks = (found.1, sym found.2); no_file = found.3 }
+plainly_asks words (Left turns draws) h =
+    let found = left_with_turns draws h.0 turns.now words h.1 in
+    record { faultless = found.0.0; asks = (found.0.1, sym found.0.2, sym found.1); no_file = found.0.3 }

@@ -1,5 +1,5 @@
 -- What is asked for plainly is answered.
-use Rattle.std.proofs.Common.{◌≡◌, ◌⊎◌, ◌∙◌, ℕ, Bool, true, false, refl, sym, ap, subst, List, [], ◌∷◌, Option, Some, None}
+use Rattle.std.proofs.Common.{◌≡◌, ◌⊎◌, ◌∙◌, ℕ, Bool, true, false, refl, sym, ap, ap₂, subst, List, [], ◌∷◌, Option, Some, None}
 use Rattle.std.proofs.Common.{Err, Result, codes, inl, inr}
 use Rattle.std.specs.Prelude.{IfSome}
 use Rattle.std.specs.Str.{bytes_eq}
@@ -10,7 +10,7 @@ use Rattle.script_text.specs.declared.fault.Fault.{Fault}
 use Rattle.script_text.specs.declared.fault.Fault.TheVariants.{Memory}
 use Rattle.script_stepper.specs.Runs.{Delivers, IsFineText, IsRunText, Tells}
 use Rattle.sptr.specs.CommandLine.{Asks, AsksHelp, AsksPlainly, AsksVersion, NamesNoCommand, command_named, names_file, program}
-use Rattle.sptr.specs.CommandLine.{turns_given}
+use Rattle.sptr.specs.CommandLine.{draws_given, turns_given}
 use Rattle.sptr.specs.Serving.{Answers, Converts, Counts, FindsIfAsked, IsAnswered, IsMistaken, IsReason, IsShown, IsTurnedAway, Report}
 use Rattle.sptr.specs.Serving.{UnlessInput, asks_left, known_unless}
 use Rattle.leak_report.specs.Left.{IsLeftText}
@@ -40,13 +40,13 @@ pick true a b = a
 pick false a b = b
 
 -- what the command with a name tells
-told : Text → Text → Result Bool Fault → List ℕ → Telling
-told name list answer bytes =
+told : Text → Text → Bool → Result Bool Fault → List ℕ → Telling
+told name list draws answer bytes =
     pick (bytes_eq name (codes "check")) (UnlessInput (Counts bytes))
     (pick (bytes_eq name (codes "convert")) (UnlessInput (Converts bytes))
     (pick (bytes_eq name (codes "step")) (UnlessInput (Tells IsRunText bytes list))
     (pick (bytes_eq name (codes "fine")) (UnlessInput (Tells IsFineText bytes list))
-    (pick (bytes_eq name (codes "run")) (UnlessInput (TellsReport bytes)) (UnlessInput (Tells (IsLeftText answer) bytes list))))))
+    (pick (bytes_eq name (codes "run")) (UnlessInput (TellsReport bytes)) (UnlessInput (Tells (IsLeftText draws answer) bytes list))))))
 
 finds : Text → Bool
 finds name = bytes_eq name (codes "left")
@@ -58,7 +58,7 @@ name_of Convert = codes "convert"
 name_of (Step turns) = codes "step"
 name_of (Fine turns) = codes "fine"
 name_of Run = codes "run"
-name_of (Left turns) = codes "left"
+name_of (Left turns draws) = codes "left"
 
 named : (words : List Text) (a : Asked) → Asks words a → command_named words ≡ Some (name_of a)
 unfolding name_of
@@ -67,17 +67,18 @@ named words Convert x = x
 named words (Step turns) x = x.0
 named words (Fine turns) x = x.0
 named words Run x = x
-named words (Left turns) x = x.0
+named words (Left turns draws) x = x.0
 
 by_name : (words : List Text) (a : Asked) (answer : Result Bool Fault) (bytes : List ℕ) → Asks words a
-    → Answers a answer bytes ≡ told (name_of a) (turns_given words) answer bytes
+    → Answers a answer bytes ≡ told (name_of a) (turns_given words) (draws_given words) answer bytes
 unfolding told pick name_of
 by_name words Check answer bytes x = refl
 by_name words Convert answer bytes x = refl
-by_name words (Step turns) answer bytes x = ap (λ list. told (codes "step") list answer bytes) x.1
-by_name words (Fine turns) answer bytes x = ap (λ list. told (codes "fine") list answer bytes) x.1
+by_name words (Step turns) answer bytes x = ap (λ list. told (codes "step") list (draws_given words) answer bytes) x.1
+by_name words (Fine turns) answer bytes x = ap (λ list. told (codes "fine") list (draws_given words) answer bytes) x.1
 by_name words Run answer bytes x = refl
-by_name words (Left turns) answer bytes x = ap (λ list. told (codes "left") list answer bytes) x.1
+by_name words (Left turns draws) answer bytes x =
+    ap₂ (λ list is. told (codes "left") list is answer bytes) x.1 x.2
 
 finds_by_name : (a : Asked) → asks_left a ≡ finds (name_of a)
 unfolding finds name_of
@@ -86,7 +87,7 @@ finds_by_name Convert = refl
 finds_by_name (Step turns) = refl
 finds_by_name (Fine turns) = refl
 finds_by_name Run = refl
-finds_by_name (Left turns) = refl
+finds_by_name (Left turns draws) = refl
 
 module _ (words : List Text) (a b : Asked) (x : Asks words a) (y : Asks words b) where
   same_name : name_of a ≡ name_of b
@@ -95,7 +96,8 @@ module _ (words : List Text) (a b : Asked) (x : Asks words a) (y : Asks words b)
   -- words ask for one thing
   same_answers : (answer : Result Bool Fault) (bytes : List ℕ) → Answers a answer bytes ≡ Answers b answer bytes
   same_answers answer bytes =
-      by_name words a answer bytes x ∙ ap (λ name. told name (turns_given words) answer bytes) same_name ∙ sym (by_name words b answer bytes y)
+      by_name words a answer bytes x ∙ ap (λ name. told name (turns_given words) (draws_given words) answer bytes) same_name
+      ∙ sym (by_name words b answer bytes y)
 
   finds_same : (answer : Result Bool Fault) → FindsIfAsked a answer → FindsIfAsked b answer
   finds_same answer h none = h (finds_by_name a ∙ ap finds same_name ∙ sym (finds_by_name b) ∙ none)

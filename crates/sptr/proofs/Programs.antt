@@ -1,11 +1,12 @@
 -- The program's command line is one of which `clap` tells the matches.
 use Rattle.std.proofs.Common.{◌≡◌, ◌≢◌, ◌⊎◌, ◌∙◌, true, refl, sym, ap, ap₂, List, [], ◌∷◌, Option, Some, None}
 use Rattle.std.proofs.Common.{codes, inl, inr, option_map}
-use Rattle.std.specs.Prelude.{Box, is_some, option_and_then, unwrap_or}
+use Rattle.std.specs.Prelude.{Bool, Box, is_some, nat_lt, option_and_then, unwrap_or}
 use Rattle.std.specs.Borrow.{Bor}
 use Rattle.std.specs.Box.{box_value}
 use Rattle.std.proofs.lemmas.Option.{same_Some}
-use Rattle.clap.specs.Words.{Row, Shape, Text, fault_of, first_of, is_simple, is_simple_and_free, built, subcommand_name_of, subcommand_of, subcommand_rows}
+use Rattle.clap.specs.Words.{Row, Shape, Text, count_of, fault_of, first_of, is_simple, is_simple_and_free, built, subcommand_name_of, subcommand_of}
+use Rattle.clap.specs.Words.{subcommand_rows}
 use Rattle.clap.specs.Words.{subcommand_rows_of}
 use Rattle.clap.specs.Simple.{argument_words, built_leaf, help_shape, inherited, marked_built, with_leaf_noted}
 use Rattle.clap.specs.declared.parser.matches.ArgMatches.{ArgMatches}
@@ -14,14 +15,14 @@ use Rattle.clap.specs.declared.parser.matches.SubCommand.{SubCommand}
 use Rattle.clap.proofs.OnLiterals.{clap_on_literals}
 use Rattle.sptr.proofs.Walks.{enters_own}
 use Rattle.sptr.specs.CommandLine.{check_line, command_named, convert_line, file_word, fine_line, left_line, program, run_line, step_line, turns_file_option}
-use Rattle.sptr.specs.CommandLine.{turns_given, turns_option}
+use Rattle.sptr.specs.CommandLine.{count_in, dot_option, draws_given, turns_given, turns_option}
 
 pub program_is_simple : is_simple program ≡ true
-unfolding program check_line convert_line step_line fine_line run_line left_line file_word turns_option turns_file_option clap_on_literals
+unfolding program check_line convert_line step_line fine_line run_line left_line file_word turns_option turns_file_option dot_option clap_on_literals
 program_is_simple = refl
 
 pub program_is_free : is_simple_and_free program ≡ true
-unfolding program check_line convert_line step_line fine_line run_line left_line file_word turns_option turns_file_option clap_on_literals
+unfolding program check_line convert_line step_line fine_line run_line left_line file_word turns_option turns_file_option dot_option clap_on_literals
 program_is_free = refl
 
 abbrev built_line : Shape → Shape
@@ -103,6 +104,16 @@ asks_with_turns words m command list name rows is n r named given =
       ap (option_map (λ (p : Text × List Row). p.0)) found ∙ ap Some named,
       given ∙ sym (ap (λ (o : Option (Text × List Row)). unwrap_or (option_and_then (λ p. first_of (codes "turns") p.1) o) []) found),
     )
+
+-- how often it was given `--dot` tells whether the words draw
+pub asks_drawn : (words : List Text) (m : ArgMatches) (draws : Bool) (name : Text) (rows : List Row)
+    → subcommand_rows_of m ≡ subcommand_of program words → Some name ≡ subcommand_name_of m
+    → Some rows ≡ option_map (λ p. p.1) (subcommand_rows_of m)
+    → draws ≡ nat_lt 0 (count_of (codes "dot") rows) → draws ≡ draws_given words
+asks_drawn words m draws name rows is n r given =
+    let found : subcommand_of program words ≡ Some (name, rows) =
+    sym is ∙ both_parts (subcommand_rows_of m) name rows (n ∙ name_in_rows (out-ArgMatches m).subcommand) r in
+    given ∙ sym (ap (λ (o : Option (Text × List Row)). nat_lt 0 (count_in (codes "dot") o)) found)
 
 -- a subcommand that was met is the command that the words name
 pub asks_named : (words : List Text) (m : ArgMatches) (command name : Text) → subcommand_rows_of m ≡ subcommand_of program words

@@ -1,8 +1,10 @@
 -- The command line that the program takes, and what its words ask for, by what `clap` makes of such a line. All of it
 -- is own.
-use Rattle.std.specs.Prelude.{◌≡◌, ◌≢◌, ◌⊎◌, ◌||◌, Bool, true, false, List, [], ◌∷◌}
-use Rattle.std.specs.Prelude.{◌++◌, slice_get, Option, Some, option_map, option_and_then, unwrap_or, is_some, codes}
-use Rattle.clap.specs.Words.{App, Row, Rule, Shape, Text, first_of, new_rule, subcommand_of}
+use Rattle.std.specs.Prelude.{◌≡◌, ◌≢◌, ◌⊎◌, ◌||◌, ℕ, Bool, true, false, cond, nat_lt, List, []}
+use Rattle.std.specs.Prelude.{◌∷◌, ◌++◌, slice_get, Option, Some, None, option_map, option_and_then}
+use Rattle.std.specs.Prelude.{unwrap_or, is_some, codes}
+use Rattle.clap.specs.Words.{App, Row, Rule, Shape, Text, count_of, first_of, new_rule, subcommand_of}
+use Rattle.clap.specs.declared.builder.action.ArgAction.TheVariants.{Count}
 use Rattle.clap.specs.Simple.{new_shape}
 use Rattle.sptr.specs.declared.command.Asked.{Asked}
 use Rattle.sptr.specs.declared.command.Files.{Files}
@@ -19,6 +21,10 @@ turns_option = record (new_rule (codes "turns")) { long = Some (codes "turns"); 
 -- `--turns-file FILE`
 unfoldable pub turns_file_option : Rule
 turns_file_option = record (new_rule (codes "turns-file")) { long = Some (codes "turns-file"); value_names = 1 }
+
+-- `--dot`
+unfoldable pub dot_option : Rule
+dot_option = record (new_rule (codes "dot")) { long = Some (codes "dot"); action = Some Count }
 
 -- `check`, which takes a script
 unfoldable pub check_line : Shape
@@ -40,9 +46,10 @@ fine_line = record (new_shape (codes "fine")) { rules = file_word ∷ turns_opti
 unfoldable pub run_line : Shape
 run_line = record (new_shape (codes "run")) { rules = file_word ∷ [] }
 
--- `left`, which takes a script and a list of turns
+-- `left`, which takes a script, a list of turns and how to tell it
 unfoldable pub left_line : Shape
-left_line = record (new_shape (codes "left")) { rules = file_word ∷ turns_option ∷ turns_file_option ∷ [] }
+left_line =
+    record (new_shape (codes "left")) { rules = file_word ∷ turns_option ∷ turns_file_option ∷ dot_option ∷ [] }
 
 -- the program's name, and then one of the six
 unfoldable pub program : App
@@ -75,6 +82,15 @@ has_files files = is_some files.script || is_some files.turns
 abbrev pub turns_given : List Text → Text
 turns_given words = unwrap_or (word_in (codes "turns") (subcommand_of program words)) []
 
+-- how often a command was given this
+abbrev pub count_in : Text → Option (Text × List Row) → ℕ
+count_in id None = 0
+count_in id (Some command) = count_of id command.1
+
+-- whether `--dot` is there, so that what is left is drawn
+abbrev pub draws_given : List Text → Bool
+draws_given words = nat_lt 0 (count_in (codes "dot") (subcommand_of program words))
+
 -- the words ask for this
 abbrev pub Asks : List Text → Asked → Type 0
 Asks words Check = command_named words ≡ Some (codes "check")
@@ -82,23 +98,28 @@ Asks words Convert = command_named words ≡ Some (codes "convert")
 Asks words (Step turns) = (command_named words ≡ Some (codes "step")) × (turns.now ≡ turns_given words)
 Asks words (Fine turns) = (command_named words ≡ Some (codes "fine")) × (turns.now ≡ turns_given words)
 Asks words Run = command_named words ≡ Some (codes "run")
-Asks words (Left turns) = (command_named words ≡ Some (codes "left")) × (turns.now ≡ turns_given words)
+Asks words (Left turns draws) =
+    (command_named words ≡ Some (codes "left")) × (turns.now ≡ turns_given words) × (draws ≡ draws_given words)
 
--- the words are the program's name and this command, and then no list, `--turns=LIST`, or `--turns LIST` with a list
--- that begins with no `-` (45)
-abbrev pub IsLine : Text → Text → Text → List Text → Type 0
-IsLine command name list words = ((words ≡ name ∷ command ∷ []) × (list ≡ []))
-    ⊎ ((words ≡ name ∷ command ∷ (codes "--turns=" ++ list) ∷ [])
-    ⊎ ((words ≡ name ∷ command ∷ codes "--turns" ∷ list ∷ []) × (slice_get list 0 ≢ Some 45)))
+-- the words are the program's name, this command and these options, and then no list, `--turns=LIST`, or
+-- `--turns LIST` with a list that begins with no `-` (45)
+abbrev pub IsLine : Text → List Text → Text → Text → List Text → Type 0
+IsLine command options name list words = ((words ≡ name ∷ command ∷ options) × (list ≡ []))
+    ⊎ ((words ≡ name ∷ command ∷ options ++ (codes "--turns=" ++ list) ∷ [])
+    ⊎ ((words ≡ name ∷ command ∷ options ++ codes "--turns" ∷ list ∷ []) × (slice_get list 0 ≢ Some 45)))
+
+-- the option that has what is left drawn
+abbrev pub dot_words : Bool → List Text
+dot_words draws = cond draws (codes "--dot" ∷ []) []
 
 -- the words ask for this in the manner of the program's page
 abbrev pub AsksPlainly : List Text → Asked → Type 0
 AsksPlainly words Check = (name : Text) × (words ≡ name ∷ codes "check" ∷ [])
 AsksPlainly words Convert = (name : Text) × (words ≡ name ∷ codes "convert" ∷ [])
-AsksPlainly words (Step turns) = (name : Text) × IsLine (codes "step") name turns.now words
-AsksPlainly words (Fine turns) = (name : Text) × IsLine (codes "fine") name turns.now words
+AsksPlainly words (Step turns) = (name : Text) × IsLine (codes "step") [] name turns.now words
+AsksPlainly words (Fine turns) = (name : Text) × IsLine (codes "fine") [] name turns.now words
 AsksPlainly words Run = (name : Text) × (words ≡ name ∷ codes "run" ∷ [])
-AsksPlainly words (Left turns) = (name : Text) × IsLine (codes "left") name turns.now words
+AsksPlainly words (Left turns draws) = (name : Text) × IsLine (codes "left") (dot_words draws) name turns.now words
 
 -- the words are the program's name and `--help`
 abbrev pub AsksHelp : List Text → Type 0

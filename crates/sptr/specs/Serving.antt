@@ -49,7 +49,7 @@ Answers Convert answer bytes = UnlessInput (Converts bytes)
 Answers (Step turns) answer bytes = UnlessInput (Tells IsRunText bytes turns.now)
 Answers (Fine turns) answer bytes = UnlessInput (Tells IsFineText bytes turns.now)
 Answers Run answer bytes = UnlessInput (TellsReport bytes)
-Answers (Left turns) answer bytes = UnlessInput (Tells (IsLeftText answer) bytes turns.now)
+Answers (Left turns draws) answer bytes = UnlessInput (Tells (IsLeftText draws answer) bytes turns.now)
 
 abbrev pub asks_left : Asked → Bool
 asks_left Check = false
@@ -57,7 +57,7 @@ asks_left Convert = false
 asks_left (Step turns) = false
 asks_left (Fine turns) = false
 asks_left Run = false
-asks_left (Left turns) = true
+asks_left (Left turns draws) = true
 
 -- no other command finds something leaked
 abbrev pub FindsIfAsked : Asked → Result Bool Fault → Type 0

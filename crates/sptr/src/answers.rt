@@ -150,19 +150,21 @@ fn worked<R: Threads + Wait + Sync, O: Write>(
     flushed(output)
 }
 
-/// Writes what is left at a run's end, and makes sure that it has gone out. Answers whether something is leaked.
+/// Writes what is left at a run's end, told or drawn, and makes sure that it has gone out. Answers whether something
+/// is leaked.
 fn left_told<O: Write>(
     alloc: Global,
     script: &[u8],
     turns: &[u8],
+    draws: bool,
     output: &mut Output<O>,
 ) -> Result<bool, Fault>
     requires { output.old.has_failed ≡ false }
-    ensures told { Delivers (Tells (IsLeftText result) script.now turns.now) result
+    ensures told { Delivers (Tells (IsLeftText draws result) script.now turns.now) result
         (O.contents output.old.writer) (O.contents output.new.writer) }
     ensures failed { output.new.has_failed ≡ is_output result }
 {
-    let leaks = left_text(alloc, script, turns, output)?;
+    let leaks = left_text(alloc, script, turns, draws, output)?;
     match flushed(output) {
         Ok(()) => Ok(leaks),
         Err(fault) => Err(fault),
@@ -252,20 +254,21 @@ pub(crate) fn run<R: Threads + Wait + Sync, I: Read, O: Write>(
     worked(rt, alloc, bytes.as_slice(), output)
 }
 
-/// Answers `left`: what is left at the end of the run of the script on the input, with a list of turns, and whether
-/// something is leaked.
+/// Answers `left`: what is left at the end of the run of the script on the input, with a list of turns, told or
+/// drawn, and whether something is leaked.
 pub(crate) fn left<I: Read, O: Write>(
     alloc: Global,
     turns: &[u8],
+    draws: bool,
     input: &mut I,
     output: &mut Output<O>,
 ) -> Result<bool, Fault>
     requires { output.old.has_failed ≡ false }
     ensures tells { IfSome (I.remaining input.old) (λ bytes.
-        Delivers (UnlessInput (Tells (IsLeftText result) bytes turns.now)) result
+        Delivers (UnlessInput (Tells (IsLeftText draws result) bytes turns.now)) result
         (O.contents output.old.writer) (O.contents output.new.writer)) }
     ensures failed { output.new.has_failed ≡ is_output result }
 {
     let bytes = bytes_of(alloc, input)?;
-    left_told(alloc, bytes.as_slice(), turns, output)
+    left_told(alloc, bytes.as_slice(), turns, draws, output)
 }

@@ -1,15 +1,15 @@
 //! The command line, as `clap` reads it.
 
-ghost use Rattle.std.specs.Prelude.{◌≡◌, IfOk, [], codes, false, is_some, map, unwrap_or};
-ghost use Rattle.clap.specs.Words.{FailsBy, app_of, fault_of, first_of, found_of, rows_of, rule_of, shape_of};
+ghost use Rattle.std.specs.Prelude.{◌≡◌, IfOk, [], codes, false, is_some, map, nat_lt, unwrap_or};
+ghost use Rattle.clap.specs.Words.{FailsBy, app_of, count_of, fault_of, first_of, found_of, rows_of, rule_of, shape_of};
 ghost use Rattle.clap.specs.Words.{subcommand_rows_of, subcommand_of};
 ghost use Rattle.clap.specs.declared.builder.command.Command.TheViews.{out-Command};
 ghost use Rattle.sptr.specs.CommandLine.{Asks, check_line, convert_line, fine_line, left_line, program, run_line};
 ghost use Rattle.sptr.specs.CommandLine.{step_line};
-ghost use Rattle.sptr.specs.CommandLine.{file_word, turns_option, turns_file_option, has_files, names_file};
+ghost use Rattle.sptr.specs.CommandLine.{dot_option, file_word, turns_option, turns_file_option, has_files, names_file};
 ghost use Rattle.sptr.specs.CommandLine.{names_file_in};
 
-use clap::{Arg, ArgMatches, Command, Error};
+use clap::{Arg, ArgAction, ArgMatches, Command, Error};
 use std::alloc::{AllocError, Global};
 use std::convert::AsStr;
 
@@ -29,8 +29,8 @@ pub(crate) enum Asked<'a> {
     Fine { turns: &'a [u8] },
     /// The lines of a script's run on real workers, thread by thread.
     Run,
-    /// What is left at the end of the run, and who holds it.
-    Left { turns: &'a [u8] },
+    /// What is left at the end of the run, and who holds it, as text or drawn.
+    Left { turns: &'a [u8], draws: bool },
 }
 
 /// The files that a command line names: the script's, and that of the list of turns.
@@ -74,6 +74,16 @@ fn turns_file_argument<'a>(alloc: Global) -> Arg<'a>
         .long("turns-file")
         .value_name("FILE")
         .help("A file with the list of turns, in place of --turns")
+}
+
+fn dot_argument<'a>(alloc: Global) -> Arg<'a>
+    ensures rule { rule_of result ≡ dot_option }
+    ensures local { result.global ≡ false }
+{
+    Arg::new(alloc, "dot")
+        .long("dot")
+        .action(ArgAction::Count)
+        .help("As a graph for Graphviz")
 }
 
 fn check_command<'a>(alloc: Global) -> Result<Command<'a>, AllocError>
@@ -133,7 +143,8 @@ fn left_command<'a>(alloc: Global) -> Result<Command<'a>, AllocError>
         .about("Runs a script act by act, and tells what is left and who holds it")
         .arg(file_argument(alloc))?
         .arg(turns_argument(alloc))?
-        .arg(turns_file_argument(alloc))
+        .arg(turns_file_argument(alloc))?
+        .arg(dot_argument(alloc))
 }
 
 fn command<'a>(alloc: Global) -> Result<Command<'a>, AllocError>
@@ -170,6 +181,13 @@ fn turns_of<'a>(given: &ArgMatches<'a>) -> &'a [u8]
     ensures { result.now ≡ unwrap_or (first_of (codes "turns") (rows_of (found_of given.now))) [] }
 {
     given.get_str("turns").unwrap_or("").as_bytes()
+}
+
+/// Whether what is left is to be drawn.
+fn is_drawn(given: &ArgMatches<'_>) -> bool
+    ensures { result ≡ nat_lt 0 (count_of (codes "dot") (rows_of (found_of given.now))) }
+{
+    given.get_count("dot") > 0
 }
 
 /// Whether a word was given for this, and which.
@@ -219,6 +237,7 @@ pub(crate) fn asked_of<'a, S: AsStr>(alloc: Global, words: &'a [S]) -> Result<Li
         Some(("left", inner)) => Ok(Line {
             asked: Asked::Left {
                 turns: turns_of(inner),
+                draws: is_drawn(inner),
             },
             files,
         }),

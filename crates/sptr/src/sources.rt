@@ -37,7 +37,7 @@ fn answer<R: Threads + Wait + Sync, I: Read, O: Write>(
         Asked::Step { turns } => step(alloc, turns, input, output)?,
         Asked::Fine { turns } => fine(alloc, turns, input, output)?,
         Asked::Run => run(rt, alloc, input, output)?,
-        Asked::Left { turns } => return left(alloc, turns, input, output),
+        Asked::Left { turns, draws } => return left(alloc, turns, draws, input, output),
     }
     Ok(false)
 }
@@ -86,7 +86,7 @@ fn with_turns<'a>(asked: Asked<'_>, turns: &'a [u8]) -> Asked<'a>
         Asked::Step { .. } => Asked::Step { turns },
         Asked::Fine { .. } => Asked::Fine { turns },
         Asked::Run => Asked::Run,
-        Asked::Left { .. } => Asked::Left { turns },
+        Asked::Left { draws, .. } => Asked::Left { turns, draws },
     }
 }
 

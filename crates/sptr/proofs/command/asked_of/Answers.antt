@@ -1,5 +1,5 @@
 use Rattle.std.proofs.Common.{rules}
-use Rattle.sptr.proofs.Programs.{asks_named, asks_with_turns, only_check}
+use Rattle.sptr.proofs.Programs.{asks_drawn, asks_named, asks_with_turns, only_check}
 use Rattle.sptr.proofs.command.asked_of.Goals as goal
 
 pub returns-in-Some-step-default-clause-asks : goal.returns-in-Some-step-default-clause-asks
@@ -17,8 +17,13 @@ returns-in-Some-fine-default-clause-asks g c =
 pub returns-in-Some-left-default-clause-asks : goal.returns-in-Some-left-default-clause-asks
 returns-in-Some-left-default-clause-asks g c =
     let met = c.in-Some-left-default in
-    asks_with_turns _ c.in_ok-matches.matches _ c.turns_of-in-Some-left-default.result.now met.field-0-0.now _ c.in_ok-matches.ensures.matches
-    met.ensures.name met.ensures.rows met.is-left c.turns_of-in-Some-left-default.ensures
+    let both = asks_with_turns _ c.in_ok-matches.matches _ c.turns_of-in-Some-left-default.result.now met.field-0-0.now _
+    c.in_ok-matches.ensures.matches met.ensures.name met.ensures.rows met.is-left c.turns_of-in-Some-left-default.ensures in (
+      both.0,
+      both.1,
+      asks_drawn _ c.in_ok-matches.matches c.is_drawn.result met.field-0-0.now _ c.in_ok-matches.ensures.matches met.ensures.name met.ensures.rows
+          c.is_drawn.ensures,
+    )
 
 pub returns-in-Some-convert-default-clause-asks : goal.returns-in-Some-convert-default-clause-asks
 returns-in-Some-convert-default-clause-asks g c =
