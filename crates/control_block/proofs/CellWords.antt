@@ -28,6 +28,7 @@ use Rattle.control_word.specs.declared.event.Entry.{Entry}
 use Rattle.control_word.specs.declared.event.Event.{Event}
 use Rattle.control_word.specs.declared.event.Event.TheVariants.{ClearMember, Compare, Count, Expired, Finish, Join, Leave, Load, Lock, Make, Read}
 use Rattle.control_word.specs.declared.event.Event.TheVariants.{Share, Split, Swap, Visit, WeakLeave, WeakShare}
+use Rattle.control_word.specs.declared.event.Event.TheVariants.{Shelve, Unshelve}
 use Rattle.control_word.specs.declared.handle.Kind.TheVariants.{Owner}
 use Rattle.control_word.specs.declared.shape.Shape.{Shape}
 use Rattle.control_block.specs.Rule.{Ruled, opening_of}
@@ -67,6 +68,8 @@ module _ {V : Type 0} where
   shared_after s d (Visit h x y) = refl
   shared_after s d (Split e amount x y) = refl
   shared_after s d (Join e) = refl
+  shared_after s d (Shelve b) = refl
+  shared_after s d (Unshelve b) = refl
 
   pub shared_led : (z : Opening) (h : List (Entry V)) → (leads z h).shared ≡ z.shared_cells
   shared_led z [] = refl

@@ -37,7 +37,14 @@ module _ {V : Type 0} (k : Kind) (d f : Inside V) (h : IsDesk d) (b m : ℕ) (en
     (table : f.seat.table_id ≡ d.seat.table_id) where
   -- the desk between the two events
   abbrev pub t : Inside V
-  t = record { seat = record f.seat { me = (between, []) }; allowance = d.allowance; held = d.held + 1; endings = d.endings; store = d.store }
+  t = record {
+    seat = record f.seat { me = (between, []) };
+    allowance = d.allowance;
+    held = d.held + 1;
+    endings = d.endings;
+    store = d.store;
+    shelf_word = d.shelf_word;
+  }
 
   pub mid : IsDeskWith 1 t
   mid =

@@ -16,6 +16,7 @@ use Rattle.control_word.specs.declared.event.Entry.{Entry}
 use Rattle.control_word.specs.declared.event.Event.{Event}
 use Rattle.control_word.specs.declared.event.Event.TheVariants.{ClearMember, Compare, Count, Expired, Finish, Join, Leave, Load, Lock, Make, Read}
 use Rattle.control_word.specs.declared.event.Event.TheVariants.{Share, Split, Swap, Visit, WeakLeave, WeakShare}
+use Rattle.control_word.specs.declared.event.Event.TheVariants.{Shelve, Unshelve}
 use Rattle.control_word.specs.declared.handle.Handle.{Handle}
 use Rattle.control_word.specs.declared.handle.Kind.TheVariants.{Owner}
 use Rattle.control_word.specs.declared.place.Block.{Block}
@@ -226,6 +227,8 @@ module _ {V : Type 0} where
     others_count (Join other) asks m =
         sum_all z.blocks (λ j. ends_with n (s.object (s.latest (suc j))).phase) (λ j. ends_with n (handed other d (s.object (s.latest (suc j))).phase))
         (λ j lt. third_ends other d n (s.object (s.latest (suc j))).phase (λ q. ne (sym q)) (λ q. m (sym q)))
+    others_count (Shelve b) asks m = refl
+    others_count (Unshelve b) asks m = refl
 
   pub same_count : (z : Opening) (later seen : List (Entry V)) (n : ℕ) → IsLegal z (later ++ seen) → NoneBy n later
       → many_ending z.blocks (leads z (later ++ seen)) n ≡ many_ending z.blocks (leads z seen) n

@@ -12,6 +12,7 @@ use Rattle.control_word.specs.declared.event.Entry.{Entry}
 use Rattle.control_word.specs.declared.event.Event.{Event}
 use Rattle.control_word.specs.declared.event.Event.TheVariants.{ClearMember, Compare, Count, Expired, Finish, Join, Leave, Load, Lock, Make, Read}
 use Rattle.control_word.specs.declared.event.Event.TheVariants.{Share, Split, Swap, Visit, WeakLeave, WeakShare}
+use Rattle.control_word.specs.declared.event.Event.TheVariants.{Shelve, Unshelve}
 use Rattle.control_block.specs.Desks.{many_ending}
 use Rattle.control_block.proofs.EndingCounts.{ends_there, sum_none}
 use Rattle.control_block.proofs.Endings.{fills_phase}
@@ -78,6 +79,8 @@ module _ {V : Type 0} where
   named_after s d (Visit y c w) acts all = all
   named_after s d (Split to n hs bs) acts all = λ o i is. let a = all o i is in omega arith
   named_after s d (Join other) acts all = λ o. handed_named s.names other d (s.object o).phase acts.0 (all o)
+  named_after s d (Shelve b) acts all = all
+  named_after s d (Unshelve b) acts all = all
 
   all_named : (z : Opening) (h : List (Entry V)) → IsLegal z h → AllNamed (leads z h)
   all_named z [] legal = λ o d is. absurd (unmade_ends d is)

@@ -19,6 +19,7 @@ use Rattle.control_word.specs.declared.event.Entry.{Entry}
 use Rattle.control_word.specs.declared.event.Event.{Event}
 use Rattle.control_word.specs.declared.event.Event.TheVariants.{ClearMember, Compare, Count, Expired, Finish, Join, Leave, Load, Lock, Make, Read}
 use Rattle.control_word.specs.declared.event.Event.TheVariants.{Share, Split, Swap, Visit, WeakLeave, WeakShare}
+use Rattle.control_word.specs.declared.event.Event.TheVariants.{Shelve, Unshelve}
 use Rattle.control_word.specs.declared.handle.Handle.{Handle}
 use Rattle.control_word.specs.declared.handle.Kind.TheVariants.{Owner}
 
@@ -158,6 +159,8 @@ module _ {V : Type 0} where
             member = λ q. refl;
           };
         }
+    stays_after (Shelve c) asks n m = record { latest = refl; object = alike (s.object (s.latest b)) }
+    stays_after (Unshelve c) asks n m = record { latest = refl; object = alike (s.object (s.latest b)) }
 
     not_visited : (a : Event V) → Asks s e a → Rattle.control_word.proofs.history.Others.Visits a (s.latest b) → ⊥
     not_visited (Make c enabled null fields val) asks v = v
@@ -177,6 +180,8 @@ module _ {V : Type 0} where
     not_visited (Visit h c val) asks v = not_live z s b d fine ends h e asks (sym v)
     not_visited (Split to amount hs bs) asks v = v
     not_visited (Join other) asks v = v
+    not_visited (Shelve c) asks v = v
+    not_visited (Unshelve c) asks v = v
 
     pub value_after : (a : Event V) (f : ℕ → Option V) → Asks s e a → valued s a f (s.latest b) ≡ f (s.latest b)
     value_after a f asks = valued_else s a f (s.latest b) (fine.latest_made b) (not_visited a asks)

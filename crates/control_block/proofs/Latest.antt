@@ -16,6 +16,7 @@ use Rattle.control_word.specs.declared.event.Entry.{Entry}
 use Rattle.control_word.specs.declared.event.Event.{Event}
 use Rattle.control_word.specs.declared.event.Event.TheVariants.{ClearMember, Compare, Count, Expired, Finish, Join, Leave, Load, Lock, Make, Read}
 use Rattle.control_word.specs.declared.event.Event.TheVariants.{Share, Split, Swap, Visit, WeakLeave, WeakShare}
+use Rattle.control_word.specs.declared.event.Event.TheVariants.{Shelve, Unshelve}
 use Rattle.control_word.specs.declared.handle.Kind.{Kind}
 use Rattle.control_word.specs.declared.place.Place.{Place}
 use Rattle.control_word.specs.declared.shape.Shape.{Shape}
@@ -52,6 +53,8 @@ module _ {V : Type 0} where
   latest_after z h n d (Lock y got) k o b p legal asks has there = refl
   latest_after z h n d (Load c got) k o b p legal asks has there = refl
   latest_after z h n d (Visit y c w) k o b p legal asks has there = refl
+  latest_after z h n d (Shelve c) k o b p legal asks has there = refl
+  latest_after z h n d (Unshelve c) k o b p legal asks has there = refl
 
   -- after others' events, and then one of any desk
   latest_kept : (z : Opening) (later seen : List (Entry V)) (n d : ℕ) (x : Event V) (k : Kind) (p : Option Place) (b : ℕ)

@@ -51,6 +51,7 @@ pub mod DeskStores
 pub mod kept
 pub mod Own
 pub mod Sole
+pub mod Shelving
 pub mod Latest
 pub mod SlotLists
 pub mod HandleLists

@@ -16,7 +16,7 @@ use Rattle.control_block.proofs.DeskSteps.{came, ending_after}
 use Rattle.control_block.proofs.EndingCounts.{finish_count, leave_count, make_count}
 
 -- one more where it was the last
-one_if : (last : Bool) → bool_byte last ≡ cond last 1 0
+pub one_if : (last : Bool) → bool_byte last ≡ cond last 1 0
 one_if true = refl
 one_if false = refl
 

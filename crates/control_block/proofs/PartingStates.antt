@@ -15,6 +15,7 @@ use Rattle.control_word.specs.declared.event.Entry.{Entry}
 use Rattle.control_word.specs.declared.event.Event.{Event}
 use Rattle.control_word.specs.declared.event.Event.TheVariants.{ClearMember, Compare, Count, Expired, Finish, Join, Leave, Load, Lock, Make, Read}
 use Rattle.control_word.specs.declared.event.Event.TheVariants.{Share, Split, Swap, Visit, WeakLeave, WeakShare}
+use Rattle.control_word.specs.declared.event.Event.TheVariants.{Shelve, Unshelve}
 use Rattle.control_word.specs.declared.place.Block.{Block}
 use Rattle.control_block.specs.Parting.{times}
 
@@ -84,6 +85,9 @@ module _ {V : Type 0} where
       ⊎_elim (λ (e : x.desk ≡ d). let a = acts.0 in omega arith)
       (λ (t : (y : Stored) × Has y s.stores × (x.desk ≡ y.desk)). let a = there t.0 t.1 in let b = t.2 in omega arith)
       (has_renamed other d s.stores x h)
+  there_after s d (Shelve b) acts asks there = λ x h.
+      there x (has_before same_stored stored_true stored_self x (stored d b.0) s.stores h)
+  there_after s d (Unshelve b) acts asks there = vacated_there s d b.0 true acts there
 
   pub stored_there : (z : Opening) (h : List (Entry V)) → IsLegal z h → StoredThere (leads z h)
   stored_there z [] legal = there_first z z.blocks legal.holders

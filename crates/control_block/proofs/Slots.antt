@@ -147,7 +147,7 @@ module _ {V : Type 0} where
         ∙ ap (λ x. some (some x)) (keeps_none (t.object o).phase (value z r.history o) dead unending))
         (λ (q : IsOut s.views b). absurd (⊎_elim
         (⊎_elim (λ (m : Has (stored q.1.view.name b) t.stores).
-        let same = one_store v.view.name q.1.view.name b t.stores (fine.once b) mine m in
+        let same = one_store v.view.name q.1.view.name b t.stores (let o = fine.once b in omega arith) mine m in
         ⊎_elim (λ (i : q.0 ≡ id). subst (λ c. IsSlotOf c b) free (subst (λ (u : Sight V). IsSlotOf u.hand b) (some-injective q.1 v (sym q.2
         ∙ (ap (get_elem? s.views) i ∙ at))) q.4))
         (λ (n : q.0 ≢ id). n (r.stands.team.names q.0 id q.1.view v.view (at_map view_of s.views q.0 q.1 q.2)

@@ -12,6 +12,7 @@ use Rattle.control_word.specs.declared.event.Entry.{Entry}
 use Rattle.control_word.specs.declared.event.Event.{Event}
 use Rattle.control_word.specs.declared.event.Event.TheVariants.{ClearMember, Compare, Count, Expired, Finish, Join, Leave, Load, Lock, Make, Read}
 use Rattle.control_word.specs.declared.event.Event.TheVariants.{Share, Split, Swap, Visit, WeakLeave, WeakShare}
+use Rattle.control_word.specs.declared.event.Event.TheVariants.{Shelve, Unshelve}
 use Rattle.control_word.specs.declared.shape.Shape.{Shape}
 use Rattle.control_block.specs.Laws.{ComeInARow, ComesNext}
 use Rattle.control_block.specs.Own.{KeepsDesks, events_of}
@@ -45,6 +46,8 @@ module _ {V : Type 0} where
   allowance_after s d (ClearMember o m h) p = refl
   allowance_after s d (Finish o v x) p = refl
   allowance_after s d (Visit h x y) p = refl
+  allowance_after s d (Shelve b) p = refl
+  allowance_after s d (Unshelve b) p = refl
 
   -- by its own events: on a sole desk nothing else is in its history
   all_own : (z : Opening) (d : ℕ) (later seen : List (Entry V)) → IsLegal z (later ++ seen) → (leads z seen).allowance d ≡ z.allowance

@@ -41,7 +41,14 @@ module _ {V : Type 0} (k : Kind) (d f : Inside V) (h : IsDesk d) (cell : Cell) (
     (between : Sight V) (out : CameOut (λ y. Swap cell lost y) k d.seat.me.0 x between) (table : f.seat.table_id ≡ d.seat.table_id) where
   -- the desk between the two events
   abbrev pub t : Inside V
-  t = record { seat = record f.seat { me = (between, []) }; allowance = d.allowance; held = d.held; endings = d.endings; store = d.store }
+  t = record {
+    seat = record f.seat { me = (between, []) };
+    allowance = d.allowance;
+    held = d.held;
+    endings = d.endings;
+    store = d.store;
+    shelf_word = d.shelf_word;
+  }
 
   abbrev e : Handle → Event V
   e y = Swap cell lost y

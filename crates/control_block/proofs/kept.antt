@@ -22,3 +22,4 @@ pub mod Clear
 pub mod Split
 pub mod Join
 pub mod Peek
+pub mod Shelf

@@ -5,6 +5,7 @@ pub mod LockPlays
 pub mod LockCalls
 pub mod DoorPlays
 pub mod FundPlays
+pub mod ShelfPlays
 pub mod CellPlays
 pub mod CellRounds
 pub mod Clearing
@@ -21,5 +22,6 @@ pub mod Storing
 pub mod Standing
 pub mod Own
 pub mod Laws
+pub mod Shelf
 pub mod SlotLists
 pub mod HandleLists

@@ -19,6 +19,8 @@ pub struct Desk<V: Drop + Send> {
     pub(crate) endings: u32,
     /// It has room for all blocks.
     pub(crate) store: Vec<Block, Global>,
+    /// The word of the shelf where it found a block last.
+    pub(crate) shelf_word: u16,
 }
 
 impl<V: Drop + Send> Model for Desk<V> {
@@ -77,6 +79,7 @@ impl<V: Drop + Send> Desk<V> {
             held: _,
             endings: _,
             store,
+            shelf_word: _,
         } = self;
         drop(seat);
         drop(store);

@@ -102,6 +102,7 @@ pub fn open<V: Drop + Send>(alloc: Global, shape: Shape) -> Result<(Domain<V>, D
         held: 0,
         endings: 0,
         store,
+        shelf_word: 0,
     };
     Ok((Domain { table, shape }, desk))
 }

@@ -14,6 +14,7 @@ mod parting;
 mod pause;
 mod plays;
 mod rounds;
+mod shelf;
 mod slot;
 mod steps;
 

@@ -14,6 +14,7 @@ pub mod clears;
 pub mod doors;
 pub mod funds;
 pub mod locks;
+pub mod shelf;
 
 use crate::board::Sight;
 use crate::slot::Slot;

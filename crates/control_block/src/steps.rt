@@ -21,6 +21,7 @@ pub mod in_hand;
 pub mod leaving;
 pub mod locks;
 pub mod making;
+pub mod shelf;
 
 use crate::board::{Board, Chair};
 use crate::in_place::InPlace;

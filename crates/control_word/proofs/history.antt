@@ -14,6 +14,7 @@ pub mod BagSizes
 pub mod Allowances
 pub mod Formation
 pub mod Keeping
+pub mod Shelving
 pub mod Storing
 pub mod Bounds
 pub mod Numbers

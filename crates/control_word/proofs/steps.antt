@@ -19,4 +19,5 @@ pub mod Shut
 pub mod Open
 pub mod Split
 pub mod Join
+pub mod Shelf
 pub mod Standing

@@ -12,6 +12,7 @@ use Rattle.control_word.specs.declared.event.Event.{Event}
 use Rattle.control_word.specs.declared.event.Event.TheVariants.{Make, Share, Leave, Count, Expired, Read, WeakShare}
 use Rattle.control_word.specs.declared.event.Event.TheVariants.{WeakLeave, Lock, Load, Swap}
 use Rattle.control_word.specs.declared.event.Event.TheVariants.{Compare, ClearMember, Finish, Visit, Split, Join}
+use Rattle.control_word.specs.declared.event.Event.TheVariants.{Shelve, Unshelve}
 use Rattle.control_word.specs.declared.event.Cell.{Cell}
 use Rattle.control_word.specs.declared.event.Cell.TheVariants.{Free, Member}
 use Rattle.control_word.specs.Handles.{handle, empty, object_of, has_object, equivalent, IsPointer, IsFormed}
@@ -105,6 +106,9 @@ module _ {V : Type 0} where
       × HasAll same_held (λ (h : Handle). held d h) hs s.hands
       × HasAll same_stored (λ (b : Block). stored d b.0) bs s.stores
   Asks s d (Join other) = (other ≢ d) × IsActing s other
+  -- a vacant block goes to the shelf, and from it to any desk's store (own)
+  Asks s d (Shelve b) = Has (stored d b.0) s.stores
+  Asks s d (Unshelve b) = s.shelved b.0 ≡ true
 
 -- d gets the handle, if it has an object
 abbrev pub gets : ℕ → Handle → State → State
@@ -181,6 +185,13 @@ joins_up d other s =
       allowance = put (put s.allowance d (s.allowance d + s.allowance other)) other 0;
     }
 
+abbrev pub shelves : ℕ → ℕ → State → State
+shelves d b s =
+    record s { stores = without same_stored (stored d b) s.stores; shelved = put s.shelved b true }
+
+abbrev pub unshelves : ℕ → ℕ → State → State
+unshelves d b s = record s { stores = stored d b ∷ s.stores; shelved = put s.shelved b false }
+
 abbrev pub new_object : ℕ → Bool → Bool → List ℕ → Object
 new_object b enabled null fields =
     record {
@@ -220,3 +231,5 @@ module _ {V : Type 0} where
   after s d (Visit h was becomes) = s
   after s d (Split to n hs bs) = splits_off d to n hs bs s
   after s d (Join other) = joins_up d other s
+  after s d (Shelve b) = shelves d b.0 s
+  after s d (Unshelve b) = unshelves d b.0 s

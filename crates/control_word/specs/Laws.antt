@@ -16,7 +16,7 @@ use Rattle.control_word.specs.Handles.{object_of, equivalent, owner_before, IsFo
 use Rattle.control_word.specs.Layout.{spot}
 use Rattle.control_word.specs.State.{sum_below, Opening, State, Stored, live, ending, count, weak, weak_number, common}
 use Rattle.control_word.specs.State.{Has, held, bag_size}
-use Rattle.control_word.specs.State.{IsActing, IsVacant, InShape}
+use Rattle.control_word.specs.State.{IsActing, IsVacant, InShape, on_shelf}
 use Rattle.control_word.specs.Events.{Holds, InHand, cell_of, kind_of}
 use Rattle.control_word.specs.Histories.{leads, IsLegal, given}
 use Rattle.control_word.specs.Packing.{number_of, told}
@@ -26,6 +26,10 @@ use Rattle.control_word.specs.Views.{NoneBy, Stands, IsAtRest, owed}
 -- how often a block is in stores
 abbrev pub how_often : ℕ → List Stored → ℕ
 how_often b l = length (filter (λ x. x.block == b) l)
+
+-- how often it is in stores and on the shelf
+abbrev pub times_kept : State → ℕ → ℕ
+times_kept s b = how_often b s.stores + on_shelf s b
 
 -- the cell is one of those that are counted
 abbrev pub IsCell : State → Cell → Type 0
@@ -95,11 +99,11 @@ module _ (V : Type 0) where
       → let b = ((leads z seen).object o).block in
       ((leads z seen).latest b ≡ o) × ((leads z (later ++ seen)).latest b ≡ o)
 
-  -- a vacant block is in just one store, and no other block is in any
+  -- a vacant block is in just one store or on the shelf, and no other block is in any
   abbrev pub StoredOnce : Type 0
   StoredOnce =
       (z : Opening) (h : List (Entry V)) → IsLegal z h → (b : ℕ) → InShape z b
-      → let s = leads z h in (how_often b s.stores ≡ 1 ↔ IsVacant s b) × (how_often b s.stores ≤ 1)
+      → let s = leads z h in (times_kept s b ≡ 1 ↔ IsVacant s b) × (times_kept s b ≤ 1)
 
   -- handles in bags and in cells are well formed, and those in cells are of the cells' kinds
   abbrev pub AreFormed : Type 0

@@ -1,5 +1,5 @@
 -- Where words lie in a table, and how large it may be (own).
-use Rattle.std.specs.Prelude.{◌≡◌, ℕ, ◌+◌, ◌-◌, ◌*◌, ◌<◌, ◌≤◌}
+use Rattle.std.specs.Prelude.{◌≡◌, ℕ, ◌+◌, ◌-◌, ◌*◌, ◌^◌, ◌%◌, ◌<◌, ◌≤◌}
 use Rattle.control_word.specs.declared.shape.Shape.{Shape}
 
 -- word k of block b
@@ -10,11 +10,19 @@ spot b k = 16 * (b - 1) + k
 abbrev pub cell_place : ℕ → ℕ → ℕ
 cell_place blocks c = 16 * blocks + 8 * c
 
--- the words of a table
-abbrev pub table_size : Shape → ℕ
-table_size z = 16 * z.blocks + 8 * (z.shared_cells + z.weak_cells)
+-- shelf word j of a table with so many blocks and free cells
+abbrev pub shelf_place : ℕ → ℕ → ℕ → ℕ
+shelf_place blocks cells j = 16 * blocks + 8 * cells + j
 
--- No two words lie at one place: blocks first, then cells, all within the table
+-- the words of a table: 1,024 of them are the shelf's
+abbrev pub table_size : Shape → ℕ
+table_size z = shelf_place z.blocks (z.shared_cells + z.weak_cells) 1024
+
+-- the number that has the bit of block b alone
+abbrev pub bit_of : ℕ → ℕ
+bit_of b = 2 ^ (b % 64)
+
+-- No two words lie at one place: blocks first, then cells, then the shelf, all within the table
 pub record WordsLieApart : Type 0 where
   pub blocks : (b d j k : ℕ)
       → 0 < b → 0 < d → j < 16 → k < 16 → spot b j ≡ spot d k → (b ≡ d) × (j ≡ k)
@@ -23,6 +31,10 @@ pub record WordsLieApart : Type 0 where
   pub block_within : (z : Shape) (b k : ℕ) → 0 < b → b ≤ z.blocks → k < 16 → spot b k < table_size z
   pub cell_within : (z : Shape) (c : ℕ)
       → c < z.shared_cells + z.weak_cells → cell_place z.blocks c < table_size z
+  pub shelf : (n m i j : ℕ) → shelf_place n m i ≡ shelf_place n m j → i ≡ j
+  pub last : (n m c j : ℕ) → c < m → cell_place n c < shelf_place n m j
+  pub shelf_within : (z : Shape) (j : ℕ)
+      → j < 1024 → shelf_place z.blocks (z.shared_cells + z.weak_cells) j < table_size z
 
 -- A domain of this shape can be opened
 pub record IsWithinLimits (z : Shape) : Type 0 where

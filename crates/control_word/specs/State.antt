@@ -58,10 +58,12 @@ pub record Stored : Type 0 where
   pub block : ℕ
 
 -- Objects have the numbers 1 to made, by their Makes. The object last made in a block is its latest; 0 is none.
--- Desks have the numbers below names; a joined one acts no more. Each has an allowance of handles
+-- Vacant blocks are in desks' stores or on the shelf. Desks have the numbers below names; a joined one acts no more.
+-- Each has an allowance of handles
 pub record State : Type 0 where
   pub hands : List Held
   pub stores : List Stored
+  pub shelved : ℕ → Bool
   pub made : ℕ
   pub object : ℕ → Object
   pub latest : ℕ → ℕ
@@ -130,6 +132,10 @@ stock s d = filter (λ x. x.desk == d) s.stores
 abbrev pub bag_size : State → ℕ → ℕ
 bag_size s d = length (bag s d)
 
+-- 1 while the block is on the shelf
+abbrev pub on_shelf : State → ℕ → ℕ
+on_shelf s b = cond (s.shelved b) 1 0
+
 -- the desk is there, isn't joined, and has an allowance; it holds no more handles than that (own)
 abbrev pub IsActing : State → ℕ → Type 0
 IsActing s d = (d < s.names) × (s.joined d ≡ false) × (0 < s.allowance d)
@@ -187,12 +193,13 @@ abbrev pub all_stored : (ℕ → ℕ) → ℕ → List Stored
 all_stored holder zero = []
 all_stored holder (suc n) = stored (holder (suc n)) (suc n) ∷ all_stored holder n
 
--- all blocks are in stores, and all cells are empty ([util.smartptr.atomic.shared], default constructor)
+-- all blocks are in desks' stores, and all cells are empty ([util.smartptr.atomic.shared], default constructor)
 abbrev pub start : Opening → State
 start z =
     record {
       hands = [];
       stores = all_stored z.holder z.blocks;
+      shelved = λ b. false;
       made = 0;
       object = λ o. nobody;
       latest = λ b. 0;

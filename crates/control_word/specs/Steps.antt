@@ -1,15 +1,17 @@
 -- The law of each kind of step: where the words stand for a history, and one desk changes one word as the kind says,
 -- they stand for a longer history, or for the same one with a further step of the desk's call. All of it is own.
-use Rattle.std.specs.Prelude.{◌≡◌, ◌≢◌, ℕ, suc, ◌+◌, ◌-◌, ◌*◌, ◌<◌, ◌≤◌, ◌==◌}
+use Rattle.std.specs.Prelude.{◌≡◌, ◌≢◌, ℕ, suc, ◌+◌, ◌-◌, ◌*◌, ◌%◌, ◌<◌}
+use Rattle.std.specs.Prelude.{◌≤◌, ◌==◌}
 use Rattle.std.specs.Prelude.{Bool, true, false, cond, List, [], ◌∷◌, ◌++◌, length, slice_index}
-use Rattle.std.specs.Prelude.{slice_set, replicate, Option, Some, None}
+use Rattle.std.specs.Prelude.{slice_set, replicate, bit_and, bit_or, Option, Some, None}
+use Rattle.std.specs.Int.{bit_at, bit_not, w64}
 use mathlib.Core.Option.{some}
 use lib.ListN.{get_elem?}
 use Rattle.control_word.specs.declared.event.Cell.{Cell}
 use Rattle.control_word.specs.declared.event.Event.{Event}
 use Rattle.control_word.specs.declared.event.Event.TheVariants.{Make, Share, Leave, Count, Expired, Read, WeakShare}
 use Rattle.control_word.specs.declared.event.Event.TheVariants.{WeakLeave, Lock}
-use Rattle.control_word.specs.declared.event.Event.TheVariants.{Finish, Visit, Split, Join}
+use Rattle.control_word.specs.declared.event.Event.TheVariants.{Finish, Visit, Split, Join, Shelve, Unshelve}
 use Rattle.control_word.specs.declared.event.Entry.{Entry}
 use Rattle.control_word.specs.declared.handle.Handle.{Handle}
 use Rattle.control_word.specs.declared.handle.Kind.{Kind}
@@ -20,12 +22,12 @@ use Rattle.control_word.specs.declared.view.View.{View}
 use Rattle.control_word.specs.declared.view.Pending.{Pending}
 use Rattle.control_word.specs.declared.view.Pending.TheVariants.{Idle, Making, Paying, Visiting, Parting, Merging}
 use Rattle.control_word.specs.Handles.{handle, owner, weak_of, empty, IsPointer}
-use Rattle.control_word.specs.Layout.{spot}
+use Rattle.control_word.specs.Layout.{spot, shelf_place, bit_of}
 use Rattle.control_word.specs.State.{Opening, IsOpening, State, Has, held, stored, ending, kind_of_member, count}
-use Rattle.control_word.specs.State.{bag_size, weak_number, HasRoom}
+use Rattle.control_word.specs.State.{bag_size, weak_number, HasRoom, on_shelf}
 use Rattle.control_word.specs.Events.{Asks, after}
 use Rattle.control_word.specs.Histories.{entry, leads, value}
-use Rattle.control_word.specs.Words.{cell_at, blocks_of, counts_at, flags_of}
+use Rattle.control_word.specs.Words.{cell_at, blocks_of, counts_at, flags_of, shelf_spot}
 use Rattle.control_word.specs.Views.{Stands, sees_as, stays, comes, together, used_up, fresh, owed}
 
 -- the flags and fields of a block, as its words are
@@ -219,10 +221,30 @@ module _ (V : Type 0) where
   Joins = (at : Point V) (other : ℕ) (mine others : List (Entry V)) → Ready at (Merging other mine others)
       → Tells at (Join other) Idle
 
+  -- a block's bit is 1 while the block is on the shelf
+  abbrev pub ShelfShows : Type 0
+  ShelfShows =
+      (at : Point V) (p : Pending V) (b : ℕ) → Ready at p → b < 65536
+      → bit_at (word at (shelf_spot at.opening b)) (b % 64) ≡ on_shelf (state at) b
+
+  -- shelve: the bit of a block of the own store is set
+  abbrev pub Shelves : Type 0
+  Shelves = (at : Point V) (b : Block) → Ready at Idle → Has (stored (me at) b.0) (state at).stores
+      → let k = shelf_spot at.opening b.0 in Adds at k (bit_or (word at k) (bit_of b.0)) (Shelve b) Idle
+
+  -- unshelve: a bit is cleared; the block is the desk's just where the bit was found set
+  abbrev pub Unshelves : Type 0
+  Unshelves =
+      (at : Point V) (b : Block) → Ready at Idle → b.0 < 65536
+      → let k = shelf_spot at.opening b.0 in
+      let n = bit_and (word at k) (bit_not w64 (bit_of b.0)) in
+      (bit_at (word at k) (b.0 % 64) ≡ 1 → Adds at k n (Unshelve b) Idle)
+      × (bit_at (word at k) (b.0 % 64) ≡ 0 → Moves at k n Idle)
+
   -- at the start all words are 0
   abbrev pub Begins : Type 0
   Begins = (z : Opening) → IsOpening z
-      → Stands z (replicate (16 * z.blocks + 8 * z.cells) 0) (fresh {V = V} 0 z.desks) []
+      → Stands z (replicate (shelf_place z.blocks z.cells 1024) 0) (fresh {V = V} 0 z.desks) []
 
   -- No carry and no wrap: on the counts of an object that is there, is ending or has weak handles, the number may grow
   -- by one and the funds by 256, within their halves and the word

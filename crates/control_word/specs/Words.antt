@@ -1,6 +1,8 @@
 -- How the words show a state. All of it is own.
-use Rattle.std.specs.Prelude.{◌≡◌, ℕ, suc, ◌+◌, ◌-◌, ◌*◌, ◌<◌, ◌≤◌, ◌==◌, Bool, cond}
+use Rattle.std.specs.Prelude.{◌≡◌, ℕ, suc, ◌+◌, ◌-◌, ◌*◌, ◌/◌, ◌%◌, ◌<◌, ◌≤◌}
+use Rattle.std.specs.Prelude.{◌==◌, Bool, cond}
 use Rattle.std.specs.Prelude.{◌⊎◌, List, [], ◌∷◌, length, slice_index, Option, Some, None}
+use Rattle.std.specs.Int.{bit_at}
 use Rattle.control_word.specs.declared.handle.Kind.{Kind}
 use Rattle.control_word.specs.declared.handle.Kind.TheVariants.{Owner, Weak}
 use Rattle.control_word.specs.declared.handle.Handle.{Handle}
@@ -9,8 +11,9 @@ use Rattle.control_word.specs.declared.place.Block.{Block}
 use Rattle.control_word.specs.declared.cell.CellWord.{CellWord}
 use Rattle.control_word.specs.declared.event.Cell.{Cell}
 use Rattle.control_word.specs.declared.event.Cell.TheVariants.{Free, Member}
-use Rattle.control_word.specs.Layout.{spot, cell_place}
+use Rattle.control_word.specs.Layout.{spot, cell_place, shelf_place}
 use Rattle.control_word.specs.State.{sum_below, Opening, Object, State, count, weak_number, IsVacant, InShape}
+use Rattle.control_word.specs.State.{on_shelf}
 
 -- the word of free cell c
 abbrev pub cell_spot : Opening → ℕ → ℕ
@@ -89,9 +92,19 @@ bank z s taken i =
 abbrev pub Says : State → (ℕ → ℕ) → (ℕ → ℕ) → ℕ → ℕ → ℕ → Type 0
 Says s owed more b k n = IsLoose s b k ⊎ (n + owed (spot b k) ≡ slice_index (block_words s b) k + more (spot b k))
 
+-- the word that has block b's bit
+abbrev pub shelf_spot : Opening → ℕ → ℕ
+shelf_spot z b = shelf_place z.blocks z.cells (b / 64)
+
+-- the bit of a block is 1 while the block is on the shelf
+abbrev pub ShowsShelf : Opening → List ℕ → State → Type 0
+ShowsShelf z words s =
+    (b : ℕ) → b < 65536 → bit_at (slice_index words (shelf_spot z b)) (b % 64) ≡ on_shelf s b
+
 -- each word is what the state says, but for what is owed to it and what is on it besides
 pub record Shows (z : Opening) (words : List ℕ) (owed more : ℕ → ℕ) (s : State) : Type 0 where
-  pub sized : length words ≡ 16 * z.blocks + 8 * z.cells
+  pub sized : length words ≡ shelf_place z.blocks z.cells 1024
   pub blocks : (b k : ℕ) → InShape z b → k < 10 → Says s owed more b k (slice_index words (spot b k))
   pub free : (c : ℕ) → c < z.cells → slice_index words (cell_spot z c)
       ≡ packed (blocks_of s) (s.cell c) + more (cell_spot z c)
+  pub shelf : ShowsShelf z words s

@@ -93,6 +93,12 @@ pub enum Event<V> {
     Join {
         other: u64,
     },
+    Shelve {
+        block: Block,
+    },
+    Unshelve {
+        block: Block,
+    },
 }
 
 /// An event of a desk, which goes by its number.

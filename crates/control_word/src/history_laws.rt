@@ -41,7 +41,7 @@ pub fn handles<V>()
     // The object that was last made in a block is so still while a desk has a handle of it, or has
     // its ending in hand (own).
     ensures stays_the_latest { StaysTheLatest V }
-    // A vacant block is in just one store, and no other block is in any (own).
+    // A vacant block is in just one store or on the shelf, and no other block is in any (own).
     ensures stored_once { StoredOnce V }
 {}
 

@@ -1,4 +1,4 @@
-//! Where words lie in a table: block after block, then the free cells.
+//! Where words lie in a table: block after block, then the free cells, then the shelf.
 //!
 //! | word of a block | holds |
 //! |---|---|
@@ -8,9 +8,11 @@
 //! | 3 to 6 | `FIELDS`: fields 0 to 3 |
 //! | 7, 8, 9 | `MEMBERS`: the cells `first`, `next` and `up` |
 //!
-//! A vacant block has 0 in its counts and members; its flags and fields may be anything.
+//! A vacant block has 0 in its counts and members; its flags and fields may be anything. Bit
+//! `b % 64` of shelf word `b / 64` is 1 while block `b` is on the shelf.
 ghost use Rattle.std.specs.Prelude.{◌≡◌, ◌<◌};
-ghost use Rattle.control_word.specs.Layout.{WordsLieApart, cell_place, spot, table_size};
+ghost use Rattle.control_word.specs.Layout.{WordsLieApart, bit_of, cell_place, shelf_place};
+ghost use Rattle.control_word.specs.Layout.{spot, table_size};
 
 use crate::place::Block;
 use crate::shape::Shape;
@@ -20,6 +22,8 @@ use crate::shape::Shape;
 pub const BLOCK_STRIDE: usize = 16;
 /// Words from a free cell to the next: one used and seven that stay 0, for the same reason.
 pub const CELL_STRIDE: usize = 8;
+/// Words of the shelf, one after another: a bit for each block that there may be.
+pub const SHELF_WORDS: usize = 1024;
 /// Words of a block that are used.
 pub const BLOCK_WORDS: usize = 10;
 
@@ -66,12 +70,29 @@ pub fn cell_word(blocks: u32, cell: u32) -> usize
     BLOCK_STRIDE * blocks as usize + CELL_STRIDE * cell as usize
 }
 
+/// Where a shelf word lies (own), by its number from 0, in a table of so many blocks and free
+/// cells.
+#[inline]
+pub fn shelf_word(blocks: u32, cells: u32, word: u16) -> usize
+    ensures { result ≡ shelf_place blocks cells word }
+{
+    BLOCK_STRIDE * blocks as usize + CELL_STRIDE * cells as usize + usize::from(word)
+}
+
+/// A block's bit in its shelf word (own), which is the word of the number `block / 64`.
+#[inline]
+pub fn shelf_bit(block: Block) -> u64
+    ensures { result ≡ bit_of block.0 }
+{
+    1 << (block.0 % 64)
+}
+
 /// How many words a table of this shape has (own).
 pub fn table_words(shape: &Shape) -> usize
     ensures { result ≡ table_size shape.now }
 {
     let cells = shape.shared_cells as usize + shape.weak_cells as usize;
-    BLOCK_STRIDE * shape.blocks as usize + CELL_STRIDE * cells
+    BLOCK_STRIDE * shape.blocks as usize + CELL_STRIDE * cells + SHELF_WORDS
 }
 
 /// Of the layout (own): no two words lie at one place, and each lies within its table.

@@ -12,6 +12,7 @@ ghost use Rattle.control_word.specs.CellSteps.{WeakLeavesWithFunds, Takes, Turns
 ghost use Rattle.control_word.specs.Steps.{Shuts, Opens, Splits, CutsView};
 ghost use Rattle.control_word.specs.CellSteps.{CompareSwaps, Clears};
 ghost use Rattle.control_word.specs.Steps.{MergesViews, Joins, Begins, HasHeadroom};
+ghost use Rattle.control_word.specs.Steps.{Shelves, ShelfShows, Unshelves};
 ghost use Rattle.control_word.specs.CellSteps.{CellsShow};
 
 /// How a block is made: what is written into it, and the claim.
@@ -104,6 +105,16 @@ pub fn desks<V>()
     ensures merge_views { MergesViews V }
     // The look of a join.
     ensures join { Joins V }
+{}
+
+/// Blocks that go from a store to the shelf, and from it to a store.
+pub fn shelf<V>()
+    // A shelf word's bit tells whether the block is on the shelf.
+    ensures show_shelf { ShelfShows V }
+    // Shelve: the bit of a block of the own store is set.
+    ensures shelve { Shelves V }
+    // Unshelve: a bit is cleared, and the block is the desk's just where the bit was found set.
+    ensures unshelve { Unshelves V }
 {}
 
 /// The words themselves, at the start and between any two steps.

@@ -39,6 +39,8 @@ mod parts;
 mod piles;
 pub mod shapes;
 #[cfg(test)]
+mod shelves;
+#[cfg(test)]
 mod splits;
 #[cfg(test)]
 mod this;

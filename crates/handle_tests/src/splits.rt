@@ -18,7 +18,7 @@ pub(crate) fn abandon<V: Drop + Send>(domain: Domain<V>, desk: Desk<V>) {
 }
 
 // What a split of vacant slots answers.
-fn cut(
+pub(crate) fn cut(
     domain: &Domain<u64>,
     desk: &mut Desk<u64>,
     alloc: Global,
@@ -80,7 +80,7 @@ fn a_split_keeps_one_and_gives_one(rt: HostRuntime) -> Result<(), Fail> {
 }
 
 // Whether all blocks are vacant once the desk closes its domain; none where it is not sole.
-fn all_vacant(domain: Domain<u64>, desk: Desk<u64>) -> Option<bool>
+pub(crate) fn all_vacant(domain: Domain<u64>, desk: Desk<u64>) -> Option<bool>
     requires { Belongs desk domain × (domain.shape.blocks ≡ 4) }
 {
     match close(domain, desk) {

@@ -14,6 +14,7 @@ use Rattle.control_word.specs.declared.event.Cell.TheVariants.{Member}
 use Rattle.control_word.specs.declared.event.Event.{Event}
 use Rattle.control_word.specs.declared.event.Event.TheVariants.{ClearMember, Compare, Count, Expired, Finish, Join, Leave, Load, Lock, Make, Read}
 use Rattle.control_word.specs.declared.event.Event.TheVariants.{Share, Split, Swap, Visit, WeakLeave, WeakShare}
+use Rattle.control_word.specs.declared.event.Event.TheVariants.{Shelve, Unshelve}
 use Rattle.control_word.specs.declared.handle.Handle.{Handle}
 use Rattle.control_word.specs.declared.place.Place.{Place}
 use Rattle.control_word.specs.declared.shape.Shape.{Shape}
@@ -51,6 +52,8 @@ module _ {V : Type 0} where
   puts_wider at bt f (Lock h got) p = tt
   puts_wider at bt f (Load c got) p = tt
   puts_wider at bt f (Visit h y w) p = tt
+  puts_wider at bt f (Shelve c) p = tt
+  puts_wider at bt f (Unshelve c) p = tt
 
   pub all_wider : (at bt : Cell → Type 0) → ((k : Cell) → at k → bt k) → (xs : List (Event V)) → All (PutsOnly at) xs → All (PutsOnly bt) xs
   all_wider at bt f xs all = All-weaker (PutsOnly at) (PutsOnly bt) (puts_wider at bt f) xs all

@@ -18,6 +18,7 @@ use Rattle.control_word.specs.declared.event.Entry.{Entry}
 use Rattle.control_word.specs.declared.event.Event.{Event}
 use Rattle.control_word.specs.declared.event.Event.TheVariants.{ClearMember, Compare, Count, Expired, Finish, Join, Leave, Load, Lock, Make, Read}
 use Rattle.control_word.specs.declared.event.Event.TheVariants.{Share, Split, Swap, Visit, WeakLeave, WeakShare}
+use Rattle.control_word.specs.declared.event.Event.TheVariants.{Shelve, Unshelve}
 use Rattle.control_word.specs.declared.handle.Handle.{Handle}
 use Rattle.control_word.specs.declared.handle.Kind.TheVariants.{Owner}
 use Rattle.scene_structures.specs.Chains.{Chain, IsList}
@@ -123,6 +124,8 @@ module _ {V : Type 0} where
   keeps_after s d (Lock h got) at o asks p not lives made = record { block = refl; next = refl }
   keeps_after s d (Load c got) at o asks p not lives made = record { block = refl; next = refl }
   keeps_after s d (Visit h y w) at o asks p not lives made = record { block = refl; next = refl }
+  keeps_after s d (Shelve c) at o asks p not lives made = record { block = refl; next = refl }
+  keeps_after s d (Unshelve c) at o asks p not lives made = record { block = refl; next = refl }
 
   pub cell_after : (s : State) (d : ℕ) (x : Event V) (at : Cell → Type 0) (n : ℕ) → PutsOnly at x → (at (Free n) → ⊥)
       → (after s d x).cell n ≡ s.cell n
@@ -146,6 +149,8 @@ module _ {V : Type 0} where
   cell_after s d (Lock h got) at n p not = refl
   cell_after s d (Load c got) at n p not = refl
   cell_after s d (Visit h y w) at n p not = refl
+  cell_after s d (Shelve c) at n p not = refl
+  cell_after s d (Unshelve c) at n p not = refl
 
   pub all_kept : (s : State) (d : ℕ) (x : Event V) (at : Cell → Type 0) (os : List ℕ) → Asks s d x → PutsOnly at x → Apart at os → AllLive s os
       → AllKept s (after s d x) os

@@ -17,6 +17,7 @@ use Rattle.control_word.specs.declared.event.Entry.{Entry}
 use Rattle.control_word.specs.declared.event.Event.{Event}
 use Rattle.control_word.specs.declared.event.Event.TheVariants.{ClearMember, Compare, Count, Expired, Finish, Join, Leave, Load, Lock, Make, Read}
 use Rattle.control_word.specs.declared.event.Event.TheVariants.{Share, Split, Swap, Visit, WeakLeave, WeakShare}
+use Rattle.control_word.specs.declared.event.Event.TheVariants.{Shelve, Unshelve}
 use Rattle.control_word.specs.declared.handle.Handle.{Handle}
 use Rattle.scene_structures.specs.Chains.{Chain, IsList}
 use Rattle.scene_structures.specs.Puts.{PutsOnly}
@@ -69,6 +70,8 @@ module _ {V : Type 0} where
   live_before s d o (Lock h got) at p made = λ l. l
   live_before s d o (Load c got) at p made = λ l. l
   live_before s d o (Visit h y w) at p made = λ l. l
+  live_before s d o (Shelve c) at p made = λ l. l
+  live_before s d o (Unshelve c) at p made = λ l. l
 
   -- a member that is put nowhere stays, while its object lives
   pub member_after : (s : State) (d o k : ℕ) (x : Event V) (at : Cell → Type 0) → Asks s d x → PutsOnly at x
@@ -111,6 +114,8 @@ module _ {V : Type 0} where
   member_after s d o k (Lock h got) at asks p not made lives = refl
   member_after s d o k (Load c got) at asks p not made lives = refl
   member_after s d o k (Visit h y w) at asks p not made lives = refl
+  member_after s d o k (Shelve c) at asks p not made lives = refl
+  member_after s d o k (Unshelve c) at asks p not made lives = refl
 
   pub cell_stays : (s : State) (d : ℕ) (x : Event V) (at : Cell → Type 0) (c : Cell) → Asks s d x → PutsOnly at x → (at c → ⊥)
       → InState s c → Lives s c

@@ -6,6 +6,7 @@ use Rattle.control_word.specs.declared.event.Cell.{Cell}
 use Rattle.control_word.specs.declared.event.Event.{Event}
 use Rattle.control_word.specs.declared.event.Event.TheVariants.{ClearMember, Compare, Count, Expired, Finish, Join, Leave, Load, Lock, Make, Read}
 use Rattle.control_word.specs.declared.event.Event.TheVariants.{Share, Split, Swap, Visit, WeakLeave, WeakShare}
+use Rattle.control_word.specs.declared.event.Event.TheVariants.{Shelve, Unshelve}
 use Rattle.control_block.specs.Desks.{DeskNow}
 use Rattle.control_block.specs.Own.{Does, KeepsDesks}
 use Rattle.shared_handle.specs.Piles.{IsParting}
@@ -40,6 +41,8 @@ module _ {V : Type 0} where
   puts_keep at (Lock h got) p = tt
   puts_keep at (Load c got) p = tt
   puts_keep at (Visit h y w) p = tt
+  puts_keep at (Shelve c) p = tt
+  puts_keep at (Unshelve c) p = tt
 
   pub does_wider : (is like : Event V → Type 0) (d e : DeskNow V) → ((x : Event V) → is x → like x) → Does is d e → Does like d e
   does_wider is like d e wider does = record { own = does.own; goes = does.goes; all = All-weaker is like wider does.own does.all }

@@ -14,6 +14,7 @@ use Rattle.control_word.specs.declared.event.Cell.TheVariants.{Free, Member}
 use Rattle.control_word.specs.declared.event.Entry.{Entry}
 use Rattle.control_word.specs.declared.event.Event.TheVariants.{ClearMember, Compare, Count, Expired, Finish, Join, Leave, Load, Lock, Make, Read}
 use Rattle.control_word.specs.declared.event.Event.TheVariants.{Share, Split, Swap, Visit, WeakLeave, WeakShare}
+use Rattle.control_word.specs.declared.event.Event.TheVariants.{Shelve, Unshelve}
 use Rattle.control_word.specs.declared.event.Event.{Event}
 use Rattle.handle_table.specs.Ends.{IsMadeAs}
 use Rattle.handle_table.specs.declared.ends.Remains.TheVariants as table
@@ -68,6 +69,8 @@ module _ {V : Type 0} where
   new_four s d (Lock y got) o asks low high = let no : ⊥ = omega (arith, low, high) in absurd no
   new_four s d (Load c got) o asks low high = let no : ⊥ = omega (arith, low, high) in absurd no
   new_four s d (Visit y c w) o asks low high = let no : ⊥ = omega (arith, low, high) in absurd no
+  new_four s d (Shelve c) o asks low high = let no : ⊥ = omega (arith, low, high) in absurd no
+  new_four s d (Unshelve c) o asks low high = let no : ⊥ = omega (arith, low, high) in absurd no
 
   pub four_fields : (z : Opening) (h : List (Entry V)) → IsLegal z h → (o : ℕ) → 1 ≤ o → o ≤ (leads z h).made
       → length ((leads z h).object o).fields ≡ 4

@@ -12,6 +12,8 @@ mod naming;
 #[cfg(test)]
 mod opening;
 #[cfg(test)]
+mod shelf;
+#[cfg(test)]
 mod steps;
 #[cfg(test)]
 mod texts;

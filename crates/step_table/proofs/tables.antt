@@ -11,6 +11,8 @@ pub mod Places
 pub mod Reading
 pub mod Shown
 pub mod Targets
+pub mod Shelf
+pub mod ShelfDeeds
 pub mod Standing
 pub mod Start
 pub mod Swaps

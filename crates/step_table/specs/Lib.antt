@@ -1,4 +1,5 @@
 pub mod CellDeeds
+pub mod ShelfDeeds
 pub mod Cells
 pub mod Contents
 pub mod Deeds

@@ -20,8 +20,9 @@ use Rattle.control_word.specs.Views.{Stands, sees_as, used_up}
 use Rattle.step_table.specs.declared.extent.Extent.{Extent}
 use Rattle.step_table.specs.declared.past.Deed.{Deed}
 use Rattle.step_table.specs.declared.past.Deed.TheVariants.{Prepare, Write, Claim, Share, WeakShare, Leave, WeakLeave}
-use Rattle.step_table.specs.declared.past.Deed.TheVariants.{Lock, Count, Expired, Read, Clear, Finish, OnCell}
+use Rattle.step_table.specs.declared.past.Deed.TheVariants.{Lock, Count, Expired, Read, Clear, Finish, OnShelf, OnCell}
 use Rattle.step_table.specs.CellDeeds.{cell_event, cell_pending, cell_words}
+use Rattle.step_table.specs.ShelfDeeds.{shelf_event, shelf_words}
 use Rattle.step_table.specs.Openings.{IsExtent, opening, share_of}
 
 -- objects of the machine have no value of their own
@@ -73,6 +74,7 @@ event_of s (Expired k b p expired) = Some (event.Expired (handle k (Some (s.late
 event_of s (Read b p n) = Some (event.Read (owner (s.latest b.0) p) n)
 event_of s (Clear b m) = Some (event.ClearMember (s.latest b.0) m (empty (kind_of_member m)))
 event_of s (Finish b vacant) = Some (event.Finish (s.latest b.0) vacant tt)
+event_of s (OnShelf b x) = shelf_event b x
 event_of s (OnCell x) = cell_event s x
 
 -- the words after it: one of them is written, or none
@@ -91,6 +93,7 @@ words_after v (Expired k b p expired) = v.words
 words_after v (Read b p n) = v.words
 words_after v (Clear b m) = v.words
 words_after v (Finish b vacant) = slice_set v.words (spot b.0 1) (slice_index v.words (spot b.0 1) - 1)
+words_after v (OnShelf b x) = shelf_words (opening v.extent) v.words b x
 words_after v (OnCell x) = cell_words v.extent.shape.blocks v.words x
 
 abbrev pub known : Pending Nothing → List ℕ

@@ -17,6 +17,7 @@ pub mod past;
 pub mod pointer;
 pub mod reading;
 pub mod refill;
+pub mod shelf;
 pub mod slot;
 pub mod swapping;
 pub mod table;

@@ -8,6 +8,7 @@ ghost use Rattle.step_table.specs.Stories.{Nothing, history_after, views_after};
 
 use crate::cell_deed::CellDeed;
 use crate::extent::Extent;
+use crate::shelf::ShelfDeed;
 use crate::table::Table;
 use control_word::handle::Kind;
 use control_word::place::{Block, Place};
@@ -91,6 +92,11 @@ pub enum Deed {
     Finish {
         block: Block,
         vacant: bool,
+    },
+    /// A step on a block's bit in a word of the shelf.
+    OnShelf {
+        block: Block,
+        deed: ShelfDeed,
     },
     /// A step on a cell, or on the funds of a count.
     OnCell {

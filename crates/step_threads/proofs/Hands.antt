@@ -1,5 +1,6 @@
 -- What is in hand has no part in the next task, where nothing was taken.
-use Rattle.std.proofs.Common.{◌≡◌, ℕ, ◌+◌, ◌-◌, ◌<◌, ◌≤◌, ◌⊎◌, Bool, false, not, List, length, set, drop, refl, sym, ap, subst}
+use Rattle.std.proofs.Common.{◌≡◌, ℕ, ◌+◌, ◌-◌, ◌<◌, ◌≤◌, ◌⊎◌, Bool, true, false, not, List, length, set, drop, refl, sym}
+use Rattle.std.proofs.Common.{ap, subst}
 use Rattle.std.proofs.Common.{◌∙◌, arith}
 use Rattle.std.proofs.Common.{⊎_elim, inl, inr, get_or-set_same, get_or-set_other, length-set}
 use Rattle.std.proofs.lemmas.Bool.{cases_lt}
@@ -12,8 +13,10 @@ use Rattle.step_threads.specs.declared.course.Course.{Course}
 use Rattle.step_threads.specs.declared.ending.Ending.{Ending}
 use Rattle.step_table.specs.declared.slot.Slot.{Slot}
 use Rattle.step_table.specs.Holdings.{Slots, is_full, plain, pointer_of, slot, value}
-use Rattle.step_threads.specs.Courses.{Begins, CourseReady, CourseStill, IsCarried, IsReady, Ready, hand, idle, other, settled, task_at, todo}
-use Rattle.step_threads.proofs.Courses.{ready_head, settled_still, todo_at}
+use Rattle.step_threads.specs.Courses.{Begins, CourseReady, CourseStill, IsCarried, IsReady, Ready, hand, idle, other, rest, settled, taken_after, task_at}
+use Rattle.step_threads.specs.Courses.{todo}
+use Rattle.std.proofs.lemmas.Bool.{false≢true}
+use Rattle.step_threads.proofs.Courses.{owed_by, ready_head, settled_still, todo_at}
 
 -- a course that is at an act with these slots, or at its end, stays there
 settled_at : (c : Course) (slots : Slots) (es : List Ending) → (c.at < length c.tasks.items → idle (task_at c).act slots c.taken ≡ false)
@@ -79,6 +82,20 @@ module _ (slots : Slots) (x : Slot) where
         owes = ⊎_elim (λ (p : value slots (other slots) ≡ plain). inl (held_owed some ∙ p)) inr ready.owes;
         ready = subst (λ (n : ℕ). Ready (n - 2) taken ts) (sym e) ready.ready;
       }
+
+-- a lock takes an owner
+pub locked_ready : (c : Course) (k : ℕ) (must : Bool) (x : Slot) → c.at < length c.tasks.items → CourseReady c → (task_at c).act ≡ Lock k must
+    → IsReady (set c.holdings.slots.items (hand c.holdings.slots.items) x) true c.endings.list (rest c)
+locked_ready c k must x lt ready act =
+    let n = other c.holdings.slots.items in
+    hand_ready c.holdings.slots.items x true c.endings.list c.endings.list (rest c)
+    (record {
+      some = ready.some;
+      free = λ t. absurd (false≢true (sym t));
+      owes = inl (owed_by c (Lock k must) lt ready act (λ e. e));
+      ready = subst (λ (a : Act). Ready n (taken_after a c.taken) (rest c)) act (ready_head c lt ready).2;
+    })
+    (λ t. absurd (false≢true (sym t)))
 
 -- it is the same act, where nothing was taken
 act_still : (c : Course) (x : Slot) → CourseReady c → CourseStill c → c.taken ≡ false → c.at < length c.tasks.items

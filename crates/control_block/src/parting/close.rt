@@ -36,6 +36,7 @@ pub fn close<V: Drop + Send>(
         held: _,
         endings: _,
         store: _,
+        shelf_word: _,
     } = desk;
     let Domain { table, shape } = domain;
     Ok(Census {

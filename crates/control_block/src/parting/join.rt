@@ -31,6 +31,7 @@ impl<V: Drop + Send> Desk<V> {
             held,
             endings,
             store,
+            shelf_word: _,
         } = other;
         chairs::join(&domain.table.shared, &mut self.seat, seat);
         append_all(&mut self.store, store.as_slice());

@@ -157,6 +157,7 @@ impl<V: Drop + Send> Desk<V> {
             held: given,
             endings: 0,
             store,
+            shelf_word: self.shelf_word,
         };
         Ok(other)
     }

@@ -16,6 +16,7 @@ use Rattle.control_word.specs.declared.event.Entry.{Entry}
 use Rattle.control_word.specs.declared.event.Event.{Event}
 use Rattle.control_word.specs.declared.event.Event.TheVariants.{ClearMember, Compare, Count, Expired, Finish, Join, Leave, Load, Lock, Make, Read}
 use Rattle.control_word.specs.declared.event.Event.TheVariants.{Share, Split, Swap, Visit, WeakLeave, WeakShare}
+use Rattle.control_word.specs.declared.event.Event.TheVariants.{Shelve, Unshelve}
 use Rattle.control_word.specs.declared.handle.Handle.{Handle}
 use Rattle.control_word.specs.declared.handle.Kind.TheVariants.{Owner, Weak}
 use Rattle.control_word.specs.declared.place.Block.{Block}
@@ -190,6 +191,10 @@ module _ {V : Type 0} where
   allowed_after z s d (Split to n hs bs) al there act asks room =
       allowed_split z s d to n hs bs al there act asks.0 asks.1 asks.2 asks.3 asks.4 room
   allowed_after z s d (Join other) al there act asks room = allowed_join z s d other al act asks.0 asks.1 room
+  allowed_after z s d (Shelve b) al there act asks room =
+      record { rooms = al.rooms; shares = al.shares; beyond = al.beyond; spent = al.spent; acts = al.acts }
+  allowed_after z s d (Unshelve b) al there act asks room =
+      record { rooms = al.rooms; shares = al.shares; beyond = al.beyond; spent = al.spent; acts = al.acts }
 
   joined_there : (z : Opening) (h : List (Entry V)) → IsLegal z h → JoinedThere (leads z h)
   joined_there z [] legal = λ q e. cc

@@ -23,6 +23,7 @@ use Rattle.control_word.specs.declared.event.Event.{Event}
 use Rattle.control_word.specs.declared.event.Event.TheVariants.{ClearMember, Compare, Count, Expired, Finish, Join}
 use Rattle.control_word.specs.declared.event.Event.TheVariants.{Leave, Load, Lock, Make, Read}
 use Rattle.control_word.specs.declared.event.Event.TheVariants.{Share, Split, Swap, Visit, WeakLeave, WeakShare}
+use Rattle.control_word.specs.declared.event.Event.TheVariants.{Shelve, Unshelve}
 use Rattle.control_word.specs.declared.handle.Handle.{Handle}
 use Rattle.control_word.specs.declared.handle.Kind.TheVariants.{Owner}
 
@@ -96,6 +97,8 @@ module _ {V : Type 0} where
   free_after s d (Visit h x y) asks acts free = free
   free_after s d (Split to n hs bs) asks acts free = λ o e q. let t = free o e q in let u = t.0 in (omega arith, t.1)
   free_after s d (Join other) asks acts free = λ o. join_free s d other asks.0 acts free (s.object o).phase (free o)
+  free_after s d (Shelve b) asks acts free = free
+  free_after s d (Unshelve b) asks acts free = free
 
   end_free : (z : Opening) (h : List (Entry V)) → IsLegal z h → EndFree (leads z h)
   end_free z [] legal = λ o d e. absurd cc
@@ -149,6 +152,8 @@ module _ {V : Type 0} where
   still_after z s e d o (Split to amount hs bs) fine asks n m ends = ends
   still_after z s e d o (Join other) fine asks n m ends =
       ap (handed other e) ends ∙ ap ending (cond-false (d == other) e d (ne_eqb d other (λ q. m (sym q))))
+  still_after z s e d o (Shelve b) fine asks n m ends = ends
+  still_after z s e d o (Unshelve b) fine asks n m ends = ends
 
   pub ends_still : EndsStill V
   ends_still z [] seen legal d none o ends = ends

@@ -20,6 +20,7 @@ use Rattle.control_word.specs.declared.event.Entry.{Entry}
 use Rattle.control_word.specs.declared.event.Event.{Event}
 use Rattle.control_word.specs.declared.event.Event.TheVariants.{ClearMember, Compare, Count, Expired, Finish, Join, Leave, Load, Lock, Make, Read}
 use Rattle.control_word.specs.declared.event.Event.TheVariants.{Share, Split, Swap, Visit, WeakLeave, WeakShare}
+use Rattle.control_word.specs.declared.event.Event.TheVariants.{Shelve, Unshelve}
 use Rattle.control_word.specs.declared.handle.Handle.{Handle}
 use Rattle.control_word.specs.declared.handle.Kind.{Kind}
 use Rattle.control_word.specs.declared.handle.Kind.TheVariants.{Owner, Weak}
@@ -249,6 +250,10 @@ module _ {V : Type 0} where
   formed_after z s d (Join other) few fine formed asks =
       formed_hands s _ _ (λ o. moved_to (handed other d (s.object o).phase) (s.object o)) _ _ _ formed
       (good_joined other d s.hands formed.bags) (λ o m. refl)
+  formed_after z s d (Shelve b) few fine formed asks =
+      record { bags = formed.bags; frees = formed.frees; members = formed.members }
+  formed_after z s d (Unshelve b) few fine formed asks =
+      record { bags = formed.bags; frees = formed.frees; members = formed.members }
 
   pub formed : (z : Opening) (h : List (Entry V)) → IsLegal z h → Formed (leads z h)
   formed z [] legal = record {

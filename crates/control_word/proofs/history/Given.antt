@@ -17,6 +17,7 @@ use Rattle.control_word.specs.declared.event.Entry.{Entry}
 use Rattle.control_word.specs.declared.event.Event.{Event}
 use Rattle.control_word.specs.declared.event.Event.TheVariants.{ClearMember, Compare, Count, Expired, Finish, Join, Leave, Load, Lock, Make, Read}
 use Rattle.control_word.specs.declared.event.Event.TheVariants.{Share, Split, Swap, Visit, WeakLeave, WeakShare}
+use Rattle.control_word.specs.declared.event.Event.TheVariants.{Shelve, Unshelve}
 use Rattle.control_word.specs.declared.handle.Kind.TheVariants.{Owner, Weak}
 
 -- the object's last owner has left
@@ -74,6 +75,8 @@ module _ {V : Type 0} where
   over_after z s d (Visit h x y) sound asks q = omega arith
   over_after z s d (Split e amount x y) sound asks q = omega arith
   over_after z s d (Join e) sound asks q = let t = handed_over e d (s.object q).phase in omega arith
+  over_after z s d (Shelve b) sound asks q = omega arith
+  over_after z s d (Unshelve b) sound asks q = omega arith
 
   pub given_over : (z : Opening) (h : List (Entry V)) → IsLegal z h → (o : ℕ) → given o h ≡ over ((leads z h).object o).phase
   given_over z [] legal o = refl

@@ -16,7 +16,7 @@ use Rattle.control_word.proofs.lists.Tallies.{tally_append}
 use Rattle.control_word.specs.Events.{InHand, cell_of, changes, clears, finishes, gets, is_gone, joins_up, kind_of, leaves, moved_to, new_object}
 use Rattle.control_word.specs.Events.{renamed, splits_off, swaps, weak_leaves}
 use Rattle.control_word.specs.Handles.{IsBare, empty, handle, is_on, object_of}
-use Rattle.control_word.specs.Laws.{how_often}
+use Rattle.control_word.specs.Laws.{how_often, times_kept}
 use Rattle.control_word.specs.State.{Has, HasAll, Held, InShape, IsVacant, Object, Opening, Phase, State, Stored, common, ending, gone, held, in_cells}
 use Rattle.control_word.specs.State.{kind_of_member, live, members, put, same_held, same_stored, stored, tally, unmade, weak, weak_number, without}
 use Rattle.control_word.specs.Views.{more}
@@ -27,13 +27,14 @@ use Rattle.control_word.specs.declared.handle.Kind.{Kind}
 use Rattle.control_word.specs.declared.handle.Kind.TheVariants.{Owner, Weak}
 use Rattle.control_word.specs.declared.place.Block.{Block}
 use Rattle.control_word.specs.declared.place.Place.{Place}
+use Rattle.control_word.specs.State.{on_shelf}
 
--- each vacant block is in a store
+-- each vacant block is in a store or on the shelf
 abbrev pub Kept : Opening → State → Type 0
-Kept z s = (b : ℕ) → InShape z b → IsVacant s b → 0 < how_often b s.stores
+Kept z s = (b : ℕ) → InShape z b → IsVacant s b → 0 < times_kept s b
 
 -- no more blocks are vacant, and no fewer are stored
-kept_still : (z : Opening) (s t : State) → Kept z s → ((b : ℕ) → how_often b s.stores ≤ how_often b t.stores)
+pub kept_still : (z : Opening) (s t : State) → Kept z s → ((b : ℕ) → times_kept s b ≤ times_kept t b)
     → ((q : ℕ) → (t.object q).block ≡ (s.object q).block)
     → ((q : ℕ) → weak_number t q ≡ 0 → weak_number s q ≡ 0) → Kept z t
 kept_still z s t kept more block low b shape vacant =
@@ -52,11 +53,13 @@ stored_else d c b l ne =
 -- the block of o alone may have become vacant, and goes to a store
 kept_freed : (z : Opening) (s t : State) (d o : ℕ) → Kept z s
     → t.stores ≡ stored d (s.object o).block ∷ s.stores
+    → t.shelved ≡ s.shelved
     → ((q : ℕ) → (t.object q).block ≡ (s.object q).block)
     → ((q : ℕ) → q ≢ o → weak_number t q ≡ 0 → weak_number s q ≡ 0) → Kept z t
-kept_freed z s t d o kept is block low b shape vacant =
+kept_freed z s t d o kept is same block low b shape vacant =
     let c = (s.object o).block in
     let n : how_often b t.stores ≡ how_often b (stored d c ∷ s.stores) = ap (how_often b) is in
+    let m : on_shelf t b ≡ on_shelf s b = ap (λ (f : ℕ → Bool). cond (f b) 1 0) same in
     ⊎_elim
     (λ (e : b ≡ c).
     let a = ap (λ m. how_often m (stored d c ∷ s.stores)) e in
@@ -205,7 +208,7 @@ pub kept_weak_leave : (z : Opening) (s : State) (d o : ℕ) (p : Option Place) (
     → Kept z (weak_leaves d (handle Weak (Some o) p) vacant s)
 kept_weak_leave z s d o p true fine kept has is =
     let l = without same_held (held d (handle Weak (Some o) p)) s.hands in
-    kept_freed z s (weak_leaves d (handle Weak (Some o) p) true s) d o kept refl (λ q. refl)
+    kept_freed z s (weak_leaves d (handle Weak (Some o) p) true s) d o kept refl refl (λ q. refl)
     (λ q ne e.
     let a = weak_beside s l (stored d (s.object o).block ∷ s.stores) s.names s.joined s.allowance q in
     let b = (less_weaks s d o p has q).1 ne in omega arith)
@@ -243,7 +246,7 @@ kept_finish z s d o vacant kept is = go vacant is
 
     go : (v : Bool) → v ≡ (weak s o == 0) → Kept z (finishes d o v s)
     go true e =
-        kept_freed z s (finishes d o true s) d o kept refl (λ q. block_put s o q x refl)
+        kept_freed z s (finishes d o true s) d o kept refl refl (λ q. block_put s o q x refl)
         (λ q ne none.
         let r = stored d (s.object o).block ∷ s.stores in
         let a = weak_beside (changes o x s) s.hands r s.names s.joined s.allowance q in

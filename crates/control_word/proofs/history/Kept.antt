@@ -1,5 +1,5 @@
 -- What an event leaves to the desks that it isn't of and doesn't name.
-use Rattle.std.proofs.Common.{◌≡◌, ◌≢◌, ℕ, suc, ◌+◌, ◌-◌, ◌≤◌, true, false, List, [], ◌∷◌, ◌++◌, Some, refl, sym}
+use Rattle.std.proofs.Common.{◌≡◌, ◌≢◌, ℕ, suc, ◌+◌, ◌-◌, ◌≤◌, true, false, List, [], ◌∷◌, ◌++◌, Some, refl, sym, Bool}
 use Rattle.std.proofs.Common.{ap, subst, ◌∙◌, arith}
 use Rattle.control_word.proofs.history.Bags.{bag_gets, bag_loses, bag_renamed, desk_of, keeper, stock_renamed}
 use Rattle.control_word.proofs.history.Bags.{stock_vacates}
@@ -10,7 +10,7 @@ use Rattle.control_word.specs.Events.{swaps}
 use Rattle.control_word.specs.Handles.{empty, handle, object_of}
 use Rattle.control_word.specs.Histories.{leads}
 use Rattle.control_word.specs.Laws.{StaysAsMade}
-use Rattle.control_word.specs.State.{Has, Held, IsActing, Object, Opening, Phase, State, bag, ending, gone, held, put}
+use Rattle.control_word.specs.State.{Has, Held, IsActing, Object, Opening, Phase, State, bag, ending, gone, held, put, Stored}
 use Rattle.control_word.specs.State.{kind_of_member}
 use Rattle.control_word.specs.State.{same_held, same_stored, stock, stored}
 use Rattle.control_word.specs.Views.{Names, NoneBy}
@@ -21,6 +21,7 @@ use Rattle.control_word.specs.declared.event.Event.{Event}
 use Rattle.control_word.specs.declared.event.Event.TheVariants.{ClearMember, Compare, Count, Expired, Finish, Join}
 use Rattle.control_word.specs.declared.event.Event.TheVariants.{Leave, Load, Lock, Make, Read}
 use Rattle.control_word.specs.declared.event.Event.TheVariants.{Share, Split, Swap, Visit, WeakLeave, WeakShare}
+use Rattle.control_word.specs.declared.event.Event.TheVariants.{Shelve, Unshelve}
 use Rattle.control_word.specs.declared.handle.Handle.{Handle}
 use Rattle.control_word.specs.declared.handle.Kind.TheVariants.{Owner, Weak}
 use Rattle.control_word.specs.declared.place.Block.{Block}
@@ -36,7 +37,7 @@ pub record Same (s t : State) (d : ℕ) : Type 0 where
 pub still : (s : State) (d : ℕ) → Same s s d
 still s d = record { in_bag = refl; in_stock = refl; may_hold = refl; is_joined = refl; known = omega arith }
 
--- only the hands change, or only the stores
+-- only the hands change
 hands_only : (s : State) (hs : List Held) (d : ℕ) → part desk_of d hs ≡ bag s d → Same s (record s { hands = hs }) d
 hands_only s hs d e = record { in_bag = e; in_stock = refl; may_hold = refl; is_joined = refl; known = omega arith }
 
@@ -72,6 +73,11 @@ swap_same s e d (Member o m) new old n = record {
   is_joined = refl;
   known = omega arith;
 }
+
+-- only the stores and the shelf change
+stores_only : (s : State) (r : List Stored) (f : ℕ → Bool) (d : ℕ) → part keeper d r ≡ stock s d
+    → Same s (record s { stores = r; shelved = f }) d
+stores_only s r f d e = record { in_bag = refl; in_stock = e; may_hold = refl; is_joined = refl; known = omega arith }
 
 split_same : (s : State) (e to amount d : ℕ) (hs : List Handle) (bs : List Block) → e ≢ d → to ≢ d → Same s (splits_off e to amount hs bs s) d
 split_same s e to amount d hs bs n m = record {
@@ -141,6 +147,8 @@ module _ {V : Type 0} where
   same_after s d e (Visit y c w) n j = still s d
   same_after s d e (Split to amount hs bs) n j = split_same s e to amount d hs bs n j
   same_after s d e (Join other) n j = join_same s e other d n j
+  same_after s d e (Shelve b) n j = stores_only s _ _ d (part_without keeper d same_stored stored_true (stored e b.0) s.stores n)
+  same_after s d e (Unshelve b) n j = stores_only s _ _ d (part_other keeper d (stored e b.0) s.stores n)
 
   -- what a desk has by what it has seen, it has
   pub same_kept : (z : Opening) (later seen : List (Entry V)) (d : ℕ) → NoneBy d later → Same (leads z seen) (leads z (later ++ seen)) d
@@ -164,26 +172,11 @@ acting_same s t d same acts = let k = same.known in let a = same.may_hold in let
 module _ {V : Type 0} where
   -- no object is unmade again
   made_after : (s : State) (d : ℕ) (a : Event V) → s.made ≤ (after s d a).made
-  made_after s d (Make b enabled null fields val) = omega arith
-  made_after s d (Share y p) = omega arith
-  made_after s d (Leave y last) = omega arith
-  made_after s d (Count y c) = omega arith
-  made_after s d (Expired y c) = omega arith
-  made_after s d (Read y c) = omega arith
-  made_after s d (WeakShare q p) = omega arith
-  made_after s d (WeakLeave y c) = omega arith
-  made_after s d (Lock y got) = omega arith
-  made_after s d (ClearMember q m y) = omega arith
-  made_after s d (Finish q c val) = omega arith
-  made_after s d (Load c x) = omega arith
   made_after s d (Swap (Free c) x y) = omega arith
   made_after s d (Swap (Member q m) x y) = omega arith
   made_after s d (Compare (Free c) e x y true w) = omega arith
   made_after s d (Compare (Member q m) e x y true w) = omega arith
-  made_after s d (Compare c e x y false w) = omega arith
-  made_after s d (Visit y c w) = omega arith
-  made_after s d (Split e amount x y) = omega arith
-  made_after s d (Join e) = omega arith
+  made_after s d a = omega arith
 
   made_kept : (z : Opening) (later seen : List (Entry V)) → (leads z seen).made ≤ (leads z (later ++ seen)).made
   made_kept z [] seen = omega arith
@@ -230,6 +223,8 @@ module _ {A : Type 0} (f : Object → A) (members : (x : Object) (m : ℕ → Ha
     alike_after s d o (Visit y c w) le = refl
     alike_after s d o (Split e amount x y) le = refl
     alike_after s d o (Join e) le = phases (s.object o) (handed e d (s.object o).phase)
+    alike_after s d o (Shelve b) le = refl
+    alike_after s d o (Unshelve b) le = refl
 
     pub alike_kept : (z : Opening) (later seen : List (Entry V)) (o : ℕ) → o ≤ (leads z seen).made
         → f ((leads z (later ++ seen)).object o) ≡ f ((leads z seen).object o)
@@ -262,26 +257,11 @@ module _ {V : Type 0} where
   )
 
   pub cells_after : (s : State) (d : ℕ) (a : Event V) → (after s d a).cells ≡ s.cells
-  cells_after s d (Make b enabled null fields val) = refl
-  cells_after s d (Share h p) = refl
-  cells_after s d (Leave h last) = refl
-  cells_after s d (Count h n) = refl
-  cells_after s d (Expired h x) = refl
-  cells_after s d (Read h n) = refl
-  cells_after s d (WeakShare o p) = refl
-  cells_after s d (WeakLeave h x) = refl
-  cells_after s d (Lock h x) = refl
-  cells_after s d (ClearMember o m h) = refl
-  cells_after s d (Finish o x val) = refl
-  cells_after s d (Load c x) = refl
   cells_after s d (Swap (Free c) x y) = refl
   cells_after s d (Swap (Member o m) x y) = refl
   cells_after s d (Compare (Free c) e x y true w) = refl
   cells_after s d (Compare (Member o m) e x y true w) = refl
-  cells_after s d (Compare c e x y false w) = refl
-  cells_after s d (Visit h x y) = refl
-  cells_after s d (Split e amount x y) = refl
-  cells_after s d (Join e) = refl
+  cells_after s d a = refl
 
   pub cells_led : (z : Opening) (h : List (Entry V)) → (leads z h).cells ≡ z.cells
   cells_led z [] = refl

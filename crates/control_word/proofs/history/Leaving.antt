@@ -4,11 +4,11 @@ use Rattle.std.proofs.Common.{subst, ◌∙◌, ⊎_elim, arith}
 use Rattle.std.proofs.lemmas.Bool.{eqb-true, eqb-false, and_parts, cases_eq}
 use Rattle.control_word.proofs.history.Moving.{count_same, counted_live, fits_from_live, fits_same, less_owners, less_weaks, live_busy, owner_counted}
 use Rattle.control_word.proofs.history.Moving.{sound_hands, sound_moves, sound_vacates, weak_same}
-use Rattle.control_word.proofs.history.Soundness.{IsBusy, OwnersFit, Sound}
-use Rattle.control_word.proofs.lists.Tallies.{put_again, put_cases, store_found}
+use Rattle.control_word.proofs.history.Soundness.{IsBusy, OwnersFit, Sound, kept_vacant}
+use Rattle.control_word.proofs.lists.Tallies.{put_again, put_cases}
 use Rattle.control_word.specs.Events.{changes, finishes, is_gone, leaves, loses, moved_to, weak_leaves}
 use Rattle.control_word.specs.Handles.{empty, handle}
-use Rattle.control_word.specs.Laws.{how_often}
+use Rattle.control_word.specs.Laws.{times_kept}
 use Rattle.control_word.specs.State.{Has, Held, IsVacant, Object, Opening, Phase, State, common, count, ending, gone, held, kind_of_member, live}
 use Rattle.control_word.specs.State.{members, put, same_held, unmade, weak, weak_number, without}
 use Rattle.control_word.specs.declared.handle.Kind.TheVariants.{Owner, Weak}
@@ -30,15 +30,14 @@ becomes_vacant z s s' o sound busy none less block q e = go (weak_number s' q) r
         let gone : weak_number s' q ≡ 0 = ap (weak_number s') same ∙ none in
         absurd (omega arith)
 
--- the block of a busy object is in no store
-pub busy_absent : (z : Opening) (s : State) (o : ℕ) → Sound z s → IsBusy s o → how_often (s.object o).block s.stores ≡ 0
-busy_absent z s o sound busy = go (how_often (s.object o).block s.stores) refl
+-- the block of a busy object is in no store, and not on the shelf
+pub busy_absent : (z : Opening) (s : State) (o : ℕ) → Sound z s → IsBusy s o → times_kept s (s.object o).block ≡ 0
+busy_absent z s o sound busy = go (times_kept s (s.object o).block) refl
   where
-    go : (n : ℕ) → how_often (s.object o).block s.stores ≡ n → n ≡ 0
+    go : (n : ℕ) → times_kept s (s.object o).block ≡ n → n ≡ 0
     go zero t = refl
     go (suc n) t =
-        let f = store_found (s.object o).block s.stores (omega arith) in
-        let v = (sound.stores f.0 (s.object o).block f.1).0 o refl in absurd (omega arith)
+        let v = (kept_vacant z s sound (s.object o).block (omega arith)).0 o refl in absurd (omega arith)
 
 last_owner : (z : Opening) (s : State) (d o : ℕ) (p : Option Place) → Sound z s → Has (held d (handle Owner (Some o) p)) s.hands → count s o ≡ 1
     → Sound z (record s { hands = without same_held (held d (handle Owner (Some o) p)) s.hands; object = put s.object o (moved_to (ending d) (s.object o)) })

@@ -10,6 +10,7 @@ use Rattle.control_word.proofs.history.Leaving.{sound_finish, sound_leave, sound
 use Rattle.control_word.proofs.history.Making.{empty_counts, sound_make}
 use Rattle.control_word.proofs.history.Moving.{counted_live, live_busy, owner_counted, sound_owner, sound_weak, weak_counted}
 use Rattle.control_word.proofs.history.Passing.{sound_join, sound_split}
+use Rattle.control_word.proofs.history.Shelving.{sound_shelved, sound_unshelved}
 use Rattle.control_word.proofs.history.Soundness.{IsBusy, Sound}
 use Rattle.control_word.proofs.lists.Tallies.{tally_append, tally_upto_empty}
 use Rattle.control_word.specs.Events.{Asks, after, clears, gets, leaves, swaps, weak_leaves}
@@ -22,6 +23,7 @@ use Rattle.control_word.specs.declared.event.Entry.{Entry}
 use Rattle.control_word.specs.declared.event.Event.{Event}
 use Rattle.control_word.specs.declared.event.Event.TheVariants.{ClearMember, Compare, Count, Expired, Finish, Join, Leave, Load, Lock, Make, Read}
 use Rattle.control_word.specs.declared.event.Event.TheVariants.{Share, Split, Swap, Visit, WeakLeave, WeakShare}
+use Rattle.control_word.specs.declared.event.Event.TheVariants.{Shelve, Unshelve}
 use Rattle.control_word.specs.declared.handle.Handle.{Handle}
 use Rattle.control_word.specs.declared.handle.Kind.{Kind}
 use Rattle.control_word.specs.declared.handle.Kind.TheVariants.{Owner, Weak}
@@ -90,6 +92,8 @@ module _ {V : Type 0} where
   sound_after z s d (Visit h was becomes) sound asks = sound
   sound_after z s d (Split to amount hs bs) sound asks = sound_split z s d to amount hs bs sound asks.4 asks.5
   sound_after z s d (Join other) sound asks = sound_join z s d other sound
+  sound_after z s d (Shelve b) sound asks = sound_shelved z s d b.0 sound asks
+  sound_after z s d (Unshelve b) sound asks = sound_unshelved z s d b.0 sound asks
 
 in_range : (f : ℕ → ℕ) (n d b : ℕ) → Has (stored d b) (all_stored f n) → (1 ≤ b) × (b ≤ n)
 in_range f zero d b h = absurd h
@@ -133,7 +137,8 @@ sound_start z = record {
   latest_made = λ b. omega arith;
   latest_in = λ b n. absurd (n refl);
   stores = λ d b h. ((λ o e. let t = no_weak z o in omega arith), in_range z.holder z.blocks d b h);
-  once = λ b. (stored_once z.holder z.blocks b).0;
+  shelf = λ b e. absurd cc;
+  once = λ b. let t = (stored_once z.holder z.blocks b).0 in omega arith;
   cleared = λ o m lt e. refl;
 }
 

@@ -15,6 +15,7 @@ use Rattle.control_word.specs.declared.event.Entry.{Entry}
 use Rattle.control_word.specs.declared.event.Event.{Event}
 use Rattle.control_word.specs.declared.event.Event.TheVariants.{ClearMember, Compare, Count, Expired, Finish, Join, Leave, Load, Lock, Make, Read}
 use Rattle.control_word.specs.declared.event.Event.TheVariants.{Share, Split, Swap, Visit, WeakLeave, WeakShare}
+use Rattle.control_word.specs.declared.event.Event.TheVariants.{Shelve, Unshelve}
 
 -- an object that was made stays so
 abbrev is_made : Phase → ℕ
@@ -62,6 +63,8 @@ module _ {V : Type 0} where
   made_after s d (Visit h x y) q m = m
   made_after s d (Split e amount x y) q m = m
   made_after s d (Join e) q m = let t = made_handed e d (s.object q).phase in omega arith
+  made_after s d (Shelve b) q m = m
+  made_after s d (Unshelve b) q m = m
 
   made_grows : (s : State) (d : ℕ) (a : Event V)
       → ((after s d a).made ≡ s.made) ⊎ (((after s d a).made ≡ suc s.made) × (0 < is_made ((after s d a).object (suc s.made)).phase))
@@ -89,6 +92,8 @@ module _ {V : Type 0} where
   made_grows s d (Visit h x y) = inl refl
   made_grows s d (Split e amount x y) = inl refl
   made_grows s d (Join e) = inl refl
+  made_grows s d (Shelve b) = inl refl
+  made_grows s d (Unshelve b) = inl refl
 
   -- each object up to the last Make was made
   all_made : (z : Opening) (h : List (Entry V)) (o : ℕ) → 1 ≤ o → o ≤ (leads z h).made → 0 < is_made ((leads z h).object o).phase

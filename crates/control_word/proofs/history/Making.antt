@@ -1,5 +1,6 @@
 -- A new object comes into a vacant block.
-use Rattle.std.proofs.Common.{◌≡◌, ◌≢◌, ℕ, suc, ◌+◌, ◌<◌, ◌≤◌, Bool, true, ◌==◌, List, [], ◌∷◌, ◌++◌, map, Some, refl}
+use Rattle.std.proofs.Common.{◌≡◌, ◌≢◌, ℕ, suc, ◌+◌, ◌<◌, ◌≤◌, Bool, true, ◌==◌, List, [], ◌∷◌, ◌++◌, map, Some}
+use Rattle.std.proofs.Common.{refl, cond}
 use Rattle.std.proofs.Common.{sym, ap, subst, ◌∙◌, inl, eq-eqb, arith}
 use Rattle.control_word.proofs.history.Moving.{fits_same}
 use Rattle.control_word.proofs.history.Soundness.{IsBusy, OwnersFit, Sound}
@@ -8,7 +9,7 @@ use Rattle.control_word.proofs.lists.Tallies.{tally_cons, tally_here, tally_othe
 use Rattle.control_word.specs.Events.{new_object, origin}
 use Rattle.control_word.specs.Handles.{empty, handle}
 use Rattle.control_word.specs.State.{Has, InShape, Object, Opening, State, Stored, common, count, handles, held, kind_of_member, members, put}
-use Rattle.control_word.specs.State.{same_stored, stored, tally, unmade, upto, weak, without}
+use Rattle.control_word.specs.State.{same_stored, stored, tally, unmade, upto, weak, without, on_shelf}
 use Rattle.control_word.specs.declared.handle.Handle.{Handle}
 use Rattle.control_word.specs.declared.handle.Kind.{Kind}
 use Rattle.control_word.specs.declared.handle.Kind.TheVariants.{Owner, Weak}
@@ -125,6 +126,16 @@ module _ (z : Opening) (s : State) (d b : ℕ) (enabled null : Bool) (fields : L
         stores = λ e c there.
             let p = sound.stores e c (has_before same_stored stored_true stored_self (stored e c) (stored d b) s.stores there) in
             let other = taken_once sound h e c there in (
+              (λ q. put_cases (λ j y. y.block ≡ c → weak made_state j + common y.phase ≡ 0) s.object n x q (λ e2 u. absurd (other (sym u)))
+                  (λ ne u. let t = made_weak q in let v = p.0 q u in omega arith)),
+              p.1,
+            );
+        shelf = λ c there.
+            let p = sound.shelf c there in
+            let is : on_shelf s c ≡ 1 = ap (λ (y : Bool). cond y 1 0) there in
+            let other : c ≢ b = λ e.
+            let t = num_has (λ (y : Stored). y.block == c) (stored d b) s.stores h (eq-eqb b c (sym e)) in
+            let u = sound.once c in absurd (omega arith) in (
               (λ q. put_cases (λ j y. y.block ≡ c → weak made_state j + common y.phase ≡ 0) s.object n x q (λ e2 u. absurd (other (sym u)))
                   (λ ne u. let t = made_weak q in let v = p.0 q u in omega arith)),
               p.1,

@@ -1,17 +1,19 @@
 -- A change of hands and objects, in their blocks, keeps a state sound.
 use Rattle.std.proofs.Common.{◌≡◌, ◌≢◌, ℕ, zero, suc, ◌<◌, ◌≤◌, ◌==◌, List, [], ◌∷◌, ◌++◌, map, length, Option, Some}
+use Rattle.std.proofs.Common.{◌+◌}
 use Rattle.std.proofs.Common.{refl, sym, ap, subst, ◌∙◌, ⊎_elim, arith}
 use Rattle.std.specs.List.{filter}
 use Rattle.std.proofs.lemmas.Bool.{eqb-true, cases_eq, cond_both}
 use Rattle.control_word.proofs.history.Soundness.{IsBusy, OwnersFit, Sound}
 use Rattle.control_word.proofs.lists.Tallies.{tally_has, tally_here, tally_other, tally_without, upto_same}
 use Rattle.control_word.specs.Handles.{empty, handle}
-use Rattle.control_word.specs.Laws.{how_often}
+use Rattle.control_word.specs.Laws.{times_kept}
 use Rattle.control_word.specs.State.{Has, Held, InShape, IsVacant, Object, Opening, Phase, State, Stored, common, count, ending, gone, handles, held}
 use Rattle.control_word.specs.State.{in_cells, kind_of_member, live, members, same_held, stored, tally, unmade, upto, weak, weak_number, without}
 use Rattle.control_word.specs.declared.handle.Handle.{Handle}
 use Rattle.control_word.specs.declared.handle.Kind.TheVariants.{Owner, Weak}
 use Rattle.control_word.specs.declared.place.Place.{Place}
+use Rattle.control_word.specs.State.{on_shelf}
 
 -- a change of the hands and of objects, in their blocks
 pub record Moves (s : State) (hs : List Held) (f : ℕ → Object) (g : ℕ → Handle) : Type 0 where
@@ -46,6 +48,11 @@ sound_moves z s hs f g sound moves =
             (moves.block o) ∙ e))),
         p.1,
       );
+      shelf = λ b e. let p = sound.shelf b e in (
+        (λ o e. zero_from (weak_number s' o) (weak_number s o) (moves.weaks o) (p.0 o (sym
+            (moves.block o) ∙ e))),
+        p.1,
+      );
       once = sound.once;
       cleared = moves.cleared;
     }
@@ -68,7 +75,7 @@ sound_hands z s hs sound owners weaks =
     })
 
 -- a vacant block that no store has goes to a store
-pub sound_vacates : (z : Opening) (s : State) (d b : ℕ) → Sound z s → IsVacant s b → InShape z b → how_often b s.stores ≡ 0
+pub sound_vacates : (z : Opening) (s : State) (d b : ℕ) → Sound z s → IsVacant s b → InShape z b → times_kept s b ≡ 0
     → Sound z (record s { stores = stored d b ∷ s.stores })
 unfolding count weak
 sound_vacates z s d b sound vacant there absent = record {
@@ -81,8 +88,10 @@ sound_vacates z s d b sound vacant there absent = record {
   latest_in = sound.latest_in;
   stores = λ e c h. ⊎_elim (λ t. let q : b ≡ c = sym (ap (λ (u : Stored). u.block) t) in subst (λ n. IsVacant s n
       × InShape z n) q (vacant, there)) (λ t. sound.stores e c t) h;
-  once = λ c. cond_both (b == c) (stored d b ∷ filter (λ x. x.block == c) s.stores) (filter (λ x. x.block == c) s.stores) (λ l. length l ≤ 1)
-      (λ e. let q : how_often c s.stores ≡ 0 = subst (λ n. how_often n s.stores ≡ 0) (eqb-true b c e) absent in omega arith)
+  shelf = sound.shelf;
+  once = λ c. cond_both (b == c) (stored d b ∷ filter (λ x. x.block == c) s.stores) (filter (λ x. x.block == c) s.stores)
+      (λ l. length l + on_shelf s c ≤ 1)
+      (λ e. let q : times_kept s c ≡ 0 = subst (λ n. times_kept s n ≡ 0) (eqb-true b c e) absent in omega arith)
       (λ e. sound.once c);
   cleared = sound.cleared;
 }

@@ -12,6 +12,7 @@ use Rattle.control_word.specs.declared.event.Event.{Event}
 use Rattle.control_word.specs.declared.event.Event.TheVariants.{ClearMember, Compare, Count, Expired, Finish, Join}
 use Rattle.control_word.specs.declared.event.Event.TheVariants.{Leave, Load, Lock, Make, Read}
 use Rattle.control_word.specs.declared.event.Event.TheVariants.{Share, Split, Swap, Visit, WeakLeave, WeakShare}
+use Rattle.control_word.specs.declared.event.Event.TheVariants.{Shelve, Unshelve}
 
 module _ {V : Type 0} where
   -- a desk that an event names is one of those that there are then
@@ -33,6 +34,8 @@ module _ {V : Type 0} where
   named_low s e d (Visit y c w) asks n = absurd n
   named_low s e d (Split to amount hs bs) asks n = let t = asks.0 in let u : to ≡ d = n in omega arith
   named_low s e d (Join other) asks n = let t = asks.1.0 in let u : other ≡ d = n in omega arith
+  named_low s e d (Shelve b) asks n = absurd n
+  named_low s e d (Unshelve b) asks n = absurd n
 
   names_grow : (s : State) (e : ℕ) (a : Event V) → s.names ≤ (after s e a).names
   names_grow s e (Make b enabled null fields val) = omega arith
@@ -55,6 +58,8 @@ module _ {V : Type 0} where
   names_grow s e (Visit y c w) = omega arith
   names_grow s e (Split to amount hs bs) = omega arith
   names_grow s e (Join other) = omega arith
+  names_grow s e (Shelve b) = omega arith
+  names_grow s e (Unshelve b) = omega arith
 
   -- no desk is joined that is not there yet
   pub unknown_free : (z : Opening) (h : List (Entry V)) → IsLegal z h → (d : ℕ) → (leads z h).names ≤ d → (leads z h).joined d ≡ false
@@ -99,6 +104,8 @@ module _ {V : Type 0} where
   named_free z h legal e d (Split to amount hs bs) asks n =
       let to_is = asks.0 in let is : to ≡ d = n in unknown_free z h legal d (omega arith)
   named_free z h legal e d (Join other) asks n = subst (λ j. (leads z h).joined j ≡ false) n asks.1.1
+  named_free z h legal e d (Shelve b) asks n = absurd n
+  named_free z h legal e d (Unshelve b) asks n = absurd n
 
   -- a desk that was joined makes no later event
   pub joined_is_quiet : JoinedIsQuiet V

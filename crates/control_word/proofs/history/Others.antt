@@ -18,6 +18,7 @@ use Rattle.control_word.specs.declared.event.Cell.TheVariants.{Free, Member}
 use Rattle.control_word.specs.declared.event.Event.{Event}
 use Rattle.control_word.specs.declared.event.Event.TheVariants.{ClearMember, Compare, Count, Expired, Finish, Join, Leave, Load, Lock, Make, Read}
 use Rattle.control_word.specs.declared.event.Event.TheVariants.{Share, Split, Swap, Visit, WeakLeave, WeakShare}
+use Rattle.control_word.specs.declared.event.Event.TheVariants.{Shelve, Unshelve}
 use Rattle.control_word.specs.declared.handle.Kind.{Kind}
 use Rattle.control_word.specs.declared.handle.Kind.TheVariants.{Owner}
 use Rattle.control_word.specs.declared.place.Place.{Place}
@@ -75,6 +76,8 @@ module _ {V : Type 0} where
   plain_names (Visit h c val) plain d n = n
   plain_names (Split to amount hs bs) plain d n = plain
   plain_names (Join other) plain d n = plain
+  plain_names (Shelve b) plain d n = n
+  plain_names (Unshelve b) plain d n = n
 
   pub plain_visits : (a : Event V) → IsPlain a → (o : ℕ) → Visits a o → ⊥
   plain_visits (Make b enabled null fields val) plain o n = n
@@ -94,6 +97,8 @@ module _ {V : Type 0} where
   plain_visits (Visit h c val) plain o n = plain
   plain_visits (Split to amount hs bs) plain o n = n
   plain_visits (Join other) plain o n = n
+  plain_visits (Shelve b) plain o n = n
+  plain_visits (Unshelve b) plain o n = n
 
   pub plain_values : (a : Event V) (values : ℕ → Option V) → IsPlain a
       → ((o : ℕ) (b : Bool) (v : V) → a ≡ Finish o b v → values o ≡ Some v) → Values values a
@@ -114,6 +119,8 @@ module _ {V : Type 0} where
   plain_values (Visit h c val) values plain f = absurd plain
   plain_values (Split to amount hs bs) values plain f = tt
   plain_values (Join other) values plain f = tt
+  plain_values (Shelve b) values plain f = tt
+  plain_values (Unshelve b) values plain f = tt
 
   -- an object that was made keeps its value, but for visits of it
   pub valued_else : (s : State) (a : Event V) (values : ℕ → Option V) (o : ℕ) → o ≤ s.made → (Visits a o → ⊥)
@@ -135,6 +142,8 @@ module _ {V : Type 0} where
   valued_else s (Visit h c val) values o le n = put_other values (object_of h) (Some val) o (λ e. n (sym e))
   valued_else s (Split to amount hs bs) values o le n = refl
   valued_else s (Join other) values o le n = refl
+  valued_else s (Shelve b) values o le n = refl
+  valued_else s (Unshelve b) values o le n = refl
 
   -- what another desk's half-done call knows
   pub fits_after : (z : Opening) (s : State) (words words' : List ℕ) (values : ℕ → Option V) (me : ℕ) (a : Event V) → Sound z s
@@ -194,3 +203,5 @@ module _ {V : Type 0} where
       let b = put_same s.allowance d (s.allowance d + s.allowance other) d refl in
       let m = acts.2 in
       (acts.0, put_other s.joined other true d n ∙ acts.1, omega arith)
+  acts_after s d (Shelve b) acts asks = acts
+  acts_after s d (Unshelve b) acts asks = acts

@@ -1,13 +1,14 @@
 -- Handing things from desk to desk keeps the counts.
-use Rattle.std.proofs.Common.{◌≡◌, ℕ, suc, ◌-◌, Bool, true, cond, ◌==◌, List, [], ◌∷◌, ◌++◌, map, length, refl, sym, ap, ◌∙◌}
+use Rattle.std.proofs.Common.{◌≡◌, ℕ, suc, ◌-◌, Bool, true, cond, ◌==◌, List, [], ◌∷◌, ◌++◌, map, length, refl, sym, ap}
+use Rattle.std.proofs.Common.{◌∙◌, ◌+◌}
 use Rattle.std.proofs.Common.{eq-eqb, arith}
 use Rattle.control_word.proofs.history.Moving.{count_same, fits_same, sound_hands, sound_moves, weak_same}
-use Rattle.control_word.proofs.history.Soundness.{OwnersFit, Sound}
-use Rattle.control_word.proofs.lists.Tallies.{held_self, held_true, num, num_cons, num_has, num_map, num_without, one_cond, store_found, stored_self}
+use Rattle.control_word.proofs.history.Soundness.{OwnersFit, Sound, kept_vacant}
+use Rattle.control_word.proofs.lists.Tallies.{held_self, held_true, num, num_cons, num_has, num_map, num_without, one_cond, stored_self}
 use Rattle.control_word.proofs.lists.Tallies.{stored_true, tally_append}
 use Rattle.control_word.specs.Events.{handed, joins_up, moved_to, renamed, splits_off}
 use Rattle.control_word.specs.Handles.{is_on}
-use Rattle.control_word.specs.Laws.{how_often}
+use Rattle.control_word.specs.Laws.{how_often, times_kept}
 use Rattle.control_word.specs.State.{HasAll, Held, Opening, Phase, State, Stored, common, count, ending, gone, held, in_cells, live, passed, put}
 use Rattle.control_word.specs.State.{same_held, same_stored, stored, tally, unmade, weak, without}
 use Rattle.control_word.specs.declared.handle.Handle.{Handle}
@@ -31,12 +32,12 @@ num_passed same truth self was is p e (t ∷ ts) l h =
       num_one p (is t) (was t) (e t),
     )
 
--- the stores may be told anew, with each block as often
-pub sound_stores : (z : Opening) (s : State) (r : List Stored) (n : ℕ) (j : ℕ → Bool) (a : ℕ → ℕ) → Sound z s
-    → ((c : ℕ) → how_often c r ≡ how_often c s.stores)
-    → Sound z (record s { stores = r; names = n; joined = j; allowance = a })
+-- the stores and the shelf may be told anew, with each block as often
+pub sound_stores : (z : Opening) (s : State) (r : List Stored) (f : ℕ → Bool) (n : ℕ) (j : ℕ → Bool) (a : ℕ → ℕ) → Sound z s
+    → ((c : ℕ) → how_often c r + cond (f c) 1 0 ≡ times_kept s c)
+    → Sound z (record s { stores = r; shelved = f; names = n; joined = j; allowance = a })
 unfolding count weak
-sound_stores z s r n j a sound same = record {
+sound_stores z s r f n j a sound same = record {
   owners = sound.owners;
   unmade_free = sound.unmade_free;
   fresh = sound.fresh;
@@ -46,7 +47,8 @@ sound_stores z s r n j a sound same = record {
   latest_in = sound.latest_in;
   stores = λ e c h.
       let t = num_has (λ (x : Stored). x.block == c) (stored e c) r h (eq-eqb c c refl) in let u = same c in
-      let f = store_found c s.stores (omega arith) in sound.stores f.0 c f.1;
+      kept_vacant z s sound c (omega arith);
+  shelf = λ c e. let t : ◌≡◌ {A = ℕ} (cond (f c) 1 0) 1 = ap (λ (y : Bool). cond y 1 0) e in let u = same c in kept_vacant z s sound c (omega arith);
   once = λ c. let t = same c in let u = sound.once c in omega arith;
   cleared = sound.cleared;
 }
@@ -84,11 +86,11 @@ sound_split z s d e amount hs bs sound hh hb =
     let same : (k : Kind) (q : ℕ) → num (λ (x : Held). is_on k q x.handle) l ≡ num (λ (x : Held). is_on k q x.handle) s.hands =
     λ k q. num_passed same_held held_true held_self (λ (h : Handle). held d h) (λ h. held e h) (λ (x : Held). is_on k q x.handle)
     (λ u. refl) hs s.hands hh in
-    sound_stores z t r (suc s.names) s.joined (put (put s.allowance d (s.allowance d - amount)) e amount)
+    sound_stores z t r s.shelved (suc s.names) s.joined (put (put s.allowance d (s.allowance d - amount)) e amount)
     (sound_hands z s l sound (λ q. fits_same _ _ _ (sound.owners q) (hands_count s l q (same Owner q)))
     (λ q busy. let u = hands_weak s l q (same Weak q) in omega arith))
-    (λ c. num_passed same_stored stored_true stored_self (λ (b : Block). stored d b.0) (λ b. stored e b.0) (λ (x : Stored). x.block == c)
-    (λ u. refl) bs s.stores hb)
+    (λ c. let u = num_passed same_stored stored_true stored_self (λ (b : Block). stored d b.0) (λ b. stored e b.0)
+    (λ (x : Stored). x.block == c) (λ u. refl) bs s.stores hb in omega arith)
 
 handed_fits : (e d : ℕ) (p : Phase) (n : ℕ) → OwnersFit p n → OwnersFit (handed e d p) n
 handed_fits e d unmade n f = f
@@ -115,7 +117,7 @@ sound_join z s d e sound =
     let same : (k : Kind) (q : ℕ) → num (λ (x : Held). is_on k q x.handle) l ≡ num (λ (x : Held). is_on k q x.handle) s.hands =
     λ k q. num_map (λ (x : Held). is_on k q x.handle) (λ (x : Held). held (renamed e d x.desk) x.handle) s.hands in
     let t : State = record s { hands = l; object = f } in
-    sound_stores z t (map (λ (x : Stored). stored (renamed e d x.desk) x.block) s.stores) s.names _ _
+    sound_stores z t (map (λ (x : Stored). stored (renamed e d x.desk) x.block) s.stores) s.shelved s.names _ _
     (sound_moves z s l f s.cell sound (record {
       owners = λ q. handed_fits e d (s.object q).phase _
           (fits_same _ _ _ (sound.owners q) (count_same s l f (λ q. refl) q ∙ hands_count s l q (same Owner q)));
@@ -125,4 +127,4 @@ sound_join z s d e sound =
       made = λ q. ((λ u. ap (handed e d) u), handed_unmade e d (s.object q).phase);
       cleared = λ q m lt u. sound.cleared q m lt (sym (handed_common e d (s.object q).phase) ∙ u);
     }))
-    (λ c. num_map (λ (x : Stored). x.block == c) (λ (x : Stored). stored (renamed e d x.desk) x.block) s.stores)
+    (λ c. let u = num_map (λ (x : Stored). x.block == c) (λ (x : Stored). stored (renamed e d x.desk) x.block) s.stores in omega arith)

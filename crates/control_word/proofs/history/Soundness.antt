@@ -1,7 +1,9 @@
 -- What holds of every state that a legal history leads to.
-use Rattle.std.proofs.Common.{◌≡◌, ◌≢◌, ℕ, ◌<◌, ◌≤◌, true, false}
+use Rattle.std.proofs.Common.{◌≡◌, ◌≢◌, ℕ, ◌<◌, ◌≤◌, Bool, true, false, cond, refl, ⊎_elim, arith}
+use Rattle.std.proofs.lemmas.Bool.{cases_lt}
+use Rattle.control_word.proofs.lists.Tallies.{store_found}
 use Rattle.control_word.specs.Handles.{IsFormed, empty, has_object}
-use Rattle.control_word.specs.Laws.{how_often}
+use Rattle.control_word.specs.Laws.{how_often, times_kept}
 use Rattle.control_word.specs.State.{Has, Held, InShape, IsVacant, Opening, Phase, State, bag_size, common, count, ending, gone, kind_of_free}
 use Rattle.control_word.specs.State.{kind_of_member, live, stored, sum_below, unmade, weak_number}
 
@@ -25,8 +27,21 @@ pub record Sound (z : Opening) (s : State) : Type 0 where
   pub latest_made : (b : ℕ) → s.latest b ≤ s.made
   pub latest_in : (b : ℕ) → s.latest b ≢ 0 → (s.object (s.latest b)).block ≡ b
   pub stores : (d b : ℕ) → Has (stored d b) s.stores → IsVacant s b × InShape z b
-  pub once : (b : ℕ) → how_often b s.stores ≤ 1
+  pub shelf : (b : ℕ) → s.shelved b ≡ true → IsVacant s b × InShape z b
+  pub once : (b : ℕ) → times_kept s b ≤ 1
   pub cleared : (o m : ℕ) → m < 3 → common (s.object o).phase ≡ 0 → (s.object o).member m ≡ empty (kind_of_member m)
+
+-- what a bit tells
+pub on_is : (x : Bool) → 0 < cond x 1 0 → x ≡ true
+on_is true some' = refl
+on_is false some' = absurd (omega arith)
+
+-- a block that is in a store or on the shelf
+pub kept_vacant : (z : Opening) (s : State) → Sound z s → (b : ℕ) → 0 < times_kept s b → IsVacant s b × InShape z b
+kept_vacant z s sound b some' =
+    ⊎_elim (λ (t : 0 < how_often b s.stores). let f = store_found b s.stores t in sound.stores f.0 b f.1)
+    (λ (t : how_often b s.stores ≤ 0). sound.shelf b (on_is (s.shelved b) (omega arith)))
+    (cases_lt 0 (how_often b s.stores))
 
 -- what the desks' allowances are, and what they hold of them
 pub record Allowed (z : Opening) (s : State) : Type 0 where

@@ -1,4 +1,4 @@
--- A vacant block is in just one store, and no other block is in any.
+-- A vacant block is in just one store or on the shelf, and no other block is in any.
 use Rattle.std.proofs.Common.{◌≡◌, ◌≢◌, ℕ, zero, suc, ◌<◌, ◌≤◌, true, false, List, [], ◌∷◌}
 use Rattle.std.proofs.Common.{sym, ap, subst, ⊎_elim, arith}
 use Rattle.std.proofs.lemmas.Bool.{cases_eq, cond_both}
@@ -8,17 +8,18 @@ use Rattle.control_word.proofs.history.Keeping.{Kept, kept_clear, kept_finish, k
 use Rattle.control_word.proofs.history.Keeping.{kept_swap, kept_weak_leave, stored_else, stored_here, written_out}
 use Rattle.control_word.proofs.history.Legal.{sound, written}
 use Rattle.control_word.proofs.history.Moving.{more_weaks, owner_no_weak}
-use Rattle.control_word.proofs.history.Soundness.{Sound}
-use Rattle.control_word.proofs.lists.Tallies.{store_found}
+use Rattle.control_word.proofs.history.Shelving.{kept_shelved, kept_unshelved}
+use Rattle.control_word.proofs.history.Soundness.{Sound, kept_vacant}
 use Rattle.control_word.specs.Events.{Asks, after, clears, leaves, swaps, weak_leaves}
 use Rattle.control_word.specs.Handles.{handle, object_of}
 use Rattle.control_word.specs.Histories.{IsLegal, leads}
-use Rattle.control_word.specs.Laws.{StoredOnce, how_often}
+use Rattle.control_word.specs.Laws.{StoredOnce, how_often, times_kept}
 use Rattle.control_word.specs.State.{Opening, State, all_stored, held}
 use Rattle.control_word.specs.declared.event.Entry.{Entry}
 use Rattle.control_word.specs.declared.event.Event.{Event}
 use Rattle.control_word.specs.declared.event.Event.TheVariants.{ClearMember, Compare, Count, Expired, Finish, Join, Leave, Load, Lock, Make, Read}
 use Rattle.control_word.specs.declared.event.Event.TheVariants.{Share, Split, Swap, Visit, WeakLeave, WeakShare}
+use Rattle.control_word.specs.declared.event.Event.TheVariants.{Shelve, Unshelve}
 use Rattle.control_word.specs.declared.handle.Kind.TheVariants.{Owner, Weak}
 
 all_kept : (f : ℕ → ℕ) (n b : ℕ) → 1 ≤ b → b ≤ n → 0 < how_often b (all_stored f n)
@@ -76,9 +77,11 @@ module _ {V : Type 0} where
   kept_after z s d (Visit h x y) fine kept asks = kept
   kept_after z s d (Split to n hs bs) fine kept asks = kept_split z s d to n hs bs kept asks.4 asks.5
   kept_after z s d (Join other) fine kept asks = kept_join z s d other kept
+  kept_after z s d (Shelve b) fine kept asks = kept_shelved z s d b.0 fine kept asks
+  kept_after z s d (Unshelve b) fine kept asks = kept_unshelved z s d b.0 kept asks
 
   pub kept : (z : Opening) (h : List (Entry V)) → IsLegal z h → Kept z (leads z h)
-  kept z [] legal = λ b shape vacant. all_kept z.holder z.blocks b shape.0 shape.1
+  kept z [] legal = λ b shape vacant. let t = all_kept z.holder z.blocks b shape.0 shape.1 in omega arith
   kept z (e ∷ h) legal =
       kept_after z (leads z h) e.desk e.event (sound z h legal.0) (kept z h legal.0) legal.1.asks
 
@@ -87,6 +90,5 @@ module _ {V : Type 0} where
       let s = leads z h in
       let fine = sound z h legal in
       let once = fine.once b in
-      let there = λ (e : how_often b s.stores ≡ 1).
-      let f = store_found b s.stores (omega arith) in (fine.stores f.0 b f.1).0 in
+      let there = λ (e : times_kept s b ≡ 1). (kept_vacant z s fine b (omega arith)).0 in
       ((there, λ vacant. let t = kept z h legal b shape vacant in omega arith), once)

@@ -11,6 +11,7 @@ use Rattle.control_word.specs.declared.event.Entry.{Entry}
 use Rattle.control_word.specs.declared.event.Event.{Event}
 use Rattle.control_word.specs.declared.event.Event.TheVariants.{ClearMember, Compare, Count, Expired, Finish, Join, Leave, Load, Lock, Make, Read}
 use Rattle.control_word.specs.declared.event.Event.TheVariants.{Share, Split, Swap, Visit, WeakLeave, WeakShare}
+use Rattle.control_word.specs.declared.event.Event.TheVariants.{Shelve, Unshelve}
 
 module _ {V : Type 0} where
   -- what has a value has one after an event, and a new object has one
@@ -40,6 +41,8 @@ module _ {V : Type 0} where
       (λ (q : o ≢ object_of y). let t = before le in (t.0, put_other f (object_of y) (Some val) o q ∙ t.1)) (cases_eq o (object_of y))
   has_value_after s d (Split to amount hs bs) f o before le = before le
   has_value_after s d (Join other) f o before le = before le
+  has_value_after s d (Shelve b) f o before le = before le
+  has_value_after s d (Unshelve b) f o before le = before le
 
   -- an object that was made has a value
   pub has_value : (z : Opening) (h : List (Entry V)) (o : ℕ) → 1 ≤ o → o ≤ (leads z h).made → (x : V) × (value z h o ≡ Some x)

@@ -264,7 +264,8 @@ module _ {V : Type 0} where
         let c = counts.0 in let l = ap (count t) latest' in omega arith))
         (λ c n lt u. let p = packed_put (blocks_of s) (blocks_of t) (s.cell c)
         (λ r q. sym (block_put z s fine v.name b.0 mine enabled null fields r (cell_made z s fine c r (let y = cells_led z h in omega arith) q))) in
-        let sa = same (cell_spot z c) (λ q. omega arith) in let x = moved (cell_spot z c) in let x1 = x.1 in let y = bank' (cell_spot z c) in omega arith))
+        let sa = same (cell_spot z c) (λ q. omega arith) in let x = moved (cell_spot z c) in let x1 = x.1 in let y = bank' (cell_spot z c) in omega arith)
+        (λ c. refl))
         stands.most stands.blank
         (record {
           members = λ c m hc lt q. ⊎_elim

@@ -55,7 +55,8 @@ module _ {V : Type 0} where
         (λ b j hb hj. let m = spot b j in let x = same m in let x0 = x.0 in let x1 = x.1 in let x2 = x.2 in let y = join_words s v.name other b j in
         let g = join_bank s z v.name other stands.taken m in omega arith)
         (λ c hc. let m = cell_spot z c in let x = same m in let x0 = x.0 in let x1 = x.1 in let x2 = x.2 in
-        let g = join_bank s z v.name other stands.taken m in omega arith))
+        let g = join_bank s z v.name other stands.taken m in omega arith)
+        stands.shows.shelf)
         stands.most stands.blank (record { members = stands.bare.members; frees = stands.bare.frees })
         (λ b hb. let x = (same (spot b 2)).2 in let y = stands.doors b hb in omega arith)
         tt (λ d q. absurd q) tt

@@ -10,9 +10,9 @@ use Rattle.control_word.proofs.history.Legal.{sound}
 use Rattle.control_word.proofs.lists.Tallies.{put_again, put_other, put_same}
 use Rattle.control_word.proofs.views.Teams.{still_step}
 use Rattle.control_word.proofs.words.Banks.{IsKept, bank_fill, open_kept}
-use Rattle.control_word.proofs.words.CellWords.{bare_put, cell_apart, cell_inside, cell_read, same_known}
+use Rattle.control_word.proofs.words.CellWords.{bare_put, cell_apart, cell_inside, cell_low, cell_read, same_known}
 use Rattle.control_word.proofs.words.Counting.{owed_paid}
-use Rattle.control_word.proofs.words.Frames.{total_set}
+use Rattle.control_word.proofs.words.Frames.{shelf_kept, total_set}
 use Rattle.control_word.proofs.words.Payments.{cond_one, one_at, one_else, one_here, shows_all}
 use Rattle.control_word.specs.Events.{cell_of, fills}
 use Rattle.control_word.specs.Handles.{handle}
@@ -86,7 +86,8 @@ module _ {V : Type 0} where
           (shows_all z words (set words j n) (owed views) (more z s views stands.taken) (owed (set views i u)) (more z s (set views i u) taken) s s
           (length-set words j n) stands.shows (λ b y. y)
           (λ b y hb hy. let m = both (spot b y) in let m0 = m.0 in let m1 = m.1 in omega arith)
-          (λ d hd. let m = both (cell_spot z d) in let m0 = m.0 in let m1 = m.1 in omega arith))
+          (λ d hd. let m = both (cell_spot z d) in let m0 = m.0 in let m1 = m.1 in omega arith)
+          (shelf_kept z words s j n (cell_low z words views h stands i v at awake c kept) stands.shows.shelf))
           (λ m. ⊎_elim (λ (q : m ≡ j). let y = put_same stands.taken j 0 m q in omega arith) (λ (q : m ≢ j). let y = put_other stands.taken j 0 m q in
           let b = stands.most m in omega arith) (cases_eq m j))
           (λ b y hb hy. put_other stands.taken j 0 (spot b y) (cell_apart z words views h stands i v at awake c kept b y hb hy) ∙ stands.blank b y hb hy)

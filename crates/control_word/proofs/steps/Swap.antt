@@ -11,8 +11,8 @@ use Rattle.control_word.proofs.history.Others.{IsPlain, fits_after, plain_names,
 use Rattle.control_word.proofs.lists.Tallies.{put_cases, put_other, put_same}
 use Rattle.control_word.proofs.views.Teams.{plain_step}
 use Rattle.control_word.proofs.words.Banks.{IsKept, bank_fill, bank_hands, open_kept}
-use Rattle.control_word.proofs.words.CellWords.{bare_put, cell_apart, cell_inside, cell_read, same_known}
-use Rattle.control_word.proofs.words.Frames.{spot_apart, spot_fits, total_set}
+use Rattle.control_word.proofs.words.CellWords.{bare_put, cell_apart, cell_inside, cell_low, cell_read, same_known}
+use Rattle.control_word.proofs.words.Frames.{shelf_kept, spot_apart, spot_fits, total_set}
 use Rattle.control_word.proofs.words.Members.{free_vacant, free_words, member_blocks, member_vacant, member_word, member_words}
 use Rattle.control_word.proofs.words.Payments.{latest_is, shows_all}
 use Rattle.control_word.proofs.words.Purses.{purse_adds, purse_fits, purse_lone, purse_owes, purse_pays}
@@ -146,6 +146,7 @@ module _ {V : Type 0} where
             let w = ap (packed (blocks_of s)) (put_same s.cell d new x y) in let w0 = ap (λ i. packed (blocks_of s) (s.cell i)) y in omega arith)
             (λ (q : m ≢ k). let p = put_other stands.taken k 0 m q in let r = get_or-set_other words k m n 0 q in
             let w = ap (packed (blocks_of s)) (put_other s.cell d new x (λ e. q (ap (cell_spot z) e))) in omega arith) (cases_eq m k))
+            (shelf_kept z words s k n (cell_low z words views h stands i v at awake (Free d) op) stands.shows.shelf)
         shows_swap (Member o l) op new n u g hand is read same =
             let s = leads z h in
             let fine = sound z h stands.legal in
@@ -182,6 +183,7 @@ module _ {V : Type 0} where
             let q : m ≢ k = λ e. let l = spot_fits z b0 (7 + l) place.1 (omega arith) in omega arith in
             let p = put_other stands.taken k 0 m q in let r = get_or-set_other words k m n 0 q in
             let w = ap (λ (f : ℕ → ℕ). packed f (s.cell y)) blocks' in omega arith)
+            (shelf_kept z words s k n (cell_low z words views h stands i v at awake (Member o l) op) stands.shows.shelf)
 
     -- Swap: an open cell
     pub swap_step : (new : Handle) → IsOpen (leads z h) v.name c → v.pending ≡ purse (blocks_of (leads z h)) new 256

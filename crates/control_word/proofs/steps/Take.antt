@@ -14,9 +14,9 @@ use Rattle.control_word.proofs.history.Soundness.{IsBusy}
 use Rattle.control_word.proofs.lists.Tallies.{put_again, put_other, put_same}
 use Rattle.control_word.proofs.views.Teams.{plain_step}
 use Rattle.control_word.proofs.words.Banks.{IsKept, bank_fill, open_kept}
-use Rattle.control_word.proofs.words.CellWords.{bare_put, cell_apart, cell_inside, same_known, taken_left}
+use Rattle.control_word.proofs.words.CellWords.{bare_put, cell_apart, cell_inside, cell_low, same_known, taken_left}
 use Rattle.control_word.proofs.words.Counting.{bag_one}
-use Rattle.control_word.proofs.words.Frames.{total_set}
+use Rattle.control_word.proofs.words.Frames.{shelf_kept, total_set}
 use Rattle.control_word.proofs.words.Funds.{counted_busy}
 use Rattle.control_word.proofs.words.Payments.{cond_one, kept_in, one_at, one_else, one_here, read_set, shows_all, vacant_gain, words_gain}
 use Rattle.control_word.specs.Events.{Asks, InHand, IsOpen, after, cell_of, fills, kind_of}
@@ -100,7 +100,8 @@ module _ {V : Type 0} where
           (vacant_gain z s v.name o k p fine busy)
           (λ b y hb hy. let m = spot b y in let a = words_gain z s v.name o k p fine busy b y hb hy in let q = more' m in let q0 = q.0 in let q1 = q.1 in
           let r = read m in omega arith)
-          (λ d hd. let m = cell_spot z d in let q = (more' m).0 in let r = read m in omega arith)))
+          (λ d hd. let m = cell_spot z d in let q = (more' m).0 in let r = read m in omega arith)
+          (shelf_kept z words s j n (cell_low z words views h stands i v at awake c kept) stands.shows.shelf)))
           (λ m. let y = taken' m in ⊎_elim (λ (q : m ≡ j). let a = one_here j m q in
           let b = ap stands.taken q in omega arith) (λ (q : m ≢ j). let a = one_else j m q in let b = stands.most m in omega arith) (cases_eq m j))
           (λ b y hb hy. put_other stands.taken j (suc was) (spot b y) (cell_apart z words views h stands i v at awake c kept b y hb hy)

@@ -21,7 +21,7 @@ use Rattle.control_word.specs.Histories.{entry, leads, value}
 use Rattle.control_word.specs.Layout.{spot}
 use Rattle.control_word.specs.State.{Has, Object, Opening, Phase, common, ending, gone, held, kind_of_member, live, members, put, same_held, stored}
 use Rattle.control_word.specs.State.{unmade, weak, weak_number, without}
-use Rattle.control_word.specs.Steps.{Finishes, WeakLeaves, counts, me, state}
+use Rattle.control_word.specs.Steps.{Finishes, WeakLeaves, counts, state}
 use Rattle.control_word.specs.Views.{Stands, owed, paid, sees}
 use Rattle.control_word.specs.Words.{bank}
 use Rattle.control_word.specs.declared.event.Entry.{Entry}

@@ -12,7 +12,7 @@ use Rattle.control_word.proofs.lists.Tallies.{has_without, num_has, num_without,
 use Rattle.control_word.proofs.views.Teams.{still_step}
 use Rattle.control_word.proofs.words.Banks.{bank_none}
 use Rattle.control_word.proofs.words.Counting.{none_of}
-use Rattle.control_word.proofs.words.Frames.{shows_write, spot_apart, spot_fits, total_none, total_set}
+use Rattle.control_word.proofs.words.Frames.{shelf_kept, shows_write, spot_apart, spot_fits, total_none, total_set}
 use Rattle.control_word.proofs.words.Funds.{slot_low}
 use Rattle.control_word.proofs.words.Payments.{read_set, shows_all}
 use Rattle.control_word.specs.Histories.{leads, value}
@@ -209,7 +209,8 @@ module _ {V : Type 0} where
         (λ c j hc hj. let m = spot c j in let r = read m in let x = moved m in let x0 = x.0 in let x1 = x.1 in let x2 = x.2 in
         let y = ap (λ q. adds q m) idle in omega arith)
         (λ c hc. let m = cell_spot z c in let r = read m in let x = moved m in let x0 = x.0 in let x1 = x.1 in let x2 = x.2 in
-        let y = ap (λ q. adds q m) idle in omega arith))
+        let y = ap (λ q. adds q m) idle in omega arith)
+        (shelf_kept z words s k 1 (let l = spot_fits z b.0 1 hb (omega arith) in omega arith) stands.shows.shelf))
         stands.most stands.blank stands.bare
         (mine, λ j lt. get_or-set_other words k (spot b.0 (2 + j)) 1 0 (λ e. omega arith) ∙ known_at words b.0 j lt)
         (λ d q n f. fits_mine b.0 1 1 d q mine (omega arith) n f)
@@ -235,7 +236,8 @@ module _ {V : Type 0} where
         let y = ap (λ q. adds q (spot c k)) busy in omega arith)) says)
         (inl (omega arith, omega arith, vacant))
         (λ c x l t. let q = moved (cell_spot z c) in let x0 = q.0 in let x1 = q.1 in let x2 = q.2 in
-        let y = ap (λ q. adds q (cell_spot z c)) busy in omega arith))
+        let y = ap (λ q. adds q (cell_spot z c)) busy in omega arith)
+        (λ c. refl))
         stands.most stands.blank stands.bare (
           mine,
           λ k l. ⊎_elim

@@ -48,15 +48,19 @@ module _ {V : Type 0} where
               let p = (sound z h stands.legal).placed o op.1 in
               let t = spot_apart b k (s.object o).block (7 + m) hb.0 p.1.0 (omega arith) (let y = op.0 in omega arith) e in omega arith
 
-      pub cell_inside : cell_at z (leads z h) c < length words
-      cell_inside = go c kept
+      -- it lies before the shelf
+      pub cell_low : cell_at z (leads z h) c < cell_spot z z.cells
+      cell_low = go c kept
         where
-          go : (d : Cell) → IsKept (leads z h) d → cell_at z (leads z h) d < length words
-          go (Free d) op = let t = cells_led z h in let u = stands.shows.sized in omega arith
+          go : (d : Cell) → IsKept (leads z h) d → cell_at z (leads z h) d < cell_spot z z.cells
+          go (Free d) op = let t = cells_led z h in omega arith
           go (Member o m) op =
               let s = leads z h in
               let p = (sound z h stands.legal).placed o op.1 in
-              let l = spot_fits z (s.object o).block (7 + m) p.1 (let y = op.0 in omega arith) in let u = stands.shows.sized in omega arith
+              let l = spot_fits z (s.object o).block (7 + m) p.1 (let y = op.0 in omega arith) in omega arith
+
+      pub cell_inside : cell_at z (leads z h) c < length words
+      cell_inside = let l = cell_low in let u = stands.shows.sized in omega arith
 
       -- a write of a cell's word leaves what half-done calls know of blocks
       pub same_known : (n b j : ℕ) → InShape z b → j < 5 → get_or (set words (cell_at z (leads z h) c) n) (spot b (2 + j)) 0

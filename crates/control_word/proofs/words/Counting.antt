@@ -1,6 +1,6 @@
 use Rattle.std.proofs.Common.{◌≡◌, ◌≢◌, ℕ, suc, ◌+◌, ◌*◌, ◌<◌, Bool, true, false, cond, ◌==◌, List, ◌∷◌, map, get_or, set}
 use Rattle.std.proofs.Common.{Option, Some, refl, sym, ap}
-use Rattle.std.proofs.Common.{subst, ◌∙◌, ⊎_elim, inl, ne_eqb, arith, ◌≤◌, length, eq-eqb}
+use Rattle.std.proofs.Common.{subst, ◌∙◌, ⊎_elim, ne_eqb, arith, ◌≤◌, length, eq-eqb}
 use Rattle.std.proofs.lemmas.Bool.{cases_eq, cond-false, cond-true}
 use Rattle.std.proofs.lemmas.List.{get_or-set_other}
 use mathlib.Core.Option.{some, some-injective}

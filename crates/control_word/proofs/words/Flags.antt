@@ -9,7 +9,7 @@ use lib.ListN.{get_elem?}
 use Rattle.control_word.proofs.history.Legal.{sound}
 use Rattle.control_word.proofs.history.Soundness.{IsBusy, Sound}
 use Rattle.control_word.proofs.words.Body.{body_read, words_flags}
-use Rattle.control_word.proofs.words.Frames.{spot_apart, spot_fits, total_set}
+use Rattle.control_word.proofs.words.Frames.{shelf_kept, spot_apart, spot_fits, total_set}
 use Rattle.control_word.proofs.words.Funds.{total_some}
 use Rattle.control_word.proofs.words.Payments.{one_at, read_set, shows_all}
 use Rattle.control_word.specs.Histories.{leads}
@@ -119,3 +119,4 @@ module _ {V : Type 0} where
         (length-set words k n) stands.shows (λ y u. u)
         (λ y j hy hj. let m = spot y j in let r = read m in let x = moved m in let x0 = x.0 in let x1 = x.1 in let x2 = x.2 in omega arith)
         (λ y hy. let m = cell_spot z y in let r = read m in let x = moved m in let x0 = x.0 in let x1 = x.1 in let x2 = x.2 in omega arith)
+        (shelf_kept z words s k n (let l = spot_fits z b 2 place (omega arith) in omega arith) stands.shows.shelf)

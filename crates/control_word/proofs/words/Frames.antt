@@ -1,18 +1,20 @@
 -- What one write of a word, and one change of a view, leave as they were.
-use Rattle.std.proofs.Common.{◌≡◌, ◌≢◌, ℕ, zero, suc, ◌+◌, ◌*◌, ◌<◌, ◌≤◌, ◌⊎◌, List, [], ◌∷◌, length, get_or, set}
+use Rattle.std.proofs.Common.{◌≡◌, ◌≢◌, ℕ, zero, suc, ◌+◌, ◌*◌, ◌%◌, ◌<◌, ◌≤◌, ◌⊎◌, List, [], ◌∷◌, length}
+use Rattle.std.proofs.Common.{get_or, set}
 use Rattle.std.proofs.Common.{refl, sym, ap, subst, ◌∙◌, inl, inr}
 use Rattle.std.proofs.Common.{⊎_elim, arith}
 use Rattle.std.proofs.lemmas.Bool.{cases_eq}
 use Rattle.std.proofs.lemmas.List.{get_or-set_same, get_or-set_other, length-set}
+use Rattle.std.specs.Int.{bit_at}
 use mathlib.Core.Path.{fun_ext}
 use mathlib.Core.Option.{some, some-ne-none, some-injective}
 use lib.ListN.{get_elem?}
 use Rattle.control_word.proofs.history.Soundness.{IsBusy, Sound}
 use Rattle.control_word.specs.Events.{moved_to}
 use Rattle.control_word.specs.Layout.{spot}
-use Rattle.control_word.specs.State.{Held, InShape, IsVacant, Object, Opening, State, Stored, count, unmade, weak, weak_number}
+use Rattle.control_word.specs.State.{Held, InShape, IsVacant, Object, Opening, State, Stored, count, on_shelf, unmade, weak, weak_number}
 use Rattle.control_word.specs.Views.{total}
-use Rattle.control_word.specs.Words.{Says, Shows, block_words, blocks_of, cell_spot, object_words, packed}
+use Rattle.control_word.specs.Words.{Says, Shows, ShowsShelf, block_words, blocks_of, cell_spot, object_words, packed, shelf_spot}
 use Rattle.control_word.specs.declared.handle.Handle.{Handle}
 
 pub spot_apart : (b k c j : ℕ) → 1 ≤ b → 1 ≤ c → k < 10 → j < 10 → spot b k ≡ spot c j → (b ≡ c) × (k ≡ j)
@@ -21,6 +23,12 @@ spot_apart b k c j hb hc hk hj e = (omega arith, omega arith)
 pub spot_fits : (z : Opening) (b k : ℕ) → InShape z b → k < 10 → spot b k < 16 * z.blocks
 spot_fits z b k h hk = omega arith
 
+-- a write before the shelf leaves the shelf
+pub shelf_kept : (z : Opening) (words : List ℕ) (s : State) (k n : ℕ) → k < cell_spot z z.cells → ShowsShelf z words s
+    → ShowsShelf z (set words k n) s
+shelf_kept z words s k n lt shows b low =
+    ap (λ m. bit_at m (b % 64)) (get_or-set_other words k (shelf_spot z b) n 0 (λ e. omega arith)) ∙ shows b low
+
 -- the other words are as they were
 pub shows_write : (z : Opening) (words : List ℕ) (u f v g : ℕ → ℕ) (s t : State) (b k n : ℕ) → InShape z b → k < 10 → Shows z words u f s
     → ((c j : ℕ) → InShape z c → j < 10 → ((c ≡ b) × (j ≡ k) → ⊥) → Says s u f c j (get_or words (spot c j) 0)
@@ -28,8 +36,9 @@ pub shows_write : (z : Opening) (words : List ℕ) (u f v g : ℕ → ℕ) (s t 
     → Says t v g b k n
     → ((c w : ℕ) → c < z.cells → w ≡ packed (blocks_of s) (s.cell c) + f (cell_spot z c)
     → w ≡ packed (blocks_of t) (t.cell c) + g (cell_spot z c))
+    → ((c : ℕ) → on_shelf t c ≡ on_shelf s c)
     → Shows z (set words (spot b k) n) v g t
-shows_write z words u f v g s t b k n hb hk shows others here free = record {
+shows_write z words u f v g s t b k n hb hk shows others here free same = record {
   sized = length-set words (spot b k) n ∙ shows.sized;
   blocks = λ c j hc hj. ⊎_elim
       (λ (e : spot c j ≡ spot b k).
@@ -45,6 +54,7 @@ shows_write z words u f v g s t b k n hb hk shows others here free = record {
   free = λ c hc.
       let ne : cell_spot z c ≢ spot b k = λ e. let l = spot_fits z b k hb hk in omega arith in
       get_or-set_other words (spot b k) (cell_spot z c) n 0 ne ∙ free c (get_or words (cell_spot z c) 0) hc (shows.free c hc);
+  shelf = λ c lt. shelf_kept z words s (spot b k) n (let l = spot_fits z b k hb hk in omega arith) shows.shelf c lt ∙ sym (same c);
 }
 
 -- the words of an object do not tell its phase
@@ -109,12 +119,13 @@ module _ (z : Opening) (s : State) (hs : List Held) (f' : ℕ → Object) (o k :
       (inr e)
       (λ c w hc t. let y = same_f (cell_spot z c) (λ q. let l = spot_fits z b k hb (omega arith) in omega arith) in
       let x = packed_still f' s.object (s.cell c) still in omega arith)
+      (λ c. refl)
 
 -- the words do not tell who has a vacant block
 pub shows_stores : (z : Opening) (words : List ℕ) (u g : ℕ → ℕ) (s : State) (r : List Stored) → Shows z words u g s
     → Shows z words u g (record s { stores = r })
 unfolding count weak
-shows_stores z words u g s r shows = record { sized = shows.sized; blocks = shows.blocks; free = shows.free }
+shows_stores z words u g s r shows = record { sized = shows.sized; blocks = shows.blocks; free = shows.free; shelf = shows.shelf }
 
 -- sums over the views
 pub total_set : {A : Type 0} (f : A → ℕ) (l : List A) (i : ℕ) (a b : A) → get_elem? l i ≡ some a → total f (set l i b) + f a ≡ total f l + f b

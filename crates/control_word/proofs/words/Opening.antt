@@ -1,15 +1,17 @@
 -- At the start all words are 0, and one desk has the whole allowance.
-use Rattle.std.proofs.Common.{◌≡◌, ℕ, zero, suc, ◌+◌, ◌*◌, ◌<◌, [], length, get_or, replicate, refl, sym, ap, subst, ◌∙◌, inr}
+use Rattle.std.proofs.Common.{◌≡◌, ℕ, zero, suc, ◌+◌, ◌<◌, [], length, get_or, replicate, refl, sym, ap, subst, ◌∙◌, inr, ◌%◌}
 use Rattle.std.proofs.Common.{⊎_elim, false, arith}
+use Rattle.std.proofs.lemmas.Nat.Bits.{bit_at-zero}
+use Rattle.std.specs.Int.{bit_at}
 use mathlib.Core.Option.{some, some-ne-none, some-injective}
 use lib.ListN.{get_elem?}
 use Rattle.control_word.proofs.history.Legal.{sound_start}
 use Rattle.control_word.proofs.words.Banks.{bank_none}
 use Rattle.control_word.proofs.words.Members.{packed_empty}
-use Rattle.control_word.specs.Layout.{spot}
+use Rattle.control_word.specs.Layout.{spot, shelf_place}
 use Rattle.control_word.specs.State.{IsOpening, Opening, kind_of_free, nobody, start}
 use Rattle.control_word.specs.Views.{Seated, Stands, StandsFor, added, adds, fresh, owed, owes, paid, pays, total}
-use Rattle.control_word.specs.Words.{bank, block_words, blocks_of, cell_spot, object_words}
+use Rattle.control_word.specs.Words.{bank, block_words, blocks_of, cell_spot, object_words, shelf_spot}
 use Rattle.control_word.specs.declared.handle.Kind.TheVariants.{Owner, Weak}
 use Rattle.control_word.specs.declared.view.Pending.{Pending}
 use Rattle.control_word.specs.declared.view.Pending.TheVariants.{Idle}
@@ -69,7 +71,7 @@ module _ {V : Type 0} where
   fresh_first (suc n) l = refl
 
   -- at the start all words are 0, and each desk has what the opening gives it
-  pub opens : (z : Opening) → IsOpening z → Stands z (replicate (16 * z.blocks + 8 * z.cells) 0) (fresh {V = V} 0 z.desks) []
+  pub opens : (z : Opening) → IsOpening z → Stands z (replicate (shelf_place z.blocks z.cells 1024) 0) (fresh {V = V} 0 z.desks) []
   opens z proper =
       let views = fresh {V = V} 0 z.desks in
       let o : (i : ℕ) → owed views i ≡ 0 = λ i. fresh_none (λ p. owes p i) refl 0 z.desks in
@@ -84,17 +86,18 @@ module _ {V : Type 0} where
         bare = record { members = λ b m hb lt e. refl; frees = λ c hc e. refl };
         doors = λ b hb. let t = a (spot b 2) in omega arith;
         shows = record {
-          sized = zero_length (16 * z.blocks + 8 * z.cells);
-          blocks = λ b k hb hk. inr (let t = zero_read (16 * z.blocks + 8 * z.cells) (spot b k) in let c = start_words z b k in
+          sized = zero_length (shelf_place z.blocks z.cells 1024);
+          blocks = λ b k hb hk. inr (let t = zero_read (shelf_place z.blocks z.cells 1024) (spot b k) in let c = start_words z b k in
               let d = bank_start z (spot b k) in
               let o' = o (spot b k) in let a' = a (spot b k) in let m' = m (spot b k) in omega arith);
-          free = λ c hc. let t = zero_read (16 * z.blocks + 8 * z.cells) (cell_spot z c) in let d = bank_start z (cell_spot z c) in
+          free = λ c hc. let t = zero_read (shelf_place z.blocks z.cells 1024) (cell_spot z c) in let d = bank_start z (cell_spot z c) in
               let e = packed_empty (blocks_of (start z)) (kind_of_free z.shared_cells c) in let a' = a (cell_spot z c) in
               let m' = m (cell_spot z c) in omega arith;
+          shelf = λ b low. ap (λ n. bit_at n (b % 64)) (zero_read (shelf_place z.blocks z.cells 1024) (shelf_spot z b)) ∙ bit_at-zero (b % 64);
         };
         team = record {
           seated = λ i v e l. let t = fresh_at 0 z.desks i v e in
-              subst (λ (u : View V). Seated (replicate (16 * z.blocks + 8 * z.cells) 0) z [] u) (sym t.1) (record {
+              subst (λ (u : View V). Seated (replicate (shelf_place z.blocks z.cells 1024) 0) z [] u) (sym t.1) (record {
                 knows = λ d s. ([], refl, tt);
                 acts = λ d s. ⊎_elim (λ q. let lt = t.0 in let e : 0 + i ≡ d = q in (omega arith, refl, proper.positive d (omega arith)))
                     (λ q. absurd q) s;

@@ -17,14 +17,14 @@ use Rattle.control_word.proofs.history.Storing.{kept}
 use Rattle.control_word.proofs.views.Teams.{still_step}
 use Rattle.control_word.proofs.words.Banks.{IsKept}
 use Rattle.control_word.proofs.words.Counting.{each_paid, number_read}
-use Rattle.control_word.proofs.words.Frames.{spot_apart, spot_fits, total_set}
+use Rattle.control_word.proofs.words.Frames.{shelf_kept, spot_apart, spot_fits, total_set}
 use Rattle.control_word.proofs.words.Funds.{slot_low, total_le}
 use Rattle.control_word.specs.Handles.{handle}
 use Rattle.control_word.specs.Histories.{leads, value}
 use Rattle.control_word.specs.Layout.{spot}
 use Rattle.control_word.specs.State.{InShape, IsVacant, Opening, State, held, weak_number}
 use Rattle.control_word.specs.Views.{Fits, Stands, adds, more, owed, owes, paid, pays}
-use Rattle.control_word.specs.Words.{Shows, block_words, blocks_of, cell_spot, counts_at, packed, slot}
+use Rattle.control_word.specs.Words.{Shows, ShowsShelf, block_words, blocks_of, cell_spot, counts_at, packed, slot}
 use Rattle.control_word.specs.declared.event.Cell.{Cell}
 use Rattle.control_word.specs.declared.event.Cell.TheVariants.{Free, Member}
 use Rattle.control_word.specs.declared.event.Entry.{Entry}
@@ -48,11 +48,13 @@ pub shows_all : (z : Opening) (words words' : List ℕ) (u f v g : ℕ → ℕ) 
     → ((c : ℕ) → c < z.cells
     → get_or words' (cell_spot z c) 0 + (packed (blocks_of s) (s.cell c) + f (cell_spot z c)) ≡ get_or words (cell_spot z c) 0 + (packed
     (blocks_of t) (t.cell c) + g (cell_spot z c)))
+    → ShowsShelf z words' t
     → Shows z words' v g t
-shows_all z words words' u f v g s t len shows vacant blocks free = record {
+shows_all z words words' u f v g s t len shows vacant blocks free shelf = record {
   sized = len ∙ shows.sized;
   blocks = λ b j hb hj. ⊎_elim (λ l. inl (l.0, l.1, vacant b l.2)) (λ e. inr (let c = blocks b j hb hj in omega arith)) (shows.blocks b j hb hj);
   free = λ c hc. let a = free c hc in let e = shows.free c hc in omega arith;
+  shelf = shelf;
 }
 
 -- 1 where it is the word
@@ -134,10 +136,12 @@ module _ {V : Type 0} where
   module _ (z : Opening) (words : List ℕ) (views : List (View V)) (h : List (Entry V)) (stands : Stands z words views h)
       (i : ℕ) (v : View V) (at : get_elem? views i ≡ some v) (awake : v.spent ≡ false) where
     -- the word of a number is one of the table's, and no flag or field, nor a cell's
+    counts_low : (k : Kind) (o : ℕ) → IsBusy (leads z h) o → counts_at (blocks_of (leads z h)) k o < 16 * z.blocks
+    counts_low k o busy = spot_fits z ((leads z h).object o).block (slot k) ((sound z h stands.legal).placed o busy).1
+        (let u = slot_low k in omega arith)
+
     pub counts_inside : (k : Kind) (o : ℕ) → IsBusy (leads z h) o → counts_at (blocks_of (leads z h)) k o < length words
-    counts_inside k o busy = let t = spot_fits z ((leads z h).object o).block (slot k) ((sound z h stands.legal).placed o busy).1
-        (let u = slot_low k in omega arith) in
-        let u = stands.shows.sized in omega arith
+    counts_inside k o busy = let t = counts_low k o busy in let u = stands.shows.sized in omega arith
 
     -- a write of a number leaves what half-done calls know
     stays_low : (k : Kind) (o n d : ℕ) (q : Pending V) → IsBusy (leads z h) o → Fits words (leads z h) (value z h) d q
@@ -206,7 +210,8 @@ module _ {V : Type 0} where
         (let l = slot_low k in omega arith) in omega arith in
         let t = moved m in let x = total_set (λ (y : View V). owes y.pending m) views i v u at in let x0 = owes0 m in let x1 = owes1 m in
         let one = one_else w m apart in
-        let b1 : b * one_at w m ≡ b * 0 = ap (λ c. b * c) one in let d1 : d * one_at w m ≡ d * 0 = ap (λ c. d * c) one in omega arith))
+        let b1 : b * one_at w m ≡ b * 0 = ap (λ c. b * c) one in let d1 : d * one_at w m ≡ d * 0 = ap (λ c. d * c) one in omega arith)
+        (shelf_kept z words s w n (let l = counts_low k o busy in omega arith) stands.shows.shelf))
         stands.most stands.blank stands.bare
         (stays_low k o n v.name new busy fits)
         (λ x q ne y. stays_low k o n x q busy y)

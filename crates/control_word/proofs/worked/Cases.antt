@@ -7,7 +7,7 @@ use Rattle.control_word.proofs.history.Storing.{stored_once}
 use Rattle.control_word.specs.Events.{Asks, after}
 use Rattle.control_word.specs.Handles.{empty, equivalent}
 use Rattle.control_word.specs.Histories.{IsLegal, MayCome, Values, leads, value}
-use Rattle.control_word.specs.Laws.{how_often}
+use Rattle.control_word.specs.Laws.{times_kept}
 use Rattle.control_word.specs.State.{IsOpening, IsVacant, bag_size, count, weak}
 use Rattle.control_word.specs.Worked.{BlockUsedAgain, CountAfterCopy, CycleStays, FailedCompareHandsOutHeld, LockKeepsAlive, compare_ended}
 use Rattle.control_word.specs.Worked.{compare_held, compares, copy_ended, cycle_ended, four_blocks, leftover, lock_ended, lock_expired, owner_at}
@@ -63,7 +63,7 @@ abbrev ◌▸◌ : {A B : Type 0} → A → B → A × B
 a ▸ b = (a, b)
 
 vacant : (h : List (Entry ℕ)) (b : ℕ) → IsLegal four_blocks h → 1 ≤ b → b ≤ 4
-    → how_often b (leads four_blocks h).stores ≡ 1 → IsVacant (leads four_blocks h) b
+    → times_kept (leads four_blocks h) b ≡ 1 → IsVacant (leads four_blocks h) b
 vacant h b legal low high once = (stored_once four_blocks h legal b (low, high)).0.0 once
 
 copy_legal : IsLegal four_blocks copy_ended

@@ -9,6 +9,7 @@ use Rattle.control_word.specs.declared.handle.Handle.{Handle}
 use Rattle.control_word.specs.Histories.{entry}
 use Rattle.step_table.specs.declared.past.Deed.{Deed}
 use Rattle.step_table.specs.declared.past.Deed.TheVariants as deed
+use Rattle.step_table.specs.declared.shelf.ShelfDeed.TheVariants.{Shelve, Unshelve, Miss}
 use Rattle.step_threads.specs.declared.said.Stepped.{Stepped}
 use Rattle.step_threads.specs.declared.said.Stepped.TheVariants as stepped
 use Rattle.step_core.specs.declared.trace.TraceStep.{TraceStep}
@@ -59,6 +60,10 @@ by_deed v d (deed.OnCell x) w gave e =
     (λ q. absurd (let n = ap (λ (h : List (Entry Nothing)). length h) q in omega (arith, n)))
     (λ c h q. ap newest_gave q) (λ c x n h b f q. ap newest_gave q)
     (λ c n h q. ap newest_gave q) (λ o m h q. ap newest_gave q) (state v) x e
+by_deed v d (deed.OnShelf b Shelve) w gave e = ap newest_gave e
+by_deed v d (deed.OnShelf b Unshelve) w gave e = ap newest_gave e
+by_deed v d (deed.OnShelf b Miss) w gave e =
+    absurd (let n = ap (λ (h : List (Entry Nothing)). length h) e in omega (arith, n))
 by_deed v d _ w gave e = ap newest_gave e
 
 -- what a step tells of a lock that gave this

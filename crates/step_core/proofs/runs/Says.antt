@@ -10,6 +10,8 @@ use Rattle.control_word.specs.declared.place.Place.{Place}
 use Rattle.step_table.specs.declared.past.Deed.{Deed}
 use Rattle.step_table.specs.declared.past.Deed.TheVariants as deed
 use Rattle.step_table.specs.declared.ended.Ended.{Ended}
+use Rattle.step_table.specs.declared.shelf.ShelfDeed.{ShelfDeed}
+use Rattle.step_table.specs.declared.shelf.ShelfDeed.TheVariants.{Shelve, Unshelve, Miss}
 use Rattle.step_threads.specs.declared.said.Stepped.{Stepped}
 use Rattle.step_threads.specs.declared.said.Stepped.TheVariants as stepped
 use Rattle.step_core.specs.declared.trace.TraceStep.{TraceStep}
@@ -22,6 +24,7 @@ use Rattle.step_table.specs.Stories.{Nothing, Story, added, event_of, object_in,
 use Rattle.step_core.specs.Totals.{is_last}
 use Rattle.step_core.specs.Worlds.{Sight, half_of, scene, step_of}
 use Rattle.step_table.specs.CellDeeds.{cell_event}
+use Rattle.step_table.specs.ShelfDeeds.{shelf_event}
 use Rattle.step_table.proofs.tables.CellDeeds.{by_event}
 use Rattle.step_core.proofs.runs.Waiting.{IsTold, told_at}
 use Rattle.step_core.proofs.runs.Headline.{IsStep, asked, newest_is_last}
@@ -36,6 +39,11 @@ as_said v x =
 abbrev is_last_in : Option (Event Nothing) → Bool
 is_last_in None = false
 is_last_in (Some e) = is_last e
+
+shelf_last : (b : Block) (z : ShelfDeed) → is_last_in (shelf_event b z) ≡ false
+shelf_last b Shelve = refl
+shelf_last b Unshelve = refl
+shelf_last b Miss = refl
 
 module _ (u : Sight) (x : TraceStep) (u' : Sight) (step : IsStep u x u') where
   abbrev history : List (Entry Nothing)
@@ -72,6 +80,7 @@ module _ (u : Sight) (x : TraceStep) (u' : Sight) (step : IsStep u x u') where
       (by_event (λ (a : Option (Event Nothing)). is_last_in a ≡ false) refl (λ c h. refl) (λ c e n h b f. refl) (λ c n h. refl)
       (λ o m h. refl) (state u.story) z)
       now says
+  by_deed (Some (deed.OnShelf b z)) now says = none_left (shelf_event b z) (shelf_last b z) now says
   by_deed (Some y) now says = none_left (event_of (state u.story) y) refl now says
 
   by_step : (y : Option Step) → u'.story.history ≡ (story_by u.story (x.actor - 1) y).history → x.stepped ≡ stepped_by u.story y → Tells u.story y

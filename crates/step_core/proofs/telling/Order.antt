@@ -10,7 +10,7 @@ use Rattle.control_word.specs.declared.event.Cell.TheVariants.{Free, Member}
 use Rattle.control_word.specs.declared.event.Entry.{Entry}
 use Rattle.control_word.specs.declared.event.Event.{Event}
 use Rattle.control_word.specs.declared.event.Event.TheVariants.{ClearMember, Compare, Count, Expired, Finish, Join, Leave, Load, Lock, Make, Read}
-use Rattle.control_word.specs.declared.event.Event.TheVariants.{Share, Split, Swap, Visit, WeakLeave, WeakShare}
+use Rattle.control_word.specs.declared.event.Event.TheVariants.{Share, Shelve, Split, Swap, Unshelve, Visit, WeakLeave, WeakShare}
 use Rattle.control_word.specs.Events.{after}
 use Rattle.control_word.specs.Handles.{object_of}
 use Rattle.control_word.specs.Histories.{IsLegal, ends_by, given, leads}
@@ -39,6 +39,8 @@ made_after s d (Compare c e x y false w) = omega arith
 made_after s d (Visit h x y) = omega arith
 made_after s d (Split e amount x y) = omega arith
 made_after s d (Join e) = omega arith
+made_after s d (Shelve b) = omega arith
+made_after s d (Unshelve b) = omega arith
 
 -- one more event
 made_more : (e : Entry Nothing) (h : List (Entry Nothing)) (b : Bool) → is_make e.event ≡ b → made_in (e ∷ h) ≡ made_in h + cond b 1 0
@@ -113,6 +115,8 @@ last_within n (Compare c e x y b w) range = omega arith
 last_within n (Visit h x y) range = omega arith
 last_within n (Split e amount x y) range = omega arith
 last_within n (Join e) range = omega arith
+last_within n (Shelve b) range = omega arith
+last_within n (Unshelve b) range = omega arith
 
 over_one : (p : Phase) → over p ≤ 1
 over_one unmade = omega arith

@@ -11,6 +11,7 @@ use Rattle.control_word.specs.declared.cell.CellWord.{CellWord}
 use Rattle.control_word.specs.declared.event.Cell.TheVariants.{Free, Member}
 use Rattle.control_word.specs.declared.event.Entry.{Entry}
 use Rattle.control_word.specs.declared.event.Event.{Event}
+use Rattle.control_word.specs.declared.event.Event.TheVariants.{Shelve, Unshelve}
 use Rattle.control_word.specs.declared.event.Event.TheVariants.{ClearMember, Compare, Count, Expired, Finish, Join, Leave, Load, Lock, Make, Read}
 use Rattle.control_word.specs.declared.event.Event.TheVariants.{Share, Split, Swap, Visit, WeakLeave, WeakShare}
 use Rattle.control_word.specs.declared.handle.Handle.{Handle}
@@ -216,6 +217,8 @@ shared_led z (e ∷ h) = shared_after (leads z h) e.desk e.event ∙ shared_led 
     shared_after s d (Visit h x y) = refl
     shared_after s d (Split e amount x y) = refl
     shared_after s d (Join e) = refl
+    shared_after s d (Shelve b) = refl
+    shared_after s d (Unshelve b) = refl
 
 pub shared_is : (v : Story) → (state v).shared ≡ v.extent.shape.shared_cells
 shared_is v = shared_led (opening v.extent) v.history

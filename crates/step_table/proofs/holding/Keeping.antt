@@ -15,10 +15,12 @@ use Rattle.control_word.specs.Handles.{empty}
 use Rattle.control_word.specs.State.{Has, Held, Object, State, bag, ending, held, kind_of_member, same_held}
 use Rattle.control_word.specs.State.{weak_number}
 use Rattle.control_word.specs.Views.{used_up}
+use Rattle.step_table.specs.declared.shelf.ShelfDeed.TheVariants.{Shelve, Unshelve, Miss}
+use Rattle.step_table.proofs.tables.ShelfDeeds.{shelf_framed}
 use Rattle.step_table.specs.declared.holdings.Pointer.{Pointer}
 use Rattle.step_table.specs.declared.past.Deed.{Deed}
 use Rattle.step_table.specs.declared.past.Deed.TheVariants.{Prepare, Write, Claim, Share, WeakShare, Leave, WeakLeave, Lock, Count, Expired, Read, Clear}
-use Rattle.step_table.specs.declared.past.Deed.TheVariants.{Finish, OnCell}
+use Rattle.step_table.specs.declared.past.Deed.TheVariants.{Finish, OnCell, OnShelf}
 use Rattle.step_table.specs.Holdings.{Holds, Slots, slot, times}
 use Rattle.step_table.specs.Openings.{opening}
 use Rattle.step_table.specs.Stories.{Kept, Nothing, Story, after, handle_in, object_in, owner_in, pending, state, weak_in}
@@ -55,6 +57,9 @@ same_deed v e d (Expired k b p x) n = still (state v) d
 same_deed v e d (Read b p m) n = still (state v) d
 same_deed v e d (Clear b m) n = same_after {V = Nothing} (state v) d e (event.ClearMember (object_in v b) m (empty (kind_of_member m))) n (λ z. z)
 same_deed v e d (Finish b vacant) n = same_after {V = Nothing} (state v) d e (event.Finish (object_in v b) vacant tt) n (λ z. z)
+same_deed v e d (OnShelf b Shelve) n = same_after {V = Nothing} (state v) d e (event.Shelve b) n (λ z. z)
+same_deed v e d (OnShelf b Unshelve) n = same_after {V = Nothing} (state v) d e (event.Unshelve b) n (λ z. z)
+same_deed v e d (OnShelf b Miss) n = still (state v) d
 same_deed v e d (OnCell x) n = same_cell v e d x n
 
 -- the block of an object that was made stays, whatever a deed does
@@ -72,6 +77,7 @@ block_stays v e o (Expired k b p x) le = refl
 block_stays v e o (Read b p m) le = refl
 block_stays v e o (Clear b m) le = (block_after {V = Nothing} (state v) e o (event.ClearMember (object_in v b) m (empty (kind_of_member m))) le).0
 block_stays v e o (Finish b vacant) le = (block_after {V = Nothing} (state v) e o (event.Finish (object_in v b) vacant tt) le).0
+block_stays v e o (OnShelf b x) le = ap (λ (s : State). (s.object o).block) (shelf_framed v e b x).2
 block_stays v e o (OnCell x) le = (framed v e x).block o
 
 -- so does whether it gives pointers to itself
@@ -99,6 +105,7 @@ enabled_stays v e o (Clear b m) le =
 enabled_stays v e o (Finish b vacant) le =
     put_cases (λ j (z : Object). z.enabled ≡ ((state v).object j).enabled) (state v).object (object_in v b) _ o
     (λ q. ap (λ (k : ℕ). ((state v).object k).enabled) (sym q)) (λ q. refl)
+enabled_stays v e o (OnShelf b x) le = ap (λ (s : State). (s.object o).enabled) (shelf_framed v e b x).2
 enabled_stays v e o (OnCell x) le = (framed v e x).enabled o
 
 -- the object in a block that a desk keeps is the same

@@ -14,8 +14,9 @@ use Rattle.control_word.specs.State.{Object, ending}
 use Rattle.control_word.specs.Views.{added, adds, total, used_up}
 use Rattle.step_table.specs.declared.past.Deed.{Deed}
 use Rattle.step_table.specs.declared.past.Deed.TheVariants.{Prepare, Write, Claim, Share, WeakShare, Leave, WeakLeave, Lock, Count, Expired, Read, Clear}
-use Rattle.step_table.specs.declared.past.Deed.TheVariants.{Finish, OnCell}
+use Rattle.step_table.specs.declared.past.Deed.TheVariants.{Finish, OnCell, OnShelf}
 use Rattle.step_table.proofs.tables.CellDeeds.{shuts_cell, whole_framed}
+use Rattle.step_table.proofs.tables.ShelfDeeds.{shelf_framed}
 use Rattle.step_table.specs.Openings.{opening}
 use Rattle.step_table.specs.Stories.{AllWhole, ShutsNoDoor, Kept, Nothing, Story, after, history_after, object_in, pending, pending_after, state, view_in}
 
@@ -33,6 +34,7 @@ shuts_none v d (Expired k b p e) = tt
 shuts_none v d (Read b p n) = tt
 shuts_none v d (Clear b m) = tt
 shuts_none v d (Finish b vacant) = tt
+shuts_none v d (OnShelf b x) = tt
 shuts_none v d (OnCell x) = shuts_cell (state v) x
 
 -- what is so of each half-done call, and of the desk's after its deed
@@ -80,6 +82,7 @@ whole_after v d (Clear b m) whole legal = λ o some le.
 whole_after v d (Finish b vacant) whole legal = λ o some le.
     put_cases (λ j (z : Object). o ≡ j → length z.fields ≡ 4) (state v).object (object_in v b) _ o
     (λ e t. moved_whole v (object_in v b) ((state v).object (object_in v b)) o whole refl some le e) (λ ne t. whole o some le) refl
+whole_after v d (OnShelf b x) whole legal = subst AllWhole (sym (shelf_framed v d b x).2) whole
 whole_after v d (OnCell x) whole legal = whole_framed v d x whole
 
 pub none_in : (f : Pending Nothing → ℕ) (views : List (View Nothing)) → ((d : ℕ) → f (view_in views d).pending ≡ 0)

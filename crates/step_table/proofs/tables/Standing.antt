@@ -13,11 +13,13 @@ use Rattle.control_word.specs.Views.{Stands, sees_as, used_up}
 use Rattle.step_table.specs.declared.extent.Extent.{Extent}
 use Rattle.step_table.specs.declared.past.Deed.{Deed}
 use Rattle.step_table.specs.declared.past.Deed.TheVariants.{Prepare, Write, Claim, Share, WeakShare, Leave, WeakLeave, Lock, Count, Expired, Read, Clear}
-use Rattle.step_table.specs.declared.past.Deed.TheVariants.{Finish, OnCell}
+use Rattle.step_table.specs.declared.past.Deed.TheVariants.{Finish, OnCell, OnShelf}
 use Rattle.step_table.specs.Openings.{opening}
 use Rattle.step_table.specs.Stories.{Nothing, Story, Seats, Kept, after, history_after, pending, pending_after, state, view_in, views_after}
 use Rattle.step_table.specs.Stories.{words_after}
+use Rattle.control_word.specs.State.{State}
 use Rattle.step_table.proofs.tables.CellDeeds.{framed}
+use Rattle.step_table.proofs.tables.ShelfDeeds.{shelf_framed}
 use Rattle.step_table.proofs.tables.Doors.{doors_after, whole_after}
 
 at_get : {A : Type 0} (l : List A) (i : ℕ) (d : A) → i < length l → get_elem? l i ≡ some (get_or l i d)
@@ -70,6 +72,7 @@ same_allowance v d (Expired k b p e) = refl
 same_allowance v d (Read b p n) = refl
 same_allowance v d (Clear b m) = refl
 same_allowance v d (Finish b vacant) = refl
+same_allowance v d (OnShelf b x) = ap (λ (s : State). s.allowance) (shelf_framed v d b x).2
 same_allowance v d (OnCell x) = (framed v d x).allowance
 
 -- what a deed leaves

@@ -9,6 +9,7 @@ use Rattle.std.proofs.Math.Nat.{div-add-mod, div-lt_iff_lt-mul, div-zero, mul_co
 use Rattle.control_word.proofs.words.Opening.{opens}
 use Rattle.control_word.specs.declared.view.Pending.TheVariants.{Idle}
 use Rattle.control_word.specs.declared.view.View.{View}
+use Rattle.control_word.specs.Layout.{table_size}
 use Rattle.control_word.specs.State.{IsOpening, sum_below}
 use Rattle.control_word.specs.Views.{Stands, fresh, used_up}
 use Rattle.step_table.specs.declared.extent.Extent.{Extent}
@@ -84,7 +85,7 @@ idle_start d (suc n) (suc e) = idle_start (suc d) n e
 
 -- a new table stands for the empty history
 pub kept_start : (x : Extent) (words : List ℕ) → IsExtent x
-    → words ≡ replicate (16 * x.shape.blocks + 8 * (x.shape.shared_cells + x.shape.weak_cells)) 0
+    → words ≡ replicate (table_size x.shape) 0
     → Kept (record { extent = x; words = words; views = fresh 0 x.actors; history = [] })
 kept_start x words fine is =
     record {

@@ -6,6 +6,7 @@ use Rattle.control_word.proofs.lists.Tallies.{put_cases}
 use Rattle.control_word.proofs.history.Legal.{sound}
 use Rattle.control_word.specs.declared.event.Entry.{Entry}
 use Rattle.control_word.specs.declared.event.Event.{Event}
+use Rattle.control_word.specs.declared.event.Event.TheVariants.{Shelve, Unshelve}
 use Rattle.control_word.specs.declared.event.Event.TheVariants.{Make, Share, Leave, Count, Expired, Read, WeakShare, WeakLeave, Lock, Load, Swap}
 use Rattle.control_word.specs.declared.event.Event.TheVariants.{Compare, ClearMember, Finish, Visit, Split, Join}
 use Rattle.control_word.specs.declared.event.Cell.{Cell}
@@ -48,6 +49,8 @@ valued_after s d (Visit h c val) values has o one le =
     put_cases (λ j (x : Option Nothing). x ≡ Some tt) values (object_of h) (Some val) o (λ e. refl) (λ ne. has o one le)
 valued_after s d (Split to amount hs bs) values has o one le = has o one le
 valued_after s d (Join other) values has o one le = has o one le
+valued_after s d (Shelve b) values has o one le = has o one le
+valued_after s d (Unshelve b) values has o one le = has o one le
 
 made_value : (z : Opening) (h : List (Entry Nothing)) (o : ℕ) → 1 ≤ o → o ≤ (leads z h).made → HasValue (value z h) o
 made_value z [] o one le = absurd (omega arith)

@@ -11,9 +11,10 @@ use Rattle.step_table.specs.declared.cell_deed.CellDeed.{CellDeed}
 use Rattle.step_table.specs.declared.cell_deed.CellDeed.TheVariants.{Look, Bring, GiveBack, Take, Turn, Refill, Swap, CompareSwap, TakeOut}
 use Rattle.step_table.specs.declared.past.Deed.{Deed}
 use Rattle.step_table.specs.declared.past.Deed.TheVariants.{Prepare, Write, Claim, Share, WeakShare, Leave, WeakLeave, Lock, Count, Expired, Read, Clear}
-use Rattle.step_table.specs.declared.past.Deed.TheVariants.{Finish, OnCell}
+use Rattle.step_table.specs.declared.past.Deed.TheVariants.{Finish, OnShelf, OnCell}
 use Rattle.step_table.specs.Openings.{opening}
 use Rattle.step_table.specs.Stories.{Kept, Story, after, object_in, state}
+use Rattle.step_table.proofs.tables.ShelfDeeds.{shelf_framed}
 
 pub phase_differs : (d e : ℕ) (p : Phase) → p ≡ ending d → p ≡ ending e → e ≡ d
 phase_differs d e p a b = let k : ending e ≡ ending d = sym b ∙ a in cc
@@ -77,4 +78,6 @@ member_kept v e d o m (Clear b i) n kept kept' end =
     other_put (state v) (object_in v b) o m _ (λ q. absurd (ended_else v d e o (object_in v b) n end kept'.stands.legal.1.asks.0 q))
 member_kept v e d o m (Finish b vacant) n kept kept' end =
     other_put (state v) (object_in v b) o m _ (λ q. ap (λ (j : ℕ). ((state v).object j).member m) (sym q))
+member_kept v e d o m (OnShelf b x) n kept kept' end =
+    ap (λ (s : State). (s.object o).member m) (shelf_framed v e b x).2
 member_kept v e d o m (OnCell x) n kept kept' end = cell_member v e d o m x n kept kept' end

@@ -10,7 +10,7 @@ use Rattle.step_threads.specs.declared.ending.Ending.{Ending}
 use Rattle.step_threads.specs.declared.half.Half.{Half}
 use Rattle.step_table.specs.declared.past.Deed.{Deed}
 use Rattle.step_table.specs.declared.past.Deed.TheVariants.{Prepare, Write, Claim, Share, WeakShare, Leave, WeakLeave, Lock, Count, Expired, Read, Clear}
-use Rattle.step_table.specs.declared.past.Deed.TheVariants.{Finish, OnCell}
+use Rattle.step_table.specs.declared.past.Deed.TheVariants.{Finish, OnShelf, OnCell}
 use Rattle.step_threads.specs.Actors.{Stocks, in_store}
 use Rattle.step_threads.specs.Endings.{EndsAll}
 use Rattle.step_table.specs.Openings.{opening}
@@ -20,6 +20,7 @@ use Rattle.step_threads.proofs.holding.Ends.{each_end}
 use Rattle.step_threads.proofs.holding.Least.{least_part}
 use Rattle.step_threads.proofs.holding.Members.{member_kept, phase_differs}
 use Rattle.step_table.proofs.tables.CellDeeds.{framed}
+use Rattle.step_table.proofs.tables.ShelfDeeds.{shelf_framed}
 use Rattle.step_table.proofs.tables.Places.{ending_busy}
 use Rattle.step_table.proofs.holding.Keeping.{num_part, same_deed, kept_object}
 
@@ -68,6 +69,8 @@ ends_on v e d o (Finish b vacant) n kept kept' end =
     let his = kept'.stands.legal.1.asks.0 in
     put_cases (λ i (y : Object). i ≡ o → y.phase ≡ ending d) (state v).object (object_in v b) _ o
     (λ q t. absurd (n (phase_differs d e ((state v).object o).phase end (ap (λ (j : ℕ). ((state v).object j).phase) q ∙ his)))) (λ q t. end) refl
+ends_on v e d o (OnShelf b x) n kept kept' end =
+    ap (λ (s : State). (s.object o).phase) (shelf_framed v e b x).2 ∙ end
 ends_on v e d o (OnCell x) n kept kept' end = (framed v e x).phase o ∙ end
 
 -- the same store has the same least block

@@ -50,7 +50,14 @@ module _ (g : _) (c : goal.After-content-1 g) where
   d = c.desk.inside
 
   abbrev f : Inside g.row.V.Denot
-  f = record { seat = c.clear_shared-value.new.chair; allowance = d.allowance; held = d.held; endings = d.endings + c.from.result; store = d.store }
+  f = record {
+    seat = c.clear_shared-value.new.chair;
+    allowance = d.allowance;
+    held = d.held;
+    endings = d.endings + c.from.result;
+    store = d.store;
+    shelf_word = d.shelf_word;
+  }
 
   abbrev x : CellWord
   x = c.clear_shared-value.result.0
@@ -128,7 +135,7 @@ pub invariant_of-content : goal.invariant_of-content
 invariant_of-content g c =
     let d = c.desk.inside in let u = c.clear_shared-value.ensures.cleared in
     let f : Inside g.row.V.Denot =
-    record { seat = c.clear_shared-value.new.chair; allowance = d.allowance; held = d.held; endings = d.endings; store = d.store } in
+    record { seat = c.clear_shared-value.new.chair; allowance = d.allowance; held = d.held; endings = d.endings; store = d.store; shelf_word = d.shelf_word } in
     let ends' = ends_in d c.args.desk.now c.args.block.0 c.requires.ending.0 c.desk.view_is c.requires.ending.1 in
     record {
       proper = clear.proper_is Owner d f c.desk.invariant c.args.block.0 c.args.member ends' c.clear_shared-value.result.0 u.between u.out

@@ -36,7 +36,7 @@ put_by_out-requires g c =
     let d = c.desk.inside in let h = c.desk.invariant in let b = c.args.block.0 in let x = c.clear_weak-vacant.result.0 in
     let u = c.clear_weak-vacant.ensures.cleared in let same = c.clear_weak-vacant.ensures.chair.0 in
     let f : Inside g.row.V.Denot =
-    record { seat = c.clear_weak-vacant.new.chair; allowance = d.allowance; held = d.held; endings = d.endings; store = d.store } in
+    record { seat = c.clear_weak-vacant.new.chair; allowance = d.allowance; held = d.held; endings = d.endings; store = d.store; shelf_word = d.shelf_word } in
     let ends' = ends_in d c.args.desk.now b c.requires.ending.0 c.desk.view_is c.requires.ending.1 in
     record {
       room = gone.room_gone (clear.t Weak d f h b 2 ends' x u.between u.out same) f (clear.mid Weak d f h b 2 ends' x u.between u.out same) x.owned x.place
@@ -48,7 +48,14 @@ module _ (g : _) (c : goal.After-content-1 g) where
   d = c.desk.inside
 
   abbrev f : Inside g.row.V.Denot
-  f = record { seat = c.clear_weak-vacant.new.chair; allowance = d.allowance; held = d.held; endings = d.endings; store = c.put_by_out.new.store }
+  f = record {
+    seat = c.clear_weak-vacant.new.chair;
+    allowance = d.allowance;
+    held = d.held;
+    endings = d.endings;
+    store = c.put_by_out.new.store;
+    shelf_word = d.shelf_word;
+  }
 
   abbrev x : CellWord
   x = c.clear_weak-vacant.result.0
@@ -126,7 +133,7 @@ pub invariant_of-content : goal.invariant_of-content
 invariant_of-content g c =
     let d = c.desk.inside in let u = c.clear_weak-vacant.ensures.cleared in
     let f : Inside g.row.V.Denot =
-    record { seat = c.clear_weak-vacant.new.chair; allowance = d.allowance; held = d.held; endings = d.endings; store = d.store } in
+    record { seat = c.clear_weak-vacant.new.chair; allowance = d.allowance; held = d.held; endings = d.endings; store = d.store; shelf_word = d.shelf_word } in
     let ends' = ends_in d c.args.desk.now c.args.block.0 c.requires.ending.0 c.desk.view_is c.requires.ending.1 in
     record {
       proper = clear.proper_is Weak d f c.desk.invariant c.args.block.0 2 ends' c.clear_weak-vacant.result.0 u.between u.out

@@ -110,7 +110,14 @@ module _ (g : _) (c : goal.After-content-1 g) where
   p = c.args.new.place
 
   abbrev f : Inside g.row.V.Denot
-  f = record { seat = c.store_shared-value.new.chair; allowance = d.allowance; held = d.held - 1; endings = d.endings + c.from.result; store = d.store }
+  f = record {
+    seat = c.store_shared-value.new.chair;
+    allowance = d.allowance;
+    held = d.held - 1;
+    endings = d.endings + c.from.result;
+    store = d.store;
+    shelf_word = d.shelf_word;
+  }
 
   abbrev x : CellWord
   x = c.store_shared-value.result.0
@@ -190,5 +197,12 @@ invariant_of-content g c =
     let has' = subst (λ (z : DeskNow g.row.V.Denot). Holds z Owner b p) (sym c.desk.view_is) c.requires.holds in let some' = lost_some d Owner p b h has' in
     let u = c.store_shared-value.ensures.stored in let x = c.store_shared-value.result.0 in let same = c.store_shared-value.ensures.chair.0 in
     let f : Inside g.row.V.Denot =
-    record { seat = c.store_shared-value.new.chair; allowance = d.allowance; held = d.held - 1; endings = d.endings; store = d.store } in
+    record {
+      seat = c.store_shared-value.new.chair;
+      allowance = d.allowance;
+      held = d.held - 1;
+      endings = d.endings;
+      store = d.store;
+      shelf_word = d.shelf_word;
+    } in
     record { proper = store.proper_is Owner d f h g.A.Aimed.cell g.A.Aimed.new b p x is' has' u.between u.out same }

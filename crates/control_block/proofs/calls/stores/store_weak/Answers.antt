@@ -98,7 +98,14 @@ put_by_out-requires g c =
     let has' = subst (λ (z : DeskNow g.row.V.Denot). Holds z Weak b p) (sym c.desk.view_is) c.requires.holds in let some' = lost_some d Weak p b h has' in
     let u = c.store_weak-vacant.ensures.stored in let x = c.store_weak-vacant.result.0 in let same = c.store_weak-vacant.ensures.chair.0 in
     let f : Inside g.row.V.Denot =
-    record { seat = c.store_weak-vacant.new.chair; allowance = d.allowance; held = d.held - 1; endings = d.endings; store = d.store } in
+    record {
+      seat = c.store_weak-vacant.new.chair;
+      allowance = d.allowance;
+      held = d.held - 1;
+      endings = d.endings;
+      store = d.store;
+      shelf_word = d.shelf_word;
+    } in
     record {
       room = gone.room_gone (store.t Weak d f h g.A.Aimed.cell g.A.Aimed.new b p x is' has' u.between u.out same) f
           (store.mid Weak d f h g.A.Aimed.cell g.A.Aimed.new b p x is' has' u.between u.out same) x.owned x.place c.store_weak-vacant.result.1 u.gone
@@ -116,7 +123,14 @@ module _ (g : _) (c : goal.After-content-1 g) where
   p = c.args.new.place
 
   abbrev f : Inside g.row.V.Denot
-  f = record { seat = c.store_weak-vacant.new.chair; allowance = d.allowance; held = d.held - 1; endings = d.endings; store = c.put_by_out.new.store }
+  f = record {
+    seat = c.store_weak-vacant.new.chair;
+    allowance = d.allowance;
+    held = d.held - 1;
+    endings = d.endings;
+    store = c.put_by_out.new.store;
+    shelf_word = d.shelf_word;
+  }
 
   abbrev x : CellWord
   x = c.store_weak-vacant.result.0
@@ -200,5 +214,12 @@ invariant_of-content g c =
     let has' = subst (λ (z : DeskNow g.row.V.Denot). Holds z Weak b p) (sym c.desk.view_is) c.requires.holds in let some' = lost_some d Weak p b h has' in
     let u = c.store_weak-vacant.ensures.stored in let x = c.store_weak-vacant.result.0 in let same = c.store_weak-vacant.ensures.chair.0 in
     let f : Inside g.row.V.Denot =
-    record { seat = c.store_weak-vacant.new.chair; allowance = d.allowance; held = d.held - 1; endings = d.endings; store = d.store } in
+    record {
+      seat = c.store_weak-vacant.new.chair;
+      allowance = d.allowance;
+      held = d.held - 1;
+      endings = d.endings;
+      store = d.store;
+      shelf_word = d.shelf_word;
+    } in
     record { proper = store.proper_is Weak d f h g.A.Aimed.cell g.A.Aimed.new b p x is' has' u.between u.out same }

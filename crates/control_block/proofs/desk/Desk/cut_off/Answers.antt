@@ -107,6 +107,7 @@ returns-clause-parts g c =
       held = d.held - c.args.count;
       endings = d.endings;
       store = c.pass_least.new.store;
+      shelf_word = d.shelf_word;
     } in
     let new : Inside g.row.V.Denot = record {
       seat = c.part-seat.result;
@@ -114,6 +115,7 @@ returns-clause-parts g c =
       held = c.args.count;
       endings = 0;
       store = c.pass_least.new.to;
+      shelf_word = d.shelf_word;
     } in
     subst (λ (y : DeskNow g.row.V.Denot). SplitsOff y c.args.allowance c.args.blocks hs (desk_now e) (desk_now new)) c.self.view_is
     (splits d e new c.self.invariant hs holds c.args.allowance c.args.blocks p (c.part-seat.ensures.chair.0, c.part-seat.ensures.other.0)

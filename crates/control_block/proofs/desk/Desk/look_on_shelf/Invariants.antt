@@ -1,0 +1,16 @@
+use Rattle.std.proofs.Common.{◌-◌, None}
+use Rattle.control_word.specs.declared.handle.Kind.TheVariants.{Owner}
+use Rattle.control_word.specs.declared.place.Block.{Block}
+use Rattle.control_block.specs.ShelfPlays.{shelf_at}
+use Rattle.control_block.proofs.desk.Desk.look_on_shelf.Given as goal
+
+abbrev pub ghosts-look : goal.ghosts-look
+ghosts-look g a =
+    record {
+      kind = Owner;
+      object = 0;
+      place = None;
+      wanted = None;
+      block = record { 0 = 0 };
+      word = a.place - shelf_at a.chair.now.me.0.shape 0;
+    }

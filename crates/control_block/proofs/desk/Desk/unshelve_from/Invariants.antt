@@ -1,0 +1,21 @@
+use Rattle.std.proofs.Common.{◌≡◌, ℕ, ◌≤◌, ◌<◌, ◌/◌, ◌%◌}
+use Rattle.std.specs.Int.{bit_at}
+use Rattle.control_word.specs.State.{on_shelf}
+use Rattle.control_block.specs.Desks.{Belongs, state_of}
+use Rattle.control_block.specs.Own.{IsSole}
+use Rattle.control_block.specs.Shelf.{Unshelved}
+use Rattle.control_block.proofs.desk.Desk.unshelve_from.Given as goal
+
+abbrev pub invariant-loop-bits : goal.invariant-loop-bits
+invariant-loop-bits g l =
+    record {
+      belongs : Belongs l.self l.domain;
+      few : l.taken ≤ l.count;
+      passed : Unshelved l.taken l.initial.self l.self;
+      same : l.taken ≡ 0 → l.self ≡ l.initial.self;
+      rest : IsSole l.initial.self
+          → (b : ℕ) → b < 65536 → b / 64 ≡ l.word → bit_at l.bits (b % 64) ≡ 0 → on_shelf (state_of l.self) b ≡ 0;
+    }
+
+abbrev pub decreases-loop-bits : goal.decreases-loop-bits
+decreases-loop-bits g l = l.bits

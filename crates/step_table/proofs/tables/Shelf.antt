@@ -1,0 +1,69 @@
+-- The steps on a word of the shelf.
+use Rattle.std.proofs.Common.{◌≡◌, ℕ, ◌*◌, ◌%◌, ◌^◌, ◌<◌, Bool, true, false, cond, ◌==◌, not, List, length, set, get_or, eq-eqb}
+use Rattle.std.proofs.Common.{ne_eqb, refl, sym, ap, subst, ◌∙◌, arith}
+use Rattle.std.proofs.lemmas.Nat.{pow_pos}
+use Rattle.std.proofs.lemmas.Nat.Bits.{and_pow}
+use Rattle.std.specs.Int.{bit_at, bit_not, w64}
+use Rattle.std.specs.Prelude.{bit_and}
+use Rattle.control_word.proofs.steps.Shelf.{shelves', unshelves'}
+use Rattle.control_word.specs.declared.event.Event.TheVariants as event
+use Rattle.control_word.specs.declared.place.Block.{Block}
+use Rattle.control_word.specs.declared.view.Pending.TheVariants.{Idle}
+use Rattle.control_word.specs.Layout.{bit_of}
+use Rattle.control_word.specs.State.{Has, Opening, on_shelf, stored}
+use Rattle.control_word.specs.Words.{shelf_spot}
+use Rattle.step_table.specs.declared.past.Deed.TheVariants.{OnShelf}
+use Rattle.step_table.specs.declared.shelf.ShelfDeed.TheVariants.{Shelve, Unshelve, Miss}
+use Rattle.step_table.specs.Openings.{opening}
+use Rattle.step_table.specs.ShelfDeeds.{shelf_words}
+use Rattle.step_table.specs.Stories.{Story, Kept, after, pending, state}
+use Rattle.step_table.proofs.tables.Standing.{kept_after, point, ready}
+use Rattle.step_table.proofs.tables.Places.{event_by, named}
+
+pub kept_shelve : (v : Story) (d : ℕ) (b : Block) → Kept v → d < v.extent.actors → pending v d ≡ Idle
+    → Has (stored d b.0) (state v).stores → Kept (after v d (OnShelf b Shelve))
+kept_shelve v d b kept lt idle has =
+    kept_after v d (OnShelf b Shelve) kept lt
+    (event_by v d (shelf_words (opening v.extent) v.words b Shelve) Idle (event.Shelve b) kept lt
+    (shelves' (point v d) b (ready v d Idle kept lt idle)
+    (subst (λ (n : ℕ). Has (stored n b.0) (state v).stores) (sym (named v d kept lt)) has)))
+
+-- the word that has the block's bit
+abbrev pub found_on : Story → Block → ℕ
+found_on v b = get_or v.words (shelf_spot (opening v.extent) b.0) 0
+
+pub shown_bit : (v : Story) (b : ℕ) → Kept v → b < 65536
+    → bit_at (get_or v.words (shelf_spot (opening v.extent) b) 0) (b % 64) ≡ on_shelf (state v) b
+shown_bit v b kept low = kept.stands.shows.shelf b low
+
+pub inside_shelf : (v : Story) (b : ℕ) → Kept v → b < 65536 → shelf_spot (opening v.extent) b < length v.words
+inside_shelf v b kept low = let s = kept.stands.shows.sized in omega arith
+
+-- a test of the bit
+pub bit_tells : (n j : ℕ) (x : Bool) → bit_at n j ≡ cond x 1 0 → not (bit_and n (2 ^ j) == 0) ≡ x
+bit_tells n j x is = go x (and_pow n j ∙ ap (λ m. m * 2 ^ j) is)
+  where
+    go : (y : Bool) → bit_and n (2 ^ j) ≡ cond y 1 0 * 2 ^ j → not (bit_and n (2 ^ j) == 0) ≡ y
+    go true e =
+        let p = pow_pos j in
+        ap not (ne_eqb (bit_and n (2 ^ j)) 0 (λ z. let q : bit_and n (2 ^ j) ≡ 2 ^ j = omega (arith, e) in absurd (omega arith)))
+    go false e = let q : bit_and n (2 ^ j) ≡ 0 = omega (arith, e) in ap not (eq-eqb (bit_and n (2 ^ j)) 0 q)
+
+-- the words after a bit is cleared
+pub cleared_words : (z : Opening) (words : List ℕ) (b : Block) (x : Bool)
+    → set words (shelf_spot z b.0) (bit_and (get_or words (shelf_spot z b.0) 0) (bit_not w64 (bit_of b.0)))
+    ≡ shelf_words z words b (cond x Unshelve Miss)
+cleared_words z words b true = refl
+cleared_words z words b false = refl
+
+pub kept_unshelve : (v : Story) (d : ℕ) (b : Block) (x : Bool) → Kept v → d < v.extent.actors → pending v d ≡ Idle
+    → b.0 < 65536 → x ≡ (state v).shelved b.0 → Kept (after v d (OnShelf b (cond x Unshelve Miss)))
+kept_unshelve v d b true kept lt idle low is =
+    kept_after v d (OnShelf b Unshelve) kept lt
+    (event_by v d (shelf_words (opening v.extent) v.words b Unshelve) Idle (event.Unshelve b) kept lt
+    ((unshelves' (point v d) b (ready v d Idle kept lt idle) low).0
+    (shown_bit v b.0 kept low ∙ ap (λ (y : Bool). cond y 1 0) (sym is))))
+kept_unshelve v d b false kept lt idle low is =
+    kept_after v d (OnShelf b Miss) kept lt
+    ((unshelves' (point v d) b (ready v d Idle kept lt idle) low).1
+    (shown_bit v b.0 kept low ∙ ap (λ (y : Bool). cond y 1 0) (sym is)))

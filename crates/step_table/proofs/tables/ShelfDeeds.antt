@@ -1,0 +1,14 @@
+-- A step on the shelf changes stores and the shelf alone.
+use Rattle.std.proofs.Common.{◌≡◌, ℕ, Bool, List, refl}
+use Rattle.control_word.specs.declared.place.Block.{Block}
+use Rattle.control_word.specs.State.{Stored}
+use Rattle.step_table.specs.declared.past.Deed.TheVariants.{OnShelf}
+use Rattle.step_table.specs.declared.shelf.ShelfDeed.{ShelfDeed}
+use Rattle.step_table.specs.declared.shelf.ShelfDeed.TheVariants.{Shelve, Unshelve, Miss}
+use Rattle.step_table.specs.Stories.{Story, after, state}
+
+pub shelf_framed : (v : Story) (d : ℕ) (b : Block) (x : ShelfDeed)
+    → (r : List Stored) × (f : ℕ → Bool) × (state (after v d (OnShelf b x)) ≡ record (state v) { stores = r; shelved = f })
+shelf_framed v d b Shelve = (_, _, refl)
+shelf_framed v d b Unshelve = (_, _, refl)
+shelf_framed v d b Miss = ((state v).stores, (state v).shelved, refl)
