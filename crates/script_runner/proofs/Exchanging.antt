@@ -80,12 +80,19 @@ module _ {V : Type 0} where
           (law.held_latest t.desk e v adds (kind_of h) (place_of h) b.0 (seating.has_object t.desk t.slots i h b fits at some))
 
 module _ {V : Type 0} (worth : Form → V) (m i hand : ℕ) (taken : Bool) (t u : TableNow V) (c : CellName) where
-  exchanges_in : IsSeated m hand t → IsSeated m hand u → i < hand → (x : Exchanges t i (as_cell c) u) → IsFound t (shown m t.slots) c x.swaps.site
+  -- what the slot has may go into the cell
+  pub may_exchange : IsSeated m hand t → i < m → (x : Exchanges t i (as_cell c) u) → IsFound t (shown m t.slots) c x.swaps.site
+      → may_go (shown m t.slots) c i ≡ true
+  may_exchange is below x found =
+      (λ j. found.there j && is_of (kind_at c) (value (shown m t.slots) i))
+      ∙ (ap (λ y. is_of (kind_at c) y) (seating.shown_at m t.slots i (Some x.swaps.of) below x.swaps.at)
+      ∙ is_of_own x.swaps.of (kind_at c) (x.swaps.kinds.0 ∙ found.kind))
+
+  pub exchanges_in : IsSeated m hand t → IsSeated m hand u → i < m → (x : Exchanges t i (as_cell c) u) → IsFound t (shown m t.slots) c x.swaps.site
       → (y : Slot) × Acts worth m t taken (act.Exchange i c) (Came y) u
-  exchanges_in is then lt x found =
+  exchanges_in is then below x found =
       let w = x.swaps in
       let q = kind_in (as_cell c) in
-      let below : i < m = let e = is.last in omega (arith, e, lt) in
       let within : i < length t.slots = let a = is.many in omega (arith, a, below) in
       let a = x.assigns in
       let free : a.old ≡ None = seating.same_some a.old None (sym a.was ∙ slice_get-set_same t.slots i None within) in
@@ -154,7 +161,7 @@ module _ {V : Type 0} (worth : Form → V) (m i hand : ℕ) (taken : Bool) (t u 
 module _ {V : Type 0} where
   pub exchanges : ExchangesIn V
   exchanges worth m i hand taken t u c is then lt in_shape of x =
-      exchanges_in worth m i hand taken t u c is then lt x (is_found m t is.fits c x.swaps.site in_shape of x.swaps.is)
+      exchanges_in worth m i hand taken t u c is then (let e = is.last in omega (arith, e, lt)) x (is_found m t is.fits c x.swaps.site in_shape of x.swaps.is)
 
   pub offers : OffersIn V
   offers worth m i hand taken t u c is lt in_shape of there h at same copied =

@@ -9,8 +9,9 @@ use Rattle.script_runner.specs.Logs.{Tells, told}
 use Rattle.script_runner.specs.Seats.{Begun, Done, shown}
 use Rattle.shared_handle.specs.declared.endings.Ending as pile
 use Rattle.step_threads.proofs.Courses.{settled_still}
-use Rattle.step_threads.specs.Courses.{Walk, idle, settled, slots_idle, taken_idle}
+use Rattle.step_threads.specs.Courses.{idle, settled, slots_idle, taken_idle}
 use Rattle.step_threads.specs.Rows.{gone, row, said_by_row, with_end}
+use Rattle.step_threads.specs.declared.act.Task.{Task}
 use Rattle.step_threads.specs.declared.said.Said.{Said}
 
 module _ {V : Type 0} where
@@ -19,30 +20,26 @@ module _ {V : Type 0} where
   begun_piled k xs ys (Some b) none begun = (xs, begun.0, begun.1, sym begun.2, refl, begun.3, none)
 
   pub acts_on : ActsOn V
-  acts_on worth m k t u taken a r todo none busy acts =
+  acts_on worth m k t u taken a r none busy acts =
       let l = shown m t.slots in
       let y = row a l taken r in
-      let w : Walk = record { slots = l; taken = taken; endings = []; todo = task k a ∷ todo } in
-      let v : Walk = gone w k todo y in
-      let at : settled l taken [] (task k a ∷ todo) ≡ w = settled_still l taken [] (task k a) todo busy in
-      let goes : v ≡ settled (shown m u.slots) y.taken (with_end k y.ending []) todo =
-      ap (λ s. settled s y.taken (with_end k y.ending []) todo) (sym acts.slots) in
       record {
         endings = with_end k y.ending [];
         piled = begun_piled k t.endings u.endings y.ending none acts.ends;
-        takes = λ log part n tells.
-            subst (λ q. Tells worth part n u.desk q (log ++ told (said_by_row k y))) goes
-            (did acts.done log part n (subst (λ q. Tells worth part n t.desk q log) at tells));
+        takes = λ todo log part n tells.
+            subst (λ q. Tells worth part n u.desk q (log ++ told (said_by_row k y)))
+            (ap (λ s. settled s y.taken (with_end k y.ending []) todo) (sym acts.slots))
+            (did acts.done todo log part n (subst (λ q. Tells worth part n t.desk q log) (settled_still l taken [] (task k a) todo busy) tells));
       }
     where
-      did : Done worth t.desk (shown m t.slots) a r u.desk → (log : List Said)
+      did : Done worth t.desk (shown m t.slots) a r u.desk → (todo : List Task) (log : List Said)
           → Takes worth t.desk (record { slots = shown m t.slots; taken = taken; endings = []; todo = task k a ∷ todo }) log u.desk
           (gone (record { slots = shown m t.slots; taken = taken; endings = []; todo = task k a ∷ todo }) k todo (row a (shown m t.slots) taken r))
           (log ++ told (said_by_row k (row a (shown m t.slots) taken r)))
-      did (inl x) log =
+      did (inl x) todo log =
           by_mark worth t.desk u.desk x.0 _ _ log (said_by_row k (row a (shown m t.slots) taken r))
           (record { reply = r; makes = x.1; says = refl; goes = refl })
-      did (inr x) log =
+      did (inr x) todo log =
           by_event worth t.desk u.desk x.0 x.1 _ _ log (said_by_row k (row a (shown m t.slots) taken r))
           (record { reply = r; makes = x.2; says = refl; goes = refl })
 

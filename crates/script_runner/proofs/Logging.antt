@@ -21,7 +21,7 @@ use Rattle.script_runner.specs.Laws.{Begins, GoesOnByCall, GoesOnByMark, IsJoine
 use Rattle.script_runner.specs.Logs.{doing, told}
 
 -- lines of two lists
-said_append : (n : ℕ) (xs ys : List (ℕ × Said)) → said_on n (xs ++ ys) ≡ said_on n xs ++ said_on n ys
+pub said_append : (n : ℕ) (xs ys : List (ℕ × Said)) → said_on n (xs ++ ys) ≡ said_on n xs ++ said_on n ys
 said_append n [] ys = refl
 said_append n (x ∷ xs) ys =
     let ih = said_append n xs ys in
@@ -30,7 +30,7 @@ said_append n (x ∷ xs) ys =
     (λ e. ap (λ l. x.1 ∷ l) ih ∙ ap (λ l. l ++ said_on n ys) (sym (cond-true (x.0 == n) (x.1 ∷ said_on n xs) (said_on n xs) e)))
     (λ e. ih ∙ ap (λ l. l ++ said_on n ys) (sym (cond-false (x.0 == n) (x.1 ∷ said_on n xs) (said_on n xs) e)))
 
-own_said : (n : ℕ) (x : Said) (b : Bool) → said_on n (cond b ((n, x) ∷ []) []) ≡ cond b (x ∷ []) []
+pub own_said : (n : ℕ) (x : Said) (b : Bool) → said_on n (cond b ((n, x) ∷ []) []) ≡ cond b (x ∷ []) []
 own_said n x true = cond-true (n == n) (x ∷ []) [] (eq-eqb n n refl)
 own_said n x false = refl
 

@@ -19,7 +19,7 @@ use Rattle.script_runner.proofs.Seating.{hand_is, quietly, shown_at, shown_many}
 use Rattle.script_runner.proofs.Stages.{last_same, some_last, stage_of, ends_last, next_stage, block_of, IsStarting, clearing_starts, all_clear}
 use Rattle.script_runner.proofs.Takings.{stayed}
 use Rattle.script_runner.specs.Calls as calls
-use Rattle.script_runner.specs.EndCalls.{GoesByRound, IsAtStage, Piled, RoundsIn, RoundSays, Takes}
+use Rattle.script_runner.specs.EndCalls.{IsAtStage, Piled, RoundsIn, RoundSays, Takes}
 use Rattle.script_runner.specs.Logs.{Tells, told}
 use Rattle.script_runner.specs.Seats.{IsHand, shown}
 use Rattle.shared_handle.specs.Calls.{LeavesWeakly, counting}
@@ -48,6 +48,16 @@ use Rattle.step_threads.specs.declared.act.Act.TheVariants.{Leave}
 use Rattle.step_threads.specs.declared.act.Task.{Task}
 use Rattle.step_threads.specs.declared.ending.Ending.{Ending}
 use Rattle.step_threads.specs.declared.said.Said.{Said}
+
+-- by a round the thread goes on, with this in hand and these tasks after it
+record ByRound {V : Type 0} (worth : Form → V) (m k : ℕ) (t u : TableNow V) (round : Round V) (es : List Ending)
+    (taken : Bool) (todo : List Task) : Type 0 where
+  pub endings : List Ending
+  pub piled : Piled k u.endings endings
+  pub lines : List Said
+  pub says : RoundSays k u.desk u.endings round lines
+  pub takes : (log : List Said) → Takes worth t.desk (settled (shown m t.slots) taken es todo) log u.desk
+      (settled (shown m u.slots) taken endings todo) (log ++ lines)
 
 module _ {V : Type 0} (worth : Form → V) (m i k : ℕ) (t u : TableNow V) (is : IsHand m i t) (same : u.slots ≡ t.slots)
     (taken : Bool) (todo : List Task) where
@@ -139,7 +149,8 @@ module _ {V : Type 0} (worth : Form → V) (m i k : ℕ) (t u : TableNow V) (is 
         (event.Leave (on_latest between kind.Owner p c.0) false) leaves.2 false None
         (λ l has. law.gone worth between.name between u.desk l (Leave (hand_of l)) (hand_of l) false c p refl has leaves.2) log
     shared_gone b p between adds (left.Last x) leaves log =
-        let cleared = subst (λ x. Adds t.desk (event.ClearMember (latest_of t.desk top.block.0) j (handle_in between kind.Owner x p)) between) leaves.0 adds in
+        let cleared = subst (λ x. Adds t.desk (event.ClearMember (latest_of t.desk top.block.0) j (handle_in between kind.Owner x p)) between)
+        leaves.0 adds in
         let has = (ending.came_out t.desk between (latest_of t.desk top.block.0) j kind.Owner x.block p cleared).0 in
         subst (λ r. Takes worth t.desk (walk_at (f ∷ fs)) log u.desk (walk_at (with_left (left.Last x) (staged f ∷ fs)))
         (log ++ record { statement = k; answer = None; ended = Some r } ∷ []))
@@ -202,8 +213,8 @@ module _ {V : Type 0} (worth : Form → V) (m i k : ℕ) (t u : TableNow V) (is 
       go left.Others are = refl
       go (left.Last x) are = (c.below ++ with_clear q c.top ∷ [], x, are, refl)
 
-  pub goes_by_round : AllEnd t.desk t.endings → (round : Round V) → IsRound t.desk t.endings round u.desk u.endings
-      → (es : List Ending) → Piled k t.endings es → GoesByRound worth m k t u round es taken todo
+  goes_by_round : AllEnd t.desk t.endings → (round : Round V) → IsRound t.desk t.endings round u.desk u.endings
+      → (es : List Ending) → Piled k t.endings es → ByRound worth m k t u round es taken todo
   goes_by_round all Settled r es p =
       record {
         endings = es;
@@ -251,4 +262,21 @@ module _ {V : Type 0} (worth : Form → V) (m i k : ℕ) (t u : TableNow V) (is 
 
 module _ {V : Type 0} where
   pub rounds : RoundsIn V
-  rounds worth m hand k t u is same all round r es p taken todo = goes_by_round worth m hand k t u is same taken todo all round r es p
+  unfolding goes_by_round
+  rounds worth m hand k t u is same all Settled r es p =
+      let g : (taken : Bool) (todo : List Task) → ByRound worth m k t u Settled es taken todo =
+      λ taken todo. goes_by_round worth m hand k t u is same taken todo all Settled r es p in
+      let y = g false [] in
+      record { endings = y.endings; piled = y.piled; lines = y.lines; says = y.says; takes = λ taken todo log. (g taken todo).takes log }
+  rounds worth m hand k t u is same all (Cleared q gone) r [] p = absurd (some_last r.below r.top (sym p ∙ r.were))
+  rounds worth m hand k t u is same all (Cleared q gone) r (f ∷ fs) p =
+      let g : (taken : Bool) (todo : List Task) → ByRound worth m k t u (Cleared q gone) (f ∷ fs) taken todo =
+      λ taken todo. goes_by_round worth m hand k t u is same taken todo all (Cleared q gone) r (f ∷ fs) p in
+      let y = g false [] in
+      record { endings = y.endings; piled = y.piled; lines = y.lines; says = y.says; takes = λ taken todo log. (g taken todo).takes log }
+  rounds worth m hand k t u is same all (Ended v) r [] p = absurd (some_last u.endings r.top (sym p ∙ r.were))
+  rounds worth m hand k t u is same all (Ended v) r (f ∷ fs) p =
+      let g : (taken : Bool) (todo : List Task) → ByRound worth m k t u (Ended v) (f ∷ fs) taken todo =
+      λ taken todo. goes_by_round worth m hand k t u is same taken todo all (Ended v) r (f ∷ fs) p in
+      let y = g false [] in
+      record { endings = y.endings; piled = y.piled; lines = y.lines; says = y.says; takes = λ taken todo log. (g taken todo).takes log }

@@ -17,7 +17,7 @@ use Rattle.step_threads.specs.Rows as rows
 use Rattle.step_threads.specs.declared.act.Act.TheVariants as act
 
 module _ {V : Type 0} where
-  as_seated : (m hand : ℕ) (t : TableNow V) → IsHand m hand t → IsSeated m hand t
+  pub as_seated : (m hand : ℕ) (t : TableNow V) → IsHand m hand t → IsSeated m hand t
   as_seated m hand t is = record { fits = is.fits; stands = is.stands; many = is.many; last = is.last }
 
   pub puts : PutsIn V

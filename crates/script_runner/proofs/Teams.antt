@@ -1,5 +1,6 @@
 -- What a domain's history has of each thread of a script.
-use Rattle.std.proofs.Common.{Bool, ◌≡◌, ℕ, List, [], ◌∷◌, ◌++◌, Option, Some, None, true, refl, sym, ap, subst, ◌∙◌, ◌-◌}
+use Rattle.std.proofs.Common.{Bool, ◌≡◌, ℕ, suc, ◌<◌, List, [], ◌∷◌, ◌++◌, Option, Some, None, true, refl, sym, ap, subst, ◌∙◌}
+use Rattle.std.proofs.Common.{◌-◌, arith}
 use Rattle.control_block.proofs.Own.{goes_by_call, goes_by_join, goes_by_none, goes_in_turn}
 use Rattle.control_block.specs.Desks.{Adds, DeskNow, state_of}
 use Rattle.control_block.specs.Own as own
@@ -24,7 +25,7 @@ use Rattle.script_runner.proofs.Seating.{quietly}
 use Rattle.script_runner.proofs.Stages.{some_last}
 use Rattle.script_runner.specs.Logs.{Tells}
 use Rattle.script_runner.specs.Seats.{IsQuiet}
-use Rattle.script_runner.specs.Teams.{AllBare, AllMarked, AllPlay, TeamsPlay}
+use Rattle.script_runner.specs.Teams.{AllAbove, AllBare, AllMarked, AllPlay, AreRising, TeamsPlay, names_of}
 use Rattle.shared_handle.specs.Calls.{LeavesWeakly, counting}
 use Rattle.shared_handle.specs.Endings.{IsClearing, IsLeft}
 use Rattle.shared_handle.specs.Piles.{AreRounds, IsRound, Past}
@@ -137,14 +138,13 @@ module _ {V : Type 0} where
       let y = quiet_round r.desk e r.pile zs r.round x.1 are.1 in
       (quiet_turn d r.desk e x.0 y.0, y.1)
 
-  quiet_wound : (t : TableNow V) (e : DeskNow V) → AllBare t.slots → t.endings ≡ [] → WindsUp t e → IsQuiet t.desk e
+  pub quiet_wound : (t : TableNow V) (e : DeskNow V) → AllBare t.slots → t.endings ≡ [] → WindsUp t e → IsQuiet t.desk e
   quiet_wound t e bare none w =
       let x = quiet_slots t.desk w.between t.endings w.pile t.slots bare w.handles in
       quiet_turn t.desk w.between e x.0 (quiet_rounds w.between e w.pile [] w.rounds (x.1 ∙ none) w.ends).0
 
 -- a table that is ready to be absorbed: its thread is over, and nothing is left
-record IsReady {V : Type 0} (worth : Form → V) (z : Shape) (part : Part) (u : TableNow V) (lines : List Said) : Type 0 where
-  pub name : ℕ
+record IsReady {V : Type 0} (worth : Form → V) (z : Shape) (name : ℕ) (part : Part) (u : TableNow V) (lines : List Said) : Type 0 where
   pub last : Walk
   pub tells : Tells worth part name u.desk last lines
   pub over : ahead last ≡ Over
@@ -153,19 +153,18 @@ record IsReady {V : Type 0} (worth : Form → V) (z : Shape) (part : Part) (u : 
   pub shape : u.desk.shape ≡ z
 
 module _ {V : Type 0} (worth : Form → V) (z : Shape) where
-  abbrev AllReady : List Part → List (TableNow V) → List (List Said) → Type 0
-  AllReady [] [] [] = Unit {0}
-  AllReady (p ∷ ps) (u ∷ us) (l ∷ ls) = IsReady worth z p u l × AllReady ps us ls
-  AllReady _ _ _ = ⊥
+  abbrev AllReady : List Part → List (TableNow V) → List (TableNow V) → List (List Said) → Type 0
+  AllReady [] [] [] [] = Unit {0}
+  AllReady (p ∷ ps) (t ∷ ts) (u ∷ us) (l ∷ ls) = IsReady worth z t.desk.name p u l × AllReady ps ts us ls
+  AllReady _ _ _ _ = ⊥
 
   played : (d between : DeskNow V) (a k : ℕ) (parts : List Part) (lent left : List (TableNow V)) (lines : List (List Said))
-      → d.shape ≡ z → IsPartedInto d a k lent between → AllPlay worth parts lent left lines → AllReady parts left lines
+      → d.shape ≡ z → IsPartedInto d a k lent between → AllPlay worth parts lent left lines → AllReady parts lent left lines
   played d between a k [] [] [] [] of parted all = tt
   played d between a k (p ∷ ps) (t ∷ ts) (u ∷ us) (l ∷ ls) of parted all =
       let splits = parted.1 in
       let y = all.0 in (
         record {
-          name = t.desk.name;
           last = y.last;
           tells = y.takes p t.desk.name (log.begins worth p d a k [] parted.0 t.desk splits);
           over = y.over;
@@ -186,45 +185,76 @@ module _ {V : Type 0} (worth : Form → V) (z : Shape) where
   same_shape t u [] is = ap (λ (x : TableNow V). x.desk.shape) is
   same_shape t u (x ∷ xs) all = all.2.desks.same.1 ∙ same_shape t all.0 xs all.1
 
-  absorbed : (t u : TableNow V) (last : DeskNow V) (parts : List Part) (left : List (TableNow V)) (lines : List (List Said))
-      → t.desk.shape ≡ z → AbsorbsAll t left u → AllReady parts left lines → GoesOn u.desk last
-      → AllMarked worth (opening_of z) last.seen parts lines
-  absorbed t u last [] [] [] of all ready goes = tt
-  absorbed t u last (p ∷ ps) (x ∷ xs) (l ∷ ls) of all ready goes =
+  absorbed : (t u : TableNow V) (last : DeskNow V) (parts : List Part) (lent left : List (TableNow V)) (lines : List (List Said))
+      → t.desk.shape ≡ z → AbsorbsAll t left u → AllReady parts lent left lines → GoesOn u.desk last
+      → AllMarked worth (opening_of z) last.seen (names_of lent) parts lines
+  absorbed t u last [] [] [] [] of all ready goes = tt
+  absorbed t u last (p ∷ ps) (q ∷ qs) (x ∷ xs) (l ∷ ls) of all ready goes =
       let m = all.0 in
       let joins = all.2.desks in
       let bare = all.2.bare in
       let r = ready.0 in
+      let n = q.desk.name in
       let quiet = quiet_wound x bare r.bare r.settled all.2.winds_up in
-      let there = by_quiet worth x.desk bare quiet r.last l p r.name r.tells in
+      let there = by_quiet worth x.desk bare quiet r.last l p n r.tells in
       let shape : m.desk.shape ≡ z = same_shape t m xs all.1 ∙ of in
-      let marked : Marked worth (opening_of u.desk.shape) u.desk.seen r.name p l =
-      subst (λ k. Marked worth (opening_of k) u.desk.seen r.name p l) (sym joins.same.1)
-      (log.is_joined worth p r.name m.desk bare u.desk r.last l there r.over (quiet.shape ∙ (r.shape ∙ sym shape)) joins) in
+      let marked : Marked worth (opening_of u.desk.shape) u.desk.seen n p l =
+      subst (λ k. Marked worth (opening_of k) u.desk.seen n p l) (sym joins.same.1)
+      (log.is_joined worth p n m.desk bare u.desk r.last l there r.over (quiet.shape ∙ (r.shape ∙ sym shape)) joins) in
       let legal : IsLegal (opening_of u.desk.shape) u.desk.seen =
       subst (λ k. IsLegal (opening_of k) u.desk.seen) (sym joins.same.1) joins.legal in
-      let joined : (state_of u.desk).joined r.name ≡ true =
-      ap (λ k. (leads (opening_of k) u.desk.seen).joined r.name) joins.same.1
-      ∙ (ap (λ h. (leads (opening_of m.desk.shape) h).joined r.name) joins.seen
-      ∙ put_same (leads (opening_of m.desk.shape) joins.before).joined bare.name true r.name (sym there.name)) in
-      let then : Marked worth (opening_of last.shape) last.seen r.name p l =
-      log.stays_joined worth p r.name u.desk last goes.0 l legal joined goes.1 marked in
+      let joined : (state_of u.desk).joined n ≡ true =
+      ap (λ k. (leads (opening_of k) u.desk.seen).joined n) joins.same.1
+      ∙ (ap (λ h. (leads (opening_of m.desk.shape) h).joined n) joins.seen
+      ∙ put_same (leads (opening_of m.desk.shape) joins.before).joined bare.name true n (sym there.name)) in
+      let then : Marked worth (opening_of last.shape) last.seen n p l =
+      log.stays_joined worth p n u.desk last goes.0 l legal joined goes.1 marked in
       let to : last.shape ≡ z = goes.1.same.1 ∙ (joins.same.1 ∙ shape) in (
-        (r.name, subst (λ k. Marked worth (opening_of k) last.seen r.name p l) to then),
-        absorbed t m last ps xs ls of all.1 ready.1 (turn m.desk u.desk last (event.Join bare.name ∷ [], goes_by_join m.desk bare u.desk joins) goes),
+        subst (λ k. Marked worth (opening_of k) last.seen n p l) to then,
+        absorbed t m last ps qs xs ls of all.1 ready.1 (turn m.desk u.desk last (event.Join bare.name ∷ [], goes_by_join m.desk bare u.desk joins) goes),
       )
-  absorbed t u last [] [] (l ∷ ls) of all ready goes = absurd ready
-  absorbed t u last [] (x ∷ xs) lines of all ready goes = absurd ready
-  absorbed t u last (p ∷ ps) [] lines of all ready goes = absurd ready
-  absorbed t u last (p ∷ ps) (x ∷ xs) [] of all ready goes = absurd ready
+  absorbed t u last [] [] [] (l ∷ ls) of all ready goes = absurd ready
+  absorbed t u last [] [] (x ∷ xs) [] of all ready goes = absurd ready
+  absorbed t u last [] [] (x ∷ xs) (l ∷ ls) of all ready goes = absurd ready
+  absorbed t u last [] (q ∷ qs) [] [] of all ready goes = absurd ready
+  absorbed t u last [] (q ∷ qs) [] (l ∷ ls) of all ready goes = absurd ready
+  absorbed t u last [] (q ∷ qs) (x ∷ xs) [] of all ready goes = absurd ready
+  absorbed t u last [] (q ∷ qs) (x ∷ xs) (l ∷ ls) of all ready goes = absurd ready
+  absorbed t u last (p ∷ ps) [] [] [] of all ready goes = absurd ready
+  absorbed t u last (p ∷ ps) [] [] (l ∷ ls) of all ready goes = absurd ready
+  absorbed t u last (p ∷ ps) [] (x ∷ xs) [] of all ready goes = absurd ready
+  absorbed t u last (p ∷ ps) [] (x ∷ xs) (l ∷ ls) of all ready goes = absurd ready
+  absorbed t u last (p ∷ ps) (q ∷ qs) [] [] of all ready goes = absurd ready
+  absorbed t u last (p ∷ ps) (q ∷ qs) [] (l ∷ ls) of all ready goes = absurd ready
+  absorbed t u last (p ∷ ps) (q ∷ qs) (x ∷ xs) [] of all ready goes = absurd ready
 
 module _ {V : Type 0} where
   parted_shape : (d e : DeskNow V) (a k : ℕ) (ts : List (TableNow V)) → IsPartedInto d a k ts e → e.shape ≡ d.shape
   parted_shape d e a k [] is = ap (λ (x : DeskNow V). x.shape) is
   parted_shape d e a k (t ∷ ts) parted = parted_shape parted.0 e a k ts parted.2 ∙ parted.1.event.same.1
 
+  -- the tables' names rise
+  names_above : (d e : DeskNow V) (a k : ℕ) (ts : List (TableNow V)) → IsPartedInto d a k ts e
+      → ((n : ℕ) → n < (state_of d).names → AllAbove n (names_of ts)) × AreRising (names_of ts)
+  names_above d e a k [] parted = (λ n lt. tt, tt)
+  names_above d e a k (t ∷ ts) parted =
+      let m = parted.0 in
+      let splits = parted.1 in
+      let adds = splits.event in
+      let z = opening_of d.shape in
+      let ih = names_above m e a k ts parted.2 in
+      let legal = subst (IsLegal z) adds.seen adds.legal in
+      let to : t.desk.name ≡ (leads z (adds.between ++ d.seen)).names = legal.1.asks.0 in
+      let more : (state_of m).names ≡ suc t.desk.name =
+      ap (λ k. (leads (opening_of k) m.seen).names) adds.same.1 ∙ (ap (λ h. (leads z h).names) adds.seen ∙ ap suc (sym to)) in
+      let above = ih.0 t.desk.name (omega (arith, more)) in
+      let low = splits.named in
+      (λ n lt. (omega (arith, lt, low), ih.0 n (omega (arith, lt, low, more))), (above, ih.1))
+
   pub teams_play : TeamsPlay V
   teams_play worth parts lines t u between last lent left a k parted all absorbs winds =
-      let z = t.desk.shape in
-      absorbed worth z (record t { desk = between }) u last parts left lines (parted_shape t.desk between a k lent parted) absorbs
-      (played worth z t.desk between a k parts lent left lines refl parted all) (wound_on u last winds)
+      let z = t.desk.shape in (
+        absorbed worth z (record t { desk = between }) u last parts lent left lines (parted_shape t.desk between a k lent parted) absorbs
+            (played worth z t.desk between a k parts lent left lines refl parted all) (wound_on u last winds),
+        (names_above t.desk between a k lent parted).1,
+      )

@@ -61,14 +61,16 @@ module _ {V : Type 0} where
       × (log ≡ record { statement = k; answer = None; ended = Some (remains (object_in d x.block.0)) } ∷ [])
   RoundSays k d xs _ log = log ≡ []
 
-  -- by a round of what a table was left to end by statement k its thread goes on, with these tasks after it
-  pub record GoesByRound (worth : Form → V) (m k : ℕ) (t u : TableNow V) (round : Round V) (es : List Ending)
-      (taken : Bool) (todo : List Task) : Type 0 where
+  -- by a round of what a table was left to end by statement k its thread goes on, whatever is in hand and whatever
+  -- tasks come after it
+  pub record GoesByRound (worth : Form → V) (m k : ℕ) (t u : TableNow V) (round : Round V)
+      (es : List Ending) : Type 0 where
     pub endings : List Ending
     pub piled : Piled k u.endings endings
     pub lines : List Said
     pub says : RoundSays k u.desk u.endings round lines
-    pub takes : (log : List Said) → Takes worth t.desk (settled (shown m t.slots) taken es todo) log u.desk
+    pub takes : (taken : Bool) (todo : List Task) (log : List Said)
+        → Takes worth t.desk (settled (shown m t.slots) taken es todo) log u.desk
         (settled (shown m u.slots) taken endings todo) (log ++ lines)
 
 module _ (V : Type 0) where
@@ -78,7 +80,7 @@ module _ (V : Type 0) where
       → AllEnd t.desk t.endings
       → (round : Round V) → IsRound t.desk t.endings round u.desk u.endings
       → (es : List Ending) → Piled k t.endings es
-      → (taken : Bool) (todo : List Task) → GoesByRound worth m k t u round es taken todo
+      → GoesByRound worth m k t u round es
 
   -- what the table tells of an object that ends in its desk's hands is what a thread says
   abbrev pub RemainsIn : Type 0

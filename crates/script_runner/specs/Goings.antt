@@ -16,12 +16,12 @@ abbrev pub task : ℕ → Act → Task
 task k a = record { statement = k; act = a }
 
 module _ {V : Type 0} where
-  -- by an act of statement k with this reply its thread goes on, with these tasks after it
-  pub record GoesByAct (worth : Form → V) (m k : ℕ) (t u : TableNow V) (taken : Bool) (a : Act) (r : Reply)
-      (todo : List Task) : Type 0 where
+  -- by an act of statement k with this reply its thread goes on, whatever tasks come after it
+  pub record GoesByAct (worth : Form → V) (m k : ℕ) (t u : TableNow V) (taken : Bool) (a : Act)
+      (r : Reply) : Type 0 where
     pub endings : List Ending
     pub piled : Piled k u.endings endings
-    pub takes : (log : List Said)
+    pub takes : (todo : List Task) (log : List Said)
         → Takes worth t.desk (settled (shown m t.slots) taken [] (task k a ∷ todo)) log u.desk
         (settled (shown m u.slots) (row a (shown m t.slots) taken r).taken endings todo)
         (log ++ told (said_by_row k (row a (shown m t.slots) taken r)))
@@ -30,9 +30,9 @@ module _ (V : Type 0) where
   -- an act of the table, with nothing left to end before
   abbrev pub ActsOn : Type 0
   ActsOn =
-      (worth : Form → V) (m k : ℕ) (t u : TableNow V) (taken : Bool) (a : Act) (r : Reply) (todo : List Task)
+      (worth : Form → V) (m k : ℕ) (t u : TableNow V) (taken : Bool) (a : Act) (r : Reply)
       → t.endings ≡ [] → idle a (shown m t.slots) taken ≡ false → Acts worth m t taken a r u
-      → GoesByAct worth m k t u taken a r todo
+      → GoesByAct worth m k t u taken a r
 
   -- a task that is no act where it comes
   abbrev pub PassesOver : Type 0

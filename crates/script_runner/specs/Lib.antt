@@ -7,5 +7,9 @@ pub mod Seats
 pub mod TableCalls
 pub mod EndCalls
 pub mod Goings
+pub mod Deals
+pub mod Works
+pub mod Casts
 pub mod CellCalls
 pub mod Teams
+pub mod Totals

@@ -1,11 +1,12 @@
 -- What a domain's history has of each thread of a script, once a table for each was joined and the first one wound up.
 -- All of it is own.
-use Rattle.std.specs.Prelude.{◌≡◌, ℕ, List, [], ◌∷◌, None, Some}
-use Rattle.control_block.specs.Desks.{DeskNow}
+use Rattle.std.specs.Prelude.{◌≡◌, ◌⊎◌, ℕ, ◌<◌, All, List, [], ◌∷◌, None, Some, map}
+use Rattle.control_block.specs.Desks.{Begins, DeskNow, DomainNow}
 use Rattle.control_block.specs.Rule.{opening_of}
-use Rattle.control_word.specs.State.{Opening}
+use Rattle.control_word.specs.Histories.{IsLegal}
+use Rattle.control_word.specs.State.{Has, Opening}
 use Rattle.control_word.specs.declared.event.Entry.{Entry}
-use Rattle.handle_table.specs.Parting.{AbsorbsAll, IsPartedInto, WindsUp}
+use Rattle.handle_table.specs.Parting.{AbsorbsAll, IsNew, IsPartedInto, WindsUp}
 use Rattle.handle_table.specs.Parts.{owned_by}
 use Rattle.handle_table.specs.Tables as table
 use Rattle.handle_table.specs.Tables.{TableNow}
@@ -13,7 +14,7 @@ use Rattle.script_runner.specs.EndCalls.{Takes}
 use Rattle.step_table.specs.declared.form.Form.{Form}
 use Rattle.step_threads.specs.Courses.{Walk}
 use Rattle.step_threads.specs.Doings.{Over, ahead}
-use Rattle.step_threads.specs.Interleavings.{Marked, first_walk}
+use Rattle.step_threads.specs.Interleavings.{IsParting, Marked, first_walk}
 use Rattle.step_threads.specs.Programs.{Part}
 use Rattle.step_threads.specs.declared.said.Said.{Said}
 
@@ -25,6 +26,10 @@ IsBare (Some h) = owned_by h ≡ None
 abbrev pub AllBare : List table.Slot → Type 0
 AllBare [] = Unit {0}
 AllBare (s ∷ ss) = IsBare s × AllBare ss
+
+-- the names of the desks of tables
+abbrev pub names_of : {V : Type 0} → List (TableNow V) → List ℕ
+names_of ts = map (λ t. t.desk.name) ts
 
 module _ {V : Type 0} where
   -- a worker's table was lent as t and left as u: what its desk did took its thread from its first act to its end, with
@@ -43,11 +48,32 @@ module _ {V : Type 0} where
   AllPlay worth (p ∷ ps) (t ∷ ts) (u ∷ us) (l ∷ ls) = Plays worth p t u l × AllPlay worth ps ts us ls
   AllPlay worth _ _ _ _ = ⊥
 
-  -- each of these threads has its acts in the history, under a name of its own, with its lines
-  abbrev pub AllMarked : (Form → V) → Opening → List (Entry V) → List Part → List (List Said) → Type 0
-  AllMarked worth z h [] [] = Unit {0}
-  AllMarked worth z h (p ∷ ps) (l ∷ ls) = ((n : ℕ) × Marked worth z h n p l) × AllMarked worth z h ps ls
-  AllMarked worth z h _ _ = ⊥
+  -- each of these threads has its acts in the history, under its name, with its lines
+  abbrev pub AllMarked : (Form → V) → Opening → List (Entry V) → List ℕ → List Part → List (List Said)
+      → Type 0
+  AllMarked worth z h [] [] [] = Unit {0}
+  AllMarked worth z h (n ∷ ns) (p ∷ ps) (l ∷ ls) = Marked worth z h n p l × AllMarked worth z h ns ps ls
+  AllMarked worth z h _ _ _ = ⊥
+
+-- each name is above the one before it, so that no two are the same
+abbrev pub AllAbove : ℕ → List ℕ → Type 0
+AllAbove n [] = Unit {0}
+AllAbove n (m ∷ ms) = (n < m) × AllAbove n ms
+
+abbrev pub AreRising : List ℕ → Type 0
+AreRising [] = Unit {0}
+AreRising (n ∷ ns) = AllAbove n ns × AreRising ns
+
+module _ {V : Type 0} where
+  -- the history is legal, and an interleaving of these threads, each under a name of its own and with its lines; all
+  -- else in it is splits and joins
+  pub record IsInterleaved (worth : Form → V) (z : Opening) (h : List (Entry V)) (parts : List Part)
+      (lines : List (List Said)) : Type 0 where
+    pub legal : IsLegal z h
+    pub names : List ℕ
+    pub rising : AreRising names
+    pub each : AllMarked worth z h names parts lines
+    pub others : All (λ (e : Entry V). Has e.desk names ⊎ IsParting e.event) h
 
 module _ (V : Type 0) where
   -- a table gave parts to a table for each thread, which played it, and absorbed them; and then it was wound up
@@ -57,4 +83,15 @@ module _ (V : Type 0) where
       (lent left : List (TableNow V)) (allowance blocks : ℕ)
       → IsPartedInto t.desk allowance blocks lent between → AllPlay worth parts lent left lines
       → AbsorbsAll (record t { desk = between }) left u → WindsUp u last
-      → AllMarked worth (opening_of t.desk.shape) last.seen parts lines
+      → AllMarked worth (opening_of t.desk.shape) last.seen (names_of lent) parts lines × AreRising (names_of lent)
+
+  -- and where that was a domain's first table, without a handle, there is nothing else in the history
+  abbrev pub TeamsInterleave : Type 0
+  TeamsInterleave =
+      (worth : Form → V) (parts : List Part) (lines : List (List Said)) (domain : DomainNow) (slots : ℕ)
+      (t u : TableNow V) (between last : DeskNow V) (lent left : List (TableNow V)) (allowance blocks : ℕ)
+      → Begins domain t.desk → IsNew slots t
+      → IsPartedInto t.desk allowance blocks lent between → AllPlay worth parts lent left lines
+      → AbsorbsAll (record t { desk = between }) left u → WindsUp u last
+      → IsLegal (opening_of t.desk.shape) last.seen
+      → IsInterleaved worth (opening_of t.desk.shape) last.seen parts lines

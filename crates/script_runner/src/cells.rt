@@ -1,104 +1,248 @@
 //! Acts on cells.
+ghost use Rattle.std.specs.Prelude.{◌≡◌, ◌+◌, false, true, [], IfSome};
+ghost use Rattle.step_threads.specs.declared.act.Act.TheVariants as act;
+ghost use Rattle.step_threads.specs.Programs.{kind_at};
+ghost use Rattle.handle_table.specs.Ends.{IsThere};
+ghost use Rattle.script_runner.specs.CellCalls.{IsOfName, as_cell};
+ghost use Rattle.script_runner.specs.Deals.{IsActed, IsDealt, IsThird};
+ghost use Rattle.script_runner.specs.Seats.{IsHand, IsSeated};
 
-use crate::worker::{HAND, OTHER, Worker};
+use crate::seats::seen;
+use crate::went::Went;
 use handle_table::{Cell, Fault, HandleTable, Home, SharedMember};
 use std::sync::Wait;
-use step_core::{Answer, CellName};
-use step_threads::act::Act;
+use step_core::{Answer, CellName, Kind};
 
-/// The cell of a table that a script's cell is.
-fn cell_of(cell: CellName) -> Cell {
+/// The cell of a table that a script's cell is, where its name is one before the hand.
+pub(crate) fn cell_of(cell: CellName, hand: usize) -> Option<Cell>
+    ensures { IfSome result (λ x. (x ≡ as_cell cell) × IsOfName hand cell × IsThird cell) }
+{
     match cell {
-        CellName::Shared(number) => Cell::Shared(u32::from(number)),
-        CellName::Weak(number) => Cell::Weak(u32::from(number)),
-        CellName::Member { name, member } => member_of(usize::from(name.0), member),
+        CellName::Shared(number) => Some(Cell::Shared(u32::from(number))),
+        CellName::Weak(number) => Some(Cell::Weak(u32::from(number))),
+        CellName::Member { name, member } => {
+            let of = usize::from(name.0);
+            if of >= hand {
+                return None;
+            }
+            match member {
+                0 => Some(Cell::Member {
+                    of,
+                    which: SharedMember::First,
+                }),
+                1 => Some(Cell::Member {
+                    of,
+                    which: SharedMember::Next,
+                }),
+                2 => Some(Cell::Up { of }),
+                _ => None,
+            }
+        }
     }
 }
 
-fn member_of(of: usize, member: u8) -> Cell {
-    match member {
-        0 => Cell::Member {
-            of,
-            which: SharedMember::First,
-        },
-        1 => Cell::Member {
-            of,
-            which: SharedMember::Next,
-        },
-        _ => Cell::Up { of },
+/// The kind of what a cell holds.
+fn kind_of(cell: CellName) -> Kind
+    ensures { result ≡ kind_at cell }
+{
+    match cell {
+        CellName::Shared(_) => Kind::Owner,
+        CellName::Weak(_) => Kind::Weak,
+        CellName::Member { name: _, member } => {
+            if member == 2 { Kind::Weak } else { Kind::Owner }
+        }
     }
 }
 
-impl Worker {
-    /// Acts on cells; others only tell something.
-    pub(crate) fn act_on_cells<H: Home, R: Wait>(
-        &mut self,
-        rt: &R,
-        table: &mut HandleTable<'_, u64, H>,
-        statement: u32,
-        act: Act,
-    ) {
-        match act {
-            Act::Offer { name, cell } => {
-                let took = match table.reaches(cell_of(cell)) {
-                    Ok(()) => table.copy(usize::from(name), HAND),
-                    Err(why) => Err(why),
-                };
-                self.takes(statement, took);
-            }
-            Act::Load { cell } => {
-                let took = table.load(rt, cell_of(cell), HAND);
-                self.takes(statement, took);
-            }
-            Act::Exchange { name, cell } => {
-                if let Err(why) = table.exchange(usize::from(name), cell_of(cell)) {
-                    self.refuse(statement, why);
-                }
-            }
-            Act::Swap { cell } => {
-                if self.taken {
-                    self.taken = false;
-                    let _ = table.exchange(HAND, cell_of(cell));
-                    let _ = table.move_to(HAND, OTHER);
-                }
-            }
-            Act::Compare { name, cell, weak } => {
-                self.compare(rt, table, statement, usize::from(name), cell, weak)
-            }
-            act => self.ask(table, statement, act),
-        }
-    }
+/// Whether a handle of this kind may go into the cell.
+fn fits(kind: Kind, cell: CellName) -> bool
+    ensures { result ≡ true → kind ≡ kind_at cell }
+{
+    kind == kind_of(cell)
+}
 
-    /// What is in hand goes into a cell that is equivalent to a name, or else the name gets what the cell holds.
-    /// Where it didn't go in, it is to be dropped.
-    fn compare<H: Home, R: Wait>(
-        &mut self,
-        rt: &R,
-        table: &mut HandleTable<'_, u64, H>,
-        statement: u32,
-        name: usize,
-        cell: CellName,
-        weak: bool,
-    ) {
-        if !self.taken {
-            return;
-        }
-        self.taken = false;
-        let cell = cell_of(cell);
-        let compared = if weak {
-            table.compare_exchange_weak(rt, cell, name, HAND)
-        } else {
-            table.compare_exchange_strong(rt, cell, name, HAND)
-        };
-        let swapped = match compared {
-            Ok(swapped) => {
-                self.say(statement, Answer::Compared(swapped));
-                swapped
+/// A copy of what a name holds, which is of the cell's kind.
+fn offer_to<H: Home>(
+    table: &mut HandleTable<'_, u64, H>,
+    hand: usize,
+    name: u8,
+    cell: CellName,
+) -> Option<Went>
+    requires hand { IsHand (hand + 1) hand table.old }
+    requires there { IsThere table.old (as_cell cell) }
+    requires named { IsOfName hand cell × IsThird cell }
+    ensures { IfSome result (λ x. IsActed hand table.old false (act.Offer name cell) x table.new) }
+{
+    if usize::from(name) >= hand {
+        return None;
+    }
+    match table.peek(usize::from(name)) {
+        Ok(x) => {
+            if !fits(x.kind, cell) {
+                return None;
             }
-            Err(_) => false,
-        };
-        if !swapped {
-            let _ = table.move_to(HAND, OTHER);
         }
+        Err(_) => return None,
+    }
+    match table.copy(usize::from(name), hand) {
+        Ok(()) => Some(Went {
+            taken: true,
+            answer: None,
+            ended: None,
+        }),
+        Err(_) => None,
+    }
+}
+
+/// A copy of what a name holds, which is to go into a cell.
+pub(crate) fn offer<H: Home>(
+    table: &mut HandleTable<'_, u64, H>,
+    hand: usize,
+    name: u8,
+    cell: CellName,
+) -> Option<Went>
+    requires { IsHand (hand + 1) hand table.old }
+    ensures { IfSome result (λ x. IsActed hand table.old false (act.Offer name cell) x table.new) }
+{
+    let to = match cell_of(cell, hand) {
+        Some(to) => to,
+        None => return None,
+    };
+    match table.reaches(to) {
+        Ok(()) => offer_to(table, hand, name, cell),
+        Err(Fault::Call(why)) => Some(Went {
+            taken: false,
+            answer: Some(Answer::Refused(why)),
+            ended: None,
+        }),
+        Err(_) => None,
+    }
+}
+
+/// A copy of what a cell holds.
+pub(crate) fn load<H: Home, R: Wait>(
+    rt: &R,
+    table: &mut HandleTable<'_, u64, H>,
+    hand: usize,
+    cell: CellName,
+) -> Option<Went>
+    requires { IsHand (hand + 1) hand table.old }
+    ensures { IfSome result (λ x. IsActed hand table.old false (act.Load cell) x table.new) }
+{
+    let from = match cell_of(cell, hand) {
+        Some(from) => from,
+        None => return None,
+    };
+    match table.reaches(from) {
+        Ok(()) => {}
+        Err(Fault::Call(why)) => {
+            return Some(Went {
+                taken: false,
+                answer: Some(Answer::Refused(why)),
+                ended: None,
+            });
+        }
+        Err(_) => return None,
+    }
+    match table.load(rt, from, hand) {
+        Ok(()) => {}
+        Err(_) => return None,
+    }
+    match seen(table, hand) {
+        Some(_) => Some(Went {
+            taken: true,
+            answer: None,
+            ended: None,
+        }),
+        None => None,
+    }
+}
+
+/// What a name holds goes into a cell, and what that held comes to the name.
+pub(crate) fn exchange<H: Home>(
+    table: &mut HandleTable<'_, u64, H>,
+    hand: usize,
+    taken: bool,
+    name: u8,
+    cell: CellName,
+) -> Option<Went>
+    requires { IsSeated (hand + 1) hand table.old }
+    ensures { IfSome result (λ x. IsActed hand table.old taken (act.Exchange name cell) x table.new) }
+{
+    let to = match cell_of(cell, hand) {
+        Some(to) => to,
+        None => return None,
+    };
+    if usize::from(name) >= hand {
+        return None;
+    }
+    match table.reaches(to) {
+        Ok(()) => {}
+        Err(Fault::Call(why)) => {
+            return Some(Went {
+                taken,
+                answer: Some(Answer::Refused(why)),
+                ended: None,
+            });
+        }
+        Err(_) => return None,
+    }
+    match table.exchange(usize::from(name), to) {
+        Ok(()) => {}
+        Err(_) => return None,
+    }
+    match seen(table, hand) {
+        Some(_) => Some(Went {
+            taken,
+            answer: None,
+            ended: None,
+        }),
+        None => None,
+    }
+}
+
+/// What is in hand goes into a cell, and what that held is to be dropped.
+pub(crate) fn swap<H: Home>(
+    table: &mut HandleTable<'_, u64, H>,
+    hand: usize,
+    taken: bool,
+    cell: CellName,
+) -> Option<Went>
+    requires { IsSeated (hand + 1) hand table.old }
+    ensures { IfSome result (λ x. IsDealt hand table.old taken (act.Swap cell) x table.new) }
+{
+    if !taken {
+        return Some(Went {
+            taken,
+            answer: None,
+            ended: None,
+        });
+    }
+    let to = match cell_of(cell, hand) {
+        Some(to) => to,
+        None => return None,
+    };
+    if hand == 0 {
+        return None;
+    }
+    match table.exchange(hand, to) {
+        Ok(()) => {}
+        Err(_) => return None,
+    }
+    match seen(table, hand) {
+        Some(_) => {}
+        None => return None,
+    }
+    match table.peek(hand - 1) {
+        Err(Fault::Vacant) => {}
+        _ => return None,
+    }
+    match table.move_to(hand, hand - 1) {
+        Ok(()) => Some(Went {
+            taken: false,
+            answer: None,
+            ended: None,
+        }),
+        Err(_) => None,
     }
 }

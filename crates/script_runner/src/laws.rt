@@ -2,7 +2,7 @@
 //! their desks' calls.
 ghost use Rattle.script_runner.specs.Calls.{Made, Copied, CopiedWeakly, Downgraded, Aliased, Locked, Counted};
 ghost use Rattle.script_runner.specs.Calls.{Expired, Read, GivenThis, GivenWeakThis, Gone, GoneWeakly};
-ghost use Rattle.script_runner.specs.Teams.{TeamsPlay};
+ghost use Rattle.script_runner.specs.Teams.{TeamsInterleave, TeamsPlay};
 ghost use Rattle.script_runner.specs.TableCalls.{CopiesIn, DowngradesIn, AliasesIn, LocksIn, UpgradesIn};
 ghost use Rattle.script_runner.specs.TableCalls.{UpgradesNot, MakesIn, MakesNullIn, MakesNot, PutsIn, PutsIdle};
 ghost use Rattle.script_runner.specs.TableCalls.{EmptiesIn, ResetsIn, MovesIn, CountsIn, ExpiresIn, ReadsIn};
@@ -81,9 +81,10 @@ pub fn table_calls<V>()
 
 /// Where a table for each thread played it from its first act to its end, and these tables are joined and the last desk
 /// has all that they had, the history that it has seen has what each thread does, under a name of its own, with its
-/// lines (own).
+/// lines; and where the first table was the domain's first, it has nothing else but splits and joins (own).
 pub fn team_laws<V>()
     ensures plays { TeamsPlay V }
+    ensures interleaves { TeamsInterleave V }
 {}
 
 #[cfg(test)]

@@ -3,15 +3,23 @@
 
 mod asking;
 mod cells;
+mod comparison;
+mod dealing;
 mod delivering;
 mod gate;
 mod laws;
+mod leaving;
+mod log;
+mod making;
 mod report;
 mod running;
+mod seats;
 mod taking;
 mod telling;
 #[cfg(test)]
 mod tests;
+mod totals;
+mod went;
 mod worker;
 
 pub use delivering::run_text;

@@ -1,183 +1,160 @@
 //! A thread of a script on a real worker: its names are slots of a handle table.
+ghost use Rattle.std.specs.Prelude.{◌≡◌, ◌⊎◌, ◌+◌, [], true, length, slice_get, Some};
+ghost use Rattle.handle_table.specs.Tables.{Slot};
+ghost use Rattle.script_runner.specs.Teams.{AllBare, IsBare};
+ghost use Rattle.script_runner.specs.Deals.{GoesOn};
+ghost use Rattle.script_runner.specs.Works.{IsBegun};
 
 use crate::gate::Gate;
-use control_word::Place;
-use handle_table::{Cell, Fault, Gone, HandleTable, Home, Remains, Round, SharedMember};
+use crate::log::Log;
+use crate::seats::{empty, is_seated, top_of};
+use handle_table::{Fault, HandleTable, Home, Work};
 use std::sync::Wait;
-use step_core::{Answer, CellName, Ended, Field, Kind, Name, Said};
-use step_table::form::Form;
-use step_threads::act::{Act, Question, Task};
+use std::thread::Threads;
+use step_core::Kind;
+use step_threads::act::Task;
 
 /// Most names of a thread: the first slots of its worker's table.
 pub(crate) const NAMES: usize = 32;
 
-/// The slots behind them: for what is to be dropped at the end of a statement, and for what is in hand.
-pub(crate) const OTHER: usize = NAMES;
-
-pub(crate) const HAND: usize = NAMES + 1;
-
-/// All slots of a worker's table.
+/// All slots of a worker's table: behind the names, one for what is to be dropped and one for what is in hand.
 pub(crate) const SLOTS: usize = NAMES + 2;
 
-/// A thread of a script: the kinds of its names, its tasks, and whether an act has taken a value into the hand; and
-/// what it said, whether a line had no room and was lost, how many objects it made, and of how many it was the last
-/// owner.
+/// A thread of a script, by its number from 1: the kinds of its names, its tasks, and what came of them.
 #[derive(Drop)]
-pub(crate) struct Worker {
+pub(crate) struct Worker<'a, G> {
+    pub number: usize,
+    pub gate: &'a G,
     pub kinds: Vec<Kind>,
     pub tasks: Vec<Task>,
-    pub taken: bool,
-    pub said: Vec<Said>,
-    pub lost: bool,
-    pub made: u32,
-    pub ended: u32,
+    pub log: Log,
 }
 
-impl Worker {
-    /// Runs the thread from its first task to its end.
-    pub(crate) fn work<H: Home, R: Wait, G: Gate>(
-        &mut self,
-        rt: &R,
-        number: usize,
-        gate: &G,
-        table: &mut HandleTable<'_, u64, H>,
-    ) {
-        for name in 0..self.kinds.len() {
-            self.empty(table, name);
-        }
-        let mut statement = 0;
-        for at in 0..self.tasks.len() {
-            let task = match self.tasks.get(at) {
-                Some(task) => *task,
-                None => return,
-            };
-            if task.statement != statement {
-                if statement != 0 {
-                    gate.after(number, statement);
-                }
-                statement = task.statement;
-                if statement != 0 {
-                    gate.before(number, statement);
-                }
-            }
-            self.act(rt, table, task);
-            self.settle(rt, table, task.statement);
-        }
-        if statement != 0 {
-            gate.after(number, statement);
+/// Each name becomes empty; or the table has too few slots.
+fn begin<H: Home>(table: &mut HandleTable<'_, u64, H>, hand: usize, kinds: &Vec<Kind>) -> bool
+    ensures { result ≡ true → hand ≡ length kinds.now.items + 1
+        → IsBegun hand (length kinds.now.items) table.old table.new }
+{
+    for name in 0..kinds.len() {
+        if !is_seated(table, hand) || !empty(table, kinds, name) {
+            return false;
         }
     }
+    is_seated(table, hand)
+}
 
-    /// A name becomes empty, and what it held leaves.
-    pub(crate) fn empty<H: Home>(&mut self, table: &mut HandleTable<'_, u64, H>, name: usize) {
-        let _ = match self.kinds.get(name) {
-            Some(Kind::Weak) => table.empty_weak(name),
-            _ => table.empty(name),
+/// Whether the slot, if there is one, has no object's handle.
+fn is_bare_at<H: Home>(table: &HandleTable<'_, u64, H>, at: usize) -> bool
+    ensures { result ≡ true → (s : Slot) → slice_get table.now.slots at ≡ Some s → IsBare s }
+{
+    match table.peek(at) {
+        Ok(x) => x.block.is_none(),
+        Err(_) => true,
+    }
+}
+
+/// Whether no slot has an object's handle.
+fn is_bare<H: Home>(table: &HandleTable<'_, u64, H>) -> bool
+    ensures { result ≡ true → AllBare table.now.slots }
+{
+    for at in 0..SLOTS {
+        if !is_bare_at(table, at) {
+            return false;
+        }
+    }
+    match table.peek(SLOTS) {
+        Err(Fault::Slot) => true,
+        _ => false,
+    }
+}
+
+/// Whether the table is left bare: with no object's handle, and nothing to end.
+fn is_over<H: Home>(table: &mut HandleTable<'_, u64, H>) -> bool
+    ensures over { result ≡ true → AllBare table.old.slots × (table.old.endings ≡ []) }
+    ensures same { table.new ≡ table.old }
+{
+    match top_of(table) {
+        Some(_) => return false,
+        None => {}
+    }
+    is_bare(table)
+}
+
+/// Tells the gate that the one statement has run and the other begins; 0 is none.
+fn tell<G: Gate>(gate: &G, number: usize, last: u32, next: u32) {
+    if last == next {
+        return;
+    }
+    if last != 0 {
+        gate.after(number, last);
+    }
+    if next != 0 {
+        gate.before(number, next);
+    }
+}
+
+/// Runs a thread from its first task to its end.
+fn play<H: Home, R: Wait, G: Gate>(
+    rt: &R,
+    table: &mut HandleTable<'_, u64, H>,
+    hand: usize,
+    kinds: &Vec<Kind>,
+    tasks: &Vec<Task>,
+    log: &mut Log,
+    number: usize,
+    gate: &G,
+)
+    ensures { (log.new.lost ≡ true) ⊎ GoesOn hand table.old log.old.taken tasks.now.items log.old.said.items
+        table.new log.new.taken [] log.new.said.items }
+{
+    let mut at = 0;
+    let mut statement = 0;
+    for _ in 0..tasks.len() {
+        if log.lost {
+            return;
+        }
+        let next = match tasks.get(at) {
+            Some(task) => task.statement,
+            None => 0,
         };
+        tell(gate, number, statement, next);
+        statement = next;
+        at = log.step(rt, table, hand, kinds, tasks, at);
     }
+    tell(gate, number, statement, 0);
+    if at >= tasks.len() {
+        return;
+    }
+    log.lost = true;
+}
 
-    /// The next of its lines.
-    fn note(&mut self, said: Said) {
-        if self.said.push(said).is_err() {
-            self.lost = true;
+impl<'a, R: Threads + Wait + Sync, G: Gate + Sync> Work<u64, R> for Worker<'a, G> {
+    ghost use Rattle.std.specs.Prelude.{◌≡◌};
+    ghost use Rattle.script_runner.specs.Works.{IsWorked};
+
+    ghost does = { λ w t w' u. (w'.tasks ≡ w.tasks) × IsWorked w.kinds.items w.tasks.items w.log t w'.log u };
+
+    fn work<H: Home>(&mut self, rt: &R, table: &mut HandleTable<'_, u64, H>) {
+        table.stands();
+        let hand = self.kinds.len() + 1;
+        if !begin(table, hand, &self.kinds) {
+            self.log.lost = true;
+            return;
         }
-    }
-
-    /// An act answers.
-    pub(crate) fn say(&mut self, statement: u32, answer: Answer) {
-        self.note(Said {
-            statement,
-            answer: Some(answer),
-            ended: None,
-        });
-    }
-
-    /// An act is refused, as a call is.
-    pub(crate) fn refuse(&mut self, statement: u32, why: Fault) {
-        if let Fault::Call(why) = why {
-            self.say(statement, Answer::Refused(why));
+        play(
+            rt,
+            table,
+            hand,
+            &self.kinds,
+            &self.tasks,
+            &mut self.log,
+            self.number,
+            self.gate,
+        );
+        table.stands();
+        if is_over(table) {
+            return;
         }
-    }
-
-    /// It is told of the object that was last left to end.
-    fn tell_end<H: Home>(&mut self, table: &mut HandleTable<'_, u64, H>, statement: u32) {
-        let ended = match table.remains() {
-            None => return,
-            Some(Remains::Null) => Ended::Null,
-            Some(Remains::Fields(fields)) => Ended::Fields(fields),
-        };
-        self.ended = self.ended.saturating_add(1);
-        self.note(Said {
-            statement,
-            answer: None,
-            ended: Some(ended),
-        });
-    }
-
-    /// What an act left to end does so, and what ends by it.
-    fn settle<H: Home, R: Wait>(
-        &mut self,
-        rt: &R,
-        table: &mut HandleTable<'_, u64, H>,
-        statement: u32,
-    ) {
-        self.tell_end(table, statement);
-        for _ in rt.forever() {
-            match table.round() {
-                Round::Settled => return,
-                Round::Cleared(_, Gone::Last) => self.tell_end(table, statement),
-                Round::Cleared(_, _) => {}
-                Round::Ended(_) => {}
-            }
-        }
-    }
-
-    /// Something was taken into the hand, or the act is refused.
-    pub(crate) fn takes(&mut self, statement: u32, took: Result<(), Fault>) {
-        match took {
-            Ok(()) => self.taken = true,
-            Err(why) => self.refuse(statement, why),
-        }
-    }
-
-    /// One act.
-    fn act<H: Home, R: Wait>(&mut self, rt: &R, table: &mut HandleTable<'_, u64, H>, task: Task) {
-        let Task { statement, act } = task;
-        match act {
-            Act::Make { form } => self.make(table, statement, form),
-            Act::Share { name } => {
-                let took = table.copy(usize::from(name), HAND);
-                self.takes(statement, took);
-            }
-            Act::Alias { name, of, field } => self.alias(table, statement, name, of, field),
-            Act::Move { name } => {
-                let took = table.move_to(usize::from(name), HAND);
-                self.empty(table, usize::from(name));
-                self.takes(statement, took);
-            }
-            Act::Downgrade { name } => {
-                let took = table.downgrade(usize::from(name), HAND);
-                self.takes(statement, took);
-            }
-            Act::Lock { name, must } => self.lock(rt, table, statement, usize::from(name), must),
-            Act::Put { name } => {
-                if self.taken {
-                    self.taken = false;
-                    let _ = table.move_to(HAND, usize::from(name));
-                }
-            }
-            Act::Leave { name } | Act::Clear { name } => self.empty(table, usize::from(name)),
-            Act::FromThis { name, kind } => {
-                let took = match kind {
-                    Kind::Owner => table.shared_from_this(usize::from(name), HAND),
-                    Kind::Weak => table.weak_from_this(usize::from(name), HAND),
-                };
-                self.takes(statement, took);
-            }
-            Act::Drop => {
-                let _ = table.reset(OTHER);
-            }
-            act => self.act_on_cells(rt, table, statement, act),
-        }
+        self.log.lost = true;
     }
 }

@@ -1,0 +1,150 @@
+-- Acts that take something into the hand, as a worker does them.
+use Rattle.std.proofs.Common.{◌≡◌, ℕ, ◌<◌, ◌+◌, Bool, true, false, Option, Some, None, refl, sym, subst, ◌∙◌, inl, inr, arith}
+use Rattle.std.specs.Prelude.{IfSome, option_map}
+use Rattle.control_word.specs.declared.handle.Kind.TheVariants as kind
+use Rattle.control_word.specs.declared.handle.Kind.{Kind}
+use Rattle.control_word.specs.declared.refusal.Refusal.TheVariants.{BadWeak, Full}
+use Rattle.handle_table.specs.Calls as calls
+use Rattle.handle_table.specs.Handles as handles
+use Rattle.handle_table.specs.Tables.{TableNow}
+use Rattle.handle_table.specs.This as this
+use Rattle.handle_table.specs.declared.fault.Fault.TheVariants.{Call}
+use Rattle.handle_table.specs.declared.fault.Fault.{Fault}
+use Rattle.control_block.specs.declared.handles.Held.TheVariants.{Owner}
+use Rattle.control_word.specs.declared.place.Place.{Place}
+use Rattle.script_runner.proofs.Looking.{place_shown}
+use Rattle.script_runner.proofs.Lockings as locking
+use Rattle.script_runner.proofs.TableLaws as law
+use Rattle.script_runner.proofs.Takings as taking
+use Rattle.script_runner.specs.Deals.{IsActed, IsEmptied, field_0, held}
+use Rattle.script_runner.specs.Seats.{Acts, Done, IsHand}
+use Rattle.script_runner.specs.TableCalls.{null_form}
+use Rattle.script_runner.specs.declared.went.Went.{Went}
+use Rattle.step_table.specs.Deeds.{aliased, as_owner, this_as}
+use Rattle.step_table.specs.Holdings.{Slots, inside, place_in, slot, weak_slot}
+use Rattle.step_table.specs.declared.field.Field.{Field}
+use Rattle.step_table.specs.declared.form.Form.{Form}
+use Rattle.step_table.specs.declared.holdings.Pointer.{Pointer}
+use Rattle.step_threads.specs.Courses.{idle}
+use Rattle.step_threads.specs.Doings.{Makes, On}
+use Rattle.step_threads.specs.Rows.{Found, Got, Plain, Reply, row}
+use Rattle.step_threads.specs.Scenes as scenes
+use Rattle.step_threads.specs.declared.act.Act.TheVariants as act
+use Rattle.step_threads.specs.declared.act.Act.{Act}
+use Rattle.step_threads.specs.declared.said.Answer.TheVariants as answer
+use Rattle.step_threads.specs.declared.said.Answer.{Answer}
+
+abbrev pub went : Bool → Option Answer → Went
+went taken says = record { taken = taken; answer = says; ended = None }
+
+abbrev pub took : Went
+took = went true None
+
+pub below : (hand i : ℕ) → i < hand → i < hand + 1
+below hand i lt = omega (arith, lt)
+
+-- an act, with what its row says
+pub acted : (hand : ℕ) (t u : TableNow ℕ) (taken : Bool) (a : Act) (r : Reply) → idle a (held hand t) taken ≡ false
+    → Acts field_0 (hand + 1) t taken a r u
+    → IsActed hand t taken a
+    (record { taken = (row a (held hand t) taken r).taken; answer = (row a (held hand t) taken r).answer; ended = (row a (held hand t) taken r).ended }) u
+acted hand t u taken a r busy acts = record { busy = busy; reply = r; acts = acts; takes = refl; says = refl; tells = refl }
+
+-- the same, with what it says written out
+pub acted_as : (hand : ℕ) (t u : TableNow ℕ) (taken : Bool) (a : Act) (r : Reply) (x : Went) → idle a (held hand t) taken ≡ false
+    → Acts field_0 (hand + 1) t taken a r u
+    → x.taken ≡ (row a (held hand t) taken r).taken → x.answer ≡ (row a (held hand t) taken r).answer
+    → x.ended ≡ (row a (held hand t) taken r).ended
+    → IsActed hand t taken a x u
+acted_as hand t u taken a r x busy acts takes says tells = record { busy = busy; reply = r; acts = acts; takes = takes; says = says; tells = tells }
+
+-- a lock that needn't succeed takes something
+taking_any : (l : Slots) (x : Option Pointer) → (scenes.taking l false x).1 ≡ true
+taking_any l None = refl
+taking_any l (Some x) = refl
+
+-- what came was there
+came_with : (f : Pointer → Pointer) (l : Slots) (g : Pointer → Type 0) (n : Type 0) (w : Option Pointer) → On g ((true ≡ false) × n) w
+    → (scenes.taking l true (option_map f w)).1 ≡ true
+came_with f l g n None on = absurd cc
+came_with f l g n (Some x) on = refl
+
+module _ (hand i : ℕ) (t u : TableNow ℕ) (is : IsHand (hand + 1) hand t) (lt : i < hand) where
+  pub shared : calls.Copies t i hand u → IsActed hand t false (act.Share i) took u
+  shared c = acted hand t u false (act.Share i) Plain refl (taking.copies_taken field_0 (hand + 1) i hand false t u is (below hand i lt) c)
+
+  pub downgraded : calls.Downgrades t i hand u → IsActed hand t false (act.Downgrade i) took u
+  downgraded c = acted hand t u false (act.Downgrade i) Plain refl (taking.downgrades field_0 (hand + 1) i hand false t u is (below hand i lt) c)
+
+  pub moved : (between : TableNow ℕ) → calls.Moves t i hand between → IsEmptied between i u → IsActed hand t false (act.Move i) took u
+  moved between c e = acted hand t u false (act.Move i) Plain refl (law.moves field_0 (hand + 1) i hand false t between u is lt c e)
+
+  pub aliases : (j : ℕ) (field : Option Field) → this.Aliases t i (aliased field (place_in (held hand t) j)) hand u
+      → IsActed hand t false (act.Alias i j field) took u
+  aliases j field c =
+      acted hand t u false (act.Alias i j field) Plain refl (taking.aliases field_0 (hand + 1) i hand false t u is (below hand i lt) j field c)
+
+  pub locked : (got : Bool) → calls.Locks t i hand got u → IsActed hand t false (act.Lock i false) (went true (Some (answer.Locked got))) u
+  locked got c =
+      acted_as hand t u false (act.Lock i false) (Got got) (went true (Some (answer.Locked got))) refl
+      (locking.locks_taken field_0 (hand + 1) i hand false t u is (below hand i lt) got c)
+      (sym (taking_any (held hand t) _)) refl refl
+
+  got_one : Done field_0 t.desk (held hand t) (act.Lock i true) (Got true) u.desk
+      → (scenes.taking (held hand t) true (option_map as_owner (weak_slot (slot (held hand t) i)))).1 ≡ true
+  got_one (inl x) = came_with as_owner (held hand t) _ _ (weak_slot (slot (held hand t) i)) x.1
+  got_one (inr x) = came_with as_owner (held hand t) _ _ (weak_slot (slot (held hand t) i)) x.2
+
+  pub upgraded : handles.Upgrades t i hand u → IsActed hand t false (act.Lock i true) (went true (Some answer.Upgraded)) u
+  upgraded c =
+      let acts = locking.upgrades field_0 (hand + 1) i hand false t u is (below hand i lt) c in
+      acted_as hand t u false (act.Lock i true) (Got true) (went true (Some answer.Upgraded)) refl acts (sym (got_one acts.done)) refl refl
+
+  pub upgraded_not : handles.WhyNotUpgraded t i hand (Call BadWeak) u
+      → IsActed hand t false (act.Lock i true) (went false (Some (answer.Refused BadWeak))) u
+  upgraded_not c =
+      acted hand t u false (act.Lock i true) (Got false) refl
+      (locking.upgrades_not field_0 (hand + 1) i hand false t u is (below hand i lt) c)
+
+  got_this : (k : Kind) → Done field_0 t.desk (held hand t) (act.FromThis i k) (Got true) u.desk
+      → (scenes.taking (held hand t) true (option_map (this_as k) (inside (slot (held hand t) i)))).1 ≡ true
+  got_this k (inl x) = came_with (this_as k) (held hand t) _ _ (inside (slot (held hand t) i)) x.1
+  got_this k (inr x) = came_with (this_as k) (held hand t) _ _ (inside (slot (held hand t) i)) x.2
+
+  pub gives : this.SharesThis t i hand u → IsActed hand t false (act.FromThis i kind.Owner) took u
+  gives c =
+      let acts = law.shares_this field_0 (hand + 1) i hand false t u is (below hand i lt) c in
+      acted_as hand t u false (act.FromThis i kind.Owner) (Got true) took refl acts (sym (got_this kind.Owner acts.done)) refl refl
+
+  pub gives_weakly : this.SharesThisWeakly t i hand u → IsActed hand t false (act.FromThis i kind.Weak) took u
+  gives_weakly c =
+      let acts = law.shares_this_weakly field_0 (hand + 1) i hand false t u is (below hand i lt) c in
+      acted_as hand t u false (act.FromThis i kind.Weak) (Got true) took refl acts (sym (got_this kind.Weak acts.done)) refl refl
+
+module _ (hand : ℕ) (t u : TableNow ℕ) (is : IsHand (hand + 1) hand t) where
+  pub made : (form : Form) (x : ℕ) → form.null ≡ false → x ≡ field_0 form → calls.Makes t hand form.enabled form.fields x u
+      → IsActed hand t false (act.Make form) took u
+  made form x null same c =
+      let y = locking.makes field_0 (hand + 1) hand false t u is form x null same c in
+      acted hand t u false (act.Make form) (Found (Some y.0)) refl y.1
+
+  pub made_null : (x : ℕ) → x ≡ field_0 null_form → calls.MakesNull t hand x u → IsActed hand t false (act.Make null_form) took u
+  made_null x same c =
+      let y = locking.makes_null field_0 (hand + 1) hand false t u is x same c in
+      acted hand t u false (act.Make null_form) (Found (Some y.0)) refl y.1
+
+-- where an owner points, as its slot shows it
+pub alias_told : (hand j : ℕ) (t : TableNow ℕ) (p : Option Place) → j < hand → calls.PointsTo t j p → p ≡ place_in (held hand t) j
+alias_told hand j t p lt at = at.2 ∙ sym (place_shown (hand + 1) j t (Owner at.0) (below hand j lt) at.1)
+
+-- there is no block for a new object
+pub no_room : (hand : ℕ) (t u : TableNow ℕ) (form : Form) (why : Fault) (x : Option Went)
+    → IfSome x (λ y. (why ≡ Call Full) × (y ≡ went false (Some (answer.Refused Full))))
+    → calls.WhyNotMade t hand why → u ≡ t
+    → IfSome x (λ y. IsActed hand t false (act.Make form) y u)
+no_room hand t u form why None some c same = tt
+no_room hand t u form why (Some x) some c same =
+    subst (λ v. IsActed hand t false (act.Make form) x v) (sym same)
+    (subst (λ y. IsActed hand t false (act.Make form) y t) (sym some.1)
+    (acted hand t t false (act.Make form) (Found None) refl
+    (locking.makes_not field_0 (hand + 1) hand false t form (subst (λ w. calls.WhyNotMade t hand w) some.0 c))))

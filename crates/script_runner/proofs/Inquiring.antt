@@ -1,0 +1,122 @@
+-- Acts that only tell something, as a worker does them.
+use Rattle.std.proofs.Common.{◌≡◌, ℕ, ◌<◌, ◌+◌, Bool, true, false, Option, Some, None, refl, sym, ap, subst, ◌∙◌, ◌⊎◌, inl, inr}
+use Rattle.std.proofs.Common.{Ok, Err}
+use Rattle.std.proofs.lemmas.Bool.{cond-true}
+use Rattle.control_word.specs.declared.handle.Kind.{Kind}
+use Rattle.control_word.specs.declared.place.Place.{Place}
+use Rattle.control_word.specs.declared.refusal.Refusal.TheVariants as refusal
+use Rattle.control_word.specs.declared.refusal.Refusal.{Refusal}
+use Rattle.control_block.specs.declared.handles.Shared.{Shared}
+use Rattle.handle_table.specs.Calls as calls
+use Rattle.handle_table.specs.Pairs.{AreInOrder, PointAlike}
+use Rattle.handle_table.specs.Tables.{TableNow}
+use Rattle.handle_table.specs.This as this
+use Rattle.handle_table.specs.declared.fault.Fault.TheVariants.{Call}
+use Rattle.script_runner.proofs.Acting.{acted, acted_as, below, went}
+use Rattle.script_runner.proofs.Calling.{is_inside}
+use Rattle.script_runner.proofs.Looking.{within}
+use Rattle.script_runner.proofs.TableLaws as law
+use Rattle.script_runner.proofs.Takings.{same_call}
+use Rattle.std.specs.Prelude.{IfSome}
+use Rattle.handle_table.specs.declared.fault.Fault.{Fault}
+use Rattle.script_runner.specs.Deals.{IsActed, NotGiven, field_0, held}
+use Rattle.script_runner.specs.Seats.{IsSeated}
+use Rattle.script_runner.specs.TableCalls.{IsAway, Marks}
+use Rattle.script_runner.specs.declared.went.Went.{Went}
+use Rattle.shared_handle.specs.Endings.{IsRead}
+use Rattle.step_table.specs.Holdings.{inside, is_full, place_in, slot}
+use Rattle.step_threads.specs.Courses.{idle}
+use Rattle.step_threads.specs.Rows.{Got, Reply, Told, row}
+use Rattle.step_threads.specs.Scenes.{outside}
+use Rattle.step_threads.specs.declared.act.Act.TheVariants as act
+use Rattle.step_threads.specs.declared.act.Act.{Act}
+use Rattle.step_threads.specs.declared.act.Question.TheVariants as question
+use Rattle.step_threads.specs.declared.said.Answer.TheVariants as answer
+use Rattle.step_threads.specs.declared.said.Answer.{Answer}
+
+-- a mark, with its answer
+pub marked : (hand : ℕ) (t : TableNow ℕ) (taken : Bool) (a : Act) (r : Reply) (says : Answer) (x : Bool) → idle a (held hand t) taken ≡ false
+    → Marks ℕ field_0 (hand + 1) t taken a r says
+    → x ≡ (row a (held hand t) taken r).taken → None ≡ (row a (held hand t) taken r).ended
+    → IsActed hand t taken a (went x (Some says)) t
+marked hand t taken a r says x busy m takes tells = acted_as hand t t taken a r (went x (Some says)) busy m.acts takes (sym m.says) tells
+
+module _ (hand i : ℕ) (taken : Bool) (t u : TableNow ℕ) (is : IsSeated (hand + 1) hand t) (lt : i < hand) where
+  pub counted : (n : ℕ) → calls.Counts t i n u → IsActed hand t taken (act.Count i) (went taken (Some (answer.Count n))) u
+  counted n c =
+      acted hand t u taken (act.Count i) (Told n) refl (law.counts field_0 (hand + 1) i hand taken t u is (below hand i lt) n c)
+
+  pub expires : (so : Bool) → calls.Expires t i so u → IsActed hand t taken (act.Expired i) (went taken (Some (answer.Expired so))) u
+  expires so c =
+      acted hand t u taken (act.Expired i) (Got so) refl (law.expires field_0 (hand + 1) i hand taken t u is (below hand i lt) so c)
+
+  pub read : (n : ℕ) → calls.Reads t i (Ok n) u → IsActed hand t taken (act.Read i) (went taken (Some (answer.Read n))) u
+  read n c =
+      let q = c.event.0 in
+      let has = within field_0 (hand + 1) i hand taken t u is (below hand i lt) c.of q c.was c.event.2 c.event.1 in
+      let there : is_full (inside (slot (held hand t) i)) ≡ true = ap is_full (is_inside (held hand t) i q has.at) in
+      acted_as hand t u taken (act.Read i) (Told n) (went taken (Some (answer.Read n))) refl
+      (law.reads field_0 (hand + 1) i hand taken t u is (below hand i lt) n c) refl
+      (ap Some (sym (cond-true (is_full (inside (slot (held hand t) i))) (answer.Read n) (outside (place_in (held hand t) i)) there))) refl
+
+  away : (h : Shared) (r : Refusal) → IsRead t.desk h.block h.place (Err r) u.desk → IsAway h.block h.place r × (u.desk ≡ t.desk)
+  away h refusal.Null x = x
+  away h refusal.Outside x = x
+  away h r x = absurd x
+
+  pub read_not : (r : Refusal) → calls.Reads t i (Err r) u → IsActed hand t taken (act.Read i) (went taken (Some (answer.Refused r))) u
+  read_not r c =
+      let x = away c.of r c.event in
+      let same : u ≡ t = λ j. record { desk = x.1 j; slots = c.rest.0 j; endings = c.rest.1 j } in
+      subst (λ v. IsActed hand t taken (act.Read i) (went taken (Some (answer.Refused r))) v) (sym same)
+      (marked hand t taken (act.Read i) (Told 0) (answer.Refused r) taken refl
+      (law.reads_not field_0 (hand + 1) i hand taken t t is (below hand i lt) c.of r c.was x.0) refl refl)
+
+  pub place_told : (p : Option Place) → calls.PointsTo t i p
+      → IsActed hand t taken (act.Ask (question.Place i)) (went taken (Some (answer.Place p))) t
+  place_told p c =
+      marked hand t taken (act.Ask (question.Place i)) (Got true) (answer.Place p) taken refl
+      (law.places field_0 (hand + 1) i hand taken t t is (below hand i lt) p c) refl refl
+
+  pub same_told : (j : ℕ) (so : Bool) → j < hand → PointAlike t i j so
+      → IsActed hand t taken (act.Ask (question.Same i j)) (went taken (Some (answer.Same so))) t
+  same_told j so less c =
+      marked hand t taken (act.Ask (question.Same i j)) (Got true) (answer.Same so) taken refl
+      (law.alike field_0 (hand + 1) i hand taken t t is (below hand i lt) j so (below hand j less) c) refl refl
+
+  pub before_told : (j : ℕ) (so : Bool) → j < hand → AreInOrder t i j so
+      → IsActed hand t taken (act.Ask (question.Before i j)) (went taken (Some (answer.Before so))) t
+  before_told j so less c =
+      marked hand t taken (act.Ask (question.Before i j)) (Got so) (answer.Before so) taken refl
+      (law.in_order field_0 (hand + 1) i hand taken t t is (below hand i lt) j so (below hand j less) c) refl refl
+
+-- an object that gives no pointer to itself
+module _ (hand i : ℕ) (t : TableNow ℕ) (is : IsSeated (hand + 1) hand t) where
+  this_not : (why : Refusal) → this.WhyNoThis t i hand (Call why) → this.IsNoThis t i (Call why)
+  this_not why (inl x) = absurd cc
+  this_not why (inr (inl (inl x))) = absurd x
+  this_not why (inr (inl (inr x))) = absurd cc
+  this_not why (inr (inr x)) = x
+
+  pub gives_none : (k : Kind) (why : Refusal) → i < hand → this.WhyNoThis t i hand (Call why) → (why ≡ refusal.Limit → ⊥)
+      → IsActed hand t false (act.FromThis i k) (went false (Some (answer.Refused why))) t
+  gives_none k why lt c unlike =
+      marked hand t false (act.FromThis i k) (Got false) (answer.Refused why) false refl
+      (law.gives_not field_0 (hand + 1) i hand false t t is (below hand i lt) k why (this_not why c) unlike) refl refl
+
+  pub not_given : (k : Kind) (why : Fault) (x : Option Went) (v : TableNow ℕ) → i < hand → IfSome x (NotGiven why)
+      → this.WhyNoThis t i hand why → v ≡ t → IfSome x (λ y. IsActed hand t false (act.FromThis i k) y v)
+  not_given k why None v lt some c same = tt
+  not_given k why (Some x) v lt some c same =
+      subst (λ w. IsActed hand t false (act.FromThis i k) x w) (sym same)
+      (subst (λ y. IsActed hand t false (act.FromThis i k) y t) (sym some.says)
+      (gives_none k some.refusal lt (subst (λ w. this.WhyNoThis t i hand w) some.is c) some.room))
+
+-- a field that isn't one of the object's
+pub not_read : (hand i : ℕ) (taken : Bool) (t u : TableNow ℕ) (why : Fault) (r : Refusal) → IsSeated (hand + 1) hand t → i < hand → why ≡ Call r
+    → calls.WhyNoOwner t.slots i why ⊎ calls.IsNotRead t i why u → IsActed hand t taken (act.Read i) (went taken (Some (answer.Refused r))) u
+not_read hand i taken t u why r is lt call (inl (inl c)) = absurd (subst (λ w. calls.WhyNoHandle t.slots i w) call c)
+not_read hand i taken t u why r is lt call (inl (inr c)) = let e = sym call ∙ c.0 in absurd cc
+not_read hand i taken t u why r is lt call (inr c) =
+    let same : c.0 ≡ r = same_call c.0 r (sym c.1 ∙ call) in
+    read_not hand i taken t u is lt r (subst (λ q. calls.Reads t i (Err q) u) same c.2)

@@ -1,0 +1,112 @@
+-- A worker's acts, one after another.
+use Rattle.std.proofs.Common.{◌≡◌, ◌⊎◌, ℕ, zero, suc, ◌+◌, Bool, true, false, List, [], ◌∷◌, ◌++◌, Option, Some, None, refl, sym}
+use Rattle.std.proofs.Common.{ap, subst, ◌∙◌, inl, inr, arith}
+use Rattle.std.specs.Prelude.{IfNone, IfSome, drop, not, slice_get}
+use Rattle.handle_table.specs.Tables.{TableNow}
+use Rattle.script_runner.proofs.Onward.{compared_on, deal_on, differs_on, line}
+use Rattle.script_runner.proofs.Settles.{then_settled}
+use Rattle.script_runner.specs.Deals.{GoesOn, IsActed, IsCompared, IsDealt, IsSettled, IsTop, said_by}
+use Rattle.script_runner.specs.Goings.{task}
+use Rattle.script_runner.specs.Logs.{told}
+use Rattle.script_runner.specs.declared.went.Went.{Went}
+use Rattle.step_table.specs.declared.ended.Ended.{Ended}
+use Rattle.step_threads.specs.declared.act.Act.TheVariants as act
+use Rattle.step_threads.specs.declared.act.Act.{Act}
+use Rattle.step_threads.specs.declared.act.Task.{Task}
+use Rattle.step_threads.specs.declared.call.CellName.{CellName}
+use Rattle.step_threads.specs.declared.said.Answer.TheVariants as answer
+use Rattle.step_threads.specs.declared.said.Said.{Said}
+
+pub or_then : {A B C : Type 0} → A ⊎ B → (B → C) → A ⊎ C
+or_then (inl a) f = inl a
+or_then (inr b) f = inr (f b)
+
+pub both_then : {A B C D : Type 0} → A ⊎ B → A ⊎ C → (B → C → D) → A ⊎ D
+both_then (inl a) c f = inl a
+both_then (inr b) (inl a) f = inl a
+both_then (inr b) (inr c) f = inr (f b c)
+
+pub not_lost : {A : Type 0} (b : Bool) → (b ≡ true) ⊎ A → b ≡ false → A
+not_lost b (inl e) f = absurd cc
+not_lost b (inr a) f = a
+
+pub still : {A : Type 0} (b : Bool) → (b ≡ true) ⊎ (not b ≡ false → A)
+still true = inl refl
+still false = inr (λ e. absurd cc)
+
+pub goes_on : (b : Bool) → not b ≡ true → b ≡ false
+goes_on true e = absurd cc
+goes_on false e = refl
+
+-- what comes of an act, where the act is this one
+pub dealt : (hand : ℕ) (t u : TableNow ℕ) (taken : Bool) (a b : Act) (x : Option Went) → a ≡ b
+    → IfSome x (λ y. IsActed hand t taken b y u) → IfSome x (λ y. IsDealt hand t taken a y u)
+dealt hand t u taken a b None same some = tt
+dealt hand t u taken a b (Some x) same some = subst (λ c. IsDealt hand t taken c x u) (sym same) (inl some)
+
+pub dealt_so : (hand : ℕ) (t u : TableNow ℕ) (taken : Bool) (a b : Act) (x : Option Went) → a ≡ b
+    → IfSome x (λ y. IsDealt hand t taken b y u) → IfSome x (λ y. IsDealt hand t taken a y u)
+dealt_so hand t u taken a b x same some = subst (λ c. IfSome x (λ y. IsDealt hand t taken c y u)) (sym same) some
+
+pub drop_at : {A : Type 0} (xs : List A) (n : ℕ) (x : A) → slice_get xs n ≡ Some x → drop n xs ≡ x ∷ drop (n + 1) xs
+drop_at [] n x e = absurd cc
+drop_at (y ∷ xs) zero x e = ap (λ z. z ∷ xs) (some_same y x e)
+  where
+    or_else : {A : Type 0} → A → Option A → A
+    or_else a None = a
+    or_else a (Some b) = b
+
+    some_same : {A : Type 0} (a b : A) → Some a ≡ Some b → a ≡ b
+    some_same a b e = ap (or_else a) e
+drop_at (y ∷ xs) (suc n) x e = drop_at xs n x e ∙ ap (λ k. x ∷ drop k (y ∷ xs)) (let q : suc (n + 1) ≡ suc n + 1 = omega arith in q)
+
+pub two_at : {A : Type 0} (xs : List A) (n : ℕ) (x y : A) → slice_get xs n ≡ Some x → slice_get xs (n + 1) ≡ Some y
+    → drop n xs ≡ x ∷ y ∷ drop (n + 2) xs
+two_at xs n x y e f =
+    drop_at xs n x e ∙ ap (λ l. x ∷ l) (drop_at xs (n + 1) y f ∙ ap (λ k. y ∷ drop k xs) (let q : n + 1 + 1 ≡ n + 2 = omega arith in q))
+
+pub three_at : {A : Type 0} (xs : List A) (n : ℕ) (x y z : A) → slice_get xs n ≡ Some x → slice_get xs (n + 1) ≡ Some y
+    → slice_get xs (n + 2) ≡ Some z → drop n xs ≡ x ∷ y ∷ z ∷ drop (n + 3) xs
+three_at xs n x y z e f g =
+    two_at xs n x y e f ∙ ap (λ l. x ∷ y ∷ l) (drop_at xs (n + 2) z g ∙ ap (λ k. z ∷ drop k xs) (let q : n + 2 + 1 ≡ n + 3 = omega arith in q))
+
+module _ (hand k : ℕ) (t t' v : TableNow ℕ) (same : t' ≡ t) (none : t'.endings ≡ []) where
+  pub act_settled : (u : TableNow ℕ) (taken : Bool) (a : Act) (x : Went) (log said lines : List Said) (after takes : Bool)
+      → IsDealt hand t' taken a x v → after ≡ x.taken → said ≡ log ++ told (said_by k x) → takes ≡ after
+      → IsSettled hand k after v said u lines
+      → (todo : List Task) → GoesOn hand t taken (task k a ∷ todo) log u takes todo lines
+  act_settled u taken a x log said lines after takes d e f h s todo =
+      subst (λ b. GoesOn hand t taken (task k a ∷ todo) log u b todo lines) (sym (h ∙ e))
+      (subst (λ q. GoesOn hand q taken (task k a ∷ todo) log u x.taken todo lines) same
+      (then_settled hand k t' v u taken x.taken (task k a ∷ []) log (told (said_by k x)) lines said
+      (deal_on hand k t' v none taken a x d) f (subst (λ b. IsSettled hand k b v said u lines) e s) todo))
+
+  module _ (u w : TableNow ℕ) (i : ℕ) (c : CellName) (weak : Bool) (e : Option Ended) (bare : IfNone e (v.endings ≡ []))
+      (some : IfSome e (IsTop v)) (then : w ≡ v) (log said lines : List Said) (after takes swapped : Bool)
+      (is : IsCompared hand t' i c weak swapped v) (a : after ≡ false)
+      (f : said ≡ log ++ (line k (Some (answer.Compared swapped)) None ++ line k None e)) (h : takes ≡ after)
+      (s : IsSettled hand k after w said u lines) where
+    done : IsSettled hand k false v said u lines
+    done = subst (λ q. IsSettled hand k false q said u lines) then (subst (λ b. IsSettled hand k b w said u lines) a s)
+
+    pub swapped_settled : swapped ≡ true → (todo : List Task)
+        → GoesOn hand t true (task k (act.Compare i c weak) ∷ task k (act.Put i) ∷ task k act.Drop ∷ todo) log u takes todo lines
+    swapped_settled so todo =
+        let y = subst (λ b. IsCompared hand t' i c weak b v) so is in
+        subst (λ b. GoesOn hand t true (task k (act.Compare i c weak) ∷ task k (act.Put i) ∷ task k act.Drop ∷ todo) log u b todo lines) (sym (h ∙ a))
+        (subst (λ q. GoesOn hand q true (task k (act.Compare i c weak) ∷ task k (act.Put i) ∷ task k act.Drop ∷ todo) log u false todo lines) same
+        (then_settled hand k t' v u true false (task k (act.Compare i c weak) ∷ task k (act.Put i) ∷ task k act.Drop ∷ []) log
+        (line k (Some (answer.Compared true)) None ++ line k None e) lines said
+        (compared_on hand k t' v none i c weak e bare some y.0 y.1)
+        (f ∙ ap (λ b. log ++ (line k (Some (answer.Compared b)) None ++ line k None e)) so) done todo))
+
+    pub differs_settled : swapped ≡ false → (todo : List Task)
+        → GoesOn hand t true (task k (act.Compare i c weak) ∷ task k (act.Put i) ∷ todo) log u takes todo lines
+    differs_settled so todo =
+        let y = subst (λ b. IsCompared hand t' i c weak b v) so is in
+        subst (λ b. GoesOn hand t true (task k (act.Compare i c weak) ∷ task k (act.Put i) ∷ todo) log u b todo lines) (sym (h ∙ a))
+        (subst (λ q. GoesOn hand q true (task k (act.Compare i c weak) ∷ task k (act.Put i) ∷ todo) log u false todo lines) same
+        (then_settled hand k t' v u true false (task k (act.Compare i c weak) ∷ task k (act.Put i) ∷ []) log
+        (line k (Some (answer.Compared false)) None ++ line k None e) lines said
+        (differs_on hand k t' v none i c weak e bare some y.0 y.1)
+        (f ∙ ap (λ b. log ++ (line k (Some (answer.Compared b)) None ++ line k None e)) so) done todo))

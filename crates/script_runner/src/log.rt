@@ -1,0 +1,292 @@
+//! What a worker says while it runs, act by act.
+ghost use Rattle.std.specs.Prelude.{◌≡◌, ◌⊎◌, ◌∷◌, ◌++◌, [], true, false, List, drop, slice_get};
+ghost use Rattle.std.specs.Prelude.{None, Some};
+ghost use Rattle.step_threads.specs.declared.act.Act.TheVariants as act;
+ghost use Rattle.step_threads.specs.declared.act.Task.{Task as Todo};
+ghost use Rattle.step_threads.specs.declared.said.Answer.TheVariants as says;
+ghost use Rattle.script_runner.specs.Deals.{GoesOn, IsSettled, IsUnderWay};
+ghost use Rattle.script_runner.specs.Goings.{task as as_task};
+ghost use Rattle.script_runner.specs.Logs.{told};
+
+use crate::comparison::compare;
+use crate::dealing::deal;
+use crate::seats::{is_ready, is_vacant, told_of, top_of};
+use crate::went::Went;
+use handle_table::{HandleTable, Home};
+use std::sync::Wait;
+use step_core::{Answer, CellName, Ended, Kind, Said};
+use step_threads::act::{Act, Task};
+
+/// Whether an act of a thread took something into the hand; and what the thread said, and whether it couldn't go on.
+#[derive(Drop)]
+pub(crate) struct Log {
+    pub taken: bool,
+    pub said: Vec<Said>,
+    pub lost: bool,
+}
+
+impl Log {
+    /// The next of its lines, where there is something to say.
+    fn note(&mut self, statement: u32, answer: Option<Answer>, ended: Option<Ended>)
+        ensures said { (self.new.lost ≡ true) ⊎ (self.new.said.items
+            ≡ self.old.said.items ++ told (record { statement = statement; answer = answer; ended = ended })) }
+        ensures taken { self.new.taken ≡ self.old.taken }
+    {
+        if answer.is_none() && ended.is_none() {
+            return;
+        }
+        let said = Said {
+            statement,
+            answer,
+            ended,
+        };
+        if self.said.push(said).is_err() {
+            self.lost = true;
+        }
+    }
+
+    /// One round of what an act left to end, if there is something.
+    fn round<H: Home>(
+        &mut self,
+        table: &mut HandleTable<'_, u64, H>,
+        hand: usize,
+        statement: u32,
+    ) -> bool
+        ensures goes { (self.new.lost ≡ true) ⊎ IsUnderWay hand statement self.old.taken
+            table.old self.old.said.items table.new self.new.said.items }
+        ensures taken { self.new.taken ≡ self.old.taken }
+        ensures over { (self.new.lost ≡ true) ⊎ (result ≡ false → table.new.endings ≡ []) }
+        ensures on { result ≡ true → self.new.lost ≡ false }
+    {
+        match top_of(table) {
+            Some(_) => {}
+            None => return false,
+        }
+        if !is_vacant(table, hand) {
+            self.lost = true;
+            return false;
+        }
+        let round = table.round();
+        let ended = told_of(table, &round);
+        self.note(statement, None, ended);
+        !self.lost
+    }
+
+    /// What an act left to end does so, and what ends by it.
+    fn settle<H: Home, R: Wait>(
+        &mut self,
+        rt: &R,
+        table: &mut HandleTable<'_, u64, H>,
+        hand: usize,
+        statement: u32,
+    )
+        ensures settled { (self.new.lost ≡ true) ⊎ IsSettled hand statement self.old.taken
+            table.old self.old.said.items table.new self.new.said.items }
+        ensures taken { self.new.taken ≡ self.old.taken }
+    {
+        for _ in rt.forever() {
+            if !self.round(table, hand, statement) {
+                return;
+            }
+        }
+    }
+
+    /// One act, and what ends by it.
+    fn act<H: Home, R: Wait>(
+        &mut self,
+        rt: &R,
+        table: &mut HandleTable<'_, u64, H>,
+        hand: usize,
+        kinds: &Vec<Kind>,
+        task: Task,
+    )
+        ensures { (self.new.lost ≡ true) ⊎ ((todo : List Todo)
+            → GoesOn hand table.old self.old.taken (task ∷ todo)
+            self.old.said.items table.new self.new.taken todo self.new.said.items) }
+    {
+        if !is_ready(table, hand, self.taken) {
+            self.lost = true;
+            return;
+        }
+        let went = match deal(rt, table, hand, self.taken, kinds, task.act) {
+            Some(went) => went,
+            None => {
+                self.lost = true;
+                return;
+            }
+        };
+        let Went {
+            taken,
+            answer,
+            ended,
+        } = went;
+        self.taken = taken;
+        self.note(task.statement, answer, ended);
+        if self.lost {
+            return;
+        }
+        self.settle(rt, table, hand, task.statement);
+    }
+
+    /// What a comparison answers, and what it tells of an object that is to end.
+    fn note_compared(&mut self, statement: u32, swapped: bool, ended: Option<Ended>)
+        ensures said { (self.new.lost ≡ true) ⊎ (self.new.said.items ≡ self.old.said.items
+            ++ (told (record { statement = statement; answer = Some (says.Compared swapped); ended = None })
+            ++ told (record { statement = statement; answer = None; ended = ended }))) }
+        ensures taken { self.new.taken ≡ self.old.taken }
+    {
+        self.note(statement, Some(Answer::Compared(swapped)), None);
+        if self.lost {
+            return;
+        }
+        self.note(statement, None, ended);
+    }
+
+    /// What is in hand is compared with a cell, and goes in or is to be dropped.
+    fn compare<H: Home, R: Wait>(
+        &mut self,
+        rt: &R,
+        table: &mut HandleTable<'_, u64, H>,
+        hand: usize,
+        statement: u32,
+        name: u8,
+        cell: CellName,
+        weak: bool,
+    ) -> bool
+        requires { self.old.taken ≡ true }
+        ensures swapped { (self.new.lost ≡ true) ⊎ (result ≡ true → (todo : List Todo)
+            → GoesOn hand table.old true
+            (as_task statement (act.Compare name cell weak) ∷ as_task statement (act.Put name)
+            ∷ as_task statement act.Drop ∷ todo)
+            self.old.said.items table.new self.new.taken todo self.new.said.items) }
+        ensures differs { (self.new.lost ≡ true) ⊎ (result ≡ false → (todo : List Todo)
+            → GoesOn hand table.old true
+            (as_task statement (act.Compare name cell weak) ∷ as_task statement (act.Put name) ∷ todo)
+            self.old.said.items table.new self.new.taken todo self.new.said.items) }
+    {
+        if !is_ready(table, hand, true) {
+            self.lost = true;
+            return false;
+        }
+        let swapped = match compare(rt, table, hand, name, cell, weak) {
+            Some(swapped) => swapped,
+            None => {
+                self.lost = true;
+                return false;
+            }
+        };
+        let ended = top_of(table);
+        self.taken = false;
+        self.note_compared(statement, swapped, ended);
+        if self.lost {
+            return swapped;
+        }
+        self.settle(rt, table, hand, statement);
+        swapped
+    }
+
+    /// A comparison of what is in hand, with the tasks after it that go on with it.
+    fn compare_at<H: Home, R: Wait>(
+        &mut self,
+        rt: &R,
+        table: &mut HandleTable<'_, u64, H>,
+        hand: usize,
+        tasks: &Vec<Task>,
+        at: usize,
+        statement: u32,
+        name: u8,
+        cell: CellName,
+        weak: bool,
+    ) -> usize
+        requires taken { self.old.taken ≡ true }
+        requires is { slice_get tasks.now.items at ≡ Some (as_task statement (act.Compare name cell weak)) }
+        ensures { (self.new.lost ≡ true) ⊎ GoesOn hand table.old self.old.taken (drop at tasks.now.items)
+            self.old.said.items table.new self.new.taken (drop result tasks.now.items) self.new.said.items }
+    {
+        if !is_put(tasks, at + 1, statement, name) {
+            self.lost = true;
+            return at;
+        }
+        if !self.compare(rt, table, hand, statement, name, cell, weak) {
+            return at + 2;
+        }
+        if !is_drop(tasks, at + 2, statement) {
+            self.lost = true;
+            return at;
+        }
+        at + 3
+    }
+
+    /// An act by itself, and where the next one is.
+    fn act_at<H: Home, R: Wait>(
+        &mut self,
+        rt: &R,
+        table: &mut HandleTable<'_, u64, H>,
+        hand: usize,
+        kinds: &Vec<Kind>,
+        tasks: &Vec<Task>,
+        at: usize,
+    ) -> usize
+        ensures { (self.new.lost ≡ true) ⊎ GoesOn hand table.old self.old.taken (drop at tasks.now.items)
+            self.old.said.items table.new self.new.taken (drop result tasks.now.items) self.new.said.items }
+    {
+        match tasks.get(at) {
+            Some(task) => {
+                self.act(rt, table, hand, kinds, *task);
+                at + 1
+            }
+            None => at,
+        }
+    }
+
+    /// The thread's next act, and where its next one is.
+    pub(crate) fn step<H: Home, R: Wait>(
+        &mut self,
+        rt: &R,
+        table: &mut HandleTable<'_, u64, H>,
+        hand: usize,
+        kinds: &Vec<Kind>,
+        tasks: &Vec<Task>,
+        at: usize,
+    ) -> usize
+        ensures { (self.new.lost ≡ true) ⊎ GoesOn hand table.old self.old.taken (drop at tasks.now.items)
+            self.old.said.items table.new self.new.taken (drop result tasks.now.items) self.new.said.items }
+    {
+        let task = match tasks.get(at) {
+            Some(task) => *task,
+            None => return at,
+        };
+        match task.act {
+            Act::Compare { name, cell, weak } if self.taken => {
+                self.compare_at(rt, table, hand, tasks, at, task.statement, name, cell, weak)
+            }
+            _ => self.act_at(rt, table, hand, kinds, tasks, at),
+        }
+    }
+}
+
+/// Whether this task of the statement puts what is in hand into the name.
+fn is_put(tasks: &Vec<Task>, at: usize, statement: u32, name: u8) -> bool
+    ensures { result ≡ true → slice_get tasks.now.items at ≡ Some (as_task statement (act.Put name)) }
+{
+    match tasks.get(at) {
+        Some(task) => match task.act {
+            Act::Put { name: other } => task.statement == statement && other == name,
+            _ => false,
+        },
+        None => false,
+    }
+}
+
+/// Whether this task of the statement drops what is to be dropped.
+fn is_drop(tasks: &Vec<Task>, at: usize, statement: u32) -> bool
+    ensures { result ≡ true → slice_get tasks.now.items at ≡ Some (as_task statement act.Drop) }
+{
+    match tasks.get(at) {
+        Some(task) => match task.act {
+            Act::Drop => task.statement == statement,
+            _ => false,
+        },
+        None => false,
+    }
+}
