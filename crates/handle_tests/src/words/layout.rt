@@ -26,7 +26,8 @@ fn words_lie_where_the_layout_says(rt: HostRuntime) {
         weak_cells: 2,
         allowance: 8,
     };
-    assert_eq!(rt; table_words(&shape), 88);
+    // 16 for each block, 8 for each cell, and the shelf's
+    assert_eq!(rt; table_words(&shape), 88 + 1_024);
     words_lie_apart();
 }
 
