@@ -40,11 +40,6 @@ class Refusing:
             for how in (ALONE, 'REFUSE_FROM'):
                 yield how, number, self.run(words, script, **{how: number})
 
-    def runs(self, words, script=b''):
-        """The results of these runs."""
-        for how, number, run in self.each(words, script):
-            yield how, number, run.result
-
 
 @contextlib.contextmanager
 def refusing():
