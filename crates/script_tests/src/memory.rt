@@ -2,8 +2,8 @@
 //! how many a chain's end takes with a test that only makes its world.
 use crate::worlds::TestWorld;
 use control_word::{Refusal, Shape};
-use script_stepper::{Output, Sink, write_lines};
-use script_text::Fault;
+use script_stepper::{Output, Sink, fine_text, step_text, write_lines};
+use script_text::{Fault, convert, parse, print};
 use std::alloc::{AllocError, Global};
 use std::test::Fail;
 use step_core::{
@@ -106,5 +106,75 @@ fn refused_lines_are_not_begun(rt: HostRuntime) -> Result<(), Fail> {
         write_lines(rt.alloc(), 3, &said, &mut sink)?;
     }
     assert_eq!(rt; taken.as_slice(), b"3.2 refused 3\n".as_slice());
+    Ok(())
+}
+
+/// An object goes from one thread to another.
+const SCRIPT: &[u8] = b"make a 3 0 0 0\nstore s0 a\nreset a\nthread\nload b s0\ncount b\n";
+
+/// A script that is refused leaves nothing, and its text, its conversion and its program leave it as it is: the next
+/// one has all.
+#[test]
+fn a_refused_script_is_read_again(rt: HostRuntime) -> Result<(), Fail> {
+    let alloc = rt.alloc();
+    let script = match parse(alloc, SCRIPT) {
+        Ok(script) => script,
+        Err(fault) => {
+            assert_eq!(rt; fault, Fault::Memory);
+            parse(alloc, SCRIPT)?
+        }
+    };
+    let text = match print(alloc, &script) {
+        Ok(text) => text,
+        Err(why) => {
+            assert_eq!(rt; why, Refusal::Memory);
+            print(alloc, &script)?
+        }
+    };
+    let converted = match convert(alloc, &script) {
+        Ok(converted) => converted,
+        Err(why) => {
+            assert_eq!(rt; why, Refusal::Memory);
+            convert(alloc, &script)?
+        }
+    };
+    let program = match script.program(alloc) {
+        Ok(program) => program,
+        Err(why) => {
+            assert_eq!(rt; why, Refusal::Memory);
+            script.program(alloc)?
+        }
+    };
+    assert_eq!(rt; text.as_bytes(), SCRIPT);
+    assert_eq!(rt; (converted.blocks(), converted.statements()), (4_095, 5));
+    assert_eq!(rt; program.actors.len(), 2);
+    Ok(())
+}
+
+/// Turns, or single steps: the second thread loads from an empty cell.
+const TURNS: &[u8] = b"2,1,2";
+
+const LINES: &[u8] = b"2.2 count 0\nblock 1 owners 1 weaks 0\nmade 1 ended 0 left 1\n";
+
+/// A refused run of a text writes nothing: what the next one writes is all there is.
+#[test]
+fn a_refused_run_of_a_text_is_not_begun(rt: HostRuntime) -> Result<(), Fail> {
+    let alloc = rt.alloc();
+    let mut by_turns = Vec::with_capacity(alloc, 100)?;
+    let mut sink = Output::new(&mut by_turns);
+    if let Err(fault) = step_text(alloc, SCRIPT, TURNS, &mut sink) {
+        assert_eq!(rt; fault, Fault::Memory);
+        assert!(rt; !sink.failed());
+        step_text(alloc, SCRIPT, TURNS, &mut sink)?;
+    }
+    let mut by_steps = Vec::with_capacity(alloc, 100)?;
+    let mut sink = Output::new(&mut by_steps);
+    if let Err(fault) = fine_text(alloc, SCRIPT, TURNS, &mut sink) {
+        assert_eq!(rt; fault, Fault::Memory);
+        assert!(rt; !sink.failed());
+        fine_text(alloc, SCRIPT, TURNS, &mut sink)?;
+    }
+    assert_eq!(rt; by_turns.as_slice(), LINES);
+    assert_eq!(rt; by_steps.as_slice(), LINES);
     Ok(())
 }
