@@ -41,8 +41,9 @@ fn left_of(alloc: Global, script: &[u8], turns: &[u8], draws: bool) -> Result<Le
 /// Of each block B that isn't vacant, in order, there is `block B owners N weaks K kept`, where a path of owners leads
 /// to it from a free cell, and else the same with `leaked`; and under it a line for each handle on it, in the order of
 /// the cells: `  owner in C` or `  weak in C`, C being `s3` or `w3` for a free cell, and `2.first`, `2.next` or `2.up`
-/// for a member of the object in block 2. These handles are just those that N and K count. The last line is
-/// `made M ended E left L`.
+/// for a member of the object in block 2. These handles are just those that N and K count. Then come the knots of
+/// leaked blocks that owners tie, in the order of their least blocks: `cycle C C ..` with these owners, and under it
+/// `cut C` for each of them without which every block of the knot would end. The last line is `made M ended E left L`.
 ///
 /// Where `draws` is so, it writes the same as a graph for Graphviz instead: a node `bB` for each such block, with the
 /// fields of its object, and a line for each handle from the block or the free cell where it is to the block that it
