@@ -55,11 +55,42 @@ fn a_refused_split_changes_nothing(rt: HostRuntime) -> Result<(), Fail> {
     )
 }
 
-/// Nobody works.
+/// Whoever works makes no call.
 struct Idle;
 
 impl<R: Threads + Wait + Sync> Program<u64, R> for Idle {
     fn work<H: Home>(&self, _rt: &R, _number: usize, _table: &mut HandleTable<'_, u64, H>) {}
+}
+
+/// What a worker with a table takes of memory, in a domain of so many blocks.
+fn is_idle<R: Abort + Threads + Wait + Sync>(
+    rt: &R,
+    alloc: Global,
+    blocks: u32,
+) -> Result<(), Fail> {
+    ends(
+        rt,
+        alloc,
+        shape(blocks, 0, 0, 6),
+        alone(5, 4, 2),
+        &Idle,
+        blocks,
+    )
+}
+
+#[test]
+fn two_blocks_are_opened_and_closed(rt: HostRuntime) -> Result<(), Fail> {
+    is_idle(&rt, rt.alloc(), 2)
+}
+
+#[test]
+fn three_blocks_are_opened_and_closed(rt: HostRuntime) -> Result<(), Fail> {
+    is_idle(&rt, rt.alloc(), 3)
+}
+
+#[test]
+fn four_blocks_are_opened_and_closed(rt: HostRuntime) -> Result<(), Fail> {
+    is_idle(&rt, rt.alloc(), 4)
 }
 
 /// The first table has as many slots as a worker's. There is memory for no table of so many.
