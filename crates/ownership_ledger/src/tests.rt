@@ -108,3 +108,20 @@ fn a_refused_opening_leaves_nothing(rt: HostRuntime) -> Result<(), Fail> {
     assert_eq!(rt; totals, Totals { made: 0, ended: 0 });
     Ok(())
 }
+
+// What is added and told takes no memory: `tests/refuse_allocations` compares with the opening alone.
+#[test]
+fn one_share_adds_and_is_gathered(rt: HostRuntime) -> Result<(), Fail> {
+    let (book, mut shares) = Book::open(rt.alloc(), 1)?;
+    let Some(mut share) = shares.pop() else {
+        unreachable!()
+    };
+    add(&book, &mut share, 3, 2);
+    let shown = book.so_far(&mut share);
+    shares.push_reserved(share);
+    let totals = book.gather(shares);
+    let want = Totals { made: 3, ended: 2 };
+    assert_eq!(rt; shown, want);
+    assert_eq!(rt; totals, want);
+    Ok(())
+}

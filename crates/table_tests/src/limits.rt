@@ -1,10 +1,11 @@
-//! Numbers that may be no greater: of cells, of a place's block and field, of handles, and of objects.
-use crate::alone::ends;
+//! Numbers that may be no greater: of cells, of a place's block and field, of handles, and of objects; and how large a
+//! program's domain may be.
+use crate::alone::{Listed, ends};
 use crate::listed::{Answer, Call, all, refused};
 use crate::shapes::{alone, shape};
 use crate::slots::{OWNER, TO, WEAK, cell_calls};
 use control_word::{Block, Place, Refusal};
-use handle_table::{Cell, Fault, HandleTable, Home, Program};
+use handle_table::{Cell, Fault, HandleTable, Home, Program, run};
 use std::process::Abort;
 use std::sync::Wait;
 use std::test::Fail;
@@ -125,4 +126,32 @@ fn every_limit_is_told(rt: HostRuntime) -> Result<(), Fail> {
         &Limits,
         3,
     )
+}
+
+/// Blocks, free cells of both kinds and allowance of a domain, and whether there may be one.
+const DOMAINS: [(u32, u32, u32, u32, bool); 7] = [
+    (65_535, 200, 56, 4_194_304, true),
+    (65_536, 0, 0, 8, false),
+    (1, 0, 0, 1, true),
+    (0, 0, 0, 1, false),
+    (1, 200, 57, 1, false),
+    (1, 0, 0, 4_194_305, false),
+    (1, 0, 0, 0, false),
+];
+
+#[test]
+fn a_program_has_a_domain_within_limits(rt: HostRuntime) -> Result<(), Fail> {
+    for (blocks, shared, weak, allowance, opens) in DOMAINS {
+        let shape = shape(blocks, shared, weak, allowance);
+        let ran = run(
+            &rt,
+            rt.alloc(),
+            shape,
+            alone(1, 1, 1),
+            &Listed { calls: &[] },
+        );
+        let wanted = if opens { None } else { Some(Refusal::Shape) };
+        assert!(rt; ran.err() == wanted, "{blocks} {shared} {weak} {allowance}");
+    }
+    Ok(())
 }
