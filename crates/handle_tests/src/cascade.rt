@@ -1,14 +1,13 @@
 //! An object that ends within another's end, as the last owner of it was a member of that.
-ghost use Rattle.std.specs.Prelude.{◌≡◌, ◌+◌};
-ghost use Rattle.shared_handle.specs.Prelude.{Owner, Belongs, IsSameDesk, bag_of, Holds, without_handle, Ends};
+ghost use Rattle.std.specs.Prelude.{◌≡◌, ◌+◌, IfSome, MatchOption, Some};
+ghost use Rattle.shared_handle.specs.Prelude.{Owner, Block, Belongs, IsSameDesk, bag_of, Holds, Ends};
+ghost use Rattle.shared_handle.specs.Prelude.{with_handle, without_handle};
 
-use crate::cell_parts::object;
-use crate::members::put_in;
 use crate::parts::{Found, Was, drop_owner, end_of, shape, shut, told};
-use atomic_cells::SharedMember;
+use atomic_cells::{SharedAt, SharedMember};
 use control_block::desk::Desk;
 use control_block::domain::{Domain, open};
-use shared_handle::{Ending, Left, Member, Shared, release};
+use shared_handle::{Ending, Left, Member, Shared, make, release};
 use std::test::Fail;
 
 // What two ends find: that within and that around it.
@@ -50,6 +49,47 @@ fn leave_both(domain: &Domain<u64>, desk: &mut Desk<u64>, owner: Shared) -> Opti
     match release(domain, desk, owner) {
         Left::Empty | Left::Others => None,
         Left::Last(around) => end_both(domain, desk, around),
+    }
+}
+
+// A new object, or none.
+fn object(domain: &Domain<u64>, desk: &mut Desk<u64>, field: u64) -> Option<Shared>
+    requires domain { Belongs desk.old domain.now }
+    ensures desk { IsSameDesk desk.old desk.new }
+    ensures real { IfSome result (λ h. (b : Block) × (h.block ≡ Some b)) }
+    ensures bag { MatchOption result (bag_of desk.new ≡ bag_of desk.old)
+        (λ h. bag_of desk.new ≡ with_handle Owner h.block h.place (bag_of desk.old)) }
+    ensures held { MatchOption result (desk.new.held ≡ desk.old.held) (λ _. desk.new.held ≡ desk.old.held + 1) }
+    ensures holds { IfSome result (λ h. Holds desk.new Owner h.block h.place) }
+{
+    match make(domain, desk, [field, 0, 0, 0], false, field) {
+        Ok(owner) => Some(owner),
+        Err(_) => None,
+    }
+}
+
+// An owner goes into a member of the whole: what the store found.
+#[tactic(auto, using(atomic_cells::proofs::Members::member_open))]
+fn put_in(
+    domain: &Domain<u64>,
+    desk: &mut Desk<u64>,
+    whole: &Shared,
+    which: SharedMember,
+    owner: Shared,
+) -> Option<Was>
+    requires domain { Belongs desk.old domain.now }
+    requires whole { Holds desk.old Owner whole.now.block whole.now.place }
+    requires held { Holds desk.old Owner owner.block owner.place }
+    ensures desk { IsSameDesk desk.old desk.new }
+    ensures bag { bag_of desk.new ≡ without_handle Owner owner.block owner.place (bag_of desk.old) }
+    ensures held { desk.new.held + 1 ≡ desk.old.held }
+{
+    match SharedAt::member(whole, which) {
+        Ok(at) => Some(told(at.store(domain, desk, owner))),
+        Err(_) => {
+            drop_owner(domain, desk, owner);
+            None
+        }
     }
 }
 

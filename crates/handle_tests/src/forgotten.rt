@@ -1,15 +1,18 @@
 //! Handles and endings that are given up: how a domain's census tells of them.
-ghost use Rattle.std.specs.Prelude.{◌≡◌};
+ghost use Rattle.std.specs.Prelude.{◌≡◌, ◌<◌};
 ghost use Rattle.shared_handle.specs.Prelude.{Owner, Belongs, IsSameDesk, Holds};
 
 use crate::drops::Counted;
-use crate::shapes::shape;
+use crate::parts::told;
+use crate::shapes::{shape, shape_with_cells};
 use crate::splits::abandon;
+use atomic_cells::SharedAt;
 use control_block::census::close;
 use control_block::desk::Desk;
 use control_block::domain::{Domain, open};
 use control_word::{Block, Counts, Refused};
 use shared_handle::{Left, Shared, downgrade, make, release, share, use_count};
+use std::alloc::Global;
 use std::sync::atomic::{AtomicU64, Ordering};
 use std::test::Fail;
 
@@ -93,6 +96,61 @@ fn forgotten_handles_stand_in_the_census(rt: HostRuntime) -> Result<(), Fail> {
     assert_eq!(rt; counts.owners, 2);
     assert_eq!(rt; counts.weaks, 1);
     assert_eq!(rt; taken, 1);
+    Ok(())
+}
+
+// The domain is closed: how many cells hold the block, and how many more handles it has.
+fn held(
+    alloc: Global,
+    domain: Domain<u64>,
+    desk: Desk<u64>,
+    block: Block,
+) -> Option<(usize, Counts)>
+    requires { Belongs desk domain }
+{
+    match close(domain, desk) {
+        Ok(census) => {
+            let told = census.holders(alloc, block);
+            drop(census);
+            let holders = told.ok()?;
+            Some((holders.cells.len(), holders.forgotten))
+        }
+        Err(refused) => {
+            let Refused {
+                why: _,
+                back: (domain, desk),
+            } = refused;
+            abandon(domain, desk);
+            None
+        }
+    }
+}
+
+// An owner of a new object is in the cell, and another one is forgotten: its block.
+fn forget_beside(domain: &Domain<u64>, desk: &mut Desk<u64>, at: u32) -> Option<Block>
+    requires domain { Belongs desk.old domain.now }
+    requires cell { at < desk.old.shape.shared_cells }
+    ensures desk { IsSameDesk desk.old desk.new }
+{
+    let Ok(owner) = make(domain, desk, [0; 4], false, 5) else {
+        return None;
+    };
+    forget_copy(domain, desk, &owner);
+    let block = owner.block();
+    told(SharedAt::free(at).store(domain, desk, owner));
+    block
+}
+
+#[test]
+fn a_cell_holds_an_object_beside_a_forgotten_owner(rt: HostRuntime) -> Result<(), Fail> {
+    let (domain, mut desk) = open::<u64>(rt.alloc(), shape_with_cells(2, 1, 0, 8))?;
+    let Some(block) = forget_beside(&domain, &mut desk, 0) else {
+        abandon(domain, desk);
+        return Err("no object".into());
+    };
+    let (cells, forgotten) = held(rt.alloc(), domain, desk, block).ok_or("no census")?;
+    assert_eq!(rt; cells, 1);
+    assert_eq!(rt; (forgotten.owners, forgotten.weaks), (1, 0));
     Ok(())
 }
 

@@ -2,17 +2,7 @@
 #![tactic(auto)]
 
 #[cfg(test)]
-mod aliases;
-#[cfg(test)]
 mod cascade;
-#[cfg(test)]
-mod cell_parts;
-#[cfg(test)]
-mod cells;
-#[cfg(test)]
-mod compares;
-#[cfg(test)]
-mod crowd;
 #[cfg(test)]
 mod drops;
 #[cfg(test)]
@@ -20,17 +10,9 @@ mod example;
 #[cfg(test)]
 mod forgotten;
 #[cfg(test)]
-mod holders;
-#[cfg(test)]
 mod laws;
 #[cfg(test)]
-mod leaves;
-#[cfg(test)]
 mod limits;
-#[cfg(test)]
-mod locks;
-#[cfg(test)]
-mod members;
 #[cfg(test)]
 mod memory;
 #[cfg(test)]
@@ -44,9 +26,5 @@ mod shelves;
 mod splits;
 #[cfg(test)]
 mod this;
-#[cfg(test)]
-mod visits;
-#[cfg(test)]
-mod watching;
 #[cfg(test)]
 mod words;

@@ -10,7 +10,7 @@ use control_block::census::close;
 use control_block::desk::Desk;
 use control_block::domain::Domain;
 use control_word::Refused;
-use shared_handle::{Ending, Held, Left, Member, Shared, make, release, share};
+use shared_handle::{Ending, Held, Left, Member, Shared, release};
 use std::alloc::{AllocFailed, Global};
 
 // A sole desk closes its domain: how many vacant blocks it had.
@@ -127,50 +127,6 @@ pub(crate) fn drop_owner(domain: &Domain<u64>, desk: &mut Desk<u64>, owner: Shar
         Left::Last(ending) => {
             end_of(domain, desk, ending);
             Was::Last
-        }
-    }
-}
-
-// An owner leaves, and its object ends where it was the last. 1 where it was.
-pub(crate) fn leave(domain: &Domain<u64>, desk: &mut Desk<u64>, handle: &mut Option<Shared>) -> u64
-    requires domain { Belongs desk.old domain.now }
-    requires held { IfSome handle.old (λ h. Holds desk.old Owner h.block h.place) }
-    ensures desk { IsSameDesk desk.old desk.new }
-    ensures spent { handle.new ≡ None }
-{
-    let Some(owner) = handle.take() else {
-        return 0;
-    };
-    match release(domain, desk, owner) {
-        Left::Empty | Left::Others => 0,
-        Left::Last(ending) => {
-            bury(domain, desk, ending);
-            1
-        }
-    }
-}
-
-// A new object with two owners, or none.
-#[tactic(auto, using(shared_handle::proofs::Callers::first_out))]
-pub(crate) fn two_owners(domain: &Domain<u64>, desk: &mut Desk<u64>) -> Option<(Shared, Shared)>
-    requires domain { Belongs desk.old domain.now }
-    ensures desk { IsSameDesk desk.old desk.new }
-    ensures bag { IfSome result (λ r. bag_of desk.new ≡ with_handle Owner r.1.block r.1.place
-        (with_handle Owner r.0.block r.0.place (bag_of desk.old))) }
-    ensures real { IfSome result (λ r. (b : Block) × (r.0.block ≡ Some b)) }
-    ensures owners { IfSome result (λ r. (r.1.block ≡ r.0.block) × (r.1.place ≡ r.0.place)
-        × Holds desk.new Owner r.0.block r.0.place × Holds desk.new Owner r.1.block r.1.place) }
-    ensures held { IfSome result (λ _. desk.new.held ≡ desk.old.held + 2) }
-    ensures stock { IfSome result (λ _. length (stock_of desk.new) + 1 ≡ length (stock_of desk.old)) }
-{
-    let Ok(x) = make(domain, desk, [0; 4], false, 7) else {
-        return None;
-    };
-    match share(domain, desk, &x) {
-        Ok(y) => Some((x, y)),
-        Err(_) => {
-            end(domain, desk, x);
-            None
         }
     }
 }

@@ -1,46 +1,13 @@
-//! Pointers that an object gives to itself, and the end of one.
-ghost use Rattle.std.specs.Prelude.{◌≡◌, []};
-ghost use Rattle.shared_handle.specs.Prelude.{Owner, Belongs, IsSameDesk, bag_of, Holds, with_handle, Ends};
+//! What an object that ends gives and says of itself.
+ghost use Rattle.std.specs.Prelude.{◌≡◌};
+ghost use Rattle.shared_handle.specs.Prelude.{Owner, Belongs, IsSameDesk, Holds, Ends};
 
-use crate::parts::{bury, end, shape, shut};
-use crate::watching::tell_weak;
+use crate::parts::{bury, shape, shut};
 use control_block::desk::Desk;
 use control_block::domain::{Domain, open};
 use control_word::Refusal;
-use shared_handle::{
-    Ending, Left, Shared, expired, make, release, release_weak, shared_from_this, use_count,
-    weak_from_this,
-};
+use shared_handle::{Ending, Left, Shared, expired, make, release, release_weak};
 use std::test::Fail;
-
-// From-this of an owner: the count with a further owner, and what a weak handle tells.
-#[tactic(auto, using(shared_handle::proofs::Callers::first_out))]
-fn this_of(
-    domain: &Domain<u64>,
-    desk: &mut Desk<u64>,
-    owner: &Shared,
-) -> (Result<u32, Refusal>, Result<(bool, u32), Refusal>)
-    requires domain { Belongs desk.old domain.now }
-    requires holds { bag_of desk.old ≡ with_handle Owner owner.now.block owner.now.place [] }
-    requires held { desk.old.held ≡ 1 }
-    ensures desk { IsSameDesk desk.old desk.new }
-    ensures bag { bag_of desk.new ≡ bag_of desk.old }
-    ensures held { desk.new.held ≡ desk.old.held }
-{
-    let strong = match shared_from_this(domain, desk, owner) {
-        Ok(other) => {
-            let count = use_count(domain, desk, owner);
-            end(domain, desk, other);
-            Ok(count)
-        }
-        Err(why) => Err(why),
-    };
-    let weak = match weak_from_this(domain, desk, owner) {
-        Ok(weak) => Ok(tell_weak(domain, desk, weak)),
-        Err(why) => Err(why),
-    };
-    (strong, weak)
-}
 
 // What an object that ends says of itself: its fields, whether it is null, and clear before its clears, and why it
 // gives no owner.
@@ -91,22 +58,15 @@ fn end_with_a_weak_handle(
     Some((fields, clear, why, expired, value, before, desk.stock()))
 }
 
-// An enabled object, and its end.
-type Story = (
-    (Result<u32, Refusal>, Result<(bool, u32), Refusal>),
-    Option<Words>,
-);
-
-fn live_and_end(domain: &Domain<u64>, desk: &mut Desk<u64>) -> Option<Story>
+// An enabled object is made and ends.
+fn live_and_end(domain: &Domain<u64>, desk: &mut Desk<u64>) -> Option<Words>
     requires domain { Belongs desk.old domain.now }
-    requires fresh { (bag_of desk.old ≡ []) × (desk.old.held ≡ 0) }
     ensures desk { IsSameDesk desk.old desk.new }
 {
     let Ok(owner) = make(domain, desk, [1, 2, 3, 4], true, 9) else {
         return None;
     };
-    let this = this_of(domain, desk, &owner);
-    Some((this, end_with_a_weak_handle(domain, desk, owner)))
+    end_with_a_weak_handle(domain, desk, owner)
 }
 
 #[test]
@@ -114,10 +74,7 @@ fn an_enabled_object_gives_itself(rt: HostRuntime) -> Result<(), Fail> {
     let (domain, mut desk) = open::<u64>(rt.alloc(), shape(2, 8)).ok().ok_or("memory")?;
     let seen = live_and_end(&domain, &mut desk);
     shut(domain, desk);
-    let ((owners, weak), words) = seen.ok_or("no object")?;
-    assert!(rt; owners == Ok(2));
-    assert!(rt; weak == Ok((false, 1)));
-    let (fields, clear, why, expired, value, before, after) = words.ok_or("no end")?;
+    let (fields, clear, why, expired, value, before, after) = seen.ok_or("no end")?;
     assert_eq!(rt; fields, [1, 2, 3, 4]);
     assert!(rt; !clear);
     assert!(rt; why == Some(Refusal::BadWeak));

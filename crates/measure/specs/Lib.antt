@@ -1,4 +1,3 @@
 pub mod Workers
 pub mod Observers
 pub mod Nodes
-pub mod Scenes

@@ -2,6 +2,11 @@
 use crate::timing::Spent;
 use std::io;
 
+/// The peers of the rows by handles and of those of scene_structures.
+const RUNTIME: &str = "this runtime";
+
+pub(crate) const STRUCTURES: &str = "this runtime, scene_structures";
+
 /// What is measured.
 #[derive(Clone, Copy, Drop)]
 pub(crate) enum Row {
@@ -17,6 +22,8 @@ pub(crate) enum Row {
     ExchangeOwn,
     CompareOwn,
     Stack,
+    /// The stack of scene_structures.
+    Structures,
     /// The first thread's part of a row that has one writer.
     StoreCommon,
     /// The other threads' part of it.
@@ -25,7 +32,7 @@ pub(crate) enum Row {
 
 impl Row {
     /// Those of one, two and four threads, of which the first does this.
-    pub(crate) const ALL: [Row; 13] = [
+    pub(crate) const ALL: [Row; 14] = [
         Row::MakeEnd,
         Row::ShareOwn,
         Row::ShareCommon,
@@ -39,6 +46,7 @@ impl Row {
         Row::CompareOwn,
         Row::StoreCommon,
         Row::Stack,
+        Row::Structures,
     ];
 
     /// What the threads after the first do.
@@ -53,17 +61,21 @@ impl Row {
     /// together.
     pub(crate) fn chunk(self) -> u32 {
         match self {
-            Row::ShareCommon | Row::LoadCommon | Row::StoreCommon | Row::LoadBeside | Row::Stack =>
-                100,
+            Row::ShareCommon
+            | Row::LoadCommon
+            | Row::StoreCommon
+            | Row::LoadBeside
+            | Row::Stack
+            | Row::Structures => 100,
             _ => 2_000,
         }
     }
 
-    /// What the threads do until each has a processor: not the stack's, in which a node's block goes to the thread that
+    /// What the threads do until each has a processor: not a stack's, in which a node's block goes to the thread that
     /// leaves it last, so that in the end one would have none left.
     pub(crate) fn settling(self) -> Row {
         match self {
-            Row::Stack => Row::ShareCommon,
+            Row::Stack | Row::Structures => Row::ShareCommon,
             row => row,
         }
     }
@@ -82,16 +94,24 @@ impl Row {
             Row::StoreOwn => "cell store of a copy, own cell",
             Row::ExchangeOwn => "cell exchange, own cell",
             Row::CompareOwn => "cell compare_exchange of a copy, own cell",
-            Row::Stack => "stack push + pop",
+            Row::Stack | Row::Structures => "stack push + pop",
             Row::StoreCommon => "cell store of a copy, others load",
             Row::LoadBeside => "cell load + release, the first stores",
+        }
+    }
+
+    /// The way to call this runtime.
+    fn peer(self) -> &'static str {
+        match self {
+            Row::Structures => STRUCTURES,
+            _ => RUNTIME,
         }
     }
 
     /// The lines: one for all threads, or where the others do something else one for the first, and one for them.
     pub(crate) fn tell<R: Print>(self, rt: &R, spent: &[Spent]) -> io::Result<()> {
         if !matches!(self, Row::StoreCommon) || spent.is_empty() {
-            return line(rt, self.name(), self.chunk(), spent, spent);
+            return line_of(rt, self.name(), self.peer(), self.chunk(), spent, spent);
         }
         line(rt, self.name(), self.chunk(), spent, &spent[..1])?;
         if spent.len() == 1 {
@@ -110,7 +130,7 @@ pub(crate) fn line<R: Print>(
     spent: &[Spent],
     told: &[Spent],
 ) -> io::Result<()> {
-    line_of(rt, name, "this runtime", chunk, spent, told)
+    line_of(rt, name, RUNTIME, chunk, spent, told)
 }
 
 /// The same, by another way to call this runtime, which `peer` names.

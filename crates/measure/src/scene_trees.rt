@@ -7,8 +7,8 @@ ghost use Rattle.scene_structures.specs.Stacks.{Serves};
 
 use crate::chain::CHAIN;
 use crate::rounds::FIELDS;
-use crate::rows::line_of;
-use crate::scenes::{STRUCTURES, out_of_memory, pile_in, spend};
+use crate::rows::{STRUCTURES, line_of};
+use crate::scenes::{out_of_memory, pile_in, spend};
 use crate::timing::{CHUNKS, SPAN, Spent, nanos};
 use control_block::desk::Desk;
 use control_block::domain::Domain;

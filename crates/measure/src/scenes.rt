@@ -1,11 +1,11 @@
-//! The rows of scene_structures: its stack, a walk over observers, and the teardown of a tree.
+//! The rows of scene_structures for one thread: a walk over observers, and the teardown of a tree.
 ghost use Rattle.std.specs.Prelude.{◌≡◌, ◌+◌, ◌<◌, IfSome};
 ghost use Rattle.control_word.specs.declared.handle.Kind.TheVariants.{Owner};
 ghost use Rattle.control_block.specs.Desks.{Belongs, IsSameDesk, allowance_of, bag_of};
 ghost use Rattle.shared_handle.specs.Calls.{Holds, without_handle};
 ghost use Rattle.scene_structures.specs.Stacks.{Serves};
 
-use crate::{scene_stack, scene_trees, scene_walks};
+use crate::{scene_trees, scene_walks};
 use control_block::census::close;
 use control_block::desk::Desk;
 use control_block::domain::{Domain, open};
@@ -15,14 +15,10 @@ use std::alloc::Global;
 use std::io;
 use std::rt::Clock;
 use std::sync::Wait;
-use std::thread::Threads;
 use std::time::CpuClock;
 
-/// The rows' peer.
-pub(crate) const STRUCTURES: &str = "this runtime, scene_structures";
-
 const SHAPE: Shape = Shape {
-    blocks: 65_024,
+    blocks: 8_192,
     shared_cells: 2,
     weak_cells: 0,
     allowance: 64,
@@ -75,7 +71,7 @@ fn opened(alloc: Global) -> Option<(Domain<()>, Desk<()>)>
 }
 
 /// All rows.
-fn tell<R: Clock + CpuClock + Threads + Wait + Sync + Print>(
+fn tell<R: Clock + CpuClock + Wait + Print>(
     rt: &R,
     alloc: Global,
     domain: &Domain<()>,
@@ -85,13 +81,12 @@ fn tell<R: Clock + CpuClock + Threads + Wait + Sync + Print>(
     requires cells { domain.now.shape.shared_cells ≡ 2 }
     ensures desk { IsSameDesk desk.old desk.new }
 {
-    scene_stack::rows(rt, alloc, domain, desk)?;
     scene_walks::row(rt, alloc, domain, desk)?;
     scene_trees::row(rt, alloc, domain, desk)
 }
 
 /// The rows, so many times, each on a domain of their own.
-pub(crate) fn measure<R: Clock + CpuClock + Threads + Wait + Sync + Print>(
+pub(crate) fn measure<R: Clock + CpuClock + Wait + Print>(
     rt: &R,
     alloc: Global,
     passes: u32,

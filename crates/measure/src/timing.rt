@@ -4,7 +4,7 @@ ghost use Rattle.measure.specs.Workers.{IsPairReady, IsReady, IsTeamReady};
 
 use crate::rows::Row;
 use crate::workers::{COMMON_CELL, Pair, Team, Worker};
-use crate::{cell_rounds, rounds, stack};
+use crate::{cell_rounds, rounds, scene_stack, stack};
 use control_block::domain::Domain;
 use std::rt::Clock;
 use std::sync::Wait;
@@ -100,6 +100,8 @@ fn work<R: Wait>(rt: &R, domain: &Domain<()>, worker: &mut Worker, row: Row) -> 
         desk,
         own,
         common,
+        stack: nodes,
+        pile,
         cell,
         apart: _,
     } = worker;
@@ -122,6 +124,7 @@ fn work<R: Wait>(rt: &R, domain: &Domain<()>, worker: &mut Worker, row: Row) -> 
         Row::StoreOwn => cell_rounds::store_copies(domain, desk, own, *cell, count),
         Row::StoreCommon => cell_rounds::store_copies(domain, desk, own, COMMON_CELL, count),
         Row::Stack => stack::push_and_pop(rt, domain, desk, COMMON_CELL, count),
+        Row::Structures => scene_stack::push_and_pop(rt, domain, desk, nodes, pile, count),
         Row::ExchangeOwn => cell_rounds::exchange(domain, desk, own, *cell, count),
         Row::CompareOwn => {
             cell_rounds::compare_and_exchange(rt, domain, desk, own, *cell, count)

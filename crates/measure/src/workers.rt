@@ -5,13 +5,16 @@ ghost use Rattle.control_word.specs.declared.handle.Kind.TheVariants.{Owner};
 ghost use Rattle.control_word.specs.declared.place.Block.{Block};
 ghost use Rattle.control_block.specs.Desks.{Belongs, allowance_of, bag_of, stock_of};
 ghost use Rattle.shared_handle.specs.Calls.{Holds, with_handle, without_handle};
+ghost use Rattle.scene_structures.specs.Stacks.{Serves, StandsIn};
 ghost use Rattle.measure.specs.Workers.{IsManaged, IsPairReady, IsReady, IsTeamReady};
 
 use crate::rounds::{FIELDS, end};
+use crate::scenes::pile_in;
 use control_block::desk::Desk;
 use control_block::domain::Domain;
 use control_word::Refused;
-use shared_handle::{Held, Shared, make, share};
+use scene_structures::Stack;
+use shared_handle::{Held, Pile, Shared, make, share};
 use std::alloc::{AllocFailed, Global};
 
 /// How many handles a worker's desk may hold.
@@ -30,6 +33,9 @@ pub(crate) struct Worker {
     pub(crate) desk: Desk<()>,
     pub(crate) own: Shared,
     pub(crate) common: Shared,
+    /// The stack of scene_structures in the common cell.
+    pub(crate) stack: Stack<()>,
+    pub(crate) pile: Pile<()>,
     pub(crate) cell: u32,
     /// Keeps the numbers of two workers' desks from sharing a cache line.
     pub(crate) apart: [u64; 16],
@@ -112,8 +118,58 @@ fn hand_over(
     }
 }
 
-/// A worker, whose desk is cut from this one, or none where it has too little.
+/// A stack in the common cell, and a pile, if there is memory.
+fn stack_in(alloc: Global, domain: &Domain<()>) -> Option<(Stack<()>, Pile<()>)>
+    requires cell { 0 < domain.now.shape.shared_cells }
+    ensures stands { IfSome result (λ r. StandsIn r.0 domain.now) }
+    ensures serves { IfSome result (λ r. Serves domain.now r.1) }
+{
+    let Ok(stack) = Stack::new(alloc, domain, COMMON_CELL) else {
+        return None;
+    };
+    match pile_in(alloc, domain) {
+        Some(pile) => Some((stack, pile)),
+        None => {
+            stack.close();
+            None
+        }
+    }
+}
+
+/// A second desk that has an owner of the common object, or none where this one has too little.
 #[tactic(auto, using(shared_handle::proofs::Callers::first_out))]
+fn part(
+    domain: &Domain<()>,
+    desk: &mut Desk<()>,
+    alloc: Global,
+    common: &Shared,
+) -> Option<(Desk<()>, Shared)>
+    requires desk { IsManaged domain.now desk.old common.now }
+    ensures desk { IsManaged domain.now desk.new common.now }
+    ensures sum { MatchOption result (allowance_of desk.new ≡ allowance_of desk.old)
+        (λ _. allowance_of desk.new + 8 ≡ allowance_of desk.old) }
+    ensures other { IfSome result (λ r. Belongs r.0 domain.now) }
+    ensures free { IfSome result
+        (λ r. (allowance_of r.0 ≡ 8) × (r.0.held ≡ 1) × (length (stock_of r.0) ≡ BLOCKS)) }
+    ensures common { IfSome result (λ r. (b : Block) × (r.1.block ≡ Some b)) }
+    ensures bag { IfSome result (λ r. bag_of r.0 ≡ with_handle Owner r.1.block r.1.place []) }
+{
+    if desk.stock() < BLOCKS {
+        return None;
+    }
+    let Ok(copy) = share(domain, desk, common) else {
+        return None;
+    };
+    match hand_over(domain, desk, alloc, copy) {
+        Ok(parted) => Some(parted),
+        Err(copy) => {
+            end(domain, desk, copy);
+            None
+        }
+    }
+}
+
+/// A worker, whose desk is cut from this one, or none where it has too little.
 pub(crate) fn hire(
     domain: &Domain<()>,
     desk: &mut Desk<()>,
@@ -128,24 +184,29 @@ pub(crate) fn hire(
         (λ _. allowance_of desk.new + 8 ≡ allowance_of desk.old) }
     ensures ready { IfSome result (λ w. IsReady domain.now w) }
 {
-    if desk.stock() < BLOCKS {
-        return None;
-    }
-    let Ok(copy) = share(domain, desk, common) else {
-        return None;
-    };
-    match hand_over(domain, desk, alloc, copy) {
-        Ok((desk, common)) => Some(equip(domain, desk, common, cell)),
-        Err(copy) => {
-            end(domain, desk, copy);
+    let (stack, pile) = stack_in(alloc, domain)?;
+    match part(domain, desk, alloc, common) {
+        Some((other, common)) => Some(equip(domain, other, common, stack, pile, cell)),
+        None => {
+            stack.close();
+            pile.close();
             None
         }
     }
 }
 
 /// A worker of a new desk, which makes an object of its own.
-fn equip(domain: &Domain<()>, desk: Desk<()>, common: Shared, cell: u32) -> Worker
+fn equip(
+    domain: &Domain<()>,
+    desk: Desk<()>,
+    common: Shared,
+    stack: Stack<()>,
+    pile: Pile<()>,
+    cell: u32,
+) -> Worker
     requires cell { cell < domain.now.shape.shared_cells }
+    requires stands { StandsIn stack domain.now }
+    requires serves { Serves domain.now pile }
     requires desk { Belongs desk domain.now }
     requires free { (allowance_of desk ≡ 8) × (desk.held ≡ 1) × (length (stock_of desk) ≡ BLOCKS) }
     requires common { (b : Block) × (common.block ≡ Some b) }
@@ -160,6 +221,8 @@ fn equip(domain: &Domain<()>, desk: Desk<()>, common: Shared, cell: u32) -> Work
         desk,
         own,
         common,
+        stack,
+        pile,
         cell,
         apart: [0; 16],
     }
@@ -177,9 +240,13 @@ pub(crate) fn dismiss(domain: &Domain<()>, desk: &mut Desk<()>, worker: Worker, 
         desk: mut other,
         own,
         common,
+        stack,
+        pile,
         cell: _,
         apart: _,
     } = worker;
+    stack.close();
+    pile.close();
     end(domain, &mut other, own);
     end(domain, &mut other, common);
     desk.join(domain, other);

@@ -10,6 +10,10 @@ mod cells;
 #[cfg(test)]
 mod compares;
 #[cfg(test)]
+mod handles;
+#[cfg(test)]
+mod holders;
+#[cfg(test)]
 mod joins;
 #[cfg(test)]
 mod leaders;
@@ -18,7 +22,11 @@ mod limits;
 #[cfg(test)]
 mod listed;
 #[cfg(test)]
+mod loads;
+#[cfg(test)]
 mod looks;
+#[cfg(test)]
+mod members;
 #[cfg(test)]
 mod memory;
 #[cfg(test)]
@@ -32,3 +40,5 @@ mod splits;
 mod staff;
 #[cfg(test)]
 mod teams;
+#[cfg(test)]
+mod threads;

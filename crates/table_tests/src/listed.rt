@@ -1,6 +1,7 @@
 //! Calls as data, each with what it answers: a test is a list of them.
 use control_word::Place;
-use handle_table::{Cell, Fault, Gone, HandleTable, Home, Returned};
+use handle_table::{Cell, Fault, Gone, HandleTable, Home, Returned, Round};
+use shared_handle::Member;
 use std::process::Abort;
 use std::sync::Wait;
 
@@ -21,6 +22,7 @@ pub(crate) enum Call {
     Upgrade(usize, usize),
     Reset(usize),
     EndNext,
+    Round,
     Settle,
     Reaches(Cell),
     Load(Cell, usize),
@@ -34,7 +36,7 @@ pub(crate) enum Call {
     PlaceOf(usize),
     SamePlace(usize, usize),
     OwnerBefore(usize, usize),
-    /// The value is doubled.
+    /// 1 is added to the value.
     Visit(usize),
 }
 
@@ -53,8 +55,18 @@ pub(crate) enum Answer {
     WasEmpty,
     OthersOwn,
     WasLast,
+    /// The member of this number (`first`, `next`, `up`) was emptied, and what it held was such a handle.
+    Cleared(u8, Was),
     /// A value that came out, or that was worked on.
     Value(Option<u64>),
+}
+
+/// What is told of a handle that left a member.
+#[derive(Clone, Copy, PartialEq, Eq, Debug, Drop)]
+pub(crate) enum Was {
+    Empty,
+    Others,
+    Last,
 }
 
 fn done(told: Result<(), Fault>) -> Answer {
@@ -101,6 +113,27 @@ fn left(told: Result<Gone, Fault>) -> Answer {
     }
 }
 
+/// Of a round of ends.
+fn ended(round: Round<u64>) -> Answer {
+    match round {
+        Round::Settled => Answer::Value(None),
+        Round::Ended(value) => Answer::Value(Some(value)),
+        Round::Cleared(member, gone) => {
+            let number = match member {
+                Member::First => 0,
+                Member::Next => 1,
+                Member::Up => 2,
+            };
+            let was = match gone {
+                Gone::Empty => Was::Empty,
+                Gone::Others => Was::Others,
+                Gone::Last => Was::Last,
+            };
+            Answer::Cleared(number, was)
+        }
+    }
+}
+
 /// Of a call that was handed this value.
 fn handed(told: Result<(), Returned<u64>>, value: u64) -> Answer {
     match told {
@@ -144,6 +177,7 @@ fn pass<R: Wait, H: Home>(
     Some(match call {
         Call::Reset(at) => left(table.reset(at)),
         Call::EndNext => Answer::Value(table.end_next()),
+        Call::Round => ended(table.round()),
         Call::Settle => {
             table.settle(rt);
             Answer::Done
@@ -162,13 +196,13 @@ fn pass<R: Wait, H: Home>(
     })
 }
 
-/// A value is doubled.
+/// 1 is added to a value.
 fn visit<R: Wait, H: Home>(rt: &R, table: &mut HandleTable<'_, u64, H>, of: usize) -> Answer {
-    let twice = |value: &mut u64| {
-        *value = value.wrapping_mul(2);
+    let add = |value: &mut u64| {
+        *value = value.wrapping_add(1);
         *value
     };
-    match table.visit(rt, of, twice) {
+    match table.visit(rt, of, add) {
         Ok(value) => Answer::Value(Some(value)),
         Err(returned) => Answer::Not(returned.why),
     }
@@ -193,7 +227,7 @@ fn look<R: Wait, H: Home>(
 }
 
 /// What the call answers.
-fn answer_of<R: Wait, H: Home>(
+pub(crate) fn answer_of<R: Wait, H: Home>(
     rt: &R,
     table: &mut HandleTable<'_, u64, H>,
     call: Call,

@@ -41,11 +41,11 @@ const CALLS: [(Call, Answer); 28] = [
     (Call::OwnerBefore(1, 2), Answer::Is(true)),
     (Call::OwnerBefore(0, 3), SLOT),
     // The value in slot 0 is worked on; slot 1 has an empty owner.
-    (Call::Visit(0), Answer::Value(Some(18))),
+    (Call::Visit(0), Answer::Value(Some(10))),
     (Call::Visit(1), Answer::Not(Fault::Call(Refusal::Null))),
     (Call::Visit(2), KIND),
     (Call::Reset(0), Answer::WasLast),
-    (Call::EndNext, Answer::Value(Some(18))),
+    (Call::EndNext, Answer::Value(Some(10))),
 ];
 
 #[test]

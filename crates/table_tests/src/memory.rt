@@ -1,5 +1,6 @@
 //! Growths that are refused. `tests/refuse_allocations` runs these with each allocation refused in turn.
 use crate::alone::ends;
+use crate::handles::hold;
 use crate::joins::come_together;
 use crate::listed::{Answer, Call, all};
 use crate::shapes::{alone, shape};
@@ -157,4 +158,10 @@ fn a_leader_is_told_that_its_team_was_refused(rt: HostRuntime) -> Result<(), Fai
     assert_eq!(rt; leader.left, 0);
     assert_eq!(rt; census.vacant(), 3);
     Ok(())
+}
+
+/// What tests ask for whose calls take no memory.
+#[test]
+fn a_worker_makes_no_call(rt: HostRuntime) -> Result<(), Fail> {
+    hold(&rt, rt.alloc(), &[])
 }
