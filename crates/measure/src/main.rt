@@ -10,7 +10,6 @@ ghost use Rattle.measure.specs.Workers.{IsManaged, IsTeamReady};
 mod alone;
 mod cell_rounds;
 mod chain;
-mod next;
 mod observers;
 mod pages;
 mod rounds;

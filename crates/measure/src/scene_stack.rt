@@ -1,15 +1,35 @@
-//! The work of the row of scene_structures' stack.
-ghost use Rattle.std.specs.Prelude.{◌≡◌};
+//! The stack of scene_structures that a worker has, and the work of its row.
+ghost use Rattle.std.specs.Prelude.{◌≡◌, ◌<◌, IfSome};
 ghost use Rattle.control_block.specs.Desks.{Belongs, IsSameDesk, bag_of};
 ghost use Rattle.scene_structures.specs.Stacks.{Serves, StandsIn};
 
 use crate::rounds::FIELDS;
-use crate::scenes::spend;
+use crate::scenes::{pile_in, spend};
+use crate::timing::COMMON_CELL;
 use control_block::desk::Desk;
 use control_block::domain::Domain;
 use scene_structures::Stack;
-use shared_handle::{Pile, Shared};
+use shared_handle::Pile;
+use std::alloc::Global;
 use std::sync::Wait;
+
+/// A stack in the common cell, and a pile, if there is memory.
+pub(crate) fn stack_in(alloc: Global, domain: &Domain<()>) -> Option<(Stack<()>, Pile<()>)>
+    requires cell { 0 < domain.now.shape.shared_cells }
+    ensures stands { IfSome result (λ r. StandsIn r.0 domain.now) }
+    ensures serves { IfSome result (λ r. Serves domain.now r.1) }
+{
+    let Ok(stack) = Stack::new(alloc, domain, COMMON_CELL) else {
+        return None;
+    };
+    match pile_in(alloc, domain) {
+        Some(pile) => Some((stack, pile)),
+        None => {
+            stack.close();
+            None
+        }
+    }
+}
 
 /// A node comes and leaves: whether no call was refused, and a node was found.
 #[tactic(auto, using(shared_handle::proofs::Callers::first_out))]

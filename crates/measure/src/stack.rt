@@ -8,8 +8,7 @@ ghost use Rattle.control_block.specs.Desks.{IsSameDesk, bag_of};
 ghost use Rattle.shared_handle.specs.Calls.{with_handle};
 ghost use Rattle.measure.specs.Workers.{IsReal};
 
-use crate::chain::{end_left, let_go};
-use crate::next::{load_next, store_next};
+use crate::chain::{end_left, let_go, load_next, store_next};
 use crate::rounds::FIELDS;
 use atomic_cells::{Compared, SharedAt};
 use control_block::desk::Desk;

@@ -3,7 +3,7 @@ ghost use denote.Param.Send.{IsSync};
 ghost use Rattle.measure.specs.Workers.{IsPairReady, IsReady, IsTeamReady};
 
 use crate::rows::Row;
-use crate::workers::{COMMON_CELL, Pair, Team, Worker};
+use crate::workers::{Pair, Team, Worker};
 use crate::{cell_rounds, rounds, scene_stack, stack};
 use control_block::domain::Domain;
 use std::rt::Clock;
@@ -12,6 +12,10 @@ use std::sync::atomic::{AtomicU64, Ordering};
 use std::thread::{Threads, join_mut};
 use std::time::{CpuClock, Duration, Instant};
 use std::{hint, io};
+
+/// The cell that all workers have in common. Each has one more of its own, with an unused one between any two: 128
+/// bytes apart, as the peers' are.
+pub(crate) const COMMON_CELL: u32 = 0;
 
 /// How many chunks a thread does at most.
 pub(crate) const CHUNKS: u32 = 1_000_000;

@@ -9,7 +9,7 @@ ghost use Rattle.scene_structures.specs.Stacks.{Serves, StandsIn};
 ghost use Rattle.measure.specs.Workers.{IsManaged, IsPairReady, IsReady, IsTeamReady};
 
 use crate::rounds::{FIELDS, end};
-use crate::scenes::pile_in;
+use crate::scene_stack::stack_in;
 use control_block::desk::Desk;
 use control_block::domain::Domain;
 use control_word::Refused;
@@ -24,16 +24,11 @@ pub(crate) const ALLOWANCE: u32 = 8;
 /// block of each. What lies a byte apart for neighbouring blocks shares no cache line between desks.
 pub(crate) const BLOCKS: u32 = 16_000;
 
-/// The cell that all workers have in common. Each has one more of its own, with an unused one between any two: 128
-/// bytes apart, as the peers' are.
-pub(crate) const COMMON_CELL: u32 = 0;
-
 /// What a thread is lent.
 pub(crate) struct Worker {
     pub(crate) desk: Desk<()>,
     pub(crate) own: Shared,
     pub(crate) common: Shared,
-    /// The stack of scene_structures in the common cell.
     pub(crate) stack: Stack<()>,
     pub(crate) pile: Pile<()>,
     pub(crate) cell: u32,
@@ -114,24 +109,6 @@ fn hand_over(
         Err(refused) => {
             let Refused { why: _, back } = refused;
             Err(only_owner(back))
-        }
-    }
-}
-
-/// A stack in the common cell, and a pile, if there is memory.
-fn stack_in(alloc: Global, domain: &Domain<()>) -> Option<(Stack<()>, Pile<()>)>
-    requires cell { 0 < domain.now.shape.shared_cells }
-    ensures stands { IfSome result (λ r. StandsIn r.0 domain.now) }
-    ensures serves { IfSome result (λ r. Serves domain.now r.1) }
-{
-    let Ok(stack) = Stack::new(alloc, domain, COMMON_CELL) else {
-        return None;
-    };
-    match pile_in(alloc, domain) {
-        Some(pile) => Some((stack, pile)),
-        None => {
-            stack.close();
-            None
         }
     }
 }

@@ -1,118 +1,115 @@
 //! Four threads, each with a desk of its own, that share a stack or observers.
-ghost use Rattle.std.specs.Prelude.{◌≡◌, ◌+◌, ◌<◌, ◌≤◌, IfSome, MatchOption, length};
+ghost use Rattle.std.specs.Prelude.{◌≡◌, ◌+◌, ◌≤◌, IfSome, MatchOption, length};
 ghost use denote.Param.Send.{IsSync};
 ghost use Rattle.control_block.specs.Desks.{Belongs, IsSameDesk, allowance_of, stock_of};
 ghost use Rattle.scene_structures.specs.Stacks.{Serves, StandsIn};
 
-use crate::attached::attach_all;
-use crate::parts::{opened, pile_in, pop, push, shut};
+use crate::kits::{Kit, kit_in, opened, put_away, shut};
+use crate::listed::{Answer, Call, Seat};
+use crate::running::{answer_of, ask};
 use control_block::desk::Desk;
 use control_block::domain::Domain;
 use control_word::Refused;
-use scene_structures::Stack;
-use shared_handle::Pile;
 use std::alloc::Global;
 use std::sync::Wait;
 use std::test::Fail;
 use std::thread::{Threads, join_mut};
 
-// What each thread does: it pushes 250 nodes and pops till none is found, or it attaches 250 nodes to the subject
-// aside.
+// What each thread does: it pushes 250 nodes and pops till none is found, or it attaches 250 nodes to the subject in
+// seat A.
 #[derive(Clone, Copy, Drop)]
-pub(crate) enum Task {
+enum Task {
     PushAndPop,
     Attach,
 }
 
 // How many nodes came out or were attached, and the sum of the fields of those that came out.
 #[derive(Clone, Copy, Drop)]
-pub(crate) struct Tally {
-    pub(crate) nodes: u64,
-    pub(crate) sum: u64,
+struct Tally {
+    nodes: u64,
+    sum: u64,
 }
 
 impl Tally {
-    pub(crate) fn and(self, other: Tally) -> Tally {
+    fn and(self, other: Tally) -> Tally {
         Tally {
             nodes: self.nodes.wrapping_add(other.nodes),
             sum: self.sum.wrapping_add(other.sum),
         }
     }
+
+    // The same with what a call answered.
+    fn and_answer(self, told: Option<Answer>) -> Tally {
+        match told {
+            Some(Answer::Field(field)) => {
+                self.and(Tally {
+                    nodes: 1,
+                    sum: field,
+                })
+            }
+            Some(Answer::Done) => self.and(Tally { nodes: 1, sum: 0 }),
+            _ => self,
+        }
+    }
 }
 
-pub(crate) const NONE: Tally = Tally { nodes: 0, sum: 0 };
+const NONE: Tally = Tally { nodes: 0, sum: 0 };
 
-// 250 nodes go on top, with fields from the first on.
-fn push_all<R: Wait>(
+// 250 nodes go on top, with fields from the first on, or are attached: how many.
+fn put_all<R: Wait>(
     rt: &R,
+    alloc: Global,
     domain: &Domain<u64>,
     desk: &mut Desk<u64>,
-    stack: &mut Stack<u64>,
+    kit: &mut Kit,
+    task: Task,
     first: u64,
-)
+) -> Tally
     requires domain { Belongs desk.old domain.now }
-    requires stands { StandsIn stack.old domain.now }
-    ensures stands { StandsIn stack.new domain.now }
+    requires cells { domain.now.shape.shared_cells ≡ 5 }
+    requires stands { StandsIn kit.old.stack domain.now × StandsIn kit.old.observers domain.now }
+    requires serves { Serves domain.now kit.old.scene × Serves domain.now kit.old.pile }
+    ensures stands { StandsIn kit.new.stack domain.now × StandsIn kit.new.observers domain.now }
+    ensures serves { Serves domain.now kit.new.scene × Serves domain.now kit.new.pile }
     ensures desk { IsSameDesk desk.old desk.new }
 {
+    let mut all = NONE;
     for number in 0..250u64 {
-        push(rt, domain, desk, stack, first.wrapping_add(number));
+        let call = match task {
+            Task::PushAndPop => Call::Push(first.wrapping_add(number)),
+            Task::Attach => Call::Attach(Seat::A),
+        };
+        all = all.and_answer(answer_of(rt, alloc, domain, desk, kit, call));
     }
+    all
 }
 
 // All nodes come out that are found.
 fn pop_all<R: Wait>(
     rt: &R,
+    alloc: Global,
     domain: &Domain<u64>,
     desk: &mut Desk<u64>,
-    stack: &mut Stack<u64>,
-    pile: &mut Pile<u64>,
+    kit: &mut Kit,
 ) -> Tally
     requires domain { Belongs desk.old domain.now }
-    requires stands { StandsIn stack.old domain.now }
-    requires serves { Serves domain.now pile.old }
+    requires cells { domain.now.shape.shared_cells ≡ 5 }
+    requires stands { StandsIn kit.old.stack domain.now × StandsIn kit.old.observers domain.now }
+    requires serves { Serves domain.now kit.old.scene × Serves domain.now kit.old.pile }
     ensures desk { IsSameDesk desk.old desk.new }
 {
     let mut all = NONE;
     for _ in rt.forever() {
-        let Some(field) = pop(rt, domain, desk, stack, pile) else {
+        let told = answer_of(rt, alloc, domain, desk, kit, Call::Pop(Seat::A));
+        if told == Some(Answer::Nobody) {
             return all;
-        };
-        all = all.and(Tally {
-            nodes: 1,
-            sum: field,
-        });
+        }
+        all = all.and_answer(told);
     }
     unreachable!()
 }
 
-// 250 pushes, and pops till none is found.
-fn push_and_pop<R: Wait>(
-    rt: &R,
-    alloc: Global,
-    domain: &Domain<u64>,
-    desk: &mut Desk<u64>,
-    first: u64,
-) -> Tally
-    requires domain { Belongs desk.old domain.now }
-    requires cell { 0 < domain.now.shape.shared_cells }
-    ensures desk { IsSameDesk desk.old desk.new }
-{
-    let Ok(mut stack) = Stack::new(alloc, domain, 0) else {
-        return NONE;
-    };
-    let Some(mut pile) = pile_in(alloc, domain) else {
-        stack.close();
-        return NONE;
-    };
-    push_all(rt, domain, desk, &mut stack, first);
-    let all = pop_all(rt, domain, desk, &mut stack, &mut pile);
-    stack.close();
-    pile.close();
-    all
-}
-
-// A thread's work.
+// A thread's work, with a kit of its own.
 fn work<R: Wait>(
     rt: &R,
     alloc: Global,
@@ -122,13 +119,19 @@ fn work<R: Wait>(
     first: u64,
 ) -> Tally
     requires domain { Belongs desk.old domain.now }
-    requires cells { domain.now.shape.shared_cells ≡ 2 }
+    requires cells { domain.now.shape.shared_cells ≡ 5 }
     ensures desk { IsSameDesk desk.old desk.new }
 {
-    match task {
-        Task::PushAndPop => push_and_pop(rt, alloc, domain, desk, first),
-        Task::Attach => attach_all(rt, alloc, domain, desk),
-    }
+    let Some(mut kit) = kit_in(alloc, domain) else {
+        return NONE;
+    };
+    let put = put_all(rt, alloc, domain, desk, &mut kit, task, first);
+    let told = match task {
+        Task::PushAndPop => pop_all(rt, alloc, domain, desk, &mut kit),
+        Task::Attach => put,
+    };
+    put_away(kit);
+    told
 }
 
 // Two desks, in a thread each.
@@ -142,7 +145,7 @@ fn both<R: Threads + Wait + Sync>(
     two: &mut Desk<u64>,
 ) -> Tally
     requires domain { Belongs one.old domain.now × Belongs two.old domain.now }
-    requires cells { domain.now.shape.shared_cells ≡ 2 }
+    requires cells { domain.now.shape.shared_cells ≡ 5 }
     ensures one { IsSameDesk one.old one.new }
     ensures two { IsSameDesk two.old two.new }
 {
@@ -195,7 +198,7 @@ fn pair<R: Threads + Wait + Sync>(
     one: &mut Desk<u64>,
 ) -> Tally
     requires domain { Belongs one.old domain.now }
-    requires cells { domain.now.shape.shared_cells ≡ 2 }
+    requires cells { domain.now.shape.shared_cells ≡ 5 }
     requires stock { 250 ≤ length (stock_of one.old) }
     ensures one { IsSameDesk one.old one.new }
 {
@@ -217,7 +220,7 @@ fn both_pairs<R: Threads + Wait + Sync>(
     two: &mut Desk<u64>,
 ) -> Tally
     requires domain { Belongs one.old domain.now × Belongs two.old domain.now }
-    requires cells { domain.now.shape.shared_cells ≡ 2 }
+    requires cells { domain.now.shape.shared_cells ≡ 5 }
     requires stock { (250 ≤ length (stock_of one.old)) × (250 ≤ length (stock_of two.old)) }
     ensures one { IsSameDesk one.old one.new }
     ensures two { IsSameDesk two.old two.new }
@@ -225,12 +228,12 @@ fn both_pairs<R: Threads + Wait + Sync>(
     let (a, b) = join_mut(
         rt,
         &mut || -> Tally
-            requires { IsSync R.row × Belongs one.now domain.now × (domain.now.shape.shared_cells ≡ 2)
+            requires { IsSync R.row × Belongs one.now domain.now × (domain.now.shape.shared_cells ≡ 5)
                 × (250 ≤ length (stock_of one.now)) }
             ensures { IsSameDesk one.entry.now one.exit.now }
         { pair(rt, alloc, domain, task, 0, one) },
         &mut || -> Tally
-            requires { IsSync R.row × Belongs two.now domain.now × (domain.now.shape.shared_cells ≡ 2)
+            requires { IsSync R.row × Belongs two.now domain.now × (domain.now.shape.shared_cells ≡ 5)
                 × (250 ≤ length (stock_of two.now)) }
             ensures { IsSameDesk two.entry.now two.exit.now }
         { pair(rt, alloc, domain, task, 500, two) },
@@ -239,7 +242,7 @@ fn both_pairs<R: Threads + Wait + Sync>(
 }
 
 // The same, with the second pair a part of the desk; and what the desk finds in the end.
-pub(crate) fn four<R: Threads + Wait + Sync>(
+fn four<R: Threads + Wait + Sync>(
     rt: &R,
     alloc: Global,
     domain: &Domain<u64>,
@@ -247,7 +250,7 @@ pub(crate) fn four<R: Threads + Wait + Sync>(
     one: &mut Desk<u64>,
 ) -> Tally
     requires domain { Belongs one.old domain.now }
-    requires cells { domain.now.shape.shared_cells ≡ 2 }
+    requires cells { domain.now.shape.shared_cells ≡ 5 }
     ensures one { IsSameDesk one.old one.new }
 {
     if one.stock() < 1000 {
@@ -263,11 +266,26 @@ pub(crate) fn four<R: Threads + Wait + Sync>(
 
 #[test]
 fn four_threads_pop_each_node_once(rt: HostRuntime) -> Result<(), Fail> {
-    let (domain, mut desk) = opened(rt.alloc(), 1000, 32).ok_or("memory")?;
-    let all = four(&rt, rt.alloc(), &domain, Task::PushAndPop, &mut desk);
+    let alloc = rt.alloc();
+    let (domain, mut desk) = opened(alloc, 1000, 32)?;
+    let all = four(&rt, alloc, &domain, Task::PushAndPop, &mut desk);
+    ask(&rt, alloc, &domain, &mut desk, Call::Reset(Seat::A));
     let stock = shut(domain, desk);
     assert_eq!(rt; all.nodes, 1000);
     assert_eq!(rt; all.sum, 499_500);
     assert_eq!(rt; stock, 1000);
+    Ok(())
+}
+
+#[test]
+fn each_tells_of_all_that_four_threads_attached(rt: HostRuntime) -> Result<(), Fail> {
+    let alloc = rt.alloc();
+    let (domain, mut desk) = opened(alloc, 1001, 32)?;
+    ask(&rt, alloc, &domain, &mut desk, Call::Make(Seat::A, 7));
+    let attached = four(&rt, alloc, &domain, Task::Attach, &mut desk);
+    let told = ask(&rt, alloc, &domain, &mut desk, Call::Each);
+    shut(domain, desk);
+    assert_eq!(rt; attached.nodes, 1000);
+    assert!(rt; matches!(told, Some(Answer::Told(1000, 7000, _))));
     Ok(())
 }

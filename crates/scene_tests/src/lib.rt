@@ -4,33 +4,29 @@
 #[cfg(test)]
 mod accesses;
 #[cfg(test)]
-mod attached;
-#[cfg(test)]
 mod crowd;
 #[cfg(test)]
-mod detached;
+mod handles;
 #[cfg(test)]
-mod families;
+mod kits;
 #[cfg(test)]
 mod large;
 #[cfg(test)]
-mod memory;
+mod listed;
 #[cfg(test)]
-mod misplaced;
+mod lists;
+#[cfg(test)]
+mod memory;
 #[cfg(test)]
 mod observing;
 #[cfg(test)]
-mod parents;
+mod running;
 #[cfg(test)]
-mod parts;
+mod scenes;
 #[cfg(test)]
-mod pruned;
-#[cfg(test)]
-mod refusals;
+mod seats;
 pub mod shapes;
 #[cfg(test)]
 mod stacks;
-#[cfg(test)]
-mod teardowns;
 #[cfg(test)]
 mod trees;

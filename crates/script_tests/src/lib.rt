@@ -12,11 +12,7 @@ mod naming;
 #[cfg(test)]
 mod opening;
 #[cfg(test)]
-mod shelf;
-#[cfg(test)]
 mod steps;
-#[cfg(test)]
-mod texts;
 #[cfg(test)]
 mod worlds;
 #[cfg(test)]

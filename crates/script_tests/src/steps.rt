@@ -1,7 +1,10 @@
-//! Steps and turns of one world, mixed, as no script asks for them.
+//! What no script asks for: steps and turns of one world, mixed, and the shelf's steps on a table.
 use crate::worlds::TestWorld;
+use control_word::{Block, Shape};
 use std::test::Fail;
 use step_core::{Answer, Call, Ended, Name, Said, Stepped, Turned};
+use step_table::extent::Extent;
+use step_table::table::Table;
 
 const A: Name = Name(0);
 
@@ -45,5 +48,24 @@ fn a_turn_ends_what_steps_began(rt: HostRuntime) -> Result<(), Fail> {
     assert!(rt; world.turn() == Turned::Acted(COUNTS));
     assert!(rt; world.turn() == Turned::Done);
     assert!(rt; world.step() == Stepped::Done);
+    Ok(())
+}
+
+#[test]
+fn a_shelved_block_is_taken_once(rt: HostRuntime) -> Result<(), Fail> {
+    let shape = Shape {
+        blocks: 4,
+        shared_cells: 0,
+        weak_cells: 0,
+        allowance: 80,
+    };
+    let mut table = Table::new(rt.alloc(), &Extent { shape, actors: 2 })?;
+    table.shelve(0, Block(1));
+    table.shelve(1, Block(3));
+    assert_eq!(rt; table.look_shelf(0), 0b1010);
+    assert!(rt; table.unshelve(1, Block(1)));
+    assert!(rt; !table.unshelve(0, Block(1)));
+    assert!(rt; table.unshelve(0, Block(3)));
+    assert_eq!(rt; table.look_shelf(0), 0);
     Ok(())
 }

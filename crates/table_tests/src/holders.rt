@@ -3,9 +3,11 @@ use crate::alone::Listed;
 use crate::listed::{Answer, Call};
 use crate::shapes::{alone, shape};
 use control_block::cell_calls::Site;
+use control_block::census::Holders;
 use control_word::Block;
 use control_word::handle::Kind;
 use handle_table::{Cell, SharedMember, run};
+use std::process::Abort;
 use std::test::Fail;
 
 const FREE: Cell = Cell::Shared(0);
@@ -39,30 +41,31 @@ const TANGLE: [(Call, Answer); 12] = [
     (Call::Reset(1), Answer::OthersOwn),
 ];
 
-/// Whether the cell is this member of the object in the block.
-fn is_member(site: Site, block: Block, member: u32) -> bool {
-    match site {
-        Site::Free(_) => false,
-        Site::Member(of, number) => of.0 == block.0 && number == member,
+/// Just these cells hold an object: each by the block that it is a member of, 0 where it is free, and its number.
+fn agree<R: Abort>(rt: &R, holders: &Holders, wanted: &[(u16, u32, Kind)]) {
+    assert_eq!(rt; holders.cells.len(), wanted.len());
+    for (cell, (of, number, kind)) in holders.cells.iter().zip(wanted.iter()) {
+        let site = match cell.site {
+            Site::Free(number) => (0, number),
+            Site::Member(of, member) => (of.0, member),
+        };
+        assert!(rt; site == (*of, *number) && cell.kind == *kind);
     }
+    let forgotten = (holders.forgotten.owners, holders.forgotten.weaks);
+    assert_eq!(rt; forgotten, (0, 0));
 }
 
 #[test]
 fn the_census_tells_who_holds(rt: HostRuntime) -> Result<(), Fail> {
-    let (one, two) = (Block(1), Block(2));
     let program = Listed { calls: &TANGLE };
     let ran = run(&rt, rt.alloc(), shape(2, 1, 0, 8), alone(3, 4, 2), &program)?;
-    let first = ran.census.holders(rt.alloc(), one)?;
-    let second = ran.census.holders(rt.alloc(), two)?;
-    assert_eq!(rt; first.cells.len(), 3);
-    assert!(rt; matches!(first.cells[0].site, Site::Free(0)));
-    assert!(rt; first.cells[0].kind == Kind::Owner);
-    assert!(rt; is_member(first.cells[1].site, two, 0));
-    assert!(rt; is_member(first.cells[2].site, two, 2));
-    assert!(rt; first.cells[2].kind == Kind::Weak);
-    assert_eq!(rt; (first.forgotten.owners, first.forgotten.weaks), (0, 0));
-    assert_eq!(rt; second.cells.len(), 1);
-    assert!(rt; is_member(second.cells[0].site, one, 1));
-    assert_eq!(rt; (second.forgotten.owners, second.forgotten.weaks), (0, 0));
+    let first = ran.census.holders(rt.alloc(), Block(1))?;
+    let second = ran.census.holders(rt.alloc(), Block(2))?;
+    agree(
+        &rt,
+        &first,
+        &[(0, 0, Kind::Owner), (2, 0, Kind::Owner), (2, 2, Kind::Weak)],
+    );
+    agree(&rt, &second, &[(1, 1, Kind::Owner)]);
     Ok(())
 }

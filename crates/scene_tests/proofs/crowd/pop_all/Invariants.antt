@@ -4,7 +4,9 @@ use Rattle.scene_tests.proofs.crowd.pop_all.Given as goal
 
 abbrev pub invariant-loop : goal.invariant-loop
 invariant-loop g l = record {
-  stands : StandsIn l.stack l.domain;
-  serves : Serves l.domain l.pile;
+  stack : StandsIn l.kit.stack l.domain;
+  observers : StandsIn l.kit.observers l.domain;
+  scene : Serves l.domain l.kit.scene;
+  pile : Serves l.domain l.kit.pile;
   same : IsSameDesk l.initial.desk l.desk;
 }

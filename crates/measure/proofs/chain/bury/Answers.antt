@@ -2,7 +2,7 @@ use Rattle.std.proofs.Common.{subst}
 use Rattle.control_block.specs.Desks.{KeepsOtherEndings}
 use Rattle.shared_handle.specs.declared.endings.Ending.{Ending}
 use Rattle.measure.proofs.Nodes.{next_left}
-use Rattle.measure.proofs.next.bury.Goals as goal
+use Rattle.measure.proofs.chain.bury.Goals as goal
 
 pub returns-clause-left : goal.returns-clause-left
 returns-clause-left c =

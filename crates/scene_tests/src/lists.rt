@@ -1,0 +1,199 @@
+//! Calls on a stack and on observers.
+ghost use Rattle.std.specs.Prelude.{◌≡◌};
+ghost use Rattle.control_word.specs.declared.handle.Kind.TheVariants.{Owner};
+ghost use Rattle.control_block.specs.Desks.{Belongs, IsSameDesk, bag_of};
+ghost use Rattle.shared_handle.specs.Calls.{Holds};
+ghost use Rattle.scene_structures.specs.Stacks.{Serves, StandsIn};
+
+use crate::handles::owned;
+use crate::listed::{Answer, Seat};
+use crate::seats::{keep, load, spend};
+use atomic_cells::{SharedAt, SharedMember};
+use control_block::desk::Desk;
+use control_block::domain::Domain;
+use control_word::Refused;
+use scene_structures::{Observers, Stack};
+use shared_handle::{Pile, Shared, read};
+use std::sync::Wait;
+
+/// What a call that was handed a value answers.
+pub(crate) fn handed(told: Result<(), Refused<u64>>) -> Answer {
+    match told {
+        Ok(()) => Answer::Done,
+        Err(refused) => {
+            let Refused { why, back } = refused;
+            Answer::Back(why, back)
+        }
+    }
+}
+
+/// A node with this field and value goes on top.
+pub(crate) fn push<R: Wait>(
+    rt: &R,
+    domain: &Domain<u64>,
+    desk: &mut Desk<u64>,
+    stack: &mut Stack<u64>,
+    field: u64,
+) -> Answer
+    requires domain { Belongs desk.old domain.now }
+    requires stands { StandsIn stack.old domain.now }
+    ensures stands { StandsIn stack.new domain.now }
+    ensures desk { IsSameDesk desk.old desk.new }
+{
+    handed(stack.push(rt, domain, desk, [field, 0, 0, 0], field))
+}
+
+/// The top node goes out and into a seat: its field.
+pub(crate) fn pop<R: Wait>(
+    rt: &R,
+    domain: &Domain<u64>,
+    desk: &mut Desk<u64>,
+    stack: &mut Stack<u64>,
+    seat: Seat,
+    pile: &mut Pile<u64>,
+) -> Answer
+    requires domain { Belongs desk.old domain.now }
+    requires cells { domain.now.shape.shared_cells ≡ 5 }
+    requires stands { StandsIn stack.old domain.now }
+    requires serves { Serves domain.now pile.old }
+    ensures stands { StandsIn stack.new domain.now }
+    ensures serves { Serves domain.now pile.new }
+    ensures desk { IsSameDesk desk.old desk.new }
+{
+    match stack.pop(rt, domain, desk) {
+        Ok(Some(node)) => {
+            let field = read(domain, desk, &node);
+            keep(rt, domain, desk, node, seat, pile);
+            match field {
+                Ok(field) => Answer::Field(field),
+                Err(why) => Answer::Not(why),
+            }
+        }
+        Ok(None) => Answer::Nobody,
+        Err(why) => Answer::Not(why),
+    }
+}
+
+/// The field and the owners of what the `next` of a node in hand owns.
+#[tactic(auto, using(shared_handle::proofs::Callers::first_out))]
+fn next_of<R: Wait>(
+    rt: &R,
+    domain: &Domain<u64>,
+    desk: &mut Desk<u64>,
+    node: &Shared,
+    pile: &mut Pile<u64>,
+) -> Answer
+    requires domain { Belongs desk.old domain.now }
+    requires serves { Serves domain.now pile.old }
+    requires holds { Holds desk.old Owner node.now.block node.now.place }
+    ensures serves { Serves domain.now pile.new }
+    ensures desk { IsSameDesk desk.old desk.new }
+    ensures bag { bag_of desk.new ≡ bag_of desk.old }
+    ensures held { desk.new.held ≡ desk.old.held }
+{
+    let Ok(next) = SharedAt::member(node, SharedMember::Next) else {
+        return Answer::Nobody;
+    };
+    match next.load(rt, domain, desk) {
+        Ok(below) => owned(rt, domain, desk, below, pile),
+        Err(why) => Answer::Not(why),
+    }
+}
+
+/// The same of a node in a seat.
+pub(crate) fn below<R: Wait>(
+    rt: &R,
+    domain: &Domain<u64>,
+    desk: &mut Desk<u64>,
+    seat: Seat,
+    pile: &mut Pile<u64>,
+) -> Answer
+    requires domain { Belongs desk.old domain.now }
+    requires cells { domain.now.shape.shared_cells ≡ 5 }
+    requires serves { Serves domain.now pile.old }
+    ensures serves { Serves domain.now pile.new }
+    ensures desk { IsSameDesk desk.old desk.new }
+{
+    match load(rt, domain, desk, seat) {
+        Ok(node) => {
+            let told = next_of(rt, domain, desk, &node, pile);
+            spend(rt, domain, desk, node, pile);
+            told
+        }
+        Err(why) => Answer::Not(why),
+    }
+}
+
+/// A node with value 9 is attached to the subject in a seat.
+pub(crate) fn attach<R: Wait>(
+    rt: &R,
+    domain: &Domain<u64>,
+    desk: &mut Desk<u64>,
+    observers: &mut Observers<u64>,
+    seat: Seat,
+    pile: &mut Pile<u64>,
+) -> Answer
+    requires domain { Belongs desk.old domain.now }
+    requires cells { domain.now.shape.shared_cells ≡ 5 }
+    requires stands { StandsIn observers.old domain.now }
+    requires serves { Serves domain.now pile.old }
+    ensures stands { StandsIn observers.new domain.now }
+    ensures serves { Serves domain.now pile.new }
+    ensures desk { IsSameDesk desk.old desk.new }
+{
+    match load(rt, domain, desk, seat) {
+        Ok(subject) => {
+            let told = observers.attach(rt, domain, desk, &subject, 9);
+            spend(rt, domain, desk, subject, pile);
+            handed(told)
+        }
+        Err(why) => Answer::Not(why),
+    }
+}
+
+/// What `each` tells.
+pub(crate) fn each<R: Wait>(
+    rt: &R,
+    domain: &Domain<u64>,
+    desk: &mut Desk<u64>,
+    observers: &mut Observers<u64>,
+) -> Answer
+    requires domain { Belongs desk.old domain.now }
+    requires stands { StandsIn observers.old domain.now }
+    ensures stands { StandsIn observers.new domain.now }
+    ensures desk { IsSameDesk desk.old desk.new }
+{
+    let mut nodes = 0u64;
+    let mut sum = 0u64;
+    let mut digits = 0u64;
+    let each = observers.each(rt, domain, desk, |field: u64| {
+        nodes = nodes.wrapping_add(1);
+        sum = sum.wrapping_add(field);
+        digits = digits.wrapping_mul(100).wrapping_add(field)
+    });
+    match each {
+        Ok(()) => Answer::Told(nodes, sum, digits),
+        Err(why) => Answer::Not(why),
+    }
+}
+
+/// How many nodes a prune lets go; a desk that isn't sole has none.
+pub(crate) fn prune<R: Wait>(
+    rt: &R,
+    domain: &Domain<u64>,
+    desk: &mut Desk<u64>,
+    observers: &mut Observers<u64>,
+) -> Answer
+    requires domain { Belongs desk.old domain.now }
+    requires stands { StandsIn observers.old domain.now }
+    ensures stands { StandsIn observers.new domain.now }
+    ensures desk { IsSameDesk desk.old desk.new }
+{
+    if !desk.is_sole(domain) {
+        return Answer::Nobody;
+    }
+    match observers.prune(rt, domain, desk) {
+        Ok(went) => Answer::Count(went),
+        Err(why) => Answer::Not(why),
+    }
+}

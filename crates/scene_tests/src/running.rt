@@ -1,0 +1,135 @@
+//! Lists of calls, made by a desk with a kit.
+ghost use Rattle.std.specs.Prelude.{◌≡◌};
+ghost use Rattle.control_block.specs.Desks.{Belongs, IsSameDesk};
+ghost use Rattle.scene_structures.specs.Stacks.{Serves, StandsIn};
+
+use crate::handles::on_handles;
+use crate::kits::{Kit, kit_in, opened, put_away, shut};
+use crate::listed::{Answer, Call};
+use crate::lists::{attach, below, each, pop, prune, push};
+use crate::scenes::on_scene;
+use control_block::desk::Desk;
+use control_block::domain::Domain;
+use control_word::Refusal;
+use std::alloc::Global;
+use std::process::Abort;
+use std::sync::Wait;
+use std::test::Fail;
+
+/// What a call on the stack or the observers answers.
+fn on_lists<R: Wait>(
+    rt: &R,
+    domain: &Domain<u64>,
+    desk: &mut Desk<u64>,
+    kit: &mut Kit,
+    call: Call,
+) -> Option<Answer>
+    requires domain { Belongs desk.old domain.now }
+    requires cells { domain.now.shape.shared_cells ≡ 5 }
+    requires stands { StandsIn kit.old.stack domain.now × StandsIn kit.old.observers domain.now }
+    requires serves { Serves domain.now kit.old.scene × Serves domain.now kit.old.pile }
+    ensures stands { StandsIn kit.new.stack domain.now × StandsIn kit.new.observers domain.now }
+    ensures serves { Serves domain.now kit.new.scene × Serves domain.now kit.new.pile }
+    ensures desk { IsSameDesk desk.old desk.new }
+{
+    Some(match call {
+        Call::Push(field) => push(rt, domain, desk, &mut kit.stack, field),
+        Call::Pop(seat) => pop(rt, domain, desk, &mut kit.stack, seat, &mut kit.pile),
+        Call::Below(seat) => below(rt, domain, desk, seat, &mut kit.pile),
+        Call::Attach(seat) => { attach(rt, domain, desk, &mut kit.observers, seat, &mut kit.pile) }
+        Call::Each => each(rt, domain, desk, &mut kit.observers),
+        Call::Prune => prune(rt, domain, desk, &mut kit.observers),
+        _ => return None,
+    })
+}
+
+/// What a call answers.
+pub(crate) fn answer_of<R: Wait>(
+    rt: &R,
+    alloc: Global,
+    domain: &Domain<u64>,
+    desk: &mut Desk<u64>,
+    kit: &mut Kit,
+    call: Call,
+) -> Option<Answer>
+    requires domain { Belongs desk.old domain.now }
+    requires cells { domain.now.shape.shared_cells ≡ 5 }
+    requires stands { StandsIn kit.old.stack domain.now × StandsIn kit.old.observers domain.now }
+    requires serves { Serves domain.now kit.old.scene × Serves domain.now kit.old.pile }
+    ensures stands { StandsIn kit.new.stack domain.now × StandsIn kit.new.observers domain.now }
+    ensures serves { Serves domain.now kit.new.scene × Serves domain.now kit.new.pile }
+    ensures desk { IsSameDesk desk.old desk.new }
+{
+    if let Some(answer) = on_handles(rt, domain, desk, &mut kit.pile, call) {
+        return Some(answer);
+    }
+    if let Some(answer) = on_lists(rt, domain, desk, kit, call) {
+        return Some(answer);
+    }
+    on_scene(rt, alloc, domain, desk, &mut kit.scene, &mut kit.pile, call)
+}
+
+/// What a desk's one call answers, with a kit of its own; none where there is no memory.
+pub(crate) fn ask<R: Wait>(
+    rt: &R,
+    alloc: Global,
+    domain: &Domain<u64>,
+    desk: &mut Desk<u64>,
+    call: Call,
+) -> Option<Answer>
+    requires domain { Belongs desk.old domain.now }
+    requires cells { domain.now.shape.shared_cells ≡ 5 }
+    ensures desk { IsSameDesk desk.old desk.new }
+{
+    let mut kit = kit_in(alloc, domain)?;
+    let told = answer_of(rt, alloc, domain, desk, &mut kit, call);
+    put_away(kit);
+    told
+}
+
+/// The call of this number answered what it should.
+fn agree<R: Abort>(rt: &R, number: usize, told: Option<Answer>, wanted: Answer) {
+    assert_eq!(rt; told, Some(wanted), "call {number} of a list");
+}
+
+/// Calls, each of which answers what stands beside it.
+pub(crate) fn all<R: Abort + Wait>(
+    rt: &R,
+    alloc: Global,
+    domain: &Domain<u64>,
+    desk: &mut Desk<u64>,
+    kit: &mut Kit,
+    calls: &[(Call, Answer)],
+)
+    requires domain { Belongs desk.old domain.now }
+    requires cells { domain.now.shape.shared_cells ≡ 5 }
+    requires stands { StandsIn kit.old.stack domain.now × StandsIn kit.old.observers domain.now }
+    requires serves { Serves domain.now kit.old.scene × Serves domain.now kit.old.pile }
+    ensures stands { StandsIn kit.new.stack domain.now × StandsIn kit.new.observers domain.now }
+    ensures serves { Serves domain.now kit.new.scene × Serves domain.now kit.new.pile }
+    ensures desk { IsSameDesk desk.old desk.new }
+{
+    for (number, (call, wanted)) in calls.iter().enumerate() {
+        let told = answer_of(rt, alloc, domain, desk, kit, *call);
+        agree(rt, number, told, *wanted);
+    }
+}
+
+/// The calls of a desk that is alone in a domain of so many blocks and handles.
+pub(crate) fn alone<R: Abort + Wait>(
+    rt: &R,
+    alloc: Global,
+    blocks: u32,
+    allowance: u32,
+    calls: &[(Call, Answer)],
+) -> Result<(), Fail> {
+    let (domain, mut desk) = opened(alloc, blocks, allowance)?;
+    let Some(mut kit) = kit_in(alloc, &domain) else {
+        shut(domain, desk);
+        return Err(Refusal::Memory.into());
+    };
+    all(rt, alloc, &domain, &mut desk, &mut kit, calls);
+    put_away(kit);
+    shut(domain, desk);
+    Ok(())
+}

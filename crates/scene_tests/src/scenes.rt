@@ -1,0 +1,227 @@
+//! Calls on a scene, with nodes in seats.
+ghost use Rattle.std.specs.Prelude.{◌≡◌, []};
+ghost use Rattle.control_word.specs.declared.handle.Kind.TheVariants.{Owner};
+ghost use Rattle.control_block.specs.Desks.{Belongs, IsSameDesk, bag_of};
+ghost use Rattle.shared_handle.specs.Calls.{Holds};
+ghost use Rattle.scene_structures.specs.Stacks.{Serves};
+
+use crate::handles::take;
+use crate::listed::{Answer, Call, Seat};
+use crate::seats::{keep, load, spend};
+use control_block::desk::Desk;
+use control_block::domain::Domain;
+use control_word::Refused;
+use scene_structures::Scene;
+use shared_handle::{Pile, Shared, read};
+use std::alloc::Global;
+use std::sync::Wait;
+
+/// The node in a seat gets a child, which goes into another.
+fn add_child<R: Wait>(
+    rt: &R,
+    domain: &Domain<u64>,
+    desk: &mut Desk<u64>,
+    scene: &mut Scene<u64>,
+    of: Seat,
+    value: u64,
+    to: Seat,
+    pile: &mut Pile<u64>,
+) -> Answer
+    requires domain { Belongs desk.old domain.now }
+    requires cells { domain.now.shape.shared_cells ≡ 5 }
+    requires scene { Serves domain.now scene.old }
+    requires serves { Serves domain.now pile.old }
+    ensures scene { Serves domain.now scene.new }
+    ensures serves { Serves domain.now pile.new }
+    ensures desk { IsSameDesk desk.old desk.new }
+{
+    let parent = match load(rt, domain, desk, of) {
+        Ok(parent) => parent,
+        Err(why) => return Answer::Not(why),
+    };
+    match scene.add_child(rt, domain, desk, &parent, [value, 0, 0, 0], value) {
+        Ok(child) => {
+            spend(rt, domain, desk, parent, pile);
+            keep(rt, domain, desk, child, to, pile);
+            Answer::Done
+        }
+        Err(refused) => {
+            spend(rt, domain, desk, parent, pile);
+            let Refused { why, back } = refused;
+            Answer::Back(why, back)
+        }
+    }
+}
+
+/// The field of the parent of a node in hand.
+#[tactic(auto, using(shared_handle::proofs::Callers::first_out))]
+fn parent_of<R: Wait>(
+    rt: &R,
+    domain: &Domain<u64>,
+    desk: &mut Desk<u64>,
+    scene: &Scene<u64>,
+    node: &Shared,
+    pile: &mut Pile<u64>,
+) -> Answer
+    requires domain { Belongs desk.old domain.now }
+    requires serves { Serves domain.now pile.old }
+    requires holds { Holds desk.old Owner node.now.block node.now.place }
+    ensures serves { Serves domain.now pile.new }
+    ensures desk { IsSameDesk desk.old desk.new }
+    ensures bag { bag_of desk.new ≡ bag_of desk.old }
+    ensures held { desk.new.held ≡ desk.old.held }
+{
+    match scene.parent(rt, domain, desk, node) {
+        Ok(parent) => {
+            let field = read(domain, desk, &parent);
+            spend(rt, domain, desk, parent, pile);
+            match field {
+                Ok(field) => Answer::Field(field),
+                Err(_) => Answer::Nobody,
+            }
+        }
+        Err(why) => Answer::Not(why),
+    }
+}
+
+/// The field of the parent of a node in a seat.
+fn parent<R: Wait>(
+    rt: &R,
+    domain: &Domain<u64>,
+    desk: &mut Desk<u64>,
+    scene: &Scene<u64>,
+    seat: Seat,
+    pile: &mut Pile<u64>,
+) -> Answer
+    requires domain { Belongs desk.old domain.now }
+    requires cells { domain.now.shape.shared_cells ≡ 5 }
+    requires serves { Serves domain.now pile.old }
+    ensures serves { Serves domain.now pile.new }
+    ensures desk { IsSameDesk desk.old desk.new }
+{
+    match load(rt, domain, desk, seat) {
+        Ok(node) => {
+            let told = parent_of(rt, domain, desk, scene, &node, pile);
+            spend(rt, domain, desk, node, pile);
+            told
+        }
+        Err(why) => Answer::Not(why),
+    }
+}
+
+/// The node in a seat goes out of its parent's children.
+fn detach<R: Wait>(
+    rt: &R,
+    domain: &Domain<u64>,
+    desk: &mut Desk<u64>,
+    scene: &mut Scene<u64>,
+    seat: Seat,
+    pile: &mut Pile<u64>,
+) -> Answer
+    requires domain { Belongs desk.old domain.now }
+    requires cells { domain.now.shape.shared_cells ≡ 5 }
+    requires scene { Serves domain.now scene.old }
+    requires serves { Serves domain.now pile.old }
+    ensures scene { Serves domain.now scene.new }
+    ensures serves { Serves domain.now pile.new }
+    ensures desk { IsSameDesk desk.old desk.new }
+{
+    let node = match load(rt, domain, desk, seat) {
+        Ok(node) => node,
+        Err(why) => return Answer::Not(why),
+    };
+    let told = scene.detach(rt, domain, desk, &node);
+    spend(rt, domain, desk, node, pile);
+    match told {
+        Ok(()) => Answer::Done,
+        Err(why) => Answer::Not(why),
+    }
+}
+
+/// Waits until nothing is left on the scene's pile.
+fn settled<R: Wait>(rt: &R, scene: &Scene<u64>)
+    ensures { scene.now.endings.items ≡ [] }
+{
+    for _ in rt.forever() {
+        if scene.is_settled() {
+            return;
+        }
+    }
+    unreachable!()
+}
+
+/// The values of what ends by the root in a seat; where memory is refused, the root is there again.
+pub(crate) fn tear_down<R: Wait>(
+    rt: &R,
+    alloc: Global,
+    domain: &Domain<u64>,
+    desk: &mut Desk<u64>,
+    scene: &mut Scene<u64>,
+    seat: Seat,
+    pile: &mut Pile<u64>,
+) -> Result<Vec<u64>, Answer>
+    requires domain { Belongs desk.old domain.now }
+    requires cells { domain.now.shape.shared_cells ≡ 5 }
+    requires scene { Serves domain.now scene.old }
+    requires serves { Serves domain.now pile.old }
+    ensures scene { Serves domain.now scene.new }
+    ensures serves { Serves domain.now pile.new }
+    ensures desk { IsSameDesk desk.old desk.new }
+{
+    let root = match take(domain, desk, seat) {
+        Ok(root) => root,
+        Err(why) => return Err(Answer::Not(why)),
+    };
+    match scene.teardown(alloc, domain, desk, root) {
+        Ok(values) => {
+            settled(rt, scene);
+            Ok(values)
+        }
+        Err(refused) => {
+            let Refused { why, back } = refused;
+            keep(rt, domain, desk, back, seat, pile);
+            Err(Answer::Not(why))
+        }
+    }
+}
+
+/// What ended, as digits.
+fn ended(told: Result<Vec<u64>, Answer>) -> Answer {
+    match told {
+        Ok(values) => {
+            let digits = values.iter().fold(
+                0u64,
+                |all, value| all.wrapping_mul(10).wrapping_add(*value),
+            );
+            Answer::Values(digits)
+        }
+        Err(answer) => answer,
+    }
+}
+
+/// What a call on a scene answers.
+pub(crate) fn on_scene<R: Wait>(
+    rt: &R,
+    alloc: Global,
+    domain: &Domain<u64>,
+    desk: &mut Desk<u64>,
+    scene: &mut Scene<u64>,
+    pile: &mut Pile<u64>,
+    call: Call,
+) -> Option<Answer>
+    requires domain { Belongs desk.old domain.now }
+    requires cells { domain.now.shape.shared_cells ≡ 5 }
+    requires scene { Serves domain.now scene.old }
+    requires serves { Serves domain.now pile.old }
+    ensures scene { Serves domain.now scene.new }
+    ensures serves { Serves domain.now pile.new }
+    ensures desk { IsSameDesk desk.old desk.new }
+{
+    Some(match call {
+        Call::AddChild(of, value, to) => add_child(rt, domain, desk, scene, of, value, to, pile),
+        Call::Parent(seat) => parent(rt, domain, desk, scene, seat, pile),
+        Call::Detach(seat) => detach(rt, domain, desk, scene, seat, pile),
+        Call::Teardown(seat) => ended(tear_down(rt, alloc, domain, desk, scene, seat, pile)),
+        _ => return None,
+    })
+}
