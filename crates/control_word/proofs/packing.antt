@@ -1,3 +1,4 @@
+pub mod Bits
 pub mod Cells
 pub mod Fields
 pub mod Halves

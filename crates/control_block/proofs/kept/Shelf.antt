@@ -1,16 +1,16 @@
 -- The shelf: a look at a word of it, a block that goes there, and one that is taken from it.
-use Rattle.std.proofs.Common.{◌≡◌, ℕ, ◌+◌, ◌*◌, ◌/◌, ◌%◌, ◌^◌, ◌<◌, ◌==◌, not, cond, Bool, true, false}
-use Rattle.std.proofs.Common.{true≢false, ◌∷◌, ◌++◌, get_or, set, map}
-use Rattle.std.proofs.Common.{None, Option, refl, sym, ap, subst, ◌∙◌, ⊎_elim, arith, eq-eqb, ne_eqb}
+use Rattle.std.proofs.Common.{◌≡◌, ℕ, ◌/◌, ◌%◌, ◌^◌, ◌<◌, ◌==◌, not, true, false}
+use Rattle.std.proofs.Common.{true≢false, ◌∷◌, get_or, set, map}
+use Rattle.std.proofs.Common.{None, Option, refl, sym, ap, subst, ◌∙◌, ⊎_elim, arith}
 use Rattle.std.proofs.lemmas.Bool.{cases_eq}
-use Rattle.std.proofs.lemmas.Nat.{pow_pos}
-use Rattle.std.proofs.lemmas.Nat.Bits.{and_pow, bit_at-lt}
+use Rattle.std.proofs.lemmas.Nat.Bits.{bit_at-lt}
 use Rattle.std.specs.Int.{bit_at, bit_not, w64}
 use Rattle.std.specs.Prelude.{bit_and, bit_or}
 use Rattle.atomic_table.specs.Table as Table
 use Rattle.atomic_table.specs.Table.{Allows, keeps, step}
 use mathlib.Core.Option.{none, some}
 use lib.ListN.{get_elem?}
+use Rattle.control_word.proofs.packing.Bits.{bit_tells}
 use Rattle.control_word.proofs.steps.Shelf as law
 use Rattle.control_word.specs.Histories.{IsLegal, entry, leads}
 use Rattle.control_word.specs.Layout.{bit_of}
@@ -28,16 +28,6 @@ use Rattle.control_block.specs.declared.board.Sight.{Sight}
 use Rattle.control_block.proofs.CellRounds.{rested}
 use Rattle.control_block.proofs.Passage.{adds, allows_event, knows, plain, point, quiet_next, ready, still_stored}
 use Rattle.control_block.proofs.Still.{moved_on, unmoved}
-
--- a test of the bit
-pub bit_tells : (n j : ℕ) (x : Bool) → bit_at n j ≡ cond x 1 0 → not (bit_and n (2 ^ j) == 0) ≡ x
-bit_tells n j x is = go x (and_pow n j ∙ ap (λ m. m * 2 ^ j) is)
-  where
-    go : (y : Bool) → bit_and n (2 ^ j) ≡ cond y 1 0 * 2 ^ j → not (bit_and n (2 ^ j) == 0) ≡ y
-    go true e =
-        let p = pow_pos j in
-        ap not (ne_eqb (bit_and n (2 ^ j)) 0 (λ z. let q : bit_and n (2 ^ j) ≡ 2 ^ j = omega (arith, e) in absurd (omega arith)))
-    go false e = let q : bit_and n (2 ^ j) ≡ 0 = omega (arith, e) in ap not (eq-eqb (bit_and n (2 ^ j)) 0 q)
 
 pub told_set : (n j a : ℕ) → a ≡ 2 ^ j → not (bit_and n a == 0) ≡ true → bit_at n j ≡ 1
 told_set n j a is e =

@@ -1,8 +1,6 @@
 -- The steps on a word of the shelf.
-use Rattle.std.proofs.Common.{◌≡◌, ℕ, ◌*◌, ◌%◌, ◌^◌, ◌<◌, Bool, true, false, cond, ◌==◌, not, List, length, set, get_or, eq-eqb}
-use Rattle.std.proofs.Common.{ne_eqb, refl, sym, ap, subst, ◌∙◌, arith}
-use Rattle.std.proofs.lemmas.Nat.{pow_pos}
-use Rattle.std.proofs.lemmas.Nat.Bits.{and_pow}
+use Rattle.std.proofs.Common.{◌≡◌, ℕ, ◌%◌, ◌<◌, Bool, true, false, cond, List, length, set, get_or}
+use Rattle.std.proofs.Common.{refl, sym, ap, subst, ◌∙◌, arith}
 use Rattle.std.specs.Int.{bit_at, bit_not, w64}
 use Rattle.std.specs.Prelude.{bit_and}
 use Rattle.control_word.proofs.steps.Shelf.{shelves', unshelves'}
@@ -38,16 +36,6 @@ shown_bit v b kept low = kept.stands.shows.shelf b low
 
 pub inside_shelf : (v : Story) (b : ℕ) → Kept v → b < 65536 → shelf_spot (opening v.extent) b < length v.words
 inside_shelf v b kept low = let s = kept.stands.shows.sized in omega arith
-
--- a test of the bit
-pub bit_tells : (n j : ℕ) (x : Bool) → bit_at n j ≡ cond x 1 0 → not (bit_and n (2 ^ j) == 0) ≡ x
-bit_tells n j x is = go x (and_pow n j ∙ ap (λ m. m * 2 ^ j) is)
-  where
-    go : (y : Bool) → bit_and n (2 ^ j) ≡ cond y 1 0 * 2 ^ j → not (bit_and n (2 ^ j) == 0) ≡ y
-    go true e =
-        let p = pow_pos j in
-        ap not (ne_eqb (bit_and n (2 ^ j)) 0 (λ z. let q : bit_and n (2 ^ j) ≡ 2 ^ j = omega (arith, e) in absurd (omega arith)))
-    go false e = let q : bit_and n (2 ^ j) ≡ 0 = omega (arith, e) in ap not (eq-eqb (bit_and n (2 ^ j)) 0 q)
 
 -- the words after a bit is cleared
 pub cleared_words : (z : Opening) (words : List ℕ) (b : Block) (x : Bool)

@@ -5,7 +5,8 @@ use Rattle.step_table.specs.declared.shelf.ShelfDeed.TheVariants.{Unshelve, Miss
 use Rattle.step_table.specs.Openings.{opening}
 use Rattle.step_table.specs.declared.shelf.ShelfDeed.{ShelfDeed}
 use Rattle.step_table.specs.Stories.{Story, Kept, history_after, state, views_after}
-use Rattle.step_table.proofs.tables.Shelf.{bit_tells, cleared_words, found_on, kept_unshelve, shown_bit}
+use Rattle.control_word.proofs.packing.Bits.{bit_tells}
+use Rattle.step_table.proofs.tables.Shelf.{cleared_words, found_on, kept_unshelve, shown_bit}
 use Rattle.step_table.proofs.tables.Standing.{found, kept_as, kept_now}
 use Rattle.step_table.proofs.table.Table.unshelve.Goals as goal
 
