@@ -1,6 +1,6 @@
 //! Accesses whose memory is refused and which are sought once more, and what a domain with a kit takes of memory.
 //! `tests/refuse_allocations` runs the first with each allocation refused in turn, and compares how many allocations
-//! other tests ask for, whose calls take no memory, with the one that makes no call.
+//! other tests ask for, whose calls take no memory, with those that make no call.
 use crate::kits::{kit_in, opened, put_away, shut};
 use crate::listed::{Answer, Call, Seat};
 use crate::running::{all, alone};
@@ -54,6 +54,16 @@ fn the_calls_on_each_structure_take_no_memory(rt: HostRuntime) -> Result<(), Fai
 }
 
 #[test]
-fn a_desk_makes_no_call(rt: HostRuntime) -> Result<(), Fail> {
+fn a_desk_of_two_blocks_makes_no_call(rt: HostRuntime) -> Result<(), Fail> {
+    alone(&rt, rt.alloc(), 2, 8, &[])
+}
+
+#[test]
+fn a_desk_of_three_blocks_makes_no_call(rt: HostRuntime) -> Result<(), Fail> {
+    alone(&rt, rt.alloc(), 3, 8, &[])
+}
+
+#[test]
+fn a_desk_of_six_blocks_makes_no_call(rt: HostRuntime) -> Result<(), Fail> {
     alone(&rt, rt.alloc(), 6, 8, &[])
 }

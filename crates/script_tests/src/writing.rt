@@ -129,6 +129,15 @@ fn a_writer_that_fails_at_some_write(rt: HostRuntime) -> Result<(), Fail> {
     Ok(())
 }
 
+/// The text of the script that this text reads as.
+fn printed_again(alloc: Global, text: &[u8]) -> Result<String, Fail> {
+    let script = parse(alloc, text)?;
+    match print(alloc, &script) {
+        Ok(printed) => Ok(printed),
+        Err(_) => Err(Fail::from("memory")),
+    }
+}
+
 #[test]
 fn canonical_texts(rt: HostRuntime) -> Result<(), Fail> {
     let cases: [(&[u8], &str); 10] = [
@@ -181,11 +190,9 @@ weak w a\nstore s.up w\nload v s.up\ncompare a.first c s\ncompare_weak s.first c
         ),
     ];
     for (text, canonical) in cases {
-        let script = parse(rt.alloc(), text)?;
-        let printed = print(rt.alloc(), &script).map_err(|_| Fail::from("memory"))?;
+        let printed = printed_again(rt.alloc(), text)?;
         assert_eq!(rt; printed.as_str(), canonical);
-        let again = parse(rt.alloc(), printed.as_bytes())?;
-        let reprinted = print(rt.alloc(), &again).map_err(|_| Fail::from("memory"))?;
+        let reprinted = printed_again(rt.alloc(), printed.as_bytes())?;
         assert_eq!(rt; reprinted.as_str(), canonical);
     }
     Ok(())
