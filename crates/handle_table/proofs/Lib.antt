@@ -10,3 +10,4 @@ pub mod Letting
 pub mod Absorbing
 pub mod Crews
 pub mod Manning
+pub mod Structured

@@ -13,3 +13,4 @@ pub mod Programs
 pub mod Leading
 pub mod Staffs
 pub mod Peeks
+pub mod Structures

@@ -13,6 +13,7 @@ mod parting;
 mod program;
 mod slots;
 mod staff;
+mod structures;
 mod table;
 
 pub use atomic_cells::SharedMember;
@@ -24,4 +25,5 @@ pub use looks::Peeked;
 pub use program::{Crew, Manned, Program, Ran, Team, run};
 pub use shared_handle::{Gone, Round};
 pub use staff::{Share, Work, run_workers};
+pub use structures::{TableObservers, TableScene, TableStack};
 pub use table::{HandleTable, Home};

@@ -22,3 +22,4 @@ mod walking;
 pub use observers::Observers;
 pub use scene::Scene;
 pub use stack::Stack;
+pub use teardown::tear_down;

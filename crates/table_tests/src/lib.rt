@@ -30,6 +30,8 @@ mod members;
 #[cfg(test)]
 mod memory;
 #[cfg(test)]
+mod observers;
+#[cfg(test)]
 mod pointers;
 pub mod shapes;
 #[cfg(test)]
@@ -37,8 +39,12 @@ mod slots;
 #[cfg(test)]
 mod splits;
 #[cfg(test)]
+mod stacks;
+#[cfg(test)]
 mod staff;
 #[cfg(test)]
 mod teams;
 #[cfg(test)]
 mod threads;
+#[cfg(test)]
+mod trees;

@@ -69,21 +69,21 @@ pub(crate) enum Was {
     Last,
 }
 
-fn done(told: Result<(), Fault>) -> Answer {
+pub(crate) fn done(told: Result<(), Fault>) -> Answer {
     match told {
         Ok(()) => Answer::Done,
         Err(why) => Answer::Not(why),
     }
 }
 
-fn is(told: Result<bool, Fault>) -> Answer {
+pub(crate) fn is(told: Result<bool, Fault>) -> Answer {
     match told {
         Ok(is) => Answer::Is(is),
         Err(why) => Answer::Not(why),
     }
 }
 
-fn count(told: Result<u32, Fault>) -> Answer {
+pub(crate) fn count(told: Result<u32, Fault>) -> Answer {
     match told {
         Ok(owners) => Answer::Count(owners),
         Err(why) => Answer::Not(why),
@@ -135,7 +135,7 @@ fn ended(round: Round<u64>) -> Answer {
 }
 
 /// Of a call that was handed this value.
-fn handed(told: Result<(), Returned<u64>>, value: u64) -> Answer {
+pub(crate) fn handed(told: Result<(), Returned<u64>>, value: u64) -> Answer {
     match told {
         Ok(()) => Answer::Done,
         Err(returned) if returned.back == value => Answer::Not(returned.why),
@@ -242,7 +242,7 @@ pub(crate) fn answer_of<R: Wait, H: Home>(
 }
 
 /// The call of this number answered what it should.
-fn agree<R: Abort>(rt: &R, number: usize, told: Option<Answer>, wanted: Answer) {
+pub(crate) fn agree<R: Abort>(rt: &R, number: usize, told: Option<Answer>, wanted: Answer) {
     assert_eq!(rt; told, Some(wanted), "call {number} of a list");
 }
 

@@ -12,14 +12,16 @@ use std::sync::Wait;
 use std::test::Fail;
 use std::thread::Threads;
 
+mod structures;
+
 /// Slots 0 and 2 get owners of one object.
-const BEGIN: [(Call, Answer); 2] = [
+pub(crate) const BEGIN: [(Call, Answer); 2] = [
     (Call::Make(0, [1; 4], false, 1), Answer::Done),
     (Call::Copy(0, 2), Answer::Done),
 ];
 
 /// The table has its handles, its whole allowance and its vacant block.
-const HAS_ALL: [(Call, Answer); 5] = [
+pub(crate) const HAS_ALL: [(Call, Answer); 5] = [
     (Call::Read(0), Answer::Field(1)),
     (Call::UseCount(2), Answer::Count(2)),
     (Call::Make(1, [3; 4], false, 3), Answer::Done),

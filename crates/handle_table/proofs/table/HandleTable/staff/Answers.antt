@@ -1,4 +1,3 @@
-use Rattle.std.proofs.Common.{◌≡◌, ap, length, subst, sym, ◌∙◌, arith}
 use Rattle.handle_table.proofs.Manning.{staffed}
 use Rattle.handle_table.proofs.table.HandleTable.staff.Goals as goal
 

@@ -1,0 +1,23 @@
+use Rattle.std.proofs.Common.{refl}
+use Rattle.control_word.specs.declared.event.Cell.TheVariants.{Free}
+use Rattle.control_block.specs.Own.{IsSole}
+use Rattle.scene_structures.specs.Walks.{IsTold, WalksOver}
+use Rattle.handle_table.proofs.Structured.{desk_does, whole_still}
+use Rattle.handle_table.proofs.Wholes.{seen}
+use Rattle.handle_table.proofs.table.HandleTable.each.Goals as goal
+
+pub invariant_of-self : goal.invariant_of-self
+invariant_of-self g c =
+    let e = c.each.ensures in
+    whole_still _ c.self.inside.domain.now c.self.inside.desk c.each.new.desk c.self.inside.slots.items c.self.inside.pile c.self.invariant
+    e.desk e.endings e.count e.bag e.held
+
+pub returns-in-Ok-clause-told : goal.returns-in-Ok-clause-told
+returns-in-Ok-clause-told g c =
+    let e = c.in-Ok.ensures in let w = e.own in let ss = c.self.inside.slots.items in (
+      w.0,
+      desk_does (λ n d f. WalksOver d (Free n) w.0 f × (IsSole d → IsTold d (Free n) w.0 f))
+          (seen c.self.inside.desk ss c.self.inside.pile) c.args.self.now (seen c.each.new.desk ss c.self.inside.pile)
+          c.observers.inside.observers c.args.observers.now (λ near. absurd (cc (e.limit.1 near))) (w.1, w.3) refl refl c.self.view_is c.observers.view_is,
+      w.2,
+    )

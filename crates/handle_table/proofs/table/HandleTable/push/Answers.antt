@@ -1,0 +1,20 @@
+use Rattle.std.proofs.Common.{refl}
+use Rattle.control_word.specs.declared.event.Cell.TheVariants.{Free}
+use Rattle.control_block.specs.Own.{IsSole}
+use Rattle.scene_structures.specs.Stacks.{IsPushed, Pushes}
+use Rattle.handle_table.proofs.Structured.{desk_does, whole_still}
+use Rattle.handle_table.proofs.Wholes.{seen}
+use Rattle.handle_table.proofs.table.HandleTable.push.Goals as goal
+
+pub invariant_of-self : goal.invariant_of-self
+invariant_of-self g c =
+    let e = c.push.ensures in
+    whole_still _ c.self.inside.domain.now c.self.inside.desk c.push.new.desk c.self.inside.slots.items c.self.inside.pile c.self.invariant
+    e.desk e.endings e.count e.bag e.held
+
+pub returns-in-Ok-clause-pushed : goal.returns-in-Ok-clause-pushed
+returns-in-Ok-clause-pushed g c =
+    let e = c.in-Ok.ensures in let ss = c.self.inside.slots.items in
+    desk_does (λ n d f. Pushes d (Free n) c.args.fields c.args.value f × (IsSole d → IsPushed d (Free n) f))
+    (seen c.self.inside.desk ss c.self.inside.pile) c.args.self.now (seen c.push.new.desk ss c.self.inside.pile)
+    c.stack.inside.stack c.args.stack.now e.refusals.0 (e.own, e.list) refl refl c.self.view_is c.stack.view_is

@@ -1,0 +1,170 @@
+//! Trees of nodes: each owns its first child and its next sibling, and points back at its parent (own).
+ghost use Rattle.std.specs.Prelude.{◌≡◌, IfErr, IfOk, OnOk};
+ghost use Rattle.control_word.specs.declared.refusal.Refusal.TheVariants.{Memory};
+ghost use Rattle.handle_table.specs.Structures.{AddsChild, DetachesNode, GetsParent, WhyNoParent};
+ghost use Rattle.handle_table.specs.Structures.{WhyNotAdded, WhyNotDetached};
+ghost use Rattle.handle_table.specs.declared.fault.Fault.TheVariants as fault;
+
+use crate::fault::{Fault, Returned};
+use crate::slots::assigning::assign;
+use crate::slots::owner_at;
+use crate::structures::returned;
+use crate::table::{HandleTable, Home};
+use scene_structures::Scene;
+use shared_handle::Held;
+use std::alloc::Global;
+use std::marker::{Model, PhantomData};
+use std::sync::Wait;
+
+/// A thread's own access to trees of nodes: a node owns its first child by its member `first` and its next sibling by
+/// `next`, and its `up` points back at its parent. It is for the tables of the domain that its type names.
+pub struct TableScene<V: Drop + Send, H: Home> {
+    home: PhantomData<H>,
+    scene: Scene<V>,
+}
+
+impl<V: Drop + Send, H: Home> Model for TableScene<V, H> {
+    ghost use Rattle.scene_structures.specs.Stacks.{Serves};
+    ghost use Rattle.shared_handle.specs.declared.pile.Pile.{Pile};
+
+    ghost Value = { Pile V };
+
+    ghost view = { λ s. s.scene };
+
+    ghost invariant = { λ s. Serves H.domain s.scene };
+}
+
+impl<V: Drop + Send, H: Home> TableScene<V, H> {
+    /// The access is given up (own); the trees stay as they are.
+    pub fn close(self) {
+        let Self { home: _, scene } = self;
+        scene.close();
+    }
+}
+
+impl<'d, V: Drop + Send, H: Home> HandleTable<'d, V, H> {
+    /// An access to the trees of the domain (own). It makes room for the ends of as many objects as there are blocks;
+    /// no other call on it takes memory. `Memory` where a growth was really refused.
+    pub fn scene(&self, alloc: Global) -> Result<TableScene<V, H>, Fault>
+        ensures refused { IfErr result (λ why. why ≡ fault.Call Memory) }
+    {
+        match Scene::new(alloc, self.domain) {
+            Ok(scene) => Ok(TableScene {
+                home: PhantomData,
+                scene,
+            }),
+            Err(why) => Err(Fault::Call(why)),
+        }
+    }
+
+    /// A new node with four fields and an owned value becomes the first child of what the owner in a slot owns, and its
+    /// owner is assigned to a slot (own): it has the child that was first as its next sibling, and its `up` points
+    /// where the parent's handle does. What lay in the slot leaves. It waits while others change the parent's `first`.
+    /// `Slot` where there is no slot `to`; else `Slot`, `Vacant` or `Kind` where the other has no owner; else `Limit`
+    /// where fewer than 6 handles are free, `Full` where there is no vacant block, and `Null` or `Outside` by the
+    /// parent's place: then the value comes back.
+    pub fn add_child<R: Wait>(
+        &mut self,
+        rt: &R,
+        scene: &mut TableScene<V, H>,
+        parent: usize,
+        fields: [u64; 4],
+        value: V,
+        to: usize,
+    ) -> Result<(), Returned<V>>
+        ensures added { OnOk result (AddsChild self.old parent fields value to self.new) }
+        ensures refused { IfErr result
+            (λ r. WhyNotAdded self.old parent to r.why × (r.back ≡ value) × (self.new ≡ self.old)) }
+    {
+        if to >= self.slots.len() {
+            return Err(Returned {
+                why: Fault::Slot,
+                back: value,
+            });
+        }
+        let owner = match owner_at(&self.slots, parent) {
+            Ok(owner) => owner,
+            Err(why) => return Err(Returned { why, back: value }),
+        };
+        let child = match scene
+            .scene
+            .add_child(rt, self.domain, &mut self.desk, owner, fields, value)
+        {
+            Ok(child) => Held::Owner(child),
+            Err(refused) => return Err(returned(refused)),
+        };
+        assign(
+            self.domain,
+            &mut self.desk,
+            &mut self.slots,
+            &mut self.pile,
+            to,
+            child,
+        );
+        Ok(())
+    }
+
+    /// The parent of the node that the owner in a slot owns (own): an owner of what its `up` is on, or an empty handle
+    /// where that has no owner, or there is none, is assigned to a slot; whether it owns. What lay there leaves. It
+    /// waits while others change `up` or the parent's count. `Slot` where there is no slot `to`; else `Slot`, `Vacant`
+    /// or `Kind` where the other has no owner; else `Limit` where fewer than 6 handles are free, and `Null` or
+    /// `Outside` by the node's place.
+    pub fn parent<R: Wait>(
+        &mut self,
+        rt: &R,
+        scene: &TableScene<V, H>,
+        node: usize,
+        to: usize,
+    ) -> Result<bool, Fault>
+        ensures parent { IfOk result (λ got. GetsParent self.old node to got self.new) }
+        ensures refused { IfErr result (λ why. WhyNoParent self.old node to why × (self.new ≡ self.old)) }
+    {
+        if to >= self.slots.len() {
+            return Err(Fault::Slot);
+        }
+        let owner = match owner_at(&self.slots, node) {
+            Ok(owner) => owner,
+            Err(why) => return Err(why),
+        };
+        match scene.scene.parent(rt, self.domain, &mut self.desk, owner) {
+            Ok(parent) => {
+                let got = parent.block().is_some();
+                let parent = Held::Owner(parent);
+                assign(
+                    self.domain,
+                    &mut self.desk,
+                    &mut self.slots,
+                    &mut self.pile,
+                    to,
+                    parent,
+                );
+                Ok(got)
+            }
+            Err(why) => Err(Fault::Call(why)),
+        }
+    }
+
+    /// The node that the owner in a slot owns goes out of the children of what its `up` is on, and its `next` and `up`
+    /// are emptied; where that has no owner, or the node isn't among its children, nothing changes (own). It waits
+    /// while others change what it looks at. `Slot`, `Vacant` or `Kind` where the slot has no owner, else `Limit` where
+    /// fewer than 6 handles are free, and `Null` or `Outside` by the node's place.
+    pub fn detach<R: Wait>(
+        &mut self,
+        rt: &R,
+        scene: &mut TableScene<V, H>,
+        node: usize,
+    ) -> Result<(), Fault>
+        ensures detached { OnOk result (DetachesNode self.old node self.new) }
+        ensures refused { IfErr result (λ why. WhyNotDetached self.old node why × (self.new ≡ self.old)) }
+    {
+        let owner = match owner_at(&self.slots, node) {
+            Ok(owner) => owner,
+            Err(why) => return Err(why),
+        };
+        let why = match scene.scene.detach(rt, self.domain, &mut self.desk, owner) {
+            Ok(()) => return Ok(()),
+            Err(why) => why,
+        };
+        Err(Fault::Call(why))
+    }
+}

@@ -1,0 +1,57 @@
+//! Structures whose memory is refused.
+use crate::alone::ends;
+use crate::listed::all;
+use crate::memory::{BEGIN, HAS_ALL};
+use crate::shapes::{alone, shape};
+use control_word::Refusal;
+use handle_table::{Fault, HandleTable, Home, Program};
+use std::alloc::Global;
+use std::process::Abort;
+use std::sync::Wait;
+use std::test::Fail;
+use std::thread::Threads;
+
+/// A worker that asks for each structure, and ends a tree whose root another slot owns too.
+#[derive(Drop)]
+struct Asks {
+    alloc: Global,
+}
+
+impl<R: Abort + Threads + Wait + Sync> Program<u64, R> for Asks {
+    fn work<H: Home>(&self, rt: &R, _number: usize, table: &mut HandleTable<'_, u64, H>) {
+        let memory = Fault::Call(Refusal::Memory);
+        match table.stack(self.alloc, 0) {
+            Ok(stack) => stack.close(),
+            Err(why) => assert!(rt; why == memory),
+        }
+        match table.observers(self.alloc, 0) {
+            Ok(observers) => observers.close(),
+            Err(why) => assert!(rt; why == memory),
+        }
+        match table.scene(self.alloc) {
+            Ok(scene) => scene.close(),
+            Err(why) => assert!(rt; why == memory),
+        }
+        all(rt, table, &BEGIN);
+        match table.teardown(self.alloc, 0) {
+            Ok(values) => assert!(rt; values.is_empty()),
+            Err(why) => {
+                assert!(rt; why == memory);
+                all(rt, table, &HAS_ALL);
+            }
+        }
+    }
+}
+
+#[test]
+fn a_refused_structure_changes_nothing(rt: HostRuntime) -> Result<(), Fail> {
+    let program = Asks { alloc: rt.alloc() };
+    ends(
+        &rt,
+        rt.alloc(),
+        shape(3, 1, 0, 6),
+        alone(5, 4, 2),
+        &program,
+        3,
+    )
+}

@@ -1,0 +1,164 @@
+//! Observers: each call on them, each fault, and a prune beside another table.
+use crate::listed::{Answer, Call, agree, answer_of, count, handed};
+use crate::shapes::{alone, shape};
+use control_word::Refusal;
+use handle_table::{
+    Fault, HandleTable, Home, Leader, Manned, Program, TableObservers, Team, run_leader,
+};
+use std::alloc::Global;
+use std::process::Abort;
+use std::sync::Wait;
+use std::test::Fail;
+use std::thread::Threads;
+
+/// A call on observers, or another on their table.
+#[derive(Clone, Copy, Drop)]
+enum On {
+    Attach(usize, u64),
+    /// What is told, by hundreds.
+    Each,
+    Prune,
+    Table(Call),
+}
+
+fn told<R: Wait, H: Home>(
+    rt: &R,
+    table: &mut HandleTable<'_, u64, H>,
+    observers: &mut TableObservers<u64, H>,
+) -> Answer {
+    let mut all = 0u64;
+    let each = table.each(rt, observers, |field: u64| {
+        all = all.wrapping_mul(100).wrapping_add(field)
+    });
+    match each {
+        Ok(()) => Answer::Field(all),
+        Err(why) => Answer::Not(why),
+    }
+}
+
+/// Calls, each of which answers what stands beside it.
+fn all_on<R: Abort + Wait, H: Home>(
+    rt: &R,
+    table: &mut HandleTable<'_, u64, H>,
+    observers: &mut TableObservers<u64, H>,
+    calls: &[(On, Answer)],
+) {
+    for (number, (on, wanted)) in calls.iter().enumerate() {
+        let told = match *on {
+            On::Attach(subject, value) => Some(handed(
+                table.attach(rt, observers, subject, value),
+                value,
+            )),
+            On::Each => Some(told(rt, table, observers)),
+            On::Prune => Some(count(table.prune(rt, observers))),
+            On::Table(call) => answer_of(rt, table, call),
+        };
+        agree(rt, number, told, *wanted);
+    }
+}
+
+const LIMIT: Answer = Answer::Not(Fault::Call(Refusal::Limit));
+
+/// There are four blocks, five slots and ten handles.
+const CALLS: [(On, Answer); 24] = [
+    (On::Each, Answer::Field(0)),
+    (On::Prune, Answer::Count(0)),
+    (On::Attach(5, 1), Answer::Not(Fault::Slot)),
+    (On::Attach(0, 1), Answer::Not(Fault::Vacant)),
+    (On::Table(Call::Make(0, [10; 4], false, 10)), Answer::Done),
+    (On::Table(Call::Make(1, [20; 4], false, 20)), Answer::Done),
+    (On::Table(Call::Downgrade(0, 2)), Answer::Done),
+    (On::Attach(2, 1), Answer::Not(Fault::Kind)),
+    (On::Attach(0, 1), Answer::Done),
+    (On::Attach(1, 2), Answer::Done),
+    (On::Attach(1, 3), Answer::Not(Fault::Call(Refusal::Full))),
+    (On::Each, Answer::Field(2_010)),
+    (On::Prune, Answer::Count(0)),
+    (On::Table(Call::Copy(0, 3)), Answer::Done),
+    (On::Table(Call::Copy(0, 2)), Answer::Done),
+    (On::Each, Answer::Field(2_010)),
+    (On::Table(Call::Reset(1)), Answer::WasLast),
+    (On::Each, Answer::Field(10)),
+    (On::Table(Call::Settle), Answer::Done),
+    (On::Prune, Answer::Count(1)),
+    (On::Prune, Answer::Count(0)),
+    (On::Each, Answer::Field(10)),
+    (On::Attach(0, 4), Answer::Done),
+    (On::Each, Answer::Field(1_010)),
+];
+
+/// One more handle, and five are free.
+const NEAR: [(On, Answer); 5] = [
+    (On::Table(Call::Copy(0, 1)), Answer::Done),
+    (On::Table(Call::Copy(0, 4)), Answer::Done),
+    (On::Attach(0, 5), LIMIT),
+    (On::Each, LIMIT),
+    (On::Prune, LIMIT),
+];
+
+/// A leader that has the whole allowance, and a worker beside it that hasn't.
+#[derive(Drop)]
+struct Observing {
+    alloc: Global,
+}
+
+/// A prune beside another table, which goes through as far as that.
+const BESIDE: [(On, Answer); 2] = [
+    (On::Prune, Answer::Not(Fault::Call(Refusal::NotSole))),
+    (On::Each, Answer::Field(1_010)),
+];
+
+impl Observing {
+    fn observe<R: Abort + Wait, H: Home>(
+        &self,
+        rt: &R,
+        table: &mut HandleTable<'_, u64, H>,
+        calls: &[(On, Answer)],
+    ) {
+        match table.observers(self.alloc, 0) {
+            Ok(mut observers) => {
+                all_on(rt, table, &mut observers, calls);
+                observers.close();
+            }
+            Err(_) => assert!(rt; false),
+        }
+    }
+}
+
+impl<R: Abort + Threads + Wait + Sync> Program<u64, R> for Observing {
+    fn work<H: Home>(&self, rt: &R, _number: usize, table: &mut HandleTable<'_, u64, H>) {
+        self.observe(rt, table, &BESIDE);
+    }
+}
+
+impl<R: Abort + Threads + Wait + Sync> Leader<u64, R> for Observing {
+    fn lead<H: Home>(
+        &mut self,
+        rt: &R,
+        before: Option<Manned>,
+        table: &mut HandleTable<'_, u64, H>,
+    ) -> Option<Team> {
+        if before.is_some() {
+            self.observe(rt, table, &NEAR);
+            return None;
+        }
+        match table.observers(self.alloc, 1) {
+            Ok(observers) => {
+                observers.close();
+                assert!(rt; false);
+            }
+            Err(why) => assert!(rt; why == Fault::Cell),
+        }
+        self.observe(rt, table, &CALLS);
+        Some(alone(1, 6, 0))
+    }
+}
+
+#[test]
+fn observers_are_told_and_pruned(rt: HostRuntime) -> Result<(), Fail> {
+    let mut leader = Observing { alloc: rt.alloc() };
+    let census = run_leader(&rt, rt.alloc(), shape(4, 1, 0, 10), 5, &mut leader)?;
+    // (two observers are left in the cell, and the block that they watch)
+    assert_eq!(rt; census.vacant(), 1);
+    Ok(())
+}
