@@ -39,6 +39,7 @@ pub enum Cell {
 
 impl Cell {
     /// The kind of its handles.
+    #[inline(always)]
     pub(crate) fn kind(self) -> Kind
         ensures { result ≡ kind_in self }
     {
@@ -90,6 +91,7 @@ fn member_at(slots: &Vec<Option<Held>>, of: usize, member: u32) -> Result<Site, 
 }
 
 /// Where the cell is.
+#[inline(always)]
 fn site_of<V: Drop + Send>(
     domain: &Domain<V>,
     slots: &Vec<Option<Held>>,

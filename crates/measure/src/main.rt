@@ -12,6 +12,7 @@ mod cell_rounds;
 mod chain;
 mod observers;
 mod pages;
+mod piles;
 mod rounds;
 mod rows;
 mod scene_stack;
@@ -144,6 +145,7 @@ fn main(rt: HostRuntime) -> io::Result<()> {
         pass(&rt, rt.alloc())?;
     }
     passes_alone(&rt, rt.alloc(), passes)?;
+    piles::measure(&rt, rt.alloc(), passes)?;
     tables::measure(&rt, rt.alloc(), passes)?;
     scenes::measure(&rt, rt.alloc(), passes)?;
     pages::measure(&rt, rt.alloc(), passes)

@@ -27,12 +27,13 @@ const TEAM: Team = Team {
     blocks: 8_000,
 };
 
-/// The slot of the worker's own object, that of a weak pointer to it, and that of what comes and goes.
-const OWN: usize = 0;
+/// The slot of what comes and goes: the first, since it lies in one cache line wherever the slots begin.
+const SPARE: usize = 0;
 
-const WEAK: usize = 1;
+/// That of the worker's own object, and that of a weak pointer to it.
+const OWN: usize = 1;
 
-const SPARE: usize = 2;
+const WEAK: usize = 2;
 
 const CELL: Cell = Cell::Shared(0);
 

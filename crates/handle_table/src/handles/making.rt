@@ -12,7 +12,7 @@ impl<'d, V: Drop + Send, H: Home> HandleTable<'d, V, H> {
     /// A new object with four fields and an owned value; its owner is assigned to a slot
     /// ([util.smartptr.shared.create], [util.smartptr.shared.assign]). What lay there leaves. Where `enabled`, the
     /// object gives pointers to itself ([util.smartptr.enab]). At a fault the value comes back.
-    #[inline]
+    #[inline(always)]
     pub fn make(
         &mut self,
         to: usize,

@@ -37,6 +37,7 @@ pub(crate) fn into_content(handle: Held) -> Content
 }
 
 /// The handle that came out of a cell.
+#[inline(always)]
 pub(crate) fn held_of(content: Content) -> Held
     ensures { IsContent result content }
 {

@@ -1,10 +1,10 @@
 //! Objects of a pile end, the top first, and what ends for an object before it is finished.
-ghost use Rattle.std.specs.Prelude.{◌≡◌, [], ◌∷◌, IfNone, IfSome};
+ghost use Rattle.std.specs.Prelude.{◌≡◌, [], ◌∷◌, ◌++◌, List, IfNone, IfSome, MatchOption};
 ghost use Rattle.control_block.specs.Desks.{IsSameDesk, bag_of};
 ghost use Rattle.control_block.specs.Own.{Does};
 ghost use Rattle.shared_handle.specs.Endings.{with_clear};
-ghost use Rattle.shared_handle.specs.Piles.{Carries, ClearsOnce, EndsTop, IsParting, IsRound, KeepsElsewhere};
-ghost use Rattle.shared_handle.specs.Piles.{Stacked, is_cleared, next_member, piled};
+ghost use Rattle.shared_handle.specs.Piles.{AreRounds, Carries, ClearsOnce, EndsTop, IsParting, IsRound};
+ghost use Rattle.shared_handle.specs.Piles.{KeepsElsewhere, Past, Stacked, is_cleared, next_member, piled, values_of};
 
 use crate::endings::{Ending, Left, Member};
 use crate::pile::{Gone, Pile, Round};
@@ -98,6 +98,45 @@ impl<V: Drop + Send> Pile<V> {
         let left = ending.clear_member(domain, desk, member);
         desk.stands();
         self.put(left);
+    }
+
+    /// Rounds of the object that was on top, which stays in hand meanwhile (own): its members are emptied, up to the
+    /// first for which an object ends, and then it goes back, below that; or it is finished, and its value comes out.
+    // To write it to the pile and read it back in each round took most of a settled object's time.
+    #[inline(always)]
+    pub(crate) fn work_off(
+        &mut self,
+        domain: &Domain<V>,
+        desk: &mut Desk<V>,
+        ending: Ending<V>,
+    ) -> Option<V>
+        requires stacked { Stacked domain.now desk.old self.old ending }
+        ensures carries { Carries domain.now desk.new self.new }
+        ensures elsewhere { KeepsElsewhere
+            desk.old (self.old.endings.items ++ ending ∷ []) desk.new self.new.endings.items }
+        ensures rounds { (rs : List (Past V)) × AreRounds desk.old
+            (self.old.endings.items ++ ending ∷ []) rs desk.new self.new.endings.items
+            × MatchOption result (values_of rs ≡ []) (λ v. values_of rs ≡ v ∷ []) }
+        ensures parting { Does IsParting desk.old desk.new }
+        ensures bag { bag_of desk.new ≡ bag_of desk.old }
+        ensures held { desk.new.held ≡ desk.old.held }
+        ensures desk { IsSameDesk desk.old desk.new }
+    {
+        let mut top = ending;
+        while let Some(member) = top.next_member() {
+            let left = top.clear_member(domain, desk, member);
+            desk.stands();
+            match left {
+                Left::Empty => {}
+                Left::Others => {}
+                Left::Last(next) => {
+                    self.endings.push_reserved(top);
+                    self.endings.push_reserved(next);
+                    return None;
+                }
+            }
+        }
+        Some(top.finish(domain, desk))
     }
 
     /// The object on top ends (own): its members are emptied, what ends for it goes onto the pile, and its value comes

@@ -5,7 +5,7 @@ ghost use Rattle.control_block.specs.Own.{Does};
 ghost use Rattle.shared_handle.specs.Piles.{AreRounds, Carries, FoldsBack, IsParting, KeepsElsewhere, Past};
 ghost use Rattle.shared_handle.specs.Piles.{values_of};
 
-use crate::pile::{Pile, Round};
+use crate::pile::Pile;
 use control_block::desk::Desk;
 use control_block::domain::Domain;
 use std::sync::Wait;
@@ -28,10 +28,12 @@ impl<V: Drop + Send> Pile<V> {
         ensures desk { IsSameDesk desk.old desk.new }
     {
         for _ in rt.forever() {
-            match self.round(domain, desk) {
-                Round::Settled => return,
-                Round::Cleared(_, _) => {}
-                Round::Ended(value) => drop(value),
+            let Some(top) = self.endings.pop() else {
+                return;
+            };
+            match self.work_off(domain, desk, top) {
+                Some(value) => drop(value),
+                None => {}
             }
         }
         unreachable!()
@@ -59,10 +61,12 @@ impl<V: Drop + Send> Pile<V> {
         ensures desk { IsSameDesk desk.old desk.new }
     {
         for _ in rt.forever() {
-            match self.round(domain, desk) {
-                Round::Settled => return,
-                Round::Cleared(_, _) => {}
-                Round::Ended(value) => take(value),
+            let Some(top) = self.endings.pop() else {
+                return;
+            };
+            match self.work_off(domain, desk, top) {
+                Some(value) => take(value),
+                None => {}
             }
         }
         unreachable!()

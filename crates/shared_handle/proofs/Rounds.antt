@@ -1,0 +1,47 @@
+-- Rounds of a pile, one run of them after another.
+use Rattle.std.proofs.Common.{◌≡◌, List, [], ◌∷◌, ◌++◌, Some}
+use Rattle.std.proofs.Common.{refl, sym, ap, subst, ◌∙◌}
+use Rattle.control_block.specs.Desks.{DeskNow}
+use Rattle.shared_handle.specs.Endings.{IsClearing, with_clear}
+use Rattle.shared_handle.specs.Piles.{AreRounds, IsRound, Past, gone_of, next_member, piled, value_of, values_of}
+use Rattle.shared_handle.specs.declared.endings.Ending.{Ending}
+use Rattle.shared_handle.specs.declared.endings.Left.{Left}
+use Rattle.shared_handle.specs.declared.endings.Member.{Member}
+use Rattle.shared_handle.specs.declared.pile.Round.{Round}
+use Rattle.shared_handle.specs.declared.pile.Round.TheVariants.{Cleared, Ended, Settled}
+
+module _ {V : Type 0} where
+  pub rounds_append : (d e f : DeskNow V) (xs ys zs : List (Ending V)) (rs qs : List (Past V)) → AreRounds d xs rs e ys → AreRounds e ys qs f zs
+      → AreRounds d xs (qs ++ rs) f zs
+  rounds_append d e f xs ys zs rs [] a b =
+      subst (λ l. AreRounds d xs rs f l) (sym b.1) (subst (λ (u : DeskNow V). AreRounds d xs rs u ys) (sym b.0) a)
+  rounds_append d e f xs ys zs rs (q ∷ qs) a b = (rounds_append d e q.desk xs ys q.pile rs qs a b.0, b.1)
+
+  value_before : (r : Round V) (xs ys : List V) → value_of r (xs ++ ys) ≡ value_of r xs ++ ys
+  value_before Settled xs ys = refl
+  value_before (Cleared m gone) xs ys = refl
+  value_before (Ended v) xs ys = refl
+
+  pub values_append : (qs rs : List (Past V)) → values_of (qs ++ rs) ≡ values_of qs ++ values_of rs
+  values_append [] rs = refl
+  values_append (q ∷ qs) rs = ap (value_of q.round) (values_append qs rs) ∙ value_before q.round (values_of qs) (values_of rs)
+
+  -- the values of a run go in front
+  pub values_after : (vs : List V) (qs rs : List (Past V)) → values_of qs ≡ vs → values_of (qs ++ rs) ≡ vs ++ values_of rs
+  values_after vs qs rs are = values_append qs rs ∙ ap (λ l. l ++ values_of rs) are
+
+  -- a member of the one in hand is emptied
+  pub clears_in_hand : (d e : DeskNow V) (below zs : List (Ending V)) (x y : Ending V) (m : Member) (left : Left V) → next_member x ≡ Some m
+      → IsClearing d x m left e → y ≡ with_clear m x → zs ≡ piled (below ++ y ∷ []) left
+      → IsRound d (below ++ x ∷ []) (Cleared m (gone_of left)) e zs
+  clears_in_hand d e below zs x y m left next clears noted are =
+      record {
+        below = below;
+        top = x;
+        were = refl;
+        next = next;
+        left = left;
+        clears = clears;
+        told = refl;
+        are = are ∙ ap (λ (z : Ending V). piled (below ++ z ∷ []) left) noted;
+      }
