@@ -1,5 +1,6 @@
 pub mod Filling
 pub mod Wholes
+pub mod Supplying
 pub mod Celled
 pub mod Compared
 pub mod Emptied

@@ -1,6 +1,6 @@
 -- What the calls of a handle table say.
-use Rattle.std.specs.Prelude.{◌≡◌, ◌⊎◌, ℕ, ◌≤◌, Bool, false, true, is_some, List, [], ◌∷◌}
-use Rattle.std.specs.Prelude.{length, slice_get, slice_set, Option, None, Some, Result, Err}
+use Rattle.std.specs.Prelude.{◌≡◌, ◌≢◌, ◌⊎◌, ℕ, ◌≤◌, Bool, false, true, List, [], ◌∷◌}
+use Rattle.std.specs.Prelude.{is_some, length, slice_get, slice_set, Option, None, Some, Result, Err}
 use Rattle.control_word.specs.declared.handle.Kind.TheVariants as kind
 use Rattle.control_word.specs.declared.place.Block.{Block}
 use Rattle.control_word.specs.declared.place.Place.{Place}
@@ -102,10 +102,17 @@ module _ {V : Type 0} where
   MakesNull t to x u = Comes
       (IsOwner (λ d h e. inner.Makes d false true (0 ∷ 0 ∷ 0 ∷ 0 ∷ []) x h.block h.place e)) t to u
 
+  -- the desk is below it
+  abbrev pub IsBelow : DeskNow V → Type 0
+  IsBelow d = held_of d ≢ allowance_of d
+
   -- there is no vacant block for it
+  abbrev pub IsFull : TableNow V → Fault → Type 0
+  IsFull t why = (why ≡ fault.Call Full) × IsBelow t.desk
+
   abbrev pub WhyNotMade : TableNow V → ℕ → Fault → Type 0
   WhyNotMade t to why = IsNoSlot t.slots to why
-      ⊎ (IsAtLimit t why ⊎ ((why ≡ fault.Call Full) × (stock_of t.desk ≡ [])))
+      ⊎ (IsAtLimit t why ⊎ (IsFull t why × (stock_of t.desk ≡ [])))
 
   -- a copy of a handle: it is of the same object, and points where that does ([util.smartptr.shared.const],
   -- [util.smartptr.weak.const])

@@ -1,5 +1,6 @@
 pub mod Tables
 pub mod Calls
+pub mod Shelving
 pub mod Cells
 pub mod Compares
 pub mod This

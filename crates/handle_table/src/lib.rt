@@ -11,6 +11,7 @@ mod looks;
 mod opening;
 mod parting;
 mod program;
+mod shelf;
 mod slots;
 mod staff;
 mod structures;

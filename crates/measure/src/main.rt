@@ -1,6 +1,7 @@
 //! `measure PASSES`: what a caller waits for each call on handles and cells, with 1, 2 and 4 threads. It prints lines
 //! "test|peer|threads|nanoseconds|share", as the peers' programs do, and nothing without an argument. Where a call was
-//! refused, the share is 0: then the time is no measure of the work.
+//! refused, the share is 0: then the time is no measure of the work. `measure PASSES SECONDS` then tells how many makes
+//! are refused beside threads that end what is made, without the shelf and with it, in so many seconds each.
 #![tactic(auto)]
 
 ghost use Rattle.std.specs.Prelude.{◌≡◌, ◌+◌, ◌<◌};
@@ -19,6 +20,7 @@ mod scene_stack;
 mod scene_trees;
 mod scene_walks;
 mod scenes;
+mod shelf;
 mod stack;
 mod tables;
 mod timing;
@@ -134,19 +136,36 @@ fn passes_alone<R: Clock + CpuClock + Wait + Print>(
     told
 }
 
+/// All passes.
+fn all_passes<R: Clock + CpuClock + Threads + Wait + Sync + Print>(
+    rt: &R,
+    alloc: Global,
+    passes: u32,
+) -> io::Result<()> {
+    for _ in 0..passes {
+        pass(rt, alloc)?;
+    }
+    passes_alone(rt, alloc, passes)?;
+    piles::measure(rt, alloc, passes)?;
+    tables::measure(rt, alloc, passes)?;
+    scenes::measure(rt, alloc, passes)?;
+    pages::measure(rt, alloc, passes)
+}
+
 fn main(rt: HostRuntime) -> io::Result<()> {
-    let Some(passes) = env::args(&rt)?.nth(1) else {
+    let mut words = env::args(&rt)?;
+    let Some(passes) = words.nth(1) else {
         return Ok(());
     };
     let Ok(passes) = passes.parse::<u32>() else {
         return Err(io::Error::from(io::ErrorKind::InvalidInput));
     };
-    for _ in 0..passes {
-        pass(&rt, rt.alloc())?;
-    }
-    passes_alone(&rt, rt.alloc(), passes)?;
-    piles::measure(&rt, rt.alloc(), passes)?;
-    tables::measure(&rt, rt.alloc(), passes)?;
-    scenes::measure(&rt, rt.alloc(), passes)?;
-    pages::measure(&rt, rt.alloc(), passes)
+    all_passes(&rt, rt.alloc(), passes)?;
+    let Some(seconds) = words.next() else {
+        return Ok(());
+    };
+    let Ok(seconds) = seconds.parse::<u64>() else {
+        return Err(io::Error::from(io::ErrorKind::InvalidInput));
+    };
+    shelf::measure(&rt, rt.alloc(), seconds)
 }

@@ -42,7 +42,7 @@ fn make<H: Home>(table: &mut HandleTable<'_, u64, H>, hand: usize, form: Form) -
     requires null { form.null ≡ false }
     ensures { IfSome result (λ x. IsActed hand table.old false (act.Make form) x table.new) }
 {
-    match table.make(hand, form.fields, form.enabled, form.fields[0]) {
+    match table.make_from_stock(hand, form.fields, form.enabled, form.fields[0]) {
         Ok(()) => Some(Went {
             taken: true,
             answer: None,
@@ -57,7 +57,7 @@ fn make_null<H: Home>(table: &mut HandleTable<'_, u64, H>, hand: usize) -> Optio
     requires { IsHand (hand + 1) hand table.old }
     ensures { IfSome result (λ x. IsActed hand table.old false (act.Make null_form) x table.new) }
 {
-    match table.make_null(hand, 0) {
+    match table.make_null_from_stock(hand, 0) {
         Ok(()) => Some(Went {
             taken: true,
             answer: None,

@@ -160,6 +160,16 @@ fn end<'a, H: Home, R: Wait>(
     }
 }
 
+/// Vacant blocks go to the shelf, or come from there: whether any did.
+fn lend<H: Home>(chance: &mut Chance, table: &mut HandleTable<'_, Value<'_>, H>) -> bool {
+    let count = chance.below(4);
+    if chance.below(2) == 0 {
+        table.shelve(count) > 0
+    } else {
+        table.unshelve(count) > 0
+    }
+}
+
 /// A second table takes over the slots from some number on, and comes back.
 fn part<'a, H: Home, R: Wait>(
     rt: &R,
@@ -199,7 +209,8 @@ fn call<'a, H: Home, R: Wait>(
         8..=23 => derive(rt, chance, table),
         24..=31 => look(chance, table),
         32..=47 => pass(rt, chance, table),
-        48..=55 => table.reset(slot(chance)).is_ok(),
+        48..=54 => table.reset(slot(chance)).is_ok(),
+        55 => lend(chance, table),
         56..=58 => visit(rt, slot(chance), crowd.ledger, table),
         59..=62 => end(rt, chance, table),
         _ => part(rt, crowd.alloc, chance, table),

@@ -35,6 +35,8 @@ mod observers;
 mod pointers;
 pub mod shapes;
 #[cfg(test)]
+mod shelf;
+#[cfg(test)]
 mod slots;
 #[cfg(test)]
 mod splits;

@@ -10,6 +10,10 @@ use std::sync::Wait;
 pub(crate) enum Call {
     Make(usize, [u64; 4], bool, u64),
     MakeNull(usize, u64),
+    MakeFromStock(usize, [u64; 4], bool, u64),
+    MakeNullFromStock(usize, u64),
+    Shelve(u32),
+    Unshelve(u32),
     Empty(usize),
     EmptyWeak(usize),
     Copy(usize, usize),
@@ -154,6 +158,12 @@ fn come<R: Wait, H: Home>(
             handed(table.make(to, fields, enabled, value), value)
         }
         Call::MakeNull(to, value) => handed(table.make_null(to, value), value),
+        Call::MakeFromStock(to, fields, enabled, value) => {
+            handed(table.make_from_stock(to, fields, enabled, value), value)
+        }
+        Call::MakeNullFromStock(to, value) => {
+            handed(table.make_null_from_stock(to, value), value)
+        }
         Call::Empty(to) => done(table.empty(to)),
         Call::EmptyWeak(to) => done(table.empty_weak(to)),
         Call::Copy(from, to) => done(table.copy(from, to)),
@@ -168,13 +178,15 @@ fn come<R: Wait, H: Home>(
     })
 }
 
-/// A call by which a handle leaves, or an object ends, and one on a cell.
+/// A call by which a block goes or comes, a handle leaves, or an object ends, and one on a cell.
 fn pass<R: Wait, H: Home>(
     rt: &R,
     table: &mut HandleTable<'_, u64, H>,
     call: Call,
 ) -> Option<Answer> {
     Some(match call {
+        Call::Shelve(count) => Answer::Count(table.shelve(count)),
+        Call::Unshelve(count) => Answer::Count(table.unshelve(count)),
         Call::Reset(at) => left(table.reset(at)),
         Call::EndNext => Answer::Value(table.end_next()),
         Call::Round => ended(table.round()),

@@ -1,6 +1,10 @@
 //! New objects.
-ghost use Rattle.std.specs.Prelude.{◌≡◌, IfErr, OnOk};
+ghost use Rattle.std.specs.Prelude.{◌≡◌, [], IfErr, IsErr, OnOk};
+ghost use Rattle.control_block.specs.Desks.{stock_of};
+ghost use Rattle.control_block.specs.Own.{IsSole};
+ghost use Rattle.control_block.specs.Shelf.{shelved_of};
 ghost use Rattle.handle_table.specs.Calls.{Makes, MakesNull, WhyNotMade};
+ghost use Rattle.handle_table.specs.Shelving.{IsSupplied, WhyNotSupplied};
 
 use crate::fault::{Fault, Returned};
 use crate::slots::assigning::assign;
@@ -11,9 +15,57 @@ use shared_handle::{Held, make, make_null};
 impl<'d, V: Drop + Send, H: Home> HandleTable<'d, V, H> {
     /// A new object with four fields and an owned value; its owner is assigned to a slot
     /// ([util.smartptr.shared.create], [util.smartptr.shared.assign]). What lay there leaves. Where `enabled`, the
-    /// object gives pointers to itself ([util.smartptr.enab]). At a fault the value comes back.
+    /// object gives pointers to itself ([util.smartptr.enab]). Where the table has no vacant block, it takes one from
+    /// the shelf. It is refused `Slot` where there is no such slot; else `Limit` where the table is at its allowance;
+    /// else `Full` where it has no vacant block and finds none on the shelf, as a sole table does just where none is
+    /// there. Then nothing changes, and the value comes back.
     #[inline(always)]
     pub fn make(
+        &mut self,
+        to: usize,
+        fields: [u64; 4],
+        enabled: bool,
+        value: V,
+    ) -> Result<(), Returned<V>>
+        ensures made { OnOk result (IsSupplied (λ t. Makes t to enabled fields value self.new) self.old) }
+        ensures refused { IfErr result
+            (λ r. WhyNotSupplied self.old to r.why × (r.back ≡ value) × (self.new ≡ self.old)) }
+        ensures full { IsSole self.old.desk → stock_of self.old.desk ≡ [] → shelved_of self.old.desk ≡ 0
+            → IsErr result }
+    {
+        if to >= self.slots.len() {
+            return Err(Returned {
+                why: Fault::Slot,
+                back: value,
+            });
+        }
+        self.supply();
+        self.make_from_stock(to, fields, enabled, value)
+    }
+
+    /// A new owner of the null pointer, with a deleter's value, is assigned to a slot ([util.smartptr.shared.const]).
+    /// What lay there leaves. A block and the refusals are as those of `make`.
+    pub fn make_null(&mut self, to: usize, value: V) -> Result<(), Returned<V>>
+        ensures made { OnOk result (IsSupplied (λ t. MakesNull t to value self.new) self.old) }
+        ensures refused { IfErr result
+            (λ r. WhyNotSupplied self.old to r.why × (r.back ≡ value) × (self.new ≡ self.old)) }
+        ensures full { IsSole self.old.desk → stock_of self.old.desk ≡ [] → shelved_of self.old.desk ≡ 0
+            → IsErr result }
+    {
+        if to >= self.slots.len() {
+            return Err(Returned {
+                why: Fault::Slot,
+                back: value,
+            });
+        }
+        self.supply();
+        self.make_null_from_stock(to, value)
+    }
+
+    /// The same of the table's own vacant blocks alone: it is `Full` where there is none, and never takes from the
+    /// shelf. So a make is just one event.
+    #[inline(always)]
+    pub fn make_from_stock(
         &mut self,
         to: usize,
         fields: [u64; 4],
@@ -23,6 +75,7 @@ impl<'d, V: Drop + Send, H: Home> HandleTable<'d, V, H> {
         ensures made { OnOk result (Makes self.old to enabled fields value self.new) }
         ensures refused { IfErr result
             (λ r. WhyNotMade self.old to r.why × (r.back ≡ value) × (self.new ≡ self.old)) }
+        ensures full { stock_of self.old.desk ≡ [] → IsErr result }
     {
         if to >= self.slots.len() {
             return Err(Returned {
@@ -53,12 +106,12 @@ impl<'d, V: Drop + Send, H: Home> HandleTable<'d, V, H> {
         }
     }
 
-    /// A new owner of the null pointer, with a deleter's value, is assigned to a slot ([util.smartptr.shared.const]).
-    /// What lay there leaves. At a fault the value comes back.
-    pub fn make_null(&mut self, to: usize, value: V) -> Result<(), Returned<V>>
+    /// The same as `make_null` of the table's own vacant blocks alone.
+    pub fn make_null_from_stock(&mut self, to: usize, value: V) -> Result<(), Returned<V>>
         ensures made { OnOk result (MakesNull self.old to value self.new) }
         ensures refused { IfErr result
             (λ r. WhyNotMade self.old to r.why × (r.back ≡ value) × (self.new ≡ self.old)) }
+        ensures full { stock_of self.old.desk ≡ [] → IsErr result }
     {
         if to >= self.slots.len() {
             return Err(Returned {

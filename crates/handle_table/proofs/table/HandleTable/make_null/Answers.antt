@@ -1,24 +1,22 @@
-use Rattle.std.proofs.Common.{refl, subst}
-use Rattle.control_block.specs.declared.handles.Held.TheVariants.{Owner}
-use Rattle.shared_handle.proofs.Piles.{bears_kept}
-use Rattle.handle_table.specs.Calls.{MakesNull}
+use Rattle.std.proofs.Common.{◌≡◌, ◌<◌, length, ap, ◌∙◌, arith}
+use Rattle.std.proofs.lemmas.Result.{IfErr-weaker, on_ok_weaker}
+use Rattle.control_block.specs.Desks.{stock_of}
 use Rattle.handle_table.specs.Tables.{TableNow}
-use Rattle.handle_table.proofs.Wholes.{seen}
+use Rattle.handle_table.proofs.Supplying.{not_supplied}
 use Rattle.handle_table.proofs.table.HandleTable.make_null.Goals as goal
 
-pub assign-requires-clause-bears : goal.assign-requires-clause-bears
-assign-requires-clause-bears g c κs within =
-    let e = c.in-Ok.ensures in
-    bears_kept c.self.inside.domain.now c.self.inside.desk c.make_null.new.desk c.self.inside.pile c.self.invariant.bears e.desk.domain
-    e.desk.shape e.endings e.count
+pub returns-clause-made : goal.returns-clause-made
+returns-clause-made g c =
+    on_ok_weaker c.make_null_from_stock.result
+    (λ m. record { between = c.supply.new.self; supplies = c.supply.ensures.supplied; made = m }) c.make_null_from_stock.ensures.made
 
-pub returns-in-Ok-clause-made : goal.returns-in-Ok-clause-made
-returns-in-Ok-clause-made g c =
-    subst (λ (t : TableNow g.row.V.Denot). MakesNull t c.args.to c.args.value (seen c.assign.new.desk c.assign.new.slots.items c.assign.new.pile))
-    c.self.view_is
-    record {
-      handle = Owner c.in-Ok.owner;
-      between = c.make_null.new.desk;
-      comes = record { owner = c.in-Ok.owner; is = refl; event = c.in-Ok.ensures.event };
-      assigns = c.assign.ensures.assigns;
-    }
+pub returns-clause-refused : goal.returns-clause-refused
+returns-clause-refused g c =
+    let s = c.supply.ensures in let few = c.if-to-len.false in let v = ap (λ (t : TableNow g.row.V.Denot). length t.slots) c.self.view_is in
+    IfErr-weaker c.make_null_from_stock.result _ _
+    (λ r p. let n = not_supplied c.args.self.now c.supply.new.self c.args.to r.why (omega (arith, few, v)) s.supplied s.below s.sole p.0 in
+    (n.0, p.1, p.2 ∙ n.1)) c.make_null_from_stock.ensures.refused
+
+pub returns-clause-full : goal.returns-clause-full
+returns-clause-full g c = λ sole none zero.
+    c.make_null_from_stock.ensures.full (ap (λ (t : TableNow g.row.V.Denot). stock_of t.desk) (c.supply.ensures.none sole zero) ∙ none)

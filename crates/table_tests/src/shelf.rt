@@ -1,0 +1,149 @@
+//! The shelf: what goes there, what a make takes from it, and when it is left alone.
+use crate::alone::{Listed, ends};
+use crate::listed::{Answer, Call, all};
+use crate::shapes::{alone, shape};
+use control_word::Refusal;
+use handle_table::{Fault, HandleTable, Home, Leader, Manned, Program, Team, run, run_leader};
+use std::process::Abort;
+use std::sync::Wait;
+use std::test::Fail;
+use std::thread::Threads;
+
+const FULL: Answer = Answer::Not(Fault::Call(Refusal::Full));
+
+const LIMIT: Answer = Answer::Not(Fault::Call(Refusal::Limit));
+
+/// All four blocks go to the shelf and come back; a make takes just one, and only if it may.
+const CALLS: [(Call, Answer); 14] = [
+    (Call::Shelve(2), Answer::Count(2)),
+    (Call::Shelve(9), Answer::Count(2)),
+    (Call::Shelve(1), Answer::Count(0)),
+    (Call::MakeFromStock(0, [7; 4], false, 7), FULL),
+    (Call::MakeNullFromStock(0, 7), FULL),
+    (Call::Make(4, [7; 4], false, 7), Answer::Not(Fault::Slot)),
+    (Call::Make(0, [7; 4], false, 7), Answer::Done),
+    (Call::MakeNull(1, 8), Answer::Done),
+    (Call::Unshelve(9), Answer::Count(2)),
+    (Call::Unshelve(1), Answer::Count(0)),
+    (Call::MakeFromStock(2, [9; 4], false, 9), Answer::Done),
+    (Call::MakeNullFromStock(3, 9), Answer::Done),
+    (Call::Read(0), Answer::Field(7)),
+    (Call::Make(0, [7; 4], false, 7), LIMIT),
+];
+
+#[test]
+fn a_make_takes_a_block_from_the_shelf(rt: HostRuntime) -> Result<(), Fail> {
+    let program = Listed { calls: &CALLS };
+    ends(
+        &rt,
+        rt.alloc(),
+        shape(4, 0, 0, 6),
+        alone(4, 4, 4),
+        &program,
+        4,
+    )
+}
+
+/// At the allowance a make leaves the shelf alone.
+const FEW: [(Call, Answer); 7] = [
+    (Call::Make(0, [7; 4], false, 7), Answer::Done),
+    (Call::Shelve(9), Answer::Count(1)),
+    (Call::Make(1, [7; 4], false, 7), LIMIT),
+    (Call::MakeNull(1, 7), LIMIT),
+    (Call::Reset(0), Answer::WasLast),
+    (Call::EndNext, Answer::Value(Some(7))),
+    (Call::Shelve(9), Answer::Count(1)),
+];
+
+#[test]
+fn at_the_limit_the_shelf_is_left_alone(rt: HostRuntime) -> Result<(), Fail> {
+    let program = Listed { calls: &FEW };
+    ends(
+        &rt,
+        rt.alloc(),
+        shape(2, 0, 0, 2),
+        alone(2, 1, 2),
+        &program,
+        2,
+    )
+}
+
+/// Of two threads one shelves its block, and the other makes an object more than it has blocks.
+struct Lends;
+
+/// How often the other one tries.
+const TRIES: u32 = 10_000_000;
+
+impl<R: Abort + Threads + Wait + Sync> Program<u64, R> for Lends {
+    fn work<H: Home>(&self, rt: &R, number: usize, table: &mut HandleTable<'_, u64, H>) {
+        if number == 0 {
+            all(rt, table, &[(Call::Shelve(9), Answer::Count(1))]);
+            return;
+        }
+        all(
+            rt,
+            table,
+            &[(Call::Make(0, [1; 4], false, 1), Answer::Done)],
+        );
+        for _ in 0..TRIES {
+            if table.make(1, [2; 4], false, 2).is_ok() {
+                break;
+            }
+        }
+        all(rt, table, &[(Call::Read(1), Answer::Field(2))]);
+    }
+}
+
+#[test]
+fn a_thread_makes_in_anothers_block(rt: HostRuntime) -> Result<(), Fail> {
+    let team = Team {
+        workers: 2,
+        slots: 2,
+        allowance: 2,
+        blocks: 1,
+    };
+    let ran = run(&rt, rt.alloc(), shape(2, 0, 0, 6), team, &Lends)?;
+    assert!(rt; ran.fewer == None);
+    assert_eq!(rt; (ran.workers, ran.census.vacant()), (2, 2));
+    Ok(())
+}
+
+/// A sole table: a make is refused just where no block is in its store or on the shelf.
+const SOLE: [(Call, Answer); 8] = [
+    (Call::Shelve(9), Answer::Count(2)),
+    (Call::MakeNull(0, 1), Answer::Done),
+    (Call::Make(1, [2; 4], false, 2), Answer::Done),
+    (Call::Make(2, [3; 4], false, 3), FULL),
+    (Call::MakeNull(2, 3), FULL),
+    (Call::Reset(0), Answer::WasLast),
+    (Call::EndNext, Answer::Value(Some(1))),
+    (Call::Shelve(9), Answer::Count(1)),
+];
+
+/// A leader that has no team, and leaves a block on the shelf.
+#[derive(Drop)]
+struct Sole;
+
+impl<R: Abort + Threads + Wait + Sync> Program<u64, R> for Sole {
+    fn work<H: Home>(&self, _rt: &R, _number: usize, _table: &mut HandleTable<'_, u64, H>) {}
+}
+
+impl<R: Abort + Threads + Wait + Sync> Leader<u64, R> for Sole {
+    fn lead<H: Home>(
+        &mut self,
+        rt: &R,
+        _before: Option<Manned>,
+        table: &mut HandleTable<'_, u64, H>,
+    ) -> Option<Team> {
+        all(rt, table, &SOLE);
+        None
+    }
+}
+
+#[test]
+fn a_sole_table_finds_all_that_is_shelved(rt: HostRuntime) -> Result<(), Fail> {
+    let mut sole = Sole;
+    let census = run_leader(&rt, rt.alloc(), shape(2, 0, 0, 4), 3, &mut sole)?;
+    assert_eq!(rt; census.vacant(), 2);
+    Ok(())
+}
