@@ -3,6 +3,7 @@ use Rattle.std.specs.Prelude.{◌≡◌, All, List, [], ◌∷◌}
 use Rattle.control_word.specs.declared.shape.Shape.{Shape}
 use Rattle.control_block.specs.Census.{CensusNow}
 use Rattle.control_block.specs.Desks.{Begins, DeskNow, DomainNow}
+use Rattle.control_block.specs.Own.{IsSole}
 use Rattle.handle_table.specs.Parting.{AbsorbsAll, IsNew, IsPartedInto, WindsUp}
 use Rattle.handle_table.specs.Programs.{IsClosed}
 use Rattle.handle_table.specs.Tables.{TableNow}
@@ -54,3 +55,11 @@ module _ (V : Type 0) {W : Type 0} where
     pub last : DeskNow V
     pub works : StaffsIn does domain share had has last
     pub closed : IsClosed last shape c
+
+  -- workers worked in a new domain, and the desk that had all that they left had not the whole allowance
+  pub record IsParted (does : Doing V W) (shape : Shape) (share : Share) (had has : List W) : Type 0 where
+    pub domain : DomainNow
+    pub of : domain.shape ≡ shape
+    pub last : DeskNow V
+    pub works : StaffsIn does domain share had has last
+    pub parted : IsSole last → ⊥

@@ -2,6 +2,7 @@
 ghost use Rattle.std.specs.Prelude.{◌≡◌, ◌⊎◌, ◌↔◌, [], All, length, IfErr, IfOk, IfSome};
 ghost use Rattle.control_word.specs.Layout.{IsWithinLimits};
 ghost use Rattle.control_block.specs.Desks.{Begins, Belongs, DeskNow, endings_of};
+ghost use Rattle.control_block.specs.Own.{IsSole};
 ghost use Rattle.shared_handle.specs.Piles.{Bears};
 ghost use Rattle.handle_table.specs.Parting.{AbsorbsAll, IsNew, IsPartedInto, WhyFewer};
 ghost use Rattle.handle_table.specs.Programs.{IsClosed, IsManned, Runs, Works, WorksIn, WorksOut};
@@ -232,7 +233,7 @@ pub(crate) fn close_bare<V: Drop + Send>(
     requires here { Belongs desk domain }
     requires none { Fits desk [] × (endings_of desk ≡ 0) }
     ensures closed { IfOk result (IsClosed desk domain.shape) }
-    ensures refused { IfErr result (λ why. why ≡ Refusal.NotSole) }
+    ensures refused { IfErr result (λ why. (why ≡ Refusal.NotSole) × (IsSole desk → ⊥)) }
 {
     desk.stands();
     match close(domain, desk) {

@@ -7,7 +7,7 @@ ghost use Rattle.control_word.specs.Layout.{IsWithinLimits};
 ghost use Rattle.control_block.specs.Desks.{Begins, Belongs, DeskNow, endings_of};
 ghost use Rattle.shared_handle.specs.Piles.{Bears};
 ghost use Rattle.handle_table.specs.Parting.{IsRefusedPart};
-ghost use Rattle.handle_table.specs.Staffs.{Shifts, Staffs, StaffsIn, StaffsOut};
+ghost use Rattle.handle_table.specs.Staffs.{IsParted, Shifts, Staffs, StaffsIn, StaffsOut};
 ghost use Rattle.handle_table.specs.Tables.{AllVacant, Fits, on_pile};
 
 use crate::opening::{Opened, open_domain};
@@ -202,7 +202,7 @@ fn staff_in<V: Drop + Send, H: Home + Send + Sync, R: Threads + Wait + Sync, W: 
 ///
 /// It is refused `Shape` just where the shape is outside the limits, `Memory` only where a growth was really refused,
 /// `Limit` or `Full` where there is no such share for each, and `NotSole` where a worker kept a table for itself. Only
-/// with the last has any worked.
+/// with the last has any worked, and then `Work::does` holds of each too.
 pub fn run_workers<V: Drop + Send, R: Threads + Wait + Sync, W: Work<V, R> + Send>(
     rt: &R,
     alloc: Global,
@@ -218,6 +218,8 @@ pub fn run_workers<V: Drop + Send, R: Threads + Wait + Sync, W: Work<V, R> + Sen
         (λ why. (why ≡ Refusal.Shape) ⊎ ((why ≡ Refusal.NotSole) ⊎ IsRefusedPart why)) }
     ensures kept { IfErr result
         (λ why. (why ≡ Refusal.NotSole) ⊎ (workers.new.items ≡ workers.old.items)) }
+    ensures parted { IfErr result
+        (λ why. why ≡ Refusal.NotSole → IsParted V W.does shape share workers.old.items workers.new.items) }
 {
     let Opened {
         domain,

@@ -1,5 +1,5 @@
 //! A script on real workers, one a thread.
-ghost use Rattle.std.specs.Prelude.{◌≡◌, ◌⊎◌, ◌*◌, ◌^◌, ◌<◌, ◌≤◌, [], length, map, IfErr};
+ghost use Rattle.std.specs.Prelude.{◌≡◌, ◌*◌, ◌^◌, ◌<◌, ◌≤◌, [], length, map, IfErr};
 ghost use Rattle.std.specs.Prelude.{IfOk, OnOk, vec_capacity};
 ghost use Rattle.std.specs.List.{AllZip};
 ghost use Rattle.control_word.specs.Layout.{IsWithinLimits};
@@ -153,9 +153,11 @@ fn gathered<G>(
 
 /// Runs a script on real workers, one a thread, each with a table of its own: `gate` is told of each statement in its
 /// thread. An object's value is its field 0. Answers what each thread said, in thread order, the totals, and the census
-/// of the domain. It is refused `Memory` where a growth was refused, all of which come before the first worker starts,
-/// or where a worker had no table or found in it what can't be; and `NotSole` where one kept its table, which none
-/// does.
+/// of the domain.
+///
+/// It is refused `Memory` and nothing else: where a growth was refused, all of which come before the first worker
+/// starts; or where a worker found in its table what can't be or kept it, which none does. All workers that were
+/// started have ended then, and there is no report.
 pub fn run_script<R: Threads + Wait + Sync, G: Gate + Sync>(
     rt: &R,
     alloc: Global,
@@ -163,7 +165,7 @@ pub fn run_script<R: Threads + Wait + Sync, G: Gate + Sync>(
     gate: &G,
 ) -> Result<Report, Refusal>
     ensures report { IfOk result (IsReport script.now) }
-    ensures refused { IfErr result (λ why. (why ≡ Refusal.Memory) ⊎ (why ≡ Refusal.NotSole)) }
+    ensures refused { IfErr result (λ why. why ≡ Refusal.Memory) }
 {
     let threads = script.threads();
     let blocks = script.blocks() / threads;
@@ -179,7 +181,6 @@ pub fn run_script<R: Threads + Wait + Sync, G: Gate + Sync>(
     let shape = shape_of(script.blocks(), threads);
     let census = match run_workers::<u64, R, Worker<'_, G>>(rt, alloc, shape, share, &mut workers) {
         Ok(census) => census,
-        Err(Refusal::NotSole) => return Err(Refusal::NotSole),
         Err(_) => return Err(Refusal::Memory),
     };
     let totals = gathered(&mut workers, &mut lines)?;

@@ -1,12 +1,15 @@
 //! Scripts on real workers.
 
 use crate::{Gate, Open, run_script, run_text};
+use control_word::Refusal;
+use ownership_ledger::Totals;
 use script_stepper::Output;
 use script_text::parse;
 use std::alloc::Global;
 use std::hint::spin_loop;
 use std::sync::Wait;
 use std::sync::atomic::{AtomicU32, Ordering};
+use std::test::Fail;
 use std::thread::Threads;
 use step_core::{Answer, Ended, Said};
 
@@ -124,4 +127,46 @@ fn a_report_is_told_thread_by_thread(rt: HostRuntime) {
     let wanted =
         b"1.2 count 1\n1.end end 1 0 0 0\n2.2 count 1\n2.end end 2 0 0 0\nmade 2 ended 2 left 0\n";
     assert!(rt; told.as_slice() == wanted.as_slice());
+}
+
+/// Counts the statements that have begun, and those that have run.
+#[derive(Drop)]
+struct Counting {
+    begun: AtomicU32,
+    run: AtomicU32,
+}
+
+impl Gate for Counting {
+    fn before(&self, _thread: usize, _statement: u32) {
+        self.begun.fetch_add(1, Ordering::SeqCst);
+    }
+
+    fn after(&self, _thread: usize, _statement: u32) {
+        self.run.fetch_add(1, Ordering::SeqCst);
+    }
+}
+
+// `tests/refuse_allocations` refuses each allocation in turn. A run that wants it is refused `Memory` once all that
+// began has run, and the same script runs later.
+#[test]
+fn a_refused_run_leaves_nothing(rt: HostRuntime) -> Result<(), Fail> {
+    let text = b"make a 1\ncopy b a\nthread\nmake c 2\nreset c\n";
+    let script = match parse(rt.alloc(), text) {
+        Ok(script) => script,
+        Err(_) => parse(rt.alloc(), text)?,
+    };
+    let gate = Counting {
+        begun: AtomicU32::new(0),
+        run: AtomicU32::new(0),
+    };
+    let report = match run_script(&rt, rt.alloc(), &script, &gate) {
+        Ok(report) => report,
+        Err(why) => {
+            assert_eq!(rt; why, Refusal::Memory);
+            assert!(rt; gate.begun.load(Ordering::SeqCst) == gate.run.load(Ordering::SeqCst));
+            run_script(&rt, rt.alloc(), &script, &gate)?
+        }
+    };
+    assert_eq!(rt; report.totals, Totals { made: 2, ended: 2 });
+    Ok(())
 }
