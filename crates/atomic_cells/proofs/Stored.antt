@@ -8,11 +8,11 @@ use Rattle.control_word.specs.declared.place.Block.{Block}
 use Rattle.control_word.specs.declared.place.Place.{Place}
 use Rattle.control_block.specs.CellCalls.{handle_in}
 use Rattle.control_block.specs.Clearing.{Lets, LetsWeakly}
-use Rattle.control_block.specs.Desks.{Adds, DeskNow, IsEnding, on_latest, stock_of}
+use Rattle.control_block.specs.Desks.{AddsEvent, DeskNow, IsEnding, on_latest, stock_of}
 use Rattle.control_block.specs.Storing.{Replaces, ReplacesWeakly}
 use Rattle.shared_handle.proofs.Beside.{ends_through_swap, left_apart}
 use Rattle.shared_handle.specs.Calls.{LeavesWeakly}
-use Rattle.shared_handle.specs.Endings.{Ends, IsApart, IsGone, IsLeft, IsLeftOf, IsUncleared, more_ending}
+use Rattle.shared_handle.specs.Endings.{EndsInHand, IsApart, IsGone, IsLeft, IsLeftOf, IsUncleared, more_ending}
 use Rattle.shared_handle.specs.declared.endings.Ending.{Ending}
 use Rattle.shared_handle.specs.declared.endings.Left.{Left}
 use Rattle.shared_handle.specs.declared.endings.Left.TheVariants.{Empty, Last, Others}
@@ -20,7 +20,7 @@ use Rattle.atomic_cells.specs.Cells.{Stores, StoresWeakly}
 
 module _ {V : Type 0} where
   -- an object that begins to end has no member cleared
-  begins : (d : DeskNow V) (x : Ending V) → IsUncleared x → IsEnding d x.block.0 x.value → Ends d x
+  begins : (d : DeskNow V) (x : Ending V) → IsUncleared x → IsEnding d x.block.0 x.value → EndsInHand d x
   begins d x none ends =
       record {
         ends = ends;
@@ -34,7 +34,7 @@ module _ {V : Type 0} where
   is_left d e c p r Empty is lets = let t = subst (λ q. Lets d q p r e) is lets in (is, t.1)
   is_left d e c p r Others is lets =
       let t = subst (λ q. Lets d q p r e) is.1 lets in
-      (is.0, is.1, subst (λ (y : Option V). Adds d (Leave (on_latest d Owner p is.0.0) (is_some y)) e) is.2 t.0)
+      (is.0, is.1, subst (λ (y : Option V). AddsEvent d (Leave (on_latest d Owner p is.0.0) (is_some y)) e) is.2 t.0)
   is_left d e c p r (Last x) is lets =
       let t = subst (λ (y : Option V). Lets d (Some x.block) p y e) is.1 (subst (λ q. Lets d q p r e) is.0 lets) in
       (is.0, t.0, begins e x is.2 t.1, is.2)

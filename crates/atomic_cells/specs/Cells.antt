@@ -7,7 +7,7 @@ use Rattle.control_word.specs.declared.handle.Kind.TheVariants.{Owner, Weak}
 use Rattle.control_word.specs.declared.place.Block.{Block}
 use Rattle.control_word.specs.declared.place.Place.{Place}
 use Rattle.control_block.specs.CellCalls.{handle_in}
-use Rattle.control_block.specs.Desks.{Adds, DeskNow, stock_of}
+use Rattle.control_block.specs.Desks.{AddsEvent, DeskNow, stock_of}
 use Rattle.shared_handle.specs.Calls.{LeavesWeakly}
 use Rattle.shared_handle.specs.Endings.{IsGone, IsLeft}
 use Rattle.shared_handle.specs.declared.endings.Left.{Left}
@@ -15,12 +15,12 @@ use Rattle.shared_handle.specs.declared.endings.Left.{Left}
 module _ {V : Type 0} where
   -- cell c holds this handle now, and the desk has a copy
   abbrev pub Loads : DeskNow V → Cell → Kind → Option Block → Option Place → DeskNow V → Type 0
-  Loads d c k b p e = Adds d (Load c (handle_in e k b p)) e
+  Loads d c k b p e = AddsEvent d (Load c (handle_in e k b p)) e
 
   -- the desk's handle (b, p) went into cell c, and the cell's, (a, q), came out
   abbrev pub Exchanges : DeskNow V → Cell → Kind → Option Block → Option Place → Option Block → Option Place
       → DeskNow V → Type 0
-  Exchanges d c k b p a q e = Adds d (Swap c (handle_in d k b p) (handle_in e k a q)) e
+  Exchanges d c k b p a q e = AddsEvent d (Swap c (handle_in d k b p) (handle_in e k a q)) e
 
   -- the same, and then what came out, (block, place), left
   pub record Stores (d : DeskNow V) (c : Cell) (b : Option Block) (p : Option Place) (left : Left V)

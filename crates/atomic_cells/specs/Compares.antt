@@ -7,7 +7,7 @@ use Rattle.control_word.specs.declared.handle.Kind.{Kind}
 use Rattle.control_word.specs.declared.place.Block.{Block}
 use Rattle.control_word.specs.declared.place.Place.{Place}
 use Rattle.control_block.specs.CellCalls.{handle_in, with_handle, without_handle}
-use Rattle.control_block.specs.Desks.{Adds, DeskNow}
+use Rattle.control_block.specs.Desks.{AddsEvent, DeskNow}
 use Rattle.atomic_cells.specs.declared.compared.Compared.{Compared}
 use Rattle.atomic_cells.specs.declared.compared.Compared.TheVariants.{Differs, Swapped}
 
@@ -21,9 +21,9 @@ has_swapped (Swapped old) = true
 has_swapped (Differs held desired) = false
 
 -- what didn't go in comes back (own)
-abbrev pub GivesBack : {H : Type 0} → H → Compared H → Type 0
-GivesBack d (Swapped old) = Unit {0}
-GivesBack d (Differs held desired) = desired ≡ d
+abbrev pub GivesBackDesired : {H : Type 0} → H → Compared H → Type 0
+GivesBackDesired d (Swapped old) = Unit {0}
+GivesBackDesired d (Differs held desired) = desired ≡ d
 
 -- a bag after a compare: where it swapped, (b, p) went out of it; and what the cell held, (c, q), is in it
 abbrev pub bag_compared : Bool → Kind → Option Block → Option Place → Option Block → Option Place
@@ -37,4 +37,4 @@ module _ {V : Type 0} where
       → Bool → Option Block → Option Place → Bool
       → DeskNow V → Type 0
   Compares d at k eb ep b p swapped c q weak e =
-      Adds d (Compare at (handle_in d k eb ep) (handle_in d k b p) (handle_in e k c q) swapped weak) e
+      AddsEvent d (Compare at (handle_in d k eb ep) (handle_in d k b p) (handle_in e k c q) swapped weak) e

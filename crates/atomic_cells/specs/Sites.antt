@@ -5,7 +5,7 @@ use Rattle.control_word.specs.declared.place.Block.{Block}
 use Rattle.control_word.specs.declared.place.Place.{Place}
 use Rattle.control_word.specs.declared.refusal.Refusal.{Refusal}
 use Rattle.control_word.specs.declared.refusal.Refusal.TheVariants.{Null, Outside}
-use Rattle.control_block.specs.CellCalls.{cell_at}
+use Rattle.control_block.specs.CellCalls.{cell_of_site}
 use Rattle.control_block.specs.Desks.{DeskNow}
 use Rattle.control_block.specs.declared.cell_calls.Site.{Site}
 use Rattle.control_block.specs.declared.cell_calls.Site.TheVariants as inner
@@ -19,13 +19,13 @@ use Rattle.atomic_cells.specs.declared.sites.WeakSite.{WeakSite}
 use Rattle.atomic_cells.specs.declared.sites.WeakSite.TheVariants as weak
 
 -- the members by their numbers
-abbrev pub number_of : SharedMember → ℕ
-number_of First = 0
-number_of Next = 1
+abbrev pub number_of_member : SharedMember → ℕ
+number_of_member First = 0
+number_of_member Next = 1
 
 abbrev pub shared_site : SharedSite → Site
 shared_site (shared.Free n) = inner.Free n
-shared_site (shared.Of b m) = inner.Member b (number_of m)
+shared_site (shared.Of b m) = inner.Member b (number_of_member m)
 
 -- the free weak cells stand behind so many shared ones
 abbrev pub weak_site : ℕ → WeakSite → Site
@@ -47,9 +47,9 @@ IsMember is b p (Err why) = ⊥
 
 module _ {V : Type 0} where
   -- the cell is open to the desk: it is a free one of the shape, or a member of an object that the desk has an owner of
-  abbrev pub IsOpen : DeskNow V → SharedSite → Type 0
-  IsOpen d (shared.Free n) = n < d.shape.shared_cells
-  IsOpen d (shared.Of b m) = HasOwner d (Some b)
+  abbrev pub IsOpenSite : DeskNow V → SharedSite → Type 0
+  IsOpenSite d (shared.Free n) = n < d.shape.shared_cells
+  IsOpenSite d (shared.Of b m) = HasOwner d (Some b)
 
   abbrev pub IsOpenWeakly : DeskNow V → WeakSite → Type 0
   IsOpenWeakly d (weak.Free n) = n < d.shape.weak_cells
@@ -57,7 +57,7 @@ module _ {V : Type 0} where
 
   -- the cell by the desk's history: a member is that of the object last made in the block
   abbrev pub shared_cell : DeskNow V → SharedSite → Cell
-  shared_cell d s = cell_at d (shared_site s)
+  shared_cell d s = cell_of_site d (shared_site s)
 
   abbrev pub weak_cell : DeskNow V → WeakSite → Cell
-  weak_cell d s = cell_at d (weak_site d.shape.shared_cells s)
+  weak_cell d s = cell_of_site d (weak_site d.shape.shared_cells s)

@@ -3,10 +3,10 @@ ghost use Rattle.std.specs.Prelude.{◌≡◌, ◌↔◌, ◌+◌, IfErr, IfOk, 
 ghost use Rattle.control_word.specs.declared.handle.Kind.TheVariants.{Owner};
 ghost use Rattle.control_block.specs.Desks.{Belongs};
 ghost use Rattle.control_block.specs.Desks.{Keeps, KeepsStock, allowance_of, bag_of, endings_of, held_of};
-ghost use Rattle.shared_handle.specs.Calls.{Holds, with_handle, without_handle};
+ghost use Rattle.control_block.specs.CellCalls.{HoldsHandle, with_handle, without_handle};
 ghost use Rattle.shared_handle.specs.Endings.{IsApart, more_ending};
 ghost use Rattle.atomic_cells.specs.Cells.{Exchanges, Loads, Stores};
-ghost use Rattle.atomic_cells.specs.Sites.{IsMember, IsOpen, shared_cell, shared_site};
+ghost use Rattle.atomic_cells.specs.Sites.{IsMember, IsOpenSite, shared_cell, shared_site};
 ghost use Rattle.atomic_cells.specs.declared.shared_at.SharedAt.{SharedAt};
 ghost use Rattle.atomic_cells.specs.declared.sites.SharedSite.TheVariants as site;
 
@@ -71,14 +71,14 @@ impl<'a> SharedAt<'a> {
         desk: &mut Desk<V>,
     ) -> Result<Shared, Refusal>
         requires domain { Belongs desk.old domain.now }
-        requires cell { IsOpen desk.old self.now.site }
+        requires cell { IsOpenSite desk.old self.now.site }
         ensures limit { IsErr result ↔ (held_of desk.old ≡ allowance_of desk.old) }
         ensures refused { IfErr result (λ why. (why ≡ Refusal.Limit) × (desk.new ≡ desk.old)) }
         ensures event { IfOk result
             (λ h. Loads desk.old (shared_cell desk.old self.now.site) Owner h.block h.place desk.new) }
         ensures bag { IfOk result (λ h. bag_of desk.new ≡ with_handle Owner h.block h.place (bag_of desk.old)) }
         ensures held { OnOk result (desk.new.held ≡ desk.old.held + 1) }
-        ensures holds { IfOk result (λ h. Holds desk.new Owner h.block h.place) }
+        ensures holds { IfOk result (λ h. HoldsHandle desk.new Owner h.block h.place) }
         ensures keeps { OnOk result (Keeps desk.old desk.new) }
     {
         let found = cell_calls::load::<V, Brand, R>(rt, domain, desk, self.cell())?;
@@ -95,14 +95,14 @@ impl<'a> SharedAt<'a> {
         handle: Shared,
     ) -> Shared
         requires domain { Belongs desk.old domain.now }
-        requires cell { IsOpen desk.old self.now.site }
-        requires holds { Holds desk.old Owner handle.block handle.place }
+        requires cell { IsOpenSite desk.old self.now.site }
+        requires holds { HoldsHandle desk.old Owner handle.block handle.place }
         ensures event { Exchanges desk.old (shared_cell desk.old self.now.site) Owner handle.block handle.place
             result.block result.place desk.new }
         ensures bag { bag_of desk.new ≡ with_handle Owner result.block result.place
             (without_handle Owner handle.block handle.place (bag_of desk.old)) }
         ensures held { desk.new.held ≡ desk.old.held }
-        ensures holds { Holds desk.new Owner result.block result.place }
+        ensures holds { HoldsHandle desk.new Owner result.block result.place }
         ensures keeps { Keeps desk.old desk.new }
     {
         let (block, place) = handle.into_parts();
@@ -126,8 +126,8 @@ impl<'a> SharedAt<'a> {
         handle: Shared,
     ) -> Left<V>
         requires domain { Belongs desk.old domain.now }
-        requires cell { IsOpen desk.old self.now.site }
-        requires holds { Holds desk.old Owner handle.block handle.place }
+        requires cell { IsOpenSite desk.old self.now.site }
+        requires holds { HoldsHandle desk.old Owner handle.block handle.place }
         ensures stored { Stores desk.old (shared_cell desk.old self.now.site) handle.block
             handle.place result desk.new }
         ensures bag { bag_of desk.new ≡ without_handle Owner handle.block handle.place (bag_of desk.old) }

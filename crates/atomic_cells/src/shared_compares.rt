@@ -4,9 +4,9 @@ ghost use Rattle.control_word.specs.declared.handle.Kind.TheVariants.{Owner};
 ghost use Rattle.control_block.specs.Desks.{Belongs};
 ghost use Rattle.control_block.specs.CellCalls.{handle_in};
 ghost use Rattle.control_block.specs.Desks.{Keeps, allowance_of, bag_of, held_of};
-ghost use Rattle.shared_handle.specs.Calls.{Holds};
-ghost use Rattle.atomic_cells.specs.Compares.{Compares, GivesBack, bag_compared, came_out, has_swapped};
-ghost use Rattle.atomic_cells.specs.Sites.{IsOpen, shared_cell};
+ghost use Rattle.control_block.specs.CellCalls.{HoldsHandle};
+ghost use Rattle.atomic_cells.specs.Compares.{Compares, GivesBackDesired, bag_compared, came_out, has_swapped};
+ghost use Rattle.atomic_cells.specs.Sites.{IsOpenSite, shared_cell};
 
 use crate::compared::Compared;
 use crate::shared_at::SharedAt;
@@ -31,9 +31,9 @@ impl<'a> SharedAt<'a> {
         desired: Shared,
     ) -> Result<Compared<Shared>, Refused<Shared>>
         requires domain { Belongs desk.old domain.now }
-        requires cell { IsOpen desk.old self.now.site }
-        requires holds { Holds desk.old Owner expected.now.block expected.now.place
-            × Holds desk.old Owner desired.block desired.place }
+        requires cell { IsOpenSite desk.old self.now.site }
+        requires holds { HoldsHandle desk.old Owner expected.now.block expected.now.place
+            × HoldsHandle desk.old Owner desired.block desired.place }
         requires meant { (A.cell ≡ shared_cell desk.old self.now.site)
             × (A.expected ≡ handle_in desk.old Owner expected.now.block expected.now.place)
             × (A.new ≡ handle_in desk.old Owner desired.block desired.place) }
@@ -43,12 +43,12 @@ impl<'a> SharedAt<'a> {
         ensures compared { IfOk result (λ c. let h = came_out c in
             Compares desk.old (shared_cell desk.old self.now.site) Owner expected.now.block expected.now.place
             desired.block desired.place (has_swapped c) h.block h.place A.weak desk.new) }
-        ensures back { IfOk result (λ c. GivesBack desired c) }
+        ensures back { IfOk result (λ c. GivesBackDesired desired c) }
         ensures bag { IfOk result (λ c. let h = came_out c in
             bag_of desk.new ≡ bag_compared (has_swapped c) Owner desired.block desired.place h.block
             h.place (bag_of desk.old)) }
         ensures held { IfOk result (λ c. desk.new.held ≡ desk.old.held + cond (has_swapped c) 0 1) }
-        ensures holds { IfOk result (λ c. Holds desk.new Owner (came_out c).block (came_out c).place) }
+        ensures holds { IfOk result (λ c. HoldsHandle desk.new Owner (came_out c).block (came_out c).place) }
         ensures keeps { OnOk result (Keeps desk.old desk.new) }
     {
         let (block, place) = desired.into_parts();
@@ -95,21 +95,21 @@ impl<'a> SharedAt<'a> {
         desired: Shared,
     ) -> Result<Compared<Shared>, Refused<Shared>>
         requires domain { Belongs desk.old domain.now }
-        requires cell { IsOpen desk.old self.now.site }
-        requires holds { Holds desk.old Owner expected.now.block expected.now.place
-            × Holds desk.old Owner desired.block desired.place }
+        requires cell { IsOpenSite desk.old self.now.site }
+        requires holds { HoldsHandle desk.old Owner expected.now.block expected.now.place
+            × HoldsHandle desk.old Owner desired.block desired.place }
         ensures limit { IsErr result ↔ (held_of desk.old ≡ allowance_of desk.old) }
         ensures refused { IfErr result
             (λ r. (r.why ≡ Refusal.Limit) × (r.back ≡ desired) × (desk.new ≡ desk.old)) }
         ensures compared { IfOk result (λ c. let h = came_out c in
             Compares desk.old (shared_cell desk.old self.now.site) Owner expected.now.block expected.now.place
             desired.block desired.place (has_swapped c) h.block h.place false desk.new) }
-        ensures back { IfOk result (λ c. GivesBack desired c) }
+        ensures back { IfOk result (λ c. GivesBackDesired desired c) }
         ensures bag { IfOk result (λ c. let h = came_out c in
             bag_of desk.new ≡ bag_compared (has_swapped c) Owner desired.block desired.place h.block
             h.place (bag_of desk.old)) }
         ensures held { IfOk result (λ c. desk.new.held ≡ desk.old.held + cond (has_swapped c) 0 1) }
-        ensures holds { IfOk result (λ c. Holds desk.new Owner (came_out c).block (came_out c).place) }
+        ensures holds { IfOk result (λ c. HoldsHandle desk.new Owner (came_out c).block (came_out c).place) }
         ensures keeps { OnOk result (Keeps desk.old desk.new) }
     {
         self.compare_as::<V, Brand, R>(rt, domain, desk, expected, desired)
@@ -125,21 +125,21 @@ impl<'a> SharedAt<'a> {
         desired: Shared,
     ) -> Result<Compared<Shared>, Refused<Shared>>
         requires domain { Belongs desk.old domain.now }
-        requires cell { IsOpen desk.old self.now.site }
-        requires holds { Holds desk.old Owner expected.now.block expected.now.place
-            × Holds desk.old Owner desired.block desired.place }
+        requires cell { IsOpenSite desk.old self.now.site }
+        requires holds { HoldsHandle desk.old Owner expected.now.block expected.now.place
+            × HoldsHandle desk.old Owner desired.block desired.place }
         ensures limit { IsErr result ↔ (held_of desk.old ≡ allowance_of desk.old) }
         ensures refused { IfErr result
             (λ r. (r.why ≡ Refusal.Limit) × (r.back ≡ desired) × (desk.new ≡ desk.old)) }
         ensures compared { IfOk result (λ c. let h = came_out c in
             Compares desk.old (shared_cell desk.old self.now.site) Owner expected.now.block expected.now.place
             desired.block desired.place (has_swapped c) h.block h.place true desk.new) }
-        ensures back { IfOk result (λ c. GivesBack desired c) }
+        ensures back { IfOk result (λ c. GivesBackDesired desired c) }
         ensures bag { IfOk result (λ c. let h = came_out c in
             bag_of desk.new ≡ bag_compared (has_swapped c) Owner desired.block desired.place h.block
             h.place (bag_of desk.old)) }
         ensures held { IfOk result (λ c. desk.new.held ≡ desk.old.held + cond (has_swapped c) 0 1) }
-        ensures holds { IfOk result (λ c. Holds desk.new Owner (came_out c).block (came_out c).place) }
+        ensures holds { IfOk result (λ c. HoldsHandle desk.new Owner (came_out c).block (came_out c).place) }
         ensures keeps { OnOk result (Keeps desk.old desk.new) }
     {
         self.compare_as::<V, Brand, R>(rt, domain, desk, expected, desired)

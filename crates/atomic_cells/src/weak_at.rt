@@ -3,7 +3,7 @@ ghost use Rattle.std.specs.Prelude.{◌≡◌, ◌↔◌, ◌+◌, IfErr, IfOk, 
 ghost use Rattle.control_word.specs.declared.handle.Kind.TheVariants.{Weak};
 ghost use Rattle.control_block.specs.Desks.{Belongs};
 ghost use Rattle.control_block.specs.Desks.{IsSameDesk, Keeps, KeepsEndings, allowance_of, bag_of, endings_of, held_of};
-ghost use Rattle.shared_handle.specs.Calls.{Holds, with_handle, without_handle};
+ghost use Rattle.control_block.specs.CellCalls.{HoldsHandle, with_handle, without_handle};
 ghost use Rattle.atomic_cells.specs.Cells.{Exchanges, Loads, StoresWeakly};
 ghost use Rattle.atomic_cells.specs.Sites.{IsFewWeak, IsMember, IsOpenWeakly, weak_cell, weak_site};
 ghost use Rattle.atomic_cells.specs.declared.sites.WeakSite.TheVariants as site;
@@ -83,7 +83,7 @@ impl<'a> WeakAt<'a> {
             (λ h. Loads desk.old (weak_cell desk.old self.now.site) Weak h.block h.place desk.new) }
         ensures bag { IfOk result (λ h. bag_of desk.new ≡ with_handle Weak h.block h.place (bag_of desk.old)) }
         ensures held { OnOk result (desk.new.held ≡ desk.old.held + 1) }
-        ensures holds { IfOk result (λ h. Holds desk.new Weak h.block h.place) }
+        ensures holds { IfOk result (λ h. HoldsHandle desk.new Weak h.block h.place) }
         ensures keeps { OnOk result (Keeps desk.old desk.new) }
     {
         let found = cell_calls::load::<V, Brand, R>(rt, domain, desk, self.cell(domain))?;
@@ -101,13 +101,13 @@ impl<'a> WeakAt<'a> {
     ) -> handles::Weak
         requires domain { Belongs desk.old domain.now }
         requires cell { IsOpenWeakly desk.old self.now.site }
-        requires holds { Holds desk.old Weak handle.block handle.place }
+        requires holds { HoldsHandle desk.old Weak handle.block handle.place }
         ensures event { Exchanges desk.old (weak_cell desk.old self.now.site) Weak handle.block handle.place
             result.block result.place desk.new }
         ensures bag { bag_of desk.new ≡ with_handle Weak result.block result.place
             (without_handle Weak handle.block handle.place (bag_of desk.old)) }
         ensures held { desk.new.held ≡ desk.old.held }
-        ensures holds { Holds desk.new Weak result.block result.place }
+        ensures holds { HoldsHandle desk.new Weak result.block result.place }
         ensures keeps { Keeps desk.old desk.new }
     {
         let (block, place) = handle.into_parts();
@@ -132,7 +132,7 @@ impl<'a> WeakAt<'a> {
     ) -> Left<V>
         requires domain { Belongs desk.old domain.now }
         requires cell { IsOpenWeakly desk.old self.now.site }
-        requires holds { Holds desk.old Weak handle.block handle.place }
+        requires holds { HoldsHandle desk.old Weak handle.block handle.place }
         ensures stored { StoresWeakly desk.old (weak_cell desk.old self.now.site) handle.block
             handle.place result desk.new }
         ensures bag { bag_of desk.new ≡ without_handle Weak handle.block handle.place (bag_of desk.old) }

@@ -4,8 +4,8 @@ ghost use Rattle.control_word.specs.declared.handle.Kind.TheVariants.{Weak};
 ghost use Rattle.control_block.specs.Desks.{Belongs};
 ghost use Rattle.control_block.specs.CellCalls.{handle_in};
 ghost use Rattle.control_block.specs.Desks.{Keeps, allowance_of, bag_of, held_of};
-ghost use Rattle.shared_handle.specs.Calls.{Holds};
-ghost use Rattle.atomic_cells.specs.Compares.{Compares, GivesBack, bag_compared, came_out, has_swapped};
+ghost use Rattle.control_block.specs.CellCalls.{HoldsHandle};
+ghost use Rattle.atomic_cells.specs.Compares.{Compares, GivesBackDesired, bag_compared, came_out, has_swapped};
 ghost use Rattle.atomic_cells.specs.Sites.{IsOpenWeakly, weak_cell};
 
 use crate::compared::Compared;
@@ -31,8 +31,8 @@ impl<'a> WeakAt<'a> {
     ) -> Result<Compared<handles::Weak>, Refused<handles::Weak>>
         requires domain { Belongs desk.old domain.now }
         requires cell { IsOpenWeakly desk.old self.now.site }
-        requires holds { Holds desk.old Weak expected.now.block expected.now.place
-            × Holds desk.old Weak desired.block desired.place }
+        requires holds { HoldsHandle desk.old Weak expected.now.block expected.now.place
+            × HoldsHandle desk.old Weak desired.block desired.place }
         requires meant { (A.cell ≡ weak_cell desk.old self.now.site)
             × (A.expected ≡ handle_in desk.old Weak expected.now.block expected.now.place)
             × (A.new ≡ handle_in desk.old Weak desired.block desired.place) }
@@ -42,12 +42,12 @@ impl<'a> WeakAt<'a> {
         ensures compared { IfOk result (λ c. let h = came_out c in
             Compares desk.old (weak_cell desk.old self.now.site) Weak expected.now.block expected.now.place
             desired.block desired.place (has_swapped c) h.block h.place A.weak desk.new) }
-        ensures back { IfOk result (λ c. GivesBack desired c) }
+        ensures back { IfOk result (λ c. GivesBackDesired desired c) }
         ensures bag { IfOk result (λ c. let h = came_out c in
             bag_of desk.new ≡ bag_compared (has_swapped c) Weak desired.block desired.place h.block
             h.place (bag_of desk.old)) }
         ensures held { IfOk result (λ c. desk.new.held ≡ desk.old.held + cond (has_swapped c) 0 1) }
-        ensures holds { IfOk result (λ c. Holds desk.new Weak (came_out c).block (came_out c).place) }
+        ensures holds { IfOk result (λ c. HoldsHandle desk.new Weak (came_out c).block (came_out c).place) }
         ensures keeps { OnOk result (Keeps desk.old desk.new) }
     {
         let (block, place) = desired.into_parts();
@@ -95,20 +95,20 @@ impl<'a> WeakAt<'a> {
     ) -> Result<Compared<handles::Weak>, Refused<handles::Weak>>
         requires domain { Belongs desk.old domain.now }
         requires cell { IsOpenWeakly desk.old self.now.site }
-        requires holds { Holds desk.old Weak expected.now.block expected.now.place
-            × Holds desk.old Weak desired.block desired.place }
+        requires holds { HoldsHandle desk.old Weak expected.now.block expected.now.place
+            × HoldsHandle desk.old Weak desired.block desired.place }
         ensures limit { IsErr result ↔ (held_of desk.old ≡ allowance_of desk.old) }
         ensures refused { IfErr result
             (λ r. (r.why ≡ Refusal.Limit) × (r.back ≡ desired) × (desk.new ≡ desk.old)) }
         ensures compared { IfOk result (λ c. let h = came_out c in
             Compares desk.old (weak_cell desk.old self.now.site) Weak expected.now.block expected.now.place
             desired.block desired.place (has_swapped c) h.block h.place false desk.new) }
-        ensures back { IfOk result (λ c. GivesBack desired c) }
+        ensures back { IfOk result (λ c. GivesBackDesired desired c) }
         ensures bag { IfOk result (λ c. let h = came_out c in
             bag_of desk.new ≡ bag_compared (has_swapped c) Weak desired.block desired.place h.block
             h.place (bag_of desk.old)) }
         ensures held { IfOk result (λ c. desk.new.held ≡ desk.old.held + cond (has_swapped c) 0 1) }
-        ensures holds { IfOk result (λ c. Holds desk.new Weak (came_out c).block (came_out c).place) }
+        ensures holds { IfOk result (λ c. HoldsHandle desk.new Weak (came_out c).block (came_out c).place) }
         ensures keeps { OnOk result (Keeps desk.old desk.new) }
     {
         self.compare_as::<V, Brand, R>(rt, domain, desk, expected, desired)
@@ -125,20 +125,20 @@ impl<'a> WeakAt<'a> {
     ) -> Result<Compared<handles::Weak>, Refused<handles::Weak>>
         requires domain { Belongs desk.old domain.now }
         requires cell { IsOpenWeakly desk.old self.now.site }
-        requires holds { Holds desk.old Weak expected.now.block expected.now.place
-            × Holds desk.old Weak desired.block desired.place }
+        requires holds { HoldsHandle desk.old Weak expected.now.block expected.now.place
+            × HoldsHandle desk.old Weak desired.block desired.place }
         ensures limit { IsErr result ↔ (held_of desk.old ≡ allowance_of desk.old) }
         ensures refused { IfErr result
             (λ r. (r.why ≡ Refusal.Limit) × (r.back ≡ desired) × (desk.new ≡ desk.old)) }
         ensures compared { IfOk result (λ c. let h = came_out c in
             Compares desk.old (weak_cell desk.old self.now.site) Weak expected.now.block expected.now.place
             desired.block desired.place (has_swapped c) h.block h.place true desk.new) }
-        ensures back { IfOk result (λ c. GivesBack desired c) }
+        ensures back { IfOk result (λ c. GivesBackDesired desired c) }
         ensures bag { IfOk result (λ c. let h = came_out c in
             bag_of desk.new ≡ bag_compared (has_swapped c) Weak desired.block desired.place h.block
             h.place (bag_of desk.old)) }
         ensures held { IfOk result (λ c. desk.new.held ≡ desk.old.held + cond (has_swapped c) 0 1) }
-        ensures holds { IfOk result (λ c. Holds desk.new Weak (came_out c).block (came_out c).place) }
+        ensures holds { IfOk result (λ c. HoldsHandle desk.new Weak (came_out c).block (came_out c).place) }
         ensures keeps { OnOk result (Keeps desk.old desk.new) }
     {
         self.compare_as::<V, Brand, R>(rt, domain, desk, expected, desired)

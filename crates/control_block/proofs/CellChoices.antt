@@ -11,9 +11,9 @@ use Rattle.control_word.specs.declared.handle.Handle.{Handle}
 use Rattle.control_word.specs.declared.handle.Kind.{Kind}
 use Rattle.control_word.specs.declared.place.Block.{Block}
 use Rattle.control_word.specs.declared.place.Place.{Place}
-use Rattle.control_block.specs.CellCalls.{Holds, without_handle}
+use Rattle.control_block.specs.CellCalls.{HoldsHandle, without_handle}
 use Rattle.control_block.specs.Desks.{DeskNow}
-use Rattle.control_block.specs.Plays.{Holding, known}
+use Rattle.control_block.specs.Plays.{HoldingInBlock, known}
 use Rattle.control_block.specs.declared.board.Sight.{Sight}
 use Rattle.control_block.proofs.CellDesks.{in_seat, one}
 use Rattle.control_block.proofs.CellTrades.{Trades, compare_trades, differ_trades}
@@ -52,13 +52,13 @@ module _ {V : Type 0} where
       subst (λ (z : Handle). Trades {V = V} (λ h. Compare c expected new h true weak) z) is (compare_trades V c expected new weak)
   trades_of v k b p c expected new weak is false = differ_trades V c k expected new weak
 
-  pub mine_of : (v : Sight V) (k : Kind) (b : Option Block) (p : Option Place) (s : Bool) → IfSome b (λ a. Holding v k ((known v).latest a.0) p a.0)
-      → IfSome (cond s b None) (λ a. Holding v k ((known v).latest a.0) (cond s p None) a.0)
+  pub mine_of : (v : Sight V) (k : Kind) (b : Option Block) (p : Option Place) (s : Bool) → IfSome b (λ a. HoldingInBlock v k ((known v).latest a.0) p a.0)
+      → IfSome (cond s b None) (λ a. HoldingInBlock v k ((known v).latest a.0) (cond s p None) a.0)
   mine_of v k b p true t = t
   mine_of v k b p false t = tt
 
-  pub has_of : (y : DeskNow V) (k : Kind) (b : Option Block) (p : Option Place) (s : Bool) → Holds y k b p
-      → Holds y k (cond s b None) (cond s p None) ⊎ (cond s b None ≡ None)
+  pub has_of : (y : DeskNow V) (k : Kind) (b : Option Block) (p : Option Place) (s : Bool) → HoldsHandle y k b p
+      → HoldsHandle y k (cond s b None) (cond s p None) ⊎ (cond s b None ≡ None)
   has_of y k b p true t = inl t
   has_of y k b p false t = inr refl
 

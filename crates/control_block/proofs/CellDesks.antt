@@ -28,13 +28,13 @@ use Rattle.control_word.specs.declared.view.Pending.TheVariants.{Idle}
 use Rattle.control_word.specs.Laws.{IsCell}
 use Rattle.control_word.specs.declared.event.Cell.{Cell}
 use Rattle.control_word.specs.declared.event.Cell.TheVariants.{Free, Member}
-use Rattle.control_block.specs.CellCalls.{Holds, object_by, with_handle, without_handle}
+use Rattle.control_block.specs.CellCalls.{HoldsHandle, object_by, with_handle, without_handle}
 use Rattle.control_block.specs.CellPlays.{IsWordOf}
 use Rattle.control_block.specs.CellRounds.{CameOut, IsCounted}
 use Rattle.control_block.specs.Desks.{DeskNow, bag_of}
 use Rattle.control_block.specs.Handles.{IsProper}
 use Rattle.control_block.specs.Inside.{IsDesk, desk_now}
-use Rattle.control_block.specs.Plays.{Added, HasRoomFor, Holding, known}
+use Rattle.control_block.specs.Plays.{Added, HasRoomFor, HoldingInBlock, known}
 use Rattle.control_block.specs.Rule.{opening_of, seeing}
 use Rattle.control_block.specs.declared.board.Sight.{Sight}
 use Rattle.control_block.specs.declared.desk.Desk.TheInside.{Inside}
@@ -76,22 +76,22 @@ module _ {V : Type 0} where
 
   -- a handle that the desk has
   module _ (d : Inside V) (y : DeskNow V) (k : Kind) (p : Option Place) (h : IsDesk d) (is : desk_now d ≡ y) where
-    pub lost_holding : (b : Option Block) → Holds y k b p
-        → IfSome b (λ c. Holding d.seat.me.0 k (object_of (in_seat d.seat.me.0 k b p)) p c.0)
+    pub lost_holding : (b : Option Block) → HoldsHandle y k b p
+        → IfSome b (λ c. HoldingInBlock d.seat.me.0 k (object_of (in_seat d.seat.me.0 k b p)) p c.0)
     lost_holding None has = tt
     lost_holding (Some b) has = holding_in d y k p b.0 h is has
 
-    pub lost_counted : (b : Option Block) (id : TableId) → d.seat.table_id ≡ id → Holds y k b p → IfSome b (λ c. IsCounted k c id)
+    pub lost_counted : (b : Option Block) (id : TableId) → d.seat.table_id ≡ id → HoldsHandle y k b p → IfSome b (λ c. IsCounted k c id)
     lost_counted None id table has = tt
     lost_counted (Some b) id table has = word_inside d id k _ p b.0 (Rattle.control_word.specs.Words.slot k) h table
         (holding_in d y k p b.0 h is has) (slot_low k)
 
-    pub lost_hand : (b : Option Block) → Holds y k b p → IsProper k b p
+    pub lost_hand : (b : Option Block) → HoldsHandle y k b p → IsProper k b p
         → InHand (known d.seat.me.0) d.seat.me.0.view.name k (in_seat d.seat.me.0 k b p)
     lost_hand None has proper = (refl, inl (refl, proper))
     lost_hand (Some b) has proper = (refl, inr ((holding_in d y k p b.0 h is has).has, refl, refl))
 
-    pub lost_shows : (b : Option Block) → Holds y k b p → IsWordOf d.seat.me.0 (in_seat d.seat.me.0 k b p) record { owned = b; place = p; taken = 0 }
+    pub lost_shows : (b : Option Block) → HoldsHandle y k b p → IsWordOf d.seat.me.0 (in_seat d.seat.me.0 k b p) record { owned = b; place = p; taken = 0 }
     lost_shows None has = refl
     lost_shows (Some b) has = λ i. record { owned = Some record { 0 = sym (holding_in d y k p b.0 h is has).there i }; place = p; taken = 0 }
 
@@ -99,7 +99,7 @@ module _ {V : Type 0} where
     place_fits None t = tt
     place_fits (Some q) t = ((omega arith, omega arith), omega arith)
 
-    pub lost_word : (b : Option Block) → Holds y k b p → IsProper k b p → IsCellWord record { owned = b; place = p; taken = 0 }
+    pub lost_word : (b : Option Block) → HoldsHandle y k b p → IsProper k b p → IsCellWord record { owned = b; place = p; taken = 0 }
     lost_word None has proper = record { owned = tt; place = place_fits p proper.0; taken = omega arith }
     lost_word (Some b) has proper =
         let v = d.seat.me.0 in let z = opening_of v.shape in let t = holding_in d y k p b.0 h is has in
@@ -109,7 +109,7 @@ module _ {V : Type 0} where
         let formed = (are_formed z v.view.seen h.legal).0 v.view.name x t.has in
         record { owned = (omega arith, omega arith); place = place_fits p formed.0; taken = omega arith }
 
-    pub lost_room : (b : Option Block) → Holds y k b p → (in_seat d.seat.me.0 k b p).object ≡ None → HasRoomFor d.seat.me.0
+    pub lost_room : (b : Option Block) → HoldsHandle y k b p → (in_seat d.seat.me.0 k b p).object ≡ None → HasRoomFor d.seat.me.0
     lost_room None has none =
         let v = d.seat.me.0 in let n = length-map (bag (known v) v.view.name) (seen_as (known v)) in
         let more : length (bag_of (desk_now d)) < d.held = subst (λ (u : DeskNow V). length (bag_of u) < u.held) (sym is) has in
@@ -117,19 +117,19 @@ module _ {V : Type 0} where
     lost_room (Some b) has none = absurd (cc none)
 
   -- its object, and room for what comes out in its place
-  pub lost_mine : (v : Sight V) (k : Kind) (p : Option Place) (b : Option Block) → IfSome b (λ c. Holding v k (object_of (in_seat v k b p)) p c.0)
-      → IfSome b (λ c. Holding v k ((known v).latest c.0) p c.0)
+  pub lost_mine : (v : Sight V) (k : Kind) (p : Option Place) (b : Option Block) → IfSome b (λ c. HoldingInBlock v k (object_of (in_seat v k b p)) p c.0)
+      → IfSome b (λ c. HoldingInBlock v k ((known v).latest c.0) p c.0)
   lost_mine v k p None t = tt
   lost_mine v k p (Some b) t = t
 
-  pub fits : (d : Inside V) (k : Kind) (p : Option Place) (b : Option Block) → IsDesk d → Holds (desk_now d) k b p
+  pub fits : (d : Inside V) (k : Kind) (p : Option Place) (b : Option Block) → IsDesk d → HoldsHandle (desk_now d) k b p
       → bag_size (known d.seat.me.0) d.seat.me.0.view.name + 1 ≤ d.held + one b
   fits d k p None h has =
       let v = d.seat.me.0 in let n = length-map (bag (known v) v.view.name) (seen_as (known v)) in omega (arith, n, has)
   fits d k p (Some b) h has = omega (arith, h.holding)
 
   -- who has a handle, an empty one too, holds at least one
-  pub lost_some : (d : Inside V) (k : Kind) (p : Option Place) (b : Option Block) → IsDesk d → Holds (desk_now d) k b p → 0 < d.held
+  pub lost_some : (d : Inside V) (k : Kind) (p : Option Place) (b : Option Block) → IsDesk d → HoldsHandle (desk_now d) k b p → 0 < d.held
   lost_some d k p None h has = omega arith
   lost_some d k p (Some b) h has = holds_some d k _ p b.0 h (holding_in d (desk_now d) k p b.0 h refl has)
 
@@ -145,7 +145,7 @@ module _ {V : Type 0} where
     abbrev own : List Held → List Handle
     own l = map shown_by (filter (λ (x : Held). x.desk == d.seat.me.0.view.name) l)
 
-    left : (b : Option Block) (p : Option Place) → IfSome b (λ c. Holding d.seat.me.0 k ((known d.seat.me.0).latest c.0) p c.0)
+    left : (b : Option Block) (p : Option Place) → IfSome b (λ c. HoldingInBlock d.seat.me.0 k ((known d.seat.me.0).latest c.0) p c.0)
         → own (loses d.seat.me.0.view.name (in_seat d.seat.me.0 k b p) (leads (opening_of d.seat.me.0.shape) (between ++ d.seat.me.0.view.seen))).hands
         ≡ without_handle k b p (bag_of (desk_now d))
     left None p has =
@@ -170,7 +170,7 @@ module _ {V : Type 0} where
         ap (map shown_by) (part_mine (λ (q : Held). q.desk) n x l refl)
         ∙ (λ i. handle k (Some (there i)) p ∷ is i)
 
-    bag_then : (b c : Option Block) (p q : Option Place) → IfSome b (λ a. Holding d.seat.me.0 k ((known d.seat.me.0).latest a.0) p a.0)
+    bag_then : (b c : Option Block) (p q : Option Place) → IfSome b (λ a. HoldingInBlock d.seat.me.0 k ((known d.seat.me.0).latest a.0) p a.0)
         → IfSome c (λ a. blocks_of (known then') ((known then').latest a.0) ≡ a.0)
         → (let t = leads (opening_of d.seat.me.0.shape) (between ++ d.seat.me.0.view.seen) in let n = d.seat.me.0.view.name in
         (after t n e).hands ≡ (gets n (in_seat then' k c q) (loses n (in_seat d.seat.me.0 k b p) t)).hands)
@@ -182,7 +182,7 @@ module _ {V : Type 0} where
   -- what a call on a cell leaves, where a handle came out of it
   module _ (d : Inside V) (h : IsDesk d) (w : Sight V) (e : Handle → Event V) (k : Kind) (x : CellWord) (b : Option Block) (p : Option Place)
       (trades : Trades e (in_seat d.seat.me.0 k b p)) (c : CameOut e k d.seat.me.0 x w)
-      (mine : IfSome b (λ a. Holding d.seat.me.0 k ((known d.seat.me.0).latest a.0) p a.0)) where
+      (mine : IfSome b (λ a. HoldingInBlock d.seat.me.0 k ((known d.seat.me.0).latest a.0) p a.0)) where
     got_is : c.handle ≡ in_seat w k x.owned x.place
     got_is = let o = object x.owned refl in λ i. record { kind = c.kind i; object = o i; place = sym (ap (λ y. y.place) c.shows) i }
       where
@@ -193,28 +193,28 @@ module _ {V : Type 0} where
     pub event_is : Added d.seat.me.0 Idle None (e (in_seat w k x.owned x.place)) w
     event_is = subst (λ (y : Handle). Added d.seat.me.0 Idle None (e y) w) got_is c.event
 
-    pub got_holding : IfSome x.owned (λ a. Holding w k ((known w).latest a.0) x.place a.0)
+    pub got_holding : IfSome x.owned (λ a. HoldingInBlock w k ((known w).latest a.0) x.place a.0)
     got_holding = came_holding e k d.seat.me.0 w x (in_seat d.seat.me.0 k b p) trades c
 
     pub bag_is : shown (known w) w.view.name ≡ with_handle k x.owned x.place (without_handle k b p (bag_of (desk_now d)))
     bag_is =
         let a = c.event in let v = d.seat.me.0 in let t = leads (opening_of v.shape) (a.between ++ v.view.seen) in let n = v.view.name in
         let got = subst (λ (u : Sight V). c.handle ≡ in_seat u k x.owned x.place) a.now got_is in
-        let there = subst (λ (u : Sight V). IfSome x.owned (λ y. Holding u k ((known u).latest y.0) x.place y.0)) a.now got_holding in
+        let there = subst (λ (u : Sight V). IfSome x.owned (λ y. HoldingInBlock u k ((known u).latest y.0) x.place y.0)) a.now got_holding in
         subst (λ (u : Sight V). shown (known u) u.view.name ≡ with_handle k x.owned x.place (without_handle k b p (bag_of (desk_now d)))) (sym a.now)
         (bag_then d h (e c.handle) a.between a.quiet k b x.owned p x.place mine (just_there _ x.owned there)
         (trades t n c.handle ∙ ap (λ (y : Handle). (gets n y (loses n (in_seat v k b p) t)).hands) got))
       where
-        just_there : (u : Sight V) (q : Option Block) → IfSome q (λ y. Holding u k ((known u).latest y.0) x.place y.0)
+        just_there : (u : Sight V) (q : Option Block) → IfSome q (λ y. HoldingInBlock u k ((known u).latest y.0) x.place y.0)
             → IfSome q (λ y. blocks_of (known u) ((known u).latest y.0) ≡ y.0)
         just_there u None t = tt
         just_there u (Some y) t = t.there
 
-    pub size_is : Holds (desk_now d) k b p ⊎ (b ≡ None)
+    pub size_is : HoldsHandle (desk_now d) k b p ⊎ (b ≡ None)
         → bag_size (known w) w.view.name + one b ≡ bag_size (known d.seat.me.0) d.seat.me.0.view.name + one x.owned
     size_is has = size b has bag_is
       where
-        size : (q : Option Block) → Holds (desk_now d) k q p ⊎ (q ≡ None)
+        size : (q : Option Block) → HoldsHandle (desk_now d) k q p ⊎ (q ≡ None)
             → shown (known w) w.view.name ≡ with_handle k x.owned x.place (without_handle k q p (bag_of (desk_now d)))
             → bag_size (known w) w.view.name + one q ≡ bag_size (known d.seat.me.0) d.seat.me.0.view.name + one x.owned
         size q has is =
@@ -223,13 +223,14 @@ module _ {V : Type 0} where
             let s = with_size k x.owned x.place (without_handle k q p l) in let t = without_size k q p l (there q has) in let f = ap length is in
             omega arith
           where
-            there : (r : Option Block) → Holds (desk_now d) k r p ⊎ (r ≡ None) → IfSome r (λ y. Has (handle k (Some y.0) p) (bag_of (desk_now d)))
+            there : (r : Option Block) → HoldsHandle (desk_now d) k r p ⊎ (r ≡ None)
+                → IfSome r (λ y. Has (handle k (Some y.0) p) (bag_of (desk_now d)))
             there None t = tt
             there (Some y) (inl t) = t
             there (Some y) (inr t) = absurd (cc t)
 
   pub holds_after : (y : DeskNow V) (k : Kind) (b : Option Block) (p : Option Place) (m : List Handle) → bag_of y ≡ with_handle k b p m
-      → (b ≡ None → length (bag_of y) < y.held) → Holds y k b p
+      → (b ≡ None → length (bag_of y) < y.held) → HoldsHandle y k b p
   holds_after y k None p m is few = few refl
   holds_after y k (Some b) p m is few = subst (Has (handle k (Some b.0) p)) (sym is) (inl refl)
 

@@ -23,7 +23,7 @@ use Rattle.control_block.specs.CellPlays.{Gave, IsCellAt, IsWordOf, Took, debt, 
 use Rattle.control_block.specs.CellRounds.{CameOut, IsCounted}
 use Rattle.control_block.specs.FundPlays.{Owes, owing}
 use Rattle.control_block.specs.Inside.{IsSized}
-use Rattle.control_block.specs.Plays.{Added, At, Holding, Rests, goes_on, in_call, known, tells}
+use Rattle.control_block.specs.Plays.{Added, At, HoldingInBlock, Rests, goes_on, in_call, known, tells}
 use Rattle.control_block.specs.Rule.{opening_of}
 use Rattle.control_block.specs.declared.board.Sight.{Sight}
 use Rattle.control_block.proofs.Chairs.{added_as}
@@ -220,7 +220,7 @@ module _ {V : Type 0} where
   -- what came out is held, on the object last made in its block
   pub came_object : (e : Handle → Event V) (k : Kind) (v w : Sight V) (x : CellWord) (lost : Handle) (b : Block) → Trades e lost
       → (c : CameOut e k v x w) → x.owned ≡ Some b
-      → (c.handle.object ≡ Some ((known w).latest b.0)) × Holding w k ((known w).latest b.0) x.place b.0
+      → (c.handle.object ≡ Some ((known w).latest b.0)) × HoldingInBlock w k ((known w).latest b.0) x.place b.0
   came_object e k v w x lost b trades c is =
       let o = object_shown (blocks_of (known w)) c.handle.object b (sym (ap (λ y. y.owned) c.shows) ∙ is) in
       let a = c.event in let has = in_bag v w Idle e lost c.handle o.0 trades a o.1 in
@@ -241,10 +241,10 @@ module _ {V : Type 0} where
       )
 
   pub came_holding : (e : Handle → Event V) (k : Kind) (v w : Sight V) (x : CellWord) (lost : Handle) → Trades e lost → CameOut e k v x w
-      → IfSome x.owned (λ b. Holding w k ((known w).latest b.0) x.place b.0)
+      → IfSome x.owned (λ b. HoldingInBlock w k ((known w).latest b.0) x.place b.0)
   came_holding e k v w x lost trades c = go x.owned refl
     where
-      go : (q : Option Block) → x.owned ≡ q → IfSome q (λ b. Holding w k ((known w).latest b.0) x.place b.0)
+      go : (q : Option Block) → x.owned ≡ q → IfSome q (λ b. HoldingInBlock w k ((known w).latest b.0) x.place b.0)
       go None is = tt
       go (Some b) is = (came_object e k v w x lost b trades c is).1
 

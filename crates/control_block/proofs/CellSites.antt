@@ -6,7 +6,7 @@ use Rattle.control_word.specs.declared.event.Cell.{Cell}
 use Rattle.control_word.specs.declared.handle.Kind.{Kind}
 use Rattle.control_word.specs.declared.handle.Kind.TheVariants.{Owner}
 use Rattle.control_word.specs.declared.shape.Shape.{Shape}
-use Rattle.control_block.specs.CellCalls.{IsOpenAt, IsSite, cell_at, word_at}
+use Rattle.control_block.specs.CellCalls.{IsOpenAt, IsSite, cell_of_site, word_at}
 use Rattle.control_block.specs.CellPlays.{IsCellAt, kind_in}
 use Rattle.control_block.specs.Desks.{DeskNow}
 use Rattle.control_block.specs.Inside.{IsDesk, desk_now}
@@ -30,7 +30,7 @@ module _ {V : Type 0} where
         ((w.0, lt), subst (λ j. j < id.words) (sym at) w.1)
 
     own_cell : (z : Shape) (s : Site) → d.seat.me.0.shape ≡ z → IsOpenAt (desk_now d) s k → i ≡ word_at z.blocks s
-        → IsCellAt d.seat.me.0 (cell_at (desk_now d) s) i × (k ≡ kind_in d.seat.me.0.shape (cell_at (desk_now d) s))
+        → IsCellAt d.seat.me.0 (cell_of_site (desk_now d) s) i × (k ≡ kind_in d.seat.me.0.shape (cell_of_site (desk_now d) s))
     own_cell z (Free n) shape cell at = ((cell.0, at ∙ ap (λ (y : Shape). cell_place y.blocks n) (sym shape)), cell.1)
     own_cell z (Member b m) shape cell at =
         let t = cell.2 in ((cell.0, (t.0, b.0, holding_in d (desk_now d) Owner t.0 b.0 h refl t.1, at)), cell.1)
@@ -41,8 +41,9 @@ module _ {V : Type 0} where
     word_there y id z s is table shape cell at =
         own_word id z s table shape (subst (λ (u : DeskNow V). IsOpenAt u s k) (sym is) cell) at
 
-    pub cell_there : (y : DeskNow V) (z : Shape) (s : Site) (c : Cell) → desk_now d ≡ y → d.seat.me.0.shape ≡ z → IsOpenAt y s k → c ≡ cell_at y s
+    pub cell_there : (y : DeskNow V) (z : Shape) (s : Site) (c : Cell) → desk_now d ≡ y → d.seat.me.0.shape ≡ z → IsOpenAt y s k
+        → c ≡ cell_of_site y s
         → i ≡ word_at z.blocks s → IsCellAt d.seat.me.0 c i × (k ≡ kind_in d.seat.me.0.shape c)
     cell_there y z s c is shape cell named at =
-        subst (λ (x : Cell). IsCellAt d.seat.me.0 x i × (k ≡ kind_in d.seat.me.0.shape x)) (ap (λ (u : DeskNow V). cell_at u s) is ∙ sym named)
+        subst (λ (x : Cell). IsCellAt d.seat.me.0 x i × (k ≡ kind_in d.seat.me.0.shape x)) (ap (λ (u : DeskNow V). cell_of_site u s) is ∙ sym named)
         (own_cell z s shape (subst (λ (u : DeskNow V). IsOpenAt u s k) (sym is) cell) at)

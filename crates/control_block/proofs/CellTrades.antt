@@ -27,7 +27,7 @@ use Rattle.control_word.specs.declared.view.Pending.{Pending}
 use Rattle.control_word.specs.declared.view.Pending.TheVariants.{Idle}
 use Rattle.control_block.specs.CellPlays.{IsCellAt, kind_in}
 use Rattle.control_block.specs.Inside.{IsSized}
-use Rattle.control_block.specs.Plays.{Added, Holding, known}
+use Rattle.control_block.specs.Plays.{Added, HoldingInBlock, known}
 use Rattle.control_block.specs.Rule.{opening_of}
 use Rattle.control_block.specs.declared.board.Sight.{Sight}
 use Rattle.control_block.proofs.Hands.{fills_hands}
@@ -74,7 +74,7 @@ module _ {V : Type 0} where
   -- an event by which the desk loses no handle leaves it those that it has, in their blocks
   still_holding : (v w : Sight V) (e : Event V) (k : Kind) (o : ℕ) (p : Option Place) (b : ℕ)
       → ((t : State) (n : ℕ) (x : Held) → Has x t.hands → Has x (after t n e).hands) → Added v Idle None e w
-      → Holding v k o p b → Holding w k o p b
+      → HoldingInBlock v k o p b → HoldingInBlock w k o p b
   still_holding v w e k o p b keeps a mine =
       let z = opening_of v.shape in let n = v.view.name in let l = a.between ++ v.view.seen in let t = leads z l in
       let legal = subst (IsLegal z) (ap (λ (u : Sight V). u.view.seen) a.now) a.legal in
@@ -82,7 +82,7 @@ module _ {V : Type 0} where
       let x = held n (handle k (Some o) p) in
       let has : Has x t.hands = (part_has (λ (y : Held). y.desk) n x t.hands (subst (Has x) (sym s.in_bag)
       (has_part (λ (y : Held). y.desk) n x (known v).hands refl mine.has))).0 in
-      subst (λ (u : Sight V). Holding u k o p b) (sym a.now)
+      subst (λ (u : Sight V). HoldingInBlock u k o p b) (sym a.now)
       record {
         has = keeps t n x has;
         there = (block_kept z (entry n e ∷ a.between) v.view.seen o (held_made z (known v) n o k p (sound z v.view.seen seen) mine.has)).0 ∙ mine.there;

@@ -16,7 +16,7 @@ use Rattle.control_word.specs.declared.handle.Kind.{Kind}
 use Rattle.control_word.specs.declared.view.Pending.TheVariants.{Idle}
 use Rattle.control_block.specs.CellCalls.{handle_in, with_handle}
 use Rattle.control_block.specs.CellRounds.{CameOut}
-use Rattle.control_block.specs.Desks.{Adds, EndsStill, IsEnding, IsSameDesk, bag_of, many_ending, member_in, stock_of}
+use Rattle.control_block.specs.Desks.{AddsEvent, StaysEnding, IsEnding, IsSameDesk, bag_of, many_ending, member_in, stock_of}
 use Rattle.control_block.specs.Handles.{IsProper}
 use Rattle.control_block.specs.Inside.{IsDesk, IsDeskWith, desk_now}
 use Rattle.control_block.specs.Plays.{Added, Ends, HasRoomFor, known}
@@ -84,7 +84,7 @@ module _ {V : Type 0} (d : Inside V) (h : IsDesk d) (b m : ℕ) (ends : Ends d.s
       quiet_desk d t (e got) h event table none (λ y i. refl) (λ y i. refl) store allowance (omega arith) (omega arith)
       (endings ∙ (h.ended ∙ sym count_out))
 
-  pub adds_out : Adds (desk_now d) (ClearMember o m (handle_in (desk_now t) k x.owned x.place)) (desk_now t)
+  pub adds_out : AddsEvent (desk_now d) (ClearMember o m (handle_in (desk_now t) k x.owned x.place)) (desk_now t)
   adds_out = adds_of d (desk_now d) w t.seat.table_id t.held (λ z. e got) refl table event
 
   pub same_out : IsSameDesk (desk_now d) (desk_now t)
@@ -93,7 +93,7 @@ module _ {V : Type 0} (d : Inside V) (h : IsDesk d) (b m : ℕ) (ends : Ends d.s
   pub stock_out : length (stock_of (desk_now t)) ≡ length (stock_of (desk_now d))
   stock_out = ap length (stock_left v w (e got) (came v w Idle None (e got) event) (λ s i. refl))
 
-  pub others_out : (a : ℕ) (y : V) → a ≢ b → IsEnding (desk_now d) a y → EndsStill (desk_now d) (desk_now t) a y
+  pub others_out : (a : ℕ) (y : V) → a ≢ b → IsEnding (desk_now d) a y → StaysEnding (desk_now d) (desk_now t) a y
   others_out a y apart was =
       let z = opening_of v.shape in let hist = before d w (e got) h event in let now = legal_now d w (e got) h event in
       ends_still d w (e got) h event t.seat.table_id t.held a y (desk_now d) refl

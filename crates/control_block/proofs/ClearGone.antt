@@ -8,10 +8,10 @@ use Rattle.control_word.specs.declared.event.Event.TheVariants.{ClearMember}
 use Rattle.control_word.specs.declared.handle.Kind.{Kind}
 use Rattle.control_block.specs.CellRounds.{CameOut}
 use Rattle.control_block.specs.Clearing.{TakesOut}
-use Rattle.control_block.specs.Desks.{DeskNow, EndsStill, IsCleared, IsEnding, IsSameDesk, KeepsOtherEndings, bag_of, endings_of, member_in, stock_of}
+use Rattle.control_block.specs.Desks.{DeskNow, StaysEnding, IsCleared, IsEnding, IsSameDesk, KeepsOtherEndings, bag_of, endings_of, member_in, stock_of}
 use Rattle.control_block.specs.Handles.{IsProper}
 use Rattle.control_block.specs.Inside.{IsDesk, IsDeskWith, desk_now}
-use Rattle.control_block.specs.Plays.{Ends, Holding, known}
+use Rattle.control_block.specs.Plays.{Ends, HoldingInBlock, known}
 use Rattle.control_block.specs.declared.board.Sight.{Sight}
 use Rattle.control_block.specs.declared.desk.Desk.TheInside.{Inside}
 use Rattle.control_block.proofs.CellDesks.{one, one_few}
@@ -51,7 +51,7 @@ module _ {V : Type 0} (k : Kind) (d f : Inside V) (h : IsDesk d) (b m : ℕ) (en
       let few = one_few x.owned in
       clear.desk_out d h b m ends k t x out table 1 refl refl refl refl (omega (arith, h.holding, few)) (omega (arith, h.within))
 
-  pub holds : IfSome x.owned (λ a. Holding between k ((known between).latest a.0) x.place a.0)
+  pub holds : IfSome x.owned (λ a. HoldingInBlock between k ((known between).latest a.0) x.place a.0)
   holds = came_holding (λ y. ClearMember ((known d.seat.me.0).latest b) m y) k d.seat.me.0 between x (empty k)
       (clear_trades V ((known d.seat.me.0).latest b) m k) out
 
@@ -68,7 +68,7 @@ module _ {V : Type 0} (k : Kind) (d f : Inside V) (h : IsDesk d) (b m : ℕ) (en
   proper_is = clear.proper_out d h b m ends k t x out table
 
   module _ {s n : ℕ} (gone : HasGone k x.owned x.place s n (desk_now t) (desk_now f)) where
-    still : (y : V) → IsEnding (desk_now d) b y → EndsStill (desk_now t) (desk_now f) b y
+    still : (y : V) → IsEnding (desk_now d) b y → StaysEnding (desk_now t) (desk_now f) b y
     still y was = gone.still b y (clear.ends_out d h b m ends k t x out table y was)
 
     pub emptied : IsEmptied (desk_now d) b m s n (desk_now f)

@@ -16,9 +16,9 @@ use Rattle.control_word.specs.declared.place.Block.{Block}
 use Rattle.control_word.specs.declared.place.Place.{Place}
 use Rattle.control_word.specs.declared.view.Pending.TheVariants.{Idle}
 use Rattle.control_block.specs.CellCalls.{with_handle}
-use Rattle.control_block.specs.Desks.{Adds, EndsStill, IsEnding, IsSameDesk, bag_of, endings_of, on_latest, stock_of}
+use Rattle.control_block.specs.Desks.{AddsEvent, StaysEnding, IsEnding, IsSameDesk, bag_of, endings_of, on_latest, stock_of}
 use Rattle.control_block.specs.Inside.{IsDesk, IsDeskWith, desk_now}
-use Rattle.control_block.specs.Plays.{Added, Holding, known}
+use Rattle.control_block.specs.Plays.{Added, HoldingInBlock, known}
 use Rattle.control_block.specs.Rule.{opening_of}
 use Rattle.control_block.specs.declared.board.Sight.{Sight}
 use Rattle.control_block.specs.declared.desk.Desk.TheInside.{Inside}
@@ -41,7 +41,7 @@ front_out (Some a) c p l e =
 
 module _ {V : Type 0} (t f : Inside V) (g : IsDeskWith 1 t) (c : Block) (p : Option Place) (vacant : Bool)
     (a : Added t.seat.me.0 Idle None (WeakLeave (weak_of ((known t.seat.me.0).latest c.0) p) vacant) f.seat.me.0)
-    (holds : Holding t.seat.me.0 Weak ((known t.seat.me.0).latest c.0) p c.0) (table : f.seat.table_id ≡ t.seat.table_id) where
+    (holds : HoldingInBlock t.seat.me.0 Weak ((known t.seat.me.0).latest c.0) p c.0) (table : f.seat.table_id ≡ t.seat.table_id) where
   abbrev w : Sight V
   w = t.seat.me.0
 
@@ -71,7 +71,7 @@ module _ {V : Type 0} (t f : Inside V) (g : IsDeskWith 1 t) (c : Block) (p : Opt
       desk_after t f ev g a table none (λ y i. refl) allowance (put_back t g s.state _ c vacant s.same items _ stores) capacity (omega arith) (omega arith)
       (endings ∙ (g.ended ∙ sym (ending_same w u ev s (plain (λ y i. refl) (λ y i. refl) (λ y i. refl)))))
 
-  pub adds_left : Adds (desk_now t) (WeakLeave (on_latest (desk_now t) Weak p c.0) vacant) (desk_now f)
+  pub adds_left : AddsEvent (desk_now t) (WeakLeave (on_latest (desk_now t) Weak p c.0) vacant) (desk_now f)
   adds_left = adds_of t (desk_now t) u f.seat.table_id f.held (λ z. ev) refl table a
 
   pub bag_left : (q : Option Block) (l : List Handle) → q ≡ Some c → bag_of (desk_now t) ≡ with_handle Weak q p l → bag_of (desk_now f) ≡ l
@@ -84,7 +84,7 @@ module _ {V : Type 0} (t f : Inside V) (g : IsDeskWith 1 t) (c : Block) (p : Opt
   pub stock_gone : length (stock_of (desk_now f)) ≡ length (stock_of (desk_now t)) + cond vacant 1 0
   stock_gone = stock_grows t g u ev s c.0 vacant stores
 
-  pub still_left : (b : ℕ) (y : V) → IsEnding (desk_now t) b y → EndsStill (desk_now t) (desk_now f) b y
+  pub still_left : (b : ℕ) (y : V) → IsEnding (desk_now t) b y → StaysEnding (desk_now t) (desk_now f) b y
   still_left b y was =
       let z = opening_of w.shape in let hist = before t u ev g a in let now = legal_now t u ev g a in
       ends_still t u ev g a f.seat.table_id f.held b y (desk_now t) refl

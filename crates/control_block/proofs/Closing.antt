@@ -21,7 +21,7 @@ use Rattle.control_word.specs.declared.event.Entry.{Entry}
 use Rattle.control_word.specs.declared.shape.Shape.{Shape}
 use Rattle.control_word.specs.declared.view.Pending.TheVariants.{Idle}
 use Rattle.control_word.specs.declared.view.View.{View}
-use Rattle.control_block.specs.Census.{CensusNow, EndsNot, Tells, owners_in}
+use Rattle.control_block.specs.Census.{CensusNow, EndsNot, TellsBlock, owners_in}
 use Rattle.control_block.specs.Desks.{many_ending}
 use Rattle.control_block.specs.Plays.{known}
 use Rattle.control_block.specs.Rule.{Ruled, opening_of, view_of}
@@ -105,7 +105,7 @@ one_live (ending d) n fit not = absurd (not d refl)
 
 -- the counts of the words are those of the state
 pub tells_of : (z : Opening) (t : State) (b : ℕ) (c : CensusNow) → Sound z t → EndsNot t b → owners_in c b ≡ count t (t.latest b)
-    → number_of (slice_index c.words (spot b 1)) ≡ weak t (t.latest b) + common (t.object (t.latest b)).phase → Tells t b c
+    → number_of (slice_index c.words (spot b 1)) ≡ weak t (t.latest b) + common (t.object (t.latest b)).phase → TellsBlock t b c
 tells_of z t b c fine still owners number =
     let o = t.latest b in
     let here : (t.object o).phase ≢ unmade → (t.object o).block ≡ b = λ n. fine.latest_in b (λ e. n (ap (λ x. (t.object x).phase) e ∙ fine.none)) in

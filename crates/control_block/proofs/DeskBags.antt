@@ -26,9 +26,10 @@ use Rattle.control_word.specs.declared.handle.Kind.{Kind}
 use Rattle.control_word.specs.declared.handle.Kind.TheVariants.{Owner}
 use Rattle.control_word.specs.declared.place.Place.{Place}
 use Rattle.control_word.specs.declared.view.Pending.TheVariants.{Idle}
-use Rattle.control_block.specs.Desks.{Adds, DeskNow, EndsStill, HasHandle, IsEnding, IsSameDesk, Keeps, MayPoint, allowance_of, bag_of, by_block, held_of}
+use Rattle.control_block.specs.Desks.{AddsEvent, DeskNow, StaysEnding, HasHandle, IsEnding, IsSameDesk, Keeps, MayPoint, allowance_of, bag_of, by_block}
+use Rattle.control_block.specs.Desks.{held_of}
 use Rattle.control_block.specs.Inside.{IsDesk, IsDeskWith, desk_now}
-use Rattle.control_block.specs.Plays.{Added, HasRoomFor, Holding, known}
+use Rattle.control_block.specs.Plays.{Added, HasRoomFor, HoldingInBlock, known}
 use Rattle.control_block.specs.Rule.{opening_of}
 use Rattle.control_block.specs.declared.board.Sight.{Sight}
 use Rattle.control_block.specs.declared.desk.Desk.TheInside.{Inside}
@@ -53,7 +54,7 @@ module _ {V : Type 0} where
   -- what a desk has in a block, by what its seat knows
   pub holding_in : {n' : ℕ} (d : Inside V) (e : DeskNow V) (k : Kind) (p : Option Place) (b : ℕ) → IsDeskWith n' d
       → desk_now d ≡ e → HasHandle e k p b
-      → Holding d.seat.me.0 k ((known d.seat.me.0).latest b) p b
+      → HoldingInBlock d.seat.me.0 k ((known d.seat.me.0).latest b) p b
   holding_in d e k p b h is has =
       let v = d.seat.me.0 in
       let t = shown_held (opening_of v.shape) v.view.seen v.view.name k p b h.legal (subst (λ (z : DeskNow V). HasHandle z k p b) (sym is) has) in
@@ -61,9 +62,9 @@ module _ {V : Type 0} where
 
   pub adds_of : (d : Inside V) (e : DeskNow V) (w : Sight V) (id : TableId) (m : ℕ) (x : DeskNow V → Event V) → desk_now d ≡ e
       → id ≡ d.seat.table_id
-      → Added d.seat.me.0 Idle None (x (desk_now d)) w → Adds e (x e) (now_of id w m)
+      → Added d.seat.me.0 Idle None (x (desk_now d)) w → AddsEvent e (x e) (now_of id w m)
   adds_of d e w id m x is table a =
-      subst (λ (z : DeskNow V). Adds z (x z) (now_of id w m)) is
+      subst (λ (z : DeskNow V). AddsEvent z (x z) (now_of id w m)) is
       record {
         same = (table, ap (λ (u : Sight V). u.shape) a.now, ap (λ (u : Sight V). u.view.name) a.now);
         between = a.between;
@@ -120,7 +121,7 @@ module _ {V : Type 0} where
     legal_now = subst (IsLegal (opening_of d.seat.me.0.shape)) (ap (λ (u : Sight V). u.view.seen) a.now) a.legal
 
     -- an object in a block of the desk's is there still
-    pub block_still : (k : Kind) (o : ℕ) (p : Option Place) (b : ℕ) → Holding d.seat.me.0 k o p b
+    pub block_still : (k : Kind) (o : ℕ) (p : Option Place) (b : ℕ) → HoldingInBlock d.seat.me.0 k o p b
         → blocks_of (leads (opening_of d.seat.me.0.shape) (entry d.seat.me.0.view.name e ∷ before)) o ≡ b
     block_still k o p b holds =
         let v = d.seat.me.0 in let z = opening_of v.shape in
@@ -149,7 +150,7 @@ module _ {V : Type 0} where
         ∙ (λ i. is i ∷ (ap (map f) s.in_bag
         ∙ shown_later z (entry n e ∷ a.between) v.view.seen n h.legal (bag (known v) n) (λ q r. r)) i)))
 
-    pub bag_loses : (k : Kind) (o : ℕ) (p : Option Place) (b : ℕ) → Holding d.seat.me.0 k o p b
+    pub bag_loses : (k : Kind) (o : ℕ) (p : Option Place) (b : ℕ) → HoldingInBlock d.seat.me.0 k o p b
         → let t = leads (opening_of d.seat.me.0.shape) before in
         (after t d.seat.me.0.view.name e).hands ≡ without same_held (held d.seat.me.0.view.name (handle k (Some o) p)) t.hands
         → shown (known w) w.view.name ≡ without same_handle (handle k (Some b) p) (bag_of (desk_now d))
@@ -172,7 +173,7 @@ module _ {V : Type 0} where
           → ((((leads (opening_of d.seat.me.0.shape) before).object ((leads (opening_of d.seat.me.0.shape) before).latest b)).phase
           ≡ ending d.seat.me.0.view.name)
           → Spares (leads (opening_of d.seat.me.0.shape) before) (value (opening_of d.seat.me.0.shape) before) d.seat.me.0.view.name e b)
-          → IsEnding y b x → EndsStill y (now_of id w m) b x
+          → IsEnding y b x → StaysEnding y (now_of id w m) b x
       ends_still b x y is own ends =
           let v = d.seat.me.0 in let z = opening_of v.shape in let n = v.view.name in
           let was = subst (λ (q : DeskNow V). IsEnding q b x) (sym is) ends in
@@ -180,8 +181,8 @@ module _ {V : Type 0} where
           let p : ((leads z before).object ((leads z before).latest b)).phase ≡ ending n =
           ap (λ (o : ℕ). ((leads z before).object o).phase) t.latest ∙ (t.object.phase ∙ was.phase) in
           let r = own p in
-          subst (λ (q : DeskNow V). EndsStill q (now_of id w m) b x) is
-          (subst (λ (u : Sight V). EndsStill (desk_now d) (now_of id u m) b x) (sym a.now)
+          subst (λ (q : DeskNow V). StaysEnding q (now_of id w m) b x) is
+          (subst (λ (u : Sight V). StaysEnding (desk_now d) (now_of id u m) b x) (sym a.now)
           record {
             ends = record {
               phase = ap (λ (o : ℕ). ((leads z (entry n e ∷ before)).object o).phase) r.latest ∙ r.phase;

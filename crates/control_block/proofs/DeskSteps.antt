@@ -29,7 +29,7 @@ use Rattle.control_word.specs.declared.view.Pending.{Pending}
 use Rattle.control_word.specs.declared.view.Pending.TheVariants.{Idle}
 use Rattle.control_block.specs.Desks.{many_ending}
 use Rattle.control_block.specs.Inside.{IsDeskWith, IsSized}
-use Rattle.control_block.specs.Plays.{Added, Holding, known}
+use Rattle.control_block.specs.Plays.{Added, HoldingInBlock, known}
 use Rattle.control_block.specs.Rule.{opening_of}
 use Rattle.control_block.specs.declared.board.Sight.{Sight}
 use Rattle.control_block.specs.declared.desk.Desk.TheInside.{Inside}
@@ -182,7 +182,7 @@ module _ {V : Type 0} where
 
   -- the block of a handle that a desk holds is the table's
   pub word_inside : {n : ℕ} (d : Inside V) (id : TableId) (k : Kind) (o : ℕ) (p : Option Place) (b j : ℕ) → IsDeskWith n d → d.seat.table_id ≡ id
-      → Holding d.seat.me.0 k o p b → j < 16
+      → HoldingInBlock d.seat.me.0 k o p b → j < 16
       → (0 < b) × (spot b j < id.words)
   word_inside d id k o p b j h table holds low =
       let v = d.seat.me.0 in let z = opening_of v.shape in
@@ -199,7 +199,7 @@ module _ {V : Type 0} where
       ∙ (ap (λ (l : List Held). length (filter (λ (y : Held). y.desk == v.view.name) l)) hands ∙ ap length c.same.in_bag)
 
   pub slot_inside : {n : ℕ} (d : Inside V) (id : TableId) (k : Kind) (o : ℕ) (p : Option Place) (b : ℕ) → IsDeskWith n d → d.seat.table_id ≡ id
-      → Holding d.seat.me.0 k o p b → b ≤ id.slots
+      → HoldingInBlock d.seat.me.0 k o p b → b ≤ id.slots
   slot_inside d id k o p b h table holds =
       let v = d.seat.me.0 in let z = opening_of v.shape in
       let n = names_an_object z v.view.seen h.legal v.view.name k (handle k (Some o) p) (holds.has, refl, refl) in
@@ -207,7 +207,8 @@ module _ {V : Type 0} where
       let l1 = inside.1 in omega arith
 
   -- who holds a handle holds at least one
-  pub holds_some : {n : ℕ} (d : Inside V) (k : Kind) (o : ℕ) (p : Option Place) (b : ℕ) → IsDeskWith n d → Holding d.seat.me.0 k o p b → 0 < d.held
+  pub holds_some : {n : ℕ} (d : Inside V) (k : Kind) (o : ℕ) (p : Option Place) (b : ℕ) → IsDeskWith n d
+      → HoldingInBlock d.seat.me.0 k o p b → 0 < d.held
   holds_some d k o p b h holds =
       let v = d.seat.me.0 in
       let t = num_has (λ (y : Held). y.desk == v.view.name) (held v.view.name (handle k (Some o) p)) (known v).hands holds.has

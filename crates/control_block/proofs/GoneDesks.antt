@@ -15,10 +15,10 @@ use Rattle.control_word.specs.declared.place.Block.{Block}
 use Rattle.control_word.specs.declared.place.Place.{Place}
 use Rattle.control_block.specs.CellCalls.{with_handle}
 use Rattle.control_block.specs.Clearing.{Lets}
-use Rattle.control_block.specs.Desks.{DeskNow, EndsStill, IsEnding, IsSameDesk, KeepsEndings, bag_of, endings_of, many_ending, stock_of}
+use Rattle.control_block.specs.Desks.{DeskNow, StaysEnding, IsEnding, IsSameDesk, KeepsEndings, bag_of, endings_of, many_ending, stock_of}
 use Rattle.control_block.specs.Inside.{IsDesk, IsDeskWith, IsSized, desk_now}
 use Rattle.control_block.specs.Leaving.{LetGo}
-use Rattle.control_block.specs.Plays.{Holding, known}
+use Rattle.control_block.specs.Plays.{HoldingInBlock, known}
 use Rattle.control_block.specs.Rule.{opening_of}
 use Rattle.control_block.specs.declared.board.Sight.{Sight}
 use Rattle.control_block.specs.declared.desk.Desk.TheInside.{Inside}
@@ -46,7 +46,7 @@ module _ {V : Type 0} (t f : Inside V) (e : f.seat.me.0 ≡ t.seat.me.0) (table 
         allowance = ap (λ (u : Sight V). (known u).allowance u.view.name) e;
       }
 
-  pub unseen_still : (b : ℕ) (y : V) → IsEnding (desk_now t) b y → EndsStill (desk_now t) (desk_now f) b y
+  pub unseen_still : (b : ℕ) (y : V) → IsEnding (desk_now t) b y → StaysEnding (desk_now t) (desk_now f) b y
   unseen_still b y was =
       record {
         ends = record {
@@ -91,10 +91,10 @@ module _ {V : Type 0} (t f : Inside V) (e : f.seat.me.0 ≡ t.seat.me.0) (table 
       }
 
 module _ {V : Type 0} (t f : Inside V) (g : IsDeskWith 1 t) (q : Option Block) (p : Option Place) (r : Option V)
-    (gone : LetGo t.seat.me.0 q p r f.seat.me.0) (holds : IfSome q (λ c. Holding t.seat.me.0 Owner ((known t.seat.me.0).latest c.0) p c.0))
+    (gone : LetGo t.seat.me.0 q p r f.seat.me.0) (holds : IfSome q (λ c. HoldingInBlock t.seat.me.0 Owner ((known t.seat.me.0).latest c.0) p c.0))
     (table : f.seat.table_id ≡ t.seat.table_id) (held : f.held + 1 ≡ t.held) where
   abbrev IsIt : Option Block → Type 0
-  IsIt q = LetGo t.seat.me.0 q p r f.seat.me.0 × IfSome q (λ c. Holding t.seat.me.0 Owner ((known t.seat.me.0).latest c.0) p c.0)
+  IsIt q = LetGo t.seat.me.0 q p r f.seat.me.0 × IfSome q (λ c. HoldingInBlock t.seat.me.0 Owner ((known t.seat.me.0).latest c.0) p c.0)
 
   pub lets_go : Lets (desk_now t) q p r (desk_now f)
   lets_go = go q (gone, holds)

@@ -10,17 +10,17 @@ use Rattle.control_word.specs.declared.place.Place.{Place}
 use Rattle.control_block.specs.Clearing.{LetsWeakly}
 use Rattle.control_block.specs.Inside.{IsDesk, IsDeskWith, desk_now}
 use Rattle.control_block.specs.Leaving.{LetGoWeakly, freed}
-use Rattle.control_block.specs.Plays.{Holding, known}
+use Rattle.control_block.specs.Plays.{HoldingInBlock, known}
 use Rattle.control_block.specs.declared.desk.Desk.TheInside.{Inside}
 use Rattle.control_block.proofs.CellDesks.{one}
 use Rattle.control_block.proofs.ClearWeakLeaves as leave
 use Rattle.control_block.proofs.GoneDesks.{HasGone, unseen_bag, unseen_count, unseen_desk, unseen_same, unseen_still, unseen_stock}
 
 module _ {V : Type 0} (t f : Inside V) (g : IsDeskWith 1 t) (q : Option Block) (p : Option Place) (vacant : Bool)
-    (gone : LetGoWeakly t.seat.me.0 q p vacant f.seat.me.0) (holds : IfSome q (λ c. Holding t.seat.me.0 Weak ((known t.seat.me.0).latest c.0) p c.0))
+    (gone : LetGoWeakly t.seat.me.0 q p vacant f.seat.me.0) (holds : IfSome q (λ c. HoldingInBlock t.seat.me.0 Weak ((known t.seat.me.0).latest c.0) p c.0))
     (table : f.seat.table_id ≡ t.seat.table_id) (held : f.held + 1 ≡ t.held) where
   abbrev IsIt : Option Block → Type 0
-  IsIt q = LetGoWeakly t.seat.me.0 q p vacant f.seat.me.0 × IfSome q (λ c. Holding t.seat.me.0 Weak ((known t.seat.me.0).latest c.0) p c.0)
+  IsIt q = LetGoWeakly t.seat.me.0 q p vacant f.seat.me.0 × IfSome q (λ c. HoldingInBlock t.seat.me.0 Weak ((known t.seat.me.0).latest c.0) p c.0)
 
   pub lets_go : LetsWeakly (desk_now t) q p vacant (desk_now f)
   lets_go = go q (gone, holds)

@@ -18,8 +18,8 @@ use Rattle.control_word.specs.declared.place.Block.{Block}
 use Rattle.control_word.specs.declared.place.Place.{Place}
 use Rattle.control_block.specs.CellCalls.{with_handle, without_handle}
 use Rattle.control_block.specs.Desks.{DeskNow, bag_of}
-use Rattle.control_block.specs.HandleLists.{HoldsApart, HoldsBoth, HoldsEach, HoldsInOrder, HoldsLess, HoldsMore, HoldsNone, HoldsPart, HoldsRest, IsHeld}
-use Rattle.control_block.specs.Parting.{AreIn, HoldsAll, as_listed, listed, number_of, without_all}
+use Rattle.control_block.specs.HandleLists.{HoldsApart, HoldsBoth, HoldsEach, HoldsInOrder, HoldsLess, HoldsMore, HoldsNone, HoldsPart, HoldsRest, IsHeldByDesk}
+use Rattle.control_block.specs.Parting.{AreIn, HoldsAll, as_listed, listed, number_of_block, without_all}
 use Rattle.control_block.specs.declared.handles.Held.{Held}
 use Rattle.control_block.specs.declared.handles.Held.TheVariants as held
 use Rattle.control_block.proofs.Bags.{taken_out}
@@ -33,7 +33,7 @@ Covers n l bag m = AreIn l bag × (n - length l ≤ m - length bag)
 
 -- what is listed with one handle more
 abbrev listed_more : Kind → Option Block → Option Place → List Handle → List Handle
-listed_more k b p l = let h = handle k (number_of b) p in cond (has_object h) (h ∷ l) l
+listed_more k b p l = let h = handle k (number_of_block b) p in cond (has_object h) (h ∷ l) l
 
 covers_more : (k : Kind) (b : Option Block) (p : Option Place) (n : ℕ) (l bag : List Handle) (m : ℕ) → Covers n l bag m
     → length bag ≤ m → length l ≤ n
@@ -149,11 +149,11 @@ module _ {V : Type 0} where
       record { objects = t.0; empty = t.1 }
 
   holds_kind : (d : DeskNow V) (k : Kind) (b : Option Block) (p : Option Place) → IsCovered k b p (bag_of d) d.held
-      → Rattle.control_block.specs.CellCalls.Holds d k b p
+      → Rattle.control_block.specs.CellCalls.HoldsHandle d k b p
   holds_kind d k None p is = is
   holds_kind d k (Some b) p is = is
 
-  holds_first : (d : DeskNow V) (h : Held) (hs : List Held) → HoldsAll d (h ∷ hs) → IsHeld d h
+  holds_first : (d : DeskNow V) (h : Held) (hs : List Held) → HoldsAll d (h ∷ hs) → IsHeldByDesk d h
   holds_first d (held.Owner h) hs all =
       holds_kind d Owner h.block h.place
       (covers_first Owner h.block h.place (length hs) (listed hs) (bag_of d) d.held (all.objects, all.empty) (few_listed hs))
@@ -164,7 +164,7 @@ module _ {V : Type 0} where
   pub holds_each : HoldsEach V
   holds_each d h [] all has = absurd has
   holds_each d h (x ∷ hs) all has =
-      ⊎_elim (λ (e : h ≡ x). subst (IsHeld d) (sym e) (holds_first d x hs all)) (λ t. holds_each d h hs (holds_rest d x hs all) t) has
+      ⊎_elim (λ (e : h ≡ x). subst (IsHeldByDesk d) (sym e) (holds_first d x hs all)) (λ t. holds_each d h hs (holds_rest d x hs all) t) has
 
   pub holds_part : HoldsPart V
   holds_part d hs ks all =

@@ -7,7 +7,7 @@ use Rattle.control_word.specs.declared.place.Place.{Place}
 use Rattle.control_block.specs.Desks as Desks
 use Rattle.control_block.specs.Desks.{DeskNow, HasHandle, IsEnding}
 use Rattle.control_block.specs.Inside.{IsDesk, desk_now}
-use Rattle.control_block.specs.Plays.{Ends, Holding, IsNear, known}
+use Rattle.control_block.specs.Plays.{Ends, HoldingInBlock, IsNearObject, known}
 use Rattle.control_block.specs.declared.desk.Desk.TheInside.{Inside}
 use Rattle.control_block.proofs.DeskBags.{holding_in}
 use Rattle.control_block.proofs.DeskSteps.{word_inside}
@@ -15,17 +15,18 @@ use Rattle.control_block.proofs.OwnEndings.{ends_in}
 use Rattle.control_block.proofs.StoreBlocks.{ending_word}
 
 module _ {V : Type 0} where
-  pub near_in : (d : Inside V) (y : DeskNow V) (b : ℕ) → IsDesk d → desk_now d ≡ y → Desks.IsNear y b → IsNear d.seat.me.0
+  pub near_in : (d : Inside V) (y : DeskNow V) (b : ℕ) → IsDesk d → desk_now d ≡ y → Desks.IsNear y b → IsNearObject d.seat.me.0
       ((known d.seat.me.0).latest b) b
   near_in d y b h is near = ⊎_elim
       (λ (t : (k : Kind) × (p : Option Place) × HasHandle y k p b). inl (t.0, t.1, holding_in d y t.0 t.1 b h is t.2))
       (λ (t : (x : V) × IsEnding y b x). inr (ends_in d y b t.0 is t.1)) near
 
-  pub near_word : (d : Inside V) (id : TableId) (b j : ℕ) → IsDesk d → d.seat.table_id ≡ id → IsNear d.seat.me.0 ((known d.seat.me.0).latest b) b →
+  pub near_word : (d : Inside V) (id : TableId) (b j : ℕ) → IsDesk d → d.seat.table_id ≡ id
+      → IsNearObject d.seat.me.0 ((known d.seat.me.0).latest b) b →
       j < 16
       → (0 < b) × (spot b j < id.words)
   near_word d id b j h table near low =
       let v = d.seat.me.0 in ⊎_elim
-      (λ (t : (m : Kind) × (p : Option Place) × Holding v m ((known v).latest b) p b). word_inside d id t.0 ((known v).latest b) t.1 b j h table
+      (λ (t : (m : Kind) × (p : Option Place) × HoldingInBlock v m ((known v).latest b) p b). word_inside d id t.0 ((known v).latest b) t.1 b j h table
       t.2 low)
       (λ (t : Ends v ((known v).latest b) b). ending_word d id b j h table t low) near

@@ -25,7 +25,7 @@ use Rattle.control_word.specs.declared.place.Place.{Place}
 use Rattle.control_word.specs.declared.view.Pending.TheVariants.{Idle}
 use Rattle.control_block.specs.Desks.{DeskNow, IsCleared, IsEnding}
 use Rattle.control_block.specs.Inside.{IsDeskWith, desk_now}
-use Rattle.control_block.specs.Plays.{Added, Ends, Holding, IsClear, known}
+use Rattle.control_block.specs.Plays.{Added, Ends, HoldingInBlock, IsClear, known}
 use Rattle.control_block.specs.Rule.{opening_of}
 use Rattle.control_block.specs.declared.board.Sight.{Sight}
 use Rattle.control_block.specs.declared.desk.Desk.TheInside.{Inside}
@@ -114,7 +114,7 @@ module _ {V : Type 0} where
 
   module _ {n' : ℕ} (d : Inside V) (w : Sight V) (e : Event V) (h : IsDeskWith n' d) (a : Added d.seat.me.0 Idle None e w) where
     -- at the event an object that the desk has, or that ends in its hands, is in its block
-    pub block_before : (k : Kind) (o : ℕ) (p : Option Place) (b : ℕ) → Holding d.seat.me.0 k o p b
+    pub block_before : (k : Kind) (o : ℕ) (p : Option Place) (b : ℕ) → HoldingInBlock d.seat.me.0 k o p b
         → blocks_of (leads (opening_of d.seat.me.0.shape) (before d w e h a)) o ≡ b
     block_before k o p b holds =
         let v = d.seat.me.0 in let z = opening_of v.shape in
@@ -135,7 +135,7 @@ module _ {V : Type 0} where
 
   -- after the last owner's leave
   pub ends_by_leave : {n' : ℕ} (d : Inside V) (w : Sight V) (o b m : ℕ) (id : TableId) (p : Option Place) (x : V) (h : IsDeskWith n' d)
-      → Added d.seat.me.0 Idle None (Leave (owner o p) true) w → Holding d.seat.me.0 Owner o p b
+      → Added d.seat.me.0 Idle None (Leave (owner o p) true) w → HoldingInBlock d.seat.me.0 Owner o p b
       → value (opening_of d.seat.me.0.shape) w.view.seen o ≡ Some x → IsEnding (now_of id w m) b x
   ends_by_leave d w o b m id p x h a holds is =
       let v = d.seat.me.0 in let z = opening_of v.shape in let n = v.view.name in let ev : Event V = Leave (owner o p) true in
@@ -151,7 +151,7 @@ module _ {V : Type 0} where
       }
 
   pub ended_if : {n' : ℕ} (d : Inside V) (w : Sight V) (o b m : ℕ) (id : TableId) (p : Option Place) (r : Option V) → IsDeskWith n' d
-      → Added d.seat.me.0 Idle None (Leave (owner o p) (is_some r)) w → Holding d.seat.me.0 Owner o p b
+      → Added d.seat.me.0 Idle None (Leave (owner o p) (is_some r)) w → HoldingInBlock d.seat.me.0 Owner o p b
       → IfSome r (λ x. value (opening_of d.seat.me.0.shape) w.view.seen o ≡ Some x) → IfSome r (IsEnding (now_of id w m) b)
   ended_if d w o b m id p None h a holds is = is
   ended_if d w o b m id p (Some x) h a holds is = ends_by_leave d w o b m id p x h a holds is

@@ -33,7 +33,7 @@ use Rattle.control_word.specs.declared.place.Place.{Place}
 use Rattle.control_word.specs.declared.shape.Shape.{Shape}
 use Rattle.control_word.specs.declared.view.Pending.{Pending}
 use Rattle.control_block.specs.Rule.{opening_of, view_of, kept, until_gone, IsSlotOf, IsBacked, IsOut, Ruled, seeing}
-use Rattle.control_block.specs.Plays.{Added, At, Ends, Holding, HasRoomFor, Moved, known}
+use Rattle.control_block.specs.Plays.{Added, At, Ends, HoldingInBlock, HasRoomFor, Moved, known}
 use Rattle.control_block.specs.declared.board.Sight.{Sight}
 use Rattle.control_block.proofs.Endings.{Alike, fills_block, fills_latest, fills_phase, still_ends}
 use Rattle.control_block.proofs.Lists.{each_set, map_set, set_there}
@@ -141,7 +141,7 @@ module _ {V : Type 0} where
     pub legal_known : IsLegal (opening_of k) v.view.seen
     legal_known = legal_seen (opening_of k) knows.0 v.view.seen (subst (IsLegal (opening_of k)) knows.1 r.stands.legal)
 
-    pub held_there : (m : Kind) (o : ℕ) (p : Option Place) (b : ℕ) → Holding v m o p b
+    pub held_there : (m : Kind) (o : ℕ) (p : Option Place) (b : ℕ) → HoldingInBlock v m o p b
         → Has (held v.view.name (handle m (Some o) p)) (leads (opening_of k) r.history).hands
         × (((leads (opening_of k) r.history).object o).block ≡ b)
     held_there m o p b mine =

@@ -24,12 +24,12 @@ use Rattle.control_word.specs.declared.event.Event.TheVariants.{Shelve, Unshelve
 use Rattle.control_word.specs.declared.place.Block.{Block}
 use Rattle.control_word.specs.declared.shape.Shape.{Shape}
 use Rattle.control_word.specs.declared.view.Pending.TheVariants.{Idle}
-use Rattle.control_block.specs.Desks.{Adds, Belongs, DeskNow, DomainNow, IsSameDesk, KeepsEndings, allowance_of, state_of, stock_of}
+use Rattle.control_block.specs.Desks.{AddsEvent, Belongs, DeskNow, DomainNow, IsSameDesk, KeepsEndings, allowance_of, state_of, stock_of}
 use Rattle.control_block.specs.Inside.{IsDeskWith, desk_now}
 use Rattle.control_block.specs.Own.{IsSole}
 use Rattle.control_block.specs.Plays.{Added, known}
 use Rattle.control_block.specs.Rule.{opening_of}
-use Rattle.control_block.specs.Shelf.{Clears, Passes, Shelved, Unshelved, shelved_of}
+use Rattle.control_block.specs.Shelf.{ClearsShelf, Passes, Shelved, Unshelved, shelved_of}
 use Rattle.control_block.specs.ShelfPlays.{IsSo, shelf_at}
 use Rattle.control_block.specs.declared.board.Sight.{Sight}
 use Rattle.control_block.specs.declared.desk.Desk.TheInside.{Inside}
@@ -153,7 +153,7 @@ module _ {V : Type 0} where
         subst (λ (q : DeskNow V). Passes x 1 q (now_of id w d.held)) is one
 
   -- on a sole desk the shelf has just the one block less
-  module _ (d f : DeskNow V) (b : Block) (adds : Adds d (Unshelve b) f) (whole : IsSole d) where
+  module _ (d f : DeskNow V) (b : Block) (adds : AddsEvent d (Unshelve b) f) (whole : IsSole d) where
     next : f.seen ≡ Rattle.control_word.specs.Histories.entry d.name (Unshelve b) ∷ d.seen
     next = comes_next d (Unshelve b) f adds whole
 
@@ -170,7 +170,7 @@ module _ {V : Type 0} where
     others_still c ne =
         ap (λ (s : State). on_shelf s c) now ∙ ap (λ (x : Bool). cond x 1 0) (put_other (state_of d).shelved b.0 false c ne)
 
-    pub clears_one : allowance_of f ≡ allowance_of d → Clears 1 d f
+    pub clears_one : allowance_of f ≡ allowance_of d → ClearsShelf 1 d f
     clears_one same =
         let s = state_of d in let k = d.shape.blocks in
         let fine = sound (opening_of d.shape) d.seen legal.0 in

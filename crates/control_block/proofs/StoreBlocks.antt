@@ -8,7 +8,7 @@ use Rattle.control_word.specs.declared.event.Event.{Event}
 use Rattle.control_word.specs.declared.handle.Kind.TheVariants.{Weak}
 use Rattle.control_word.specs.declared.place.Place.{Place}
 use Rattle.control_block.specs.Inside.{IsDesk, IsDeskWith}
-use Rattle.control_block.specs.Plays.{Ends, Holding, known}
+use Rattle.control_block.specs.Plays.{Ends, HoldingInBlock, known}
 use Rattle.control_block.specs.Rule.{opening_of}
 use Rattle.control_block.specs.declared.board.Sight.{Sight}
 use Rattle.control_block.specs.declared.desk.Desk.TheInside.{Inside}
@@ -17,7 +17,7 @@ use Rattle.control_block.proofs.OwnEndings.{ends_inside}
 
 module _ {V : Type 0} where
   pub weak_block : {n' : ℕ} (d : Inside V) (w : Sight V) (e : Event V) (c : Came d.seat.me.0 e w) (o : ℕ) (p : Option Place) (b : ℕ) → IsDeskWith n' d
-      → Holding d.seat.me.0 Weak o p b → (c.state.object o).block ≡ b
+      → HoldingInBlock d.seat.me.0 Weak o p b → (c.state.object o).block ≡ b
   weak_block d w e c o p b h holds =
       let v = d.seat.me.0 in let z = opening_of v.shape in
       c.blocks o (held_made z (known v) v.view.name o Weak p (sound z v.view.seen h.legal) holds.has) ∙ holds.there

@@ -11,12 +11,12 @@ use Rattle.control_word.specs.declared.handle.Kind.{Kind}
 use Rattle.control_word.specs.declared.place.Block.{Block}
 use Rattle.control_word.specs.declared.place.Place.{Place}
 use Rattle.control_word.specs.declared.view.Pending.TheVariants.{Idle}
-use Rattle.control_block.specs.CellCalls.{Holds, handle_in, without_handle}
+use Rattle.control_block.specs.CellCalls.{HoldsHandle, handle_in, without_handle}
 use Rattle.control_block.specs.CellRounds.{CameOut}
-use Rattle.control_block.specs.Desks.{Adds, DeskNow, IsSameDesk, Keeps, KeepsEndings, bag_of, endings_of, stock_of}
+use Rattle.control_block.specs.Desks.{AddsEvent, DeskNow, IsSameDesk, Keeps, KeepsEndings, bag_of, endings_of, stock_of}
 use Rattle.control_block.specs.Handles.{IsProper}
 use Rattle.control_block.specs.Inside.{IsDesk, IsDeskWith, desk_now}
-use Rattle.control_block.specs.Plays.{Added, Holding, known}
+use Rattle.control_block.specs.Plays.{Added, HoldingInBlock, known}
 use Rattle.control_block.specs.declared.board.Sight.{Sight}
 use Rattle.control_block.specs.declared.desk.Desk.TheInside.{Inside}
 use Rattle.control_block.proofs.CellChoices.{swap_allowances, swap_stores}
@@ -37,7 +37,7 @@ module _ {V : Type 0} where
     pub count : endings_of e ≡ endings_of d + n
 
 module _ {V : Type 0} (k : Kind) (d f : Inside V) (h : IsDesk d) (cell : Cell) (lost : Handle) (b : Option Block) (p : Option Place) (x : CellWord)
-    (is : lost ≡ in_seat d.seat.me.0 k b p) (has : Holds (desk_now d) k b p)
+    (is : lost ≡ in_seat d.seat.me.0 k b p) (has : HoldsHandle (desk_now d) k b p)
     (between : Sight V) (out : CameOut (λ y. Swap cell lost y) k d.seat.me.0 x between) (table : f.seat.table_id ≡ d.seat.table_id) where
   -- the desk between the two events
   abbrev pub t : Inside V
@@ -59,7 +59,7 @@ module _ {V : Type 0} (k : Kind) (d f : Inside V) (h : IsDesk d) (cell : Cell) (
   trades : Trades e (in_seat d.seat.me.0 k b p)
   trades = subst (λ z. Trades e z) is (swap_trades V cell lost)
 
-  mine : IfSome b (λ a. Holding d.seat.me.0 k ((known d.seat.me.0).latest a.0) p a.0)
+  mine : IfSome b (λ a. HoldingInBlock d.seat.me.0 k ((known d.seat.me.0).latest a.0) p a.0)
   mine = lost_mine d.seat.me.0 k p b (lost_holding d (desk_now d) k p h refl b has)
 
   event : Added d.seat.me.0 Idle None (e got) between
@@ -78,14 +78,14 @@ module _ {V : Type 0} (k : Kind) (d f : Inside V) (h : IsDesk d) (cell : Cell) (
       (omega arith) (omega arith)
       (h.ended ∙ sym (ending_same d.seat.me.0 between (e got) (came d.seat.me.0 between Idle None (e got) event) (quiet_swap cell lost got)))
 
-  pub holds : IfSome x.owned (λ a. Holding between k ((known between).latest a.0) x.place a.0)
+  pub holds : IfSome x.owned (λ a. HoldingInBlock between k ((known between).latest a.0) x.place a.0)
   holds = got_holding d h between e k x b p trades out mine
 
   kept : Keeps (desk_now d) (desk_now t)
   kept = keeps_quietly d between (e got) h event t.seat.table_id t.held (desk_now d) refl table (calm_swap cell lost got)
       (λ q m. swap_stores V cell lost got q m) (λ q m. swap_allowances V cell lost got q m)
 
-  pub swaps : Adds (desk_now d) (Swap cell lost (handle_in (desk_now t) k x.owned x.place)) (desk_now t)
+  pub swaps : AddsEvent (desk_now d) (Swap cell lost (handle_in (desk_now t) k x.owned x.place)) (desk_now t)
   swaps = adds_of d (desk_now d) between t.seat.table_id t.held (λ z. e got) refl table event
 
   pub proper_is : IsProper k x.owned x.place

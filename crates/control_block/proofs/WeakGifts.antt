@@ -11,7 +11,7 @@ use Rattle.control_word.specs.declared.place.Place.{Place}
 use Rattle.control_word.specs.declared.view.Pending.TheVariants.{Idle}
 use Rattle.control_block.specs.Desks.{DeskNow, HasHandle, IsEnding, MayGiveWeak, latest_of, state_of}
 use Rattle.control_block.specs.Inside.{IsDesk, desk_now}
-use Rattle.control_block.specs.Plays.{Added, Ends, Holding, MayShareWeakly, known}
+use Rattle.control_block.specs.Plays.{Added, Ends, HoldingInBlock, MayShareWeakly, known}
 use Rattle.control_block.specs.Rule.{opening_of}
 use Rattle.control_block.specs.declared.board.Sight.{Sight}
 use Rattle.control_block.specs.declared.desk.Desk.TheInside.{Inside}
@@ -37,7 +37,7 @@ module _ {V : Type 0} where
       → MayShareWeakly d.seat.me.0 ((known d.seat.me.0).latest b) b q → (0 < b) × (spot b 1 < id.words)
   may_word d id b q h table may =
       let v = d.seat.me.0 in ⊎_elim
-      (λ (t : (m : Kind) × (p : Option Place) × Holding v m ((known v).latest b) p b × ((q ≡ p) ⊎ (q ≡ place_at b))).
+      (λ (t : (m : Kind) × (p : Option Place) × HoldingInBlock v m ((known v).latest b) p b × ((q ≡ p) ⊎ (q ≡ place_at b))).
       word_inside d id t.0 ((known v).latest b) t.1 b 1 h table t.2 (omega arith))
       (λ (t : Ends v ((known v).latest b) b × (((known v).object ((known v).latest b)).enabled ≡ true) × (q ≡ place_at b)).
       ending_word d id b 1 h table t.0 (omega arith)) may
@@ -47,7 +47,7 @@ module _ {V : Type 0} where
       → blocks_of (leads (opening_of d.seat.me.0.shape) (entry d.seat.me.0.view.name e ∷ before d w e h a)) ((known d.seat.me.0).latest b) ≡ b
   may_block d w e h a b q may =
       let v = d.seat.me.0 in ⊎_elim
-      (λ (t : (m : Kind) × (p : Option Place) × Holding v m ((known v).latest b) p b × ((q ≡ p) ⊎ (q ≡ place_at b))).
+      (λ (t : (m : Kind) × (p : Option Place) × HoldingInBlock v m ((known v).latest b) p b × ((q ≡ p) ⊎ (q ≡ place_at b))).
       block_still d w e h a t.0 ((known v).latest b) t.1 b t.2)
       (λ (t : Ends v ((known v).latest b) b × (((known v).object ((known v).latest b)).enabled ≡ true) × (q ≡ place_at b)).
       ending_after d w e h a b t.0) may

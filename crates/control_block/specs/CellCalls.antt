@@ -49,9 +49,9 @@ module _ {V : Type 0} where
   handle_in d k b p = handle k (object_by (latest_of d) b) p
 
   -- the cell by the desk's history: a member is that of the object last made in the block
-  abbrev pub cell_at : DeskNow V → Site → Cell
-  cell_at d (site.Free n) = Free n
-  cell_at d (site.Member b m) = Member (latest_of d b.0) m
+  abbrev pub cell_of_site : DeskNow V → Site → Cell
+  cell_of_site d (site.Free n) = Free n
+  cell_of_site d (site.Member b m) = Member (latest_of d b.0) m
 
   -- the cell is open to the desk, and has handles of this kind: it is free, or a member of an object that the desk has
   -- an owner of
@@ -61,6 +61,6 @@ module _ {V : Type 0} where
       × ((p : Option Place) × HasHandle d Owner p b.0)
 
   -- the desk has the handle: its bag shows it, or it is empty and among those that are counted beyond the bag
-  abbrev pub Holds : DeskNow V → Kind → Option Block → Option Place → Type 0
-  Holds d k None p = length (bag_of d) < d.held
-  Holds d k (Some b) p = HasHandle d k p b.0
+  abbrev pub HoldsHandle : DeskNow V → Kind → Option Block → Option Place → Type 0
+  HoldsHandle d k None p = length (bag_of d) < d.held
+  HoldsHandle d k (Some b) p = HasHandle d k p b.0

@@ -24,7 +24,7 @@ use Rattle.control_word.specs.Packing.{IsCellWord, IsPackedCell, cell_bits}
 use Rattle.control_word.specs.State.{kind_of_free, kind_of_member}
 use Rattle.control_word.specs.Views.{NoneBy}
 use Rattle.control_word.specs.Words.{blocks_of, shown}
-use Rattle.control_block.specs.Plays.{At, Added, Holding, goes_on, known, tells}
+use Rattle.control_block.specs.Plays.{At, Added, HoldingInBlock, goes_on, known, tells}
 use Rattle.control_block.specs.FundPlays.{owing}
 use Rattle.control_block.specs.Rule.{opening_of}
 use Rattle.control_block.specs.declared.board.Sight.{Sight}
@@ -43,7 +43,7 @@ module _ {V : Type 0} where
   abbrev pub IsCellAt : Sight V → Cell → ℕ → Type 0
   IsCellAt v (Free c) i = (c < v.shape.shared_cells + v.shape.weak_cells) × (i ≡ cell_place v.shape.blocks c)
   IsCellAt v (Member o m) i =
-      (m < 3) × ((p : Option Place) × (b : ℕ) × Holding v Owner o p b × (i ≡ spot b (7 + m)))
+      (m < 3) × ((p : Option Place) × (b : ℕ) × HoldingInBlock v Owner o p b × (i ≡ spot b (7 + m)))
 
   -- the word of a cell with this handle, by the blocks that the seat knows
   abbrev pub IsWordOf : Sight V → Handle → CellWord → Type 0
@@ -81,8 +81,8 @@ module _ {V : Type 0} where
   abbrev pub as_peeked : Cell → At V → CellWord → At V → Type 0
   as_peeked c m x m' = IsHeld c m.0 x × (m' ≡ m)
 
-  abbrev pub peeked : Cell → Step (Option V) → At V → ℕ → At V → Type 0
-  peeked c st m n m' = of_cell (λ x. as_peeked c m x m') n
+  abbrev pub cell_peeked : Cell → Step (Option V) → At V → ℕ → At V → Type 0
+  cell_peeked c st m n m' = of_cell (λ x. as_peeked c m x m') n
 
   -- what the cell holds: the load of one that shows no object; of one that shows an object nothing
   abbrev pub as_loaded : Cell → At V → CellWord → At V → Type 0

@@ -41,7 +41,7 @@ abbrev pub EndsNot : State → ℕ → Type 0
 EndsNot s b = (o d : ℕ) → (s.object o).block ≡ b → (s.object o).phase ≡ ending d → ⊥
 
 -- the handles of a block, as the state has them, and whether it is vacant
-pub record Tells (s : State) (b : ℕ) (c : CensusNow) : Type 0 where
+pub record TellsBlock (s : State) (b : ℕ) (c : CensusNow) : Type 0 where
   pub owners : owners_in c b ≡ count s (s.latest b)
   pub weaks : weaks_in c b ≡ weak s (s.latest b)
   pub vacant : IsFree c b ↔ IsVacant s b
@@ -49,8 +49,8 @@ pub record Tells (s : State) (b : ℕ) (c : CensusNow) : Type 0 where
 -- the census tells of each block in which no object is ending
 pub record IsCensus (s : State) (n : ℕ) (c : CensusNow) : Type 0 where
   pub sized : c.blocks ≡ n
-  pub tells : (b : ℕ) → 0 < b → b ≤ n → EndsNot s b → Tells s b c
+  pub tells : (b : ℕ) → 0 < b → b ≤ n → EndsNot s b → TellsBlock s b c
 
 -- the census tells of all blocks
 abbrev pub TellsAll : State → ℕ → CensusNow → Type 0
-TellsAll s n c = (b : ℕ) → 0 < b → b ≤ n → Tells s b c
+TellsAll s n c = (b : ℕ) → 0 < b → b ≤ n → TellsBlock s b c

@@ -89,7 +89,7 @@ module _ {V : Type 0} where
     pub shape : d.shape ≡ domain.shape
 
   -- a domain's first desk
-  pub record Begins (domain : DomainNow) (d : DeskNow V) : Type 0 where
+  pub record IsFirstDesk (domain : DomainNow) (d : DeskNow V) : Type 0 where
     pub here : d.domain ≡ domain.id
     pub shape : d.shape ≡ domain.shape
     pub name : d.name ≡ 0
@@ -98,7 +98,7 @@ module _ {V : Type 0} where
 
   -- the desk's history after begins with all that it had seen, and ends with this call, the only one of its own that is
   -- new
-  pub record Adds (d : DeskNow V) (x : Event V) (e : DeskNow V) : Type 0 where
+  pub record AddsEvent (d : DeskNow V) (x : Event V) (e : DeskNow V) : Type 0 where
     pub same : (e.domain ≡ d.domain) × (e.shape ≡ d.shape) × (e.name ≡ d.name)
     pub between : List (Entry V)
     pub seen : e.seen ≡ entry d.name x ∷ (between ++ d.seen)
@@ -135,17 +135,17 @@ module _ {V : Type 0} where
   IsCleared d b m = member_in d b m ≡ empty (kind_of_member m)
 
   -- it ends in the desk's hands, with the members that it had
-  pub record EndsStill (d e : DeskNow V) (b : ℕ) (x : V) : Type 0 where
+  pub record StaysEnding (d e : DeskNow V) (b : ℕ) (x : V) : Type 0 where
     pub ends : IsEnding e b x
     pub members : (m : ℕ) → member_in e b m ≡ member_in d b m
 
   -- what ends in the desk's hands ends there still
   abbrev pub KeepsEndings : DeskNow V → DeskNow V → Type 0
-  KeepsEndings d e = (b : ℕ) (x : V) → IsEnding d b x → EndsStill d e b x
+  KeepsEndings d e = (b : ℕ) (x : V) → IsEnding d b x → StaysEnding d e b x
 
   -- the same, but for a block
   abbrev pub KeepsOtherEndings : DeskNow V → ℕ → DeskNow V → Type 0
-  KeepsOtherEndings d c e = (b : ℕ) (x : V) → b ≢ c → IsEnding d b x → EndsStill d e b x
+  KeepsOtherEndings d c e = (b : ℕ) (x : V) → b ≢ c → IsEnding d b x → StaysEnding d e b x
 
   -- the same desk, with the allowance that it had
   pub record IsSameDesk (d e : DeskNow V) : Type 0 where

@@ -4,7 +4,7 @@ use Rattle.std.specs.List.Sorted.{IsPermutation}
 use Rattle.control_word.specs.declared.handle.Handle.{Handle}
 use Rattle.control_word.specs.declared.handle.Kind.TheVariants.{Owner, Weak}
 use Rattle.control_word.specs.State.{Has}
-use Rattle.control_block.specs.CellCalls.{Holds, with_handle, without_handle}
+use Rattle.control_block.specs.CellCalls.{HoldsHandle, with_handle, without_handle}
 use Rattle.control_block.specs.Desks.{DeskNow, bag_of}
 use Rattle.control_block.specs.Parting.{HoldsAll, SplitsOff}
 use Rattle.control_block.specs.Standing.{Standing}
@@ -22,9 +22,9 @@ without_held (held.Weak w) l = without_handle Weak w.block w.place l
 
 module _ {V : Type 0} where
   -- the desk has the handle
-  abbrev pub IsHeld : DeskNow V → Held → Type 0
-  IsHeld d (held.Owner h) = Holds d Owner h.block h.place
-  IsHeld d (held.Weak w) = Holds d Weak w.block w.place
+  abbrev pub IsHeldByDesk : DeskNow V → Held → Type 0
+  IsHeldByDesk d (held.Owner h) = HoldsHandle d Owner h.block h.place
+  IsHeldByDesk d (held.Weak w) = HoldsHandle d Weak w.block w.place
 
 module _ (V : Type 0) where
   abbrev pub HoldsNone : Type 0
@@ -32,7 +32,7 @@ module _ (V : Type 0) where
 
   -- what a desk holds all of, it holds each of
   abbrev pub HoldsEach : Type 0
-  HoldsEach = (d : DeskNow V) (h : Held) (hs : List Held) → HoldsAll d hs → Has h hs → IsHeld d h
+  HoldsEach = (d : DeskNow V) (h : Held) (hs : List Held) → HoldsAll d hs → Has h hs → IsHeldByDesk d h
 
   -- a handle came: into the list
   abbrev pub HoldsMore : Type 0

@@ -3,7 +3,7 @@ use Rattle.std.specs.Prelude.{◌≡◌, ℕ, true, All, List, [], ◌∷◌, �
 use Rattle.control_word.specs.declared.event.Event.{Event}
 use Rattle.control_word.specs.declared.event.Event.TheVariants.{Join, Split}
 use Rattle.control_word.specs.Histories.{IsLegal, entry}
-use Rattle.control_block.specs.Desks.{Adds, DeskNow, state_of}
+use Rattle.control_block.specs.Desks.{AddsEvent, DeskNow, state_of}
 use Rattle.control_block.specs.Own.{Goes, IsSole, KeepsDesks, KeepsLatest, events_of, own_of}
 use Rattle.control_block.specs.Parting.{JoinsWith, SplitsOff, in_history}
 use Rattle.control_block.specs.Rule.{opening_of}
@@ -12,7 +12,7 @@ use Rattle.control_block.specs.declared.handles.Held.{Held}
 module _ (V : Type 0) where
   -- a call adds its event to the desk's own
   abbrev pub CallsAdd : Type 0
-  CallsAdd = (d : DeskNow V) (x : Event V) (e : DeskNow V) → Adds d x e → own_of e ≡ x ∷ own_of d
+  CallsAdd = (d : DeskNow V) (x : Event V) (e : DeskNow V) → AddsEvent d x e → own_of e ≡ x ∷ own_of d
 
   -- a split is the first desk's own, and the new desk has no event yet
   abbrev pub SplitsAdd : Type 0
@@ -40,7 +40,7 @@ module _ (V : Type 0) where
   GoesByNone = (d : DeskNow V) → Goes d [] d
 
   abbrev pub GoesByCall : Type 0
-  GoesByCall = (d : DeskNow V) (x : Event V) (e : DeskNow V) → Adds d x e → Goes d (x ∷ []) e
+  GoesByCall = (d : DeskNow V) (x : Event V) (e : DeskNow V) → AddsEvent d x e → Goes d (x ∷ []) e
 
   abbrev pub GoesByJoin : Type 0
   GoesByJoin = (d other e : DeskNow V) → JoinsWith d other e → Goes d (Join other.name ∷ []) e
@@ -57,7 +57,7 @@ module _ (V : Type 0) where
 
   -- on a sole desk a call's event comes next
   abbrev pub ComesNext : Type 0
-  ComesNext = (d : DeskNow V) (x : Event V) (e : DeskNow V) → Adds d x e → IsSole d
+  ComesNext = (d : DeskNow V) (x : Event V) (e : DeskNow V) → AddsEvent d x e → IsSole d
       → e.seen ≡ entry d.name x ∷ d.seen
 
   -- its own events come one after the other, with nothing of others' between, and it is sole still
@@ -69,7 +69,7 @@ module _ (V : Type 0) where
 
   -- no block in which the desk has a handle is used again
   abbrev pub CallsKeepLatest : Type 0
-  CallsKeepLatest = (d : DeskNow V) (x : Event V) (e : DeskNow V) → Adds d x e → KeepsLatest d e
+  CallsKeepLatest = (d : DeskNow V) (x : Event V) (e : DeskNow V) → AddsEvent d x e → KeepsLatest d e
 
   abbrev pub JoinsKeepLatest : Type 0
   JoinsKeepLatest = (d other e : DeskNow V) → other.shape ≡ d.shape → JoinsWith d other e

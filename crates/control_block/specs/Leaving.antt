@@ -15,7 +15,7 @@ use Rattle.control_block.specs.CellCalls.{object_by}
 use Rattle.control_block.specs.CellPlays.{debt}
 use Rattle.control_block.specs.CellRounds.{CameOut}
 use Rattle.control_block.specs.FundPlays.{Owes, owing}
-use Rattle.control_block.specs.Plays.{At, Holding, Rests, known, tells}
+use Rattle.control_block.specs.Plays.{At, HoldingInBlock, Rests, known, tells}
 use Rattle.control_block.specs.Rule.{opening_of}
 use Rattle.control_block.specs.declared.board.Sight.{Sight}
 
@@ -32,7 +32,8 @@ module _ {V : Type 0} where
   -- a handle of the object in block b may leave: no call is half done and the desk has it, or it came out of a cell,
   -- and the half-done call has so many funds of it to give back
   abbrev pub MayLeave : At V → Kind → ℕ → Option Place → ℕ → ℕ → Type 0
-  MayLeave me k o p b funds = (Rests me × Holding me.0 k o p b × (funds ≡ 0)) ⊎ Owes (owing k o p b funds 0) me
+  MayLeave me k o p b funds = (Rests me × HoldingInBlock me.0 k o p b × (funds ≡ 0))
+      ⊎ Owes (owing k o p b funds 0) me
 
   -- the handle that a cell's word shows, by the blocks that the seat knows
   abbrev pub shown_handle : Sight V → Kind → CellWord → Handle

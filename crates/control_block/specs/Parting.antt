@@ -14,7 +14,8 @@ use Rattle.control_word.specs.Views.{Knows, comes}
 use Rattle.control_block.specs.declared.board.Sight.{Sight}
 use Rattle.control_block.specs.declared.handles.Held.{Held}
 use Rattle.control_block.specs.declared.handles.Held.TheVariants as held
-use Rattle.control_block.specs.Desks.{Adds, DeskNow, KeepsEndings, allowance_of, bag_of, endings_of, held_of, by_block}
+use Rattle.control_block.specs.Desks.{AddsEvent, DeskNow, KeepsEndings, allowance_of, bag_of, endings_of, held_of}
+use Rattle.control_block.specs.Desks.{by_block}
 use Rattle.control_block.specs.Desks.{state_of, stock_of}
 use Rattle.control_block.specs.Plays.{tells}
 use Rattle.control_block.specs.Rule.{opening_of}
@@ -23,14 +24,14 @@ use Rattle.control_block.specs.Rule.{opening_of}
 abbrev pub times : ℕ → List Block → ℕ
 times b l = length (filter (λ (c : Block). c.0 == b) l)
 
-abbrev pub number_of : Option Block → Option ℕ
-number_of None = None
-number_of (Some b) = Some b.0
+abbrev pub number_of_block : Option Block → Option ℕ
+number_of_block None = None
+number_of_block (Some b) = Some b.0
 
 -- a handle by its block, as a desk's bag lists it
 abbrev pub as_listed : Held → Handle
-as_listed (held.Owner h) = handle Owner (number_of h.block) h.place
-as_listed (held.Weak w) = handle Weak (number_of w.block) w.place
+as_listed (held.Owner h) = handle Owner (number_of_block h.block) h.place
+as_listed (held.Weak w) = handle Weak (number_of_block w.block) w.place
 
 -- those of them that a bag lists: a handle without an object is empty
 abbrev pub listed : List Held → List Handle
@@ -66,7 +67,7 @@ module _ {V : Type 0} where
   -- d has become e and a new desk, which has seen the same: it has allowance a, the k least blocks and these handles
   pub record SplitsOff (d : DeskNow V) (a k : ℕ) (hs : List Held) (e new : DeskNow V) : Type 0 where
     pub blocks : List Block
-    pub event : Adds d (Split new.name a (in_history (state_of d) hs) blocks) e
+    pub event : AddsEvent d (Split new.name a (in_history (state_of d) hs) blocks) e
     pub beside : (new.domain ≡ d.domain) × (new.shape ≡ d.shape) × (new.seen ≡ e.seen)
     pub named : (state_of d).names ≤ new.name
     pub allowance : (allowance_of new ≡ a) × (allowance_of e + a ≡ allowance_of d)

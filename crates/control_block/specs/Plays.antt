@@ -60,7 +60,7 @@ module _ {V : Type 0} where
     pub none : me.1 ≡ []
 
   -- by what it has seen the desk has this handle, of the object in block b
-  pub record Holding (v : Sight V) (k : Kind) (o : ℕ) (p : Option Place) (b : ℕ) : Type 0 where
+  pub record HoldingInBlock (v : Sight V) (k : Kind) (o : ℕ) (p : Option Place) (b : ℕ) : Type 0 where
     pub has : Has (held v.view.name (handle k (Some o) p)) (known v).hands
     pub there : ((known v).object o).block ≡ b
 
@@ -75,12 +75,12 @@ module _ {V : Type 0} where
   -- a weak handle with place q may come from a handle that the desk holds, or by from-this from an ending of its
   abbrev pub MayShareWeakly : Sight V → ℕ → ℕ → Option Place → Type 0
   MayShareWeakly v o b q =
-      ((m : Kind) × (p : Option Place) × Holding v m o p b × ((q ≡ p) ⊎ (q ≡ place_at b)))
+      ((m : Kind) × (p : Option Place) × HoldingInBlock v m o p b × ((q ≡ p) ⊎ (q ≡ place_at b)))
       ⊎ (Ends v o b × (((known v).object o).enabled ≡ true) × (q ≡ place_at b))
 
   -- the desk has a handle of the object in this block, or it ends in its hands
-  abbrev pub IsNear : Sight V → ℕ → ℕ → Type 0
-  IsNear v o b = ((m : Kind) × (p : Option Place) × Holding v m o p b) ⊎ Ends v o b
+  abbrev pub IsNearObject : Sight V → ℕ → ℕ → Type 0
+  IsNearObject v o b = ((m : Kind) × (p : Option Place) × HoldingInBlock v m o p b) ⊎ Ends v o b
 
   abbrev pub HasRoomFor : Sight V → Type 0
   HasRoomFor v = bag_size (known v) v.view.name < (known v).allowance v.view.name

@@ -29,7 +29,7 @@ module _ {V : Type 0} where
   shelved_of d = sum_below d.shape.blocks (λ j. on_shelf (state_of d) (suc j))
 
   -- a sole desk's shelf has n blocks fewer, and none that it hadn't
-  pub record Clears (n : ℕ) (d f : DeskNow V) : Type 0 where
+  pub record ClearsShelf (n : ℕ) (d f : DeskNow V) : Type 0 where
     pub sole : IsSole f
     pub fewer : shelved_of f + n ≡ shelved_of d
     pub none_new : (b : ℕ) → on_shelf (state_of f) b ≤ on_shelf (state_of d) b
@@ -38,4 +38,4 @@ module _ {V : Type 0} where
   pub record Unshelved (n : ℕ) (d f : DeskNow V) : Type 0 where
     pub passes : Passes Unshelve n d f
     pub stock : length (stock_of f) ≡ length (stock_of d) + n
-    pub clears : IsSole d → Clears n d f
+    pub clears : IsSole d → ClearsShelf n d f

@@ -2,7 +2,7 @@
 ghost use Rattle.std.specs.Prelude.{◌≡◌, ◌⊎◌, ◌↔◌, ℕ, ◌+◌, ◌<◌, ◌≤◌, [], length};
 ghost use Rattle.std.specs.Prelude.{replicate, vec_capacity, vec_len, None, IfOk, IfErr, IsTrue};
 ghost use Rattle.control_word.specs.Layout.{IsWithinLimits};
-ghost use Rattle.control_block.specs.Desks.{Begins, all_blocks};
+ghost use Rattle.control_block.specs.Desks.{IsFirstDesk, all_blocks};
 
 use crate::board::{Ruling, Sight};
 use crate::desk::Desk;
@@ -81,7 +81,7 @@ fn slots_of<V: Drop>(alloc: Global, mut tokens: Vec<Vacant<V>>) -> Result<Vec<Sl
 /// A new domain, and its first desk, which has all blocks and the whole allowance (own). It is refused `Memory` where a
 /// growth was really refused, and `Shape` just where the shape is outside the limits.
 pub fn open<V: Drop + Send>(alloc: Global, shape: Shape) -> Result<(Domain<V>, Desk<V>), Refusal>
-    ensures begins { IfOk result (λ r. (r.0.shape ≡ shape) × Begins r.0 r.1) }
+    ensures begins { IfOk result (λ r. (r.0.shape ≡ shape) × IsFirstDesk r.0 r.1) }
     ensures refused { IfErr result (λ why. (why ≡ Refusal.Memory) ⊎ (why ≡ Refusal.Shape)) }
     ensures shape { IfErr result (λ why. why ≡ Refusal.Shape ↔ (IsWithinLimits shape → ⊥)) }
     ensures within { IfOk result (λ _. IsWithinLimits shape) }

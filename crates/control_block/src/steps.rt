@@ -9,7 +9,8 @@ ghost use Rattle.control_word.specs.State.{count};
 ghost use Rattle.control_word.specs.declared.event.Event.TheVariants.{Count, Expired, Finish, Leave, Read, Share};
 ghost use Rattle.control_word.specs.declared.event.Event.TheVariants.{WeakLeave, WeakShare};
 ghost use Rattle.control_word.specs.declared.handle.Kind.TheVariants.{Owner, Weak};
-ghost use Rattle.control_block.specs.Plays.{tells, known, Ends, Rests, Holding, HasRoomFor, IsClear, IsNear, IsTold};
+ghost use Rattle.control_block.specs.Plays.{tells, known, Ends, Rests, HoldingInBlock, HasRoomFor, IsClear};
+ghost use Rattle.control_block.specs.Plays.{IsNearObject, IsTold};
 ghost use Rattle.control_block.specs.Plays.{MayShareWeakly};
 
 pub mod cells;
@@ -38,7 +39,7 @@ pub fn share<V, M: StepArgs>(board: &Board<V>, chair: &mut Chair<V>, block: Bloc
     requires board { chair.old.table_id ≡ board.now.table_id }
     requires rests { Rests chair.old.me }
     requires word { (0 < block.0) × (spot block.0 0 < board.now.table_id.words) }
-    requires holds { Holding chair.old.me.0 Owner M.object M.place block.0 }
+    requires holds { HoldingInBlock chair.old.me.0 Owner M.object M.place block.0 }
     requires wanted { IsPointer M.wanted }
     requires room { HasRoomFor chair.old.me.0 }
     ensures chair { (chair.new.table_id ≡ chair.old.table_id) × (chair.new.id ≡ chair.old.id)
@@ -68,7 +69,7 @@ pub fn leave_weak<V, M: StepArgs>(board: &Board<V>, chair: &mut Chair<V>, block:
     requires board { chair.old.table_id ≡ board.now.table_id }
     requires rests { Rests chair.old.me }
     requires word { (0 < block.0) × (spot block.0 1 < board.now.table_id.words) }
-    requires holds { Holding chair.old.me.0 Weak M.object M.place block.0 }
+    requires holds { HoldingInBlock chair.old.me.0 Weak M.object M.place block.0 }
     ensures chair { (chair.new.table_id ≡ chair.old.table_id) × (chair.new.id ≡ chair.old.id)
         × (chair.new.me.1 ≡ chair.old.me.1) }
     ensures event { tells (WeakLeave (weak_of M.object M.place) result) chair.old.me.0 chair.new.me.0 }
@@ -82,7 +83,7 @@ pub fn count<V, M: StepArgs>(board: &Board<V>, chair: &mut Chair<V>, block: Bloc
     requires board { chair.old.table_id ≡ board.now.table_id }
     requires rests { Rests chair.old.me }
     requires word { (0 < block.0) × (spot block.0 0 < board.now.table_id.words) }
-    requires holds { Holding chair.old.me.0 M.kind M.object M.place block.0 }
+    requires holds { HoldingInBlock chair.old.me.0 M.kind M.object M.place block.0 }
     ensures chair { (chair.new.table_id ≡ chair.old.table_id) × (chair.new.id ≡ chair.old.id)
         × (chair.new.me.1 ≡ chair.old.me.1) }
     ensures event { tells (Count (handle M.kind (Some M.object) M.place) result) chair.old.me.0 chair.new.me.0 }
@@ -97,7 +98,7 @@ pub fn is_expired<V, M: StepArgs>(board: &Board<V>, chair: &mut Chair<V>, block:
     requires board { chair.old.table_id ≡ board.now.table_id }
     requires rests { Rests chair.old.me }
     requires word { (0 < block.0) × (spot block.0 0 < board.now.table_id.words) }
-    requires holds { Holding chair.old.me.0 Weak M.object M.place block.0 }
+    requires holds { HoldingInBlock chair.old.me.0 Weak M.object M.place block.0 }
     ensures chair { (chair.new.table_id ≡ chair.old.table_id) × (chair.new.id ≡ chair.old.id)
         × (chair.new.me.1 ≡ chair.old.me.1) }
     ensures event { tells (Expired (weak_of M.object M.place) result) chair.old.me.0 chair.new.me.0 }
@@ -112,7 +113,7 @@ pub fn read<V, M: StepArgs>(board: &Board<V>, chair: &mut Chair<V>, place: Place
     requires word { (0 < place.block.0) × (place.field < 4)
         × (spot place.block.0 (3 + place.field) < board.now.table_id.words) }
     requires place { M.place ≡ Some place }
-    requires holds { Holding chair.old.me.0 Owner M.object M.place place.block.0 }
+    requires holds { HoldingInBlock chair.old.me.0 Owner M.object M.place place.block.0 }
     ensures chair { (chair.new.table_id ≡ chair.old.table_id) × (chair.new.id ≡ chair.old.id)
         × (chair.new.me.1 ≡ chair.old.me.1) }
     ensures event { tells (Read (owner M.object M.place) result) chair.old.me.0 chair.new.me.0 }
@@ -133,7 +134,7 @@ pub fn peek<V, M: StepArgs>(
     requires rests { Rests chair.old.me }
     requires word { (0 < block.0) × (word < 5) × (M.word ≡ word)
         × (spot block.0 (2 + word) < board.now.table_id.words) }
-    requires near { IsNear chair.old.me.0 M.object block.0 }
+    requires near { IsNearObject chair.old.me.0 M.object block.0 }
     ensures chair { (chair.new.table_id ≡ chair.old.table_id) × (chair.new.id ≡ chair.old.id)
         × (chair.new.me ≡ chair.old.me) }
     ensures told { IsTold word ((known chair.old.me.0).object M.object) result }
@@ -152,7 +153,7 @@ pub fn leave<V: Drop + Send, M: StepArgs>(
     requires rests { Rests chair.old.me }
     requires word { (0 < block.0) × (block.0 ≤ board.now.table_id.slots)
         × (spot block.0 0 < board.now.table_id.words) }
-    requires holds { (M.block ≡ block) × Holding chair.old.me.0 Owner M.object M.place block.0 }
+    requires holds { (M.block ≡ block) × HoldingInBlock chair.old.me.0 Owner M.object M.place block.0 }
     ensures chair { (chair.new.table_id ≡ chair.old.table_id) × (chair.new.id ≡ chair.old.id)
         × (chair.new.me.1 ≡ []) }
     ensures event { tells (Leave (owner M.object M.place) (is_some result)) chair.old.me.0 chair.new.me.0 }

@@ -6,23 +6,23 @@ use Rattle.std.specs.Prelude.{All, sum_by}
 use Rattle.std.proofs.lemmas.Bool.{cases_eq, false≢true}
 use Rattle.std.proofs.lemmas.List.Elements.{All-head, All-tail}
 use Rattle.std.proofs.lemmas.List.Sums.{sum_by-set}
-use Rattle.directed_graph.specs.Paths.{Has}
+use Rattle.directed_graph.specs.Paths.{HasVertex}
 use Rattle.directed_graph.specs.Searches.{Marks, is_marked, mark, mark_all, marking}
 
-pub has_left : (x : ℕ) (xs ys : List ℕ) → Has x xs → Has x (xs ++ ys)
+pub has_left : (x : ℕ) (xs ys : List ℕ) → HasVertex x xs → HasVertex x (xs ++ ys)
 has_left x [] ys h = absurd h
 has_left x (z ∷ zs) ys (inl e) = inl e
 has_left x (z ∷ zs) ys (inr h) = inr (has_left x zs ys h)
 
-pub has_last : (x : ℕ) (xs : List ℕ) → Has x (xs ++ x ∷ [])
+pub has_last : (x : ℕ) (xs : List ℕ) → HasVertex x (xs ++ x ∷ [])
 has_last x [] = inl refl
 has_last x (z ∷ zs) = inr (has_last x zs)
 
-pub has_either : (x y : ℕ) (xs : List ℕ) → Has x (xs ++ y ∷ []) → Has x xs ⊎ (x ≡ y)
+pub has_either : (x y : ℕ) (xs : List ℕ) → HasVertex x (xs ++ y ∷ []) → HasVertex x xs ⊎ (x ≡ y)
 has_either x y [] (inl e) = inr e
 has_either x y [] (inr h) = absurd h
 has_either x y (z ∷ zs) (inl e) = inl (inl e)
-has_either x y (z ∷ zs) (inr h) = ⊎_elim (λ (p : Has x zs). inl (inr p)) (λ (e : x ≡ y). inr e) (has_either x y zs h)
+has_either x y (z ∷ zs) (inr h) = ⊎_elim (λ (p : HasVertex x zs). inl (inr p)) (λ (e : x ≡ y). inr e) (has_either x y zs h)
 
 -- the cases of a vertex that is marked already, or not
 one : (P : Marks → Type 0) (m : Marks) (v : ℕ) → (is_marked m v ≡ true → P m) → (is_marked m v ≡ false → P (marking m v)) → P (mark m v)
@@ -68,7 +68,7 @@ all_stays (v ∷ vs) m w is = all_stays vs (mark m v) w (mark_stays m v w is)
 pub mark_marks : (m : Marks) (v : ℕ) → v < length m.marked → is_marked (mark m v) v ≡ true
 mark_marks m v lt = one (λ (x : Marks). is_marked x v ≡ true) m v (λ e. e) (λ e. get_or-set_same m.marked v true false lt)
 
-pub all_marks : (vs : List ℕ) (m : Marks) → All (λ v. v < length m.marked) vs → (w : ℕ) → Has w vs → is_marked (mark_all vs m) w ≡ true
+pub all_marks : (vs : List ℕ) (m : Marks) → All (λ v. v < length m.marked) vs → (w : ℕ) → HasVertex w vs → is_marked (mark_all vs m) w ≡ true
 all_marks [] m lt w h = absurd h
 all_marks (v ∷ vs) m lt w (inl e) =
     all_stays vs (mark m v) w (subst (λ (i : ℕ). is_marked (mark m v) i ≡ true) (sym e) (mark_marks m v (All-head (λ i. i < length m.marked) v vs lt)))
@@ -76,38 +76,38 @@ all_marks (v ∷ vs) m lt w (inr h) =
     all_marks vs (mark m v) (subst (λ (n : ℕ). All (λ i. i < n) vs) (sym (mark_size m v)) (All-tail (λ i. i < length m.marked) v vs lt)) w h
 
 -- what is listed stays so
-mark_lists : (m : Marks) (v w : ℕ) → Has w m.pending → Has w (mark m v).pending
-mark_lists m v w h = one (λ (x : Marks). Has w x.pending) m v (λ e. h) (λ e. has_left w m.pending (v ∷ []) h)
+mark_lists : (m : Marks) (v w : ℕ) → HasVertex w m.pending → HasVertex w (mark m v).pending
+mark_lists m v w h = one (λ (x : Marks). HasVertex w x.pending) m v (λ e. h) (λ e. has_left w m.pending (v ∷ []) h)
 
-pub all_lists : (vs : List ℕ) (m : Marks) (w : ℕ) → Has w m.pending → Has w (mark_all vs m).pending
+pub all_lists : (vs : List ℕ) (m : Marks) (w : ℕ) → HasVertex w m.pending → HasVertex w (mark_all vs m).pending
 all_lists [] m w h = h
 all_lists (v ∷ vs) m w h = all_lists vs (mark m v) w (mark_lists m v w h)
 
 -- what is newly marked is listed
-mark_new : (m : Marks) (v w : ℕ) → is_marked (mark m v) w ≡ true → (is_marked m w ≡ true) ⊎ ((w ≡ v) × Has w (mark m v).pending)
-mark_new m v w = one (λ (x : Marks). is_marked x w ≡ true → (is_marked m w ≡ true) ⊎ ((w ≡ v) × Has w x.pending)) m v (λ e is. inl is)
+mark_new : (m : Marks) (v w : ℕ) → is_marked (mark m v) w ≡ true → (is_marked m w ≡ true) ⊎ ((w ≡ v) × HasVertex w (mark m v).pending)
+mark_new m v w = one (λ (x : Marks). is_marked x w ≡ true → (is_marked m w ≡ true) ⊎ ((w ≡ v) × HasVertex w x.pending)) m v (λ e is. inl is)
     (λ e is. ⊎_elim (λ (p : is_marked m w ≡ true). inl p)
-    (λ (same : w ≡ v). inr (same, subst (λ (i : ℕ). Has i (m.pending ++ v ∷ [])) (sym same) (has_last v m.pending))) (from_set m.marked v w is))
+    (λ (same : w ≡ v). inr (same, subst (λ (i : ℕ). HasVertex i (m.pending ++ v ∷ [])) (sym same) (has_last v m.pending))) (from_set m.marked v w is))
 
 pub all_new : (vs : List ℕ) (m : Marks) (w : ℕ) → is_marked (mark_all vs m) w ≡ true
-    → (is_marked m w ≡ true) ⊎ (Has w vs × Has w (mark_all vs m).pending)
+    → (is_marked m w ≡ true) ⊎ (HasVertex w vs × HasVertex w (mark_all vs m).pending)
 all_new [] m w is = inl is
 all_new (v ∷ vs) m w is =
     ⊎_elim
     (λ (p : is_marked (mark m v) w ≡ true). ⊎_elim (λ (q : is_marked m w ≡ true). inl q)
-    (λ (q : (w ≡ v) × Has w (mark m v).pending). inr (inl q.0, all_lists vs (mark m v) w q.1)) (mark_new m v w p))
-    (λ (p : Has w vs × Has w (mark_all vs (mark m v)).pending). inr (inr p.0, p.1)) (all_new vs (mark m v) w is)
+    (λ (q : (w ≡ v) × HasVertex w (mark m v).pending). inr (inl q.0, all_lists vs (mark m v) w q.1)) (mark_new m v w p))
+    (λ (p : HasVertex w vs × HasVertex w (mark_all vs (mark m v)).pending). inr (inr p.0, p.1)) (all_new vs (mark m v) w is)
 
 -- what is listed was, or is one of these
-mark_listed : (m : Marks) (v w : ℕ) → Has w (mark m v).pending → Has w m.pending ⊎ (w ≡ v)
-mark_listed m v w = one (λ (x : Marks). Has w x.pending → Has w m.pending ⊎ (w ≡ v)) m v (λ e h. inl h) (λ e h. has_either w v m.pending h)
+mark_listed : (m : Marks) (v w : ℕ) → HasVertex w (mark m v).pending → HasVertex w m.pending ⊎ (w ≡ v)
+mark_listed m v w = one (λ (x : Marks). HasVertex w x.pending → HasVertex w m.pending ⊎ (w ≡ v)) m v (λ e h. inl h) (λ e h. has_either w v m.pending h)
 
-pub all_listed : (vs : List ℕ) (m : Marks) (w : ℕ) → Has w (mark_all vs m).pending → Has w m.pending ⊎ Has w vs
+pub all_listed : (vs : List ℕ) (m : Marks) (w : ℕ) → HasVertex w (mark_all vs m).pending → HasVertex w m.pending ⊎ HasVertex w vs
 all_listed [] m w h = inl h
 all_listed (v ∷ vs) m w h =
     ⊎_elim
-    (λ (p : Has w (mark m v).pending). ⊎_elim (λ (q : Has w m.pending). inl q) (λ (e : w ≡ v). inr (inl e)) (mark_listed m v w p))
-    (λ (p : Has w vs). inr (inr p)) (all_listed vs (mark m v) w h)
+    (λ (p : HasVertex w (mark m v).pending). ⊎_elim (λ (q : HasVertex w m.pending). inl q) (λ (e : w ≡ v). inr (inl e)) (mark_listed m v w p))
+    (λ (p : HasVertex w vs). inr (inr p)) (all_listed vs (mark m v) w h)
 
 -- how many are not marked, and how many are still to be followed
 abbrev pub unmarked : List Bool → ℕ

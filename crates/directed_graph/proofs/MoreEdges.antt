@@ -6,7 +6,7 @@ use Rattle.std.proofs.lemmas.Bool.{cases_eq, cond-true, cond-false}
 use Rattle.std.proofs.lemmas.List.Elements.{All-head, All-tail}
 use Rattle.std.specs.Global.{Vec}
 use Rattle.directed_graph.specs.declared.graph.Edge.{Edge}
-use Rattle.directed_graph.specs.Paths.{AreWithin, Has, HasRows, IsGraph, IsWithin, Rows, leading, targets}
+use Rattle.directed_graph.specs.Paths.{AreWithin, HasVertex, HasRows, IsGraph, IsEdgeWithin, Rows, leading, targets}
 
 pub none_more : (g : Rows) (row : Vec ℕ) → row.items ≡ [] → ((v : ℕ) → targets g v ≡ []) → (v : ℕ) → targets (g ++ row ∷ []) v ≡ []
 none_more [] row e none zero = e
@@ -73,19 +73,19 @@ edge_more g es n i row row' lt size rows inside e new =
           ∙ sym (leading_next es i v lt) ∙ ap (λ (j : ℕ). leading (take j es) v) (sym one),
     )
 
-led : (es : List Edge) (n v w : ℕ) → AreWithin n es → Has w (leading es v) → w < n
+led : (es : List Edge) (n v w : ℕ) → AreWithin n es → HasVertex w (leading es v) → w < n
 led [] n v w all h = absurd h
 led (e ∷ es) n v w all h =
-    go (e.from == v) (λ p. led es n v w (All-tail (IsWithin n) e es all) p) h
+    go (e.from == v) (λ p. led es n v w (All-tail (IsEdgeWithin n) e es all) p) h
   where
-    go : (b : Bool) → (Has w (leading es v) → w < n) → Has w (cond b (e.to ∷ leading es v) (leading es v)) → w < n
-    go true rest (inl same) = subst (λ (i : ℕ). i < n) (sym same) (All-head (IsWithin n) e es all).1
+    go : (b : Bool) → (HasVertex w (leading es v) → w < n) → HasVertex w (cond b (e.to ∷ leading es v) (leading es v)) → w < n
+    go true rest (inl same) = subst (λ (i : ℕ). i < n) (sym same) (All-head (IsEdgeWithin n) e es all).1
     go true rest (inr p) = rest p
     go false rest p = rest p
 
 -- each edge leads to a vertex
 pub is_graph : (g : Rows) (es : List Edge) (n : ℕ) → HasRows n es g → AreWithin n es → IsGraph g
-is_graph g es n has all v w h = subst (λ (i : ℕ). w < i) (sym has.size) (led es n v w all (subst (Has w) (has.rows v) h))
+is_graph g es n has all v w h = subst (λ (i : ℕ). w < i) (sym has.size) (led es n v w all (subst (HasVertex w) (has.rows v) h))
 
 -- a vertex more, without edges
 pub vertex_more : (g g' : Rows) (row : Vec ℕ) (i : ℕ) → g' ≡ g ++ row ∷ [] → row.items ≡ [] → length g ≡ i

@@ -6,7 +6,7 @@ use Rattle.std.proofs.lemmas.List.{length-replicate}
 use Rattle.std.proofs.lemmas.Bool.{cases_lt, cond-false, false≢true}
 use Rattle.std.specs.Global.{Vec}
 use Rattle.std.specs.Prelude.{All}
-use Rattle.directed_graph.specs.Paths.{Rows, Has, IsEdge, IsGraph, IsPath, MarksReached, Reaches, targets}
+use Rattle.directed_graph.specs.Paths.{Rows, HasVertex, IsEdge, IsGraph, IsPath, MarksReached, Reaches, targets}
 use Rattle.directed_graph.specs.Searches.{Marks, is_marked, mark, mark_all}
 use Rattle.directed_graph.proofs.Marking.{all_left, all_listed, all_lists, all_marks, all_new, all_size, all_stays, from_set, has_either, has_last, left}
 
@@ -21,8 +21,8 @@ further g v w x r edge = (r.0 ++ x ∷ [], longer g v w x r.0 r.1 edge)
 pub record Searched (g : Rows) (root : ℕ) (m : Marks) : Type 0 where
   pub size : length m.marked ≡ length g
   pub sound : (v : ℕ) → is_marked m v ≡ true → Reaches g root v
-  pub listed : (v : ℕ) → Has v m.pending → is_marked m v ≡ true
-  pub closed : (v w : ℕ) → is_marked m v ≡ true → IsEdge g v w → (is_marked m w ≡ true) ⊎ Has v m.pending
+  pub listed : (v : ℕ) → HasVertex v m.pending → is_marked m v ≡ true
+  pub closed : (v w : ℕ) → is_marked m v ≡ true → IsEdge g v w → (is_marked m w ≡ true) ⊎ HasVertex v m.pending
   pub begun : root < length g → is_marked m root ≡ true
 
 -- the edges of the vertex that was listed last are followed
@@ -38,32 +38,32 @@ followed g root v marked pending s lt =
       size = all_size (targets g v) m ∙ s.size;
       sound = λ w is.
           ⊎_elim (λ (p : is_marked m w ≡ true). s.sound w p)
-          (λ (p : Has w (targets g v) × Has w n.pending). further g root v w (s.sound v here) p.0) (all_new (targets g v) m w is);
+          (λ (p : HasVertex w (targets g v) × HasVertex w n.pending). further g root v w (s.sound v here) p.0) (all_new (targets g v) m w is);
       listed = λ w h.
-          ⊎_elim (λ (p : Has w pending). all_stays (targets g v) m w (s.listed w (listed_left w p)))
-          (λ (p : Has w (targets g v)). all_marks (targets g v) m lt w p) (all_listed (targets g v) m w h);
+          ⊎_elim (λ (p : HasVertex w pending). all_stays (targets g v) m w (s.listed w (listed_left w p)))
+          (λ (p : HasVertex w (targets g v)). all_marks (targets g v) m lt w p) (all_listed (targets g v) m w h);
       closed = λ u w is edge.
           ⊎_elim (λ (p : is_marked m u ≡ true). old u w p edge)
-          (λ (p : Has u (targets g v) × Has u n.pending). inr p.1) (all_new (targets g v) m u is);
+          (λ (p : HasVertex u (targets g v) × HasVertex u n.pending). inr p.1) (all_new (targets g v) m u is);
       begun = λ i. all_stays (targets g v) m root (s.begun i);
     }
   where
-    listed_left : (w : ℕ) → Has w pending → Has w (pending ++ v ∷ [])
+    listed_left : (w : ℕ) → HasVertex w pending → HasVertex w (pending ++ v ∷ [])
     listed_left w h = go pending h
       where
-        go : (l : List ℕ) → Has w l → Has w (l ++ v ∷ [])
+        go : (l : List ℕ) → HasVertex w l → HasVertex w (l ++ v ∷ [])
         go [] p = absurd p
         go (x ∷ xs) (inl e) = inl e
         go (x ∷ xs) (inr p) = inr (go xs p)
 
     old : (u w : ℕ) → get_or marked u false ≡ true → IsEdge g u w
         → (is_marked (mark_all (targets g v) (record { marked = marked; pending = pending })) w ≡ true)
-        ⊎ Has u (mark_all (targets g v) (record { marked = marked; pending = pending })).pending
+        ⊎ HasVertex u (mark_all (targets g v) (record { marked = marked; pending = pending })).pending
     old u w is edge =
         let m : Marks = record { marked = marked; pending = pending } in
         ⊎_elim (λ (p : get_or marked w false ≡ true). inl (all_stays (targets g v) m w p))
-        (λ (p : Has u (pending ++ v ∷ [])).
-        ⊎_elim (λ (q : Has u pending). inr (all_lists (targets g v) m u q))
+        (λ (p : HasVertex u (pending ++ v ∷ [])).
+        ⊎_elim (λ (q : HasVertex u pending). inr (all_lists (targets g v) m u q))
         (λ (e : u ≡ v). inl (all_marks (targets g v) m lt w (subst (λ (i : ℕ). IsEdge g i w) e edge))) (has_either u v pending p))
         (s.closed u w is edge)
 
@@ -75,7 +75,7 @@ no_row (r ∷ rs) (suc v) le = no_row rs v (omega arith)
 -- no path leads from outside to a vertex
 nowhere : (g : Rows) (root v : ℕ) (path : List ℕ) → length g ≤ root → v < length g → IsPath g root path v → ⊥
 nowhere g root v [] le lt e = omega (arith, e)
-nowhere g root v (x ∷ xs) le lt p = subst (Has x) (no_row g root le) p.0
+nowhere g root v (x ∷ xs) le lt p = subst (HasVertex x) (no_row g root le) p.0
 
 -- nothing is listed any more
 pub over : (g : Rows) (root : ℕ) (marked : List Bool) → Searched g root (record { marked = marked; pending = [] }) → MarksReached g root marked
@@ -143,7 +143,7 @@ inside_list (c ∷ cs) (suc i) h = let l = inside_list cs i h in omega arith
 pub listed_in : (g : Rows) (root v : ℕ) (marked : List Bool) (pending rest : List ℕ) → pending ≡ rest ++ v ∷ []
     → Searched g root (record { marked = marked; pending = pending }) → v < length g
 listed_in g root v marked pending rest e s =
-    let i = inside_list marked v (s.listed v (subst (Has v) (sym e) (has_last v rest))) in
+    let i = inside_list marked v (s.listed v (subst (HasVertex v) (sym e) (has_last v rest))) in
     let l = s.size in omega (arith, i, l)
 
 got : (g : Rows) (v : ℕ) (row : Vec ℕ) → v < length g → row ≡ get_or g v row → targets g v ≡ row.items
@@ -151,7 +151,7 @@ got [] v row lt e = absurd (omega arith)
 got (r ∷ rs) zero row lt e = ap (λ (x : Vec ℕ). x.items) (sym e)
 got (r ∷ rs) (suc v) row lt e = got rs v row (omega arith) e
 
-all_has : (P : ℕ → Type 0) (xs : List ℕ) → ((x : ℕ) → Has x xs → P x) → All P xs
+all_has : (P : ℕ → Type 0) (xs : List ℕ) → ((x : ℕ) → HasVertex x xs → P x) → All P xs
 all_has P [] h k d lt = absurd (omega arith)
 all_has P (x ∷ xs) h zero d lt = h x (inl refl)
 all_has P (x ∷ xs) h (suc k) d lt = all_has P xs (λ y p. h y (inr p)) k d (omega arith)

@@ -15,13 +15,13 @@ targets_in (Some targets) = targets.items
 abbrev pub targets : Rows → ℕ → List ℕ
 targets g v = targets_in (slice_get g v)
 
-abbrev pub Has : ℕ → List ℕ → Type 0
-Has x [] = ⊥
-Has x (y ∷ ys) = (x ≡ y) ⊎ Has x ys
+abbrev pub HasVertex : ℕ → List ℕ → Type 0
+HasVertex x [] = ⊥
+HasVertex x (y ∷ ys) = (x ≡ y) ⊎ HasVertex x ys
 
 -- an edge leads from v to w
 abbrev pub IsEdge : Rows → ℕ → ℕ → Type 0
-IsEdge g v w = Has w (targets g v)
+IsEdge g v w = HasVertex w (targets g v)
 
 -- each edge leads to a vertex
 abbrev pub IsGraph : Rows → Type 0
@@ -47,11 +47,11 @@ leading [] v = []
 leading (e ∷ es) v = cond (e.from == v) (e.to ∷ leading es v) (leading es v)
 
 -- the vertices have numbers below n, and the edge leads from one to one
-abbrev pub IsWithin : ℕ → Edge → Type 0
-IsWithin n e = (e.from < n) × (e.to < n)
+abbrev pub IsEdgeWithin : ℕ → Edge → Type 0
+IsEdgeWithin n e = (e.from < n) × (e.to < n)
 
 abbrev pub AreWithin : ℕ → List Edge → Type 0
-AreWithin n es = All (IsWithin n) es
+AreWithin n es = All (IsEdgeWithin n) es
 
 -- the graph with n vertices and these edges
 pub record HasRows (n : ℕ) (es : List Edge) (g : Rows) : Type 0 where

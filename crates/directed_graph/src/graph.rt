@@ -1,6 +1,6 @@
 //! A graph from its edges.
 ghost use Rattle.std.specs.Prelude.{◌≡◌, ◌<◌, ◌↔◌, ℕ, [], All, IfErr, IfOk, IsTrue, length, vec_len};
-ghost use Rattle.directed_graph.specs.Paths.{AreWithin, HasRows, IsWithin, leading, targets};
+ghost use Rattle.directed_graph.specs.Paths.{AreWithin, HasRows, IsEdgeWithin, leading, targets};
 
 use std::alloc::{AllocError, Global};
 use std::marker::Model;

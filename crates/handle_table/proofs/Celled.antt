@@ -10,20 +10,20 @@ use Rattle.control_word.specs.declared.place.Block.{Block}
 use Rattle.control_word.specs.declared.place.Place.{Place}
 use Rattle.control_word.specs.declared.refusal.Refusal.{Refusal}
 use Rattle.control_word.specs.declared.refusal.Refusal.TheVariants.{Null, Outside}
-use Rattle.control_block.specs.CellCalls.{Holds, IsOpenAt, with_handle, without_handle}
+use Rattle.control_block.specs.CellCalls.{HoldsHandle, IsOpenAt, with_handle, without_handle}
 use Rattle.control_block.specs.Desks.{DeskNow}
-use Rattle.control_block.specs.HandleLists.{IsHeld, with_held, without_held}
+use Rattle.control_block.specs.HandleLists.{IsHeldByDesk, with_held, without_held}
 use Rattle.control_block.specs.declared.cell_calls.Site.{Site}
 use Rattle.control_block.specs.declared.cell_calls.Site.TheVariants as site
 use Rattle.control_block.specs.declared.handles.Held.{Held}
 use Rattle.control_block.specs.declared.handles.Held.TheVariants.{Owner, Weak}
 use Rattle.control_block.specs.declared.handles.Shared.{Shared}
-use Rattle.atomic_cells.specs.Sites.{IsMember, number_of}
+use Rattle.atomic_cells.specs.Sites.{IsMember, number_of_member}
 use Rattle.atomic_cells.specs.declared.sites.SharedMember.{SharedMember}
 use Rattle.atomic_cells.specs.declared.sites.SharedMember.TheVariants.{First, Next}
-use Rattle.handle_table.specs.Cells.{IsCell, OwnsInto, PointsAway, kind_in}
-use Rattle.handle_table.specs.Parts.{kind_of, owned_by, place_of}
-use Rattle.handle_table.specs.Tables.{Fits, Slot}
+use Rattle.handle_table.specs.Cells.{IsCellAtSite, OwnsInto, PointsAway, kind_of_cell}
+use Rattle.handle_table.specs.Parts.{kind_of_held, block_of_held, place_of_held}
+use Rattle.handle_table.specs.Tables.{FitsSlots, Slot}
 use Rattle.handle_table.specs.declared.cells.Cell.{Cell}
 use Rattle.handle_table.specs.declared.cells.Cell.TheVariants as cell
 use Rattle.handle_table.specs.declared.fault.Fault.TheVariants as fault
@@ -35,19 +35,21 @@ pub by_parts : (P : Kind → Option Block → Option Place → Type 0) (k l : Ki
 by_parts P k l b c p q e f g x = subst (λ z. P z b p) (sym e) (subst (λ z. P l z p) (sym f) (subst (λ z. P l c z) (sym g) x))
 
 -- a list of handles with this one more, and with it less, by its parts
-pub with_parts : (h : Held) (l : List Handle) → with_held h l ≡ with_handle (kind_of h) (owned_by h) (place_of h) l
+pub with_parts : (h : Held) (l : List Handle) → with_held h l ≡ with_handle (kind_of_held h) (block_of_held h) (place_of_held h) l
 with_parts (Owner h) l = refl
 with_parts (Weak w) l = refl
 
-pub without_parts : (h : Held) (l : List Handle) → without_held h l ≡ without_handle (kind_of h) (owned_by h) (place_of h) l
+pub without_parts : (h : Held) (l : List Handle) → without_held h l ≡ without_handle (kind_of_held h) (block_of_held h) (place_of_held h) l
 without_parts (Owner h) l = refl
 without_parts (Weak w) l = refl
 
-pub with_named : (h : Held) (k : Kind) (b : Option Block) (p : Option Place) (l : List Handle) → kind_of h ≡ k → owned_by h ≡ b → place_of h ≡ p
+pub with_named : (h : Held) (k : Kind) (b : Option Block) (p : Option Place) (l : List Handle) → kind_of_held h ≡ k → block_of_held h ≡ b
+    → place_of_held h ≡ p
     → with_held h l ≡ with_handle k b p l
 with_named h k b p l e f g = with_parts h l ∙ (λ i. with_handle (e i) (f i) (g i) l)
 
-pub without_named : (h : Held) (k : Kind) (b : Option Block) (p : Option Place) (l : List Handle) → kind_of h ≡ k → owned_by h ≡ b → place_of h ≡ p
+pub without_named : (h : Held) (k : Kind) (b : Option Block) (p : Option Place) (l : List Handle) → kind_of_held h ≡ k → block_of_held h ≡ b
+    → place_of_held h ≡ p
     → without_held h l ≡ without_handle k b p l
 without_named h k b p l e f g = without_parts h l ∙ (λ i. without_handle (e i) (f i) (g i) l)
 
@@ -59,28 +61,33 @@ past_kind : (m n : ℕ) → kind.Weak ≡ kind_of_free m (m + n)
 past_kind m n = sym (cond-false (nat_lt (m + n) m) kind.Owner kind.Weak (le-ltb (m + n) m (omega arith)))
 
 module _ {V : Type 0} where
-  pub held_parts : (d : DeskNow V) (h : Held) → IsHeld d h → Holds d (kind_of h) (owned_by h) (place_of h)
+  pub held_parts : (d : DeskNow V) (h : Held) → IsHeldByDesk d h → HoldsHandle d (kind_of_held h) (block_of_held h) (place_of_held h)
   held_parts d (Owner h) holds = holds
   held_parts d (Weak w) holds = holds
 
-  member_open : (d : DeskNow V) (ss : List Slot) (of m : ℕ) (k : Kind) (b : Block) (s : Site) → Fits d ss → OwnsInto ss of b → s ≡ site.Member b m
+  member_open : (d : DeskNow V) (ss : List Slot) (of m : ℕ) (k : Kind) (b : Block) (s : Site) → FitsSlots d ss → OwnsInto ss of b
+      → s ≡ site.Member b m
       → m < 3 → k ≡ kind_of_member m → IsOpenAt d s k
   member_open d ss of m k b s fits owns is low same =
       subst (λ (x : Site). IsOpenAt d x k) (sym is) (
         low,
         same,
-        (owns.owner.place, subst (λ (c : Option Block). Holds d kind.Owner c owns.owner.place) owns.owns (fits_at d ss of (Owner owns.owner) fits owns.at)),
+        (
+          owns.owner.place,
+          subst (λ (c : Option Block). HoldsHandle d kind.Owner c owns.owner.place) owns.owns
+              (fits_at d ss of (Owner owns.owner) fits owns.at),
+        ),
       )
 
   -- a cell is open to a desk that has just the handles in the slots
-  pub is_open : (d : DeskNow V) (ss : List Slot) (c : Cell) (s : Site) → Fits d ss → IsCell d.shape ss c s → IsOpenAt d s (kind_in c)
+  pub is_open : (d : DeskNow V) (ss : List Slot) (c : Cell) (s : Site) → FitsSlots d ss → IsCellAtSite d.shape ss c s → IsOpenAt d s (kind_of_cell c)
   is_open d ss (cell.Shared n) s fits is =
       subst (λ (x : Site). IsOpenAt d x kind.Owner) (sym is.1) (omega arith, few_kind d.shape.shared_cells n is.0)
   is_open d ss (cell.Weak n) s fits is =
       subst (λ (x : Site). IsOpenAt d x kind.Weak) (sym is.1) (omega arith, past_kind d.shape.shared_cells n)
   is_open d ss (cell.Member of which) s fits is = go which is.2
     where
-      go : (w : SharedMember) → s ≡ site.Member is.0 (number_of w) → IsOpenAt d s kind.Owner
+      go : (w : SharedMember) → s ≡ site.Member is.0 (number_of_member w) → IsOpenAt d s kind.Owner
       go First at = member_open d ss of 0 kind.Owner is.0 s fits is.1 at (omega arith) refl
       go Next at = member_open d ss of 1 kind.Owner is.0 s fits is.1 at (omega arith) refl
   is_open d ss (cell.Up of) s fits is = member_open d ss of 2 kind.Weak is.0 s fits is.1 is.2 (omega arith) refl

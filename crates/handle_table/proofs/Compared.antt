@@ -4,13 +4,13 @@ use Rattle.std.proofs.Common.{◌∙◌, arith}
 use Rattle.std.proofs.lemmas.Bool.{cond-true, cond-false}
 use Rattle.std.specs.Prelude.{slice_get}
 use Rattle.control_word.specs.declared.handle.Kind.{Kind}
-use Rattle.control_block.specs.CellCalls.{Holds, without_handle}
+use Rattle.control_block.specs.CellCalls.{HoldsHandle, without_handle}
 use Rattle.control_block.specs.Desks.{DeskNow, bag_of}
 use Rattle.control_block.specs.HandleLists.{with_held}
 use Rattle.control_block.specs.declared.cell_calls.Content.{Content}
 use Rattle.control_block.specs.declared.handles.Held.{Held}
-use Rattle.handle_table.specs.Parts.{IsContent, kind_of, owned_by, place_of}
-use Rattle.handle_table.specs.Tables.{Fits, Slot}
+use Rattle.handle_table.specs.Parts.{IsContent, kind_of_held, block_of_held, place_of_held}
+use Rattle.handle_table.specs.Tables.{FitsSlots, Slot}
 use Rattle.handle_table.proofs.Celled.{by_parts, held_parts, without_named}
 use Rattle.handle_table.proofs.Filling.{fits_at, fits_exchange, fits_more, fits_out}
 
@@ -22,18 +22,18 @@ found_below (a ∷ l) (suc i) x e = let ih = found_below l i x e in omega arith
 
 module _ {V : Type 0} where
   -- a handle in a slot is held
-  pub content_held : (d : DeskNow V) (ss : List Slot) (i : ℕ) (h : Held) (x : Content) (k : Kind) → Fits d ss → slice_get ss i ≡ Some (Some h)
-      → IsContent h x → x.kind ≡ k → Holds d k x.block x.place
+  pub content_held : (d : DeskNow V) (ss : List Slot) (i : ℕ) (h : Held) (x : Content) (k : Kind) → FitsSlots d ss → slice_get ss i ≡ Some (Some h)
+      → IsContent h x → x.kind ≡ k → HoldsHandle d k x.block x.place
   content_held d ss i h x k fits at is same =
-      by_parts (Holds d) k (kind_of h) x.block (owned_by h) x.place (place_of h) (sym (is.0 ∙ same)) (sym is.1) (sym is.2)
+      by_parts (HoldsHandle d) k (kind_of_held h) x.block (block_of_held h) x.place (place_of_held h) (sym (is.0 ∙ same)) (sym is.1) (sym is.2)
       (held_parts d h (fits_at d ss i h fits at))
 
   -- it went into the cell, and what that held is in hand
-  pub fits_swapped : (d m : DeskNow V) (ss : List Slot) (i : ℕ) (h y : Held) (x : Content) (k : Kind) (s : Bool) → Fits d ss
+  pub fits_swapped : (d m : DeskNow V) (ss : List Slot) (i : ℕ) (h y : Held) (x : Content) (k : Kind) (s : Bool) → FitsSlots d ss
       → slice_get ss i ≡ Some (Some h)
       → IsContent h x → x.kind ≡ k → bag_of m ≡ with_held y (cond s (without_handle k x.block x.place (bag_of d)) (bag_of d))
       → m.held ≡ d.held + cond s 0 1
-      → s ≡ true → Fits m (Some y ∷ set ss i None)
+      → s ≡ true → FitsSlots m (Some y ∷ set ss i None)
   fits_swapped d m ss i h y x k s fits at is same bag held hit =
       let l = bag_of d in
       fits_exchange d m (set ss i None) h y (fits_out d ss i h fits at)
@@ -42,9 +42,9 @@ module _ {V : Type 0} where
       (let z : ◌≡◌ {A = ℕ} (cond s 0 1) 0 = cond-true s 0 1 hit in omega arith)
 
   -- or it didn't, and a copy of what the cell holds is in hand
-  pub fits_differs : (d m : DeskNow V) (ss : List Slot) (y : Held) (x : Content) (k : Kind) (s : Bool) → Fits d ss
+  pub fits_differs : (d m : DeskNow V) (ss : List Slot) (y : Held) (x : Content) (k : Kind) (s : Bool) → FitsSlots d ss
       → bag_of m ≡ with_held y (cond s (without_handle k x.block x.place (bag_of d)) (bag_of d)) → m.held ≡ d.held + cond s 0 1
-      → s ≡ false → Fits m (Some y ∷ ss)
+      → s ≡ false → FitsSlots m (Some y ∷ ss)
   fits_differs d m ss y x k s fits bag held miss =
       let l = bag_of d in
       fits_more d m ss y fits (bag ∙ ap (with_held y) (cond-false s (without_handle k x.block x.place l) l miss))

@@ -4,14 +4,14 @@ use Rattle.std.proofs.lemmas.List.{nil_from_length}
 use Rattle.control_word.specs.declared.shape.Shape.{Shape}
 use Rattle.control_word.specs.Histories.{IsLegal}
 use Rattle.control_block.specs.Census.{CensusNow, TellsAll}
-use Rattle.control_block.specs.Desks.{Begins, Belongs, DeskNow, DomainNow, allowance_of, bag_of, endings_of, state_of}
+use Rattle.control_block.specs.Desks.{IsFirstDesk, Belongs, DeskNow, DomainNow, allowance_of, bag_of, endings_of, state_of}
 use Rattle.control_block.specs.Parting.{SplitsOff}
 use Rattle.control_block.specs.Rule.{opening_of}
 use Rattle.control_block.specs.Standing.{Standing}
 use Rattle.handle_table.proofs.Filling.{total_one}
 use Rattle.handle_table.specs.Parting.{AbsorbsAll, IsNew, IsPartedInto, WhyFewer, WindsUp}
 use Rattle.handle_table.specs.Programs.{IsClosed, Runs, Works, WorksIn, WorksOut}
-use Rattle.handle_table.specs.Tables.{Fits, TableNow}
+use Rattle.handle_table.specs.Tables.{FitsSlots, TableNow}
 use Rattle.handle_table.specs.declared.program.Manned.{Manned}
 use Rattle.handle_table.specs.declared.program.Team.{Team}
 use Rattle.std.specs.Prelude.{All, IfSome}
@@ -43,7 +43,7 @@ module _ {V : Type 0} where
       }
 
   -- a sole desk without handles closed its domain
-  pub closed : (domain : DomainNow) (d : DeskNow V) (c : CensusNow) → Belongs d domain → Standing d → Fits d [] → endings_of d ≡ 0
+  pub closed : (domain : DomainNow) (d : DeskNow V) (c : CensusNow) → Belongs d domain → Standing d → FitsSlots d [] → endings_of d ≡ 0
       → allowance_of d ≡ domain.shape.allowance → c.blocks ≡ domain.shape.blocks → TellsAll (state_of d) domain.shape.blocks c
       → IsClosed d domain.shape c
   closed domain d c here stands fits none sole blocks tells =
@@ -62,10 +62,11 @@ module _ {V : Type 0} where
   works_out t u team manned last works winds = record { after = u; works = works; winds_up = winds }
 
   -- the table was the domain's first one
-  pub works_in : (domain : DomainNow) (d : DeskNow V) (t : TableNow V) (team : Team) (manned : Manned) (last : DeskNow V) → Begins domain d → t.desk ≡ d
+  pub works_in : (domain : DomainNow) (d : DeskNow V) (t : TableNow V) (team : Team) (manned : Manned) (last : DeskNow V)
+      → IsFirstDesk domain d → t.desk ≡ d
       → IsNew team.slots t → WorksOut t team manned last → WorksIn domain team manned last
   works_in domain d t team manned last begins is new out =
-      record { first = t; begins = subst (λ (x : DeskNow V). Begins domain x) (sym is) begins; new = new; out = out }
+      record { first = t; begins = subst (λ (x : DeskNow V). IsFirstDesk domain x) (sym is) begins; new = new; out = out }
 
   -- and its desk closed the domain
   pub runs : (domain : DomainNow) (shape : Shape) (team : Team) (manned : Manned) (last : DeskNow V) (c : CensusNow) → domain.shape ≡ shape

@@ -12,7 +12,7 @@ use Rattle.shared_handle.specs.Calls.{counting}
 use Rattle.shared_handle.specs.Piles.{Bears}
 use Rattle.shared_handle.specs.declared.pile.Pile.{Pile}
 use Rattle.handle_table.proofs.Filling.{fits_more}
-use Rattle.handle_table.specs.Tables.{Fits, Slot}
+use Rattle.handle_table.specs.Tables.{FitsSlots, Slot}
 
 module _ {V : Type 0} where
   keeps_endings : (d : DeskNow V) → KeepsEndings d (counting (d.held + 1) d)
@@ -22,14 +22,14 @@ module _ {V : Type 0} where
   bears_counted domain d e p w is =
       subst (λ (x : DeskNow V). Bears domain x p) (sym is) (bears_kept domain d (counting (d.held + 1) d) p w refl refl (keeps_endings d) refl)
 
-  pub fits_empty : (d e : DeskNow V) (ss : List Slot) (h : Shared) → Fits d ss → h.block ≡ None → e ≡ counting (d.held + 1) d
-      → Fits e (Some (Owner h) ∷ ss)
+  pub fits_empty : (d e : DeskNow V) (ss : List Slot) (h : Shared) → FitsSlots d ss → h.block ≡ None → e ≡ counting (d.held + 1) d
+      → FitsSlots e (Some (Owner h) ∷ ss)
   fits_empty d e ss h fits none is =
-      subst (λ (x : DeskNow V). Fits x (Some (Owner h) ∷ ss)) (sym is)
+      subst (λ (x : DeskNow V). FitsSlots x (Some (Owner h) ∷ ss)) (sym is)
       (fits_more d (counting (d.held + 1) d) ss (Owner h) fits (ap (λ (b : Option Block). with_handle kind.Owner b h.place (bag_of d)) (sym none)) refl)
 
-  pub fits_empty_weak : (d e : DeskNow V) (ss : List Slot) (w : weak_handle.Weak) → Fits d ss → w.block ≡ None → e ≡ counting (d.held + 1) d
-      → Fits e (Some (Weak w) ∷ ss)
+  pub fits_empty_weak : (d e : DeskNow V) (ss : List Slot) (w : weak_handle.Weak) → FitsSlots d ss → w.block ≡ None → e ≡ counting (d.held + 1) d
+      → FitsSlots e (Some (Weak w) ∷ ss)
   fits_empty_weak d e ss w fits none is =
-      subst (λ (x : DeskNow V). Fits x (Some (Weak w) ∷ ss)) (sym is)
+      subst (λ (x : DeskNow V). FitsSlots x (Some (Weak w) ∷ ss)) (sym is)
       (fits_more d (counting (d.held + 1) d) ss (Weak w) fits (ap (λ (b : Option Block). with_handle kind.Weak b w.place (bag_of d)) (sym none)) refl)

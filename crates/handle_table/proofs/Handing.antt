@@ -18,17 +18,18 @@ use Rattle.shared_handle.specs.Piles.{Bears}
 use Rattle.shared_handle.specs.declared.pile.Pile.{Pile}
 use Rattle.handle_table.proofs.Filling.{counted_has, one_like, spread_one, total_one, total_without, vacant_filled, vacant_worth}
 use Rattle.handle_table.specs.Parting.{HandsOver, handles_from}
-use Rattle.handle_table.specs.Tables.{AllVacant, Fits, IsWhole, Slot, is_filled, worth}
+use Rattle.handle_table.specs.Tables.{AllVacant, FitsSlots, IsWhole, Slot, is_filled, slot_worth}
 
 -- what is listed of the slots
-listed_total : (f : Handle → ℕ) (r : List Slot) → total f (listed (handles_in r)) ≡ total (worth f) r
+listed_total : (f : Handle → ℕ) (r : List Slot) → total f (listed (handles_in r)) ≡ total (slot_worth f) r
 listed_total f [] = refl
 listed_total f (None ∷ r) = let ih = listed_total f r in omega arith
 listed_total f (Some h ∷ r) =
     let ih = listed_total f r in let x = as_listed h in
-    cond_both (has_object x) (x ∷ listed (handles_in r)) (listed (handles_in r)) (λ (l : List Handle). total f l ≡ worth f (Some h) + total (worth f) r)
-    (λ e. let a : worth f (Some h) ≡ f x = cond-true (has_object x) (f x) 0 e in omega arith)
-    (λ e. let a : worth f (Some h) ≡ 0 = ap (λ (b : Bool). cond b (f x) 0) e in omega arith)
+    cond_both (has_object x) (x ∷ listed (handles_in r)) (listed (handles_in r)) (λ (l : List Handle). total f l ≡ slot_worth f (Some h) + total
+    (slot_worth f) r)
+    (λ e. let a : slot_worth f (Some h) ≡ f x = cond-true (has_object x) (f x) 0 e in omega arith)
+    (λ e. let a : slot_worth f (Some h) ≡ 0 = ap (λ (b : Bool). cond b (f x) 0) e in omega arith)
 
 handles_filled : (r : List Slot) → length (handles_in r) ≡ total is_filled r
 handles_filled [] = refl
@@ -64,30 +65,30 @@ replicate_vacant zero = tt
 replicate_vacant (suc n) = (refl, replicate_vacant n)
 
 module _ {V : Type 0} where
-  holds_behind : (d : DeskNow V) (l r : List Slot) → Fits d (l ++ r) → HoldsAll d (handles_in r)
+  holds_behind : (d : DeskNow V) (l r : List Slot) → FitsSlots d (l ++ r) → HoldsAll d (handles_in r)
   holds_behind d l r fits =
       record {
         objects = are_in (listed (handles_in r)) (bag_of d)
-            (λ f. let a = fits.bag f in let b = two_parts (worth f) l r in let c = listed_total f r in omega arith);
+            (λ f. let a = fits.bag f in let b = two_parts (slot_worth f) l r in let c = listed_total f r in omega arith);
         empty =
-            let a = fits.bag (λ h. 1) in let b = two_parts (worth (λ h. 1)) l r in let c = listed_total (λ h. 1) r in
+            let a = fits.bag (λ h. 1) in let b = two_parts (slot_worth (λ h. 1)) l r in let c = listed_total (λ h. 1) r in
             let x = total_one (bag_of d) in let y = total_one (listed (handles_in r)) in
             let p = two_parts is_filled l r in let q = fits.held in let s = handles_filled r in let t = spread_one l in omega arith;
       }
 
   -- what a split asks
-  pub holds_from : (d : DeskNow V) (ss : List Slot) (n : ℕ) → Fits d ss → HoldsAll d (handles_from n ss)
-  holds_from d ss n fits = holds_behind d (take n ss) (drop n ss) (subst (Fits d) (sym (take-append-drop n ss)) fits)
+  pub holds_from : (d : DeskNow V) (ss : List Slot) (n : ℕ) → FitsSlots d ss → HoldsAll d (handles_from n ss)
+  holds_from d ss n fits = holds_behind d (take n ss) (drop n ss) (subst (FitsSlots d) (sym (take-append-drop n ss)) fits)
 
   -- what both desks hold then
-  fits_apart : (d e new : DeskNow V) (a k : ℕ) (l r : List Slot) → Fits d (l ++ r) → SplitsOff d a k (handles_in r) e new
-      → Fits e l × Fits new r
+  fits_apart : (d e new : DeskNow V) (a k : ℕ) (l r : List Slot) → FitsSlots d (l ++ r) → SplitsOff d a k (handles_in r) e new
+      → FitsSlots e l × FitsSlots new r
   fits_apart d e new a k l r fits parts =
       let all = (holds_behind d l r fits).objects in (
         record {
           bag = λ f.
               let x = ap (total f) parts.bag.1 in let y = left_total f (listed (handles_in r)) (bag_of d) all in
-              let z = fits.bag f in let b = two_parts (worth f) l r in let c = listed_total f r in omega arith;
+              let z = fits.bag f in let b = two_parts (slot_worth f) l r in let c = listed_total f r in omega arith;
           held = let x = parts.held.1 in let p = two_parts is_filled l r in let q = fits.held in let s = handles_filled r in omega arith;
         },
         record {
@@ -97,17 +98,17 @@ module _ {V : Type 0} where
       )
 
   -- with vacant slots before and behind
-  fits_before : (d : DeskNow V) (v l : List Slot) → AllVacant v → Fits d l → Fits d (v ++ l)
+  fits_before : (d : DeskNow V) (v l : List Slot) → AllVacant v → FitsSlots d l → FitsSlots d (v ++ l)
   fits_before d v l all fits =
       record {
-        bag = λ f. let a = fits.bag f in let b = two_parts (worth f) v l in let c = vacant_worth f v all in omega arith;
+        bag = λ f. let a = fits.bag f in let b = two_parts (slot_worth f) v l in let c = vacant_worth f v all in omega arith;
         held = let a = fits.held in let b = two_parts is_filled v l in let c = vacant_filled v all in omega arith;
       }
 
-  fits_behind : (d : DeskNow V) (l v : List Slot) → AllVacant v → Fits d l → Fits d (l ++ v)
+  fits_behind : (d : DeskNow V) (l v : List Slot) → AllVacant v → FitsSlots d l → FitsSlots d (l ++ v)
   fits_behind d l v all fits =
       record {
-        bag = λ f. let a = fits.bag f in let b = two_parts (worth f) l v in let c = vacant_worth f v all in omega arith;
+        bag = λ f. let a = fits.bag f in let b = two_parts (slot_worth f) l v in let c = vacant_worth f v all in omega arith;
         held = let a = fits.held in let b = two_parts is_filled l v in let c = vacant_filled v all in omega arith;
       }
 
@@ -115,23 +116,23 @@ module _ {V : Type 0} where
   pub old_whole : (named domain : DomainNow) (d e new : DeskNow V) (a k n : ℕ) (ss kept given : List Slot) (p : Pile V) → IsWhole named domain d ss p
       → SplitsOff d a k (handles_from n ss) e new → HandsOver ss n kept given → IsWhole named domain e kept p
   old_whole named domain d e new a k n ss kept given p w parts over =
-      let both = fits_apart d e new a k (take n ss) (drop n ss) (subst (Fits d) (sym (take-append-drop n ss)) w.fits) parts in
+      let both = fits_apart d e new a k (take n ss) (drop n ss) (subst (FitsSlots d) (sym (take-append-drop n ss)) w.fits) parts in
       record {
         home = w.home;
         bears = bears_kept domain d e p w.bears parts.event.same.0 parts.event.same.1 parts.endings parts.count.0;
-        fits = subst (Fits e) (sym over.0) (fits_behind e (take n ss) (replicate (length ss - n) None) (replicate_vacant (length ss - n)) both.0);
+        fits = subst (FitsSlots e) (sym over.0) (fits_behind e (take n ss) (replicate (length ss - n) None) (replicate_vacant (length ss - n)) both.0);
       }
 
   pub new_whole : (named domain : DomainNow) (d e new : DeskNow V) (a k n : ℕ) (ss kept given : List Slot) (p q : Pile V) → IsWhole named domain d ss p
       → SplitsOff d a k (handles_from n ss) e new → HandsOver ss n kept given
       → ((x : DeskNow V) → Belongs x domain → endings_of x ≡ 0 → Bears domain x q) → IsWhole named domain new given q
   new_whole named domain d e new a k n ss kept given p q w parts over bears =
-      let both = fits_apart d e new a k (take n ss) (drop n ss) (subst (Fits d) (sym (take-append-drop n ss)) w.fits) parts in
+      let both = fits_apart d e new a k (take n ss) (drop n ss) (subst (FitsSlots d) (sym (take-append-drop n ss)) w.fits) parts in
       let at = w.bears.carries.belongs in
       record {
         home = w.home;
         bears = bears new (record { table = parts.beside.0 ∙ at.table; shape = parts.beside.1 ∙ at.shape }) parts.count.1;
-        fits = subst (Fits new) (sym over.1) (fits_before new (replicate n None) (drop n ss) (replicate_vacant n) both.1);
+        fits = subst (FitsSlots new) (sym over.1) (fits_before new (replicate n None) (drop n ss) (replicate_vacant n) both.1);
       }
 
 -- the slots from a number on changed places with as many vacant ones

@@ -2,7 +2,7 @@
 use Rattle.std.proofs.Common.{◌≡◌, ◌+◌, List, [], ◌∷◌, ◌++◌, None, Some, append_assoc, ap, refl, subst, sym, ◌∙◌}
 use Rattle.std.proofs.lemmas.List.{append-nil}
 use Rattle.control_block.specs.Desks.{DeskNow, DomainNow, bag_of}
-use Rattle.control_block.specs.HandleLists.{IsHeld, without_held}
+use Rattle.control_block.specs.HandleLists.{IsHeldByDesk, without_held}
 use Rattle.control_block.specs.declared.handles.Held.{Held}
 use Rattle.shared_handle.specs.Piles.{Bears}
 use Rattle.shared_handle.specs.declared.pile.Gone.{Gone}
@@ -11,7 +11,7 @@ use Rattle.handle_table.proofs.Filling.{fits_at, fits_less, fits_none}
 use Rattle.handle_table.proofs.Wholes.{last_out}
 use Rattle.handle_table.specs.Calls.{LetsGo}
 use Rattle.handle_table.specs.Parting.{LeaveSlots}
-use Rattle.handle_table.specs.Tables.{Fits, Slot, on_pile}
+use Rattle.handle_table.specs.Tables.{FitsSlots, Slot, on_pile}
 
 longer : (all rest now out : List Slot) (x y : Slot) → all ≡ now ++ out → now ≡ rest ++ x ∷ [] → x ≡ y → all ≡ rest ++ (y ∷ out)
 longer all rest now out x y parts is same =
@@ -21,12 +21,12 @@ module _ {V : Type 0} where
   -- of all slots these are left
   pub record Letting (domain : DomainNow) (before d : DeskNow V) (from p : Pile V) (all rest : List Slot) : Type 0 where
     pub bears : Bears domain d p
-    pub fits : Fits d rest
+    pub fits : FitsSlots d rest
     pub out : List Slot
     pub parts : all ≡ rest ++ out
     pub gone : LeaveSlots before (on_pile from) out d (on_pile p)
 
-  pub begins : (domain : DomainNow) (d : DeskNow V) (p : Pile V) (ss : List Slot) → Bears domain d p → Fits d ss → Letting domain d d p p ss ss
+  pub begins : (domain : DomainNow) (d : DeskNow V) (p : Pile V) (ss : List Slot) → Bears domain d p → FitsSlots d ss → Letting domain d d p p ss ss
   begins domain d p ss bears fits = record { bears = bears; fits = fits; out = []; parts = sym (append-nil ss); gone = (refl, refl) }
 
   pub passes : (domain : DomainNow) (before d : DeskNow V) (from p : Pile V) (all now rest : List Slot) (x : Slot) → Letting domain before d from p all now
@@ -41,7 +41,7 @@ module _ {V : Type 0} where
       }
 
   pub held_last : (domain : DomainNow) (before d : DeskNow V) (from p : Pile V) (all now rest : List Slot) (x : Slot) (h : Held)
-      → Letting domain before d from p all now → now ≡ rest ++ x ∷ [] → x ≡ Some h → IsHeld d h
+      → Letting domain before d from p all now → now ≡ rest ++ x ∷ [] → x ≡ Some h → IsHeldByDesk d h
   held_last domain before d from p all now rest x h l is some = fits_at d (Some h ∷ rest) 0 h (last_out d now rest x (Some h) is some l.fits) refl
 
   pub goes : (domain : DomainNow) (before d e : DeskNow V) (from p q : Pile V) (all now rest : List Slot) (x : Slot) (h : Held) (gone : Gone)

@@ -6,10 +6,10 @@ use Rattle.std.proofs.lemmas.List.{append_assoc, map-append, reverse-append}
 use Rattle.std.proofs.lemmas.List.Elements.{AllZip-push}
 use Rattle.control_word.specs.declared.shape.Shape.{Shape}
 use Rattle.control_block.specs.Census.{CensusNow}
-use Rattle.control_block.specs.Desks.{Begins, DeskNow, DomainNow}
+use Rattle.control_block.specs.Desks.{IsFirstDesk, DeskNow, DomainNow}
 use Rattle.handle_table.specs.Parting.{AbsorbsAll, IsNew, IsPartedInto, WindsUp}
 use Rattle.handle_table.specs.Programs.{IsClosed}
-use Rattle.handle_table.specs.Staffs.{Doing, EachDoes, Shifts, Staffs, StaffsIn, StaffsOut}
+use Rattle.handle_table.specs.Staffs.{WorkerRelation, EachDoes, Shifts, Staffs, StaffsIn, StaffsOut}
 use Rattle.handle_table.specs.Tables.{TableNow}
 use Rattle.handle_table.specs.declared.staff.Share.{Share}
 
@@ -65,7 +65,7 @@ map_reversed f (x ∷ xs) =
     ∙ (map-append f (reverse xs) (x ∷ [])
     ∙ (ap (λ l. l ++ f x ∷ []) (map_reversed f xs) ∙ sym (reversed (f x) (map f xs))))
 
-module _ {V W X : Type 0} (worker : X → W) (table : X → TableNow V) (does : Doing V W) where
+module _ {V W X : Type 0} (worker : X → W) (table : X → TableNow V) (does : WorkerRelation V W) where
   each_of : (xs ys : List X) → AllZip (λ p q. does (worker p) (table p) (worker q) (table q)) xs ys
       → EachDoes does (map worker xs) (map table xs) (map worker ys) (map table ys)
   each_of [] [] h = tt
@@ -99,16 +99,16 @@ module _ {V W X : Type 0} (worker : X → W) (table : X → TableNow V) (does : 
         absorbs = subst (λ (y : TableNow V). AbsorbsAll y left u) is absorbs;
       }
 
-module _ {V W : Type 0} (does : Doing V W) where
+module _ {V W : Type 0} (does : WorkerRelation V W) where
   pub staffs_out : (t u : TableNow V) (share : Share) (had has : List W) (last : DeskNow V) → Staffs does t share had has u → WindsUp u last
       → StaffsOut does t share had has last
   staffs_out t u share had has last staffs winds = record { after = u; staffs = staffs; winds_up = winds }
 
-  pub staffs_in : (domain : DomainNow) (d : DeskNow V) (t : TableNow V) (share : Share) (had has : List W) (last : DeskNow V) → Begins domain d
+  pub staffs_in : (domain : DomainNow) (d : DeskNow V) (t : TableNow V) (share : Share) (had has : List W) (last : DeskNow V) → IsFirstDesk domain d
       → t.desk ≡ d → IsNew share.slots t → StaffsOut does t share had has last
       → StaffsIn does domain share had has last
   staffs_in domain d t share had has last begins is new out =
-      record { first = t; begins = subst (λ (x : DeskNow V). Begins domain x) (sym is) begins; new = new; out = out }
+      record { first = t; begins = subst (λ (x : DeskNow V). IsFirstDesk domain x) (sym is) begins; new = new; out = out }
 
   pub shifts : (domain : DomainNow) (shape : Shape) (share : Share) (had has : List W) (last : DeskNow V) (c : CensusNow) → domain.shape ≡ shape
       → StaffsIn does domain share had has last → IsClosed last domain.shape c

@@ -22,11 +22,11 @@ use Rattle.handle_table.proofs.Filling.{bags_joined}
 use Rattle.handle_table.specs.Calls.{WhyNoHandle}
 use Rattle.handle_table.specs.declared.fault.Fault.{Fault}
 use Rattle.handle_table.specs.declared.fault.Fault.TheVariants as fault
-use Rattle.handle_table.specs.Parting.{AreFree, together}
-use Rattle.handle_table.specs.Tables.{Fits, IsWhole, Slot, is_filled, worth}
+use Rattle.handle_table.specs.Parting.{AreFree, slots_together}
+use Rattle.handle_table.specs.Tables.{FitsSlots, IsWhole, Slot, is_filled, slot_worth}
 
 -- the last slot of the second table goes over
-together_none : (ss ts : List Slot) → together ss (ts ++ None ∷ []) ≡ together ss ts
+together_none : (ss ts : List Slot) → slots_together ss (ts ++ None ∷ []) ≡ slots_together ss ts
 together_none [] ts = refl
 together_none (Some h ∷ ss) (t ∷ ts) = ap (λ (l : List Slot). Some h ∷ l) (together_none ss ts)
 together_none (None ∷ ss) (t ∷ ts) = ap (λ (l : List Slot). t ∷ l) (together_none ss ts)
@@ -36,7 +36,7 @@ together_none (None ∷ []) [] = refl
 together_none (None ∷ s ∷ ss) [] = refl
 
 together_some : (ss ts : List Slot) (h : Held) → slice_get ss (length ts) ≡ Some None
-    → together ss (ts ++ Some h ∷ []) ≡ together (set ss (length ts) (Some h)) ts
+    → slots_together ss (ts ++ Some h ∷ []) ≡ slots_together (set ss (length ts) (Some h)) ts
 together_some [] ts h e = absurd (cc e)
 together_some (Some i ∷ ss) [] h e = absurd (cc e)
 together_some (None ∷ []) [] h e = refl
@@ -74,11 +74,11 @@ free_here ss all ts h x free is same =
     free (length ts) h ((λ i. slice_get (is i) (length ts)) ∙ (get_last ts x ∙ ap Some same))
 
 -- one step of the loop: the last slot was vacant, or its handle went over
-pub next_none : (ss all ts goal : List Slot) (x : Slot) → AreFree ss all → together ss all ≡ goal → all ≡ ts ++ x ∷ [] → x ≡ None
-    → AreFree ss ts × (together ss ts ≡ goal)
+pub next_none : (ss all ts goal : List Slot) (x : Slot) → AreFree ss all → slots_together ss all ≡ goal → all ≡ ts ++ x ∷ [] → x ≡ None
+    → AreFree ss ts × (slots_together ss ts ≡ goal)
 next_none ss all ts goal x free e is same = (
   free_front ss ts x (subst (AreFree ss) is free),
-  sym (together_none ss ts) ∙ (ap (together ss) (sym (is ∙ ap (λ (y : Slot). ts ++ y ∷ []) same)) ∙ e),
+  sym (together_none ss ts) ∙ (ap (slots_together ss) (sym (is ∙ ap (λ (y : Slot). ts ++ y ∷ []) same)) ∙ e),
 )
 
 -- there is such a slot, and nothing was in it
@@ -90,25 +90,25 @@ pub nothing : (ss all ts : List Slot) (h : Held) (x y : Slot) (n : ℕ) → AreF
     → slice_get ss n ≡ Some y → y ≡ None
 nothing ss all ts h x y n free is same at e = let here = free_here ss all ts h x free is same in cc (ap (slice_get ss) at)
 
-pub next_some : (ss all ts new goal : List Slot) (h : Held) (x : Slot) → AreFree ss all → together ss all ≡ goal
+pub next_some : (ss all ts new goal : List Slot) (h : Held) (x : Slot) → AreFree ss all → slots_together ss all ≡ goal
     → all ≡ ts ++ x ∷ [] → x ≡ Some h
-    → (n : ℕ) → n ≡ length ts → new ≡ set ss n (Some h) → AreFree new ts × (together new ts ≡ goal)
+    → (n : ℕ) → n ≡ length ts → new ≡ set ss n (Some h) → AreFree new ts × (slots_together new ts ≡ goal)
 next_some ss all ts new goal h x free e is same n at set_there =
     let put : new ≡ set ss (length ts) (Some h) = set_there ∙ ap (λ (k : ℕ). set ss k (Some h)) at in
     let here = free_here ss all ts h x free is same in (
       subst (λ (l : List Slot). AreFree l ts) (sym put)
           (λ k i f. get_below ss k (length ts) None (Some h) (get_low ts k (Some i) f) (free_front ss ts x (subst (AreFree ss) is free) k i f)),
-      ap (λ (l : List Slot). together l ts) put
-          ∙ (sym (together_some ss ts h here) ∙ (ap (together ss) (sym (is ∙ ap (λ (y : Slot). ts ++ y ∷ []) same)) ∙ e)),
+      ap (λ (l : List Slot). slots_together l ts) put
+          ∙ (sym (together_some ss ts h here) ∙ (ap (slots_together ss) (sym (is ∙ ap (λ (y : Slot). ts ++ y ∷ []) same)) ∙ e)),
     )
 
-together_nil : (ss : List Slot) → together ss [] ≡ ss
+together_nil : (ss : List Slot) → slots_together ss [] ≡ ss
 together_nil [] = refl
 together_nil (Some h ∷ ss) = refl
 together_nil (None ∷ ss) = refl
 
-pub all_over : (ss ts goal : List Slot) → together ss ts ≡ goal → ts ≡ [] → ss ≡ goal
-all_over ss ts goal e none = sym (together_nil ss) ∙ (ap (together ss) (sym none) ∙ e)
+pub all_over : (ss ts goal : List Slot) → slots_together ss ts ≡ goal → ts ≡ [] → ss ≡ goal
+all_over ss ts goal e none = sym (together_nil ss) ∙ (ap (slots_together ss) (sym none) ∙ e)
 
 -- whatever is counted of both is counted of the two together
 module _ (w : Slot → ℕ) (none : w None ≡ 0) where
@@ -117,7 +117,7 @@ module _ (w : Slot → ℕ) (none : w None ≡ 0) where
   counted_none (None ∷ ts) free = let ih = counted_none ts (λ k. free (suc k)) in omega arith
   counted_none (Some h ∷ ts) free = absurd (cc (free 0 h refl))
 
-  counted_both : (ss ts : List Slot) → AreFree ss ts → total w (together ss ts) ≡ total w ss + total w ts
+  counted_both : (ss ts : List Slot) → AreFree ss ts → total w (slots_together ss ts) ≡ total w ss + total w ts
   counted_both [] ts free = let a = counted_none ts free in omega arith
   counted_both (Some h ∷ ss) [] free = omega arith
   counted_both (None ∷ ss) [] free = omega arith
@@ -185,7 +185,7 @@ module _ {V : Type 0} where
 
   -- both tables are whole, and so is the one that they become
   pub joined_whole : (named here there : DomainNow) (d other e : DeskNow V) (ss ts now : List Slot) (p q r : Pile V) → IsWhole named here d ss p
-      → IsWhole named there other ts q → AreFree ss ts → now ≡ together ss ts → JoinsWith d other e
+      → IsWhole named there other ts q → AreFree ss ts → now ≡ slots_together ss ts → JoinsWith d other e
       → IsPermutation (bag_of d ++ bag_of other) (bag_of e)
       → e.held ≡ d.held + other.held → KeepsEndings d e × KeepsEndings other e → endings_of e ≡ endings_of d + endings_of other
       → r.endings.items ≡ p.endings.items ++ q.endings.items → vec_capacity p.endings ≤ vec_capacity r.endings → IsWhole named here e now r
@@ -203,9 +203,9 @@ module _ {V : Type 0} where
           many = let a = ap length piles in let b = length-append p.endings.items q.endings.items in let x = w.bears.many in
               let y = v.bears.many in omega arith;
         };
-        fits = subst (Fits e) (sym are) record {
+        fits = subst (FitsSlots e) (sym are) record {
           bag = λ f. let a = w.fits.bag f in let b = v.fits.bag f in let x = bags_joined (bag_of d) (bag_of other) (bag_of e) bags f in
-              let y = counted_both (worth f) refl ss ts free in omega arith;
+              let y = counted_both (slot_worth f) refl ss ts free in omega arith;
           held = let a = w.fits.held in let b = v.fits.held in let y = counted_both is_filled refl ss ts free in omega arith;
         };
       }

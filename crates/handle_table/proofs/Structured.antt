@@ -10,7 +10,7 @@ use Rattle.shared_handle.specs.declared.pile.Pile.{Pile}
 use Rattle.scene_structures.proofs.Others.{all_others}
 use Rattle.scene_structures.specs.Others.{KeepsOthers}
 use Rattle.scene_structures.specs.Scenes.{IsNearLimit}
-use Rattle.scene_structures.specs.Stacks.{Serves, StackNow, StandsIn}
+use Rattle.scene_structures.specs.Stacks.{ServesDomain, StackNow, StandsIn}
 use Rattle.handle_table.proofs.Filling.{fits_still}
 use Rattle.handle_table.specs.Structures.{DeskDoes}
 use Rattle.handle_table.specs.Tables.{IsWhole, Slot, TableNow}
@@ -46,7 +46,7 @@ stands_here named domain s home stands = subst (StandsIn s) (sym home) stands
 
 module _ {V : Type 0} where
   -- a scene's pile, on which nothing lies, ends with the table's desk
-  pub scene_carries : (named domain : DomainNow) (d : DeskNow V) (ss : List Slot) (p q : Pile V) → IsWhole named domain d ss p → Serves named q
+  pub scene_carries : (named domain : DomainNow) (d : DeskNow V) (ss : List Slot) (p q : Pile V) → IsWhole named domain d ss p → ServesDomain named q
       → Carries domain d q
   scene_carries named domain d ss p q w s =
       record {
@@ -57,7 +57,7 @@ module _ {V : Type 0} where
 
   -- and serves the table's domain again
   pub scene_serves : (named domain : DomainNow) (d : DeskNow V) (q : Pile V) → domain ≡ named → Carries domain d q → q.endings.items ≡ []
-      → Serves named q
+      → ServesDomain named q
   scene_serves named domain d q home carries none =
       record { none = none; room = subst (λ (k : DomainNow). k.shape.blocks ≤ vec_capacity q.endings) home carries.room }
 

@@ -10,7 +10,7 @@ use Rattle.control_word.specs.declared.event.Event.{Event}
 use Rattle.control_word.specs.declared.place.Block.{Block}
 use Rattle.handle_table.specs.Calls.{IsBelow, WhyNotMade}
 use Rattle.handle_table.specs.Shelving.{Supplies, TakesFromShelf, WhyNotSupplied}
-use Rattle.handle_table.specs.Tables.{Fits, IsWhole, Slot, TableNow}
+use Rattle.handle_table.specs.Tables.{FitsSlots, IsWhole, Slot, TableNow}
 use Rattle.handle_table.specs.declared.fault.Fault.{Fault}
 use Rattle.handle_table.proofs.Filling.{fits_still}
 use Rattle.shared_handle.proofs.Piles.{bears_kept}

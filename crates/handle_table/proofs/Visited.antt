@@ -10,7 +10,7 @@ use Rattle.control_block.specs.declared.handles.Held.TheVariants.{Owner}
 use Rattle.control_block.specs.declared.handles.Shared.{Shared}
 use Rattle.shared_handle.specs.Visits.{IsVisit}
 use Rattle.handle_table.specs.Tables.{IsAt, TableNow}
-use Rattle.handle_table.specs.Visits.{Visits}
+use Rattle.handle_table.specs.Visits.{VisitsSlot}
 
 module _ {V R F : Type 0} (changes : V → R → V → Type 0) (f : F) where
   -- only an empty owner is not visited
@@ -21,6 +21,6 @@ module _ {V R F : Type 0} (changes : V → R → V → Type 0) (f : F) where
 
   pub visited : (s t u : TableNow V) (i : ℕ) (of : Shared) (answer : R) → IsAt s i (Owner of)
       → IsVisit changes f s.desk of.block of.place (Ok answer) u.desk → u.slots ≡ s.slots → u.endings ≡ s.endings → s ≡ t
-      → Visits changes f t i answer u
+      → VisitsSlot changes f t i answer u
   visited s t u i of answer at event slots endings same =
-      subst (λ (x : TableNow V). Visits changes f x i answer u) same record { of = of; at = at; event = event; rest = (slots, endings) }
+      subst (λ (x : TableNow V). VisitsSlot changes f x i answer u) same record { of = of; at = at; event = event; rest = (slots, endings) }

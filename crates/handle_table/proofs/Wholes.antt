@@ -13,13 +13,13 @@ use Rattle.control_block.specs.Parting.{JoinsWith, SplitsOff, listed, without_al
 use Rattle.control_block.specs.declared.handles.Held.{Held}
 use Rattle.shared_handle.specs.Endings.{IsRead}
 use Rattle.control_word.specs.declared.event.Entry.{Entry}
-use Rattle.control_block.specs.Desks.{Begins, Belongs, DeskNow, DomainNow, Keeps, KeepsEndings, bag_of, endings_of, ends_with, many_ending, state_of}
+use Rattle.control_block.specs.Desks.{IsFirstDesk, Belongs, DeskNow, DomainNow, Keeps, KeepsEndings, bag_of, endings_of, ends_with, many_ending, state_of}
 use Rattle.control_block.specs.Rule.{opening_of}
 use Rattle.shared_handle.proofs.Piles.{bears_kept}
 use Rattle.shared_handle.specs.Piles.{Bears}
 use Rattle.shared_handle.specs.declared.pile.Pile.{Pile}
 use Rattle.handle_table.proofs.Filling.{fits_exchange, fits_joined, fits_last, fits_less, fits_out, fits_still, fits_vacant}
-use Rattle.handle_table.specs.Tables.{AllVacant, Fits, IsWhole, Slot, TableNow, on_pile}
+use Rattle.handle_table.specs.Tables.{AllVacant, FitsSlots, IsWhole, Slot, TableNow, on_pile}
 
 module _ {V : Type 0} where
   abbrev pub seen : DeskNow V → List Slot → Pile V → TableNow V
@@ -42,23 +42,24 @@ module _ {V : Type 0} where
   read_same d e b p why is = absurd is
 
   -- a handle left its slot and the desk
-  pub fits_left : (d e : DeskNow V) (ss new : List Slot) (i : ℕ) (h : Held) → Fits d ss → slice_get ss i ≡ Some (Some h) → new ≡ set ss i None
-      → bag_of e ≡ without_held h (bag_of d) → e.held + 1 ≡ d.held → Fits e new
+  pub fits_left : (d e : DeskNow V) (ss new : List Slot) (i : ℕ) (h : Held) → FitsSlots d ss → slice_get ss i ≡ Some (Some h) → new ≡ set ss i None
+      → bag_of e ≡ without_held h (bag_of d) → e.held + 1 ≡ d.held → FitsSlots e new
   fits_left d e ss new i h fits at is bag held =
-      subst (Fits e) (sym is) (fits_less d e (set ss i None) h (fits_out d ss i h fits at) bag held)
+      subst (FitsSlots e) (sym is) (fits_less d e (set ss i None) h (fits_out d ss i h fits at) bag held)
 
   -- it was exchanged for another, which left
-  pub fits_stored : (d m e : DeskNow V) (ss new : List Slot) (i : ℕ) (x y : Held) → Fits d ss → slice_get ss i ≡ Some (Some x) → new ≡ set ss i None
+  pub fits_stored : (d m e : DeskNow V) (ss new : List Slot) (i : ℕ) (x y : Held) → FitsSlots d ss → slice_get ss i ≡ Some (Some x)
+      → new ≡ set ss i None
       → bag_of m ≡ with_held y (without_held x (bag_of d)) → m.held ≡ d.held
-      → bag_of e ≡ without_held y (bag_of m) → e.held + 1 ≡ m.held → Fits e new
+      → bag_of e ≡ without_held y (bag_of m) → e.held + 1 ≡ m.held → FitsSlots e new
   fits_stored d m e ss new i x y fits at is bag held left less =
-      subst (Fits e) (sym is)
+      subst (FitsSlots e) (sym is)
       (fits_less m e (set ss i None) y (fits_exchange d m (set ss i None) x y (fits_out d ss i x fits at) bag held) left less)
 
   -- the last slot went out of them, and what was there is in hand
-  pub last_out : (d : DeskNow V) (all rest : List Slot) (x y : Slot) → all ≡ rest ++ x ∷ [] → x ≡ y → Fits d all → Fits d (y ∷ rest)
+  pub last_out : (d : DeskNow V) (all rest : List Slot) (x y : Slot) → all ≡ rest ++ x ∷ [] → x ≡ y → FitsSlots d all → FitsSlots d (y ∷ rest)
   last_out d all rest x y is same fits =
-      subst (λ (z : Slot). Fits d (z ∷ rest)) same (fits_last d rest x (subst (Fits d) is fits))
+      subst (λ (z : Slot). FitsSlots d (z ∷ rest)) same (fits_last d rest x (subst (FitsSlots d) is fits))
 
   -- a desk that has just begun
   pub no_endings : (d : DeskNow V) → d.seen ≡ [] → endings_of d ≡ 0
@@ -75,7 +76,7 @@ module _ {V : Type 0} where
   pub begins_bag : (d : DeskNow V) → d.seen ≡ [] → bag_of d ≡ []
   begins_bag d e = ap (λ (h : List (Entry V)). bag_of (record d { seen = h })) e
 
-  pub begins_whole : (named domain : DomainNow) (d : DeskNow V) (ss : List Slot) (p : Pile V) → domain ≡ named → Begins domain d → AllVacant ss
+  pub begins_whole : (named domain : DomainNow) (d : DeskNow V) (ss : List Slot) (p : Pile V) → domain ≡ named → IsFirstDesk domain d → AllVacant ss
       → ((x : DeskNow V) → Belongs x domain → endings_of x ≡ 0 → Bears domain x p) → IsWhole named domain d ss p
   begins_whole named domain d ss p home b all bears =
       record {
@@ -86,7 +87,7 @@ module _ {V : Type 0} where
 
   -- another desk without handles and endings was joined
   pub absorb_whole : (named domain : DomainNow) (d other e : DeskNow V) (ss : List Slot) (p : Pile V) → IsWhole named domain d ss p
-      → Fits other [] → endings_of other ≡ 0 → JoinsWith d other e → IsPermutation (bag_of d ++ bag_of other) (bag_of e)
+      → FitsSlots other [] → endings_of other ≡ 0 → JoinsWith d other e → IsPermutation (bag_of d ++ bag_of other) (bag_of e)
       → e.held ≡ d.held + other.held → KeepsEndings d e → endings_of e ≡ endings_of d + endings_of other → IsWhole named domain e ss p
   absorb_whole named domain d other e ss p w bare none joins bags held keeps count =
       record {

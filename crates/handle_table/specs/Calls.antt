@@ -93,8 +93,8 @@ module _ {V : Type 0} where
     pub event : by d weak e
 
   -- a new object's owner ([util.smartptr.shared.create])
-  abbrev pub Makes : TableNow V → ℕ → Bool → List ℕ → V → TableNow V → Type 0
-  Makes t to enabled fields x u =
+  abbrev pub MakesIntoSlot : TableNow V → ℕ → Bool → List ℕ → V → TableNow V → Type 0
+  MakesIntoSlot t to enabled fields x u =
       Comes (IsOwner (λ d h e. inner.Makes d enabled false fields x h.block h.place e)) t to u
 
   -- a new owner of the null pointer ([util.smartptr.shared.const])
@@ -118,7 +118,7 @@ module _ {V : Type 0} where
   -- [util.smartptr.weak.const])
   abbrev pub IsCopy : Held → DeskNow V → Held → DeskNow V → Type 0
   IsCopy (Owner h) = IsOwner
-      (λ d k e. (k.block ≡ h.block) × (k.place ≡ h.place) × inner.Shares d h.block h.place h.place e)
+      (λ d k e. (k.block ≡ h.block) × (k.place ≡ h.place) × inner.SharesOwner d h.block h.place h.place e)
   IsCopy (Weak w) = IsWeak (λ d k e. (k.block ≡ w.block) × (k.place ≡ inner.weak_place w.block w.place)
       × inner.SharesWeakly d w.block w.place e)
 
@@ -141,11 +141,11 @@ module _ {V : Type 0} where
   WhyNotDowngraded t from to why = IsNoSlot t.slots to why ⊎ (WhyNoOwner t.slots from why ⊎ IsAtLimit t why)
 
   -- a lock of a weak handle; whether it got an object's owner ([util.smartptr.weak.obs])
-  pub record Locks (t : TableNow V) (from to : ℕ) (got : Bool) (u : TableNow V) : Type 0 where
+  pub record LocksSlot (t : TableNow V) (from to : ℕ) (got : Bool) (u : TableNow V) : Type 0 where
     pub of : weak_handle.Weak
     pub at : IsAt t from (Weak of)
     pub owner : Comes (IsOwner (λ d k e. (got ≡ is_some k.block) × locks.IsOwnerOf of.block of.place got k
-        × locks.Locks d of.block of.place got e)) t to u
+        × locks.LocksHandle d of.block of.place got e)) t to u
 
   abbrev pub WhyNotLocked : TableNow V → ℕ → ℕ → Fault → Type 0
   WhyNotLocked t from to why = IsNoSlot t.slots to why ⊎ (WhyNoWeak t.slots from why ⊎ IsAtLimit t why)
@@ -158,7 +158,7 @@ module _ {V : Type 0} where
     pub slots : u.slots ≡ slice_set t.slots at None
 
   -- a handle went from its slot to another, and what lay there left; a slot that it went from is vacant
-  pub record Moves (t : TableNow V) (from to : ℕ) (u : TableNow V) : Type 0 where
+  pub record MovesSlot (t : TableNow V) (from to : ℕ) (u : TableNow V) : Type 0 where
     pub of : Held
     pub at : IsAt t from of
     pub assigns : Assigns t.desk (slice_set t.slots from None) t.endings to of u.desk u.slots u.endings
@@ -167,21 +167,21 @@ module _ {V : Type 0} where
   WhyNotMoved t from to why = IsNoSlot t.slots to why ⊎ WhyNoHandle t.slots from why
 
   -- a field was read, or why not
-  pub record Reads (t : TableNow V) (at : ℕ) (read : Result ℕ Refusal) (u : TableNow V) : Type 0 where
+  pub record ReadsSlot (t : TableNow V) (at : ℕ) (read : Result ℕ Refusal) (u : TableNow V) : Type 0 where
     pub of : Shared
     pub was : IsAt t at (Owner of)
     pub event : IsRead t.desk of.block of.place read u.desk
     pub rest : (u.slots ≡ t.slots) × (u.endings ≡ t.endings)
 
   abbrev pub IsNotRead : TableNow V → ℕ → Fault → TableNow V → Type 0
-  IsNotRead t at why u = (r : Refusal) × (why ≡ fault.Call r) × Reads t at (Err r) u
+  IsNotRead t at why u = (r : Refusal) × (why ≡ fault.Call r) × ReadsSlot t at (Err r) u
 
   -- use_count ([util.smartptr.shared.obs], [util.smartptr.weak.obs])
   abbrev pub CountsOf : DeskNow V → Held → ℕ → DeskNow V → Type 0
-  CountsOf d (Owner h) n e = inner.IsCount d kind.Owner h.block h.place n e
-  CountsOf d (Weak w) n e = inner.IsCount d kind.Weak w.block w.place n e
+  CountsOf d (Owner h) n e = inner.IsUseCount d kind.Owner h.block h.place n e
+  CountsOf d (Weak w) n e = inner.IsUseCount d kind.Weak w.block w.place n e
 
-  pub record Counts (t : TableNow V) (at n : ℕ) (u : TableNow V) : Type 0 where
+  pub record CountsSlot (t : TableNow V) (at n : ℕ) (u : TableNow V) : Type 0 where
     pub of : Held
     pub was : IsAt t at of
     pub event : CountsOf t.desk of n u.desk
@@ -202,5 +202,5 @@ module _ {V : Type 0} where
   abbrev pub EndsOne : TableNow V → V → TableNow V → Type 0
   EndsOne t v u = EndsTop t.desk t.endings v u.desk u.endings × (u.slots ≡ t.slots)
 
-  abbrev pub Settles : TableNow V → List (Past V) → TableNow V → Type 0
-  Settles t rs u = AreRounds t.desk t.endings rs u.desk u.endings × (u.endings ≡ []) × (u.slots ≡ t.slots)
+  abbrev pub SettlesEndings : TableNow V → List (Past V) → TableNow V → Type 0
+  SettlesEndings t rs u = AreRounds t.desk t.endings rs u.desk u.endings × (u.endings ≡ []) × (u.slots ≡ t.slots)

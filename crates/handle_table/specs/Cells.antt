@@ -8,7 +8,7 @@ use Rattle.control_word.specs.declared.place.Block.{Block}
 use Rattle.control_word.specs.declared.place.Place.{Place}
 use Rattle.control_word.specs.declared.refusal.Refusal.TheVariants.{Null, Outside}
 use Rattle.control_word.specs.declared.shape.Shape.{Shape}
-use Rattle.control_block.specs.CellCalls.{cell_at}
+use Rattle.control_block.specs.CellCalls.{cell_of_site}
 use Rattle.control_block.specs.Desks.{DeskNow}
 use Rattle.control_block.specs.declared.cell_calls.Content.{Content}
 use Rattle.control_block.specs.declared.cell_calls.Site.{Site}
@@ -19,9 +19,9 @@ use Rattle.control_block.specs.declared.handles.Shared.{Shared}
 use Rattle.shared_handle.specs.Endings.{IsOutside}
 use Rattle.shared_handle.specs.declared.pile.Gone.{Gone}
 use Rattle.atomic_cells.specs.Cells as cells
-use Rattle.atomic_cells.specs.Sites.{number_of}
+use Rattle.atomic_cells.specs.Sites.{number_of_member}
 use Rattle.handle_table.specs.Calls.{Assigns, Comes, IsAtLimit, IsNoSlot, LetsGo, WhyNoOwner, WhyNoWeak}
-use Rattle.handle_table.specs.Parts.{IsContent, kind_of, owned_by, place_of}
+use Rattle.handle_table.specs.Parts.{IsContent, kind_of_held, block_of_held, place_of_held}
 use Rattle.handle_table.specs.Tables.{IsAt, Slot, TableNow}
 use Rattle.handle_table.specs.declared.cells.Cell.{Cell}
 use Rattle.handle_table.specs.declared.cells.Cell.TheVariants as cell
@@ -29,11 +29,11 @@ use Rattle.handle_table.specs.declared.fault.Fault.{Fault}
 use Rattle.handle_table.specs.declared.fault.Fault.TheVariants as fault
 
 -- the kind of the cell's handles
-abbrev pub kind_in : Cell → Kind
-kind_in (cell.Shared n) = kind.Owner
-kind_in (cell.Weak n) = kind.Weak
-kind_in (cell.Member of which) = kind.Owner
-kind_in (cell.Up of) = kind.Weak
+abbrev pub kind_of_cell : Cell → Kind
+kind_of_cell (cell.Shared n) = kind.Owner
+kind_of_cell (cell.Weak n) = kind.Weak
+kind_of_cell (cell.Member of which) = kind.Owner
+kind_of_cell (cell.Up of) = kind.Weak
 
 -- the slot has an owner that owns the object in the block, and points into it
 pub record OwnsInto (ss : List Slot) (i : ℕ) (b : Block) : Type 0 where
@@ -53,11 +53,12 @@ WhyNoObject ss i why = WhyNoOwner ss i why
     ⊎ ((h : Shared) × (slice_get ss i ≡ Some (Some (Owner h))) × PointsAway h why)
 
 -- where the cell is: the free weak ones stand behind the free shared ones
-abbrev pub IsCell : Shape → List Slot → Cell → Site → Type 0
-IsCell z ss (cell.Shared n) s = (n < z.shared_cells) × (s ≡ site.Free n)
-IsCell z ss (cell.Weak n) s = (n < z.weak_cells) × (s ≡ site.Free (z.shared_cells + n))
-IsCell z ss (cell.Member of which) s = (b : Block) × OwnsInto ss of b × (s ≡ site.Member b (number_of which))
-IsCell z ss (cell.Up of) s = (b : Block) × OwnsInto ss of b × (s ≡ site.Member b 2)
+abbrev pub IsCellAtSite : Shape → List Slot → Cell → Site → Type 0
+IsCellAtSite z ss (cell.Shared n) s = (n < z.shared_cells) × (s ≡ site.Free n)
+IsCellAtSite z ss (cell.Weak n) s = (n < z.weak_cells) × (s ≡ site.Free (z.shared_cells + n))
+IsCellAtSite z ss (cell.Member of which) s = (b : Block) × OwnsInto ss of b
+    × (s ≡ site.Member b (number_of_member which))
+IsCellAtSite z ss (cell.Up of) s = (b : Block) × OwnsInto ss of b × (s ≡ site.Member b 2)
 
 abbrev pub WhyNoCell : Shape → List Slot → Cell → Fault → Type 0
 WhyNoCell z ss (cell.Shared n) why = (why ≡ fault.Cell) × (z.shared_cells ≤ n)
@@ -71,44 +72,45 @@ WhyNoneOf kind.Owner ss i why = WhyNoOwner ss i why
 WhyNoneOf kind.Weak ss i why = WhyNoWeak ss i why
 
 -- a cell would see this of the handle in the slot, which is of this kind
-abbrev pub IsShown : List Slot → ℕ → Kind → Content → Type 0
-IsShown ss i k x = (h : Held) × (slice_get ss i ≡ Some (Some h)) × IsContent h x × (x.kind ≡ k)
+abbrev pub IsShownToCell : List Slot → ℕ → Kind → Content → Type 0
+IsShownToCell ss i k x = (h : Held) × (slice_get ss i ≡ Some (Some h)) × IsContent h x × (x.kind ≡ k)
 
 module _ {V : Type 0} where
   -- a copy of what the cell holds was assigned to a slot
-  pub record Loads (t : TableNow V) (c : Cell) (to : ℕ) (u : TableNow V) : Type 0 where
+  pub record LoadsIntoSlot (t : TableNow V) (c : Cell) (to : ℕ) (u : TableNow V) : Type 0 where
     pub site : Site
-    pub is : IsCell t.desk.shape t.slots c site
-    pub loads : Comes (λ d h e. (kind_of h ≡ kind_in c)
-        × cells.Loads d (cell_at d site) (kind_in c) (owned_by h) (place_of h) e) t to u
+    pub is : IsCellAtSite t.desk.shape t.slots c site
+    pub loads : Comes (λ d h e. (kind_of_held h ≡ kind_of_cell c)
+        × cells.Loads d (cell_of_site d site) (kind_of_cell c) (block_of_held h) (place_of_held h) e) t to u
 
   abbrev pub WhyNotLoaded : TableNow V → Cell → ℕ → Fault → Type 0
   WhyNotLoaded t c to why = IsNoSlot t.slots to why ⊎ (WhyNoCell t.desk.shape t.slots c why ⊎ IsAtLimit t why)
 
   -- the handle in a slot went into the cell, and what that held came out
-  pub record Swaps (t : TableNow V) (from : ℕ) (c : Cell) (old : Held) (e : DeskNow V) : Type 0 where
+  pub record SwapsFromSlot (t : TableNow V) (from : ℕ) (c : Cell) (old : Held) (e : DeskNow V) : Type 0 where
     pub site : Site
-    pub is : IsCell t.desk.shape t.slots c site
+    pub is : IsCellAtSite t.desk.shape t.slots c site
     pub of : Held
     pub at : IsAt t from of
-    pub kinds : (kind_of of ≡ kind_in c) × (kind_of old ≡ kind_in c)
-    pub exchanges : cells.Exchanges t.desk (cell_at t.desk site) (kind_in c) (owned_by of) (place_of of)
-        (owned_by old) (place_of old) e
+    pub kinds : (kind_of_held of ≡ kind_of_cell c) × (kind_of_held old ≡ kind_of_cell c)
+    pub exchanges : cells.Exchanges t.desk (cell_of_site t.desk site) (kind_of_cell c) (block_of_held of)
+        (place_of_held of)
+        (block_of_held old) (place_of_held old) e
 
   -- and left; the slot is vacant
-  pub record Stores (t : TableNow V) (from : ℕ) (c : Cell) (gone : Gone) (u : TableNow V) : Type 0 where
+  pub record StoresFromSlot (t : TableNow V) (from : ℕ) (c : Cell) (gone : Gone) (u : TableNow V) : Type 0 where
     pub old : Held
     pub between : DeskNow V
-    pub swaps : Swaps t from c old between
+    pub swaps : SwapsFromSlot t from c old between
     pub leaves : LetsGo between t.endings old gone u.desk u.endings
     pub slots : u.slots ≡ slice_set t.slots from None
 
   -- or came into the slot
-  pub record Exchanges (t : TableNow V) (i : ℕ) (c : Cell) (u : TableNow V) : Type 0 where
+  pub record ExchangesSlot (t : TableNow V) (i : ℕ) (c : Cell) (u : TableNow V) : Type 0 where
     pub old : Held
     pub between : DeskNow V
-    pub swaps : Swaps t i c old between
+    pub swaps : SwapsFromSlot t i c old between
     pub assigns : Assigns between (slice_set t.slots i None) t.endings i old u.desk u.slots u.endings
 
   abbrev pub WhyNotSwapped : TableNow V → ℕ → Cell → Fault → Type 0
-  WhyNotSwapped t from c why = WhyNoCell t.desk.shape t.slots c why ⊎ WhyNoneOf (kind_in c) t.slots from why
+  WhyNotSwapped t from c why = WhyNoCell t.desk.shape t.slots c why ⊎ WhyNoneOf (kind_of_cell c) t.slots from why

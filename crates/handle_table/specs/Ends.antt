@@ -4,7 +4,7 @@ use Rattle.control_word.specs.State.{Object}
 use Rattle.control_block.specs.Desks.{object_in}
 use Rattle.control_block.specs.declared.cell_calls.Site.{Site}
 use Rattle.shared_handle.specs.declared.endings.Ending.{Ending}
-use Rattle.handle_table.specs.Cells.{IsCell}
+use Rattle.handle_table.specs.Cells.{IsCellAtSite}
 use Rattle.handle_table.specs.Tables.{TableNow}
 use Rattle.handle_table.specs.declared.cells.Cell.{Cell}
 use Rattle.handle_table.specs.declared.ends.Remains.{Remains}
@@ -24,5 +24,5 @@ module _ {V : Type 0} where
     pub made : IsMadeAs (object_in t.desk top.block.0) remains
 
   -- the cell is one of the domain's, or a member of the object that the owner in the slot owns and points into
-  abbrev pub IsThere : TableNow V → Cell → Type 0
-  IsThere t c = (at : Site) × IsCell t.desk.shape t.slots c at
+  abbrev pub NamesCell : TableNow V → Cell → Type 0
+  NamesCell t c = (at : Site) × IsCellAtSite t.desk.shape t.slots c at

@@ -12,13 +12,13 @@ use Rattle.handle_table.specs.declared.fault.Fault.TheVariants as fault
 
 module _ {V : Type 0} where
   -- an owner of nothing was assigned to a slot; it is only counted ([util.smartptr.shared.const])
-  abbrev pub Empties : TableNow V → ℕ → TableNow V → Type 0
-  Empties t to u =
+  abbrev pub EmptiesSlot : TableNow V → ℕ → TableNow V → Type 0
+  EmptiesSlot t to u =
       Comes (IsOwner (λ d h e. (h.block ≡ None) × (h.place ≡ None) × (e ≡ counting (d.held + 1) d))) t to u
 
   -- and a weak handle on nothing ([util.smartptr.weak.const])
-  abbrev pub EmptiesWeakly : TableNow V → ℕ → TableNow V → Type 0
-  EmptiesWeakly t to u = Comes
+  abbrev pub EmptiesSlotWeakly : TableNow V → ℕ → TableNow V → Type 0
+  EmptiesSlotWeakly t to u = Comes
       (IsWeak (λ d h e. (h.block ≡ None) × (h.place ≡ None) × (e ≡ counting (d.held + 1) d))) t to u
 
   abbrev pub WhyNotEmptied : TableNow V → ℕ → Fault → Type 0

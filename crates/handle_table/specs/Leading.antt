@@ -2,7 +2,7 @@
 use Rattle.std.specs.Prelude.{◌≡◌, ℕ, List, [], ◌∷◌, Option, None, Some}
 use Rattle.control_word.specs.declared.shape.Shape.{Shape}
 use Rattle.control_block.specs.Census.{CensusNow}
-use Rattle.control_block.specs.Desks.{Begins, DeskNow, DomainNow}
+use Rattle.control_block.specs.Desks.{IsFirstDesk, DeskNow, DomainNow}
 use Rattle.handle_table.specs.Parting.{IsNew, WindsUp}
 use Rattle.handle_table.specs.Programs.{IsClosed, IsManned, Works}
 use Rattle.handle_table.specs.Tables.{TableNow}
@@ -55,12 +55,12 @@ module _ {V P : Type 0} where
   -- the same from a domain's first table on, which has so many slots
   pub record LeadsIn (leads : Lead V P) (domain : DomainNow) (slots : ℕ) (p q : P) (last : DeskNow V) : Type 0 where
     pub first : TableNow V
-    pub begins : Begins domain first.desk
+    pub begins : IsFirstDesk domain first.desk
     pub new : IsNew slots first
     pub out : LeadsOut leads p first q last
 
   -- a leader led in a new domain, and the desk that had all in the end closed it
-  pub record Leads (leads : Lead V P) (shape : Shape) (slots : ℕ) (p q : P) (c : CensusNow) : Type 0 where
+  pub record LeadsDomain (leads : Lead V P) (shape : Shape) (slots : ℕ) (p q : P) (c : CensusNow) : Type 0 where
     pub domain : DomainNow
     pub of : domain.shape ≡ shape
     pub last : DeskNow V

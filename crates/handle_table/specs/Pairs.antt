@@ -6,7 +6,7 @@ use Rattle.control_block.specs.declared.handles.Held.TheVariants.{Owner}
 use Rattle.control_block.specs.declared.handles.Shared.{Shared}
 use Rattle.shared_handle.specs.Calls.{comes_before}
 use Rattle.handle_table.specs.Calls.{WhyNoHandle, WhyNoOwner}
-use Rattle.handle_table.specs.Parts.{owned_by}
+use Rattle.handle_table.specs.Parts.{block_of_held}
 use Rattle.handle_table.specs.Tables.{IsAt, Slot, TableNow}
 use Rattle.handle_table.specs.declared.fault.Fault.{Fault}
 
@@ -30,4 +30,4 @@ module _ {V : Type 0} where
     pub one : Held
     pub other : Held
     pub at : IsAt t a one × IsAt t b other
-    pub told : before ≡ comes_before (owned_by one) (owned_by other)
+    pub told : before ≡ comes_before (block_of_held one) (block_of_held other)

@@ -24,18 +24,18 @@ HandsOver ss n kept given = (kept ≡ take n ss ++ replicate (length ss - n) Non
     × (given ≡ replicate n None ++ drop n ss)
 
 -- where the second table has a handle, the first has a vacant slot
-abbrev pub IsFree : List Slot → List Slot → ℕ → Type 0
-IsFree ss ts k = (h : Held) → slice_get ts k ≡ Some (Some h) → slice_get ss k ≡ Some None
+abbrev pub IsFreeFor : List Slot → List Slot → ℕ → Type 0
+IsFreeFor ss ts k = (h : Held) → slice_get ts k ≡ Some (Some h) → slice_get ss k ≡ Some None
 
 abbrev pub AreFree : List Slot → List Slot → Type 0
-AreFree ss ts = (k : ℕ) → IsFree ss ts k
+AreFree ss ts = (k : ℕ) → IsFreeFor ss ts k
 
 -- the slots of the first table, with what the second has in those of the same numbers
-abbrev pub together : List Slot → List Slot → List Slot
-together [] ts = []
-together (s ∷ ss) [] = s ∷ ss
-together (Some h ∷ ss) (t ∷ ts) = Some h ∷ together ss ts
-together (None ∷ ss) (t ∷ ts) = t ∷ together ss ts
+abbrev pub slots_together : List Slot → List Slot → List Slot
+slots_together [] ts = []
+slots_together (s ∷ ss) [] = s ∷ ss
+slots_together (Some h ∷ ss) (t ∷ ts) = Some h ∷ slots_together ss ts
+slots_together (None ∷ ss) (t ∷ ts) = t ∷ slots_together ss ts
 
 -- the second table's handle in slot k can't come over: the first has one in it too, or has no such slot
 abbrev pub Clashes : List Slot → List Slot → ℕ → Fault → Type 0
@@ -45,7 +45,7 @@ Clashes ss ts k why = ⊥
 
 -- the first one that can't says why
 abbrev pub WhyNotJoined : List Slot → List Slot → Fault → Type 0
-WhyNotJoined ss ts why = (k : ℕ) × Clashes ss ts k why × ((i : ℕ) → i < k → IsFree ss ts i)
+WhyNotJoined ss ts why = (k : ℕ) × Clashes ss ts k why × ((i : ℕ) → i < k → IsFreeFor ss ts i)
 
 -- a desk gives no part of it, or there was no memory for that
 abbrev pub IsRefusedPart : Refusal → Type 0
@@ -63,7 +63,7 @@ module _ {V : Type 0} where
   WhyFewer d a k why = (why ≡ Memory) ⊎ WhyNoPart d a k 0 why
 
   -- a second table has the slots from a number on, an allowance and the least vacant blocks
-  pub record Splits (t : TableNow V) (from allowance blocks : ℕ) (u new : TableNow V) : Type 0 where
+  pub record SplitsTable (t : TableNow V) (from allowance blocks : ℕ) (u new : TableNow V) : Type 0 where
     pub desks : SplitsOff t.desk allowance blocks (handles_from from t.slots) u.desk new.desk
     pub slots : HandsOver t.slots from u.slots new.slots
     pub endings : (u.endings ≡ t.endings) × (new.endings ≡ [])
@@ -75,11 +75,11 @@ module _ {V : Type 0} where
         ⊎ ((r : Refusal) × (why ≡ fault.Call r) × WhyNoPart t.desk a k (length (handles_from from t.slots)) r)
 
   -- another table's part came, its handles into the slots of their numbers, and what is left to end with it on top
-  pub record Joins (t other u : TableNow V) : Type 0 where
+  pub record JoinsTables (t other u : TableNow V) : Type 0 where
     pub free : AreFree t.slots other.slots
     pub desks : JoinsWith t.desk other.desk u.desk
     pub allowance : allowance_of u.desk ≡ allowance_of t.desk + allowance_of other.desk
-    pub slots : u.slots ≡ together t.slots other.slots
+    pub slots : u.slots ≡ slots_together t.slots other.slots
     pub endings : u.endings ≡ t.endings ++ other.endings
 
   -- the handles left their slots, the last one first, and what ended for them went onto the pile

@@ -4,7 +4,7 @@ use Rattle.control_word.specs.declared.refusal.Refusal.{Refusal}
 use Rattle.control_word.specs.declared.shape.Shape.{Shape}
 use Rattle.control_word.specs.Histories.{IsLegal}
 use Rattle.control_block.specs.Census.{CensusNow, TellsAll}
-use Rattle.control_block.specs.Desks.{Begins, DeskNow, DomainNow, bag_of, endings_of, state_of}
+use Rattle.control_block.specs.Desks.{IsFirstDesk, DeskNow, DomainNow, bag_of, endings_of, state_of}
 use Rattle.control_block.specs.Own.{IsSole}
 use Rattle.control_block.specs.Rule.{opening_of}
 use Rattle.handle_table.specs.Parting.{AbsorbsAll, IsNew, IsPartedInto, WhyFewer, WindsUp}
@@ -38,7 +38,7 @@ module _ {V : Type 0} where
   -- the same from a domain's first table on, which has as many slots as a worker's
   pub record WorksIn (domain : DomainNow) (team : Team) (manned : Manned) (last : DeskNow V) : Type 0 where
     pub first : TableNow V
-    pub begins : Begins domain first.desk
+    pub begins : IsFirstDesk domain first.desk
     pub new : IsNew team.slots first
     pub out : WorksOut first team manned last
 

@@ -2,7 +2,7 @@
 use Rattle.std.specs.Prelude.{◌≡◌, All, List, [], ◌∷◌}
 use Rattle.control_word.specs.declared.shape.Shape.{Shape}
 use Rattle.control_block.specs.Census.{CensusNow}
-use Rattle.control_block.specs.Desks.{Begins, DeskNow, DomainNow}
+use Rattle.control_block.specs.Desks.{IsFirstDesk, DeskNow, DomainNow}
 use Rattle.control_block.specs.Own.{IsSole}
 use Rattle.handle_table.specs.Parting.{AbsorbsAll, IsNew, IsPartedInto, WindsUp}
 use Rattle.handle_table.specs.Programs.{IsClosed}
@@ -10,18 +10,18 @@ use Rattle.handle_table.specs.Tables.{TableNow}
 use Rattle.handle_table.specs.declared.staff.Share.{Share}
 
 -- what is said of a worker's work, by the worker and its table before and after
-abbrev pub Doing : Type 0 → Type 0 → Type 1
-Doing V W = W → TableNow V → W → TableNow V → Type 0
+abbrev pub WorkerRelation : Type 0 → Type 0 → Type 1
+WorkerRelation V W = W → TableNow V → W → TableNow V → Type 0
 
 module _ {V W : Type 0} where
   -- it is so of each worker, with the table of its number
-  abbrev pub EachDoes : Doing V W → List W → List (TableNow V) → List W → List (TableNow V) → Type 0
+  abbrev pub EachDoes : WorkerRelation V W → List W → List (TableNow V) → List W → List (TableNow V) → Type 0
   EachDoes does [] [] [] [] = Unit {0}
   EachDoes does (w ∷ ws) (t ∷ ts) (x ∷ xs) (u ∷ us) = does w t x u × EachDoes does ws ts xs us
   EachDoes does _ _ _ _ = ⊥
 
   -- tables of a desk's parts were lent to the workers, one to each, and absorbed as these left them
-  pub record Staffs (does : Doing V W) (t : TableNow V) (share : Share) (had has : List W)
+  pub record Staffs (does : WorkerRelation V W) (t : TableNow V) (share : Share) (had has : List W)
       (u : TableNow V) : Type 0 where
     pub lent : List (TableNow V)
     pub between : DeskNow V
@@ -32,23 +32,23 @@ module _ {V W : Type 0} where
     pub absorbs : AbsorbsAll (record t { desk = between }) left u
 
   -- and then all handles left the table, and what was left to end did so
-  pub record StaffsOut (does : Doing V W) (t : TableNow V) (share : Share) (had has : List W)
+  pub record StaffsOut (does : WorkerRelation V W) (t : TableNow V) (share : Share) (had has : List W)
       (last : DeskNow V) : Type 0 where
     pub after : TableNow V
     pub staffs : Staffs does t share had has after
     pub winds_up : WindsUp after last
 
   -- the same from a domain's first table on, which has as many slots as a worker's
-  pub record StaffsIn (does : Doing V W) (domain : DomainNow) (share : Share) (had has : List W)
+  pub record StaffsIn (does : WorkerRelation V W) (domain : DomainNow) (share : Share) (had has : List W)
       (last : DeskNow V) : Type 0 where
     pub first : TableNow V
-    pub begins : Begins domain first.desk
+    pub begins : IsFirstDesk domain first.desk
     pub new : IsNew share.slots first
     pub out : StaffsOut does first share had has last
 
 module _ (V : Type 0) {W : Type 0} where
   -- workers worked in a new domain, and the desk that had all that they left closed it
-  pub record Shifts (does : Doing V W) (shape : Shape) (share : Share) (had has : List W)
+  pub record Shifts (does : WorkerRelation V W) (shape : Shape) (share : Share) (had has : List W)
       (c : CensusNow) : Type 0 where
     pub domain : DomainNow
     pub of : domain.shape ≡ shape
@@ -57,7 +57,7 @@ module _ (V : Type 0) {W : Type 0} where
     pub closed : IsClosed last shape c
 
   -- workers worked in a new domain, and the desk that had all that they left had not the whole allowance
-  pub record IsParted (does : Doing V W) (shape : Shape) (share : Share) (had has : List W) : Type 0 where
+  pub record IsParted (does : WorkerRelation V W) (shape : Shape) (share : Share) (had has : List W) : Type 0 where
     pub domain : DomainNow
     pub of : domain.shape ≡ shape
     pub last : DeskNow V

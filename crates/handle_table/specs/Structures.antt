@@ -18,10 +18,10 @@ use Rattle.scene_structures.specs.Parents.{IsNode, IsParent, LocksUp, WhyNoNode}
 use Rattle.scene_structures.specs.Pops.{TakesNode}
 use Rattle.scene_structures.specs.Prunes.{IsPruned, Prunes}
 use Rattle.scene_structures.specs.Scenes.{Adopts, IsAdopted, IsNearLimit, MayHaveChild, WhyNoChild}
-use Rattle.scene_structures.specs.Stacks.{FindsNone, IsBare, IsPopped, IsPushed, Pushes}
+use Rattle.scene_structures.specs.Stacks.{FindsNone, IsEmptyList, IsPopped, IsPushed, Pushes}
 use Rattle.scene_structures.specs.Teardowns.{TearsDown}
 use Rattle.scene_structures.specs.Trees.{IsTornDown}
-use Rattle.scene_structures.specs.Walks.{IsTold, WalksOver}
+use Rattle.scene_structures.specs.Walks.{IsToldList, WalksOver}
 use Rattle.handle_table.specs.Calls.{Comes, IsNoSlot, IsOwner, WhyNoOwner}
 use Rattle.handle_table.specs.Cells.{WhyNoCell}
 use Rattle.handle_table.specs.Tables.{IsAt, TableNow}
@@ -56,11 +56,11 @@ module _ {V : Type 0} where
       (λ d e. Pushes d (Free n) fields x e × (IsSole d → IsPushed d (Free n) e)) t u
 
   -- the top node went out of the stack, and its owner was assigned to a slot; or there was none
-  abbrev pub PopsNode : TableNow V → ℕ → ℕ → Bool → TableNow V → Type 0
-  PopsNode t n to true u = (IsNearLimit t.desk → ⊥) × Comes
+  abbrev pub PopsIntoSlot : TableNow V → ℕ → ℕ → Bool → TableNow V → Type 0
+  PopsIntoSlot t n to true u = (IsNearLimit t.desk → ⊥) × Comes
       (IsOwner (λ d h e. TakesNode d (Free n) h e × (IsSole d → IsPopped d (Free n) h e))) t to u
-  PopsNode t n to false u =
-      DeskDoes (λ d e. FindsNone d (Free n) e × (IsSole d → IsBare d (Free n) e)) t u
+  PopsIntoSlot t n to false u =
+      DeskDoes (λ d e. FindsNone d (Free n) e × (IsSole d → IsEmptyList d (Free n) e)) t u
 
   abbrev pub WhyNotPopped : TableNow V → ℕ → Fault → Type 0
   WhyNotPopped t to why = IsNoSlot t.slots to why ⊎ HasTooFew t why
@@ -77,7 +77,7 @@ module _ {V : Type 0} where
   -- all observers were visited, and these are field 0 of their living subjects, the last one first
   abbrev pub TellsEach : TableNow V → ℕ → List ℕ → TableNow V → Type 0
   TellsEach t n told u = DeskDoes
-      (λ d e. WalksOver d (Free n) told e × (IsSole d → IsTold d (Free n) told e)) t u
+      (λ d e. WalksOver d (Free n) told e × (IsSole d → IsToldList d (Free n) told e)) t u
 
   -- so many observers went whose subject had no owner
   abbrev pub PrunesNodes : TableNow V → ℕ → ℕ → TableNow V → Type 0

@@ -15,9 +15,9 @@ abbrev pub Slot : Type 0
 Slot = Option Held
 
 -- what a slot's handle comes to, if it has an object
-abbrev pub worth : (Handle → ℕ) → Slot → ℕ
-worth f None = 0
-worth f (Some h) = cond (has_object (as_listed h)) (f (as_listed h)) 0
+abbrev pub slot_worth : (Handle → ℕ) → Slot → ℕ
+slot_worth f None = 0
+slot_worth f (Some h) = cond (has_object (as_listed h)) (f (as_listed h)) 0
 
 -- whether a slot has a handle, as a number
 abbrev pub is_filled : Slot → ℕ
@@ -30,8 +30,8 @@ AllVacant [] = Unit {0}
 AllVacant (s ∷ ss) = (s ≡ None) × AllVacant ss
 
 -- the domain that a brand names before one is picked for it
-abbrev pub nowhere : DomainNow
-nowhere = record {
+abbrev pub no_domain : DomainNow
+no_domain = record {
   id = record { words = 0; slots = 0; views_name = 0; atom = 0; block = 0; offset = 0; slot_names = [] };
   shape = record { blocks = 0; shared_cells = 0; weak_cells = 0; allowance = 0 };
 }
@@ -47,15 +47,15 @@ module _ {V : Type 0} where
   on_pile p = p.endings.items
 
   -- the desk has just the handles in the slots: whatever is counted of them comes to the same in its bag
-  pub record Fits (d : DeskNow V) (ss : List Slot) : Type 0 where
-    pub bag : (f : Handle → ℕ) → total f (bag_of d) ≡ total (worth f) ss
+  pub record FitsSlots (d : DeskNow V) (ss : List Slot) : Type 0 where
+    pub bag : (f : Handle → ℕ) → total f (bag_of d) ≡ total (slot_worth f) ss
     pub held : d.held ≡ total is_filled ss
 
   -- the table's domain is the one that its type names; the pile has what ends with the desk, and the slots its handles
   pub record IsWhole (named domain : DomainNow) (d : DeskNow V) (ss : List Slot) (p : Pile V) : Type 0 where
     pub home : domain ≡ named
     pub bears : Bears domain d p
-    pub fits : Fits d ss
+    pub fits : FitsSlots d ss
 
   -- the slot has this handle
   abbrev pub IsAt : TableNow V → ℕ → Held → Type 0

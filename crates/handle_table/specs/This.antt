@@ -18,7 +18,7 @@ module _ {V : Type 0} where
     pub at : IsAt t from (Owner of)
     pub may : MayGiveThis t.desk of.block of.place
     pub this : Comes (IsOwner (λ d k e. (k.block ≡ of.block) × inner.IsOfThis k.block k.place
-        × inner.Shares d of.block of.place k.place e)) t to u
+        × inner.SharesOwner d of.block of.place k.place e)) t to u
 
   -- and a weak handle
   pub record SharesThisWeakly (t : TableNow V) (from to : ℕ) (u : TableNow V) : Type 0 where
@@ -41,7 +41,8 @@ module _ {V : Type 0} where
     pub of : Shared
     pub at : IsAt t from (Owner of)
     pub copy : Comes
-        (IsOwner (λ d k e. (k.block ≡ of.block) × (k.place ≡ p) × inner.Shares d of.block of.place p e)) t to u
+        (IsOwner (λ d k e. (k.block ≡ of.block) × (k.place ≡ p)
+        × inner.SharesOwner d of.block of.place p e)) t to u
 
   abbrev pub WhyNoAlias : TableNow V → ℕ → ℕ → Fault → Type 0
   WhyNoAlias t of to why = IsNoSlot t.slots to why

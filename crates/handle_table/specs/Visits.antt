@@ -11,7 +11,7 @@ use Rattle.handle_table.specs.declared.fault.Fault.TheVariants as fault
 
 module _ {V R F : Type 0} (changes : V → R → V → Type 0) (f : F) where
   -- the value of the object that the owner in the slot owns was worked on (own)
-  pub record Visits (t : TableNow V) (i : ℕ) (answer : R) (u : TableNow V) : Type 0 where
+  pub record VisitsSlot (t : TableNow V) (i : ℕ) (answer : R) (u : TableNow V) : Type 0 where
     pub of : Shared
     pub at : IsAt t i (Owner of)
     pub event : IsVisit changes f t.desk of.block of.place (Ok answer) u.desk

@@ -1,13 +1,13 @@
 //! Cells: where a pointer lies that any thread loads, stores and exchanges.
 ghost use Rattle.std.specs.Prelude.{◌≡◌, IfErr, IfOk};
-ghost use Rattle.atomic_cells.specs.Sites.{IsMember, number_of};
+ghost use Rattle.atomic_cells.specs.Sites.{IsMember, number_of_member};
 ghost use Rattle.control_word.specs.declared.place.Block.{Block};
 ghost use Rattle.control_block.specs.CellCalls.{IsOpenAt};
 ghost use Rattle.control_block.specs.Desks.{Belongs};
 ghost use Rattle.control_block.specs.declared.cell_calls.Site.{Site};
 ghost use Rattle.control_block.specs.declared.cell_calls.Site.TheVariants as site;
-ghost use Rattle.handle_table.specs.Cells.{IsCell, OwnsInto, WhyNoCell, WhyNoObject, kind_in};
-ghost use Rattle.handle_table.specs.Tables.{Fits};
+ghost use Rattle.handle_table.specs.Cells.{IsCellAtSite, OwnsInto, WhyNoCell, WhyNoObject, kind_of_cell};
+ghost use Rattle.handle_table.specs.Tables.{FitsSlots};
 
 use crate::fault::Fault;
 use crate::slots::owner_at;
@@ -41,7 +41,7 @@ impl Cell {
     /// The kind of its handles.
     #[inline(always)]
     pub(crate) fn kind(self) -> Kind
-        ensures { result ≡ kind_in self }
+        ensures { result ≡ kind_of_cell self }
     {
         match self {
             Cell::Shared(_) => Kind::Owner,
@@ -54,7 +54,7 @@ impl Cell {
 
 /// The number of a member.
 fn number(which: SharedMember) -> u32
-    ensures { result ≡ number_of which }
+    ensures { result ≡ number_of_member which }
 {
     match which {
         SharedMember::First => 0,
@@ -97,7 +97,7 @@ fn site_of<V: Drop + Send>(
     slots: &Vec<Option<Held>>,
     cell: Cell,
 ) -> Result<Site, Fault>
-    ensures found { IfOk result (IsCell domain.now.shape slots.now.items cell) }
+    ensures found { IfOk result (IsCellAtSite domain.now.shape slots.now.items cell) }
     ensures fault { IfErr result (WhyNoCell domain.now.shape slots.now.items cell) }
 {
     match cell {
@@ -127,9 +127,9 @@ pub(crate) fn find<V: Drop + Send>(
     cell: Cell,
 ) -> Result<CellAt, Fault>
     requires domain { Belongs desk.now domain.now }
-    requires fits { Fits desk.now slots.now.items }
+    requires fits { FitsSlots desk.now slots.now.items }
     ensures found { IfOk result
-        (λ at. IsCell desk.now.shape slots.now.items cell at.site × (at.kind ≡ kind_in cell)) }
+        (λ at. IsCellAtSite desk.now.shape slots.now.items cell at.site × (at.kind ≡ kind_of_cell cell)) }
     ensures open { IfOk result (λ at. IsOpenAt desk.now at.site at.kind) }
     ensures fault { IfErr result (WhyNoCell desk.now.shape slots.now.items cell) }
 {

@@ -2,7 +2,7 @@
 ghost use Rattle.std.specs.Prelude.{◌≡◌, [], IfErr, IfNone, IfOk, IfSome};
 ghost use Rattle.shared_handle.specs.Piles.{IsRound};
 ghost use Rattle.handle_table.specs.Cells.{WhyNoCell};
-ghost use Rattle.handle_table.specs.Ends.{IsThere, IsToEnd};
+ghost use Rattle.handle_table.specs.Ends.{NamesCell, IsToEnd};
 
 use crate::cells::{Cell, find};
 use crate::fault::Fault;
@@ -44,7 +44,7 @@ impl<'d, V: Drop + Send, H: Home> HandleTable<'d, V, H> {
 
     /// Whether a cell is there (own), or why no call reaches it. Nothing is touched.
     pub fn reaches(&self, cell: Cell) -> Result<(), Fault>
-        ensures there { IfOk result (λ _. IsThere self.now cell) }
+        ensures there { IfOk result (λ _. NamesCell self.now cell) }
         ensures fault { IfErr result (WhyNoCell self.now.desk.shape self.now.slots cell) }
     {
         match find(self.domain, &self.desk, &self.slots, cell) {

@@ -1,10 +1,10 @@
 //! A program whose first thread has a table too, and starts teams one after another.
 ghost use Rattle.std.specs.Prelude.{◌≡◌, ◌⊎◌, ◌↔◌, [], length, IfErr, IfOk};
 ghost use Rattle.control_word.specs.Layout.{IsWithinLimits};
-ghost use Rattle.control_block.specs.Desks.{Begins, Belongs, DeskNow, endings_of};
+ghost use Rattle.control_block.specs.Desks.{IsFirstDesk, Belongs, DeskNow, endings_of};
 ghost use Rattle.shared_handle.specs.Piles.{Bears};
-ghost use Rattle.handle_table.specs.Leading.{Leads, LeadsIn, LeadsOn, LeadsOut};
-ghost use Rattle.handle_table.specs.Tables.{AllVacant, Fits, on_pile};
+ghost use Rattle.handle_table.specs.Leading.{LeadsDomain, LeadsIn, LeadsOn, LeadsOut};
+ghost use Rattle.handle_table.specs.Tables.{AllVacant, FitsSlots, on_pile};
 
 use crate::opening::{Opened, open_domain};
 use crate::program::{Manned, Program, Team, close_bare, first_table};
@@ -67,7 +67,7 @@ fn lead_out<
     P: Leader<V, R> + Sync,
 >(rt: &R, alloc: Global, table: HandleTable<'_, V, H>, leader: &mut P) -> Desk<V>
     ensures here { Belongs result H.domain }
-    ensures none { Fits result [] × (endings_of result ≡ 0) }
+    ensures none { FitsSlots result [] × (endings_of result ≡ 0) }
     ensures led { LeadsOut P.leads leader.old table.entry leader.new result }
 {
     let mut table = table;
@@ -86,12 +86,12 @@ fn lead_in<V: Drop + Send, H: Home + Send + Sync, R: Threads + Wait + Sync, P: L
     leader: &mut P,
 ) -> Desk<V>
     requires home { domain.now ≡ H.domain }
-    requires desk { Begins domain.now desk }
+    requires desk { IsFirstDesk domain.now desk }
     requires slots { AllVacant slots.items }
     requires pile { (d : DeskNow V) → Belongs d domain.now → endings_of d ≡ 0 → Bears domain.now d pile }
     requires empty { on_pile pile ≡ [] }
     ensures here { Belongs result domain.now }
-    ensures none { Fits result [] × (endings_of result ≡ 0) }
+    ensures none { FitsSlots result [] × (endings_of result ≡ 0) }
     ensures led { LeadsIn P.leads domain.now (length slots.items) leader.old leader.new result }
 {
     let table = first_table::<V, H>(domain, desk, slots, pile);
@@ -111,7 +111,7 @@ pub fn run_leader<V: Drop + Send, R: Threads + Wait + Sync, P: Leader<V, R> + Sy
     slots: usize,
     leader: &mut P,
 ) -> Result<Census<V>, Refusal>
-    ensures led { IfOk result (Leads P.leads shape slots leader.old leader.new) }
+    ensures led { IfOk result (LeadsDomain P.leads shape slots leader.old leader.new) }
     ensures within { IfOk result (λ _. IsWithinLimits shape) }
     ensures shape { IfErr result (λ why. why ≡ Refusal.Shape ↔ (IsWithinLimits shape → ⊥)) }
     ensures refused { IfErr result

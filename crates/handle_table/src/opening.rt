@@ -1,7 +1,7 @@
 //! A new domain, with what its first table is made of.
 ghost use Rattle.std.specs.Prelude.{◌≡◌, ◌⊎◌, ◌↔◌, [], length, IfErr, IfOk};
 ghost use Rattle.control_word.specs.Layout.{IsWithinLimits};
-ghost use Rattle.control_block.specs.Desks.{Begins, Belongs, DeskNow, endings_of};
+ghost use Rattle.control_block.specs.Desks.{IsFirstDesk, Belongs, DeskNow, endings_of};
 ghost use Rattle.shared_handle.specs.Piles.{Bears};
 ghost use Rattle.handle_table.specs.Tables.{AllVacant, on_pile};
 
@@ -29,7 +29,7 @@ pub(crate) fn open_domain<V: Drop + Send>(
     count: usize,
 ) -> Result<Opened<V>, Refusal>
     ensures of { IfOk result (λ o. o.domain.shape ≡ shape) }
-    ensures begins { IfOk result (λ o. Begins o.domain o.desk) }
+    ensures begins { IfOk result (λ o. IsFirstDesk o.domain o.desk) }
     ensures slots { IfOk result (λ o. AllVacant o.slots.items × (length o.slots.items ≡ count)) }
     ensures pile { IfOk result
         (λ o. (d : DeskNow V) → Belongs d o.domain → endings_of d ≡ 0 → Bears o.domain d o.pile) }

@@ -4,9 +4,10 @@ ghost use Rattle.control_block.specs.Desks.{Belongs, DeskNow, endings_of};
 ghost use Rattle.control_block.specs.Parting.{HoldsAll, IsTooMuch, SplitsOff};
 ghost use Rattle.control_block.specs.SlotLists.{handles_in};
 ghost use Rattle.shared_handle.specs.Piles.{Bears};
-ghost use Rattle.handle_table.specs.Parting.{Absorbs, HandsOver, IsNew, LeaveSlots, Splits, WhyNoPart, WhyNotSplit};
+ghost use Rattle.handle_table.specs.Parting.{Absorbs, HandsOver, IsNew, LeaveSlots, SplitsTable, WhyNoPart};
+ghost use Rattle.handle_table.specs.Parting.{WhyNotSplit};
 ghost use Rattle.handle_table.specs.Parting.{WindsUp, handles_from};
-ghost use Rattle.handle_table.specs.Tables.{AllVacant, Fits, on_pile};
+ghost use Rattle.handle_table.specs.Tables.{AllVacant, FitsSlots, on_pile};
 
 use crate::fault::Fault;
 use crate::slots::assigning::let_go;
@@ -30,9 +31,9 @@ fn let_all_go<V: Drop + Send>(
     slots: Vec<Option<Held>>,
 )
     requires bears { Bears domain.now desk.old pile.old }
-    requires fits { Fits desk.old slots.items }
+    requires fits { FitsSlots desk.old slots.items }
     ensures bears { Bears domain.now desk.new pile.new }
-    ensures none { Fits desk.new [] }
+    ensures none { FitsSlots desk.new [] }
     ensures left { LeaveSlots desk.old (on_pile pile.old) slots.items desk.new (on_pile pile.new) }
 {
     let mut slots = slots;
@@ -136,7 +137,7 @@ impl<'d, V: Drop + Send, H: Home> HandleTable<'d, V, H> {
         allowance: u32,
         blocks: u32,
     ) -> Result<HandleTable<'d, V, H>, Fault>
-        ensures split { IfOk result (λ t. Splits self.old from allowance blocks self.new t) }
+        ensures split { IfOk result (λ t. SplitsTable self.old from allowance blocks self.new t) }
         ensures fits { IfOk result
             (λ _. IsTooMuch self.old.desk allowance (length (handles_from from self.old.slots)) → ⊥) }
         ensures refused { IfErr result
@@ -212,7 +213,7 @@ impl<'d, V: Drop + Send, H: Home> HandleTable<'d, V, H> {
     #[tactic(auto, using(shared_handle::proofs::Piles::bears_after))]
     pub(crate) fn into_desk<R: Wait>(self, rt: &R) -> Desk<V>
         ensures here { Belongs result H.domain }
-        ensures none { Fits result [] × (endings_of result ≡ 0) }
+        ensures none { FitsSlots result [] × (endings_of result ≡ 0) }
         ensures wound { WindsUp self.entry result }
     {
         let HandleTable {

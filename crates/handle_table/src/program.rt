@@ -1,12 +1,12 @@
 //! A program over a domain of its own, with a table for each of its threads.
 ghost use Rattle.std.specs.Prelude.{◌≡◌, ◌⊎◌, ◌↔◌, [], All, length, IfErr, IfOk, IfSome};
 ghost use Rattle.control_word.specs.Layout.{IsWithinLimits};
-ghost use Rattle.control_block.specs.Desks.{Begins, Belongs, DeskNow, endings_of};
+ghost use Rattle.control_block.specs.Desks.{IsFirstDesk, Belongs, DeskNow, endings_of};
 ghost use Rattle.control_block.specs.Own.{IsSole};
 ghost use Rattle.shared_handle.specs.Piles.{Bears};
 ghost use Rattle.handle_table.specs.Parting.{AbsorbsAll, IsNew, IsPartedInto, WhyFewer};
 ghost use Rattle.handle_table.specs.Programs.{IsClosed, IsManned, Runs, Works, WorksIn, WorksOut};
-ghost use Rattle.handle_table.specs.Tables.{AllVacant, Fits, on_pile};
+ghost use Rattle.handle_table.specs.Tables.{AllVacant, FitsSlots, on_pile};
 
 use crate::opening::{Opened, open_domain};
 use crate::table::{HandleTable, Home};
@@ -64,7 +64,7 @@ pub(crate) fn first_table<'d, V: Drop + Send, H: Home>(
     pile: Pile<V>,
 ) -> HandleTable<'d, V, H>
     requires home { domain.now ≡ H.domain }
-    requires desk { Begins domain.now desk }
+    requires desk { IsFirstDesk domain.now desk }
     requires slots { AllVacant slots.items }
     requires pile { (d : DeskNow V) → Belongs d domain.now → endings_of d ≡ 0 → Bears domain.now d pile }
     ensures desk { result.desk ≡ desk }
@@ -181,7 +181,7 @@ fn run_at<V: Drop + Send, H: Home + Send + Sync, R: Threads + Wait + Sync, P: Pr
     program: &P,
 ) -> (Desk<V>, Manned)
     ensures here { Belongs result.0 H.domain }
-    ensures none { Fits result.0 [] × (endings_of result.0 ≡ 0) }
+    ensures none { FitsSlots result.0 [] × (endings_of result.0 ≡ 0) }
     ensures works { WorksOut table.entry team result.1 result.0 }
     ensures manned { IsManned team.workers result.1.workers result.1.fewer }
 {
@@ -202,12 +202,12 @@ fn run_in<V: Drop + Send, H: Home + Send + Sync, R: Threads + Wait + Sync, P: Pr
     program: &P,
 ) -> (Desk<V>, Manned)
     requires home { domain.now ≡ H.domain }
-    requires desk { Begins domain.now desk }
+    requires desk { IsFirstDesk domain.now desk }
     requires slots { AllVacant slots.items × (length slots.items ≡ team.slots) }
     requires pile { (d : DeskNow V) → Belongs d domain.now → endings_of d ≡ 0 → Bears domain.now d pile }
     requires empty { on_pile pile ≡ [] }
     ensures here { Belongs result.0 domain.now }
-    ensures none { Fits result.0 [] × (endings_of result.0 ≡ 0) }
+    ensures none { FitsSlots result.0 [] × (endings_of result.0 ≡ 0) }
     ensures works { WorksIn domain.now team result.1 result.0 }
     ensures manned { IsManned team.workers result.1.workers result.1.fewer }
 {
@@ -217,7 +217,7 @@ fn run_in<V: Drop + Send, H: Home + Send + Sync, R: Threads + Wait + Sync, P: Pr
 
 /// A desk that has just begun closes its domain.
 pub(crate) fn shut<V: Drop + Send>(domain: Domain<V>, desk: Desk<V>)
-    requires { Begins domain desk }
+    requires { IsFirstDesk domain desk }
 {
     match close(domain, desk) {
         Ok(census) => drop(census),
@@ -231,7 +231,7 @@ pub(crate) fn close_bare<V: Drop + Send>(
     desk: Desk<V>,
 ) -> Result<Census<V>, Refusal>
     requires here { Belongs desk domain }
-    requires none { Fits desk [] × (endings_of desk ≡ 0) }
+    requires none { FitsSlots desk [] × (endings_of desk ≡ 0) }
     ensures closed { IfOk result (IsClosed desk domain.shape) }
     ensures refused { IfErr result (λ why. (why ≡ Refusal.NotSole) × (IsSole desk → ⊥)) }
 {

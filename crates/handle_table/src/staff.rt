@@ -4,11 +4,11 @@ ghost use Rattle.std.specs.Prelude.{vec_capacity};
 ghost use Rattle.std.specs.Prelude.{IfErr, IfNone, IfOk, IfSome};
 ghost use Rattle.std.specs.List.{AllZip};
 ghost use Rattle.control_word.specs.Layout.{IsWithinLimits};
-ghost use Rattle.control_block.specs.Desks.{Begins, Belongs, DeskNow, endings_of};
+ghost use Rattle.control_block.specs.Desks.{IsFirstDesk, Belongs, DeskNow, endings_of};
 ghost use Rattle.shared_handle.specs.Piles.{Bears};
 ghost use Rattle.handle_table.specs.Parting.{IsRefusedPart};
 ghost use Rattle.handle_table.specs.Staffs.{IsParted, Shifts, Staffs, StaffsIn, StaffsOut};
-ghost use Rattle.handle_table.specs.Tables.{AllVacant, Fits, on_pile};
+ghost use Rattle.handle_table.specs.Tables.{AllVacant, FitsSlots, on_pile};
 
 use crate::opening::{Opened, open_domain};
 use crate::program::{Crew, Team, close_bare, first_table};
@@ -160,7 +160,7 @@ fn staff_at<V: Drop + Send, H: Home + Send + Sync, R: Threads + Wait + Sync, W: 
     workers: &mut Vec<W>,
 ) -> (Desk<V>, Option<Refusal>)
     ensures here { Belongs result.0 H.domain }
-    ensures none { Fits result.0 [] × (endings_of result.0 ≡ 0) }
+    ensures none { FitsSlots result.0 [] × (endings_of result.0 ≡ 0) }
     ensures works { IfNone result.1
         (StaffsOut W.does table.entry share workers.old.items workers.new.items result.0) }
     ensures refused { IfSome result.1 (λ why. IsRefusedPart why × (workers.new.items ≡ workers.old.items)) }
@@ -182,12 +182,12 @@ fn staff_in<V: Drop + Send, H: Home + Send + Sync, R: Threads + Wait + Sync, W: 
     workers: &mut Vec<W>,
 ) -> (Desk<V>, Option<Refusal>)
     requires home { domain.now ≡ H.domain }
-    requires desk { Begins domain.now desk }
+    requires desk { IsFirstDesk domain.now desk }
     requires slots { AllVacant slots.items × (length slots.items ≡ share.slots) }
     requires pile { (d : DeskNow V) → Belongs d domain.now → endings_of d ≡ 0 → Bears domain.now d pile }
     requires empty { on_pile pile ≡ [] }
     ensures here { Belongs result.0 domain.now }
-    ensures none { Fits result.0 [] × (endings_of result.0 ≡ 0) }
+    ensures none { FitsSlots result.0 [] × (endings_of result.0 ≡ 0) }
     ensures works { IfNone result.1
         (StaffsIn W.does domain.now share workers.old.items workers.new.items result.0) }
     ensures refused { IfSome result.1 (λ why. IsRefusedPart why × (workers.new.items ≡ workers.old.items)) }

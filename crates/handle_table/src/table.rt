@@ -13,9 +13,9 @@ pub trait Home {
 }
 
 impl Home for Brand {
-    ghost use Rattle.handle_table.specs.Tables.{nowhere};
+    ghost use Rattle.handle_table.specs.Tables.{no_domain};
 
-    ghost domain = { nowhere };
+    ghost domain = { no_domain };
 }
 
 /// A thread's part of a domain, with numbered slots for its handles. All memory that it needs it has from the start.

@@ -1,6 +1,6 @@
 //! An object that ends within another's end, as the last owner of it was a member of that.
 ghost use Rattle.std.specs.Prelude.{◌≡◌, ◌+◌, IfSome, MatchOption, Some};
-ghost use Rattle.shared_handle.specs.Prelude.{Owner, Block, Belongs, IsSameDesk, bag_of, Holds, Ends};
+ghost use Rattle.shared_handle.specs.Prelude.{Owner, Block, Belongs, IsSameDesk, bag_of, HoldsHandle, EndsInHand};
 ghost use Rattle.shared_handle.specs.Prelude.{with_handle, without_handle};
 
 use crate::parts::{Found, Was, drop_owner, end_of, shape, shut, told};
@@ -17,7 +17,7 @@ type Both = (Found, Found);
 // left.
 fn end_both(domain: &Domain<u64>, desk: &mut Desk<u64>, around: Ending<u64>) -> Option<Both>
     requires domain { Belongs desk.old domain.now }
-    requires ends { Ends desk.old around }
+    requires ends { EndsInHand desk.old around }
     ensures desk { IsSameDesk desk.old desk.new }
     ensures bag { bag_of desk.new ≡ bag_of desk.old }
     ensures held { desk.new.held ≡ desk.old.held }
@@ -41,7 +41,7 @@ fn end_both(domain: &Domain<u64>, desk: &mut Desk<u64>, around: Ending<u64>) -> 
 // The last owner leaves of an object that has the last owner of another in its first member.
 fn leave_both(domain: &Domain<u64>, desk: &mut Desk<u64>, owner: Shared) -> Option<Both>
     requires domain { Belongs desk.old domain.now }
-    requires held { Holds desk.old Owner owner.block owner.place }
+    requires held { HoldsHandle desk.old Owner owner.block owner.place }
     ensures desk { IsSameDesk desk.old desk.new }
     ensures bag { bag_of desk.new ≡ without_handle Owner owner.block owner.place (bag_of desk.old) }
     ensures held { desk.new.held + 1 ≡ desk.old.held }
@@ -60,7 +60,7 @@ fn object(domain: &Domain<u64>, desk: &mut Desk<u64>, field: u64) -> Option<Shar
     ensures bag { MatchOption result (bag_of desk.new ≡ bag_of desk.old)
         (λ h. bag_of desk.new ≡ with_handle Owner h.block h.place (bag_of desk.old)) }
     ensures held { MatchOption result (desk.new.held ≡ desk.old.held) (λ _. desk.new.held ≡ desk.old.held + 1) }
-    ensures holds { IfSome result (λ h. Holds desk.new Owner h.block h.place) }
+    ensures holds { IfSome result (λ h. HoldsHandle desk.new Owner h.block h.place) }
 {
     match make(domain, desk, [field, 0, 0, 0], false, field) {
         Ok(owner) => Some(owner),
@@ -78,8 +78,8 @@ fn put_in(
     owner: Shared,
 ) -> Option<Was>
     requires domain { Belongs desk.old domain.now }
-    requires whole { Holds desk.old Owner whole.now.block whole.now.place }
-    requires held { Holds desk.old Owner owner.block owner.place }
+    requires whole { HoldsHandle desk.old Owner whole.now.block whole.now.place }
+    requires held { HoldsHandle desk.old Owner owner.block owner.place }
     ensures desk { IsSameDesk desk.old desk.new }
     ensures bag { bag_of desk.new ≡ without_handle Owner owner.block owner.place (bag_of desk.old) }
     ensures held { desk.new.held + 1 ≡ desk.old.held }

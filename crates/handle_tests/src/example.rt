@@ -1,7 +1,7 @@
 //! The example of the README: an object that two threads own, watched by a weak pointer.
 ghost use Rattle.std.specs.Prelude.{◌≡◌, ◌<◌, [], IfSome, None, Some, length};
 ghost use Rattle.shared_handle.specs.Prelude.{Owner, Weak, Block, Belongs, IsSameDesk, allowance_of, bag_of, stock_of};
-ghost use Rattle.shared_handle.specs.Prelude.{Holds, with_handle, without_handle};
+ghost use Rattle.shared_handle.specs.Prelude.{HoldsHandle, with_handle, without_handle};
 
 use crate::parts::{end, hand_over, shape, shut, spent};
 use control_block::desk::Desk;
@@ -15,7 +15,7 @@ use std::thread::{Threads, join_mut};
 // `std::shared_ptr::reset`.
 fn reset(domain: &Domain<u64>, desk: &mut Desk<u64>, handle: &mut Option<Shared>)
     requires domain { Belongs desk.old domain.now }
-    requires holds { IfSome handle.old (λ h. Holds desk.old Owner h.block h.place) }
+    requires holds { IfSome handle.old (λ h. HoldsHandle desk.old Owner h.block h.place) }
     ensures desk { IsSameDesk desk.old desk.new }
     ensures bag { IfSome handle.old (λ h. bag_of desk.new ≡ without_handle Owner h.block h.place (bag_of desk.old)) }
     ensures spent { handle.new ≡ None }

@@ -1,6 +1,6 @@
 //! Handles and endings that are given up: how a domain's census tells of them.
 ghost use Rattle.std.specs.Prelude.{◌≡◌, ◌<◌};
-ghost use Rattle.shared_handle.specs.Prelude.{Owner, Belongs, IsSameDesk, Holds};
+ghost use Rattle.shared_handle.specs.Prelude.{Owner, Belongs, IsSameDesk, HoldsHandle};
 
 use crate::drops::Counted;
 use crate::parts::told;
@@ -45,9 +45,9 @@ pub(crate) fn counted<V: Drop + Send>(
 // One more owner, which is forgotten.
 fn forget_copy(domain: &Domain<u64>, desk: &mut Desk<u64>, owner: &Shared)
     requires domain { Belongs desk.old domain.now }
-    requires holds { Holds desk.old Owner owner.now.block owner.now.place }
+    requires holds { HoldsHandle desk.old Owner owner.now.block owner.now.place }
     ensures desk { IsSameDesk desk.old desk.new }
-    ensures holds { Holds desk.new Owner owner.now.block owner.now.place }
+    ensures holds { HoldsHandle desk.new Owner owner.now.block owner.now.place }
 {
     match share(domain, desk, owner) {
         Ok(other) => {
@@ -60,7 +60,7 @@ fn forget_copy(domain: &Domain<u64>, desk: &mut Desk<u64>, owner: &Shared)
 // A weak handle, which is forgotten.
 fn forget_weak(domain: &Domain<u64>, desk: &mut Desk<u64>, owner: &Shared)
     requires domain { Belongs desk.old domain.now }
-    requires holds { Holds desk.old Owner owner.now.block owner.now.place }
+    requires holds { HoldsHandle desk.old Owner owner.now.block owner.now.place }
     ensures desk { IsSameDesk desk.old desk.new }
 {
     match downgrade(domain, desk, owner) {

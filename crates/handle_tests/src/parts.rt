@@ -1,8 +1,9 @@
 //! What the tests have in common: shapes, ends, and handles that go from one desk to another.
 ghost use Rattle.std.specs.Prelude.{◌≡◌, ◌+◌, ◌≤◌, ◌∷◌, [], IfErr, IfOk, IfSome, None, Some};
 ghost use Rattle.std.specs.Prelude.{length};
-ghost use Rattle.shared_handle.specs.Prelude.{Owner, Block, Belongs, IsSameDesk, allowance_of, bag_of, stock_of, Holds};
-ghost use Rattle.shared_handle.specs.Prelude.{with_handle, without_handle, Ends};
+ghost use Rattle.shared_handle.specs.Prelude.{Owner, Block, Belongs, IsSameDesk, allowance_of, bag_of, stock_of};
+ghost use Rattle.shared_handle.specs.Prelude.{HoldsHandle};
+ghost use Rattle.shared_handle.specs.Prelude.{with_handle, without_handle, EndsInHand};
 ghost use Rattle.control_block.specs.Desks.{KeepsOtherEndings};
 
 pub(crate) use crate::shapes::shape;
@@ -39,7 +40,7 @@ fn lose<V: Drop + Send>(left: Left<V>) {
 // The end of an object whose members were the last owners of none.
 pub(crate) fn bury<V: Drop + Send>(domain: &Domain<V>, desk: &mut Desk<V>, ending: Ending<V>) -> V
     requires domain { Belongs desk.old domain.now }
-    requires ends { Ends desk.old ending }
+    requires ends { EndsInHand desk.old ending }
     ensures value { result ≡ ending.value }
     ensures desk { IsSameDesk desk.old desk.new }
     ensures bag { bag_of desk.new ≡ bag_of desk.old }
@@ -62,7 +63,7 @@ pub(crate) fn end<V: Drop + Send>(
     handle: Shared,
 ) -> Option<V>
     requires domain { Belongs desk.old domain.now }
-    requires holds { Holds desk.old Owner handle.block handle.place }
+    requires holds { HoldsHandle desk.old Owner handle.block handle.place }
     ensures desk { IsSameDesk desk.old desk.new }
     ensures bag { bag_of desk.new ≡ without_handle Owner handle.block handle.place (bag_of desk.old) }
     ensures held { desk.new.held + 1 ≡ desk.old.held }
@@ -99,7 +100,7 @@ pub(crate) type Found = (Was, Was, Was, u64);
 // The end of an object whose members are the last owners of none.
 pub(crate) fn end_of(domain: &Domain<u64>, desk: &mut Desk<u64>, ending: Ending<u64>) -> Found
     requires domain { Belongs desk.old domain.now }
-    requires ends { Ends desk.old ending }
+    requires ends { EndsInHand desk.old ending }
     ensures desk { IsSameDesk desk.old desk.new }
     ensures bag { bag_of desk.new ≡ bag_of desk.old }
     ensures held { desk.new.held ≡ desk.old.held }
@@ -116,7 +117,7 @@ pub(crate) fn end_of(domain: &Domain<u64>, desk: &mut Desk<u64>, ending: Ending<
 // An owner leaves.
 pub(crate) fn drop_owner(domain: &Domain<u64>, desk: &mut Desk<u64>, owner: Shared) -> Was
     requires domain { Belongs desk.old domain.now }
-    requires held { Holds desk.old Owner owner.block owner.place }
+    requires held { HoldsHandle desk.old Owner owner.block owner.place }
     ensures desk { IsSameDesk desk.old desk.new }
     ensures bag { bag_of desk.new ≡ without_handle Owner owner.block owner.place (bag_of desk.old) }
     ensures held { desk.new.held + 1 ≡ desk.old.held }
@@ -141,7 +142,7 @@ pub(crate) fn hand_over(
     handle: Shared,
 ) -> Result<(Desk<u64>, Shared), Shared>
     requires domain { Belongs desk.old domain.now }
-    requires held { Holds desk.old Owner handle.block handle.place }
+    requires held { HoldsHandle desk.old Owner handle.block handle.place }
     requires blocks { blocks ≤ length (stock_of desk.old) }
     ensures one { (desk.new.domain ≡ desk.old.domain) × (desk.new.shape ≡ desk.old.shape)
         × (desk.new.name ≡ desk.old.name) }
@@ -152,7 +153,7 @@ pub(crate) fn hand_over(
         (λ r. bag_of desk.new ≡ without_handle Owner handle.block handle.place (bag_of desk.old)) }
     ensures other { IfOk result (λ r. (r.1.block ≡ handle.block) × (r.1.place ≡ handle.place)) }
     ensures given { IfOk result (λ r. bag_of r.0 ≡ with_handle Owner r.1.block r.1.place []) }
-    ensures held { IfOk result (λ r. Holds r.0 Owner r.1.block r.1.place) }
+    ensures held { IfOk result (λ r. HoldsHandle r.0 Owner r.1.block r.1.place) }
     ensures same { IfErr result (λ h. (h ≡ handle) × (desk.new ≡ desk.old)) }
 {
     let mut handles = Vec::new(alloc);

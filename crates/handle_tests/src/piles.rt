@@ -1,6 +1,6 @@
 //! A pile that becomes another's, what is left on a pile at its end, and what ends beside one.
 ghost use Rattle.std.specs.Prelude.{◌≡◌, []};
-ghost use Rattle.shared_handle.specs.Prelude.{Belongs, Ends, IsSameDesk};
+ghost use Rattle.shared_handle.specs.Prelude.{Belongs, EndsInHand, IsSameDesk};
 ghost use Rattle.shared_handle.specs.Piles.{Carries};
 
 use crate::drops::Counted;
@@ -94,7 +94,7 @@ fn end_beside(
 ) -> Option<(Option<u64>, Found)>
     requires carries { Carries domain.now desk.old pile.old }
     requires empty { pile.old.endings.items ≡ [] }
-    requires ends { Ends desk.old ending }
+    requires ends { EndsInHand desk.old ending }
     ensures desk { IsSameDesk desk.old desk.new }
 {
     let Ok(owner) = make(domain, desk, [0; 4], false, 2) else {

@@ -1,6 +1,6 @@
 //! What an object that ends gives and says of itself.
 ghost use Rattle.std.specs.Prelude.{◌≡◌};
-ghost use Rattle.shared_handle.specs.Prelude.{Owner, Belongs, IsSameDesk, Holds, Ends};
+ghost use Rattle.shared_handle.specs.Prelude.{Owner, Belongs, IsSameDesk, HoldsHandle, EndsInHand};
 
 use crate::parts::{bury, shape, shut};
 use control_block::desk::Desk;
@@ -17,7 +17,7 @@ fn last_words(
     ending: &Ending<u64>,
 ) -> ([u64; 4], bool, bool, Option<Refusal>)
     requires domain { Belongs desk.old domain.now }
-    requires ends { Ends desk.old ending.now }
+    requires ends { EndsInHand desk.old ending.now }
     ensures same { desk.new ≡ desk.old }
 {
     let fields = ending.fields(domain, desk);
@@ -39,7 +39,7 @@ fn end_with_a_weak_handle(
     owner: Shared,
 ) -> Option<Words>
     requires domain { Belongs desk.old domain.now }
-    requires holds { Holds desk.old Owner owner.block owner.place }
+    requires holds { HoldsHandle desk.old Owner owner.block owner.place }
     ensures desk { IsSameDesk desk.old desk.new }
 {
     let ending = match release(domain, desk, owner) {

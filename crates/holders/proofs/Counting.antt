@@ -22,12 +22,12 @@ use Rattle.control_word.specs.Words.{block_of, blocks_of}
 use Rattle.step_table.specs.declared.cell_deed.Cell.{Cell}
 use Rattle.step_table.specs.declared.cell_deed.Cell.TheVariants.{Free}
 use Rattle.step_table.specs.Openings.{opening}
-use Rattle.step_table.specs.Stories.{Kept, Story, state}
+use Rattle.step_table.specs.Stories.{Kept, Story, story_state}
 use Rattle.step_table.proofs.contained.Told.{shared_is}
 use Rattle.step_threads.specs.Stocks.{from}
 use Rattle.owner_graph.specs.Owners.{is_owner}
 use Rattle.owner_graph.specs.Rows.{held_on}
-use Rattle.holders.specs.Holdings.{AllCounted, AreCounted, all_held, held_by, held_by_block, held_by_free, held_by_members, held_in, member}
+use Rattle.holders.specs.Holdings.{AllCounted, AreCounted, all_held, held_by, held_by_block, held_by_free, held_by_members, holdings_in, member}
 use Rattle.holders.proofs.Listing.{all_kinds, hits, hits_append, hits_sum, is_of, kind_by, of_kind, one_by, tally_sum}
 use Rattle.holders.proofs.Summing.{IsOnly, sum_by_way, sum_same}
 
@@ -78,7 +78,7 @@ module _ (z : Opening) (s : State) (fine : Sound z s) (form : Formed s) where
       (at_home b (s.cell n).object (λ o e. cell_busy z s fine n o lt e))
 
   member_cell : (k : Kind) (shared b a m : ℕ) → m < 3 → is_of k (is_owner shared (member a m)) ≡ same_kind k (kind_of_member m)
-      → hits k shared b (held_in s (member a m)) ≡ tally k (s.latest b) ((s.object (s.latest a)).member m ∷ [])
+      → hits k shared b (holdings_in s (member a m)) ≡ tally k (s.latest b) ((s.object (s.latest a)).member m ∷ [])
   member_cell k shared b a m lt kind =
       let i = s.latest a in
       let h = (s.object i).member m in
@@ -117,9 +117,9 @@ module _ (z : Opening) (s : State) (fine : Sound z s) (form : Formed s) where
       ap (λ (c : Option Counts). hits k shared b (held_by_members s a c)) (cond-true (n == 0) None (Some (counts_of a)) (eq-eqb n 0 e))
       ∙ sym (idle_members k (s.latest b) i e))
       (λ (ne : n ≢ 0).
-      let first = held_in s (member a 0) in
-      let next = held_in s (member a 1) in
-      let up = held_in s (member a 2) in
+      let first = holdings_in s (member a 0) in
+      let next = holdings_in s (member a 1) in
+      let up = holdings_in s (member a 2) in
       let x = (s.object i).member 0 in
       let y = (s.object i).member 1 in
       let w = (s.object i).member 2 in
@@ -220,8 +220,8 @@ module _ (z : Opening) (s : State) (fine : Sound z s) (form : Formed s) where
       (owners_counted shared b is none, weaks_counted shared b is none))
       (cases_eq n 0)
 
-pub counted : (v : Story) → Kept v → (state v).hands ≡ []
-    → AllCounted v.extent.shape.shared_cells v.extent.shape.blocks (state v) (all_held (state v) v.extent.shape.blocks)
+pub counted : (v : Story) → Kept v → (story_state v).hands ≡ []
+    → AllCounted v.extent.shape.shared_cells v.extent.shape.blocks (story_state v) (all_held (story_state v) v.extent.shape.blocks)
 counted v kept none =
     let z = opening v.extent in
-    all_counted z (state v) (sound z v.history kept.stands.legal) (formed z v.history kept.stands.legal) v.extent.shape.shared_cells (shared_is v) none
+    all_counted z (story_state v) (sound z v.history kept.stands.legal) (formed z v.history kept.stands.legal) v.extent.shape.shared_cells (shared_is v) none

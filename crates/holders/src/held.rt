@@ -2,11 +2,11 @@
 ghost use Rattle.std.specs.Prelude.{◌≡◌, ◌++◌, ◌<◌, ◌≤◌, All, IfOk, OnOk};
 ghost use Rattle.std.specs.List.{flat_map};
 ghost use Rattle.step_core.specs.Totals.{IsAtEnd};
-ghost use Rattle.step_table.specs.Cells.{IsThere};
-ghost use Rattle.step_table.specs.Stories.{state};
+ghost use Rattle.step_table.specs.Cells.{IsCellInUse};
+ghost use Rattle.step_table.specs.Stories.{story_state};
 ghost use Rattle.step_threads.specs.Stocks.{from};
-ghost use Rattle.holders.specs.Holdings.{AddsAmong, AllCounted, all_held, cells_of, held_by_block, held_by_free};
-ghost use Rattle.holders.specs.Holdings.{held_in};
+ghost use Rattle.holders.specs.Holdings.{AddsAmong, AllCounted, all_held, free_cells, held_by_block, held_by_free};
+ghost use Rattle.holders.specs.Holdings.{holdings_in};
 ghost use Rattle.owner_graph.specs.Owners.{IsAmong, source};
 
 use control_word::Block;
@@ -16,9 +16,10 @@ use step_core::{Cell, World};
 
 /// Adds what a cell holds, where it holds something.
 fn add(world: &World, cell: Cell, holdings: &mut Vec<Holding>) -> Result<(), AllocError>
-    requires there { IsThere world.now.story cell }
+    requires there { IsCellInUse world.now.story cell }
     requires among { source cell ≤ world.now.story.extent.shape.blocks }
-    ensures held { OnOk result (holdings.new.items ≡ holdings.old.items ++ held_in (state world.now.story) cell) }
+    ensures held { OnOk result
+        (holdings.new.items ≡ holdings.old.items ++ holdings_in (story_state world.now.story) cell) }
     ensures among { OnOk result (AddsAmong world.now.story.extent.shape.blocks holdings.old.items holdings.new.items) }
 {
     if let Some(block) = world.target(cell) {
@@ -29,9 +30,9 @@ fn add(world: &World, cell: Cell, holdings: &mut Vec<Holding>) -> Result<(), All
 
 /// Adds what the free cells hold.
 fn add_free(world: &World, cells: u32, holdings: &mut Vec<Holding>) -> Result<(), AllocError>
-    requires { cells ≡ (state world.now.story).cells }
+    requires { cells ≡ (story_state world.now.story).cells }
     ensures held { OnOk result (holdings.new.items
-        ≡ holdings.old.items ++ flat_map (held_by_free (state world.now.story)) (from 0 cells)) }
+        ≡ holdings.old.items ++ flat_map (held_by_free (story_state world.now.story)) (from 0 cells)) }
     ensures among { OnOk result (AddsAmong world.now.story.extent.shape.blocks holdings.old.items holdings.new.items) }
 {
     for number in 0..cells {
@@ -45,7 +46,7 @@ fn add_members(world: &World, number: u16, holdings: &mut Vec<Holding>) -> Resul
     requires end { IsAtEnd world.now }
     requires block { (1 ≤ number) × (number ≤ world.now.story.extent.shape.blocks) }
     ensures held { OnOk result (holdings.new.items
-        ≡ holdings.old.items ++ held_by_block (state world.now.story) number) }
+        ≡ holdings.old.items ++ held_by_block (story_state world.now.story) number) }
     ensures among { OnOk result (AddsAmong world.now.story.extent.shape.blocks holdings.old.items holdings.new.items) }
 {
     let block = Block(number);
@@ -63,7 +64,7 @@ fn add_blocks(world: &World, blocks: u16, holdings: &mut Vec<Holding>) -> Result
     requires end { IsAtEnd world.now }
     requires all { blocks ≡ world.now.story.extent.shape.blocks }
     ensures held { OnOk result (holdings.new.items
-        ≡ holdings.old.items ++ flat_map (held_by_block (state world.now.story)) (from 1 blocks)) }
+        ≡ holdings.old.items ++ flat_map (held_by_block (story_state world.now.story)) (from 1 blocks)) }
     ensures among { OnOk result (AddsAmong world.now.story.extent.shape.blocks holdings.old.items holdings.new.items) }
 {
     for before in 0..blocks {
@@ -83,12 +84,12 @@ pub fn holdings(
     blocks: u16,
 ) -> Result<Vec<Holding>, AllocError>
     requires end { IsAtEnd world.now }
-    requires cells { cells ≡ cells_of world.now.story.extent.shape }
+    requires cells { cells ≡ free_cells world.now.story.extent.shape }
     requires blocks { blocks ≡ world.now.story.extent.shape.blocks }
-    ensures held { IfOk result (λ v. v.items ≡ all_held (state world.now.story) blocks) }
+    ensures held { IfOk result (λ v. v.items ≡ all_held (story_state world.now.story) blocks) }
     ensures among { IfOk result (λ v. All (IsAmong blocks) v.items) }
     ensures counted { IfOk result (λ v. AllCounted world.now.story.extent.shape.shared_cells blocks
-        (state world.now.story) v.items) }
+        (story_state world.now.story) v.items) }
 {
     world.known_at_end();
     let mut holdings = Vec::new(alloc);

@@ -8,7 +8,7 @@ use Rattle.control_word.specs.declared.counts.Counts.{Counts}
 use Rattle.control_word.specs.State.{State}
 use Rattle.script_text.specs.Grammar.{ended}
 use Rattle.script_text.specs.declared.fault.Fault.{Fault}
-use Rattle.script_stepper.specs.Runs.{IsRun}
+use Rattle.script_stepper.specs.Runs.{IsScriptRun}
 use Rattle.script_stepper.specs.Lines.{totals_text}
 use Rattle.script_stepper.proofs.LineLemmas.{lines_then}
 use Rattle.step_threads.specs.Scenes.{Scene, state_in}
@@ -17,7 +17,7 @@ use Rattle.step_core.specs.Totals.{census_of, ended_in, made_in}
 use Rattle.owner_graph.specs.declared.holding.Holding.{Holding}
 use Rattle.owner_graph.specs.Rows.{held_on}
 use Rattle.holders.proofs.Adding.{one_more}
-use Rattle.script_stepper.specs.Ends.{IsEnd}
+use Rattle.script_stepper.specs.Ends.{IsRunEnd}
 use Rattle.owner_graph.specs.Rows.{row_at}
 use Rattle.owner_graph.proofs.Stepping.{same_at}
 use Rattle.std.specs.Global.{Vec}
@@ -76,8 +76,8 @@ counted_at c blocks hs all is h =
     (subst (λ (l : List Holding). AllCounted c.extent.shape.shared_cells blocks (state_in c) l) is h)
 
 -- what was answered may be forgotten
-pub forgotten : (draws leaks : Bool) (fault : Fault) (bytes list text : List ℕ) → IsRun (IsLeftText draws (Ok leaks)) bytes list text
-    → IsRun (IsLeftText draws (Err fault)) bytes list text
+pub forgotten : (draws leaks : Bool) (fault : Fault) (bytes list text : List ℕ) → IsScriptRun (IsLeftText draws (Ok leaks)) bytes list text
+    → IsScriptRun (IsLeftText draws (Err fault)) bytes list text
 forgotten draws leaks fault bytes list text h = record {
   script = h.script;
   turns = h.turns;
@@ -101,8 +101,8 @@ row_is rows i n v items held is lt e it h =
     it ∙ row_in_range rows n v lt (subst (λ (k : ℕ). v ≡ get_or rows k v) is e) ∙ h
 
 -- a run's end, and what is told of it
-pub left_told : (bytes list : List ℕ) (c : Scene) (draws leaks : Bool) (text : List ℕ) → IsEnd bytes list c → TellsOf c draws leaks text
-    → IsRun (IsLeftText draws (Ok leaks)) bytes list text
+pub left_told : (bytes list : List ℕ) (c : Scene) (draws leaks : Bool) (text : List ℕ) → IsRunEnd bytes list c → TellsOf c draws leaks text
+    → IsScriptRun (IsLeftText draws (Ok leaks)) bytes list text
 left_told bytes list c draws leaks text e t = record {
   script = e.script;
   turns = e.turns;

@@ -4,19 +4,19 @@ use Rattle.std.specs.List.{flat_map}
 use Rattle.step_threads.specs.Stocks.{from}
 use Rattle.owner_graph.specs.declared.holding.Holding.{Holding}
 use Rattle.owner_graph.specs.Rows.{held_on}
-use Rattle.leak_report.specs.Cells.{cell_text}
+use Rattle.leak_report.specs.Cells.{block_cell_text}
 
 -- an owner's cell, after a space
-abbrev pub cell_word : ℕ → Holding → List ℕ
-cell_word shared h = codes " " ++ cell_text shared h.cell
+abbrev pub owner_cell_text : ℕ → Holding → List ℕ
+owner_cell_text shared h = codes " " ++ block_cell_text shared h.cell
 
 -- the owners that tie a knot
 abbrev pub cycle_text : ℕ → List Holding → List ℕ
-cycle_text shared ties = codes "cycle" ++ flat_map (cell_word shared) ties
+cycle_text shared ties = codes "cycle" ++ flat_map (owner_cell_text shared) ties
 
 -- one that cuts it
 abbrev pub cut_lines : ℕ → Holding → List (List ℕ)
-cut_lines shared h = (codes "cut" ++ cell_word shared h) ∷ []
+cut_lines shared h = (codes "cut" ++ owner_cell_text shared h) ∷ []
 
 -- a knot, where something ties it
 abbrev pub knot_lines : ℕ → List Holding → List Holding → List (List ℕ)

@@ -15,7 +15,8 @@ use Rattle.owner_graph.specs.Labels.{at}
 use Rattle.owner_graph.specs.Owners.{is_owner, source}
 use Rattle.owner_graph.specs.Rows.{held_on}
 use Rattle.owner_graph.specs.Ties.{is_tie}
-use Rattle.leak_report.specs.Cells.{cell_text, member_text}
+use Rattle.leak_report.specs.Cells.{block_cell_text}
+use Rattle.script_text.specs.Cells.{member_text}
 use Rattle.leak_report.specs.Findings.{Findings, held_at, ties_at}
 
 -- the color of a block: whether it is kept, and else whether something ties its knot
@@ -67,11 +68,11 @@ tie_text is_tie = cond is_tie (codes ", color=red") []
 
 -- a free cell, and the line of the handle in it
 abbrev pub box_text : ℕ → ℕ → List ℕ
-box_text shared number = cell_text shared (Free number) ++ codes " [shape=box];"
+box_text shared number = block_cell_text shared (Free number) ++ codes " [shape=box];"
 
 abbrev pub free_text : ℕ → ℕ → ℕ → List ℕ → List ℕ
 free_text shared number block style =
-    cell_text shared (Free number) ++ codes " -> b" ++ decimal block ++ codes " [style=" ++ style ++ codes "];"
+    block_cell_text shared (Free number) ++ codes " -> b" ++ decimal block ++ codes " [style=" ++ style ++ codes "];"
 
 abbrev pub free_lines : ℕ → ℕ → ℕ → List ℕ → List (List ℕ)
 free_lines shared number block style = box_text shared number ∷ [] ++ free_text shared number block style ∷ []

@@ -43,9 +43,9 @@ pub record AreFound (c : Scene) (f : Findings) : Type 0 where
   pub cuts : AreCuts c.extent.shape.shared_cells c.extent.shape.blocks (held_at c) (ties_at f c) f.cuts
 
 -- the lines that are told, or those of a graph
-abbrev pub lines_of : Bool → Findings → Scene → List (List ℕ)
-lines_of false f c = all_lines f c
-lines_of true f c = graph_lines f c
+abbrev pub lines_told : Bool → Findings → Scene → List (List ℕ)
+lines_told false f c = all_lines f c
+lines_told true f c = graph_lines f c
 
 -- what cells hold on a block, each cell once, is just what is counted there
 abbrev pub IsCountedAt : Scene → Type 0
@@ -56,13 +56,13 @@ pub record TellsOf (c : Scene) (draws leaks : Bool) (text : List ℕ) : Type 0 w
   pub findings : Findings
   pub found : AreFound c findings
   pub counted : IsCountedAt c
-  pub says : text ≡ ended (lines_of draws findings c)
+  pub says : text ≡ ended (lines_told draws findings c)
   pub leaks_is : Leaks leaks c
 
 -- whether something is leaked, where that was answered
-abbrev pub Answers : Result Bool Fault → Bool → Type 0
-Answers (Ok answer) leaks = answer ≡ leaks
-Answers (Err fault) leaks = Unit {0}
+abbrev pub AnswersLeaks : Result Bool Fault → Bool → Type 0
+AnswersLeaks (Ok answer) leaks = answer ≡ leaks
+AnswersLeaks (Err fault) leaks = Unit {0}
 
 -- a script's run with these turns comes to this end, and the text tells what is left there, or draws it
 pub record IsLeftText (draws : Bool) (answer : Result Bool Fault) (script : ScriptView) (turns text : List ℕ)
@@ -71,4 +71,4 @@ pub record IsLeftText (draws : Bool) (answer : Result Bool Fault) (script : Scri
   pub runs : IsRunOut turns (script_scene script) last
   pub leaks : Bool
   pub tells : TellsOf last draws leaks text
-  pub answers : Answers answer leaks
+  pub answers : AnswersLeaks answer leaks

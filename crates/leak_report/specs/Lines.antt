@@ -11,7 +11,7 @@ use Rattle.script_stepper.specs.Lines.{block_text, totals_text}
 use Rattle.owner_graph.specs.declared.holding.Holding.{Holding}
 use Rattle.owner_graph.specs.Owners.{is_owner}
 use Rattle.owner_graph.specs.Rows.{held_on}
-use Rattle.leak_report.specs.Cells.{cell_text}
+use Rattle.leak_report.specs.Cells.{block_cell_text}
 use Rattle.leak_report.specs.Circles.{circles}
 use Rattle.leak_report.specs.Findings.{Findings, held_at, ties_at}
 
@@ -20,7 +20,7 @@ kind_text is_owner = cond is_owner (codes "owner") (codes "weak")
 
 -- a handle, by where it is
 abbrev pub holder_text : ℕ → Holding → List ℕ
-holder_text shared h = codes "  " ++ kind_text (is_owner shared h.cell) ++ codes " in " ++ cell_text shared h.cell
+holder_text shared h = codes "  " ++ kind_text (is_owner shared h.cell) ++ codes " in " ++ block_cell_text shared h.cell
 
 abbrev pub holder_lines : ℕ → Holding → List (List ℕ)
 holder_lines shared h = holder_text shared h ∷ []

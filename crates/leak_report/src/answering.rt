@@ -1,7 +1,7 @@
 //! From a script's bytes to the text of what is left at its end.
 ghost use Rattle.std.specs.Prelude.{◌≡◌, ℕ, IfErr, IfOk, false, string_bytes};
-ghost use Rattle.script_stepper.specs.Ends.{IsEnd, IsRefused};
-ghost use Rattle.script_stepper.specs.Runs.{Delivers, Tells, is_output};
+ghost use Rattle.script_stepper.specs.Ends.{IsRunEnd, IsRefused};
+ghost use Rattle.script_stepper.specs.Runs.{Delivers, TellsRun, is_output};
 ghost use Rattle.step_core.specs.Worlds.{scene};
 ghost use Rattle.leak_report.specs.Left.{IsLeftText, TellsOf};
 
@@ -24,7 +24,7 @@ fn told_at(alloc: Global, end: &End, draws: bool) -> Result<Left, AllocError>
 
 /// Runs a script, and tells what is left at its end, or draws it.
 fn left_of(alloc: Global, script: &[u8], turns: &[u8], draws: bool) -> Result<Left, Fault>
-    ensures told { IfOk result (λ left. Tells (IsLeftText draws (Ok left.leaks)) script.now turns.now
+    ensures told { IfOk result (λ left. TellsRun (IsLeftText draws (Ok left.leaks)) script.now turns.now
         (Ok (string_bytes left.text))) }
     ensures refused { IfErr result (λ fault. IsRefused script.now turns.now fault) }
 {
@@ -60,7 +60,7 @@ pub fn left_text<S: Sink>(
     writer: &mut S,
 ) -> Result<bool, Fault>
     requires { S.has_failed writer.old ≡ false }
-    ensures holds { Delivers (Tells (IsLeftText draws result) script.now turns.now) result
+    ensures holds { Delivers (TellsRun (IsLeftText draws result) script.now turns.now) result
         (S.taken writer.old) (S.taken writer.new) }
     ensures failed { S.has_failed writer.new ≡ is_output result }
 {

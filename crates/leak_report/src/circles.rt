@@ -4,7 +4,7 @@ ghost use Rattle.std.specs.Prelude.{string_bytes};
 ghost use Rattle.std.specs.List.{flat_map};
 ghost use Rattle.script_text.specs.Canonical.{AddsLines};
 ghost use Rattle.owner_graph.specs.Rows.{held_on, row_at};
-ghost use Rattle.leak_report.specs.Circles.{cell_word, circle_lines, circles, cut_lines, cycle_text, knot_lines};
+ghost use Rattle.leak_report.specs.Circles.{owner_cell_text, circle_lines, circles, cut_lines, cycle_text, knot_lines};
 
 use crate::knotting::Circles;
 use crate::lines::put_cell;
@@ -13,7 +13,7 @@ use std::alloc::AllocError;
 
 /// Adds an owner's cell, after a space.
 fn put_word(text: &mut String, shared: u32, tie: Holding) -> Result<(), AllocError>
-    ensures { OnOk result (string_bytes text.new ≡ string_bytes text.old ++ cell_word shared tie) }
+    ensures { OnOk result (string_bytes text.new ≡ string_bytes text.old ++ owner_cell_text shared tie) }
 {
     text.push_str(" ")?;
     put_cell(text, shared, tie.cell)
@@ -21,7 +21,8 @@ fn put_word(text: &mut String, shared: u32, tie: Holding) -> Result<(), AllocErr
 
 /// Adds the cells of owners, in order.
 fn put_words(text: &mut String, shared: u32, ties: &[Holding]) -> Result<(), AllocError>
-    ensures { OnOk result (string_bytes text.new ≡ string_bytes text.old ++ flat_map (cell_word shared) ties.now) }
+    ensures { OnOk result (string_bytes text.new ≡ string_bytes text.old ++ flat_map
+        (owner_cell_text shared) ties.now) }
 {
     for tie in ties {
         put_word(text, shared, *tie)?;

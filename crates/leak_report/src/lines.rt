@@ -2,7 +2,8 @@
 ghost use Rattle.std.specs.Prelude.{◌≡◌, ◌∷◌, ◌++◌, [], OnOk, string_bytes};
 ghost use Rattle.std.specs.List.{flat_map};
 ghost use Rattle.script_text.specs.Canonical.{AddsLines};
-ghost use Rattle.leak_report.specs.Cells.{cell_text, member_text};
+ghost use Rattle.leak_report.specs.Cells.{block_cell_text};
+ghost use Rattle.script_text.specs.Cells.{member_text};
 ghost use Rattle.leak_report.specs.Lines.{holder_lines, holder_text, kept_text, kind_text, left_text};
 
 use control_word::Counts;
@@ -38,7 +39,8 @@ fn kept_word(is_kept: bool) -> &'static str
 
 /// Adds a free cell's word.
 pub(crate) fn put_free(text: &mut String, shared: u32, number: u32) -> Result<(), AllocError>
-    ensures { OnOk result (string_bytes text.new ≡ string_bytes text.old ++ cell_text shared (Cell.Free number)) }
+    ensures { OnOk result (string_bytes text.new ≡ string_bytes text.old ++ block_cell_text shared
+        (Cell.Free number)) }
 {
     if number < shared {
         write!(text, "s{number}")?;
@@ -51,7 +53,7 @@ pub(crate) fn put_free(text: &mut String, shared: u32, number: u32) -> Result<()
 
 /// Adds a cell's word.
 pub(crate) fn put_cell(text: &mut String, shared: u32, cell: Cell) -> Result<(), AllocError>
-    ensures { OnOk result (string_bytes text.new ≡ string_bytes text.old ++ cell_text shared cell) }
+    ensures { OnOk result (string_bytes text.new ≡ string_bytes text.old ++ block_cell_text shared cell) }
 {
     match cell {
         Cell::Free { number } => put_free(text, shared, number)?,

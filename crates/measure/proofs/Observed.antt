@@ -10,8 +10,8 @@ use Rattle.control_word.specs.declared.handle.Kind.TheVariants.{Owner, Weak}
 use Rattle.control_word.specs.declared.place.Block.{Block}
 use Rattle.control_word.specs.declared.place.Place.{Place}
 use Rattle.control_block.specs.declared.handles.Shared.{Shared}
-use Rattle.shared_handle.specs.Calls.{with_handle}
-use Rattle.measure.specs.Observers.{IsOfObject, IsWatched, with_observer, with_observers, with_owner}
+use Rattle.control_block.specs.CellCalls.{with_handle}
+use Rattle.measure.specs.Observers.{IsOfObject, IsWatchedBy, with_observer, with_observers, with_owner}
 use Rattle.measure.specs.declared.observers.Observer.{Observer}
 
 -- the last observer's handles are the first in the bag
@@ -37,12 +37,12 @@ newest o l b is = subst (λ (x : Option Block). Has (handle Weak (Some b.0) o.we
     (inl refl)
 
 -- the bag lists the weak handles of all
-watched : (os : List Observer) (l : List Handle) → All IsOfObject os → All (IsWatched (with_observers os l)) os
-watched [] l real = All-nil (IsWatched (with_observers [] l))
+watched : (os : List Observer) (l : List Handle) → All IsOfObject os → All (IsWatchedBy (with_observers os l)) os
+watched [] l real = All-nil (IsWatchedBy (with_observers [] l))
 watched (o ∷ os) l real =
     let first = All-head IsOfObject o os real in
     let still = listed_still (handle Weak (Some first.0.0.0) o.weak.place) os (with_observer l o) (newest o l first.0.0 first.0.1) in
-    All-cons (IsWatched (with_observers (o ∷ os) l)) o os (first.0.0, first.0.1, still) (watched os (with_observer l o) (All-tail IsOfObject o os real))
+    All-cons (IsWatchedBy (with_observers (o ∷ os) l)) o os (first.0.0, first.0.1, still) (watched os (with_observer l o) (All-tail IsOfObject o os real))
 
 -- a list with one more, and its handles
 pub listed_more : (before after base : List Handle) (xs ys : List Observer) (o : Observer) → ys ≡ xs ++ o ∷ [] → before ≡ with_observers xs base
@@ -55,8 +55,8 @@ pub listed_last : (bag base : List Handle) (xs ys : List Observer) (o : Observer
     → bag ≡ with_observer (with_observers xs base) o
 listed_last bag base xs ys o longer was = was ∙ ap (λ (os : List Observer). with_observers os base) longer ∙ last_first xs o base
 
-pub watched_still : (before after : List Handle) (os : List Observer) → after ≡ before → All (IsWatched before) os → All (IsWatched after) os
-watched_still before after os same all = subst (λ (l : List Handle). All (IsWatched l) os) (sym same) all
+pub watched_still : (before after : List Handle) (os : List Observer) → after ≡ before → All (IsWatchedBy before) os → All (IsWatchedBy after) os
+watched_still before after os same all = subst (λ (l : List Handle). All (IsWatchedBy l) os) (sym same) all
 
-pub watched_in : (bag base : List Handle) (os : List Observer) → bag ≡ with_observers os base → All IsOfObject os → All (IsWatched bag) os
+pub watched_in : (bag base : List Handle) (os : List Observer) → bag ≡ with_observers os base → All IsOfObject os → All (IsWatchedBy bag) os
 watched_in bag base os is real = watched_still (with_observers os base) bag os is (watched os base real)

@@ -1,6 +1,6 @@
 -- What comes of nodes that leave.
 use Rattle.control_block.specs.Desks.{DeskNow}
-use Rattle.shared_handle.specs.Endings.{Ends}
+use Rattle.shared_handle.specs.Endings.{EndsInHand}
 use Rattle.shared_handle.specs.declared.endings.Left.{Left}
 use Rattle.shared_handle.specs.declared.endings.Left.TheVariants.{Empty, Last, Others}
 
@@ -8,4 +8,4 @@ use Rattle.shared_handle.specs.declared.endings.Left.TheVariants.{Empty, Last, O
 abbrev pub CanEnd : DeskNow (Unit {0}) → Left (Unit {0}) → Type 0
 CanEnd d Empty = Unit {0}
 CanEnd d Others = Unit {0}
-CanEnd d (Last x) = Ends d x
+CanEnd d (Last x) = EndsInHand d x

@@ -7,7 +7,7 @@ use Rattle.control_word.specs.declared.handle.Handle.{Handle}
 use Rattle.control_word.specs.declared.handle.Kind.TheVariants.{Owner, Weak}
 use Rattle.control_word.specs.declared.place.Block.{Block}
 use Rattle.control_block.specs.declared.handles.Shared.{Shared}
-use Rattle.shared_handle.specs.Calls.{with_handle}
+use Rattle.control_block.specs.CellCalls.{with_handle}
 use Rattle.measure.specs.Workers.{IsReal}
 use Rattle.measure.specs.declared.observers.Observer.{Observer}
 
@@ -27,5 +27,5 @@ abbrev pub IsOfObject : Observer → Type 0
 IsOfObject o = ((b : Block) × (o.weak.block ≡ Some b)) × IfSome o.owner IsReal
 
 -- the bag lists the weak handle
-abbrev pub IsWatched : List Handle → Observer → Type 0
-IsWatched l o = (b : Block) × (o.weak.block ≡ Some b) × Has (handle Weak (Some b.0) o.weak.place) l
+abbrev pub IsWatchedBy : List Handle → Observer → Type 0
+IsWatchedBy l o = (b : Block) × (o.weak.block ≡ Some b) × Has (handle Weak (Some b.0) o.weak.place) l

@@ -3,7 +3,7 @@ ghost use Rattle.std.specs.Prelude.{◌≡◌};
 ghost use Rattle.std.specs.List.{All};
 ghost use Rattle.control_block.specs.Desks.{Belongs};
 ghost use Rattle.control_block.specs.Desks.{IsSameDesk, bag_of};
-ghost use Rattle.measure.specs.Observers.{IsWatched};
+ghost use Rattle.measure.specs.Observers.{IsWatchedBy};
 
 use crate::chain::{CHAIN, build, let_go};
 use crate::observers::{OBSERVERS, Observer, notify, recruit, retire};
@@ -26,7 +26,7 @@ fn time<R: Clock + CpuClock + Wait>(
     observers: &[Observer],
 ) -> io::Result<Spent>
     requires domain { Belongs desk.old domain.now }
-    requires watched { All (IsWatched (bag_of desk.old)) observers.now }
+    requires watched { All (IsWatchedBy (bag_of desk.old)) observers.now }
     ensures desk { IsSameDesk desk.old desk.new }
     ensures bag { bag_of desk.new ≡ bag_of desk.old }
 {
@@ -60,7 +60,7 @@ fn notifications<R: Clock + CpuClock + Wait + Print>(
     passes: u32,
 ) -> io::Result<()>
     requires domain { Belongs desk.old domain.now }
-    requires watched { All (IsWatched (bag_of desk.old)) observers.now }
+    requires watched { All (IsWatchedBy (bag_of desk.old)) observers.now }
     ensures desk { IsSameDesk desk.old desk.new }
     ensures bag { bag_of desk.new ≡ bag_of desk.old }
 {

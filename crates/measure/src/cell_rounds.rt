@@ -3,7 +3,7 @@ ghost use Rattle.std.specs.Prelude.{◌≡◌, ◌+◌, ◌<◌};
 ghost use Rattle.control_word.specs.declared.handle.Kind.TheVariants.{Owner};
 ghost use Rattle.control_block.specs.Desks.{Belongs};
 ghost use Rattle.control_block.specs.Desks.{IsSameDesk, bag_of};
-ghost use Rattle.shared_handle.specs.Calls.{Holds};
+ghost use Rattle.control_block.specs.CellCalls.{HoldsHandle};
 
 use crate::rounds::{bury, end};
 use atomic_cells::{Compared, SharedAt};
@@ -24,7 +24,7 @@ pub(crate) fn store_copies(
 ) -> bool
     requires domain { Belongs desk.old domain.now }
     requires cell { cell < desk.old.shape.shared_cells }
-    requires holds { Holds desk.old Owner owner.now.block owner.now.place }
+    requires holds { HoldsHandle desk.old Owner owner.now.block owner.now.place }
     ensures desk { IsSameDesk desk.old desk.new }
     ensures bag { bag_of desk.new ≡ bag_of desk.old }
     ensures held { desk.new.held ≡ desk.old.held }
@@ -76,7 +76,7 @@ pub(crate) fn exchange(
 ) -> bool
     requires domain { Belongs desk.old domain.now }
     requires cell { cell < desk.old.shape.shared_cells }
-    requires holds { Holds desk.old Owner owner.now.block owner.now.place }
+    requires holds { HoldsHandle desk.old Owner owner.now.block owner.now.place }
     ensures desk { IsSameDesk desk.old desk.new }
     ensures bag { bag_of desk.new ≡ bag_of desk.old }
     ensures held { desk.new.held ≡ desk.old.held }
@@ -104,7 +104,7 @@ fn compare_once<R: Wait>(
 ) -> bool
     requires domain { Belongs desk.old domain.now }
     requires cell { cell < desk.old.shape.shared_cells }
-    requires holds { Holds desk.old Owner owner.now.block owner.now.place }
+    requires holds { HoldsHandle desk.old Owner owner.now.block owner.now.place }
     ensures desk { IsSameDesk desk.old desk.new }
     ensures bag { bag_of desk.new ≡ bag_of desk.old }
     ensures held { desk.new.held ≡ desk.old.held }
@@ -141,7 +141,7 @@ pub(crate) fn compare_and_exchange<R: Wait>(
 ) -> bool
     requires domain { Belongs desk.old domain.now }
     requires cell { cell < desk.old.shape.shared_cells }
-    requires holds { Holds desk.old Owner owner.now.block owner.now.place }
+    requires holds { HoldsHandle desk.old Owner owner.now.block owner.now.place }
     ensures desk { IsSameDesk desk.old desk.new }
     ensures bag { bag_of desk.new ≡ bag_of desk.old }
     ensures held { desk.new.held ≡ desk.old.held }

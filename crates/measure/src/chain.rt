@@ -2,8 +2,8 @@
 ghost use Rattle.std.specs.Prelude.{◌≡◌, ◌+◌, ◌<◌, IfOk, IfSome, MatchOption, OnErr, OnOk};
 ghost use Rattle.control_word.specs.declared.handle.Kind.TheVariants.{Owner};
 ghost use Rattle.control_block.specs.Desks.{Belongs, IsSameDesk, bag_of};
-ghost use Rattle.shared_handle.specs.Calls.{Holds, with_handle, without_handle};
-ghost use Rattle.shared_handle.specs.Endings.{Ends};
+ghost use Rattle.control_block.specs.CellCalls.{HoldsHandle, with_handle, without_handle};
+ghost use Rattle.shared_handle.specs.Endings.{EndsInHand};
 ghost use Rattle.measure.specs.Nodes.{CanEnd};
 ghost use Rattle.measure.specs.Workers.{IsReal};
 
@@ -28,11 +28,11 @@ pub(crate) fn load_next<R: Wait>(
     node: &Shared,
 ) -> Result<Shared, Refusal>
     requires domain { Belongs desk.old domain.now }
-    requires node { Holds desk.old Owner node.now.block node.now.place }
+    requires node { HoldsHandle desk.old Owner node.now.block node.now.place }
     ensures desk { IsSameDesk desk.old desk.new }
     ensures bag { IfOk result (λ h. bag_of desk.new ≡ with_handle Owner h.block h.place (bag_of desk.old)) }
     ensures held { OnOk result (desk.new.held ≡ desk.old.held + 1) }
-    ensures holds { IfOk result (λ h. Holds desk.new Owner h.block h.place) }
+    ensures holds { IfOk result (λ h. HoldsHandle desk.new Owner h.block h.place) }
     ensures refused { OnErr result (desk.new ≡ desk.old) }
 {
     let next = SharedAt::member(node, SharedMember::Next)?;
@@ -48,8 +48,8 @@ pub(crate) fn store_next(
     handle: Shared,
 ) -> Left<()>
     requires domain { Belongs desk.old domain.now }
-    requires node { Holds desk.old Owner node.now.block node.now.place }
-    requires holds { Holds desk.old Owner handle.block handle.place }
+    requires node { HoldsHandle desk.old Owner node.now.block node.now.place }
+    requires holds { HoldsHandle desk.old Owner handle.block handle.place }
     ensures desk { IsSameDesk desk.old desk.new }
     ensures bag { bag_of desk.new ≡ without_handle Owner handle.block handle.place (bag_of desk.old) }
     ensures held { desk.new.held + 1 ≡ desk.old.held }
@@ -64,7 +64,7 @@ pub(crate) fn store_next(
 /// The end of a node: what it owned leaves, and its block is given back.
 fn bury(domain: &Domain<()>, desk: &mut Desk<()>, ending: Ending<()>) -> Left<()>
     requires domain { Belongs desk.old domain.now }
-    requires ends { Ends desk.old ending }
+    requires ends { EndsInHand desk.old ending }
     ensures desk { IsSameDesk desk.old desk.new }
     ensures bag { bag_of desk.new ≡ bag_of desk.old }
     ensures held { desk.new.held ≡ desk.old.held }
@@ -103,7 +103,7 @@ pub(crate) fn end_left(domain: &Domain<()>, desk: &mut Desk<()>, left: Left<()>)
 /// An owner of a node leaves, and what it alone owned ends.
 pub(crate) fn let_go(domain: &Domain<()>, desk: &mut Desk<()>, owner: Shared)
     requires domain { Belongs desk.old domain.now }
-    requires holds { Holds desk.old Owner owner.block owner.place }
+    requires holds { HoldsHandle desk.old Owner owner.block owner.place }
     ensures desk { IsSameDesk desk.old desk.new }
     ensures bag { bag_of desk.new ≡ without_handle Owner owner.block owner.place (bag_of desk.old) }
     ensures held { desk.new.held + 1 ≡ desk.old.held }

@@ -3,7 +3,7 @@ ghost use Rattle.std.specs.Prelude.{◌≡◌, ◌+◌, ◌≤◌, IfOk, IfSome,
 ghost use Rattle.std.specs.List.{All};
 ghost use Rattle.control_word.specs.declared.handle.Handle.{Handle};
 ghost use Rattle.control_block.specs.Desks.{Belongs, IsSameDesk, bag_of};
-ghost use Rattle.measure.specs.Observers.{IsOfObject, IsWatched, with_observer, with_observers};
+ghost use Rattle.measure.specs.Observers.{IsOfObject, IsWatchedBy, with_observer, with_observers};
 
 use crate::rounds::{FIELDS, end};
 use control_block::desk::Desk;
@@ -76,7 +76,7 @@ pub(crate) fn notify<R: Wait>(
     observers: &[Observer],
 ) -> Option<usize>
     requires domain { Belongs desk.old domain.now }
-    requires watched { All (IsWatched (bag_of desk.old)) observers.now }
+    requires watched { All (IsWatchedBy (bag_of desk.old)) observers.now }
     ensures desk { IsSameDesk desk.old desk.new }
     ensures bag { bag_of desk.new ≡ bag_of desk.old }
     ensures held { desk.new.held ≡ desk.old.held }

@@ -2,7 +2,7 @@
 ghost use Rattle.std.specs.Prelude.{◌≡◌};
 ghost use Rattle.control_word.specs.declared.handle.Kind.TheVariants.{Owner};
 ghost use Rattle.control_block.specs.Desks.{Belongs, IsSameDesk, bag_of};
-ghost use Rattle.shared_handle.specs.Calls.{Holds};
+ghost use Rattle.control_block.specs.CellCalls.{HoldsHandle};
 
 use crate::rounds::{FIELDS, end};
 use crate::rows::line;
@@ -74,7 +74,7 @@ fn visit_often<W: Wait>(
     owner: &Shared,
 ) -> bool
     requires domain { Belongs desk.old domain.now }
-    requires holds { Holds desk.old Owner owner.now.block owner.now.place }
+    requires holds { HoldsHandle desk.old Owner owner.now.block owner.now.place }
     ensures desk { IsSameDesk desk.old desk.new }
     ensures bag { bag_of desk.new ≡ bag_of desk.old }
     ensures held { desk.new.held ≡ desk.old.held }
@@ -99,7 +99,7 @@ fn work_on<W: Wait>(
     work: Work,
 ) -> bool
     requires domain { Belongs desk.old domain.now }
-    requires holds { Holds desk.old Owner owner.now.block owner.now.place }
+    requires holds { HoldsHandle desk.old Owner owner.now.block owner.now.place }
     ensures desk { IsSameDesk desk.old desk.new }
     ensures bag { bag_of desk.new ≡ bag_of desk.old }
     ensures held { desk.new.held ≡ desk.old.held }
@@ -119,7 +119,7 @@ fn time<R: Clock + CpuClock + Wait>(
     work: Work,
 ) -> io::Result<Spent>
     requires domain { Belongs desk.old domain.now }
-    requires holds { Holds desk.old Owner owner.now.block owner.now.place }
+    requires holds { HoldsHandle desk.old Owner owner.now.block owner.now.place }
     ensures desk { IsSameDesk desk.old desk.new }
     ensures bag { bag_of desk.new ≡ bag_of desk.old }
     ensures held { desk.new.held ≡ desk.old.held }
@@ -154,7 +154,7 @@ fn rows<R: Clock + CpuClock + Wait + Print>(
     passes: u32,
 ) -> io::Result<()>
     requires domain { Belongs desk.old domain.now }
-    requires holds { Holds desk.old Owner owner.now.block owner.now.place }
+    requires holds { HoldsHandle desk.old Owner owner.now.block owner.now.place }
     ensures desk { IsSameDesk desk.old desk.new }
     ensures bag { bag_of desk.new ≡ bag_of desk.old }
     ensures held { desk.new.held ≡ desk.old.held }

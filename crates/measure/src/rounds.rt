@@ -2,8 +2,8 @@
 ghost use Rattle.std.specs.Prelude.{◌≡◌, ◌+◌};
 ghost use Rattle.control_word.specs.declared.handle.Kind.TheVariants.{Owner, Weak};
 ghost use Rattle.control_block.specs.Desks.{Belongs, IsSameDesk, bag_of};
-ghost use Rattle.shared_handle.specs.Calls.{Holds, without_handle};
-ghost use Rattle.shared_handle.specs.Endings.{Ends};
+ghost use Rattle.control_block.specs.CellCalls.{HoldsHandle, without_handle};
+ghost use Rattle.shared_handle.specs.Endings.{EndsInHand};
 
 use control_block::desk::Desk;
 use control_block::domain::Domain;
@@ -31,7 +31,7 @@ pub(crate) fn lose<V: Drop + Send>(left: Left<V>) {
 #[inline(always)]
 pub(crate) fn bury<V: Drop + Send>(domain: &Domain<V>, desk: &mut Desk<V>, ending: Ending<V>) -> V
     requires domain { Belongs desk.old domain.now }
-    requires ends { Ends desk.old ending }
+    requires ends { EndsInHand desk.old ending }
     ensures desk { IsSameDesk desk.old desk.new }
     ensures bag { bag_of desk.new ≡ bag_of desk.old }
     ensures held { desk.new.held ≡ desk.old.held }
@@ -50,7 +50,7 @@ pub(crate) fn bury<V: Drop + Send>(domain: &Domain<V>, desk: &mut Desk<V>, endin
 #[inline(always)]
 pub(crate) fn end<V: Drop + Send>(domain: &Domain<V>, desk: &mut Desk<V>, owner: Shared)
     requires domain { Belongs desk.old domain.now }
-    requires holds { Holds desk.old Owner owner.block owner.place }
+    requires holds { HoldsHandle desk.old Owner owner.block owner.place }
     ensures desk { IsSameDesk desk.old desk.new }
     ensures bag { bag_of desk.new ≡ without_handle Owner owner.block owner.place (bag_of desk.old) }
     ensures held { desk.new.held + 1 ≡ desk.old.held }
@@ -87,7 +87,7 @@ pub(crate) fn share_and_release(
     count: u32,
 ) -> bool
     requires domain { Belongs desk.old domain.now }
-    requires holds { Holds desk.old Owner owner.now.block owner.now.place }
+    requires holds { HoldsHandle desk.old Owner owner.now.block owner.now.place }
     ensures desk { IsSameDesk desk.old desk.new }
     ensures bag { bag_of desk.new ≡ bag_of desk.old }
     ensures held { desk.new.held ≡ desk.old.held }
@@ -110,7 +110,7 @@ pub(crate) fn downgrade_and_release(
     count: u32,
 ) -> bool
     requires domain { Belongs desk.old domain.now }
-    requires holds { Holds desk.old Owner owner.now.block owner.now.place }
+    requires holds { HoldsHandle desk.old Owner owner.now.block owner.now.place }
     ensures desk { IsSameDesk desk.old desk.new }
     ensures bag { bag_of desk.new ≡ bag_of desk.old }
     ensures held { desk.new.held ≡ desk.old.held }
@@ -132,7 +132,7 @@ pub(crate) fn count_owners(
     count: u32,
 ) -> bool
     requires domain { Belongs desk.old domain.now }
-    requires holds { Holds desk.old Owner owner.now.block owner.now.place }
+    requires holds { HoldsHandle desk.old Owner owner.now.block owner.now.place }
     ensures desk { IsSameDesk desk.old desk.new }
     ensures bag { bag_of desk.new ≡ bag_of desk.old }
     ensures held { desk.new.held ≡ desk.old.held }
@@ -153,7 +153,7 @@ fn lock_weak<R: Wait>(
     count: u32,
 ) -> bool
     requires domain { Belongs desk.old domain.now }
-    requires holds { Holds desk.old Weak weak.now.block weak.now.place }
+    requires holds { HoldsHandle desk.old Weak weak.now.block weak.now.place }
     ensures desk { IsSameDesk desk.old desk.new }
     ensures bag { bag_of desk.new ≡ bag_of desk.old }
     ensures held { desk.new.held ≡ desk.old.held }
@@ -179,7 +179,7 @@ pub(crate) fn lock_and_release<R: Wait>(
     count: u32,
 ) -> bool
     requires domain { Belongs desk.old domain.now }
-    requires holds { Holds desk.old Owner owner.now.block owner.now.place }
+    requires holds { HoldsHandle desk.old Owner owner.now.block owner.now.place }
     ensures desk { IsSameDesk desk.old desk.new }
     ensures bag { bag_of desk.new ≡ bag_of desk.old }
     ensures held { desk.new.held ≡ desk.old.held }

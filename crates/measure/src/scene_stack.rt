@@ -1,7 +1,7 @@
 //! The stack of scene_structures that a worker has, and the work of its row.
 ghost use Rattle.std.specs.Prelude.{◌≡◌, ◌<◌, IfSome};
 ghost use Rattle.control_block.specs.Desks.{Belongs, IsSameDesk, bag_of};
-ghost use Rattle.scene_structures.specs.Stacks.{Serves, StandsIn};
+ghost use Rattle.scene_structures.specs.Stacks.{ServesDomain, StandsIn};
 
 use crate::rounds::FIELDS;
 use crate::scenes::{pile_in, spend};
@@ -17,7 +17,7 @@ use std::sync::Wait;
 pub(crate) fn stack_in(alloc: Global, domain: &Domain<()>) -> Option<(Stack<()>, Pile<()>)>
     requires cell { 0 < domain.now.shape.shared_cells }
     ensures stands { IfSome result (λ r. StandsIn r.0 domain.now) }
-    ensures serves { IfSome result (λ r. Serves domain.now r.1) }
+    ensures serves { IfSome result (λ r. ServesDomain domain.now r.1) }
 {
     let Ok(stack) = Stack::new(alloc, domain, COMMON_CELL) else {
         return None;
@@ -42,9 +42,9 @@ fn once<R: Wait>(
 ) -> bool
     requires domain { Belongs desk.old domain.now }
     requires stands { StandsIn stack.old domain.now }
-    requires serves { Serves domain.now pile.old }
+    requires serves { ServesDomain domain.now pile.old }
     ensures stands { StandsIn stack.new domain.now }
-    ensures serves { Serves domain.now pile.new }
+    ensures serves { ServesDomain domain.now pile.new }
     ensures desk { IsSameDesk desk.old desk.new }
     ensures bag { bag_of desk.new ≡ bag_of desk.old }
 {
@@ -69,9 +69,9 @@ pub(crate) fn push_and_pop<R: Wait>(
 ) -> bool
     requires domain { Belongs desk.old domain.now }
     requires stands { StandsIn stack.old domain.now }
-    requires serves { Serves domain.now pile.old }
+    requires serves { ServesDomain domain.now pile.old }
     ensures stands { StandsIn stack.new domain.now }
-    ensures serves { Serves domain.now pile.new }
+    ensures serves { ServesDomain domain.now pile.new }
     ensures desk { IsSameDesk desk.old desk.new }
     ensures bag { bag_of desk.new ≡ bag_of desk.old }
 {

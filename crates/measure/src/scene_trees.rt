@@ -2,8 +2,8 @@
 ghost use Rattle.std.specs.Prelude.{◌≡◌, ◌+◌, []};
 ghost use Rattle.control_word.specs.declared.handle.Kind.TheVariants.{Owner};
 ghost use Rattle.control_block.specs.Desks.{Belongs, IsSameDesk, bag_of};
-ghost use Rattle.shared_handle.specs.Calls.{Holds};
-ghost use Rattle.scene_structures.specs.Stacks.{Serves};
+ghost use Rattle.control_block.specs.CellCalls.{HoldsHandle};
+ghost use Rattle.scene_structures.specs.Stacks.{ServesDomain};
 
 use crate::chain::CHAIN;
 use crate::rounds::FIELDS;
@@ -30,11 +30,11 @@ fn grow<R: Wait>(
     pile: &mut Pile<()>,
 ) -> bool
     requires domain { Belongs desk.old domain.now }
-    requires scene { Serves domain.now scene.old }
-    requires pile { Serves domain.now pile.old }
-    requires holds { Holds desk.old Owner root.now.block root.now.place }
-    ensures scene { Serves domain.now scene.new }
-    ensures pile { Serves domain.now pile.new }
+    requires scene { ServesDomain domain.now scene.old }
+    requires pile { ServesDomain domain.now pile.old }
+    requires holds { HoldsHandle desk.old Owner root.now.block root.now.place }
+    ensures scene { ServesDomain domain.now scene.new }
+    ensures pile { ServesDomain domain.now pile.new }
     ensures desk { IsSameDesk desk.old desk.new }
     ensures bag { bag_of desk.new ≡ bag_of desk.old }
     ensures held { desk.new.held ≡ desk.old.held }
@@ -58,13 +58,13 @@ fn grow_all<R: Wait>(
     pile: &mut Pile<()>,
 ) -> bool
     requires domain { Belongs desk.old domain.now }
-    requires scene { Serves domain.now scene.old }
-    requires pile { Serves domain.now pile.old }
-    requires holds { Holds desk.old Owner root.now.block root.now.place }
-    ensures scene { Serves domain.now scene.new }
-    ensures pile { Serves domain.now pile.new }
+    requires scene { ServesDomain domain.now scene.old }
+    requires pile { ServesDomain domain.now pile.old }
+    requires holds { HoldsHandle desk.old Owner root.now.block root.now.place }
+    ensures scene { ServesDomain domain.now scene.new }
+    ensures pile { ServesDomain domain.now pile.new }
     ensures desk { IsSameDesk desk.old desk.new }
-    ensures holds { Holds desk.new Owner root.now.block root.now.place }
+    ensures holds { HoldsHandle desk.new Owner root.now.block root.now.place }
 {
     let mut whole = true;
     for _ in 1..CHAIN {
@@ -96,11 +96,11 @@ fn tear_down<R: Wait>(
     pile: &mut Pile<()>,
 ) -> usize
     requires domain { Belongs desk.old domain.now }
-    requires scene { Serves domain.now scene.old }
-    requires pile { Serves domain.now pile.old }
-    requires holds { Holds desk.old Owner root.block root.place }
-    ensures scene { Serves domain.now scene.new }
-    ensures pile { Serves domain.now pile.new }
+    requires scene { ServesDomain domain.now scene.old }
+    requires pile { ServesDomain domain.now pile.old }
+    requires holds { HoldsHandle desk.old Owner root.block root.place }
+    ensures scene { ServesDomain domain.now scene.new }
+    ensures pile { ServesDomain domain.now pile.new }
     ensures desk { IsSameDesk desk.old desk.new }
 {
     match scene.teardown(alloc, domain, desk, root) {
@@ -126,10 +126,10 @@ fn fell<R: Clock + CpuClock + Wait>(
     spent: &mut Spent,
 ) -> io::Result<()>
     requires domain { Belongs desk.old domain.now }
-    requires scene { Serves domain.now scene.old }
-    requires pile { Serves domain.now pile.old }
-    ensures scene { Serves domain.now scene.new }
-    ensures pile { Serves domain.now pile.new }
+    requires scene { ServesDomain domain.now scene.old }
+    requires pile { ServesDomain domain.now pile.old }
+    ensures scene { ServesDomain domain.now scene.new }
+    ensures pile { ServesDomain domain.now pile.new }
     ensures desk { IsSameDesk desk.old desk.new }
 {
     let Ok(root) = make(domain, desk, FIELDS, false, ()) else {
@@ -157,10 +157,10 @@ fn time<R: Clock + CpuClock + Wait>(
     pile: &mut Pile<()>,
 ) -> io::Result<Spent>
     requires domain { Belongs desk.old domain.now }
-    requires scene { Serves domain.now scene.old }
-    requires pile { Serves domain.now pile.old }
-    ensures scene { Serves domain.now scene.new }
-    ensures pile { Serves domain.now pile.new }
+    requires scene { ServesDomain domain.now scene.old }
+    requires pile { ServesDomain domain.now pile.old }
+    ensures scene { ServesDomain domain.now scene.new }
+    ensures pile { ServesDomain domain.now pile.new }
     ensures desk { IsSameDesk desk.old desk.new }
 {
     let mut spent = Spent {

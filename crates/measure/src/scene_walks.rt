@@ -2,8 +2,8 @@
 ghost use Rattle.std.specs.Prelude.{◌≡◌, ◌+◌, ◌<◌};
 ghost use Rattle.control_word.specs.declared.handle.Kind.TheVariants.{Owner};
 ghost use Rattle.control_block.specs.Desks.{Belongs, IsSameDesk, bag_of};
-ghost use Rattle.shared_handle.specs.Calls.{Holds};
-ghost use Rattle.scene_structures.specs.Stacks.{Serves, StandsIn};
+ghost use Rattle.control_block.specs.CellCalls.{HoldsHandle};
+ghost use Rattle.scene_structures.specs.Stacks.{ServesDomain, StandsIn};
 
 use crate::rounds::FIELDS;
 use crate::rows::{STRUCTURES, line_of};
@@ -33,10 +33,10 @@ fn attach_all<R: Wait>(
 ) -> bool
     requires domain { Belongs desk.old domain.now }
     requires stands { StandsIn observers.old domain.now }
-    requires holds { Holds desk.old Owner subject.now.block subject.now.place }
+    requires holds { HoldsHandle desk.old Owner subject.now.block subject.now.place }
     ensures stands { StandsIn observers.new domain.now }
     ensures desk { IsSameDesk desk.old desk.new }
-    ensures holds { Holds desk.new Owner subject.now.block subject.now.place }
+    ensures holds { HoldsHandle desk.new Owner subject.now.block subject.now.place }
 {
     let mut whole = true;
     for _ in 0..NODES {
@@ -110,7 +110,7 @@ fn watched<R: Clock + CpuClock + Wait>(
 ) -> io::Result<Spent>
     requires domain { Belongs desk.old domain.now }
     requires stands { StandsIn observers.old domain.now }
-    requires pile { Serves domain.now pile.old }
+    requires pile { ServesDomain domain.now pile.old }
     ensures desk { IsSameDesk desk.old desk.new }
 {
     let Ok(subject) = make(domain, desk, FIELDS, false, ()) else {

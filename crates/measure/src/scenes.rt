@@ -2,8 +2,8 @@
 ghost use Rattle.std.specs.Prelude.{◌≡◌, ◌+◌, ◌<◌, IfSome};
 ghost use Rattle.control_word.specs.declared.handle.Kind.TheVariants.{Owner};
 ghost use Rattle.control_block.specs.Desks.{Belongs, IsSameDesk, allowance_of, bag_of};
-ghost use Rattle.shared_handle.specs.Calls.{Holds, without_handle};
-ghost use Rattle.scene_structures.specs.Stacks.{Serves};
+ghost use Rattle.control_block.specs.CellCalls.{HoldsHandle, without_handle};
+ghost use Rattle.scene_structures.specs.Stacks.{ServesDomain};
 
 use crate::{scene_trees, scene_walks};
 use control_block::census::close;
@@ -30,7 +30,7 @@ pub(crate) fn out_of_memory() -> io::Error {
 
 /// A pile of the domain's, if there is memory.
 pub(crate) fn pile_in(alloc: Global, domain: &Domain<()>) -> Option<Pile<()>>
-    ensures { IfSome result (λ p. Serves domain.now p) }
+    ensures { IfSome result (λ p. ServesDomain domain.now p) }
 {
     match Pile::new(alloc, domain) {
         Ok(pile) => Some(pile),
@@ -47,9 +47,9 @@ pub(crate) fn spend<R: Wait>(
     pile: &mut Pile<()>,
 )
     requires domain { Belongs desk.old domain.now }
-    requires serves { Serves domain.now pile.old }
-    requires holds { Holds desk.old Owner owner.block owner.place }
-    ensures serves { Serves domain.now pile.new }
+    requires serves { ServesDomain domain.now pile.old }
+    requires holds { HoldsHandle desk.old Owner owner.block owner.place }
+    ensures serves { ServesDomain domain.now pile.new }
     ensures desk { IsSameDesk desk.old desk.new }
     ensures bag { bag_of desk.new ≡ without_handle Owner owner.block owner.place (bag_of desk.old) }
     ensures held { desk.new.held + 1 ≡ desk.old.held }

@@ -5,7 +5,7 @@ ghost use Rattle.control_word.specs.declared.handle.Handle.{Handle};
 ghost use Rattle.control_word.specs.declared.handle.Kind.TheVariants.{Owner};
 ghost use Rattle.control_block.specs.Desks.{Belongs};
 ghost use Rattle.control_block.specs.Desks.{IsSameDesk, bag_of};
-ghost use Rattle.shared_handle.specs.Calls.{with_handle};
+ghost use Rattle.control_block.specs.CellCalls.{with_handle};
 ghost use Rattle.measure.specs.Workers.{IsReal};
 
 use crate::chain::{end_left, let_go, load_next, store_next};

@@ -1,6 +1,6 @@
 //! How long the rounds of a row take.
 ghost use denote.Param.Send.{IsSync};
-ghost use Rattle.measure.specs.Workers.{IsPairReady, IsReady, IsTeamReady};
+ghost use Rattle.measure.specs.Workers.{IsPairReady, IsReadyWorker, IsTeamReady};
 
 use crate::rows::Row;
 use crate::workers::{Pair, Team, Worker};
@@ -88,8 +88,8 @@ pub(crate) fn nanos(time: Duration) -> u64 {
 
 /// The worker's cell holds the worker's object, and the common cell the common one: whether no call was refused.
 fn fill(domain: &Domain<()>, worker: &mut Worker) -> bool
-    requires { IsReady domain.now worker.old }
-    ensures { IsReady domain.now worker.new }
+    requires { IsReadyWorker domain.now worker.old }
+    ensures { IsReadyWorker domain.now worker.new }
 {
     let own = cell_rounds::store_copies(domain, &mut worker.desk, &worker.own, worker.cell, 1);
     own & cell_rounds::store_copies(domain, &mut worker.desk, &worker.common, COMMON_CELL, 1)
@@ -97,8 +97,8 @@ fn fill(domain: &Domain<()>, worker: &mut Worker) -> bool
 
 /// A chunk of rounds: whether no call was refused.
 fn work<R: Wait>(rt: &R, domain: &Domain<()>, worker: &mut Worker, row: Row) -> bool
-    requires { IsReady domain.now worker.old }
-    ensures { IsReady domain.now worker.new }
+    requires { IsReadyWorker domain.now worker.old }
+    ensures { IsReadyWorker domain.now worker.new }
 {
     let Worker {
         desk,
@@ -145,8 +145,8 @@ fn work_until<R: Clock + Wait>(
     start: &Start,
     end: u64,
 ) -> io::Result<(u32, bool)>
-    requires { IsReady domain.now worker.old }
-    ensures { IsReady domain.now worker.new }
+    requires { IsReadyWorker domain.now worker.old }
+    ensures { IsReadyWorker domain.now worker.new }
 {
     let mut chunks = 0;
     let mut whole = true;
@@ -168,8 +168,8 @@ fn time<R: Clock + CpuClock + Wait>(
     row: Row,
     start: &Start,
 ) -> io::Result<Spent>
-    requires { IsReady domain.now worker.old }
-    ensures { IsReady domain.now worker.new }
+    requires { IsReadyWorker domain.now worker.old }
+    ensures { IsReadyWorker domain.now worker.new }
 {
     let filled = fill(domain, worker);
     let end = start.meet(rt)?;
@@ -221,8 +221,8 @@ pub(crate) fn one<R: Clock + CpuClock + Wait + Print>(
     worker: &mut Worker,
     row: Row,
 ) -> io::Result<()>
-    requires { IsReady domain.now worker.old }
-    ensures { IsReady domain.now worker.new }
+    requires { IsReadyWorker domain.now worker.old }
+    ensures { IsReadyWorker domain.now worker.new }
 {
     let start = Start::of(rt, 1)?;
     let spent = time(rt, domain, worker, row, &start)?;

@@ -4,9 +4,9 @@ ghost use Rattle.std.specs.Prelude.{MatchOption, Some, length};
 ghost use Rattle.control_word.specs.declared.handle.Kind.TheVariants.{Owner};
 ghost use Rattle.control_word.specs.declared.place.Block.{Block};
 ghost use Rattle.control_block.specs.Desks.{Belongs, allowance_of, bag_of, stock_of};
-ghost use Rattle.shared_handle.specs.Calls.{Holds, with_handle, without_handle};
-ghost use Rattle.scene_structures.specs.Stacks.{Serves, StandsIn};
-ghost use Rattle.measure.specs.Workers.{IsManaged, IsPairReady, IsReady, IsTeamReady};
+ghost use Rattle.control_block.specs.CellCalls.{HoldsHandle, with_handle, without_handle};
+ghost use Rattle.scene_structures.specs.Stacks.{ServesDomain, StandsIn};
+ghost use Rattle.measure.specs.Workers.{IsManaged, IsPairReady, IsReadyWorker, IsTeamReady};
 
 use crate::rounds::{FIELDS, end};
 use crate::scene_stack::stack_in;
@@ -82,7 +82,7 @@ fn hand_over(
     owner: Shared,
 ) -> Result<(Desk<()>, Shared), Shared>
     requires domain { Belongs desk.old domain.now }
-    requires holds { Holds desk.old Owner owner.block owner.place }
+    requires holds { HoldsHandle desk.old Owner owner.block owner.place }
     requires blocks { BLOCKS ≤ length (stock_of desk.old) }
     ensures desk { (desk.new.domain ≡ desk.old.domain) × (desk.new.shape ≡ desk.old.shape) }
     ensures other { IfOk result (λ r. Belongs r.0 domain.now) }
@@ -159,7 +159,7 @@ pub(crate) fn hire(
     ensures desk { IsManaged domain.now desk.new common.now }
     ensures sum { MatchOption result (allowance_of desk.new ≡ allowance_of desk.old)
         (λ _. allowance_of desk.new + 8 ≡ allowance_of desk.old) }
-    ensures ready { IfSome result (λ w. IsReady domain.now w) }
+    ensures ready { IfSome result (λ w. IsReadyWorker domain.now w) }
 {
     let (stack, pile) = stack_in(alloc, domain)?;
     match part(domain, desk, alloc, common) {
@@ -183,12 +183,12 @@ fn equip(
 ) -> Worker
     requires cell { cell < domain.now.shape.shared_cells }
     requires stands { StandsIn stack domain.now }
-    requires serves { Serves domain.now pile }
+    requires serves { ServesDomain domain.now pile }
     requires desk { Belongs desk domain.now }
     requires free { (allowance_of desk ≡ 8) × (desk.held ≡ 1) × (length (stock_of desk) ≡ BLOCKS) }
     requires common { (b : Block) × (common.block ≡ Some b) }
     requires bag { bag_of desk ≡ with_handle Owner common.block common.place [] }
-    ensures { IsReady domain.now result }
+    ensures { IsReadyWorker domain.now result }
 {
     let mut desk = desk;
     let Ok(own) = make(domain, &mut desk, FIELDS, false, ()) else {
@@ -209,7 +209,7 @@ fn equip(
 #[tactic(auto, using(shared_handle::proofs::Callers::first_out))]
 pub(crate) fn dismiss(domain: &Domain<()>, desk: &mut Desk<()>, worker: Worker, _common: &Shared)
     requires desk { IsManaged domain.now desk.old _common.now }
-    requires ready { IsReady domain.now worker }
+    requires ready { IsReadyWorker domain.now worker }
     ensures desk { IsManaged domain.now desk.new _common.now }
     ensures sum { allowance_of desk.new ≡ allowance_of desk.old + 8 }
 {

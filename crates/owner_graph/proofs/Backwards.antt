@@ -6,10 +6,10 @@ use Rattle.std.specs.Prelude.{◌≤◌, slice_index_or}
 use Rattle.std.proofs.lemmas.Bool.{cases_eq, cond-true, cond-false}
 use Rattle.std.proofs.lemmas.List.Elements.{All-cons, All-head, All-nil, All-tail}
 use Rattle.directed_graph.specs.declared.graph.Edge.{Edge}
-use Rattle.directed_graph.specs.Paths.{AreWithin, Has, IsPath, IsWithin, MarksReached, Rows, leading, targets}
+use Rattle.directed_graph.specs.Paths.{AreWithin, HasVertex, IsPath, IsEdgeWithin, MarksReached, Rows, leading, targets}
 use Rattle.owner_graph.specs.declared.holding.Holding.{Holding}
 use Rattle.owner_graph.specs.Edges.{back_edges, owner_edges}
-use Rattle.owner_graph.specs.Owners.{IsOwnerPath, Leads, Owns}
+use Rattle.owner_graph.specs.Owners.{IsOwnerPath, OwnersLead, Owns}
 use Rattle.owner_graph.proofs.Owning.{owned, owns}
 
 leading_here : (e : Edge) (es : List Edge) (a : ℕ) → e.from ≡ a → leading (e ∷ es) a ≡ e.to ∷ leading es a
@@ -19,34 +19,35 @@ leading_else : (e : Edge) (es : List Edge) (a : ℕ) → e.from ≢ a → leadin
 leading_else e es a ne = cond-false (e.from == a) (e.to ∷ leading es a) (leading es a) (ne_eqb e.from a ne)
 
 -- the edge is first, or among the others
-first_or : (e : Edge) (es : List Edge) (a b : ℕ) → e.from ≡ a → e.to ≡ b → Has b (leading (e ∷ es) a)
-first_or e es a b from to = subst (Has b) (sym (leading_here e es a from)) (inl (sym to))
+first_or : (e : Edge) (es : List Edge) (a b : ℕ) → e.from ≡ a → e.to ≡ b → HasVertex b (leading (e ∷ es) a)
+first_or e es a b from to = subst (HasVertex b) (sym (leading_here e es a from)) (inl (sym to))
 
-later : (e : Edge) (es : List Edge) (a b : ℕ) → Has b (leading es a) → Has b (leading (e ∷ es) a)
+later : (e : Edge) (es : List Edge) (a b : ℕ) → HasVertex b (leading es a) → HasVertex b (leading (e ∷ es) a)
 later e es a b p =
-    ⊎_elim (λ (same : e.from ≡ a). subst (Has b) (sym (leading_here e es a same)) (inr p))
-    (λ (ne : e.from ≢ a). subst (Has b) (sym (leading_else e es a ne)) p) (cases_eq e.from a)
+    ⊎_elim (λ (same : e.from ≡ a). subst (HasVertex b) (sym (leading_here e es a same)) (inr p))
+    (λ (ne : e.from ≢ a). subst (HasVertex b) (sym (leading_else e es a ne)) p) (cases_eq e.from a)
 
 -- an edge each way
-turned : (es : List Edge) (a b : ℕ) → Has b (leading es a) → Has a (leading (back_edges es) b)
+turned : (es : List Edge) (a b : ℕ) → HasVertex b (leading es a) → HasVertex a (leading (back_edges es) b)
 turned [] a b p = absurd p
 turned (e ∷ es) a b p =
     let f : Edge = record { from = e.to; to = e.from } in
     ⊎_elim
     (λ (same : e.from ≡ a).
-    ⊎_elim (λ (x : b ≡ e.to). first_or f (back_edges es) b a (sym x) same) (λ (q : Has b (leading es a)). later f (back_edges es) b a (turned es a b q))
-    (subst (Has b) (leading_here e es a same) p))
-    (λ (ne : e.from ≢ a). later f (back_edges es) b a (turned es a b (subst (Has b) (leading_else e es a ne) p))) (cases_eq e.from a)
+    ⊎_elim (λ (x : b ≡ e.to). first_or f (back_edges es) b a (sym x) same) (λ (q : HasVertex b (leading es a)). later f (back_edges es) b a
+    (turned es a b q))
+    (subst (HasVertex b) (leading_here e es a same) p))
+    (λ (ne : e.from ≢ a). later f (back_edges es) b a (turned es a b (subst (HasVertex b) (leading_else e es a ne) p))) (cases_eq e.from a)
 
-returned : (es : List Edge) (a b : ℕ) → Has a (leading (back_edges es) b) → Has b (leading es a)
+returned : (es : List Edge) (a b : ℕ) → HasVertex a (leading (back_edges es) b) → HasVertex b (leading es a)
 returned [] a b p = absurd p
 returned (e ∷ es) a b p =
     let f : Edge = record { from = e.to; to = e.from } in
     ⊎_elim
     (λ (same : e.to ≡ b).
-    ⊎_elim (λ (x : a ≡ e.from). first_or e es a b (sym x) same) (λ (q : Has a (leading (back_edges es) b)). later e es a b (returned es a b q))
-    (subst (Has a) (leading_here f (back_edges es) b same) p))
-    (λ (ne : e.to ≢ b). later e es a b (returned es a b (subst (Has a) (leading_else f (back_edges es) b ne) p))) (cases_eq e.to b)
+    ⊎_elim (λ (x : a ≡ e.from). first_or e es a b (sym x) same) (λ (q : HasVertex a (leading (back_edges es) b)). later e es a b (returned es a b q))
+    (subst (HasVertex a) (leading_here f (back_edges es) b same) p))
+    (λ (ne : e.to ≢ b). later e es a b (returned es a b (subst (HasVertex a) (leading_else f (back_edges es) b ne) p))) (cases_eq e.to b)
 
 -- a path and one owner more
 pub and_on : (shared : ℕ) (hs : List Holding) (a x b : ℕ) (path : List ℕ) → IsOwnerPath shared hs a path x → Owns shared hs x b
@@ -54,36 +55,36 @@ pub and_on : (shared : ℕ) (hs : List Holding) (a x b : ℕ) (path : List ℕ) 
 and_on shared hs a x b [] e o = (subst (λ y. Owns shared hs y b) (sym e) o, refl)
 and_on shared hs a x b (y ∷ ys) p o = (p.0, and_on shared hs y x b ys p.1 o)
 
-and_back : (g : Rows) (a x b : ℕ) (path : List ℕ) → IsPath g a path x → Has b (targets g x) → IsPath g a (path ++ b ∷ []) b
-and_back g a x b [] e o = (subst (λ y. Has b (targets g y)) (sym e) o, refl)
+and_back : (g : Rows) (a x b : ℕ) (path : List ℕ) → IsPath g a path x → HasVertex b (targets g x) → IsPath g a (path ++ b ∷ []) b
+and_back g a x b [] e o = (subst (λ y. HasVertex b (targets g y)) (sym e) o, refl)
 and_back g a x b (y ∷ ys) p o = (p.0, and_back g y x b ys p.1 o)
 
 module _ (g : Rows) (shared : ℕ) (hs : List Holding) (rows : (v : ℕ) → targets g v ≡ leading (back_edges (owner_edges shared hs)) v) where
-  forward : (b a : ℕ) (path : List ℕ) → IsPath g b path a → Leads shared hs a b
+  forward : (b a : ℕ) (path : List ℕ) → IsPath g b path a → OwnersLead shared hs a b
   forward b a [] e = ([], sym e)
   forward b a (x ∷ xs) p =
       let rest = forward x a xs p.1 in
-      let o = owns shared hs x b (returned (owner_edges shared hs) x b (subst (Has x) (rows b) p.0)) in
+      let o = owns shared hs x b (returned (owner_edges shared hs) x b (subst (HasVertex x) (rows b) p.0)) in
       (rest.0 ++ b ∷ [], and_on shared hs a x b rest.0 rest.1 o)
 
   backward : (a b : ℕ) (path : List ℕ) → IsOwnerPath shared hs a path b → (q : List ℕ) × IsPath g b q a
   backward a b [] e = ([], sym e)
   backward a b (x ∷ xs) p =
       let rest = backward x b xs p.1 in
-      let o = subst (Has a) (sym (rows x)) (turned (owner_edges shared hs) a x (owned shared hs a x p.0)) in
+      let o = subst (HasVertex a) (sym (rows x)) (turned (owner_edges shared hs) a x (owned shared hs a x p.0)) in
       (rest.0 ++ a ∷ [], and_back g b x a rest.0 rest.1 o)
 
   -- what is reached backwards owns
   pub led : (marked : List Bool) (blocks root start : ℕ) → length g ≡ blocks + 1 → root ≡ start → MarksReached g root marked
-      → (b : ℕ) → b ≤ blocks → slice_index_or marked b false ≡ true ↔ Leads shared hs b start
+      → (b : ℕ) → b ≤ blocks → slice_index_or marked b false ≡ true ↔ OwnersLead shared hs b start
   led marked blocks root start size same marks b le =
-      subst (λ (a : ℕ). slice_index_or marked b false ≡ true ↔ Leads shared hs b a) same (
+      subst (λ (a : ℕ). slice_index_or marked b false ≡ true ↔ OwnersLead shared hs b a) same (
         λ is. let r = (marks.reached b (omega (arith, size, le))).0 is in forward root b r.0 r.1,
         λ k. (marks.reached b (omega (arith, size, le))).1 (backward b root k.0 k.1),
       )
 
 pub within_back : (n : ℕ) (es : List Edge) → AreWithin n es → AreWithin n (back_edges es)
-within_back n [] all = All-nil (IsWithin n)
+within_back n [] all = All-nil (IsEdgeWithin n)
 within_back n (e ∷ es) all =
-    let here = All-head (IsWithin n) e es all in
-    All-cons (IsWithin n) (record { from = e.to; to = e.from }) (back_edges es) (here.1, here.0) (within_back n es (All-tail (IsWithin n) e es all))
+    let here = All-head (IsEdgeWithin n) e es all in
+    All-cons (IsEdgeWithin n) (record { from = e.to; to = e.from }) (back_edges es) (here.1, here.0) (within_back n es (All-tail (IsEdgeWithin n) e es all))

@@ -8,8 +8,8 @@ use Rattle.std.proofs.lemmas.Bool.{cases_eq}
 use Rattle.std.proofs.lemmas.List.Elements.{All-head, All-tail}
 use Rattle.step_table.specs.declared.cell_deed.Cell.{Cell}
 use Rattle.owner_graph.specs.declared.holding.Holding.{Holding}
-use Rattle.owner_graph.specs.Ends.{Ends, same_cell, without}
-use Rattle.owner_graph.specs.Ends.Ends.{Ended}
+use Rattle.owner_graph.specs.Ends.{EndsWithOwners, same_cell, without_cell}
+use Rattle.owner_graph.specs.Ends.EndsWithOwners.{Ended}
 use Rattle.owner_graph.specs.Fed.{Feeds, HaveEnded, IsFed, IsFedBy, IsLess, Starves, marked, trues}
 use Rattle.owner_graph.specs.Owners.{IsAmong, Owns, is_owner, source}
 
@@ -43,34 +43,34 @@ module _ (shared : ℕ) (c : Cell) (a b : ℕ) where
   alone h false is (inl o) = (is, o.0, o.1, o.2)
   alone h false is (inr none) = absurd none
 
-  pub owned_next : (hs : List Holding) (i : ℕ) (d : Holding) → i < length hs → Owns shared (without c (take (suc i) hs)) a b
-      → Owns shared (without c (take i hs)) a b ⊎ IsHere shared c (get_or hs i d) a b
+  pub owned_next : (hs : List Holding) (i : ℕ) (d : Holding) → i < length hs → Owns shared (without_cell c (take (suc i) hs)) a b
+      → Owns shared (without_cell c (take i hs)) a b ⊎ IsHere shared c (get_or hs i d) a b
   owned_next [] i d lt o = absurd (omega arith)
   owned_next (h ∷ hs) zero d lt o = inr (alone h (same_cell h.cell c) refl o)
   owned_next (h ∷ hs) (suc i) d lt o =
-      apart h (same_cell h.cell c) (without c (take i hs)) (without c (take (suc i) hs)) (owned_next hs i d (omega arith)) o
+      apart h (same_cell h.cell c) (without_cell c (take i hs)) (without_cell c (take (suc i) hs)) (owned_next hs i d (omega arith)) o
 
-  pub owned_still : (hs : List Holding) (i : ℕ) → Owns shared (without c (take i hs)) a b → Owns shared (without c (take (suc i) hs)) a b
+  pub owned_still : (hs : List Holding) (i : ℕ) → Owns shared (without_cell c (take i hs)) a b → Owns shared (without_cell c (take (suc i) hs)) a b
   owned_still [] zero o = absurd o
   owned_still [] (suc i) o = absurd o
   owned_still (h ∷ hs) zero o = absurd o
   owned_still (h ∷ hs) (suc i) o =
-      through h (same_cell h.cell c) (without c (take i hs)) (without c (take (suc i) hs)) (owned_still hs i) o
+      through h (same_cell h.cell c) (without_cell c (take i hs)) (without_cell c (take (suc i) hs)) (owned_still hs i) o
 
   pub owned_here : (hs : List Holding) (i : ℕ) (d : Holding) → i < length hs → IsHere shared c (get_or hs i d) a b
-      → Owns shared (without c (take (suc i) hs)) a b
+      → Owns shared (without_cell c (take (suc i) hs)) a b
   owned_here [] i d lt o = absurd (omega arith)
   owned_here (h ∷ hs) zero d lt o = subst (λ (t : Bool). Owns shared (cond t [] (h ∷ [])) a b) (sym o.0) (inl (o.1, o.2, o.3))
   owned_here (h ∷ hs) (suc i) d lt o =
-      lift h (same_cell h.cell c) (without c (take (suc i) hs)) (owned_here hs i d (omega arith) o)
+      lift h (same_cell h.cell c) (without_cell c (take (suc i) hs)) (owned_here hs i d (omega arith) o)
 
 -- what is owned without the cell is owned
-pub still_owned : (shared : ℕ) (c : Cell) (a b : ℕ) (hs : List Holding) → Owns shared (without c hs) a b → Owns shared hs a b
+pub still_owned : (shared : ℕ) (c : Cell) (a b : ℕ) (hs : List Holding) → Owns shared (without_cell c hs) a b → Owns shared hs a b
 still_owned shared c a b [] o = absurd o
 still_owned shared c a b (h ∷ hs) o = split (same_cell h.cell c) (λ p. still_owned shared c a b hs p) o
   where
-    split : (t : Bool) → (Owns shared (without c hs) a b → Owns shared hs a b)
-        → Owns shared (cond t (without c hs) (h ∷ without c hs)) a b → Owns shared (h ∷ hs) a b
+    split : (t : Bool) → (Owns shared (without_cell c hs) a b → Owns shared hs a b)
+        → Owns shared (cond t (without_cell c hs) (h ∷ without_cell c hs)) a b → Owns shared (h ∷ hs) a b
     split true f p = inr (f p)
     split false f (inl p) = inl p
     split false f (inr p) = inr (f p)
@@ -100,15 +100,15 @@ abbrev pub AreFed : ℕ → List Holding → List Bool → List Bool → Type 0
 AreFed shared hs stays fed = (length fed ≡ length stays) × ((b : ℕ) → b < length stays → marked fed b ≡ true ↔ IsFedBy shared hs stays b)
 
 module _ (shared : ℕ) (c : Cell) (hs : List Holding) (i k : ℕ) (d : Holding) (stays fed : List Bool) (lt : i < length hs)
-    (is : k ≡ (get_or hs i d).block.0) (so_far : AreFed shared (without c (take i hs)) stays fed) where
+    (is : k ≡ (get_or hs i d).block.0) (so_far : AreFed shared (without_cell c (take i hs)) stays fed) where
   next : i + 1 ≡ suc i
   next = omega arith
 
-  old : (b : ℕ) → IsFedBy shared (without c (take i hs)) stays b → IsFedBy shared (without c (take (suc i) hs)) stays b
+  old : (b : ℕ) → IsFedBy shared (without_cell c (take i hs)) stays b → IsFedBy shared (without_cell c (take (suc i) hs)) stays b
   old b f = (f.0, owned_still shared c f.0 b hs i f.1, f.2)
 
   -- it feeds
-  fed_now : k < length fed → Feeds shared c stays (get_or hs i d) → AreFed shared (without c (take (suc i) hs)) stays (set fed k true)
+  fed_now : k < length fed → Feeds shared c stays (get_or hs i d) → AreFed shared (without_cell c (take (suc i) hs)) stays (set fed k true)
   fed_now inside f = (
     length-set fed k true ∙ so_far.0,
     λ b small. (
@@ -127,7 +127,7 @@ module _ (shared : ℕ) (c : Cell) (hs : List Holding) (i k : ℕ) (d : Holding)
   )
 
   -- it doesn't
-  fed_else : (k < length fed → Feeds shared c stays (get_or hs i d) → ⊥) → AreFed shared (without c (take (suc i) hs)) stays fed
+  fed_else : (k < length fed → Feeds shared c stays (get_or hs i d) → ⊥) → AreFed shared (without_cell c (take (suc i) hs)) stays fed
   fed_else none = (
     so_far.0,
     λ b small. (
@@ -142,11 +142,11 @@ module _ (shared : ℕ) (c : Cell) (hs : List Holding) (i k : ℕ) (d : Holding)
     ),
   )
 
-  pub fed_more : k < length fed → Feeds shared c stays (get_or hs i d) → AreFed shared (without c (take (i + 1) hs)) stays (set fed k true)
-  fed_more inside f = subst (λ (n : ℕ). AreFed shared (without c (take n hs)) stays (set fed k true)) (sym next) (fed_now inside f)
+  pub fed_more : k < length fed → Feeds shared c stays (get_or hs i d) → AreFed shared (without_cell c (take (i + 1) hs)) stays (set fed k true)
+  fed_more inside f = subst (λ (n : ℕ). AreFed shared (without_cell c (take n hs)) stays (set fed k true)) (sym next) (fed_now inside f)
 
-  pub fed_no_more : (k < length fed → Feeds shared c stays (get_or hs i d) → ⊥) → AreFed shared (without c (take (i + 1) hs)) stays fed
-  fed_no_more none = subst (λ (n : ℕ). AreFed shared (without c (take n hs)) stays fed) (sym next) (fed_else none)
+  pub fed_no_more : (k < length fed → Feeds shared c stays (get_or hs i d) → ⊥) → AreFed shared (without_cell c (take (i + 1) hs)) stays fed
+  fed_no_more none = subst (λ (n : ℕ). AreFed shared (without_cell c (take n hs)) stays fed) (sym next) (fed_else none)
 
 -- ---- fewer stay
 
@@ -227,9 +227,9 @@ unmarked false h = refl
 -- ---- what stays
 
 module _ (shared blocks : ℕ) (c : Cell) (hs : List Holding) (stays fed : List Bool) (all : All (IsAmong blocks) hs)
-    (size : length stays ≡ blocks + 1) (is_fed : IsFed shared (without c hs) stays fed)
-    (so_far : HaveEnded shared blocks (without c hs) stays) where
-  pub ended_more : (now : List Bool) → Starves fed stays now → HaveEnded shared blocks (without c hs) now
+    (size : length stays ≡ blocks + 1) (is_fed : IsFed shared (without_cell c hs) stays fed)
+    (so_far : HaveEnded shared blocks (without_cell c hs) stays) where
+  pub ended_more : (now : List Bool) → Starves fed stays now → HaveEnded shared blocks (without_cell c hs) now
   ended_more now st b le off_now = elim (st.off b off_now) [
     | inl was ↦ so_far b le was
     | inr x ↦
@@ -238,7 +238,7 @@ module _ (shared blocks : ℕ) (c : Cell) (hs : List Holding) (stays fed : List 
         (unmarked (marked stays a) (λ is. true≢false (sym ((is_fed.marks b (omega (arith, le, size))).1 (a, o, is)) ∙ x.1))))
   ]
 
-  stuck : ((b : ℕ) → b ≢ 0 → marked stays b ≡ true → marked fed b ≡ true) → (b : ℕ) → Ends shared (without c hs) b
+  stuck : ((b : ℕ) → b ≢ 0 → marked stays b ≡ true → marked fed b ≡ true) → (b : ℕ) → EndsWithOwners shared (without_cell c hs) b
       → marked stays b ≡ true → ⊥
   stuck none _ (Ended b ne f) is =
       let l = in_range stays b is in
@@ -246,5 +246,5 @@ module _ (shared blocks : ℕ) (c : Cell) (hs : List Holding) (stays fed : List 
       stuck none by.0 (f by.0 by.1) by.2
 
   pub stay_or_end : ((b : ℕ) → b ≢ 0 → marked stays b ≡ true → marked fed b ≡ true)
-      → (b : ℕ) → b ≤ blocks → marked stays b ≡ false ↔ Ends shared (without c hs) b
+      → (b : ℕ) → b ≤ blocks → marked stays b ≡ false ↔ EndsWithOwners shared (without_cell c hs) b
   stay_or_end none b le = (so_far b le, λ e. unmarked (marked stays b) (stuck none b e))

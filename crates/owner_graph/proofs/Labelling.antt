@@ -4,7 +4,7 @@ use Rattle.std.proofs.Common.{◌∙◌, arith}
 use Rattle.std.specs.Prelude.{◌≤◌, All}
 use Rattle.std.proofs.lemmas.List.Elements.{All-head, All-tail}
 use Rattle.owner_graph.specs.declared.holding.Holding.{Holding}
-use Rattle.owner_graph.specs.Owners.{IsAmong, IsOwnerPath, Leads, Owns}
+use Rattle.owner_graph.specs.Owners.{IsAmong, IsOwnerPath, OwnersLead, Owns}
 use Rattle.owner_graph.specs.Knots.{IsLeast}
 use Rattle.owner_graph.specs.Labels.{AreInner, AreRanked, InnerStep, at}
 use Rattle.owner_graph.specs.Labels.InnerStep.{Down, Up, Within}
@@ -34,44 +34,44 @@ module _ (shared : ℕ) (hs : List Holding) where
       let more = risen ranks ranked x xs b here.0 p.1 in
       omega (arith, one, more)
 
-  then_one : (a x b : ℕ) → Leads shared hs a x → Owns shared hs x b → Leads shared hs a b
+  then_one : (a x b : ℕ) → OwnersLead shared hs a x → Owns shared hs x b → OwnersLead shared hs a b
   then_one a x b h o = (h.0 ++ b ∷ [], and_on shared hs a x b h.0 h.1 o)
 
-  one_then : (a x b : ℕ) → Owns shared hs a x → Leads shared hs x b → Leads shared hs a b
+  one_then : (a x b : ℕ) → Owns shared hs a x → OwnersLead shared hs x b → OwnersLead shared hs a b
   one_then a x b o h = (x ∷ h.0, (o, h.1))
 
   module _ (labels : List ℕ) (steps : List Holding) (inner : AreInner shared hs labels steps) where
     abbrev pub FromLabel : ℕ → Type 0
-    FromLabel x = (x ≡ 0) ⊎ ((x ≢ 0) × Leads shared hs (at labels x) x)
+    FromLabel x = (x ≡ 0) ⊎ ((x ≢ 0) × OwnersLead shared hs (at labels x) x)
 
     down : (x y : ℕ) → FromLabel x → InnerStep shared hs labels x y → FromLabel y
-    down x y f (Down is ne own) = inr (ne, subst (λ (l : ℕ). Leads shared hs l y) (sym own) ([], refl))
+    down x y f (Down is ne own) = inr (ne, subst (λ (l : ℕ). OwnersLead shared hs l y) (sym own) ([], refl))
     down x y f (Up ne is own) = inl is
     down x y (inl is) (Within ne one same o) = absurd (ne is)
-    down x y (inr f) (Within ne one same o) = inr (one, subst (λ (l : ℕ). Leads shared hs l y) same (then_one (at labels x) x y f.1 o))
+    down x y (inr f) (Within ne one same o) = inr (one, subst (λ (l : ℕ). OwnersLead shared hs l y) same (then_one (at labels x) x y f.1 o))
 
     pub from_label : (a : ℕ) (path : List ℕ) (b : ℕ) → FromLabel a → IsOwnerPath shared steps a path b → FromLabel b
     from_label a [] b f e = subst FromLabel e f
     from_label a (x ∷ xs) b f p = from_label x xs b (down a x f (inner a x p.0)) p.1
 
     abbrev pub ToLabel : ℕ → Type 0
-    ToLabel x = (x ≡ 0) ⊎ Leads shared hs x (at labels x)
+    ToLabel x = (x ≡ 0) ⊎ OwnersLead shared hs x (at labels x)
 
     up : (x y : ℕ) → ToLabel y → InnerStep shared hs labels x y → ToLabel x
     up x y f (Down is ne own) = inl is
-    up x y f (Up ne is own) = inr (subst (λ (l : ℕ). Leads shared hs x l) (sym own) ([], refl))
+    up x y f (Up ne is own) = inr (subst (λ (l : ℕ). OwnersLead shared hs x l) (sym own) ([], refl))
     up x y (inl is) (Within ne one same o) = absurd (one is)
-    up x y (inr f) (Within ne one same o) = inr (subst (λ (l : ℕ). Leads shared hs x l) (sym same) (one_then x y (at labels y) o f))
+    up x y (inr f) (Within ne one same o) = inr (subst (λ (l : ℕ). OwnersLead shared hs x l) (sym same) (one_then x y (at labels y) o f))
 
     pub to_label : (a : ℕ) (path : List ℕ) (b : ℕ) → b ≡ 0 → IsOwnerPath shared steps a path b → ToLabel a
     to_label a [] b zero_ e = inl (e ∙ zero_)
     to_label a (x ∷ xs) b zero_ p = up a x (to_label x xs b zero_ p.1) (inner a x p.0)
 
-    some_from : (b : ℕ) → b ≢ 0 → FromLabel b → Leads shared hs (at labels b) b
+    some_from : (b : ℕ) → b ≢ 0 → FromLabel b → OwnersLead shared hs (at labels b) b
     some_from b ne (inl is) = absurd (ne is)
     some_from b ne (inr f) = f.1
 
-    some_to : (b : ℕ) → b ≢ 0 → ToLabel b → Leads shared hs b (at labels b)
+    some_to : (b : ℕ) → b ≢ 0 → ToLabel b → OwnersLead shared hs b (at labels b)
     some_to b ne (inl is) = absurd (ne is)
     some_to b ne (inr f) = f
 
@@ -79,8 +79,8 @@ module _ (shared : ℕ) (hs : List Holding) where
     pub is_least : (blocks : ℕ) (ranks : List ℕ) → All (IsAmong blocks) hs → AreRanked shared hs ranks
         → ((a b : ℕ) → a ≤ blocks → b ≤ blocks → at ranks a ≡ at ranks b → at labels a ≡ at labels b)
         → ((b : ℕ) → 1 ≤ b → b ≤ blocks → (1 ≤ at labels b) × (at labels b ≤ b))
-        → ((b : ℕ) → 1 ≤ b → b ≤ blocks → Leads shared steps 0 b)
-        → ((b : ℕ) → 1 ≤ b → b ≤ blocks → Leads shared steps b 0)
+        → ((b : ℕ) → 1 ≤ b → b ≤ blocks → OwnersLead shared steps 0 b)
+        → ((b : ℕ) → 1 ≤ b → b ≤ blocks → OwnersLead shared steps b 0)
         → (b : ℕ) → 1 ≤ b → b ≤ blocks → IsLeast shared hs b (at labels b)
     is_least blocks ranks all ranked told low forth back b some within =
         let ne : b ≢ 0 = λ e. absurd (omega (arith, e, some)) in

@@ -5,8 +5,8 @@ use Rattle.std.specs.Prelude.{◌≤◌, All}
 use Rattle.std.proofs.lemmas.List.Elements.{All-head, All-tail}
 use Rattle.step_table.specs.declared.cell_deed.Cell.{Cell}
 use Rattle.owner_graph.specs.declared.holding.Holding.{Holding}
-use Rattle.owner_graph.specs.Ends.{Ends, same_cell, without}
-use Rattle.owner_graph.specs.Ends.Ends.{Ended}
+use Rattle.owner_graph.specs.Ends.{EndsWithOwners, same_cell, without_cell}
+use Rattle.owner_graph.specs.Ends.EndsWithOwners.{Ended}
 use Rattle.owner_graph.specs.Fed.{IsFed, marked}
 use Rattle.owner_graph.specs.Labels.{at}
 use Rattle.owner_graph.specs.Layers.{AllFed, EndsLater}
@@ -22,7 +22,7 @@ pub record Left (shared : ℕ) (c : Cell) (P : Cell → ℕ → ℕ → Type 0) 
 
 -- what is so of all that is listed is so of it
 pub left_owner : (shared : ℕ) (c : Cell) (P : Cell → ℕ → ℕ → Type 0) (hs : List Holding)
-    → All (λ (h : Holding). P h.cell (source h.cell) h.block.0) hs → (a b : ℕ) → Owns shared (without c hs) a b → Left shared c P a b
+    → All (λ (h : Holding). P h.cell (source h.cell) h.block.0) hs → (a b : ℕ) → Owns shared (without_cell c hs) a b → Left shared c P a b
 left_owner shared c P [] all a b o = absurd o
 left_owner shared c P (h ∷ hs) all a b o =
     go (same_cell h.cell c) refl (λ p. left_owner shared c P hs (All-tail (λ (x : Holding). P x.cell (source x.cell) x.block.0) h hs all) a b p) o
@@ -30,8 +30,8 @@ left_owner shared c P (h ∷ hs) all a b o =
     here : P h.cell (source h.cell) h.block.0
     here = All-head (λ (x : Holding). P x.cell (source x.cell) x.block.0) h hs all
 
-    go : (t : Bool) → same_cell h.cell c ≡ t → (Owns shared (without c hs) a b → Left shared c P a b)
-        → Owns shared (cond t (without c hs) (h ∷ without c hs)) a b → Left shared c P a b
+    go : (t : Bool) → same_cell h.cell c ≡ t → (Owns shared (without_cell c hs) a b → Left shared c P a b)
+        → Owns shared (cond t (without_cell c hs) (h ∷ without_cell c hs)) a b → Left shared c P a b
     go true is f p = f p
     go false is f (inl p) = record {
       cell = h.cell;
@@ -48,7 +48,7 @@ Later shared emptied stays ranks x a b =
 
 module _ (shared : ℕ) (c : Cell) (hs : List Holding) (stays : List Bool) (ranks : List ℕ) (zero_stays : marked stays 0 ≡ true)
     (all : All (EndsLater shared c stays ranks) hs) where
-  ends_below : (n b : ℕ) → at ranks b < n → marked stays b ≡ false → Ends shared (without c hs) b
+  ends_below : (n b : ℕ) → at ranks b < n → marked stays b ≡ false → EndsWithOwners shared (without_cell c hs) b
   ends_below zero b lt off = absurd (omega (arith, lt))
   ends_below (suc n) b lt off =
       Ended b (λ e. true≢false (sym zero_stays ∙ subst (λ (k : ℕ). marked stays k ≡ false) e off)) (λ a o.
@@ -58,7 +58,7 @@ module _ (shared : ℕ) (c : Cell) (hs : List Holding) (stays : List Bool) (rank
       ends_below n a (omega (arith, less, lt)) next.0)
 
   pub layers_end : (blocks : ℕ) (fed : List Bool) → All (IsAmong blocks) hs → length stays ≡ blocks + 1
-      → IsFed shared (without c hs) stays fed → AllFed stays fed
-      → (b : ℕ) → b ≤ blocks → marked stays b ≡ false ↔ Ends shared (without c hs) b
+      → IsFed shared (without_cell c hs) stays fed → AllFed stays fed
+      → (b : ℕ) → b ≤ blocks → marked stays b ≡ false ↔ EndsWithOwners shared (without_cell c hs) b
   layers_end blocks fed among size is_fed none b le =
       stay_or_end shared blocks c hs stays fed among size is_fed (λ a _ off. ends_below (suc (at ranks a)) a (omega arith) off) none b le

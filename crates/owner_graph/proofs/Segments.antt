@@ -6,14 +6,14 @@ use Rattle.std.proofs.lemmas.Bool.{and_from, cases_lt, cond-false, cond-true, eq
 use Rattle.step_table.specs.declared.cell_deed.Cell.{Cell}
 use Rattle.step_table.specs.declared.cell_deed.Cell.TheVariants.{Free, Member}
 use Rattle.owner_graph.specs.declared.holding.Holding.{Holding}
-use Rattle.owner_graph.specs.Ends.{Ends, IsCut, same_cell, without}
-use Rattle.owner_graph.specs.Ends.Ends.{Ended}
+use Rattle.owner_graph.specs.Ends.{EndsWithOwners, EndsWhenCut, same_cell, without_cell}
+use Rattle.owner_graph.specs.Ends.EndsWithOwners.{Ended}
 use Rattle.owner_graph.specs.Fed.{marked}
 use Rattle.owner_graph.specs.Knots.{KnotsAre}
 use Rattle.owner_graph.specs.Labels.{at}
 use Rattle.owner_graph.specs.Owners.{IsAmong, is_owner, source}
 use Rattle.owner_graph.specs.declared.planning.Plan.{Plan}
-use Rattle.owner_graph.specs.Plans.{GoesOn, IsBounded, IsPlanned, IsSure, number}
+use Rattle.owner_graph.specs.Plans.{StaysOrLeadsOn, IsBounded, IsPlanned, IsSure, number}
 use Rattle.owner_graph.proofs.Cutting.{knot_label}
 use Rattle.owner_graph.proofs.Feeding.{owner_among, still_owned}
 use Rattle.owner_graph.proofs.Layering.{left_owner}
@@ -139,7 +139,7 @@ module _ (shared blocks : ℕ) (hs : List Holding) (knots : List ℕ) (p : Plan)
           let q = pb in
           (inl e, omega (arith, pa, q, small))
 
-      goes : marked p.ended.items a ≡ false → a ≢ 0 → at knots a ≡ at knots b → GoesOn knots p x a b → IsIn a × (place a < place b)
+      goes : marked p.ended.items a ≡ false → a ≢ 0 → at knots a ≡ at knots b → StaysOrLeadsOn knots p x a b → IsIn a × (place a < place b)
       goes e ne same (inl stays) =
           let pa = place_knotted a e in
           let q = pb in
@@ -154,12 +154,12 @@ module _ (shared blocks : ℕ) (hs : List Holding) (knots : List ℕ) (p : Plan)
           (inr (ne, e, same ∙ i.2), omega (arith, pa, q, small, up))
 
       go : (f : Bool) → marked p.ended.items a ≡ f
-          → (marked p.ended.items a ≡ true) ⊎ ((a ≢ 0) × (at knots a ≡ at knots b) × GoesOn knots p x a b) → IsIn a × (place a < place b)
+          → (marked p.ended.items a ≡ true) ⊎ ((a ≢ 0) × (at knots a ≡ at knots b) × StaysOrLeadsOn knots p x a b) → IsIn a × (place a < place b)
       go true e how = by_itself e
       go false e (inl f) = absurd (true≢false (sym f ∙ e))
       go false e (inr g) = goes e g.0 g.1 g.2
 
-  ends_in : (n b : ℕ) → b ≤ blocks → IsIn b → place b < n → Ends shared (without t.cell hs) b
+  ends_in : (n b : ℕ) → b ≤ blocks → IsIn b → place b < n → EndsWithOwners shared (without_cell t.cell hs) b
   ends_in zero b le i lt = absurd (omega (arith, lt))
   ends_in (suc n) b le i lt =
       Ended b (some_block b i) (λ a o.
@@ -177,7 +177,7 @@ module _ (shared blocks : ℕ) (hs : List Holding) (knots : List ℕ) (p : Plan)
       go false e = inr (λ z. absurd (omega (arith, z, some)), e, same)
 
   -- the owner is a cut
-  pub sure_cut : KnotsAre shared blocks hs knots → 1 ≤ t.block.0 → t.block.0 ≤ blocks → IsCut shared blocks hs t.block.0 t.cell
+  pub sure_cut : KnotsAre shared blocks hs knots → 1 ≤ t.block.0 → t.block.0 ≤ blocks → EndsWhenCut shared blocks hs t.block.0 t.cell
   sure_cut are some le a some_a le_a keep =
       let own = own_label shared blocks hs knots are (source t.cell) t.block.0 sure.1 within some le sure.2 in
       let same = knot_label shared hs blocks knots are t.block.0 a some le some_a le_a keep in

@@ -6,14 +6,14 @@ use Rattle.std.proofs.lemmas.Bool.{and_parts, cases_eq, eqb-true}
 use Rattle.step_table.specs.declared.cell_deed.Cell.{Cell}
 use Rattle.step_table.specs.declared.cell_deed.Cell.TheVariants.{Free, Member}
 use Rattle.owner_graph.specs.declared.holding.Holding.{Holding}
-use Rattle.owner_graph.specs.Ends.{Ends, IsCut, same_cell, without}
-use Rattle.owner_graph.specs.Ends.Ends.{Ended}
+use Rattle.owner_graph.specs.Ends.{EndsWithOwners, EndsWhenCut, same_cell, without_cell}
+use Rattle.owner_graph.specs.Ends.EndsWithOwners.{Ended}
 use Rattle.owner_graph.specs.Fed.{marked}
 use Rattle.owner_graph.specs.Knots.{IsLeast, KnotsAre}
 use Rattle.owner_graph.specs.Labels.{at}
 use Rattle.owner_graph.specs.Owners.{IsAmong, Owns, is_owner, source}
 use Rattle.owner_graph.specs.declared.ringing.Ring.{Ring}
-use Rattle.owner_graph.specs.Plans.{IsLinked, IsSpared, listed, number}
+use Rattle.owner_graph.specs.Plans.{IsLinked, IsSpared, holding_listed, number}
 use Rattle.owner_graph.proofs.Cutting.{knot_label, same_knot}
 use Rattle.owner_graph.proofs.Feeding.{owner_among, still_owned}
 
@@ -47,33 +47,34 @@ other_cell x c marks in_ out = go (same_cell x c) refl
     go false is = refl
 
 -- an owner that is listed is left
-pub owned_else : (shared : ℕ) (c : Cell) (hs : List Holding) (i : ℕ) → i < length hs → same_cell (listed hs i).cell c ≡ false
-    → is_owner shared (listed hs i).cell ≡ true → Owns shared (without c hs) (source (listed hs i).cell) (listed hs i).block.0
+pub owned_else : (shared : ℕ) (c : Cell) (hs : List Holding) (i : ℕ) → i < length hs → same_cell (holding_listed hs i).cell c ≡ false
+    → is_owner shared (holding_listed hs i).cell ≡ true
+    → Owns shared (without_cell c hs) (source (holding_listed hs i).cell) (holding_listed hs i).block.0
 owned_else shared c [] i lt other owner = absurd (omega (arith, lt))
 owned_else shared c (h ∷ hs) zero lt other owner =
-    subst (λ (t : Bool). Owns shared (cond t (without c hs) (h ∷ without c hs)) (source h.cell) h.block.0) (sym other) (inl (owner, refl, refl))
+    subst (λ (t : Bool). Owns shared (cond t (without_cell c hs) (h ∷ without_cell c hs)) (source h.cell) h.block.0) (sym other) (inl (owner, refl, refl))
 owned_else shared c (h ∷ hs) (suc i) lt other owner =
     lift (same_cell h.cell c) (owned_else shared c hs i (omega (arith, lt)) other owner)
   where
-    lift : (t : Bool) → Owns shared (without c hs) (source (listed hs i).cell) (listed hs i).block.0
-        → Owns shared (cond t (without c hs) (h ∷ without c hs)) (source (listed hs i).cell) (listed hs i).block.0
+    lift : (t : Bool) → Owns shared (without_cell c hs) (source (holding_listed hs i).cell) (holding_listed hs i).block.0
+        → Owns shared (cond t (without_cell c hs) (h ∷ without_cell c hs)) (source (holding_listed hs i).cell) (holding_listed hs i).block.0
     lift true o = o
     lift false o = inr o
 
 module _ (shared blocks : ℕ) (hs : List Holding) (all : All (IsAmong blocks) hs) (r : Ring)
     (linked : (b : ℕ) → b ≤ blocks → IsLinked shared hs r b) (c : Cell) (out : marked r.members.items (number c) ≡ false) where
-  ring_stays : (b : ℕ) → Ends shared (without c hs) b → b ≤ blocks → at r.places.items b ≢ 0 → ⊥
+  ring_stays : (b : ℕ) → EndsWithOwners shared (without_cell c hs) b → b ≤ blocks → at r.places.items b ≢ 0 → ⊥
   ring_stays _ (Ended b ne f) le in_ =
       let l = linked b le in_ in
-      let h = listed hs l.0 in
-      let o = subst (λ (x : ℕ). Owns shared (without c hs) (source h.cell) x) l.3
+      let h = holding_listed hs l.0 in
+      let o = subst (λ (x : ℕ). Owns shared (without_cell c hs) (source h.cell) x) l.3
       (owned_else shared c hs l.0 l.1 (other_cell h.cell c r.members.items l.5 out) l.2) in
       ring_stays (source h.cell) (f (source h.cell) o) (owner_among shared blocks hs (source h.cell) b all (still_owned shared c (source h.cell) b hs o)) l.4
 
 -- an owner that a ring of its knot doesn't need is no cut
 pub spared : (shared blocks : ℕ) (hs : List Holding) (knots : List ℕ) → All (IsAmong blocks) hs → KnotsAre shared blocks hs knots
     → (r : Ring) → ((b : ℕ) → b ≤ blocks → IsLinked shared hs r b) → (t : Holding) → 1 ≤ t.block.0 → t.block.0 ≤ blocks
-    → IsSpared blocks knots r t → IsCut shared blocks hs t.block.0 t.cell → ⊥
+    → IsSpared blocks knots r t → EndsWhenCut shared blocks hs t.block.0 t.cell → ⊥
 spared shared blocks hs knots all are r linked t some le s cut =
     let w = at r.witnesses.items t.block.0 in
     let own = own_label shared blocks hs knots are w t.block.0 s.1 s.2 some le s.3 in

@@ -7,7 +7,7 @@ use Rattle.std.proofs.lemmas.Bool.{cases_eq, cases_lt}
 use Rattle.std.proofs.lemmas.List.Elements.{All-head, All-tail}
 use Rattle.step_table.specs.declared.cell_deed.Cell.TheVariants.{Free, Member}
 use Rattle.owner_graph.specs.declared.holding.Holding.{Holding}
-use Rattle.owner_graph.specs.Owners.{IsAmong, Leads, Owns, is_owner, source}
+use Rattle.owner_graph.specs.Owners.{IsAmong, OwnersLead, Owns, is_owner, source}
 use Rattle.owner_graph.specs.Knots.{IsLeast, KeepEachOther, KnotsAre}
 use Rattle.owner_graph.specs.Labels.{AreInner, AreLow, AreRanked, InnerStep, IsRanked, at}
 use Rattle.owner_graph.specs.Labels.InnerStep.{Down, Up, Within}
@@ -76,7 +76,7 @@ pub knots_are : (shared blocks : ℕ) (hs : List Holding) (ranks labels : List �
     → length labels ≡ blocks + 1
     → ((a b : ℕ) → a ≤ blocks → b ≤ blocks → at ranks a ≡ at ranks b → at labels a ≡ at labels b)
     → All (IsRanked shared ranks) hs → AreLow blocks labels → AreInner shared hs labels steps
-    → ((b : ℕ) → 1 ≤ b → b ≤ blocks → Leads shared steps 0 b) → ((b : ℕ) → 1 ≤ b → b ≤ blocks → Leads shared steps b 0)
+    → ((b : ℕ) → 1 ≤ b → b ≤ blocks → OwnersLead shared steps 0 b) → ((b : ℕ) → 1 ≤ b → b ≤ blocks → OwnersLead shared steps b 0)
     → KnotsAre shared blocks hs labels
 knots_are shared blocks hs ranks labels steps all size told ranked low inner down up = record {
   size = size;
@@ -142,7 +142,7 @@ low_at labels k n label is e ne le =
 -- ---- the least block that is marked
 
 module _ (shared blocks : ℕ) (hs : List Holding) (marks : List Bool) (b : ℕ) (all : All (IsAmong blocks) hs) (within : b ≤ blocks)
-    (known : (a : ℕ) → a ≤ blocks → slice_index_or marks a false ≡ true ↔ (Leads shared hs b a × Leads shared hs a b)) where
+    (known : (a : ℕ) → a ≤ blocks → slice_index_or marks a false ≡ true ↔ (OwnersLead shared hs b a × OwnersLead shared hs a b)) where
   later : (n a : ℕ) → ((k : ℕ) → 1 ≤ k → k ≤ n → slice_index_or marks k false ≡ false) → 1 ≤ a
       → KeepEachOther shared hs b a → n + 1 ≤ a
   later n a none one both =

@@ -7,7 +7,7 @@ use Rattle.std.proofs.lemmas.Bool.{and_parts, ltb-true}
 use Rattle.std.proofs.lemmas.List.{append-nil, take_more}
 use Rattle.std.proofs.lemmas.List.Elements.{All-push}
 use Rattle.owner_graph.specs.declared.holding.Holding.{Holding}
-use Rattle.owner_graph.specs.Ends.{IsCut}
+use Rattle.owner_graph.specs.Ends.{EndsWhenCut}
 use Rattle.owner_graph.specs.Fed.{marked}
 use Rattle.owner_graph.specs.Knots.{KnotsAre}
 use Rattle.owner_graph.specs.Labels.{at}
@@ -62,13 +62,13 @@ tied_more shared blocks hs kept knots all are i d lt old new is one two =
     )
 
 module _ (shared blocks : ℕ) (hs : List Holding) where
-  one_more : (ts cs : List Holding) (t : Holding) → AreCuts shared blocks hs ts cs → IsCut shared blocks hs t.block.0 t.cell
+  one_more : (ts cs : List Holding) (t : Holding) → AreCuts shared blocks hs ts cs → EndsWhenCut shared blocks hs t.block.0 t.cell
       → AreCuts shared blocks hs (ts ++ t ∷ []) (cs ++ t ∷ [])
   one_more _ _ t NoTies is = OneCut t [] [] is NoTies
   one_more _ _ t (OneCut u ts cs was rest) is = OneCut u (ts ++ t ∷ []) (cs ++ t ∷ []) was (one_more ts cs t rest is)
   one_more _ _ t (NoCut u ts cs none rest) is = NoCut u (ts ++ t ∷ []) (cs ++ t ∷ []) none (one_more ts cs t rest is)
 
-  none_more : (ts cs : List Holding) (t : Holding) → AreCuts shared blocks hs ts cs → (IsCut shared blocks hs t.block.0 t.cell → ⊥)
+  none_more : (ts cs : List Holding) (t : Holding) → AreCuts shared blocks hs ts cs → (EndsWhenCut shared blocks hs t.block.0 t.cell → ⊥)
       → AreCuts shared blocks hs (ts ++ t ∷ []) cs
   none_more _ _ t NoTies none = NoCut t [] [] none NoTies
   none_more _ _ t (OneCut u ts cs was rest) none = OneCut u (ts ++ t ∷ []) cs was (none_more ts cs t rest none)
@@ -76,14 +76,14 @@ module _ (shared blocks : ℕ) (hs : List Holding) where
 
   -- a tie more
   pub cut_more : (ts cs cs' : List Holding) (i : ℕ) (d : Holding) → i < length ts → AreCuts shared blocks hs (take i ts) cs
-      → cs' ≡ cs ++ get_or ts i d ∷ [] → IsCut shared blocks hs (get_or ts i d).block.0 (get_or ts i d).cell
+      → cs' ≡ cs ++ get_or ts i d ∷ [] → EndsWhenCut shared blocks hs (get_or ts i d).block.0 (get_or ts i d).cell
       → AreCuts shared blocks hs (take (i + 1) ts) cs'
   cut_more ts cs cs' i d lt so_far e is =
       subst (λ (l : List Holding). AreCuts shared blocks hs l cs') (sym (take_more ts i d lt))
       (subst (AreCuts shared blocks hs (take i ts ++ get_or ts i d ∷ [])) (sym e) (one_more (take i ts) cs (get_or ts i d) so_far is))
 
   pub cut_no_more : (ts cs : List Holding) (i : ℕ) (d : Holding) → i < length ts → AreCuts shared blocks hs (take i ts) cs
-      → (IsCut shared blocks hs (get_or ts i d).block.0 (get_or ts i d).cell → ⊥) → AreCuts shared blocks hs (take (i + 1) ts) cs
+      → (EndsWhenCut shared blocks hs (get_or ts i d).block.0 (get_or ts i d).cell → ⊥) → AreCuts shared blocks hs (take (i + 1) ts) cs
   cut_no_more ts cs i d lt so_far none =
       subst (λ (l : List Holding). AreCuts shared blocks hs l cs) (sym (take_more ts i d lt))
       (none_more (take i ts) cs (get_or ts i d) so_far none)

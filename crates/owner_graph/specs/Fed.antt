@@ -3,7 +3,7 @@ use Rattle.std.specs.Prelude.{◌≡◌, ◌≢◌, ◌⊎◌, ◌↔◌, ℕ, s
 use Rattle.std.specs.Prelude.{false, cond, List, [], ◌∷◌, length, slice_index_or}
 use Rattle.step_table.specs.declared.cell_deed.Cell.{Cell}
 use Rattle.owner_graph.specs.declared.holding.Holding.{Holding}
-use Rattle.owner_graph.specs.Ends.{Ends, same_cell}
+use Rattle.owner_graph.specs.Ends.{EndsWithOwners, same_cell}
 use Rattle.owner_graph.specs.Owners.{Owns, is_owner, source}
 
 abbrev pub marked : List Bool → ℕ → Bool
@@ -41,4 +41,5 @@ IsLess false fed old new = (new ≡ old) × ((b : ℕ) → b ≢ 0 → marked ol
 
 -- what stays no longer ends
 abbrev pub HaveEnded : ℕ → ℕ → List Holding → List Bool → Type 0
-HaveEnded shared blocks hs stays = (b : ℕ) → b ≤ blocks → marked stays b ≡ false → Ends shared hs b
+HaveEnded shared blocks hs stays = (b : ℕ) → b ≤ blocks → marked stays b ≡ false
+    → EndsWithOwners shared hs b

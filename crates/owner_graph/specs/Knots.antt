@@ -1,11 +1,11 @@
 -- Knots: blocks that owners lead to from each other. All of it is own.
 use Rattle.std.specs.Prelude.{◌≡◌, ℕ, ◌+◌, ◌≤◌, List, length, slice_index_or}
 use Rattle.owner_graph.specs.declared.holding.Holding.{Holding}
-use Rattle.owner_graph.specs.Owners.{Leads}
+use Rattle.owner_graph.specs.Owners.{OwnersLead}
 
 -- owners lead from each to the other: both are in one knot, and so is whatever could be added
 abbrev pub KeepEachOther : ℕ → List Holding → ℕ → ℕ → Type 0
-KeepEachOther shared hs a b = Leads shared hs a b × Leads shared hs b a
+KeepEachOther shared hs a b = OwnersLead shared hs a b × OwnersLead shared hs b a
 
 -- the least block of the knot that b is in
 pub record IsLeast (shared : ℕ) (hs : List Holding) (b least : ℕ) : Type 0 where

@@ -26,12 +26,12 @@ IsOwnerPath shared hs a [] b = a ≡ b
 IsOwnerPath shared hs a (x ∷ xs) b = Owns shared hs a x × IsOwnerPath shared hs x xs b
 
 -- a path of owners leads from a to b
-abbrev pub Leads : ℕ → List Holding → ℕ → ℕ → Type 0
-Leads shared hs a b = (path : List ℕ) × IsOwnerPath shared hs a path b
+abbrev pub OwnersLead : ℕ → List Holding → ℕ → ℕ → Type 0
+OwnersLead shared hs a b = (path : List ℕ) × IsOwnerPath shared hs a path b
 
 -- one leads to the block from a free cell
 abbrev pub IsKept : ℕ → List Holding → ℕ → Type 0
-IsKept shared hs b = Leads shared hs 0 b
+IsKept shared hs b = OwnersLead shared hs 0 b
 
 -- the blocks of what is held, and of the cells, are among so many
 abbrev pub IsAmong : ℕ → Holding → Type 0

@@ -18,8 +18,8 @@ number (Member b m) = 2 * b.0 + m
 abbrev pub ends_alone : Plan → ℕ → Bool
 ends_alone p b = marked p.ended.items b
 
-abbrev pub rank : Plan → ℕ → ℕ
-rank p b = at p.ranks.items b
+abbrev pub block_rank : Plan → ℕ → ℕ
+block_rank p b = at p.ranks.items b
 
 abbrev pub segment : Plan → ℕ → ℕ
 segment p b = at p.segments.items b
@@ -28,9 +28,9 @@ abbrev pub is_known : Plan → ℕ → Bool
 is_known p knot = marked p.known.items knot
 
 -- the owner stays in its segment, with a greater rank, or leads on to the next one; the first comes after the last
-abbrev pub GoesOn : List ℕ → Plan → Cell → ℕ → ℕ → Type 0
-GoesOn knots p c a b =
-    ((segment p a ≡ segment p b) × (rank p a < rank p b))
+abbrev pub StaysOrLeadsOn : List ℕ → Plan → Cell → ℕ → ℕ → Type 0
+StaysOrLeadsOn knots p c a b =
+    ((segment p a ≡ segment p b) × (block_rank p a < block_rank p b))
     ⊎ ((number c ≡ at p.exits.items (segment p a)) × ((segment p b ≡ segment p a + 1)
     ⊎ ((segment p a ≡ at p.lasts.items (at knots b)) × (segment p b ≡ at p.firsts.items (at knots b)))))
 
@@ -39,14 +39,14 @@ GoesOn knots p c a b =
 abbrev pub IsPlanned : ℕ → List ℕ → Plan → Cell → ℕ → ℕ → Type 0
 IsPlanned shared knots p c a b =
     is_owner shared c ≡ true
-    → (ends_alone p b ≡ true → (ends_alone p a ≡ true) × (rank p a < rank p b))
+    → (ends_alone p b ≡ true → (ends_alone p a ≡ true) × (block_rank p a < block_rank p b))
     × (ends_alone p b ≡ false → is_known p (at knots b) ≡ true → (ends_alone p a ≡ true)
-    ⊎ ((a ≢ 0) × (at knots a ≡ at knots b) × GoesOn knots p c a b))
+    ⊎ ((a ≢ 0) × (at knots a ≡ at knots b) × StaysOrLeadsOn knots p c a b))
 
 -- the numbers have bounds
 abbrev pub IsBounded : List ℕ → Plan → ℕ → Type 0
 IsBounded knots p b =
-    (rank p b < 131072) × (segment p b < 131072)
+    (block_rank p b < 131072) × (segment p b < 131072)
     × (is_known p (at knots b) ≡ true
     → (at p.firsts.items (at knots b) ≤ segment p b) × (segment p b ≤ at p.lasts.items (at knots b)))
 
@@ -65,15 +65,15 @@ IsSure shared knots p t =
 abbrev pub no_holding : Holding
 no_holding = record { cell = Free 0; block = record { 0 = 0 } }
 
-abbrev pub listed : List Holding → ℕ → Holding
-listed hs i = get_or hs i no_holding
+abbrev pub holding_listed : List Holding → ℕ → Holding
+holding_listed hs i = get_or hs i no_holding
 
 -- a block of the ring has an owner in such a block
 abbrev pub IsLinked : ℕ → List Holding → Ring → ℕ → Type 0
 IsLinked shared hs r b =
-    at r.places.items b ≢ 0 → (i : ℕ) × (i < length hs) × (is_owner shared (listed hs i).cell ≡ true)
-    × ((listed hs i).block.0 ≡ b) × (at r.places.items (source (listed hs i).cell) ≢ 0)
-    × (marked r.members.items (number (listed hs i).cell) ≡ true)
+    at r.places.items b ≢ 0 → (i : ℕ) × (i < length hs) × (is_owner shared (holding_listed hs i).cell ≡ true)
+    × ((holding_listed hs i).block.0 ≡ b) × (at r.places.items (source (holding_listed hs i).cell) ≢ 0)
+    × (marked r.members.items (number (holding_listed hs i).cell) ≡ true)
 
 -- so it is with all blocks
 abbrev pub IsRing : ℕ → ℕ → List Holding → Ring → Type 0

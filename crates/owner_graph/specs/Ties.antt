@@ -2,7 +2,7 @@
 use Rattle.std.specs.Prelude.{ℕ, ◌==◌, ◌&&◌, Bool, cond, not, List, [], ◌∷◌, nat_lt}
 use Rattle.std.specs.List.{flat_map}
 use Rattle.owner_graph.specs.declared.holding.Holding.{Holding}
-use Rattle.owner_graph.specs.Ends.{IsCut}
+use Rattle.owner_graph.specs.Ends.{EndsWhenCut}
 use Rattle.owner_graph.specs.Fed.{marked}
 use Rattle.owner_graph.specs.Labels.{at}
 use Rattle.owner_graph.specs.Owners.{is_owner, source}
@@ -27,7 +27,7 @@ ties shared kept knots hs = flat_map (ties_by shared kept knots) hs
 -- of ties, in order, just those that are cuts
 pub data AreCuts (shared blocks : ℕ) (hs : List Holding) : List Holding → List Holding → Type 0 where
   NoTies : AreCuts shared blocks hs [] []
-  OneCut : (t : Holding) (ts cs : List Holding) → IsCut shared blocks hs t.block.0 t.cell
+  OneCut : (t : Holding) (ts cs : List Holding) → EndsWhenCut shared blocks hs t.block.0 t.cell
       → AreCuts shared blocks hs ts cs → AreCuts shared blocks hs (t ∷ ts) (t ∷ cs)
-  NoCut : (t : Holding) (ts cs : List Holding) → (IsCut shared blocks hs t.block.0 t.cell → ⊥)
+  NoCut : (t : Holding) (ts cs : List Holding) → (EndsWhenCut shared blocks hs t.block.0 t.cell → ⊥)
       → AreCuts shared blocks hs ts cs → AreCuts shared blocks hs (t ∷ ts) cs

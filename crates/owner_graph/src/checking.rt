@@ -3,7 +3,7 @@ ghost use Rattle.std.specs.Prelude.{◌≡◌, ◌≢◌, ◌⊎◌, ◌+◌, �
 ghost use Rattle.owner_graph.specs.Fed.{marked};
 ghost use Rattle.owner_graph.specs.Labels.{at};
 ghost use Rattle.owner_graph.specs.Owners.{source};
-ghost use Rattle.owner_graph.specs.Plans.{GoesOn, IsBounded, IsPlanned, IsRight, IsSure, number};
+ghost use Rattle.owner_graph.specs.Plans.{StaysOrLeadsOn, IsBounded, IsPlanned, IsRight, IsSure, number};
 
 use crate::edges::{is_owner, source};
 use crate::holding::Holding;
@@ -31,7 +31,7 @@ fn is_next(here: usize, there: usize, first: usize, last: usize) -> bool
 
 /// Whether an owner stays in its segment, with a greater rank, or leads on to the next one.
 fn goes_on(knots: &[usize], plan: &Plan, cell: Cell, from: usize, to: usize) -> bool
-    ensures { IsTrue result → GoesOn knots.now plan.now cell from to }
+    ensures { IsTrue result → StaysOrLeadsOn knots.now plan.now cell from to }
 {
     let here = at(plan.segments.as_slice(), from);
     let there = at(plan.segments.as_slice(), to);
@@ -58,7 +58,8 @@ fn ends_later(plan: &Plan, from: usize, to: usize) -> bool
 /// Whether an owner is in a block that ends by itself, or in the knot, and goes on there.
 fn is_from_inside(knots: &[usize], plan: &Plan, cell: Cell, from: usize, to: usize) -> bool
     ensures { IsTrue result → (marked plan.now.ended.items from ≡ true)
-        ⊎ ((from ≢ 0) × (at knots.now from ≡ at knots.now to) × GoesOn knots.now plan.now cell from to) }
+        ⊎ ((from ≢ 0) × (at knots.now from ≡ at knots.now to)
+        × StaysOrLeadsOn knots.now plan.now cell from to) }
 {
     marked(plan.ended.as_slice(), from)
         || (from > 0 && at(knots, from) == at(knots, to) && goes_on(knots, plan, cell, from, to))

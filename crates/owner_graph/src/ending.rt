@@ -1,7 +1,7 @@
 //! Which blocks end once a cell is emptied.
 ghost use Rattle.std.specs.Prelude.{◌≡◌, ◌↔◌, ◌+◌, ◌≤◌, ℕ, All, IfOk, IsTrue, false, length};
 ghost use Rattle.std.specs.Prelude.{slice_index_or, vec_len};
-ghost use Rattle.owner_graph.specs.Ends.{Ends, IsCut, same_cell, without};
+ghost use Rattle.owner_graph.specs.Ends.{EndsWithOwners, EndsWhenCut, same_cell, without_cell};
 ghost use Rattle.owner_graph.specs.Fed.{Feeds, IsFed, IsLess, Starves};
 ghost use Rattle.owner_graph.specs.Knots.{KnotsAre};
 ghost use Rattle.owner_graph.specs.Owners.{IsAmong};
@@ -51,7 +51,7 @@ pub(crate) fn fed_by(
     emptied: Cell,
     stays: &[bool],
 ) -> Result<Vec<bool>, AllocError>
-    ensures { IfOk result (λ fed. IsFed shared (without emptied holdings.now) stays.now fed.items) }
+    ensures { IfOk result (λ fed. IsFed shared (without_cell emptied holdings.now) stays.now fed.items) }
 {
     let mut fed = vec![in alloc; false; stays.len()]?;
     for holding in holdings {
@@ -96,7 +96,8 @@ fn by_rounds(
     requires { All (IsAmong blocks) holdings.now }
     ensures size { IfOk result (λ stays. length stays.items ≡ blocks + 1) }
     ensures ends { IfOk result (λ stays. (b : ℕ) → b ≤ blocks
-        → slice_index_or stays.items b false ≡ false ↔ Ends shared (without emptied holdings.now) b) }
+        → slice_index_or stays.items b false ≡ false ↔ EndsWithOwners shared
+        (without_cell emptied holdings.now) b) }
 {
     let mut stays = vec![in alloc; true; usize::from(blocks) + 1]?;
     loop {
@@ -119,7 +120,8 @@ fn staying(
     requires { All (IsAmong blocks) holdings.now }
     ensures size { IfOk result (λ stays. length stays.items ≡ blocks + 1) }
     ensures ends { IfOk result (λ stays. (b : ℕ) → b ≤ blocks
-        → slice_index_or stays.items b false ≡ false ↔ Ends shared (without emptied holdings.now) b) }
+        → slice_index_or stays.items b false ≡ false ↔ EndsWithOwners shared
+        (without_cell emptied holdings.now) b) }
 {
     let layers = guessed_layers(alloc, shared, blocks, holdings, emptied)?;
     if are_layers(alloc, shared, blocks, holdings, emptied, &layers)? {
@@ -144,7 +146,7 @@ pub fn is_cut(
     requires among { All (IsAmong blocks) holdings.now }
     requires knots { KnotsAre shared blocks holdings.now knots.now }
     requires block { (1 ≤ block) × (block ≤ blocks) }
-    ensures { IfOk result (λ is. IsTrue is ↔ IsCut shared blocks holdings.now block cell) }
+    ensures { IfOk result (λ is. IsTrue is ↔ EndsWhenCut shared blocks holdings.now block cell) }
 {
     let stays = staying(alloc, shared, blocks, holdings, cell)?;
     let least = at(knots, usize::from(block));

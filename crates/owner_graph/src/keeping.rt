@@ -2,7 +2,7 @@
 ghost use Rattle.std.specs.Prelude.{◌≡◌, ◌↔◌, ◌+◌, ◌<◌, ◌≤◌, ◌&&◌, ℕ, IfErr, IfOk};
 ghost use Rattle.std.specs.Prelude.{false, true, length, slice_index_or};
 ghost use Rattle.directed_graph.specs.Paths.{AreWithin};
-ghost use Rattle.owner_graph.specs.Owners.{IsKept, Leads};
+ghost use Rattle.owner_graph.specs.Owners.{IsKept, OwnersLead};
 ghost use Rattle.owner_graph.specs.Edges.{owner_edges};
 
 use crate::edges::{edges_of, turned_round};
@@ -20,7 +20,7 @@ pub(crate) fn reached(
 ) -> Result<Vec<bool>, GraphError>
     ensures size { IfOk result (λ v. length v.items ≡ blocks + 1) }
     ensures reached { IfOk result (λ v. (b : ℕ) → b ≤ blocks
-        → slice_index_or v.items b false ≡ true ↔ Leads shared holdings.now block b) }
+        → slice_index_or v.items b false ≡ true ↔ OwnersLead shared holdings.now block b) }
     ensures outside { IfErr result (λ why. why ≡ GraphError.Outside
         → AreWithin (blocks + 1) (owner_edges shared holdings.now) → ⊥) }
 {
@@ -41,7 +41,7 @@ pub(crate) fn reaching(
 ) -> Result<Vec<bool>, GraphError>
     ensures size { IfOk result (λ v. length v.items ≡ blocks + 1) }
     ensures reaching { IfOk result (λ v. (b : ℕ) → b ≤ blocks
-        → slice_index_or v.items b false ≡ true ↔ Leads shared holdings.now b block) }
+        → slice_index_or v.items b false ≡ true ↔ OwnersLead shared holdings.now b block) }
     ensures outside { IfErr result (λ why. why ≡ GraphError.Outside
         → AreWithin (blocks + 1) (owner_edges shared holdings.now) → ⊥) }
 {
@@ -99,7 +99,7 @@ pub fn knot(
     ensures size { IfOk result (λ v. length v.items ≡ blocks + 1) }
     ensures knot { IfOk result (λ v. (b : ℕ) → b ≤ blocks
         → slice_index_or v.items b false ≡ true
-        ↔ (Leads shared holdings.now block b × Leads shared holdings.now b block)) }
+        ↔ (OwnersLead shared holdings.now block b × OwnersLead shared holdings.now b block)) }
     ensures outside { IfErr result (λ why. why ≡ GraphError.Outside
         → AreWithin (blocks + 1) (owner_edges shared holdings.now) → ⊥) }
 {

@@ -1,7 +1,7 @@
 //! A guess at the blocks that end once a cell is emptied, and a look whether it is right.
 ghost use Rattle.std.specs.Prelude.{◌≡◌, ◌≢◌, ◌↔◌, ◌+◌, ◌≤◌, ℕ, All, IfOk, IsTrue};
 ghost use Rattle.std.specs.Prelude.{false, length, true};
-ghost use Rattle.owner_graph.specs.Ends.{Ends, without};
+ghost use Rattle.owner_graph.specs.Ends.{EndsWithOwners, without_cell};
 ghost use Rattle.owner_graph.specs.Fed.{marked};
 ghost use Rattle.owner_graph.specs.Layers.{AllFed, EndsLater};
 ghost use Rattle.owner_graph.specs.Owners.{IsAmong};
@@ -135,7 +135,7 @@ pub(crate) fn are_layers(
     requires { All (IsAmong blocks) holdings.now }
     ensures size { IfOk result (λ are. IsTrue are → length layers.now.stays.items ≡ blocks + 1) }
     ensures ends { IfOk result (λ are. IsTrue are → (b : ℕ) → b ≤ blocks
-        → marked layers.now.stays.items b ≡ false ↔ Ends shared (without emptied holdings.now) b) }
+        → marked layers.now.stays.items b ≡ false ↔ EndsWithOwners shared (without_cell emptied holdings.now) b) }
 {
     if !are_marks(blocks, layers) {
         return Ok(false);

@@ -2,7 +2,7 @@
 ghost use Rattle.std.specs.Prelude.{◌≡◌, ◌↔◌, ◌+◌, ◌≤◌, ℕ, All, IfOk, IsTrue, List, OnOk};
 ghost use Rattle.std.specs.Prelude.{false, length, slice_index_or, true};
 ghost use Rattle.owner_graph.specs.Labels.{AreInner, AreLow, IsRanked, at};
-ghost use Rattle.owner_graph.specs.Owners.{IsAmong, Leads, Owns, is_owner, source};
+ghost use Rattle.owner_graph.specs.Owners.{IsAmong, OwnersLead, Owns, is_owner, source};
 ghost use Rattle.owner_graph.specs.Knots.{KnotsAre};
 
 use crate::edges::{is_owner, source};
@@ -122,7 +122,7 @@ fn are_marked(blocks: u16, marks: &[bool]) -> bool
 /// Whether the steps lead to each block from 0.
 fn lead_down(alloc: Global, shared: u32, blocks: u16, steps: &[Holding]) -> Result<bool, AllocError>
     ensures { IfOk result (λ all. IsTrue all → (b : ℕ) → 1 ≤ b → b ≤ blocks
-        → Leads shared steps.now 0 b) }
+        → OwnersLead shared steps.now 0 b) }
 {
     match reached(alloc, shared, blocks, steps, 0) {
         Ok(marks) => Ok(are_marked(blocks, marks.as_slice())),
@@ -134,7 +134,7 @@ fn lead_down(alloc: Global, shared: u32, blocks: u16, steps: &[Holding]) -> Resu
 /// Whether the steps lead from each block to 0.
 fn lead_up(alloc: Global, shared: u32, blocks: u16, steps: &[Holding]) -> Result<bool, AllocError>
     ensures { IfOk result (λ all. IsTrue all → (b : ℕ) → 1 ≤ b → b ≤ blocks
-        → Leads shared steps.now b 0) }
+        → OwnersLead shared steps.now b 0) }
 {
     match reaching(alloc, shared, blocks, steps, 0) {
         Ok(marks) => Ok(are_marked(blocks, marks.as_slice())),

@@ -1,6 +1,6 @@
 //! Owners that tie knots of leaked blocks, and those of them that cut one.
 ghost use Rattle.std.specs.Prelude.{◌≡◌, ◌↔◌, ◌⊎◌, ◌++◌, ◌≤◌, All, IfOk, IsTrue, OnOk};
-ghost use Rattle.owner_graph.specs.Ends.{IsCut};
+ghost use Rattle.owner_graph.specs.Ends.{EndsWhenCut};
 ghost use Rattle.owner_graph.specs.Fed.{marked};
 ghost use Rattle.owner_graph.specs.Knots.{KnotsAre};
 ghost use Rattle.owner_graph.specs.Labels.{at};
@@ -156,7 +156,7 @@ fn is_cut_by(
     requires other { IsTrue looked.now.is_other → IsRing shared blocks holdings.now looked.now.other }
     requires block { (1 ≤ tie.block.0) × (tie.block.0 ≤ blocks) }
     requires tie { IsAmong blocks tie }
-    ensures { IfOk result (λ is. IsTrue is ↔ IsCut shared blocks holdings.now tie.block.0 tie.cell) }
+    ensures { IfOk result (λ is. IsTrue is ↔ EndsWhenCut shared blocks holdings.now tie.block.0 tie.cell) }
 {
     if is_known_cut(shared, knots, looked, tie) {
         return Ok(true);

@@ -4,7 +4,7 @@ use Rattle.std.specs.Prelude.{slice_index, slice_set}
 use mathlib.Core.Option.{none}
 use Rattle.atomic_table.specs.Table.{Me, step, keeps, Allows}
 use Rattle.ownership_ledger.specs.declared.share.View.{View}
-use Rattle.ownership_ledger.specs.Rule.{Kept, words_of, own_made, own_ended, seen_made, seen_ended}
+use Rattle.ownership_ledger.specs.Rule.{KeptBook, totals_words, own_made, own_ended, seen_made, seen_ended}
 use Rattle.ownership_ledger.specs.Now.{one_more_made, one_more_ended}
 use Rattle.ownership_ledger.specs.Steps.{plus_made, plus_ended, added_made, added_ended}
 use Rattle.ownership_ledger.proofs.Numbers.{one_fits, seen-le, added, untouched}
@@ -16,7 +16,7 @@ one_more i ws = slice_set ws i ((slice_index ws i + 1) % 2 ^ 64)
 
 module _ (k slots id : ℕ) (me : Me (Unit {0}) View) (one : me.0.parts ≡ 1) where
   pub adds_made : me.0.own.made < 4294967295
-      → Allows (Kept k) slots id me 0 (λ n. (n + 1) % 2 ^ 64) (added_made (step slots 0 1 0 none) me)
+      → Allows (KeptBook k) slots id me 0 (λ n. (n + 1) % 2 ^ 64) (added_made (step slots 0 1 0 none) me)
   adds_made room s r _ at _ =
       let v = me.0 in
       let t = r.totals in
@@ -24,7 +24,7 @@ module _ (k slots id : ℕ) (me : Me (Unit {0}) View) (one : me.0.parts ≡ 1) w
       let found : n ≡ t.made = ap (λ ws. slice_index ws 0) r.words in
       let w = plus_made n v in
       let fits = one_fits own_made seen_made s.views t.made r.made k r.parts r.few in
-      let words = ap (one_more 0) r.words ∙ ap (λ x. words_of record t { made = x }) fits in
+      let words = ap (one_more 0) r.words ∙ ap (λ x. totals_words record t { made = x }) fits in
       let before = seen-le own_made seen_made s.views t.made r.made id v at in
       let made = added own_made seen_made s.views t.made r.made id v at w refl (omega arith) one room in
       let ended = untouched own_ended seen_ended s.views t.ended r.ended id v at w refl refl refl in
@@ -32,7 +32,7 @@ module _ (k slots id : ℕ) (me : Me (Unit {0}) View) (one : me.0.parts ≡ 1) w
       (w, keeps, tt, rule, (refl, omega arith))
 
   pub adds_ended : me.0.own.ended < 4294967295
-      → Allows (Kept k) slots id me 8 (λ n. (n + 1) % 2 ^ 64) (added_ended (step slots 8 1 0 none) me)
+      → Allows (KeptBook k) slots id me 8 (λ n. (n + 1) % 2 ^ 64) (added_ended (step slots 8 1 0 none) me)
   adds_ended room s r _ at _ =
       let v = me.0 in
       let t = r.totals in
@@ -40,7 +40,7 @@ module _ (k slots id : ℕ) (me : Me (Unit {0}) View) (one : me.0.parts ≡ 1) w
       let found : n ≡ t.ended = ap (λ ws. slice_index ws 8) r.words in
       let w = plus_ended n v in
       let fits = one_fits own_ended seen_ended s.views t.ended r.ended k r.parts r.few in
-      let words = ap (one_more 8) r.words ∙ ap (λ x. words_of record t { ended = x }) fits in
+      let words = ap (one_more 8) r.words ∙ ap (λ x. totals_words record t { ended = x }) fits in
       let before = seen-le own_ended seen_ended s.views t.ended r.ended id v at in
       let made = untouched own_made seen_made s.views t.made r.made id v at w refl refl refl in
       let ended = added own_ended seen_ended s.views t.ended r.ended id v at w refl (omega arith) one room in

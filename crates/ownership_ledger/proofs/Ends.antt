@@ -8,9 +8,9 @@ use lib.ListN.{get_elem?}
 use Rattle.atomic_table.specs.Table.{opening, Final, Seen}
 use Rattle.ownership_ledger.specs.declared.share.View.{View}
 use Rattle.ownership_ledger.specs.declared.share.Totals.{Totals}
-use Rattle.ownership_ledger.specs.Rule.{IsNumber, Kept, words_of, zeros, fresh}
+use Rattle.ownership_ledger.specs.Rule.{IsNumber, KeptBook, totals_words, zeros, fresh_seat}
 use Rattle.ownership_ledger.specs.Rule.{own_made, own_ended, seen_made, seen_ended}
-use Rattle.ownership_ledger.specs.Now.{ShareNow, IsAtMost, StandsFor}
+use Rattle.ownership_ledger.specs.Now.{ShareNow, IsAtMost, StandsForShares}
 use Rattle.ownership_ledger.proofs.Numbers.{IsBounded, seen-le, sole}
 use Rattle.ownership_ledger.proofs.Kept.{Knows}
 
@@ -24,14 +24,14 @@ first_number own seen v adds sees = record {
   seen_before = All-one (λ u. seen u ≤ 0) v (omega arith);
 }
 
-pub opens : (k : ℕ) → k < 4294967296 → Kept k (opening (words_of zeros) [] (fresh k k))
+pub opens : (k : ℕ) → k < 4294967296 → KeptBook k (opening (totals_words zeros) [] (fresh_seat k k))
 opens k few = record {
   totals = zeros;
   words = refl;
-  made = first_number own_made seen_made (fresh k k) refl refl;
-  ended = first_number own_ended seen_ended (fresh k k) refl refl;
+  made = first_number own_made seen_made (fresh_seat k k) refl refl;
+  ended = first_number own_ended seen_ended (fresh_seat k k) refl refl;
   parts = zero-add k;
-  known = All-one (Knows k) (fresh k k) (λ _. refl);
+  known = All-one (Knows k) (fresh_seat k k) (λ _. refl);
   few = few;
 }
 
@@ -52,15 +52,15 @@ AreSums shares t =
 
 -- the last words, where one seat stands for all shares
 pub ends : (k id : ℕ) (shares : List ShareNow) (v : View) (ws : List ℕ) (xs : List (Unit {0})) (last : Totals)
-    → Final (Seen (Kept k) id v) ws xs → StandsFor shares v → length shares ≡ k
+    → Final (Seen (KeptBook k) id v) ws xs → StandsForShares shares v → length shares ≡ k
     → get_elem? ws 0 ≡ some last.made → get_elem? ws 8 ≡ some last.ended → AreSums shares last
 ends k id shares v ws xs last final all count first second =
     let s = final.0 in
     let r = final.1.0 in
     let at = final.1.1 in
     let t = r.totals in
-    let shown : ws ≡ words_of t = sym final.2 ∙ r.words in
-    let word : (i : ℕ) → get_elem? ws i ≡ get_elem? (words_of t) i = (λ i. ap (λ l. get_elem? l i) shown) in
+    let shown : ws ≡ totals_words t = sym final.2 ∙ r.words in
+    let word : (i : ℕ) → get_elem? ws i ≡ get_elem? (totals_words t) i = (λ i. ap (λ l. get_elem? l i) shown) in
     let made : last.made ≡ t.made = some-injective _ t.made (sym first ∙ word 0) in
     let ended : last.ended ≡ t.ended = some-injective _ t.ended (sym second ∙ word 8) in
     let own = sole own_made seen_made s.views t.made r.made id v at k refl r.parts (all.parts ∙ count) in

@@ -5,9 +5,9 @@ use mathlib.Core.Option.{none, some}
 use lib.ListN.{get_elem?}
 use Rattle.atomic_table.specs.Table.{Me, step, keeps, Allows}
 use Rattle.ownership_ledger.specs.declared.share.View.{View}
-use Rattle.ownership_ledger.specs.Rule.{BookState, IsNumber, Kept, nobody}
+use Rattle.ownership_ledger.specs.Rule.{BookState, IsNumber, KeptBook, joined_seat}
 use Rattle.ownership_ledger.specs.Rule.{own_made, own_ended, seen_made, seen_ended}
-use Rattle.ownership_ledger.specs.Steps.{Shows, saw_made, saw_ended, read_made, read_ended}
+use Rattle.ownership_ledger.specs.Steps.{ShowsNumber, saw_made, saw_ended, read_made, read_ended}
 use Rattle.ownership_ledger.proofs.Numbers.{seen-le, own-le, sole, looked, untouched}
 use Rattle.ownership_ledger.proofs.Kept.{knows, kept}
 
@@ -15,9 +15,9 @@ use Rattle.ownership_ledger.proofs.Kept.{knows, kept}
 abbrev same_word : ℕ → List ℕ → List ℕ
 same_word i ws = slice_set ws i (slice_index ws i)
 
-shows : (own seen : View → ℕ) (n m k id : ℕ) (s : BookState) (r : Kept k s) (v : View)
-    → own nobody ≡ 0 → IsNumber own seen s.views m → get_elem? s.views id ≡ some v → n ≡ m → 0 < v.parts
-    → Shows v (own v) (seen v) n
+shows : (own seen : View → ℕ) (n m k id : ℕ) (s : BookState) (r : KeptBook k s) (v : View)
+    → own joined_seat ≡ 0 → IsNumber own seen s.views m → get_elem? s.views id ≡ some v → n ≡ m → 0 < v.parts
+    → ShowsNumber v (own v) (seen v) n
 shows own seen n m k id s r v zero_own number at found some_part =
     let own_before = own-le own seen s.views m number id v at in
     let seen_before = seen-le own seen s.views m number id v at in
@@ -25,7 +25,7 @@ shows own seen n m k id s r v zero_own number at found some_part =
     (omega arith, omega arith, λ whole. found ∙ alone (whole ∙ knows k id s r v at some_part))
 
 module _ (k slots id : ℕ) (me : Me (Unit {0}) View) (some_part : 0 < me.0.parts) where
-  pub looks_made : Allows (Kept k) slots id me 0 (λ n. n) (read_made (step slots 0 0 0 none) me)
+  pub looks_made : Allows (KeptBook k) slots id me 0 (λ n. n) (read_made (step slots 0 0 0 none) me)
   looks_made s r _ at _ =
       let v = me.0 in
       let t = r.totals in
@@ -38,7 +38,7 @@ module _ (k slots id : ℕ) (me : Me (Unit {0}) View) (some_part : 0 < me.0.part
       let shown = shows own_made seen_made n t.made k id s r v refl r.made at found some_part in
       (w, keeps, tt, rule, (refl, shown))
 
-  pub looks_ended : Allows (Kept k) slots id me 8 (λ n. n) (read_ended (step slots 8 0 0 none) me)
+  pub looks_ended : Allows (KeptBook k) slots id me 8 (λ n. n) (read_ended (step slots 8 0 0 none) me)
   looks_ended s r _ at _ =
       let v = me.0 in
       let t = r.totals in

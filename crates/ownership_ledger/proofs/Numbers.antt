@@ -6,7 +6,7 @@ use Rattle.std.proofs.lemmas.List.Elements.{All-set, All-weaker, All-head, All-t
 use mathlib.Core.Option.{some}
 use lib.ListN.{get_elem?}
 use Rattle.ownership_ledger.specs.declared.share.View.{View}
-use Rattle.ownership_ledger.specs.Rule.{IsNumber, parts_of, nobody}
+use Rattle.ownership_ledger.specs.Rule.{IsNumber, seat_parts, joined_seat}
 use Rattle.ownership_ledger.proofs.Views.{All-at, sum_by-at, sum_by-replaced}
 
 module _ (own : View → ℕ) where
@@ -14,16 +14,16 @@ module _ (own : View → ℕ) where
   abbrev pub IsBounded : View → Type 0
   IsBounded v = own v ≤ 4294967295 * v.parts
 
-  sum-bounded : (vs : List View) → All IsBounded vs → sum_by own vs ≤ 4294967295 * sum_by parts_of vs
+  sum-bounded : (vs : List View) → All IsBounded vs → sum_by own vs ≤ 4294967295 * sum_by seat_parts vs
   sum-bounded [] h = omega arith
   sum-bounded (v ∷ vs) h =
       let first = All-head IsBounded v vs h in
       let others = sum-bounded vs (All-tail IsBounded v vs h) in
-      omega (arith, sum_by-cons own v vs, sum_by-cons parts_of v vs)
+      omega (arith, sum_by-cons own v vs, sum_by-cons seat_parts v vs)
 
 module _ (own seen : View → ℕ) (vs : List View) (n : ℕ) (r : IsNumber own seen vs n) where
   -- one more fits the word
-  pub one_fits : (k : ℕ) → sum_by parts_of vs ≡ k → k < 4294967296 → (n + 1) % 2 ^ 64 ≡ n + 1
+  pub one_fits : (k : ℕ) → sum_by seat_parts vs ≡ k → k < 4294967296 → (n + 1) % 2 ^ 64 ≡ n + 1
   one_fits k whole few =
       let sum = r.sum in
       let most = sum-bounded own vs r.bounded in
@@ -68,9 +68,9 @@ module _ (own seen : View → ℕ) (vs : List View) (n : ℕ) (r : IsNumber own 
         changed n w (omega arith) (omega arith) (omega arith) (omega arith)
 
     -- who stands for all shares has added all that there is
-    pub sole : (k : ℕ) → own nobody ≡ 0 → sum_by parts_of vs ≡ k → v.parts ≡ k → n ≡ own v
+    pub sole : (k : ℕ) → own joined_seat ≡ 0 → sum_by seat_parts vs ≡ k → v.parts ≡ k → n ≡ own v
     sole k zero_own whole all =
         let sum = r.sum in
-        let bounded = All-set (IsBounded own) vs i nobody (omega arith) r.bounded in
-        let others = sum-bounded own (set vs i nobody) bounded in
-        omega (arith, sum_by-replaced own vs i v nobody at, sum_by-replaced parts_of vs i v nobody at)
+        let bounded = All-set (IsBounded own) vs i joined_seat (omega arith) r.bounded in
+        let others = sum-bounded own (set vs i joined_seat) bounded in
+        omega (arith, sum_by-replaced own vs i v joined_seat at, sum_by-replaced seat_parts vs i v joined_seat at)

@@ -7,9 +7,9 @@ use lib.ListN.{get_elem?}
 use Rattle.atomic_table.specs.Table.{Splits, Joins}
 use Rattle.atomic_table.proofs.Lists.{set_else}
 use Rattle.ownership_ledger.specs.declared.share.View.{View}
-use Rattle.ownership_ledger.specs.Rule.{IsNumber, Kept, nobody, parts_of}
+use Rattle.ownership_ledger.specs.Rule.{IsNumber, KeptBook, joined_seat, seat_parts}
 use Rattle.ownership_ledger.specs.Rule.{own_made, own_ended, seen_made, seen_ended}
-use Rattle.ownership_ledger.specs.Steps.{without_one, one_apart, together}
+use Rattle.ownership_ledger.specs.Steps.{without_one, one_apart, seats_together}
 use Rattle.ownership_ledger.proofs.Views.{All-at, sum_by-replaced}
 use Rattle.ownership_ledger.proofs.Numbers.{IsBounded, seen-le, changed}
 use Rattle.ownership_ledger.proofs.Kept.{Knows, knows}
@@ -37,31 +37,31 @@ module _ (own seen : View → ℕ) (vs : List View) (n : ℕ) (r : IsNumber own 
   -- the seat id, as b, takes in what the other has added
   number_joined : (id other : ℕ) (v w b : View) → get_elem? vs id ≡ some v → get_elem? vs other ≡ some w
       → get_elem? (set vs id b) other ≡ some w → own b ≡ own v + own w → seen b ≤ n
-      → b.parts ≡ v.parts + w.parts → own nobody ≡ 0 → seen nobody ≡ 0
-      → IsNumber own seen (set (set vs id b) other nobody) n
+      → b.parts ≡ v.parts + w.parts → own joined_seat ≡ 0 → seen joined_seat ≡ 0
+      → IsNumber own seen (set (set vs id b) other joined_seat) n
   number_joined id other v w b at at' still adds sees parts zero_own zero_seen =
       let bound = All-at (IsBounded own) vs id v at r.bounded in
       let bound' = All-at (IsBounded own) vs other w at' r.bounded in
       let first = sum_by-replaced own vs id v b at in
-      let second = sum_by-replaced own (set vs id b) other w nobody still in
+      let second = sum_by-replaced own (set vs id b) other w joined_seat still in
       let bounded = All-set (IsBounded own) vs id b (omega arith) r.bounded in
       let before = All-set (λ u. seen u ≤ n) vs id b sees r.seen_before in
       record {
         sum = (let sum = r.sum in omega arith);
-        bounded = All-set (IsBounded own) (set vs id b) other nobody (omega arith) bounded;
-        seen_before = All-set (λ u. seen u ≤ n) (set vs id b) other nobody (omega arith) before;
+        bounded = All-set (IsBounded own) (set vs id b) other joined_seat (omega arith) bounded;
+        seen_before = All-set (λ u. seen u ≤ n) (set vs id b) other joined_seat (omega arith) before;
       }
 
 pub cuts : (k id : ℕ) (v : View) → 1 < v.parts → v.own.made ≡ 0 → v.own.ended ≡ 0
-    → Splits (Kept k) id v (without_one v) (one_apart v)
+    → Splits (KeptBook k) id v (without_one v) (one_apart v)
 cuts k id v two made ended s r at =
     let t = r.totals in
     let x = without_one v in
     let w = one_apart v in
     let known = knows k id s r v at (omega arith) in
     let rest = All-set (Knows k) s.views id x (λ _. known) r.known in
-    let left = sum_by-replaced parts_of s.views id v x at in
-    let both = sum_by_push parts_of (set s.views id x) w in
+    let left = sum_by-replaced seat_parts s.views id v x at in
+    let both = sum_by_push seat_parts (set s.views id x) w in
     record {
       totals = t;
       words = r.words;
@@ -72,18 +72,18 @@ cuts k id v two made ended s r at =
       few = r.few;
     }
 
-pub joins : (k id other : ℕ) (v w : View) → 0 < v.parts → Joins (Kept k) id v other w (together v w) nobody
+pub joins : (k id other : ℕ) (v w : View) → 0 < v.parts → Joins (KeptBook k) id v other w (seats_together v w) joined_seat
 joins k id other v w some_part s r at apart still =
     let t = r.totals in
-    let b = together v w in
+    let b = seats_together v w in
     let at' = sym (set_else s.views id other b apart) ∙ still in
     let known = knows k id s r v at some_part in
     let made = seen-le own_made seen_made s.views t.made r.made id v at in
     let made' = seen-le own_made seen_made s.views t.made r.made other w at' in
     let ended = seen-le own_ended seen_ended s.views t.ended r.ended id v at in
     let ended' = seen-le own_ended seen_ended s.views t.ended r.ended other w at' in
-    let first = sum_by-replaced parts_of s.views id v b at in
-    let second = sum_by-replaced parts_of (set s.views id b) other w nobody still in
+    let first = sum_by-replaced seat_parts s.views id v b at in
+    let second = sum_by-replaced seat_parts (set s.views id b) other w joined_seat still in
     record {
       totals = t;
       words = r.words;
@@ -92,7 +92,7 @@ joins k id other v w some_part s r at apart still =
       ended = number_joined own_ended seen_ended s.views t.ended r.ended id other v w b at at' still
           refl (omega arith) refl refl refl;
       parts = (let whole = r.parts in omega arith);
-      known = All-set (Knows k) (set s.views id b) other nobody (λ none. absurd (omega arith))
+      known = All-set (Knows k) (set s.views id b) other joined_seat (λ none. absurd (omega arith))
           (All-set (Knows k) s.views id b (λ _. known) r.known);
       few = r.few;
     }

@@ -3,7 +3,7 @@ use Rattle.std.specs.Prelude.{◌≡◌, ℕ, ◌+◌, ◌≤◌, List, length, 
 use Rattle.atomic_table.specs.Seated.{TableId}
 use Rattle.ownership_ledger.specs.declared.share.Totals.{Totals}
 use Rattle.ownership_ledger.specs.declared.share.View.{View}
-use Rattle.ownership_ledger.specs.Rule.{BookState, Kept, words_of, zeros}
+use Rattle.ownership_ledger.specs.Rule.{BookState, KeptBook, totals_words, zeros}
 
 pub record BookNow : Type 0 where
   pub id : TableId
@@ -35,10 +35,10 @@ IsAtMost t u = (t.made ≤ u.made) × (t.ended ≤ u.ended)
 
 -- the book's rule held to the end, and its last words show these totals
 abbrev pub IsLast : ℕ → Totals → Type 0
-IsLast workers t = (s : BookState) × Kept workers s × (s.words ≡ words_of t)
+IsLast workers t = (s : BookState) × KeptBook workers s × (s.words ≡ totals_words t)
 
 -- the view of a seat into which all these shares were joined
-pub record StandsFor (shares : List ShareNow) (v : View) : Type 0 where
+pub record StandsForShares (shares : List ShareNow) (v : View) : Type 0 where
   pub parts : v.parts ≡ length shares
   pub made : v.own.made ≡ sum_by (λ s. s.own.made) shares
   pub ended : v.own.ended ≡ sum_by (λ s. s.own.ended) shares

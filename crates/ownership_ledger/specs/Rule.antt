@@ -12,14 +12,14 @@ abbrev pub zeros : Totals
 zeros = record { made = 0; ended = 0 }
 
 -- the words that show these totals: a number and seven words that stay 0, twice
-abbrev pub words_of : Totals → List ℕ
-words_of t =
+abbrev pub totals_words : Totals → List ℕ
+totals_words t =
     t.made ∷ 0 ∷ 0 ∷ 0 ∷ 0 ∷ 0 ∷ 0 ∷ 0
     ∷ t.ended ∷ 0 ∷ 0 ∷ 0 ∷ 0 ∷ 0 ∷ 0 ∷ 0 ∷ []
 
 -- how many shares a seat stands for, what they have added, and what the seat has seen of the book
-abbrev pub parts_of : View → ℕ
-parts_of v = v.parts
+abbrev pub seat_parts : View → ℕ
+seat_parts v = v.parts
 
 abbrev pub own_made : View → ℕ
 own_made v = v.own.made
@@ -42,20 +42,20 @@ pub record IsNumber (own seen : View → ℕ) (views : List View) (n : ℕ) : Ty
 
 -- The words show the totals. The seats stand for all the shares together, and each that stands for
 -- some of them knows how many there are.
-pub record Kept (workers : ℕ) (s : BookState) : Type 0 where
+pub record KeptBook (workers : ℕ) (s : BookState) : Type 0 where
   pub totals : Totals
-  pub words : s.words ≡ words_of totals
+  pub words : s.words ≡ totals_words totals
   pub made : IsNumber own_made seen_made s.views totals.made
   pub ended : IsNumber own_ended seen_ended s.views totals.ended
-  pub parts : sum_by parts_of s.views ≡ workers
+  pub parts : sum_by seat_parts s.views ≡ workers
   pub known : All (λ v. 0 < v.parts → v.workers ≡ workers) s.views
   pub few : workers < 4294967296
 
 -- a seat that stands for so many of the shares, none of which has added
-abbrev pub fresh : (workers parts : ℕ) → View
-fresh workers parts =
+abbrev pub fresh_seat : (workers parts : ℕ) → View
+fresh_seat workers parts =
     record { workers = workers; parts = parts; own = zeros; seen = zeros }
 
 -- a seat that was joined to another
-abbrev pub nobody : View
-nobody = fresh 0 0
+abbrev pub joined_seat : View
+joined_seat = fresh_seat 0 0

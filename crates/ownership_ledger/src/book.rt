@@ -17,11 +17,11 @@ pub(crate) const ENDED: usize = 8;
 pub(crate) struct Sums;
 
 impl TableRule<(), View, u32> for Sums {
-    ghost use Rattle.ownership_ledger.specs.Rule.{Kept, fresh};
+    ghost use Rattle.ownership_ledger.specs.Rule.{KeptBook, fresh_seat};
 
-    ghost holds = { Kept };
+    ghost holds = { KeptBook };
 
-    ghost first = { λ workers. fresh workers workers };
+    ghost first = { λ workers. fresh_seat workers workers };
 }
 
 /// Two numbers that workers in any threads add to. It must be spent by `gather`.

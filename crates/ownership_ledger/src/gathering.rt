@@ -1,6 +1,6 @@
 //! How a book is closed.
 ghost use Rattle.std.specs.Prelude.{◌≡◌, ◌<◌, [], length, sum_by, All};
-ghost use Rattle.ownership_ledger.specs.Now.{IsAtMost, IsLast, StandsFor};
+ghost use Rattle.ownership_ledger.specs.Now.{IsAtMost, IsLast, StandsForShares};
 
 use crate::book::{Book, ENDED, MADE};
 use crate::plays::Glue;
@@ -35,7 +35,7 @@ fn join_all(book: &Book, mut shares: Vec<Share>) -> Seat<(), View>
     requires some { 0 < length shares.items }
     requires book { All (λ s. s.book ≡ book.now.id) shares.items }
     ensures table { result.table_id ≡ book.now.id }
-    ensures shares { StandsFor shares.items result.me.0 }
+    ensures shares { StandsForShares shares.items result.me.0 }
 {
     let Some(share) = shares.pop() else {
         unreachable!()

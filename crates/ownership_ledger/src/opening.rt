@@ -1,7 +1,7 @@
 //! How a book is opened.
 ghost use Rattle.std.specs.Prelude.{◌≡◌, ◌+◌, ◌<◌, [], replicate, vec_capacity, IfOk, IfErr};
 ghost use Rattle.ownership_ledger.specs.Now.{new_share};
-ghost use Rattle.ownership_ledger.specs.Rule.{fresh};
+ghost use Rattle.ownership_ledger.specs.Rule.{fresh_seat};
 
 use crate::book::{Book, WORDS};
 use crate::plays::Cut;
@@ -39,7 +39,7 @@ impl Book {
 fn deal(book: &Book, shares: &mut Vec<Share>, mut seat: Seat<(), View>, workers: u32)
     requires some { 0 < workers }
     requires room { (shares.old.items ≡ []) × (vec_capacity shares.old ≡ workers) }
-    requires seat { (seat.table_id ≡ book.now.id) × (seat.me ≡ (fresh workers workers, [])) }
+    requires seat { (seat.table_id ≡ book.now.id) × (seat.me ≡ (fresh_seat workers workers, [])) }
     ensures shares { shares.new.items ≡ replicate workers (new_share book.now.id workers) }
     ensures room { vec_capacity shares.new ≡ workers }
 {

@@ -1,7 +1,7 @@
 //! What each step on the book tells.
-ghost use Rattle.ownership_ledger.specs.Rule.{nobody};
+ghost use Rattle.ownership_ledger.specs.Rule.{joined_seat};
 ghost use Rattle.ownership_ledger.specs.Steps.{added_made, added_ended, read_made, read_ended};
-ghost use Rattle.ownership_ledger.specs.Steps.{without_one, one_apart, together};
+ghost use Rattle.ownership_ledger.specs.Steps.{without_one, one_apart, seats_together};
 
 use crate::share::View;
 use atomic_table::{Join, Play, Split};
@@ -43,7 +43,7 @@ impl Split<View> for Cut {
 pub(crate) struct Glue;
 
 impl Join<View> for Glue {
-    ghost both = { together };
+    ghost both = { seats_together };
 
-    ghost spent = { nobody };
+    ghost spent = { joined_seat };
 }

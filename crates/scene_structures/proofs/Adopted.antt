@@ -24,10 +24,10 @@ use Rattle.control_word.specs.declared.handle.Kind.TheVariants.{Owner}
 use Rattle.control_block.specs.Desks.{bag_of}
 use Rattle.shared_handle.specs.Endings.{IsWithin}
 use Rattle.scene_structures.specs.Hands.{Lists, node_in}
-use Rattle.scene_structures.specs.Puts.{PutsOnly, nowhere}
+use Rattle.scene_structures.specs.Puts.{PutsOnly, in_no_cell}
 use Rattle.scene_structures.specs.Scenes.{Adopts, IsAdopted}
 use Rattle.scene_structures.specs.Stacks.{Rises}
-use Rattle.scene_structures.specs.Watches.{Watches, weak_in}
+use Rattle.scene_structures.specs.Watches.{Watches, weak_of_owner}
 use Rattle.scene_structures.proofs.Attached.{apart_up}
 use Rattle.scene_structures.proofs.Alone.{block_on, grown, hangs_puts, held_on, hung_up, in_on, legal_on, list_on, lives_on, rises_puts, sole_on}
 use Rattle.scene_structures.proofs.Frames.{chain_live}
@@ -44,10 +44,10 @@ module _ {V : Type 0} where
   adopted d e parent child fields x a legal sole (pq, points, within) lists_d lists_e lists_c parent_e child_e =
       let m = a.made in let n = a.hung in let b = a.block in let make = Make b false false fields x in
       let p = object_of (node_in d parent) in let c = Member p 0 in let o = suc (state_of d).made in let u = Member o 2 in
-      let up = weak_in d parent in
+      let up = weak_of_owner d parent in
       let q : Place = record { block = record { 0 = b.0 }; field = 0 } in
-      let does_m = does_one (PutsOnly nowhere) d m make a.makes tt in
-      let legal_m = legal_on nowhere d m does_m legal sole in let sole_m = sole_on nowhere d m does_m legal sole in
+      let does_m = does_one (PutsOnly in_no_cell) d m make a.makes tt in
+      let legal_m = legal_on in_no_cell d m does_m legal sole in let sole_m = sole_on in_no_cell d m does_m legal sole in
       let state_m = state_is d m (make ∷ []) (goes_by_call d make m a.makes) (All-cons KeepsDesks make [] tt (All-nil KeepsDesks)) legal sole in
       let latest : latest_of m b.0 ≡ o = ap (λ (s : State). s.latest b.0) state_m ∙ put_same (state_of d).latest b.0 o b.0 refl in
       let watches : Watches m o up n = subst (λ k. Watches m k up n) latest a.watches in
@@ -69,7 +69,7 @@ module _ {V : Type 0} where
       let made_m : o ≤ (state_of m).made = (let t = ap (λ (s : State). s.made) state_m in omega arith) in
       let u_m : InState (state_of m) u = (omega arith, omega arith) in
       let u_n = in_on at_n m n does_n legal_m sole_m u u_m in
-      let c_m = in_on nowhere d m does_m legal sole c there in
+      let c_m = in_on in_no_cell d m does_m legal sole c there in
       let c_n = in_on at_n m n does_n legal_m sole_m c c_m in
       let c_lives_n = lives_on _ n e does_e legal_n sole_n c c_n lives in
       let c_lives_m = lives_on at_n m n does_n legal_m sole_m c c_m c_lives_n in
@@ -80,7 +80,7 @@ module _ {V : Type 0} where
       let block : b.0 ≡ ((state_of n).object o).block = block_m ∙ sym (block_on at_n m n does_n legal_m sole_m o made_m) in (
         λ os list.
             let listed = chain_live (opening_of d.shape) (state_of d) c os (sound (opening_of d.shape) d.seen legal) there list in
-            let list_m = list_on nowhere d m does_m legal sole c os (λ k. k) (apart_nowhere os) there c_lives_m list in
+            let list_m = list_on in_no_cell d m does_m legal sole c os (λ k. k) (apart_nowhere os) there c_lives_m list in
             let list_n = list_on at_n m n does_n legal_m sole_m c os (λ k. let t : Member p 0 ≡ Member o 2 = k in absurd (cc t))
             (apart_up o os) c_m c_lives_n list_m in
             grown n e c o q os rises legal_n sole_n (λ j k. let t : Member p 0 ≡ Member j 1 = k in absurd (cc t)) c_n lives

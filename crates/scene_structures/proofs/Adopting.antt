@@ -13,9 +13,9 @@ use Rattle.control_word.specs.declared.place.Place.{Place}
 use Rattle.control_block.specs.Own.{KeepsLatest}
 use Rattle.control_block.proofs.Latest.{calls_keep_latest}
 use Rattle.control_block.specs.CellCalls.{handle_in, with_handle}
-use Rattle.control_block.specs.Desks.{Adds, DeskNow, bag_of, latest_of}
+use Rattle.control_block.specs.Desks.{AddsEvent, DeskNow, bag_of, latest_of}
 use Rattle.control_block.specs.declared.handles.Shared.{Shared}
-use Rattle.shared_handle.specs.Calls.{Makes, Shares}
+use Rattle.shared_handle.specs.Calls.{Makes, SharesOwner}
 use Rattle.shared_handle.proofs.Goings.{does_both, does_one}
 use Rattle.atomic_cells.specs.Sites.{IsMember, shared_cell}
 use Rattle.atomic_cells.specs.declared.shared_at.SharedAt.{SharedAt}
@@ -25,7 +25,7 @@ use Rattle.scene_structures.specs.Hands.{HasHands, KeepsHeld, KeepsThese, Lists,
 use Rattle.scene_structures.specs.Puts.{PutsOnly}
 use Rattle.scene_structures.specs.Scenes.{Adopts}
 use Rattle.scene_structures.specs.Stacks.{NextOf, Rises}
-use Rattle.scene_structures.specs.Watches.{Watches, weak_in}
+use Rattle.scene_structures.specs.Watches.{Watches, weak_of_owner}
 use Rattle.scene_structures.proofs.Watches.{weak_same}
 use Rattle.scene_structures.proofs.Hands.{hands_copied, hands_got, lists_first, lists_under, most}
 use Rattle.scene_structures.proofs.Pushes.{listed_some, rises_later, same_left, same_node, shares_does}
@@ -59,9 +59,9 @@ module _ {V : Type 0} where
 
     pub adopts : (at : SharedAt) (fields : List ℕ) (x : V) (k : Cell) (got : Handle)
         → Makes d false false fields x node.block node.place m → bag_of m ≡ with_handle Owner node.block node.place (bag_of d)
-        → Watches m (object_of (node_in m node)) (weak_in m parent) n → KeepsHeld m n → bag_of n ≡ bag_of m
-        → Shares n node.block node.place node.place s → copy.block ≡ node.block → copy.place ≡ node.place
-        → bag_of s ≡ with_handle Owner node.block node.place (bag_of n) → Adds s (Load k got) l
+        → Watches m (object_of (node_in m node)) (weak_of_owner m parent) n → KeepsHeld m n → bag_of n ≡ bag_of m
+        → SharesOwner n node.block node.place node.place s → copy.block ≡ node.block → copy.place ≡ node.place
+        → bag_of s ≡ with_handle Owner node.block node.place (bag_of n) → AddsEvent s (Load k got) l
         → Rises l (shared_cell l at.site) (node_in l copy) e → Lists parent.block parent.place (bag_of d)
         → IsMember (λ c (a : SharedAt). a.site ≡ site.Of c First) parent.block parent.place (Ok at)
         → (a : Adopts d parent fields x node e) × (a.made ≡ m)
@@ -91,7 +91,7 @@ module _ {V : Type 0} where
                 makes = makes'.1;
                 hung = n;
                 watches = subst (λ (h : Handle). Watches m (latest_of m b.0) h n) up
-                    (subst (λ (h : Handle). Watches m (object_of h) (weak_in m parent) n) made watches);
+                    (subst (λ (h : Handle). Watches m (object_of h) (weak_of_owner m parent) n) made watches);
                 rises = rises_later n l e c there
                     (does_both (PutsOnly (NextOf (latest_of m b.0))) n s l shared.0 (does_one (PutsOnly (NextOf (latest_of m b.0))) s l _ loads tt))
                     (subst (λ (h : Handle). Rises l c h e) copied (subst (λ (y : Cell). Rises l y (node_in l copy) e) cell rises));

@@ -22,7 +22,7 @@ use Rattle.control_block.specs.Desks.{DeskNow, state_of}
 use Rattle.control_block.specs.Own.{Does, IsSole, KeepsDesks}
 use Rattle.control_block.specs.Rule.{opening_of}
 use Rattle.scene_structures.specs.Chains.{IsList}
-use Rattle.scene_structures.specs.Puts.{PutsOnly, nowhere}
+use Rattle.scene_structures.specs.Puts.{PutsOnly, in_no_cell}
 use Rattle.scene_structures.specs.Watches.{Watches}
 use Rattle.scene_structures.specs.Stacks.{NextOf, Rises}
 use Rattle.scene_structures.proofs.Frames.{Apart}
@@ -80,7 +80,7 @@ module _ {V : Type 0} where
         own = _;
         goes = r.goes;
         all = All-append (PutsOnly at) r.after (y ∷ r.before) (partings_put at r.after r.late)
-            (All-cons (PutsOnly at) y r.before refl (all_wider nowhere at (λ k p. absurd p) r.before r.early));
+            (All-cons (PutsOnly at) y r.before refl (all_wider in_no_cell at (λ k p. absurd p) r.before r.early));
       }
 
   -- a call on a sole desk
@@ -155,6 +155,6 @@ module _ {V : Type 0} where
       let lives' = subst (λ l. Lives (leads z l) c) split (subst (λ (t : State). Lives t c) state lives) in
       ap (λ (t : State). cell_of t c) state
       ∙ (ap (λ l. cell_of (leads z l) c) split
-      ∙ (cell_held z n nowhere r.after A c legal' (partings_put nowhere r.after r.late) (λ e. e)
+      ∙ (cell_held z n in_no_cell r.after A c legal' (partings_put in_no_cell r.after r.late) (λ e. e)
       (in_later z (map (entry n) (y ∷ r.before)) d.seen c there) lives'
       ∙ cell_put (leads z (map (entry n) r.before ++ d.seen)) n c up r.was))

@@ -21,9 +21,9 @@ use Rattle.control_block.specs.Rule.{opening_of}
 use Rattle.control_block.specs.declared.handles.Shared.{Shared}
 use Rattle.scene_structures.specs.Chains.{IsList}
 use Rattle.scene_structures.specs.Observers.{Attaches, IsAttached, ups}
-use Rattle.scene_structures.specs.Puts.{PutsOnly, nowhere}
+use Rattle.scene_structures.specs.Puts.{PutsOnly, in_no_cell}
 use Rattle.scene_structures.specs.Stacks.{NextOf}
-use Rattle.scene_structures.specs.Watches.{weak_in}
+use Rattle.scene_structures.specs.Watches.{weak_of_owner}
 use Rattle.scene_structures.proofs.Alone.{all_wider}
 use Rattle.scene_structures.proofs.Frames.{Apart, chain_live, frames}
 use Rattle.scene_structures.proofs.Grows.{in_front, risen}
@@ -58,7 +58,7 @@ module _ {V : Type 0} where
       let w = a.watches in let r = a.rises in let b = a.block in
       let make = Make b false false (0 ∷ 0 ∷ 0 ∷ 0 ∷ []) x in
       let q : Place = record { block = record { 0 = b.0 }; field = 0 } in
-      let o = suc s.made in let up = weak_in d subject in
+      let o = suc s.made in let up = weak_of_owner d subject in
       let goes_m = goes_by_call d make a.made a.makes in
       let keep_m = All-cons KeepsDesks make [] tt (All-nil KeepsDesks) in
       let state_m = state_is d a.made (make ∷ []) goes_m keep_m legal sole in
@@ -69,7 +69,7 @@ module _ {V : Type 0} where
       let goes_f : Goes d head a.hung = goes_in_turn d (make ∷ []) a.made hang a.hung goes_m goes_h in
       let P = PutsOnly (UpOf o) in
       let puts_h : All P hang = All-append P w.after (Swap (Member o 2) up w.was ∷ w.before) (partings_put (UpOf o) w.after w.late)
-      (All-cons P (Swap (Member o 2) up w.was) w.before refl (all_wider nowhere (UpOf o) (λ c k. absurd k) w.before w.early)) in
+      (All-cons P (Swap (Member o 2) up w.was) w.before refl (all_wider in_no_cell (UpOf o) (λ c k. absurd k) w.before w.early)) in
       let puts_f : All P head = All-append P hang (make ∷ []) puts_h (All-cons P make [] tt (All-nil P)) in
       let keep_f = keep_all (UpOf o) head puts_f in
       let x' = Compare (Free m) r.below (owner o (Some q)) r.old true r.weak in let y' = Swap (Member o 1) r.below r.was in
@@ -122,7 +122,7 @@ module _ {V : Type 0} where
       let legal_w : IsLegal z F = subst (IsLegal z) whole legal_f in
       let kept_b = block_kept z (map (entry n) (swap ∷ w.before)) B o (omega arith) in
       let alive = subst (λ l. ((leads z l).object o).phase ≡ live) whole mine.1 in
-      let stays = member_run z n nowhere w.after (entry n swap ∷ W) o 2 legal_w (partings_put nowhere w.after w.late) (λ k. k) kept_b.1 alive in
+      let stays = member_run z n in_no_cell w.after (entry n swap ∷ W) o 2 legal_w (partings_put in_no_cell w.after w.late) (λ k. k) kept_b.1 alive in
       let put_in : ((leads z (entry n swap ∷ W)).object o).member 2 ≡ up =
       ap (λ (y : Object). y.member 2) (put_same (leads z W).object o _ o refl) ∙ put_same ((leads z W).object o).member 2 up 2 refl in
       let held : ((leads z M).object o).member 2 ≡ up = ap (λ l. ((leads z l).object o).member 2) whole ∙ (stays.0 ∙ put_in) in

@@ -16,7 +16,7 @@ use Rattle.control_block.specs.CellCalls.{handle_in, with_handle}
 use Rattle.control_word.specs.Histories.{leads}
 use Rattle.control_word.specs.declared.event.Entry.{Entry}
 use Rattle.control_word.specs.declared.shape.Shape.{Shape}
-use Rattle.control_block.specs.Desks.{Adds, Begins, Belongs, DeskNow, DomainNow, allowance_of, bag_of, latest_of}
+use Rattle.control_block.specs.Desks.{AddsEvent, IsFirstDesk, Belongs, DeskNow, DomainNow, allowance_of, bag_of, latest_of}
 use Rattle.shared_handle.specs.Piles.{AllEnd, Carries}
 use Rattle.shared_handle.specs.declared.pile.Pile.{Pile}
 use Rattle.control_block.specs.Own.{IsSole}
@@ -26,7 +26,7 @@ use Rattle.shared_handle.specs.Calls.{Makes}
 use Rattle.scene_structures.specs.Hands.{HasHands, Lists, node_in}
 use Rattle.scene_structures.specs.Pops.{TakesNode}
 use Rattle.scene_structures.specs.Puts.{PutsOnly}
-use Rattle.scene_structures.specs.Stacks.{FindsNone, IsBare, IsPopped, NextOf, Pushes, Rises, Serves}
+use Rattle.scene_structures.specs.Stacks.{FindsNone, IsEmptyList, IsPopped, NextOf, Pushes, Rises, ServesDomain}
 use Rattle.scene_structures.proofs.Hands.{first_lists, lists_first}
 use Rattle.scene_structures.proofs.Pushes.{rises_later, same_node}
 use Rattle.shared_handle.proofs.Goings.{does_one}
@@ -43,7 +43,8 @@ module _ {V : Type 0} where
 
   -- a new node, a look at the cell, and the rise
   pub pushes : (d m l e : DeskNow V) (c k : Cell) (fields : List ℕ) (x : V) (node : Shared) (got : Handle)
-      → Makes d false false fields x node.block node.place m → bag_of m ≡ with_handle Owner node.block node.place (bag_of d) → Adds m (Load k got) l
+      → Makes d false false fields x node.block node.place m → bag_of m ≡ with_handle Owner node.block node.place (bag_of d)
+      → AddsEvent m (Load k got) l
       → Rises l c (node_in l node) e → Pushes d c fields x e
   pushes d m l e c k fields x node got makes bag loads rises = go node.block refl makes
     where
@@ -66,7 +67,7 @@ module _ {V : Type 0} where
       → MatchOption r (FindsNone d (Free m) e) (λ h. TakesNode d (Free m) h e)
       → MatchOption r (HasHands base [] e) (λ h. HasHands base (h ∷ []) e) → IsLegal (opening_of d.shape) d.seen
       → m < (opening_of d.shape).cells → IsSole d
-      → MatchOption r (IsBare d (Free m) e) (λ h. IsPopped d (Free m) h e)
+      → MatchOption r (IsEmptyList d (Free m) e) (λ h. IsPopped d (Free m) h e)
   popped_or_bare d e m base None own hands legal lt sole = bare_list d e m own legal sole lt
   popped_or_bare d e m base (Some h) own hands legal lt sole = popped_list d e m h own legal sole lt (first_lists e base h [] hands)
 
@@ -78,15 +79,15 @@ module _ {V : Type 0} where
       (carries d record { table = refl; shape = refl }).room
 
   -- an empty pile serves
-  pub serves_empty : (domain : DomainNow) (d : DeskNow V) (p : Pile V) → Carries domain d p → p.endings.items ≡ [] → Serves domain p
+  pub serves_empty : (domain : DomainNow) (d : DeskNow V) (p : Pile V) → Carries domain d p → p.endings.items ≡ [] → ServesDomain domain p
   serves_empty domain d p carries none = record { none = none; room = carries.room }
 
   -- any desk of the domain
-  pub served : (domain : DomainNow) (d : DeskNow V) (p : Pile V) → Serves domain p → Belongs d domain → Carries domain d p
+  pub served : (domain : DomainNow) (d : DeskNow V) (p : Pile V) → ServesDomain domain p → Belongs d domain → Carries domain d p
   served domain d p serves belongs = record { belongs = belongs; ends = subst (AllEnd d) (sym serves.none) tt; room = serves.room }
 
   -- a domain's first desk
-  pub begins_whole : (domain : DomainNow) (d : DeskNow V) → Begins domain d → allowance_of d ≡ domain.shape.allowance
+  pub begins_whole : (domain : DomainNow) (d : DeskNow V) → IsFirstDesk domain d → allowance_of d ≡ domain.shape.allowance
   begins_whole domain d b =
       ap (λ (l : List (Entry V)). (leads (opening_of d.shape) l).allowance d.name) b.seen
       ∙ (ap (λ n. (opening_of d.shape).share n) b.name ∙ ap (λ (k : Shape). k.allowance) b.shape)

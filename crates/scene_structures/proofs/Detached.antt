@@ -15,21 +15,21 @@ use Rattle.control_word.specs.declared.place.Place.{Place}
 use Rattle.control_block.proofs.Bags.{shown_held}
 use Rattle.control_block.proofs.Own.{goes_in_turn}
 use Rattle.control_block.specs.CellCalls.{handle_in, without_handle}
-use Rattle.control_block.specs.Desks.{Adds, DeskNow, bag_of, state_of}
+use Rattle.control_block.specs.Desks.{AddsEvent, DeskNow, bag_of, state_of}
 use Rattle.control_block.specs.Own.{Does}
 use Rattle.control_block.specs.Rule.{opening_of}
 use Rattle.control_block.specs.declared.handles.Shared.{Shared}
 use Rattle.shared_handle.proofs.Goings.{does_both, does_none, does_one}
-use Rattle.shared_handle.specs.Calls.{Holds}
+use Rattle.control_block.specs.CellCalls.{HoldsHandle}
 use Rattle.shared_handle.specs.Endings.{IsWithin}
 use Rattle.shared_handle.specs.Piles.{IsParting}
 use Rattle.atomic_cells.specs.Sites.{IsMember, shared_cell}
 use Rattle.atomic_cells.specs.declared.shared_at.SharedAt.{SharedAt}
 use Rattle.atomic_cells.specs.declared.sites.SharedMember.TheVariants.{First, Next}
 use Rattle.atomic_cells.specs.declared.sites.SharedSite.TheVariants as shared
-use Rattle.scene_structures.specs.Detaches.{CutsOut, HandsSought, HeldSought, IsEnd, IsSought, Meets, Reaches, Seeks, Skips}
+use Rattle.scene_structures.specs.Detaches.{CutsOut, HandsSought, HeldSought, IsEnd, IsSought, Meets, ReachesNode, Seeks, Skips}
 use Rattle.scene_structures.specs.Hands.{HasHands, KeepsHeld, KeepsThese, Lists, SameNode, node_in, stacked}
-use Rattle.scene_structures.specs.Puts.{PutsOnly, nowhere}
+use Rattle.scene_structures.specs.Puts.{PutsOnly, in_no_cell}
 use Rattle.scene_structures.specs.Stacks.{FindsNone}
 use Rattle.scene_structures.specs.declared.cutting.Sought.{Sought}
 use Rattle.scene_structures.specs.declared.cutting.Sought.TheVariants.{Cut, End, Other}
@@ -48,14 +48,14 @@ block_same : (a b : Block) → a.0 ≡ b.0 → a ≡ b
 block_same a b e = λ i. record { 0 = e i }
 
 module _ {V : Type 0} where
-  pub puts_none : (d e : DeskNow V) → Does IsParting d e → Does (PutsOnly nowhere) d e
-  puts_none d e does = does_wider IsParting (PutsOnly nowhere) d e (parting_puts nowhere) does
+  pub puts_none : (d e : DeskNow V) → Does IsParting d e → Does (PutsOnly in_no_cell) d e
+  puts_none d e does = does_wider IsParting (PutsOnly in_no_cell) d e (parting_puts in_no_cell) does
 
   -- the node was skipped
   pub skips : (d m u e : DeskNow V) (c : Cell) (node below : Shared) (old : Handle) (member : SharedAt)
       → IsMember (λ k (x : SharedAt). x.site ≡ shared.Of k Next) node.block node.place (Ok member)
-      → Adds d (Load (shared_cell d member.site) (node_in m below)) m → SameNode d node m
-      → Adds m (Compare c (node_in m node) (node_in m below) old true true) u → Does IsParting u e → Skips d c (node_in d node) e
+      → AddsEvent d (Load (shared_cell d member.site) (node_in m below)) m → SameNode d node m
+      → AddsEvent m (Compare c (node_in m node) (node_in m below) old true true) u → Does IsParting u e → Skips d c (node_in d node) e
   skips d m u e c node below old member is loads same swaps leaves =
       let n : node_in d node ≡ handle_in d Owner (Some is.0.block) node.place = ap (λ b. handle_in d Owner b node.place) is.2 in
       let cell : shared_cell d member.site ≡ Member (object_of (node_in d node)) 1 =
@@ -64,18 +64,18 @@ module _ {V : Type 0} where
         below = node_in m below;
         old = old;
         read = m;
-        reads = subst (λ (k : Cell). Adds d (Load k (node_in m below)) m) cell loads;
+        reads = subst (λ (k : Cell). AddsEvent d (Load k (node_in m below)) m) cell loads;
         cut = u;
-        swaps = subst (λ (h : Handle). Adds m (Compare c h (node_in m below) old true true) u) same swaps;
+        swaps = subst (λ (h : Handle). AddsEvent m (Compare c h (node_in m below) old true true) u) same swaps;
         leaves = leaves;
       }
 
   -- or not
-  pub missed : (d m u e : DeskNow V) (k c : Cell) (h ex new held : Handle) → Adds d (Load k h) m → Adds m (Compare c ex new held false true) u
-      → Does IsParting u e → Does (PutsOnly nowhere) d e
+  pub missed : (d m u e : DeskNow V) (k c : Cell) (h ex new held : Handle) → AddsEvent d (Load k h) m → AddsEvent m (Compare c ex new held false true) u
+      → Does IsParting u e → Does (PutsOnly in_no_cell) d e
   missed d m u e k c h ex new held loads differs leaves =
-      does_both (PutsOnly nowhere) d u e (does_both (PutsOnly nowhere) d m u (does_one (PutsOnly nowhere) d m _ loads tt)
-      (does_one (PutsOnly nowhere) m u _ differs tt)) (puts_none u e leaves)
+      does_both (PutsOnly in_no_cell) d u e (does_both (PutsOnly in_no_cell) d m u (does_one (PutsOnly in_no_cell) d m _ loads tt)
+      (does_one (PutsOnly in_no_cell) m u _ differs tt)) (puts_none u e leaves)
 
   -- handles of one block are on one object
   same_on : (e : DeskNow V) (b c : Option Block) (p q : Option Place) → b ≡ c → object_of (handle_in e Owner b p) ≡ object_of (handle_in e Owner c q)
@@ -96,13 +96,13 @@ module _ {V : Type 0} where
       let n : a.0 ≡ b.0 = sym x.1 ∙ (ap (λ o. ((state_of e).object o).block) same ∙ y.1) in ap Some (block_same a b n)
 
   -- what was found is another
-  pub meets_other : (d e : DeskNow V) (c : Cell) (h node : Shared) → Adds d (Load c (node_in e h)) e → IsWithin h.block h.place
+  pub meets_other : (d e : DeskNow V) (c : Cell) (h node : Shared) → AddsEvent d (Load c (node_in e h)) e → IsWithin h.block h.place
       → IsWithin node.block node.place → IsLegal (opening_of e.shape) e.seen → Lists h.block h.place (bag_of e) → Lists node.block node.place (bag_of e)
       → SameNode d node e → (h.block ≡ node.block → ⊥) → Meets d c (object_of (node_in d node)) h e
   meets_other d e c h node loads within node_within legal lh ln same not =
       record {
         tried = d;
-        tries = does_none (PutsOnly nowhere) d;
+        tries = does_none (PutsOnly in_no_cell) d;
         loads = loads;
         within = within;
         other = λ is. not (other_on e h.block node.block h.place node.place legal lh ln within node_within (is ∙ ap object_of (sym same)));
@@ -115,12 +115,12 @@ module _ {V : Type 0} where
       ∙ ap Some (sym (ap (λ (b : Option Block). object_of (handle_in e Owner b h.place)) within.2))
 
   -- and here it is the node, which goes out
-  pub cuts_node : (d m e : DeskNow V) (c : Cell) (top node : Shared) → Adds d (Load c (node_in m top)) m → IsWithin top.block top.place
+  pub cuts_node : (d m e : DeskNow V) (c : Cell) (top node : Shared) → AddsEvent d (Load c (node_in m top)) m → IsWithin top.block top.place
       → top.block ≡ node.block → SameNode d node m → Skips m c (node_in m top) e → CutsOut d c (object_of (node_in d node)) e
   cuts_node d m e c top node loads within block same skipped =
       record {
         tried = d;
-        tries = does_none (PutsOnly nowhere) d;
+        tries = does_none (PutsOnly in_no_cell) d;
         node = node_in m top;
         is = on_some m top within ∙ ap Some (same_object m top node block ∙ ap object_of same);
         seen = m;
@@ -129,7 +129,7 @@ module _ {V : Type 0} where
       }
 
   -- a look after tries
-  none_later : (d l e : DeskNow V) (c : Cell) → Does (PutsOnly nowhere) d l → FindsNone l c e → FindsNone d c e
+  none_later : (d l e : DeskNow V) (c : Cell) → Does (PutsOnly in_no_cell) d l → FindsNone l c e → FindsNone d c e
   none_later d l e c does f =
       let k = f.looks in
       record {
@@ -142,19 +142,19 @@ module _ {V : Type 0} where
           sees = k.sees;
           looks = goes_in_turn d does.own l (k.look ∷ k.before) k.at does.goes k.looks;
           leaves = k.leaves;
-          early = All-append (PutsOnly nowhere) k.before does.own k.early does.all;
+          early = All-append (PutsOnly in_no_cell) k.before does.own k.early does.all;
           late = k.late;
           within = k.within;
         };
         none = f.none;
       }
 
-  pub sought_later : (d l e : DeskNow V) (c : Cell) (o : ℕ) (s : Sought) → Does (PutsOnly nowhere) d l → IsSought l c o s e → IsSought d c o s e
+  pub sought_later : (d l e : DeskNow V) (c : Cell) (o : ℕ) (s : Sought) → Does (PutsOnly in_no_cell) d l → IsSought l c o s e → IsSought d c o s e
   sought_later d l e c o End does is = none_later d l e c does is
   sought_later d l e c o Cut does is =
       record {
         tried = is.tried;
-        tries = does_both (PutsOnly nowhere) d l is.tried does is.tries;
+        tries = does_both (PutsOnly in_no_cell) d l is.tried does is.tries;
         node = is.node;
         is = is.is;
         seen = is.seen;
@@ -164,7 +164,7 @@ module _ {V : Type 0} where
   sought_later d l e c o (Other h) does is =
       record {
         tried = is.tried;
-        tries = does_both (PutsOnly nowhere) d l is.tried does is.tries;
+        tries = does_both (PutsOnly in_no_cell) d l is.tried does is.tries;
         loads = is.loads;
         within = is.within;
         other = is.other;
@@ -180,14 +180,14 @@ module _ {V : Type 0} where
 
   -- one more node was passed
   pub reaches_on : (d l t e : DeskNow V) (c : Cell) (o : ℕ) (bs : List ℕ) (node h : Shared) (member : SharedAt)
-      → IsMember (λ k (x : SharedAt). x.site ≡ shared.Of k Next) node.block node.place (Ok member) → Reaches d c o bs node l
-      → Meets l (shared_cell l member.site) o h t → Does IsParting t e → SameNode t h e → Reaches d c o (object_of (node_in l node) ∷ bs) h e
+      → IsMember (λ k (x : SharedAt). x.site ≡ shared.Of k Next) node.block node.place (Ok member) → ReachesNode d c o bs node l
+      → Meets l (shared_cell l member.site) o h t → Does IsParting t e → SameNode t h e → ReachesNode d c o (object_of (node_in l node) ∷ bs) h e
   reaches_on d l t e c o bs node h member is reaches meets leaves same =
       (node, l, t, reaches, refl, subst (λ (k : Cell). Meets l k o h t) (next_cell l node member is) meets, leaves, same)
 
   -- and it was the last one
   pub seeks_on : (d l t e : DeskNow V) (c : Cell) (o : ℕ) (bs : List ℕ) (node : Shared) (member : SharedAt) (found : Bool)
-      → IsMember (λ k (x : SharedAt). x.site ≡ shared.Of k Next) node.block node.place (Ok member) → Reaches d c o bs node l
+      → IsMember (λ k (x : SharedAt). x.site ≡ shared.Of k Next) node.block node.place (Ok member) → ReachesNode d c o bs node l
       → IsEnd l (shared_cell l member.site) o found t → Does IsParting t e → Seeks d c o (object_of (node_in l node) ∷ bs) found e
   seeks_on d l t e c o bs node member found is reaches ends leaves =
       (node, l, t, reaches, refl, subst (λ (k : Cell). IsEnd l k o found t) (next_cell l node member is) ends, leaves)
@@ -203,9 +203,9 @@ module _ {V : Type 0} where
   these_fewer d e hs base keeps k p b in' = keeps k p b (below_all hs base (handle k (Some b) p) in')
 
   -- an owner that points into its block is held where it is listed
-  pub within_holds : (d : DeskNow V) (h : Shared) → IsWithin h.block h.place → Lists h.block h.place (bag_of d) → Holds d Owner h.block h.place
+  pub within_holds : (d : DeskNow V) (h : Shared) → IsWithin h.block h.place → Lists h.block h.place (bag_of d) → HoldsHandle d Owner h.block h.place
   within_holds d h within lists =
-      subst (λ (b : Option Block). Holds d Owner b h.place) (sym within.2) (subst (λ (b : Option Block). Lists b h.place (bag_of d)) within.2 lists)
+      subst (λ (b : Option Block). HoldsHandle d Owner b h.place) (sym within.2) (subst (λ (b : Option Block). Lists b h.place (bag_of d)) within.2 lists)
 
   -- one of those below as a handle in hand
   pub hands_above : (d e : DeskNow V) (base : List Handle) (h : Shared) → HasHands base (h ∷ []) d → HasHands (stacked (h ∷ []) base) [] e
@@ -213,8 +213,8 @@ module _ {V : Type 0} where
   hands_above d e base h has below held = let f = has.few in record { bag = below.bag; few = omega arith }
 
   -- over a call by which none came and none went
-  pub holds_kept : (d e : DeskNow V) (b : Option Block) (p : Option Place) → bag_of e ≡ bag_of d → e.held ≡ d.held → Holds d Owner b p
-      → Holds e Owner b p
+  pub holds_kept : (d e : DeskNow V) (b : Option Block) (p : Option Place) → bag_of e ≡ bag_of d → e.held ≡ d.held → HoldsHandle d Owner b p
+      → HoldsHandle e Owner b p
   holds_kept d e None p bag held holds = let a = ap length bag in let few : length (bag_of d) < d.held = holds in omega arith
   holds_kept d e (Some b) p bag held holds = subst (Has (handle Owner (Some b.0) p)) (sym bag) holds
 

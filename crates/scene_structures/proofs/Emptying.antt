@@ -12,7 +12,7 @@ use Rattle.control_word.specs.declared.handle.Handle.{Handle}
 use Rattle.control_word.specs.declared.handle.Kind.TheVariants.{Weak}
 use Rattle.control_word.specs.declared.place.Block.{Block}
 use Rattle.control_word.specs.declared.place.Place.{Place}
-use Rattle.control_block.specs.Desks.{Adds, DeskNow, latest_of, on_latest, state_of}
+use Rattle.control_block.specs.Desks.{AddsEvent, DeskNow, latest_of, on_latest, state_of}
 use Rattle.control_block.specs.Rule.{opening_of}
 use Rattle.shared_handle.specs.Endings.{with_clear}
 use Rattle.shared_handle.specs.Calls.{LeavesWeakly}
@@ -73,7 +73,7 @@ module _ {V : Type 0} where
           }
 
   pub emptied : (d e : DeskNow V) (m : ℕ) (h : Handle) (f : Frame V) (fs : List (Frame V))
-      → Adds d (ClearMember (latest_of d f.top.block.0) m h) e → IsAlone d
+      → AddsEvent d (ClearMember (latest_of d f.top.block.0) m h) e → IsAlone d
       → Pend (state_of d) (f ∷ fs) → Empties (state_of d) (state_of e) f fs m h × (value_of e ≡ value_of d)
   emptied d e m h f fs adds a pend =
       let st = steps d e (ClearMember (latest_of d f.top.block.0) m h) adds a in
@@ -182,7 +182,7 @@ module _ {V : Type 0} where
 
   -- an object was finished
   pub finished : (d e : DeskNow V) (vacant : Bool) (v : V) (f : Frame V) (fs : List (Frame V))
-      → Adds d (Finish (latest_of d f.top.block.0) vacant v) e → IsAlone d
+      → AddsEvent d (Finish (latest_of d f.top.block.0) vacant v) e → IsAlone d
       → Pend (state_of d) (f ∷ fs) → Pend (state_of e) fs × (value_of e ≡ value_of d)
   finished d e vacant v f fs adds a pend =
       let st = steps d e (Finish (latest_of d f.top.block.0) vacant v) adds a in (

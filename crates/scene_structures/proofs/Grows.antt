@@ -23,7 +23,7 @@ use Rattle.control_word.specs.declared.handle.Kind.TheVariants.{Owner}
 use Rattle.control_word.specs.declared.place.Place.{Place}
 use Rattle.scene_structures.specs.Chains.{Chain, IsList}
 use Rattle.shared_handle.specs.Piles.{IsParting}
-use Rattle.scene_structures.specs.Puts.{PutsOnly, nowhere}
+use Rattle.scene_structures.specs.Puts.{PutsOnly, in_no_cell}
 use Rattle.scene_structures.specs.Stacks.{NextOf}
 use Rattle.control_word.proofs.history.Cells.{InState}
 use Rattle.control_word.specs.declared.event.Cell.{Cell}
@@ -32,7 +32,7 @@ use Rattle.scene_structures.proofs.Heads.{IsHead, Lives, cell_put, frames_at, in
 use Rattle.scene_structures.proofs.Lives.{keeps_run}
 use Rattle.scene_structures.proofs.Rows.{partings_put}
 
-pub apart_nowhere : (os : List ℕ) → Apart nowhere os
+pub apart_nowhere : (os : List ℕ) → Apart in_no_cell os
 apart_nowhere [] = tt
 apart_nowhere (o ∷ os) = (λ e. e, apart_nowhere os)
 
@@ -100,11 +100,11 @@ module _ {V : Type 0} where
       let legal' : IsLegal z (map (entry d) late ++ C) = subst (IsLegal z) split legal in
       let legalC : IsLegal z C = legal_seen z (map (entry d) late) C legal' in
       let s = leads z T in
-      let ends = partings_put nowhere late last in
+      let ends = partings_put in_no_cell late last in
       let there_s = in_later z (map (entry d) row) seen c there in
       let there_u = in_later z (entry d x ∷ []) T c there_s in
       let alive' = subst (λ l. Lives (leads z l) c) split alive in
-      let alive_u = lives_run z d nowhere late C c ends there_u alive' in
+      let alive_u = lives_run z d in_no_cell late C c ends there_u alive' in
       let only = λ (k : Cell). k ≡ c in
       let alive_s = lives_run z d only (x ∷ []) T c (All-cons (PutsOnly only) x [] refl (All-nil (PutsOnly only))) there_s alive_u in
       let n = frames_at z d at row seen c os legalC.0
@@ -138,4 +138,4 @@ module _ {V : Type 0} where
       ) in
       let list_u : IsList u c (o ∷ os) = subst (λ (h : Handle). Chain u h (o ∷ os)) (sym (cell_put s d c node old)) chain_u in
       subst (λ l. IsList (leads z l) c (o ∷ os)) (sym split)
-      (frames_at z d nowhere late C c (o ∷ os) legal' ends there_u alive' (λ e. e) (apart_nowhere (o ∷ os)) list_u)
+      (frames_at z d in_no_cell late C c (o ∷ os) legal' ends there_u alive' (λ e. e) (apart_nowhere (o ∷ os)) list_u)

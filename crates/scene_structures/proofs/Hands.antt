@@ -12,7 +12,7 @@ use Rattle.control_word.specs.declared.place.Block.{Block}
 use Rattle.control_word.specs.declared.place.Place.{Place}
 use Rattle.control_block.specs.Desks.{DeskNow, bag_of}
 use Rattle.control_block.specs.declared.handles.Shared.{Shared}
-use Rattle.shared_handle.specs.Calls.{Holds, with_handle, without_handle}
+use Rattle.control_block.specs.CellCalls.{HoldsHandle, with_handle, without_handle}
 use Rattle.shared_handle.proofs.Callers.{first_out}
 use Rattle.scene_structures.specs.Hands.{HasHands, Lists, stacked}
 use Rattle.shared_handle.specs.Endings.{IsWithin}
@@ -64,27 +64,27 @@ lists_under None c p q l is = tt
 lists_under (Some b) c p q l is = under c q _ l is
 
 module _ {V : Type 0} where
-  holds_listed : (d : DeskNow V) (b : Option Block) (p : Option Place) (l : List Handle) → bag_of d ≡ l → Listed b p l d.held → Holds d Owner b p
+  holds_listed : (d : DeskNow V) (b : Option Block) (p : Option Place) (l : List Handle) → bag_of d ≡ l → Listed b p l d.held → HoldsHandle d Owner b p
   holds_listed d None p l bag is = subst (λ m. length m < d.held) (sym bag) is
   holds_listed d (Some b) p l bag is = subst (Has (handle Owner (Some b.0) p)) (sym bag) is
 
-  pub holds_first : (d : DeskNow V) (base : List Handle) (h : Shared) (hs : List Shared) → HasHands base (h ∷ hs) d → Holds d Owner h.block h.place
+  pub holds_first : (d : DeskNow V) (base : List Handle) (h : Shared) (hs : List Shared) → HasHands base (h ∷ hs) d → HoldsHandle d Owner h.block h.place
   holds_first d base h hs has =
       let a = stacked_most hs base in let b = has.few in
       holds_listed d h.block h.place _ has.bag (listed h.block h.place (stacked hs base) d.held (omega arith))
 
   pub holds_second : (d : DeskNow V) (base : List Handle) (f h : Shared) (hs : List Shared) → HasHands base (f ∷ h ∷ hs) d
-      → Holds d Owner h.block h.place
+      → HoldsHandle d Owner h.block h.place
   holds_second d base f h hs has =
       let a = stacked_most hs base in let b = has.few in
       holds_listed d h.block h.place _ has.bag (listed_second h.block f.block h.place f.place (stacked hs base) d.held (omega arith))
 
   -- of three, the last, which has an object
   pub holds_third : (d : DeskNow V) (base : List Handle) (e f h : Shared) → IsWithin h.block h.place → HasHands base (e ∷ f ∷ h ∷ []) d
-      → Holds d Owner h.block h.place
+      → HoldsHandle d Owner h.block h.place
   holds_third d base e f h node has = go h.block h.place node refl refl
     where
-      go : (b : Option Block) (p : Option Place) → IsWithin b p → h.block ≡ b → h.place ≡ p → Holds d Owner b p
+      go : (b : Option Block) (p : Option Place) → IsWithin b p → h.block ≡ b → h.place ≡ p → HoldsHandle d Owner b p
       go None p (q, place, block) e1 e2 = absurd (cc block)
       go (Some b) p node e1 e2 =
           subst (Has (handle Owner (Some b.0) p)) (sym has.bag) (under e.block e.place _

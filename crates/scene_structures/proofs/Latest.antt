@@ -18,7 +18,7 @@ use Rattle.control_word.specs.declared.shape.Shape.{Shape}
 use Rattle.control_block.proofs.Bags.{seen_as, shown, shown_held}
 use Rattle.control_block.proofs.Latest.{calls_keep_latest}
 use Rattle.control_block.specs.CellCalls.{with_handle, without_handle}
-use Rattle.control_block.specs.Desks.{Adds, DeskNow, HasHandle, bag_of, latest_of}
+use Rattle.control_block.specs.Desks.{AddsEvent, DeskNow, HasHandle, bag_of, latest_of}
 use Rattle.control_block.specs.Own.{KeepsLatest}
 use Rattle.control_block.specs.Rule.{opening_of}
 use Rattle.shared_handle.specs.Calls.{LeavesWeakly}
@@ -54,7 +54,7 @@ has_over k (Some b) p x l has = inr has
 
 module _ {V : Type 0} where
   -- what a desk has, it has still when a member of an object that ends was emptied
-  has_cleared : (d e : DeskNow V) (o m : ℕ) (h : Handle) → Adds d (ClearMember o m h) e → (k : Kind) (p : Option Place) (b : ℕ)
+  has_cleared : (d e : DeskNow V) (o m : ℕ) (h : Handle) → AddsEvent d (ClearMember o m h) e → (k : Kind) (p : Option Place) (b : ℕ)
       → HasHandle d k p b → HasHandle e k p b
   has_cleared d e o m h adds k p b has =
       let z = opening_of d.shape in
@@ -89,7 +89,7 @@ module _ {V : Type 0} where
   weak_latest d e None p v is = λ k q c has. latest_none d e (ap (λ (u : DeskNow V). u.shape) is.0) (ap (λ (u : DeskNow V). u.seen) is.0) c
   weak_latest d e (Some b) p v is = calls_keep_latest d _ e is
 
-  out_latest : (d m e : DeskNow V) (o j : ℕ) (h : Handle) → Adds d (ClearMember o j h) m → KeepsLatest m e → KeepsLatest d e
+  out_latest : (d m e : DeskNow V) (o j : ℕ) (h : Handle) → AddsEvent d (ClearMember o j h) m → KeepsLatest m e → KeepsLatest d e
   out_latest d m e o j h adds keeps k p b has =
       keeps k p b (has_cleared d m o j h adds k p b has) ∙ calls_keep_latest d _ m adds k p b has
 

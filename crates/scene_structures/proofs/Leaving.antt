@@ -19,7 +19,7 @@ use Rattle.control_block.specs.Rule.{opening_of}
 use Rattle.control_block.specs.declared.handles.Shared.{Shared}
 use Rattle.shared_handle.proofs.Goings.{does_both, does_none, does_one, weak_does}
 use Rattle.shared_handle.specs.Endings.{IsWithin}
-use Rattle.shared_handle.specs.Locks.{Locks}
+use Rattle.shared_handle.specs.Locks.{LocksHandle}
 use Rattle.shared_handle.specs.Piles.{IsParting}
 use Rattle.scene_structures.specs.Chains.{IsList}
 use Rattle.scene_structures.specs.Detaches.{Detaches, LeavesParent, Seeks, UnlinksIf}
@@ -27,7 +27,7 @@ use Rattle.scene_structures.specs.Hands.{Lists, node_in}
 use Rattle.scene_structures.specs.Leaves.{IsCut, IsDetached, IsNoChild, KeepsBut, LeavesList, after_all}
 use Rattle.scene_structures.specs.Parents.{IsParent, LocksUp}
 use Rattle.scene_structures.specs.Prunes.{is_owned}
-use Rattle.scene_structures.specs.Puts.{PutsOnly, nowhere}
+use Rattle.scene_structures.specs.Puts.{PutsOnly, in_no_cell}
 use Rattle.scene_structures.specs.Scenes.{AreChildren}
 use Rattle.scene_structures.proofs.Alone.{held_on, legal_on}
 use Rattle.scene_structures.proofs.Cuts.{end_of, onto}
@@ -44,7 +44,7 @@ use Rattle.scene_structures.proofs.Unlinking.{unlinked_list, unlinks_does, wider
 
 module _ {V : Type 0} where
   -- the object left the list, or wasn't in it
-  left_list : (p o : ℕ) (os passed : List ℕ) (found : Bool) (d a s u e : DeskNow V) → Does (PutsOnly nowhere) d a
+  left_list : (p o : ℕ) (os passed : List ℕ) (found : Bool) (d a s u e : DeskNow V) → Does (PutsOnly in_no_cell) d a
       → Seeks a (Member p 0) o passed found s → UnlinksIf found s o u → Does IsParting u e → Stood (Member p 0) d → Stood (Member o 1) d
       → Stood (Member o 2) d → AreChildren (state_of d) p os → Lives (state_of e) (Member p 0) → Lives (state_of e) (Member o 1)
       → LeavesList d p o os e ⊎ IsNoChild d p o os e
@@ -54,17 +54,17 @@ module _ {V : Type 0} where
       let does_s = seeks_does a s c o passed true seeks in
       let does_u = unlinks_does s u o unlinks in
       let does_e = puts_nothing u e leaves in
-      let st_a = stood_on nowhere c d a comes st in
+      let st_a = stood_on in_no_cell c d a comes st in
       let st_s = stood_on at c a s does_s st_a in
       let st_uu = stood_on at_o c s u does_u st_s in
-      let next_s = stood_on at n a s does_s (stood_on nowhere n d a comes st_n) in
+      let next_s = stood_on at n a s does_s (stood_on in_no_cell n d a comes st_n) in
       let next_u = stood_on at_o n s u does_u next_s in
-      let up_s = stood_on at w a s does_s (stood_on nowhere w d a comes st_u) in
+      let up_s = stood_on at w a s does_s (stood_on in_no_cell w d a comes st_u) in
       let up_u = stood_on at_o w s u does_u up_s in
-      let lives_u = lived nowhere c u e does_e st_uu lives in
+      let lives_u = lived in_no_cell c u e does_e st_uu lives in
       let lives_s = lived at_o c s u does_u st_s lives_u in
       let lives_a = lived at c a s does_s st_a lives_s in
-      let next_lives = lived nowhere n u e does_e next_u lives_o in
+      let next_lives = lived in_no_cell n u e does_e next_u lives_o in
       let list_a = list_stays c os d a comes st lives_a list in
       let out : IsOut (state_of s) c os passed o true = sought_list a s c o passed true os seeks (head_of p) st_a lives_s list_a in
       let behind = out.0 in
@@ -85,37 +85,38 @@ module _ {V : Type 0} where
         was = out.1 ∙ onto_more passed [] (o ∷ behind);
         is = subst (λ l. IsList (state_of e) c l) (onto_more passed [] behind)
             (list_stays c (onto passed behind) u e does_e st_uu lives done.list);
-        next = held_on nowhere u e does_e next_u.legal next_u.sole n (λ j. j) next_u.there lives_o ∙ done.next;
-        up = held_on nowhere u e does_e up_u.legal up_u.sole w (λ j. j) up_u.there lives_o ∙ done.up;
+        next = held_on in_no_cell u e does_e next_u.legal next_u.sole n (λ j. j) next_u.there lives_o ∙ done.next;
+        up = held_on in_no_cell u e does_e up_u.legal up_u.sole w (λ j. j) up_u.there lives_o ∙ done.up;
         rest = keeps_but all d e whole st.legal st.sole;
       }
   left_list p o os passed false d a s u e comes seeks unlinks leaves st st_n st_u list lives lives_o =
       let c = Member p 0 in
-      let does_s : Does (PutsOnly nowhere) a s = wider (IfCut (end_of c passed) false) nowhere a s (λ j is. is) (seeks_does a s c o passed false seeks) in
+      let does_s : Does (PutsOnly in_no_cell) a s =
+      wider (IfCut (end_of c passed) false) in_no_cell a s (λ j is. is) (seeks_does a s c o passed false seeks) in
       let does_e = puts_nothing u e leaves in
-      let st_a = stood_on nowhere c d a comes st in
-      let st_s = stood_on nowhere c a s does_s st_a in
-      let to_e : Does (PutsOnly nowhere) s e = subst (λ (x : DeskNow V). Does (PutsOnly nowhere) x e) unlinks does_e in
-      let lives_s = lived nowhere c s e to_e st_s lives in
-      let lives_a = lived nowhere c a s does_s st_a lives_s in
+      let st_a = stood_on in_no_cell c d a comes st in
+      let st_s = stood_on in_no_cell c a s does_s st_a in
+      let to_e : Does (PutsOnly in_no_cell) s e = subst (λ (x : DeskNow V). Does (PutsOnly in_no_cell) x e) unlinks does_e in
+      let lives_s = lived in_no_cell c s e to_e st_s lives in
+      let lives_a = lived in_no_cell c a s does_s st_a lives_s in
       let list_a = list_stays c os d a comes st lives_a list in
       let out : IsOut (state_of s) c os passed o false = sought_list a s c o passed false os seeks (head_of p) st_a lives_s list_a in
-      let whole = does_both (PutsOnly nowhere) d a e comes (does_both (PutsOnly nowhere) a s e does_s to_e) in
+      let whole = does_both (PutsOnly in_no_cell) d a e comes (does_both (PutsOnly in_no_cell) a s e does_s to_e) in
       inr record {
         none = out.1;
         is = list_stays c os s e to_e st_s lives out.0;
-        rest = keeps_but nowhere d e whole st.legal st.sole;
+        rest = keeps_but in_no_cell d e whole st.legal st.sole;
       }
 
   -- a look for the parent puts nothing anywhere
-  locks_none : (d e : DeskNow V) (b : Option Block) (p : Option Place) (got : Bool) → Locks d b p got e → Does (PutsOnly nowhere) d e
-  locks_none d e None p got is = (shares_does nowhere d e None p p is.1).0
-  locks_none d e (Some b) p got is = does_one (PutsOnly nowhere) d e _ is.0 tt
+  locks_none : (d e : DeskNow V) (b : Option Block) (p : Option Place) (got : Bool) → LocksHandle d b p got e → Does (PutsOnly in_no_cell) d e
+  locks_none d e None p got is = (shares_does in_no_cell d e None p p is.1).0
+  locks_none d e (Some b) p got is = does_one (PutsOnly in_no_cell) d e _ is.0 tt
 
-  climbs_does : (d e : DeskNow V) (o : ℕ) (h : Shared) → LocksUp d o h e → Does (PutsOnly nowhere) d e
+  climbs_does : (d e : DeskNow V) (o : ℕ) (h : Shared) → LocksUp d o h e → Does (PutsOnly in_no_cell) d e
   climbs_does d e o h a =
-      does_both (PutsOnly nowhere) d a.loaded e (does_one (PutsOnly nowhere) d a.loaded _ a.loads tt)
-      (does_both (PutsOnly nowhere) a.loaded a.locked e (locks_none a.loaded a.locked a.block a.place _ a.locks)
+      does_both (PutsOnly in_no_cell) d a.loaded e (does_one (PutsOnly in_no_cell) d a.loaded _ a.loads tt)
+      (does_both (PutsOnly in_no_cell) a.loaded a.locked e (locks_none a.loaded a.locked a.block a.place _ a.locks)
       (puts_nothing a.locked e (weak_does a.locked e a.block a.place a.vacant a.leaves)))
 
   stood_at : (d : DeskNow V) (o m : ℕ) → IsLegal (opening_of d.shape) d.seen → IsSole d → ((state_of d).object o).phase ≡ live → m < 3
@@ -160,14 +161,14 @@ module _ {V : Type 0} where
       m : DeskNow V
       m = a.climbed
 
-      does_m : Does (PutsOnly nowhere) d m
+      does_m : Does (PutsOnly in_no_cell) d m
       does_m = climbs_does d m o a.parent a.climbs
 
       nobody : (b : Option Block) → a.parent.block ≡ b
           → MatchOption b (Does IsParting m e) (λ x. LeavesParent m (object_of (node_in m a.parent)) o e)
-          → is_owned (state_of d) (((state_of d).object o).member 2) ≡ false → KeepsBut nowhere d e
+          → is_owned (state_of d) (((state_of d).object o).member 2) ≡ false → KeepsBut in_no_cell d e
       nobody None is rest none =
-          keeps_but nowhere d e (does_both (PutsOnly nowhere) d m e does_m (puts_nothing m e rest)) legal sole
+          keeps_but in_no_cell d e (does_both (PutsOnly in_no_cell) d m e does_m (puts_nothing m e rest)) legal sole
       nobody (Some b) is rest none =
           let up = ((state_of d).object o).member 2 in
           let there : None ≡ (handle_in m Owner (Some b) a.parent.place).object =
@@ -191,7 +192,7 @@ module _ {V : Type 0} where
           let x = subst (λ j. LeavesParent m j o e) (object_is (node_in m a.parent) p on) rest in
           let lives_p = owned_lives d (((state_of d).object o).member 2) p legal up owned in
           let zero : 0 < 3 = omega arith in let one : 1 < 3 = omega arith in let two : 2 < 3 = omega arith in
-          left_list p o os x.passed x.found d x.at x.sought x.unlinked e (does_both (PutsOnly nowhere) d m x.at does_m x.comes) x.seeks x.unlinks
+          left_list p o os x.passed x.found d x.at x.sought x.unlinked e (does_both (PutsOnly in_no_cell) d m x.at does_m x.comes) x.seeks x.unlinks
           x.leaves (stood_at d p 0 legal sole lives_p zero) (stood_at d o 1 legal sole lives_d one) (stood_at d o 2 legal sole lives_d two)
           list lives lives_e
 

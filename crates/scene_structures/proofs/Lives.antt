@@ -13,7 +13,7 @@ use Rattle.control_word.specs.declared.event.Event.{Event}
 use Rattle.control_word.specs.declared.event.Entry.{Entry}
 use Rattle.control_word.specs.declared.event.Event.TheVariants.{ClearMember, Finish, Leave, WeakLeave}
 use Rattle.shared_handle.specs.Piles.{IsParting}
-use Rattle.scene_structures.specs.Puts.{nowhere}
+use Rattle.scene_structures.specs.Puts.{in_no_cell}
 use Rattle.std.specs.Prelude.{All}
 use Rattle.std.proofs.lemmas.List.Elements.{All-head, All-tail}
 use Rattle.scene_structures.proofs.Frames.{Keeps, keeps_after}
@@ -48,5 +48,5 @@ module _ {V : Type 0} where
       let before = phase_back s d o x first lives in
       let made = was_made z s o (sound z h legal.0) (λ e. let t = before in cc) in
       let t = keeps_run z d o xs seen legal.0 (All-tail IsParting x xs all) before in
-      let k = keeps_after s d x nowhere o legal.1.asks (parting_puts nowhere x first) (λ n. n) before (omega arith) in
+      let k = keeps_after s d x in_no_cell o legal.1.asks (parting_puts in_no_cell x first) (λ n. n) before (omega arith) in
       record { block = k.block ∙ t.block; next = k.next ∙ t.next }

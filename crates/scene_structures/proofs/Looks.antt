@@ -15,7 +15,7 @@ use Rattle.control_word.specs.declared.shape.Shape.{Shape}
 use Rattle.control_block.proofs.Bags.{shown_held}
 use Rattle.control_block.proofs.Own.{goes_by_call, goes_in_turn}
 use Rattle.control_block.specs.CellCalls.{handle_in}
-use Rattle.control_block.specs.Desks.{Adds, DeskNow, bag_of, latest_of, state_of}
+use Rattle.control_block.specs.Desks.{AddsEvent, DeskNow, bag_of, latest_of, state_of}
 use Rattle.control_block.specs.Own.{Does}
 use Rattle.control_block.specs.Rule.{opening_of}
 use Rattle.control_block.specs.declared.handles.Shared.{Shared}
@@ -24,11 +24,11 @@ use Rattle.std.proofs.Common.{Result, Err}
 use Rattle.control_word.specs.declared.refusal.Refusal.{Refusal}
 use Rattle.control_word.specs.declared.refusal.Refusal.TheVariants.{Null, Outside}
 use Rattle.atomic_cells.specs.Sites.{IsMember}
-use Rattle.scene_structures.specs.Chains.{Owns}
+use Rattle.scene_structures.specs.Chains.{OwnsObject}
 use Rattle.scene_structures.specs.Hands.{Lists, node_in}
 use Rattle.shared_handle.specs.Piles.{IsParting}
-use Rattle.scene_structures.specs.Puts.{PutsOnly, nowhere}
-use Rattle.scene_structures.specs.Stacks.{FindsNone, Looks, Sees, Takes}
+use Rattle.scene_structures.specs.Puts.{PutsOnly, in_no_cell}
+use Rattle.scene_structures.specs.Stacks.{FindsNone, Looks, Sees, PopsNode}
 use Rattle.scene_structures.proofs.Rows.{partings_put}
 
 same_block : (a b : Block) → a.0 ≡ b.0 → a ≡ b
@@ -37,10 +37,10 @@ same_block a b e = λ i. record { 0 = e i }
 module _ {V : Type 0} where
   -- what a desk holds points into the block of what it owns, if it points into what it owns
   pub within_held : (d : DeskNow V) (h : Shared) → IsLegal (opening_of d.shape) d.seen → Lists h.block h.place (bag_of d) → (o : ℕ)
-      → Owns (state_of d) (node_in d h) o → IsWithin h.block h.place
+      → OwnsObject (state_of d) (node_in d h) o → IsWithin h.block h.place
   within_held d h legal lists o owns = go h.block h.place lists owns
     where
-      go : (b : Option Block) (p : Option Place) → Lists b p (bag_of d) → Owns (state_of d) (handle_in d Owner b p) o → IsWithin b p
+      go : (b : Option Block) (p : Option Place) → Lists b p (bag_of d) → OwnsObject (state_of d) (handle_in d Owner b p) o → IsWithin b p
       go None p lists owns = absurd (let e : None ≡ Some o = ap (λ (x : Handle). x.object) owns.1 in cc)
       go (Some c) p lists owns =
           let q = owns.0 in
@@ -51,11 +51,11 @@ module _ {V : Type 0} where
           let block : c.0 ≡ q.block.0 = sym held.1 ∙ (ap (λ n. ((state_of d).object n).block) number ∙ sym owns.2) in
           (q, place, ap Some (same_block c q.block block))
 
-  pub legal_after : (d e : DeskNow V) (x : Event V) → Adds d x e → IsLegal (opening_of e.shape) e.seen
+  pub legal_after : (d e : DeskNow V) (x : Event V) → AddsEvent d x e → IsLegal (opening_of e.shape) e.seen
   legal_after d e x adds = subst (λ (k : Shape). IsLegal (opening_of k) e.seen) (sym adds.same.1) adds.legal
 
   -- the first look
-  pub looks_first : (d e : DeskNow V) (c : Cell) (h : Shared) → Adds d (Load c (node_in e h)) e → Lists h.block h.place (bag_of e) → Looks d c h e
+  pub looks_first : (d e : DeskNow V) (c : Cell) (h : Shared) → AddsEvent d (Load c (node_in e h)) e → Lists h.block h.place (bag_of e) → Looks d c h e
   looks_first d e c h adds lists =
       record {
         at = e;
@@ -65,23 +65,23 @@ module _ {V : Type 0} where
         sees = (refl, refl);
         looks = goes_by_call d _ e adds;
         leaves = Rattle.control_block.proofs.Own.goes_by_none e;
-        early = All-nil (PutsOnly nowhere);
+        early = All-nil (PutsOnly in_no_cell);
         late = All-nil IsParting;
         within = within_held e h (legal_after d e _ adds) lists;
       }
 
-  pub sees_none : (c : Cell) (h : Handle) (x : Event V) → Sees c h x → PutsOnly nowhere x
+  pub sees_none : (c : Cell) (h : Handle) (x : Event V) → Sees c h x → PutsOnly in_no_cell x
   sees_none c h (Load k got) sees = tt
   sees_none c h (Compare k expected new got false weak) sees = tt
   sees_none c h x sees = absurd sees
 
-  pub looks_does : (d e : DeskNow V) (c : Cell) (h : Shared) → Looks d c h e → Does (PutsOnly nowhere) d e
+  pub looks_does : (d e : DeskNow V) (c : Cell) (h : Shared) → Looks d c h e → Does (PutsOnly in_no_cell) d e
   looks_does d e c h l =
       record {
         own = l.after ++ l.look ∷ l.before;
         goes = goes_in_turn d (l.look ∷ l.before) l.at l.after e l.looks l.leaves;
-        all = All-append (PutsOnly nowhere) l.after (l.look ∷ l.before) (partings_put nowhere l.after l.late)
-            (All-cons (PutsOnly nowhere) l.look l.before (sees_none c (node_in l.at h) l.look l.sees) l.early);
+        all = All-append (PutsOnly in_no_cell) l.after (l.look ∷ l.before) (partings_put in_no_cell l.after l.late)
+            (All-cons (PutsOnly in_no_cell) l.look l.before (sees_none c (node_in l.at h) l.look l.sees) l.early);
       }
 
   -- the look was the last one, and found no node
@@ -107,8 +107,8 @@ module _ {V : Type 0} where
 
   -- a load and a compare that differs
   pub looks_again : (d e m u f : DeskNow V) (c : Cell) (h held : Shared) (k : Cell) (below ex new : Handle) (w : Bool) → Looks d c h e
-      → Adds e (Load k below) m
-      → Adds m (Compare c ex new (node_in u held) false w) u → Lists held.block held.place (bag_of u) → Does IsParting u f → Looks d c held f
+      → AddsEvent e (Load k below) m
+      → AddsEvent m (Compare c ex new (node_in u held) false w) u → Lists held.block held.place (bag_of u) → Does IsParting u f → Looks d c held f
   looks_again d e m u f c h held k below ex new w l loads differs lists does =
       let a = looks_does d e c h l in
       let x = Load k below in let y = Compare c ex new (node_in u held) false w in
@@ -121,15 +121,15 @@ module _ {V : Type 0} where
         looks = goes_in_turn d (x ∷ a.own) m (y ∷ []) u (goes_in_turn d a.own e (x ∷ []) m a.goes (goes_by_call e x m loads))
             (goes_by_call m y u differs);
         leaves = does.goes;
-        early = All-cons (PutsOnly nowhere) x a.own tt a.all;
+        early = All-cons (PutsOnly in_no_cell) x a.own tt a.all;
         late = does.all;
         within = within_held u held (legal_after m u _ differs) lists;
       }
 
   -- a load and a compare that swaps
   pub takes : (d e m u f : DeskNow V) (c : Cell) (h : Shared) (o : ℕ) (q : Place) (below old : Handle) (w : Bool) → Looks d c h e
-      → Adds e (Load (Member o 1) below) m
-      → Adds m (Compare c (owner o (Some q)) below old true w) u → Does IsParting u f → Takes d c o q f
+      → AddsEvent e (Load (Member o 1) below) m
+      → AddsEvent m (Compare c (owner o (Some q)) below old true w) u → Does IsParting u f → PopsNode d c o q f
   takes d e m u f c h o q below old w l loads swaps does =
       let a = looks_does d e c h l in
       let x = Load (Member o 1) below in let y = Compare c (owner o (Some q)) below old true w in

@@ -12,11 +12,11 @@ use Rattle.control_word.specs.declared.event.Event.{Event}
 use Rattle.control_word.specs.declared.event.Event.TheVariants.{ClearMember, Finish, Leave, WeakLeave}
 use Rattle.control_word.specs.declared.handle.Handle.{Handle}
 use Rattle.control_block.proofs.Endings.{ends_here, still_ends}
-use Rattle.control_block.specs.Desks.{Adds, DeskNow, IsEnding, Keeps, KeepsEndings, endings_of, latest_of, member_in, object_in, state_of}
+use Rattle.control_block.specs.Desks.{AddsEvent, DeskNow, IsEnding, Keeps, KeepsEndings, endings_of, latest_of, member_in, object_in, state_of}
 use Rattle.control_block.specs.Rule.{opening_of}
 use Rattle.shared_handle.proofs.Beside.{ends_through_clear}
 use Rattle.shared_handle.specs.Calls.{LeavesWeakly, counting}
-use Rattle.shared_handle.specs.Endings.{Ends, IsClearing, IsLeft}
+use Rattle.shared_handle.specs.Endings.{EndsInHand, IsClearing, IsLeft}
 use Rattle.shared_handle.specs.Piles.{AllEnd, IsRound, KeepsElsewhere, NotAmong}
 use Rattle.shared_handle.specs.declared.endings.Ending.{Ending}
 use Rattle.shared_handle.specs.declared.endings.Left.{Left}
@@ -66,7 +66,7 @@ module _ {V : Type 0} where
       → NotAmong b ys × IsEnding e b x
   still_there d e xs ys b x all keeps ends n =
       let w : Ending V = record { block = record { 0 = b }; value = x; first = false; next = false; up = false } in
-      let is : Ends d w = record { ends = ends; first = λ t. absurd (cc t); next = λ t. absurd (cc t); up = λ t. absurd (cc t) } in
+      let is : EndsInHand d w = record { ends = ends; first = λ t. absurd (cc t); next = λ t. absurd (cc t); up = λ t. absurd (cc t) } in
       let a = keeps.beside w (is, n, all) in (a.1, a.0.ends)
 
   -- an owner left
@@ -77,7 +77,7 @@ module _ {V : Type 0} where
   -- a call by which the members of what ends in the block hang nowhere
   members_through : (d e : DeskNow V) (b : ℕ) (x : Event V) → ((s : State) → (after s d.name x).latest b ≡ s.latest b)
       → ((s : State) (m : ℕ) → ((after s d.name x).object (latest_of d b)).member m ≡ (s.object (latest_of d b)).member m)
-      → (object_in d b).phase ≡ ending d.name → Adds d x e → (m : ℕ) → member_in e b m ≡ member_in d b m
+      → (object_in d b).phase ≡ ending d.name → AddsEvent d x e → (m : ℕ) → member_in e b m ≡ member_in d b m
   members_through d e b x block member ends adds m =
       let z = opening_of d.shape in
       let legal = subst (IsLegal z) adds.seen adds.legal in
@@ -88,7 +88,8 @@ module _ {V : Type 0} where
       ∙ (ap (λ o. ((after s d.name x).object o).member m) (block s ∙ still.latest)
       ∙ (member s m ∙ still.object.member m))
 
-  member_leave : (d e : DeskNow V) (b : ℕ) (h : Handle) (last : Bool) → (object_in d b).phase ≡ ending d.name → Adds d (Leave h last) e → (m : ℕ)
+  member_leave : (d e : DeskNow V) (b : ℕ) (h : Handle) (last : Bool) → (object_in d b).phase ≡ ending d.name
+      → AddsEvent d (Leave h last) e → (m : ℕ)
       → member_in e b m ≡ member_in d b m
   member_leave d e b h false = members_through d e b (Leave h false) (λ s. refl)
       (λ s m. ap (λ f. (f (latest_of d b)).member m) (put_again s.object (object_of h)))
@@ -96,11 +97,11 @@ module _ {V : Type 0} where
       (λ s m. put_cases (λ j (y : Object). y.member m ≡ (s.object j).member m) s.object (object_of h)
       (moved_to (ending d.name) (s.object (object_of h))) (latest_of d b) (λ q. ap (λ j. (s.object j).member m) (sym q)) (λ n. refl))
 
-  member_weak : (d e : DeskNow V) (b : ℕ) (h : Handle) (v : _) → (object_in d b).phase ≡ ending d.name → Adds d (WeakLeave h v) e → (m : ℕ)
+  member_weak : (d e : DeskNow V) (b : ℕ) (h : Handle) (v : _) → (object_in d b).phase ≡ ending d.name → AddsEvent d (WeakLeave h v) e → (m : ℕ)
       → member_in e b m ≡ member_in d b m
   member_weak d e b h v = members_through d e b (WeakLeave h v) (λ s. refl) (λ s m. refl)
 
-  member_finish : (d e : DeskNow V) (b o : ℕ) (v : _) (y : V) → (object_in d b).phase ≡ ending d.name → Adds d (Finish o v y) e → (m : ℕ)
+  member_finish : (d e : DeskNow V) (b o : ℕ) (v : _) (y : V) → (object_in d b).phase ≡ ending d.name → AddsEvent d (Finish o v y) e → (m : ℕ)
       → member_in e b m ≡ member_in d b m
   member_finish d e b o v y = members_through d e b (Finish o v y) (λ s. refl)
       (λ s m. put_cases (λ j (w : Object). w.member m ≡ (s.object j).member m) s.object o
@@ -114,7 +115,7 @@ module _ {V : Type 0} where
       other (sym (ends_here z s c d.name fine two) ∙ (ap (λ o. (s.object o).block) (sym same) ∙ ends_here z s b d.name fine one))
 
   member_clear : (d e : DeskNow V) (b c j : ℕ) (h : Handle) → c ≢ b → (object_in d b).phase ≡ ending d.name
-      → (object_in d c).phase ≡ ending d.name → Adds d (ClearMember (latest_of d c) j h) e → (m : ℕ) → member_in e b m ≡ member_in d b m
+      → (object_in d c).phase ≡ ending d.name → AddsEvent d (ClearMember (latest_of d c) j h) e → (m : ℕ) → member_in e b m ≡ member_in d b m
   member_clear d e b c j h other one two adds =
       let z = opening_of d.shape in let o = latest_of d c in
       let legal = subst (IsLegal z) adds.seen adds.legal in

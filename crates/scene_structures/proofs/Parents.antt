@@ -18,22 +18,23 @@ use Rattle.control_word.specs.declared.place.Place.{Place}
 use Rattle.control_block.proofs.Latest.{calls_keep_latest}
 use Rattle.control_block.proofs.Sole.{comes_next}
 use Rattle.control_block.specs.CellCalls.{handle_in, with_handle}
-use Rattle.control_block.specs.Desks.{Adds, DeskNow, bag_of, latest_of, state_of}
+use Rattle.control_block.specs.Desks.{AddsEvent, DeskNow, bag_of, latest_of, state_of}
 use Rattle.control_block.specs.LockCalls.{state_before}
 use Rattle.control_block.specs.LockPlays.{earlier}
 use Rattle.control_block.specs.Own.{IsSole, KeepsLatest}
 use Rattle.control_block.specs.Rule.{opening_of}
 use Rattle.control_block.specs.declared.handles.Shared.{Shared}
 use Rattle.shared_handle.proofs.Goings.{does_one}
-use Rattle.shared_handle.specs.Calls.{Holds, LeavesWeakly}
-use Rattle.shared_handle.specs.Locks.{IsOwnerOf, Locks}
+use Rattle.shared_handle.specs.Calls.{LeavesWeakly}
+use Rattle.control_block.specs.CellCalls.{HoldsHandle}
+use Rattle.shared_handle.specs.Locks.{IsOwnerOf, LocksHandle}
 use Rattle.atomic_cells.specs.Cells.{Loads}
 use Rattle.atomic_cells.specs.Sites.{IsMember, weak_cell}
 use Rattle.atomic_cells.specs.declared.sites.WeakSite.TheVariants as site
 use Rattle.atomic_cells.specs.declared.weak_at.WeakAt.{WeakAt}
 use Rattle.scene_structures.specs.Hands.{node_in}
 use Rattle.scene_structures.specs.Parents.{IsParent, LocksUp, owner_of}
-use Rattle.scene_structures.specs.Puts.{PutsOnly, nowhere}
+use Rattle.scene_structures.specs.Puts.{PutsOnly, in_no_cell}
 use Rattle.scene_structures.proofs.Alone.{sole_on}
 use Rattle.scene_structures.proofs.Calls.{got_lists}
 use Rattle.scene_structures.proofs.Latest.{has_over, weak_latest}
@@ -48,7 +49,7 @@ weak_counts s d q n p =
 
 module _ {V : Type 0} where
   -- what a sole desk loads is what it has seen there
-  pub looked_up : (d m : DeskNow V) (c : Cell) (h : Handle) → Adds d (Load c h) m → IsLegal (opening_of d.shape) d.seen → IsSole d
+  pub looked_up : (d m : DeskNow V) (c : Cell) (h : Handle) → AddsEvent d (Load c h) m → IsLegal (opening_of d.shape) d.seen → IsSole d
       → (h ≡ cell_of (state_of d) c) × (state_of m ≡ gets d.name h (state_of d))
   looked_up d m c h loads legal sole =
       let z = opening_of d.shape in
@@ -57,7 +58,7 @@ module _ {V : Type 0} where
 
   pub locks_up : (d m n e : DeskNow V) (node h : Shared) (at : WeakAt) (b : Option Block) (p : Option Place) (v : Bool)
       → IsMember (λ c (x : WeakAt). x.site ≡ site.Up c) node.block node.place (Ok at) → Loads d (weak_cell d at.site) Weak b p m
-      → Locks m b p (is_some h.block) n → IsOwnerOf b p (is_some h.block) h → bag_of n ≡ with_handle Owner h.block h.place (bag_of m)
+      → LocksHandle m b p (is_some h.block) n → IsOwnerOf b p (is_some h.block) h → bag_of n ≡ with_handle Owner h.block h.place (bag_of m)
       → LeavesWeakly n b p v e → LocksUp d (object_of (node_in d node)) h e
   locks_up d m n e node h at b p v (q, place, block, is) loads locks owned bag leaves =
       let cell : weak_cell d at.site ≡ Member (object_of (node_in d node)) 2 =
@@ -76,12 +77,13 @@ module _ {V : Type 0} where
       }
 
   -- what the desk has is on the object that it was on
-  lock_latest : (d e : DeskNow V) (b : Option Block) (p : Option Place) (got : Bool) → Locks d b p got e → KeepsLatest d e
-  lock_latest d e None p got is = (shares_does nowhere d e None p p is.1).1
+  lock_latest : (d e : DeskNow V) (b : Option Block) (p : Option Place) (got : Bool) → LocksHandle d b p got e → KeepsLatest d e
+  lock_latest d e None p got is = (shares_does in_no_cell d e None p p is.1).1
   lock_latest d e (Some b) p got is = calls_keep_latest d _ e is.0
 
-  pub climb_latest : (d m n e : DeskNow V) (x : Event V) (b hb : Option Block) (p hp : Option Place) (got v : Bool) → Adds d x m
-      → bag_of m ≡ with_handle Weak b p (bag_of d) → Locks m b p got n → bag_of n ≡ with_handle Owner hb hp (bag_of m) → LeavesWeakly n b p v e
+  pub climb_latest : (d m n e : DeskNow V) (x : Event V) (b hb : Option Block) (p hp : Option Place) (got v : Bool) → AddsEvent d x m
+      → bag_of m ≡ with_handle Weak b p (bag_of d) → LocksHandle m b p got n → bag_of n ≡ with_handle Owner hb hp (bag_of m)
+      → LeavesWeakly n b p v e
       → KeepsLatest d e
   climb_latest d m n e x b hb p hp got v loads bag_m locks bag_n leaves k q c has =
       let h = handle k (Some c) q in
@@ -91,7 +93,7 @@ module _ {V : Type 0} where
 
   -- on a sole desk
   parent_is : (d e : DeskNow V) (o : ℕ) (h : Shared) (a : LocksUp d o h e) → IsLegal (opening_of d.shape) d.seen → IsSole d
-      → Holds a.loaded Weak a.block a.place → IsParent d o h e
+      → HoldsHandle a.loaded Weak a.block a.place → IsParent d o h e
   parent_is d e o h a legal sole holds = go a.block a.place holds a.loads a.locks a.is
     where
       s : State
@@ -103,8 +105,8 @@ module _ {V : Type 0} where
       none : h.block ≡ None → h.place ≡ None → node_in e h ≡ empty Owner
       none block place = λ i. handle_in e Owner (block i) (place i)
 
-      go : (b : Option Block) (p : Option Place) → Holds a.loaded Weak b p → Loads d (Member o 2) Weak b p a.loaded
-          → Locks a.loaded b p (is_some h.block) a.locked → IsOwnerOf b p (is_some h.block) h → node_in e h ≡ owner_of s up
+      go : (b : Option Block) (p : Option Place) → HoldsHandle a.loaded Weak b p → Loads d (Member o 2) Weak b p a.loaded
+          → LocksHandle a.loaded b p (is_some h.block) a.locked → IsOwnerOf b p (is_some h.block) h → node_in e h ≡ owner_of s up
       go None p held loads locks is =
           let look = (looked_up d a.loaded (Member o 2) _ loads legal sole).0 in
           let gone = subst (λ g. IsOwnerOf None p g h) locks.0 is in
@@ -112,7 +114,7 @@ module _ {V : Type 0} where
       go (Some b) p held loads locks is =
           let m = a.loaded in let n = a.locked in let q = latest_of m b.0 in
           let look = looked_up d m (Member o 2) _ loads legal sole in
-          let sole_m = sole_on nowhere d m (does_one (PutsOnly nowhere) d m _ loads tt) legal sole in
+          let sole_m = sole_on in_no_cell d m (does_one (PutsOnly in_no_cell) d m _ loads tt) legal sole in
           let next = comes_next m _ n locks.0 sole_m in
           let before : state_before n ≡ state_of m = λ i. leads (opening_of (locks.0.same.1 i)) (earlier (next i)) in
           let owners : count (state_before n) q ≡ count s q =
@@ -133,8 +135,8 @@ module _ {V : Type 0} where
 
   pub parent_found : (d m n e : DeskNow V) (node h : Shared) (at : WeakAt) (b : Option Block) (p : Option Place) (v : Bool)
       → IsMember (λ c (x : WeakAt). x.site ≡ site.Up c) node.block node.place (Ok at) → Loads d (weak_cell d at.site) Weak b p m
-      → Locks m b p (is_some h.block) n → IsOwnerOf b p (is_some h.block) h → bag_of n ≡ with_handle Owner h.block h.place (bag_of m)
-      → LeavesWeakly n b p v e → IsLegal (opening_of d.shape) d.seen → IsSole d → Holds m Weak b p → IsParent d (object_of (node_in d node)) h e
+      → LocksHandle m b p (is_some h.block) n → IsOwnerOf b p (is_some h.block) h → bag_of n ≡ with_handle Owner h.block h.place (bag_of m)
+      → LeavesWeakly n b p v e → IsLegal (opening_of d.shape) d.seen → IsSole d → HoldsHandle m Weak b p → IsParent d (object_of (node_in d node)) h e
   unfolding locks_up
   parent_found d m n e node h at b p v member loads locks owned bag leaves legal sole holds =
       parent_is d e (object_of (node_in d node)) h (locks_up d m n e node h at b p v member loads locks owned bag leaves) legal sole holds

@@ -15,16 +15,16 @@ use Rattle.control_word.specs.declared.handle.Kind.TheVariants.{Owner}
 use Rattle.control_word.specs.declared.place.Block.{Block}
 use Rattle.control_word.specs.declared.place.Place.{Place}
 use Rattle.control_block.specs.CellCalls.{handle_in}
-use Rattle.control_block.specs.Desks.{Adds, DeskNow, latest_of, on_latest, state_of}
+use Rattle.control_block.specs.Desks.{AddsEvent, DeskNow, latest_of, on_latest, state_of}
 use Rattle.control_block.specs.Rule.{opening_of}
 use Rattle.control_block.proofs.Sole.{comes_next}
-use Rattle.shared_handle.specs.Endings.{Ends, IsLeft, IsUncleared}
+use Rattle.shared_handle.specs.Endings.{EndsInHand, IsLeft, IsUncleared}
 use Rattle.shared_handle.specs.Piles.{gone_of, piled}
 use Rattle.shared_handle.specs.declared.endings.Ending.{Ending}
 use Rattle.shared_handle.specs.declared.endings.Left.{Left}
 use Rattle.shared_handle.specs.declared.endings.Left.TheVariants as left
-use Rattle.scene_structures.specs.Teardowns.{ended_by, top_value}
-use Rattle.scene_structures.specs.Trees.{IsTree, Tree, bare, in_order, node}
+use Rattle.scene_structures.specs.Teardowns.{values_ended_by, top_value}
+use Rattle.scene_structures.specs.Trees.{IsTree, Tree, bare, objects_in_order, node}
 use Rattle.scene_structures.proofs.Standing.{IsAlone}
 use Rattle.scene_structures.proofs.Trees.{ending_live, in_no_member, leave_member, one_lives}
 use Rattle.scene_structures.proofs.Trees.{tree_left}
@@ -51,7 +51,7 @@ module _ {V : Type 0} where
   -- what will end
   abbrev pub left_of : List (Frame V) → List ℕ
   left_of [] = []
-  left_of (f ∷ fs) = in_order f.first ++ (in_order f.next ++ left_of fs)
+  left_of (f ∷ fs) = objects_in_order f.first ++ (objects_in_order f.next ++ left_of fs)
 
   pub record Pends (s : State) (f : Frame V) : Type 0 where
     pub is : s.latest f.top.block.0 ≡ f.object
@@ -89,7 +89,7 @@ module _ {V : Type 0} where
     pub state : state_of e ≡ after (state_of d) d.name x
     pub values : value_of e ≡ valued (state_of d) x (value_of d)
 
-  pub steps : (d e : DeskNow V) (x : Event V) → Adds d x e → IsAlone d → Steps d x e
+  pub steps : (d e : DeskNow V) (x : Event V) → AddsEvent d x e → IsAlone d → Steps d x e
   steps d e x adds a =
       let z = opening_of d.shape in
       let next = comes_next d x e adds a.sole in
@@ -107,7 +107,7 @@ module _ {V : Type 0} where
     pub pend : Pend (state_of e) frames
     pub values : value_of e ≡ value_of d
     pub told : (zs : List (Ending V)) → zs ≡ piled (base ++ endings fs) left
-        → map Some (ended_by (gone_of left) zs) ++ map (value_of d) (left_of frames) ≡ map (value_of d) (in_order tree ++ left_of fs)
+        → map Some (values_ended_by (gone_of left) zs) ++ map (value_of d) (left_of frames) ≡ map (value_of d) (objects_in_order tree ++ left_of fs)
 
   pub top_of : (xs : List (Ending V)) (x : Ending V) → top_value (xs ++ x ∷ []) ≡ x.value ∷ []
   top_of [] x = refl
@@ -132,7 +132,7 @@ module _ {V : Type 0} where
 
   -- the last owner of a tree's top leaves
   pub lets_last : (d e : DeskNow V) (base : List (Ending V)) (p : Option Place) (x : Ending V) (fs : List (Frame V)) (first next : Tree)
-      → Adds d (Leave (on_latest d Owner p x.block.0) true) e → Ends e x → IsUncleared x → IsAlone d
+      → AddsEvent d (Leave (on_latest d Owner p x.block.0) true) e → EndsInHand e x → IsUncleared x → IsAlone d
       → count (state_of d) (latest_of d x.block.0) ≡ 1
       → IsTree (state_of d) (((state_of d).object (latest_of d x.block.0)).member 0) first
       → IsTree (state_of d) (((state_of d).object (latest_of d x.block.0)).member 1) next → Pend (state_of d) fs
@@ -206,12 +206,12 @@ module _ {V : Type 0} where
       kept = ap (λ f. f o) (sym st.values) ∙ (ap (λ (k : State). value_of e (k.latest x.block.0)) (sym st.state) ∙ ends.ends.kept)
 
       tell : (zs : List (Ending V)) → zs ≡ (base ++ endings fs) ++ x ∷ []
-          → map Some (top_value zs) ++ map (value_of d) (left_of (top ∷ fs)) ≡ map (value_of d) (in_order (node o first next) ++ left_of fs)
+          → map Some (top_value zs) ++ map (value_of d) (left_of (top ∷ fs)) ≡ map (value_of d) (objects_in_order (node o first next) ++ left_of fs)
       tell zs is =
           let value : top_value zs ≡ x.value ∷ [] = ap top_value is ∙ top_of (base ++ endings fs) x in
           ap (λ l. map Some l ++ map (value_of d) (left_of (top ∷ fs))) value
           ∙ ((λ i. sym kept i ∷ map (value_of d) (left_of (top ∷ fs)))
-          ∙ ap (λ l. value_of d o ∷ map (value_of d) l) (sym (append_assoc (in_order first) (in_order next) (left_of fs))))
+          ∙ ap (λ l. value_of d o ∷ map (value_of d) l) (sym (append_assoc (objects_in_order first) (objects_in_order next) (left_of fs))))
 
   -- the top of a tree ends
   pub lets_top : (d e : DeskNow V) (base : List (Ending V)) (b : Option Block) (p : Option Place) (l : Left V) (fs : List (Frame V))

@@ -13,11 +13,12 @@ use Rattle.control_word.specs.declared.place.Place.{Place}
 use Rattle.control_word.specs.declared.shape.Shape.{Shape}
 use Rattle.control_block.proofs.Latest.{calls_keep_latest}
 use Rattle.control_block.specs.CellCalls.{handle_in, with_handle, without_handle}
-use Rattle.control_block.specs.Desks.{Adds, DeskNow, bag_of, latest_of}
+use Rattle.control_block.specs.Desks.{AddsEvent, DeskNow, bag_of, latest_of}
 use Rattle.control_block.specs.Own.{Does, KeepsLatest}
 use Rattle.control_block.specs.declared.handles.Shared.{Shared}
 use Rattle.shared_handle.proofs.Callers.{first_out}
-use Rattle.shared_handle.specs.Calls.{Holds, IsExpiry, LeavesWeakly}
+use Rattle.shared_handle.specs.Calls.{IsExpiry, LeavesWeakly}
+use Rattle.control_block.specs.CellCalls.{HoldsHandle}
 use Rattle.shared_handle.specs.Endings.{IsWithin}
 use Rattle.shared_handle.specs.Piles.{IsParting}
 use Rattle.atomic_cells.specs.Sites.{IsMember, shared_cell, weak_cell}
@@ -27,7 +28,7 @@ use Rattle.atomic_cells.specs.declared.sites.SharedSite.TheVariants as shared
 use Rattle.atomic_cells.specs.declared.sites.WeakSite.TheVariants as weak
 use Rattle.atomic_cells.specs.declared.weak_at.WeakAt.{WeakAt}
 use Rattle.scene_structures.specs.Hands.{HasHands, IsOpenBy, KeepsHeld, Lists, SameNode, node_in, stacked}
-use Rattle.scene_structures.specs.Prunes.{Asks, Clears, Finds, Passes, Prunes, SameKept}
+use Rattle.scene_structures.specs.Prunes.{AsksExpired, ClearsFront, Finds, PassesNode, Prunes, SameKept}
 use Rattle.scene_structures.proofs.Hands.{holds_first, holds_second, lists_first, most}
 use Rattle.scene_structures.proofs.Latest.{has_over, weak_latest}
 
@@ -43,7 +44,7 @@ module _ {V : Type 0} where
   expiry_latest d e None p gone is = λ k q c has. ap (λ (u : DeskNow V). latest_of u c) is.1
   expiry_latest d e (Some b) p gone is = calls_keep_latest d _ e is
 
-  pub asks_latest : (d m n e : DeskNow V) (x : Event V) (b : Option Block) (p : Option Place) (gone v : Bool) → Adds d x m
+  pub asks_latest : (d m n e : DeskNow V) (x : Event V) (b : Option Block) (p : Option Place) (gone v : Bool) → AddsEvent d x m
       → bag_of m ≡ with_handle Weak b p (bag_of d) → IsExpiry m b p gone n → bag_of n ≡ bag_of m → LeavesWeakly n b p v e
       → bag_of e ≡ without_handle Weak b p (bag_of n) → KeepsHeld d e
   asks_latest d m n e x b p gone v loads bag_m is bag_n leaves bag_e k q c has =
@@ -55,8 +56,8 @@ module _ {V : Type 0} where
       weak_latest n e b p v leaves k q c in_n ∙ (expiry_latest m n b p gone is k q c in_m ∙ calls_keep_latest d x m loads k q c had)
 
   -- a node, and what its `up` was asked
-  pub finds : (d m e : DeskNow V) (c : Cell) (top : Shared) (up : WeakAt) (gone : Bool) → Adds d (Load c (node_in m top)) m
-      → IsMember (λ k (x : WeakAt). x.site ≡ weak.Up k) top.block top.place (Ok up) → Asks m (weak_cell m up.site) gone e → SameNode m top e
+  pub finds : (d m e : DeskNow V) (c : Cell) (top : Shared) (up : WeakAt) (gone : Bool) → AddsEvent d (Load c (node_in m top)) m
+      → IsMember (λ k (x : WeakAt). x.site ≡ weak.Up k) top.block top.place (Ok up) → AsksExpired m (weak_cell m up.site) gone e → SameNode m top e
       → Finds d c top gone e × IsWithin top.block top.place
   finds d m e c top up gone loads is asks same =
       let n : node_in m top ≡ handle_in m Owner (Some is.0.block) top.place = ap (λ b. handle_in m Owner b top.place) is.2 in
@@ -64,8 +65,8 @@ module _ {V : Type 0} where
       ap (weak_cell m) is.3 ∙ sym (ap (λ (h : Handle). Member (object_of h) 2) (same ∙ n)) in (
         record {
           loaded = m;
-          loads = subst (λ (h : Handle). Adds d (Load c h) m) (sym same) loads;
-          asks = subst (λ (k : Cell). Asks m k gone e) cell asks;
+          loads = subst (λ (h : Handle). AddsEvent d (Load c h) m) (sym same) loads;
+          asks = subst (λ (k : Cell). AsksExpired m k gone e) cell asks;
         },
         (is.0, is.1, is.2),
       )
@@ -73,8 +74,8 @@ module _ {V : Type 0} where
   -- what comes next went into the cell
   pub passes : (d m u e : DeskNow V) (c : Cell) (node next old : Shared) (member : SharedAt)
       → IsMember (λ k (x : SharedAt). x.site ≡ shared.Of k Next) node.block node.place (Ok member)
-      → Adds d (Load (shared_cell d member.site) (node_in m next)) m → Adds m (Swap c (node_in m next) (node_in u old)) u → Does IsParting u e
-      → Passes d c (object_of (node_in d node)) e
+      → AddsEvent d (Load (shared_cell d member.site) (node_in m next)) m → AddsEvent m (Swap c (node_in m next) (node_in u old)) u → Does IsParting u e
+      → PassesNode d c (object_of (node_in d node)) e
   passes d m u e c node next old member is loads swaps leaves =
       let n : node_in d node ≡ handle_in d Owner (Some is.0.block) node.place = ap (λ b. handle_in d Owner b node.place) is.2 in
       let cell : shared_cell d member.site ≡ Member (object_of (node_in d node)) 1 =
@@ -82,7 +83,7 @@ module _ {V : Type 0} where
       record {
         next = node_in m next;
         seen = m;
-        loads = subst (λ (k : Cell). Adds d (Load k (node_in m next)) m) cell loads;
+        loads = subst (λ (k : Cell). AddsEvent d (Load k (node_in m next)) m) cell loads;
         old = node_in u old;
         cut = u;
         swaps = swaps;
@@ -104,17 +105,18 @@ module _ {V : Type 0} where
   left_in_hand d t base node None has hands held = let f = has.few in record { bag = hands.bag; few = omega arith }
   left_in_hand d t base node (Some h) has hands held = let f = has.few in record { bag = hands.bag; few = omega arith }
 
-  pub left_holds : (t : DeskNow V) (base : List Handle) (node : Shared) (last : Option Shared) → Left base node last t → Holds t Owner node.block node.place
+  pub left_holds : (t : DeskNow V) (base : List Handle) (node : Shared) (last : Option Shared) → Left base node last t
+      → HoldsHandle t Owner node.block node.place
   left_holds t base node None left = holds_first t base node [] left
   left_holds t base node (Some h) left = holds_second t base h node [] left
 
   -- the list below one more node was cleared, and the node let go
   pub descends : (d l t e : DeskNow V) (c : Cell) (os : List ℕ) (a b : ℕ) (node : Shared) (member : SharedAt) (last : Option Shared)
       → IsMember (λ k (x : SharedAt). x.site ≡ shared.Of k Next) node.block node.place (Ok member) → Prunes d c os a (Some node) l
-      → Clears l (shared_cell l member.site) b last t → Does IsParting t e → SameKept t last e
+      → ClearsFront l (shared_cell l member.site) b last t → Does IsParting t e → SameKept t last e
       → Prunes d c (object_of (node_in l node) ∷ os) (a + b) last e
   descends d l t e c os a b node member last is prunes clears leaves same =
       let n : node_in l node ≡ handle_in l Owner (Some is.0.block) node.place = ap (λ k. handle_in l Owner k node.place) is.2 in
       let cell : shared_cell l member.site ≡ Member (object_of (node_in l node)) 1 =
       ap (shared_cell l) is.3 ∙ sym (ap (λ (h : Handle). Member (object_of h) 1) n) in
-      (a, b, node, l, t, prunes, refl, subst (λ (k : Cell). Clears l k b last t) cell clears, leaves, same, refl)
+      (a, b, node, l, t, prunes, refl, subst (λ (k : Cell). ClearsFront l k b last t) cell clears, leaves, same, refl)

@@ -11,11 +11,11 @@ use Rattle.control_word.specs.declared.handle.Kind.TheVariants.{Owner}
 use Rattle.control_word.specs.declared.place.Block.{Block}
 use Rattle.control_word.specs.declared.place.Place.{Place}
 use Rattle.control_block.specs.CellCalls.{handle_in, with_handle, without_handle}
-use Rattle.control_block.specs.Desks.{Adds, DeskNow, bag_of, state_of}
+use Rattle.control_block.specs.Desks.{AddsEvent, DeskNow, bag_of, state_of}
 use Rattle.shared_handle.proofs.Callers.{first_out}
 use Rattle.control_block.specs.declared.handles.Shared.{Shared}
-use Rattle.shared_handle.specs.Calls.{Shares, counting}
-use Rattle.atomic_cells.specs.Compares.{GivesBack, bag_compared, came_out, has_swapped}
+use Rattle.shared_handle.specs.Calls.{SharesOwner, counting}
+use Rattle.atomic_cells.specs.Compares.{GivesBackDesired, bag_compared, came_out, has_swapped}
 use Rattle.atomic_cells.specs.declared.compared.Compared.{Compared}
 use Rattle.atomic_cells.specs.declared.compared.Compared.TheVariants.{Differs, Swapped}
 use Rattle.atomic_cells.specs.Sites.{IsMember, shared_cell}
@@ -42,14 +42,14 @@ module _ {V : Type 0} where
   -- a store into the node's `next`
   pub fills : (d m e : DeskNow V) (node : Shared) (at : SharedAt) (below old : Handle)
       → IsMember (λ c (x : SharedAt). x.site ≡ site.Of c Next) node.block node.place (Ok at)
-      → Adds d (Swap (shared_cell d at.site) below old) m → Does IsParting m e → Fills d (object_of (node_in d node)) below e
+      → AddsEvent d (Swap (shared_cell d at.site) below old) m → Does IsParting m e → Fills d (object_of (node_in d node)) below e
   fills d m e node at below old (q, place, block, is) adds does =
       let cell : shared_cell d at.site ≡ Member (object_of (node_in d node)) 1 =
       ap (shared_cell d) is ∙ ap (λ (b : Option Block). Member (object_of (handle_in d Owner b node.place)) 1) (sym block) in
       record {
         was = old;
         between = does.own;
-        goes = goes_in_turn d _ m does.own e (goes_by_call d _ m (subst (λ (k : Cell). Adds d (Swap k below old) m) cell adds)) does.goes;
+        goes = goes_in_turn d _ m does.own e (goes_by_call d _ m (subst (λ (k : Cell). AddsEvent d (Swap k below old) m) cell adds)) does.goes;
         leaves = does.all;
       }
 
@@ -73,7 +73,7 @@ module _ {V : Type 0} where
   same_left d e h keeps lists = same_listed d e h (λ b is. keeps Owner h.place b.0 (listed_some h (bag_of e) b is lists))
 
   -- over the two steps of a store, which put in what lay above the rest
-  pub held_stored : (d m e : DeskNow V) (b ob : Option Block) (p op : Option Place) (c : Cell) (x y : Handle) → Adds d (Swap c x y) m
+  pub held_stored : (d m e : DeskNow V) (b ob : Option Block) (p op : Option Place) (c : Cell) (x y : Handle) → AddsEvent d (Swap c x y) m
       → bag_of m ≡ with_handle Owner ob op (without_handle Owner b p (bag_of d)) → bag_of e ≡ without_handle Owner ob op (bag_of m)
       → KeepsHeld m e → KeepsHeld d e
   held_stored d m e b ob p op c x y adds bag left keeps k q n has =
@@ -83,7 +83,7 @@ module _ {V : Type 0} where
       keeps k q n has ∙ calls_keep_latest d _ m adds k q n (has_all Owner b p _ (bag_of d) rest)
 
   -- a share is an event or, of an empty handle, none
-  pub shares_does : (at : Cell → Type 0) (d e : DeskNow V) (b : Option Block) (p q : Option Place) → Shares d b p q e
+  pub shares_does : (at : Cell → Type 0) (d e : DeskNow V) (b : Option Block) (p q : Option Place) → SharesOwner d b p q e
       → Does (PutsOnly at) d e × KeepsLatest d e
   shares_does at d e None p q is =
       let none : Does (PutsOnly at) d (counting (d.held + 1) d) =
@@ -95,7 +95,7 @@ module _ {V : Type 0} where
 
   -- the whole of a try that swapped
   pub rises : (d s t u v : DeskNow V) (c : Cell) (node below top old : Handle) (w : Bool)
-      → Does (PutsOnly (NextOf (object_of node))) d s → Fills s (object_of node) below t → Adds t (Compare c top node old true w) u → top ≡ below
+      → Does (PutsOnly (NextOf (object_of node))) d s → Fills s (object_of node) below t → AddsEvent t (Compare c top node old true w) u → top ≡ below
       → Does IsParting u v
       → Rises d c node v
   rises d s t u v c node below top old w a f adds same b =
@@ -107,7 +107,7 @@ module _ {V : Type 0} where
         before = a.own;
         between = f.between;
         after = b.own;
-        goes = let swapped = subst (λ (x : Handle). Adds t (Compare c x node old true w) u) same adds in
+        goes = let swapped = subst (λ (x : Handle). AddsEvent t (Compare c x node old true w) u) same adds in
             let one = goes_in_turn d a.own s (f.between ++ Swap (Member (object_of node) 1) below f.was ∷ []) t a.goes f.goes in
             let path : ((f.between ++ Swap (Member (object_of node) 1) below f.was ∷ []) ++ a.own) ≡
             (f.between ++ Swap (Member (object_of node) 1) below f.was ∷ a.own) =
@@ -120,7 +120,7 @@ module _ {V : Type 0} where
 
   -- and of one that differed
   pub tries : (d s t u v : DeskNow V) (c : Cell) (o : ℕ) (ex new below got : Handle) (w : Bool)
-      → Does (PutsOnly (NextOf o)) d s → Fills s o below t → Adds t (Compare c ex new got false w) u → Does IsParting u v
+      → Does (PutsOnly (NextOf o)) d s → Fills s o below t → AddsEvent t (Compare c ex new got false w) u → Does IsParting u v
       → Does (PutsOnly (NextOf o)) d v
   tries d s t u v c o ex new below got w a f adds b =
       let p = PutsOnly (NextOf o) in
@@ -146,10 +146,11 @@ module _ {V : Type 0} where
     swapped_held old is held = let a = subst (λ (x : Compared Shared). u.held ≡ t.held + cond (has_swapped x) 0 1) is held in omega arith
 
     pub swapped_event : (at : Cell) (ex new : Handle) (old : Shared) → r ≡ Swapped old
-        → Adds t (Compare at ex new (handle_in u Owner (came_out r).block (came_out r).place) (has_swapped r) true) u
-        → Adds t (Compare at ex new (handle_in u Owner old.block old.place) true true) u
+        → AddsEvent t (Compare at ex new (handle_in u Owner (came_out r).block (came_out r).place) (has_swapped r) true) u
+        → AddsEvent t (Compare at ex new (handle_in u Owner old.block old.place) true true) u
     swapped_event at ex new old is adds =
-        subst (λ (x : Compared Shared). Adds t (Compare at ex new (handle_in u Owner (came_out x).block (came_out x).place) (has_swapped x) true) u) is adds
+        subst (λ (x : Compared Shared). AddsEvent t (Compare at ex new (handle_in u Owner (came_out x).block (came_out x).place) (has_swapped x)
+        true) u) is adds
 
     pub differs_bag : (held desired : Shared) → r ≡ Differs held desired
         → bag_of u ≡ bag_compared (has_swapped r) Owner node.block node.place (came_out r).block (came_out r).place (bag_of t)
@@ -162,13 +163,14 @@ module _ {V : Type 0} where
     differs_held held desired is many = subst (λ (x : Compared Shared). u.held ≡ t.held + cond (has_swapped x) 0 1) is many
 
     pub differs_event : (at : Cell) (ex new : Handle) (held desired : Shared) → r ≡ Differs held desired
-        → Adds t (Compare at ex new (handle_in u Owner (came_out r).block (came_out r).place) (has_swapped r) true) u
-        → Adds t (Compare at ex new (handle_in u Owner held.block held.place) false true) u
+        → AddsEvent t (Compare at ex new (handle_in u Owner (came_out r).block (came_out r).place) (has_swapped r) true) u
+        → AddsEvent t (Compare at ex new (handle_in u Owner held.block held.place) false true) u
     differs_event at ex new held desired is adds =
-        subst (λ (x : Compared Shared). Adds t (Compare at ex new (handle_in u Owner (came_out x).block (came_out x).place) (has_swapped x) true) u) is adds
+        subst (λ (x : Compared Shared). AddsEvent t (Compare at ex new (handle_in u Owner (came_out x).block (came_out x).place) (has_swapped x)
+        true) u) is adds
 
-    pub differs_back : (held desired : Shared) → r ≡ Differs held desired → GivesBack node r → desired ≡ node
-    differs_back held desired is back = subst (GivesBack node) is back
+    pub differs_back : (held desired : Shared) → r ≡ Differs held desired → GivesBackDesired node r → desired ≡ node
+    differs_back held desired is back = subst (GivesBackDesired node) is back
 
   -- a node that rises after tries
   pub rises_later : (d e f : DeskNow V) (c : Cell) (node : Handle) → Does (PutsOnly (NextOf (object_of node))) d e → Rises e c node f → Rises d c node f

@@ -17,7 +17,8 @@ use Rattle.shared_handle.specs.declared.endings.Member.{Member}
 use Rattle.shared_handle.specs.declared.endings.Member.TheVariants.{First, Next, Up}
 use Rattle.shared_handle.specs.declared.pile.Gone.{Gone}
 use Rattle.shared_handle.specs.declared.pile.Gone.TheVariants.{Empty, Last, Others}
-use Rattle.scene_structures.specs.Teardowns.{AreOut, MayStop, Runs, RunsDown, StepsBy, TearsDown, empty_slots, ended_by, ended_in, filled, top_value}
+use Rattle.scene_structures.specs.Teardowns.{AreOut, MayStop, MakesRounds, RunsDown, RoundStepsBy, TearsDown, empty_slots, values_ended_by, values_ended_in}
+use Rattle.scene_structures.specs.Teardowns.{filled_values, top_value}
 use Rattle.scene_structures.proofs.Slots.{last_of, no_last, last_same, out_all, out_more, out_same, out_whole, top_there}
 
 not_none : {A : Type 0} (is : List A) → is ≢ [] → (js : List A) × (i : A) × (is ≡ js ++ i ∷ [])
@@ -68,13 +69,13 @@ module _ {V : Type 0} where
   -- and nothing ended by that
   out_stays : (d e : DeskNow V) (ys qs base zs : List (Ending V)) (m : Member) (gone : Gone) (ss : List (Option V)) (vs : List V) (is : List ℕ)
       → gone ≢ Last → ClearsTop d ys m gone e qs → is ≡ empty_slots 0 ss → is ≢ [] → ys ≡ base ++ zs → AreOut ss zs vs
-      → (ws : List (Ending V)) × (qs ≡ base ++ ws) × AreOut ss ws (vs ++ ended_by gone qs)
+      → (ws : List (Ending V)) × (qs ≡ base ++ ws) × AreOut ss ws (vs ++ values_ended_by gone qs)
   out_stays d e ys qs base zs m gone ss vs is not c vacant some are out =
       let t = out_cleared d e ys qs base zs m gone ss vs is c vacant some are out in
-      let none : ended_by gone qs ≡ [] = quiet gone not in
+      let none : values_ended_by gone qs ≡ [] = quiet gone not in
       (t.0 ++ t.1 ∷ [], low t.2.0 t.2.1 t.2.2, subst (λ l. AreOut ss (t.0 ++ t.1 ∷ []) l) (sym (ap (λ l. vs ++ l) none ∙ append-nil vs)) t.3)
     where
-      quiet : (g : Gone) → (g ≡ Last → ⊥) → ended_by g qs ≡ []
+      quiet : (g : Gone) → (g ≡ Last → ⊥) → values_ended_by g qs ≡ []
       quiet Empty other = refl
       quiet Others other = refl
       quiet Last other = absurd (other refl)
@@ -122,9 +123,9 @@ module _ {V : Type 0} where
       no_last (base ++ t.0) t.1 e
 
   pub round_out : (d e : DeskNow V) (ys qs : List (Ending V)) (r : Round V) (ss ts : List (Option V)) (is : List ℕ)
-      → IsRound d ys r e qs → StepsBy r ss ts
+      → IsRound d ys r e qs → RoundStepsBy r ss ts
       → is ≡ empty_slots 0 ss → is ≢ [] → (base zs : List (Ending V)) (vs : List V) → ys ≡ base ++ zs → AreOut ss zs vs
-      → (ws : List (Ending V)) × (qs ≡ base ++ ws) × AreOut ts ws (vs ++ ended_in r qs)
+      → (ws : List (Ending V)) × (qs ≡ base ++ ws) × AreOut ts ws (vs ++ values_ended_in r qs)
   round_out d e ys qs Settled ss ts is r steps vacant some base zs vs are out = absurd (never_settled ys base zs ss vs is r.0 vacant some are out)
   round_out d e ys qs (Cleared m Last) ss ts is r steps vacant some base zs vs are out =
       out_grows d e ys qs base zs m ss ts vs is r vacant some steps are out
@@ -138,13 +139,15 @@ module _ {V : Type 0} where
 
   -- a slot for the root, where it was the last owner
   pub out_root : (d e : DeskNow V) (xs ys : List (Ending V)) (b : Option Block) (p : Option Place) (ss ts : List (Option V))
-      → Drops d xs b p Last e ys → ss ≡ [] → ts ≡ ss ++ None ∷ [] → (zs : List (Ending V)) × (ys ≡ xs ++ zs) × AreOut ts zs (ended_by Last ys)
+      → Drops d xs b p Last e ys → ss ≡ [] → ts ≡ ss ++ None ∷ [] → (zs : List (Ending V)) × (ys ≡ xs ++ zs)
+      × AreOut ts zs (values_ended_by Last ys)
   out_root d e xs ys b p ss ts drops none more = go drops.left drops.told drops.are
     where
       one : ts ≡ None ∷ []
       one = more ∙ ap (λ l. l ++ None ∷ []) none
 
-      go : (left : Left V) → Last ≡ gone_of left → ys ≡ piled xs left → (zs : List (Ending V)) × (ys ≡ xs ++ zs) × AreOut ts zs (ended_by Last ys)
+      go : (left : Left V) → Last ≡ gone_of left → ys ≡ piled xs left → (zs : List (Ending V)) × (ys ≡ xs ++ zs)
+          × AreOut ts zs (values_ended_by Last ys)
       go left.Empty told are = absurd (cc told)
       go left.Others told are = absurd (cc told)
       go (left.Last x) told are =
@@ -156,11 +159,11 @@ module _ {V : Type 0} where
 
   -- and none where it wasn't
   pub out_rest : (d e : DeskNow V) (xs ys : List (Ending V)) (b : Option Block) (p : Option Place) (gone : Gone) (ss : List (Option V))
-      → gone ≢ Last → Drops d xs b p gone e ys → ss ≡ [] → (zs : List (Ending V)) × (ys ≡ xs ++ zs) × AreOut ss zs (ended_by gone ys)
+      → gone ≢ Last → Drops d xs b p gone e ys → ss ≡ [] → (zs : List (Ending V)) × (ys ≡ xs ++ zs) × AreOut ss zs (values_ended_by gone ys)
   out_rest d e xs ys b p gone ss not drops none =
-      ([], same drops.left drops.told drops.are, subst (λ l. AreOut l [] (ended_by gone ys)) (sym none) (refl, quiet gone not))
+      ([], same drops.left drops.told drops.are, subst (λ l. AreOut l [] (values_ended_by gone ys)) (sym none) (refl, quiet gone not))
     where
-      quiet : (g : Gone) → (g ≡ Last → ⊥) → ended_by g ys ≡ []
+      quiet : (g : Gone) → (g ≡ Last → ⊥) → values_ended_by g ys ≡ []
       quiet Empty other = refl
       quiet Others other = refl
       quiet Last other = absurd (other refl)
@@ -171,10 +174,10 @@ module _ {V : Type 0} where
       same (left.Last x) told are = absurd (not told)
 
   pub tears_down : (blocks : ℕ) (d m e : DeskNow V) (xs ps ys : List (Ending V)) (root : Shared) (gone : Gone) (ss ts : List (Option V)) (values : List V)
-      → Drops d xs root.block root.place gone m ps → (zs : List (Ending V)) → ps ≡ xs ++ zs → AreOut ss zs (ended_by gone ps)
-      → RunsDown blocks m ps ss e ys ts → values ≡ filled ts → TearsDown blocks d xs root values e ys
+      → Drops d xs root.block root.place gone m ps → (zs : List (Ending V)) → ps ≡ xs ++ zs → AreOut ss zs (values_ended_by gone ps)
+      → RunsDown blocks m ps ss e ys ts → values ≡ filled_values ts → TearsDown blocks d xs root values e ys
   tears_down blocks d m e xs ps ys root gone ss ts values drops zs are out runs is =
-      let t = runs.out xs zs (ended_by gone ps) are out in
+      let t = runs.out xs zs (values_ended_by gone ps) are out in
       record {
         gone = gone;
         released = m;
@@ -194,7 +197,8 @@ module _ {V : Type 0} where
 
   -- one round more
   pub runs_on : (d m e : DeskNow V) (ys ps qs : List (Ending V)) (ss ts us : List (Option V)) (is : List ℕ) (n : ℕ) (r : Round V)
-      → Runs d ys ss n m ps ts → IsRound m ps r e qs → StepsBy r ts us → is ≡ empty_slots 0 ts → is ≢ [] → Runs d ys ss (n + 1) e qs us
+      → MakesRounds d ys ss n m ps ts → IsRound m ps r e qs → RoundStepsBy r ts us → is ≡ empty_slots 0 ts → is ≢ []
+      → MakesRounds d ys ss (n + 1) e qs us
   runs_on d m e ys ps qs ss ts us is n r runs round steps vacant some =
       let many = runs.many in
       record {
@@ -209,11 +213,11 @@ module _ {V : Type 0} where
             (u.0, u.1, u.2, (t.3, (top.0, top.1, t.1 ∙ ap (λ l. base ++ l) top.2)));
       }
 
-  pub runs_none : (d : DeskNow V) (ys : List (Ending V)) (ss : List (Option V)) → Runs d ys ss 0 d ys ss
+  pub runs_none : (d : DeskNow V) (ys : List (Ending V)) (ss : List (Option V)) → MakesRounds d ys ss 0 d ys ss
   runs_none d ys ss = record { rounds = []; are = (refl, refl); many = refl; out = λ base zs vs same out. (zs, same, out, tt) }
 
   pub runs_over : (blocks b : ℕ) (d e : DeskNow V) (ys qs : List (Ending V)) (ss ts : List (Option V)) (is : List ℕ) (n : ℕ) → b ≡ blocks
-      → Runs d ys ss n e qs ts → n ≤ 4 * blocks → is ≡ empty_slots 0 ts → (is ≡ []) ⊎ ((4 * b ≤ n) ⊎ (b < length ts))
+      → MakesRounds d ys ss n e qs ts → n ≤ 4 * blocks → is ≡ empty_slots 0 ts → (is ≡ []) ⊎ ((4 * b ≤ n) ⊎ (b < length ts))
       → RunsDown blocks d ys ss e qs ts
   runs_over blocks b d e ys qs ss ts is n same runs most vacant over =
       record {

@@ -22,7 +22,7 @@ use Rattle.shared_handle.specs.declared.endings.Member.TheVariants.{First, Next,
 use Rattle.shared_handle.specs.declared.pile.Gone.{Gone}
 use Rattle.shared_handle.specs.declared.pile.Round.{Round}
 use Rattle.shared_handle.specs.declared.pile.Round.TheVariants.{Cleared, Ended, Settled}
-use Rattle.scene_structures.specs.Teardowns.{AreOut, MayStop, TearsDown, ended, ended_by, ended_in, top_value}
+use Rattle.scene_structures.specs.Teardowns.{AreOut, MayStop, TearsDown, values_ended, values_ended_by, values_ended_in, top_value}
 use Rattle.scene_structures.proofs.Slots.{no_last}
 use Rattle.scene_structures.proofs.Standing.{IsAlone, Loses, clearing_loses, endings_stand, few_stand, finish_loses, left_loses, standing}
 
@@ -144,24 +144,24 @@ module _ {V : Type 0} where
     many : ℕ
     clear : clear_of zs ≡ clear_of xs
     long : length zs ≡ length xs + many
-    told : length (ended_by gone zs) ≡ many
+    told : length (values_ended_by gone zs) ≡ many
 
   tops : (xs : List (Ending V)) (l : Left V) (zs : List (Ending V)) (gone : Gone) → Fresh l → gone ≡ gone_of l → zs ≡ piled xs l → Tops xs l zs gone
   tops xs left.Empty zs gone fresh told is =
-      record { many = 0; clear = ap clear_of is; long = (let e = ap length is in omega arith); told = λ i. length (ended_by (told i) zs) }
+      record { many = 0; clear = ap clear_of is; long = (let e = ap length is in omega arith); told = λ i. length (values_ended_by (told i) zs) }
   tops xs left.Others zs gone fresh told is =
-      record { many = 0; clear = ap clear_of is; long = (let e = ap length is in omega arith); told = λ i. length (ended_by (told i) zs) }
+      record { many = 0; clear = ap clear_of is; long = (let e = ap length is in omega arith); told = λ i. length (values_ended_by (told i) zs) }
   tops xs (left.Last x) zs gone fresh told is =
       let last = clear_last xs x in let none = uncleared x fresh in let e = ap clear_of is in let l = ap length is in let more = length_last xs x in
       record {
         many = 1;
         clear = omega arith;
         long = omega arith;
-        told = (λ i. length (ended_by (told i) (is i))) ∙ top_one xs x;
+        told = (λ i. length (values_ended_by (told i) (is i))) ∙ top_one xs x;
       }
 
   round_falls : (d e : DeskNow V) (ys zs : List (Ending V)) (r : Round V) (vs : List V) → IsRound d ys r e zs → IsAlone d
-      → Falls d ys vs 1 e zs (vs ++ ended_in r zs)
+      → Falls d ys vs 1 e zs (vs ++ values_ended_in r zs)
   round_falls d e ys zs Settled vs (was, is, same) a =
       let s : standing e ≡ standing d = ap standing same in
       let n = length-append vs [] in let y = ap length was in let z = ap length is in
@@ -175,7 +175,7 @@ module _ {V : Type 0} where
       let many : length ys ≡ length c.below + 1 = ap length c.were ∙ length_last c.below c.top in
       let low = clear_last c.below x in let long = length_last c.below x in
       let fewer = loses.fewer in let clear = t.clear in let longer = t.long in let told = t.told in
-      let n = length-append vs (ended_by gone zs) in
+      let n = length-append vs (values_ended_by gone zs) in
       record { alone = loses.alone; shape = loses.shape; rounds = inr (omega arith); ends = omega arith }
   round_falls d e ys zs (Ended v) vs f a =
       let loses = finish_loses d e f.top v f.finish a in
@@ -205,14 +205,14 @@ module _ {V : Type 0} where
       go (inr x) (inr y) = inr (omega arith)
 
   rounds_fall : (d e : DeskNow V) (ys zs : List (Ending V)) (rs : List (Past V)) (vs : List V) → AreRounds d ys rs e zs → IsAlone d
-      → Falls d ys vs (length rs) e zs (ended rs zs vs)
+      → Falls d ys vs (length rs) e zs (values_ended rs zs vs)
   rounds_fall d e ys zs [] vs (same, is) a =
       let s : standing e ≡ standing d = ap standing same in let c = ap clear_of is in let l = ap length is in
       record { alone = subst IsAlone (sym same) a; shape = ap (λ (k : DeskNow V). k.shape) same; rounds = inr (omega arith); ends = omega arith }
   rounds_fall d e ys zs (r ∷ rs) vs (before, last) a =
       let t = rounds_fall d r.desk ys r.pile rs vs before a in
-      falls_on d r.desk e ys r.pile zs r.round vs (ended rs r.pile vs) _ (length rs) t last
-      (round_falls r.desk e r.pile zs r.round (ended rs r.pile vs) last t.alone)
+      falls_on d r.desk e ys r.pile zs r.round vs (values_ended rs r.pile vs) _ (length rs) t last
+      (round_falls r.desk e r.pile zs r.round (values_ended rs r.pile vs) last t.alone)
 
   out_length : (ss : List (Option V)) (zs : List (Ending V)) (vs : List V) → AreOut ss zs vs → length ss ≡ length vs
   out_length [] zs vs (none, nil) = ap length (sym nil)
@@ -229,8 +229,8 @@ module _ {V : Type 0} where
       lost : Loses d 0 t.released
       lost = left_loses d t.released root.block root.place t.drops.left t.drops.leaves (record { legal = legal; sole = sole })
 
-      falls : Falls t.released t.pile (ended_by t.gone t.pile) (length t.rounds) e ys (ended t.rounds ys (ended_by t.gone t.pile))
-      falls = rounds_fall t.released e t.pile ys t.rounds (ended_by t.gone t.pile) t.are lost.alone
+      falls : Falls t.released t.pile (values_ended_by t.gone t.pile) (length t.rounds) e ys (values_ended t.rounds ys (values_ended_by t.gone t.pile))
+      falls = rounds_fall t.released e t.pile ys t.rounds (values_ended_by t.gone t.pile) t.are lost.alone
 
       top : Tops xs t.drops.left t.pile t.gone
       top =
@@ -262,6 +262,6 @@ module _ {V : Type 0} where
               nothing t.rest (omega arith)
       go (inr (inr many)) =
           let a = parts.0 in let b = top.long in let c = top.told in let d = falls.ends in
-          let u = out_length t.slots t.rest (ended t.rounds ys (ended_by t.gone t.pile)) t.order in
+          let u = out_length t.slots t.rest (values_ended t.rounds ys (values_ended_by t.gone t.pile)) t.order in
           let w = few in let y = low in
           absurd (omega arith)

@@ -22,8 +22,8 @@ use Rattle.shared_handle.specs.Endings.{IsWithin}
 use Rattle.shared_handle.specs.Piles.{IsParting}
 use Rattle.scene_structures.specs.Chains.{Chain, IsList}
 use Rattle.scene_structures.specs.Hands.{node_in}
-use Rattle.scene_structures.specs.Prunes.{AreOwned, Clears, Cuts, CutsAll, Finds, GoesOn, IsPruned, Passes, Prunes, SameKept, is_owned, picked}
-use Rattle.scene_structures.specs.Puts.{PutsOnly, nowhere}
+use Rattle.scene_structures.specs.Prunes.{AreOwned, ClearsFront, Cuts, CutsAll, Finds, GoesOn, IsPruned, PassesNode, Prunes, SameKept, is_owned, picked}
+use Rattle.scene_structures.specs.Puts.{PutsOnly, in_no_cell}
 use Rattle.scene_structures.specs.Stacks.{FindsNone}
 use Rattle.scene_structures.proofs.Cuts.{below, chain_below, end_holds, end_of, onto}
 use Rattle.scene_structures.proofs.Frames.{frames}
@@ -54,7 +54,7 @@ module _ {V : Type 0} where
       let s = state_of d in let c = Free m in let k = end_of c kept in
       let l = finds.loaded in let a = finds.asks in let u = a.loaded in
       let n = node_in e h in let o = object_of n in
-      let does_l = does_one (PutsOnly nowhere) d l _ finds.loads tt in
+      let does_l = does_one (PutsOnly in_no_cell) d l _ finds.loads tt in
       let st_l = stands_on m (onto kept rest) d l does_l st in
       let look = looked_up d l k n finds.loads st.legal st.sole in
       let chain = chain_below s (cell_of s c) kept rest st.list in
@@ -62,13 +62,13 @@ module _ {V : Type 0} where
       ∙ ap Some (sym (ap (λ (b : Option Block). object_of (handle_in e Owner b h.place)) within.2)) in
       let held : (below s (cell_of s c) kept).object ≡ Some o = ap (λ (x : Handle). x.object) (sym (look.0 ∙ end_holds s c kept)) ∙ here in
       let first = found_first s (below s (cell_of s c) kept) rest chain o held in
-      let does_u = does_one (PutsOnly nowhere) l u _ a.loads tt in
+      let does_u = does_one (PutsOnly in_no_cell) l u _ a.loads tt in
       let st_u = stands_on m (onto kept rest) l u does_u st_l in
       let up = looked_up l u (Member o 2) _ a.loads st_l.legal st_l.sole in
       let up_now : ((state_of u).object o).member 2 ≡ handle_in u Weak a.block a.place =
       ap (λ (t : State). (t.object o).member 2) up.1 ∙ sym up.0 in
       let does_a = expiry_does u a.asked a.block a.place gone a.asks in
-      let does_e = does_both (PutsOnly nowhere) u a.asked e does_a
+      let does_e = does_both (PutsOnly in_no_cell) u a.asked e does_a
       (puts_nothing a.asked e (weak_does a.asked e a.block a.place a.vacant a.leaves)) in
       record {
         node = o;
@@ -76,26 +76,26 @@ module _ {V : Type 0} where
         is = first.1;
         object = refl;
         asked = u;
-        before = goes_both d l u (goes (PutsOnly nowhere) d l does_l) (goes (PutsOnly nowhere) l u does_u);
+        before = goes_both d l u (goes (PutsOnly in_no_cell) d l does_l) (goes (PutsOnly in_no_cell) l u does_u);
         owned = ap (is_owned (state_of u)) up_now ∙ expiry_told u a.asked a.block a.place gone a.asks st_u.legal st_u.sole;
-        later = goes (PutsOnly nowhere) u e does_e;
+        later = goes (PutsOnly in_no_cell) u e does_e;
         stands = stands_on m (onto kept rest) u e does_e st_u;
       }
 
   -- a node that was found goes out
-  passes_on : (m : ℕ) (kept rest : List ℕ) (o : ℕ) (d e : DeskNow V) → Passes d (end_of (Free m) kept) o e
+  passes_on : (m : ℕ) (kept rest : List ℕ) (o : ℕ) (d e : DeskNow V) → PassesNode d (end_of (Free m) kept) o e
       → Stands m (onto kept (o ∷ rest)) d → GoesOn d e × Stands m (onto kept rest) e
   passes_on m kept rest o d e p st =
       let k = end_of (Free m) kept in let at = λ (c : Cell). c ≡ k in
       let n = p.seen in let u = p.cut in
-      let does_n = does_one (PutsOnly nowhere) d n _ p.loads tt in
+      let does_n = does_one (PutsOnly in_no_cell) d n _ p.loads tt in
       let st_n = stands_on m (onto kept (o ∷ rest)) d n does_n st in
       let look = looked_up d n (Member o 1) p.next p.loads st.legal st.sole in
       let next : p.next ≡ ((state_of n).object o).member 1 = look.0 ∙ sym (ap (λ (t : State). (t.object o).member 1) look.1) in
       let st_u = stands_cut m kept rest o n u p.next p.old p.swaps next st_n in
       let does_e = puts_nothing u e p.leaves in (
-        goes_both d n e (goes (PutsOnly nowhere) d n does_n)
-            (goes_both n u e (goes (PutsOnly at) n u (does_one (PutsOnly at) n u _ p.swaps refl)) (goes (PutsOnly nowhere) u e does_e)),
+        goes_both d n e (goes (PutsOnly in_no_cell) d n does_n)
+            (goes_both n u e (goes (PutsOnly at) n u (does_one (PutsOnly at) n u _ p.swaps refl)) (goes (PutsOnly in_no_cell) u e does_e)),
         stands_on m (onto kept rest) u e does_e st_u,
       )
 
@@ -122,13 +122,13 @@ module _ {V : Type 0} where
         told = λ bs f owned. (bs, owned, refl, let k : length (filter not bs) ≡ 0 + length (filter not bs) = omega arith in k);
       }
 
-  sifts_on : (d : DeskNow V) (m : ℕ) (all kept : List ℕ) (n : ℕ) (e f : DeskNow V) → Does (PutsOnly nowhere) e f → Sifts d m all kept n e
+  sifts_on : (d : DeskNow V) (m : ℕ) (all kept : List ℕ) (n : ℕ) (e f : DeskNow V) → Does (PutsOnly in_no_cell) e f → Sifts d m all kept n e
       → Sifts d m all kept n f
   sifts_on d m all kept n e f does s =
       record {
         rest = s.rest;
         stands = stands_on m (onto kept s.rest) e f does s.stands;
-        told = λ bs g owned. s.told bs g (owned_later e f g s.rest bs (goes (PutsOnly nowhere) e f does) owned);
+        told = λ bs g owned. s.told bs g (owned_later e f g s.rest bs (goes (PutsOnly in_no_cell) e f does) owned);
       }
 
   -- one that goes
@@ -138,7 +138,7 @@ module _ {V : Type 0} where
       let t = finds_told m kept s.rest cuts.node true e cuts.found cuts.finds cuts.within s.stands in
       let st = subst (λ os. Stands m (onto kept os) cuts.found) t.is t.stands in
       let p = passes_on m kept t.after t.node cuts.found f
-      (subst (λ o. Passes cuts.found (end_of (Free m) kept) o f) t.object cuts.passes) st in
+      (subst (λ o. PassesNode cuts.found (end_of (Free m) kept) o f) t.object cuts.passes) st in
       record {
         rest = t.after;
         stands = p.1;
@@ -181,12 +181,12 @@ module _ {V : Type 0} where
   none_below m kept rest d e none st =
       let c = Free m in let k = end_of c kept in let z = opening_of d.shape in let n = d.name in
       let l = none.looks in let found = node_in l.at none.found in let own = l.look ∷ l.before in
-      let keep = All-cons KeepsDesks l.look l.before (puts_keep nowhere l.look (sees_none k found l.look l.sees)) (keep_all nowhere l.before l.early) in
+      let keep = All-cons KeepsDesks l.look l.before (puts_keep in_no_cell l.look (sees_none k found l.look l.sees)) (keep_all in_no_cell l.before l.early) in
       let state = state_is d l.at own l.looks keep st.legal st.sole in
       let legal = legal_is d l.at own l.looks keep st.legal st.sole in
       let B = map (entry n) l.before ++ d.seen in let s = leads z B in
       let cells = cells_led z d.seen in let there = st.there in
-      let list = frames z n nowhere l.before d.seen m (onto kept rest) legal.0 l.early (omega arith) (λ e'. e') (apart_nowhere (onto kept rest)) st.list in
+      let list = frames z n in_no_cell l.before d.seen m (onto kept rest) legal.0 l.early (omega arith) (λ e'. e') (apart_nowhere (onto kept rest)) st.list in
       let seen = seen_there z n k found l.look B legal l.sees in
       let chain = chain_below s (cell_of s c) kept rest list in
       let here : below s (cell_of s c) kept ≡ found = sym (end_holds s c kept) ∙ seen.0 in
@@ -199,7 +199,7 @@ module _ {V : Type 0} where
   Reached d m all kept n (Some h) e = Sifts d m all (object_of (node_in e h) ∷ kept) n e
 
   clears_on : (d : DeskNow V) (m : ℕ) (all kept : List ℕ) (a n : ℕ) (last : Option Shared) (e f : DeskNow V)
-      → Clears e (end_of (Free m) kept) n last f → Sifts d m all kept a e → Reached d m all kept (a + n) last f
+      → ClearsFront e (end_of (Free m) kept) n last f → Sifts d m all kept a e → Reached d m all kept (a + n) last f
   unfolding sifts_on sifts_all
   clears_on d m all kept a n None e f clears s =
       let cut = sifts_all d m all kept a n e clears.cleared clears.cuts s in
@@ -235,7 +235,7 @@ module _ {V : Type 0} where
       let there : m < (state_of d).cells = omega arith in
       let r = walked d m os kept n None e record { legal = legal; sole = sole; there = there; list = list } prunes in
       let s = r.0 in
-      let none : AreOwned e s.rest [] e = subst (λ l. AreOwned e l [] e) (sym r.1) (goes (PutsOnly nowhere) e e (does_none (PutsOnly nowhere) e)) in
+      let none : AreOwned e s.rest [] e = subst (λ l. AreOwned e l [] e) (sym r.1) (goes (PutsOnly in_no_cell) e e (does_none (PutsOnly in_no_cell) e)) in
       let t = s.told [] e none in
       let stays : picked os t.0 ≡ onto kept [] = t.2 ∙ ap (λ l. onto kept (picked l [])) r.1 in (
         t.0,

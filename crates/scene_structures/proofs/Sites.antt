@@ -9,7 +9,7 @@ use Rattle.control_word.specs.declared.shape.Shape.{Shape}
 use Rattle.control_block.specs.Desks.{DeskNow, bag_of}
 use Rattle.control_block.specs.Own.{KeepsLatest}
 use Rattle.control_block.specs.declared.handles.Shared.{Shared}
-use Rattle.atomic_cells.specs.Sites.{IsOpen, number_of, shared_cell}
+use Rattle.atomic_cells.specs.Sites.{IsOpenSite, number_of_member, shared_cell}
 use Rattle.atomic_cells.specs.declared.sites.SharedSite.{SharedSite}
 use Rattle.atomic_cells.specs.declared.sites.SharedSite.TheVariants.{Free, Of}
 use Rattle.scene_structures.specs.Hands.{HasHands, IsOpenBy, KeepsHeld, KeepsThese, stacked}
@@ -26,7 +26,7 @@ module _ {V : Type 0} where
 
   pub open_now : (d : DeskNow V) (z : Shape) (base : List Handle) (hs : List Shared) (s : SharedSite) → d.shape ≡ z
       → HasHands base hs d → IsOpenBy base z s
-      → IsOpen d s
+      → IsOpenSite d s
   open_now d z base hs (Free n) shape has is = subst (λ (k : Shape). n < k.shared_cells) (sym shape) is
   open_now d z base hs (Of b m) shape has is = (is.0, in_bag d base hs (handle Owner (Some b.0) is.0) has is.1)
 
@@ -44,7 +44,7 @@ module _ {V : Type 0} where
   pub cell_these : (d e : DeskNow V) (z : Shape) (base : List Handle) (s : SharedSite) → KeepsThese base d e → IsOpenBy base z s
       → shared_cell e s ≡ shared_cell d s
   cell_these d e z base (Free n) keeps is = refl
-  cell_these d e z base (Of b m) keeps is = ap (λ o. Member o (number_of m)) (keeps Owner is.0 b.0 is.1)
+  cell_these d e z base (Of b m) keeps is = ap (λ o. Member o (number_of_member m)) (keeps Owner is.0 b.0 is.1)
 
   pub open_same : (d e : DeskNow V) (base : List Handle) (s : SharedSite) → e.shape ≡ d.shape → IsOpenBy base d.shape s → IsOpenBy base e.shape s
   open_same d e base s shape is = subst (λ (k : Shape). IsOpenBy base k s) (sym shape) is

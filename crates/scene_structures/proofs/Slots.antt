@@ -5,7 +5,7 @@ use Rattle.std.proofs.Common.{◌≢◌, ◌≤◌, append_assoc, reverse, slice
 use Rattle.std.proofs.Math.Seq.{set-append_seam}
 use Rattle.std.proofs.lemmas.List.{append-nil, length-append, reverse-append}
 use Rattle.shared_handle.specs.declared.endings.Ending.{Ending}
-use Rattle.scene_structures.specs.Teardowns.{AreOut, empty_slots, filled}
+use Rattle.scene_structures.specs.Teardowns.{AreOut, empty_slots, filled_values}
 
 pub no_last : {B : Type 0} (is : List B) (i : B) → [] ≡ is ++ i ∷ [] → ⊥
 no_last [] i e = cc e
@@ -111,26 +111,27 @@ module _ {A : Type 0} where
       sym (ap (empty_slots 0) set ∙ (rest ∙ append-nil is))
 
   -- what slots have, from the last one on
-  pub filled_some : (ss : List (Option A)) (x : A) → filled (ss ++ Some x ∷ []) ≡ filled ss ++ x ∷ []
+  pub filled_some : (ss : List (Option A)) (x : A) → filled_values (ss ++ Some x ∷ []) ≡ filled_values ss ++ x ∷ []
   filled_some [] x = refl
   filled_some (Some y ∷ ss) x = ap (λ l. y ∷ l) (filled_some ss x)
   filled_some (None ∷ ss) x = filled_some ss x
 
-  pub filled_none : (ss : List (Option A)) → filled (ss ++ None ∷ []) ≡ filled ss
+  pub filled_none : (ss : List (Option A)) → filled_values (ss ++ None ∷ []) ≡ filled_values ss
   filled_none [] = refl
   filled_none (Some y ∷ ss) = ap (λ l. y ∷ l) (filled_none ss)
   filled_none (None ∷ ss) = filled_none ss
 
   -- what slots have goes over to a list that is turned round in the end
-  pub turned : (all : List A) (ss rest : List (Option A)) (vs ws : List A) (x : A) → ss ≡ rest ++ Some x ∷ [] → all ≡ filled ss ++ reverse vs
-      → ws ≡ vs ++ x ∷ [] → all ≡ filled rest ++ reverse ws
+  pub turned : (all : List A) (ss rest : List (Option A)) (vs ws : List A) (x : A) → ss ≡ rest ++ Some x ∷ [] → all ≡ filled_values ss ++ reverse vs
+      → ws ≡ vs ++ x ∷ [] → all ≡ filled_values rest ++ reverse ws
   turned all ss rest vs ws x are is' more =
-      is' ∙ (ap (λ l. filled l ++ reverse vs) are ∙ (ap (λ l. l ++ reverse vs) (filled_some rest x)
-      ∙ (append_assoc (filled rest) (x ∷ []) (reverse vs) ∙ ap (λ l. filled rest ++ l) (sym (ap reverse more ∙ reverse-append vs (x ∷ []))))))
+      is' ∙ (ap (λ l. filled_values l ++ reverse vs) are ∙ (ap (λ l. l ++ reverse vs) (filled_some rest x)
+      ∙ (append_assoc (filled_values rest) (x ∷ []) (reverse vs) ∙ ap (λ l. filled_values rest ++ l)
+      (sym (ap reverse more ∙ reverse-append vs (x ∷ []))))))
 
-  pub turned_none : (all : List A) (ss rest : List (Option A)) (vs : List A) → ss ≡ rest ++ None ∷ [] → all ≡ filled ss ++ reverse vs
-      → all ≡ filled rest ++ reverse vs
-  turned_none all ss rest vs are is' = is' ∙ ap (λ l. l ++ reverse vs) (ap filled are ∙ filled_none rest)
+  pub turned_none : (all : List A) (ss rest : List (Option A)) (vs : List A) → ss ≡ rest ++ None ∷ [] → all ≡ filled_values ss ++ reverse vs
+      → all ≡ filled_values rest ++ reverse vs
+  turned_none all ss rest vs are is' = is' ∙ ap (λ l. l ++ reverse vs) (ap filled_values are ∙ filled_none rest)
 
 module _ {V : Type 0} where
   -- one more ends
@@ -150,7 +151,7 @@ module _ {V : Type 0} where
   pub out_all : (ss : List (Option V)) (zs : List (Ending V)) (vs : List V) → empty_slots 0 ss ≡ [] → AreOut ss zs vs → zs ≡ []
   out_all ss zs vs e o = out_none 0 ss zs vs e o
 
-  pub out_whole : (ss : List (Option V)) (zs : List (Ending V)) (vs : List V) → zs ≡ [] → AreOut ss zs vs → filled ss ≡ vs
+  pub out_whole : (ss : List (Option V)) (zs : List (Ending V)) (vs : List V) → zs ≡ [] → AreOut ss zs vs → filled_values ss ≡ vs
   out_whole [] zs vs e (none, nil) = sym nil
   out_whole (Some v ∷ ss) zs vs e (us, same, o) = ap (λ l. v ∷ l) (out_whole ss zs us e o) ∙ sym same
   out_whole (None ∷ ss) zs vs e (z, ws, us, a, b, o) = absurd (let t : [] ≡ z ∷ ws = sym e ∙ a in cc t)

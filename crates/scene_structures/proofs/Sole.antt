@@ -29,11 +29,11 @@ use Rattle.control_block.specs.Desks.{DeskNow, bag_of, latest_of, state_of}
 use Rattle.control_block.specs.Own.{Goes, IsSole, KeepsDesks}
 use Rattle.control_block.specs.Rule.{opening_of}
 use Rattle.control_block.specs.declared.handles.Shared.{Shared}
-use Rattle.scene_structures.specs.Chains.{IsList, Owns}
+use Rattle.scene_structures.specs.Chains.{IsList, OwnsObject}
 use Rattle.scene_structures.specs.Hands.{Lists, node_in}
 use Rattle.scene_structures.specs.Pops.{TakesNode}
-use Rattle.scene_structures.specs.Puts.{PutsOnly, nowhere}
-use Rattle.scene_structures.specs.Stacks.{FindsNone, IsBare, IsPopped, IsPushed, NextOf, Pushes}
+use Rattle.scene_structures.specs.Puts.{PutsOnly, in_no_cell}
+use Rattle.scene_structures.specs.Stacks.{FindsNone, IsEmptyList, IsPopped, IsPushed, NextOf, Pushes}
 use Rattle.scene_structures.proofs.Frames.{AllLive, Apart, chain_live, frames}
 use Rattle.scene_structures.proofs.Grows.{apart_nowhere, risen}
 use Rattle.scene_structures.proofs.Looks.{looks_does, sees_none}
@@ -105,7 +105,7 @@ module _ {V : Type 0} where
       let legal_m = legal_is d made (make ∷ []) goes_m keep_m legal sole in
       let s = state_of d in
       let lives = chain_live z s (Free m) os (sound z d.seen legal) (let t = cells_led z d.seen in omega arith) list in
-      let list_m = frames z n nowhere (make ∷ []) d.seen m os legal_m (All-cons (PutsOnly nowhere) make [] tt (All-nil (PutsOnly nowhere))) lt
+      let list_m = frames z n in_no_cell (make ∷ []) d.seen m os legal_m (All-cons (PutsOnly in_no_cell) make [] tt (All-nil (PutsOnly in_no_cell))) lt
       (λ k. k) (apart_nowhere os) list in
       let block : q.block.0 ≡ ((leads z M).object o).block = sym (ap (λ (y : Rattle.control_word.specs.State.Object). y.block)
       (put_same s.object o _ o refl)) in
@@ -140,8 +140,8 @@ module _ {V : Type 0} where
       let x = Compare (Free m) (owner o (Some q)) t.below t.old true t.weak in let y = Load (Member o 1) t.below in
       let own = t.after ++ x ∷ (y ∷ t.before) in
       let keep : All KeepsDesks own =
-      All-append KeepsDesks t.after (x ∷ (y ∷ t.before)) (keep_all nowhere t.after (partings_put nowhere t.after t.late))
-      (All-cons KeepsDesks x (y ∷ t.before) tt (All-cons KeepsDesks y t.before tt (keep_all nowhere t.before t.early))) in
+      All-append KeepsDesks t.after (x ∷ (y ∷ t.before)) (keep_all in_no_cell t.after (partings_put in_no_cell t.after t.late))
+      (All-cons KeepsDesks x (y ∷ t.before) tt (All-cons KeepsDesks y t.before tt (keep_all in_no_cell t.before t.early))) in
       let state = state_is d e own t.goes keep legal sole in
       let legal_e = legal_is d e own t.goes keep legal sole in
       let H = map (entry n) own ++ d.seen in
@@ -152,26 +152,26 @@ module _ {V : Type 0} where
         done.0,
         done.1,
         subst (λ (s : State). IsList s (Free m) done.0) (sym state) done.2,
-        subst (λ (s : State). Owns s (node_in e h) o) (sym state) (subst (λ (k : Handle). Owns (leads z H) k o) (sym node.node) done.3),
+        subst (λ (s : State). OwnsObject s (node_in e h) o) (sym state) (subst (λ (k : Handle). OwnsObject (leads z H) k o) (sym node.node) done.3),
         subst (λ (s : State). (s.object o).member 1 ≡ s.cell m) (sym state) done.4,
       )
 
   -- pop, where none was found
   pub bare_list : (d e : DeskNow V) (m : ℕ) → FindsNone d (Free m) e → IsLegal (opening_of d.shape) d.seen → IsSole d
-      → m < (opening_of d.shape).cells → IsBare d (Free m) e
+      → m < (opening_of d.shape).cells → IsEmptyList d (Free m) e
   bare_list d e m none legal sole lt os list =
       let z = opening_of d.shape in let n = d.name in let l = none.looks in
       let does = looks_does d e (Free m) none.found l in
       let own = l.look ∷ l.before in
-      let keep_at = All-cons KeepsDesks l.look l.before (puts_keep nowhere l.look (sees_none (Free m) (node_in l.at none.found) l.look l.sees))
-      (keep_all nowhere l.before l.early) in
+      let keep_at = All-cons KeepsDesks l.look l.before (puts_keep in_no_cell l.look (sees_none (Free m) (node_in l.at none.found) l.look l.sees))
+      (keep_all in_no_cell l.before l.early) in
       let state_at = state_is d l.at own l.looks keep_at legal sole in
       let legal_at = legal_is d l.at own l.looks keep_at legal sole in
       let found = node_in l.at none.found in
       let is = none_found z n m found l.look l.before d.seen os legal_at l.sees l.early lt
-      (λ o owns. none.none o (subst (λ (s : State). Owns s found o) (sym state_at) owns)) list in
-      let keep = keep_all nowhere does.own does.all in
+      (λ o owns. none.none o (subst (λ (s : State). OwnsObject s found o) (sym state_at) owns)) list in
+      let keep = keep_all in_no_cell does.own does.all in
       let state_e = state_is d e does.own does.goes keep legal sole in
-      let still = frames z n nowhere does.own d.seen m [] (legal_is d e does.own does.goes keep legal sole) does.all lt (λ k. k) tt
+      let still = frames z n in_no_cell does.own d.seen m [] (legal_is d e does.own does.goes keep legal sole) does.all lt (λ k. k) tt
       (subst (λ k. IsList (state_of d) (Free m) k) is list) in
       (is, subst (λ (s : State). IsList s (Free m) []) (sym state_e) still)

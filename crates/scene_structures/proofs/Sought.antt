@@ -18,10 +18,10 @@ use Rattle.control_block.specs.Rule.{opening_of}
 use Rattle.control_block.specs.declared.handles.Shared.{Shared}
 use Rattle.shared_handle.proofs.Goings.{does_both, does_one}
 use Rattle.scene_structures.specs.Chains.{Chain, IsList}
-use Rattle.scene_structures.specs.Detaches.{CutsOut, IsEnd, Meets, Reaches, Seeks}
+use Rattle.scene_structures.specs.Detaches.{CutsOut, IsEnd, Meets, ReachesNode, Seeks}
 use Rattle.scene_structures.specs.Hands.{node_in}
 use Rattle.scene_structures.specs.Leaves.{after_all}
-use Rattle.scene_structures.specs.Puts.{PutsOnly, nowhere}
+use Rattle.scene_structures.specs.Puts.{PutsOnly, in_no_cell}
 use Rattle.scene_structures.specs.Stacks.{FindsNone, NextOf}
 use Rattle.scene_structures.proofs.Alone.{all_wider, in_on, legal_on, list_on, lives_on, sole_on}
 use Rattle.scene_structures.proofs.Cuts.{below, chain_below, cut_at, end_holds, end_of, onto, same_chain, shorter}
@@ -108,21 +108,21 @@ module _ {V : Type 0} where
       }
 
   -- where nothing is put anywhere the list stays
-  pub list_stays : (c : Cell) (os : List ℕ) (d e : DeskNow V) → Does (PutsOnly nowhere) d e → Stood c d → Lives (state_of e) c
+  pub list_stays : (c : Cell) (os : List ℕ) (d e : DeskNow V) → Does (PutsOnly in_no_cell) d e → Stood c d → Lives (state_of e) c
       → IsList (state_of d) c os → IsList (state_of e) c os
-  list_stays c os d e does st lives list = list_on nowhere d e does st.legal st.sole c os (λ k. k) (apart_nowhere os) st.there lives list
+  list_stays c os d e does st lives list = list_on in_no_cell d e does st.legal st.sole c os (λ k. k) (apart_nowhere os) st.there lives list
 
   pub lived : (at : Cell → Type 0) (c : Cell) (d e : DeskNow V) → Does (PutsOnly at) d e → Stood c d → Lives (state_of e) c → Lives (state_of d) c
   lived at c d e does st lives = lives_on at d e does st.legal st.sole c st.there lives
 
-  pub meets_does : (d e : DeskNow V) (c : Cell) (o : ℕ) (h : Shared) → Meets d c o h e → Does (PutsOnly nowhere) d e
-  meets_does d e c o h m = does_both (PutsOnly nowhere) d m.tried e m.tries (does_one (PutsOnly nowhere) m.tried e _ m.loads tt)
+  pub meets_does : (d e : DeskNow V) (c : Cell) (o : ℕ) (h : Shared) → Meets d c o h e → Does (PutsOnly in_no_cell) d e
+  meets_does d e c o h m = does_both (PutsOnly in_no_cell) d m.tried e m.tries (does_one (PutsOnly in_no_cell) m.tried e _ m.loads tt)
 
-  pub reaches_does : (d e : DeskNow V) (c : Cell) (o : ℕ) (bs : List ℕ) (h : Shared) → Reaches d c o bs h e → Does (PutsOnly nowhere) d e
+  pub reaches_does : (d e : DeskNow V) (c : Cell) (o : ℕ) (bs : List ℕ) (h : Shared) → ReachesNode d c o bs h e → Does (PutsOnly in_no_cell) d e
   reaches_does d e c o [] h r = meets_does d e c o h r
   reaches_does d e c o (b ∷ bs) h (node, m, t, reaches, is, meets, leaves, same) =
-      does_both (PutsOnly nowhere) d m e (reaches_does d m c o bs node reaches)
-      (does_both (PutsOnly nowhere) m t e (meets_does m t (Member b 1) o h meets) (puts_nothing t e leaves))
+      does_both (PutsOnly in_no_cell) d m e (reaches_does d m c o bs node reaches)
+      (does_both (PutsOnly in_no_cell) m t e (meets_does m t (Member b 1) o h meets) (puts_nothing t e leaves))
 
   -- what was met below some of the list is the next of it
   meets_next : (c : Cell) (kept rest : List ℕ) (o : ℕ) (h : Shared) (d e : DeskNow V) → Meets d (end_of c kept) o h e → Stood c d
@@ -130,9 +130,9 @@ module _ {V : Type 0} where
       → (later : List ℕ) × (rest ≡ object_of (node_in e h) ∷ later) × IsList (state_of e) c (onto kept rest)
   meets_next c kept rest o h d e m st lives list =
       let t = m.tried in let all = onto kept rest in let n = node_in e h in
-      let st_t = stood_on nowhere c d t m.tries st in
-      let does_e = does_one (PutsOnly nowhere) t e _ m.loads tt in
-      let list_t = list_stays c all d t m.tries st (lived nowhere c t e does_e st_t lives) list in
+      let st_t = stood_on in_no_cell c d t m.tries st in
+      let does_e = does_one (PutsOnly in_no_cell) t e _ m.loads tt in
+      let list_t = list_stays c all d t m.tries st (lived in_no_cell c t e does_e st_t lives) list in
       let s = state_of t in
       let look = looked_up t e (end_of c kept) n m.loads st_t.legal st_t.sole in
       let chain = chain_below s (cell_of s c) kept rest list_t in
@@ -142,7 +142,7 @@ module _ {V : Type 0} where
       (first.0, first.1, list_stays c all t e does_e st_t lives list_t)
 
   -- a walk over some of the list
-  walked : (c : Cell) (d e : DeskNow V) (o : ℕ) (bs : List ℕ) (h : Shared) (os : List ℕ) → Reaches d c o bs h e → Stood c d
+  walked : (c : Cell) (d e : DeskNow V) (o : ℕ) (bs : List ℕ) (h : Shared) (os : List ℕ) → ReachesNode d c o bs h e → Stood c d
       → Lives (state_of e) c → IsList (state_of d) c os
       → (later : List ℕ) × (os ≡ onto bs (object_of (node_in e h) ∷ later)) × IsList (state_of e) c os
       × ((Has o bs → ⊥) × (object_of (node_in e h) ≡ o → ⊥))
@@ -150,12 +150,12 @@ module _ {V : Type 0} where
       let f = meets_next c [] os o h d e r st lives list in (f.0, f.1, f.2, (λ k. k, r.other))
   walked c d e o (b ∷ bs) h os (node, m, t, reaches, is, meets, leaves, same) st lives list =
       let does_m = reaches_does d m c o bs node reaches in
-      let st_m = stood_on nowhere c d m does_m st in
+      let st_m = stood_on in_no_cell c d m does_m st in
       let does_t = meets_does m t (Member b 1) o h meets in
-      let st_t = stood_on nowhere c m t does_t st_m in
+      let st_t = stood_on in_no_cell c m t does_t st_m in
       let does_e = puts_nothing t e leaves in
-      let lives_t = lived nowhere c t e does_e st_t lives in
-      let lives_m = lived nowhere c m t does_t st_m lives_t in
+      let lives_t = lived in_no_cell c t e does_e st_t lives in
+      let lives_m = lived in_no_cell c m t does_t st_m lives_t in
       let w = walked c d m o bs node os reaches st lives_m list in
       let all : os ≡ onto (b ∷ bs) w.0 = w.1 ∙ ap (λ n. onto bs (n ∷ w.0)) is in
       let f = meets_next c (b ∷ bs) w.0 o h m t meets st_m lives_t (subst (λ l. IsList (state_of m) c l) all w.2) in
@@ -176,19 +176,19 @@ module _ {V : Type 0} where
       let k = end_of c kept in let z = opening_of d.shape in let n = d.name in
       let l = none.looks in let found = node_in l.at none.found in let own = l.look ∷ l.before in
       let quiet = sees_none k found l.look l.sees in
-      let puts = All-cons (PutsOnly nowhere) l.look l.before quiet l.early in
-      let keep = keep_all nowhere own puts in
+      let puts = All-cons (PutsOnly in_no_cell) l.look l.before quiet l.early in
+      let keep = keep_all in_no_cell own puts in
       let state = state_is d l.at own l.looks keep st.legal st.sole in
       let legal = legal_is d l.at own l.looks keep st.legal st.sole in
       let B = map (entry n) l.before ++ d.seen in let s = leads z B in
-      let to_at : Does (PutsOnly nowhere) d l.at = record { own = own; goes = l.looks; all = puts } in
-      let to_e : Does (PutsOnly nowhere) l.at e = record { own = l.after; goes = l.leaves; all = partings_put nowhere l.after l.late } in
-      let lives_at = lived nowhere c l.at e to_e (stood_on nowhere c d l.at to_at st) lives in
+      let to_at : Does (PutsOnly in_no_cell) d l.at = record { own = own; goes = l.looks; all = puts } in
+      let to_e : Does (PutsOnly in_no_cell) l.at e = record { own = l.after; goes = l.leaves; all = partings_put in_no_cell l.after l.late } in
+      let lives_at = lived in_no_cell c l.at e to_e (stood_on in_no_cell c d l.at to_at st) lives in
       let there_s = in_later z (map (entry n) l.before) d.seen c st.there in
-      let lives_s = lives_run z n nowhere (l.look ∷ []) B c (All-cons (PutsOnly nowhere) l.look [] quiet (All-nil (PutsOnly nowhere))) there_s
+      let lives_s = lives_run z n in_no_cell (l.look ∷ []) B c (All-cons (PutsOnly in_no_cell) l.look [] quiet (All-nil (PutsOnly in_no_cell))) there_s
       (subst (λ (t : State). Lives t c) state lives_at) in
       let all = onto kept rest in
-      let list_s = frames_at z n nowhere l.before d.seen c all legal.0 l.early st.there lives_s (λ e'. e') (apart_nowhere all) list in
+      let list_s = frames_at z n in_no_cell l.before d.seen c all legal.0 l.early st.there lives_s (λ e'. e') (apart_nowhere all) list in
       let seen = seen_there z n k found l.look B legal l.sees in
       let chain = chain_below s (cell_of s c) kept rest list_s in
       let here : below s (cell_of s c) kept ≡ found = sym (end_holds s c kept) ∙ seen.0 in
@@ -198,10 +198,10 @@ module _ {V : Type 0} where
   pub cuts_does : (d e : DeskNow V) (k : Cell) (o : ℕ) → CutsOut d k o e → Does (PutsOnly (λ j. j ≡ k)) d e
   cuts_does d e k o x =
       let at = λ (j : Cell). j ≡ k in let y = x.skips in
-      let none : (a b : DeskNow V) → Does (PutsOnly nowhere) a b → Does (PutsOnly at) a b = λ a b does. record {
+      let none : (a b : DeskNow V) → Does (PutsOnly in_no_cell) a b → Does (PutsOnly at) a b = λ a b does. record {
         own = does.own;
         goes = does.goes;
-        all = all_wider nowhere at (λ j p. absurd p) does.own does.all;
+        all = all_wider in_no_cell at (λ j p. absurd p) does.own does.all;
       } in
       does_both (PutsOnly at) d x.tried e (none d x.tried x.tries) (does_both (PutsOnly at) x.tried x.seen e
       (does_one (PutsOnly at) x.tried x.seen _ x.loads tt) (does_both (PutsOnly at) x.seen y.read e
@@ -215,18 +215,18 @@ module _ {V : Type 0} where
   cut_list c kept rest o d e x head st lives list =
       let k = end_of c kept in let at = λ (j : Cell). j ≡ k in let y = x.skips in
       let t = x.tried in let n = x.seen in let r = y.read in let u = y.cut in let all = onto kept rest in
-      let st_t = stood_on nowhere c d t x.tries st in
-      let does_n = does_one (PutsOnly nowhere) t n _ x.loads tt in
-      let st_n = stood_on nowhere c t n does_n st_t in
-      let does_r = does_one (PutsOnly nowhere) n r _ y.reads tt in
-      let st_r = stood_on nowhere c n r does_r st_n in
+      let st_t = stood_on in_no_cell c d t x.tries st in
+      let does_n = does_one (PutsOnly in_no_cell) t n _ x.loads tt in
+      let st_n = stood_on in_no_cell c t n does_n st_t in
+      let does_r = does_one (PutsOnly in_no_cell) n r _ y.reads tt in
+      let st_r = stood_on in_no_cell c n r does_r st_n in
       let does_u = does_one (PutsOnly at) r u _ y.swaps refl in
       let st_u = stood_on at c r u does_u st_r in
       let does_e = puts_nothing u e y.leaves in
-      let lives_u = lived nowhere c u e does_e st_u lives in
+      let lives_u = lived in_no_cell c u e does_e st_u lives in
       let lives_r = lived at c r u does_u st_r lives_u in
-      let lives_n = lived nowhere c n r does_r st_n lives_r in
-      let lives_t = lived nowhere c t n does_n st_t lives_n in
+      let lives_n = lived in_no_cell c n r does_r st_n lives_r in
+      let lives_t = lived in_no_cell c t n does_n st_t lives_n in
       let list_t = list_stays c all d t x.tries st lives_t list in
       let list_r = list_stays c all n r does_r st_n lives_r (list_stays c all t n does_n st_t lives_n list_t) in
       let s = state_of t in
@@ -259,15 +259,15 @@ module _ {V : Type 0} where
   seeks_does d e c o [] found x = end_does d e c o found x
   seeks_does d e c o (b ∷ bs) found (node, m, t, reaches, is, ends, leaves) =
       let at = IfCut (Member b 1) found in
-      let none : (x y : DeskNow V) → Does (PutsOnly nowhere) x y → Does (PutsOnly at) x y = λ x y does. record {
+      let none : (x y : DeskNow V) → Does (PutsOnly in_no_cell) x y → Does (PutsOnly at) x y = λ x y does. record {
         own = does.own;
         goes = does.goes;
-        all = all_wider nowhere at (λ j p. absurd p) does.own does.all;
+        all = all_wider in_no_cell at (λ j p. absurd p) does.own does.all;
       } in
       does_both (PutsOnly at) d m e (none d m (reaches_does d m c o bs node reaches))
       (does_both (PutsOnly at) m t e (end_does m t (Member b 1) o found ends) (none t e (puts_nothing t e leaves)))
 
-  out_stays : (c : Cell) (os passed : List ℕ) (o : ℕ) (found : Bool) (d e : DeskNow V) → Does (PutsOnly nowhere) d e → Stood c d
+  out_stays : (c : Cell) (os passed : List ℕ) (o : ℕ) (found : Bool) (d e : DeskNow V) → Does (PutsOnly in_no_cell) d e → Stood c d
       → Lives (state_of e) c → IsOut (state_of d) c os passed o found → IsOut (state_of e) c os passed o found
   out_stays c os passed o true d e does st lives x = (x.0, x.1, list_stays c (onto passed x.0) d e does st lives x.2, x.3)
   out_stays c os passed o false d e does st lives x = (list_stays c os d e does st lives x.0, x.1)
@@ -278,12 +278,12 @@ module _ {V : Type 0} where
       out_of (state_of e) c os [] os o found refl (λ k. k) (end_list c [] os o found d e x head st lives list)
   sought_list d e c o (b ∷ bs) found os (node, m, t, reaches, is, ends, leaves) head st lives list =
       let does_m = reaches_does d m c o bs node reaches in
-      let st_m = stood_on nowhere c d m does_m st in
+      let st_m = stood_on in_no_cell c d m does_m st in
       let does_t = end_does m t (Member b 1) o found ends in
       let at = IfCut (Member b 1) found in
       let st_t = stood_on at c m t does_t st_m in
       let does_e = puts_nothing t e leaves in
-      let lives_t = lived nowhere c t e does_e st_t lives in
+      let lives_t = lived in_no_cell c t e does_e st_t lives in
       let lives_m = lived at c m t does_t st_m lives_t in
       let w = walked c d m o bs node os reaches st lives_m list in
       let all : os ≡ onto (b ∷ bs) w.0 = w.1 ∙ ap (λ n. onto bs (n ∷ w.0)) is in

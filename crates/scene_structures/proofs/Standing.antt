@@ -23,11 +23,11 @@ use Rattle.control_block.proofs.Endings.{owner_lives}
 use Rattle.control_block.proofs.Own.{goes_by_call}
 use Rattle.control_block.proofs.Passage.{IsQuiet, quiet_clear}
 use Rattle.control_block.proofs.Sole.{comes_next}
-use Rattle.control_block.specs.Desks.{Adds, DeskNow, ends_with, many_ending, state_of}
+use Rattle.control_block.specs.Desks.{AddsEvent, DeskNow, ends_with, many_ending, state_of}
 use Rattle.control_block.specs.Own.{IsSole, KeepsDesks}
 use Rattle.control_block.specs.Rule.{opening_of}
 use Rattle.shared_handle.specs.Calls.{LeavesWeakly, counting}
-use Rattle.shared_handle.specs.Endings.{Clears, ClearsUp, IsClearing, IsLeft}
+use Rattle.shared_handle.specs.Endings.{ClearsMember, ClearsUp, IsClearing, IsLeft}
 use Rattle.shared_handle.specs.Piles.{IsFinish}
 use Rattle.shared_handle.specs.declared.endings.Ending.{Ending}
 use Rattle.shared_handle.specs.declared.endings.Left.{Left}
@@ -136,7 +136,7 @@ module _ {V : Type 0} where
   loses_both d m e j k a b =
       let x = a.fewer in let y = b.fewer in record { alone = b.alone; shape = b.shape ∙ a.shape; fewer = omega arith }
 
-  by_event : (d e : DeskNow V) (x : Event V) (k : ℕ) → Adds d x e → KeepsDesks x → IsAlone d
+  by_event : (d e : DeskNow V) (x : Event V) (k : ℕ) → AddsEvent d x e → KeepsDesks x → IsAlone d
       → (Asks (state_of d) d.name x → many_standing d.shape.blocks (after (state_of d) d.name x) + k ≡ standing d) → Loses d k e
   by_event d e x k adds keep a step =
       let z = opening_of d.shape in
@@ -158,7 +158,7 @@ module _ {V : Type 0} where
   by_counting d e n is a =
       subst (Loses d 0) (sym is) (record { alone = record { legal = a.legal; sole = a.sole }; shape = refl; fewer = omega arith })
 
-  by_leave : (d e : DeskNow V) (h : Handle) (last : Bool) → Adds d (Leave h last) e → IsAlone d → Loses d 0 e
+  by_leave : (d e : DeskNow V) (h : Handle) (last : Bool) → AddsEvent d (Leave h last) e → IsAlone d → Loses d 0 e
   by_leave d e h last adds a =
       by_event d e (Leave h last) 0 adds tt a
       (λ asks. let t = leave_stands (opening_of d.shape) (state_of d) (sound (opening_of d.shape) d.seen a.legal) d.name h last asks.0 in omega arith)
@@ -172,12 +172,12 @@ module _ {V : Type 0} where
   weak_loses d e None p vacant l a = by_counting d e _ l.0 a
   weak_loses d e (Some c) p vacant l a = by_event d e (WeakLeave _ vacant) 0 l tt a (λ asks. omega arith)
 
-  pub takes_loses : (d e : DeskNow V) (o m : ℕ) (h : Handle) → Adds d (ClearMember o m h) e → IsAlone d → Loses d 0 e
+  pub takes_loses : (d e : DeskNow V) (o m : ℕ) (h : Handle) → AddsEvent d (ClearMember o m h) e → IsAlone d → Loses d 0 e
   takes_loses d e o m h adds a =
       by_event d e (ClearMember o m h) 0 adds tt a
       (λ asks. let t = clear_stands d.shape.blocks (state_of d) d.name (ClearMember o m h) (quiet_clear o m h) in omega arith)
 
-  clears_loses : (d e : DeskNow V) (x : Ending V) (m : ℕ) (l : Left V) → Clears d x m l e → IsAlone d → Loses d 0 e
+  clears_loses : (d e : DeskNow V) (x : Ending V) (m : ℕ) (l : Left V) → ClearsMember d x m l e → IsAlone d → Loses d 0 e
   clears_loses d e x m l c a =
       let t = takes_loses d c.between _ m _ c.takes.event a in
       loses_both d c.between e 0 0 t (left_loses c.between e c.block c.place l c.leaves t.alone)

@@ -16,15 +16,15 @@ use Rattle.control_word.specs.declared.place.Place.{Place}
 use Rattle.control_block.proofs.Own.{goes_in_turn}
 use Rattle.control_block.proofs.Sole.{comes_next}
 use Rattle.control_block.specs.CellCalls.{handle_in}
-use Rattle.control_block.specs.Desks.{Adds, DeskNow, state_of}
+use Rattle.control_block.specs.Desks.{AddsEvent, DeskNow, state_of}
 use Rattle.control_block.specs.Own.{Does, IsSole}
 use Rattle.control_block.specs.Rule.{opening_of}
 use Rattle.shared_handle.proofs.Goings.{does_none, does_one}
 use Rattle.shared_handle.specs.Calls.{IsExpiry}
 use Rattle.shared_handle.specs.Piles.{IsParting}
-use Rattle.scene_structures.specs.Chains.{Chain, IsList, Owns}
+use Rattle.scene_structures.specs.Chains.{Chain, IsList, OwnsObject}
 use Rattle.scene_structures.specs.Prunes.{GoesOn, is_owned}
-use Rattle.scene_structures.specs.Puts.{PutsOnly, nowhere}
+use Rattle.scene_structures.specs.Puts.{PutsOnly, in_no_cell}
 use Rattle.scene_structures.proofs.Alone.{in_on, legal_on, list_on, sole_on}
 use Rattle.scene_structures.proofs.Cuts.{cut_at, end_of, onto}
 use Rattle.scene_structures.proofs.Grows.{apart_nowhere}
@@ -38,7 +38,8 @@ found_first s h (p ∷ rest) chain o is =
     let e : Some p ≡ Some o = sym (ap (λ (k : Handle). k.object) chain.0.1) ∙ is in (rest, ap (λ n. n ∷ rest) (same_Some _ _ e))
 
 -- what is no node has nothing below it
-pub nothing_there : (s u : State) (h : Handle) (os : List ℕ) → ((o : ℕ) → Owns u h o → ⊥) → u.object ≡ s.object → Chain s h os → os ≡ []
+pub nothing_there : (s u : State) (h : Handle) (os : List ℕ) → ((o : ℕ) → OwnsObject u h o → ⊥) → u.object ≡ s.object
+    → Chain s h os → os ≡ []
 nothing_there s u h [] none same chain = refl
 nothing_there s u h (o ∷ os) none same chain = absurd (none o (chain.0.0, chain.0.1, chain.0.2 ∙ sym (ap (λ f. (f o).block) same)))
 
@@ -50,8 +51,8 @@ module _ {V : Type 0} where
     pub there : m < (state_of d).cells
     pub list : IsList (state_of d) (Free m) os
 
-  pub puts_nothing : (d e : DeskNow V) → Does IsParting d e → Does (PutsOnly nowhere) d e
-  puts_nothing d e does = does_wider IsParting (PutsOnly nowhere) d e (parting_puts nowhere) does
+  pub puts_nothing : (d e : DeskNow V) → Does IsParting d e → Does (PutsOnly in_no_cell) d e
+  puts_nothing d e does = does_wider IsParting (PutsOnly in_no_cell) d e (parting_puts in_no_cell) does
 
   pub goes_both : (d e f : DeskNow V) → GoesOn d e → GoesOn e f → GoesOn d f
   goes_both d e f a b = (b.0 ++ a.0, goes_in_turn d a.0 e b.0 f a.1 b.1)
@@ -59,22 +60,22 @@ module _ {V : Type 0} where
   pub goes : (is : Event V → Type 0) (d e : DeskNow V) → Does is d e → GoesOn d e
   goes is d e does = (does.own, does.goes)
 
-  pub stands_on : (m : ℕ) (os : List ℕ) (d e : DeskNow V) → Does (PutsOnly nowhere) d e → Stands m os d → Stands m os e
+  pub stands_on : (m : ℕ) (os : List ℕ) (d e : DeskNow V) → Does (PutsOnly in_no_cell) d e → Stands m os d → Stands m os e
   stands_on m os d e does st =
       record {
-        legal = legal_on nowhere d e does st.legal st.sole;
-        sole = sole_on nowhere d e does st.legal st.sole;
-        there = in_on nowhere d e does st.legal st.sole (Free m) st.there;
-        list = list_on nowhere d e does st.legal st.sole (Free m) os (λ k. k) (apart_nowhere os) st.there tt st.list;
+        legal = legal_on in_no_cell d e does st.legal st.sole;
+        sole = sole_on in_no_cell d e does st.legal st.sole;
+        there = in_on in_no_cell d e does st.legal st.sole (Free m) st.there;
+        list = list_on in_no_cell d e does st.legal st.sole (Free m) os (λ k. k) (apart_nowhere os) st.there tt st.list;
       }
 
   -- one call on a sole desk
-  pub state_next : (d e : DeskNow V) (x : Event V) → Adds d x e → IsSole d → state_of e ≡ after (state_of d) d.name x
+  pub state_next : (d e : DeskNow V) (x : Event V) → AddsEvent d x e → IsSole d → state_of e ≡ after (state_of d) d.name x
   state_next d e x adds sole =
       let next = comes_next d x e adds sole in λ i. leads (opening_of (adds.same.1 i)) (next i)
 
   -- a node went out of the cell that comes after these
-  pub stands_cut : (m : ℕ) (kept rest : List ℕ) (p : ℕ) (d e : DeskNow V) (new old : Handle) → Adds d (Swap (end_of (Free m) kept) new old) e
+  pub stands_cut : (m : ℕ) (kept rest : List ℕ) (p : ℕ) (d e : DeskNow V) (new old : Handle) → AddsEvent d (Swap (end_of (Free m) kept) new old) e
       → new ≡ ((state_of d).object p).member 1 → Stands m (onto kept (p ∷ rest)) d → Stands m (onto kept rest) e
   stands_cut m kept rest p d e new old adds is st =
       let k = end_of (Free m) kept in let at = λ (c : Cell). c ≡ k in
@@ -96,6 +97,6 @@ module _ {V : Type 0} where
       let next = comes_next d (Expired h gone) e is sole in
       ap not (sym ((subst (IsLegal (opening_of d.shape)) next is.legal).1.asks.1))
 
-  pub expiry_does : (d e : DeskNow V) (b : Option Block) (p : Option Place) (gone : Bool) → IsExpiry d b p gone e → Does (PutsOnly nowhere) d e
-  expiry_does d e None p gone is = subst (Does (PutsOnly nowhere) d) (sym is.1) (does_none (PutsOnly nowhere) d)
-  expiry_does d e (Some b) p gone is = does_one (PutsOnly nowhere) d e _ is tt
+  pub expiry_does : (d e : DeskNow V) (b : Option Block) (p : Option Place) (gone : Bool) → IsExpiry d b p gone e → Does (PutsOnly in_no_cell) d e
+  expiry_does d e None p gone is = subst (Does (PutsOnly in_no_cell) d) (sym is.1) (does_none (PutsOnly in_no_cell) d)
+  expiry_does d e (Some b) p gone is = does_one (PutsOnly in_no_cell) d e _ is tt

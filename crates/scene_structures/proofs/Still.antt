@@ -35,7 +35,7 @@ use Rattle.control_block.proofs.Bags.{seen_as, shown_held}
 use Rattle.control_block.specs.Desks.{DeskNow, KeepsEndings, bag_of, in_block, state_of}
 use Rattle.control_block.specs.Own.{Goes, IsSole, KeepsDesks}
 use Rattle.control_block.specs.Rule.{opening_of}
-use Rattle.scene_structures.specs.Puts.{PutsOnly, nowhere}
+use Rattle.scene_structures.specs.Puts.{PutsOnly, in_no_cell}
 use Rattle.scene_structures.specs.Walks.{IsLooking}
 use Rattle.scene_structures.proofs.Heads.{live_before}
 use Rattle.scene_structures.proofs.Latest.{has_mapped}
@@ -116,8 +116,8 @@ made_before z s t d o fine ends st =
     let same = st.made in omega arith
 
 module _ {V : Type 0} where
-  pub all_puts : (xs : List (Event V)) → All IsLooking xs → All (PutsOnly nowhere) xs
-  all_puts xs all = All-weaker IsLooking (PutsOnly nowhere) looking_puts xs all
+  pub all_puts : (xs : List (Event V)) → All IsLooking xs → All (PutsOnly in_no_cell) xs
+  all_puts xs all = All-weaker IsLooking (PutsOnly in_no_cell) looking_puts xs all
 
   same_latest : (s : State) (d : ℕ) (x : Event V) → IsLooking x → (after s d x).latest ≡ s.latest
   same_latest s d (Load c got) p = refl
@@ -176,7 +176,7 @@ module _ {V : Type 0} where
         lived = lost.lived;
         there = lost.there;
         alone = lost.alone;
-        ended = λ l. lost.ended (live_before t d lost.object x nowhere (looking_puts x p) (omega arith) l);
+        ended = λ l. lost.ended (live_before t d lost.object x in_no_cell (looking_puts x p) (omega arith) l);
       }
 
   moved_on : (z : Opening) (s t : State) (d : ℕ) (x : Event V) → Sound z t → IsLooking x → Asks t d x → s.made ≤ t.made → Moved s t d
@@ -232,7 +232,7 @@ module _ {V : Type 0} where
         All-cons IsTrueIn x own (one_true (leads z h) x legal (sound z h now.0) st p now.1.asks) (all_true own legal now.0 rest never)
 
   pub looking_keep : (own : List (Event V)) → All IsLooking own → All KeepsDesks own
-  looking_keep own all = keep_all nowhere own (all_puts own all)
+  looking_keep own all = keep_all in_no_cell own (all_puts own all)
 
   -- whoever has a handle acts
   acts : (z : Opening) (h : List (Entry V)) → IsLegal z h → (x : Held) → Has x (leads z h).hands → IsActing (leads z h) x.desk

@@ -22,8 +22,8 @@ use Rattle.control_block.specs.Desks.{DeskNow, KeepsEndings, bag_of, state_of}
 use Rattle.control_block.specs.Own.{IsSole}
 use Rattle.control_block.specs.Rule.{opening_of}
 use Rattle.scene_structures.specs.Chains.{Chain, IsList}
-use Rattle.scene_structures.specs.Puts.{nowhere}
-use Rattle.scene_structures.specs.Walks.{HasLooked, IsAsked, IsTold, Stop, Walks, WalksOver, is_look, onto, told_at, told_by, told_of}
+use Rattle.scene_structures.specs.Puts.{in_no_cell}
+use Rattle.scene_structures.specs.Walks.{HasLooked, IsAsked, IsToldList, SeenNode, Walks, WalksOver, is_look, told_onto, told_at, told_by, told_of}
 use Rattle.scene_structures.proofs.Frames.{AllLive, chain_live, frames}
 use Rattle.scene_structures.proofs.Grows.{apart_nowhere}
 use Rattle.scene_structures.proofs.Sole.{legal_is, state_is}
@@ -60,7 +60,7 @@ module _ {V : Type 0} where
 
     -- what was asked of an `up` is what its subject tells
     asked_told : (k : Kind) (n : Option ℕ) (p : Option Place) (told : Option ℕ) (asked : List (Event V)) → IsAsked (handle k n p) told asked
-        → All True asked → (before : List ℕ) → told_at (leads z seen) n before ≡ onto told before
+        → All True asked → (before : List ℕ) → told_at (leads z seen) n before ≡ told_onto told before
     asked_told k None p None asked is all before = refl
     asked_told k None p (Some x) asked is all before =
         let l = subst (All True) is.1 all in
@@ -81,7 +81,7 @@ module _ {V : Type 0} where
         ∙ ap (λ y. y ∷ before) (sym (field.2 ∙ ap (slice_index ((leads z seen).object o).fields) first))
 
     -- the nodes that were visited are the first of the list
-    walk_told : (h : Handle) (stops : List Stop) (end : Handle) (looks : List (Event V)) → Walks h stops end looks → All True looks → (os : List ℕ)
+    walk_told : (h : Handle) (stops : List SeenNode) (end : Handle) (looks : List (Event V)) → Walks h stops end looks → All True looks → (os : List ℕ)
         → Chain (leads z seen) h os → AllLive (leads z seen) os
         → (rest : List ℕ) × Chain (leads z seen) end rest × AllLive (leads z seen) rest
         × (told_by (leads z seen) [] os ≡ told_by (leads z seen) (told_of stops) rest)
@@ -105,7 +105,7 @@ module _ {V : Type 0} where
             let parts = both_true is.asked (up ∷ []) (All-tail True load (is.asked ++ up ∷ []) true') in
             let held' : t.up ≡ (s.object o).member 2 = All-head True up [] parts.1 ∙ ap (λ j. (s.object j).member 2) (sym same_o) in
             let on : end ≡ (s.object o).member 1 = goes_on ∙ (loaded ∙ ap (λ j. (s.object j).member 1) (sym same_o)) in
-            let told : told_at s ((s.object o).member 2).object (told_of stops) ≡ onto t.told (told_of stops) =
+            let told : told_at s ((s.object o).member 2).object (told_of stops) ≡ told_onto t.told (told_of stops) =
             ap (λ (k : Handle). told_at s k.object (told_of stops)) (sym held')
             ∙ asked_told t.up.kind t.up.object t.up.place t.told is.asked is.asks parts.0 (told_of stops) in (
               rest,
@@ -116,7 +116,7 @@ module _ {V : Type 0} where
 
   -- each, on a sole desk
   pub told_list : (d e : DeskNow V) (m : ℕ) (told : List ℕ) → WalksOver d (Free m) told e → IsLegal (opening_of d.shape) d.seen → IsSole d
-      → m < (opening_of d.shape).cells → KeepsEndings d e → bag_of e ≡ bag_of d → IsTold d (Free m) told e
+      → m < (opening_of d.shape).cells → KeepsEndings d e → bag_of e ≡ bag_of d → IsToldList d (Free m) told e
   told_list d e m told over legal sole lt keeps bag os list =
       let z = opening_of d.shape in let n = d.name in let s = state_of d in let w = over.walks in
       let look = Load (Free m) over.first in let looks = w.looks ++ look ∷ [] in
@@ -132,7 +132,7 @@ module _ {V : Type 0} where
       let first : over.first ≡ cell_of s (Free m) = All-head (IsTrueIn z n d.seen) look [] parts.1 in
       let lives = chain_live z s (Free m) os (sound z d.seen legal) (let t = cells_led z d.seen in omega arith) list in
       let r = walk_told z n d.seen over.first w.stops w.end w.looks w.walks parts.0 os (subst (λ k. Chain s k os) (sym first) list) lives in
-      let kept = frames z n nowhere end.own d.seen m os legal_e (all_puts end.own end.quiet) lt (λ k. k) (apart_nowhere os) list in
+      let kept = frames z n in_no_cell end.own d.seen m os legal_e (all_puts end.own end.quiet) lt (λ k. k) (apart_nowhere os) list in
       (subst (λ (t : State). IsList t (Free m) os) (sym state) kept, w.tells ∙ done at r.0 r.1 r.2 r.3)
     where
       done : HasLooked d (over.walks.looks ++ Load (Free m) over.first ∷ []) over.walks.at → (rest : List ℕ) → Chain (state_of d) over.walks.end rest

@@ -23,10 +23,10 @@ use Rattle.control_block.specs.Rule.{opening_of}
 use Rattle.shared_handle.proofs.Goings.{does_both}
 use Rattle.scene_structures.specs.Chains.{IsList}
 use Rattle.scene_structures.specs.Detaches.{Unlinks}
-use Rattle.scene_structures.specs.Leaves.{IsThere, KeepsBut}
+use Rattle.scene_structures.specs.Leaves.{IsLiveCell, KeepsBut}
 use Rattle.scene_structures.specs.Parents.{owner_of}
 use Rattle.scene_structures.specs.Prunes.{is_owned}
-use Rattle.scene_structures.specs.Puts.{PutsOnly, nowhere}
+use Rattle.scene_structures.specs.Puts.{PutsOnly, in_no_cell}
 use Rattle.scene_structures.specs.Stacks.{Fills, NextOf}
 use Rattle.scene_structures.proofs.Alone.{all_wider, hangs_puts, held_on, hung_up, list_on}
 use Rattle.scene_structures.proofs.Attached.{apart_up}
@@ -81,12 +81,12 @@ head_of p j k = let t : Member p 0 ≡ Member j 1 = k in absurd (cc t)
 abbrev pub anywhere : Cell → Type 0
 anywhere k = Unit {0}
 
-pub lives_there : (s : State) (k : Cell) → IsThere s k → Lives s k
+pub lives_there : (s : State) (k : Cell) → IsLiveCell s k → Lives s k
 lives_there s (Free n) there = tt
 lives_there s (Member o m) there = there.1
 
 module _ {V : Type 0} where
-  pub in_there : (d : DeskNow V) (k : Cell) → IsLegal (opening_of d.shape) d.seen → IsThere (state_of d) k → InState (state_of d) k
+  pub in_there : (d : DeskNow V) (k : Cell) → IsLegal (opening_of d.shape) d.seen → IsLiveCell (state_of d) k → InState (state_of d) k
   in_there d (Free n) legal there = there
   in_there d (Member o m) legal there =
       (there.0, was_made (opening_of d.shape) (state_of d) o (sound (opening_of d.shape) d.seen legal) (λ e. let t = there.1 in cc))
@@ -99,8 +99,8 @@ module _ {V : Type 0} where
   pub wider : (at bt : Cell → Type 0) (d e : DeskNow V) → ((k : Cell) → at k → bt k) → Does (PutsOnly at) d e → Does (PutsOnly bt) d e
   wider at bt d e f does = record { own = does.own; goes = does.goes; all = all_wider at bt f does.own does.all }
 
-  pub none_wider : (bt : Cell → Type 0) (d e : DeskNow V) → Does (PutsOnly nowhere) d e → Does (PutsOnly bt) d e
-  none_wider bt d e does = wider nowhere bt d e (λ k p. absurd p) does
+  pub none_wider : (bt : Cell → Type 0) (d e : DeskNow V) → Does (PutsOnly in_no_cell) d e → Does (PutsOnly bt) d e
+  none_wider bt d e does = wider in_no_cell bt d e (λ k p. absurd p) does
 
   pub fills_puts : (d e : DeskNow V) (o : ℕ) (below : Handle) → Fills d o below e → Does (PutsOnly (NextOf o)) d e
   fills_puts d e o below f =
@@ -127,7 +127,7 @@ module _ {V : Type 0} where
       let lives' = subst (λ l. Lives (leads z l) c) split (subst (λ (t : State). Lives t c) state lives) in
       ap (λ (t : State). cell_of t c) state
       ∙ (ap (λ l. cell_of (leads z l) c) split
-      ∙ (cell_held z n nowhere f.between A c legal' (partings_put nowhere f.between f.leaves) (λ e'. e')
+      ∙ (cell_held z n in_no_cell f.between A c legal' (partings_put in_no_cell f.between f.leaves) (λ e'. e')
       (in_later z (entry n y ∷ []) d.seen c st.there) lives'
       ∙ cell_put (leads z d.seen) n c below f.was))
 
@@ -155,11 +155,11 @@ module _ {V : Type 0} where
       let does_b = u.begins in
       let does_g = hangs_puts b g o (empty Weak) u.watches in
       let does_e = fills_puts g e o (empty Owner) u.fills in
-      let st_b = stood_on nowhere c d b does_b st in
+      let st_b = stood_on in_no_cell c d b does_b st in
       let st_g = stood_on at_up c b g does_g st_b in
-      let up_b = stood_on nowhere w d b does_b st_u in
+      let up_b = stood_on in_no_cell w d b does_b st_u in
       let up_g = stood_on at_up w b g does_g up_b in
-      let next_b = stood_on nowhere n d b does_b st_n in
+      let next_b = stood_on in_no_cell n d b does_b st_n in
       let next_g = stood_on at_up n b g does_g next_b in
       let lives_g = lived (NextOf o) c g e does_e st_g lives in
       let lives_b = lived at_up c b g does_g st_b lives_g in

@@ -12,15 +12,15 @@ use Rattle.control_block.specs.Desks.{DeskNow, bag_of}
 use Rattle.control_block.specs.Own.{Does, IsSole}
 use Rattle.control_block.specs.declared.handles.Shared.{Shared}
 use Rattle.shared_handle.proofs.Goings.{does_both}
-use Rattle.shared_handle.specs.Calls.{Shares, counting, weak_place}
+use Rattle.shared_handle.specs.Calls.{SharesOwner, counting, weak_place}
 use Rattle.shared_handle.specs.Piles.{IsParting}
 use Rattle.scene_structures.specs.Detaches.{Detaches, LeavesParent}
 use Rattle.scene_structures.specs.Detaches.{Unlinks, UnlinksIf}
 use Rattle.scene_structures.specs.Hands.{HasHands, KeepsHeld, Lists, node_in}
 use Rattle.scene_structures.specs.Parents.{IsParent, LocksUp}
-use Rattle.scene_structures.specs.Puts.{PutsOnly, nowhere}
+use Rattle.scene_structures.specs.Puts.{PutsOnly, in_no_cell}
 use Rattle.scene_structures.specs.Stacks.{Fills}
-use Rattle.scene_structures.specs.Watches.{Watches, weak_in}
+use Rattle.scene_structures.specs.Watches.{Watches, weak_of_owner}
 use Rattle.scene_structures.proofs.Hands.{hands_got, hands_second}
 use Rattle.scene_structures.proofs.Latest.{has_all, latest_none}
 use Rattle.scene_structures.proofs.Pushes.{same_left, same_node, shares_does}
@@ -29,23 +29,23 @@ use Rattle.scene_structures.proofs.Detached.{same_object}
 module _ {V : Type 0} where
   -- an empty handle came, and a weak one like it and then it itself went into the object
   pub unlinks : (d b g e : DeskNow V) (node nothing : Shared) → b ≡ counting (d.held + 1) d → nothing.block ≡ None → nothing.place ≡ None
-      → Watches b (object_of (node_in b node)) (weak_in b nothing) g → KeepsHeld b g → bag_of g ≡ bag_of b
+      → Watches b (object_of (node_in b node)) (weak_of_owner b nothing) g → KeepsHeld b g → bag_of g ≡ bag_of b
       → Fills g (object_of (node_in g node)) (handle_in g Owner nothing.block nothing.place) e → Lists node.block node.place (bag_of d)
       → Unlinks d (object_of (node_in d node)) e
   unlinks d b g e node nothing is no_block no_place watches keeps bag_g fills lists =
-      let first = shares_does nowhere d b None None None is in
+      let first = shares_does in_no_cell d b None None None is in
       let node_b : node_in b node ≡ node_in d node = same_node d b node first.1 lists in
       let bag_b : bag_of b ≡ bag_of d = ap (λ (u : DeskNow V). bag_of u) is in
       let lists_g = subst (Lists node.block node.place) (sym (bag_g ∙ bag_b)) lists in
       let node_g : node_in g node ≡ node_in d node = same_left b g node keeps lists_g ∙ node_b in
-      let weakly : weak_in b nothing ≡ empty Weak = (λ i. handle_in b Weak (no_block i) (weak_place (no_block i) (no_place i))) in
+      let weakly : weak_of_owner b nothing ≡ empty Weak = (λ i. handle_in b Weak (no_block i) (weak_place (no_block i) (no_place i))) in
       let owned : handle_in g Owner nothing.block nothing.place ≡ empty Owner = (λ i. handle_in g Owner (no_block i) (no_place i)) in
       record {
         began = b;
         begins = first.0;
         orphan = g;
         watches = subst (λ (h : Handle). Watches b (object_of (node_in d node)) h g) weakly
-            (subst (λ (h : Handle). Watches b (object_of h) (weak_in b nothing) g) node_b watches);
+            (subst (λ (h : Handle). Watches b (object_of h) (weak_of_owner b nothing) g) node_b watches);
         fills = subst (λ (h : Handle). Fills g (object_of (node_in d node)) h e) owned
             (subst (λ (h : Handle). Fills g (object_of h) (handle_in g Owner nothing.block nothing.place) e) node_g fills);
       }
@@ -60,11 +60,11 @@ module _ {V : Type 0} where
   pub unlinks_same : (found : Bool) (s u : DeskNow V) (o p : ℕ) → o ≡ p → UnlinksIf found s o u → UnlinksIf found s p u
   unlinks_same found s u o p is unlinks' = subst (λ k. UnlinksIf found s k u) is unlinks'
 
-  pub leaves_later : (d a e : DeskNow V) (p o : ℕ) → Does (PutsOnly nowhere) d a → LeavesParent a p o e → LeavesParent d p o e
+  pub leaves_later : (d a e : DeskNow V) (p o : ℕ) → Does (PutsOnly in_no_cell) d a → LeavesParent a p o e → LeavesParent d p o e
   leaves_later d a e p o does x =
       record {
         at = x.at;
-        comes = does_both (PutsOnly nowhere) d a x.at does x.comes;
+        comes = does_both (PutsOnly in_no_cell) d a x.at does x.comes;
         passed = x.passed;
         found = x.found;
         sought = x.sought;
@@ -101,11 +101,12 @@ module _ {V : Type 0} where
   )
 
   -- another owner of the same object stands for the first, which is let go
-  pub same_parent : (m s a : DeskNow V) (h parent : Shared) (q : Option Place) → Shares m h.block h.place q s → parent.block ≡ h.block → KeepsHeld s a
+  pub same_parent : (m s a : DeskNow V) (h parent : Shared) (q : Option Place) → SharesOwner m h.block h.place q s → parent.block ≡ h.block
+      → KeepsHeld s a
       → Lists h.block h.place (bag_of m) → Lists parent.block parent.place (bag_of a) → object_of (node_in a parent) ≡ object_of (node_in m h)
   same_parent m s a h parent q shares block keeps lists_h lists_p =
       ap object_of (same_left s a parent keeps lists_p)
-      ∙ (same_object s parent h block ∙ ap object_of (same_node m s h (shares_does nowhere m s h.block h.place q shares).1 lists_h))
+      ∙ (same_object s parent h block ∙ ap object_of (same_node m s h (shares_does in_no_cell m s h.block h.place q shares).1 lists_h))
 
   -- what is in hand when the first is gone: the other one, above all that the desk had
   pub parent_in_hand : (d m s f : DeskNow V) (h parent : Shared) (q : Option Place) → length (bag_of d) ≤ d.held

@@ -10,7 +10,7 @@ use Rattle.control_word.specs.State.{Object, Opening, State, count, ending, gone
 use Rattle.control_word.specs.declared.event.Event.{Event}
 use Rattle.control_word.specs.declared.event.Event.TheVariants.{ClearMember, Finish, Leave, Load, Lock, Read, Share, WeakLeave}
 use Rattle.control_word.specs.declared.handle.Handle.{Handle}
-use Rattle.scene_structures.specs.Puts.{PutsOnly, nowhere}
+use Rattle.scene_structures.specs.Puts.{PutsOnly, in_no_cell}
 use Rattle.scene_structures.specs.Walks.{IsLooking}
 use Rattle.scene_structures.proofs.Heads.{live_before}
 
@@ -66,7 +66,7 @@ used_clear V s t d o m h same le ends full =
     }
 
 module _ {V : Type 0} where
-  pub looking_puts : (x : Event V) → IsLooking x → PutsOnly nowhere x
+  pub looking_puts : (x : Event V) → IsLooking x → PutsOnly in_no_cell x
   looking_puts (Load c got) p = tt
   looking_puts (Lock h got) p = tt
   looking_puts (Read h y) p = tt
@@ -132,7 +132,7 @@ module _ {V : Type 0} where
         object = used.object;
         ends = used.ends;
         there = used.there;
-        dead = λ l. used.dead (live_before t d used.object x nowhere (looking_puts x p) (omega arith) l);
+        dead = λ l. used.dead (live_before t d used.object x in_no_cell (looking_puts x p) (omega arith) l);
         spent = λ e.
             let r = used.spent (ended_before z t d used.object x fine p asks used.dead e) in
             (r.0, r.1, empty_on t d used.object r.0 x p r.2);

@@ -18,13 +18,13 @@ use Rattle.control_word.specs.declared.place.Place.{Place}
 use Rattle.control_block.proofs.Latest.{calls_keep_latest}
 use Rattle.control_block.proofs.Own.{goes_by_call, goes_by_none, goes_in_turn}
 use Rattle.control_block.specs.CellCalls.{handle_in, with_handle, without_handle}
-use Rattle.control_block.specs.Desks.{Adds, DeskNow, bag_of, latest_of}
+use Rattle.control_block.specs.Desks.{AddsEvent, DeskNow, bag_of, latest_of}
 use Rattle.control_block.specs.Own.{Does, KeepsLatest}
 use Rattle.control_block.specs.declared.handles.Shared.{Shared}
 use Rattle.shared_handle.proofs.Callers.{first_out}
 use Rattle.shared_handle.proofs.Goings.{weak_does}
 use Rattle.shared_handle.specs.Calls.{LeavesWeakly, counting}
-use Rattle.shared_handle.specs.Locks.{IsOwnerOf, Locks}
+use Rattle.shared_handle.specs.Locks.{IsOwnerOf, LocksHandle}
 use Rattle.shared_handle.specs.Piles.{FoldsBack, IsParting}
 use Rattle.atomic_cells.specs.Sites.{IsMember, shared_cell, weak_cell}
 use Rattle.atomic_cells.specs.declared.shared_at.SharedAt.{SharedAt}
@@ -33,15 +33,15 @@ use Rattle.atomic_cells.specs.declared.sites.SharedSite.TheVariants as shared
 use Rattle.atomic_cells.specs.declared.sites.WeakSite.TheVariants as weak
 use Rattle.atomic_cells.specs.declared.weak_at.WeakAt.{WeakAt}
 use Rattle.scene_structures.specs.Hands.{KeepsHeld, node_in}
-use Rattle.scene_structures.specs.Walks.{HasLooked, IsAsked, IsLooking, Stop, TellsField, Visits, Walks, is_look, onto}
+use Rattle.scene_structures.specs.Walks.{HasLooked, IsAsked, IsLooking, SeenNode, TellsField, VisitsNode, Walks, is_look, told_onto}
 use Rattle.scene_structures.proofs.Looks.{owner_within}
 use Rattle.scene_structures.proofs.Latest.{has_over, latest_none, weak_latest}
 
 -- what was told above the rest, by another name
 pub folded : {F : Type 0} (step : F → ℕ → F → Type 0) (f last : F) (o p : Option ℕ) (told : List ℕ) → o ≡ p
-    → FoldsBack step f (onto p told) last
-    → FoldsBack step f (onto o told) last
-folded step f last o p told same folds = subst (λ (k : Option ℕ). FoldsBack step f (onto k told) last) (sym same) folds
+    → FoldsBack step f (told_onto p told) last
+    → FoldsBack step f (told_onto o told) last
+folded step f last o p told same folds = subst (λ (k : Option ℕ). FoldsBack step f (told_onto k told) last) (sym same) folds
 
 module _ {V : Type 0} where
   parting_looks : (x : Event V) → IsParting x → IsLooking x
@@ -76,7 +76,7 @@ module _ {V : Type 0} where
         are = refl;
       }
 
-  pub looked_call : (d e : DeskNow V) (x : Event V) → Adds d x e → IsLooking x → HasLooked d (filter is_look (x ∷ [])) e
+  pub looked_call : (d e : DeskNow V) (x : Event V) → AddsEvent d x e → IsLooking x → HasLooked d (filter is_look (x ∷ [])) e
   looked_call d e x adds p = record { own = x ∷ []; goes = goes_by_call d x e adds; quiet = All-cons IsLooking x [] p (All-nil IsLooking); are = refl }
 
   pub looked_left : (d e : DeskNow V) → Does IsParting d e → HasLooked d [] e
@@ -103,9 +103,9 @@ module _ {V : Type 0} where
 
   -- field 0 was read through an alias, which left
   pub tells : (d m n e : DeskNow V) (b : Block) (p : Option Place) (x : ℕ) (q : Place)
-      → Adds d (Share (handle Owner (Some (latest_of d b.0)) p) (place_at b.0)) m
+      → AddsEvent d (Share (handle Owner (Some (latest_of d b.0)) p) (place_at b.0)) m
       → Has (handle Owner (Some b.0) p) (bag_of d) → place_at b.0 ≡ Some q → Some b ≡ Some q.block
-      → Adds m (Read (handle Owner (Some (latest_of m q.block.0)) (Some q)) x) n → Does IsParting n e
+      → AddsEvent m (Read (handle Owner (Some (latest_of m q.block.0)) (Some q)) x) n → Does IsParting n e
       → HasLooked d (Read (owner (latest_of d b.0) (place_at b.0)) x ∷ []) e
   tells d m n e b p x q shares has place block reads does =
       let same : b ≡ q.block = same_Some _ _ block in
@@ -115,10 +115,11 @@ module _ {V : Type 0} where
       λ i. handle Owner (Some (latest i)) (sym place i) in
       looked_then d n e _
       (looked_both d m n [] _ (looked_call d m _ shares tt)
-      (looked_call m n _ (subst (λ (h : Handle). Adds m (Read h x) n) is reads) tt)) does
+      (looked_call m n _ (subst (λ (h : Handle). AddsEvent m (Read h x) n) is reads) tt)) does
 
-  pub told_latest : (d m n e : DeskNow V) (x y : Event V) (b : Option Block) (p : Option Place) → Adds d x m → bag_of m ≡ with_handle Owner b p (bag_of d)
-      → Adds m y n → bag_of n ≡ bag_of m → KeepsHeld n e → bag_of e ≡ without_handle Owner b p (bag_of n) → KeepsHeld d e
+  pub told_latest : (d m n e : DeskNow V) (x y : Event V) (b : Option Block) (p : Option Place) → AddsEvent d x m
+      → bag_of m ≡ with_handle Owner b p (bag_of d)
+      → AddsEvent m y n → bag_of n ≡ bag_of m → KeepsHeld n e → bag_of e ≡ without_handle Owner b p (bag_of n) → KeepsHeld d e
   told_latest d m n e x y b p one bag_m two bag_n three bag_e k q c has =
       let h = handle k (Some c) q in
       let all : bag_of e ≡ bag_of d =
@@ -128,19 +129,19 @@ module _ {V : Type 0} where
       three k q c has ∙ (calls_keep_latest m y n two k q c in_m ∙ calls_keep_latest d x m one k q c had)
 
   -- a lock is an event or, of an empty handle, none
-  pub lock_latest : (d e : DeskNow V) (b : Option Block) (p : Option Place) (got : Bool) → Locks d b p got e → KeepsLatest d e
+  pub lock_latest : (d e : DeskNow V) (b : Option Block) (p : Option Place) (got : Bool) → LocksHandle d b p got e → KeepsLatest d e
   lock_latest d e None p got is =
       λ k r c has. latest_none d e (ap (λ (u : DeskNow V). u.shape) is.1) (ap (λ (u : DeskNow V). u.seen) is.1) c
   lock_latest d e (Some b) p got is = calls_keep_latest d _ e is.0
 
-  pub lock_looks : (d e : DeskNow V) (b : Option Block) (p : Option Place) (got : Bool) → Locks d b p got e
+  pub lock_looks : (d e : DeskNow V) (b : Option Block) (p : Option Place) (got : Bool) → LocksHandle d b p got e
       → HasLooked d (cond (has_object (handle_in d Weak b p)) (Lock (handle_in d Weak b p) got ∷ []) []) e
   lock_looks d e None p got is = looked_counted d e _ is.1
   lock_looks d e (Some b) p got is = looked_call d e _ is.0 tt
 
   -- a weak handle was loaded and locked, field 0 of the owner that came told, and both left
   pub asks : (d m n t u e : DeskNow V) (c : Cell) (wb : Option Block) (wp : Option Place) (o : Shared) (told : Option ℕ) (v : Bool)
-      → Adds d (Load c (handle_in m Weak wb wp)) m → bag_of m ≡ with_handle Weak wb wp (bag_of d) → Locks m wb wp (is_some o.block) n
+      → AddsEvent d (Load c (handle_in m Weak wb wp)) m → bag_of m ≡ with_handle Weak wb wp (bag_of d) → LocksHandle m wb wp (is_some o.block) n
       → IsOwnerOf wb wp (is_some o.block) o → TellsField n o.block told t → Does IsParting t u → LeavesWeakly u wb wp v e
       → (h : Handle) × (asked : List (Event V)) × IsAsked h told asked × HasLooked d (asked ++ Load c h ∷ []) e
   asks d m n t u e c wb wp o told v loads bag locks is tells' does leaves =
@@ -155,7 +156,7 @@ module _ {V : Type 0} where
       )
     where
       go : (b : Option Block) → o.block ≡ b → (wb : Option Block) (told : Option ℕ) → bag_of m ≡ with_handle Weak wb wp (bag_of d)
-          → Locks m wb wp (is_some b) n → IsOwnerOf wb wp (is_some b) o → TellsField n b told t
+          → LocksHandle m wb wp (is_some b) n → IsOwnerOf wb wp (is_some b) o → TellsField n b told t
           → (asked : List (Event V)) × IsAsked (handle_in m Weak wb wp) told asked × HasLooked m asked t
       go None eb wb None bag locks is tells' =
           let h = handle_in m Weak wb wp in let l = cond (has_object h) (Lock h false ∷ []) [] in
@@ -176,8 +177,8 @@ module _ {V : Type 0} where
             looked_both m n t (Lock h true ∷ []) (Read (owner (latest_of m w.0) (place_at b.0)) x ∷ []) (lock_looks m n (Some w) wp true locks) read,
           )
 
-  pub asked_latest : (d m n t u e : DeskNow V) (x : Event V) (wb ob : Option Block) (wp op : Option Place) (got v : Bool) → Adds d x m
-      → bag_of m ≡ with_handle Weak wb wp (bag_of d) → Locks m wb wp got n → bag_of n ≡ with_handle Owner ob op (bag_of m) → KeepsHeld n t
+  pub asked_latest : (d m n t u e : DeskNow V) (x : Event V) (wb ob : Option Block) (wp op : Option Place) (got v : Bool) → AddsEvent d x m
+      → bag_of m ≡ with_handle Weak wb wp (bag_of d) → LocksHandle m wb wp got n → bag_of n ≡ with_handle Owner ob op (bag_of m) → KeepsHeld n t
       → bag_of t ≡ bag_of n → KeepsHeld t u → bag_of u ≡ without_handle Owner ob op (bag_of t) → LeavesWeakly u wb wp v e
       → bag_of e ≡ without_handle Weak wb wp (bag_of u) → KeepsHeld d e
   asked_latest d m n t u e x wb ob wp op got v loads bag_m locks bag_n three bag_t four bag_u leaves bag_e k q c has =
@@ -197,8 +198,8 @@ module _ {V : Type 0} where
       → IsMember (λ c (x : WeakAt). x.site ≡ weak.Up c) node.block node.place (Ok up)
       → IsMember (λ c (x : SharedAt). x.site ≡ shared.Of c Next) node.block node.place (Ok at)
       → ((h : Handle) × (asked : List (Event V)) × IsAsked h told asked × HasLooked d (asked ++ Load (weak_cell d up.site) h ∷ []) a)
-      → node_in a node ≡ node_in d node → Adds a (Load (shared_cell a at.site) (node_in l next)) l → Does IsParting l e
-      → node_in e next ≡ node_in l next → Visits d (node_in d node) told next e
+      → node_in a node ≡ node_in d node → AddsEvent a (Load (shared_cell a at.site) (node_in l next)) l → Does IsParting l e
+      → node_in e next ≡ node_in l next → VisitsNode d (node_in d node) told next e
   visits d a l e node next up at told (q, place, block, is) (q', place', block', is') (h, asked, asks', looked) same loads does after =
       let o = object_of (node_in d node) in
       let within = owner_within d node q place block in
@@ -210,7 +211,7 @@ module _ {V : Type 0} where
       ∙ ap (λ (k : Handle). Member (object_of k) 1) same) in
       let first = subst (λ (c : Cell). HasLooked d (asked ++ Load c h ∷ []) a) up_cell looked in
       let look = Load (Member o 1) (node_in l next) in
-      let second = looked_call a l look (subst (λ (c : Cell). Adds a (Load c (node_in l next)) l) next_cell loads) tt in
+      let second = looked_call a l look (subst (λ (c : Cell). AddsEvent a (Load c (node_in l next)) l) next_cell loads) tt in
       let before = asked ++ Load (Member o 2) h ∷ [] in
       record {
         stop = record { object = o; up = h; told = told; next = node_in l next };
@@ -223,8 +224,8 @@ module _ {V : Type 0} where
       }
 
   -- the walk goes on by a visit
-  pub walks_on : (h at : Handle) (stops : List Stop) (before : List (Event V)) (d m e : DeskNow V) (told : Option ℕ) (next : Shared)
-      → Walks h stops at before → HasLooked d before m → (v : Visits m at told next e)
+  pub walks_on : (h at : Handle) (stops : List SeenNode) (before : List (Event V)) (d m e : DeskNow V) (told : Option ℕ) (next : Shared)
+      → Walks h stops at before → HasLooked d before m → (v : VisitsNode m at told next e)
       → Walks h (v.stop ∷ stops) (node_in e next) (v.looks ++ before) × HasLooked d (v.looks ++ before) e
   walks_on h at stops before d m e told next walks looked v =
       ((at, before, v.looks, walks, v.node, v.is, v.goes_on, refl), looked_both d m e before v.looks looked v.looked)

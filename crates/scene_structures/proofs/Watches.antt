@@ -14,20 +14,21 @@ use Rattle.control_word.specs.declared.place.Place.{Place}
 use Rattle.control_block.proofs.Latest.{calls_keep_latest}
 use Rattle.control_block.proofs.Own.{goes_by_call, goes_in_turn}
 use Rattle.control_block.specs.CellCalls.{handle_in, with_handle, without_handle}
-use Rattle.control_block.specs.Desks.{Adds, DeskNow, KeepsEndings, bag_of, latest_of}
+use Rattle.control_block.specs.Desks.{AddsEvent, DeskNow, KeepsEndings, bag_of, latest_of}
 use Rattle.control_block.specs.Own.{Does, KeepsLatest}
 use Rattle.control_block.specs.declared.handles.Shared.{Shared}
 use Rattle.shared_handle.proofs.Callers.{first_out}
 use Rattle.shared_handle.proofs.Goings.{does_one, weak_does}
-use Rattle.shared_handle.specs.Calls.{Holds, LeavesWeakly, Makes, SharesWeakly, counting, weak_place}
+use Rattle.shared_handle.specs.Calls.{LeavesWeakly, Makes, SharesWeakly, counting, weak_place}
+use Rattle.control_block.specs.CellCalls.{HoldsHandle}
 use Rattle.atomic_cells.specs.Sites.{IsMember, weak_cell}
 use Rattle.atomic_cells.specs.declared.sites.WeakSite.TheVariants as site
 use Rattle.atomic_cells.specs.declared.weak_at.WeakAt.{WeakAt}
 use Rattle.scene_structures.specs.Hands.{KeepsHeld, Lists, node_in}
 use Rattle.scene_structures.specs.Observers.{Attaches}
-use Rattle.scene_structures.specs.Puts.{PutsOnly, nowhere}
+use Rattle.scene_structures.specs.Puts.{PutsOnly, in_no_cell}
 use Rattle.scene_structures.specs.Stacks.{NextOf, Rises}
-use Rattle.scene_structures.specs.Watches.{Watches, weak_in}
+use Rattle.scene_structures.specs.Watches.{Watches, weak_of_owner}
 use Rattle.scene_structures.proofs.Calls.{got_lists}
 use Rattle.scene_structures.proofs.Latest.{has_over, latest_none, weak_latest}
 use Rattle.scene_structures.proofs.Pushes.{rises_later, same_left, same_node}
@@ -42,7 +43,7 @@ module _ {V : Type 0} where
   endings_both d e f one two b x ends =
       let s = one b x ends in let t = two b x s.ends in record { ends = t.ends; members = λ m. t.members m ∙ s.members m }
 
-  pub lists_of : (d : DeskNow V) (b : Option Block) (p : Option Place) → Holds d Owner b p → Lists b p (bag_of d)
+  pub lists_of : (d : DeskNow V) (b : Option Block) (p : Option Place) → HoldsHandle d Owner b p → Lists b p (bag_of d)
   lists_of d None p holds = tt
   lists_of d (Some b) p holds = holds
 
@@ -66,22 +67,22 @@ module _ {V : Type 0} where
   -- the three steps put together
   pub watches : (d m n e : DeskNow V) (node subject : Shared) (at : WeakAt) (wb ob : Option Block) (wp op : Option Place) (v : Bool)
       → IsMember (λ c (x : WeakAt). x.site ≡ site.Up c) node.block node.place (Ok at)
-      → Holds d Owner node.block node.place → Holds d Owner subject.block subject.place
+      → HoldsHandle d Owner node.block node.place → HoldsHandle d Owner subject.block subject.place
       → SharesWeakly d subject.block subject.place m → wb ≡ subject.block → wp ≡ weak_place subject.block subject.place
-      → Adds m (Swap (weak_cell m at.site) (handle_in m Weak wb wp) (handle_in n Weak ob op)) n → LeavesWeakly n ob op v e
-      → Watches d (object_of (node_in d node)) (weak_in d subject) e
+      → AddsEvent m (Swap (weak_cell m at.site) (handle_in m Weak wb wp) (handle_in n Weak ob op)) n → LeavesWeakly n ob op v e
+      → Watches d (object_of (node_in d node)) (weak_of_owner d subject) e
   watches d m n e node subject at wb ob wp op v (q, place, block, is) has holds shares eb ep swaps leaves =
-      let first = weakly_does nowhere d m subject.block subject.place shares in
+      let first = weakly_does in_no_cell d m subject.block subject.place shares in
       let last = weak_does n e ob op v leaves in
       let old = handle_in n Weak ob op in
       let cell : weak_cell m at.site ≡ Member (object_of (node_in d node)) 2 =
       ap (weak_cell m) is ∙ (ap (λ (b : Option Block). Member (object_of (handle_in m Owner b node.place)) 2) (sym block)
       ∙ ap (λ (h : Handle). Member (object_of h) 2) (same_node d m node first.1 (lists_of d node.block node.place has))) in
-      let up : handle_in m Weak wb wp ≡ weak_in d subject =
+      let up : handle_in m Weak wb wp ≡ weak_of_owner d subject =
       (λ i. handle_in m Weak (eb i) (ep i)) ∙ weak_same d m subject.block subject.place first.1 (lists_of d subject.block subject.place holds) in
-      let here : Adds m (Swap (Member (object_of (node_in d node)) 2) (weak_in d subject) old) n =
-      subst (λ (h : Handle). Adds m (Swap (Member (object_of (node_in d node)) 2) h old) n) up
-      (subst (λ (c : Cell). Adds m (Swap c (handle_in m Weak wb wp) old) n) cell swaps) in
+      let here : AddsEvent m (Swap (Member (object_of (node_in d node)) 2) (weak_of_owner d subject) old) n =
+      subst (λ (h : Handle). AddsEvent m (Swap (Member (object_of (node_in d node)) 2) h old) n) up
+      (subst (λ (c : Cell). AddsEvent m (Swap c (handle_in m Weak wb wp) old) n) cell swaps) in
       record {
         was = old;
         before = first.0.own;
@@ -94,7 +95,7 @@ module _ {V : Type 0} where
   -- and what the desk has is on the object that it was on
   pub watched_latest : (d m n e : DeskNow V) (sb ob : Option Block) (sp op : Option Place) (wb : Option Block) (wp : Option Place) (c : Cell) (x y : Handle)
       (v : Bool)
-      → SharesWeakly d sb sp m → wb ≡ sb → wp ≡ weak_place sb sp → bag_of m ≡ with_handle Weak sb sp (bag_of d) → Adds m (Swap c x y) n
+      → SharesWeakly d sb sp m → wb ≡ sb → wp ≡ weak_place sb sp → bag_of m ≡ with_handle Weak sb sp (bag_of d) → AddsEvent m (Swap c x y) n
       → bag_of n ≡ with_handle Weak ob op (without_handle Weak wb wp (bag_of m)) → LeavesWeakly n ob op v e
       → bag_of e ≡ without_handle Weak ob op (bag_of n) → KeepsHeld d e
   watched_latest d m n e sb ob sp op wb wp c x y v shares eb ep bag_m swaps bag_n leaves bag_e k q b has =
@@ -106,13 +107,14 @@ module _ {V : Type 0} where
       let in_m : Has h (bag_of m) = subst (Has h) (sym bag_m) (has_over Weak sb sp h (bag_of d) had) in
       let in_n : Has h (bag_of n) =
       subst (Has h) (sym bag_n) (has_over Weak ob op h _ (subst (Has h) (sym rest) had)) in
-      weak_latest n e ob op v leaves k q b in_n ∙ (calls_keep_latest m _ n swaps k q b in_m ∙ (weakly_does nowhere d m sb sp shares).1 k q b had)
+      weak_latest n e ob op v leaves k q b in_n ∙ (calls_keep_latest m _ n swaps k q b in_m ∙ (weakly_does in_no_cell d m sb sp shares).1 k q b had)
 
   -- a new node whose `up` was filled, a look at the cell, and the rise
   pub attaches : (d m h l e : DeskNow V) (c k : Cell) (x : V) (node subject : Shared) (got : Handle)
       → Makes d false false (0 ∷ 0 ∷ 0 ∷ 0 ∷ []) x node.block node.place m → bag_of m ≡ with_handle Owner node.block node.place (bag_of d)
-      → Holds d Owner subject.block subject.place → Watches m (object_of (node_in m node)) (weak_in m subject) h → KeepsHeld m h → bag_of h ≡ bag_of m
-      → Adds h (Load k got) l → Rises l c (node_in l node) e → Attaches d c subject x e
+      → HoldsHandle d Owner subject.block subject.place → Watches m (object_of (node_in m node)) (weak_of_owner m subject) h → KeepsHeld m h
+      → bag_of h ≡ bag_of m
+      → AddsEvent h (Load k got) l → Rises l c (node_in l node) e → Attaches d c subject x e
   attaches d m h l e c k x node subject got makes bag holds watch keeps same loads rises = go node.block refl makes
     where
       go : (b : Option Block) → node.block ≡ b → Makes d false false (0 ∷ 0 ∷ 0 ∷ 0 ∷ []) x b node.place m → Attaches d c subject x e
@@ -123,7 +125,7 @@ module _ {V : Type 0} where
           let one = same_node h l node (calls_keep_latest h _ l loads) in_h in
           let two = same_left m h node keeps in_h in
           let here : node_in m node ≡ there = (λ i. handle_in m Owner (is i) (made.0 i)) in
-          let up : weak_in m subject ≡ weak_in d subject =
+          let up : weak_of_owner m subject ≡ weak_of_owner d subject =
           weak_same d m subject.block subject.place (calls_keep_latest d _ m made.1) (lists_of d subject.block subject.place holds) in
           record {
             block = b;
@@ -131,7 +133,7 @@ module _ {V : Type 0} where
             makes = made.1;
             hung = h;
             watches = subst (λ (w : Handle). Watches m (latest_of m b.0) w h) up
-                (subst (λ (y : Handle). Watches m (object_of y) (weak_in m subject) h) here watch);
+                (subst (λ (y : Handle). Watches m (object_of y) (weak_of_owner m subject) h) here watch);
             rises = rises_later h l e c there (does_one (PutsOnly (NextOf (object_of there))) h l _ loads tt)
                 (subst (λ (y : Handle). Rises l c y e) (one ∙ (two ∙ here)) rises);
           }

@@ -7,14 +7,14 @@ use Rattle.control_word.specs.declared.event.Cell.TheVariants.{Member}
 use Rattle.control_word.specs.declared.event.Event.TheVariants.{Compare, Load}
 use Rattle.control_word.specs.declared.handle.Handle.{Handle}
 use Rattle.control_word.specs.declared.handle.Kind.TheVariants.{Owner, Weak}
-use Rattle.control_block.specs.Desks.{Adds, DeskNow}
+use Rattle.control_block.specs.Desks.{AddsEvent, DeskNow}
 use Rattle.control_block.specs.Own.{Does}
 use Rattle.control_block.specs.declared.handles.Shared.{Shared}
 use Rattle.shared_handle.specs.Endings.{IsWithin}
 use Rattle.shared_handle.specs.Piles.{IsParting}
 use Rattle.scene_structures.specs.Hands.{HasHands, SameNode, node_in}
 use Rattle.scene_structures.specs.Parents.{LocksUp}
-use Rattle.scene_structures.specs.Puts.{PutsOnly, nowhere}
+use Rattle.scene_structures.specs.Puts.{PutsOnly, in_no_cell}
 use Rattle.scene_structures.specs.Stacks.{Fills, FindsNone}
 use Rattle.scene_structures.specs.Watches.{Watches}
 use Rattle.scene_structures.specs.declared.cutting.Sought.{Sought}
@@ -24,39 +24,39 @@ module _ {V : Type 0} where
   -- what was found in a cell: no node, or this
   abbrev pub IsFound : DeskNow V → Cell → Option Shared → DeskNow V → Type 0
   IsFound d c None e = FindsNone d c e
-  IsFound d c (Some h) e = Adds d (Load c (node_in e h)) e × IsWithin h.block h.place
+  IsFound d c (Some h) e = AddsEvent d (Load c (node_in e h)) e × IsWithin h.block h.place
 
   -- the object's `next` was loaded, and went by a compare into the cell, which held an owner of it; then handles left
   pub record Skips (d : DeskNow V) (c : Cell) (node : Handle) (e : DeskNow V) : Type 0 where
     pub below : Handle
     pub old : Handle
     pub read : DeskNow V
-    pub reads : Adds d (Load (Member (object_of node) 1) below) read
+    pub reads : AddsEvent d (Load (Member (object_of node) 1) below) read
     pub cut : DeskNow V
-    pub swaps : Adds read (Compare c node below old true true) cut
+    pub swaps : AddsEvent read (Compare c node below old true true) cut
     pub leaves : Does IsParting cut e
 
   -- or nothing was put anywhere
   abbrev pub MaySkip : DeskNow V → Cell → Handle → Bool → DeskNow V → Type 0
   MaySkip d c node true e = Skips d c node e
-  MaySkip d c node false e = Does (PutsOnly nowhere) d e
+  MaySkip d c node false e = Does (PutsOnly in_no_cell) d e
 
   -- after tries that put nothing anywhere the cell was loaded, and this was there, which isn't the object
   pub record Meets (d : DeskNow V) (c : Cell) (o : ℕ) (h : Shared) (e : DeskNow V) : Type 0 where
     pub tried : DeskNow V
-    pub tries : Does (PutsOnly nowhere) d tried
-    pub loads : Adds tried (Load c (node_in e h)) e
+    pub tries : Does (PutsOnly in_no_cell) d tried
+    pub loads : AddsEvent tried (Load c (node_in e h)) e
     pub within : IsWithin h.block h.place
     pub other : object_of (node_in e h) ≢ o
 
   -- after such tries the cell was loaded, and the object was there, and went out
   pub record CutsOut (d : DeskNow V) (c : Cell) (o : ℕ) (e : DeskNow V) : Type 0 where
     pub tried : DeskNow V
-    pub tries : Does (PutsOnly nowhere) d tried
+    pub tries : Does (PutsOnly in_no_cell) d tried
     pub node : Handle
     pub is : node.object ≡ Some o
     pub seen : DeskNow V
-    pub loads : Adds tried (Load c node) seen
+    pub loads : AddsEvent tried (Load c node) seen
     pub skips : Skips seen c node e
 
   -- what came of a look for the object in a cell
@@ -75,10 +75,10 @@ module _ {V : Type 0} where
 
   -- from a cell on, through the `next` of these objects, the last one first, the desk came to this, which isn't the
   -- object, nor is any of them
-  abbrev pub Reaches : DeskNow V → Cell → ℕ → List ℕ → Shared → DeskNow V → Type 0
-  Reaches d c o [] h e = Meets d c o h e
-  Reaches d c o (b ∷ bs) h e =
-      (node : Shared) × (m : DeskNow V) × (t : DeskNow V) × Reaches d c o bs node m
+  abbrev pub ReachesNode : DeskNow V → Cell → ℕ → List ℕ → Shared → DeskNow V → Type 0
+  ReachesNode d c o [] h e = Meets d c o h e
+  ReachesNode d c o (b ∷ bs) h e =
+      (node : Shared) × (m : DeskNow V) × (t : DeskNow V) × ReachesNode d c o bs node m
       × (object_of (node_in m node) ≡ b) × Meets m (Member b 1) o h t × Does IsParting t e × SameNode t h e
 
   -- the object went out of the cell, or the last look found no node
@@ -90,13 +90,13 @@ module _ {V : Type 0} where
   abbrev pub Seeks : DeskNow V → Cell → ℕ → List ℕ → Bool → DeskNow V → Type 0
   Seeks d c o [] found e = IsEnd d c o found e
   Seeks d c o (b ∷ bs) found e =
-      (node : Shared) × (m : DeskNow V) × (t : DeskNow V) × Reaches d c o bs node m
+      (node : Shared) × (m : DeskNow V) × (t : DeskNow V) × ReachesNode d c o bs node m
       × (object_of (node_in m node) ≡ b) × IsEnd m (Member b 1) o found t × Does IsParting t e
 
   -- the object's `up` and its `next` were emptied
   pub record Unlinks (d : DeskNow V) (o : ℕ) (e : DeskNow V) : Type 0 where
     pub began : DeskNow V
-    pub begins : Does (PutsOnly nowhere) d began
+    pub begins : Does (PutsOnly in_no_cell) d began
     pub orphan : DeskNow V
     pub watches : Watches began o (empty Weak) orphan
     pub fills : Fills orphan o (empty Owner) e
@@ -109,7 +109,7 @@ module _ {V : Type 0} where
   -- the object was sought among the children of p, and then handles left
   pub record LeavesParent (d : DeskNow V) (p o : ℕ) (e : DeskNow V) : Type 0 where
     pub at : DeskNow V
-    pub comes : Does (PutsOnly nowhere) d at
+    pub comes : Does (PutsOnly in_no_cell) d at
     pub passed : List ℕ
     pub found : Bool
     pub sought : DeskNow V

@@ -8,13 +8,13 @@ use Rattle.control_word.specs.declared.event.Cell.TheVariants.{Free, Member}
 use Rattle.control_word.specs.declared.handle.Kind.TheVariants.{Owner, Weak}
 use Rattle.control_block.specs.Desks.{DeskNow, state_of}
 use Rattle.scene_structures.specs.Prunes.{is_owned}
-use Rattle.scene_structures.specs.Puts.{nowhere}
+use Rattle.scene_structures.specs.Puts.{in_no_cell}
 use Rattle.scene_structures.specs.Scenes.{AreChildren}
 
 -- the cell is a free one, or a member of an object that lives
-abbrev pub IsThere : State → Cell → Type 0
-IsThere s (Free n) = n < s.cells
-IsThere s (Member o m) = (m < 3) × ((s.object o).phase ≡ live)
+abbrev pub IsLiveCell : State → Cell → Type 0
+IsLiveCell s (Free n) = n < s.cells
+IsLiveCell s (Member o m) = (m < 3) × ((s.object o).phase ≡ live)
 
 -- the cell that holds what comes after these, in a list from this cell on
 abbrev pub after_all : Cell → List ℕ → Cell
@@ -29,7 +29,7 @@ module _ {V : Type 0} where
   -- what is there before and after holds what it held, but for these cells
   abbrev pub KeepsBut : (Cell → Type 0) → DeskNow V → DeskNow V → Type 0
   KeepsBut at d e =
-      (k : Cell) → (at k → ⊥) → IsThere (state_of d) k → IsThere (state_of e) k
+      (k : Cell) → (at k → ⊥) → IsLiveCell (state_of d) k → IsLiveCell (state_of e) k
       → cell_of (state_of e) k ≡ cell_of (state_of d) k
 
   -- the object was one of p's children, and the others are them still, in their order; its `next` and `up` are empty,
@@ -47,14 +47,14 @@ module _ {V : Type 0} where
   pub record IsNoChild (d : DeskNow V) (p o : ℕ) (os : List ℕ) (e : DeskNow V) : Type 0 where
     pub none : Has o os → ⊥
     pub is : AreChildren (state_of e) p os
-    pub rest : KeepsBut nowhere d e
+    pub rest : KeepsBut in_no_cell d e
 
   -- where the object's `up` is on nothing that has an owner, nothing changed; where it is on p, which lives after the
   -- call too, and p's children are a list, the object is out of it
   abbrev pub IsDetached : DeskNow V → ℕ → DeskNow V → Type 0
   IsDetached d o e =
       let up = ((state_of d).object o).member 2 in
-      (is_owned (state_of d) up ≡ false → KeepsBut nowhere d e)
+      (is_owned (state_of d) up ≡ false → KeepsBut in_no_cell d e)
       × ((p : ℕ) (os : List ℕ) → up.object ≡ Some p → is_owned (state_of d) up ≡ true
       → AreChildren (state_of d) p os
       → ((state_of e).object p).phase ≡ live → LeavesList d p o os e ⊎ IsNoChild d p o os e)

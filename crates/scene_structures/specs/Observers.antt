@@ -7,11 +7,11 @@ use Rattle.control_word.specs.declared.event.Cell.{Cell}
 use Rattle.control_word.specs.declared.event.Event.TheVariants.{Make}
 use Rattle.control_word.specs.declared.handle.Handle.{Handle}
 use Rattle.control_word.specs.declared.place.Block.{Block}
-use Rattle.control_block.specs.Desks.{Adds, DeskNow, latest_of, state_of}
+use Rattle.control_block.specs.Desks.{AddsEvent, DeskNow, latest_of, state_of}
 use Rattle.control_block.specs.declared.handles.Shared.{Shared}
 use Rattle.scene_structures.specs.Chains.{IsList}
 use Rattle.scene_structures.specs.Stacks.{Rises}
-use Rattle.scene_structures.specs.Watches.{Watches, weak_in}
+use Rattle.scene_structures.specs.Watches.{Watches, weak_of_owner}
 
 -- what the objects' `up` hold
 abbrev pub ups : State → List ℕ → List Handle
@@ -23,9 +23,9 @@ module _ {V : Type 0} where
   pub record Attaches (d : DeskNow V) (c : Cell) (subject : Shared) (x : V) (e : DeskNow V) : Type 0 where
     pub block : Block
     pub made : DeskNow V
-    pub makes : Adds d (Make block false false (0 ∷ 0 ∷ 0 ∷ 0 ∷ []) x) made
+    pub makes : AddsEvent d (Make block false false (0 ∷ 0 ∷ 0 ∷ 0 ∷ []) x) made
     pub hung : DeskNow V
-    pub watches : Watches made (latest_of made block.0) (weak_in d subject) hung
+    pub watches : Watches made (latest_of made block.0) (weak_of_owner d subject) hung
     pub rises : Rises hung c (owner (latest_of made block.0) (place_at block.0)) e
 
   -- the list in the cell has the object that was made next in front, whose `up` is weak on the subject; the others'
@@ -34,4 +34,4 @@ module _ {V : Type 0} where
   IsAttached d c subject e =
       (os : List ℕ) → IsList (state_of d) c os
       → IsList (state_of e) c (suc (state_of d).made ∷ os)
-      × (ups (state_of e) (suc (state_of d).made ∷ os) ≡ weak_in d subject ∷ ups (state_of d) os)
+      × (ups (state_of e) (suc (state_of d).made ∷ os) ≡ weak_of_owner d subject ∷ ups (state_of d) os)

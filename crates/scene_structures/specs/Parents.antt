@@ -13,7 +13,7 @@ use Rattle.control_block.specs.Desks.{DeskNow, state_of}
 use Rattle.control_block.specs.declared.handles.Shared.{Shared}
 use Rattle.shared_handle.specs.Calls.{LeavesWeakly}
 use Rattle.shared_handle.specs.Endings.{IsOutside, IsWithin}
-use Rattle.shared_handle.specs.Locks.{IsOwnerOf, Locks}
+use Rattle.shared_handle.specs.Locks.{IsOwnerOf, LocksHandle}
 use Rattle.atomic_cells.specs.Cells.{Loads}
 use Rattle.scene_structures.specs.Hands.{SameNode, node_in}
 use Rattle.scene_structures.specs.Scenes.{IsNearLimit}
@@ -41,7 +41,7 @@ module _ {V : Type 0} where
     pub loaded : DeskNow V
     pub loads : Loads d (Member o 2) Weak block place loaded
     pub locked : DeskNow V
-    pub locks : Locks loaded block place (is_some h.block) locked
+    pub locks : LocksHandle loaded block place (is_some h.block) locked
     pub is : IsOwnerOf block place (is_some h.block) h
     pub same : SameNode locked h e
     pub vacant : Bool

@@ -7,7 +7,7 @@ use Rattle.control_word.specs.declared.place.Place.{Place}
 use Rattle.control_block.specs.Desks.{DeskNow}
 use Rattle.control_block.specs.declared.handles.Shared.{Shared}
 use Rattle.scene_structures.specs.Hands.{HasHands, node_in}
-use Rattle.scene_structures.specs.Stacks.{FindsNone, Looks, Takes}
+use Rattle.scene_structures.specs.Stacks.{FindsNone, Looks, PopsNode}
 use Rattle.scene_structures.specs.declared.popping.Tried.{Tried}
 use Rattle.scene_structures.specs.declared.popping.Tried.TheVariants.{Again, Found, Took}
 
@@ -17,7 +17,7 @@ module _ {V : Type 0} where
     pub object : ℕ
     pub place : Place
     pub node : node_in e h ≡ owner object (Some place)
-    pub takes : Takes d c object place e
+    pub takes : PopsNode d c object place e
 
   abbrev pub HandsAfter : List Handle → Tried → DeskNow V → Type 0
   HandsAfter base (Took h) e = HasHands base (h ∷ []) e

@@ -12,7 +12,7 @@ use Rattle.control_word.specs.declared.handle.Handle.{Handle}
 use Rattle.control_word.specs.declared.handle.Kind.TheVariants.{Weak}
 use Rattle.control_word.specs.declared.place.Block.{Block}
 use Rattle.control_word.specs.declared.place.Place.{Place}
-use Rattle.control_block.specs.Desks.{Adds, DeskNow, state_of}
+use Rattle.control_block.specs.Desks.{AddsEvent, DeskNow, state_of}
 use Rattle.control_block.specs.Own.{Does, Goes}
 use Rattle.control_block.specs.declared.handles.Shared.{Shared}
 use Rattle.shared_handle.specs.Calls.{IsExpiry, LeavesWeakly}
@@ -37,7 +37,7 @@ picked os bs = []
 module _ {V : Type 0} where
   -- the cell was loaded, what it held was asked whether its object has no owner, as an empty handle has none, and then
   -- left
-  pub record Asks (d : DeskNow V) (c : Cell) (gone : Bool) (e : DeskNow V) : Type 0 where
+  pub record AsksExpired (d : DeskNow V) (c : Cell) (gone : Bool) (e : DeskNow V) : Type 0 where
     pub block : Option Block
     pub place : Option Place
     pub loaded : DeskNow V
@@ -50,8 +50,8 @@ module _ {V : Type 0} where
   -- the cell was loaded; this was there, and the `up` of its object asked
   pub record Finds (d : DeskNow V) (c : Cell) (h : Shared) (gone : Bool) (e : DeskNow V) : Type 0 where
     pub loaded : DeskNow V
-    pub loads : Adds d (Load c (node_in e h)) loaded
-    pub asks : Asks loaded (Member (object_of (node_in e h)) 2) gone e
+    pub loads : AddsEvent d (Load c (node_in e h)) loaded
+    pub asks : AsksExpired loaded (Member (object_of (node_in e h)) 2) gone e
 
   -- what was found in a cell
   abbrev pub IsFront : DeskNow V → Cell → Front → DeskNow V → Type 0
@@ -69,13 +69,13 @@ module _ {V : Type 0} where
   HeldFront d _ e = e.held ≡ d.held + 1
 
   -- the object's `next` was loaded, and went into the cell; and then handles left
-  pub record Passes (d : DeskNow V) (c : Cell) (o : ℕ) (e : DeskNow V) : Type 0 where
+  pub record PassesNode (d : DeskNow V) (c : Cell) (o : ℕ) (e : DeskNow V) : Type 0 where
     pub next : Handle
     pub seen : DeskNow V
-    pub loads : Adds d (Load (Member o 1) next) seen
+    pub loads : AddsEvent d (Load (Member o 1) next) seen
     pub old : Handle
     pub cut : DeskNow V
-    pub swaps : Adds seen (Swap c next old) cut
+    pub swaps : AddsEvent seen (Swap c next old) cut
     pub leaves : Does IsParting cut e
 
   -- the node in the cell, whose subject has no owner, goes out: the cell gets what comes next
@@ -84,7 +84,7 @@ module _ {V : Type 0} where
     pub found : DeskNow V
     pub finds : Finds d c node true found
     pub within : IsWithin node.block node.place
-    pub passes : Passes found c (object_of (node_in found node)) e
+    pub passes : PassesNode found c (object_of (node_in found node)) e
 
   -- so many nodes go out of the cell, one after another
   abbrev pub CutsAll : DeskNow V → Cell → ℕ → DeskNow V → Type 0
@@ -92,7 +92,7 @@ module _ {V : Type 0} where
   CutsAll d c (suc n) e = (m : DeskNow V) × CutsAll d c n m × Cuts m c e
 
   -- and then this node is there, whose subject has an owner, or none
-  pub record Clears (d : DeskNow V) (c : Cell) (n : ℕ) (kept : Option Shared) (e : DeskNow V) : Type 0 where
+  pub record ClearsFront (d : DeskNow V) (c : Cell) (n : ℕ) (kept : Option Shared) (e : DeskNow V) : Type 0 where
     pub cleared : DeskNow V
     pub cuts : CutsAll d c n cleared
     pub front : MatchOption kept (FindsNone cleared c e) (λ h. Finds cleared c h false e × IsWithin h.block h.place)
@@ -105,11 +105,11 @@ module _ {V : Type 0} where
   -- from a cell on so many nodes went out, and these objects stayed, the last one first, each a node whose `next` was
   -- cleared in its turn; the last look found this
   abbrev pub Prunes : DeskNow V → Cell → List ℕ → ℕ → Option Shared → DeskNow V → Type 0
-  Prunes d c [] n kept e = Clears d c n kept e
+  Prunes d c [] n kept e = ClearsFront d c n kept e
   Prunes d c (o ∷ os) n kept e =
       (a : ℕ) × (b : ℕ) × (node : Shared) × (m : DeskNow V) × (t : DeskNow V)
       × Prunes d c os a (Some node) m × (object_of (node_in m node) ≡ o)
-      × Clears m (Member o 1) b kept t × Does IsParting t e × SameKept t kept e × (n ≡ a + b)
+      × ClearsFront m (Member o 1) b kept t × Does IsParting t e × SameKept t kept e × (n ≡ a + b)
 
   -- the desk's history goes on
   abbrev pub GoesOn : DeskNow V → DeskNow V → Type 0

@@ -5,8 +5,8 @@ use Rattle.control_word.specs.declared.event.Event.{Event}
 use Rattle.control_word.specs.declared.event.Event.TheVariants.{Compare, Join, Split, Swap}
 
 -- no cell
-abbrev pub nowhere : Cell → Type 0
-nowhere c = ⊥
+abbrev pub in_no_cell : Cell → Type 0
+in_no_cell c = ⊥
 
 module _ {V : Type 0} where
   -- what the event puts into a cell, it puts into one of these; and no desk comes or goes by it

@@ -10,13 +10,13 @@ use Rattle.control_word.specs.declared.place.Block.{Block}
 use Rattle.control_word.specs.declared.place.Place.{Place}
 use Rattle.control_word.specs.declared.refusal.Refusal.{Refusal}
 use Rattle.control_word.specs.declared.refusal.Refusal.TheVariants.{Full, Limit, Null, Outside}
-use Rattle.control_block.specs.Desks.{Adds, DeskNow, allowance_of, held_of, latest_of, state_of, stock_of}
+use Rattle.control_block.specs.Desks.{AddsEvent, DeskNow, allowance_of, held_of, latest_of, state_of, stock_of}
 use Rattle.control_block.specs.declared.handles.Shared.{Shared}
 use Rattle.shared_handle.specs.Endings.{IsOutside, IsWithin}
 use Rattle.scene_structures.specs.Chains.{IsList}
 use Rattle.scene_structures.specs.Hands.{node_in}
 use Rattle.scene_structures.specs.Stacks.{Rises}
-use Rattle.scene_structures.specs.Watches.{Watches, weak_in}
+use Rattle.scene_structures.specs.Watches.{Watches, weak_of_owner}
 
 -- the object's children, the one that was added last in front
 abbrev pub AreChildren : State → ℕ → List ℕ → Type 0
@@ -46,9 +46,9 @@ module _ {V : Type 0} where
     pub block : Block
     pub is : (child.block ≡ Some block) × (child.place ≡ place_at block.0)
     pub made : DeskNow V
-    pub makes : Adds d (Make block false false fields x) made
+    pub makes : AddsEvent d (Make block false false fields x) made
     pub hung : DeskNow V
-    pub watches : Watches made (latest_of made block.0) (weak_in d parent) hung
+    pub watches : Watches made (latest_of made block.0) (weak_of_owner d parent) hung
     pub rises : Rises hung (Member (object_of (node_in d parent)) 0)
         (owner (latest_of made block.0) (place_at block.0)) e
 
@@ -57,4 +57,4 @@ module _ {V : Type 0} where
   IsAdopted d parent e =
       let p = object_of (node_in d parent) in let o = suc (state_of d).made in
       ((os : List ℕ) → AreChildren (state_of d) p os → AreChildren (state_of e) p (o ∷ os))
-      × (((state_of e).object o).member 2 ≡ weak_in d parent)
+      × (((state_of e).object o).member 2 ≡ weak_of_owner d parent)

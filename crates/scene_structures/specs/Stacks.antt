@@ -10,15 +10,15 @@ use Rattle.control_word.specs.declared.event.Event.TheVariants.{Compare, Load, M
 use Rattle.control_word.specs.declared.handle.Handle.{Handle}
 use Rattle.control_word.specs.declared.place.Block.{Block}
 use Rattle.control_word.specs.declared.place.Place.{Place}
-use Rattle.control_block.specs.Desks.{Adds, DeskNow, DomainNow, latest_of, state_of}
+use Rattle.control_block.specs.Desks.{AddsEvent, DeskNow, DomainNow, latest_of, state_of}
 use Rattle.shared_handle.specs.declared.pile.Pile.{Pile}
 use Rattle.control_block.specs.Own.{Goes}
 use Rattle.control_block.specs.declared.handles.Shared.{Shared}
 use Rattle.shared_handle.specs.Endings.{IsWithin}
-use Rattle.scene_structures.specs.Chains.{IsList, Owns}
+use Rattle.scene_structures.specs.Chains.{IsList, OwnsObject}
 use Rattle.scene_structures.specs.Hands.{node_in}
 use Rattle.shared_handle.specs.Piles.{IsParting}
-use Rattle.scene_structures.specs.Puts.{PutsOnly, nowhere}
+use Rattle.scene_structures.specs.Puts.{PutsOnly, in_no_cell}
 
 -- the cell that a stack stands in, and for how many objects that end it has room
 pub record StackNow : Type 0 where
@@ -62,11 +62,11 @@ module _ {V : Type 0} where
   pub record Pushes (d : DeskNow V) (c : Cell) (fields : List ℕ) (x : V) (e : DeskNow V) : Type 0 where
     pub block : Block
     pub made : DeskNow V
-    pub makes : Adds d (Make block false false fields x) made
+    pub makes : AddsEvent d (Make block false false fields x) made
     pub rises : Rises made c (owner (latest_of made block.0) (place_at block.0)) e
 
   -- pop: the node went out of the cell by a compare, for what was loaded from its `next`; nothing else was put anywhere
-  pub record Takes (d : DeskNow V) (c : Cell) (o : ℕ) (q : Place) (e : DeskNow V) : Type 0 where
+  pub record PopsNode (d : DeskNow V) (c : Cell) (o : ℕ) (q : Place) (e : DeskNow V) : Type 0 where
     pub below : Handle
     pub old : Handle
     pub weak : Bool
@@ -74,7 +74,7 @@ module _ {V : Type 0} where
     pub after : List (Event V)
     pub goes : Goes d
         (after ++ Compare c (owner o (Some q)) below old true weak ∷ (Load (Member o 1) below ∷ before)) e
-    pub early : All (PutsOnly nowhere) before
+    pub early : All (PutsOnly in_no_cell) before
     pub late : All IsParting after
 
   -- the event saw this in the cell, and left it there
@@ -93,15 +93,15 @@ module _ {V : Type 0} where
     pub sees : Sees c (node_in at found) look
     pub looks : Goes d (look ∷ before) at
     pub leaves : Goes at after e
-    pub early : All (PutsOnly nowhere) before
+    pub early : All (PutsOnly in_no_cell) before
     pub late : All IsParting after
-    pub within : (o : ℕ) → Owns (state_of at) (node_in at found) o → IsWithin found.block found.place
+    pub within : (o : ℕ) → OwnsObject (state_of at) (node_in at found) o → IsWithin found.block found.place
 
   -- and that is no node: it owns no object that it points into
   pub record FindsNone (d : DeskNow V) (c : Cell) (e : DeskNow V) : Type 0 where
     pub found : Shared
     pub looks : Looks d c found e
-    pub none : (o : ℕ) → Owns (state_of looks.at) (node_in looks.at found) o → ⊥
+    pub none : (o : ℕ) → OwnsObject (state_of looks.at) (node_in looks.at found) o → ⊥
 
   -- the list in the cell has the object that was made next in front
   abbrev pub IsPushed : DeskNow V → Cell → DeskNow V → Type 0
@@ -112,14 +112,14 @@ module _ {V : Type 0} where
   IsPopped d c h e =
       (os : List ℕ) → IsList (state_of d) c os
       → (o : ℕ) × (rest : List ℕ) × (os ≡ o ∷ rest) × IsList (state_of e) c rest
-      × Owns (state_of e) (node_in e h) o
+      × OwnsObject (state_of e) (node_in e h) o
       × (((state_of e).object o).member 1 ≡ cell_of (state_of e) c)
 
   -- there was no list but the one of nothing, and there is that one still
-  abbrev pub IsBare : DeskNow V → Cell → DeskNow V → Type 0
-  IsBare d c e = (os : List ℕ) → IsList (state_of d) c os → (os ≡ []) × IsList (state_of e) c []
+  abbrev pub IsEmptyList : DeskNow V → Cell → DeskNow V → Type 0
+  IsEmptyList d c e = (os : List ℕ) → IsList (state_of d) c os → (os ≡ []) × IsList (state_of e) c []
 
   -- a pile on which nothing lies, with room for an end of each block: any desk of the domain may use it
-  pub record Serves (domain : DomainNow) (p : Pile V) : Type 0 where
+  pub record ServesDomain (domain : DomainNow) (p : Pile V) : Type 0 where
     pub none : p.endings.items ≡ []
     pub room : domain.shape.blocks ≤ vec_capacity p.endings

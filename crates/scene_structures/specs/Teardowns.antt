@@ -18,17 +18,17 @@ empty_slots n (Some x ∷ ss) = empty_slots (suc n) ss
 empty_slots n (None ∷ ss) = n ∷ empty_slots (suc n) ss
 
 -- so many objects may be told of
-pub record HasRoom {V : Type 0} (n : ℕ) (e : Ended V) : Type 0 where
+pub record HasRoomForEnds {V : Type 0} (n : ℕ) (e : Ended V) : Type 0 where
   pub slots : vec_capacity e.slots ≡ n
   pub vacant : vec_capacity e.vacant ≡ n
   pub values : vec_capacity e.values ≡ n
   pub none : e.values.items ≡ []
 
 -- what the slots have
-abbrev pub filled : {A : Type 0} → List (Option A) → List A
-filled [] = []
-filled (Some x ∷ ss) = x ∷ filled ss
-filled (None ∷ ss) = filled ss
+abbrev pub filled_values : {A : Type 0} → List (Option A) → List A
+filled_values [] = []
+filled_values (Some x ∷ ss) = x ∷ filled_values ss
+filled_values (None ∷ ss) = filled_values ss
 
 module _ {V : Type 0} where
   -- the value of what lies on top
@@ -38,20 +38,20 @@ module _ {V : Type 0} where
   top_value (x ∷ (y ∷ zs)) = top_value (y ∷ zs)
 
   -- the value of what ended when an owner left, which is on top then
-  abbrev pub ended_by : Gone → List (Ending V) → List V
-  ended_by gone.Last zs = top_value zs
-  ended_by gone.Empty zs = []
-  ended_by gone.Others zs = []
+  abbrev pub values_ended_by : Gone → List (Ending V) → List V
+  values_ended_by gone.Last zs = top_value zs
+  values_ended_by gone.Empty zs = []
+  values_ended_by gone.Others zs = []
 
-  abbrev pub ended_in : Round V → List (Ending V) → List V
-  ended_in (round.Cleared m g) zs = ended_by g zs
-  ended_in (round.Ended v) zs = []
-  ended_in round.Settled zs = []
+  abbrev pub values_ended_in : Round V → List (Ending V) → List V
+  values_ended_in (round.Cleared m g) zs = values_ended_by g zs
+  values_ended_in (round.Ended v) zs = []
+  values_ended_in round.Settled zs = []
 
   -- the values of all that ended in rounds that left this pile, behind these, in the order in which it ended
-  abbrev pub ended : List (Past V) → List (Ending V) → List V → List V
-  ended [] zs us = us
-  ended (r ∷ rs) zs us = ended rs r.pile us ++ ended_in r.round zs
+  abbrev pub values_ended : List (Past V) → List (Ending V) → List V → List V
+  values_ended [] zs us = us
+  values_ended (r ∷ rs) zs us = values_ended rs r.pile us ++ values_ended_in r.round zs
 
   -- of objects that ended in this order, those have come out that have a value in their slot, and the others lie on the
   -- pile
@@ -75,23 +75,24 @@ module _ {V : Type 0} where
 
   -- what a round makes of the slots: one more where an object ended, and the last empty one has a value where that came
   -- out
-  abbrev pub StepsBy : Round V → List (Option V) → List (Option V) → Type 0
-  StepsBy round.Settled ss ts = ts ≡ ss
-  StepsBy (round.Cleared m gone.Last) ss ts = ts ≡ ss ++ None ∷ []
-  StepsBy (round.Cleared m gone.Empty) ss ts = ts ≡ ss
-  StepsBy (round.Cleared m gone.Others) ss ts = ts ≡ ss
-  StepsBy (round.Ended v) ss ts = (zs : List (Ending V)) (x : Ending V) (vs : List V) → v ≡ x.value
+  abbrev pub RoundStepsBy : Round V → List (Option V) → List (Option V) → Type 0
+  RoundStepsBy round.Settled ss ts = ts ≡ ss
+  RoundStepsBy (round.Cleared m gone.Last) ss ts = ts ≡ ss ++ None ∷ []
+  RoundStepsBy (round.Cleared m gone.Empty) ss ts = ts ≡ ss
+  RoundStepsBy (round.Cleared m gone.Others) ss ts = ts ≡ ss
+  RoundStepsBy (round.Ended v) ss ts = (zs : List (Ending V)) (x : Ending V) (vs : List V) → v ≡ x.value
       → AreOut ss (zs ++ x ∷ []) vs → AreOut ts zs vs
 
   -- so many rounds were made; and what lay above any lower part of the pile has come out, or lies there still
-  pub record Runs (d : DeskNow V) (ys : List (Ending V)) (ss : List (Option V)) (n : ℕ) (e : DeskNow V)
+  pub record MakesRounds (d : DeskNow V) (ys : List (Ending V)) (ss : List (Option V)) (n : ℕ) (e : DeskNow V)
       (qs : List (Ending V)) (ts : List (Option V))
       : Type 0 where
     pub rounds : List (Past V)
     pub are : AreRounds d ys rounds e qs
     pub many : length rounds ≡ n
     pub out : (base zs : List (Ending V)) (vs : List V) → ys ≡ base ++ zs → AreOut ss zs vs
-        → (ws : List (Ending V)) × (qs ≡ base ++ ws) × AreOut ts ws (ended rounds qs vs) × IsAbove base rounds
+        → (ws : List (Ending V)) × (qs ≡ base ++ ws) × AreOut ts ws (values_ended rounds qs vs)
+        × IsAbove base rounds
 
   -- and they may stop
   pub record RunsDown (blocks : ℕ) (d : DeskNow V) (ys : List (Ending V)) (ss : List (Option V))
@@ -100,7 +101,7 @@ module _ {V : Type 0} where
     pub rounds : List (Past V)
     pub are : AreRounds d ys rounds e qs
     pub out : (base zs : List (Ending V)) (vs : List V) → ys ≡ base ++ zs → AreOut ss zs vs
-        → (ws : List (Ending V)) × (qs ≡ base ++ ws) × AreOut ts ws (ended rounds qs vs)
+        → (ws : List (Ending V)) × (qs ≡ base ++ ws) × AreOut ts ws (values_ended rounds qs vs)
         × IsAbove base rounds × MayStop blocks rounds ws ts
 
   -- The root left, and in rounds of the pile ended what ends by that, and nothing that lay on it before. The values
@@ -118,7 +119,7 @@ module _ {V : Type 0} where
     pub rest : List (Ending V)
     pub left : ys ≡ xs ++ rest
     pub slots : List (Option V)
-    pub order : AreOut slots rest (ended rounds ys (ended_by gone pile))
-    pub out : values ≡ filled slots
-    pub whole : rest ≡ [] → values ≡ ended rounds ys (ended_by gone pile)
+    pub order : AreOut slots rest (values_ended rounds ys (values_ended_by gone pile))
+    pub out : values ≡ filled_values slots
+    pub whole : rest ≡ [] → values ≡ values_ended rounds ys (values_ended_by gone pile)
     pub stops : MayStop blocks rounds rest slots

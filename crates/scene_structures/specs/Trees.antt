@@ -14,9 +14,9 @@ pub data Tree : Type 0 where
   node : ℕ → Tree → Tree → Tree
 
 -- its objects: each before what its `first` owns, and that before what its `next` owns
-abbrev pub in_order : Tree → List ℕ
-in_order bare = []
-in_order (node o first next) = o ∷ (in_order first ++ in_order next)
+abbrev pub objects_in_order : Tree → List ℕ
+objects_in_order bare = []
+objects_in_order (node o first next) = o ∷ (objects_in_order first ++ objects_in_order next)
 
 -- the handle is the only owner of the tree's top, and that of what its `first` and its `next` own, and so on down
 abbrev pub IsTree : State → Handle → Tree → Type 0
@@ -30,4 +30,4 @@ module _ {V : Type 0} where
   abbrev pub IsTornDown : DeskNow V → Shared → List V → Type 0
   IsTornDown d root values =
       (t : Tree) → IsTree (state_of d) (node_in d root) t
-      → map Some values ≡ map (value (opening_of d.shape) d.seen) (in_order t)
+      → map Some values ≡ map (value (opening_of d.shape) d.seen) (objects_in_order t)

@@ -11,31 +11,31 @@ use Rattle.control_word.specs.declared.event.Event.TheVariants.{ClearMember, Fin
 use Rattle.control_word.specs.declared.event.Event.TheVariants.{WeakLeave}
 use Rattle.control_word.specs.declared.handle.Handle.{Handle}
 use Rattle.control_word.specs.declared.place.Block.{Block}
-use Rattle.control_block.specs.Desks.{Adds, DeskNow, latest_of, state_of}
+use Rattle.control_block.specs.Desks.{AddsEvent, DeskNow, latest_of, state_of}
 use Rattle.control_block.specs.Own.{Does, Goes}
 use Rattle.control_block.specs.declared.handles.Shared.{Shared}
 use Rattle.shared_handle.specs.Piles.{IsParting}
-use Rattle.scene_structures.specs.Chains.{IsList, Owns}
+use Rattle.scene_structures.specs.Chains.{IsList, OwnsObject}
 use Rattle.scene_structures.specs.Hands.{HasHands, node_in}
 use Rattle.scene_structures.specs.declared.walking.Visited.{Visited}
 use Rattle.scene_structures.specs.declared.walking.Visited.TheVariants.{End, Passed, Told}
 
 -- what a visit to a node saw: what its `up` held, field 0 of the subject, if that has an owner, and what its `next`
 -- held
-pub record Stop : Type 0 where
+pub record SeenNode : Type 0 where
   pub object : ℕ
   pub up : Handle
   pub told : Option ℕ
   pub next : Handle
 
-abbrev pub onto : Option ℕ → List ℕ → List ℕ
-onto None told = told
-onto (Some x) told = x ∷ told
+abbrev pub told_onto : Option ℕ → List ℕ → List ℕ
+told_onto None told = told
+told_onto (Some x) told = x ∷ told
 
 -- what the visits told, the newest first
-abbrev pub told_of : List Stop → List ℕ
+abbrev pub told_of : List SeenNode → List ℕ
 told_of [] = []
-told_of (s ∷ stops) = onto s.told (told_of stops)
+told_of (s ∷ stops) = told_onto s.told (told_of stops)
 
 -- what a subject tells where it has an owner, above what was told before
 abbrev pub told_at : State → Option ℕ → List ℕ → List ℕ
@@ -87,13 +87,13 @@ module _ {V : Type 0} where
       (b : ℕ) × (looks ≡ Read (owner (object_of up) (place_at b)) x ∷ Lock up true ∷ [])
 
   -- a node is visited: its `up` is loaded, the subject asked, and its `next` loaded
-  pub record IsStop (s : Stop) (looks : List (Event V)) : Type 0 where
+  pub record IsStop (s : SeenNode) (looks : List (Event V)) : Type 0 where
     pub asked : List (Event V)
     pub asks : IsAsked s.up s.told asked
     pub are : looks ≡ Load (Member s.object 1) s.next ∷ (asked ++ Load (Member s.object 2) s.up ∷ [])
 
   -- visits to the nodes from a handle on, each through the `next` before it, down to this handle; the newest first
-  abbrev pub Walks : Handle → List Stop → Handle → List (Event V) → Type 0
+  abbrev pub Walks : Handle → List SeenNode → Handle → List (Event V) → Type 0
   Walks h [] end looks = (end ≡ h) × (looks ≡ [])
   Walks h (s ∷ stops) end looks =
       (at : Handle) × (before here : List (Event V)) × Walks h stops at before × (at.object ≡ Some s.object)
@@ -101,8 +101,8 @@ module _ {V : Type 0} where
       × (looks ≡ here ++ before)
 
   -- one visit to what a handle owns, which tells this and goes on to that
-  pub record Visits (d : DeskNow V) (h : Handle) (told : Option ℕ) (next : Shared) (e : DeskNow V) : Type 0 where
-    pub stop : Stop
+  pub record VisitsNode (d : DeskNow V) (h : Handle) (told : Option ℕ) (next : Shared) (e : DeskNow V) : Type 0 where
+    pub stop : SeenNode
     pub looks : List (Event V)
     pub is : IsStop stop looks
     pub node : h.object ≡ Some stop.object
@@ -110,10 +110,10 @@ module _ {V : Type 0} where
     pub goes_on : node_in e next ≡ stop.next
     pub looked : HasLooked d looks e
 
-  abbrev pub IsVisit : DeskNow V → Handle → Visited → DeskNow V → Type 0
-  IsVisit d h End e = Does IsParting d e × ((o : ℕ) → Owns (state_of d) h o → ⊥)
-  IsVisit d h (Passed next) e = Visits d h None next e
-  IsVisit d h (Told x next) e = Visits d h (Some x) next e
+  abbrev pub IsNodeVisit : DeskNow V → Handle → Visited → DeskNow V → Type 0
+  IsNodeVisit d h End e = Does IsParting d e × ((o : ℕ) → OwnsObject (state_of d) h o → ⊥)
+  IsNodeVisit d h (Passed next) e = VisitsNode d h None next e
+  IsNodeVisit d h (Told x next) e = VisitsNode d h (Some x) next e
 
   abbrev pub HandsVisited : List Handle → Visited → DeskNow V → Type 0
   HandsVisited base End e = HasHands base [] e
@@ -127,24 +127,24 @@ module _ {V : Type 0} where
   -- from a handle on all nodes were visited, down to what owns no object that it points into; what they told, the
   -- newest first
   pub record WalksFrom (d : DeskNow V) (first : Handle) (told : List ℕ) (e : DeskNow V) : Type 0 where
-    pub stops : List Stop
+    pub stops : List SeenNode
     pub looks : List (Event V)
     pub end : Handle
     pub at : DeskNow V
     pub walks : Walks first stops end looks
     pub looked : HasLooked d looks at
     pub leaves : Does IsParting at e
-    pub none : (o : ℕ) → Owns (state_of at) end o → ⊥
+    pub none : (o : ℕ) → OwnsObject (state_of at) end o → ⊥
     pub tells : told ≡ told_of stops
 
   -- each: the cell was loaded, and all nodes from there on visited
   pub record WalksOver (d : DeskNow V) (c : Cell) (told : List ℕ) (e : DeskNow V) : Type 0 where
     pub first : Handle
     pub loaded : DeskNow V
-    pub loads : Adds d (Load c first) loaded
+    pub loads : AddsEvent d (Load c first) loaded
     pub walks : WalksFrom loaded first told e
 
   -- the list in the cell is there still, and its living subjects told, the first node's at first
-  abbrev pub IsTold : DeskNow V → Cell → List ℕ → DeskNow V → Type 0
-  IsTold d c told e = (os : List ℕ) → IsList (state_of d) c os → IsList (state_of e) c os
+  abbrev pub IsToldList : DeskNow V → Cell → List ℕ → DeskNow V → Type 0
+  IsToldList d c told e = (os : List ℕ) → IsList (state_of d) c os → IsList (state_of e) c os
       × (told ≡ told_by (state_of d) [] os)

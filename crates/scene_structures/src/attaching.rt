@@ -4,10 +4,10 @@ ghost use Rattle.control_word.specs.Handles.{object_of};
 ghost use Rattle.control_word.specs.declared.handle.Kind.TheVariants.{Owner};
 ghost use Rattle.control_block.specs.Desks.{Belongs, IsSameDesk, KeepsEndings, allowance_of, bag_of, endings_of};
 ghost use Rattle.control_block.specs.Desks.{held_of};
-ghost use Rattle.shared_handle.specs.Calls.{Holds};
+ghost use Rattle.control_block.specs.CellCalls.{HoldsHandle};
 ghost use Rattle.shared_handle.specs.Endings.{IsWithin};
 ghost use Rattle.scene_structures.specs.Hands.{KeepsHeld, node_in};
-ghost use Rattle.scene_structures.specs.Watches.{Watches, weak_in};
+ghost use Rattle.scene_structures.specs.Watches.{Watches, weak_of_owner};
 
 use atomic_cells::WeakAt;
 use control_block::desk::Desk;
@@ -23,15 +23,16 @@ pub(crate) fn watch<V: Drop + Send>(
 )
     requires domain { Belongs desk.old domain.now }
     requires node { IsWithin node.now.block node.now.place }
-    requires holds { Holds desk.old Owner node.now.block node.now.place
-        × Holds desk.old Owner subject.now.block subject.now.place }
+    requires holds { HoldsHandle desk.old Owner node.now.block node.now.place
+        × HoldsHandle desk.old Owner subject.now.block subject.now.place }
     requires room { held_of desk.old < allowance_of desk.old }
     ensures bag { bag_of desk.new ≡ bag_of desk.old }
     ensures held { desk.new.held ≡ desk.old.held }
     ensures desk { IsSameDesk desk.old desk.new }
     ensures endings { KeepsEndings desk.old desk.new }
     ensures count { endings_of desk.new ≡ endings_of desk.old }
-    ensures own { Watches desk.old (object_of (node_in desk.old node.now)) (weak_in desk.old subject.now) desk.new }
+    ensures own { Watches desk.old (object_of (node_in desk.old node.now))
+        (weak_of_owner desk.old subject.now) desk.new }
     ensures latest { KeepsHeld desk.old desk.new }
 {
     let Ok(weak) = downgrade(domain, desk, subject) else {

@@ -4,7 +4,7 @@ ghost use Rattle.control_word.specs.Handles.{object_of};
 ghost use Rattle.control_word.specs.declared.handle.Kind.TheVariants.{Owner};
 ghost use Rattle.control_block.specs.Desks.{Belongs, IsSameDesk, KeepsEndings, bag_of, endings_of};
 ghost use Rattle.control_block.specs.Own.{IsSole, KeepsLatest};
-ghost use Rattle.shared_handle.specs.Calls.{Holds, with_handle};
+ghost use Rattle.control_block.specs.CellCalls.{HoldsHandle, with_handle};
 ghost use Rattle.scene_structures.specs.Hands.{node_in};
 ghost use Rattle.scene_structures.specs.Parents.{IsNode, IsParent, LocksUp, WhyNoNode};
 
@@ -30,7 +30,7 @@ impl<V: Drop + Send> Scene<V> {
         node: &Shared,
     ) -> Result<Shared, Refusal>
         requires domain { Belongs desk.old domain.now }
-        requires holds { Holds desk.old Owner node.now.block node.now.place }
+        requires holds { HoldsHandle desk.old Owner node.now.block node.now.place }
         ensures refusals { IfErr result (λ why. WhyNoNode desk.old node.now.block node.now.place why) }
         ensures may { OnOk result (IsNode desk.old node.now.block node.now.place) }
         ensures refused { IfErr result (λ _. desk.new ≡ desk.old) }
@@ -39,7 +39,7 @@ impl<V: Drop + Send> Scene<V> {
         ensures count { endings_of desk.new ≡ endings_of desk.old }
         ensures bag { IfOk result (λ h. bag_of desk.new ≡ with_handle Owner h.block h.place (bag_of desk.old)) }
         ensures held { OnOk result (desk.new.held ≡ desk.old.held + 1) }
-        ensures holds { IfOk result (λ h. Holds desk.new Owner h.block h.place) }
+        ensures holds { IfOk result (λ h. HoldsHandle desk.new Owner h.block h.place) }
         ensures latest { OnOk result (KeepsLatest desk.old desk.new) }
         ensures own { IfOk result (λ h. LocksUp desk.old (object_of (node_in desk.old node.now)) h desk.new) }
         ensures parent { IfOk result

@@ -11,9 +11,9 @@ ghost use Rattle.shared_handle.specs.Endings.{IsWithin};
 ghost use Rattle.shared_handle.specs.Piles.{Carries};
 ghost use Rattle.atomic_cells.specs.Sites.{shared_cell};
 ghost use Rattle.scene_structures.specs.Detaches.{HandsSought, HeldSought, IsFound, IsSought, MaySkip};
-ghost use Rattle.scene_structures.specs.Detaches.{Reaches, Seeks};
+ghost use Rattle.scene_structures.specs.Detaches.{ReachesNode, Seeks};
 ghost use Rattle.scene_structures.specs.Hands.{HasHands, IsOpenBy, KeepsThese, Lists, node_in};
-ghost use Rattle.scene_structures.specs.Puts.{PutsOnly, nowhere};
+ghost use Rattle.scene_structures.specs.Puts.{PutsOnly, in_no_cell};
 ghost use Rattle.scene_structures.specs.Others.{KeepsOthers};
 
 use crate::endings::let_go;
@@ -144,7 +144,7 @@ fn try_cut<V: Drop + Send, R: Wait>(
         → MatchOption result (HasHands base [] desk.new) (λ s. HandsSought base s desk.new) }
     ensures latest { (base : List Handle) → HasHands base [] desk.old → KeepsThese base desk.old desk.new }
     ensures held { MatchOption result (desk.new.held ≡ desk.old.held) (λ s. HeldSought desk.old s desk.new) }
-    ensures own { MatchOption result (Does (PutsOnly nowhere) desk.old desk.new)
+    ensures own { MatchOption result (Does (PutsOnly in_no_cell) desk.old desk.new)
         (λ s. IsSought desk.old (shared_cell desk.old at.now.site)
         (object_of (node_in desk.old node.now)) s desk.new) }
 {
@@ -222,7 +222,7 @@ fn cut_below<V: Drop + Send, R: Wait>(
         → KeepsThese base desk.old desk.new }
     ensures held { desk.new.held + 1 ≡ desk.old.held }
     ensures own { (d : DeskNow V) (c : Cell) (bs : List ℕ)
-        → Reaches d c (object_of (node_in desk.old node.now)) bs first desk.old
+        → ReachesNode d c (object_of (node_in desk.old node.now)) bs first desk.old
         → (passed : List ℕ) × Seeks d c (object_of (node_in desk.old node.now)) passed result desk.new }
 {
     let mut before = first;

@@ -5,7 +5,7 @@ ghost use Rattle.control_word.specs.declared.handle.Handle.{Handle};
 ghost use Rattle.control_word.specs.declared.handle.Kind.TheVariants.{Owner};
 ghost use Rattle.control_block.specs.Desks.{IsSameDesk, allowance_of, bag_of};
 ghost use Rattle.control_block.specs.Own.{IsSole};
-ghost use Rattle.shared_handle.specs.Calls.{Holds};
+ghost use Rattle.control_block.specs.CellCalls.{HoldsHandle};
 ghost use Rattle.shared_handle.specs.Endings.{IsWithin};
 ghost use Rattle.shared_handle.specs.Piles.{Carries};
 ghost use Rattle.scene_structures.specs.Detaches.{Detaches, LeavesParent, UnlinksIf};
@@ -37,7 +37,7 @@ fn unlink<V: Drop + Send, R: Wait>(
     requires carries { Carries domain.now desk.old pile.old }
     requires empty { pile.old.endings.items ≡ [] }
     requires node { IsWithin node.now.block node.now.place }
-    requires holds { Holds desk.old Owner node.now.block node.now.place }
+    requires holds { HoldsHandle desk.old Owner node.now.block node.now.place }
     requires room { desk.old.held + 2 < allowance_of desk.old }
     ensures carries { Carries domain.now desk.new pile.new }
     ensures others { KeepsOthers desk.old pile.old.endings.items desk.new pile.new.endings.items }
@@ -105,7 +105,7 @@ impl<V: Drop + Send> Scene<V> {
         node: &Shared,
     ) -> Result<(), Refusal>
         requires carries { Carries domain.now desk.old self.old }
-        requires holds { Holds desk.old Owner node.now.block node.now.place }
+        requires holds { HoldsHandle desk.old Owner node.now.block node.now.place }
         ensures refusals { IfErr result (λ why. WhyNoNode desk.old node.now.block node.now.place why) }
         ensures may { OnOk result (IsNode desk.old node.now.block node.now.place) }
         ensures refused { IfErr result (λ _. (desk.new ≡ desk.old) × (self.new ≡ self.old)) }

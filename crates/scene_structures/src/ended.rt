@@ -3,7 +3,7 @@ ghost use Rattle.std.specs.Prelude.{◌≡◌, ◌≢◌, ◌⊎◌, ℕ, ◌<�
 ghost use Rattle.std.specs.Prelude.{◌*◌, List, [], ◌∷◌, ◌++◌, None, length, IfOk, IsTrue};
 ghost use Rattle.std.specs.Prelude.{IsFalse};
 ghost use Rattle.shared_handle.specs.declared.endings.Ending.{Ending};
-ghost use Rattle.scene_structures.specs.Teardowns.{AreOut, HasRoom, StepsBy, empty_slots, filled};
+ghost use Rattle.scene_structures.specs.Teardowns.{AreOut, HasRoomForEnds, RoundStepsBy, empty_slots, filled_values};
 
 use shared_handle::{Gone, Round};
 use std::alloc::{AllocError, Global};
@@ -19,7 +19,7 @@ pub(crate) struct Ended<V> {
 impl<V: Drop> Ended<V> {
     /// None, and room for so many.
     pub(crate) fn new(alloc: Global, room: usize) -> Result<Self, AllocError>
-        ensures room { IfOk result (λ e. HasRoom room e) }
+        ensures room { IfOk result (λ e. HasRoomForEnds room e) }
         ensures none { IfOk result (λ e. (e.slots.items ≡ []) × (e.vacant.items ≡ [])) }
     {
         let slots = Vec::with_capacity(alloc, room)?;
@@ -49,10 +49,10 @@ impl<V: Drop> Ended<V> {
     #[tactic(auto, using(crate::proofs::Slots::few_empty))]
     pub(crate) fn begin(&mut self)
         requires vacant { self.old.vacant.items ≡ empty_slots 0 self.old.slots.items }
-        requires room { (n : ℕ) × HasRoom n self.old × (length self.old.slots.items < n) }
+        requires room { (n : ℕ) × HasRoomForEnds n self.old × (length self.old.slots.items < n) }
         ensures vacant { self.new.vacant.items ≡ empty_slots 0 self.new.slots.items }
         ensures slots { self.new.slots.items ≡ self.old.slots.items ++ None ∷ [] }
-        ensures room { (n : ℕ) → HasRoom n self.old → HasRoom n self.new }
+        ensures room { (n : ℕ) → HasRoomForEnds n self.old → HasRoomForEnds n self.new }
     {
         self.vacant.push_reserved(self.slots.len());
         self.slots.push_reserved(None);
@@ -66,7 +66,7 @@ impl<V: Drop> Ended<V> {
         ensures vacant { self.new.vacant.items ≡ empty_slots 0 self.new.slots.items }
         ensures out { (zs : List (Ending V)) (x : Ending V) (vs : List V) → value ≡ x.value
             → AreOut self.old.slots.items (zs ++ x ∷ []) vs → AreOut self.new.slots.items zs vs }
-        ensures room { (n : ℕ) → HasRoom n self.old → HasRoom n self.new }
+        ensures room { (n : ℕ) → HasRoomForEnds n self.old → HasRoomForEnds n self.new }
         ensures many { length self.new.slots.items ≡ length self.old.slots.items }
     {
         let slot = self.vacant.take_last();
@@ -77,10 +77,10 @@ impl<V: Drop> Ended<V> {
     pub(crate) fn take(&mut self, round: Round<V>)
         requires vacant { self.old.vacant.items ≡ empty_slots 0 self.old.slots.items }
         requires some { self.old.vacant.items ≢ [] }
-        requires room { (n : ℕ) × HasRoom n self.old × (length self.old.slots.items < n) }
+        requires room { (n : ℕ) × HasRoomForEnds n self.old × (length self.old.slots.items < n) }
         ensures vacant { self.new.vacant.items ≡ empty_slots 0 self.new.slots.items }
-        ensures steps { StepsBy round self.old.slots.items self.new.slots.items }
-        ensures room { (n : ℕ) → HasRoom n self.old → HasRoom n self.new }
+        ensures steps { RoundStepsBy round self.old.slots.items self.new.slots.items }
+        ensures room { (n : ℕ) → HasRoomForEnds n self.old → HasRoomForEnds n self.new }
         ensures few { length self.new.slots.items ≤ length self.old.slots.items + 1 }
     {
         match round {
@@ -96,8 +96,8 @@ impl<V: Drop> Ended<V> {
 
     /// The values, in the order of their slots.
     pub(crate) fn into_values(self) -> Vec<V>
-        requires room { (n : ℕ) × HasRoom n self × (length self.slots.items ≤ n) }
-        ensures { result.items ≡ filled self.slots.items }
+        requires room { (n : ℕ) × HasRoomForEnds n self × (length self.slots.items ≤ n) }
+        ensures { result.items ≡ filled_values self.slots.items }
     {
         let Self {
             mut slots,

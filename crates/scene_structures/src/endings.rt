@@ -3,7 +3,7 @@ ghost use Rattle.std.specs.Prelude.{◌≡◌, ◌+◌, []};
 ghost use Rattle.control_word.specs.declared.handle.Kind.TheVariants.{Owner};
 ghost use Rattle.control_block.specs.Desks.{IsSameDesk, bag_of};
 ghost use Rattle.control_block.specs.Own.{Does};
-ghost use Rattle.shared_handle.specs.Calls.{Holds, without_handle};
+ghost use Rattle.control_block.specs.CellCalls.{HoldsHandle, without_handle};
 ghost use Rattle.shared_handle.specs.Piles.{Carries, IsParting};
 ghost use Rattle.scene_structures.specs.Hands.{KeepsHeld};
 ghost use Rattle.scene_structures.specs.Others.{KeepsOthers};
@@ -49,7 +49,7 @@ pub(crate) fn let_go<V: Drop + Send, R: Wait>(
     pile: &mut Pile<V>,
 )
     requires carries { Carries domain.now desk.old pile.old }
-    requires holds { Holds desk.old Owner owner.block owner.place }
+    requires holds { HoldsHandle desk.old Owner owner.block owner.place }
     ensures carries { Carries domain.now desk.new pile.new }
     ensures others { KeepsOthers desk.old pile.old.endings.items desk.new pile.new.endings.items }
     ensures none { pile.new.endings.items ≡ [] }

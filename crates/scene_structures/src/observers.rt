@@ -7,12 +7,12 @@ ghost use Rattle.control_block.specs.Desks.{Belongs, IsSameDesk, KeepsEndings, a
 ghost use Rattle.control_block.specs.Desks.{held_of, stock_of};
 ghost use Rattle.control_block.specs.Own.{IsSole};
 ghost use Rattle.control_block.specs.Refusals.{IsFullOrLimit};
-ghost use Rattle.shared_handle.specs.Calls.{Holds};
+ghost use Rattle.control_block.specs.CellCalls.{HoldsHandle};
 ghost use Rattle.shared_handle.specs.Piles.{FoldsBack};
 ghost use Rattle.scene_structures.specs.Observers.{Attaches, IsAttached};
 ghost use Rattle.scene_structures.specs.Prunes.{IsPruned, Prunes};
 ghost use Rattle.scene_structures.specs.Stacks.{StandsIn};
-ghost use Rattle.scene_structures.specs.Walks.{IsTold, WalksOver};
+ghost use Rattle.scene_structures.specs.Walks.{IsToldList, WalksOver};
 
 use crate::attaching::watch;
 use crate::pruning::clear_list;
@@ -73,7 +73,7 @@ impl<V: Drop + Send> Observers<V> {
     ) -> Result<(), Refused<V>>
         requires domain { Belongs desk.old domain.now }
         requires stands { StandsIn self.old domain.now }
-        requires holds { Holds desk.old Owner subject.now.block subject.now.place }
+        requires holds { HoldsHandle desk.old Owner subject.now.block subject.now.place }
         ensures refusals { IsFullOrLimit (allowance_of desk.old < held_of desk.old + 6)
             (stock_of desk.old ≡ []) result }
         ensures refused { IfErr result (λ r. (r.back ≡ value) × (desk.new ≡ desk.old)) }
@@ -127,7 +127,7 @@ impl<V: Drop + Send> Observers<V> {
         ensures held { desk.new.held ≡ desk.old.held }
         ensures own { OnOk result ((told : List ℕ) × WalksOver desk.old (Free self.old.cell) told desk.new
             × ((last : F) × FoldsBack (λ p x q. F.step p x tt q) tell told last)
-            × (IsSole desk.old → IsTold desk.old (Free self.old.cell) told desk.new)) }
+            × (IsSole desk.old → IsToldList desk.old (Free self.old.cell) told desk.new)) }
     {
         if is_near_limit(desk) {
             return Err(Refusal::Limit);

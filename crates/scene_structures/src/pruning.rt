@@ -11,7 +11,8 @@ ghost use Rattle.shared_handle.specs.Endings.{IsWithin};
 ghost use Rattle.shared_handle.specs.Piles.{Carries};
 ghost use Rattle.atomic_cells.specs.Sites.{IsOpenWeakly, shared_cell, weak_cell};
 ghost use Rattle.scene_structures.specs.Hands.{HasHands, IsOpenBy, KeepsHeld, KeepsThese, node_in};
-ghost use Rattle.scene_structures.specs.Prunes.{Asks, Clears, HandsFront, HeldFront, IsFront, Passes, Prunes};
+ghost use Rattle.scene_structures.specs.Prunes.{AsksExpired, ClearsFront, HandsFront, HeldFront, IsFront, PassesNode};
+ghost use Rattle.scene_structures.specs.Prunes.{Prunes};
 ghost use Rattle.scene_structures.specs.Others.{KeepsOthers};
 
 use crate::endings::let_go;
@@ -47,7 +48,7 @@ fn is_expired<V: Drop + Send, R: Wait>(
     ensures held { desk.new.held ≡ desk.old.held }
     ensures desk { IsSameDesk desk.old desk.new }
     ensures latest { KeepsHeld desk.old desk.new }
-    ensures own { Asks desk.old (weak_cell desk.old up.now.site) result desk.new }
+    ensures own { AsksExpired desk.old (weak_cell desk.old up.now.site) result desk.new }
 {
     let Ok(weak) = up.load(rt, domain, desk) else {
         unreachable!()
@@ -115,7 +116,7 @@ fn pass<V: Drop + Send, R: Wait>(
     ensures latest { (base : List Handle) → HasHands base (node ∷ []) desk.old
         → KeepsThese base desk.old desk.new }
     ensures held { desk.new.held + 1 ≡ desk.old.held }
-    ensures own { Passes desk.old (shared_cell desk.old at.now.site) (object_of (node_in desk.old node)) desk.new }
+    ensures own { PassesNode desk.old (shared_cell desk.old at.now.site) (object_of (node_in desk.old node)) desk.new }
 {
     let Ok(member) = SharedAt::member(&node, SharedMember::Next) else {
         unreachable!()
@@ -151,7 +152,7 @@ fn clear_front<V: Drop + Send, R: Wait>(
     ensures held { MatchOption result.1 (desk.new.held ≡ desk.old.held) (λ h. desk.new.held ≡ desk.old.held + 1) }
     ensures node { IfSome result.1 (λ h. IsWithin h.block h.place) }
     ensures own { (n : ℕ) × (result.0 ≡ n % 2 ^ 32)
-        × Clears desk.old (shared_cell desk.old at.now.site) n result.1 desk.new }
+        × ClearsFront desk.old (shared_cell desk.old at.now.site) n result.1 desk.new }
 {
     let mut count = 0u32;
     for _ in rt.forever() {

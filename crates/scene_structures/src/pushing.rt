@@ -6,7 +6,7 @@ ghost use Rattle.control_word.specs.declared.handle.Kind.TheVariants.{Owner};
 ghost use Rattle.control_block.specs.CellCalls.{handle_in};
 ghost use Rattle.control_block.specs.Desks.{IsSameDesk, allowance_of, bag_of};
 ghost use Rattle.control_block.specs.Own.{Does};
-ghost use Rattle.shared_handle.specs.Calls.{Holds, without_handle};
+ghost use Rattle.control_block.specs.CellCalls.{HoldsHandle, without_handle};
 ghost use Rattle.shared_handle.specs.Endings.{IsWithin};
 ghost use Rattle.atomic_cells.specs.Sites.{shared_cell};
 ghost use Rattle.scene_structures.specs.Hands.{HasHands, IsOpenBy, KeepsHeld, KeepsThese, SameNode, node_in};
@@ -40,8 +40,8 @@ pub(crate) fn store_next<V: Drop + Send, R: Wait>(
 )
     requires carries { Carries domain.now desk.old pile.old }
     requires node { IsWithin node.now.block node.now.place }
-    requires holds { Holds desk.old Owner node.now.block node.now.place
-        × Holds desk.old Owner below.block below.place }
+    requires holds { HoldsHandle desk.old Owner node.now.block node.now.place
+        × HoldsHandle desk.old Owner below.block below.place }
     ensures carries { Carries domain.now desk.new pile.new }
     ensures others { KeepsOthers desk.old pile.old.endings.items desk.new pile.new.endings.items }
     ensures none { pile.new.endings.items ≡ [] }

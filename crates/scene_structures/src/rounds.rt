@@ -2,7 +2,7 @@
 ghost use Rattle.std.specs.Prelude.{◌≡◌, ◌+◌, ◌≤◌, length};
 ghost use Rattle.control_block.specs.Desks.{IsSameDesk, bag_of};
 ghost use Rattle.shared_handle.specs.Piles.{Carries};
-ghost use Rattle.scene_structures.specs.Teardowns.{HasRoom, RunsDown, empty_slots};
+ghost use Rattle.scene_structures.specs.Teardowns.{HasRoomForEnds, RunsDown, empty_slots};
 ghost use Rattle.scene_structures.specs.Others.{KeepsOthers};
 
 use crate::ended::Ended;
@@ -20,14 +20,14 @@ pub(crate) fn run_down<V: Drop + Send>(
 )
     requires carries { Carries domain.now desk.old pile.old }
     requires vacant { ended.old.vacant.items ≡ empty_slots 0 ended.old.slots.items }
-    requires room { HasRoom (domain.now.shape.blocks + 1) ended.old }
+    requires room { HasRoomForEnds (domain.now.shape.blocks + 1) ended.old }
     requires few { length ended.old.slots.items ≤ domain.now.shape.blocks + 1 }
     ensures carries { Carries domain.now desk.new pile.new }
     ensures others { KeepsOthers desk.old pile.old.endings.items desk.new pile.new.endings.items }
     ensures bag { bag_of desk.new ≡ bag_of desk.old }
     ensures held { desk.new.held ≡ desk.old.held }
     ensures desk { IsSameDesk desk.old desk.new }
-    ensures room { HasRoom (domain.now.shape.blocks + 1) ended.new }
+    ensures room { HasRoomForEnds (domain.now.shape.blocks + 1) ended.new }
     ensures few { length ended.new.slots.items ≤ domain.now.shape.blocks + 1 }
     ensures rounds { RunsDown domain.now.shape.blocks desk.old pile.old.endings.items ended.old.slots.items desk.new
         pile.new.endings.items ended.new.slots.items }

@@ -3,11 +3,11 @@ ghost use Rattle.std.specs.Prelude.{◌≡◌, ◌+◌, [], ◌↔◌, length, I
 ghost use Rattle.control_word.specs.declared.handle.Kind.TheVariants.{Owner};
 ghost use Rattle.control_block.specs.Desks.{IsSameDesk, bag_of};
 ghost use Rattle.control_block.specs.Own.{IsSole};
-ghost use Rattle.shared_handle.specs.Calls.{Holds, with_handle};
+ghost use Rattle.control_block.specs.CellCalls.{HoldsHandle, with_handle};
 ghost use Rattle.shared_handle.specs.Endings.{IsWithin};
 ghost use Rattle.shared_handle.specs.Piles.{Carries};
 ghost use Rattle.scene_structures.specs.Scenes.{Adopts, IsAdopted, MayHaveChild, WhyNoChild};
-ghost use Rattle.scene_structures.specs.Stacks.{Serves};
+ghost use Rattle.scene_structures.specs.Stacks.{ServesDomain};
 ghost use Rattle.scene_structures.specs.Others.{KeepsOthers};
 
 use crate::attaching::watch;
@@ -43,7 +43,7 @@ impl<V: Drop + Send> Scene<V> {
     /// It serves any desk of the domain. It is refused `Memory` where a growth was really refused.
     pub fn new(alloc: Global, domain: &Domain<V>) -> Result<Self, Refusal>
         ensures refused { IfErr result (λ why. why ≡ Refusal.Memory) }
-        ensures serves { IfOk result (λ s. Serves domain.now s) }
+        ensures serves { IfOk result (λ s. ServesDomain domain.now s) }
     {
         let pile = Pile::new(alloc, domain)?;
         Ok(Self { pile })
@@ -66,7 +66,7 @@ impl<V: Drop + Send> Scene<V> {
         value: V,
     ) -> Result<Shared, Refused<V>>
         requires carries { Carries domain.now desk.old self.old }
-        requires holds { Holds desk.old Owner parent.now.block parent.now.place }
+        requires holds { HoldsHandle desk.old Owner parent.now.block parent.now.place }
         ensures refusals { IfErr result (λ r. WhyNoChild desk.old parent.now.block parent.now.place r.why) }
         ensures may { OnOk result (MayHaveChild desk.old parent.now.block parent.now.place) }
         ensures refused { IfErr result
@@ -77,7 +77,7 @@ impl<V: Drop + Send> Scene<V> {
         ensures desk { IsSameDesk desk.old desk.new }
         ensures bag { IfOk result (λ h. bag_of desk.new ≡ with_handle Owner h.block h.place (bag_of desk.old)) }
         ensures held { OnOk result (desk.new.held ≡ desk.old.held + 1) }
-        ensures holds { IfOk result (λ h. Holds desk.new Owner h.block h.place × IsWithin h.block h.place) }
+        ensures holds { IfOk result (λ h. HoldsHandle desk.new Owner h.block h.place × IsWithin h.block h.place) }
         ensures own { IfOk result (λ h. Adopts desk.old parent.now fields value h desk.new) }
         ensures tree { OnOk result (IsSole desk.old → IsAdopted desk.old parent.now desk.new) }
     {

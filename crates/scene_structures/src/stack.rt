@@ -7,9 +7,9 @@ ghost use Rattle.control_block.specs.Desks.{Belongs, IsSameDesk, KeepsEndings, a
 ghost use Rattle.control_block.specs.Desks.{held_of, stock_of};
 ghost use Rattle.control_block.specs.Own.{IsSole};
 ghost use Rattle.control_block.specs.Refusals.{IsFullOrLimit};
-ghost use Rattle.shared_handle.specs.Calls.{Holds, with_handle};
+ghost use Rattle.control_block.specs.CellCalls.{HoldsHandle, with_handle};
 ghost use Rattle.scene_structures.specs.Pops.{TakesNode};
-ghost use Rattle.scene_structures.specs.Stacks.{FindsNone, IsBare, IsPopped, IsPushed, Pushes, StandsIn};
+ghost use Rattle.scene_structures.specs.Stacks.{FindsNone, IsEmptyList, IsPopped, IsPushed, Pushes, StandsIn};
 
 use crate::popping::take;
 use crate::pushing::{Attempt, raise};
@@ -127,11 +127,12 @@ impl<V: Drop + Send> Stack<V> {
             (λ h. bag_of desk.new ≡ with_handle Owner h.block h.place (bag_of desk.old))) }
         ensures held { IfOk result
             (λ r. MatchOption r (desk.new.held ≡ desk.old.held) (λ h. desk.new.held ≡ desk.old.held + 1)) }
-        ensures holds { IfOk result (λ r. IfSome r (λ h. Holds desk.new Owner h.block h.place)) }
+        ensures holds { IfOk result (λ r. IfSome r (λ h. HoldsHandle desk.new Owner h.block h.place)) }
         ensures own { IfOk result (λ r. MatchOption r (FindsNone desk.old (Free self.old.cell) desk.new)
             (λ h. TakesNode desk.old (Free self.old.cell) h desk.new)) }
         ensures list { IfOk result (λ r. IsSole desk.old → MatchOption r
-            (IsBare desk.old (Free self.old.cell) desk.new) (λ h. IsPopped desk.old (Free self.old.cell) h desk.new)) }
+            (IsEmptyList desk.old (Free self.old.cell) desk.new)
+            (λ h. IsPopped desk.old (Free self.old.cell) h desk.new)) }
     {
         if is_near_limit(desk) {
             return Err(Refusal::Limit);

@@ -3,7 +3,7 @@ ghost use Rattle.std.specs.Prelude.{◌≡◌, ◌+◌, IfErr, IfOk, OnOk};
 ghost use Rattle.control_word.specs.declared.handle.Kind.TheVariants.{Owner};
 ghost use Rattle.control_block.specs.Desks.{IsSameDesk, bag_of};
 ghost use Rattle.control_block.specs.Own.{IsSole};
-ghost use Rattle.shared_handle.specs.Calls.{Holds, without_handle};
+ghost use Rattle.control_block.specs.CellCalls.{HoldsHandle, without_handle};
 ghost use Rattle.shared_handle.specs.Piles.{Carries};
 ghost use Rattle.scene_structures.specs.Teardowns.{TearsDown};
 ghost use Rattle.scene_structures.specs.Trees.{IsTornDown};
@@ -34,7 +34,7 @@ pub fn tear_down<V: Drop + Send>(
     root: Shared,
 ) -> Result<Vec<V>, Refused<Shared>>
     requires carries { Carries domain.now desk.old pile.old }
-    requires holds { Holds desk.old Owner root.block root.place }
+    requires holds { HoldsHandle desk.old Owner root.block root.place }
     ensures refused { IfErr result (λ r. (r.why ≡ Refusal.Memory) × (r.back ≡ root) × (desk.new ≡ desk.old)
         × (pile.new ≡ pile.old)) }
     ensures carries { Carries domain.now desk.new pile.new }
@@ -75,7 +75,7 @@ impl<V: Drop + Send> Scene<V> {
         root: Shared,
     ) -> Result<Vec<V>, Refused<Shared>>
         requires carries { Carries domain.now desk.old self.old }
-        requires holds { Holds desk.old Owner root.block root.place }
+        requires holds { HoldsHandle desk.old Owner root.block root.place }
         ensures refused { IfErr result (λ r. (r.why ≡ Refusal.Memory) × (r.back ≡ root) × (desk.new ≡ desk.old)
             × (self.new ≡ self.old)) }
         ensures carries { Carries domain.now desk.new self.new }

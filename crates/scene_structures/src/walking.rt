@@ -5,11 +5,11 @@ ghost use Rattle.control_word.specs.declared.event.Event.TheVariants.{Load};
 ghost use Rattle.control_word.specs.declared.handle.Handle.{Handle};
 ghost use Rattle.control_word.specs.declared.handle.Kind.TheVariants.{Owner};
 ghost use Rattle.control_block.specs.Desks.{IsSameDesk, allowance_of, bag_of};
-ghost use Rattle.shared_handle.specs.Calls.{Holds};
+ghost use Rattle.control_block.specs.CellCalls.{HoldsHandle};
 ghost use Rattle.shared_handle.specs.Piles.{Carries, FoldsBack};
 ghost use Rattle.atomic_cells.specs.Sites.{IsOpenWeakly, weak_cell};
 ghost use Rattle.scene_structures.specs.Hands.{HasHands, KeepsHeld, node_in};
-ghost use Rattle.scene_structures.specs.Walks.{HandsVisited, HasLooked, HeldVisited, IsAsked, IsVisit, TellsField};
+ghost use Rattle.scene_structures.specs.Walks.{HandsVisited, HasLooked, HeldVisited, IsAsked, IsNodeVisit, TellsField};
 ghost use Rattle.scene_structures.specs.Walks.{WalksFrom};
 ghost use Rattle.scene_structures.specs.Others.{KeepsOthers};
 
@@ -31,7 +31,7 @@ fn first_field<V: Drop + Send, R: Wait>(
 ) -> Option<u64>
     requires carries { Carries domain.now desk.old pile.old }
     requires empty { pile.old.endings.items ≡ [] }
-    requires holds { Holds desk.old Owner owner.now.block owner.now.place }
+    requires holds { HoldsHandle desk.old Owner owner.now.block owner.now.place }
     requires room { desk.old.held + 1 < allowance_of desk.old }
     ensures carries { Carries domain.now desk.new pile.new }
     ensures others { KeepsOthers desk.old pile.old.endings.items desk.new pile.new.endings.items }
@@ -109,7 +109,7 @@ fn visit<V: Drop + Send, R: Wait>(
 ) -> Visited
     requires carries { Carries domain.now desk.old pile.old }
     requires empty { pile.old.endings.items ≡ [] }
-    requires holds { Holds desk.old Owner node.block node.place }
+    requires holds { HoldsHandle desk.old Owner node.block node.place }
     requires bag { (base : List Handle) × HasHands base (node ∷ []) desk.old }
     requires room { desk.old.held + 3 < allowance_of desk.old }
     ensures carries { Carries domain.now desk.new pile.new }
@@ -118,7 +118,7 @@ fn visit<V: Drop + Send, R: Wait>(
     ensures desk { IsSameDesk desk.old desk.new }
     ensures bag { (base : List Handle) → HasHands base (node ∷ []) desk.old → HandsVisited base result desk.new }
     ensures held { HeldVisited desk.old result desk.new }
-    ensures own { IsVisit desk.old (node_in desk.old node) result desk.new }
+    ensures own { IsNodeVisit desk.old (node_in desk.old node) result desk.new }
 {
     desk.stands();
     let Ok(up) = WeakAt::member(&node) else {

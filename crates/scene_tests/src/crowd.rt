@@ -2,7 +2,7 @@
 ghost use Rattle.std.specs.Prelude.{◌≡◌, ◌+◌, ◌≤◌, IfSome, MatchOption, length};
 ghost use denote.Param.Send.{IsSync};
 ghost use Rattle.control_block.specs.Desks.{Belongs, IsSameDesk, allowance_of, stock_of};
-ghost use Rattle.scene_structures.specs.Stacks.{Serves, StandsIn};
+ghost use Rattle.scene_structures.specs.Stacks.{ServesDomain, StandsIn};
 
 use crate::kits::{Kit, kit_in, opened, put_away, shut};
 use crate::listed::{Answer, Call, Seat};
@@ -68,9 +68,9 @@ fn put_all<R: Wait>(
     requires domain { Belongs desk.old domain.now }
     requires cells { domain.now.shape.shared_cells ≡ 5 }
     requires stands { StandsIn kit.old.stack domain.now × StandsIn kit.old.observers domain.now }
-    requires serves { Serves domain.now kit.old.scene × Serves domain.now kit.old.pile }
+    requires serves { ServesDomain domain.now kit.old.scene × ServesDomain domain.now kit.old.pile }
     ensures stands { StandsIn kit.new.stack domain.now × StandsIn kit.new.observers domain.now }
-    ensures serves { Serves domain.now kit.new.scene × Serves domain.now kit.new.pile }
+    ensures serves { ServesDomain domain.now kit.new.scene × ServesDomain domain.now kit.new.pile }
     ensures desk { IsSameDesk desk.old desk.new }
 {
     let mut all = NONE;
@@ -95,7 +95,7 @@ fn pop_all<R: Wait>(
     requires domain { Belongs desk.old domain.now }
     requires cells { domain.now.shape.shared_cells ≡ 5 }
     requires stands { StandsIn kit.old.stack domain.now × StandsIn kit.old.observers domain.now }
-    requires serves { Serves domain.now kit.old.scene × Serves domain.now kit.old.pile }
+    requires serves { ServesDomain domain.now kit.old.scene × ServesDomain domain.now kit.old.pile }
     ensures desk { IsSameDesk desk.old desk.new }
 {
     let mut all = NONE;

@@ -3,8 +3,8 @@ ghost use Rattle.std.specs.Prelude.{◌≡◌, ◌+◌, IfOk};
 ghost use Rattle.control_word.specs.Handles.{IsPointer};
 ghost use Rattle.control_word.specs.declared.handle.Kind.TheVariants.{Owner};
 ghost use Rattle.control_block.specs.Desks.{Belongs, IsSameDesk, bag_of};
-ghost use Rattle.shared_handle.specs.Calls.{Holds, without_handle};
-ghost use Rattle.scene_structures.specs.Stacks.{Serves};
+ghost use Rattle.control_block.specs.CellCalls.{HoldsHandle, without_handle};
+ghost use Rattle.scene_structures.specs.Stacks.{ServesDomain};
 
 use crate::listed::{Answer, Call, Seat, Spot};
 use crate::seats::{exchange, keep, load, spend};
@@ -23,7 +23,7 @@ const ASIDE: Option<Place> = Some(Place {
 fn new(domain: &Domain<u64>, desk: &mut Desk<u64>, field: u64) -> Result<Shared, Refusal>
     requires domain { Belongs desk.old domain.now }
     ensures desk { IsSameDesk desk.old desk.new }
-    ensures holds { IfOk result (λ h. Holds desk.new Owner h.block h.place) }
+    ensures holds { IfOk result (λ h. HoldsHandle desk.new Owner h.block h.place) }
 {
     match make(domain, desk, [field, 0, 0, 0], false, field) {
         Ok(owner) => Ok(owner),
@@ -40,7 +40,7 @@ pub(crate) fn take(
     requires domain { Belongs desk.old domain.now }
     requires cells { domain.now.shape.shared_cells ≡ 5 }
     ensures desk { IsSameDesk desk.old desk.new }
-    ensures holds { IfOk result (λ h. Holds desk.new Owner h.block h.place) }
+    ensures holds { IfOk result (λ h. HoldsHandle desk.new Owner h.block h.place) }
 {
     match empty(domain, desk) {
         Ok(nothing) => Ok(exchange(domain, desk, nothing, seat)),
@@ -51,7 +51,7 @@ pub(crate) fn take(
 /// Where a handle of the owner's object is to point.
 fn place_of(domain: &Domain<u64>, desk: &mut Desk<u64>, owner: &Shared, spot: Spot) -> Option<Place>
     requires domain { Belongs desk.old domain.now }
-    requires holds { Holds desk.old Owner owner.now.block owner.now.place }
+    requires holds { HoldsHandle desk.old Owner owner.now.block owner.now.place }
     ensures place { IsPointer result }
     ensures same { desk.new ≡ desk.old }
 {
@@ -75,8 +75,8 @@ fn alias_to<R: Wait>(
 ) -> Answer
     requires domain { Belongs desk.old domain.now }
     requires cells { domain.now.shape.shared_cells ≡ 5 }
-    requires serves { Serves domain.now pile.old }
-    ensures serves { Serves domain.now pile.new }
+    requires serves { ServesDomain domain.now pile.old }
+    ensures serves { ServesDomain domain.now pile.new }
     ensures desk { IsSameDesk desk.old desk.new }
 {
     let owner = match load(rt, domain, desk, of) {
@@ -108,9 +108,9 @@ fn seated<R: Wait>(
 ) -> Answer
     requires domain { Belongs desk.old domain.now }
     requires cells { domain.now.shape.shared_cells ≡ 5 }
-    requires serves { Serves domain.now pile.old }
-    requires holds { IfOk came (λ h. Holds desk.old Owner h.block h.place) }
-    ensures serves { Serves domain.now pile.new }
+    requires serves { ServesDomain domain.now pile.old }
+    requires holds { IfOk came (λ h. HoldsHandle desk.old Owner h.block h.place) }
+    ensures serves { ServesDomain domain.now pile.new }
     ensures desk { IsSameDesk desk.old desk.new }
 {
     match came {
@@ -132,8 +132,8 @@ fn reset<R: Wait>(
 ) -> Answer
     requires domain { Belongs desk.old domain.now }
     requires cells { domain.now.shape.shared_cells ≡ 5 }
-    requires serves { Serves domain.now pile.old }
-    ensures serves { Serves domain.now pile.new }
+    requires serves { ServesDomain domain.now pile.old }
+    ensures serves { ServesDomain domain.now pile.new }
     ensures desk { IsSameDesk desk.old desk.new }
 {
     match take(domain, desk, seat) {
@@ -168,9 +168,9 @@ pub(crate) fn owned<R: Wait>(
     pile: &mut Pile<u64>,
 ) -> Answer
     requires domain { Belongs desk.old domain.now }
-    requires serves { Serves domain.now pile.old }
-    requires holds { Holds desk.old Owner handle.block handle.place }
-    ensures serves { Serves domain.now pile.new }
+    requires serves { ServesDomain domain.now pile.old }
+    requires holds { HoldsHandle desk.old Owner handle.block handle.place }
+    ensures serves { ServesDomain domain.now pile.new }
     ensures desk { IsSameDesk desk.old desk.new }
     ensures bag { bag_of desk.new ≡ without_handle Owner handle.block handle.place (bag_of desk.old) }
     ensures held { desk.new.held + 1 ≡ desk.old.held }
@@ -194,8 +194,8 @@ fn read_at<R: Wait>(
 ) -> Answer
     requires domain { Belongs desk.old domain.now }
     requires cells { domain.now.shape.shared_cells ≡ 5 }
-    requires serves { Serves domain.now pile.old }
-    ensures serves { Serves domain.now pile.new }
+    requires serves { ServesDomain domain.now pile.old }
+    ensures serves { ServesDomain domain.now pile.new }
     ensures desk { IsSameDesk desk.old desk.new }
 {
     match load(rt, domain, desk, seat) {
@@ -214,8 +214,8 @@ pub(crate) fn on_handles<R: Wait>(
 ) -> Option<Answer>
     requires domain { Belongs desk.old domain.now }
     requires cells { domain.now.shape.shared_cells ≡ 5 }
-    requires serves { Serves domain.now pile.old }
-    ensures serves { Serves domain.now pile.new }
+    requires serves { ServesDomain domain.now pile.old }
+    ensures serves { ServesDomain domain.now pile.new }
     ensures desk { IsSameDesk desk.old desk.new }
 {
     Some(match call {

@@ -1,7 +1,7 @@
 //! A domain with a kit: an access to each structure, and a pile for what ends elsewhere.
 ghost use Rattle.std.specs.Prelude.{◌≡◌, IfOk, IfSome};
 ghost use Rattle.control_block.specs.Desks.{Belongs, allowance_of};
-ghost use Rattle.scene_structures.specs.Stacks.{Serves, StandsIn};
+ghost use Rattle.scene_structures.specs.Stacks.{ServesDomain, StandsIn};
 
 use crate::shapes::shape;
 use control_block::census::close;
@@ -48,7 +48,7 @@ pub(crate) fn shut(domain: Domain<u64>, desk: Desk<u64>) -> u32
 
 /// A pile of the domain's, if there is memory.
 fn pile_in(alloc: Global, domain: &Domain<u64>) -> Option<Pile<u64>>
-    ensures { IfSome result (λ p. Serves domain.now p) }
+    ensures { IfSome result (λ p. ServesDomain domain.now p) }
 {
     match Pile::new(alloc, domain) {
         Ok(pile) => Some(pile),
@@ -58,8 +58,8 @@ fn pile_in(alloc: Global, domain: &Domain<u64>) -> Option<Pile<u64>>
 
 /// A scene and a pile, if there is memory.
 fn scene_in(alloc: Global, domain: &Domain<u64>) -> Option<(Scene<u64>, Pile<u64>)>
-    ensures scene { IfSome result (λ r. Serves domain.now r.0) }
-    ensures pile { IfSome result (λ r. Serves domain.now r.1) }
+    ensures scene { IfSome result (λ r. ServesDomain domain.now r.0) }
+    ensures pile { IfSome result (λ r. ServesDomain domain.now r.1) }
 {
     let Ok(scene) = Scene::new(alloc, domain) else {
         return None;
@@ -95,7 +95,7 @@ fn lists_in(alloc: Global, domain: &Domain<u64>) -> Option<(Stack<u64>, Observer
 pub(crate) fn kit_in(alloc: Global, domain: &Domain<u64>) -> Option<Kit>
     requires cells { domain.now.shape.shared_cells ≡ 5 }
     ensures stands { IfSome result (λ k. StandsIn k.stack domain.now × StandsIn k.observers domain.now) }
-    ensures serves { IfSome result (λ k. Serves domain.now k.scene × Serves domain.now k.pile) }
+    ensures serves { IfSome result (λ k. ServesDomain domain.now k.scene × ServesDomain domain.now k.pile) }
 {
     let (stack, observers) = lists_in(alloc, domain)?;
     match scene_in(alloc, domain) {

@@ -1,7 +1,7 @@
 //! Trees of all blocks, torn down: one that is a single path, and one of a root and its children.
 ghost use Rattle.std.specs.Prelude.{◌≡◌};
 ghost use Rattle.control_block.specs.Desks.{Belongs, IsSameDesk};
-ghost use Rattle.scene_structures.specs.Stacks.{Serves, StandsIn};
+ghost use Rattle.scene_structures.specs.Stacks.{ServesDomain, StandsIn};
 
 use crate::kits::{Kit, kit_in, opened, put_away, shut};
 use crate::listed::{Answer, Call, Seat};
@@ -35,9 +35,9 @@ fn grow<R: Abort + Wait>(
     requires domain { Belongs desk.old domain.now }
     requires cells { domain.now.shape.shared_cells ≡ 5 }
     requires stands { StandsIn kit.old.stack domain.now × StandsIn kit.old.observers domain.now }
-    requires serves { Serves domain.now kit.old.scene × Serves domain.now kit.old.pile }
+    requires serves { ServesDomain domain.now kit.old.scene × ServesDomain domain.now kit.old.pile }
     ensures stands { StandsIn kit.new.stack domain.now × StandsIn kit.new.observers domain.now }
-    ensures serves { Serves domain.now kit.new.scene × Serves domain.now kit.new.pile }
+    ensures serves { ServesDomain domain.now kit.new.scene × ServesDomain domain.now kit.new.pile }
     ensures desk { IsSameDesk desk.old desk.new }
 {
     all(rt, alloc, domain, desk, kit, &ROOT);
@@ -71,7 +71,7 @@ fn felled<R: Abort + Wait>(
     requires domain { Belongs desk.old domain.now }
     requires cells { domain.now.shape.shared_cells ≡ 5 }
     requires stands { StandsIn kit.old.stack domain.now × StandsIn kit.old.observers domain.now }
-    requires serves { Serves domain.now kit.old.scene × Serves domain.now kit.old.pile }
+    requires serves { ServesDomain domain.now kit.old.scene × ServesDomain domain.now kit.old.pile }
     ensures desk { IsSameDesk desk.old desk.new }
 {
     grow(rt, alloc, domain, desk, kit, is_path);

@@ -2,8 +2,8 @@
 ghost use Rattle.std.specs.Prelude.{◌≡◌};
 ghost use Rattle.control_word.specs.declared.handle.Kind.TheVariants.{Owner};
 ghost use Rattle.control_block.specs.Desks.{Belongs, IsSameDesk, bag_of};
-ghost use Rattle.shared_handle.specs.Calls.{Holds};
-ghost use Rattle.scene_structures.specs.Stacks.{Serves, StandsIn};
+ghost use Rattle.control_block.specs.CellCalls.{HoldsHandle};
+ghost use Rattle.scene_structures.specs.Stacks.{ServesDomain, StandsIn};
 
 use crate::handles::owned;
 use crate::listed::{Answer, Seat};
@@ -55,9 +55,9 @@ pub(crate) fn pop<R: Wait>(
     requires domain { Belongs desk.old domain.now }
     requires cells { domain.now.shape.shared_cells ≡ 5 }
     requires stands { StandsIn stack.old domain.now }
-    requires serves { Serves domain.now pile.old }
+    requires serves { ServesDomain domain.now pile.old }
     ensures stands { StandsIn stack.new domain.now }
-    ensures serves { Serves domain.now pile.new }
+    ensures serves { ServesDomain domain.now pile.new }
     ensures desk { IsSameDesk desk.old desk.new }
 {
     match stack.pop(rt, domain, desk) {
@@ -84,9 +84,9 @@ fn next_of<R: Wait>(
     pile: &mut Pile<u64>,
 ) -> Answer
     requires domain { Belongs desk.old domain.now }
-    requires serves { Serves domain.now pile.old }
-    requires holds { Holds desk.old Owner node.now.block node.now.place }
-    ensures serves { Serves domain.now pile.new }
+    requires serves { ServesDomain domain.now pile.old }
+    requires holds { HoldsHandle desk.old Owner node.now.block node.now.place }
+    ensures serves { ServesDomain domain.now pile.new }
     ensures desk { IsSameDesk desk.old desk.new }
     ensures bag { bag_of desk.new ≡ bag_of desk.old }
     ensures held { desk.new.held ≡ desk.old.held }
@@ -110,8 +110,8 @@ pub(crate) fn below<R: Wait>(
 ) -> Answer
     requires domain { Belongs desk.old domain.now }
     requires cells { domain.now.shape.shared_cells ≡ 5 }
-    requires serves { Serves domain.now pile.old }
-    ensures serves { Serves domain.now pile.new }
+    requires serves { ServesDomain domain.now pile.old }
+    ensures serves { ServesDomain domain.now pile.new }
     ensures desk { IsSameDesk desk.old desk.new }
 {
     match load(rt, domain, desk, seat) {
@@ -136,9 +136,9 @@ pub(crate) fn attach<R: Wait>(
     requires domain { Belongs desk.old domain.now }
     requires cells { domain.now.shape.shared_cells ≡ 5 }
     requires stands { StandsIn observers.old domain.now }
-    requires serves { Serves domain.now pile.old }
+    requires serves { ServesDomain domain.now pile.old }
     ensures stands { StandsIn observers.new domain.now }
-    ensures serves { Serves domain.now pile.new }
+    ensures serves { ServesDomain domain.now pile.new }
     ensures desk { IsSameDesk desk.old desk.new }
 {
     match load(rt, domain, desk, seat) {

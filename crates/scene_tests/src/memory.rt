@@ -1,7 +1,7 @@
 //! Growths that are refused. `tests/refuse_allocations` runs this with each allocation refused in turn.
 ghost use Rattle.std.specs.Prelude.{◌≡◌};
 ghost use Rattle.control_block.specs.Desks.{Belongs, IsSameDesk};
-ghost use Rattle.scene_structures.specs.Stacks.{Serves, StandsIn};
+ghost use Rattle.scene_structures.specs.Stacks.{ServesDomain, StandsIn};
 
 use crate::kits::{Kit, kit_in, opened, put_away, shut};
 use crate::listed::{Answer, Call, Seat};
@@ -39,7 +39,7 @@ fn fell<R: Abort + Wait>(
     requires domain { Belongs desk.old domain.now }
     requires cells { domain.now.shape.shared_cells ≡ 5 }
     requires stands { StandsIn kit.old.stack domain.now × StandsIn kit.old.observers domain.now }
-    requires serves { Serves domain.now kit.old.scene × Serves domain.now kit.old.pile }
+    requires serves { ServesDomain domain.now kit.old.scene × ServesDomain domain.now kit.old.pile }
     ensures desk { IsSameDesk desk.old desk.new }
 {
     all(rt, alloc, domain, desk, kit, &GROWN);

@@ -1,7 +1,7 @@
 //! Lists of calls, made by a desk with a kit.
 ghost use Rattle.std.specs.Prelude.{◌≡◌};
 ghost use Rattle.control_block.specs.Desks.{Belongs, IsSameDesk};
-ghost use Rattle.scene_structures.specs.Stacks.{Serves, StandsIn};
+ghost use Rattle.scene_structures.specs.Stacks.{ServesDomain, StandsIn};
 
 use crate::handles::on_handles;
 use crate::kits::{Kit, kit_in, opened, put_away, shut};
@@ -27,9 +27,9 @@ fn on_lists<R: Wait>(
     requires domain { Belongs desk.old domain.now }
     requires cells { domain.now.shape.shared_cells ≡ 5 }
     requires stands { StandsIn kit.old.stack domain.now × StandsIn kit.old.observers domain.now }
-    requires serves { Serves domain.now kit.old.scene × Serves domain.now kit.old.pile }
+    requires serves { ServesDomain domain.now kit.old.scene × ServesDomain domain.now kit.old.pile }
     ensures stands { StandsIn kit.new.stack domain.now × StandsIn kit.new.observers domain.now }
-    ensures serves { Serves domain.now kit.new.scene × Serves domain.now kit.new.pile }
+    ensures serves { ServesDomain domain.now kit.new.scene × ServesDomain domain.now kit.new.pile }
     ensures desk { IsSameDesk desk.old desk.new }
 {
     Some(match call {
@@ -55,9 +55,9 @@ pub(crate) fn answer_of<R: Wait>(
     requires domain { Belongs desk.old domain.now }
     requires cells { domain.now.shape.shared_cells ≡ 5 }
     requires stands { StandsIn kit.old.stack domain.now × StandsIn kit.old.observers domain.now }
-    requires serves { Serves domain.now kit.old.scene × Serves domain.now kit.old.pile }
+    requires serves { ServesDomain domain.now kit.old.scene × ServesDomain domain.now kit.old.pile }
     ensures stands { StandsIn kit.new.stack domain.now × StandsIn kit.new.observers domain.now }
-    ensures serves { Serves domain.now kit.new.scene × Serves domain.now kit.new.pile }
+    ensures serves { ServesDomain domain.now kit.new.scene × ServesDomain domain.now kit.new.pile }
     ensures desk { IsSameDesk desk.old desk.new }
 {
     if let Some(answer) = on_handles(rt, domain, desk, &mut kit.pile, call) {
@@ -104,9 +104,9 @@ pub(crate) fn all<R: Abort + Wait>(
     requires domain { Belongs desk.old domain.now }
     requires cells { domain.now.shape.shared_cells ≡ 5 }
     requires stands { StandsIn kit.old.stack domain.now × StandsIn kit.old.observers domain.now }
-    requires serves { Serves domain.now kit.old.scene × Serves domain.now kit.old.pile }
+    requires serves { ServesDomain domain.now kit.old.scene × ServesDomain domain.now kit.old.pile }
     ensures stands { StandsIn kit.new.stack domain.now × StandsIn kit.new.observers domain.now }
-    ensures serves { Serves domain.now kit.new.scene × Serves domain.now kit.new.pile }
+    ensures serves { ServesDomain domain.now kit.new.scene × ServesDomain domain.now kit.new.pile }
     ensures desk { IsSameDesk desk.old desk.new }
 {
     for (number, (call, wanted)) in calls.iter().enumerate() {

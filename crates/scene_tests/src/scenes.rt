@@ -2,8 +2,8 @@
 ghost use Rattle.std.specs.Prelude.{◌≡◌, []};
 ghost use Rattle.control_word.specs.declared.handle.Kind.TheVariants.{Owner};
 ghost use Rattle.control_block.specs.Desks.{Belongs, IsSameDesk, bag_of};
-ghost use Rattle.shared_handle.specs.Calls.{Holds};
-ghost use Rattle.scene_structures.specs.Stacks.{Serves};
+ghost use Rattle.control_block.specs.CellCalls.{HoldsHandle};
+ghost use Rattle.scene_structures.specs.Stacks.{ServesDomain};
 
 use crate::handles::take;
 use crate::listed::{Answer, Call, Seat};
@@ -29,10 +29,10 @@ fn add_child<R: Wait>(
 ) -> Answer
     requires domain { Belongs desk.old domain.now }
     requires cells { domain.now.shape.shared_cells ≡ 5 }
-    requires scene { Serves domain.now scene.old }
-    requires serves { Serves domain.now pile.old }
-    ensures scene { Serves domain.now scene.new }
-    ensures serves { Serves domain.now pile.new }
+    requires scene { ServesDomain domain.now scene.old }
+    requires serves { ServesDomain domain.now pile.old }
+    ensures scene { ServesDomain domain.now scene.new }
+    ensures serves { ServesDomain domain.now pile.new }
     ensures desk { IsSameDesk desk.old desk.new }
 {
     let parent = match load(rt, domain, desk, of) {
@@ -64,9 +64,9 @@ fn parent_of<R: Wait>(
     pile: &mut Pile<u64>,
 ) -> Answer
     requires domain { Belongs desk.old domain.now }
-    requires serves { Serves domain.now pile.old }
-    requires holds { Holds desk.old Owner node.now.block node.now.place }
-    ensures serves { Serves domain.now pile.new }
+    requires serves { ServesDomain domain.now pile.old }
+    requires holds { HoldsHandle desk.old Owner node.now.block node.now.place }
+    ensures serves { ServesDomain domain.now pile.new }
     ensures desk { IsSameDesk desk.old desk.new }
     ensures bag { bag_of desk.new ≡ bag_of desk.old }
     ensures held { desk.new.held ≡ desk.old.held }
@@ -95,8 +95,8 @@ fn parent<R: Wait>(
 ) -> Answer
     requires domain { Belongs desk.old domain.now }
     requires cells { domain.now.shape.shared_cells ≡ 5 }
-    requires serves { Serves domain.now pile.old }
-    ensures serves { Serves domain.now pile.new }
+    requires serves { ServesDomain domain.now pile.old }
+    ensures serves { ServesDomain domain.now pile.new }
     ensures desk { IsSameDesk desk.old desk.new }
 {
     match load(rt, domain, desk, seat) {
@@ -120,10 +120,10 @@ fn detach<R: Wait>(
 ) -> Answer
     requires domain { Belongs desk.old domain.now }
     requires cells { domain.now.shape.shared_cells ≡ 5 }
-    requires scene { Serves domain.now scene.old }
-    requires serves { Serves domain.now pile.old }
-    ensures scene { Serves domain.now scene.new }
-    ensures serves { Serves domain.now pile.new }
+    requires scene { ServesDomain domain.now scene.old }
+    requires serves { ServesDomain domain.now pile.old }
+    ensures scene { ServesDomain domain.now scene.new }
+    ensures serves { ServesDomain domain.now pile.new }
     ensures desk { IsSameDesk desk.old desk.new }
 {
     let node = match load(rt, domain, desk, seat) {
@@ -162,10 +162,10 @@ pub(crate) fn tear_down<R: Wait>(
 ) -> Result<Vec<u64>, Answer>
     requires domain { Belongs desk.old domain.now }
     requires cells { domain.now.shape.shared_cells ≡ 5 }
-    requires scene { Serves domain.now scene.old }
-    requires serves { Serves domain.now pile.old }
-    ensures scene { Serves domain.now scene.new }
-    ensures serves { Serves domain.now pile.new }
+    requires scene { ServesDomain domain.now scene.old }
+    requires serves { ServesDomain domain.now pile.old }
+    ensures scene { ServesDomain domain.now scene.new }
+    ensures serves { ServesDomain domain.now pile.new }
     ensures desk { IsSameDesk desk.old desk.new }
 {
     let root = match take(domain, desk, seat) {
@@ -211,10 +211,10 @@ pub(crate) fn on_scene<R: Wait>(
 ) -> Option<Answer>
     requires domain { Belongs desk.old domain.now }
     requires cells { domain.now.shape.shared_cells ≡ 5 }
-    requires scene { Serves domain.now scene.old }
-    requires serves { Serves domain.now pile.old }
-    ensures scene { Serves domain.now scene.new }
-    ensures serves { Serves domain.now pile.new }
+    requires scene { ServesDomain domain.now scene.old }
+    requires serves { ServesDomain domain.now pile.old }
+    ensures scene { ServesDomain domain.now scene.new }
+    ensures serves { ServesDomain domain.now pile.new }
     ensures desk { IsSameDesk desk.old desk.new }
 {
     Some(match call {

@@ -2,8 +2,8 @@
 ghost use Rattle.std.specs.Prelude.{◌≡◌, ◌+◌, ◌<◌, ◌≤◌, IfOk, IfSome};
 ghost use Rattle.control_word.specs.declared.handle.Kind.TheVariants.{Owner};
 ghost use Rattle.control_block.specs.Desks.{Belongs, IsSameDesk, bag_of};
-ghost use Rattle.shared_handle.specs.Calls.{Holds, with_handle, without_handle};
-ghost use Rattle.scene_structures.specs.Stacks.{Serves};
+ghost use Rattle.control_block.specs.CellCalls.{HoldsHandle, with_handle, without_handle};
+ghost use Rattle.scene_structures.specs.Stacks.{ServesDomain};
 
 use crate::listed::Seat;
 use atomic_cells::SharedAt;
@@ -33,9 +33,9 @@ pub(crate) fn spend<R: Wait>(
     pile: &mut Pile<u64>,
 )
     requires domain { Belongs desk.old domain.now }
-    requires serves { Serves domain.now pile.old }
-    requires holds { Holds desk.old Owner owner.block owner.place }
-    ensures serves { Serves domain.now pile.new }
+    requires serves { ServesDomain domain.now pile.old }
+    requires holds { HoldsHandle desk.old Owner owner.block owner.place }
+    ensures serves { ServesDomain domain.now pile.new }
     ensures desk { IsSameDesk desk.old desk.new }
     ensures bag { bag_of desk.new ≡ without_handle Owner owner.block owner.place (bag_of desk.old) }
     ensures held { desk.new.held + 1 ≡ desk.old.held }
@@ -54,7 +54,7 @@ pub(crate) fn load<R: Wait>(
     requires domain { Belongs desk.old domain.now }
     requires cells { domain.now.shape.shared_cells ≡ 5 }
     ensures desk { IsSameDesk desk.old desk.new }
-    ensures holds { IfOk result (λ h. Holds desk.new Owner h.block h.place) }
+    ensures holds { IfOk result (λ h. HoldsHandle desk.new Owner h.block h.place) }
 {
     SharedAt::free(cell(seat)).load(rt, domain, desk)
 }
@@ -68,12 +68,12 @@ pub(crate) fn exchange(
 ) -> Shared
     requires domain { Belongs desk.old domain.now }
     requires cells { domain.now.shape.shared_cells ≡ 5 }
-    requires holds { Holds desk.old Owner handle.block handle.place }
+    requires holds { HoldsHandle desk.old Owner handle.block handle.place }
     ensures desk { IsSameDesk desk.old desk.new }
     ensures bag { bag_of desk.new ≡ with_handle Owner result.block result.place
         (without_handle Owner handle.block handle.place (bag_of desk.old)) }
     ensures held { desk.new.held ≡ desk.old.held }
-    ensures holds { Holds desk.new Owner result.block result.place }
+    ensures holds { HoldsHandle desk.new Owner result.block result.place }
 {
     SharedAt::free(cell(seat)).exchange(domain, desk, handle)
 }
@@ -90,9 +90,9 @@ pub(crate) fn keep<R: Wait>(
 )
     requires domain { Belongs desk.old domain.now }
     requires cells { domain.now.shape.shared_cells ≡ 5 }
-    requires serves { Serves domain.now pile.old }
-    requires holds { Holds desk.old Owner handle.block handle.place }
-    ensures serves { Serves domain.now pile.new }
+    requires serves { ServesDomain domain.now pile.old }
+    requires holds { HoldsHandle desk.old Owner handle.block handle.place }
+    ensures serves { ServesDomain domain.now pile.new }
     ensures desk { IsSameDesk desk.old desk.new }
     ensures bag { bag_of desk.new ≡ without_handle Owner handle.block handle.place (bag_of desk.old) }
     ensures held { desk.new.held + 1 ≡ desk.old.held }

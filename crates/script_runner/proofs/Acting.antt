@@ -16,17 +16,17 @@ use Rattle.script_runner.proofs.Looking.{place_shown}
 use Rattle.script_runner.proofs.Lockings as locking
 use Rattle.script_runner.proofs.TableLaws as law
 use Rattle.script_runner.proofs.Takings as taking
-use Rattle.script_runner.specs.Deals.{IsActed, IsEmptied, field_0, held}
+use Rattle.script_runner.specs.Deals.{IsActed, IsEmptied, field_0, thread_slots}
 use Rattle.script_runner.specs.Seats.{Acts, Done, IsHand}
 use Rattle.script_runner.specs.TableCalls.{null_form}
 use Rattle.script_runner.specs.declared.went.Went.{Went}
 use Rattle.step_table.specs.Deeds.{aliased, as_owner, this_as}
-use Rattle.step_table.specs.Holdings.{Slots, inside, place_in, slot, weak_slot}
+use Rattle.step_table.specs.Holdings.{Slots, inside, place_in, slot_pointer, weak_slot}
 use Rattle.step_table.specs.declared.field.Field.{Field}
 use Rattle.step_table.specs.declared.form.Form.{Form}
 use Rattle.step_table.specs.declared.holdings.Pointer.{Pointer}
 use Rattle.step_threads.specs.Courses.{idle}
-use Rattle.step_threads.specs.Doings.{Makes, On}
+use Rattle.step_threads.specs.Doings.{IsMakeEvent, On}
 use Rattle.step_threads.specs.Rows.{Found, Got, Plain, Reply, row}
 use Rattle.step_threads.specs.Scenes as scenes
 use Rattle.step_threads.specs.declared.act.Act.TheVariants as act
@@ -44,17 +44,22 @@ pub below : (hand i : ℕ) → i < hand → i < hand + 1
 below hand i lt = omega (arith, lt)
 
 -- an act, with what its row says
-pub acted : (hand : ℕ) (t u : TableNow ℕ) (taken : Bool) (a : Act) (r : Reply) → idle a (held hand t) taken ≡ false
+pub acted : (hand : ℕ) (t u : TableNow ℕ) (taken : Bool) (a : Act) (r : Reply) → idle a (thread_slots hand t) taken ≡ false
     → Acts field_0 (hand + 1) t taken a r u
     → IsActed hand t taken a
-    (record { taken = (row a (held hand t) taken r).taken; answer = (row a (held hand t) taken r).answer; ended = (row a (held hand t) taken r).ended }) u
+    (record {
+      taken = (row a (thread_slots hand t) taken r).taken;
+      answer = (row a (thread_slots hand t) taken r).answer;
+      ended =
+          (row a (thread_slots hand t) taken r).ended;
+    }) u
 acted hand t u taken a r busy acts = record { busy = busy; reply = r; acts = acts; takes = refl; says = refl; tells = refl }
 
 -- the same, with what it says written out
-pub acted_as : (hand : ℕ) (t u : TableNow ℕ) (taken : Bool) (a : Act) (r : Reply) (x : Went) → idle a (held hand t) taken ≡ false
+pub acted_as : (hand : ℕ) (t u : TableNow ℕ) (taken : Bool) (a : Act) (r : Reply) (x : Went) → idle a (thread_slots hand t) taken ≡ false
     → Acts field_0 (hand + 1) t taken a r u
-    → x.taken ≡ (row a (held hand t) taken r).taken → x.answer ≡ (row a (held hand t) taken r).answer
-    → x.ended ≡ (row a (held hand t) taken r).ended
+    → x.taken ≡ (row a (thread_slots hand t) taken r).taken → x.answer ≡ (row a (thread_slots hand t) taken r).answer
+    → x.ended ≡ (row a (thread_slots hand t) taken r).ended
     → IsActed hand t taken a x u
 acted_as hand t u taken a r x busy acts takes says tells = record { busy = busy; reply = r; acts = acts; takes = takes; says = says; tells = tells }
 
@@ -76,24 +81,24 @@ module _ (hand i : ℕ) (t u : TableNow ℕ) (is : IsHand (hand + 1) hand t) (lt
   pub downgraded : calls.Downgrades t i hand u → IsActed hand t false (act.Downgrade i) took u
   downgraded c = acted hand t u false (act.Downgrade i) Plain refl (taking.downgrades field_0 (hand + 1) i hand false t u is (below hand i lt) c)
 
-  pub moved : (between : TableNow ℕ) → calls.Moves t i hand between → IsEmptied between i u → IsActed hand t false (act.Move i) took u
+  pub moved : (between : TableNow ℕ) → calls.MovesSlot t i hand between → IsEmptied between i u → IsActed hand t false (act.Move i) took u
   moved between c e = acted hand t u false (act.Move i) Plain refl (law.moves field_0 (hand + 1) i hand false t between u is lt c e)
 
-  pub aliases : (j : ℕ) (field : Option Field) → this.Aliases t i (aliased field (place_in (held hand t) j)) hand u
+  pub aliases : (j : ℕ) (field : Option Field) → this.Aliases t i (aliased field (place_in (thread_slots hand t) j)) hand u
       → IsActed hand t false (act.Alias i j field) took u
   aliases j field c =
       acted hand t u false (act.Alias i j field) Plain refl (taking.aliases field_0 (hand + 1) i hand false t u is (below hand i lt) j field c)
 
-  pub locked : (got : Bool) → calls.Locks t i hand got u → IsActed hand t false (act.Lock i false) (went true (Some (answer.Locked got))) u
+  pub locked : (got : Bool) → calls.LocksSlot t i hand got u → IsActed hand t false (act.Lock i false) (went true (Some (answer.Locked got))) u
   locked got c =
       acted_as hand t u false (act.Lock i false) (Got got) (went true (Some (answer.Locked got))) refl
       (locking.locks_taken field_0 (hand + 1) i hand false t u is (below hand i lt) got c)
-      (sym (taking_any (held hand t) _)) refl refl
+      (sym (taking_any (thread_slots hand t) _)) refl refl
 
-  got_one : Done field_0 t.desk (held hand t) (act.Lock i true) (Got true) u.desk
-      → (scenes.taking (held hand t) true (option_map as_owner (weak_slot (slot (held hand t) i)))).1 ≡ true
-  got_one (inl x) = came_with as_owner (held hand t) _ _ (weak_slot (slot (held hand t) i)) x.1
-  got_one (inr x) = came_with as_owner (held hand t) _ _ (weak_slot (slot (held hand t) i)) x.2
+  got_one : Done field_0 t.desk (thread_slots hand t) (act.Lock i true) (Got true) u.desk
+      → (scenes.taking (thread_slots hand t) true (option_map as_owner (weak_slot (slot_pointer (thread_slots hand t) i)))).1 ≡ true
+  got_one (inl x) = came_with as_owner (thread_slots hand t) _ _ (weak_slot (slot_pointer (thread_slots hand t) i)) x.1
+  got_one (inr x) = came_with as_owner (thread_slots hand t) _ _ (weak_slot (slot_pointer (thread_slots hand t) i)) x.2
 
   pub upgraded : handles.Upgrades t i hand u → IsActed hand t false (act.Lock i true) (went true (Some answer.Upgraded)) u
   upgraded c =
@@ -106,10 +111,10 @@ module _ (hand i : ℕ) (t u : TableNow ℕ) (is : IsHand (hand + 1) hand t) (lt
       acted hand t u false (act.Lock i true) (Got false) refl
       (locking.upgrades_not field_0 (hand + 1) i hand false t u is (below hand i lt) c)
 
-  got_this : (k : Kind) → Done field_0 t.desk (held hand t) (act.FromThis i k) (Got true) u.desk
-      → (scenes.taking (held hand t) true (option_map (this_as k) (inside (slot (held hand t) i)))).1 ≡ true
-  got_this k (inl x) = came_with (this_as k) (held hand t) _ _ (inside (slot (held hand t) i)) x.1
-  got_this k (inr x) = came_with (this_as k) (held hand t) _ _ (inside (slot (held hand t) i)) x.2
+  got_this : (k : Kind) → Done field_0 t.desk (thread_slots hand t) (act.FromThis i k) (Got true) u.desk
+      → (scenes.taking (thread_slots hand t) true (option_map (this_as k) (inside (slot_pointer (thread_slots hand t) i)))).1 ≡ true
+  got_this k (inl x) = came_with (this_as k) (thread_slots hand t) _ _ (inside (slot_pointer (thread_slots hand t) i)) x.1
+  got_this k (inr x) = came_with (this_as k) (thread_slots hand t) _ _ (inside (slot_pointer (thread_slots hand t) i)) x.2
 
   pub gives : this.SharesThis t i hand u → IsActed hand t false (act.FromThis i kind.Owner) took u
   gives c =
@@ -122,7 +127,7 @@ module _ (hand i : ℕ) (t u : TableNow ℕ) (is : IsHand (hand + 1) hand t) (lt
       acted_as hand t u false (act.FromThis i kind.Weak) (Got true) took refl acts (sym (got_this kind.Weak acts.done)) refl refl
 
 module _ (hand : ℕ) (t u : TableNow ℕ) (is : IsHand (hand + 1) hand t) where
-  pub made : (form : Form) (x : ℕ) → form.null ≡ false → x ≡ field_0 form → calls.Makes t hand form.enabled form.fields x u
+  pub made : (form : Form) (x : ℕ) → form.null ≡ false → x ≡ field_0 form → calls.MakesIntoSlot t hand form.enabled form.fields x u
       → IsActed hand t false (act.Make form) took u
   made form x null same c =
       let y = locking.makes field_0 (hand + 1) hand false t u is form x null same c in
@@ -134,7 +139,7 @@ module _ (hand : ℕ) (t u : TableNow ℕ) (is : IsHand (hand + 1) hand t) where
       acted hand t u false (act.Make null_form) (Found (Some y.0)) refl y.1
 
 -- where an owner points, as its slot shows it
-pub alias_told : (hand j : ℕ) (t : TableNow ℕ) (p : Option Place) → j < hand → calls.PointsTo t j p → p ≡ place_in (held hand t) j
+pub alias_told : (hand j : ℕ) (t : TableNow ℕ) (p : Option Place) → j < hand → calls.PointsTo t j p → p ≡ place_in (thread_slots hand t) j
 alias_told hand j t p lt at = at.2 ∙ sym (place_shown (hand + 1) j t (Owner at.0) (below hand j lt) at.1)
 
 -- there is no block for a new object

@@ -13,7 +13,7 @@ use Rattle.handle_table.specs.Tables.{TableNow}
 use Rattle.script_runner.proofs.Summing.{all_ended, all_made, marked_ended, marked_made}
 use Rattle.script_runner.specs.Casts.{HasSaid, IsReadyFor, ended_by_all, made_by_all}
 use Rattle.script_runner.specs.Deals.{field_0}
-use Rattle.script_runner.specs.Teams.{AllMarked, AllPlay, Plays}
+use Rattle.script_runner.specs.Teams.{AllMarked, AllPlay, PlaysThread}
 use Rattle.script_runner.specs.Totals.{asked_in, refused_in, told_in}
 use Rattle.script_runner.specs.Works.{IsWorked}
 use Rattle.script_runner.specs.declared.worker.Worker.{Worker}
@@ -91,9 +91,9 @@ module _ {G : Type 0} where
   Does w t x u = (x.tasks ≡ w.tasks) × IsWorked w.kinds.items w.tasks.items w.log t x.log u
 
   played : (p : Part) (w x : Worker G) (t u : TableNow ℕ) (l : Vec Said) → HasSaid x l
-      → (x.log.lost ≡ true) ⊎ Plays field_0 p t u x.log.said.items → Plays field_0 p t u l.items
+      → (x.log.lost ≡ true) ⊎ PlaysThread field_0 p t u x.log.said.items → PlaysThread field_0 p t u l.items
   played p w x t u l has (inl lost) = let kept = has.kept in absurd (clash x.log.lost lost kept)
-  played p w x t u l has (inr plays) = subst (λ (v : Vec Said). Plays field_0 p t u v.items) has.lines plays
+  played p w x t u l has (inr plays) = subst (λ (v : Vec Said). PlaysThread field_0 p t u v.items) has.lines plays
 
   pub all_play : (ps : List Part) (ws : List (Worker G)) (ts : List (TableNow ℕ)) (xs : List (Worker G)) (us : List (TableNow ℕ))
       (ls : List (Vec Said))

@@ -5,8 +5,8 @@ use Rattle.std.proofs.lemmas.Bool.{cond-false, cond-true, eq-eqb}
 use Rattle.std.specs.Prelude.{slice_get, slice_set}
 use Rattle.control_block.proofs.Bags.{shown_held}
 use Rattle.control_block.proofs.CellWords.{shared_led}
-use Rattle.control_block.specs.CellCalls.{cell_at as desk_cell, handle_in}
-use Rattle.control_block.specs.Desks.{latest_of, state_of, Adds, DeskNow, HasHandle}
+use Rattle.control_block.specs.CellCalls.{cell_of_site as desk_cell, handle_in}
+use Rattle.control_block.specs.Desks.{latest_of, state_of, AddsEvent, DeskNow, HasHandle}
 use Rattle.control_block.specs.Rule.{opening_of}
 use Rattle.control_block.specs.declared.cell_calls.Site.TheVariants as site
 use Rattle.control_block.specs.declared.cell_calls.Site.{Site}
@@ -23,25 +23,25 @@ use Rattle.control_word.specs.declared.handle.Kind.TheVariants as kind
 use Rattle.control_word.specs.declared.handle.Kind.{Kind}
 use Rattle.control_word.specs.declared.place.Block.{Block}
 use Rattle.control_word.specs.declared.place.Place.{Place}
-use Rattle.handle_table.specs.Cells.{IsCell, OwnsInto, kind_in}
-use Rattle.handle_table.specs.Parts.{kind_of, owned_by, place_of}
-use Rattle.handle_table.specs.Tables.{Fits, TableNow}
+use Rattle.handle_table.specs.Cells.{IsCellAtSite, OwnsInto, kind_of_cell}
+use Rattle.handle_table.specs.Parts.{kind_of_held, block_of_held, place_of_held}
+use Rattle.handle_table.specs.Tables.{FitsSlots, TableNow}
 use Rattle.script_runner.proofs.Calling as law
 use Rattle.script_runner.proofs.Putting.{slice_get-set_same}
 use Rattle.script_runner.proofs.Seating as seating
 use Rattle.script_runner.specs.Calls as calls
 use Rattle.script_runner.specs.CellCalls.{IsOfName, LoadsIn, as_cell}
-use Rattle.script_runner.specs.Seats.{as_slot, shown, Acts, IsHand, IsSeated}
-use Rattle.step_table.specs.CellDeeds.{cell_in, kind_in as kind_there}
+use Rattle.script_runner.specs.Seats.{as_slot, shown_slots, Acts, IsHand, IsSeated}
+use Rattle.step_table.specs.CellDeeds.{cell_in, kind_in_state as kind_there}
 use Rattle.step_table.specs.Contents.{slot_by, slot_of}
 use Rattle.step_table.specs.Deeds.{on}
-use Rattle.step_table.specs.Holdings.{inside, into, Slots, is_full, slot}
+use Rattle.step_table.specs.Holdings.{inside, into, Slots, is_full, slot_pointer}
 use Rattle.step_table.specs.declared.form.Form.{Form}
 use Rattle.step_table.specs.declared.holdings.Pointer.{Pointer}
 use Rattle.step_table.specs.declared.slot.Slot.TheVariants.{Full}
 use Rattle.step_table.specs.declared.slot.Slot.{Slot}
-use Rattle.step_threads.specs.Courses.{block_at, cell_at, hand as hand_of, is_there}
-use Rattle.step_threads.specs.Doings.{Loads, Where}
+use Rattle.step_threads.specs.Courses.{block_at, cell_of_name, hand as hand_of, is_there}
+use Rattle.step_threads.specs.Doings.{IsLoadEvent, Where}
 use Rattle.step_threads.specs.Programs.{IsIn, kind_at}
 use Rattle.step_threads.specs.Rows.{Came}
 use Rattle.step_threads.specs.Scenes.{Hands}
@@ -62,8 +62,8 @@ module _ {V : Type 0} where
   KeepsMade v = (s : State) (d : ℕ) → (after s d v).made ≡ s.made
 
   -- what a handle is on keeps its block by such a step
-  block_held : (d e : DeskNow V) (v : Event V) (adds : Adds d v e) (k : Kind) (p : Option Place) (b : ℕ) → KeepsMade v
-      → HasHandle e k p b → ((calls.before V adds).object (latest_of e b)).block ≡ b
+  block_held : (d e : DeskNow V) (v : Event V) (adds : AddsEvent d v e) (k : Kind) (p : Option Place) (b : ℕ) → KeepsMade v
+      → HasHandle e k p b → ((calls.state_before_event V adds).object (latest_of e b)).block ≡ b
   block_held d e v adds k p b keeps has =
       let z = opening_of d.shape in
       let h = adds.between ++ d.seen in
@@ -77,9 +77,9 @@ module _ {V : Type 0} where
       sym kept ∙ (ap (λ (s : State). (s.object q).block) (sym se) ∙ there)
 
   -- the slot that has what came out of a cell
-  pub came_slot : (d e : DeskNow V) (v : Event V) (adds : Adds d v e) (k : Kind) (p : Option Place) (b : Option Block) → KeepsMade v
+  pub came_slot : (d e : DeskNow V) (v : Event V) (adds : AddsEvent d v e) (k : Kind) (p : Option Place) (b : Option Block) → KeepsMade v
       → ((c : Block) → b ≡ Some c → HasHandle e k p c.0)
-      → slot_by k b p ≡ slot_of (calls.before V adds) (handle_in e k b p)
+      → slot_by k b p ≡ slot_of (calls.state_before_event V adds) (handle_in e k b p)
   came_slot d e v adds k p None keeps has = refl
   came_slot d e v adds k p (Some c) keeps has =
       ap (λ n. Full (record { kind = k; block = record { 0 = n }; place = p })) (sym (block_held d e v adds k p c.0 keeps (has c refl)))
@@ -87,33 +87,34 @@ module _ {V : Type 0} where
   -- a cell of the thread's
   pub record IsFound (t : TableNow V) (l : Slots) (c : CellName) (at : Site) : Type 0 where
     pub there : is_there l c ≡ true
-    pub kind : kind_in (as_cell c) ≡ kind_at c
-    pub named : (v : Event V) (e : DeskNow V) (adds : Adds t.desk v e)
-        → cell_in (calls.before V adds) (cell_at (calls.before V adds) l c) ≡ desk_cell t.desk at
-    pub kinds : (v : Event V) (e : DeskNow V) (adds : Adds t.desk v e) → kind_there (calls.before V adds) (cell_at (calls.before V adds) l c) ≡ kind_at c
+    pub kind : kind_of_cell (as_cell c) ≡ kind_at c
+    pub named : (v : Event V) (e : DeskNow V) (adds : AddsEvent t.desk v e)
+        → cell_in (calls.state_before_event V adds) (cell_of_name (calls.state_before_event V adds) l c) ≡ desk_cell t.desk at
+    pub kinds : (v : Event V) (e : DeskNow V) (adds : AddsEvent t.desk v e)
+        → kind_there (calls.state_before_event V adds) (cell_of_name (calls.state_before_event V adds) l c) ≡ kind_at c
 
-  module _ (m : ℕ) (t : TableNow V) (fits : Fits t.desk t.slots) where
+  module _ (m : ℕ) (t : TableNow V) (fits : FitsSlots t.desk t.slots) where
     of_member : (k : ℕ) (n : ℕ) (name : Name) → name.0 ≡ k → k < m → (at : Site) (b : Block) → OwnsInto t.slots k b → at ≡ site.Member b n
-        → kind_in (as_cell (cell.Member name n)) ≡ kind_at (cell.Member name n) → IsFound t (shown m t.slots) (cell.Member name n) at
+        → kind_of_cell (as_cell (cell.Member name n)) ≡ kind_at (cell.Member name n) → IsFound t (shown_slots m t.slots) (cell.Member name n) at
     of_member k n name is lt at b owns place same =
         let h = Owner owns.owner in
         let has = seating.has_pointer m k t h b fits lt owns.at owns.owns in
         let q : owns.owner.place ≡ Some owns.place = owns.points.0 in
-        let inside_is : inside (slot (shown m t.slots) name.0) ≡ Some (calls.pointer kind.Owner b owns.owner.place) =
-        ap (λ j. inside (slot (shown m t.slots) j)) is
+        let inside_is : inside (slot_pointer (shown_slots m t.slots) name.0) ≡ Some (calls.pointer kind.Owner b owns.owner.place) =
+        ap (λ j. inside (slot_pointer (shown_slots m t.slots) j)) is
         ∙ (ap inside has.at ∙ (ap (into (calls.pointer kind.Owner b owns.owner.place)) q
         ∙ cond-true (owns.place.block.0 == b.0) _ None (eq-eqb owns.place.block.0 b.0 (ap (λ (x : Block). x.0) owns.points.1)))) in
-        let block : block_at (shown m t.slots) name.0 ≡ b = ap (λ y. on (λ (x : Pointer). x.block) (record { 0 = 0 }) y) inside_is in
+        let block : block_at (shown_slots m t.slots) name.0 ≡ b = ap (λ y. on (λ (x : Pointer). x.block) (record { 0 = 0 }) y) inside_is in
         record {
           there = ap is_full inside_is;
           kind = same;
-          named = λ v e adds. ap (λ (x : Block). named.Member ((calls.before V adds).latest x.0) n) block
+          named = λ v e adds. ap (λ (x : Block). named.Member ((calls.state_before_event V adds).latest x.0) n) block
               ∙ (ap (λ o. named.Member o n) (law.held_latest t.desk e v adds kind.Owner owns.owner.place b.0 has.has) ∙ ap (desk_cell t.desk) (sym place));
           kinds = λ v e adds. refl;
         }
 
-    pub is_found : (c : CellName) (at : Site) → IsIn t.desk.shape c → IsOfName m c → IsCell t.desk.shape t.slots (as_cell c) at
-        → IsFound t (shown m t.slots) c at
+    pub is_found : (c : CellName) (at : Site) → IsIn t.desk.shape c → IsOfName m c → IsCellAtSite t.desk.shape t.slots (as_cell c) at
+        → IsFound t (shown_slots m t.slots) c at
     is_found (cell.Shared n) at lt of is =
         record {
           there = refl;
@@ -138,33 +139,39 @@ module _ {V : Type 0} where
 
 module _ {V : Type 0} (worth : Form → V) (m hand : ℕ) (taken : Bool) (t u : TableNow V) (c : CellName) where
   -- what the cell holds came into the hand
-  loads_in : IsHand m hand t → IsSeated m hand u → (at : Site) → IsFound t (shown m t.slots) c at
-      → seating.Came (λ d h e. (kind_of h ≡ kind_in (as_cell c))
-      × Adds d (event.Load (desk_cell d at) (handle_in e (kind_in (as_cell c)) (owned_by h) (place_of h))) e) t hand u
+  loads_in : IsHand m hand t → IsSeated m hand u → (at : Site) → IsFound t (shown_slots m t.slots) c at
+      → seating.Came (λ d h e. (kind_of_held h ≡ kind_of_cell (as_cell c))
+      × AddsEvent d (event.Load (desk_cell d at) (handle_in e (kind_of_cell (as_cell c)) (block_of_held h) (place_of_held h))) e) t hand u
       → (x : Slot) × Acts worth m t taken (act.Load c) (Came x) u
   loads_in is then at found k =
       let h = k.handle in
-      let q = kind_in (as_cell c) in
+      let q = kind_of_cell (as_cell c) in
       let adds = k.comes.1 in
-      let v : Event V = event.Load (desk_cell t.desk at) (handle_in u.desk q (owned_by h) (place_of h)) in
-      let s = calls.before V adds in
+      let v : Event V = event.Load (desk_cell t.desk at) (handle_in u.desk q (block_of_held h) (place_of_held h)) in
+      let s = calls.state_before_event V adds in
       let there : slice_get u.slots hand ≡ Some (Some h) =
       ap (λ ss. slice_get ss hand) k.slots ∙ slice_get-set_same t.slots hand (Some h) (let a = is.many in let b = is.last in omega (arith, a, b)) in
-      let has : (b : Block) → owned_by h ≡ Some b → HasHandle u.desk q (place_of h) b.0 =
-      λ b e. subst (λ y. HasHandle u.desk y (place_of h) b.0) k.comes.0 (seating.has_object u.desk u.slots hand h b then.fits there e) in
-      let came : as_slot (Some h) ≡ slot_of s (handle_in u.desk q (owned_by h) (place_of h)) =
-      ap (λ y. slot_by y (owned_by h) (place_of h)) k.comes.0 ∙ came_slot t.desk u.desk v adds q (place_of h) (owned_by h) (λ s d. refl) has in
-      let makes : Loads s (shown m t.slots) c (as_slot (Some h)) (Some v) = (
-        handle_in u.desk q (owned_by h) (place_of h),
-        ap (λ y. Some (event.Load y (handle_in u.desk q (owned_by h) (place_of h)))) (sym (found.named v u.desk adds)),
+      let has : (b : Block) → block_of_held h ≡ Some b → HasHandle u.desk q (place_of_held h) b.0 =
+      λ b e. subst (λ y. HasHandle u.desk y (place_of_held h) b.0) k.comes.0 (seating.has_object u.desk u.slots hand h b then.fits there e) in
+      let came : as_slot (Some h) ≡ slot_of s (handle_in u.desk q (block_of_held h) (place_of_held h)) =
+      ap (λ y. slot_by y (block_of_held h) (place_of_held h)) k.comes.0 ∙ came_slot t.desk u.desk v adds q (place_of_held h) (block_of_held h)
+      (λ s d. refl) has in
+      let makes : IsLoadEvent s (shown_slots m t.slots) c (as_slot (Some h)) (Some v) = (
+        handle_in u.desk q (block_of_held h) (place_of_held h),
+        ap (λ y. Some (event.Load y (handle_in u.desk q (block_of_held h) (place_of_held h)))) (sym (found.named v u.desk adds)),
         came,
       ) in (
         as_slot (Some h),
         record {
-          done = inr (v, adds, subst (λ b. Where b (Loads s (shown m t.slots) c (as_slot (Some h)) (Some v)) (Some v ≡ None)) (sym found.there) makes);
+          done = inr (
+            v,
+            adds,
+            subst (λ b. Where b (IsLoadEvent s (shown_slots m t.slots) c (as_slot (Some h)) (Some v)) (Some v ≡ None))
+                (sym found.there) makes,
+          );
           slots = seating.in_hand m hand t u h (as_slot (Some h)) is k.slots refl
-              ∙ ap (λ b. (cond {A = Hands} b (slice_set (shown m t.slots) (hand_of (shown m t.slots)) (as_slot (Some h)), true)
-              (shown m t.slots, taken)).0) (sym found.there);
+              ∙ ap (λ b. (cond {A = Hands} b (slice_set (shown_slots m t.slots) (hand_of (shown_slots m t.slots)) (as_slot (Some h)), true)
+              (shown_slots m t.slots, taken)).0) (sym found.there);
           ends = k.ends;
         },
       )

@@ -4,8 +4,8 @@ use Rattle.std.proofs.Common.{inr, arith, ◌-◌, ◌≡◌, ◌≢◌, ℕ, �
 use Rattle.std.proofs.lemmas.List.{set-get_or, set-set, set_comm, get_or-set_same, get_or-set_other, length-set}
 use Rattle.std.specs.Prelude.{slice_get, slice_set}
 use Rattle.control_block.proofs.PartingLists.{has_map}
-use Rattle.control_block.specs.CellCalls.{cell_at as desk_cell, handle_in}
-use Rattle.control_block.specs.Desks.{Adds, DeskNow, HasHandle, bag_of, by_block, latest_of, state_of}
+use Rattle.control_block.specs.CellCalls.{cell_of_site as desk_cell, handle_in}
+use Rattle.control_block.specs.Desks.{AddsEvent, DeskNow, HasHandle, bag_of, by_block, latest_of, state_of}
 use Rattle.control_block.specs.Rule.{opening_of}
 use Rattle.control_word.proofs.history.Given.{names_an_object}
 use Rattle.control_word.proofs.history.Legal.{sound}
@@ -23,9 +23,9 @@ use Rattle.control_word.specs.declared.handle.Handle.{Handle}
 use Rattle.control_word.specs.declared.handle.Kind.{Kind}
 use Rattle.control_word.specs.declared.place.Block.{Block}
 use Rattle.control_word.specs.declared.place.Place.{Place}
-use Rattle.handle_table.specs.Cells.{kind_in}
+use Rattle.handle_table.specs.Cells.{kind_of_cell}
 use Rattle.handle_table.specs.Compares as compares
-use Rattle.handle_table.specs.Parts.{kind_of, owned_by, place_of}
+use Rattle.handle_table.specs.Parts.{kind_of_held, block_of_held, place_of_held}
 use Rattle.handle_table.specs.Tables.{TableNow}
 use Rattle.script_runner.proofs.Celled.{IsFound, came_slot, is_found}
 use Rattle.script_runner.proofs.Exchanging.{is_of_own, told_as}
@@ -34,15 +34,15 @@ use Rattle.script_runner.proofs.Putting.{quiet_left}
 use Rattle.script_runner.proofs.Seating as seating
 use Rattle.script_runner.specs.Calls as calls
 use Rattle.script_runner.specs.CellCalls.{ComparesIn, as_cell}
-use Rattle.script_runner.specs.Seats.{Acts, IsQuiet, IsSeated, Leaving, as_slot, shown}
-use Rattle.step_table.specs.CellDeeds.{kind_in as kind_there}
+use Rattle.script_runner.specs.Seats.{Acts, IsQuiet, IsSeated, Leaving, as_slot, shown_slots}
+use Rattle.step_table.specs.CellDeeds.{kind_in_state as kind_there}
 use Rattle.step_table.specs.Contents as contents
 use Rattle.step_table.specs.Contents.{slot_of, is_of, slot_by}
-use Rattle.step_table.specs.Holdings.{Slots, is_full, pointer_of, slot, plain, value}
+use Rattle.step_table.specs.Holdings.{Slots, is_full, pointer_of, slot_pointer, plain, slot_value}
 use Rattle.step_table.specs.declared.form.Form.{Form}
 use Rattle.step_table.specs.declared.slot.Slot.{Slot}
-use Rattle.step_threads.specs.Courses.{cell_at, hand as hand_of, idle, other as other_of, slots_idle}
-use Rattle.step_threads.specs.Doings.{Compares}
+use Rattle.step_threads.specs.Courses.{cell_of_name, hand as hand_of, idle, other as other_of, slots_idle}
+use Rattle.step_threads.specs.Doings.{IsCompareEvent}
 use Rattle.step_threads.specs.Programs.{kind_at}
 use Rattle.step_threads.specs.Rows.{Compared}
 use Rattle.step_threads.specs.declared.act.Act.TheVariants as act
@@ -61,7 +61,7 @@ module _ (V : Type 0) where
 
 module _ {V : Type 0} where
   -- what the desk has after its event
-  pub has_handle : (d e : DeskNow V) (v : Event V) (adds : Adds d v e) (k : Kind) (c : Block) (p : Option Place)
+  pub has_handle : (d e : DeskNow V) (v : Event V) (adds : AddsEvent d v e) (k : Kind) (c : Block) (p : Option Place)
       → Has (held d.name (handle k (Some (latest_of e c.0)) p)) (leads (opening_of d.shape) (entry d.name v ∷ (adds.between ++ d.seen))).hands
       → HasHandle e k p c.0
   has_handle d e v adds k c p has =
@@ -81,16 +81,16 @@ module _ {V : Type 0} where
       (has_part (λ (y : Held). y.desk) e.name (held e.name (handle k (Some q) p)) (state_of e).hands refl mine))
 
   -- and what it got by it
-  pub got_handle : (d e : DeskNow V) (v : Event V) (adds : Adds d v e) (k : Kind) (c : Block) (p : Option Place)
+  pub got_handle : (d e : DeskNow V) (v : Event V) (adds : AddsEvent d v e) (k : Kind) (c : Block) (p : Option Place)
       → ((s : State) (n : ℕ) → Has (held n (handle k (Some (latest_of e c.0)) p)) (after s n v).hands)
       → HasHandle e k p c.0
   got_handle d e v adds k c p gets = has_handle d e v adds k c p (gets (leads (opening_of d.shape) (adds.between ++ d.seen)) d.name)
 
 module _ {V : Type 0} (worth : Form → V) (m k hand other : ℕ) (t u : TableNow V) (c : CellName) (weak : Bool) (is : IsSeated m hand t)
-    (two : other + 1 ≡ hand) (lt : k < other) (none : slice_get t.slots other ≡ Some None) (x : compares.Compares weak t (as_cell c) k hand true u)
-    (found : IsFound t (shown m t.slots) c x.site) where
+    (two : other + 1 ≡ hand) (lt : k < other) (none : slice_get t.slots other ≡ Some None) (x : compares.ComparesSlots weak t (as_cell c) k hand true u)
+    (found : IsFound t (shown_slots m t.slots) c x.site) where
   abbrev l : Slots
-  l = shown m t.slots
+  l = shown_slots m t.slots
 
   abbrev came : Slot
   came = as_slot (Some x.found)
@@ -100,7 +100,7 @@ module _ {V : Type 0} (worth : Form → V) (m k hand other : ℕ) (t u : TableNo
   between = record { desk = x.between; slots = slice_set (slice_set t.slots other (Some x.found)) hand None; endings = t.endings }
 
   abbrev l1 : Slots
-  l1 = shown m between.slots
+  l1 = shown_slots m between.slots
 
   abbrev after_drop : TableNow V
   after_drop = record { desk = u.desk; slots = slice_set between.slots other None; endings = u.endings }
@@ -130,13 +130,13 @@ module _ {V : Type 0} (worth : Form → V) (m k hand other : ℕ) (t u : TableNo
   other_then : other_of l1 ≡ other
   other_then = ap (λ n. n - 2) l1_many ∙ other_is
 
-  there : value l1 other ≡ came
+  there : slot_value l1 other ≡ came
   there =
-      ap (λ q. value q other) l1_is
+      ap (λ q. slot_value q other) l1_is
       ∙ (get_or-set_other (slice_set l other came) hand other plain plain (λ e. apart (sym e))
       ∙ get_or-set_same l other came plain (let many = seating.shown_many m t.slots is.many in let e = is.last in omega (arith, many, e, two)))
 
-  same_slots : shown m after_drop.slots ≡ shown m u.slots
+  same_slots : shown_slots m after_drop.slots ≡ shown_slots m u.slots
   same_slots =
       let f = x.follows in
       seating.shown_set m between.slots other None
@@ -145,44 +145,47 @@ module _ {V : Type 0} (worth : Form → V) (m k hand other : ℕ) (t u : TableNo
       ∙ (ap (λ q. slice_set q hand plain) (set-set l other came plain
       ∙ (ap (λ q. slice_set l other q)
       (sym (seating.shown_at m t.slots other None (let e = is.last in omega (arith, e, two)) none)) ∙ set-get_or l other plain))
-      ∙ sym (ap (shown m) f.2 ∙ seating.shown_set m t.slots hand None))))
+      ∙ sym (ap (shown_slots m) f.2 ∙ seating.shown_set m t.slots hand None))))
 
-  got_named : (b : Block) → owned_by x.found ≡ Some b → HasHandle x.between (kind_in (as_cell c)) (place_of x.found) b.0
+  got_named : (b : Block) → block_of_held x.found ≡ Some b → HasHandle x.between (kind_of_cell (as_cell c)) (place_of_held x.found) b.0
   got_named b e =
-      let q = kind_in (as_cell c) in
-      let one = handle_in t.desk q (owned_by x.there) (place_of x.there) in
-      let two = handle_in t.desk q (owned_by x.new) (place_of x.new) in
-      let adds = subst (λ y. Adds t.desk (event.Compare (desk_cell t.desk x.site) one two (handle_in x.between q y (place_of x.found)) true weak) x.between)
+      let q = kind_of_cell (as_cell c) in
+      let one = handle_in t.desk q (block_of_held x.there) (place_of_held x.there) in
+      let two = handle_in t.desk q (block_of_held x.new) (place_of_held x.new) in
+      let adds = subst (λ y. AddsEvent t.desk (event.Compare (desk_cell t.desk x.site) one two (handle_in x.between q y (place_of_held x.found)) true
+      weak) x.between)
       e x.compares in
-      got_handle t.desk x.between _ adds q b (place_of x.found)
-      (λ s n. compare_gets V (desk_cell t.desk x.site) one two q (latest_of x.between b.0) (place_of x.found) s n weak)
+      got_handle t.desk x.between _ adds q b (place_of_held x.found)
+      (λ s n. compare_gets V (desk_cell t.desk x.site) one two q (latest_of x.between b.0) (place_of_held x.found) s n weak)
 
-  got_found : (b : Block) → owned_by x.found ≡ Some b → HasHandle x.between (kind_of x.found) (place_of x.found) b.0
-  got_found b e = subst (λ y. HasHandle x.between y (place_of x.found) b.0) (sym x.kinds.2) (got_named b e)
+  got_found : (b : Block) → block_of_held x.found ≡ Some b → HasHandle x.between (kind_of_held x.found) (place_of_held x.found) b.0
+  got_found b e = subst (λ y. HasHandle x.between y (place_of_held x.found) b.0) (sym x.kinds.2) (got_named b e)
 
   compares_in : Acts worth m t true (act.Compare k c weak) (Compared true came) between
   compares_in =
-      let q = kind_in (as_cell c) in
+      let q = kind_of_cell (as_cell c) in
       let adds = x.compares in
-      let s = calls.before V adds in
-      let kinds : kind_there s (cell_at s l c) ≡ q = found.kinds _ x.between adds ∙ sym found.kind in
-      let held : came ≡ slot_of s (handle_in x.between q (owned_by x.found) (place_of x.found)) =
-      ap (λ y. slot_by y (owned_by x.found) (place_of x.found)) x.kinds.2
-      ∙ came_slot t.desk x.between _ adds q (place_of x.found) (owned_by x.found)
-      (λ s d. compare_made V (desk_cell t.desk x.site) (handle_in t.desk q (owned_by x.there) (place_of x.there))
-      (handle_in t.desk q (owned_by x.new) (place_of x.new)) (handle_in x.between q (owned_by x.found) (place_of x.found)) s d weak) got_named in
-      let one = ap (λ r. contents.told s r (value l k)) kinds ∙ told_as m k t x.between _ adds x.there q is.fits below x.at.0 x.kinds.0 in
-      let two' = ap (λ r. contents.told s r (value l (hand_of l))) kinds ∙ (ap (λ n. contents.told s q (value l n)) hand_is
+      let s = calls.state_before_event V adds in
+      let kinds : kind_there s (cell_of_name s l c) ≡ q = found.kinds _ x.between adds ∙ sym found.kind in
+      let held : came ≡ slot_of s (handle_in x.between q (block_of_held x.found) (place_of_held x.found)) =
+      ap (λ y. slot_by y (block_of_held x.found) (place_of_held x.found)) x.kinds.2
+      ∙ came_slot t.desk x.between _ adds q (place_of_held x.found) (block_of_held x.found)
+      (λ s d. compare_made V (desk_cell t.desk x.site) (handle_in t.desk q (block_of_held x.there) (place_of_held x.there))
+      (handle_in t.desk q (block_of_held x.new) (place_of_held x.new)) (handle_in x.between q (block_of_held x.found) (place_of_held x.found)) s d
+      weak) got_named in
+      let one = ap (λ r. contents.named_handle s r (slot_value l k)) kinds ∙ told_as m k t x.between _ adds x.there q is.fits below x.at.0 x.kinds.0 in
+      let two' = ap (λ r. contents.named_handle s r (slot_value l (hand_of l))) kinds ∙ (ap (λ n. contents.named_handle s q (slot_value l n)) hand_is
       ∙ told_as m hand t x.between _ adds x.new q is.fits last x.at.1 x.kinds.1) in
       record {
         done = inr (
-          event.Compare (desk_cell t.desk x.site) (handle_in t.desk q (owned_by x.there) (place_of x.there))
-              (handle_in t.desk q (owned_by x.new) (place_of x.new)) (handle_in x.between q (owned_by x.found) (place_of x.found)) true weak,
+          event.Compare (desk_cell t.desk x.site) (handle_in t.desk q (block_of_held x.there) (place_of_held x.there))
+              (handle_in t.desk q (block_of_held x.new) (place_of_held x.new))
+              (handle_in x.between q (block_of_held x.found) (place_of_held x.found)) true weak,
           adds,
           (
-            handle_in x.between q (owned_by x.found) (place_of x.found),
+            handle_in x.between q (block_of_held x.found) (place_of_held x.found),
             (λ j. Some (event.Compare (sym (found.named _ x.between adds) j) (sym one j) (sym two' j)
-                (handle_in x.between q (owned_by x.found) (place_of x.found)) true weak)),
+                (handle_in x.between q (block_of_held x.found) (place_of_held x.found)) true weak)),
             held,
           ),
         );
@@ -190,8 +193,10 @@ module _ {V : Type 0} (worth : Form → V) (m k hand other : ℕ) (t u : TableNo
         ends = refl;
       }
 
-  slot_then : (b : Option Block) → owned_by x.found ≡ b → slot l1 (other_of l1) ≡ pointer_of (slot_by (kind_of x.found) b (place_of x.found))
-  slot_then b e = ap (λ n. slot l1 n) other_then ∙ (ap pointer_of there ∙ ap (λ y. pointer_of (slot_by (kind_of x.found) y (place_of x.found))) e)
+  slot_then : (b : Option Block) → block_of_held x.found ≡ b
+      → slot_pointer l1 (other_of l1) ≡ pointer_of (slot_by (kind_of_held x.found) b (place_of_held x.found))
+  slot_then b e = ap (λ n. slot_pointer l1 n) other_then ∙
+      (ap pointer_of there ∙ ap (λ y. pointer_of (slot_by (kind_of_held x.found) y (place_of_held x.found))) e)
 
   drops : Leaving worth m between false act.Drop after_drop
   drops =
@@ -210,13 +215,13 @@ module _ {V : Type 0} (worth : Form → V) (m k hand other : ℕ) (t u : TableNo
       }
 
   drops_none : idle act.Drop l1 false ≡ true
-      → IsQuiet x.between u.desk × (shown m after_drop.slots ≡ slots_idle act.Drop l1 false) × (u.endings ≡ t.endings)
+      → IsQuiet x.between u.desk × (shown_slots m after_drop.slots ≡ slots_idle act.Drop l1 false) × (u.endings ≡ t.endings)
   drops_none free =
       let f = x.follows in
-      let q = quiet_left x.between u.desk t.endings u.endings x.found f.0 (no_object (owned_by x.found) refl) f.1 in
+      let q = quiet_left x.between u.desk t.endings u.endings x.found f.0 (no_object (block_of_held x.found) refl) f.1 in
       (q.0, seating.shown_set m between.slots other None ∙ ap (λ n. slice_set l1 n plain) (sym other_then), q.1)
     where
-      no_object : (b : Option Block) → owned_by x.found ≡ b → owned_by x.found ≡ None
+      no_object : (b : Option Block) → block_of_held x.found ≡ b → block_of_held x.found ≡ None
       no_object None e = e
       no_object (Some b) e = let bad = sym (ap (λ y. not (is_full y)) (slot_then (Some b) e)) ∙ free in absurd cc
 
@@ -224,10 +229,10 @@ module _ {V : Type 0} (worth : Form → V) (m k hand other : ℕ) (t u : TableNo
   busy =
       let own = is_of_own x.new (kind_at c) (x.kinds.1 ∙ found.kind) in
       let its = is_of_own x.there (kind_at c) (x.kinds.0 ∙ found.kind) in
-      let a : is_of (kind_at c) (value l (hand_of l)) ≡ true =
-      ap (λ n. is_of (kind_at c) (value l n)) hand_is
+      let a : is_of (kind_at c) (slot_value l (hand_of l)) ≡ true =
+      ap (λ n. is_of (kind_at c) (slot_value l n)) hand_is
       ∙ (ap (λ y. is_of (kind_at c) y) (seating.shown_at m t.slots hand (Some x.new) last x.at.1) ∙ own) in
-      let b : is_of (kind_at c) (value l k) ≡ true =
+      let b : is_of (kind_at c) (slot_value l k) ≡ true =
       ap (λ y. is_of (kind_at c) y) (seating.shown_at m t.slots k (Some x.there) below x.at.0) ∙ its in
       λ j. not (((true && found.there j) && a j) && b j)
 

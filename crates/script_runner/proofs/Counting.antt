@@ -4,7 +4,7 @@ use Rattle.std.proofs.Common.{Option, Some, None, is_some, sym, ap, ◌∙◌, a
 use Rattle.std.proofs.lemmas.List.{length-take, take_more}
 use Rattle.control_word.specs.declared.refusal.Refusal.TheVariants as refusal
 use Rattle.script_runner.proofs.Summing.{refused_append, told_append}
-use Rattle.script_runner.specs.Totals.{asked_in, asks, refused_in, refuses, told_in}
+use Rattle.script_runner.specs.Totals.{asked_in, objects_asked, refused_in, refuses, told_in}
 use Rattle.step_threads.specs.declared.act.Act.TheVariants as act
 use Rattle.step_threads.specs.declared.act.Act.{Act}
 use Rattle.step_threads.specs.declared.act.Task.{Task}
@@ -13,7 +13,7 @@ use Rattle.step_threads.specs.declared.said.Answer.{Answer}
 use Rattle.step_threads.specs.declared.said.Said.{Said}
 
 -- each counts for one at most
-asks_few : (a : Act) → asks a ≤ 1
+asks_few : (a : Act) → objects_asked a ≤ 1
 asks_few (act.Make form) = omega arith
 asks_few a = omega arith
 
@@ -50,7 +50,7 @@ added i size n few one more count sum low fits a b c d e f = omega (arith, low, 
 
 module _ (i count one sum : ℕ) where
   pub asked_on : (ts : List Task) (d : Task) → i < length ts → length ts < 18446744073709551616 → count ≡ asked_in (take i ts)
-      → one ≡ asks (get_or ts i d).act → sum ≡ min (count + one) 18446744073709551615 → sum ≡ asked_in (take (i + 1) ts)
+      → one ≡ objects_asked (get_or ts i d).act → sum ≡ min (count + one) 18446744073709551615 → sum ≡ asked_in (take (i + 1) ts)
   asked_on ts d low fits is weight more =
       let few = asks_few (get_or ts i d).act in
       let last : one ≡ asked_in (get_or ts i d ∷ []) = omega (arith, weight) in

@@ -5,8 +5,8 @@ use Rattle.std.proofs.lemmas.List.{set-set, set_comm, get_or-set_same, get_or-se
 use Rattle.std.specs.Prelude.{slice_get, slice_set}
 use Rattle.control_block.proofs.Bags.{shown_held}
 use Rattle.control_block.proofs.Latest.{calls_keep_latest}
-use Rattle.control_block.specs.CellCalls.{cell_at as desk_cell, handle_in}
-use Rattle.control_block.specs.Desks.{Adds, DeskNow, HasHandle, latest_of}
+use Rattle.control_block.specs.CellCalls.{cell_of_site as desk_cell, handle_in}
+use Rattle.control_block.specs.Desks.{AddsEvent, DeskNow, HasHandle, latest_of}
 use Rattle.control_block.specs.Rule.{opening_of}
 use Rattle.control_word.proofs.history.Given.{legal_seen}
 use Rattle.control_word.proofs.history.Kept.{has_same, same_kept}
@@ -21,10 +21,10 @@ use Rattle.control_word.specs.declared.handle.Handle.{Handle}
 use Rattle.control_word.specs.declared.handle.Kind.{Kind}
 use Rattle.control_word.specs.declared.place.Block.{Block}
 use Rattle.control_word.specs.declared.place.Place.{Place}
-use Rattle.handle_table.specs.Calls.{LeavesSlot, Moves}
-use Rattle.handle_table.specs.Cells.{kind_in}
+use Rattle.handle_table.specs.Calls.{LeavesSlot, MovesSlot}
+use Rattle.handle_table.specs.Cells.{kind_of_cell}
 use Rattle.handle_table.specs.Compares as compares
-use Rattle.handle_table.specs.Parts.{kind_of, owned_by, place_of}
+use Rattle.handle_table.specs.Parts.{kind_of_held, block_of_held, place_of_held}
 use Rattle.handle_table.specs.Tables as table
 use Rattle.handle_table.specs.Tables.{TableNow}
 use Rattle.script_runner.proofs.Celled.{IsFound, came_slot, is_found}
@@ -35,15 +35,15 @@ use Rattle.script_runner.proofs.Putting.{idle_slots, put_slots, quiet_slot, slic
 use Rattle.script_runner.proofs.Seating as seating
 use Rattle.script_runner.specs.Calls as calls
 use Rattle.script_runner.specs.CellCalls.{as_cell, DiffersIn}
-use Rattle.script_runner.specs.Seats.{Acts, IsQuiet, IsSeated, Leaving, as_slot, shown}
-use Rattle.step_table.specs.CellDeeds.{kind_in as kind_there}
+use Rattle.script_runner.specs.Seats.{Acts, IsQuiet, IsSeated, Leaving, as_slot, shown_slots}
+use Rattle.step_table.specs.CellDeeds.{kind_in_state as kind_there}
 use Rattle.step_table.specs.Contents as contents
 use Rattle.step_table.specs.Contents.{slot_of, is_of, slot_by}
-use Rattle.step_table.specs.Holdings.{Slots, is_full, pointer_of, slot, plain, value}
+use Rattle.step_table.specs.Holdings.{Slots, is_full, pointer_of, slot_pointer, plain, slot_value}
 use Rattle.step_table.specs.declared.form.Form.{Form}
 use Rattle.step_table.specs.declared.slot.Slot.{Slot}
-use Rattle.step_threads.specs.Courses.{cell_at, hand as hand_of, idle, other as other_of, slots_idle}
-use Rattle.step_threads.specs.Doings.{Compares}
+use Rattle.step_threads.specs.Courses.{cell_of_name, hand as hand_of, idle, other as other_of, slots_idle}
+use Rattle.step_threads.specs.Doings.{IsCompareEvent}
 use Rattle.step_threads.specs.Programs.{kind_at}
 use Rattle.step_threads.specs.Rows.{Compared}
 use Rattle.step_threads.specs.declared.act.Act.TheVariants as act
@@ -68,7 +68,7 @@ module _ (V : Type 0) where
 
 module _ {V : Type 0} where
   -- a handle that the desk had it has still
-  kept_handle : (d e : DeskNow V) (v : Event V) (adds : Adds d v e) (k : Kind) (p : Option Place) (b : Block) → HasHandle d k p b.0
+  kept_handle : (d e : DeskNow V) (v : Event V) (adds : AddsEvent d v e) (k : Kind) (p : Option Place) (b : Block) → HasHandle d k p b.0
       → ((s : State) (n : ℕ) (x : Held) → Has x s.hands → Has x (after s n v).hands) → HasHandle e k p b.0
   kept_handle d e v adds k p b has keeps =
       let z = opening_of d.shape in
@@ -84,9 +84,10 @@ module _ {V : Type 0} where
 
 module _ {V : Type 0} (worth : Form → V) (m k hand other : ℕ) (t after u : TableNow V) (c : CellName) (weak : Bool) (is : IsSeated m hand t)
     (two : other + 1 ≡ hand) (lt : k < other) (none : slice_get t.slots other ≡ Some None)
-    (x : compares.Compares weak t (as_cell c) k hand false after) (v : Moves after hand other u) (found : IsFound t (shown m t.slots) c x.site) where
+    (x : compares.ComparesSlots weak t (as_cell c) k hand false after) (v : MovesSlot after hand other u)
+    (found : IsFound t (shown_slots m t.slots) c x.site) where
   abbrev l : Slots
-  l = shown m t.slots
+  l = shown_slots m t.slots
 
   abbrev came : Slot
   came = as_slot (Some x.found)
@@ -95,7 +96,7 @@ module _ {V : Type 0} (worth : Form → V) (m k hand other : ℕ) (t after u : T
   between = record { desk = x.between; slots = slice_set (slice_set t.slots other (Some x.new)) hand (Some x.found); endings = t.endings }
 
   abbrev l1 : Slots
-  l1 = shown m between.slots
+  l1 = shown_slots m between.slots
 
   hand_is : hand_of l ≡ hand
   hand_is = seating.hand_at m hand t.slots is.many is.last
@@ -118,28 +119,28 @@ module _ {V : Type 0} (worth : Form → V) (m k hand other : ℕ) (t after u : T
   last : hand < m
   last = let e = is.last in omega (arith, e)
 
-  new_is : as_slot (Some x.new) ≡ value l hand
+  new_is : as_slot (Some x.new) ≡ slot_value l hand
   new_is = sym (seating.shown_at m t.slots hand (Some x.new) last x.at.1)
 
-  l1_is : l1 ≡ slice_set (slice_set l other (value l hand)) hand came
+  l1_is : l1 ≡ slice_set (slice_set l other (slot_value l hand)) hand came
   l1_is = seating.shown_set m (slice_set t.slots other (Some x.new)) hand (Some x.found)
       ∙ ap (λ q. slice_set q hand came) (seating.shown_set m t.slots other (Some x.new) ∙ ap (λ y. slice_set l other y) new_is)
 
   l1_many : length l1 ≡ length l
-  l1_many = ap length l1_is ∙ (length-set (slice_set l other (value l hand)) hand came ∙ length-set l other (value l hand))
+  l1_many = ap length l1_is ∙ (length-set (slice_set l other (slot_value l hand)) hand came ∙ length-set l other (slot_value l hand))
 
   hand_then : hand_of l1 ≡ hand
   hand_then = ap (λ n. n - 1) l1_many ∙ hand_is
 
-  there : value l1 hand ≡ came
+  there : slot_value l1 hand ≡ came
   there =
-      ap (λ q. value q hand) l1_is
-      ∙ get_or-set_same (slice_set l other (value l hand)) hand came plain
-      (let many = seating.shown_many m t.slots is.many in let n = length-set l other (value l hand) in omega (arith, many, n, last))
+      ap (λ q. slot_value q hand) l1_is
+      ∙ get_or-set_same (slice_set l other (slot_value l hand)) hand came plain
+      (let many = seating.shown_many m t.slots is.many in let n = length-set l other (slot_value l hand) in omega (arith, many, n, last))
 
-  slot_k : value l1 k ≡ value l k
-  slot_k = ap (λ q. value q k) l1_is ∙ (get_or-set_other (slice_set l other (value l hand)) hand k came plain away
-      ∙ get_or-set_other l other k (value l hand) plain aside)
+  slot_k : slot_value l1 k ≡ slot_value l k
+  slot_k = ap (λ q. slot_value q k) l1_is ∙ (get_or-set_other (slice_set l other (slot_value l hand)) hand k came plain away
+      ∙ get_or-set_other l other k (slot_value l hand) plain aside)
 
   -- where all lies at the end
   of_is : v.of ≡ x.new
@@ -153,13 +154,13 @@ module _ {V : Type 0} (worth : Form → V) (m k hand other : ℕ) (t after u : T
       (seating.same_some a.old None (sym a.was ∙ (slice_get-set_other after.slots hand other None (λ e. apart (sym e))
       ∙ (ap (λ ss. slice_get ss other) x.follows.slots ∙ (slice_get-set_other t.slots k other (Some x.found) (λ e. aside (sym e)) ∙ none))))) a.leaves
 
-  u_is : shown m u.slots ≡ slice_set (slice_set l1 hand plain) k (value l1 hand)
+  u_is : shown_slots m u.slots ≡ slice_set (slice_set l1 hand plain) k (slot_value l1 hand)
   u_is =
-      let nv = value l hand in
-      ap (shown m) v.assigns.slots
+      let nv = slot_value l hand in
+      ap (shown_slots m) v.assigns.slots
       ∙ (seating.shown_set m (slice_set after.slots hand None) other (Some v.of)
       ∙ ((λ j. slice_set ((seating.shown_set m after.slots hand None ∙ ap (λ q. slice_set q hand plain)
-      (ap (shown m) x.follows.slots ∙ seating.shown_set m t.slots k (Some x.found))) j) other ((ap (λ h. as_slot (Some h)) of_is ∙ new_is) j))
+      (ap (shown_slots m) x.follows.slots ∙ seating.shown_set m t.slots k (Some x.found))) j) other ((ap (λ h. as_slot (Some h)) of_is ∙ new_is) j))
       ∙ (ap (λ q. slice_set q other nv) (set_comm l k hand came plain away)
       ∙ (set_comm (slice_set l hand plain) k other came nv aside
       ∙ (ap (λ q. slice_set q k came) (set_comm l hand other plain nv apart
@@ -168,66 +169,68 @@ module _ {V : Type 0} (worth : Form → V) (m k hand other : ℕ) (t after u : T
 
   compares_in : Acts worth m t true (act.Compare k c weak) (Compared false came) between
   compares_in =
-      let q = kind_in (as_cell c) in
+      let q = kind_of_cell (as_cell c) in
       let adds = x.compares in
-      let s = calls.before V adds in
-      let kinds : kind_there s (cell_at s l c) ≡ q = found.kinds _ x.between adds ∙ sym found.kind in
-      let held : came ≡ slot_of s (handle_in x.between q (owned_by x.found) (place_of x.found)) =
-      ap (λ y. slot_by y (owned_by x.found) (place_of x.found)) x.kinds.2
-      ∙ came_slot t.desk x.between _ adds q (place_of x.found) (owned_by x.found)
-      (λ s d. differs_made V (desk_cell t.desk x.site) (handle_in t.desk q (owned_by x.there) (place_of x.there))
-      (handle_in t.desk q (owned_by x.new) (place_of x.new)) (handle_in x.between q (owned_by x.found) (place_of x.found)) s d weak) got in
-      let one = ap (λ r. contents.told s r (value l k)) kinds ∙ told_as m k t x.between _ adds x.there q is.fits below x.at.0 x.kinds.0 in
-      let two' = ap (λ r. contents.told s r (value l (hand_of l))) kinds ∙ (ap (λ n. contents.told s q (value l n)) hand_is
+      let s = calls.state_before_event V adds in
+      let kinds : kind_there s (cell_of_name s l c) ≡ q = found.kinds _ x.between adds ∙ sym found.kind in
+      let held : came ≡ slot_of s (handle_in x.between q (block_of_held x.found) (place_of_held x.found)) =
+      ap (λ y. slot_by y (block_of_held x.found) (place_of_held x.found)) x.kinds.2
+      ∙ came_slot t.desk x.between _ adds q (place_of_held x.found) (block_of_held x.found)
+      (λ s d. differs_made V (desk_cell t.desk x.site) (handle_in t.desk q (block_of_held x.there) (place_of_held x.there))
+      (handle_in t.desk q (block_of_held x.new) (place_of_held x.new)) (handle_in x.between q (block_of_held x.found) (place_of_held x.found)) s d weak) got in
+      let one = ap (λ r. contents.named_handle s r (slot_value l k)) kinds ∙ told_as m k t x.between _ adds x.there q is.fits below x.at.0 x.kinds.0 in
+      let two' = ap (λ r. contents.named_handle s r (slot_value l (hand_of l))) kinds ∙ (ap (λ n. contents.named_handle s q (slot_value l n)) hand_is
       ∙ told_as m hand t x.between _ adds x.new q is.fits last x.at.1 x.kinds.1) in
       record {
         done = inr (
-          event.Compare (desk_cell t.desk x.site) (handle_in t.desk q (owned_by x.there) (place_of x.there))
-              (handle_in t.desk q (owned_by x.new) (place_of x.new)) (handle_in x.between q (owned_by x.found) (place_of x.found)) false weak,
+          event.Compare (desk_cell t.desk x.site) (handle_in t.desk q (block_of_held x.there) (place_of_held x.there))
+              (handle_in t.desk q (block_of_held x.new) (place_of_held x.new))
+              (handle_in x.between q (block_of_held x.found) (place_of_held x.found)) false weak,
           adds,
           (
-            handle_in x.between q (owned_by x.found) (place_of x.found),
+            handle_in x.between q (block_of_held x.found) (place_of_held x.found),
             (λ j. Some (event.Compare (sym (found.named _ x.between adds) j) (sym one j) (sym two' j)
-                (handle_in x.between q (owned_by x.found) (place_of x.found)) false weak)),
+                (handle_in x.between q (block_of_held x.found) (place_of_held x.found)) false weak)),
             held,
           ),
         );
-        slots = l1_is ∙ (λ j. slice_set (slice_set l (sym other_is j) (value l (sym hand_is j))) (sym hand_is j) came);
+        slots = l1_is ∙ (λ j. slice_set (slice_set l (sym other_is j) (slot_value l (sym hand_is j))) (sym hand_is j) came);
         ends = refl;
       }
     where
-      got : (b : Block) → owned_by x.found ≡ Some b → HasHandle x.between (kind_in (as_cell c)) (place_of x.found) b.0
+      got : (b : Block) → block_of_held x.found ≡ Some b → HasHandle x.between (kind_of_cell (as_cell c)) (place_of_held x.found) b.0
       got b e =
-          let q = kind_in (as_cell c) in
-          let one = handle_in t.desk q (owned_by x.there) (place_of x.there) in
-          let new = handle_in t.desk q (owned_by x.new) (place_of x.new) in
-          let adds = subst (λ y. Adds t.desk (event.Compare (desk_cell t.desk x.site) one new (handle_in x.between q y (place_of x.found)) false weak)
+          let q = kind_of_cell (as_cell c) in
+          let one = handle_in t.desk q (block_of_held x.there) (place_of_held x.there) in
+          let new = handle_in t.desk q (block_of_held x.new) (place_of_held x.new) in
+          let adds = subst (λ y. AddsEvent t.desk
+          (event.Compare (desk_cell t.desk x.site) one new (handle_in x.between q y (place_of_held x.found)) false weak)
           x.between) e x.compares in
-          got_handle t.desk x.between (event.Compare (desk_cell t.desk x.site) one new (handle_in x.between q (Some b) (place_of x.found)) false weak)
-          adds q b (place_of x.found)
-          (λ s n. differs_gets V (desk_cell t.desk x.site) one new q (latest_of x.between b.0) (place_of x.found) s n weak)
+          got_handle t.desk x.between (event.Compare (desk_cell t.desk x.site) one new (handle_in x.between q (Some b) (place_of_held x.found)) false weak)
+          adds q b (place_of_held x.found)
+          (λ s n. differs_gets V (desk_cell t.desk x.site) one new q (latest_of x.between b.0) (place_of_held x.found) s n weak)
 
   old_leaves : LeavesSlot x.between t.endings x.follows.old u.desk u.endings
   old_leaves =
       subst (λ d. LeavesSlot x.between t.endings x.follows.old d u.endings) (sym moved.0)
       (subst (λ ys. LeavesSlot x.between t.endings x.follows.old after.desk ys) (sym moved.1) x.follows.leaves)
 
-  old_at : (s : table.Slot) → x.follows.old ≡ s → value l1 k ≡ as_slot s
+  old_at : (s : table.Slot) → x.follows.old ≡ s → slot_value l1 k ≡ as_slot s
   old_at s e = slot_k ∙ seating.shown_at m t.slots k s below (x.follows.was ∙ ap Some e)
 
   puts : Leaving worth m between true (act.Put k) u
   puts =
-      let q = kind_in (as_cell c) in
-      let one = handle_in t.desk q (owned_by x.there) (place_of x.there) in
-      let new = handle_in t.desk q (owned_by x.new) (place_of x.new) in
+      let q = kind_of_cell (as_cell c) in
+      let one = handle_in t.desk q (block_of_held x.there) (place_of_held x.there) in
+      let new = handle_in t.desk q (block_of_held x.new) (place_of_held x.new) in
       let y = slot_left worth x.between u.desk l1 (act.Put k) k t.endings u.endings refl x.follows.old
       (λ h b e f. record {
-        at = ap pointer_of (old_at (Some h) e ∙ seating.as_parts h (kind_of h) (Some b) (place_of h) refl f refl);
-        has = kept_handle t.desk x.between _ x.compares (kind_of h) (place_of h) b
+        at = ap pointer_of (old_at (Some h) e ∙ seating.as_parts h (kind_of_held h) (Some b) (place_of_held h) refl f refl);
+        has = kept_handle t.desk x.between _ x.compares (kind_of_held h) (place_of_held h) b
             (seating.has_object t.desk t.slots k h b is.fits (x.follows.was ∙ ap Some e) f)
-            (λ s n y. differs_keeps V (desk_cell t.desk x.site) one new (handle_in x.between q (owned_by x.found) (place_of x.found)) s n weak y);
+            (λ s n y. differs_keeps V (desk_cell t.desk x.site) one new (handle_in x.between q (block_of_held x.found) (place_of_held x.found)) s n weak y);
       })
-      (λ h e f. ap pointer_of (old_at (Some h) e ∙ seating.as_parts h (kind_of h) None (place_of h) refl f refl))
+      (λ h e f. ap pointer_of (old_at (Some h) e ∙ seating.as_parts h (kind_of_held h) None (place_of_held h) refl f refl))
       (λ e. ap pointer_of (old_at None e)) old_leaves in
       record {
         last = y.last;
@@ -237,10 +240,10 @@ module _ {V : Type 0} (worth : Form → V) (m k hand other : ℕ) (t after u : T
       }
 
   puts_none : idle (act.Put k) l1 true ≡ true
-      → IsQuiet x.between u.desk × (shown m u.slots ≡ slots_idle (act.Put k) l1 true) × (u.endings ≡ t.endings)
+      → IsQuiet x.between u.desk × (shown_slots m u.slots ≡ slots_idle (act.Put k) l1 true) × (u.endings ≡ t.endings)
   puts_none free =
       let q = quiet_slot x.between u.desk t.endings u.endings m k t.slots x.follows.old below x.follows.was
-      (as_false (is_full (slot l k)) (ap (λ y. not (true && is_full (pointer_of y))) (sym slot_k) ∙ free)) old_leaves in
+      (as_false (is_full (slot_pointer l k)) (ap (λ y. not (true && is_full (pointer_of y))) (sym slot_k) ∙ free)) old_leaves in
       (q.0, u_is ∙ idle_slots l1 k hand hand_then away, q.1)
     where
       as_false : (b : Bool) → not (true && b) ≡ true → b ≡ false
@@ -251,10 +254,10 @@ module _ {V : Type 0} (worth : Form → V) (m k hand other : ℕ) (t after u : T
   busy =
       let own = is_of_own x.new (kind_at c) (x.kinds.1 ∙ found.kind) in
       let its = is_of_own x.there (kind_at c) (x.kinds.0 ∙ found.kind) in
-      let a : is_of (kind_at c) (value l (hand_of l)) ≡ true =
-      ap (λ n. is_of (kind_at c) (value l n)) hand_is
+      let a : is_of (kind_at c) (slot_value l (hand_of l)) ≡ true =
+      ap (λ n. is_of (kind_at c) (slot_value l n)) hand_is
       ∙ (ap (λ y. is_of (kind_at c) y) (seating.shown_at m t.slots hand (Some x.new) last x.at.1) ∙ own) in
-      let b : is_of (kind_at c) (value l k) ≡ true =
+      let b : is_of (kind_at c) (slot_value l k) ≡ true =
       ap (λ y. is_of (kind_at c) y) (seating.shown_at m t.slots k (Some x.there) below x.at.0) ∙ its in
       λ j. not (((true && found.there j) && a j) && b j)
 

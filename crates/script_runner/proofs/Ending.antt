@@ -6,7 +6,7 @@ use Rattle.std.proofs.lemmas.List.{append-nil, get_or-set_same, length-set, set-
 use Rattle.std.specs.Prelude.{slice_set}
 use Rattle.control_block.proofs.PartingLists.{has_map}
 use Rattle.control_block.specs.CellCalls.{handle_in}
-use Rattle.control_block.specs.Desks.{Adds, DeskNow, latest_of, state_of, IsEnding, HasHandle, bag_of, by_block}
+use Rattle.control_block.specs.Desks.{AddsEvent, DeskNow, latest_of, state_of, IsEnding, HasHandle, bag_of, by_block}
 use Rattle.control_block.specs.Rule.{opening_of}
 use Rattle.control_word.proofs.history.Endings.{stays_the_latest}
 use Rattle.control_word.proofs.history.Given.{legal_seen, names_an_object}
@@ -26,19 +26,19 @@ use Rattle.control_word.specs.declared.place.Place.{Place}
 use Rattle.script_runner.proofs.Logging.{goes_on_by_call, goes_on_by_mark}
 use Rattle.script_runner.proofs.Settling.{settled_again, settled_empty, with_endings}
 use Rattle.script_runner.specs.Calls as calls
-use Rattle.script_runner.specs.EndCalls.{Takes}
-use Rattle.script_runner.specs.Logs.{Tells, doing, told}
+use Rattle.script_runner.specs.EndCalls.{TakesThread}
+use Rattle.script_runner.specs.Logs.{TellsThread, doing, told_line}
 use Rattle.script_runner.specs.Seats.{IsQuiet}
 use Rattle.step_table.specs.Contents.{slot_of}
-use Rattle.step_table.specs.Holdings.{Slots, is_full, plain, slot, value, pointer_of}
+use Rattle.step_table.specs.Holdings.{Slots, is_full, plain, slot_pointer, slot_value, pointer_of}
 use Rattle.step_table.specs.declared.ended.Ended.{Ended}
 use Rattle.step_table.specs.declared.form.Form.{Form}
 use Rattle.step_table.specs.declared.slot.Slot.TheVariants.{Full}
-use Rattle.step_threads.specs.Courses.{Walk, hand, settled}
-use Rattle.step_threads.specs.Doings.{Ahead, AnAct, AnEnd, ClearsNext, Finishes, Does, DoesAhead, Goes, Makes, MakesAct}
+use Rattle.step_threads.specs.Courses.{Walk, hand, walk_settled}
+use Rattle.step_threads.specs.Doings.{Ahead, AnAct, AnEnd, ClearsNext, FinishesEnding, DoesNext, DoesAhead, GoesThrough, IsMakeEvent, MakesAct}
 use Rattle.step_threads.specs.Endings.{staged}
 use Rattle.step_threads.specs.Interleavings.{first_walk}
-use Rattle.step_threads.specs.Rows.{Left, ending_by, gone, row, said_by_row, with_end}
+use Rattle.step_threads.specs.Rows.{Left, ending_by, walk_after_act, row, said_by_row, with_end}
 use Rattle.step_threads.specs.Steps.{silent}
 use Rattle.step_threads.specs.declared.act.Act.TheVariants.{Leave}
 use Rattle.step_threads.specs.declared.act.Task.{Task}
@@ -60,20 +60,20 @@ module _ {V : Type 0} where
   ended_in d b x legal ends = (sound (opening_of d.shape) d.seen legal).latest_in b (not_none d b x legal ends)
 
   -- and is the latest there when the desk's event comes
-  pub ended_latest : (d e : DeskNow V) (v : Event V) (adds : Adds d v e) (b : ℕ) (x : V) → IsEnding d b x
-      → (calls.before V adds).latest b ≡ latest_of d b
+  pub ended_latest : (d e : DeskNow V) (v : Event V) (adds : AddsEvent d v e) (b : ℕ) (x : V) → IsEnding d b x
+      → (calls.state_before_event V adds).latest b ≡ latest_of d b
   ended_latest d e v adds b x ends =
       let z = opening_of d.shape in
       let legal = (subst (IsLegal z) adds.seen adds.legal).0 in
       let old = legal_seen z adds.between d.seen legal in
       let o = latest_of d b in
       let block = ended_in d b x old ends in
-      ap (calls.before V adds).latest (sym block)
+      ap (calls.state_before_event V adds).latest (sym block)
       ∙ (stays_the_latest z adds.between d.seen legal d.name adds.quiet o (inr ends.phase)).1
 
   -- what came out of a member is a handle of the desk's
   pub came_out : (d e : DeskNow V) (o j : ℕ) (k : Kind) (c : Block) (p : Option Place)
-      → Adds d (event.ClearMember o j (handle_in e k (Some c) p)) e
+      → AddsEvent d (event.ClearMember o j (handle_in e k (Some c) p)) e
       → HasHandle e k p c.0 × (((state_of e).object (latest_of e c.0)).block ≡ c.0)
   came_out d e o j k c p adds =
       let z = opening_of d.shape in
@@ -95,8 +95,8 @@ module _ {V : Type 0} where
 
   -- which the event did not move
   pub block_before : (d e : DeskNow V) (o j : ℕ) (k : Kind) (c : Block) (p : Option Place)
-      → (adds : Adds d (event.ClearMember o j (handle_in e k (Some c) p)) e)
-      → ((calls.before V adds).object (latest_of e c.0)).block ≡ c.0
+      → (adds : AddsEvent d (event.ClearMember o j (handle_in e k (Some c) p)) e)
+      → ((calls.state_before_event V adds).object (latest_of e c.0)).block ≡ c.0
   block_before d e o j k c p adds =
       let z = opening_of d.shape in
       let x = event.ClearMember o j (handle_in e k (Some c) p) in
@@ -110,39 +110,39 @@ module _ {V : Type 0} where
       sym kept ∙ (ap (λ (s : State). (s.object q).block) (sym se) ∙ out.1)
 
 module _ {V : Type 0} (worth : Form → V) where
-  pub by_event : (d e : DeskNow V) (v : Event V) (adds : Adds d v e) (w u : Walk) (log : List Said) (x : Said)
-      → Does worth (calls.before V adds) w (doing d.name (Some v) x) u → Takes worth d w log e u (log ++ told x)
+  pub by_event : (d e : DeskNow V) (v : Event V) (adds : AddsEvent d v e) (w u : Walk) (log : List Said) (x : Said)
+      → DoesNext worth (calls.state_before_event V adds) w (doing d.name (Some v) x) u → TakesThread worth d w log e u (log ++ told_line x)
   by_event d e v adds w u log x does part n tells =
       goes_on_by_call worth part n d e v w u log x tells adds
-      (subst (λ q. Does worth (calls.before V adds) w (doing q (Some v) x) u) tells.name does)
+      (subst (λ q. DoesNext worth (calls.state_before_event V adds) w (doing q (Some v) x) u) tells.name does)
 
-  pub by_quiet : (d e : DeskNow V) → IsQuiet d e → (w : Walk) (log : List Said) → Takes worth d w log e w log
+  pub by_quiet : (d e : DeskNow V) → IsQuiet d e → (w : Walk) (log : List Said) → TakesThread worth d w log e w log
   by_quiet d e quiet w log part n t =
       record {
         name = quiet.name ∙ t.name;
         doings = t.doings;
         events = t.events ∙ sym quiet.seen;
-        goes = subst (λ k. Goes worth (opening_of k) [] n (first_walk part) t.doings w) (sym quiet.shape) t.goes;
+        goes = subst (λ k. GoesThrough worth (opening_of k) [] n (first_walk part) t.doings w) (sym quiet.shape) t.goes;
         says = t.says;
       }
 
   pub by_mark : (d e : DeskNow V) → IsQuiet d e → (w u : Walk) (log : List Said) (x : Said)
-      → Does worth (state_of d) w (doing d.name None x) u → Takes worth d w log e u (log ++ told x)
+      → DoesNext worth (state_of d) w (doing d.name None x) u → TakesThread worth d w log e u (log ++ told_line x)
   by_mark d e quiet w u log x does part n tells =
-      by_quiet d e quiet u (log ++ told x) part n
-      (goes_on_by_mark worth part n d w u log x tells (subst (λ q. Does worth (state_of d) w (doing q None x) u) tells.name does))
+      by_quiet d e quiet u (log ++ told_line x) part n
+      (goes_on_by_mark worth part n d w u log x tells (subst (λ q. DoesNext worth (state_of d) w (doing q None x) u) tells.name does))
 
-  module _ (l : Slots) (taken : Bool) (todo : List Task) (free : value l (hand l) ≡ plain) (few : hand l < length l) where
+  module _ (l : Slots) (taken : Bool) (todo : List Task) (free : slot_value l (hand l) ≡ plain) (few : hand l < length l) where
     abbrev pub walk_at : List Ending → Walk
-    walk_at es = settled l taken es todo
+    walk_at es = walk_settled l taken es todo
 
     abbrev pub rest : Walk
-    rest = settled l taken [] todo
+    rest = walk_settled l taken [] todo
 
-    empty_hand : value rest.slots (hand rest.slots) ≡ plain
+    empty_hand : slot_value rest.slots (hand rest.slots) ≡ plain
     empty_hand =
         let x = settled_empty l taken [] todo free in
-        ap (λ n. value rest.slots (n - 1)) x.many ∙ x.hand
+        ap (λ n. slot_value rest.slots (n - 1)) x.many ∙ x.hand
 
     within_hand : hand rest.slots < length rest.slots
     within_hand = let x = (settled_empty l taken [] todo free).many in omega (arith, x, few)
@@ -151,17 +151,17 @@ module _ {V : Type 0} (worth : Form → V) where
     walk_is es = with_endings l taken es todo
 
     -- the next member is cleared
-    pub clears : (d e : DeskNow V) (b j : ℕ) (held : Handle) (adds : Adds d (event.ClearMember (latest_of d b) j held) e) (x : V) → IsEnding d b x
+    pub clears : (d e : DeskNow V) (b j : ℕ) (held : Handle) (adds : AddsEvent d (event.ClearMember (latest_of d b) j held) e) (x : V) → IsEnding d b x
         → (f : Ending) (es : List Ending) → f.block.0 ≡ b → f.stage ≡ j → j < 3 → (log : List Said)
-        → Takes worth d (walk_at (f ∷ es)) log e
+        → TakesThread worth d (walk_at (f ∷ es)) log e
         (record {
-          slots = cond (has_object held) (slice_set rest.slots (hand rest.slots) (slot_of (calls.before V adds) held)) rest.slots;
+          slots = cond (has_object held) (slice_set rest.slots (hand rest.slots) (slot_of (calls.state_before_event V adds) held)) rest.slots;
           taken = rest.taken;
           endings = staged f ∷ es;
           todo = rest.todo;
         }) log
     clears d e b j held adds x ends f es block stage low log part n tells =
-        let s = calls.before V adds in
+        let s = calls.state_before_event V adds in
         let v = event.ClearMember (latest_of d b) j held in
         let u : Walk = record {
           slots = cond (has_object held) (slice_set rest.slots (hand rest.slots) (slot_of s held)) rest.slots;
@@ -177,57 +177,58 @@ module _ {V : Type 0} (worth : Form → V) where
           says = refl;
           goes = refl;
         } in
-        let does : Does worth s (record rest { endings = f ∷ es }) (doing d.name (Some v) (silent f.statement)) u =
+        let does : DoesNext worth s (record rest { endings = f ∷ es }) (doing d.name (Some v) (silent f.statement)) u =
         subst (λ (a : Ahead). DoesAhead worth s (record rest { endings = f ∷ es }) (doing d.name (Some v) (silent f.statement)) u a)
-        (sym (cond-false (is_full (slot rest.slots (hand rest.slots))) _ _ (ap (λ y. is_full (pointer_of y)) empty_hand))) (inl next) in
-        subst (λ l. Tells worth part n e u l) (append-nil log)
+        (sym (cond-false (is_full (slot_pointer rest.slots (hand rest.slots))) _ _ (ap (λ y. is_full (pointer_of y)) empty_hand))) (inl next) in
+        subst (λ l. TellsThread worth part n e u l) (append-nil log)
         (by_event d e v adds (record rest { endings = f ∷ es }) u log (silent f.statement) does part n
-        (subst (λ w. Tells worth part n d w log) (walk_is (f ∷ es)) tells))
+        (subst (λ w. TellsThread worth part n d w log) (walk_is (f ∷ es)) tells))
 
     -- what it held leaves
-    pub hand_leaves : (d e : DeskNow V) (v : Event V) (adds : Adds d v e) (k : Kind) (c : Block) (p : Option Place) (last : Bool) (left : Option Ended)
+    pub hand_leaves : (d e : DeskNow V) (v : Event V) (adds : AddsEvent d v e) (k : Kind) (c : Block) (p : Option Place) (last : Bool) (left : Option Ended)
         → let filled = slice_set rest.slots (hand rest.slots) (Full (calls.pointer k c p)) in
-        (calls.HasPointer V d filled (hand filled) k c p → Makes worth (calls.before V adds) d.name filled (Leave (hand filled)) (Left last left) (Some v))
+        (calls.HasPointer V d filled (hand filled) k c p
+        → IsMakeEvent worth (calls.state_before_event V adds) d.name filled (Leave (hand filled)) (Left last left) (Some v))
         → HasHandle d k p c.0 → (f : Ending) (es : List Ending) (log : List Said)
-        → Takes worth d (record { slots = filled; taken = rest.taken; endings = f ∷ es; todo = rest.todo }) log e
+        → TakesThread worth d (record { slots = filled; taken = rest.taken; endings = f ∷ es; todo = rest.todo }) log e
         (walk_at (with_end f.statement (ending_by last (Some (calls.pointer k c p))) (f ∷ es)))
-        (log ++ told record { statement = f.statement; answer = None; ended = left })
+        (log ++ told_line record { statement = f.statement; answer = None; ended = left })
     hand_leaves d e v adds k c p last left makes has f es log part n tells =
         let ptr = calls.pointer k c p in
         let filled = slice_set rest.slots (hand rest.slots) (Full ptr) in
         let same : hand filled ≡ hand rest.slots = ap (λ q. q - 1) (length-set rest.slots (hand rest.slots) (Full ptr)) in
-        let at : slot filled (hand filled) ≡ Some ptr =
-        ap (λ q. slot filled q) same ∙ ap pointer_of (get_or-set_same rest.slots (hand rest.slots) (Full ptr) plain within_hand) in
-        let s = calls.before V adds in
+        let at : slot_pointer filled (hand filled) ≡ Some ptr =
+        ap (λ q. slot_pointer filled q) same ∙ ap pointer_of (get_or-set_same rest.slots (hand rest.slots) (Full ptr) plain within_hand) in
+        let s = calls.state_before_event V adds in
         let w : Walk = record { slots = filled; taken = rest.taken; endings = f ∷ es; todo = rest.todo } in
         let y = row (Leave (hand filled)) filled rest.taken (Left last left) in
         let fs = with_end f.statement (ending_by last (Some ptr)) (f ∷ es) in
         let task : Task = record { statement = f.statement; act = Leave (hand filled) } in
-        let made : MakesAct worth s w task rest.todo (doing d.name (Some v) (said_by_row f.statement y)) (gone w f.statement rest.todo y) =
+        let made : MakesAct worth s w task rest.todo (doing d.name (Some v) (said_by_row f.statement y)) (walk_after_act w f.statement rest.todo y) =
         record { reply = Left last left; makes = makes (record { at = at; has = has }); says = refl; goes = refl } in
-        let does : Does worth s w (doing d.name (Some v) (said_by_row f.statement y)) (gone w f.statement rest.todo y) =
-        subst (λ (a : Ahead). DoesAhead worth s w (doing d.name (Some v) (said_by_row f.statement y)) (gone w f.statement rest.todo y) a)
-        (sym (cond-true (is_full (slot filled (hand filled))) (AnAct task rest.todo) (AnEnd f es) (ap is_full at))) made in
+        let does : DoesNext worth s w (doing d.name (Some v) (said_by_row f.statement y)) (walk_after_act w f.statement rest.todo y) =
+        subst (λ (a : Ahead). DoesAhead worth s w (doing d.name (Some v) (said_by_row f.statement y)) (walk_after_act w f.statement rest.todo y) a)
+        (sym (cond-true (is_full (slot_pointer filled (hand filled))) (AnAct task rest.todo) (AnEnd f es) (ap is_full at))) made in
         let slots : slice_set filled (hand filled) plain ≡ rest.slots =
         ap (λ q. slice_set filled q plain) same
         ∙ (set-set rest.slots (hand rest.slots) (Full ptr) plain
         ∙ (ap (λ q. slice_set rest.slots (hand rest.slots) q) (sym empty_hand) ∙ set-get_or rest.slots (hand rest.slots) plain)) in
-        let goes : gone w f.statement rest.todo y ≡ walk_at fs =
-        ap (λ q. settled q rest.taken (with_end f.statement (ending_by last (slot filled (hand filled))) (f ∷ es)) rest.todo) slots
-        ∙ (ap (λ q. settled rest.slots rest.taken (with_end f.statement (ending_by last q) (f ∷ es)) rest.todo) at
+        let goes : walk_after_act w f.statement rest.todo y ≡ walk_at fs =
+        ap (λ q. walk_settled q rest.taken (with_end f.statement (ending_by last (slot_pointer filled (hand filled))) (f ∷ es)) rest.todo) slots
+        ∙ (ap (λ q. walk_settled rest.slots rest.taken (with_end f.statement (ending_by last q) (f ∷ es)) rest.todo) at
         ∙ (settled_again l taken [] fs todo ∙ sym (walk_is fs))) in
-        subst (λ q. Tells worth part n e q (log ++ told record { statement = f.statement; answer = None; ended = left })) goes
-        (by_event d e v adds w (gone w f.statement rest.todo y) log (said_by_row f.statement y) does part n tells)
+        subst (λ q. TellsThread worth part n e q (log ++ told_line record { statement = f.statement; answer = None; ended = left })) goes
+        (by_event d e v adds w (walk_after_act w f.statement rest.todo y) log (said_by_row f.statement y) does part n tells)
 
     -- an object without a member left is finished
-    pub finishes : (d e : DeskNow V) (b : ℕ) (vacant : Bool) (y : V) (adds : Adds d (event.Finish (latest_of d b) vacant y) e) (x : V) → IsEnding d b x
+    pub finishes : (d e : DeskNow V) (b : ℕ) (vacant : Bool) (y : V) (adds : AddsEvent d (event.Finish (latest_of d b) vacant y) e) (x : V) → IsEnding d b x
         → (f : Ending) (es : List Ending) → f.block.0 ≡ b → f.stage ≡ 3 → (log : List Said)
-        → Takes worth d (walk_at (f ∷ es)) log e (walk_at es) log
+        → TakesThread worth d (walk_at (f ∷ es)) log e (walk_at es) log
     finishes d e b vacant y adds x ends f es block stage log part n tells =
-        let s = calls.before V adds in
+        let s = calls.state_before_event V adds in
         let v = event.Finish (latest_of d b) vacant y in
         let u : Walk = record rest { endings = es } in
-        let next : Finishes s (record rest { endings = f ∷ es }) f es (doing d.name (Some v) (silent f.statement)) u = record {
+        let next : FinishesEnding s (record rest { endings = f ∷ es }) f es (doing d.name (Some v) (silent f.statement)) u = record {
           vacant = vacant;
           value = y;
           none = omega (arith, stage);
@@ -235,10 +236,10 @@ module _ {V : Type 0} (worth : Form → V) where
           says = refl;
           goes = refl;
         } in
-        let does : Does worth s (record rest { endings = f ∷ es }) (doing d.name (Some v) (silent f.statement)) u =
+        let does : DoesNext worth s (record rest { endings = f ∷ es }) (doing d.name (Some v) (silent f.statement)) u =
         subst (λ (a : Ahead). DoesAhead worth s (record rest { endings = f ∷ es }) (doing d.name (Some v) (silent f.statement)) u a)
-        (sym (cond-false (is_full (slot rest.slots (hand rest.slots))) _ _ (ap (λ q. is_full (pointer_of q)) empty_hand))) (inr next) in
-        subst (λ w. Tells worth part n e w log) (sym (walk_is es))
-        (subst (λ l. Tells worth part n e u l) (append-nil log)
+        (sym (cond-false (is_full (slot_pointer rest.slots (hand rest.slots))) _ _ (ap (λ q. is_full (pointer_of q)) empty_hand))) (inr next) in
+        subst (λ w. TellsThread worth part n e w log) (sym (walk_is es))
+        (subst (λ l. TellsThread worth part n e u l) (append-nil log)
         (by_event d e v adds (record rest { endings = f ∷ es }) u log (silent f.statement) does part n
-        (subst (λ w. Tells worth part n d w log) (walk_is (f ∷ es)) tells)))
+        (subst (λ w. TellsThread worth part n d w log) (walk_is (f ∷ es)) tells)))

@@ -3,8 +3,8 @@ use Rattle.std.proofs.Common.{arith, length, ◌≡◌, ℕ, ◌<◌, Bool, true
 use Rattle.std.proofs.Common.{inl, inr}
 use Rattle.std.proofs.lemmas.List.{length-set, set-set}
 use Rattle.std.specs.Prelude.{option_map, slice_get, slice_set}
-use Rattle.control_block.specs.CellCalls.{cell_at as desk_cell, handle_in}
-use Rattle.control_block.specs.Desks.{state_of, Adds, DeskNow, HasHandle}
+use Rattle.control_block.specs.CellCalls.{cell_of_site as desk_cell, handle_in}
+use Rattle.control_block.specs.Desks.{state_of, AddsEvent, DeskNow, HasHandle}
 use Rattle.control_block.specs.declared.cell_calls.Site.{Site}
 use Rattle.control_block.specs.declared.handles.Held.TheVariants.{Owner, Weak}
 use Rattle.control_block.specs.declared.handles.Held.{Held}
@@ -20,9 +20,9 @@ use Rattle.control_word.specs.declared.handle.Kind.TheVariants as kind
 use Rattle.control_word.specs.declared.handle.Kind.{Kind}
 use Rattle.control_word.specs.declared.place.Block.{Block}
 use Rattle.handle_table.specs.Calls.{LeavesSlot}
-use Rattle.handle_table.specs.Cells.{Exchanges, kind_in}
-use Rattle.handle_table.specs.Parts.{kind_of, owned_by, place_of}
-use Rattle.handle_table.specs.Tables.{Fits, IsAt, TableNow}
+use Rattle.handle_table.specs.Cells.{ExchangesSlot, kind_of_cell}
+use Rattle.handle_table.specs.Parts.{kind_of_held, block_of_held, place_of_held}
+use Rattle.handle_table.specs.Tables.{FitsSlots, IsAt, TableNow}
 use Rattle.script_runner.proofs.Calling as law
 use Rattle.script_runner.proofs.Celled.{IsFound, came_slot, is_found}
 use Rattle.script_runner.proofs.Putting.{slice_get-set_same}
@@ -30,15 +30,15 @@ use Rattle.script_runner.proofs.Seating as seating
 use Rattle.script_runner.proofs.Takings.{copies_taken, weak_nowhere}
 use Rattle.script_runner.specs.Calls as calls
 use Rattle.script_runner.specs.CellCalls.{ExchangesIn, OffersIn, as_cell}
-use Rattle.script_runner.specs.Seats.{Acts, Done, IsSeated, as_slot, shown}
-use Rattle.step_table.specs.CellDeeds.{kind_in as kind_there}
+use Rattle.script_runner.specs.Seats.{Acts, Done, IsSeated, as_slot, shown_slots}
+use Rattle.step_table.specs.CellDeeds.{kind_in_state as kind_there}
 use Rattle.step_table.specs.Contents as contents
 use Rattle.step_table.specs.Contents.{is_of, slot_by, slot_of}
-use Rattle.step_table.specs.Holdings.{plain, pointer_of, slot, value}
+use Rattle.step_table.specs.Holdings.{plain, pointer_of, slot_pointer, slot_value}
 use Rattle.step_table.specs.declared.form.Form.{Form}
 use Rattle.step_table.specs.declared.slot.Slot.{Slot}
-use Rattle.step_threads.specs.Courses.{cell_at, fitting, hand as hand_of, offered}
-use Rattle.step_threads.specs.Doings.{Swaps, Where, copy}
+use Rattle.step_threads.specs.Courses.{cell_of_name, fitting, hand as hand_of, offered}
+use Rattle.step_threads.specs.Doings.{IsSwapEvent, Where, copy}
 use Rattle.step_threads.specs.Programs.{kind_at}
 use Rattle.step_threads.specs.Rows.{Came, Plain, may_go}
 use Rattle.step_threads.specs.Scenes.{Hands}
@@ -46,7 +46,7 @@ use Rattle.step_threads.specs.declared.act.Act.TheVariants as act
 use Rattle.step_threads.specs.declared.call.CellName.{CellName}
 
 -- a handle's own kind
-pub is_of_own : (h : Held) (k : Kind) → kind_of h ≡ k → is_of k (as_slot (Some h)) ≡ true
+pub is_of_own : (h : Held) (k : Kind) → kind_of_held h ≡ k → is_of k (as_slot (Some h)) ≡ true
 is_of_own (Owner h) k e = subst (λ q. is_of q (as_slot (Some (Owner h))) ≡ true) e (go h.block)
   where
     go : (b : Option Block) → is_of kind.Owner (slot_by kind.Owner b h.place) ≡ true
@@ -65,68 +65,73 @@ module _ (V : Type 0) where
 
 module _ {V : Type 0} where
   -- what a slot has, as a history names it when the desk's event comes
-  pub told_as : (m i : ℕ) (t : TableNow V) (e : DeskNow V) (v : Event V) (adds : Adds t.desk v e) (h : Held) (k : Kind) → Fits t.desk t.slots → i < m
-      → IsAt t i h → kind_of h ≡ k
-      → contents.told (calls.before V adds) k (value (shown m t.slots) i) ≡ handle_in t.desk k (owned_by h) (place_of h)
+  pub told_as : (m i : ℕ) (t : TableNow V) (e : DeskNow V) (v : Event V) (adds : AddsEvent t.desk v e) (h : Held) (k : Kind)
+      → FitsSlots t.desk t.slots → i < m
+      → IsAt t i h → kind_of_held h ≡ k
+      → contents.named_handle (calls.state_before_event V adds) k (slot_value (shown_slots m t.slots) i) ≡ handle_in t.desk k (block_of_held h)
+      (place_of_held h)
   told_as m i t e v adds h k fits lt at same =
-      ap (λ x. contents.told (calls.before V adds) k x) (seating.shown_at m t.slots i (Some h) lt at) ∙ go (owned_by h) refl
+      ap (λ x. contents.named_handle (calls.state_before_event V adds) k x) (seating.shown_at m t.slots i (Some h) lt at) ∙ go (block_of_held h) refl
     where
-      go : (b : Option Block) → owned_by h ≡ b
-          → contents.told (calls.before V adds) k (slot_by (kind_of h) b (place_of h)) ≡ handle_in t.desk k b (place_of h)
+      go : (b : Option Block) → block_of_held h ≡ b
+          → contents.named_handle (calls.state_before_event V adds) k (slot_by (kind_of_held h) b (place_of_held h)) ≡ handle_in t.desk k b
+          (place_of_held h)
       go None none = refl
       go (Some b) some =
-          (λ j. handle (same j) (Some ((calls.before V adds).latest b.0)) (place_of h))
-          ∙ ap (λ o. handle k (Some o) (place_of h))
-          (law.held_latest t.desk e v adds (kind_of h) (place_of h) b.0 (seating.has_object t.desk t.slots i h b fits at some))
+          (λ j. handle (same j) (Some ((calls.state_before_event V adds).latest b.0)) (place_of_held h))
+          ∙ ap (λ o. handle k (Some o) (place_of_held h))
+          (law.held_latest t.desk e v adds (kind_of_held h) (place_of_held h) b.0 (seating.has_object t.desk t.slots i h b fits at some))
 
 module _ {V : Type 0} (worth : Form → V) (m i hand : ℕ) (taken : Bool) (t u : TableNow V) (c : CellName) where
   -- what the slot has may go into the cell
-  pub may_exchange : IsSeated m hand t → i < m → (x : Exchanges t i (as_cell c) u) → IsFound t (shown m t.slots) c x.swaps.site
-      → may_go (shown m t.slots) c i ≡ true
+  pub may_exchange : IsSeated m hand t → i < m → (x : ExchangesSlot t i (as_cell c) u) → IsFound t (shown_slots m t.slots) c x.swaps.site
+      → may_go (shown_slots m t.slots) c i ≡ true
   may_exchange is below x found =
-      (λ j. found.there j && is_of (kind_at c) (value (shown m t.slots) i))
+      (λ j. found.there j && is_of (kind_at c) (slot_value (shown_slots m t.slots) i))
       ∙ (ap (λ y. is_of (kind_at c) y) (seating.shown_at m t.slots i (Some x.swaps.of) below x.swaps.at)
       ∙ is_of_own x.swaps.of (kind_at c) (x.swaps.kinds.0 ∙ found.kind))
 
-  pub exchanges_in : IsSeated m hand t → IsSeated m hand u → i < m → (x : Exchanges t i (as_cell c) u) → IsFound t (shown m t.slots) c x.swaps.site
+  pub exchanges_in : IsSeated m hand t → IsSeated m hand u → i < m → (x : ExchangesSlot t i (as_cell c) u)
+      → IsFound t (shown_slots m t.slots) c x.swaps.site
       → (y : Slot) × Acts worth m t taken (act.Exchange i c) (Came y) u
   exchanges_in is then below x found =
       let w = x.swaps in
-      let q = kind_in (as_cell c) in
+      let q = kind_of_cell (as_cell c) in
       let within : i < length t.slots = let a = is.many in omega (arith, a, below) in
       let a = x.assigns in
       let free : a.old ≡ None = seating.same_some a.old None (sym a.was ∙ slice_get-set_same t.slots i None within) in
       let went : LeavesSlot x.between t.endings None u.desk u.endings = subst (λ s. LeavesSlot x.between t.endings s u.desk u.endings) free a.leaves in
-      let new = handle_in t.desk q (owned_by w.of) (place_of w.of) in
-      let v : Event V = event.Swap (desk_cell t.desk w.site) new (handle_in u.desk q (owned_by x.old) (place_of x.old)) in
-      let adds : Adds t.desk v u.desk =
-      subst (λ d. Adds t.desk (event.Swap (desk_cell t.desk w.site) new (handle_in d q (owned_by x.old) (place_of x.old))) d) (sym went.0) w.exchanges in
-      let s = calls.before V adds in
-      let l = shown m t.slots in
+      let new = handle_in t.desk q (block_of_held w.of) (place_of_held w.of) in
+      let v : Event V = event.Swap (desk_cell t.desk w.site) new (handle_in u.desk q (block_of_held x.old) (place_of_held x.old)) in
+      let adds : AddsEvent t.desk v u.desk =
+      subst (λ d. AddsEvent t.desk (event.Swap (desk_cell t.desk w.site) new (handle_in d q (block_of_held x.old) (place_of_held x.old))) d) (sym went.0)
+      w.exchanges in
+      let s = calls.state_before_event V adds in
+      let l = shown_slots m t.slots in
       let there : slice_get u.slots i ≡ Some (Some x.old) =
       ap (λ ss. slice_get ss i) a.slots
       ∙ slice_get-set_same (slice_set t.slots i None) i (Some x.old) (let b = length-set t.slots i None in omega (arith, b, within)) in
-      let has : (b : Block) → owned_by x.old ≡ Some b → HasHandle u.desk q (place_of x.old) b.0 =
-      λ b e. subst (λ y. HasHandle u.desk y (place_of x.old) b.0) w.kinds.1 (seating.has_object u.desk u.slots i x.old b then.fits there e) in
-      let came : as_slot (Some x.old) ≡ slot_of s (handle_in u.desk q (owned_by x.old) (place_of x.old)) =
-      ap (λ y. slot_by y (owned_by x.old) (place_of x.old)) w.kinds.1
-      ∙ came_slot t.desk u.desk v adds q (place_of x.old) (owned_by x.old)
-      (swap_made V (desk_cell t.desk w.site) new (handle_in u.desk q (owned_by x.old) (place_of x.old))) has in
-      let kinds : kind_there s (cell_at s l c) ≡ q = found.kinds v u.desk adds ∙ sym found.kind in
-      let makes : Swaps s l c i (as_slot (Some x.old)) (Some v) = (
-        handle_in u.desk q (owned_by x.old) (place_of x.old),
+      let has : (b : Block) → block_of_held x.old ≡ Some b → HasHandle u.desk q (place_of_held x.old) b.0 =
+      λ b e. subst (λ y. HasHandle u.desk y (place_of_held x.old) b.0) w.kinds.1 (seating.has_object u.desk u.slots i x.old b then.fits there e) in
+      let came : as_slot (Some x.old) ≡ slot_of s (handle_in u.desk q (block_of_held x.old) (place_of_held x.old)) =
+      ap (λ y. slot_by y (block_of_held x.old) (place_of_held x.old)) w.kinds.1
+      ∙ came_slot t.desk u.desk v adds q (place_of_held x.old) (block_of_held x.old)
+      (swap_made V (desk_cell t.desk w.site) new (handle_in u.desk q (block_of_held x.old) (place_of_held x.old))) has in
+      let kinds : kind_there s (cell_of_name s l c) ≡ q = found.kinds v u.desk adds ∙ sym found.kind in
+      let makes : IsSwapEvent s l c i (as_slot (Some x.old)) (Some v) = (
+        handle_in u.desk q (block_of_held x.old) (place_of_held x.old),
         (λ j. Some (event.Swap (sym (found.named v u.desk adds) j)
-            ((sym (ap (λ k. contents.told s k (value l i)) kinds ∙ told_as m i t u.desk v adds w.of q is.fits below w.at w.kinds.0)) j)
-            (handle_in u.desk q (owned_by x.old) (place_of x.old)))),
+            ((sym (ap (λ k. contents.named_handle s k (slot_value l i)) kinds ∙ told_as m i t u.desk v adds w.of q is.fits below w.at w.kinds.0)) j)
+            (handle_in u.desk q (block_of_held x.old) (place_of_held x.old)))),
         came,
       ) in
       let may : may_go l c i ≡ true =
-      (λ j. found.there j && is_of (kind_at c) (value l i))
+      (λ j. found.there j && is_of (kind_at c) (slot_value l i))
       ∙ (ap (λ y. is_of (kind_at c) y) (seating.shown_at m t.slots i (Some w.of) below w.at) ∙ is_of_own w.of (kind_at c) (w.kinds.0 ∙ found.kind)) in (
         as_slot (Some x.old),
         record {
-          done = inr (v, adds, subst (λ b. Where b (Swaps s l c i (as_slot (Some x.old)) (Some v)) (Some v ≡ None)) (sym may) makes);
-          slots = ap (shown m) a.slots
+          done = inr (v, adds, subst (λ b. Where b (IsSwapEvent s l c i (as_slot (Some x.old)) (Some v)) (Some v ≡ None)) (sym may) makes);
+          slots = ap (shown_slots m) a.slots
               ∙ (seating.shown_set m (slice_set t.slots i None) i (Some x.old)
               ∙ (ap (λ k. slice_set k i (as_slot (Some x.old))) (seating.shown_set m t.slots i None)
               ∙ (set-set l i plain (as_slot (Some x.old))
@@ -136,27 +141,28 @@ module _ {V : Type 0} (worth : Form → V) (m i hand : ℕ) (taken : Bool) (t u 
       )
 
   -- a copy that is to go into a cell
-  offers_in : i < m → (h : Held) → IsAt t i h → kind_of h ≡ kind_at c → (at : Site) → IsFound t (shown m t.slots) c at
+  offers_in : i < m → (h : Held) → IsAt t i h → kind_of_held h ≡ kind_at c → (at : Site) → IsFound t (shown_slots m t.slots) c at
       → Acts worth m t taken (act.Share i) Plain u → Acts worth m t taken (act.Offer i c) Plain u
   offers_in lt h is same at found a =
-      let l = shown m t.slots in
-      let own : is_of (kind_at c) (value l i) ≡ true =
+      let l = shown_slots m t.slots in
+      let own : is_of (kind_at c) (slot_value l i) ≡ true =
       ap (λ y. is_of (kind_at c) y) (seating.shown_at m t.slots i (Some h) lt is) ∙ is_of_own h (kind_at c) same in
-      let fit : fitting (kind_at c) (value l i) ≡ value l i = ap (λ b. cond b (value l i) plain) own in
-      let offer : offered l i c ≡ slot l i =
-      ap (λ b. cond b (pointer_of (fitting (kind_at c) (value l i))) None) found.there ∙ ap pointer_of fit in
+      let fit : fitting (kind_at c) (slot_value l i) ≡ slot_value l i = ap (λ b. cond b (slot_value l i) plain) own in
+      let offer : offered l i c ≡ slot_pointer l i =
+      ap (λ b. cond b (pointer_of (fitting (kind_at c) (slot_value l i))) None) found.there ∙ ap pointer_of fit in
       record {
         done = as_offer offer a.done;
         slots = a.slots
             ∙ (ap (λ x. slice_set l (hand_of l) x) (sym fit)
-            ∙ ap (λ b. (cond {A = Hands} b (slice_set l (hand_of l) (fitting (kind_at c) (value l i)), true) (l, taken)).0) (sym found.there));
+            ∙ ap (λ b. (cond {A = Hands} b (slice_set l (hand_of l) (fitting (kind_at c) (slot_value l i)), true) (l, taken)).0) (sym found.there));
         ends = a.ends;
       }
     where
-      as_offer : offered (shown m t.slots) i c ≡ slot (shown m t.slots) i → Done worth t.desk (shown m t.slots) (act.Share i) Plain u.desk
-          → Done worth t.desk (shown m t.slots) (act.Offer i c) Plain u.desk
+      as_offer : offered (shown_slots m t.slots) i c ≡ slot_pointer (shown_slots m t.slots) i
+          → Done worth t.desk (shown_slots m t.slots) (act.Share i) Plain u.desk
+          → Done worth t.desk (shown_slots m t.slots) (act.Offer i c) Plain u.desk
       as_offer e (inl x) = inl (x.0, x.1 ∙ ap (λ y. option_map (copy {V = V} (state_of t.desk)) y) (sym e))
-      as_offer e (inr x) = inr (x.0, x.1, x.2 ∙ ap (λ y. option_map (copy {V = V} (calls.before V x.1)) y) (sym e))
+      as_offer e (inr x) = inr (x.0, x.1, x.2 ∙ ap (λ y. option_map (copy {V = V} (calls.state_before_event V x.1)) y) (sym e))
 
 module _ {V : Type 0} where
   pub exchanges : ExchangesIn V

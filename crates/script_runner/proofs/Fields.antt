@@ -20,7 +20,7 @@ use Rattle.handle_table.specs.Ends.{IsMadeAs}
 use Rattle.handle_table.specs.declared.ends.Remains.TheVariants as table
 use Rattle.handle_table.specs.declared.ends.Remains.{Remains}
 use Rattle.script_runner.proofs.Ending.{not_none}
-use Rattle.script_runner.specs.EndCalls.{IsFour, RemainsIn, ended_of}
+use Rattle.script_runner.specs.EndCalls.{IsFour, RemainsIn, remains_ended}
 use Rattle.step_table.specs.Deeds.{remains}
 use Rattle.step_table.specs.declared.ended.Ended.TheVariants as ended
 
@@ -38,7 +38,7 @@ same_lists (x ∷ xs) (y ∷ ys) e h =
     λ i. h 0 (omega arith) i ∷ rest i
 
 -- what a table tells of it
-told_as : (o : Object) (r : Remains) → length o.fields ≡ 4 → IsFour r → IsMadeAs o r → ended_of r ≡ remains o
+told_as : (o : Object) (r : Remains) → length o.fields ≡ 4 → IsFour r → IsMadeAs o r → remains_ended r ≡ remains o
 told_as o table.Null four is made = ap (λ b. cond b ended.Null (ended.Fields o.fields)) (sym made)
 told_as o (table.Fields fields) four is made =
     ap ended.Fields (same_lists fields o.fields (is ∙ sym four) (λ k lt. made.1 k (omega (arith, lt, is))))

@@ -2,7 +2,7 @@
 use Rattle.std.proofs.Common.{◌≡◌, ℕ, ◌<◌, Bool, true, Option, Some, None, refl, sym, ap, subst, ◌∙◌, inl, inr, nat_lt}
 use Rattle.std.specs.Prelude.{option_map, slice_set}
 use Rattle.control_block.proofs.Bags.{shown_held}
-use Rattle.control_block.specs.Desks.{Adds, DeskNow, latest_of, object_in, on_latest, state_of}
+use Rattle.control_block.specs.Desks.{AddsEvent, DeskNow, latest_of, object_in, on_latest, state_of}
 use Rattle.control_block.specs.Rule.{opening_of}
 use Rattle.control_block.specs.declared.handles.Held.TheVariants.{Owner, Weak}
 use Rattle.control_block.specs.declared.handles.Held.{Held}
@@ -18,23 +18,23 @@ use Rattle.control_word.specs.declared.place.Block.{Block}
 use Rattle.control_word.specs.declared.place.Place.{Place}
 use Rattle.handle_table.specs.Calls.{PointsTo}
 use Rattle.handle_table.specs.Pairs.{AreInOrder, PointAlike}
-use Rattle.handle_table.specs.Parts.{kind_of, owned_by, place_of}
+use Rattle.handle_table.specs.Parts.{kind_of_held, block_of_held, place_of_held}
 use Rattle.handle_table.specs.Tables.{IsAt, TableNow}
 use Rattle.handle_table.specs.This.{SharesThis, SharesThisWeakly}
 use Rattle.script_runner.proofs.Calling as law
 use Rattle.script_runner.proofs.Looking.{place_shown, within}
 use Rattle.script_runner.proofs.Seating.{has_pointer, no_pointer, came_in, in_hand, same_some}
 use Rattle.script_runner.proofs.Takings.{stayed}
-use Rattle.script_runner.specs.Seats.{Acts, IsSeated, shown, IsHand}
-use Rattle.script_runner.specs.TableCalls.{Marks}
+use Rattle.script_runner.specs.Seats.{Acts, IsSeated, shown_slots, IsHand}
+use Rattle.script_runner.specs.TableCalls.{MarksAct}
 use Rattle.shared_handle.specs.Calls as inner
 use Rattle.shared_handle.specs.Endings.{MayGiveThis}
 use Rattle.step_table.specs.Contents.{slot_by}
 use Rattle.step_table.specs.Deeds.{handle_of, on, this_as}
-use Rattle.step_table.specs.Holdings.{slot}
+use Rattle.step_table.specs.Holdings.{slot_pointer}
 use Rattle.step_table.specs.declared.form.Form.{Form}
 use Rattle.step_threads.specs.Courses.{hand as hand_of}
-use Rattle.step_threads.specs.Doings.{comes_before}
+use Rattle.step_threads.specs.Doings.{answers_order}
 use Rattle.step_threads.specs.Rows.{Got, row}
 use Rattle.step_threads.specs.Scenes.{taking}
 use Rattle.step_threads.specs.declared.act.Act.TheVariants as act
@@ -55,29 +55,29 @@ module _ {V : Type 0} (worth : Form → V) (m i hand : ℕ) (taken : Bool) (t u 
   seated = record { fits = is.fits; stands = is.stands; many = is.many; last = is.last }
 
   this_slot : (k : Kind) (h : Shared) (q : Place) → IsAt t i (Owner h) → h.block ≡ Some q.block → h.place ≡ Some q
-      → slice_set (shown m t.slots) (hand_of (shown m t.slots)) (slot_by k (Some q.block) (place_at q.block.0))
-      ≡ (row (act.FromThis i k) (shown m t.slots) taken (Got true)).slots
+      → slice_set (shown_slots m t.slots) (hand_of (shown_slots m t.slots)) (slot_by k (Some q.block) (place_at q.block.0))
+      ≡ (row (act.FromThis i k) (shown_slots m t.slots) taken (Got true)).slots
   this_slot k h q at b p =
-      ap (λ x. (taking (shown m t.slots) true (option_map (this_as k) x)).0)
-      (sym (law.is_inside (shown m t.slots) i q (within worth m i hand taken t t seated lt h q at b p).at))
+      ap (λ x. (taking (shown_slots m t.slots) true (option_map (this_as k) x)).0)
+      (sym (law.is_inside (shown_slots m t.slots) i q (within worth m i hand taken t t seated lt h q at b p).at))
 
   gives_this : (of k : Shared) (q : Place) → IsAt t i (Owner of) → of.block ≡ Some q.block → of.place ≡ Some q
       → (object_in t.desk q.block.0).enabled ≡ true → k.block ≡ of.block → inner.IsOfThis k.block k.place
-      → inner.Shares t.desk of.block of.place k.place u.desk
+      → inner.SharesOwner t.desk of.block of.place k.place u.desk
       → u.slots ≡ slice_set t.slots hand (Some (Owner k)) → u.endings ≡ t.endings
       → Acts worth m t taken (act.FromThis i kind.Owner) (Got true) u
   gives_this of k q at b p on same this shares set ends =
       let block : k.block ≡ Some q.block = same ∙ b in
       let place : k.place ≡ place_at q.block.0 = subst (λ x. inner.IsOfThis x k.place) block this in
-      let adds : Adds t.desk (event.Share (on_latest t.desk kind.Owner (Some q) q.block.0) (place_at q.block.0)) u.desk =
-      subst (λ x. inner.Shares t.desk x (Some q) (place_at q.block.0) u.desk) b
-      (subst (λ x. inner.Shares t.desk of.block x (place_at q.block.0) u.desk) p
-      (subst (λ x. inner.Shares t.desk of.block of.place x u.desk) place shares)) in
+      let adds : AddsEvent t.desk (event.Share (on_latest t.desk kind.Owner (Some q) q.block.0) (place_at q.block.0)) u.desk =
+      subst (λ x. inner.SharesOwner t.desk x (Some q) (place_at q.block.0) u.desk) b
+      (subst (λ x. inner.SharesOwner t.desk of.block x (place_at q.block.0) u.desk) p
+      (subst (λ x. inner.SharesOwner t.desk of.block of.place x u.desk) place shares)) in
       record {
         done = inr (
           _,
           adds,
-          law.given_this worth t.desk.name t.desk u.desk (shown m t.slots) i q (within worth m i hand taken t u seated lt of q at b p) on adds,
+          law.given_this worth t.desk.name t.desk u.desk (shown_slots m t.slots) i q (within worth m i hand taken t u seated lt of q at b p) on adds,
         );
         slots = in_hand m hand t u (Owner k) _ is set (λ j. slot_by kind.Owner (block j) (place j)) ∙ this_slot kind.Owner of q at b p;
         ends = ends;
@@ -91,14 +91,14 @@ module _ {V : Type 0} (worth : Form → V) (m i hand : ℕ) (taken : Bool) (t u 
   gives_weak_this of k q at b p on same this shares set ends =
       let block : k.block ≡ Some q.block = same ∙ b in
       let place : k.place ≡ place_at q.block.0 = subst (λ x. inner.IsOfThis x k.place) block this in
-      let adds : Adds t.desk (event.WeakShare (latest_of t.desk q.block.0) (place_at q.block.0)) u.desk =
+      let adds : AddsEvent t.desk (event.WeakShare (latest_of t.desk q.block.0) (place_at q.block.0)) u.desk =
       subst (λ x. inner.SharesWeakly t.desk x (place_at q.block.0) u.desk) block
       (subst (λ x. inner.SharesWeakly t.desk k.block x u.desk) place shares) in
       record {
         done = inr (
           _,
           adds,
-          law.given_weak_this worth t.desk.name t.desk u.desk (shown m t.slots) i q (within worth m i hand taken t u seated lt of q at b p) on adds,
+          law.given_weak_this worth t.desk.name t.desk u.desk (shown_slots m t.slots) i q (within worth m i hand taken t u seated lt of q at b p) on adds,
         );
         slots = in_hand m hand t u (Weak k) _ is set (λ j. slot_by kind.Weak (block j) (place j)) ∙ this_slot kind.Weak of q at b p;
         ends = ends;
@@ -120,18 +120,18 @@ module _ {V : Type 0} (worth : Form → V) (m i hand : ℕ) (taken : Bool) (t u 
       gives_weak_this c.of k.comes.weak w.0 c.at w.1 w.2 w.3 e.0 e.1 e.2 (k.slots ∙ ap (λ x. slice_set t.slots hand (Some x)) k.comes.is) k.ends
 
 module _ {V : Type 0} (worth : Form → V) (m i j hand : ℕ) (taken : Bool) (t : TableNow V) (is : IsSeated m hand t) (lt : i < m) (less : j < m) where
-  asked_mark : (q : Question) (b : Bool) → b ≡ comes_before (state_of t.desk) (shown m t.slots) q → Acts worth m t taken (act.Ask q) (Got b) t
+  asked_mark : (q : Question) (b : Bool) → b ≡ answers_order (state_of t.desk) (shown_slots m t.slots) q → Acts worth m t taken (act.Ask q) (Got b) t
   asked_mark q b so = record { done = inl (stayed t.desk t.desk refl, (so, refl)); slots = refl; ends = refl }
 
   -- where a pointer points
-  pub places : (p : Option Place) → PointsTo t i p → Marks V worth m t taken (act.Ask (question.Place i)) (Got true) (answer.Place p)
+  pub places : (p : Option Place) → PointsTo t i p → MarksAct V worth m t taken (act.Ask (question.Place i)) (Got true) (answer.Place p)
   places p c = record {
     acts = asked_mark (question.Place i) true refl;
     says = ap (λ x. Some (answer.Place x)) (place_shown m i t (Owner c.0) lt c.1 ∙ sym c.2);
   }
 
   -- whether two point at one place
-  pub alike : (b : Bool) → PointAlike t i j b → Marks V worth m t taken (act.Ask (question.Same i j)) (Got true) (answer.Same b)
+  pub alike : (b : Bool) → PointAlike t i j b → MarksAct V worth m t taken (act.Ask (question.Same i j)) (Got true) (answer.Same b)
   alike b c = record {
     acts = asked_mark (question.Same i j) true refl;
     says = ap (λ x. Some (answer.Same x))
@@ -139,22 +139,22 @@ module _ {V : Type 0} (worth : Form → V) (m i j hand : ℕ) (taken : Bool) (t 
   }
 
   ranked : (k : ℕ) (h : Held) → k < m → IsAt t k h
-      → rank (blocks_of (state_of t.desk)) (on (handle_of (state_of t.desk)) (empty kind.Owner) (slot (shown m t.slots) k))
-      ≡ rank (λ (n : ℕ). n) (inner.by_number (owned_by h))
-  ranked k h few at = go (owned_by h) refl
+      → rank (blocks_of (state_of t.desk)) (on (handle_of (state_of t.desk)) (empty kind.Owner) (slot_pointer (shown_slots m t.slots) k))
+      ≡ rank (λ (n : ℕ). n) (inner.by_number (block_of_held h))
+  ranked k h few at = go (block_of_held h) refl
     where
-      go : (b : Option Block) → owned_by h ≡ b
-          → rank (blocks_of (state_of t.desk)) (on (handle_of (state_of t.desk)) (empty kind.Owner) (slot (shown m t.slots) k))
+      go : (b : Option Block) → block_of_held h ≡ b
+          → rank (blocks_of (state_of t.desk)) (on (handle_of (state_of t.desk)) (empty kind.Owner) (slot_pointer (shown_slots m t.slots) k))
           ≡ rank (λ (n : ℕ). n) (inner.by_number b)
       go None e = ap (λ x. rank (blocks_of (state_of t.desk)) (on (handle_of (state_of t.desk)) (empty kind.Owner) x)) (no_pointer m k t h few at e)
       go (Some b) e =
           let has = has_pointer m k t h b is.fits few at e in
-          let block = (shown_held (opening_of t.desk.shape) t.desk.seen t.desk.name (kind_of h) (place_of h) b.0 is.stands.legal has.has).1 in
+          let block = (shown_held (opening_of t.desk.shape) t.desk.seen t.desk.name (kind_of_held h) (place_of_held h) b.0 is.stands.legal has.has).1 in
           ap (λ x. rank (blocks_of (state_of t.desk)) (on (handle_of (state_of t.desk)) (empty kind.Owner) x)) has.at
           ∙ ap (λ n. rank (λ (q : ℕ). q) (handle kind.Owner (Some n) None)) block
 
   -- and whether the first comes before the other
-  pub in_order : (b : Bool) → AreInOrder t i j b → Marks V worth m t taken (act.Ask (question.Before i j)) (Got b) (answer.Before b)
+  pub in_order : (b : Bool) → AreInOrder t i j b → MarksAct V worth m t taken (act.Ask (question.Before i j)) (Got b) (answer.Before b)
   in_order b c = record {
     acts = asked_mark (question.Before i j) b
         (c.told ∙ (λ k. nat_lt (sym (ranked i c.one lt c.at.0) k) (sym (ranked j c.other less c.at.1) k)));

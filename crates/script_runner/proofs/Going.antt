@@ -3,14 +3,14 @@ use Rattle.std.proofs.Common.{◌≡◌, ℕ, List, [], ◌∷◌, ◌++◌, Opt
 use Rattle.std.proofs.lemmas.Bool.{cond-true}
 use Rattle.control_word.specs.declared.place.Block.{Block}
 use Rattle.script_runner.proofs.Ending.{by_event, by_mark, by_quiet}
-use Rattle.script_runner.specs.EndCalls.{Piled, Takes}
+use Rattle.script_runner.specs.EndCalls.{Piled, TakesThread}
 use Rattle.script_runner.specs.Goings.{ActsOn, PassesOver, task}
-use Rattle.script_runner.specs.Logs.{Tells, told}
-use Rattle.script_runner.specs.Seats.{Begun, Done, shown}
+use Rattle.script_runner.specs.Logs.{TellsThread, told_line}
+use Rattle.script_runner.specs.Seats.{Begun, Done, shown_slots}
 use Rattle.shared_handle.specs.declared.endings.Ending as pile
 use Rattle.step_threads.proofs.Courses.{settled_still}
-use Rattle.step_threads.specs.Courses.{idle, settled, slots_idle, taken_idle}
-use Rattle.step_threads.specs.Rows.{gone, row, said_by_row, with_end}
+use Rattle.step_threads.specs.Courses.{idle, walk_settled, slots_idle, taken_idle}
+use Rattle.step_threads.specs.Rows.{walk_after_act, row, said_by_row, with_end}
 use Rattle.step_threads.specs.declared.act.Task.{Task}
 use Rattle.step_threads.specs.declared.said.Said.{Said}
 
@@ -21,32 +21,38 @@ module _ {V : Type 0} where
 
   pub acts_on : ActsOn V
   acts_on worth m k t u taken a r none busy acts =
-      let l = shown m t.slots in
+      let l = shown_slots m t.slots in
       let y = row a l taken r in
       record {
         endings = with_end k y.ending [];
         piled = begun_piled k t.endings u.endings y.ending none acts.ends;
         takes = λ todo log part n tells.
-            subst (λ q. Tells worth part n u.desk q (log ++ told (said_by_row k y)))
-            (ap (λ s. settled s y.taken (with_end k y.ending []) todo) (sym acts.slots))
-            (did acts.done todo log part n (subst (λ q. Tells worth part n t.desk q log) (settled_still l taken [] (task k a) todo busy) tells));
+            subst (λ q. TellsThread worth part n u.desk q (log ++ told_line (said_by_row k y)))
+            (ap (λ s. walk_settled s y.taken (with_end k y.ending []) todo) (sym acts.slots))
+            (did acts.done todo log part n (subst (λ q. TellsThread worth part n t.desk q log) (settled_still l taken [] (task k a) todo busy) tells));
       }
     where
-      did : Done worth t.desk (shown m t.slots) a r u.desk → (todo : List Task) (log : List Said)
-          → Takes worth t.desk (record { slots = shown m t.slots; taken = taken; endings = []; todo = task k a ∷ todo }) log u.desk
-          (gone (record { slots = shown m t.slots; taken = taken; endings = []; todo = task k a ∷ todo }) k todo (row a (shown m t.slots) taken r))
-          (log ++ told (said_by_row k (row a (shown m t.slots) taken r)))
+      did : Done worth t.desk (shown_slots m t.slots) a r u.desk → (todo : List Task) (log : List Said)
+          → TakesThread worth t.desk (record { slots = shown_slots m t.slots; taken = taken; endings = []; todo = task k a ∷ todo }) log u.desk
+          (walk_after_act (record {
+            slots = shown_slots m t.slots;
+            taken = taken;
+            endings = [];
+            todo =
+                task k a ∷ todo;
+          }) k todo (row a (shown_slots m t.slots) taken r))
+          (log ++ told_line (said_by_row k (row a (shown_slots m t.slots) taken r)))
       did (inl x) todo log =
-          by_mark worth t.desk u.desk x.0 _ _ log (said_by_row k (row a (shown m t.slots) taken r))
+          by_mark worth t.desk u.desk x.0 _ _ log (said_by_row k (row a (shown_slots m t.slots) taken r))
           (record { reply = r; makes = x.1; says = refl; goes = refl })
       did (inr x) todo log =
-          by_event worth t.desk u.desk x.0 x.1 _ _ log (said_by_row k (row a (shown m t.slots) taken r))
+          by_event worth t.desk u.desk x.0 x.1 _ _ log (said_by_row k (row a (shown_slots m t.slots) taken r))
           (record { reply = r; makes = x.2; says = refl; goes = refl })
 
   pub passes_over : PassesOver V
   passes_over worth m k t u taken a todo log quiet free same part n tells =
-      let l = shown m t.slots in
-      subst (λ q. Tells worth part n u.desk q log)
-      (cond-true (idle a l taken) (settled (slots_idle a l taken) (taken_idle a taken) [] todo) _ free
-      ∙ ap (λ s. settled s (taken_idle a taken) [] todo) (sym same))
-      (by_quiet worth t.desk u.desk quiet (settled l taken [] (task k a ∷ todo)) log part n tells)
+      let l = shown_slots m t.slots in
+      subst (λ q. TellsThread worth part n u.desk q log)
+      (cond-true (idle a l taken) (walk_settled (slots_idle a l taken) (taken_idle a taken) [] todo) _ free
+      ∙ ap (λ s. walk_settled s (taken_idle a taken) [] todo) (sym same))
+      (by_quiet worth t.desk u.desk quiet (walk_settled l taken [] (task k a ∷ todo)) log part n tells)

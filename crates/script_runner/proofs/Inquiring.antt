@@ -19,12 +19,12 @@ use Rattle.script_runner.proofs.TableLaws as law
 use Rattle.script_runner.proofs.Takings.{same_call}
 use Rattle.std.specs.Prelude.{IfSome}
 use Rattle.handle_table.specs.declared.fault.Fault.{Fault}
-use Rattle.script_runner.specs.Deals.{IsActed, NotGiven, field_0, held}
+use Rattle.script_runner.specs.Deals.{IsActed, NotGiven, field_0, thread_slots}
 use Rattle.script_runner.specs.Seats.{IsSeated}
-use Rattle.script_runner.specs.TableCalls.{IsAway, Marks}
+use Rattle.script_runner.specs.TableCalls.{IsAway, MarksAct}
 use Rattle.script_runner.specs.declared.went.Went.{Went}
 use Rattle.shared_handle.specs.Endings.{IsRead}
-use Rattle.step_table.specs.Holdings.{inside, is_full, place_in, slot}
+use Rattle.step_table.specs.Holdings.{inside, is_full, place_in, slot_pointer}
 use Rattle.step_threads.specs.Courses.{idle}
 use Rattle.step_threads.specs.Rows.{Got, Reply, Told, row}
 use Rattle.step_threads.specs.Scenes.{outside}
@@ -35,14 +35,14 @@ use Rattle.step_threads.specs.declared.said.Answer.TheVariants as answer
 use Rattle.step_threads.specs.declared.said.Answer.{Answer}
 
 -- a mark, with its answer
-pub marked : (hand : ℕ) (t : TableNow ℕ) (taken : Bool) (a : Act) (r : Reply) (says : Answer) (x : Bool) → idle a (held hand t) taken ≡ false
-    → Marks ℕ field_0 (hand + 1) t taken a r says
-    → x ≡ (row a (held hand t) taken r).taken → None ≡ (row a (held hand t) taken r).ended
+pub marked : (hand : ℕ) (t : TableNow ℕ) (taken : Bool) (a : Act) (r : Reply) (says : Answer) (x : Bool) → idle a (thread_slots hand t) taken ≡ false
+    → MarksAct ℕ field_0 (hand + 1) t taken a r says
+    → x ≡ (row a (thread_slots hand t) taken r).taken → None ≡ (row a (thread_slots hand t) taken r).ended
     → IsActed hand t taken a (went x (Some says)) t
 marked hand t taken a r says x busy m takes tells = acted_as hand t t taken a r (went x (Some says)) busy m.acts takes (sym m.says) tells
 
 module _ (hand i : ℕ) (taken : Bool) (t u : TableNow ℕ) (is : IsSeated (hand + 1) hand t) (lt : i < hand) where
-  pub counted : (n : ℕ) → calls.Counts t i n u → IsActed hand t taken (act.Count i) (went taken (Some (answer.Count n))) u
+  pub counted : (n : ℕ) → calls.CountsSlot t i n u → IsActed hand t taken (act.Count i) (went taken (Some (answer.Count n))) u
   counted n c =
       acted hand t u taken (act.Count i) (Told n) refl (law.counts field_0 (hand + 1) i hand taken t u is (below hand i lt) n c)
 
@@ -50,21 +50,22 @@ module _ (hand i : ℕ) (taken : Bool) (t u : TableNow ℕ) (is : IsSeated (hand
   expires so c =
       acted hand t u taken (act.Expired i) (Got so) refl (law.expires field_0 (hand + 1) i hand taken t u is (below hand i lt) so c)
 
-  pub read : (n : ℕ) → calls.Reads t i (Ok n) u → IsActed hand t taken (act.Read i) (went taken (Some (answer.Read n))) u
+  pub read : (n : ℕ) → calls.ReadsSlot t i (Ok n) u → IsActed hand t taken (act.Read i) (went taken (Some (answer.Read n))) u
   read n c =
       let q = c.event.0 in
       let has = within field_0 (hand + 1) i hand taken t u is (below hand i lt) c.of q c.was c.event.2 c.event.1 in
-      let there : is_full (inside (slot (held hand t) i)) ≡ true = ap is_full (is_inside (held hand t) i q has.at) in
+      let there : is_full (inside (slot_pointer (thread_slots hand t) i)) ≡ true = ap is_full (is_inside (thread_slots hand t) i q has.at) in
       acted_as hand t u taken (act.Read i) (Told n) (went taken (Some (answer.Read n))) refl
       (law.reads field_0 (hand + 1) i hand taken t u is (below hand i lt) n c) refl
-      (ap Some (sym (cond-true (is_full (inside (slot (held hand t) i))) (answer.Read n) (outside (place_in (held hand t) i)) there))) refl
+      (ap Some (sym (cond-true (is_full (inside (slot_pointer (thread_slots hand t) i))) (answer.Read n) (outside (place_in (thread_slots hand t) i)) there)))
+      refl
 
   away : (h : Shared) (r : Refusal) → IsRead t.desk h.block h.place (Err r) u.desk → IsAway h.block h.place r × (u.desk ≡ t.desk)
   away h refusal.Null x = x
   away h refusal.Outside x = x
   away h r x = absurd x
 
-  pub read_not : (r : Refusal) → calls.Reads t i (Err r) u → IsActed hand t taken (act.Read i) (went taken (Some (answer.Refused r))) u
+  pub read_not : (r : Refusal) → calls.ReadsSlot t i (Err r) u → IsActed hand t taken (act.Read i) (went taken (Some (answer.Refused r))) u
   read_not r c =
       let x = away c.of r c.event in
       let same : u ≡ t = λ j. record { desk = x.1 j; slots = c.rest.0 j; endings = c.rest.1 j } in
@@ -119,4 +120,4 @@ not_read hand i taken t u why r is lt call (inl (inl c)) = absurd (subst (λ w. 
 not_read hand i taken t u why r is lt call (inl (inr c)) = let e = sym call ∙ c.0 in absurd cc
 not_read hand i taken t u why r is lt call (inr c) =
     let same : c.0 ≡ r = same_call c.0 r (sym c.1 ∙ call) in
-    read_not hand i taken t u is lt r (subst (λ q. calls.Reads t i (Err q) u) same c.2)
+    read_not hand i taken t u is lt r (subst (λ q. calls.ReadsSlot t i (Err q) u) same c.2)

@@ -3,7 +3,7 @@ use Rattle.std.proofs.Common.{inr}
 use Rattle.std.proofs.Common.{◌≡◌, ℕ, Bool, true, false, List, ◌∷◌, ◌++◌, Option, Some, None, refl, sym, ap, subst, ◌∙◌, inl}
 use Rattle.control_block.proofs.Bags.{shown_held}
 use Rattle.control_block.proofs.Latest.{calls_keep_latest}
-use Rattle.control_block.specs.Desks.{Adds, DeskNow, HasHandle, latest_of, object_in, on_latest, state_of}
+use Rattle.control_block.specs.Desks.{AddsEvent, DeskNow, HasHandle, latest_of, object_in, on_latest, state_of}
 use Rattle.control_block.specs.Rule.{opening_of}
 use Rattle.control_block.specs.declared.handles.Held.TheVariants.{Owner, Weak}
 use Rattle.control_block.specs.declared.handles.Held.{Held}
@@ -21,12 +21,12 @@ use Rattle.control_word.specs.declared.handle.Kind.{Kind}
 use Rattle.control_word.specs.declared.place.Block.{Block}
 use Rattle.control_word.specs.declared.place.Place.{Place}
 use Rattle.handle_table.specs.Calls.{LeavesSlot, LetsGo}
-use Rattle.handle_table.specs.Parts.{kind_of, owned_by, place_of}
+use Rattle.handle_table.specs.Parts.{kind_of_held, block_of_held, place_of_held}
 use Rattle.handle_table.specs.Tables as table
 use Rattle.script_runner.proofs.Calling as law
 use Rattle.script_runner.proofs.Seating.{quietly}
 use Rattle.script_runner.specs.Calls as calls
-use Rattle.script_runner.specs.Seats.{Begun, Done, IsTold}
+use Rattle.script_runner.specs.Seats.{Begun, Done, IsToldEnding}
 use Rattle.shared_handle.specs.Calls as inner
 use Rattle.shared_handle.specs.Endings.{IsLeft}
 use Rattle.shared_handle.specs.Piles.{piled}
@@ -35,18 +35,18 @@ use Rattle.shared_handle.specs.declared.endings.Left.TheVariants as left
 use Rattle.shared_handle.specs.declared.endings.Left.{Left}
 use Rattle.shared_handle.specs.declared.pile.Gone.{Gone}
 use Rattle.step_table.specs.Deeds.{remains}
-use Rattle.step_table.specs.Holdings.{Slots, slot}
+use Rattle.step_table.specs.Holdings.{Slots, slot_pointer}
 use Rattle.step_table.specs.declared.ended.Ended.{Ended}
 use Rattle.step_table.specs.declared.form.Form.{Form}
 use Rattle.step_table.specs.declared.holdings.Pointer.{Pointer}
-use Rattle.step_threads.specs.Doings.{Leaves}
+use Rattle.step_threads.specs.Doings.{IsLeaveEvent}
 use Rattle.step_threads.specs.Rows as rows
-use Rattle.step_threads.specs.Rows.{gone}
+use Rattle.step_threads.specs.Rows.{walk_after_act}
 use Rattle.step_threads.specs.declared.act.Act.{Act}
 
 module _ {V : Type 0} where
   -- what an object is made as is told alike after the desk's call
-  pub remains_kept : (d e : DeskNow V) (v : Event V) (adds : Adds d v e) (k : Kind) (p : Option Place) (b : ℕ) → HasHandle d k p b
+  pub remains_kept : (d e : DeskNow V) (v : Event V) (adds : AddsEvent d v e) (k : Kind) (p : Option Place) (b : ℕ) → HasHandle d k p b
       → remains (object_in d b) ≡ remains (object_in e b)
   remains_kept d e v adds k p b has =
       let z = opening_of d.shape in
@@ -63,16 +63,16 @@ module _ {V : Type 0} where
       ap (λ q. (state_of e).object q) last ∙ ap (λ (s : State). s.object o) se in
       law.same_remains (object_in d b) (object_in e b) (sym (ap (λ y. y.fields) x ∙ t.1)) (sym (ap (λ y. y.null) x ∙ t.3))
 
-module _ {V : Type 0} (worth : Form → V) (d e : DeskNow V) (l : Slots) (a : Act) (i : ℕ) (xs ys : List (Ending V)) (at : calls.LeavesSlot a l i) where
+module _ {V : Type 0} (worth : Form → V) (d e : DeskNow V) (l : Slots) (a : Act) (i : ℕ) (xs ys : List (Ending V)) (at : calls.IsLeaveOf a l i) where
   -- an act that leaves what slot i has
   pub record LeavesAs : Type 0 where
     pub last : Bool
     pub left : Option Ended
     pub done : Done worth d l a (rows.Left last left) e
-    pub ends : Begun xs (rows.ending_by last (slot l i)) ys
-    pub told : IsTold xs left e ys
+    pub ends : Begun xs (rows.ending_by last (slot_pointer l i)) ys
+    pub told : IsToldEnding xs left e ys
 
-  none_left : (n : ℕ) → e ≡ inner.counting n d → slot l i ≡ None → ys ≡ xs → LeavesAs
+  none_left : (n : ℕ) → e ≡ inner.counting n d → slot_pointer l i ≡ None → ys ≡ xs → LeavesAs
   none_left n is none same =
       record {
         last = false;
@@ -80,14 +80,14 @@ module _ {V : Type 0} (worth : Form → V) (d e : DeskNow V) (l : Slots) (a : Ac
         done = inl (
           quietly d e n is,
           law.by_slot worth (state_of d) d.name l a i false None None at
-              (subst (λ (x : Option Pointer). Leaves {V = V} (state_of d) x false None None) (sym none) (refl, refl, refl)),
+              (subst (λ (x : Option Pointer). IsLeaveEvent {V = V} (state_of d) x false None None) (sym none) (refl, refl, refl)),
         );
         ends = subst (λ (x : Option Pointer). Begun xs (rows.ending_by false x) ys) (sym none) same;
         told = same;
       }
 
   owner_left : (h : Shared) (gone : Gone) → ((b : Block) → h.block ≡ Some b → calls.HasPointer V d l i kind.Owner b h.place)
-      → (h.block ≡ None → slot l i ≡ None) → (y : Left V) → IsLeft d h.block h.place y e → ys ≡ piled xs y → LeavesAs
+      → (h.block ≡ None → slot_pointer l i ≡ None) → (y : Left V) → IsLeft d h.block h.place y e → ys ≡ piled xs y → LeavesAs
   owner_left h gone full none left.Empty leaves are = none_left _ leaves.1 (none leaves.0) are
   owner_left h gone full none left.Others leaves are =
       let c = leaves.0 in
@@ -122,7 +122,7 @@ module _ {V : Type 0} (worth : Form → V) (d e : DeskNow V) (l : Slots) (a : Ac
   begun_not true x w same = subst (λ k. Begun xs (rows.ending_as k x) ys) (sym w) same
 
   weak_left : (w : weak_handle.Weak) → ((b : Block) → w.block ≡ Some b → calls.HasPointer V d l i kind.Weak b w.place)
-      → (w.block ≡ None → slot l i ≡ None) → (vacant : Bool) → ys ≡ xs
+      → (w.block ≡ None → slot_pointer l i ≡ None) → (vacant : Bool) → ys ≡ xs
       → (b : Option Block) → w.block ≡ b → inner.LeavesWeakly d b w.place vacant e → LeavesAs
   weak_left w full none vacant same None is leaves = none_left _ leaves.0 (none is) same
   weak_left w full none vacant same (Some b) is leaves =
@@ -140,14 +140,14 @@ module _ {V : Type 0} (worth : Form → V) (d e : DeskNow V) (l : Slots) (a : Ac
         told = same;
       }
 
-  pub handle_left : (h : Held) (gone : Gone) → ((b : Block) → owned_by h ≡ Some b → calls.HasPointer V d l i (kind_of h) b (place_of h))
-      → (owned_by h ≡ None → slot l i ≡ None) → LetsGo d xs h gone e ys → LeavesAs
+  pub handle_left : (h : Held) (gone : Gone) → ((b : Block) → block_of_held h ≡ Some b → calls.HasPointer V d l i (kind_of_held h) b (place_of_held h))
+      → (block_of_held h ≡ None → slot_pointer l i ≡ None) → LetsGo d xs h gone e ys → LeavesAs
   handle_left (Owner h) gone full none drops = owner_left h gone full none drops.left drops.leaves drops.are
   handle_left (Weak w) gone full none leaves = weak_left w full none leaves.2.0 leaves.1 w.block refl leaves.2.1
 
   pub slot_left : (s : table.Slot)
-      → ((h : Held) (b : Block) → s ≡ Some h → owned_by h ≡ Some b → calls.HasPointer V d l i (kind_of h) b (place_of h))
-      → ((h : Held) → s ≡ Some h → owned_by h ≡ None → slot l i ≡ None) → (s ≡ None → slot l i ≡ None)
+      → ((h : Held) (b : Block) → s ≡ Some h → block_of_held h ≡ Some b → calls.HasPointer V d l i (kind_of_held h) b (place_of_held h))
+      → ((h : Held) → s ≡ Some h → block_of_held h ≡ None → slot_pointer l i ≡ None) → (s ≡ None → slot_pointer l i ≡ None)
       → LeavesSlot d xs s e ys → LeavesAs
   slot_left None full none vacant leaves = none_left d.held leaves.0 (vacant refl) leaves.1
   slot_left (Some h) full none vacant leaves = handle_left h leaves.0 (λ b. full h b refl) (none h refl) leaves.1

@@ -20,17 +20,17 @@ use Rattle.handle_table.specs.declared.fault.Fault.TheVariants.{Call}
 use Rattle.script_runner.proofs.Calling as law
 use Rattle.script_runner.proofs.Seating.{Came, came_in, hand_is, has_pointer, in_hand, no_pointer, quietly, shown_at}
 use Rattle.script_runner.proofs.Takings.{below_last, same_call, stayed}
-use Rattle.script_runner.specs.Seats.{Acts, Done, IsHand, as_slot, shown}
+use Rattle.script_runner.specs.Seats.{Acts, Done, IsHand, as_slot, shown_slots}
 use Rattle.script_runner.specs.TableCalls.{LocksIn, MakesIn, MakesNot, MakesNullIn, UpgradesIn, UpgradesNot, null_form}
 use Rattle.shared_handle.specs.Calls as inner
 use Rattle.shared_handle.specs.Locks as locks
 use Rattle.step_table.specs.Contents.{slot_by}
 use Rattle.step_table.specs.Deeds.{as_owner, owned}
-use Rattle.step_table.specs.Holdings.{plain, slot, value, weak_slot}
+use Rattle.step_table.specs.Holdings.{plain, slot_pointer, slot_value, weak_slot}
 use Rattle.step_table.specs.declared.form.Form.{Form}
 use Rattle.step_table.specs.declared.holdings.Pointer.{Pointer}
 use Rattle.step_threads.specs.Courses.{hand as hand_of}
-use Rattle.step_threads.specs.Doings.{Makes, On}
+use Rattle.step_threads.specs.Doings.{IsMakeEvent, On}
 use Rattle.step_threads.specs.Rows.{Found, Got}
 use Rattle.step_threads.specs.Scenes.{taking}
 use Rattle.step_threads.specs.declared.act.Act.TheVariants as act
@@ -38,8 +38,8 @@ use Rattle.step_threads.specs.declared.act.Act.TheVariants as act
 module _ {V : Type 0} (worth : Form → V) (m i hand : ℕ) (taken : Bool) (t u : TableNow V) (is : IsHand m hand t) (lt : i < m) where
   -- a lock
   locked_done : (w : weak_handle.Weak) (must got : Bool) → IsAt t i (Weak w) → (b : Option Block) → w.block ≡ b
-      → locks.Locks t.desk b w.place got u.desk
-      → Done worth t.desk (shown m t.slots) (act.Lock i must) (Got got) u.desk
+      → locks.LocksHandle t.desk b w.place got u.desk
+      → Done worth t.desk (shown_slots m t.slots) (act.Lock i must) (Got got) u.desk
   locked_done w must got at None e locks =
       inl (
         quietly t.desk u.desk _ locks.1,
@@ -51,33 +51,33 @@ module _ {V : Type 0} (worth : Form → V) (m i hand : ℕ) (taken : Bool) (t u 
       inr (
         event.Lock (on_latest t.desk kind.Weak w.place b.0) got,
         locks.0,
-        law.locked worth t.desk.name t.desk u.desk (shown m t.slots) i must got b w.place (has_pointer m i t (Weak w) b is.fits lt at e) locks.0,
+        law.locked worth t.desk.name t.desk u.desk (shown_slots m t.slots) i must got b w.place (has_pointer m i t (Weak w) b is.fits lt at e) locks.0,
       )
 
   -- what is vacant is empty
-  hand_plain : slice_set (shown m t.slots) (hand_of (shown m t.slots)) plain ≡ shown m t.slots
+  hand_plain : slice_set (shown_slots m t.slots) (hand_of (shown_slots m t.slots)) plain ≡ shown_slots m t.slots
   hand_plain =
-      let l = shown m t.slots in
-      let at : value l hand ≡ plain = shown_at m t.slots hand None (let e = is.last in omega (arith, e)) is.vacant in
+      let l = shown_slots m t.slots in
+      let at : slot_value l hand ≡ plain = shown_at m t.slots hand None (let e = is.last in omega (arith, e)) is.vacant in
       ap (λ k. slice_set l k plain) (hand_is m hand t is) ∙ (ap (λ x. slice_set l hand x) (sym at) ∙ set-get_or l hand plain)
 
   locked_slot : (w : weak_handle.Weak) (k : Shared) (must got : Bool) → IsAt t i (Weak w) → (b : Option Block) → w.block ≡ b
       → locks.IsOwnerOf b w.place got k → (b ≡ None → got ≡ false)
-      → slice_set (shown m t.slots) (hand_of (shown m t.slots)) (slot_by kind.Owner k.block k.place)
-      ≡ (taking (shown m t.slots) must (cond got (option_map as_owner (weak_slot (slot (shown m t.slots) i))) None)).0
+      → slice_set (shown_slots m t.slots) (hand_of (shown_slots m t.slots)) (slot_by kind.Owner k.block k.place)
+      ≡ (taking (shown_slots m t.slots) must (cond got (option_map as_owner (weak_slot (slot_pointer (shown_slots m t.slots) i))) None)).0
   locked_slot w k must false at b e of not_got =
-      ap (λ x. slice_set (shown m t.slots) (hand_of (shown m t.slots)) x) (λ q. slot_by kind.Owner (of.0 q) (of.1 q)) ∙ hand_plain
+      ap (λ x. slice_set (shown_slots m t.slots) (hand_of (shown_slots m t.slots)) x) (λ q. slot_by kind.Owner (of.0 q) (of.1 q)) ∙ hand_plain
   locked_slot w k must true at None e of not_got = let z = not_got refl in absurd cc
   locked_slot w k must true at (Some b) e of not_got =
-      ap (λ x. slice_set (shown m t.slots) (hand_of (shown m t.slots)) x) (λ q. slot_by kind.Owner (of.0 q) (of.1 q))
-      ∙ ap (λ x. (taking (shown m t.slots) must (option_map as_owner (weak_slot x))).0) (sym (has_pointer m i t (Weak w) b is.fits lt at e).at)
+      ap (λ x. slice_set (shown_slots m t.slots) (hand_of (shown_slots m t.slots)) x) (λ q. slot_by kind.Owner (of.0 q) (of.1 q))
+      ∙ ap (λ x. (taking (shown_slots m t.slots) must (option_map as_owner (weak_slot x))).0) (sym (has_pointer m i t (Weak w) b is.fits lt at e).at)
 
-  locks_got : (w : weak_handle.Weak) (got : Bool) → (b : Option Block) → locks.Locks t.desk b w.place got u.desk → b ≡ None → got ≡ false
+  locks_got : (w : weak_handle.Weak) (got : Bool) → (b : Option Block) → locks.LocksHandle t.desk b w.place got u.desk → b ≡ None → got ≡ false
   locks_got w got None locks e = locks.0
   locks_got w got (Some b) locks e = absurd cc
 
   locks_in : (w : weak_handle.Weak) (must got : Bool) → IsAt t i (Weak w)
-      → Came (IsOwner (λ d k e. (got ≡ is_some k.block) × locks.IsOwnerOf w.block w.place got k × locks.Locks d w.block w.place got e)) t hand u
+      → Came (IsOwner (λ d k e. (got ≡ is_some k.block) × locks.IsOwnerOf w.block w.place got k × locks.LocksHandle d w.block w.place got e)) t hand u
       → Acts worth m t taken (act.Lock i must) (Got got) u
   locks_in w must got at c =
       let k = c.comes.owner in
@@ -91,11 +91,11 @@ module _ {V : Type 0} (worth : Form → V) (m i hand : ℕ) (taken : Bool) (t u 
 
   -- or an owner that there must be
   upgraded : (w : weak_handle.Weak) (k : Shared) (b : Option Block) → w.block ≡ b → locks.IsUpgrade t.desk b w.place (Ok k) u.desk
-      → locks.IsOwnerOf w.block w.place true k × locks.Locks t.desk w.block w.place true u.desk × (true ≡ is_some k.block)
+      → locks.IsOwnerOf w.block w.place true k × locks.LocksHandle t.desk w.block w.place true u.desk × (true ≡ is_some k.block)
   upgraded w k None e up = absurd up
   upgraded w k (Some b) e up = (
     (up.1 ∙ sym e, up.2),
-    subst (λ x. locks.Locks t.desk x w.place true u.desk) (sym e) up.0,
+    subst (λ x. locks.LocksHandle t.desk x w.place true u.desk) (sym e) up.0,
     sym (ap is_some up.1),
   )
 
@@ -114,7 +114,7 @@ module _ {V : Type 0} (worth : Form → V) (m i hand : ℕ) (taken : Bool) (t u 
 
   refused_done : (w : weak_handle.Weak) → IsAt t i (Weak w) → (b : Option Block) → w.block ≡ b
       → locks.IsUpgrade t.desk b w.place (Err BadWeak) u.desk
-      → Done worth t.desk (shown m t.slots) (act.Lock i true) (Got false) u.desk
+      → Done worth t.desk (shown_slots m t.slots) (act.Lock i true) (Got false) u.desk
   refused_done w at None e up =
       inl (
         stayed t.desk u.desk up.1,
@@ -129,7 +129,7 @@ module _ {V : Type 0} (worth : Form → V) (m i hand : ℕ) (taken : Bool) (t u 
       let why : g.refusal ≡ BadWeak = same_call g.refusal BadWeak (sym g.is) in
       record {
         done = refused_done g.of g.at g.of.block refl (subst (λ r. locks.IsUpgrade t.desk g.of.block g.of.place (Err r) u.desk) why g.event);
-        slots = ap (shown m) g.rest.0;
+        slots = ap (shown_slots m) g.rest.0;
         ends = g.rest.1;
       }
 

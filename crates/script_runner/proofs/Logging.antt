@@ -13,12 +13,12 @@ use Rattle.control_block.specs.Rule.{opening_of}
 use Rattle.step_table.specs.declared.form.Form.{Form}
 use Rattle.step_threads.specs.declared.said.Said.{Said}
 use Rattle.step_threads.specs.Courses.{Walk}
-use Rattle.step_threads.specs.Doings.{Does, Doing, Goes, lines, onto, spoken}
+use Rattle.step_threads.specs.Doings.{DoesNext, Doing, GoesThrough, lines, onto, spoken}
 use Rattle.step_threads.specs.Interleavings.{Marked, first_walk, said_on}
 use Rattle.step_threads.specs.Programs.{Part}
 use Rattle.step_threads.specs.Steps.{silent}
-use Rattle.script_runner.specs.Laws.{Begins, GoesOnByCall, GoesOnByMark, IsJoined, StaysJoined}
-use Rattle.script_runner.specs.Logs.{doing, told}
+use Rattle.script_runner.specs.Laws.{BeginsThread, GoesOnByCall, GoesOnByMark, IsJoined, StaysJoined}
+use Rattle.script_runner.specs.Logs.{doing, told_line}
 
 -- lines of two lists
 pub said_append : (n : ℕ) (xs ys : List (ℕ × Said)) → said_on n (xs ++ ys) ≡ said_on n xs ++ said_on n ys
@@ -34,7 +34,7 @@ pub own_said : (n : ℕ) (x : Said) (b : Bool) → said_on n (cond b ((n, x) ∷
 own_said n x true = cond-true (n == n) (x ∷ []) [] (eq-eqb n n refl)
 own_said n x false = refl
 
-own_line : (n : ℕ) (x : Said) (l : List (ℕ × Said)) (log : List Said) → said_on n l ≡ log → said_on n (l ++ spoken n x) ≡ log ++ told x
+own_line : (n : ℕ) (x : Said) (l : List (ℕ × Said)) (log : List Said) → said_on n l ≡ log → said_on n (l ++ spoken n x) ≡ log ++ told_line x
 own_line n x l log e =
     said_append n l (spoken n x)
     ∙ (ap (λ k. k ++ said_on n (spoken n x)) e ∙ ap (λ k. log ++ k) (own_said n x (is_some x.answer || is_some x.ended)))
@@ -59,7 +59,7 @@ module _ {V : Type 0} where
   others_by n (e ∷ h) none = (none.0, others_by n h none.2)
 
   foreign_goes : (worth : Form → V) (z : Opening) (n : ℕ) (w u : Walk) (h : List (Entry V)) (l : List (Doing V)) → Others n h
-      → Goes worth z [] n w l u → Goes worth z [] n w (foreign h l) u
+      → GoesThrough worth z [] n w l u → GoesThrough worth z [] n w (foreign h l) u
   foreign_goes worth z n w u [] l none goes = goes
   foreign_goes worth z n w u (e ∷ h) l none goes = inl (none.0, foreign_goes worth z n w u h l none.1 goes)
 
@@ -89,7 +89,7 @@ module _ {V : Type 0} where
         name = t.name;
         doings = i ∷ t.doings;
         events = t.events;
-        goes = inr (refl, (w, t.goes, subst (λ h. Does worth (leads z h) w i u) (sym t.events) does));
+        goes = inr (refl, (w, t.goes, subst (λ h. DoesNext worth (leads z h) w i u) (sym t.events) does));
         says = own_line n x (lines t.doings) log t.says;
       }
 
@@ -101,24 +101,24 @@ module _ {V : Type 0} where
       let same : onto [] before ≡ adds.between ++ d.seen =
       foreign_events adds.between t.doings ∙ ap (λ l. adds.between ++ l) t.events in
       let i : Doing V = doing n (Some v) x in
-      let went : Goes worth z [] n (first_walk part) (i ∷ before) u =
+      let went : GoesThrough worth z [] n (first_walk part) (i ∷ before) u =
       inr (
         refl,
         (
           w,
           foreign_goes worth z n (first_walk part) w adds.between t.doings quiet t.goes,
-          subst (λ h. Does worth (leads z h) w i u) (sym same) does,
+          subst (λ h. DoesNext worth (leads z h) w i u) (sym same) does,
         ),
       ) in
       record {
         name = adds.same.2 ∙ t.name;
         doings = i ∷ before;
         events = ap (λ l. entry n v ∷ l) same ∙ (ap (λ k. entry k v ∷ (adds.between ++ d.seen)) (sym t.name) ∙ sym adds.seen);
-        goes = subst (λ k. Goes worth (opening_of k) [] n (first_walk part) (i ∷ before) u) (sym adds.same.1) went;
+        goes = subst (λ k. GoesThrough worth (opening_of k) [] n (first_walk part) (i ∷ before) u) (sym adds.same.1) went;
         says = own_line n x (lines before) log (ap (said_on n) (foreign_lines adds.between t.doings) ∙ t.says);
       }
 
-  pub begins : Begins V
+  pub begins : BeginsThread V
   begins worth part d a k hs e new splits =
       let adds = splits.event in
       let z = opening_of d.shape in
@@ -148,7 +148,7 @@ module _ {V : Type 0} where
         doings = t.doings;
         events = t.events;
         last = w;
-        goes = subst (λ k. Goes worth (opening_of k) [] n (first_walk part) t.doings w) shape t.goes;
+        goes = subst (λ k. GoesThrough worth (opening_of k) [] n (first_walk part) t.doings w) shape t.goes;
         over = over;
         says = t.says;
       } in

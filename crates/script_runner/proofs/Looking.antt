@@ -18,21 +18,21 @@ use Rattle.control_word.specs.declared.place.Block.{Block}
 use Rattle.control_word.specs.declared.place.Place.{Place}
 use Rattle.control_word.specs.declared.refusal.Refusal.TheVariants as refusal
 use Rattle.control_word.specs.declared.refusal.Refusal.{Refusal}
-use Rattle.handle_table.specs.Calls.{Counts, CountsOf, Expires, Reads}
-use Rattle.handle_table.specs.Parts.{kind_of, owned_by, place_of}
+use Rattle.handle_table.specs.Calls.{CountsSlot, CountsOf, Expires, ReadsSlot}
+use Rattle.handle_table.specs.Parts.{kind_of_held, block_of_held, place_of_held}
 use Rattle.handle_table.specs.Tables.{IsAt, TableNow}
 use Rattle.script_runner.proofs.Calling as law
 use Rattle.script_runner.proofs.Seating.{has_pointer, no_pointer, shown_at}
 use Rattle.script_runner.proofs.Takings.{stayed}
 use Rattle.script_runner.specs.Calls as calls
-use Rattle.script_runner.specs.Seats.{Acts, Done, IsSeated, shown}
-use Rattle.script_runner.specs.TableCalls.{IsAway, Marks}
+use Rattle.script_runner.specs.Seats.{Acts, Done, IsSeated, shown_slots}
+use Rattle.script_runner.specs.TableCalls.{IsAway, MarksAct}
 use Rattle.shared_handle.specs.Calls as inner
 use Rattle.shared_handle.specs.Endings.{IsOutside, IsNotEnabled, WhyNotThis}
 use Rattle.step_table.specs.Contents.{slot_by}
 use Rattle.step_table.specs.Deeds.{handle_of, is_enabled, owned}
 use Rattle.step_table.specs.Holdings as slots
-use Rattle.step_table.specs.Holdings.{inside, place_in, slot, is_full}
+use Rattle.step_table.specs.Holdings.{inside, place_in, slot_pointer, is_full}
 use Rattle.step_table.specs.declared.form.Form.{Form}
 use Rattle.step_table.specs.declared.holdings.Pointer.{Pointer}
 use Rattle.step_threads.specs.Doings.{On, copies}
@@ -43,17 +43,17 @@ use Rattle.step_threads.specs.declared.said.Answer.TheVariants as answer
 
 -- where a slot points
 pub place_shown : {V : Type 0} (m i : ℕ) (t : TableNow V) (h : Held) → i < m → slice_get t.slots i ≡ Some (Some h)
-    → place_in (shown m t.slots) i ≡ place_of h
-place_shown m i t h lt at = ap slots.place_of (shown_at m t.slots i (Some h) lt at) ∙ go (owned_by h)
+    → place_in (shown_slots m t.slots) i ≡ place_of_held h
+place_shown m i t h lt at = ap slots.place_of (shown_at m t.slots i (Some h) lt at) ∙ go (block_of_held h)
   where
-    go : (b : Option Block) → slots.place_of (slot_by (kind_of h) b (place_of h)) ≡ place_of h
+    go : (b : Option Block) → slots.place_of (slot_by (kind_of_held h) b (place_of_held h)) ≡ place_of_held h
     go None = refl
     go (Some b) = refl
 
 module _ {V : Type 0} (worth : Form → V) (m i hand : ℕ) (taken : Bool) (t u : TableNow V) (is : IsSeated m hand t) (lt : i < m) where
-  counted_done : (h : Held) (n : ℕ) → IsAt t i h → (b : Option Block) → owned_by h ≡ b
-      → inner.IsCount t.desk (kind_of h) b (place_of h) n u.desk
-      → Done worth t.desk (shown m t.slots) (act.Count i) (Told n) u.desk
+  counted_done : (h : Held) (n : ℕ) → IsAt t i h → (b : Option Block) → block_of_held h ≡ b
+      → inner.IsUseCount t.desk (kind_of_held h) b (place_of_held h) n u.desk
+      → Done worth t.desk (shown_slots m t.slots) (act.Count i) (Told n) u.desk
   counted_done h n at None e count =
       inl (
         stayed t.desk u.desk count.1,
@@ -63,27 +63,28 @@ module _ {V : Type 0} (worth : Form → V) (m i hand : ℕ) (taken : Bool) (t u 
       )
   counted_done h n at (Some b) e count =
       inr (
-        event.Count (on_latest t.desk (kind_of h) (place_of h) b.0) n,
+        event.Count (on_latest t.desk (kind_of_held h) (place_of_held h) b.0) n,
         count.0,
-        law.counted worth t.desk.name t.desk u.desk (shown m t.slots) i n (kind_of h) b (place_of h) (has_pointer m i t h b is.fits lt at e) count.0,
+        law.counted worth t.desk.name t.desk u.desk (shown_slots m t.slots) i n (kind_of_held h) b (place_of_held h)
+            (has_pointer m i t h b is.fits lt at e) count.0,
       )
 
-  counts_parts : (h : Held) (n : ℕ) → CountsOf t.desk h n u.desk → inner.IsCount t.desk (kind_of h) (owned_by h) (place_of h) n u.desk
+  counts_parts : (h : Held) (n : ℕ) → CountsOf t.desk h n u.desk → inner.IsUseCount t.desk (kind_of_held h) (block_of_held h) (place_of_held h) n u.desk
   counts_parts (Owner h) n c = c
   counts_parts (Weak w) n c = c
 
   -- use_count
-  pub counts : (n : ℕ) → Counts t i n u → Acts worth m t taken (act.Count i) (Told n) u
+  pub counts : (n : ℕ) → CountsSlot t i n u → Acts worth m t taken (act.Count i) (Told n) u
   counts n c =
       record {
-        done = counted_done c.of n c.was (owned_by c.of) refl (counts_parts c.of n c.event);
-        slots = ap (shown m) c.rest.0;
+        done = counted_done c.of n c.was (block_of_held c.of) refl (counts_parts c.of n c.event);
+        slots = ap (shown_slots m) c.rest.0;
         ends = c.rest.1;
       }
 
   expired_done : (w : weak_handle.Weak) (so : Bool) → IsAt t i (Weak w) → (b : Option Block) → w.block ≡ b
       → inner.IsExpiry t.desk b w.place so u.desk
-      → Done worth t.desk (shown m t.slots) (act.Expired i) (Got so) u.desk
+      → Done worth t.desk (shown_slots m t.slots) (act.Expired i) (Got so) u.desk
   expired_done w so at None e x =
       inl (
         stayed t.desk u.desk x.1,
@@ -95,7 +96,7 @@ module _ {V : Type 0} (worth : Form → V) (m i hand : ℕ) (taken : Bool) (t u 
       inr (
         event.Expired (on_latest t.desk kind.Weak w.place b.0) so,
         x,
-        law.expired worth t.desk.name t.desk u.desk (shown m t.slots) i so b w.place (has_pointer m i t (Weak w) b is.fits lt at e) x,
+        law.expired worth t.desk.name t.desk u.desk (shown_slots m t.slots) i so b w.place (has_pointer m i t (Weak w) b is.fits lt at e) x,
       )
 
   -- expired
@@ -103,27 +104,27 @@ module _ {V : Type 0} (worth : Form → V) (m i hand : ℕ) (taken : Bool) (t u 
   expires so c =
       record {
         done = expired_done c.of so c.was c.of.block refl c.event;
-        slots = ap (shown m) c.rest.0;
+        slots = ap (shown_slots m) c.rest.0;
         ends = c.rest.1;
       }
 
   -- an owner that points into its object
   pub within : (h : Shared) (q : Place) → IsAt t i (Owner h) → h.block ≡ Some q.block → h.place ≡ Some q
-      → calls.HasPointer V t.desk (shown m t.slots) i kind.Owner q.block (Some q)
+      → calls.HasPointer V t.desk (shown_slots m t.slots) i kind.Owner q.block (Some q)
   within h q at b p =
-      subst (λ x. calls.HasPointer V t.desk (shown m t.slots) i kind.Owner q.block x) p (has_pointer m i t (Owner h) q.block is.fits lt at b)
+      subst (λ x. calls.HasPointer V t.desk (shown_slots m t.slots) i kind.Owner q.block x) p (has_pointer m i t (Owner h) q.block is.fits lt at b)
 
   -- a field that was read
-  pub reads : (field : ℕ) → Reads t i (Ok field) u → Acts worth m t taken (act.Read i) (Told field) u
+  pub reads : (field : ℕ) → ReadsSlot t i (Ok field) u → Acts worth m t taken (act.Read i) (Told field) u
   reads field c =
       let e = c.event in let q = e.0 in
       record {
         done = inr (
           event.Read (on_latest t.desk kind.Owner (Some q) q.block.0) field,
           e.3,
-          law.read worth t.desk.name t.desk u.desk (shown m t.slots) i field q (within c.of q c.was e.2 e.1) e.3,
+          law.read worth t.desk.name t.desk u.desk (shown_slots m t.slots) i field q (within c.of q c.was e.2 e.1) e.3,
         );
-        slots = ap (shown m) c.rest.0;
+        slots = ap (shown_slots m) c.rest.0;
         ends = c.rest.1;
       }
 
@@ -133,7 +134,7 @@ block_of (Some p) = Some p.block
 
 -- an owner that doesn't point into what it owns
 pub not_inside : {V : Type 0} (m i : ℕ) (t : TableNow V) (h : Shared) → i < m → slice_get t.slots i ≡ Some (Some (Owner h))
-    → (h.place ≡ None) ⊎ IsOutside h.block h.place → inside (slot (shown m t.slots) i) ≡ None
+    → (h.place ≡ None) ⊎ IsOutside h.block h.place → inside (slot_pointer (shown_slots m t.slots) i) ≡ None
 not_inside m i t h lt at away =
     ap (λ x. inside (slots.pointer_of x)) (shown_at m t.slots i (Some (Owner h)) lt at) ∙ go h.block h.place away
   where
@@ -154,19 +155,19 @@ not_inside m i t h lt at away =
 module _ {V : Type 0} (worth : Form → V) (m i hand : ℕ) (taken : Bool) (t : TableNow V) (is : IsSeated m hand t) (lt : i < m) where
   -- what the refusal says, as a thread says it
   pub outside_as : (h : Shared) (why : Refusal) → IsAt t i (Owner h) → IsAway h.block h.place why
-      → outside (place_in (shown m t.slots) i) ≡ answer.Refused why
+      → outside (place_in (shown_slots m t.slots) i) ≡ answer.Refused why
   outside_as h refusal.Null at away = ap outside (place_shown m i t (Owner h) lt at ∙ away)
   outside_as h refusal.Outside at away = ap outside (place_shown m i t (Owner h) lt at ∙ away.1)
   outside_as h why at away = absurd away
 
-  pub is_away : (h : Shared) (why : Refusal) → IsAt t i (Owner h) → IsAway h.block h.place why → inside (slot (shown m t.slots) i) ≡ None
+  pub is_away : (h : Shared) (why : Refusal) → IsAt t i (Owner h) → IsAway h.block h.place why → inside (slot_pointer (shown_slots m t.slots) i) ≡ None
   is_away h refusal.Null at away = not_inside m i t h lt at (inl away)
   is_away h refusal.Outside at away = not_inside m i t h lt at (inr away)
   is_away h why at away = absurd away
 
   -- a field that isn't there
   pub reads_not : (h : Shared) (why : Refusal) → IsAt t i (Owner h) → IsAway h.block h.place why
-      → Marks V worth m t taken (act.Read i) (Told 0) (answer.Refused why)
+      → MarksAct V worth m t taken (act.Read i) (Told 0) (answer.Refused why)
   reads_not h why at away =
       let none = is_away h why at away in
       record {
@@ -180,11 +181,11 @@ module _ {V : Type 0} (worth : Form → V) (m i hand : ℕ) (taken : Bool) (t : 
           slots = refl;
           ends = refl;
         };
-        says = ap (λ x. Some (cond (is_full x) (answer.Read 0) (outside (place_in (shown m t.slots) i)))) none ∙ ap Some (outside_as h why at away);
+        says = ap (λ x. Some (cond (is_full x) (answer.Read 0) (outside (place_in (shown_slots m t.slots) i)))) none ∙ ap Some (outside_as h why at away);
       }
 
   given_away : (h : Shared) (k : Kind) (why : Refusal) → IsAt t i (Owner h) → IsAway h.block h.place why
-      → Marks V worth m t taken (act.FromThis i k) (Got false) (answer.Refused why)
+      → MarksAct V worth m t taken (act.FromThis i k) (Got false) (answer.Refused why)
   given_away h k why at away =
       let none = is_away h why at away in
       record {
@@ -199,15 +200,15 @@ module _ {V : Type 0} (worth : Form → V) (m i hand : ℕ) (taken : Bool) (t : 
           slots = refl;
           ends = refl;
         };
-        says = ap (λ x. Some (cond (is_full x) (answer.Refused refusal.NotEnabled) (outside (place_in (shown m t.slots) i)))) none
+        says = ap (λ x. Some (cond (is_full x) (answer.Refused refusal.NotEnabled) (outside (place_in (shown_slots m t.slots) i)))) none
             ∙ ap Some (outside_as h why at away);
       }
 
   not_enabled : (h : Shared) (k : Kind) (q : Place) → IsAt t i (Owner h) → h.block ≡ Some q.block → h.place ≡ Some q
       → (object_in t.desk q.block.0).enabled ≡ false
-      → Marks V worth m t taken (act.FromThis i k) (Got false) (answer.Refused refusal.NotEnabled)
+      → MarksAct V worth m t taken (act.FromThis i k) (Got false) (answer.Refused refusal.NotEnabled)
   not_enabled h k q at b p off =
-      let some = law.is_inside (shown m t.slots) i q (within worth m i hand taken t t is lt h q at b p).at in
+      let some = law.is_inside (shown_slots m t.slots) i q (within worth m i hand taken t t is lt h q at b p).at in
       record {
         acts = record {
           done = inl (
@@ -220,12 +221,12 @@ module _ {V : Type 0} (worth : Form → V) (m i hand : ℕ) (taken : Bool) (t : 
           slots = refl;
           ends = refl;
         };
-        says = ap (λ x. Some (cond (is_full x) (answer.Refused refusal.NotEnabled) (outside (place_in (shown m t.slots) i)))) some;
+        says = ap (λ x. Some (cond (is_full x) (answer.Refused refusal.NotEnabled) (outside (place_in (shown_slots m t.slots) i)))) some;
       }
 
   -- an object that gives no pointer to itself, or none that the owner points into
   pub gives_not : (h : Shared) (k : Kind) (why : Refusal) → IsAt t i (Owner h) → WhyNotThis t.desk h.block h.place why → why ≢ refusal.Limit
-      → Marks V worth m t taken (act.FromThis i k) (Got false) (answer.Refused why)
+      → MarksAct V worth m t taken (act.FromThis i k) (Got false) (answer.Refused why)
   gives_not h k refusal.Limit at because unlike = absurd (unlike refl)
   gives_not h k refusal.Null at because unlike = given_away h k refusal.Null at because.1
   gives_not h k refusal.Outside at because unlike = given_away h k refusal.Outside at because.1

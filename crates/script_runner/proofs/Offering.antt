@@ -7,10 +7,10 @@ use Rattle.control_word.specs.declared.refusal.Refusal.{Refusal}
 use Rattle.control_word.specs.declared.shape.Shape.{Shape}
 use Rattle.handle_table.specs.Calls as calls
 use Rattle.handle_table.specs.Cells as cells
-use Rattle.handle_table.specs.Cells.{IsCell, WhyNoCell}
+use Rattle.handle_table.specs.Cells.{IsCellAtSite, WhyNoCell}
 use Rattle.handle_table.specs.Compares as compares
-use Rattle.handle_table.specs.Ends.{IsThere}
-use Rattle.handle_table.specs.Parts.{kind_of}
+use Rattle.handle_table.specs.Ends.{NamesCell}
+use Rattle.handle_table.specs.Parts.{kind_of_held}
 use Rattle.handle_table.specs.Tables as table
 use Rattle.handle_table.specs.Tables.{IsAt, TableNow}
 use Rattle.handle_table.specs.declared.fault.Fault.TheVariants.{Call}
@@ -22,8 +22,8 @@ use Rattle.script_runner.proofs.Exchanging.{exchanges, offers}
 use Rattle.script_runner.proofs.Inquiring.{marked}
 use Rattle.script_runner.proofs.TableLaws.{as_seated}
 use Rattle.script_runner.proofs.Uncelled.{cells_not}
-use Rattle.script_runner.specs.CellCalls.{IsOfName, IsRefused, as_cell}
-use Rattle.script_runner.specs.Deals.{IsActed, IsCompared, IsThird, field_0, held}
+use Rattle.script_runner.specs.CellCalls.{IsOfName, RefusesCell, as_cell}
+use Rattle.script_runner.specs.Deals.{IsActed, IsCompared, IsThird, field_0, thread_slots}
 use Rattle.script_runner.specs.Seats.{IsHand, IsSeated}
 use Rattle.step_table.specs.Holdings.{Slots, place_in, plain}
 use Rattle.step_threads.specs.Courses.{is_there}
@@ -37,7 +37,7 @@ use Rattle.step_threads.specs.declared.said.Answer.TheVariants as answer
 use Rattle.step_threads.specs.declared.said.Answer.{Answer}
 
 -- a cell that a table has is one of its domain's
-pub in_shape : (z : Shape) (ss : List table.Slot) (c : CellName) (at : Site) → IsCell z ss (as_cell c) at → IsThird c → IsIn z c
+pub in_shape : (z : Shape) (ss : List table.Slot) (c : CellName) (at : Site) → IsCellAtSite z ss (as_cell c) at → IsThird c → IsIn z c
 in_shape z ss (cell.Shared n) at is third = is.0
 in_shape z ss (cell.Weak n) at is third = is.0
 in_shape z ss (cell.Member k m) at is third = third
@@ -65,63 +65,63 @@ hands_by : (b d : Bool) (x y : Slots × Bool) → b ≡ d → (cond {A = Hands} 
 hands_by b d x y e = ap (λ q. (cond {A = Hands} q x y).1) e
 
 module _ (hand : ℕ) (t u : TableNow ℕ) (c : CellName) (of : IsOfName hand c) (third : IsThird c) where
-  there_is : IsSeated (hand + 1) hand t → (at : Site) → IsCell t.desk.shape t.slots (as_cell c) at → is_there (held hand t) c ≡ true
+  there_is : IsSeated (hand + 1) hand t → (at : Site) → IsCellAtSite t.desk.shape t.slots (as_cell c) at → is_there (thread_slots hand t) c ≡ true
   there_is is at cell =
       (is_found (hand + 1) t is.fits c at (in_shape t.desk.shape t.slots c at cell third) (named_below hand c of) cell).there
 
-  pub offered : (i : ℕ) (h : Held) → IsHand (hand + 1) hand t → i < hand → IsThere t (as_cell c) → IsAt t i h → kind_of h ≡ kind_at c
+  pub offered : (i : ℕ) (h : Held) → IsHand (hand + 1) hand t → i < hand → NamesCell t (as_cell c) → IsAt t i h → kind_of_held h ≡ kind_at c
       → calls.Copies t i hand u → IsActed hand t false (act.Offer i c) took u
   offered i h is lt there at same copies =
       let y = there_is (as_seated (hand + 1) hand t is) there.0 there.1 in
       acted_as hand t u false (act.Offer i c) Plain took refl
       (offers field_0 (hand + 1) i hand false t u c is (below hand i lt) (in_shape t.desk.shape t.slots c there.0 there.1 third) (named_below hand c of)
       there h at same copies)
-      (sym (hands_by (is_there (held hand t) c) true _ _ y)) (sym (no_refusal (held hand t) c y)) refl
+      (sym (hands_by (is_there (thread_slots hand t) c) true _ _ y)) (sym (no_refusal (thread_slots hand t) c y)) refl
 
-  pub loaded : IsHand (hand + 1) hand t → IsSeated (hand + 1) hand u → cells.Loads t (as_cell c) hand u → IsActed hand t false (act.Load c) took u
+  pub loaded : IsHand (hand + 1) hand t → IsSeated (hand + 1) hand u → cells.LoadsIntoSlot t (as_cell c) hand u → IsActed hand t false (act.Load c) took u
   loaded is then x =
       let y = there_is (as_seated (hand + 1) hand t is) x.site x.is in
       let a = loads field_0 (hand + 1) hand false t u c is then (in_shape t.desk.shape t.slots c x.site x.is third) (named_below hand c of) x in
       acted_as hand t u false (act.Load c) (Came a.0) took refl a.1
-      (sym (hands_by (is_there (held hand t) c) true _ _ y)) (sym (no_refusal (held hand t) c y)) refl
+      (sym (hands_by (is_there (thread_slots hand t) c) true _ _ y)) (sym (no_refusal (thread_slots hand t) c y)) refl
 
-  pub exchanged : (i : ℕ) (taken : Bool) → IsSeated (hand + 1) hand t → IsSeated (hand + 1) hand u → i < hand → cells.Exchanges t i (as_cell c) u
+  pub exchanged : (i : ℕ) (taken : Bool) → IsSeated (hand + 1) hand t → IsSeated (hand + 1) hand u → i < hand → cells.ExchangesSlot t i (as_cell c) u
       → IsActed hand t taken (act.Exchange i c) (went taken None) u
   exchanged i taken is then lt x =
       let y = there_is is x.swaps.site x.swaps.is in
       let a = exchanges field_0 (hand + 1) i hand taken t u c is then lt (in_shape t.desk.shape t.slots c x.swaps.site x.swaps.is third)
       (named_below hand c of) x in
-      acted_as hand t u taken (act.Exchange i c) (Came a.0) (went taken None) refl a.1 refl (sym (no_refusal (held hand t) c y)) refl
+      acted_as hand t u taken (act.Exchange i c) (Came a.0) (went taken None) refl a.1 refl (sym (no_refusal (thread_slots hand t) c y)) refl
 
   module _ (taken : Bool) (is : IsSeated (hand + 1) hand t) (r : Refusal) (why : WhyNoCell t.desk.shape t.slots (as_cell c) (Call r)) where
-    refused : IsRefused ℕ field_0 (hand + 1) t taken c r
+    refused : RefusesCell ℕ field_0 (hand + 1) t taken c r
     refused = cells_not field_0 (hand + 1) hand taken t c r is (named_below hand c of) why
 
-    none : is_there (held hand t) c ≡ false
-    none = not_there (held hand t) c (answer.Refused r) refused.load.says
+    none : is_there (thread_slots hand t) c ≡ false
+    none = not_there (thread_slots hand t) c (answer.Refused r) refused.load.says
 
     pub offer_not : (i : ℕ) → IsActed hand t taken (act.Offer i c) (went taken (Some (answer.Refused r))) t
     offer_not i =
         marked hand t taken (act.Offer i c) Plain (answer.Refused r) taken refl (refused.offer i)
-        (sym (hands_by (is_there (held hand t) c) false _ _ none)) refl
+        (sym (hands_by (is_there (thread_slots hand t) c) false _ _ none)) refl
 
     pub load_not : IsActed hand t taken (act.Load c) (went taken (Some (answer.Refused r))) t
     load_not =
         marked hand t taken (act.Load c) (Came plain) (answer.Refused r) taken refl refused.load
-        (sym (hands_by (is_there (held hand t) c) false _ _ none)) refl
+        (sym (hands_by (is_there (thread_slots hand t) c) false _ _ none)) refl
 
     pub exchange_not : (i : ℕ) → IsActed hand t taken (act.Exchange i c) (went taken (Some (answer.Refused r))) t
     exchange_not i =
         marked hand t taken (act.Exchange i c) (Came plain) (answer.Refused r) taken refl (refused.exchange i) refl refl
 
   pub compared : (i other : ℕ) (weak : Bool) → IsSeated (hand + 1) hand t → other + 1 ≡ hand → i < other → slice_get t.slots other ≡ Some None
-      → compares.Compares weak t (as_cell c) i hand true u → IsCompared hand t i c weak true u
+      → compares.ComparesSlots weak t (as_cell c) i hand true u → IsCompared hand t i c weak true u
   compared i other weak is at lt vacant x =
       compares_swap field_0 (hand + 1) i hand other t u c weak is at lt vacant (in_shape t.desk.shape t.slots c x.site x.is third) (named_below hand c of) x
 
   pub differed : (i other : ℕ) (weak : Bool) (v : TableNow ℕ) → IsSeated (hand + 1) hand t → other + 1 ≡ hand → i < other
       → slice_get t.slots other ≡ Some None
-      → compares.Compares weak t (as_cell c) i hand false v → calls.Moves v hand other u → IsCompared hand t i c weak false u
+      → compares.ComparesSlots weak t (as_cell c) i hand false v → calls.MovesSlot v hand other u → IsCompared hand t i c weak false u
   differed i other weak v is at lt vacant x moves =
       compares_differ field_0 (hand + 1) i hand other t v u c weak is at lt vacant (in_shape t.desk.shape t.slots c x.site x.is third)
       (named_below hand c of) x moves

@@ -9,16 +9,16 @@ use Rattle.script_runner.proofs.Going.{acts_on, passes_over}
 use Rattle.script_runner.proofs.Parting.{top_told}
 use Rattle.script_runner.proofs.Stages.{some_last}
 use Rattle.script_runner.specs.CellCalls.{ByCompare, ByDiffering}
-use Rattle.script_runner.specs.Deals.{IsDealt, IsOnward, IsTop, field_0, held, said_by}
-use Rattle.script_runner.specs.EndCalls.{Piled, Takes}
+use Rattle.script_runner.specs.Deals.{IsDealt, IsOnward, IsTop, field_0, thread_slots, statement_says}
+use Rattle.script_runner.specs.EndCalls.{Piled, TakesThread}
 use Rattle.script_runner.specs.Goings.{task}
-use Rattle.script_runner.specs.Logs.{Tells, told}
-use Rattle.script_runner.specs.Seats.{Acts, IsQuiet, IsTold}
+use Rattle.script_runner.specs.Logs.{TellsThread, told_line}
+use Rattle.script_runner.specs.Seats.{Acts, IsQuiet, IsToldEnding}
 use Rattle.script_runner.specs.declared.went.Went.{Went}
 use Rattle.shared_handle.specs.declared.endings.Ending as pile
 use Rattle.shared_handle.specs.declared.pile.Round.TheVariants.{Ended}
 use Rattle.step_table.specs.declared.ended.Ended as ended
-use Rattle.step_threads.specs.Courses.{idle, settled}
+use Rattle.step_threads.specs.Courses.{idle, walk_settled}
 use Rattle.step_threads.specs.Rows.{Reply, row, said_by_row}
 use Rattle.step_threads.specs.declared.act.Act.TheVariants as act
 use Rattle.step_threads.specs.declared.act.Act.{Act}
@@ -30,7 +30,7 @@ use Rattle.step_threads.specs.declared.said.Answer.{Answer}
 use Rattle.step_threads.specs.declared.said.Said.{Said}
 
 abbrev pub line : ℕ → Option Answer → Option ended.Ended → List Said
-line k a e = told (record { statement = k; answer = a; ended = e })
+line k a e = told_line (record { statement = k; answer = a; ended = e })
 
 -- an act with nothing to say has no line
 no_line : (k : ℕ) (a : Option Answer) (e : Option ended.Ended) → a ≡ None → e ≡ None → line k a e ≡ []
@@ -42,11 +42,12 @@ stays : (t : TableNow ℕ) → IsQuiet t.desk t.desk
 stays t = record { shape = refl; name = refl; seen = refl }
 
 -- an act, whatever tasks come after it
-acts_any : (hand k : ℕ) (t u : TableNow ℕ) (taken : Bool) (a : Act) (r : Reply) → t.endings ≡ [] → idle a (held hand t) taken ≡ false
+acts_any : (hand k : ℕ) (t u : TableNow ℕ) (taken : Bool) (a : Act) (r : Reply) → t.endings ≡ [] → idle a (thread_slots hand t) taken ≡ false
     → Acts field_0 (hand + 1) t taken a r u
     → (es : List Ending) × Piled k u.endings es × ((todo : List Task) (log : List Said)
-    → Takes field_0 t.desk (settled (held hand t) taken [] (task k a ∷ todo)) log u.desk
-    (settled (held hand u) (row a (held hand t) taken r).taken es todo) (log ++ told (said_by_row k (row a (held hand t) taken r))))
+    → TakesThread field_0 t.desk (walk_settled (thread_slots hand t) taken [] (task k a ∷ todo)) log u.desk
+    (walk_settled (thread_slots hand u) (row a (thread_slots hand t) taken r).taken es todo)
+    (log ++ told_line (said_by_row k (row a (thread_slots hand t) taken r))))
 acts_any hand k t u taken a r none busy acts =
     let g = acts_on field_0 (hand + 1) k t u taken a r none busy acts in (g.endings, g.piled, g.takes)
 
@@ -56,30 +57,32 @@ none_piled k xs [] p none = refl
 none_piled k xs (e ∷ es) p none = absurd (some_last p.0 p.1 (sym none ∙ p.2))
 
 -- an act that leaves nothing to end
-acts_clear : (hand k : ℕ) (t u : TableNow ℕ) (taken : Bool) (a : Act) (r : Reply) → t.endings ≡ [] → idle a (held hand t) taken ≡ false
+acts_clear : (hand k : ℕ) (t u : TableNow ℕ) (taken : Bool) (a : Act) (r : Reply) → t.endings ≡ [] → idle a (thread_slots hand t) taken ≡ false
     → Acts field_0 (hand + 1) t taken a r u → u.endings ≡ [] → (todo : List Task) (log : List Said)
-    → Takes field_0 t.desk (settled (held hand t) taken [] (task k a ∷ todo)) log u.desk
-    (settled (held hand u) (row a (held hand t) taken r).taken [] todo) (log ++ told (said_by_row k (row a (held hand t) taken r)))
+    → TakesThread field_0 t.desk (walk_settled (thread_slots hand t) taken [] (task k a ∷ todo)) log u.desk
+    (walk_settled (thread_slots hand u) (row a (thread_slots hand t) taken r).taken [] todo)
+    (log ++ told_line (said_by_row k (row a (thread_slots hand t) taken r)))
 acts_clear hand k t u taken a r none busy acts clear todo log =
     let g = acts_any hand k t u taken a r none busy acts in
-    subst (λ es. Takes field_0 t.desk (settled (held hand t) taken [] (task k a ∷ todo)) log u.desk
-    (settled (held hand u) (row a (held hand t) taken r).taken es todo) (log ++ told (said_by_row k (row a (held hand t) taken r))))
+    subst (λ es. TakesThread field_0 t.desk (walk_settled (thread_slots hand t) taken [] (task k a ∷ todo)) log u.desk
+    (walk_settled (thread_slots hand u) (row a (thread_slots hand t) taken r).taken es todo)
+    (log ++ told_line (said_by_row k (row a (thread_slots hand t) taken r))))
     (none_piled k u.endings g.0 g.1 clear) (g.2 todo log)
 
 module _ (hand k : ℕ) (t u : TableNow ℕ) (none : t.endings ≡ []) where
   pub deal_on : (taken : Bool) (a : Act) (x : Went) → IsDealt hand t taken a x u
-      → IsOnward hand k t taken (task k a ∷ []) x.taken (told (said_by k x)) u
+      → IsOnward hand k t taken (task k a ∷ []) x.taken (told_line (statement_says k x)) u
   deal_on taken a x (inl y) =
-      let r = row a (held hand t) taken y.reply in
+      let r = row a (thread_slots hand t) taken y.reply in
       let g = acts_any hand k t u taken a y.reply none y.busy y.acts in
       record {
         endings = g.0;
         piled = g.1;
         goes = λ todo log.
-            subst (λ b. Takes field_0 t.desk (settled (held hand t) taken [] (task k a ∷ todo)) log u.desk
-            (settled (held hand u) b g.0 todo) (log ++ told (said_by k x))) (sym y.takes)
-            (subst (λ s. Takes field_0 t.desk (settled (held hand t) taken [] (task k a ∷ todo)) log u.desk
-            (settled (held hand u) r.taken g.0 todo) (log ++ told s))
+            subst (λ b. TakesThread field_0 t.desk (walk_settled (thread_slots hand t) taken [] (task k a ∷ todo)) log u.desk
+            (walk_settled (thread_slots hand u) b g.0 todo) (log ++ told_line (statement_says k x))) (sym y.takes)
+            (subst (λ s. TakesThread field_0 t.desk (walk_settled (thread_slots hand t) taken [] (task k a ∷ todo)) log u.desk
+            (walk_settled (thread_slots hand u) r.taken g.0 todo) (log ++ told_line s))
             (λ j. record { statement = k; answer = sym y.says j; ended = sym y.tells j })
             (g.2 todo log));
       }
@@ -88,25 +91,26 @@ module _ (hand k : ℕ) (t u : TableNow ℕ) (none : t.endings ≡ []) where
         endings = [];
         piled = y.endings ∙ none;
         goes = λ todo log.
-            subst (λ b. Takes field_0 t.desk (settled (held hand t) taken [] (task k a ∷ todo)) log u.desk
-            (settled (held hand u) b [] todo) (log ++ told (said_by k x))) (sym y.takes)
-            (subst (λ l. Takes field_0 t.desk (settled (held hand t) taken [] (task k a ∷ todo)) log u.desk
-            (settled (held hand u) _ [] todo) l) (sym (ap (λ l. log ++ l) (no_line k x.answer x.ended y.silent.0 y.silent.1) ∙ append-nil log))
+            subst (λ b. TakesThread field_0 t.desk (walk_settled (thread_slots hand t) taken [] (task k a ∷ todo)) log u.desk
+            (walk_settled (thread_slots hand u) b [] todo) (log ++ told_line (statement_says k x))) (sym y.takes)
+            (subst (λ l. TakesThread field_0 t.desk (walk_settled (thread_slots hand t) taken [] (task k a ∷ todo)) log u.desk
+            (walk_settled (thread_slots hand u) _ [] todo) l) (sym (ap (λ l. log ++ l) (no_line k x.answer x.ended y.silent.0 y.silent.1) ∙ append-nil log))
             (passes_over field_0 (hand + 1) k t u taken a todo log y.quiet y.free y.slots));
       }
 
   module _ (i : ℕ) (c : CellName) (weak : Bool) (e : Option ended.Ended) (bare : IfNone e (u.endings ≡ [])) (some : IfSome e (IsTop u))
-      (busy : idle (act.Compare i c weak) (held hand t) true ≡ false) where
+      (busy : idle (act.Compare i c weak) (thread_slots hand t) true ≡ false) where
     abbrev said : Bool → List Said
     said b = line k (Some (answer.Compared b)) None
 
     pub compared_on : ByCompare ℕ field_0 (hand + 1) i t u c weak
         → IsOnward hand k t true (task k (act.Compare i c weak) ∷ task k (act.Put i) ∷ task k act.Drop ∷ []) false (said true ++ line k None e) u
-    compared_on y = go (idle act.Drop (held hand y.between) false) refl
+    compared_on y = go (idle act.Drop (thread_slots hand y.between) false) refl
       where
         begun : (todo : List Task) (log : List Said)
-            → Takes field_0 t.desk (settled (held hand t) true [] (task k (act.Compare i c weak) ∷ task k (act.Put i) ∷ task k act.Drop ∷ todo)) log
-            y.between.desk (settled (held hand y.between) false [] (task k act.Drop ∷ todo)) (log ++ said true)
+            → TakesThread field_0 t.desk
+            (walk_settled (thread_slots hand t) true [] (task k (act.Compare i c weak) ∷ task k (act.Put i) ∷ task k act.Drop ∷ todo)) log
+            y.between.desk (walk_settled (thread_slots hand y.between) false [] (task k act.Drop ∷ todo)) (log ++ said true)
         begun todo log part n tells =
             passes_over field_0 (hand + 1) k y.between y.between false (act.Put i) (task k act.Drop ∷ todo) (log ++ said true) (stays y.between) refl
             refl part n
@@ -116,7 +120,7 @@ module _ (hand k : ℕ) (t u : TableNow ℕ) (none : t.endings ≡ []) where
         clear : y.between.endings ≡ []
         clear = y.compares.ends ∙ none
 
-        go : (b : Bool) → idle act.Drop (held hand y.between) false ≡ b
+        go : (b : Bool) → idle act.Drop (thread_slots hand y.between) false ≡ b
             → IsOnward hand k t true (task k (act.Compare i c weak) ∷ task k (act.Put i) ∷ task k act.Drop ∷ []) false (said true ++ line k None e) u
         go false is =
             let x = y.drops is in
@@ -124,16 +128,16 @@ module _ (hand k : ℕ) (t u : TableNow ℕ) (none : t.endings ≡ []) where
             let after : y.after ≡ record u { slots = y.after.slots } = λ j. record { desk = y.same.0 j; slots = y.after.slots; endings = y.same.2 j } in
             let told_is : e ≡ x.left =
             top_told y.between (record u { slots = y.after.slots }) x.left e clear
-            (subst (λ (v : TableNow ℕ). IsTold y.between.endings x.left v.desk v.endings) after x.told) bare some in
+            (subst (λ (v : TableNow ℕ). IsToldEnding y.between.endings x.left v.desk v.endings) after x.told) bare some in
             record {
               endings = on.0;
               piled = subst (λ zs. Piled k zs on.0) y.same.2 on.1;
               goes = λ todo log part n tells.
-                  subst (λ l. Tells field_0 part n u.desk (settled (held hand u) false on.0 todo) l)
+                  subst (λ l. TellsThread field_0 part n u.desk (walk_settled (thread_slots hand u) false on.0 todo) l)
                   (append_assoc log (said true) (line k None x.left) ∙ ap (λ q. log ++ (said true ++ line k None q)) (sym told_is))
-                  (subst (λ d. Tells field_0 part n d (settled (held hand u) false on.0 todo)
+                  (subst (λ d. TellsThread field_0 part n d (walk_settled (thread_slots hand u) false on.0 todo)
                   ((log ++ said true) ++ line k None x.left)) y.same.0
-                  (subst (λ l. Tells field_0 part n y.after.desk (settled l false on.0 todo)
+                  (subst (λ l. TellsThread field_0 part n y.after.desk (walk_settled l false on.0 todo)
                   ((log ++ said true) ++ line k None x.left)) y.same.1
                   (on.2 todo (log ++ said true) part n (begun todo log part n tells))));
             }
@@ -145,28 +149,28 @@ module _ (hand k : ℕ) (t u : TableNow ℕ) (none : t.endings ≡ []) where
               endings = [];
               piled = ended_none;
               goes = λ todo log part n tells.
-                  subst (λ l. Tells field_0 part n u.desk (settled (held hand u) false [] todo) l)
+                  subst (λ l. TellsThread field_0 part n u.desk (walk_settled (thread_slots hand u) false [] todo) l)
                   (sym (ap (λ q. log ++ (said true ++ line k None q)) nothing ∙ ap (λ l. log ++ l) (append-nil (said true))))
-                  (subst (λ d. Tells field_0 part n d (settled (held hand u) false [] todo) (log ++ said true)) y.same.0
-                  (subst (λ l. Tells field_0 part n y.after.desk (settled l false [] todo) (log ++ said true)) y.same.1
+                  (subst (λ d. TellsThread field_0 part n d (walk_settled (thread_slots hand u) false [] todo) (log ++ said true)) y.same.0
+                  (subst (λ l. TellsThread field_0 part n y.after.desk (walk_settled l false [] todo) (log ++ said true)) y.same.1
                   (passes_over field_0 (hand + 1) k y.between y.after false act.Drop todo (log ++ said true) x.0 is x.1 part n
                   (begun todo log part n tells))));
             }
 
     pub differs_on : ByDiffering ℕ field_0 (hand + 1) i t u c weak
         → IsOnward hand k t true (task k (act.Compare i c weak) ∷ task k (act.Put i) ∷ []) false (said false ++ line k None e) u
-    differs_on y = go (idle (act.Put i) (held hand y.between) true) refl
+    differs_on y = go (idle (act.Put i) (thread_slots hand y.between) true) refl
       where
         clear : y.between.endings ≡ []
         clear = y.compares.ends ∙ none
 
         begun : (todo : List Task) (log : List Said)
-            → Takes field_0 t.desk (settled (held hand t) true [] (task k (act.Compare i c weak) ∷ task k (act.Put i) ∷ todo)) log
-            y.between.desk (settled (held hand y.between) true [] (task k (act.Put i) ∷ todo)) (log ++ said false)
+            → TakesThread field_0 t.desk (walk_settled (thread_slots hand t) true [] (task k (act.Compare i c weak) ∷ task k (act.Put i) ∷ todo)) log
+            y.between.desk (walk_settled (thread_slots hand y.between) true [] (task k (act.Put i) ∷ todo)) (log ++ said false)
         begun todo log =
             acts_clear hand k t y.between true (act.Compare i c weak) _ none busy y.compares (y.compares.ends ∙ none) (task k (act.Put i) ∷ todo) log
 
-        go : (b : Bool) → idle (act.Put i) (held hand y.between) true ≡ b
+        go : (b : Bool) → idle (act.Put i) (thread_slots hand y.between) true ≡ b
             → IsOnward hand k t true (task k (act.Compare i c weak) ∷ task k (act.Put i) ∷ []) false (said false ++ line k None e) u
         go false is =
             let x = y.puts is in
@@ -176,7 +180,7 @@ module _ (hand k : ℕ) (t u : TableNow ℕ) (none : t.endings ≡ []) where
               endings = on.0;
               piled = on.1;
               goes = λ todo log part n tells.
-                  subst (λ l. Tells field_0 part n u.desk (settled (held hand u) false on.0 todo) l)
+                  subst (λ l. TellsThread field_0 part n u.desk (walk_settled (thread_slots hand u) false on.0 todo) l)
                   (append_assoc log (said false) (line k None x.left) ∙ ap (λ q. log ++ (said false ++ line k None q)) (sym told_is))
                   (on.2 todo (log ++ said false) part n (begun todo log part n tells));
             }
@@ -188,7 +192,7 @@ module _ (hand k : ℕ) (t u : TableNow ℕ) (none : t.endings ≡ []) where
               endings = [];
               piled = ended_none;
               goes = λ todo log part n tells.
-                  subst (λ l. Tells field_0 part n u.desk (settled (held hand u) false [] todo) l)
+                  subst (λ l. TellsThread field_0 part n u.desk (walk_settled (thread_slots hand u) false [] todo) l)
                   (sym (ap (λ q. log ++ (said false ++ line k None q)) nothing ∙ ap (λ l. log ++ l) (append-nil (said false))))
                   (passes_over field_0 (hand + 1) k y.between u true (act.Put i) todo (log ++ said false) x.0 is x.1 part n (begun todo log part n tells));
             }

@@ -3,21 +3,21 @@ use Rattle.std.proofs.Common.{◌≡◌, ℕ, zero, suc, ◌<◌, ◌+◌, Bool,
 use Rattle.std.proofs.Common.{◌∙◌, inl, inr, arith}
 use Rattle.std.specs.Prelude.{IfNone, IfSome, not, slice_get, slice_set}
 use Rattle.handle_table.specs.Calls as calls
-use Rattle.handle_table.specs.Parts.{kind_of, owned_by, place_of}
+use Rattle.handle_table.specs.Parts.{kind_of_held, block_of_held, place_of_held}
 use Rattle.handle_table.specs.Tables.{TableNow}
 use Rattle.script_runner.proofs.Acting.{below}
 use Rattle.script_runner.proofs.Putting.{quiet_left}
 use Rattle.script_runner.proofs.Seating as seating
 use Rattle.script_runner.proofs.Stages.{last_same, some_last}
 use Rattle.script_runner.proofs.TableLaws as law
-use Rattle.script_runner.specs.Deals.{IsActed, IsDealt, IsEmptied, IsTop, field_0, held}
-use Rattle.script_runner.specs.Seats.{IsQuiet, IsSeated, IsTold, Leaving, shown}
+use Rattle.script_runner.specs.Deals.{IsActed, IsDealt, IsEmptied, IsTop, field_0, thread_slots}
+use Rattle.script_runner.specs.Seats.{IsQuiet, IsSeated, IsToldEnding, Leaving, shown_slots}
 use Rattle.script_runner.specs.declared.went.Went.{Went}
 use Rattle.shared_handle.specs.declared.endings.Ending as pile
 use Rattle.shared_handle.specs.declared.pile.Gone.{Gone}
 use Rattle.step_table.specs.Contents.{slot_by}
 use Rattle.step_table.specs.Deeds.{remains}
-use Rattle.step_table.specs.Holdings.{Slots, is_full, plain, pointer_of, slot, value}
+use Rattle.step_table.specs.Holdings.{Slots, is_full, plain, pointer_of, slot_pointer, slot_value}
 use Rattle.step_table.specs.declared.ended.Ended.{Ended}
 use Rattle.step_threads.specs.Courses.{idle, other}
 use Rattle.step_threads.specs.Rows.{Left, row}
@@ -32,7 +32,7 @@ abbrev pub left : Bool → Option Ended → Went
 left taken e = record { taken = taken; answer = None; ended = e }
 
 -- what is told of what an act left to end
-pub top_told : (t u : TableNow ℕ) (l e : Option Ended) → t.endings ≡ [] → IsTold t.endings l u.desk u.endings → IfNone e (u.endings ≡ [])
+pub top_told : (t u : TableNow ℕ) (l e : Option Ended) → t.endings ≡ [] → IsToldEnding t.endings l u.desk u.endings → IfNone e (u.endings ≡ [])
     → IfSome e (IsTop u) → e ≡ l
 top_told t u None None none is bare some = refl
 top_told t u None (Some r) none is bare some =
@@ -44,10 +44,10 @@ top_told t u (Some r) (Some q) none is bare some =
     ap Some (some.3 ∙ (ap (λ (x : pile.Ending ℕ). remains (object_in u.desk x.block.0)) same ∙ sym is.2))
 
 -- an act that leaves a slot
-pub left_by : (hand : ℕ) (t u : TableNow ℕ) (taken after : Bool) (a : Act) (e : Option Ended) → idle a (held hand t) taken ≡ false
-    → ((last : Bool) (l : Option Ended) → (row a (held hand t) taken (Left last l)).taken ≡ after)
-    → ((last : Bool) (l : Option Ended) → (row a (held hand t) taken (Left last l)).answer ≡ None)
-    → ((last : Bool) (l : Option Ended) → (row a (held hand t) taken (Left last l)).ended ≡ l)
+pub left_by : (hand : ℕ) (t u : TableNow ℕ) (taken after : Bool) (a : Act) (e : Option Ended) → idle a (thread_slots hand t) taken ≡ false
+    → ((last : Bool) (l : Option Ended) → (row a (thread_slots hand t) taken (Left last l)).taken ≡ after)
+    → ((last : Bool) (l : Option Ended) → (row a (thread_slots hand t) taken (Left last l)).answer ≡ None)
+    → ((last : Bool) (l : Option Ended) → (row a (thread_slots hand t) taken (Left last l)).ended ≡ l)
     → t.endings ≡ [] → Leaving field_0 (hand + 1) t taken a u → IfNone e (u.endings ≡ []) → IfSome e (IsTop u)
     → IsActed hand t taken a (left after e) u
 left_by hand t u taken after a e busy takes says tells none y bare some =
@@ -69,14 +69,14 @@ put_none hand i t =
     inr (record { free = refl; quiet = stays t; slots = refl; endings = refl; takes = refl; silent = (refl, refl) })
 
 module _ (hand : ℕ) (t u : TableNow ℕ) (is : IsSeated (hand + 1) hand t) (none : t.endings ≡ []) where
-  pub put_busy : (i : ℕ) (e : Option Ended) → i < hand → is_full (slot (held hand t) i) ≡ true → calls.Moves t hand i u
+  pub put_busy : (i : ℕ) (e : Option Ended) → i < hand → is_full (slot_pointer (thread_slots hand t) i) ≡ true → calls.MovesSlot t hand i u
       → IfNone e (u.endings ≡ []) → IfSome e (IsTop u)
       → IsDealt hand t true (act.Put i) (left false e) u
   put_busy i e lt full moves bare some =
       inl (left_by hand t u true false (act.Put i) e (ap not full) (λ last l. refl) (λ last l. refl) (λ last l. refl) none
       (law.puts field_0 (hand + 1) i hand true t u is lt moves) bare some)
 
-  pub put_free : (i : ℕ) → i < hand → is_full (slot (held hand t) i) ≡ false → calls.Moves t hand i u
+  pub put_free : (i : ℕ) → i < hand → is_full (slot_pointer (thread_slots hand t) i) ≡ false → calls.MovesSlot t hand i u
       → IsDealt hand t true (act.Put i) (left false None) u
   put_free i lt free moves =
       let x = law.puts_idle (hand + 1) i hand t u is lt moves free in
@@ -89,32 +89,32 @@ module _ (hand : ℕ) (t u : TableNow ℕ) (is : IsSeated (hand + 1) hand t) (no
       left_by hand t u taken taken (act.Leave i) e refl (λ last l. refl) (λ last l. refl) (λ last l. refl) none
       (law.empties field_0 (hand + 1) i taken t u is.fits (below hand i lt) c).0 bare some
 
-  pub clear_busy : (i : ℕ) (taken : Bool) (e : Option Ended) → i < hand → is_full (slot (held hand t) i) ≡ true → IsEmptied t i u
+  pub clear_busy : (i : ℕ) (taken : Bool) (e : Option Ended) → i < hand → is_full (slot_pointer (thread_slots hand t) i) ≡ true → IsEmptied t i u
       → IfNone e (u.endings ≡ []) → IfSome e (IsTop u)
       → IsDealt hand t taken (act.Clear i) (left taken e) u
   clear_busy i taken e lt full c bare some =
       inl (left_by hand t u taken taken (act.Clear i) e (ap not full) (λ last l. refl) (λ last l. refl) (λ last l. refl) none
       (law.empties field_0 (hand + 1) i taken t u is.fits (below hand i lt) c).1 bare some)
 
-  other_is : (i : ℕ) → i + 1 ≡ hand → other (held hand t) ≡ i
+  other_is : (i : ℕ) → i + 1 ≡ hand → other (thread_slots hand t) ≡ i
   other_is i at = let many = seating.shown_many (hand + 1) t.slots is.many in omega (arith, many, at)
 
-  pub drop_busy : (i : ℕ) (taken : Bool) (e : Option Ended) (gone : Gone) → i + 1 ≡ hand → is_full (slot (held hand t) i) ≡ true
+  pub drop_busy : (i : ℕ) (taken : Bool) (e : Option Ended) (gone : Gone) → i + 1 ≡ hand → is_full (slot_pointer (thread_slots hand t) i) ≡ true
       → calls.Resets t i gone u → IfNone e (u.endings ≡ []) → IfSome e (IsTop u)
       → IsDealt hand t taken act.Drop (left taken e) u
   drop_busy i taken e gone at full c bare some =
       inl (left_by hand t u taken taken act.Drop e
-      (ap (λ k. not (is_full (slot (held hand t) k))) (other_is i at) ∙ ap not full)
+      (ap (λ k. not (is_full (slot_pointer (thread_slots hand t) k))) (other_is i at) ∙ ap not full)
       (λ last l. refl) (λ last l. refl) (λ last l. refl) none
       (law.resets field_0 (hand + 1) hand i taken t u is (omega (arith, at)) gone c) bare some)
 
-pub clear_free : (hand i : ℕ) (t : TableNow ℕ) (taken : Bool) → is_full (slot (held hand t) i) ≡ false
+pub clear_free : (hand i : ℕ) (t : TableNow ℕ) (taken : Bool) → is_full (slot_pointer (thread_slots hand t) i) ≡ false
     → IsDealt hand t taken (act.Clear i) (left taken None) t
 clear_free hand i t taken free =
     inr (record { free = ap not free; quiet = stays t; slots = refl; endings = refl; takes = refl; silent = (refl, refl) })
 
 -- a slot that is empty is made so
-pub plain_again : (l : Slots) (i : ℕ) → value l i ≡ plain → slice_set l i plain ≡ l
+pub plain_again : (l : Slots) (i : ℕ) → slot_value l i ≡ plain → slice_set l i plain ≡ l
 plain_again [] i e = refl
 plain_again (x ∷ l) zero e = ap (λ y. y ∷ l) (sym e)
 plain_again (x ∷ l) (suc i) e = ap (λ k. x ∷ k) (plain_again l i e)
@@ -127,30 +127,32 @@ owns_none k (Some b) p e = absurd cc
 module _ (hand : ℕ) (t u : TableNow ℕ) (is : IsSeated (hand + 1) hand t) where
   pub drop_none : (i : ℕ) (taken : Bool) → i + 1 ≡ hand → slice_get t.slots i ≡ Some None → IsDealt hand t taken act.Drop (left taken None) t
   drop_none i taken at vacant =
-      let o : other (held hand t) ≡ i = let many = seating.shown_many (hand + 1) t.slots is.many in omega (arith, many, at) in
-      let v : value (held hand t) (other (held hand t)) ≡ plain =
-      ap (λ k. value (held hand t) k) o ∙ seating.shown_at (hand + 1) t.slots i None (omega (arith, at)) vacant in
+      let o : other (thread_slots hand t) ≡ i = let many = seating.shown_many (hand + 1) t.slots is.many in omega (arith, many, at) in
+      let v : slot_value (thread_slots hand t) (other (thread_slots hand t)) ≡ plain =
+      ap (λ k. slot_value (thread_slots hand t) k) o ∙ seating.shown_at (hand + 1) t.slots i None (omega (arith, at)) vacant in
       inr (record {
         free = ap (λ x. not (is_full (pointer_of x))) v;
         quiet = stays t;
-        slots = sym (plain_again (held hand t) (other (held hand t)) v);
+        slots = sym (plain_again (thread_slots hand t) (other (thread_slots hand t)) v);
         endings = refl;
         takes = refl;
         silent = (refl, refl);
       })
 
-  pub drop_free : (i : ℕ) (taken : Bool) (gone : Gone) → i + 1 ≡ hand → is_full (slot (held hand t) i) ≡ false → calls.Resets t i gone u
+  pub drop_free : (i : ℕ) (taken : Bool) (gone : Gone) → i + 1 ≡ hand → is_full (slot_pointer (thread_slots hand t) i) ≡ false
+      → calls.Resets t i gone u
       → IsDealt hand t taken act.Drop (left taken None) u
   drop_free i taken gone at free c =
-      let o : other (held hand t) ≡ i = let many = seating.shown_many (hand + 1) t.slots is.many in omega (arith, many, at) in
+      let o : other (thread_slots hand t) ≡ i = let many = seating.shown_many (hand + 1) t.slots is.many in omega (arith, many, at) in
       let v = seating.shown_at (hand + 1) t.slots i (Some c.of) (omega (arith, at)) c.was in
-      let none : owned_by c.of ≡ None =
-      owns_none (kind_of c.of) (owned_by c.of) (place_of c.of) (sym (ap (λ x. is_full (pointer_of x)) v) ∙ free) in
+      let none : block_of_held c.of ≡ None =
+      owns_none (kind_of_held c.of) (block_of_held c.of) (place_of_held c.of) (sym (ap (λ x. is_full (pointer_of x)) v) ∙ free) in
       let x = quiet_left t.desk u.desk t.endings u.endings c.of gone none c.leaves in
       inr (record {
-        free = ap (λ k. not (is_full (slot (held hand t) k))) o ∙ ap not free;
+        free = ap (λ k. not (is_full (slot_pointer (thread_slots hand t) k))) o ∙ ap not free;
         quiet = x.0;
-        slots = ap (shown (hand + 1)) c.slots ∙ (seating.shown_set (hand + 1) t.slots i None ∙ ap (λ k. slice_set (held hand t) k plain) (sym o));
+        slots = ap (shown_slots (hand + 1)) c.slots ∙
+            (seating.shown_set (hand + 1) t.slots i None ∙ ap (λ k. slice_set (thread_slots hand t) k plain) (sym o));
         endings = x.1;
         takes = refl;
         silent = (refl, refl);
@@ -158,7 +160,7 @@ module _ (hand : ℕ) (t u : TableNow ℕ) (is : IsSeated (hand + 1) hand t) whe
 
 -- the same, where what was left to end was looked at
 module _ (hand : ℕ) (t u v : TableNow ℕ) (is : IsSeated (hand + 1) hand t) (none : t.endings ≡ []) where
-  pub put_top : (i : ℕ) (e : Option Ended) → i < hand → is_full (slot (held hand t) i) ≡ true → calls.Moves t hand i u
+  pub put_top : (i : ℕ) (e : Option Ended) → i < hand → is_full (slot_pointer (thread_slots hand t) i) ≡ true → calls.MovesSlot t hand i u
       → IfNone e (u.endings ≡ []) → IfSome e (IsTop u) → v ≡ u
       → IsDealt hand t true (act.Put i) (left false e) v
   put_top i e lt full moves bare some same =
@@ -170,13 +172,13 @@ module _ (hand : ℕ) (t u v : TableNow ℕ) (is : IsSeated (hand + 1) hand t) (
   leave_top i taken e lt c bare some same =
       subst (λ w. IsActed hand t taken (act.Leave i) (left taken e) w) (sym same) (leave_busy hand t u is none i taken e lt c bare some)
 
-  pub clear_top : (i : ℕ) (taken : Bool) (e : Option Ended) → i < hand → is_full (slot (held hand t) i) ≡ true → IsEmptied t i u
+  pub clear_top : (i : ℕ) (taken : Bool) (e : Option Ended) → i < hand → is_full (slot_pointer (thread_slots hand t) i) ≡ true → IsEmptied t i u
       → IfNone e (u.endings ≡ []) → IfSome e (IsTop u) → v ≡ u
       → IsDealt hand t taken (act.Clear i) (left taken e) v
   clear_top i taken e lt full c bare some same =
       subst (λ w. IsDealt hand t taken (act.Clear i) (left taken e) w) (sym same) (clear_busy hand t u is none i taken e lt full c bare some)
 
-  pub drop_top : (i : ℕ) (taken : Bool) (e : Option Ended) (gone : Gone) → i + 1 ≡ hand → is_full (slot (held hand t) i) ≡ true
+  pub drop_top : (i : ℕ) (taken : Bool) (e : Option Ended) (gone : Gone) → i + 1 ≡ hand → is_full (slot_pointer (thread_slots hand t) i) ≡ true
       → calls.Resets t i gone u
       → IfNone e (u.endings ≡ []) → IfSome e (IsTop u) → v ≡ u
       → IsDealt hand t taken act.Drop (left taken e) v

@@ -5,10 +5,10 @@ use Rattle.std.specs.Prelude.{IfSome}
 use Rattle.control_block.specs.Own.{KeepsDesks}
 use Rattle.control_word.specs.State.{State}
 use Rattle.script_runner.proofs.Tallying.{act_counts, ends_of, makes_of, mild_some, tells}
-use Rattle.script_runner.specs.Totals.{asked_in, asks, ends, makes, refuses}
-use Rattle.step_table.specs.Holdings.{Slots, is_full, slot}
+use Rattle.script_runner.specs.Totals.{asked_in, objects_asked, ends, makes, refuses}
+use Rattle.step_table.specs.Holdings.{Slots, is_full, slot_pointer}
 use Rattle.step_table.specs.declared.form.Form.{Form}
-use Rattle.step_threads.specs.Courses.{Walk, hand, idle, settled, slots_idle, taken_idle}
+use Rattle.step_threads.specs.Courses.{Walk, hand, idle, walk_settled, slots_idle, taken_idle}
 use Rattle.step_threads.specs.Doings.{Ahead, AnAct, AnEnd, Doing, DoesAhead, Over, ahead, ahead_of}
 use Rattle.step_threads.specs.Rows.{row}
 use Rattle.step_threads.specs.declared.act.Act.{Act}
@@ -18,7 +18,7 @@ use Rattle.step_threads.specs.declared.ending.Ending.{Ending}
 use Rattle.step_threads.specs.declared.said.Said.{Said}
 
 -- tasks that are passed over ask for no object
-idle_asks : (a : Act) (l : Slots) (taken : Bool) → idle a l taken ≡ true → asks a ≡ 0
+idle_asks : (a : Act) (l : Slots) (taken : Bool) → idle a l taken ≡ true → objects_asked a ≡ 0
 idle_asks (act.Make form) l taken is = absurd cc
 idle_asks (act.Share k) l taken is = refl
 idle_asks (act.Put k) l taken is = refl
@@ -40,16 +40,17 @@ idle_asks (act.Exchange k c) l taken is = refl
 idle_asks (act.Load c) l taken is = refl
 idle_asks (act.Compare k c weak) l taken is = refl
 
-pub settled_asks : (l : Slots) (taken : Bool) (es : List Ending) (ts : List Task) → asked_in (settled l taken es ts).todo ≡ asked_in ts
+pub settled_asks : (l : Slots) (taken : Bool) (es : List Ending) (ts : List Task) → asked_in (walk_settled l taken es ts).todo ≡ asked_in ts
 settled_asks l taken es [] = refl
 settled_asks l taken es (t ∷ ts) =
-    cond_both (idle t.act l taken) (settled (slots_idle t.act l taken) (taken_idle t.act taken) es ts)
+    cond_both (idle t.act l taken) (walk_settled (slots_idle t.act l taken) (taken_idle t.act taken) es ts)
     (record { slots = l; taken = taken; endings = es; todo = t ∷ ts }) (λ w. asked_in w.todo ≡ asked_in (t ∷ ts))
     (λ is. let no = idle_asks t.act l taken is in
     let ih = settled_asks (slots_idle t.act l taken) (taken_idle t.act taken) es ts in omega (arith, no, ih))
     (λ is. refl)
 
-ahead_asks : (l : Slots) (es : List Ending) (ts us : List Task) (t : Task) → ahead_of l es ts ≡ AnAct t us → asks t.act + asked_in us ≡ asked_in ts
+ahead_asks : (l : Slots) (es : List Ending) (ts us : List Task) (t : Task) → ahead_of l es ts ≡ AnAct t us
+    → objects_asked t.act + asked_in us ≡ asked_in ts
 ahead_asks l [] [] us t is = absurd cc
 ahead_asks l [] (v ∷ ts) us t is = same is
   where
@@ -61,11 +62,11 @@ ahead_asks l [] (v ∷ ts) us t is = same is
     rest_of (AnAct a b) = b
     rest_of _ = ts
 
-    same : AnAct v ts ≡ AnAct t us → asks t.act + asked_in us ≡ asks v.act + asked_in ts
+    same : AnAct v ts ≡ AnAct t us → objects_asked t.act + asked_in us ≡ objects_asked v.act + asked_in ts
     same e =
-        let a : asks v.act ≡ asks t.act = ap (λ x. asks (task_of x).act) e in
+        let a : objects_asked v.act ≡ objects_asked t.act = ap (λ x. objects_asked (task_of x).act) e in
         let b : asked_in ts ≡ asked_in us = ap (λ x. asked_in (rest_of x)) e in omega (arith, a, b)
-ahead_asks l (e ∷ es) ts us t is = go (is_full (slot l (hand l))) is
+ahead_asks l (e ∷ es) ts us t is = go (is_full (slot_pointer l (hand l))) is
   where
     leave : Task
     leave = record { statement = e.statement; act = act.Leave (hand l) }
@@ -78,9 +79,9 @@ ahead_asks l (e ∷ es) ts us t is = go (is_full (slot l (hand l))) is
     rest_of (AnAct a b) = b
     rest_of _ = ts
 
-    go : (b : Bool) → cond b (AnAct leave ts) (AnEnd e es) ≡ AnAct t us → asks t.act + asked_in us ≡ asked_in ts
+    go : (b : Bool) → cond b (AnAct leave ts) (AnEnd e es) ≡ AnAct t us → objects_asked t.act + asked_in us ≡ asked_in ts
     go true is =
-        let a : 0 ≡ asks t.act = ap (λ x. asks (task_of x).act) is in
+        let a : 0 ≡ objects_asked t.act = ap (λ x. objects_asked (task_of x).act) is in
         let b : asked_in ts ≡ asked_in us = ap (λ x. asked_in (rest_of x)) is in omega (arith, a, b)
     go false is = absurd cc
 

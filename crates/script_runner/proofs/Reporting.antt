@@ -28,7 +28,7 @@ use Rattle.script_text.specs.Beginnings.{shape_for}
 use Rattle.script_text.specs.Drafts.{ScriptView}
 use Rattle.script_text.specs.Scripts.{part_in, program_in}
 use Rattle.script_text.specs.Versions.{blocks_in}
-use Rattle.step_threads.specs.Interleavings.{IsParting}
+use Rattle.step_threads.specs.Interleavings.{IsSplitOrJoin}
 use Rattle.step_threads.specs.declared.said.Said.{Said}
 
 -- the shape of a script's domain
@@ -80,7 +80,7 @@ module _ {G : Type 0} where
       subst (λ (k : Shape). IsInterleaved field_0 (opening_of k) s.last.seen ps ls) at
       (teams_interleave {V = ℕ} field_0 ps ls s.domain share.slots first s.works.out.after st.between s.last st.lent st.left share.allowance
       share.blocks s.works.begins s.works.new st.parts play st.absorbs s.works.out.winds_up legal) in
-      let others = recursion_from_All (λ (e : Entry ℕ). Has e.desk woven.names ⊎ IsParting e.event) s.last.seen woven.others in
+      let others = recursion_from_All (λ (e : Entry ℕ). Has e.desk woven.names ⊎ IsSplitOrJoin e.event) s.last.seen woven.others in
       let sums = made_all (opening_of shape) s.last.seen woven.names ps had st.lent has st.left report.lines.items ready st.each said
       woven.each in
       record {

@@ -2,7 +2,7 @@
 use Rattle.std.proofs.Common.{subst, ◌∙◌, arith}
 use Rattle.std.proofs.Common.{◌≡◌, ℕ, zero, suc, ◌+◌, ◌<◌, ◌≤◌, List, [], ◌∷◌, length, Option, Some, None, refl, sym, ap}
 use Rattle.std.specs.Prelude.{slice_get, slice_set}
-use Rattle.control_block.specs.CellCalls.{Holds}
+use Rattle.control_block.specs.CellCalls.{HoldsHandle}
 use Rattle.control_block.specs.Desks.{DeskNow, HasHandle}
 use Rattle.control_block.specs.declared.handles.Held.TheVariants.{Owner, Weak}
 use Rattle.control_block.specs.declared.handles.Held.{Held}
@@ -12,14 +12,14 @@ use Rattle.control_word.specs.declared.place.Block.{Block}
 use Rattle.control_word.specs.declared.place.Place.{Place}
 use Rattle.handle_table.proofs.Filling.{fits_at}
 use Rattle.handle_table.specs.Calls.{Comes, LeavesSlot}
-use Rattle.handle_table.specs.Parts.{kind_of, owned_by, place_of}
+use Rattle.handle_table.specs.Parts.{kind_of_held, block_of_held, place_of_held}
 use Rattle.handle_table.specs.Tables as table
-use Rattle.handle_table.specs.Tables.{Fits, TableNow}
+use Rattle.handle_table.specs.Tables.{FitsSlots, TableNow}
 use Rattle.script_runner.specs.Calls.{HasPointer}
-use Rattle.script_runner.specs.Seats.{IsHand, IsQuiet, as_slot, shown}
+use Rattle.script_runner.specs.Seats.{IsHand, IsQuiet, as_slot, shown_slots}
 use Rattle.shared_handle.specs.Calls.{counting}
 use Rattle.step_table.specs.Contents.{slot_by}
-use Rattle.step_table.specs.Holdings.{pointer_of, slot, value}
+use Rattle.step_table.specs.Holdings.{pointer_of, slot_pointer, slot_value}
 use Rattle.step_table.specs.declared.slot.Slot.{Slot}
 use Rattle.step_threads.specs.Courses.{hand}
 
@@ -30,55 +30,56 @@ or_else a (Some x) = x
 pub same_some : {A : Type 0} (x y : A) → Some x ≡ Some y → x ≡ y
 same_some x y e = ap (or_else x) e
 
-pub shown_set : (m : ℕ) (ss : List table.Slot) (k : ℕ) (s : table.Slot) → shown m (slice_set ss k s) ≡ slice_set (shown m ss) k (as_slot s)
+pub shown_set : (m : ℕ) (ss : List table.Slot) (k : ℕ) (s : table.Slot) → shown_slots m (slice_set ss k s) ≡ slice_set (shown_slots m ss) k (as_slot s)
 shown_set zero ss k s = refl
 shown_set (suc m) [] k s = refl
 shown_set (suc m) (x ∷ ss) zero s = refl
 shown_set (suc m) (x ∷ ss) (suc k) s = ap (λ l. as_slot x ∷ l) (shown_set m ss k s)
 
-pub shown_at : (m : ℕ) (ss : List table.Slot) (i : ℕ) (s : table.Slot) → i < m → slice_get ss i ≡ Some s → value (shown m ss) i ≡ as_slot s
+pub shown_at : (m : ℕ) (ss : List table.Slot) (i : ℕ) (s : table.Slot) → i < m → slice_get ss i ≡ Some s
+    → slot_value (shown_slots m ss) i ≡ as_slot s
 shown_at zero ss i s lt at = let no : ⊥ = omega (arith, lt) in absurd no
 shown_at (suc m) [] i s lt at = absurd cc
 shown_at (suc m) (x ∷ ss) zero s lt at = ap as_slot (same_some x s at)
 shown_at (suc m) (x ∷ ss) (suc i) s lt at = shown_at m ss i s (omega (arith, lt)) at
 
-pub shown_many : (m : ℕ) (ss : List table.Slot) → m ≤ length ss → length (shown m ss) ≡ m
+pub shown_many : (m : ℕ) (ss : List table.Slot) → m ≤ length ss → length (shown_slots m ss) ≡ m
 shown_many zero ss le = refl
 shown_many (suc m) [] le = let no : ⊥ = omega (arith, le) in absurd no
 shown_many (suc m) (x ∷ ss) le = ap suc (shown_many m ss (omega (arith, le)))
 
 -- what a handle's parts tell of its slot
-pub as_parts : (h : Held) (k : Kind) (b : Option Block) (p : Option Place) → kind_of h ≡ k → owned_by h ≡ b → place_of h ≡ p
+pub as_parts : (h : Held) (k : Kind) (b : Option Block) (p : Option Place) → kind_of_held h ≡ k → block_of_held h ≡ b → place_of_held h ≡ p
     → as_slot (Some h) ≡ slot_by k b p
 as_parts h k b p e f g = λ i. slot_by (e i) (f i) (g i)
 
-pub hand_at : (m i : ℕ) (ss : List table.Slot) → m ≤ length ss → i + 1 ≡ m → hand (shown m ss) ≡ i
+pub hand_at : (m i : ℕ) (ss : List table.Slot) → m ≤ length ss → i + 1 ≡ m → hand (shown_slots m ss) ≡ i
 hand_at m i ss le last = let many = shown_many m ss le in omega (arith, many, last)
 
 module _ {V : Type 0} where
   -- the hand of the thread is that of the table
-  pub hand_is : (m i : ℕ) (t : TableNow V) → IsHand m i t → hand (shown m t.slots) ≡ i
+  pub hand_is : (m i : ℕ) (t : TableNow V) → IsHand m i t → hand (shown_slots m t.slots) ≡ i
   hand_is m i t is = hand_at m i t.slots is.many is.last
 
-  pub has_object : (d : DeskNow V) (ss : List table.Slot) (i : ℕ) (h : Held) (b : Block) → Fits d ss → slice_get ss i ≡ Some (Some h)
-      → owned_by h ≡ Some b → HasHandle d (kind_of h) (place_of h) b.0
-  has_object d ss i (Owner h) b fits at e = subst (λ x. Holds d kind.Owner x h.place) e (fits_at d ss i (Owner h) fits at)
-  has_object d ss i (Weak w) b fits at e = subst (λ x. Holds d kind.Weak x w.place) e (fits_at d ss i (Weak w) fits at)
+  pub has_object : (d : DeskNow V) (ss : List table.Slot) (i : ℕ) (h : Held) (b : Block) → FitsSlots d ss → slice_get ss i ≡ Some (Some h)
+      → block_of_held h ≡ Some b → HasHandle d (kind_of_held h) (place_of_held h) b.0
+  has_object d ss i (Owner h) b fits at e = subst (λ x. HoldsHandle d kind.Owner x h.place) e (fits_at d ss i (Owner h) fits at)
+  has_object d ss i (Weak w) b fits at e = subst (λ x. HoldsHandle d kind.Weak x w.place) e (fits_at d ss i (Weak w) fits at)
 
   -- the thread has the pointer of a handle in the table
-  pub has_pointer : (m i : ℕ) (t : TableNow V) (h : Held) (b : Block) → Fits t.desk t.slots → i < m → slice_get t.slots i ≡ Some (Some h)
-      → owned_by h ≡ Some b → HasPointer V t.desk (shown m t.slots) i (kind_of h) b (place_of h)
+  pub has_pointer : (m i : ℕ) (t : TableNow V) (h : Held) (b : Block) → FitsSlots t.desk t.slots → i < m → slice_get t.slots i ≡ Some (Some h)
+      → block_of_held h ≡ Some b → HasPointer V t.desk (shown_slots m t.slots) i (kind_of_held h) b (place_of_held h)
   has_pointer m i t h b fits lt at e =
       record {
-        at = ap pointer_of (shown_at m t.slots i (Some h) lt at ∙ as_parts h (kind_of h) (Some b) (place_of h) refl e refl);
+        at = ap pointer_of (shown_at m t.slots i (Some h) lt at ∙ as_parts h (kind_of_held h) (Some b) (place_of_held h) refl e refl);
         has = has_object t.desk t.slots i h b fits at e;
       }
 
   -- it has none of an empty one
   pub no_pointer : (m i : ℕ) (t : TableNow V) (h : Held) → i < m → slice_get t.slots i ≡ Some (Some h)
-      → owned_by h ≡ None → slot (shown m t.slots) i ≡ None
+      → block_of_held h ≡ None → slot_pointer (shown_slots m t.slots) i ≡ None
   no_pointer m i t h lt at e =
-      ap pointer_of (shown_at m t.slots i (Some h) lt at ∙ as_parts h (kind_of h) None (place_of h) refl e refl)
+      ap pointer_of (shown_at m t.slots i (Some h) lt at ∙ as_parts h (kind_of_held h) None (place_of_held h) refl e refl)
 
   -- an empty handle came or left
   pub quietly : (d e : DeskNow V) (n : ℕ) → e ≡ counting n d → IsQuiet d e
@@ -111,9 +112,9 @@ module _ {V : Type 0} where
 
   -- and is in the hand
   pub in_hand : (m i : ℕ) (t u : TableNow V) (h : Held) (x : Slot) → IsHand m i t → u.slots ≡ slice_set t.slots i (Some h) → as_slot (Some h) ≡ x
-      → shown m u.slots ≡ slice_set (shown m t.slots) (hand (shown m t.slots)) x
+      → shown_slots m u.slots ≡ slice_set (shown_slots m t.slots) (hand (shown_slots m t.slots)) x
   in_hand m i t u h x is set same =
-      ap (shown m) set
+      ap (shown_slots m) set
       ∙ (shown_set m t.slots i (Some h)
-      ∙ (ap (λ k. slice_set (shown m t.slots) k (as_slot (Some h))) (sym (hand_is m i t is))
-      ∙ ap (λ s. slice_set (shown m t.slots) (hand (shown m t.slots)) s) same))
+      ∙ (ap (λ k. slice_set (shown_slots m t.slots) k (as_slot (Some h))) (sym (hand_is m i t is))
+      ∙ ap (λ s. slice_set (shown_slots m t.slots) (hand (shown_slots m t.slots)) s) same))

@@ -8,11 +8,11 @@ use Rattle.script_runner.proofs.Ending.{by_quiet}
 use Rattle.script_runner.proofs.Onward.{none_piled}
 use Rattle.script_runner.proofs.Rounds.{rounds}
 use Rattle.script_runner.proofs.Stages.{last_same, some_last}
-use Rattle.script_runner.specs.Deals.{GoesOn, IsOnward, IsRoundTold, IsSeen, IsSettled, IsUnderWay, field_0, held}
-use Rattle.script_runner.specs.EndCalls.{RoundSays, Takes}
-use Rattle.script_runner.specs.Logs.{Tells, told}
-use Rattle.script_runner.specs.Seats.{IsHand, IsQuiet, as_slot, shown}
-use Rattle.script_runner.specs.Teams.{AllBare, Plays}
+use Rattle.script_runner.specs.Deals.{GoesOnWith, IsOnward, IsRoundTold, IsHandOfTable, IsSettledBy, IsPartlySettled, field_0, thread_slots}
+use Rattle.script_runner.specs.EndCalls.{RoundSays, TakesThread}
+use Rattle.script_runner.specs.Logs.{TellsThread, told_line}
+use Rattle.script_runner.specs.Seats.{IsHand, IsQuiet, as_slot, shown_slots}
+use Rattle.script_runner.specs.Teams.{AllBare, PlaysThread}
 use Rattle.shared_handle.specs.Piles.{IsRound}
 use Rattle.shared_handle.specs.declared.endings.Ending as pile
 use Rattle.shared_handle.specs.declared.pile.Gone.TheVariants as gone
@@ -22,7 +22,7 @@ use Rattle.step_table.specs.Deeds.{remains}
 use Rattle.step_table.specs.Holdings.{plain}
 use Rattle.step_table.specs.declared.ended.Ended as ended
 use Rattle.step_threads.specs.Acts.{tasks_from}
-use Rattle.step_threads.specs.Courses.{settled}
+use Rattle.step_threads.specs.Courses.{walk_settled}
 use Rattle.step_threads.specs.Interleavings.{first_walk, no_slots}
 use Rattle.step_threads.specs.Programs.{Part}
 use Rattle.step_threads.specs.declared.act.Task.{Task}
@@ -30,83 +30,84 @@ use Rattle.step_threads.specs.declared.ending.Ending.{Ending}
 use Rattle.step_threads.specs.declared.said.Said.{Said}
 use Rattle.control_block.specs.Desks.{object_in}
 
-pub in_seat : (hand : ℕ) (t : TableNow ℕ) → IsSeen hand t false → IsHand (hand + 1) hand t
+pub in_seat : (hand : ℕ) (t : TableNow ℕ) → IsHandOfTable hand t false → IsHand (hand + 1) hand t
 in_seat hand t s =
     let is = s.seated in
     record { fits = is.fits; stands = is.stands; many = is.many; last = is.last; vacant = s.vacant refl }
 
 -- what a round says is what is told of it
 round_line : (k : ℕ) (u : TableNow ℕ) (round : Round ℕ) (e : Option ended.Ended) (lines : List Said) → RoundSays k u.desk u.endings round lines
-    → IsRoundTold u round e → lines ≡ told (record { statement = k; answer = None; ended = e })
-round_line k u Settled e lines says is = says ∙ ap (λ q. told (record { statement = k; answer = None; ended = q })) (sym is)
-round_line k u (Ended v) e lines says is = says ∙ ap (λ q. told (record { statement = k; answer = None; ended = q })) (sym is)
-round_line k u (Cleared m gone.Empty) e lines says is = says ∙ ap (λ q. told (record { statement = k; answer = None; ended = q })) (sym is)
-round_line k u (Cleared m gone.Others) e lines says is = says ∙ ap (λ q. told (record { statement = k; answer = None; ended = q })) (sym is)
+    → IsRoundTold u round e → lines ≡ told_line (record { statement = k; answer = None; ended = e })
+round_line k u Settled e lines says is = says ∙ ap (λ q. told_line (record { statement = k; answer = None; ended = q })) (sym is)
+round_line k u (Ended v) e lines says is = says ∙ ap (λ q. told_line (record { statement = k; answer = None; ended = q })) (sym is)
+round_line k u (Cleared m gone.Empty) e lines says is = says ∙ ap (λ q. told_line (record { statement = k; answer = None; ended = q })) (sym is)
+round_line k u (Cleared m gone.Others) e lines says is = says ∙ ap (λ q. told_line (record { statement = k; answer = None; ended = q })) (sym is)
 round_line k u (Cleared m gone.Last) None lines says is = absurd (some_last says.0 says.1 (sym is.0 ∙ says.2))
 round_line k u (Cleared m gone.Last) (Some r) lines says is =
     let top = is.1 in
     let same = (last_same says.0 top.0 says.1 top.1 (sym says.2 ∙ top.2)).1 in
     let what : remains (object_in u.desk says.1.block.0) ≡ r =
     ap (λ (x : pile.Ending ℕ). remains (object_in u.desk x.block.0)) same ∙ sym top.3 in
-    says.3 ∙ ap (λ q. told (record { statement = k; answer = None; ended = Some q })) what
+    says.3 ∙ ap (λ q. told_line (record { statement = k; answer = None; ended = Some q })) what
 
-module _ (hand k : ℕ) (t u : TableNow ℕ) (taken : Bool) (s : IsSeen hand t false) (same : u.slots ≡ t.slots) where
+module _ (hand k : ℕ) (t u : TableNow ℕ) (taken : Bool) (s : IsHandOfTable hand t false) (same : u.slots ≡ t.slots) where
   pub round_on : (round : Round ℕ) → IsRound t.desk t.endings round u.desk u.endings → (e : Option ended.Ended) → IsRoundTold u round e
-      → (log lines : List Said) → lines ≡ log ++ told (record { statement = k; answer = None; ended = e })
-      → IsUnderWay hand k taken t log u lines
+      → (log lines : List Said) → lines ≡ log ++ told_line (record { statement = k; answer = None; ended = e })
+      → IsPartlySettled hand k taken t log u lines
   round_on round r e is log lines more es p =
       let x = rounds field_0 (hand + 1) hand k t u (in_seat hand t s) same s.ends round r es p in (
         x.endings,
         x.piled,
-        λ todo. subst (λ l. Takes field_0 t.desk (settled (held hand t) taken es todo) log u.desk
-            (settled (held hand u) taken x.endings todo) l)
+        λ todo. subst (λ l. TakesThread field_0 t.desk (walk_settled (thread_slots hand t) taken es todo) log u.desk
+            (walk_settled (thread_slots hand u) taken x.endings todo) l)
             (ap (λ l. log ++ l) (round_line k u round e x.lines x.says is) ∙ sym more) (x.takes taken todo log),
       )
 
-pub no_round : (hand k : ℕ) (t : TableNow ℕ) (taken : Bool) (log : List Said) → IsUnderWay hand k taken t log t log
+pub no_round : (hand k : ℕ) (t : TableNow ℕ) (taken : Bool) (log : List Said) → IsPartlySettled hand k taken t log t log
 no_round hand k t taken log es p = (es, p, λ todo part n tells. tells)
 
-pub rounds_then : (hand k : ℕ) (t v u : TableNow ℕ) (taken : Bool) (log said lines : List Said) → IsUnderWay hand k taken t log v said
-    → IsUnderWay hand k taken v said u lines → IsUnderWay hand k taken t log u lines
+pub rounds_then : (hand k : ℕ) (t v u : TableNow ℕ) (taken : Bool) (log said lines : List Said) → IsPartlySettled hand k taken t log v said
+    → IsPartlySettled hand k taken v said u lines → IsPartlySettled hand k taken t log u lines
 rounds_then hand k t v u taken log said lines x y es p =
     let a = x es p in
     let b = y a.0 a.1 in
     (b.0, b.1, λ todo part n tells. b.2 todo part n (a.2 todo part n tells))
 
-pub all_ended : (hand k : ℕ) (t u : TableNow ℕ) (taken : Bool) (log lines : List Said) → IsUnderWay hand k taken t log u lines → u.endings ≡ []
-    → IsSettled hand k taken t log u lines
+pub all_ended : (hand k : ℕ) (t u : TableNow ℕ) (taken : Bool) (log lines : List Said) → IsPartlySettled hand k taken t log u lines → u.endings ≡ []
+    → IsSettledBy hand k taken t log u lines
 all_ended hand k t u taken log lines x none es p todo =
     let a = x es p in
-    subst (λ fs. Takes field_0 t.desk (settled (held hand t) taken es todo) log u.desk (settled (held hand u) taken fs todo) lines)
+    subst (λ fs. TakesThread field_0 t.desk (walk_settled (thread_slots hand t) taken es todo) log u.desk
+    (walk_settled (thread_slots hand u) taken fs todo) lines)
     (none_piled k u.endings a.0 a.1 none) (a.2 todo)
 
 -- an act, and what ended by it
 pub then_settled : (hand k : ℕ) (t v u : TableNow ℕ) (taken takes : Bool) (ts : List Task) (log more lines said : List Said)
-    → IsOnward hand k t taken ts takes more v → said ≡ log ++ more → IsSettled hand k takes v said u lines
-    → (todo : List Task) → GoesOn hand t taken (ts ++ todo) log u takes todo lines
+    → IsOnward hand k t taken ts takes more v → said ≡ log ++ more → IsSettledBy hand k takes v said u lines
+    → (todo : List Task) → GoesOnWith hand t taken (ts ++ todo) log u takes todo lines
 then_settled hand k t v u taken takes ts log more lines said on is s todo part n tells =
     s on.endings on.piled todo part n
-    (subst (λ l. Tells field_0 part n v.desk (settled (held hand v) takes on.endings todo) l) (sym is) (on.goes todo log part n tells))
+    (subst (λ l. TellsThread field_0 part n v.desk (walk_settled (thread_slots hand v) takes on.endings todo) l) (sym is) (on.goes todo log part n tells))
 
 -- a new table's slots are empty
-pub vacant_shown : (m : ℕ) (ss : List table.Slot) → AllVacant ss → m ≤ length ss → shown m ss ≡ replicate m plain
+pub vacant_shown : (m : ℕ) (ss : List table.Slot) → AllVacant ss → m ≤ length ss → shown_slots m ss ≡ replicate m plain
 vacant_shown zero ss none le = refl
 vacant_shown (suc m) [] none le = let no : ⊥ = omega (arith, le) in absurd no
 vacant_shown (suc m) (s ∷ ss) none le =
-    (λ j. as_slot (none.0 j) ∷ shown m ss) ∙ ap (λ l. plain ∷ l) (vacant_shown m ss none.1 (omega (arith, le)))
+    (λ j. as_slot (none.0 j) ∷ shown_slots m ss) ∙ ap (λ l. plain ∷ l) (vacant_shown m ss none.1 (omega (arith, le)))
 
 pub played : (hand : ℕ) (part : Part) (t v u : TableNow ℕ) (taken : Bool) (tasks : List Task) (lines : List Said)
     → hand ≡ length part.kinds + 1 → tasks ≡ tasks_from 1 part.calls (length part.kinds)
-    → IsQuiet t.desk v.desk → held hand v ≡ no_slots (length part.kinds)
-    → GoesOn hand v false tasks [] u taken [] lines → u.desk.shape ≡ t.desk.shape → AllBare u.slots → u.endings ≡ []
-    → Plays field_0 part t u lines
+    → IsQuiet t.desk v.desk → thread_slots hand v ≡ no_slots (length part.kinds)
+    → GoesOnWith hand v false tasks [] u taken [] lines → u.desk.shape ≡ t.desk.shape → AllBare u.slots → u.endings ≡ []
+    → PlaysThread field_0 part t u lines
 played hand part t v u taken tasks lines seat is quiet names goes shape bare none =
     record {
-      last = settled (held hand u) taken [] [];
+      last = walk_settled (thread_slots hand u) taken [] [];
       shape = shape;
       takes = λ p n tells. goes p n
-          (subst (λ w. Tells field_0 p n v.desk w [])
-          (λ j. settled (sym names j) false [] (sym is j))
+          (subst (λ w. TellsThread field_0 p n v.desk w [])
+          (λ j. walk_settled (sym names j) false [] (sym is j))
           (by_quiet field_0 t.desk v.desk quiet (first_walk part) [] p n tells));
       over = refl;
       bare = bare;

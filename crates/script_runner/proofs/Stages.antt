@@ -5,15 +5,15 @@ use Rattle.control_block.specs.Desks.{DeskNow}
 use Rattle.control_word.specs.declared.place.Block.{Block}
 use Rattle.control_word.specs.declared.place.Place.{Place}
 use Rattle.script_runner.specs.EndCalls.{IsAtStage}
-use Rattle.script_runner.specs.Logs.{told}
-use Rattle.shared_handle.specs.Endings.{Ends, IsClearing, IsGone, IsLeft, IsUncleared, with_clear, IsAllClear}
+use Rattle.script_runner.specs.Logs.{told_line}
+use Rattle.shared_handle.specs.Endings.{EndsInHand, IsClearing, IsGone, IsLeft, IsUncleared, with_clear, IsAllClear}
 use Rattle.shared_handle.specs.Piles.{AllEnd, next_member}
 use Rattle.shared_handle.specs.declared.endings.Ending as pile
 use Rattle.shared_handle.specs.declared.endings.Left.TheVariants as left
 use Rattle.shared_handle.specs.declared.endings.Left.{Left}
 use Rattle.shared_handle.specs.declared.endings.Member.TheVariants.{First, Next, Up}
 use Rattle.shared_handle.specs.declared.endings.Member.{Member}
-use Rattle.step_threads.specs.Rows.{gone}
+use Rattle.step_threads.specs.Rows.{walk_after_act}
 use Rattle.step_threads.specs.declared.ending.Ending.{Ending}
 
 abbrev pub first_or : {A : Type 0} → A → List A → A
@@ -52,7 +52,7 @@ pub same_member : (x y : Member) → Some x ≡ Some y → x ≡ y
 same_member x y e = ap or_first e
 
 module _ {V : Type 0} where
-  pub ends_last : (d : DeskNow V) (below : List (pile.Ending V)) (top : pile.Ending V) → AllEnd d (below ++ top ∷ []) → Ends d top
+  pub ends_last : (d : DeskNow V) (below : List (pile.Ending V)) (top : pile.Ending V) → AllEnd d (below ++ top ∷ []) → EndsInHand d top
   ends_last d [] top all = all.0
   ends_last d (x ∷ below) top all = ends_last d below top all.2
 

@@ -5,9 +5,9 @@ use Rattle.std.specs.Prelude.{IfNone, IfSome, drop, not, slice_get}
 use Rattle.handle_table.specs.Tables.{TableNow}
 use Rattle.script_runner.proofs.Onward.{compared_on, deal_on, differs_on, line}
 use Rattle.script_runner.proofs.Settles.{then_settled}
-use Rattle.script_runner.specs.Deals.{GoesOn, IsActed, IsCompared, IsDealt, IsSettled, IsTop, said_by}
+use Rattle.script_runner.specs.Deals.{GoesOnWith, IsActed, IsCompared, IsDealt, IsSettledBy, IsTop, statement_says}
 use Rattle.script_runner.specs.Goings.{task}
-use Rattle.script_runner.specs.Logs.{told}
+use Rattle.script_runner.specs.Logs.{told_line}
 use Rattle.script_runner.specs.declared.went.Went.{Went}
 use Rattle.step_table.specs.declared.ended.Ended.{Ended}
 use Rattle.step_threads.specs.declared.act.Act.TheVariants as act
@@ -72,40 +72,41 @@ three_at xs n x y z e f g =
 
 module _ (hand k : ℕ) (t t' v : TableNow ℕ) (same : t' ≡ t) (none : t'.endings ≡ []) where
   pub act_settled : (u : TableNow ℕ) (taken : Bool) (a : Act) (x : Went) (log said lines : List Said) (after takes : Bool)
-      → IsDealt hand t' taken a x v → after ≡ x.taken → said ≡ log ++ told (said_by k x) → takes ≡ after
-      → IsSettled hand k after v said u lines
-      → (todo : List Task) → GoesOn hand t taken (task k a ∷ todo) log u takes todo lines
+      → IsDealt hand t' taken a x v → after ≡ x.taken → said ≡ log ++ told_line (statement_says k x) → takes ≡ after
+      → IsSettledBy hand k after v said u lines
+      → (todo : List Task) → GoesOnWith hand t taken (task k a ∷ todo) log u takes todo lines
   act_settled u taken a x log said lines after takes d e f h s todo =
-      subst (λ b. GoesOn hand t taken (task k a ∷ todo) log u b todo lines) (sym (h ∙ e))
-      (subst (λ q. GoesOn hand q taken (task k a ∷ todo) log u x.taken todo lines) same
-      (then_settled hand k t' v u taken x.taken (task k a ∷ []) log (told (said_by k x)) lines said
-      (deal_on hand k t' v none taken a x d) f (subst (λ b. IsSettled hand k b v said u lines) e s) todo))
+      subst (λ b. GoesOnWith hand t taken (task k a ∷ todo) log u b todo lines) (sym (h ∙ e))
+      (subst (λ q. GoesOnWith hand q taken (task k a ∷ todo) log u x.taken todo lines) same
+      (then_settled hand k t' v u taken x.taken (task k a ∷ []) log (told_line (statement_says k x)) lines said
+      (deal_on hand k t' v none taken a x d) f (subst (λ b. IsSettledBy hand k b v said u lines) e s) todo))
 
   module _ (u w : TableNow ℕ) (i : ℕ) (c : CellName) (weak : Bool) (e : Option Ended) (bare : IfNone e (v.endings ≡ []))
       (some : IfSome e (IsTop v)) (then : w ≡ v) (log said lines : List Said) (after takes swapped : Bool)
       (is : IsCompared hand t' i c weak swapped v) (a : after ≡ false)
       (f : said ≡ log ++ (line k (Some (answer.Compared swapped)) None ++ line k None e)) (h : takes ≡ after)
-      (s : IsSettled hand k after w said u lines) where
-    done : IsSettled hand k false v said u lines
-    done = subst (λ q. IsSettled hand k false q said u lines) then (subst (λ b. IsSettled hand k b w said u lines) a s)
+      (s : IsSettledBy hand k after w said u lines) where
+    done : IsSettledBy hand k false v said u lines
+    done = subst (λ q. IsSettledBy hand k false q said u lines) then (subst (λ b. IsSettledBy hand k b w said u lines) a s)
 
     pub swapped_settled : swapped ≡ true → (todo : List Task)
-        → GoesOn hand t true (task k (act.Compare i c weak) ∷ task k (act.Put i) ∷ task k act.Drop ∷ todo) log u takes todo lines
+        → GoesOnWith hand t true (task k (act.Compare i c weak) ∷ task k (act.Put i) ∷ task k act.Drop ∷ todo) log u takes todo lines
     swapped_settled so todo =
         let y = subst (λ b. IsCompared hand t' i c weak b v) so is in
-        subst (λ b. GoesOn hand t true (task k (act.Compare i c weak) ∷ task k (act.Put i) ∷ task k act.Drop ∷ todo) log u b todo lines) (sym (h ∙ a))
-        (subst (λ q. GoesOn hand q true (task k (act.Compare i c weak) ∷ task k (act.Put i) ∷ task k act.Drop ∷ todo) log u false todo lines) same
+        subst (λ b. GoesOnWith hand t true (task k (act.Compare i c weak) ∷ task k (act.Put i) ∷ task k act.Drop ∷ todo) log u b todo
+        lines) (sym (h ∙ a))
+        (subst (λ q. GoesOnWith hand q true (task k (act.Compare i c weak) ∷ task k (act.Put i) ∷ task k act.Drop ∷ todo) log u false todo lines) same
         (then_settled hand k t' v u true false (task k (act.Compare i c weak) ∷ task k (act.Put i) ∷ task k act.Drop ∷ []) log
         (line k (Some (answer.Compared true)) None ++ line k None e) lines said
         (compared_on hand k t' v none i c weak e bare some y.0 y.1)
         (f ∙ ap (λ b. log ++ (line k (Some (answer.Compared b)) None ++ line k None e)) so) done todo))
 
     pub differs_settled : swapped ≡ false → (todo : List Task)
-        → GoesOn hand t true (task k (act.Compare i c weak) ∷ task k (act.Put i) ∷ todo) log u takes todo lines
+        → GoesOnWith hand t true (task k (act.Compare i c weak) ∷ task k (act.Put i) ∷ todo) log u takes todo lines
     differs_settled so todo =
         let y = subst (λ b. IsCompared hand t' i c weak b v) so is in
-        subst (λ b. GoesOn hand t true (task k (act.Compare i c weak) ∷ task k (act.Put i) ∷ todo) log u b todo lines) (sym (h ∙ a))
-        (subst (λ q. GoesOn hand q true (task k (act.Compare i c weak) ∷ task k (act.Put i) ∷ todo) log u false todo lines) same
+        subst (λ b. GoesOnWith hand t true (task k (act.Compare i c weak) ∷ task k (act.Put i) ∷ todo) log u b todo lines) (sym (h ∙ a))
+        (subst (λ q. GoesOnWith hand q true (task k (act.Compare i c weak) ∷ task k (act.Put i) ∷ todo) log u false todo lines) same
         (then_settled hand k t' v u true false (task k (act.Compare i c weak) ∷ task k (act.Put i) ∷ []) log
         (line k (Some (answer.Compared false)) None ++ line k None e) lines said
         (differs_on hand k t' v none i c weak e bare some y.0 y.1)

@@ -16,15 +16,15 @@ use Rattle.script_runner.proofs.Logging.{own_said, said_append}
 use Rattle.script_runner.proofs.Reckoning.{Steps, does_at, settled_asks}
 use Rattle.script_runner.proofs.Tallying.{ends_of, makes_of, tells}
 use Rattle.script_runner.specs.Teams.{AllAbove, AllMarked, AreRising}
-use Rattle.script_runner.specs.Totals.{asked_in, ended_by, ended_in, ends, made_by, made_in, makes, refused_in, refuses, told_in}
+use Rattle.script_runner.specs.Totals.{asked_in, count_ended_by, count_ended_in, ends, made_by, count_made_in, makes, refused_in, refuses, told_in}
 use Rattle.step_table.specs.declared.ended.Ended.{Ended}
 use Rattle.step_table.specs.declared.form.Form.{Form}
 use Rattle.step_threads.specs.Acts.{tasks_from}
-use Rattle.step_table.specs.Holdings.{Slots, is_full, slot}
+use Rattle.step_table.specs.Holdings.{Slots, is_full, slot_pointer}
 use Rattle.step_threads.specs.Courses.{Walk, hand}
 use Rattle.step_threads.specs.declared.act.Act.TheVariants as act
-use Rattle.step_threads.specs.Doings.{Ahead, AnAct, AnEnd, Doing, Goes, Over, ahead, ahead_of, lines, onto, put_on, spoken}
-use Rattle.step_threads.specs.Interleavings.{IsParting, Marked, first_walk, no_slots, said_on}
+use Rattle.step_threads.specs.Doings.{Ahead, AnAct, AnEnd, Doing, GoesThrough, Over, ahead, ahead_of, lines, onto, put_on, spoken}
+use Rattle.step_threads.specs.Interleavings.{IsSplitOrJoin, Marked, first_walk, no_slots, said_on}
 use Rattle.step_threads.specs.Programs.{Part}
 use Rattle.step_threads.specs.declared.act.Task.{Task}
 use Rattle.step_threads.specs.declared.ending.Ending.{Ending}
@@ -65,7 +65,7 @@ others_said n d x ne false = refl
 none_left : (l : Slots) (es : List Ending) (ts : List Task) → ahead_of l es ts ≡ Over → asked_in ts ≡ 0
 none_left l [] [] over = refl
 none_left l [] (t ∷ ts) over = absurd cc
-none_left l (e ∷ es) ts over = absurd (go (is_full (slot l (hand l))) over)
+none_left l (e ∷ es) ts over = absurd (go (is_full (slot_pointer l (hand l))) over)
   where
     go : (b : Bool) → cond b (AnAct (record { statement = e.statement; act = act.Leave (hand l) }) ts) (AnEnd e es) ≡ Over → ⊥
     go true is = cc
@@ -109,7 +109,7 @@ module _ {V : Type 0} where
   made_else n d None h ne = refl
   made_else n d (Some v) h ne = let t = cond-false (d == n) (makes v) 0 (ne_eqb d n ne) in omega (arith, t)
 
-  ended_else : (n d : ℕ) (e : Option (Event V)) (h : List (Entry V)) → d ≢ n → ended_by n (put_on d e h) ≡ ended_by n h
+  ended_else : (n d : ℕ) (e : Option (Event V)) (h : List (Entry V)) → d ≢ n → count_ended_by n (put_on d e h) ≡ count_ended_by n h
   ended_else n d None h ne = refl
   ended_else n d (Some v) h ne = let t = cond-false (d == n) (ends v) 0 (ne_eqb d n ne) in omega (arith, t)
 
@@ -118,9 +118,9 @@ module _ {V : Type 0} where
   made_own n d None h is = omega arith
   made_own n d (Some v) h is = ap (λ k. k + made_by n h) (cond-true (d == n) (makes v) 0 (eq-eqb d n is))
 
-  ended_own : (n d : ℕ) (e : Option (Event V)) (h : List (Entry V)) → d ≡ n → ended_by n (put_on d e h) ≡ ends_of e + ended_by n h
+  ended_own : (n d : ℕ) (e : Option (Event V)) (h : List (Entry V)) → d ≡ n → count_ended_by n (put_on d e h) ≡ ends_of e + count_ended_by n h
   ended_own n d None h is = omega arith
-  ended_own n d (Some v) h is = ap (λ k. k + ended_by n h) (cond-true (d == n) (ends v) 0 (eq-eqb d n is))
+  ended_own n d (Some v) h is = ap (λ k. k + count_ended_by n h) (cond-true (d == n) (ends v) 0 (eq-eqb d n is))
 
   -- what a name does in a history are no splits and joins
   abbrev pub KeepsAt : ℕ → List (Entry V) → Type 0
@@ -132,11 +132,11 @@ module _ {V : Type 0} where
 
   record Tallied (n : ℕ) (w : Walk) (l : List (Doing V)) (u : Walk) : Type 0 where
     pub made : made_by n (onto [] l) + refused_in (said_on n (lines l)) + asked_in u.todo ≡ asked_in w.todo
-    pub ended : ended_by n (onto [] l) ≡ told_in (said_on n (lines l))
+    pub ended : count_ended_by n (onto [] l) ≡ told_in (said_on n (lines l))
     pub keeps : KeepsAt n (onto [] l)
 
   module _ (worth : Form → V) (z : Opening) (n : ℕ) (w : Walk) where
-    tallied : (l : List (Doing V)) (u : Walk) → Goes worth z [] n w l u → Tallied n w l u
+    tallied : (l : List (Doing V)) (u : Walk) → GoesThrough worth z [] n w l u → Tallied n w l u
     tallied [] u goes =
         let left : asked_in u.todo ≡ asked_in w.todo = ap (λ (x : Walk). asked_in x.todo) goes in
         record { made = omega (arith, left); ended = refl; keeps = tt }
@@ -196,8 +196,8 @@ module _ {V : Type 0} where
         omega (arith, a, b, c, d, e)
 
     -- and of as many it told that they end as it was the last owner of
-    pub marked_ended : ended_by n h ≡ told_in l
-    marked_ended = ap (ended_by n) (sym m.events) ∙ (all.ended ∙ ap told_in m.says)
+    pub marked_ended : count_ended_by n h ≡ told_in l
+    marked_ended = ap (count_ended_by n) (sym m.events) ∙ (all.ended ∙ ap told_in m.says)
 
     pub marked_keeps : KeepsAt n h
     marked_keeps = subst (KeepsAt n) m.events all.keeps
@@ -209,7 +209,7 @@ module _ {V : Type 0} where
 
   abbrev pub all_ended : List ℕ → List (Entry V) → ℕ
   all_ended [] h = 0
-  all_ended (n ∷ ns) h = ended_by n h + all_ended ns h
+  all_ended (n ∷ ns) h = count_ended_by n h + all_ended ns h
 
   made_more : (e : Entry V) (h : List (Entry V)) (ns : List ℕ) → all_made ns (e ∷ h) ≡ once ns e.desk (makes e.event) + all_made ns h
   made_more e h [] = refl
@@ -225,9 +225,9 @@ module _ {V : Type 0} where
 
   ended_empty : (ns : List ℕ) (h : List (Entry V)) → h ≡ [] → all_ended ns h ≡ 0
   ended_empty [] h none = refl
-  ended_empty (n ∷ ns) h none = let a : ended_by n h ≡ 0 = ap (ended_by n) none in let ih = ended_empty ns h none in omega (arith, a, ih)
+  ended_empty (n ∷ ns) h none = let a : count_ended_by n h ≡ 0 = ap (count_ended_by n) none in let ih = ended_empty ns h none in omega (arith, a, ih)
 
-  parting_makes : (v : Event V) → IsParting v → (makes v ≡ 0) × (ends v ≡ 0)
+  parting_makes : (v : Event V) → IsSplitOrJoin v → (makes v ≡ 0) × (ends v ≡ 0)
   parting_makes (event.Split to n hs bs) is = (refl, refl)
   parting_makes (event.Join other) is = (refl, refl)
   parting_makes (event.Make b enabled null fields val) is = absurd is
@@ -249,21 +249,21 @@ module _ {V : Type 0} where
   parting_makes (event.Unshelve b) is = absurd is
 
   -- each event is some name's, or counts for nothing
-  counted : (k : ℕ) (ns : List ℕ) (e : Entry V) → AreRising ns → (IsParting e.event → k ≡ 0)
-      → Has e.desk ns ⊎ IsParting e.event → once ns e.desk k ≡ k
+  counted : (k : ℕ) (ns : List ℕ) (e : Entry V) → AreRising ns → (IsSplitOrJoin e.event → k ≡ 0)
+      → Has e.desk ns ⊎ IsSplitOrJoin e.event → once ns e.desk k ≡ k
   counted k ns e rising none (inl has) = once_in e.desk k ns rising has
   counted k ns e rising none (inr is) = ap (once ns e.desk) (none is) ∙ (once_none e.desk ns ∙ sym (none is))
 
-  pub sum_made : (ns : List ℕ) (h : List (Entry V)) → AreRising ns → AllByRecursion (λ (e : Entry V). Has e.desk ns ⊎ IsParting e.event) h
-      → all_made ns h ≡ made_in h
+  pub sum_made : (ns : List ℕ) (h : List (Entry V)) → AreRising ns → AllByRecursion (λ (e : Entry V). Has e.desk ns ⊎ IsSplitOrJoin e.event) h
+      → all_made ns h ≡ count_made_in h
   sum_made ns [] rising all = made_empty ns [] refl
   sum_made ns (e ∷ h) rising all =
       let a = made_more e h ns in
       let b = counted (makes e.event) ns e rising (λ is. (parting_makes e.event is).0) all.0 in
       let ih = sum_made ns h rising all.1 in omega (arith, a, b, ih)
 
-  pub sum_ended : (ns : List ℕ) (h : List (Entry V)) → AreRising ns → AllByRecursion (λ (e : Entry V). Has e.desk ns ⊎ IsParting e.event) h
-      → all_ended ns h ≡ ended_in h
+  pub sum_ended : (ns : List ℕ) (h : List (Entry V)) → AreRising ns → AllByRecursion (λ (e : Entry V). Has e.desk ns ⊎ IsSplitOrJoin e.event) h
+      → all_ended ns h ≡ count_ended_in h
   sum_ended ns [] rising all = ended_empty ns [] refl
   sum_ended ns (e ∷ h) rising all =
       let a = ended_more e h ns in

@@ -14,11 +14,11 @@ use Rattle.script_runner.proofs.Offering.{in_shape, named_below}
 use Rattle.script_runner.proofs.Putting.{slice_get-set_other}
 use Rattle.script_runner.proofs.Seating as seating
 use Rattle.script_runner.specs.CellCalls.{IsOfName, as_cell}
-use Rattle.script_runner.specs.Deals.{IsDealt, IsThird, field_0, held}
-use Rattle.script_runner.specs.Seats.{Acts, Done, IsQuiet, IsSeated, as_slot, shown}
+use Rattle.script_runner.specs.Deals.{IsDealt, IsThird, field_0, thread_slots}
+use Rattle.script_runner.specs.Seats.{Acts, Done, IsQuiet, IsSeated, as_slot, shown_slots}
 use Rattle.step_table.specs.Contents as contents
 use Rattle.step_table.specs.Contents.{is_of}
-use Rattle.step_table.specs.Holdings.{Slots, plain, value}
+use Rattle.step_table.specs.Holdings.{Slots, plain, slot_value}
 use Rattle.step_table.specs.declared.slot.Slot.{Slot}
 use Rattle.step_threads.specs.Courses.{hand as hand_of, idle, other as other_of}
 use Rattle.step_threads.specs.Programs.{kind_at}
@@ -39,10 +39,10 @@ compare_none hand i t c weak =
     inr (record { free = refl; quiet = stays t; slots = refl; endings = refl; takes = refl; silent = (refl, refl) })
 
 module _ (hand other : ℕ) (t v u : TableNow ℕ) (c : CellName) (of : IsOfName hand c) (third : IsThird c) (at : other + 1 ≡ hand)
-    (is : IsSeated (hand + 1) hand t) (then : IsSeated (hand + 1) hand v) (x : cells.Exchanges t hand (as_cell c) v)
-    (vacant : slice_get v.slots other ≡ Some None) (moves : calls.Moves v hand other u) where
+    (is : IsSeated (hand + 1) hand t) (then : IsSeated (hand + 1) hand v) (x : cells.ExchangesSlot t hand (as_cell c) v)
+    (vacant : slice_get v.slots other ≡ Some None) (moves : calls.MovesSlot v hand other u) where
   abbrev l : Slots
-  l = held hand t
+  l = thread_slots hand t
 
   found : IsFound t l c x.swaps.site
   found = is_found (hand + 1) t is.fits c x.swaps.site (in_shape t.desk.shape t.slots c x.swaps.site x.swaps.is third) (named_below hand c of) x.swaps.is
@@ -62,9 +62,9 @@ module _ (hand other : ℕ) (t v u : TableNow ℕ) (c : CellName) (of : IsOfName
   last : hand < hand + 1
   last = omega arith
 
-  own : is_of (kind_at c) (value l (hand_of l)) ≡ true
+  own : is_of (kind_at c) (slot_value l (hand_of l)) ≡ true
   own =
-      ap (λ n. is_of (kind_at c) (value l n)) seat
+      ap (λ n. is_of (kind_at c) (slot_value l n)) seat
       ∙ (ap (λ y. is_of (kind_at c) y) (seating.shown_at (hand + 1) t.slots hand (Some x.swaps.of) last x.swaps.at)
       ∙ is_of_own x.swaps.of (kind_at c) (x.swaps.kinds.0 ∙ found.kind))
 
@@ -74,7 +74,7 @@ module _ (hand other : ℕ) (t v u : TableNow ℕ) (c : CellName) (of : IsOfName
   came : (y : Slot) × Acts field_0 (hand + 1) t true (act.Exchange hand c) (Came y) v
   came = exchanges_in field_0 (hand + 1) hand hand true t v c is then last x found
 
-  between : held hand v ≡ slice_set l hand came.0
+  between : thread_slots hand v ≡ slice_set l hand came.0
   between = came.1.slots ∙ ap (λ b. cond b (slice_set l hand came.0) l) (ap (λ k. may_go l c k) (sym seat) ∙ may)
 
   -- the slot of what is to be dropped was vacant
@@ -87,11 +87,11 @@ module _ (hand other : ℕ) (t v u : TableNow ℕ) (c : CellName) (of : IsOfName
   there : as_slot (Some moves.of) ≡ came.0
   there =
       sym (seating.shown_at (hand + 1) v.slots hand (Some moves.of) last moves.at)
-      ∙ (ap (λ q. value q hand) between ∙ get_or-set_same l hand came.0 plain (let a = many in omega (arith, a)))
+      ∙ (ap (λ q. slot_value q hand) between ∙ get_or-set_same l hand came.0 plain (let a = many in omega (arith, a)))
 
-  slots : held hand u ≡ contents.swapped hand other l came.0
+  slots : thread_slots hand u ≡ contents.slots_swapped hand other l came.0
   slots =
-      ap (shown (hand + 1)) moves.assigns.slots
+      ap (shown_slots (hand + 1)) moves.assigns.slots
       ∙ (seating.shown_set (hand + 1) (slice_set v.slots hand None) other (Some moves.of)
       ∙ ((λ j. slice_set (seating.shown_set (hand + 1) v.slots hand None j) other (there j))
       ∙ (ap (λ q. slice_set (slice_set q hand plain) other came.0) between
@@ -103,8 +103,8 @@ module _ (hand other : ℕ) (t v u : TableNow ℕ) (c : CellName) (of : IsOfName
         done = subst (λ d. Done field_0 t.desk l (act.Swap c) (Came came.0) d) (sym moved.0)
             (subst (λ k. Done field_0 t.desk l (act.Exchange k c) (Came came.0) v.desk) (sym seat) came.1.done);
         slots = slots
-            ∙ ((λ j. contents.swapped (sym seat j) (sym others j) l came.0)
-            ∙ ap (λ b. cond b (contents.swapped (hand_of l) (other_of l) l came.0) l) (sym may));
+            ∙ ((λ j. contents.slots_swapped (sym seat j) (sym others j) l came.0)
+            ∙ ap (λ b. cond b (contents.slots_swapped (hand_of l) (other_of l) l came.0) l) (sym may));
         ends = moved.1 ∙ came.1.ends;
       }
 

@@ -7,11 +7,11 @@ use Rattle.script_runner.proofs.Looking as looking
 use Rattle.script_runner.proofs.Putting as putting
 use Rattle.script_runner.proofs.Seating.{shown_many}
 use Rattle.script_runner.proofs.Takings.{same_call}
-use Rattle.script_runner.specs.Seats.{IsHand, IsSeated, shown}
-use Rattle.script_runner.specs.TableCalls.{AlikeIn, CountsIn, EmptiesIn, ExpiresIn, InOrder, MovesIn, PlacesIn, PutsIdle, PutsIn, ReadsIn, ReadsNot}
+use Rattle.script_runner.specs.Seats.{IsHand, IsSeated, shown_slots}
+use Rattle.script_runner.specs.TableCalls.{AlikeIn, CountsIn, EmptiesIn, ExpiresIn, MarksOrder, MovesIn, PlacesIn, PutsIdle, PutsIn, ReadsIn, ReadsNot}
 use Rattle.script_runner.specs.TableCalls.{ResetsIn, ThisIn, ThisNot, WeakThisIn}
 use Rattle.shared_handle.specs.Endings.{WhyNotThis}
-use Rattle.step_table.specs.Holdings.{plain, slot}
+use Rattle.step_table.specs.Holdings.{plain, slot_pointer}
 use Rattle.step_threads.specs.Courses.{other}
 use Rattle.step_threads.specs.Rows as rows
 use Rattle.step_threads.specs.declared.act.Act.TheVariants as act
@@ -38,9 +38,9 @@ module _ {V : Type 0} where
 
   pub resets : ResetsIn V
   resets worth m hand i taken t u is at gone c =
-      let o : i ≡ other (shown m t.slots) = let many = shown_many m t.slots is.many in omega (arith, many, at) in
+      let o : i ≡ other (shown_slots m t.slots) = let many = shown_many m t.slots is.many in omega (arith, many, at) in
       putting.resets worth m i taken t u is.fits (omega (arith, at)) act.Drop gone o
-      (λ last left. ap (λ k. rows.leaving (slice_set (shown m t.slots) k plain, taken) (slot (shown m t.slots) k) last left) (sym o)) c
+      (λ last left. ap (λ k. rows.leaving (slice_set (shown_slots m t.slots) k plain, taken) (slot_pointer (shown_slots m t.slots) k) last left) (sym o)) c
 
   pub moves : MovesIn V
   moves worth m i hand taken t between u is lt v (inl c) = putting.moves worth m i hand t u (as_seated m hand t is) lt between taken is.vacant v c
@@ -75,5 +75,5 @@ module _ {V : Type 0} where
   pub alike : AlikeIn V
   alike worth m i hand taken t u is lt j so less c = giving.alike worth m i j hand taken t is lt less so c
 
-  pub in_order : InOrder V
+  pub in_order : MarksOrder V
   in_order worth m i hand taken t u is lt j so less c = giving.in_order worth m i j hand taken t is lt less so c

@@ -20,12 +20,12 @@ use Rattle.handle_table.specs.declared.fault.Fault.TheVariants.{Call}
 use Rattle.handle_table.specs.declared.fault.Fault.{Fault}
 use Rattle.script_runner.proofs.Calling as law
 use Rattle.script_runner.proofs.Seating.{Came, came_in, has_pointer, in_hand, no_pointer, quietly, shown_at}
-use Rattle.script_runner.specs.Seats.{Acts, Done, IsHand, IsQuiet, as_slot, shown}
+use Rattle.script_runner.specs.Seats.{Acts, Done, IsHand, IsQuiet, as_slot, shown_slots}
 use Rattle.script_runner.specs.TableCalls.{AliasesIn, CopiesIn, DowngradesIn}
 use Rattle.shared_handle.specs.Calls as inner
 use Rattle.step_table.specs.Contents.{slot_by}
 use Rattle.step_table.specs.Deeds.{aliased, as_weak}
-use Rattle.step_table.specs.Holdings.{filled, owner_slot, place_in, slot, value}
+use Rattle.step_table.specs.Holdings.{filled, owner_slot, place_in, slot_pointer, slot_value}
 use Rattle.step_table.specs.declared.field.Field.{Field}
 use Rattle.step_table.specs.declared.form.Form.{Form}
 use Rattle.step_table.specs.declared.holdings.Pointer.{Pointer}
@@ -63,10 +63,10 @@ module _ {V : Type 0} where
 
 module _ {V : Type 0} (worth : Form → V) (m i hand : ℕ) (taken : Bool) (t u : TableNow V) (is : IsHand m hand t) (lt : i < m) where
   copied_owner : (h k : Shared) → IsAt t i (Owner h) → (k.block ≡ h.block) × (k.place ≡ h.place)
-      → (b : Option Block) → h.block ≡ b → inner.Shares t.desk b h.place h.place u.desk
-      → Done worth t.desk (shown m t.slots) (act.Share i) Plain u.desk
+      → (b : Option Block) → h.block ≡ b → inner.SharesOwner t.desk b h.place h.place u.desk
+      → Done worth t.desk (shown_slots m t.slots) (act.Share i) Plain u.desk
   copied_owner h k at same None e shares =
-      let l = shown m t.slots in
+      let l = shown_slots m t.slots in
       inl (
         quietly t.desk u.desk _ shares,
         subst (λ (x : Option Pointer). None ≡ option_map (copy {V = V} (state_of t.desk)) x) (sym (no_pointer m i t (Owner h) lt at e)) refl,
@@ -75,12 +75,12 @@ module _ {V : Type 0} (worth : Form → V) (m i hand : ℕ) (taken : Bool) (t u 
       inr (
         event.Share (on_latest t.desk kind.Owner h.place b.0) h.place,
         shares,
-        law.copied worth t.desk.name t.desk u.desk (shown m t.slots) i b h.place (has_pointer m i t (Owner h) b is.fits lt at e) shares,
+        law.copied worth t.desk.name t.desk u.desk (shown_slots m t.slots) i b h.place (has_pointer m i t (Owner h) b is.fits lt at e) shares,
       )
 
   copied_weak : (h : weak_handle.Weak) → IsAt t i (Weak h)
       → (b : Option Block) → h.block ≡ b → inner.SharesWeakly t.desk b h.place u.desk
-      → Done worth t.desk (shown m t.slots) (act.Share i) Plain u.desk
+      → Done worth t.desk (shown_slots m t.slots) (act.Share i) Plain u.desk
   copied_weak h at None e shares =
       inl (
         quietly t.desk u.desk _ shares,
@@ -90,7 +90,7 @@ module _ {V : Type 0} (worth : Form → V) (m i hand : ℕ) (taken : Bool) (t u 
       inr (
         event.WeakShare (latest_of t.desk b.0) h.place,
         shares,
-        law.copied_weakly worth t.desk.name t.desk u.desk (shown m t.slots) i b h.place (has_pointer m i t (Weak h) b is.fits lt at e) shares,
+        law.copied_weakly worth t.desk.name t.desk u.desk (shown_slots m t.slots) i b h.place (has_pointer m i t (Weak h) b is.fits lt at e) shares,
       )
 
   weak_place_is : (w : weak_handle.Weak) → inner.weak_place w.block w.place ≡ w.place
@@ -106,7 +106,7 @@ module _ {V : Type 0} (worth : Form → V) (m i hand : ℕ) (taken : Bool) (t u 
       let e = c.comes.event in
       record {
         done = copied_owner h k at (e.0, e.1) h.block refl e.2;
-        slots = in_hand m hand t u c.handle (value (shown m t.slots) i) is c.slots
+        slots = in_hand m hand t u c.handle (slot_value (shown_slots m t.slots) i) is c.slots
             (ap (λ x. as_slot (Some x)) c.comes.is ∙ ((λ j. slot_by kind.Owner (e.0 j) (e.1 j)) ∙ sym (shown_at m t.slots i (Some (Owner h)) lt at)));
         ends = c.ends;
       }
@@ -115,14 +115,14 @@ module _ {V : Type 0} (worth : Form → V) (m i hand : ℕ) (taken : Bool) (t u 
       let e = c.comes.event in
       record {
         done = copied_weak w at w.block refl e.2;
-        slots = in_hand m hand t u c.handle (value (shown m t.slots) i) is c.slots
+        slots = in_hand m hand t u c.handle (slot_value (shown_slots m t.slots) i) is c.slots
             (ap (λ x. as_slot (Some x)) c.comes.is
             ∙ ((λ j. slot_by kind.Weak (e.0 j) ((e.1 ∙ weak_place_is w) j)) ∙ sym (shown_at m t.slots i (Some (Weak w)) lt at)));
         ends = c.ends;
       }
 
   downgraded_done : (h : Shared) → IsAt t i (Owner h) → (b : Option Block) → h.block ≡ b → inner.SharesWeakly t.desk b h.place u.desk
-      → Done worth t.desk (shown m t.slots) (act.Downgrade i) Plain u.desk
+      → Done worth t.desk (shown_slots m t.slots) (act.Downgrade i) Plain u.desk
   downgraded_done h at None e shares =
       inl (
         quietly t.desk u.desk _ shares,
@@ -133,11 +133,11 @@ module _ {V : Type 0} (worth : Form → V) (m i hand : ℕ) (taken : Bool) (t u 
       inr (
         event.WeakShare (latest_of t.desk b.0) h.place,
         shares,
-        law.downgraded worth t.desk.name t.desk u.desk (shown m t.slots) i b h.place (has_pointer m i t (Owner h) b is.fits lt at e) shares,
+        law.downgraded worth t.desk.name t.desk u.desk (shown_slots m t.slots) i b h.place (has_pointer m i t (Owner h) b is.fits lt at e) shares,
       )
 
   downgraded_slot : (h : Shared) → IsAt t i (Owner h) → (b : Option Block) → h.block ≡ b
-      → slot_by kind.Weak b (inner.weak_place b h.place) ≡ filled (option_map as_weak (slot (shown m t.slots) i))
+      → slot_by kind.Weak b (inner.weak_place b h.place) ≡ filled (option_map as_weak (slot_pointer (shown_slots m t.slots) i))
   downgraded_slot h at None e = ap (λ x. filled (option_map as_weak x)) (sym (no_pointer m i t (Owner h) lt at e))
   downgraded_slot h at (Some b) e =
       ap (λ x. filled (option_map as_weak x)) (sym (has_pointer m i t (Owner h) b is.fits lt at e).at)
@@ -156,10 +156,10 @@ module _ {V : Type 0} (worth : Form → V) (m i hand : ℕ) (taken : Bool) (t u 
 
   -- the aliasing constructor
   aliased_done : (h : Shared) (j : ℕ) (field : Option Field) → IsAt t i (Owner h) → (b : Option Block) → h.block ≡ b
-      → inner.Shares t.desk b h.place (aliased field (place_in (shown m t.slots) j)) u.desk
-      → Done worth t.desk (shown m t.slots) (act.Alias i j field) Plain u.desk
+      → inner.SharesOwner t.desk b h.place (aliased field (place_in (shown_slots m t.slots) j)) u.desk
+      → Done worth t.desk (shown_slots m t.slots) (act.Alias i j field) Plain u.desk
   aliased_done h j field at None e shares =
-      let r = aliased field (place_in (shown m t.slots) j) in
+      let r = aliased field (place_in (shown_slots m t.slots) j) in
       inl (
         quietly t.desk u.desk _ shares,
         subst (λ (x : Option Pointer). None ≡ option_map (copies {V = V} (state_of t.desk) kind.Owner r) (owner_slot x))
@@ -167,19 +167,19 @@ module _ {V : Type 0} (worth : Form → V) (m i hand : ℕ) (taken : Bool) (t u 
       )
   aliased_done h j field at (Some b) e shares =
       inr (
-        event.Share (on_latest t.desk kind.Owner h.place b.0) (aliased field (place_in (shown m t.slots) j)),
+        event.Share (on_latest t.desk kind.Owner h.place b.0) (aliased field (place_in (shown_slots m t.slots) j)),
         shares,
-        law.aliased_to worth t.desk.name t.desk u.desk (shown m t.slots) i j field b h.place (has_pointer m i t (Owner h) b is.fits lt at e) shares,
+        law.aliased_to worth t.desk.name t.desk u.desk (shown_slots m t.slots) i j field b h.place (has_pointer m i t (Owner h) b is.fits lt at e) shares,
       )
 
   aliased_slot : (h : Shared) (r : Option Place) → IsAt t i (Owner h) → (b : Option Block) → h.block ≡ b
-      → slot_by kind.Owner b r ≡ alias_of r (owner_slot (slot (shown m t.slots) i))
+      → slot_by kind.Owner b r ≡ alias_of r (owner_slot (slot_pointer (shown_slots m t.slots) i))
   aliased_slot h r at None e = ap (λ x. alias_of r (owner_slot x)) (sym (no_pointer m i t (Owner h) lt at e))
   aliased_slot h r at (Some b) e = ap (λ x. alias_of r (owner_slot x)) (sym (has_pointer m i t (Owner h) b is.fits lt at e).at)
 
   aliases_in : (h : Shared) (j : ℕ) (field : Option Field) → IsAt t i (Owner h)
-      → let r = aliased field (place_in (shown m t.slots) j) in
-      Came (IsOwner (λ d k e. (k.block ≡ h.block) × (k.place ≡ r) × inner.Shares d h.block h.place r e)) t hand u
+      → let r = aliased field (place_in (shown_slots m t.slots) j) in
+      Came (IsOwner (λ d k e. (k.block ≡ h.block) × (k.place ≡ r) × inner.SharesOwner d h.block h.place r e)) t hand u
       → Acts worth m t taken (act.Alias i j field) Plain u
   aliases_in h j field at c =
       let e = c.comes.event in
@@ -187,7 +187,7 @@ module _ {V : Type 0} (worth : Form → V) (m i hand : ℕ) (taken : Bool) (t u 
         done = aliased_done h j field at h.block refl e.2;
         slots = in_hand m hand t u c.handle _ is c.slots
             (ap (λ x. as_slot (Some x)) c.comes.is
-            ∙ ((λ q. slot_by kind.Owner (e.0 q) (e.1 q)) ∙ aliased_slot h (aliased field (place_in (shown m t.slots) j)) at h.block refl));
+            ∙ ((λ q. slot_by kind.Owner (e.0 q) (e.1 q)) ∙ aliased_slot h (aliased field (place_in (shown_slots m t.slots) j)) at h.block refl));
         ends = c.ends;
       }
 

@@ -9,14 +9,14 @@ use Rattle.control_word.specs.declared.handle.Kind.{Kind}
 use Rattle.control_word.specs.declared.handle.Kind.TheVariants.{Owner, Weak}
 use Rattle.control_word.specs.declared.place.Place.{Place}
 use Rattle.control_word.specs.declared.refusal.Refusal.TheVariants.{Full, NotEnabled}
-use Rattle.script_runner.specs.Totals.{asks, ends, makes, refuses}
+use Rattle.script_runner.specs.Totals.{objects_asked, ends, makes, refuses}
 use Rattle.step_table.specs.Deeds.{aliased, is_enabled, owned}
-use Rattle.step_table.specs.Holdings.{Slots, inside, is_full, owner_slot, place_in, slot, weak_slot}
+use Rattle.step_table.specs.Holdings.{Slots, inside, is_full, owner_slot, place_in, slot_pointer, weak_slot}
 use Rattle.step_table.specs.declared.ended.Ended.{Ended}
 use Rattle.step_table.specs.declared.form.Form.{Form}
 use Rattle.step_table.specs.declared.holdings.Pointer.{Pointer}
 use Rattle.step_threads.specs.Courses.{hand, is_there, offered, other}
-use Rattle.step_threads.specs.Doings.{Leaves, Makes, Loads, On, Swaps, Where, copies, copy, leaves_as}
+use Rattle.step_threads.specs.Doings.{IsLeaveEvent, IsMakeEvent, IsLoadEvent, On, IsSwapEvent, Where, copies, copy, leaves_as}
 use Rattle.step_threads.specs.Rows.{Came, Compared, Found, Got, Left, Plain, Reply, Told, asked, may_go, not_given, row}
 use Rattle.step_threads.specs.Scenes.{lock_answer, outside, refusal, remains_as}
 use Rattle.step_threads.specs.declared.act.Act.{Act}
@@ -58,7 +58,7 @@ no_asked_refusal l (question.Before i j) b = refl
 
 no_this_refusal : (l : Slots) (k : ℕ) (b : Bool) → refuses (cond b None (Some (not_given l k))) ≡ 0
 no_this_refusal l k true = refl
-no_this_refusal l k false = go (is_full (inside (slot l k)))
+no_this_refusal l k false = go (is_full (inside (slot_pointer l k)))
   where
     go : (b : Bool) → refuses (Some (cond b (answer.Refused NotEnabled) (outside (place_in l k)))) ≡ 0
     go true = refl
@@ -102,18 +102,18 @@ module _ {V : Type 0} where
 
   -- what an act makes, ends and says
   pub record Counts (a : Act) (e : Option (Event V)) (says : Option Answer) (left : Option Ended) : Type 0 where
-    pub makes : makes_of e + refuses says ≡ asks a
+    pub makes : makes_of e + refuses says ≡ objects_asked a
     pub ends : ends_of e ≡ tells left
     pub keeps : IfSome e KeepsDesks
 
   -- an act that makes no object and ends none
-  mild_counts : (a : Act) (e : Option (Event V)) (says : Option Answer) → asks a ≡ 0 → IsMild e → refuses says ≡ 0 → Counts a e says None
+  mild_counts : (a : Act) (e : Option (Event V)) (says : Option Answer) → objects_asked a ≡ 0 → IsMild e → refuses says ≡ 0 → Counts a e says None
   mild_counts a e says none m silent =
       let x = m.makes in
       record { makes = omega (arith, x, silent, none); ends = m.ends; keeps = m.keeps }
 
-  leaves_counts : (s : State) (a : Act) (o : Option Pointer) (last : Bool) (left : Option Ended) (e : Option (Event V)) → asks a ≡ 0
-      → Leaves s o last left e → Counts a e None left
+  leaves_counts : (s : State) (a : Act) (o : Option Pointer) (last : Bool) (left : Option Ended) (e : Option (Event V)) → objects_asked a ≡ 0
+      → IsLeaveEvent s o last left e → Counts a e None left
   leaves_counts s a None last left e none l =
       subst (λ x. Counts a x None left) (sym l.2)
       (subst (λ x. Counts a None None x) (sym l.1) (record { makes = sym none; ends = refl; keeps = tt }))
@@ -146,58 +146,58 @@ module _ {V : Type 0} where
     abbrev pub Counted : Act → Reply → Option (Event V) → Type 0
     Counted a r e = Counts a e (row a l taken r).answer (row a l taken r).ended
 
-    swap_mild : (b : Bool) (c : CellName) (i : ℕ) (x : _) (e : Option (Event V)) → Where b (Swaps s l c i x e) (e ≡ None) → IsMild e
+    swap_mild : (b : Bool) (c : CellName) (i : ℕ) (x : _) (e : Option (Event V)) → Where b (IsSwapEvent s l c i x e) (e ≡ None) → IsMild e
     swap_mild true c i x e w = mild_some e _ w.1 refl refl tt
     swap_mild false c i x e w = mild_none e w
 
-    load_mild : (b : Bool) (c : CellName) (x : _) (e : Option (Event V)) → Where b (Loads s l c x e) (e ≡ None) → IsMild e
+    load_mild : (b : Bool) (c : CellName) (x : _) (e : Option (Event V)) → Where b (IsLoadEvent s l c x e) (e ≡ None) → IsMild e
     load_mild true c x e w = mild_some e _ w.1 refl refl tt
     load_mild false c x e w = mild_none e w
 
-    pub act_counts : (a : Act) (r : Reply) (e : Option (Event V)) → Makes worth s d l a r e → Counted a r e
+    pub act_counts : (a : Act) (r : Reply) (e : Option (Event V)) → IsMakeEvent worth s d l a r e → Counted a r e
     act_counts (act.Make form) (Found None) e m =
         subst (λ x. Counts (act.Make form) x (Some (answer.Refused Full)) None) (sym m.1) (record { makes = refl; ends = refl; keeps = tt })
     act_counts (act.Make form) (Found (Some b)) e m =
         subst (λ x. Counts (act.Make form) x None None) (sym m) (record { makes = refl; ends = refl; keeps = tt })
     act_counts (act.Make form) _ e m = absurd m
     act_counts (act.Share k) Plain e m =
-        mild_counts (act.Share k) e None refl (mild_by_map e (copy s) (slot l k) m (λ x. mild_copy s x.kind x.place x)) refl
+        mild_counts (act.Share k) e None refl (mild_by_map e (copy s) (slot_pointer l k) m (λ x. mild_copy s x.kind x.place x)) refl
     act_counts (act.Share k) _ e m = absurd m
-    act_counts (act.Put k) (Left last left) e m = leaves_counts s (act.Put k) (slot l k) last left e refl m
+    act_counts (act.Put k) (Left last left) e m = leaves_counts s (act.Put k) (slot_pointer l k) last left e refl m
     act_counts (act.Put k) _ e m = absurd m
-    act_counts (act.Leave k) (Left last left) e m = leaves_counts s (act.Leave k) (slot l k) last left e refl m
+    act_counts (act.Leave k) (Left last left) e m = leaves_counts s (act.Leave k) (slot_pointer l k) last left e refl m
     act_counts (act.Leave k) _ e m = absurd m
-    act_counts (act.Clear k) (Left last left) e m = leaves_counts s (act.Clear k) (slot l k) last left e refl m
+    act_counts (act.Clear k) (Left last left) e m = leaves_counts s (act.Clear k) (slot_pointer l k) last left e refl m
     act_counts (act.Clear k) _ e m = absurd m
-    act_counts act.Drop (Left last left) e m = leaves_counts s act.Drop (slot l (other l)) last left e refl m
+    act_counts act.Drop (Left last left) e m = leaves_counts s act.Drop (slot_pointer l (other l)) last left e refl m
     act_counts act.Drop _ e m = absurd m
     act_counts (act.Count k) (Told n) e m =
         mild_counts (act.Count k) e (Some (answer.Count n)) refl
-        (mild_on e _ _ (slot l k) (λ x. x.1) m (λ x. record { makes = refl; ends = refl; keeps = tt })) refl
+        (mild_on e _ _ (slot_pointer l k) (λ x. x.1) m (λ x. record { makes = refl; ends = refl; keeps = tt })) refl
     act_counts (act.Count k) _ e m = absurd m
     act_counts (act.Downgrade k) Plain e m =
-        mild_counts (act.Downgrade k) e None refl (mild_by_map e _ (slot l k) m (λ x. mild_copy s Weak x.place x)) refl
+        mild_counts (act.Downgrade k) e None refl (mild_by_map e _ (slot_pointer l k) m (λ x. mild_copy s Weak x.place x)) refl
     act_counts (act.Downgrade k) _ e m = absurd m
     act_counts (act.Lock k must) (Got got) e m =
         mild_counts (act.Lock k must) e (Some (lock_answer must got)) refl
-        (mild_on e _ _ (weak_slot (slot l k)) (λ x. x.1) m (λ x. record { makes = refl; ends = refl; keeps = tt })) (no_lock_refusal must got)
+        (mild_on e _ _ (weak_slot (slot_pointer l k)) (λ x. x.1) m (λ x. record { makes = refl; ends = refl; keeps = tt })) (no_lock_refusal must got)
     act_counts (act.Lock k must) _ e m = absurd m
     act_counts (act.Expired k) (Got b) e m =
         mild_counts (act.Expired k) e (Some (answer.Expired b)) refl
-        (mild_on e _ _ (slot l k) (λ x. x.1) m (λ x. record { makes = refl; ends = refl; keeps = tt })) refl
+        (mild_on e _ _ (slot_pointer l k) (λ x. x.1) m (λ x. record { makes = refl; ends = refl; keeps = tt })) refl
     act_counts (act.Expired k) _ e m = absurd m
     act_counts (act.Read k) (Told n) e m =
         mild_counts (act.Read k) e (row (act.Read k) l taken (Told n)).answer refl
-        (mild_on e _ _ (inside (slot l k)) (λ x. x) m (λ x. record { makes = refl; ends = refl; keeps = tt }))
-        (no_read_refusal (is_full (inside (slot l k))) n (place_in l k))
+        (mild_on e _ _ (inside (slot_pointer l k)) (λ x. x) m (λ x. record { makes = refl; ends = refl; keeps = tt }))
+        (no_read_refusal (is_full (inside (slot_pointer l k))) n (place_in l k))
     act_counts (act.Read k) _ e m = absurd m
     act_counts (act.FromThis k kind) (Got got) e m =
         mild_counts (act.FromThis k kind) e (row (act.FromThis k kind) l taken (Got got)).answer refl
-        (mild_given s e got kind (inside (slot l k)) m) (no_this_refusal l k got)
+        (mild_given s e got kind (inside (slot_pointer l k)) m) (no_this_refusal l k got)
     act_counts (act.FromThis k kind) _ e m = absurd m
     act_counts (act.Alias k j field) Plain e m =
         mild_counts (act.Alias k j field) e None refl
-        (mild_by_map e _ (owner_slot (slot l k)) m (λ x. mild_copy s Owner (aliased field (place_in l j)) x)) refl
+        (mild_by_map e _ (owner_slot (slot_pointer l k)) m (λ x. mild_copy s Owner (aliased field (place_in l j)) x)) refl
     act_counts (act.Alias k j field) _ e m = absurd m
     act_counts (act.Move k) Plain e m = mild_counts (act.Move k) e None refl (mild_none e m) refl
     act_counts (act.Move k) _ e m = absurd m

@@ -2,7 +2,7 @@
 use Rattle.std.proofs.Common.{Bool, ◌≡◌, ℕ, suc, ◌<◌, List, [], ◌∷◌, ◌++◌, Option, Some, None, true, refl, sym, ap, subst, ◌∙◌}
 use Rattle.std.proofs.Common.{◌-◌, arith}
 use Rattle.control_block.proofs.Own.{goes_by_call, goes_by_join, goes_by_none, goes_in_turn}
-use Rattle.control_block.specs.Desks.{Adds, DeskNow, state_of}
+use Rattle.control_block.specs.Desks.{AddsEvent, DeskNow, state_of}
 use Rattle.control_block.specs.Own as own
 use Rattle.control_block.specs.Rule.{opening_of}
 use Rattle.control_block.specs.declared.handles.Held.TheVariants.{Owner, Weak}
@@ -23,9 +23,9 @@ use Rattle.script_runner.proofs.Logging as log
 use Rattle.script_runner.proofs.Putting.{quiet_left}
 use Rattle.script_runner.proofs.Seating.{quietly}
 use Rattle.script_runner.proofs.Stages.{some_last}
-use Rattle.script_runner.specs.Logs.{Tells}
+use Rattle.script_runner.specs.Logs.{TellsThread}
 use Rattle.script_runner.specs.Seats.{IsQuiet}
-use Rattle.script_runner.specs.Teams.{AllAbove, AllBare, AllMarked, AllPlay, AreRising, TeamsPlay, names_of}
+use Rattle.script_runner.specs.Teams.{AllAbove, AllBare, AllMarked, AllPlay, AreRising, TeamsPlay, desk_names}
 use Rattle.shared_handle.specs.Calls.{LeavesWeakly, counting}
 use Rattle.shared_handle.specs.Endings.{IsClearing, IsLeft}
 use Rattle.shared_handle.specs.Piles.{AreRounds, IsRound, Past}
@@ -62,7 +62,7 @@ module _ {V : Type 0} where
         (record { same = (refl, refl, refl); later = []; seen = refl; mine = refl; legal = λ l. l }),
   )
 
-  by_call : (d e : DeskNow V) (v : Event V) → Adds d v e → GoesOn d e
+  by_call : (d e : DeskNow V) (v : Event V) → AddsEvent d v e → GoesOn d e
   by_call d e v adds = (v ∷ [], goes_by_call d v e adds)
 
   left_on : (d e : DeskNow V) (b : Option Block) (p : Option Place) (y : Left V) → IsLeft d b p y e → GoesOn d e
@@ -146,7 +146,7 @@ module _ {V : Type 0} where
 -- a table that is ready to be absorbed: its thread is over, and nothing is left
 record IsReady {V : Type 0} (worth : Form → V) (z : Shape) (name : ℕ) (part : Part) (u : TableNow V) (lines : List Said) : Type 0 where
   pub last : Walk
-  pub tells : Tells worth part name u.desk last lines
+  pub tells : TellsThread worth part name u.desk last lines
   pub over : ahead last ≡ Over
   pub bare : AllBare u.slots
   pub settled : u.endings ≡ []
@@ -187,7 +187,7 @@ module _ {V : Type 0} (worth : Form → V) (z : Shape) where
 
   absorbed : (t u : TableNow V) (last : DeskNow V) (parts : List Part) (lent left : List (TableNow V)) (lines : List (List Said))
       → t.desk.shape ≡ z → AbsorbsAll t left u → AllReady parts lent left lines → GoesOn u.desk last
-      → AllMarked worth (opening_of z) last.seen (names_of lent) parts lines
+      → AllMarked worth (opening_of z) last.seen (desk_names lent) parts lines
   absorbed t u last [] [] [] [] of all ready goes = tt
   absorbed t u last (p ∷ ps) (q ∷ qs) (x ∷ xs) (l ∷ ls) of all ready goes =
       let m = all.0 in
@@ -235,7 +235,7 @@ module _ {V : Type 0} where
 
   -- the tables' names rise
   names_above : (d e : DeskNow V) (a k : ℕ) (ts : List (TableNow V)) → IsPartedInto d a k ts e
-      → ((n : ℕ) → n < (state_of d).names → AllAbove n (names_of ts)) × AreRising (names_of ts)
+      → ((n : ℕ) → n < (state_of d).names → AllAbove n (desk_names ts)) × AreRising (desk_names ts)
   names_above d e a k [] parted = (λ n lt. tt, tt)
   names_above d e a k (t ∷ ts) parted =
       let m = parted.0 in

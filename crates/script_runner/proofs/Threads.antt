@@ -8,7 +8,7 @@ use Rattle.step_threads.specs.declared.said.Said.{Said}
 use Rattle.script_text.specs.Grammar.{ended}
 use Rattle.script_stepper.specs.Lines.{said_lines, totals_text}
 use Rattle.script_stepper.proofs.LineLemmas.{lines_then}
-use Rattle.script_runner.specs.Telling.{census_lines, report_lines, threads_lines}
+use Rattle.script_runner.specs.Telling.{closed_census_lines, report_lines, threads_lines}
 use Rattle.script_runner.specs.declared.report.Report.{Report}
 
 -- one thread more
@@ -42,11 +42,11 @@ threads_then xs i x said a b c lt is p q =
 -- all parts of a report's text
 pub report_then : (report : Report) (lines : List (Vec Said)) (a b c d : List ℕ) → lines ≡ report.lines.items → a ≡ []
     → b ≡ a ++ ended (threads_lines 1 lines)
-    → c ≡ b ++ ended (census_lines report.census)
+    → c ≡ b ++ ended (closed_census_lines report.census)
     → d ≡ c ++ ended (totals_text report.totals.made report.totals.ended ∷ []) → d ≡ ended (report_lines report)
 report_then report lines a b c d all none p q r =
     let threads = threads_lines 1 report.lines.items in
-    let census = census_lines report.census in
+    let census = closed_census_lines report.census in
     let last = totals_text report.totals.made report.totals.ended ∷ [] in
     let begun : b ≡ a ++ ended threads = p ∙ ap (λ (l : List (Vec Said)). a ++ ended (threads_lines 1 l)) all in
     let both : c ≡ a ++ ended (threads ++ census) = lines_then threads census a b c begun q in

@@ -14,14 +14,14 @@ use Rattle.handle_table.specs.Tables.{TableNow}
 use Rattle.handle_table.specs.declared.fault.Fault.TheVariants.{Call}
 use Rattle.script_runner.proofs.Looking.{is_away, outside_as}
 use Rattle.script_runner.proofs.Takings.{same_call, stayed}
-use Rattle.script_runner.specs.CellCalls.{CellsNot, IsOfName, IsRefused, as_cell}
-use Rattle.script_runner.specs.Seats.{IsSeated, shown}
+use Rattle.script_runner.specs.CellCalls.{CellsNot, IsOfName, RefusesCell, as_cell}
+use Rattle.script_runner.specs.Seats.{IsSeated, shown_slots}
 use Rattle.script_runner.specs.TableCalls.{IsAway}
 use Rattle.step_table.specs.Contents.{is_of}
-use Rattle.step_table.specs.Holdings.{Slots, is_full, place_in, plain, pointer_of, value}
+use Rattle.step_table.specs.Holdings.{Slots, is_full, place_in, plain, pointer_of, slot_value}
 use Rattle.step_table.specs.declared.form.Form.{Form}
 use Rattle.step_threads.specs.Courses.{is_there, fitting, hand as hand_of}
-use Rattle.step_threads.specs.Doings.{copy, Loads, Swaps, Where}
+use Rattle.step_threads.specs.Doings.{copy, IsLoadEvent, IsSwapEvent, Where}
 use Rattle.step_threads.specs.Programs.{kind_at}
 use Rattle.step_threads.specs.Rows.{may_go}
 use Rattle.step_threads.specs.Scenes.{Hands, outside, refusal}
@@ -32,21 +32,21 @@ use Rattle.step_threads.specs.declared.said.Answer.TheVariants as answer
 
 module _ {V : Type 0} (worth : Form → V) (m hand : ℕ) (taken : Bool) (t : TableNow V) (is : IsSeated m hand t) where
   abbrev l : Slots
-  l = shown m t.slots
+  l = shown_slots m t.slots
 
   -- the marks of a cell that isn't there
-  marked : (c : CellName) (r : Refusal) → is_there l c ≡ false → refusal l c ≡ Some (answer.Refused r) → IsRefused V worth m t taken c r
+  marked : (c : CellName) (r : Refusal) → is_there l c ≡ false → refusal l c ≡ Some (answer.Refused r) → RefusesCell V worth m t taken c r
   marked c r there says =
       let s = state_of t.desk in
-      let may : (i : ℕ) → may_go l c i ≡ false = λ i. ap (λ b. b && is_of (kind_at c) (value l i)) there in
+      let may : (i : ℕ) → may_go l c i ≡ false = λ i. ap (λ b. b && is_of (kind_at c) (slot_value l i)) there in
       record {
         offer = λ i. record {
           acts = record {
             done = inl (
               stayed t.desk t.desk refl,
-              ap (λ b. option_map (copy {V = V} s) (cond b (pointer_of (fitting (kind_at c) (value l i))) None)) (sym there),
+              ap (λ b. option_map (copy {V = V} s) (cond b (pointer_of (fitting (kind_at c) (slot_value l i))) None)) (sym there),
             );
-            slots = ap (λ b. (cond {A = Hands} b (slice_set l (hand_of l) (fitting (kind_at c) (value l i)), true) (l, taken)).0) (sym there);
+            slots = ap (λ b. (cond {A = Hands} b (slice_set l (hand_of l) (fitting (kind_at c) (slot_value l i)), true) (l, taken)).0) (sym there);
             ends = refl;
           };
           says = says;
@@ -55,7 +55,7 @@ module _ {V : Type 0} (worth : Form → V) (m hand : ℕ) (taken : Bool) (t : Ta
           acts = record {
             done = inl (
               stayed t.desk t.desk refl,
-              subst (λ b. Where b (Swaps {V = V} s l c i plain None) (◌≡◌ {A = Option (Event V)} None None)) (sym (may i)) refl,
+              subst (λ b. Where b (IsSwapEvent {V = V} s l c i plain None) (◌≡◌ {A = Option (Event V)} None None)) (sym (may i)) refl,
             );
             slots = ap (λ b. cond b (slice_set l i plain) l) (sym (may i));
             ends = refl;
@@ -66,7 +66,7 @@ module _ {V : Type 0} (worth : Form → V) (m hand : ℕ) (taken : Bool) (t : Ta
           acts = record {
             done = inl (
               stayed t.desk t.desk refl,
-              subst (λ b. Where b (Loads {V = V} s l c plain None) (◌≡◌ {A = Option (Event V)} None None)) (sym there) refl,
+              subst (λ b. Where b (IsLoadEvent {V = V} s l c plain None) (◌≡◌ {A = Option (Event V)} None None)) (sym there) refl,
             );
             slots = ap (λ b. (cond {A = Hands} b (slice_set l (hand_of l) plain, true) (l, taken)).0) (sym there);
             ends = refl;
@@ -84,7 +84,7 @@ module _ {V : Type 0} (worth : Form → V) (m hand : ℕ) (taken : Bool) (t : Ta
   no_owner k r (inr x) = absurd cc
 
   no_object : (name : Name) (n : ℕ) (r : Refusal) → name.0 < m → WhyNoObject t.slots name.0 (Call r)
-      → IsRefused V worth m t taken (cell.Member name n) r
+      → RefusesCell V worth m t taken (cell.Member name n) r
   no_object name n r lt (inl x) = absurd (no_owner name.0 r x)
   no_object name n r lt (inr x) =
       let away = away_of x.0 r x.2 in
@@ -93,7 +93,7 @@ module _ {V : Type 0} (worth : Form → V) (m hand : ℕ) (taken : Bool) (t : Ta
       marked (cell.Member name n) r there
       (ap (λ b. cond b None (Some (outside (place_in l name.0)))) there ∙ ap Some (outside_as worth m name.0 hand taken t is lt x.0 r x.1 away))
 
-  refused : (c : CellName) (r : Refusal) → IsOfName m c → cells.WhyNoCell t.desk.shape t.slots (as_cell c) (Call r) → IsRefused V worth m t taken c r
+  refused : (c : CellName) (r : Refusal) → IsOfName m c → cells.WhyNoCell t.desk.shape t.slots (as_cell c) (Call r) → RefusesCell V worth m t taken c r
   refused (cell.Shared n) r of x = let no = x.0 in absurd cc
   refused (cell.Weak n) r of x = let no = x.0 in absurd cc
   refused (cell.Member name zero) r of x = no_object name 0 r of x

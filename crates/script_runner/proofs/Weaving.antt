@@ -7,7 +7,7 @@ use Rattle.std.proofs.lemmas.List.Elements.{All-from_recursion}
 use Rattle.std.specs.List.{AllByRecursion}
 use Rattle.std.specs.Prelude.{All}
 use Rattle.control_block.proofs.Own.{calls_add, joins_add, splits_add}
-use Rattle.control_block.specs.Desks.{Begins, DeskNow, DomainNow}
+use Rattle.control_block.specs.Desks.{IsFirstDesk, DeskNow, DomainNow}
 use Rattle.control_block.specs.Own.{KeepsDesks, events_of, own_of}
 use Rattle.control_block.specs.Rule.{opening_of}
 use Rattle.control_word.specs.Events.{Asks, after}
@@ -22,15 +22,15 @@ use Rattle.handle_table.specs.Tables as table
 use Rattle.handle_table.specs.Tables.{AllVacant, TableNow}
 use Rattle.script_runner.proofs.Summing.{KeepsAt, marked_keeps}
 use Rattle.script_runner.proofs.Teams.{quiet_wound, teams_play}
-use Rattle.script_runner.specs.Teams.{AllBare, AllMarked, AllPlay, IsBare, IsInterleaved, TeamsInterleave, names_of}
+use Rattle.script_runner.specs.Teams.{AllBare, AllMarked, AllPlay, HasNoObject, IsInterleaved, TeamsInterleave, desk_names}
 use Rattle.step_table.specs.declared.form.Form.{Form}
-use Rattle.step_threads.specs.Interleavings.{IsParting, Marked}
+use Rattle.step_threads.specs.Interleavings.{IsSplitOrJoin, Marked}
 use Rattle.step_threads.specs.Programs.{Part}
 use Rattle.step_threads.specs.declared.said.Said.{Said}
 
 vacant_bare : (ss : List table.Slot) → AllVacant ss → AllBare ss
 vacant_bare [] none = tt
-vacant_bare (s ∷ ss) none = (subst IsBare (sym none.0) tt, vacant_bare ss none.1)
+vacant_bare (s ∷ ss) none = (subst HasNoObject (sym none.0) tt, vacant_bare ss none.1)
 
 module _ {V : Type 0} where
   -- a desk of one of these names is split off, or some desk joined
@@ -48,7 +48,7 @@ module _ {V : Type 0} where
   Lending ns d = AllLend ns (own_of d)
 
   parted : (ns : List ℕ) (d e : DeskNow V) (a k : ℕ) (ts : List (TableNow V)) → IsPartedInto d a k ts e
-      → ((n : ℕ) → Has n (names_of ts) → Has n ns) → Lending ns d → Lending ns e
+      → ((n : ℕ) → Has n (desk_names ts) → Has n ns) → Lending ns d → Lending ns e
   parted ns d e a k [] is among lends = subst (Lending ns) (sym is) lends
   parted ns d e a k (t ∷ ts) is among lends =
       parted ns is.0 e a k ts is.2 (λ n has. among n (inr has))
@@ -85,7 +85,7 @@ module _ {V : Type 0} where
       cond_both (e.desk == 0) (e.event ∷ events_of 0 h) (events_of 0 h) (λ l. AllLend ns l → AllLend ns (events_of 0 h))
       (λ is lends. lends.1) (λ is lends. lends)
 
-  lends_parts : (ns : List ℕ) (v : Event V) → Lends ns v → IsParting v
+  lends_parts : (ns : List ℕ) (v : Event V) → Lends ns v → IsSplitOrJoin v
   lends_parts ns (event.Split to n hs bs) lends = tt
   lends_parts ns (event.Join other) lends = tt
   lends_parts ns (event.Make b enabled null fields val) lends = absurd lends
@@ -145,7 +145,7 @@ module _ {V : Type 0} where
   named s d x (event.Join other) asks lt = inl lt
 
   abbrev Other : List ℕ → Entry V → Type 0
-  Other ns e = Has e.desk ns ⊎ IsParting e.event
+  Other ns e = Has e.desk ns ⊎ IsSplitOrJoin e.event
 
   module _ (z : Opening) (first : z.desks ≡ 1) (ns : List ℕ) where
     -- each desk is the first one, or one of these names; and all else are splits and joins
@@ -218,7 +218,7 @@ module _ {V : Type 0} where
   pub teams_interleave : TeamsInterleave V
   teams_interleave worth parts lines domain slots t u between last lent left a k begins new parts_are all absorbs winds legal =
       let z = opening_of t.desk.shape in
-      let ns = names_of lent in
+      let ns = desk_names lent in
       let team = teams_play worth parts lines t u between last lent left a k parts_are all absorbs winds in
       let none : Lending ns t.desk =
       subst (λ (h : List (Entry V)). AllLend ns (events_of t.desk.name h)) (sym begins.seen) tt in

@@ -10,43 +10,43 @@ use Rattle.control_word.specs.declared.place.Place.{Place}
 use Rattle.control_word.specs.Events.{place_at}
 use Rattle.control_word.specs.Histories.{leads}
 use Rattle.control_word.specs.State.{State}
-use Rattle.control_block.specs.Desks.{Adds, DeskNow, HasHandle, latest_of, object_in, on_latest}
+use Rattle.control_block.specs.Desks.{AddsEvent, DeskNow, HasHandle, latest_of, object_in, on_latest}
 use Rattle.control_block.specs.Rule.{opening_of}
 use Rattle.step_table.specs.declared.field.Field.{Field}
 use Rattle.step_table.specs.declared.form.Form.{Form}
 use Rattle.step_table.specs.declared.holdings.Pointer.{Pointer}
 use Rattle.step_table.specs.Deeds.{aliased, remains}
-use Rattle.step_table.specs.Holdings.{Slots, place_in, slot}
+use Rattle.step_table.specs.Holdings.{Slots, place_in, slot_pointer}
 use Rattle.step_threads.specs.declared.act.Act.{Act}
 use Rattle.step_threads.specs.declared.act.Act.TheVariants as act
 use Rattle.step_threads.specs.Courses.{other}
-use Rattle.step_threads.specs.Doings.{Makes}
+use Rattle.step_threads.specs.Doings.{IsMakeEvent}
 use Rattle.step_threads.specs.Rows.{Reply, Plain, Found, Got, Told, Left}
 
 abbrev pub pointer : Kind → Block → Option Place → Pointer
 pointer k b p = record { kind = k; block = b; place = p }
 
 -- the acts that leave what slot i holds
-abbrev pub LeavesSlot : Act → Slots → ℕ → Type 0
-LeavesSlot (act.Put k) l i = i ≡ k
-LeavesSlot (act.Leave k) l i = i ≡ k
-LeavesSlot (act.Clear k) l i = i ≡ k
-LeavesSlot act.Drop l i = i ≡ other l
-LeavesSlot _ l i = ⊥
+abbrev pub IsLeaveOf : Act → Slots → ℕ → Type 0
+IsLeaveOf (act.Put k) l i = i ≡ k
+IsLeaveOf (act.Leave k) l i = i ≡ k
+IsLeaveOf (act.Clear k) l i = i ≡ k
+IsLeaveOf act.Drop l i = i ≡ other l
+IsLeaveOf _ l i = ⊥
 
 module _ (V : Type 0) where
   -- slot i has the pointer, which is a handle of the desk's
   pub record HasPointer (d : DeskNow V) (l : Slots) (i : ℕ) (k : Kind) (b : Block) (p : Option Place) : Type 0 where
-    pub at : slot l i ≡ Some (pointer k b p)
+    pub at : slot_pointer l i ≡ Some (pointer k b p)
     pub has : HasHandle d k p b.0
 
   -- the state in which a call's event stands
-  abbrev pub before : {d e : DeskNow V} {v : Event V} → Adds d v e → State
-  before {d} adds = leads (opening_of d.shape) (adds.between ++ d.seen)
+  abbrev pub state_before_event : {d e : DeskNow V} {v : Event V} → AddsEvent d v e → State
+  state_before_event {d} adds = leads (opening_of d.shape) (adds.between ++ d.seen)
 
   -- with these slots the call is this act of desk n's thread, with this reply
   abbrev pub IsAct : (Form → V) → ℕ → DeskNow V → Slots → Act → Reply → Event V → DeskNow V → Type 0
-  IsAct worth n d l a r v e = (adds : Adds d v e) → Makes worth (before adds) n l a r (Some v)
+  IsAct worth n d l a r v e = (adds : AddsEvent d v e) → IsMakeEvent worth (state_before_event adds) n l a r (Some v)
 
   -- make_shared, and a constructor from a null pointer ([util.smartptr.shared.create], [util.smartptr.shared.const])
   abbrev pub Made : Type 0
@@ -133,7 +133,7 @@ module _ (V : Type 0) where
   Gone =
       (worth : Form → V) (n : ℕ) (d e : DeskNow V) (l : Slots) (a : Act) (i : ℕ) (last : Bool)
       (b : Block) (p : Option Place)
-      → LeavesSlot a l i → HasPointer d l i Owner b p
+      → IsLeaveOf a l i → HasPointer d l i Owner b p
       → IsAct worth n d l a (Left last (cond last (Some (remains (object_in d b.0))) None))
       (event.Leave (on_latest d Owner p b.0) last) e
 
@@ -142,5 +142,5 @@ module _ (V : Type 0) where
   GoneWeakly =
       (worth : Form → V) (n : ℕ) (d e : DeskNow V) (l : Slots) (a : Act) (i : ℕ) (vacant : Bool)
       (b : Block) (p : Option Place)
-      → LeavesSlot a l i → HasPointer d l i Weak b p
+      → IsLeaveOf a l i → HasPointer d l i Weak b p
       → IsAct worth n d l a (Left vacant None) (event.WeakLeave (on_latest d Weak p b.0) vacant) e

@@ -6,14 +6,14 @@ use Rattle.control_word.specs.declared.refusal.Refusal.{Refusal}
 use Rattle.handle_table.specs.Calls as calls
 use Rattle.handle_table.specs.Cells as cells
 use Rattle.handle_table.specs.Compares as compares
-use Rattle.handle_table.specs.Ends.{IsThere}
-use Rattle.handle_table.specs.Parts.{kind_of}
+use Rattle.handle_table.specs.Ends.{NamesCell}
+use Rattle.handle_table.specs.Parts.{kind_of_held}
 use Rattle.handle_table.specs.Tables.{IsAt, TableNow}
 use Rattle.handle_table.specs.declared.cells.Cell.TheVariants as table
 use Rattle.handle_table.specs.declared.cells.Cell.{Cell}
 use Rattle.handle_table.specs.declared.fault.Fault.TheVariants.{Call}
-use Rattle.script_runner.specs.Seats.{Acts, IsHand, IsSeated, IsQuiet, Leaving, shown}
-use Rattle.script_runner.specs.TableCalls.{Marks}
+use Rattle.script_runner.specs.Seats.{Acts, IsHand, IsSeated, IsQuiet, Leaving, shown_slots}
+use Rattle.script_runner.specs.TableCalls.{MarksAct}
 use Rattle.step_table.specs.Holdings.{plain}
 use Rattle.step_table.specs.declared.form.Form.{Form}
 use Rattle.step_table.specs.declared.slot.Slot.{Slot}
@@ -44,7 +44,7 @@ module _ (V : Type 0) where
   LoadsIn =
       (worth : Form → V) (m hand : ℕ) (taken : Bool) (t u : TableNow V) (c : CellName)
       → IsHand m hand t → IsSeated m hand u → IsIn t.desk.shape c → IsOfName m c
-      → cells.Loads t (as_cell c) hand u
+      → cells.LoadsIntoSlot t (as_cell c) hand u
       → (x : Slot) × Acts worth m t taken (act.Load c) (Came x) u
 
   -- what a slot has goes into a cell, and what that held comes into the slot
@@ -52,7 +52,7 @@ module _ (V : Type 0) where
   ExchangesIn =
       (worth : Form → V) (m i hand : ℕ) (taken : Bool) (t u : TableNow V) (c : CellName)
       → IsSeated m hand t → IsSeated m hand u → i < hand → IsIn t.desk.shape c → IsOfName m c
-      → cells.Exchanges t i (as_cell c) u
+      → cells.ExchangesSlot t i (as_cell c) u
       → (x : Slot) × Acts worth m t taken (act.Exchange i c) (Came x) u
 
   -- a copy of what a slot has is to go into a cell that is there
@@ -60,7 +60,8 @@ module _ (V : Type 0) where
   OffersIn =
       (worth : Form → V) (m i hand : ℕ) (taken : Bool) (t u : TableNow V) (c : CellName)
       → IsHand m hand t → i < m → IsIn t.desk.shape c → IsOfName m c
-      → IsThere t (as_cell c) → (h : Held) → IsAt t i h → kind_of h ≡ kind_at c → calls.Copies t i hand u
+      → NamesCell t (as_cell c) → (h : Held) → IsAt t i h → kind_of_held h ≡ kind_at c
+      → calls.Copies t i hand u
       → Acts worth m t taken (act.Offer i c) Plain u
 
   -- What is in hand goes into a cell that is equivalent to slot k, and what the cell held leaves at once. To a thread
@@ -71,19 +72,21 @@ module _ (V : Type 0) where
     pub held : Slot
     pub compares : Acts worth m t true (act.Compare k c weak) (Compared true held) between
     pub after : TableNow V
-    pub same : (after.desk ≡ u.desk) × (shown m after.slots ≡ shown m u.slots) × (after.endings ≡ u.endings)
-    pub drops : idle act.Drop (shown m between.slots) false ≡ false → Leaving worth m between false act.Drop after
-    pub passes : idle act.Drop (shown m between.slots) false ≡ true
+    pub same : (after.desk ≡ u.desk) × (shown_slots m after.slots ≡ shown_slots m u.slots)
+        × (after.endings ≡ u.endings)
+    pub drops : idle act.Drop (shown_slots m between.slots) false ≡ false
+        → Leaving worth m between false act.Drop after
+    pub passes : idle act.Drop (shown_slots m between.slots) false ≡ true
         → IsQuiet between.desk after.desk
-        × (shown m after.slots ≡ slots_idle act.Drop (shown m between.slots) false)
+        × (shown_slots m after.slots ≡ slots_idle act.Drop (shown_slots m between.slots) false)
         × (after.endings ≡ between.endings)
 
   abbrev pub ComparesIn : Type 0
   ComparesIn =
       (worth : Form → V) (m k hand other : ℕ) (t u : TableNow V) (c : CellName) (weak : Bool)
       → IsSeated m hand t → other + 1 ≡ hand → k < other → slice_get t.slots other ≡ Some None
-      → IsIn t.desk.shape c → IsOfName m c → compares.Compares weak t (as_cell c) k hand true u
-      → (idle (act.Compare k c weak) (shown m t.slots) true ≡ false)
+      → IsIn t.desk.shape c → IsOfName m c → compares.ComparesSlots weak t (as_cell c) k hand true u
+      → (idle (act.Compare k c weak) (shown_slots m t.slots) true ≡ false)
       × ByCompare worth m k t u c weak
 
   -- The cell isn't equivalent, or a weak comparison failed: what it holds is assigned to slot k, and what was in hand
@@ -93,31 +96,32 @@ module _ (V : Type 0) where
     pub between : TableNow V
     pub held : Slot
     pub compares : Acts worth m t true (act.Compare k c weak) (Compared false held) between
-    pub puts : idle (act.Put k) (shown m between.slots) true ≡ false → Leaving worth m between true (act.Put k) u
-    pub passes : idle (act.Put k) (shown m between.slots) true ≡ true
+    pub puts : idle (act.Put k) (shown_slots m between.slots) true ≡ false
+        → Leaving worth m between true (act.Put k) u
+    pub passes : idle (act.Put k) (shown_slots m between.slots) true ≡ true
         → IsQuiet between.desk u.desk
-        × (shown m u.slots ≡ slots_idle (act.Put k) (shown m between.slots) true)
+        × (shown_slots m u.slots ≡ slots_idle (act.Put k) (shown_slots m between.slots) true)
         × (u.endings ≡ between.endings)
 
   abbrev pub DiffersIn : Type 0
   DiffersIn =
       (worth : Form → V) (m k hand other : ℕ) (t after u : TableNow V) (c : CellName) (weak : Bool)
       → IsSeated m hand t → other + 1 ≡ hand → k < other → slice_get t.slots other ≡ Some None
-      → IsIn t.desk.shape c → IsOfName m c → compares.Compares weak t (as_cell c) k hand false after
-      → calls.Moves after hand other u
-      → (idle (act.Compare k c weak) (shown m t.slots) true ≡ false)
+      → IsIn t.desk.shape c → IsOfName m c → compares.ComparesSlots weak t (as_cell c) k hand false after
+      → calls.MovesSlot after hand other u
+      → (idle (act.Compare k c weak) (shown_slots m t.slots) true ≡ false)
       × ByDiffering worth m k t u c weak
 
   -- A cell is none of the thread's: its name owns no object that it points into. The acts that would copy a value for
   -- it, exchange one with it or load from it are marks, with this answer
-  pub record IsRefused (worth : Form → V) (m : ℕ) (t : TableNow V) (taken : Bool) (c : CellName)
+  pub record RefusesCell (worth : Form → V) (m : ℕ) (t : TableNow V) (taken : Bool) (c : CellName)
       (r : Refusal) : Type 0 where
-    pub offer : (i : ℕ) → Marks V worth m t taken (act.Offer i c) Plain (answer.Refused r)
-    pub exchange : (i : ℕ) → Marks V worth m t taken (act.Exchange i c) (Came plain) (answer.Refused r)
-    pub load : Marks V worth m t taken (act.Load c) (Came plain) (answer.Refused r)
+    pub offer : (i : ℕ) → MarksAct V worth m t taken (act.Offer i c) Plain (answer.Refused r)
+    pub exchange : (i : ℕ) → MarksAct V worth m t taken (act.Exchange i c) (Came plain) (answer.Refused r)
+    pub load : MarksAct V worth m t taken (act.Load c) (Came plain) (answer.Refused r)
 
   abbrev pub CellsNot : Type 0
   CellsNot =
       (worth : Form → V) (m hand : ℕ) (taken : Bool) (t : TableNow V) (c : CellName) (r : Refusal)
       → IsSeated m hand t → IsOfName m c → cells.WhyNoCell t.desk.shape t.slots (as_cell c) (Call r)
-      → IsRefused worth m t taken c r
+      → RefusesCell worth m t taken c r

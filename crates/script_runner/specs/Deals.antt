@@ -3,7 +3,7 @@ use Rattle.std.specs.Prelude.{◌≡◌, ◌⊎◌, ◌<◌, ◌+◌, ◌∷◌,
 use Rattle.std.specs.Prelude.{ℕ, Bool, true, false, List, []}
 use Rattle.std.specs.Prelude.{None, IfNone, IfSome, Option, get_or, slice_get, Some}
 use Rattle.control_block.specs.Desks.{DeskNow, object_in}
-use Rattle.handle_table.specs.Handles.{Empties, EmptiesWeakly}
+use Rattle.handle_table.specs.Handles.{EmptiesSlot, EmptiesSlotWeakly}
 use Rattle.handle_table.specs.Tables.{TableNow}
 use Rattle.handle_table.specs.declared.fault.Fault.TheVariants.{Call}
 use Rattle.handle_table.specs.declared.fault.Fault.{Fault}
@@ -11,10 +11,10 @@ use Rattle.control_word.specs.declared.refusal.Refusal.TheVariants.{Limit}
 use Rattle.control_word.specs.declared.refusal.Refusal.{Refusal}
 use Rattle.step_threads.specs.declared.said.Answer.TheVariants as answer
 use Rattle.script_runner.specs.CellCalls.{ByCompare, ByDiffering}
-use Rattle.script_runner.specs.EndCalls.{Piled, Takes}
+use Rattle.script_runner.specs.EndCalls.{Piled, TakesThread}
 use Rattle.script_runner.specs.Goings.{task}
-use Rattle.script_runner.specs.Logs.{told}
-use Rattle.script_runner.specs.Seats.{Acts, IsQuiet, IsSeated, shown}
+use Rattle.script_runner.specs.Logs.{told_line}
+use Rattle.script_runner.specs.Seats.{Acts, IsQuiet, IsSeated, shown_slots}
 use Rattle.script_runner.specs.declared.went.Went.{Went}
 use Rattle.shared_handle.specs.Piles.{AllEnd}
 use Rattle.shared_handle.specs.declared.endings.Ending as pile
@@ -25,7 +25,7 @@ use Rattle.step_table.specs.Deeds.{remains}
 use Rattle.step_table.specs.Holdings.{Slots}
 use Rattle.step_table.specs.declared.ended.Ended.{Ended}
 use Rattle.step_table.specs.declared.form.Form.{Form}
-use Rattle.step_threads.specs.Courses.{idle, settled, slots_idle, taken_idle}
+use Rattle.step_threads.specs.Courses.{idle, walk_settled, slots_idle, taken_idle}
 use Rattle.step_threads.specs.Rows.{Reply, row}
 use Rattle.step_threads.specs.declared.act.Act.{Act}
 use Rattle.step_threads.specs.declared.act.Act.TheVariants as act
@@ -40,8 +40,8 @@ abbrev pub field_0 : Form → ℕ
 field_0 form = get_or form.fields 0 0
 
 -- the slots of a thread whose hand is this one
-abbrev pub held : ℕ → TableNow ℕ → Slots
-held hand t = shown (hand + 1) t.slots
+abbrev pub thread_slots : ℕ → TableNow ℕ → Slots
+thread_slots hand t = shown_slots (hand + 1) t.slots
 
 -- an object has three members
 abbrev pub IsThird : CellName → Type 0
@@ -50,28 +50,28 @@ IsThird _ = Unit {0}
 
 -- an act of the thread's, by a reply of the table
 pub record IsActed (hand : ℕ) (t : TableNow ℕ) (taken : Bool) (a : Act) (x : Went) (u : TableNow ℕ) : Type 0 where
-  pub busy : idle a (held hand t) taken ≡ false
+  pub busy : idle a (thread_slots hand t) taken ≡ false
   pub reply : Reply
   pub acts : Acts field_0 (hand + 1) t taken a reply u
-  pub takes : x.taken ≡ (row a (held hand t) taken reply).taken
-  pub says : x.answer ≡ (row a (held hand t) taken reply).answer
-  pub tells : x.ended ≡ (row a (held hand t) taken reply).ended
+  pub takes : x.taken ≡ (row a (thread_slots hand t) taken reply).taken
+  pub says : x.answer ≡ (row a (thread_slots hand t) taken reply).answer
+  pub tells : x.ended ≡ (row a (thread_slots hand t) taken reply).ended
 
 -- no act where it comes
-pub record IsPassed (hand : ℕ) (t : TableNow ℕ) (taken : Bool) (a : Act) (x : Went)
+pub record IsPassedOver (hand : ℕ) (t : TableNow ℕ) (taken : Bool) (a : Act) (x : Went)
     (u : TableNow ℕ) : Type 0 where
-  pub free : idle a (held hand t) taken ≡ true
+  pub free : idle a (thread_slots hand t) taken ≡ true
   pub quiet : IsQuiet t.desk u.desk
-  pub slots : held hand u ≡ slots_idle a (held hand t) taken
+  pub slots : thread_slots hand u ≡ slots_idle a (thread_slots hand t) taken
   pub endings : u.endings ≡ t.endings
   pub takes : x.taken ≡ taken_idle a taken
   pub silent : (x.answer ≡ None) × (x.ended ≡ None)
 
 abbrev pub IsDealt : ℕ → TableNow ℕ → Bool → Act → Went → TableNow ℕ → Type 0
-IsDealt hand t taken a x u = IsActed hand t taken a x u ⊎ IsPassed hand t taken a x u
+IsDealt hand t taken a x u = IsActed hand t taken a x u ⊎ IsPassedOver hand t taken a x u
 
 -- the hand is a slot of the table, full or vacant
-pub record IsSeen (hand : ℕ) (t : TableNow ℕ) (full : Bool) : Type 0 where
+pub record IsHandOfTable (hand : ℕ) (t : TableNow ℕ) (full : Bool) : Type 0 where
   pub seated : IsSeated (hand + 1) hand t
   pub vacant : full ≡ false → slice_get t.slots hand ≡ Some None
   pub ends : AllEnd t.desk t.endings
@@ -88,20 +88,20 @@ IsRoundTold u _ e = e ≡ None
 
 -- a name became empty
 abbrev pub IsEmptied : TableNow ℕ → ℕ → TableNow ℕ → Type 0
-IsEmptied t i u = Empties t i u ⊎ EmptiesWeakly t i u
+IsEmptied t i u = EmptiesSlot t i u ⊎ EmptiesSlotWeakly t i u
 
 -- what a thread says by an act of statement k
-abbrev pub said_by : ℕ → Went → Said
-said_by k x = record { statement = k; answer = x.answer; ended = x.ended }
+abbrev pub statement_says : ℕ → Went → Said
+statement_says k x = record { statement = k; answer = x.answer; ended = x.ended }
 
 -- a comparison of a cell that goes on at once: with what the cell held, or with what is assigned to the name
-abbrev pub Compares : ℕ → TableNow ℕ → ℕ → CellName → Bool → Bool → TableNow ℕ → Type 0
-Compares hand t k c weak true u = ByCompare ℕ field_0 (hand + 1) k t u c weak
-Compares hand t k c weak false u = ByDiffering ℕ field_0 (hand + 1) k t u c weak
+abbrev pub ComparesAtOnce : ℕ → TableNow ℕ → ℕ → CellName → Bool → Bool → TableNow ℕ → Type 0
+ComparesAtOnce hand t k c weak true u = ByCompare ℕ field_0 (hand + 1) k t u c weak
+ComparesAtOnce hand t k c weak false u = ByDiffering ℕ field_0 (hand + 1) k t u c weak
 
 abbrev pub IsCompared : ℕ → TableNow ℕ → ℕ → CellName → Bool → Bool → TableNow ℕ → Type 0
-IsCompared hand t k c weak swapped u = (idle (act.Compare k c weak) (held hand t) true ≡ false)
-    × Compares hand t k c weak swapped u
+IsCompared hand t k c weak swapped u = (idle (act.Compare k c weak) (thread_slots hand t) true ≡ false)
+    × ComparesAtOnce hand t k c weak swapped u
 
 -- by these tasks of statement k, with nothing left to end before, a thread goes on and says this
 pub record IsOnward (hand k : ℕ) (t : TableNow ℕ) (taken : Bool) (ts : List Task) (takes : Bool) (lines : List Said)
@@ -109,28 +109,30 @@ pub record IsOnward (hand k : ℕ) (t : TableNow ℕ) (taken : Bool) (ts : List 
   pub endings : List Ending
   pub piled : Piled k u.endings endings
   pub goes : (todo : List Task) (log : List Said)
-      → Takes field_0 t.desk (settled (held hand t) taken [] (ts ++ todo)) log u.desk
-      (settled (held hand u) takes endings todo) (log ++ lines)
+      → TakesThread field_0 t.desk (walk_settled (thread_slots hand t) taken [] (ts ++ todo)) log u.desk
+      (walk_settled (thread_slots hand u) takes endings todo) (log ++ lines)
 
 -- what was left to end by statement k has ended
-abbrev pub IsSettled : ℕ → ℕ → Bool → TableNow ℕ → List Said → TableNow ℕ → List Said → Type 0
-IsSettled hand k taken t log u lines =
+abbrev pub IsSettledBy : ℕ → ℕ → Bool → TableNow ℕ → List Said → TableNow ℕ → List Said → Type 0
+IsSettledBy hand k taken t log u lines =
     (es : List Ending) → Piled k t.endings es → (todo : List Task)
-    → Takes field_0 t.desk (settled (held hand t) taken es todo) log u.desk
-    (settled (held hand u) taken [] todo) lines
+    → TakesThread field_0 t.desk (walk_settled (thread_slots hand t) taken es todo) log u.desk
+    (walk_settled (thread_slots hand u) taken [] todo) lines
 
 -- or some of it: it goes on with what is left
-abbrev pub IsUnderWay : ℕ → ℕ → Bool → TableNow ℕ → List Said → TableNow ℕ → List Said → Type 0
-IsUnderWay hand k taken t log u lines =
+abbrev pub IsPartlySettled : ℕ → ℕ → Bool → TableNow ℕ → List Said → TableNow ℕ
+    → List Said → Type 0
+IsPartlySettled hand k taken t log u lines =
     (es : List Ending) → Piled k t.endings es → (fs : List Ending) × Piled k u.endings fs × ((todo : List Task)
-    → Takes field_0 t.desk (settled (held hand t) taken es todo) log u.desk
-    (settled (held hand u) taken fs todo) lines)
+    → TakesThread field_0 t.desk (walk_settled (thread_slots hand t) taken es todo) log u.desk
+    (walk_settled (thread_slots hand u) taken fs todo) lines)
 
 -- by its next tasks the thread goes on, with nothing left to end
-abbrev pub GoesOn : ℕ → TableNow ℕ → Bool → List Task → List Said
+abbrev pub GoesOnWith : ℕ → TableNow ℕ → Bool → List Task → List Said
     → TableNow ℕ → Bool → List Task → List Said → Type 0
-GoesOn hand t taken todo log u takes rest lines =
-    Takes field_0 t.desk (settled (held hand t) taken [] todo) log u.desk (settled (held hand u) takes [] rest) lines
+GoesOnWith hand t taken todo log u takes rest lines =
+    TakesThread field_0 t.desk (walk_settled (thread_slots hand t) taken [] todo) log u.desk
+    (walk_settled (thread_slots hand u) takes [] rest) lines
 
 -- an object gives no pointer to itself, for this reason
 pub record NotGiven (why : Fault) (x : Went) : Type 0 where

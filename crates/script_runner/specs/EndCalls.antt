@@ -7,8 +7,8 @@ use Rattle.handle_table.specs.Ends.{IsMadeAs}
 use Rattle.handle_table.specs.Tables.{TableNow}
 use Rattle.handle_table.specs.declared.ends.Remains.TheVariants as table
 use Rattle.handle_table.specs.declared.ends.Remains.{Remains}
-use Rattle.script_runner.specs.Logs.{Tells}
-use Rattle.script_runner.specs.Seats.{IsHand, shown}
+use Rattle.script_runner.specs.Logs.{TellsThread}
+use Rattle.script_runner.specs.Seats.{IsHand, shown_slots}
 use Rattle.shared_handle.specs.Endings.{IsAllClear, IsUncleared}
 use Rattle.shared_handle.specs.Piles.{AllEnd, IsRound}
 use Rattle.shared_handle.specs.declared.endings.Ending as pile
@@ -19,16 +19,16 @@ use Rattle.step_table.specs.Deeds.{remains}
 use Rattle.step_table.specs.declared.ended.Ended.TheVariants as ended
 use Rattle.step_table.specs.declared.ended.Ended.{Ended as EndedAs}
 use Rattle.step_table.specs.declared.form.Form.{Form}
-use Rattle.step_threads.specs.Courses.{Walk, settled}
+use Rattle.step_threads.specs.Courses.{Walk, walk_settled}
 use Rattle.step_threads.specs.Programs.{Part}
 use Rattle.step_threads.specs.declared.act.Task.{Task}
 use Rattle.step_threads.specs.declared.ending.Ending.{Ending}
 use Rattle.step_threads.specs.declared.said.Said.{Said}
 
 -- what a table tells that an object was made as, as a thread says it; an object has four fields
-abbrev pub ended_of : Remains → EndedAs
-ended_of table.Null = ended.Null
-ended_of (table.Fields fields) = ended.Fields fields
+abbrev pub remains_ended : Remains → EndedAs
+remains_ended table.Null = ended.Null
+remains_ended (table.Fields fields) = ended.Fields fields
 
 abbrev pub IsFour : Remains → Type 0
 IsFour table.Null = Unit {0}
@@ -50,9 +50,10 @@ module _ {V : Type 0} where
       × (e.block ≡ top.block) × (e.statement ≡ k) × IsAtStage top e.stage × Piled k below es
 
   -- what a desk does takes its thread from one act to another, and adds lines
-  abbrev pub Takes : (Form → V) → DeskNow V → Walk → List Said → DeskNow V → Walk → List Said → Type 0
-  Takes worth d w log e u lines =
-      (part : Part) (n : ℕ) → Tells worth part n d w log → Tells worth part n e u lines
+  abbrev pub TakesThread : (Form → V) → DeskNow V → Walk → List Said → DeskNow V → Walk
+      → List Said → Type 0
+  TakesThread worth d w log e u lines =
+      (part : Part) (n : ℕ) → TellsThread worth part n d w log → TellsThread worth part n e u lines
 
   -- what is told of a round: of an object that is left to end, what it was made as
   abbrev pub RoundSays : ℕ → DeskNow V → List (pile.Ending V) → Round V → List Said → Type 0
@@ -70,8 +71,8 @@ module _ {V : Type 0} where
     pub lines : List Said
     pub says : RoundSays k u.desk u.endings round lines
     pub takes : (taken : Bool) (todo : List Task) (log : List Said)
-        → Takes worth t.desk (settled (shown m t.slots) taken es todo) log u.desk
-        (settled (shown m u.slots) taken endings todo) (log ++ lines)
+        → TakesThread worth t.desk (walk_settled (shown_slots m t.slots) taken es todo) log u.desk
+        (walk_settled (shown_slots m u.slots) taken endings todo) (log ++ lines)
 
 module _ (V : Type 0) where
   abbrev pub RoundsIn : Type 0
@@ -86,4 +87,4 @@ module _ (V : Type 0) where
   abbrev pub RemainsIn : Type 0
   RemainsIn =
       (d : DeskNow V) (b : ℕ) (x : V) (r : Remains) → Standing d → IsEnding d b x → IsFour r
-      → IsMadeAs (object_in d b) r → ended_of r ≡ remains (object_in d b)
+      → IsMadeAs (object_in d b) r → remains_ended r ≡ remains (object_in d b)

@@ -10,7 +10,7 @@ use Rattle.script_text.specs.Drafts.{ScriptView}
 use Rattle.script_text.specs.Scripts.{program_in}
 use Rattle.script_runner.specs.Deals.{field_0}
 use Rattle.script_runner.specs.Teams.{IsInterleaved}
-use Rattle.script_runner.specs.Totals.{ended_in, made_in}
+use Rattle.script_runner.specs.Totals.{count_ended_in, count_made_in}
 use Rattle.script_runner.specs.declared.report.Report.{Report}
 
 -- the domain of a script's workers has as many blocks and cells as its world, and room for each worker's allowance
@@ -26,5 +26,5 @@ pub record IsReport (script : ScriptView) (report : Report) : Type 0 where
   pub runs : Runs ℕ (domain_shape script) team manned report.census
   pub interleaved : IsInterleaved field_0 (opening_of (domain_shape script)) runs.last.seen
       (program_in script.threads) (map (λ v. v.items) report.lines.items)
-  pub made : report.totals.made ≡ made_in runs.last.seen
-  pub ended : report.totals.ended ≡ ended_in runs.last.seen
+  pub made : report.totals.made ≡ count_made_in runs.last.seen
+  pub ended : report.totals.ended ≡ count_ended_in runs.last.seen

@@ -13,14 +13,14 @@ use Rattle.control_word.specs.declared.refusal.Refusal.{Refusal}
 use Rattle.handle_table.specs.Calls as calls
 use Rattle.handle_table.specs.Handles as handles
 use Rattle.handle_table.specs.Pairs.{AreInOrder, PointAlike}
-use Rattle.handle_table.specs.Tables.{TableNow, Fits, IsAt}
+use Rattle.handle_table.specs.Tables.{TableNow, FitsSlots, IsAt}
 use Rattle.handle_table.specs.This as this
 use Rattle.handle_table.specs.declared.fault.Fault.TheVariants.{Call}
-use Rattle.script_runner.specs.Seats.{Acts, IsHand, shown, IsQuiet, IsSeated, Leaving}
+use Rattle.script_runner.specs.Seats.{Acts, IsHand, shown_slots, IsQuiet, IsSeated, Leaving}
 use Rattle.shared_handle.specs.Endings.{IsOutside}
 use Rattle.shared_handle.specs.declared.pile.Gone.{Gone}
 use Rattle.step_table.specs.Deeds.{aliased}
-use Rattle.step_table.specs.Holdings.{place_in, is_full, slot}
+use Rattle.step_table.specs.Holdings.{place_in, is_full, slot_pointer}
 use Rattle.step_table.specs.declared.field.Field.{Field}
 use Rattle.step_table.specs.declared.form.Form.{Form}
 use Rattle.step_threads.specs.Courses.{placed}
@@ -64,13 +64,13 @@ module _ (V : Type 0) where
   abbrev pub AliasesIn : Type 0
   AliasesIn = Taking (λ worth m t taken i hand u.
       (j : ℕ) (field : Option Field)
-      → this.Aliases t i (aliased field (place_in (shown m t.slots) j)) hand u
+      → this.Aliases t i (aliased field (place_in (shown_slots m t.slots) j)) hand u
       → Acts worth m t taken (act.Alias i j field) Plain u)
 
   -- a lock ([util.smartptr.weak.obs])
   abbrev pub LocksIn : Type 0
   LocksIn = Taking (λ worth m t taken i hand u.
-      (got : Bool) → calls.Locks t i hand got u → Acts worth m t taken (act.Lock i false) (Got got) u)
+      (got : Bool) → calls.LocksSlot t i hand got u → Acts worth m t taken (act.Lock i false) (Got got) u)
 
   -- a shared pointer from a weak one, and that there is none ([util.smartptr.shared.const])
   abbrev pub UpgradesIn : Type 0
@@ -87,7 +87,7 @@ module _ (V : Type 0) where
   MakesIn =
       (worth : Form → V) (m hand : ℕ) (taken : Bool) (t u : TableNow V) → IsHand m hand t
       → (form : Form) (x : V) → form.null ≡ false → x ≡ worth form
-      → calls.Makes t hand form.enabled form.fields x u
+      → calls.MakesIntoSlot t hand form.enabled form.fields x u
       → (b : ℕ) × Acts worth m t taken (act.Make form) (Found (Some b)) u
 
   abbrev pub MakesNullIn : Type 0
@@ -106,19 +106,20 @@ module _ (V : Type 0) where
   abbrev pub PutsIn : Type 0
   PutsIn =
       (worth : Form → V) (m i hand : ℕ) (taken : Bool) (t u : TableNow V) → IsSeated m hand t → i < hand
-      → calls.Moves t hand i u → Leaving worth m t taken (act.Put i) u
+      → calls.MovesSlot t hand i u → Leaving worth m t taken (act.Put i) u
 
   abbrev pub PutsIdle : Type 0
   PutsIdle =
       (m i hand : ℕ) (t u : TableNow V) → IsSeated m hand t → i < hand
-      → calls.Moves t hand i u → is_full (slot (shown m t.slots) i) ≡ false
-      → IsQuiet t.desk u.desk × (shown m u.slots ≡ placed i (shown m t.slots)) × (u.endings ≡ t.endings)
+      → calls.MovesSlot t hand i u → is_full (slot_pointer (shown_slots m t.slots) i) ≡ false
+      → IsQuiet t.desk u.desk × (shown_slots m u.slots ≡ placed i (shown_slots m t.slots))
+      × (u.endings ≡ t.endings)
 
   -- a slot becomes empty ([util.smartptr.shared.mod], [util.smartptr.weak.mod])
   abbrev pub EmptiesIn : Type 0
   EmptiesIn =
-      (worth : Form → V) (m i : ℕ) (taken : Bool) (t u : TableNow V) → Fits t.desk t.slots → i < m
-      → handles.Empties t i u ⊎ handles.EmptiesWeakly t i u
+      (worth : Form → V) (m i : ℕ) (taken : Bool) (t u : TableNow V) → FitsSlots t.desk t.slots → i < m
+      → handles.EmptiesSlot t i u ⊎ handles.EmptiesSlotWeakly t i u
       → Leaving worth m t taken (act.Leave i) u × Leaving worth m t taken (act.Clear i) u
 
   -- what is to be dropped leaves
@@ -131,7 +132,7 @@ module _ (V : Type 0) where
   abbrev pub MovesIn : Type 0
   MovesIn =
       (worth : Form → V) (m i hand : ℕ) (taken : Bool) (t between u : TableNow V) → IsHand m hand t → i < hand
-      → calls.Moves t i hand between → handles.Empties between i u ⊎ handles.EmptiesWeakly between i u
+      → calls.MovesSlot t i hand between → handles.EmptiesSlot between i u ⊎ handles.EmptiesSlotWeakly between i u
       → Acts worth m t taken (act.Move i) Plain u
 
   -- a call that tells something of slot i
@@ -143,7 +144,7 @@ module _ (V : Type 0) where
   -- use_count, expired and a field ([util.smartptr.shared.obs], [util.smartptr.weak.obs])
   abbrev pub CountsIn : Type 0
   CountsIn = Looking (λ worth m t taken i u.
-      (n : ℕ) → calls.Counts t i n u → Acts worth m t taken (act.Count i) (Told n) u)
+      (n : ℕ) → calls.CountsSlot t i n u → Acts worth m t taken (act.Count i) (Told n) u)
 
   abbrev pub ExpiresIn : Type 0
   ExpiresIn = Looking (λ worth m t taken i u.
@@ -151,19 +152,19 @@ module _ (V : Type 0) where
 
   abbrev pub ReadsIn : Type 0
   ReadsIn = Looking (λ worth m t taken i u.
-      (field : ℕ) → calls.Reads t i (Ok field) u → Acts worth m t taken (act.Read i) (Told field) u)
+      (field : ℕ) → calls.ReadsSlot t i (Ok field) u → Acts worth m t taken (act.Read i) (Told field) u)
 
   -- a mark, with this answer
-  pub record Marks (worth : Form → V) (m : ℕ) (t : TableNow V) (taken : Bool) (a : Act) (r : Reply)
+  pub record MarksAct (worth : Form → V) (m : ℕ) (t : TableNow V) (taken : Bool) (a : Act) (r : Reply)
       (said : Answer) : Type 0 where
     pub acts : Acts worth m t taken a r t
-    pub says : (row a (shown m t.slots) taken r).answer ≡ Some said
+    pub says : (row a (shown_slots m t.slots) taken r).answer ≡ Some said
 
   -- the field isn't one of the object that the owner owns
   abbrev pub ReadsNot : Type 0
   ReadsNot = Looking (λ worth m t taken i u.
       (h : Shared) (why : Refusal) → IsAt t i (Owner h) → IsAway h.block h.place why
-      → Marks worth m t taken (act.Read i) (Told 0) (answer.Refused why))
+      → MarksAct worth m t taken (act.Read i) (Told 0) (answer.Refused why))
 
   -- a pointer of either kind from an object that gives pointers to itself, and that it gives none
   -- ([util.smartptr.enab])
@@ -178,20 +179,20 @@ module _ (V : Type 0) where
   abbrev pub ThisNot : Type 0
   ThisNot = Looking (λ worth m t taken i u.
       (k : Kind) (why : Refusal) → this.IsNoThis t i (Call why) → why ≢ Limit
-      → Marks worth m t taken (act.FromThis i k) (Got false) (answer.Refused why))
+      → MarksAct worth m t taken (act.FromThis i k) (Got false) (answer.Refused why))
 
   -- where a pointer points, whether two point at one place, and whether the first comes before the other
   abbrev pub PlacesIn : Type 0
   PlacesIn = Looking (λ worth m t taken i u.
       (p : Option Place) → calls.PointsTo t i p
-      → Marks worth m t taken (act.Ask (question.Place i)) (Got true) (answer.Place p))
+      → MarksAct worth m t taken (act.Ask (question.Place i)) (Got true) (answer.Place p))
 
   abbrev pub AlikeIn : Type 0
   AlikeIn = Looking (λ worth m t taken i u.
       (j : ℕ) (alike : Bool) → j < m → PointAlike t i j alike
-      → Marks worth m t taken (act.Ask (question.Same i j)) (Got true) (answer.Same alike))
+      → MarksAct worth m t taken (act.Ask (question.Same i j)) (Got true) (answer.Same alike))
 
-  abbrev pub InOrder : Type 0
-  InOrder = Looking (λ worth m t taken i u.
+  abbrev pub MarksOrder : Type 0
+  MarksOrder = Looking (λ worth m t taken i u.
       (j : ℕ) (before : Bool) → j < m → AreInOrder t i j before
-      → Marks worth m t taken (act.Ask (question.Before i j)) (Got before) (answer.Before before))
+      → MarksAct worth m t taken (act.Ask (question.Before i j)) (Got before) (answer.Before before))

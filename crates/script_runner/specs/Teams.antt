@@ -1,43 +1,43 @@
 -- What a domain's history has of each thread of a script, once a table for each was joined and the first one wound up.
 -- All of it is own.
 use Rattle.std.specs.Prelude.{◌≡◌, ◌⊎◌, ℕ, ◌<◌, All, List, [], ◌∷◌, None, Some, map}
-use Rattle.control_block.specs.Desks.{Begins, DeskNow, DomainNow}
+use Rattle.control_block.specs.Desks.{IsFirstDesk, DeskNow, DomainNow}
 use Rattle.control_block.specs.Rule.{opening_of}
 use Rattle.control_word.specs.Histories.{IsLegal}
 use Rattle.control_word.specs.State.{Has, Opening}
 use Rattle.control_word.specs.declared.event.Entry.{Entry}
 use Rattle.handle_table.specs.Parting.{AbsorbsAll, IsNew, IsPartedInto, WindsUp}
-use Rattle.handle_table.specs.Parts.{owned_by}
+use Rattle.handle_table.specs.Parts.{block_of_held}
 use Rattle.handle_table.specs.Tables as table
 use Rattle.handle_table.specs.Tables.{TableNow}
-use Rattle.script_runner.specs.EndCalls.{Takes}
+use Rattle.script_runner.specs.EndCalls.{TakesThread}
 use Rattle.step_table.specs.declared.form.Form.{Form}
 use Rattle.step_threads.specs.Courses.{Walk}
 use Rattle.step_threads.specs.Doings.{Over, ahead}
-use Rattle.step_threads.specs.Interleavings.{IsParting, Marked, first_walk}
+use Rattle.step_threads.specs.Interleavings.{IsSplitOrJoin, Marked, first_walk}
 use Rattle.step_threads.specs.Programs.{Part}
 use Rattle.step_threads.specs.declared.said.Said.{Said}
 
 -- no slot has a handle of an object
-abbrev pub IsBare : table.Slot → Type 0
-IsBare None = Unit {0}
-IsBare (Some h) = owned_by h ≡ None
+abbrev pub HasNoObject : table.Slot → Type 0
+HasNoObject None = Unit {0}
+HasNoObject (Some h) = block_of_held h ≡ None
 
 abbrev pub AllBare : List table.Slot → Type 0
 AllBare [] = Unit {0}
-AllBare (s ∷ ss) = IsBare s × AllBare ss
+AllBare (s ∷ ss) = HasNoObject s × AllBare ss
 
 -- the names of the desks of tables
-abbrev pub names_of : {V : Type 0} → List (TableNow V) → List ℕ
-names_of ts = map (λ t. t.desk.name) ts
+abbrev pub desk_names : {V : Type 0} → List (TableNow V) → List ℕ
+desk_names ts = map (λ t. t.desk.name) ts
 
 module _ {V : Type 0} where
   -- a worker's table was lent as t and left as u: what its desk did took its thread from its first act to its end, with
   -- these lines, and nothing is left
-  pub record Plays (worth : Form → V) (part : Part) (t u : TableNow V) (lines : List Said) : Type 0 where
+  pub record PlaysThread (worth : Form → V) (part : Part) (t u : TableNow V) (lines : List Said) : Type 0 where
     pub last : Walk
     pub shape : u.desk.shape ≡ t.desk.shape
-    pub takes : Takes worth t.desk (first_walk part) [] u.desk last lines
+    pub takes : TakesThread worth t.desk (first_walk part) [] u.desk last lines
     pub over : ahead last ≡ Over
     pub bare : AllBare u.slots
     pub settled : u.endings ≡ []
@@ -45,7 +45,7 @@ module _ {V : Type 0} where
   abbrev pub AllPlay : (Form → V) → List Part → List (TableNow V) → List (TableNow V) → List (List Said)
       → Type 0
   AllPlay worth [] [] [] [] = Unit {0}
-  AllPlay worth (p ∷ ps) (t ∷ ts) (u ∷ us) (l ∷ ls) = Plays worth p t u l × AllPlay worth ps ts us ls
+  AllPlay worth (p ∷ ps) (t ∷ ts) (u ∷ us) (l ∷ ls) = PlaysThread worth p t u l × AllPlay worth ps ts us ls
   AllPlay worth _ _ _ _ = ⊥
 
   -- each of these threads has its acts in the history, under its name, with its lines
@@ -73,7 +73,7 @@ module _ {V : Type 0} where
     pub names : List ℕ
     pub rising : AreRising names
     pub each : AllMarked worth z h names parts lines
-    pub others : All (λ (e : Entry V). Has e.desk names ⊎ IsParting e.event) h
+    pub others : All (λ (e : Entry V). Has e.desk names ⊎ IsSplitOrJoin e.event) h
 
 module _ (V : Type 0) where
   -- a table gave parts to a table for each thread, which played it, and absorbed them; and then it was wound up
@@ -83,14 +83,15 @@ module _ (V : Type 0) where
       (lent left : List (TableNow V)) (allowance blocks : ℕ)
       → IsPartedInto t.desk allowance blocks lent between → AllPlay worth parts lent left lines
       → AbsorbsAll (record t { desk = between }) left u → WindsUp u last
-      → AllMarked worth (opening_of t.desk.shape) last.seen (names_of lent) parts lines × AreRising (names_of lent)
+      → AllMarked worth (opening_of t.desk.shape) last.seen (desk_names lent) parts lines
+      × AreRising (desk_names lent)
 
   -- and where that was a domain's first table, without a handle, there is nothing else in the history
   abbrev pub TeamsInterleave : Type 0
   TeamsInterleave =
       (worth : Form → V) (parts : List Part) (lines : List (List Said)) (domain : DomainNow) (slots : ℕ)
       (t u : TableNow V) (between last : DeskNow V) (lent left : List (TableNow V)) (allowance blocks : ℕ)
-      → Begins domain t.desk → IsNew slots t
+      → IsFirstDesk domain t.desk → IsNew slots t
       → IsPartedInto t.desk allowance blocks lent between → AllPlay worth parts lent left lines
       → AbsorbsAll (record t { desk = between }) left u → WindsUp u last
       → IsLegal (opening_of t.desk.shape) last.seen

@@ -7,7 +7,7 @@ use Rattle.control_block.specs.Census.{CensusNow, is_free, owners_in, weaks_in}
 use Rattle.step_threads.specs.declared.said.Said.{Said}
 use Rattle.step_threads.specs.Stocks.{from}
 use Rattle.script_text.specs.Drafts.{ScriptView}
-use Rattle.script_text.specs.Grammar.{Reads, Refuses, ended}
+use Rattle.script_text.specs.Grammar.{ReadsAs, Refuses, ended}
 use Rattle.script_text.specs.declared.fault.Fault.{Fault}
 use Rattle.script_stepper.specs.Lines.{block_text, said_lines, totals_text}
 use Rattle.script_runner.specs.Reports.{IsReport}
@@ -19,20 +19,21 @@ threads_lines thread [] = []
 threads_lines thread (said ∷ others) = flat_map (said_lines thread) said.items ++ threads_lines (suc thread) others
 
 -- the line of a block that isn't vacant
-abbrev pub block_lines : CensusNow → ℕ → List (List ℕ)
-block_lines c b = cond (is_free c b) [] (block_text b (record { owners = owners_in c b; weaks = weaks_in c b }) ∷ [])
+abbrev pub closed_block_lines : CensusNow → ℕ → List (List ℕ)
+closed_block_lines c b =
+    cond (is_free c b) [] (block_text b (record { owners = owners_in c b; weaks = weaks_in c b }) ∷ [])
 
 -- those of all blocks, in order
-abbrev pub census_lines : CensusNow → List (List ℕ)
-census_lines c = flat_map (block_lines c) (from 1 c.blocks)
+abbrev pub closed_census_lines : CensusNow → List (List ℕ)
+closed_census_lines c = flat_map (closed_block_lines c) (from 1 c.blocks)
 
 -- all lines of a report
 abbrev pub report_lines : Report → List (List ℕ)
-report_lines report = threads_lines 1 report.lines.items ++ census_lines report.census
+report_lines report = threads_lines 1 report.lines.items ++ closed_census_lines report.census
     ++ totals_text report.totals.made report.totals.ended ∷ []
 
 -- the text of a report of the script which the bytes read as, or the refusal that the bytes have
 abbrev pub TellsReport : List ℕ → Result (List ℕ) Fault → Type 0
-TellsReport bytes (Ok text) = (script : ScriptView) × Reads bytes script
+TellsReport bytes (Ok text) = (script : ScriptView) × ReadsAs bytes script
     × (report : Report) × IsReport script report × (text ≡ ended (report_lines report))
 TellsReport bytes (Err fault) = Refuses fault bytes

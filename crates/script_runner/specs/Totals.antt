@@ -23,31 +23,31 @@ module _ {V : Type 0} where
   ends _ = 0
 
   -- in a history
-  abbrev pub made_in : List (Entry V) → ℕ
-  made_in [] = 0
-  made_in (e ∷ h) = makes e.event + made_in h
+  abbrev pub count_made_in : List (Entry V) → ℕ
+  count_made_in [] = 0
+  count_made_in (e ∷ h) = makes e.event + count_made_in h
 
-  abbrev pub ended_in : List (Entry V) → ℕ
-  ended_in [] = 0
-  ended_in (e ∷ h) = ends e.event + ended_in h
+  abbrev pub count_ended_in : List (Entry V) → ℕ
+  count_ended_in [] = 0
+  count_ended_in (e ∷ h) = ends e.event + count_ended_in h
 
   -- and in what it has under a name
   abbrev pub made_by : ℕ → List (Entry V) → ℕ
   made_by n [] = 0
   made_by n (e ∷ h) = cond (e.desk == n) (makes e.event) 0 + made_by n h
 
-  abbrev pub ended_by : ℕ → List (Entry V) → ℕ
-  ended_by n [] = 0
-  ended_by n (e ∷ h) = cond (e.desk == n) (ends e.event) 0 + ended_by n h
+  abbrev pub count_ended_by : ℕ → List (Entry V) → ℕ
+  count_ended_by n [] = 0
+  count_ended_by n (e ∷ h) = cond (e.desk == n) (ends e.event) 0 + count_ended_by n h
 
 -- how many objects tasks ask for
-abbrev pub asks : Act → ℕ
-asks (act.Make form) = 1
-asks _ = 0
+abbrev pub objects_asked : Act → ℕ
+objects_asked (act.Make form) = 1
+objects_asked _ = 0
 
 abbrev pub asked_in : List Task → ℕ
 asked_in [] = 0
-asked_in (t ∷ ts) = asks t.act + asked_in ts
+asked_in (t ∷ ts) = objects_asked t.act + asked_in ts
 
 -- of how many lines say that there was no block for one, and how many tell of one that ends
 abbrev pub refuses : Option Answer → ℕ

@@ -2,9 +2,9 @@
 use Rattle.std.specs.Prelude.{◌≡◌, ◌⊎◌, ℕ, true, false, List, [], length}
 use Rattle.handle_table.specs.Parting.{IsNew}
 use Rattle.handle_table.specs.Tables.{TableNow}
-use Rattle.script_runner.specs.Deals.{field_0, held}
+use Rattle.script_runner.specs.Deals.{field_0, thread_slots}
 use Rattle.script_runner.specs.Seats.{IsQuiet}
-use Rattle.script_runner.specs.Teams.{Plays}
+use Rattle.script_runner.specs.Teams.{PlaysThread}
 use Rattle.script_runner.specs.declared.log.Log.{Log}
 use Rattle.step_threads.specs.Acts.{tasks_from}
 use Rattle.step_threads.specs.Interleavings.{no_slots}
@@ -15,7 +15,7 @@ use Rattle.control_word.specs.declared.handle.Kind.{Kind}
 
 -- a new table's first slots are so many empty names
 abbrev pub IsBegun : ℕ → ℕ → TableNow ℕ → TableNow ℕ → Type 0
-IsBegun hand names t u = IsNew 34 t → IsQuiet t.desk u.desk × (held hand u ≡ no_slots names)
+IsBegun hand names t u = IsNew 34 t → IsQuiet t.desk u.desk × (thread_slots hand u ≡ no_slots names)
 
 -- the tasks are those of this part
 abbrev pub IsFor : Part → List Kind → List Task → Type 0
@@ -25,4 +25,4 @@ IsFor part kinds tasks = (part.kinds ≡ kinds) × (tasks ≡ tasks_from 1 part.
 abbrev pub IsWorked : List Kind → List Task → Log → TableNow ℕ → Log → TableNow ℕ → Type 0
 IsWorked kinds tasks w t x u =
     (part : Part) → IsFor part kinds tasks → IsNew 34 t → w.taken ≡ false → w.said.items ≡ []
-    → (x.lost ≡ true) ⊎ Plays field_0 part t u x.said.items
+    → (x.lost ≡ true) ⊎ PlaysThread field_0 part t u x.said.items

@@ -2,7 +2,7 @@
 ghost use Rattle.std.specs.Prelude.{◌≡◌, ◌+◌, false, true, [], IfSome};
 ghost use Rattle.step_threads.specs.declared.act.Act.TheVariants as act;
 ghost use Rattle.step_threads.specs.Programs.{kind_at};
-ghost use Rattle.handle_table.specs.Ends.{IsThere};
+ghost use Rattle.handle_table.specs.Ends.{NamesCell};
 ghost use Rattle.script_runner.specs.CellCalls.{IsOfName, as_cell};
 ghost use Rattle.script_runner.specs.Deals.{IsActed, IsDealt, IsThird};
 ghost use Rattle.script_runner.specs.Seats.{IsHand, IsSeated};
@@ -69,7 +69,7 @@ fn offer_to<H: Home>(
     cell: CellName,
 ) -> Option<Went>
     requires hand { IsHand (hand + 1) hand table.old }
-    requires there { IsThere table.old (as_cell cell) }
+    requires there { NamesCell table.old (as_cell cell) }
     requires named { IsOfName hand cell × IsThird cell }
     ensures { IfSome result (λ x. IsActed hand table.old false (act.Offer name cell) x table.new) }
 {

@@ -1,6 +1,6 @@
 //! A comparison of a cell with what a name holds.
 ghost use Rattle.std.specs.Prelude.{◌≡◌, ◌+◌, IfSome};
-ghost use Rattle.handle_table.specs.Compares.{Compares};
+ghost use Rattle.handle_table.specs.Compares.{ComparesSlots};
 ghost use Rattle.script_runner.specs.Deals.{IsCompared};
 ghost use Rattle.script_runner.specs.Seats.{IsSeated};
 
@@ -18,7 +18,7 @@ fn compare_either<H: Home, R: Wait>(
     hand: usize,
     weak: bool,
 ) -> Option<bool>
-    ensures { IfSome result (λ swapped. Compares weak table.old cell name hand swapped table.new) }
+    ensures { IfSome result (λ swapped. ComparesSlots weak table.old cell name hand swapped table.new) }
 {
     if weak {
         return table.compare_exchange_weak(rt, cell, name, hand).ok();

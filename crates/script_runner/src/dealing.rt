@@ -1,7 +1,7 @@
 //! What a worker does for an act of its thread.
 ghost use Rattle.std.specs.Prelude.{◌≡◌, ◌+◌, [], true, false, IfSome};
 ghost use Rattle.step_threads.specs.declared.act.Act.TheVariants as act;
-ghost use Rattle.script_runner.specs.Deals.{IsActed, IsDealt, IsSeen};
+ghost use Rattle.script_runner.specs.Deals.{IsActed, IsDealt, IsHandOfTable};
 ghost use Rattle.script_runner.specs.Seats.{IsHand};
 
 use crate::asking::{ask, count, expire, read};
@@ -39,7 +39,7 @@ fn take<H: Home, R: Wait>(
     kinds: &Vec<Kind>,
     act: Act,
 ) -> Option<Went>
-    requires { IsSeen hand table.old false }
+    requires { IsHandOfTable hand table.old false }
     ensures { IfSome result (λ x. IsDealt hand table.old false act x table.new) }
 {
     match act {
@@ -66,7 +66,7 @@ pub(crate) fn deal<H: Home, R: Wait>(
     kinds: &Vec<Kind>,
     act: Act,
 ) -> Option<Went>
-    requires seen { IsSeen hand table.old taken }
+    requires seen { IsHandOfTable hand table.old taken }
     requires settled { table.old.endings ≡ [] }
     ensures { IfSome result (λ x. IsDealt hand table.old taken act x table.new) }
 {
@@ -96,7 +96,7 @@ fn take_or_pass<H: Home, R: Wait>(
     kinds: &Vec<Kind>,
     act: Act,
 ) -> Option<Went>
-    requires { IsSeen hand table.old false }
+    requires { IsHandOfTable hand table.old false }
     ensures { IfSome result (λ x. IsDealt hand table.old false act x table.new) }
 {
     match act {

@@ -7,16 +7,16 @@ ghost use Rattle.script_runner.specs.TableCalls.{CopiesIn, DowngradesIn, Aliases
 ghost use Rattle.script_runner.specs.TableCalls.{UpgradesNot, MakesIn, MakesNullIn, MakesNot, PutsIn, PutsIdle};
 ghost use Rattle.script_runner.specs.TableCalls.{EmptiesIn, ResetsIn, MovesIn, CountsIn, ExpiresIn, ReadsIn};
 ghost use Rattle.script_runner.specs.TableCalls.{ReadsNot, ThisIn, WeakThisIn, ThisNot, PlacesIn, AlikeIn};
-ghost use Rattle.script_runner.specs.TableCalls.{InOrder};
+ghost use Rattle.script_runner.specs.TableCalls.{MarksOrder};
 ghost use Rattle.script_runner.specs.CellCalls.{CellsNot, ComparesIn, DiffersIn, ExchangesIn, LoadsIn, OffersIn};
 ghost use Rattle.script_runner.specs.EndCalls.{RemainsIn, RoundsIn};
 ghost use Rattle.script_runner.specs.Goings.{ActsOn, PassesOver};
-ghost use Rattle.script_runner.specs.Laws.{Begins, GoesOnByMark, GoesOnByCall, IsJoined, StaysJoined};
+ghost use Rattle.script_runner.specs.Laws.{BeginsThread, GoesOnByMark, GoesOnByCall, IsJoined, StaysJoined};
 
 /// A worker's lines and its desk's history, from the split to the end of the run: with the marks of acts that are no
 /// events put in, the history has what the worker's thread does, act by act, and the lines are what these say (own).
 pub fn worker_logs<V>()
-    ensures begins { Begins V }
+    ensures begins { BeginsThread V }
     ensures mark { GoesOnByMark V }
     ensures call { GoesOnByCall V }
     ensures joined { IsJoined V }
@@ -66,7 +66,7 @@ pub fn table_calls<V>()
     ensures this_not { ThisNot V }
     ensures places { PlacesIn V }
     ensures alike { AlikeIn V }
-    ensures in_order { InOrder V }
+    ensures in_order { MarksOrder V }
     ensures loads { LoadsIn V }
     ensures exchanges { ExchangesIn V }
     ensures offers { OffersIn V }

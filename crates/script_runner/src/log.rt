@@ -4,9 +4,9 @@ ghost use Rattle.std.specs.Prelude.{None, Some};
 ghost use Rattle.step_threads.specs.declared.act.Act.TheVariants as act;
 ghost use Rattle.step_threads.specs.declared.act.Task.{Task as Todo};
 ghost use Rattle.step_threads.specs.declared.said.Answer.TheVariants as says;
-ghost use Rattle.script_runner.specs.Deals.{GoesOn, IsSettled, IsUnderWay};
+ghost use Rattle.script_runner.specs.Deals.{GoesOnWith, IsSettledBy, IsPartlySettled};
 ghost use Rattle.script_runner.specs.Goings.{task as as_task};
-ghost use Rattle.script_runner.specs.Logs.{told};
+ghost use Rattle.script_runner.specs.Logs.{told_line};
 
 use crate::comparison::compare;
 use crate::dealing::deal;
@@ -29,7 +29,7 @@ impl Log {
     /// The next of its lines, where there is something to say.
     fn note(&mut self, statement: u32, answer: Option<Answer>, ended: Option<Ended>)
         ensures said { (self.new.lost ≡ true) ⊎ (self.new.said.items
-            ≡ self.old.said.items ++ told (record { statement = statement; answer = answer; ended = ended })) }
+            ≡ self.old.said.items ++ told_line (record { statement = statement; answer = answer; ended = ended })) }
         ensures taken { self.new.taken ≡ self.old.taken }
     {
         if answer.is_none() && ended.is_none() {
@@ -52,7 +52,7 @@ impl Log {
         hand: usize,
         statement: u32,
     ) -> bool
-        ensures goes { (self.new.lost ≡ true) ⊎ IsUnderWay hand statement self.old.taken
+        ensures goes { (self.new.lost ≡ true) ⊎ IsPartlySettled hand statement self.old.taken
             table.old self.old.said.items table.new self.new.said.items }
         ensures taken { self.new.taken ≡ self.old.taken }
         ensures over { (self.new.lost ≡ true) ⊎ (result ≡ false → table.new.endings ≡ []) }
@@ -80,7 +80,7 @@ impl Log {
         hand: usize,
         statement: u32,
     )
-        ensures settled { (self.new.lost ≡ true) ⊎ IsSettled hand statement self.old.taken
+        ensures settled { (self.new.lost ≡ true) ⊎ IsSettledBy hand statement self.old.taken
             table.old self.old.said.items table.new self.new.said.items }
         ensures taken { self.new.taken ≡ self.old.taken }
     {
@@ -101,7 +101,7 @@ impl Log {
         task: Task,
     )
         ensures { (self.new.lost ≡ true) ⊎ ((todo : List Todo)
-            → GoesOn hand table.old self.old.taken (task ∷ todo)
+            → GoesOnWith hand table.old self.old.taken (task ∷ todo)
             self.old.said.items table.new self.new.taken todo self.new.said.items) }
     {
         if !is_ready(table, hand, self.taken) {
@@ -131,8 +131,8 @@ impl Log {
     /// What a comparison answers, and what it tells of an object that is to end.
     fn note_compared(&mut self, statement: u32, swapped: bool, ended: Option<Ended>)
         ensures said { (self.new.lost ≡ true) ⊎ (self.new.said.items ≡ self.old.said.items
-            ++ (told (record { statement = statement; answer = Some (says.Compared swapped); ended = None })
-            ++ told (record { statement = statement; answer = None; ended = ended }))) }
+            ++ (told_line (record { statement = statement; answer = Some (says.Compared swapped); ended = None })
+            ++ told_line (record { statement = statement; answer = None; ended = ended }))) }
         ensures taken { self.new.taken ≡ self.old.taken }
     {
         self.note(statement, Some(Answer::Compared(swapped)), None);
@@ -155,12 +155,12 @@ impl Log {
     ) -> bool
         requires { self.old.taken ≡ true }
         ensures swapped { (self.new.lost ≡ true) ⊎ (result ≡ true → (todo : List Todo)
-            → GoesOn hand table.old true
+            → GoesOnWith hand table.old true
             (as_task statement (act.Compare name cell weak) ∷ as_task statement (act.Put name)
             ∷ as_task statement act.Drop ∷ todo)
             self.old.said.items table.new self.new.taken todo self.new.said.items) }
         ensures differs { (self.new.lost ≡ true) ⊎ (result ≡ false → (todo : List Todo)
-            → GoesOn hand table.old true
+            → GoesOnWith hand table.old true
             (as_task statement (act.Compare name cell weak) ∷ as_task statement (act.Put name) ∷ todo)
             self.old.said.items table.new self.new.taken todo self.new.said.items) }
     {
@@ -200,7 +200,7 @@ impl Log {
     ) -> usize
         requires taken { self.old.taken ≡ true }
         requires is { slice_get tasks.now.items at ≡ Some (as_task statement (act.Compare name cell weak)) }
-        ensures { (self.new.lost ≡ true) ⊎ GoesOn hand table.old self.old.taken (drop at tasks.now.items)
+        ensures { (self.new.lost ≡ true) ⊎ GoesOnWith hand table.old self.old.taken (drop at tasks.now.items)
             self.old.said.items table.new self.new.taken (drop result tasks.now.items) self.new.said.items }
     {
         if !is_put(tasks, at + 1, statement, name) {
@@ -227,7 +227,7 @@ impl Log {
         tasks: &Vec<Task>,
         at: usize,
     ) -> usize
-        ensures { (self.new.lost ≡ true) ⊎ GoesOn hand table.old self.old.taken (drop at tasks.now.items)
+        ensures { (self.new.lost ≡ true) ⊎ GoesOnWith hand table.old self.old.taken (drop at tasks.now.items)
             self.old.said.items table.new self.new.taken (drop result tasks.now.items) self.new.said.items }
     {
         match tasks.get(at) {
@@ -249,7 +249,7 @@ impl Log {
         tasks: &Vec<Task>,
         at: usize,
     ) -> usize
-        ensures { (self.new.lost ≡ true) ⊎ GoesOn hand table.old self.old.taken (drop at tasks.now.items)
+        ensures { (self.new.lost ≡ true) ⊎ GoesOnWith hand table.old self.old.taken (drop at tasks.now.items)
             self.old.said.items table.new self.new.taken (drop result tasks.now.items) self.new.said.items }
     {
         let task = match tasks.get(at) {

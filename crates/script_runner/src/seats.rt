@@ -1,16 +1,16 @@
 //! What a worker sees of its table.
 ghost use Rattle.std.specs.Prelude.{◌≡◌, ◌<◌, ◌+◌, ℕ, [], true, false, length, IfNone, IfSome};
 ghost use Rattle.step_table.specs.declared.ended.Ended.TheVariants as ended;
-ghost use Rattle.step_table.specs.Holdings.{is_full as has, slot};
-ghost use Rattle.script_runner.specs.Deals.{IsEmptied, IsRoundTold, IsSeen, IsTop};
-ghost use Rattle.script_runner.specs.Seats.{IsSeated, shown};
+ghost use Rattle.step_table.specs.Holdings.{is_full as has, slot_pointer};
+ghost use Rattle.script_runner.specs.Deals.{IsEmptied, IsRoundTold, IsHandOfTable, IsTop};
+ghost use Rattle.script_runner.specs.Seats.{IsSeated, shown_slots};
 
 use handle_table::{Fault, Gone, HandleTable, Home, Remains, Round};
 use step_core::{Ended, Kind};
 
 /// Whether the hand is full, if it is one of the table's slots.
 pub(crate) fn seen<H: Home>(table: &HandleTable<'_, u64, H>, hand: usize) -> Option<bool>
-    ensures { IfSome result (IsSeen hand table.now) }
+    ensures { IfSome result (IsHandOfTable hand table.now) }
 {
     table.stands();
     match table.peek(hand) {
@@ -32,7 +32,7 @@ pub(crate) fn is_seated<H: Home>(table: &HandleTable<'_, u64, H>, hand: usize) -
 
 /// Whether the slot has an object's handle.
 pub(crate) fn is_full<H: Home>(table: &HandleTable<'_, u64, H>, at: usize) -> bool
-    ensures { (m : ℕ) → at < m → has (slot (shown m table.now.slots) at) ≡ result }
+    ensures { (m : ℕ) → at < m → has (slot_pointer (shown_slots m table.now.slots) at) ≡ result }
 {
     match table.peek(at) {
         Ok(x) => x.block.is_some(),
@@ -56,7 +56,7 @@ pub(crate) fn top_of<H: Home>(table: &mut HandleTable<'_, u64, H>) -> Option<End
 
 /// Whether the hand is a vacant slot.
 pub(crate) fn is_vacant<H: Home>(table: &HandleTable<'_, u64, H>, hand: usize) -> bool
-    ensures { result ≡ true → IsSeen hand table.now false }
+    ensures { result ≡ true → IsHandOfTable hand table.now false }
 {
     match seen(table, hand) {
         Some(full) => !full,
@@ -70,7 +70,7 @@ pub(crate) fn is_ready<H: Home>(
     hand: usize,
     taken: bool,
 ) -> bool
-    ensures ready { result ≡ true → IsSeen hand table.old taken × (table.old.endings ≡ []) }
+    ensures ready { result ≡ true → IsHandOfTable hand table.old taken × (table.old.endings ≡ []) }
     ensures same { table.new ≡ table.old }
 {
     match top_of(table) {

@@ -3,7 +3,7 @@ ghost use Rattle.std.specs.Prelude.{◌≡◌, ◌≤◌, IfOk, OnOk, length, st
 ghost use Rattle.control_block.specs.Census.{HasBlock};
 ghost use Rattle.script_text.specs.Canonical.{AddsLines};
 ghost use Rattle.script_text.specs.Grammar.{ended};
-ghost use Rattle.script_runner.specs.Telling.{block_lines, census_lines, report_lines, threads_lines};
+ghost use Rattle.script_runner.specs.Telling.{closed_block_lines, closed_census_lines, report_lines, threads_lines};
 
 use crate::report::Report;
 use control_block::census::Census;
@@ -26,7 +26,7 @@ fn put_threads(text: &mut String, lines: &[Vec<Said>]) -> Result<(), AllocError>
 /// Adds the line of a block, where it isn't vacant.
 fn put_counts(text: &mut String, census: &Census<u64>, number: u16) -> Result<(), AllocError>
     requires { HasBlock census.now number }
-    ensures { OnOk result (AddsLines text.old text.new (block_lines census.now number)) }
+    ensures { OnOk result (AddsLines text.old text.new (closed_block_lines census.now number)) }
 {
     if !census.is_vacant(Block(number)) {
         put_block(text, number, census.counts(Block(number)))?;
@@ -37,7 +37,7 @@ fn put_counts(text: &mut String, census: &Census<u64>, number: u16) -> Result<()
 /// Adds a line for each block that isn't vacant, in block order.
 fn put_census(text: &mut String, census: &Census<u64>) -> Result<(), AllocError>
     requires { census.now.blocks ≤ 65535 }
-    ensures { OnOk result (AddsLines text.old text.new (census_lines census.now)) }
+    ensures { OnOk result (AddsLines text.old text.new (closed_census_lines census.now)) }
 {
     let blocks = census.blocks() as u16;
     for before in 0..blocks {

@@ -1,6 +1,7 @@
 //! How many objects a thread made, and how many ended by it.
 ghost use Rattle.std.specs.Prelude.{◌≡◌, ◌+◌, ◌-◌, cond, is_some, IfSome};
-ghost use Rattle.script_runner.specs.Totals.{asked_in, asks as asks_for, refused_in, refuses as says_full, told_in};
+ghost use Rattle.script_runner.specs.Totals.{asked_in, objects_asked as asks_for, refused_in, refuses as says_full};
+ghost use Rattle.script_runner.specs.Totals.{told_in};
 
 use control_word::Refusal;
 use ownership_ledger::Totals;

@@ -1,8 +1,8 @@
 //! A thread of a script on a real worker: its names are slots of a handle table.
 ghost use Rattle.std.specs.Prelude.{◌≡◌, ◌⊎◌, ◌+◌, [], true, length, slice_get, Some};
 ghost use Rattle.handle_table.specs.Tables.{Slot};
-ghost use Rattle.script_runner.specs.Teams.{AllBare, IsBare};
-ghost use Rattle.script_runner.specs.Deals.{GoesOn};
+ghost use Rattle.script_runner.specs.Teams.{AllBare, HasNoObject};
+ghost use Rattle.script_runner.specs.Deals.{GoesOnWith};
 ghost use Rattle.script_runner.specs.Works.{IsBegun};
 
 use crate::gate::Gate;
@@ -45,7 +45,7 @@ fn begin<H: Home>(table: &mut HandleTable<'_, u64, H>, hand: usize, kinds: &Vec<
 
 /// Whether the slot, if there is one, has no object's handle.
 fn is_bare_at<H: Home>(table: &HandleTable<'_, u64, H>, at: usize) -> bool
-    ensures { result ≡ true → (s : Slot) → slice_get table.now.slots at ≡ Some s → IsBare s }
+    ensures { result ≡ true → (s : Slot) → slice_get table.now.slots at ≡ Some s → HasNoObject s }
 {
     match table.peek(at) {
         Ok(x) => x.block.is_none(),
@@ -104,7 +104,7 @@ fn play<H: Home, R: Wait, G: Gate>(
     number: usize,
     gate: &G,
 )
-    ensures { (log.new.lost ≡ true) ⊎ GoesOn hand table.old log.old.taken tasks.now.items log.old.said.items
+    ensures { (log.new.lost ≡ true) ⊎ GoesOnWith hand table.old log.old.taken tasks.now.items log.old.said.items
         table.new log.new.taken [] log.new.said.items }
 {
     let mut at = 0;

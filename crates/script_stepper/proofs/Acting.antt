@@ -14,28 +14,29 @@ use Rattle.step_threads.specs.declared.ending.Ending.{Ending}
 use Rattle.step_table.specs.declared.holdings.Pointer.{Pointer}
 use Rattle.step_threads.specs.declared.call.CellName.{CellName}
 use Rattle.step_table.specs.declared.slot.Slot.{Slot}
-use Rattle.step_table.specs.Contents.{differed, swapped}
+use Rattle.step_table.specs.Contents.{differed, slots_swapped}
 use Rattle.step_threads.specs.Programs.{kind_at}
-use Rattle.step_threads.specs.Courses.{Going, Walk, fitting, going, hand, idle, is_there, locked, on_going, other, placed, settled, slots_idle, taken_idle}
+use Rattle.step_threads.specs.Courses.{Going, Walk, fitting, going, hand, idle, is_there, locked_pointer, on_going, other, placed, walk_settled, slots_idle}
+use Rattle.step_threads.specs.Courses.{taken_idle}
 use Rattle.step_table.specs.Deeds.{this_as}
-use Rattle.step_table.specs.Holdings.{Slots, inside, plain, slot, value}
+use Rattle.step_table.specs.Holdings.{Slots, inside, plain, slot_pointer, slot_value}
 use Rattle.step_threads.specs.Entries.{giving, is_expected, least}
 use Rattle.step_threads.specs.Scenes.{came, compared, endings_by, found, hands, holding, taking, went}
 
 -- ---- the tasks and endings of a settled thread
 
-settled_less : (ts : List Task) (slots : Slots) (taken : Bool) (es : List Ending) → length (settled slots taken es ts).todo ≤ length ts
+settled_less : (ts : List Task) (slots : Slots) (taken : Bool) (es : List Ending) → length (walk_settled slots taken es ts).todo ≤ length ts
 settled_less [] slots taken es = omega arith
 settled_less (t ∷ ts) slots taken es =
-    cond_both (idle t.act slots taken) (settled (slots_idle t.act slots taken) (taken_idle t.act taken) es ts)
+    cond_both (idle t.act slots taken) (walk_settled (slots_idle t.act slots taken) (taken_idle t.act taken) es ts)
     (record { slots = slots; taken = taken; endings = es; todo = t ∷ ts })
     (λ (w : Walk). length w.todo ≤ suc (length ts))
     (λ _. let k = settled_less ts (slots_idle t.act slots taken) (taken_idle t.act taken) es in omega (arith, k)) (λ _. omega arith)
 
-pub settled_endings : (ts : List Task) (slots : Slots) (taken : Bool) (es : List Ending) → (settled slots taken es ts).endings ≡ es
+pub settled_endings : (ts : List Task) (slots : Slots) (taken : Bool) (es : List Ending) → (walk_settled slots taken es ts).endings ≡ es
 settled_endings [] slots taken es = refl
 settled_endings (t ∷ ts) slots taken es =
-    cond_both (idle t.act slots taken) (settled (slots_idle t.act slots taken) (taken_idle t.act taken) es ts)
+    cond_both (idle t.act slots taken) (walk_settled (slots_idle t.act slots taken) (taken_idle t.act taken) es ts)
     (record { slots = slots; taken = taken; endings = es; todo = t ∷ ts })
     (λ (w : Walk). w.endings ≡ es)
     (λ _. settled_endings ts (slots_idle t.act slots taken) (taken_idle t.act taken) es) (λ _. refl)
@@ -43,7 +44,7 @@ settled_endings (t ∷ ts) slots taken es =
 -- ---- as many slots as before
 
 placed_size : (k : ℕ) (slots : Slots) → length (placed k slots) ≡ length slots
-placed_size k slots = length-set (slice_set slots k (value slots (hand slots))) (hand slots) plain ∙ length-set slots k (value slots (hand slots))
+placed_size k slots = length-set (slice_set slots k (slot_value slots (hand slots))) (hand slots) plain ∙ length-set slots k (slot_value slots (hand slots))
 
 idle_size : (a : Act) (slots : Slots) (taken : Bool) → length (slots_idle a slots taken) ≡ length slots
 idle_size (Put k) slots true = placed_size k slots
@@ -70,10 +71,10 @@ idle_size (Compare k c weak) slots true = placed_size (other slots) slots
 idle_size (Compare k c weak) slots false = refl
 idle_size Drop slots taken = length-set slots (other slots) plain
 
-pub settled_size : (ts : List Task) (slots : Slots) (taken : Bool) (es : List Ending) → length (settled slots taken es ts).slots ≡ length slots
+pub settled_size : (ts : List Task) (slots : Slots) (taken : Bool) (es : List Ending) → length (walk_settled slots taken es ts).slots ≡ length slots
 settled_size [] slots taken es = refl
 settled_size (t ∷ ts) slots taken es =
-    cond_both (idle t.act slots taken) (settled (slots_idle t.act slots taken) (taken_idle t.act taken) es ts)
+    cond_both (idle t.act slots taken) (walk_settled (slots_idle t.act slots taken) (taken_idle t.act taken) es ts)
     (record { slots = slots; taken = taken; endings = es; todo = t ∷ ts })
     (λ (w : Walk). length w.slots ≡ length slots)
     (λ _. settled_size ts (slots_idle t.act slots taken) (taken_idle t.act taken) es ∙ idle_size t.act slots taken) (λ _. refl)
@@ -86,11 +87,11 @@ taking_size : (slots : Slots) (must : Bool) (x : Option Pointer) → length (tak
 taking_size slots must None = refl
 taking_size slots must (Some x) = length-set slots (hand slots) _
 
-swapped_size : (i k : ℕ) (slots : Slots) (x : Slot) → length (swapped i k slots x) ≡ length slots
+swapped_size : (i k : ℕ) (slots : Slots) (x : Slot) → length (slots_swapped i k slots x) ≡ length slots
 swapped_size i k slots x = length-set (slice_set slots k x) i plain ∙ length-set slots k x
 
 differed_size : (i k : ℕ) (slots : Slots) (x : Slot) → length (differed i k slots x) ≡ length slots
-differed_size i k slots x = length-set (slice_set slots k (value slots i)) i x ∙ length-set slots k (value slots i)
+differed_size i k slots x = length-set (slice_set slots k (slot_value slots i)) i x ∙ length-set slots k (slot_value slots i)
 
 going_size : (f : CellName → ℕ → Slots) (slots : Slots) (o : Option Going) → ((c : CellName) (k : ℕ) → length (f c k) ≡ length slots)
     → length (on_going f slots o) ≡ length slots
@@ -118,18 +119,19 @@ hands_size s d slots taken (Leave k) = length-set slots k plain
 hands_size s d slots taken (Clear k) = length-set slots k plain
 hands_size s d slots taken (Count k) = refl
 hands_size s d slots taken (Downgrade k) = length-set slots (hand slots) _
-hands_size s d slots taken (Lock k must) = taking_size slots must (found s (locked slots (Lock k must)))
+hands_size s d slots taken (Lock k must) = taking_size slots must (found s (locked_pointer slots (Lock k must)))
 hands_size s d slots taken (Expired k) = refl
 hands_size s d slots taken (Read k) = refl
-hands_size s d slots taken (FromThis k kind) = taking_size slots true (option_map (this_as kind) (giving s (inside (slot slots k))))
+hands_size s d slots taken (FromThis k kind) = taking_size slots true (option_map (this_as kind) (giving s (inside (slot_pointer slots k))))
 hands_size s d slots taken (Alias k j field) = length-set slots (hand slots) _
-hands_size s d slots taken (Move k) = length-set (slice_set slots (hand slots) (value slots k)) k plain ∙ length-set slots (hand slots) (value slots k)
+hands_size s d slots taken (Move k) =
+    length-set (slice_set slots (hand slots) (slot_value slots k)) k plain ∙ length-set slots (hand slots) (slot_value slots k)
 hands_size s d slots taken (Ask q) = refl
 hands_size s d slots taken (Offer k c) =
-    let x = fitting (kind_at c) (value slots k) in
+    let x = fitting (kind_at c) (slot_value slots k) in
     if_size (is_there slots c) slots (slice_set slots (hand slots) x) true taken (length-set slots (hand slots) x)
 hands_size s d slots taken (Swap c) =
-    going_size (λ x i. swapped i (other slots) slots (came s slots x)) slots (going slots (Swap c))
+    going_size (λ x i. slots_swapped i (other slots) slots (came s slots x)) slots (going slots (Swap c))
     (λ x i. swapped_size i (other slots) slots (came s slots x))
 hands_size s d slots taken (Exchange k c) =
     going_size (λ x i. slice_set slots i (came s slots x)) slots (going slots (Exchange k c))
@@ -159,9 +161,9 @@ went_size s d w k ts a =
 -- ---- nothing is in hand after what was in hand has left
 
 abbrev pub IsFree : Slots → Type 0
-IsFree slots = value slots (hand slots) ≡ plain
+IsFree slots = slot_value slots (hand slots) ≡ plain
 
-set_plain : (slots : Slots) (i : ℕ) → value (slice_set slots i plain) i ≡ plain
+set_plain : (slots : Slots) (i : ℕ) → slot_value (slice_set slots i plain) i ≡ plain
 set_plain slots i =
     elim (cases_lt i (length slots)) [
       | inl lt ↦ get_or-set_same slots i plain plain lt
@@ -172,12 +174,12 @@ free_set : (slots : Slots) (i : ℕ) → i ≡ hand slots → IsFree (slice_set 
 free_set slots i e =
     let n = length-set slots i plain in
     let same : i ≡ hand (slice_set slots i plain) = omega (arith, n, e) in
-    subst (λ (j : ℕ). value (slice_set slots i plain) j ≡ plain) same (set_plain slots i)
+    subst (λ (j : ℕ). slot_value (slice_set slots i plain) j ≡ plain) same (set_plain slots i)
 
 free_placed : (k : ℕ) (slots : Slots) → IsFree (placed k slots)
 free_placed k slots =
-    let n = length-set slots k (value slots (hand slots)) in
-    free_set (slice_set slots k (value slots (hand slots))) (hand slots) (omega (arith, n))
+    let n = length-set slots k (slot_value slots (hand slots)) in
+    free_set (slice_set slots k (slot_value slots (hand slots))) (hand slots) (omega (arith, n))
 
 free_dropped : (slots : Slots) → IsFree slots → IsFree (slice_set slots (other slots) plain)
 free_dropped slots h =
@@ -185,7 +187,7 @@ free_dropped slots h =
     let same : hand slots ≡ hand (slice_set slots (other slots) plain) = omega (arith, n) in
     elim (cases_eq (hand slots) (other slots)) [
       | inl e ↦ free_set slots (other slots) (sym e)
-      | inr ne ↦ subst (λ (j : ℕ). value (slice_set slots (other slots) plain) j ≡ plain) same
+      | inr ne ↦ subst (λ (j : ℕ). slot_value (slice_set slots (other slots) plain) j ≡ plain) same
           (get_or-set_other slots (other slots) (hand slots) plain plain ne ∙ h)
     ]
 
@@ -214,10 +216,10 @@ free_idle (Compare k c weak) slots true h = free_placed (other slots) slots
 free_idle (Compare k c weak) slots false h = h
 free_idle Drop slots taken h = free_dropped slots h
 
-free_settled : (ts : List Task) (slots : Slots) (taken : Bool) (es : List Ending) → IsFree slots → IsFree (settled slots taken es ts).slots
+free_settled : (ts : List Task) (slots : Slots) (taken : Bool) (es : List Ending) → IsFree slots → IsFree (walk_settled slots taken es ts).slots
 free_settled [] slots taken es h = h
 free_settled (t ∷ ts) slots taken es h =
-    cond_both (idle t.act slots taken) (settled (slots_idle t.act slots taken) (taken_idle t.act taken) es ts)
+    cond_both (idle t.act slots taken) (walk_settled (slots_idle t.act slots taken) (taken_idle t.act taken) es ts)
     (record { slots = slots; taken = taken; endings = es; todo = t ∷ ts })
     (λ (w : Walk). IsFree w.slots)
     (λ _. free_settled ts (slots_idle t.act slots taken) (taken_idle t.act taken) es (free_idle t.act slots taken h)) (λ _. h)

@@ -13,17 +13,17 @@ use Rattle.step_threads.specs.declared.said.Answer.TheVariants as answer
 use Rattle.step_table.specs.declared.holdings.Pointer.{Pointer}
 use Rattle.step_threads.specs.Courses.{Walk}
 use Rattle.step_table.specs.Deeds.{Telling, exact, handle_of, on, tell_count}
-use Rattle.step_table.specs.Holdings.{Slots, slot}
+use Rattle.step_table.specs.Holdings.{Slots, slot_pointer}
 use Rattle.step_table.specs.Openings.{opening}
 use Rattle.step_threads.specs.Entries.{History, acted, does}
 use Rattle.step_threads.specs.Scenes.{Scene, answer_of, ended_of, next, play, play_from, play_with, put_walk, rest_of, rested_walk, said, said_from, said_with}
 use Rattle.step_threads.specs.Scenes.{state_in, walk_of, went}
-use Rattle.step_core.specs.Worlds.{NoneLoads, Sight, TellsAll, is_loading}
+use Rattle.step_core.specs.Worlds.{NoneLoads, Sight, TellsAllCounts, is_loading}
 use Rattle.script_stepper.specs.Running.{AllRest}
 
 -- counts of what these slots hold are told exactly
 abbrev pub IsExact : Telling → State → Slots → Type 0
-IsExact tell s slots = (i : ℕ) (x : Pointer) → slot slots i ≡ Some x → tell s x ≡ exact s x
+IsExact tell s slots = (i : ℕ) (x : Pointer) → slot_pointer slots i ≡ Some x → tell s x ≡ exact s x
 
 number_exact : (tell : Telling) (s : State) (o : Option Pointer) → ((x : Pointer) → o ≡ Some x → tell s x ≡ exact s x)
     → on (tell s) 0 o ≡ on (exact s) 0 o
@@ -44,7 +44,7 @@ acted_exact tell z d slots h (Share k) e = refl
 acted_exact tell z d slots h (Put k) e = refl
 acted_exact tell z d slots h (Leave k) e = refl
 acted_exact tell z d slots h (Clear k) e = refl
-acted_exact tell z d slots h (Count k) e = counts_exact tell z d h (slot slots k) (e k)
+acted_exact tell z d slots h (Count k) e = counts_exact tell z d h (slot_pointer slots k) (e k)
 acted_exact tell z d slots h (Downgrade k) e = refl
 acted_exact tell z d slots h (Lock k must) e = refl
 acted_exact tell z d slots h (Expired k) e = refl
@@ -67,7 +67,7 @@ answer_exact tell s d slots (Share k) e = refl
 answer_exact tell s d slots (Put k) e = refl
 answer_exact tell s d slots (Leave k) e = refl
 answer_exact tell s d slots (Clear k) e = refl
-answer_exact tell s d slots (Count k) e = ap (λ (n : ℕ). Some (answer.Count n)) (number_exact tell s (slot slots k) (e k))
+answer_exact tell s d slots (Count k) e = ap (λ (n : ℕ). Some (answer.Count n)) (number_exact tell s (slot_pointer slots k) (e k))
 answer_exact tell s d slots (Downgrade k) e = refl
 answer_exact tell s d slots (Lock k must) e = refl
 answer_exact tell s d slots (Expired k) e = refl
@@ -100,11 +100,11 @@ said_at tell c d slots (Some t) e =
 none_loads : (u : Sight) (d : ℕ) → AllRest u → NoneLoads d u
 none_loads u d rests = λ e ne. ap is_loading (rests.halves e)
 
-is_exact : (u : Sight) (d : ℕ) (c : Scene) (tell : Telling) → AllRest u → TellsAll d u c tell → IsExact tell (state_in c) (walk_of c d).slots
+is_exact : (u : Sight) (d : ℕ) (c : Scene) (tell : Telling) → AllRest u → TellsAllCounts d u c tell → IsExact tell (state_in c) (walk_of c d).slots
 is_exact u d c tell rests t = t.settled (none_loads u d rests)
 
-pub play_exact : (u : Sight) (d : ℕ) (c : Scene) (tell : Telling) → AllRest u → TellsAll d u c tell → play_with tell d c ≡ play d c
+pub play_exact : (u : Sight) (d : ℕ) (c : Scene) (tell : Telling) → AllRest u → TellsAllCounts d u c tell → play_with tell d c ≡ play d c
 play_exact u d c tell rests t = play_at tell c d (walk_of c d) (next (walk_of c d)) (is_exact u d c tell rests t)
 
-pub said_exact : (u : Sight) (d : ℕ) (c : Scene) (tell : Telling) → AllRest u → TellsAll d u c tell → said_with tell d c ≡ said d c
+pub said_exact : (u : Sight) (d : ℕ) (c : Scene) (tell : Telling) → AllRest u → TellsAllCounts d u c tell → said_with tell d c ≡ said d c
 said_exact u d c tell rests t = said_at tell c d (walk_of c d).slots (next (walk_of c d)) (is_exact u d c tell rests t)

@@ -16,7 +16,7 @@ use Rattle.control_word.specs.State.{Opening, weak}
 use Rattle.step_table.specs.declared.slot.Slot.{Slot}
 use Rattle.step_table.specs.Contents.{slot_of}
 use Rattle.step_table.specs.Deeds.{exact}
-use Rattle.step_table.specs.Holdings.{Slots, is_full, slot}
+use Rattle.step_table.specs.Holdings.{Slots, is_full, slot_pointer}
 use Rattle.step_table.specs.Openings.{opening}
 use Rattle.step_table.specs.Stories.{Nothing}
 use Rattle.step_threads.specs.declared.act.Act.TheVariants.{Leave}
@@ -24,11 +24,11 @@ use Rattle.step_threads.specs.declared.act.Task.{Task}
 use Rattle.step_threads.specs.declared.ending.Ending.{Ending}
 use Rattle.step_threads.specs.declared.said.Said.{Said}
 use Rattle.step_threads.specs.Courses.{Walk, hand}
-use Rattle.step_threads.specs.Doings.{Ahead, AnAct, AnEnd, Does, DoesAhead, Doing, Goes, ahead, ahead_of, lines, onto, put_on, spoken}
+use Rattle.step_threads.specs.Doings.{Ahead, AnAct, AnEnd, DoesNext, DoesAhead, Doing, GoesThrough, ahead, ahead_of, lines, onto, put_on, spoken}
 use Rattle.step_threads.specs.Endings.{staged}
 use Rattle.step_threads.specs.Entries.{History, acted}
 use Rattle.step_threads.specs.Scenes.{Scene, next, next_of, nowhere, play, play_from, rest_of, rested_walk, said, said_from, said_of, state_in, walk_of, went}
-use Rattle.step_threads.specs.Unwinding.{Stop, Wound, clears, goes_on, stops, unwound}
+use Rattle.step_threads.specs.Unwinding.{Stop, Wound, history_clears, unwinds_on, stops, unwound}
 use Rattle.step_threads.specs.Steps.{silent}
 use Rattle.step_core.specs.Following.{no_worth}
 use Rattle.step_core.proofs.following.Replies.{replied}
@@ -38,7 +38,7 @@ use Rattle.script_text.specs.Beginnings.{script_scene, script_shape, script_sigh
 use Rattle.script_stepper.specs.Followed.{TurnsFollow, spoken_of}
 use Rattle.script_stepper.specs.Running.{Waits}
 use Rattle.script_text.specs.Traces.{IsTrace, Item, in_order}
-use Rattle.script_stepper.specs.Running.{heard, plays, told}
+use Rattle.script_stepper.specs.Running.{heard, plays, items_told}
 use Rattle.script_stepper.proofs.LineLemmas.{flat_map-one}
 use Rattle.script_stepper.proofs.OneTurn.{play_waits}
 use Rattle.script_stepper.proofs.StepLemmas.{first_rests}
@@ -50,7 +50,7 @@ use Rattle.script_stepper.proofs.Unwinding.{still}
 pub record Far (z : Opening) (b : Scene) (h : History) (ws : List Walk) (out : List (ℕ × Said)) : Type 0 where
   pub doings : List (Doing Nothing)
   pub history : h ≡ onto b.history doings
-  pub each : (d : ℕ) → Goes no_worth z b.history d (walk_of b d) doings (get_or ws d nowhere)
+  pub each : (d : ℕ) → GoesThrough no_worth z b.history d (walk_of b d) doings (get_or ws d nowhere)
   pub says : lines doings ≡ out
 
 abbrev done_by : ℕ → Option (Event Nothing) → Said → Doing Nothing
@@ -63,25 +63,26 @@ module _ (z : Opening) (b : Scene) (d : ℕ) (ws : List Walk) (lt : d < length w
 
   -- one more doing
   more : (h : History) (u u' : Walk) (out : List (ℕ × Said)) (e : Option (Event Nothing)) (x : Said) → At h u out
-      → Does no_worth (leads z h) u (done_by d e x) u' → At (put_on d e h) u' (out ++ spoken d x)
+      → DoesNext no_worth (leads z h) u (done_by d e x) u' → At (put_on d e h) u' (out ++ spoken d x)
   more h u u' out e x f does =
       let y = done_by d e x in
       let was = get_or-set_same ws d u nowhere lt in
       let is = get_or-set_same ws d u' nowhere lt in
-      let own : Does no_worth (leads z (onto b.history f.doings)) (get_or (set ws d u) d nowhere) y (get_or (set ws d u') d nowhere) =
-      subst (λ (q : History). Does no_worth (leads z q) (get_or (set ws d u) d nowhere) y (get_or (set ws d u') d nowhere)) f.history
-      (subst (λ (w : Walk). Does no_worth (leads z h) w y (get_or (set ws d u') d nowhere)) (sym was)
-      (subst (λ (w : Walk). Does no_worth (leads z h) u y w) (sym is) does)) in
-      let mine : Goes no_worth z b.history d (walk_of b d) (y ∷ f.doings) (get_or (set ws d u') d nowhere) =
+      let own : DoesNext no_worth (leads z (onto b.history f.doings)) (get_or (set ws d u) d nowhere) y (get_or (set ws d u') d nowhere) =
+      subst (λ (q : History). DoesNext no_worth (leads z q) (get_or (set ws d u) d nowhere) y (get_or (set ws d u') d nowhere)) f.history
+      (subst (λ (w : Walk). DoesNext no_worth (leads z h) w y (get_or (set ws d u') d nowhere)) (sym was)
+      (subst (λ (w : Walk). DoesNext no_worth (leads z h) u y w) (sym is) does)) in
+      let mine : GoesThrough no_worth z b.history d (walk_of b d) (y ∷ f.doings) (get_or (set ws d u') d nowhere) =
       inr (refl, (get_or (set ws d u) d nowhere, f.each d, own)) in
       record {
         doings = y ∷ f.doings;
         history = ap (put_on d e) f.history;
         each = λ k. elim (cases_eq k d) [
-          | inl same ↦ subst (λ (i : ℕ). Goes no_worth z b.history i (walk_of b i) (y ∷ f.doings) (get_or (set ws d u') i nowhere)) (sym same) mine
+          | inl same ↦ subst (λ (i : ℕ). GoesThrough no_worth z b.history i (walk_of b i) (y ∷ f.doings) (get_or (set ws d u') i nowhere))
+              (sym same) mine
           | inr ne ↦ inl (
             λ q. ne (sym q),
-            subst (λ (w : Walk). Goes no_worth z b.history k (walk_of b k) f.doings w)
+            subst (λ (w : Walk). GoesThrough no_worth z b.history k (walk_of b k) f.doings w)
                 (get_or-set_other ws d k u nowhere ne ∙ sym (get_or-set_other ws d k u' nowhere ne)) (f.each k),
           )
         ];
@@ -90,12 +91,12 @@ module _ (z : Opening) (b : Scene) (d : ℕ) (ws : List Walk) (lt : d < length w
 
   -- one that says nothing
   quietly : (h : History) (u u' : Walk) (out : List (ℕ × Said)) (e : Option (Event Nothing)) (k : ℕ) → At h u out
-      → Does no_worth (leads z h) u (done_by d e (silent k)) u' → At (put_on d e h) u' out
+      → DoesNext no_worth (leads z h) u (done_by d e (silent k)) u' → At (put_on d e h) u' out
   quietly h u u' out e k f does =
       subst (λ (l : List (ℕ × Said)). At (put_on d e h) u' l) (append-nil out) (more h u u' out e (silent k) f does)
 
   module _ (taken : Bool) (todo : List Task) (slots : Slots) (out : List (ℕ × Said))
-      (free : is_full (slot slots (hand slots)) ≡ false) where
+      (free : is_full (slot_pointer slots (hand slots)) ≡ false) where
     abbrev here : Slots → List Ending → Walk
     here l es = record { slots = l; taken = taken; endings = es; todo = todo }
 
@@ -103,7 +104,7 @@ module _ (z : Opening) (b : Scene) (d : ℕ) (ws : List Walk) (lt : d < length w
     Wounds x = At x.history (here x.slots x.endings) out
 
     next_end : (e : Ending) (es : List Ending) → ahead (here slots (e ∷ es)) ≡ AnEnd e es
-    next_end e es = cond-false (is_full (slot slots (hand slots))) _ _ free
+    next_end e es = cond-false (is_full (slot_pointer slots (hand slots))) _ _ free
 
     -- an object without a member left is finished
     finished : (h : History) (e : Ending) (es : List Ending) (o : ℕ) → 3 - e.stage ≡ 0 → (leads z h).latest e.block.0 ≡ o
@@ -127,7 +128,7 @@ module _ (z : Opening) (b : Scene) (d : ℕ) (ws : List Walk) (lt : d < length w
         → At h (here slots (e ∷ es)) out
         → let s = leads z h in
         let x = (s.object o).member (2 - k) in
-        At (clears z d o (2 - k) h) (here (cond (has_object x) (set slots (hand slots) (slot_of s x)) slots) (staged e ∷ es)) out
+        At (history_clears z d o (2 - k) h) (here (cond (has_object x) (set slots (hand slots) (slot_of s x)) slots) (staged e ∷ es)) out
     cleared h e es o k left is at =
         let s = leads z h in
         let x = (s.object o).member (2 - k) in
@@ -145,7 +146,7 @@ module _ (z : Opening) (b : Scene) (d : ℕ) (ws : List Walk) (lt : d < length w
         })))
 
     goes_same : (e : Ending) (es : List Ending) (h : History) (x : Wound) (o : Option (ℕ × Slot))
-        → goes_on (staged e) es h slots x o ≡ goes_on e es h slots x o
+        → unwinds_on (staged e) es h slots x o ≡ unwinds_on e es h slots x o
     goes_same e es h x None = refl
     goes_same e es h x (Some p) = refl
 
@@ -153,16 +154,16 @@ module _ (z : Opening) (b : Scene) (d : ℕ) (ws : List Walk) (lt : d < length w
     ended : (es : List Ending) → ((h : History) → At h (here slots es) out → Wounds (unwound z d slots es h))
         → (k : ℕ) (e : Ending) (h : History) (o : ℕ) → 3 - e.stage ≡ k → (leads z h).latest e.block.0 ≡ o
         → At h (here slots (e ∷ es)) out
-        → let c = stops z d o k h in Wounds (goes_on e es c.history slots (unwound z d slots es c.history) c.out)
+        → let c = stops z d o k h in Wounds (unwinds_on e es c.history slots (unwound z d slots es c.history) c.out)
     ended es rest zero e h o left is at =
         rest (entry d (event.Finish o (weak (leads z h) o == 0) tt) ∷ h) (finished h e es o left is at)
     ended es rest (suc k) e h o left is at =
         let s = leads z h in
         let x = (s.object o).member (2 - k) in
-        let h' = clears z d o (2 - k) h in
+        let h' = history_clears z d o (2 - k) h in
         let now = cleared h e es o k left is at in
         cond_both (has_object x) (record { history = h'; out = Some (k, slot_of s x) }) (stops z d o k h')
-        (λ (c : Stop). Wounds (goes_on e es c.history slots (unwound z d slots es c.history) c.out))
+        (λ (c : Stop). Wounds (unwinds_on e es c.history slots (unwound z d slots es c.history) c.out))
         (λ t. let n : e.stage + 1 ≡ 3 - k = omega (arith, left) in
         subst (λ (i : ℕ). At h' (here (set slots (hand slots) (slot_of s x)) (record { block = e.block; stage = i; statement = e.statement } ∷ es)) out) n
         (subst (λ (q : Bool). At h' (here (cond q (set slots (hand slots) (slot_of s x)) slots) (staged e ∷ es)) out) t now))
@@ -179,18 +180,18 @@ module _ (z : Opening) (b : Scene) (d : ℕ) (ws : List Walk) (lt : d < length w
   wound : (h : History) (w : Walk) (out : List (ℕ × Said)) → At h w out
       → let x = rested_walk z d h w in At x.history (record { slots = x.slots; taken = w.taken; endings = x.endings; todo = w.todo }) out
   wound h w out at =
-      cond_both (is_full (slot w.slots (hand w.slots))) (still h w) (unwound z d w.slots w.endings h)
+      cond_both (is_full (slot_pointer w.slots (hand w.slots))) (still h w) (unwound z d w.slots w.endings h)
       (λ (x : Wound). At x.history (record { slots = x.slots; taken = w.taken; endings = x.endings; todo = w.todo }) out)
       (λ t. at) (λ f. all_ended w.taken w.todo w.slots out f w.endings h at)
 
 -- the next act of a thread whose endings wait
-ahead_next : (l : Slots) (es : List Ending) (ts : List Task) (t : Task) → (es ≡ []) ⊎ (is_full (slot l (hand l)) ≡ true)
+ahead_next : (l : Slots) (es : List Ending) (ts : List Task) (t : Task) → (es ≡ []) ⊎ (is_full (slot_pointer l (hand l)) ≡ true)
     → next_of l es ts ≡ Some t → ahead_of l es ts ≡ AnAct t (rest_of es ts)
 ahead_next l [] [] t waits e = absurd cc
 ahead_next l [] (y ∷ ts) t waits e = ap (λ (q : Task). AnAct q ts) (same_Some _ _ e)
 ahead_next l (x ∷ es) ts t (inl none) e = absurd cc
 ahead_next l (x ∷ es) ts t (inr full) e =
-    cond-true (is_full (slot l (hand l))) (AnAct (record { statement = x.statement; act = Leave (hand l) }) ts) (AnEnd x es) full
+    cond-true (is_full (slot_pointer l (hand l))) (AnAct (record { statement = x.statement; act = Leave (hand l) }) ts) (AnEnd x es) full
     ∙ ap (λ (q : Task). AnAct q ts) (same_Some _ _ e)
 
 -- a turn of thread d that has this to do next
@@ -207,7 +208,7 @@ act_on b c d out t lt waits is far =
     let u = went (state_in c) d w t.statement ts t.act in
     let begun : Far z b c.history (set c.walks d w) out =
     subst (λ (l : List Walk). Far z b c.history l out) (sym (set-get_or c.walks d nowhere)) far in
-    let does : Does no_worth (leads z c.history) w (done_by d q.event x) u =
+    let does : DoesNext no_worth (leads z c.history) w (done_by d q.event x) u =
     subst (λ (a : Ahead). DoesAhead no_worth (leads z c.history) w (done_by d q.event x) u a)
     (sym (ahead_next w.slots w.endings w.todo t waits.endings is))
     (record { reply = q.reply; makes = q.makes; says = q.says; goes = q.goes }) in
@@ -261,7 +262,7 @@ waits_on c d waits = λ i here.
 -- turns, one after another
 turns_on : (b c : Scene) (turns : List ℕ) (out : List (ℕ × Said)) → opening c.extent ≡ opening b.extent → AllWait c
     → Far (opening b.extent) b c.history c.walks out
-    → let p = plays turns c in Far (opening b.extent) b p.history p.walks (out ++ flat_map spoken_of (told turns c))
+    → let p = plays turns c in Far (opening b.extent) b p.history p.walks (out ++ flat_map spoken_of (items_told turns c))
 turns_on b c [] out same waits far =
     subst (λ (l : List (ℕ × Said)). Far (opening b.extent) b c.history c.walks l) (sym (append-nil out)) far
 turns_on b c (thread ∷ turns) out same waits far =
@@ -274,8 +275,8 @@ turns_on b c (thread ∷ turns) out same waits far =
     (turn_on b c thread out waits (subst (λ (z : Opening). Far z b c.history c.walks out) (sym same) far)) in
     let q = plays turns p in
     subst (λ (l : List (ℕ × Said)). Far (opening b.extent) b q.history q.walks l)
-    (append_assoc out (flat_map spoken_of says) (flat_map spoken_of (told turns p))
-    ∙ ap (λ (l : List (ℕ × Said)). out ++ l) (sym (flat_map-append spoken_of says (told turns p))))
+    (append_assoc out (flat_map spoken_of says) (flat_map spoken_of (items_told turns p))
+    ∙ ap (λ (l : List (ℕ × Said)). out ++ l) (sym (flat_map-append spoken_of says (items_told turns p))))
     (turns_on b p turns (out ++ flat_map spoken_of says) (extent ∙ same) (waits_on c d waits) now)
 
 -- a whole run of a script
@@ -291,7 +292,7 @@ turns_follow script turns items last trace =
     record {
       doings = far.doings;
       history = ap (λ (s : Scene). s.history) are.1 ∙ far.history;
-      each = λ d. subst (λ (s : Scene). Goes no_worth (opening c.extent) c.history d (walk_of c d) far.doings (walk_of s d)) (sym are.1) (far.each d);
+      each = λ d. subst (λ (s : Scene). GoesThrough no_worth (opening c.extent) c.history d (walk_of c d) far.doings (walk_of s d)) (sym are.1) (far.each d);
       over = λ d. let w = walk_of last d in over_of w.slots w.endings w.todo (trace.over d);
       says = far.says ∙ ap (λ (l : List Item). flat_map spoken_of l) (sym are.0);
     }

@@ -15,8 +15,8 @@ use Rattle.step_table.specs.Stories.{Nothing}
 use Rattle.step_threads.specs.declared.ending.Ending.{Ending}
 use Rattle.step_threads.specs.declared.act.Task.{Task}
 use Rattle.step_threads.specs.Courses.{Walk}
-use Rattle.step_threads.specs.Doings.{Does, Doing, Goes, Over, ahead, ahead_of, onto, put_on}
-use Rattle.step_threads.specs.Interleavings.{IsParting, Marked, first_walk, said_on}
+use Rattle.step_threads.specs.Doings.{DoesNext, Doing, GoesThrough, Over, ahead, ahead_of, onto, put_on}
+use Rattle.step_threads.specs.Interleavings.{IsSplitOrJoin, Marked, first_walk, said_on}
 use Rattle.step_threads.specs.Programs.{Part}
 use Rattle.step_threads.specs.Scenes.{nowhere, walk_of}
 use Rattle.step_core.specs.declared.trace.TraceStep.{TraceStep}
@@ -32,14 +32,15 @@ use Rattle.script_stepper.specs.StepRuns.{IsInterleaving}
 
 -- where there is no thread nothing is done
 module _ (z : Opening) (h : List (Entry Nothing)) (d : ℕ) where
-  none_done : (l : List (Doing Nothing)) (w : Walk) → Goes no_worth z h d nowhere l w → (w ≡ nowhere) × All (λ (x : Doing Nothing). x.desk ≢ d) l
+  none_done : (l : List (Doing Nothing)) (w : Walk) → GoesThrough no_worth z h d nowhere l w → (w ≡ nowhere)
+      × All (λ (x : Doing Nothing). x.desk ≢ d) l
   none_done [] w is = (is, All-nil (λ (x : Doing Nothing). x.desk ≢ d))
   none_done (x ∷ l) w (inl other) =
       let rest = none_done l w other.1 in (rest.0, All-cons (λ (y : Doing Nothing). y.desk ≢ d) x l other.0 rest.1)
   none_done (x ∷ l) w (inr own) =
       let m = own.1.0 in
       let rest = none_done l m own.1.1 in
-      absurd (subst (λ (k : Walk). Does no_worth (leads z (onto h l)) k x w) rest.0 own.1.2)
+      absurd (subst (λ (k : Walk). DoesNext no_worth (leads z (onto h l)) k x w) rest.0 own.1.2)
 
 -- so all that is done is some thread's
 all_below : (n : ℕ) (l : List (Doing Nothing)) → ((d : ℕ) → n ≤ d → All (λ (x : Doing Nothing). x.desk ≢ d) l)
@@ -54,7 +55,7 @@ all_below n (x ∷ l) none =
     (all_below n l (λ d le. All-tail (λ (y : Doing Nothing). y.desk ≢ d) x l (none d le)))
 
 abbrev IsOwn : ℕ → Entry Nothing → Type 0
-IsOwn n e = ((0 ≤ e.desk) × (e.desk < 0 + n)) ⊎ IsParting e.event
+IsOwn n e = ((0 ≤ e.desk) × (e.desk < 0 + n)) ⊎ IsSplitOrJoin e.event
 
 all_own : (n : ℕ) (l : List (Doing Nothing)) → All (λ (x : Doing Nothing). x.desk < n) l → All (IsOwn n) (onto [] l)
 all_own n [] below = All-nil (IsOwn n)
@@ -105,7 +106,7 @@ interleaves script turns text p =
     let same : opening p.last.story.extent ≡ z = ap opening f.extent in
     let none : (d : ℕ) → length parts ≤ d → All (λ (x : Doing Nothing). x.desk ≢ d) f.doings =
     λ d le. (none_done z [] d f.doings (walk_of (scene p.last) d)
-    (subst (λ (w : Walk). Goes no_worth z [] d w f.doings (walk_of (scene p.last) d))
+    (subst (λ (w : Walk). GoesThrough no_worth z [] d w f.doings (walk_of (scene p.last) d))
     (get_or_past (map first_walk parts) d nowhere (omega (arith, le, n))) (f.each d))).1 in
     record {
       legal = p.run.kept.stands.legal;
@@ -116,7 +117,7 @@ interleaves script turns text p =
             doings = f.doings;
             events = sym f.history;
             last = walk_of (scene p.last) i;
-            goes = subst (λ (w : Walk). Goes no_worth z [] i w f.doings (walk_of (scene p.last) i)) b.1 (f.each i);
+            goes = subst (λ (w : Walk). GoesThrough no_worth z [] i w f.doings (walk_of (scene p.last) i)) b.1 (f.each i);
             over = over_at p.last i p.run.over (omega (arith, here, m, n));
             says = ap (said_on i) f.says;
           } in

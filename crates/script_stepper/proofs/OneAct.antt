@@ -17,10 +17,10 @@ use Rattle.step_table.specs.declared.ended.Ended.{Ended}
 use Rattle.step_table.specs.declared.form.Form.{Form}
 use Rattle.step_table.specs.declared.holdings.Pointer.{Pointer}
 use Rattle.step_table.specs.declared.slot.Slot.{Slot}
-use Rattle.step_table.specs.CellDeeds.{cell_in, kind_in}
-use Rattle.step_table.specs.Contents.{slot_of, swapped, told}
+use Rattle.step_table.specs.CellDeeds.{cell_in, kind_in_state}
+use Rattle.step_table.specs.Contents.{slot_of, slots_swapped, named_handle}
 use Rattle.step_table.specs.Deeds.{handle_of, is_enabled, owned}
-use Rattle.step_table.specs.Holdings.{Slots, inside, is_full, place_in, plain, slot, value, weak_slot}
+use Rattle.step_table.specs.Holdings.{Slots, inside, is_full, place_in, plain, slot_pointer, slot_value, weak_slot}
 use Rattle.step_table.specs.Stories.{Nothing}
 use Rattle.step_threads.specs.declared.act.Act.{Act}
 use Rattle.step_threads.specs.declared.act.Act.TheVariants.{Make, Share, Downgrade, Lock, Put, Leave, Clear, Count, Expired, Read, FromThis, Alias, Move, Ask}
@@ -28,8 +28,8 @@ use Rattle.step_threads.specs.declared.act.Act.TheVariants.{Offer, Swap, Exchang
 use Rattle.step_threads.specs.declared.call.CellName.{CellName}
 use Rattle.step_threads.specs.declared.said.Answer.{Answer}
 use Rattle.step_threads.specs.declared.said.Answer.TheVariants as answer
-use Rattle.step_threads.specs.Courses.{cell_at, hand, is_there, other, placed}
-use Rattle.step_threads.specs.Doings.{Leaves, Loads, Makes, On, Swaps, Compares, Where, copies, leaves_as, put_on}
+use Rattle.step_threads.specs.Courses.{cell_of_name, hand, is_there, other, placed}
+use Rattle.step_threads.specs.Doings.{IsLeaveEvent, IsLoadEvent, IsMakeEvent, On, IsSwapEvent, IsCompareEvent, Where, copies, leaves_as, put_on}
 use Rattle.step_threads.specs.Entries.{History, least, lesser}
 use Rattle.step_threads.specs.Rows.{Reply, Plain, Found, Got, Told, Came, Compared, Left, having, leaving, may_go, row}
 use Rattle.step_threads.specs.Scenes.{Hands, full_answer, holding, outside, refusal, remains_as}
@@ -80,8 +80,8 @@ module _ (s : State) (d : ℕ) where
   last_once x Owner b c p q = p.1 ∙ sym q
   last_once x Weak b c p q = p.1 ∙ sym q
 
-  leaves_once : (o : Option Pointer) (b c : Bool) (x y : Option Ended) (e f : Events) → Leaves s o b x e → Leaves s o c y f → Comes e → Right f
-      → (b ≡ c) × (x ≡ y) × (e ≡ f)
+  leaves_once : (o : Option Pointer) (b c : Bool) (x y : Option Ended) (e f : Events) → IsLeaveEvent s o b x e → IsLeaveEvent s o c y f
+      → Comes e → Right f → (b ≡ c) × (x ≡ y) × (e ≡ f)
   leaves_once None b c x y e f p q u v = (p.0 ∙ sym q.0, p.1 ∙ sym q.1, p.2 ∙ sym q.2)
   leaves_once (Some z) b c x y e f p q u v =
       let same = last_once z z.kind b c (subst Comes p.0 u) (subst Right q.0 v) in (
@@ -90,17 +90,15 @@ module _ (s : State) (d : ℕ) where
         p.0 ∙ ap (λ (t : Bool). Some (leaves_as s z.kind t z)) same ∙ sym q.0,
       )
 
-  leaving_once : (h : Hands) (o : Option Pointer) (b c : Bool) (x y : Option Ended) (e f : Events) → Leaves s o b x e
-      → Leaves s o c y f → Comes e → Right f
-      → (leaving h o b x ≡ leaving h o c y) × (e ≡ f)
+  leaving_once : (h : Hands) (o : Option Pointer) (b c : Bool) (x y : Option Ended) (e f : Events) → IsLeaveEvent s o b x e
+      → IsLeaveEvent s o c y f → Comes e → Right f → (leaving h o b x ≡ leaving h o c y) × (e ≡ f)
   leaving_once h o b c x y e f p q u v =
       let r = leaves_once o b c x y e f p q u v in
       (ap (λ (t : Bool). leaving h o t x) r.0 ∙ ap (λ (t : Option Ended). leaving h o c t) r.1, r.2)
 
   -- ---- what is told of a pointer
 
-  counts_once : (o : Option Pointer) (n m : ℕ) (e f : Events)
-      → On (λ x. e ≡ Some (event.Count (handle_of s x) n)) ((n ≡ 0) × (e ≡ None)) o
+  counts_once : (o : Option Pointer) (n m : ℕ) (e f : Events) → On (λ x. e ≡ Some (event.Count (handle_of s x) n)) ((n ≡ 0) × (e ≡ None)) o
       → On (λ x. f ≡ Some (event.Count (handle_of s x) m)) ((m ≡ 0) × (f ≡ None)) o → Chosen e → Chosen f → (n ≡ m) × (e ≡ f)
   counts_once None n m e f p q u v = (p.0 ∙ sym q.0, p.1 ∙ sym q.1)
   counts_once (Some x) n m e f p q u v =
@@ -152,40 +150,42 @@ module _ (s : State) (d : ℕ) where
   -- ---- cells
 
   module _ (l : Slots) (A : Type 0) (to : Slot → A) (from : A) where
-    swaps_once : (b : Bool) (c : CellName) (i : ℕ) (x y : Slot) (e f : Events) → Where b (Swaps s l c i x e) (e ≡ None)
-        → Where b (Swaps s l c i y f) (f ≡ None) → Comes e → Right f → (cond b (to x) from ≡ cond b (to y) from) × (e ≡ f)
+    swaps_once : (b : Bool) (c : CellName) (i : ℕ) (x y : Slot) (e f : Events) → Where b (IsSwapEvent s l c i x e) (e ≡ None)
+        → Where b (IsSwapEvent s l c i y f) (f ≡ None) → Comes e → Right f → (cond b (to x) from ≡ cond b (to y) from) × (e ≡ f)
     swaps_once false c i x y e f p q u v = (refl, p ∙ sym q)
     swaps_once true c i x y e f p q u v =
         let a = subst Comes p.1 u in
         let k = subst Right q.1 v in
         let same : p.0 ≡ q.0 = a.2 ∙ sym k in (
           ap to (p.2 ∙ ap (slot_of s) same ∙ sym q.2),
-          p.1 ∙ ap (λ (h : Handle). Some (event.Swap (cell_in s (cell_at s l c)) (told s (kind_in s (cell_at s l c)) (value l i)) h)) same ∙ sym q.1,
+          p.1 ∙ ap (λ (h : Handle). Some
+              (event.Swap (cell_in s (cell_of_name s l c)) (named_handle s (kind_in_state s (cell_of_name s l c)) (slot_value l i)) h)) same ∙ sym q.1,
         )
 
-    loads_once : (b : Bool) (c : CellName) (x y : Slot) (e f : Events) → Where b (Loads s l c x e) (e ≡ None)
-        → Where b (Loads s l c y f) (f ≡ None) → Comes e → Right f → (cond b (to x) from ≡ cond b (to y) from) × (e ≡ f)
+    loads_once : (b : Bool) (c : CellName) (x y : Slot) (e f : Events) → Where b (IsLoadEvent s l c x e) (e ≡ None)
+        → Where b (IsLoadEvent s l c y f) (f ≡ None) → Comes e → Right f → (cond b (to x) from ≡ cond b (to y) from) × (e ≡ f)
     loads_once false c x y e f p q u v = (refl, p ∙ sym q)
     loads_once true c x y e f p q u v =
         let a = subst Comes p.1 u in
         let k = subst Right q.1 v in
         let same : p.0 ≡ q.0 = a.1 ∙ sym k in (
           ap to (p.2 ∙ ap (slot_of s) same ∙ sym q.2),
-          p.1 ∙ ap (λ (h : Handle). Some (event.Load (cell_in s (cell_at s l c)) h)) same ∙ sym q.1,
+          p.1 ∙ ap (λ (h : Handle). Some (event.Load (cell_in s (cell_of_name s l c)) h)) same ∙ sym q.1,
         )
 
-  compares_once : (l : Slots) (c : CellName) (k : ℕ) (weak b g : Bool) (x y : Slot) (e f : Events) → Compares s l c k weak b x e
-      → Compares s l c k weak g y f → Comes e → Right f → Chosen e → Chosen f → (x ≡ y) × (b ≡ g) × (e ≡ f)
+  compares_once : (l : Slots) (c : CellName) (k : ℕ) (weak b g : Bool) (x y : Slot) (e f : Events) → IsCompareEvent s l c k weak b x e
+      → IsCompareEvent s l c k weak g y f → Comes e → Right f → Chosen e → Chosen f → (x ≡ y) × (b ≡ g) × (e ≡ f)
   compares_once l c k weak b g x y e f p q u v m n =
       let a = subst Comes p.1 u in
       let z = subst Right q.1 v in
-      let at = cell_at s l c in
+      let at = cell_of_name s l c in
       let compared_event : Handle → Bool → Events = λ h t.
-      Some (event.Compare (cell_in s at) (told s (kind_in s at) (value l k)) (told s (kind_in s at) (value l (hand l))) h t weak) in
+      Some (event.Compare (cell_in s at) (named_handle s (kind_in_state s at) (slot_value l k))
+      (named_handle s (kind_in_state s at) (slot_value l (hand l))) h t weak) in
       let same : p.0 ≡ q.0 = a.3 ∙ sym z in
       let w = subst Chosen p.1 m in
       let r = subst Chosen q.1 n in
-      let yes : b ≡ g = w ∙ ap (λ (h : Handle). equivalent h (told s (kind_in s (cell_at s l c)) (value l k))) same ∙ sym r in (
+      let yes : b ≡ g = w ∙ ap (λ (h : Handle). equivalent h (named_handle s (kind_in_state s (cell_of_name s l c)) (slot_value l k))) same ∙ sym r in (
         p.2 ∙ ap (slot_of s) same ∙ sym q.2,
         yes,
         p.1 ∙ ap (λ (h : Handle). compared_event h b) same ∙ ap (compared_event q.0) yes ∙ sym q.1,
@@ -197,8 +197,8 @@ module _ (s : State) (d : ℕ) where
     abbrev Same : Act → Reply → Reply → Events → Events → Type 0
     Same a r q e f = (row a l taken r ≡ row a l taken q) × (e ≡ f)
 
-    makes_once : (form : Form) (o p : Option ℕ) (e f : Events) → Makes no_worth s d l (Make form) (Found o) e
-        → Makes no_worth s d l (Make form) (Found p) f
+    makes_once : (form : Form) (o p : Option ℕ) (e f : Events) → IsMakeEvent no_worth s d l (Make form) (Found o) e
+        → IsMakeEvent no_worth s d l (Make form) (Found p) f
         → Chosen e → Chosen f → Same (Make form) (Found o) (Found p) e f
     makes_once form None None e f m n u v = (refl, m.1 ∙ sym n.1)
     makes_once form None (Some b) e f m n u v =
@@ -211,7 +211,7 @@ module _ (s : State) (d : ℕ) where
           m ∙ ap (λ (k : ℕ). Some (event.Make (record { 0 = k }) form.enabled form.null form.fields tt)) same ∙ sym n,
         )
 
-    pub one_reply : (a : Act) (r q : Reply) (e f : Events) → Makes no_worth s d l a r e → Makes no_worth s d l a q f → Comes e → Right f
+    pub one_reply : (a : Act) (r q : Reply) (e f : Events) → IsMakeEvent no_worth s d l a r e → IsMakeEvent no_worth s d l a q f → Comes e → Right f
         → Chosen e → Chosen f
         → Same a r q e f
     one_reply (Make form) (Found o) (Found p) e f m n u v g h = makes_once form o p e f m n g h
@@ -220,41 +220,42 @@ module _ (s : State) (d : ℕ) where
     one_reply (Share k) Plain Plain e f m n u v g h = (refl, m ∙ sym n)
     one_reply (Share k) Plain _ e f m n u v g h = absurd n
     one_reply (Share k) _ q e f m n u v g h = absurd m
-    one_reply (Put k) (Left b x) (Left c y) e f m n u v g h = leaving_once (placed k (slice_set l k plain), false) (slot l k) b c x y e f m n u v
+    one_reply (Put k) (Left b x) (Left c y) e f m n u v g h = leaving_once (placed k (slice_set l k plain), false) (slot_pointer l k) b c x y e f m n u v
     one_reply (Put k) (Left b x) _ e f m n u v g h = absurd n
     one_reply (Put k) _ q e f m n u v g h = absurd m
-    one_reply (Leave k) (Left b x) (Left c y) e f m n u v g h = leaving_once (slice_set l k plain, taken) (slot l k) b c x y e f m n u v
+    one_reply (Leave k) (Left b x) (Left c y) e f m n u v g h = leaving_once (slice_set l k plain, taken) (slot_pointer l k) b c x y e f m n u v
     one_reply (Leave k) (Left b x) _ e f m n u v g h = absurd n
     one_reply (Leave k) _ q e f m n u v g h = absurd m
-    one_reply (Clear k) (Left b x) (Left c y) e f m n u v g h = leaving_once (slice_set l k plain, taken) (slot l k) b c x y e f m n u v
+    one_reply (Clear k) (Left b x) (Left c y) e f m n u v g h = leaving_once (slice_set l k plain, taken) (slot_pointer l k) b c x y e f m n u v
     one_reply (Clear k) (Left b x) _ e f m n u v g h = absurd n
     one_reply (Clear k) _ q e f m n u v g h = absurd m
     one_reply Drop (Left b x) (Left c y) e f m n u v g h =
-        leaving_once (slice_set l (other l) plain, taken) (slot l (other l)) b c x y e f m n u v
+        leaving_once (slice_set l (other l) plain, taken) (slot_pointer l (other l)) b c x y e f m n u v
     one_reply Drop (Left b x) _ e f m n u v g h = absurd n
     one_reply Drop _ q e f m n u v g h = absurd m
     one_reply (Count k) (Told x) (Told y) e f m n u v g h =
-        let r = counts_once (slot l k) x y e f m n g h in (ap (λ (t : ℕ). row (Count k) l taken (Told t)) r.0, r.1)
+        let r = counts_once (slot_pointer l k) x y e f m n g h in (ap (λ (t : ℕ). row (Count k) l taken (Told t)) r.0, r.1)
     one_reply (Count k) (Told x) _ e f m n u v g h = absurd n
     one_reply (Count k) _ q e f m n u v g h = absurd m
     one_reply (Downgrade k) Plain Plain e f m n u v g h = (refl, m ∙ sym n)
     one_reply (Downgrade k) Plain _ e f m n u v g h = absurd n
     one_reply (Downgrade k) _ q e f m n u v g h = absurd m
     one_reply (Lock k must) (Got b) (Got c) e f m n u v g h =
-        let r = locks_once (weak_slot (slot l k)) b c e f m n u v in (ap (λ (t : Bool). row (Lock k must) l taken (Got t)) r.0, r.1)
+        let r = locks_once (weak_slot (slot_pointer l k)) b c e f m n u v in (ap (λ (t : Bool). row (Lock k must) l taken (Got t)) r.0, r.1)
     one_reply (Lock k must) (Got b) _ e f m n u v g h = absurd n
     one_reply (Lock k must) _ q e f m n u v g h = absurd m
     one_reply (Expired k) (Got b) (Got c) e f m n u v g h =
-        let r = expires_once (slot l k) b c e f m n u v in (ap (λ (t : Bool). row (Expired k) l taken (Got t)) r.0, r.1)
+        let r = expires_once (slot_pointer l k) b c e f m n u v in (ap (λ (t : Bool). row (Expired k) l taken (Got t)) r.0, r.1)
     one_reply (Expired k) (Got b) _ e f m n u v g h = absurd n
     one_reply (Expired k) _ q e f m n u v g h = absurd m
     one_reply (Read k) (Told x) (Told y) e f m n u v g h =
-        let r = reads_once (inside (slot l k)) (outside (place_in l k)) x y e f m n u v in (ap (λ (a : Answer). having (l, taken) (Some a)) r.0, r.1)
+        let r = reads_once (inside (slot_pointer l k)) (outside (place_in l k)) x y e f m n u v in (ap (λ (a : Answer). having (l, taken) (Some a)) r.0, r.1)
     one_reply (Read k) (Told x) _ e f m n u v g h = absurd n
     one_reply (Read k) _ q e f m n u v g h = absurd m
     one_reply (FromThis k kind) (Got b) (Got c) e f m n u v g h =
         let r =
-        gives_once (inside (slot l k)) (λ (y : Bool) (x : Pointer). cond y (Some (copies s kind (place_at x.block.0) x)) None) (is_enabled s) b c e f m n in
+        gives_once (inside (slot_pointer l k)) (λ (y : Bool) (x : Pointer). cond y (Some (copies s kind (place_at x.block.0) x)) None) (is_enabled s)
+        b c e f m n in
         (ap (λ (t : Bool). row (FromThis k kind) l taken (Got t)) r.0, r.1)
     one_reply (FromThis k kind) (Got b) _ e f m n u v g h = absurd n
     one_reply (FromThis k kind) _ q e f m n u v g h = absurd m
@@ -271,7 +272,7 @@ module _ (s : State) (d : ℕ) where
     one_reply (Offer k c) Plain _ e f m n u v g h = absurd n
     one_reply (Offer k c) _ q e f m n u v g h = absurd m
     one_reply (Swap c) (Came x) (Came y) e f m n u v g h =
-        let r = swaps_once l Slots (λ z. swapped (hand l) (other l) l z) l (may_go l c (hand l)) c (hand l) x y e f m n u v in
+        let r = swaps_once l Slots (λ z. slots_swapped (hand l) (other l) l z) l (may_go l c (hand l)) c (hand l) x y e f m n u v in
         (ap (λ (z : Slots). having (z, false) None) r.0, r.1)
     one_reply (Swap c) (Came x) _ e f m n u v g h = absurd n
     one_reply (Swap c) _ q e f m n u v g h = absurd m

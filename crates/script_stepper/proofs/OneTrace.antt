@@ -5,9 +5,9 @@ use Rattle.std.specs.Prelude.{None}
 use Rattle.script_text.specs.Grammar.{ended}
 use Rattle.step_threads.specs.Scenes.{Scene, next, play, said, walk_of}
 use Rattle.script_text.specs.Traces.{IsTrace, Item, in_order}
-use Rattle.script_stepper.specs.Running.{heard, plays, told}
+use Rattle.script_stepper.specs.Running.{heard, plays, items_told}
 use Rattle.script_stepper.proofs.Takings.{turns_are}
-use Rattle.script_stepper.specs.Lines.{shown}
+use Rattle.script_stepper.specs.Lines.{run_lines}
 use Rattle.script_stepper.specs.Runs.{IsTurnText}
 use Rattle.script_stepper.proofs.TraceLemmas.{idle_plays, idle_told, play_other, plays-append, told-append}
 
@@ -17,7 +17,7 @@ AllDone c = (d : ℕ) → next (walk_of c d) ≡ None
 -- a thread that runs alone to its end comes to one end only
 alone_once : (n m t : ℕ) (c : Scene) → next (walk_of (plays (replicate n t) c) (t - 1)) ≡ None
     → next (walk_of (plays (replicate m t) c) (t - 1)) ≡ None
-    → (plays (replicate n t) c ≡ plays (replicate m t) c) × (told (replicate n t) c ≡ told (replicate m t) c)
+    → (plays (replicate n t) c ≡ plays (replicate m t) c) × (items_told (replicate n t) c ≡ items_told (replicate m t) c)
 alone_once zero m t c p q = (sym (idle_plays m t c p), sym (idle_told m t c p))
 alone_once (suc n) zero t c p q = (idle_plays (suc n) t c q, idle_told (suc n) t c q)
 alone_once (suc n) (suc m) t c p q =
@@ -45,7 +45,7 @@ none_cons n ns e = omega (arith, e)
 
 one_order : (ns ms : List ℕ) (t : ℕ) (c : Scene) → 1 ≤ t → length ns ≡ length ms → AllDone (plays (in_order t ns) c)
     → AllDone (plays (in_order t ms) c)
-    → (plays (in_order t ns) c ≡ plays (in_order t ms) c) × (told (in_order t ns) c ≡ told (in_order t ms) c)
+    → (plays (in_order t ns) c ≡ plays (in_order t ms) c) × (items_told (in_order t ns) c ≡ items_told (in_order t ms) c)
 one_order [] [] t c some same p q = (refl, refl)
 one_order [] (m ∷ ms) t c some same p q = absurd (none_cons m ms (sym same))
 one_order (n ∷ ns) [] t c some same p q = absurd (none_cons n ns same)
@@ -62,9 +62,9 @@ one_order (n ∷ ns) (m ∷ ms) t c some same p q =
     (subst (λ (s : Scene). AllDone (plays (in_order (t + 1) ms) s)) (sym r.0) q') in (
       first ∙ k.0 ∙ ap (plays (in_order (t + 1) ms)) r.0 ∙ sym second,
       told-append (replicate n t) (in_order (t + 1) ns) c
-          ∙ ap (λ (l : List Item). told (replicate n t) c ++ l) k.1
-          ∙ ap (λ (l : List Item). l ++ told (in_order (t + 1) ms) a) r.1
-          ∙ ap (λ (s : Scene). told (replicate m t) c ++ told (in_order (t + 1) ms) s) r.0
+          ∙ ap (λ (l : List Item). items_told (replicate n t) c ++ l) k.1
+          ∙ ap (λ (l : List Item). l ++ items_told (in_order (t + 1) ms) a) r.1
+          ∙ ap (λ (s : Scene). items_told (replicate m t) c ++ items_told (in_order (t + 1) ms) s) r.0
           ∙ sym (told-append (replicate m t) (in_order (t + 1) ms) c),
     )
 
@@ -76,7 +76,7 @@ one_trace turns c i j l k p q =
     let pe = ps.1 ∙ plays-append turns (in_order 1 p.more) c in
     let qe = qs.1 ∙ plays-append turns (in_order 1 q.more) c in
     let r = one_order p.more q.more 1 m (omega arith) (p.each ∙ sym q.each) (subst AllDone pe p.over) (subst AllDone qe q.over) in (
-      ps.0 ∙ told-append turns (in_order 1 p.more) c ∙ ap (λ (x : List Item). told turns c ++ x) r.1
+      ps.0 ∙ told-append turns (in_order 1 p.more) c ∙ ap (λ (x : List Item). items_told turns c ++ x) r.1
           ∙ sym (told-append turns (in_order 1 q.more) c) ∙ sym qs.0,
       pe ∙ r.0 ∙ sym qe,
     )
@@ -85,4 +85,4 @@ one_trace turns c i j l k p q =
 pub one_turn_text : (turns : List ℕ) (c : Scene) (text other : List ℕ) → IsTurnText turns c text → IsTurnText turns c other → text ≡ other
 one_turn_text turns c text other p q =
     let r = one_trace turns c p.items q.items p.last q.last p.trace q.trace in
-    p.says ∙ ap (λ (i : List Item). ended (shown i p.last)) r.0 ∙ ap (λ (l : Scene). ended (shown q.items l)) r.1 ∙ sym q.says
+    p.says ∙ ap (λ (i : List Item). ended (run_lines i p.last)) r.0 ∙ ap (λ (l : Scene). ended (run_lines q.items l)) r.1 ∙ sym q.says

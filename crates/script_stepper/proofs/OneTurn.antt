@@ -17,13 +17,13 @@ use Rattle.step_table.specs.Openings.{opening}
 use Rattle.step_threads.specs.Entries.{acted}
 use Rattle.step_threads.specs.Scenes.{Scene, next, nowhere, play, play_from, put_walk, rest_of, rested, said, state_in, walk_of}
 use Rattle.step_table.specs.Stories.{Kept}
-use Rattle.step_core.specs.Worlds.{Sight, Turns, scene}
+use Rattle.step_core.specs.Worlds.{Sight, TakesWholeTurn, scene}
 use Rattle.step_core.proofs.telling.Order.{ended_few}
 use Rattle.script_text.specs.Grammar.{ended}
 use Rattle.script_stepper.specs.Lines.{item_lines, said_lines}
 use Rattle.script_stepper.specs.Running.{AllRest, HasRun, Waits, turns_left}
 use Rattle.script_text.specs.Traces.{Item}
-use Rattle.script_stepper.specs.Running.{heard, told}
+use Rattle.script_stepper.specs.Running.{heard, items_told}
 use Rattle.script_stepper.proofs.Acting.{went_size}
 use Rattle.script_stepper.proofs.Exact.{play_exact, said_exact}
 use Rattle.script_stepper.proofs.LineLemmas.{flat_map-one}
@@ -97,7 +97,8 @@ pub record Turn (d : ℕ) (u u' : Sight) (x : Option Said) : Type 0 where
   pub order : InOrder (play d (scene u))
   pub legal : IsLegal (opening u'.story.extent) u'.story.history
 
-pub acted_turn : (d : ℕ) (u u' : Sight) (x : Said) → AllRest u → d < length u.walks → Kept u'.story → Turns d u (Acted x) u' → Turn d u u' (Some x)
+pub acted_turn : (d : ℕ) (u u' : Sight) (x : Said) → AllRest u → d < length u.walks → Kept u'.story → TakesWholeTurn d u (Acted x) u'
+    → Turn d u u' (Some x)
 acted_turn d u u' x rests lt kept t =
     let same = at_rest u d rests lt in
     let c = rested d (scene u) in
@@ -110,7 +111,7 @@ acted_turn d u u' x rests lt kept t =
       legal = kept.stands.legal;
     }
 
-pub done_turn : (d : ℕ) (u u' : Sight) → AllRest u → d < length u.walks → Kept u'.story → Turns d u Done u' → Turn d u u' None
+pub done_turn : (d : ℕ) (u u' : Sight) → AllRest u → d < length u.walks → Kept u'.story → TakesWholeTurn d u Done u' → Turn d u u' None
 done_turn d u u' rests lt kept t =
     let same = at_rest u d rests lt in
     let none : next (walk_of (scene u) d) ≡ None = ap (λ (c : Scene). next (walk_of c d)) (sym same) ∙ t.0 in
@@ -125,7 +126,7 @@ done_turn d u u' rests lt kept t =
 
 -- ---- the run that it is
 
-told_one : (thread : ℕ) (c : Scene) (x : Option Said) → x ≡ said (thread - 1) c → told (thread ∷ []) c ≡ heard thread x
+told_one : (thread : ℕ) (c : Scene) (x : Option Said) → x ≡ said (thread - 1) c → items_told (thread ∷ []) c ≡ heard thread x
 told_one thread c x e = append-nil (heard thread (said (thread - 1) c)) ∙ ap (heard thread) (sym e)
 
 pub turn_run : (thread : ℕ) (u u' : Sight) (x : Option Said) (a b : List ℕ) → Turn (thread - 1) u u' x

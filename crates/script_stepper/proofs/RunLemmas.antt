@@ -12,7 +12,7 @@ use Rattle.step_core.specs.Worlds.{Sight, scene}
 use Rattle.script_stepper.specs.Lines.{item_lines}
 use Rattle.script_stepper.specs.Running.{HasRun, IsThread, RunsAlone, turns_left}
 use Rattle.script_text.specs.Traces.{Item}
-use Rattle.script_stepper.specs.Running.{plays, told}
+use Rattle.script_stepper.specs.Running.{plays, items_told}
 use Rattle.script_stepper.proofs.TraceLemmas.{plays-append, plays_size}
 use Rattle.script_stepper.proofs.TraceLemmas.{told-append}
 
@@ -23,12 +23,12 @@ run_then xs ys u v w a b e p q =
       scene_is = q.scene_is ∙ ap (plays ys) p.scene_is ∙ sym (plays-append xs ys (scene u));
       text_is =
           q.text_is
-          ∙ ap (λ (t : List ℕ). t ++ ended (flat_map item_lines (told ys (scene v)))) p.text_is
-          ∙ append_assoc a (ended (flat_map item_lines (told xs (scene u)))) (ended (flat_map item_lines (told ys (scene v))))
-          ∙ ap (λ (c : Scene). a ++ (ended (flat_map item_lines (told xs (scene u))) ++ ended (flat_map item_lines (told ys c)))) p.scene_is
+          ∙ ap (λ (t : List ℕ). t ++ ended (flat_map item_lines (items_told ys (scene v)))) p.text_is
+          ∙ append_assoc a (ended (flat_map item_lines (items_told xs (scene u)))) (ended (flat_map item_lines (items_told ys (scene v))))
+          ∙ ap (λ (c : Scene). a ++ (ended (flat_map item_lines (items_told xs (scene u))) ++ ended (flat_map item_lines (items_told ys c)))) p.scene_is
           ∙ ap (λ (t : List ℕ). a ++ t)
-          (sym (ended-append (flat_map item_lines (told xs (scene u))) (flat_map item_lines (told ys (plays xs (scene u))))))
-          ∙ ap (λ (t : List (List ℕ)). a ++ ended t) (sym (flat_map-append item_lines (told xs (scene u)) (told ys (plays xs (scene u)))))
+          (sym (ended-append (flat_map item_lines (items_told xs (scene u))) (flat_map item_lines (items_told ys (plays xs (scene u))))))
+          ∙ ap (λ (t : List (List ℕ)). a ++ ended t) (sym (flat_map-append item_lines (items_told xs (scene u)) (items_told ys (plays xs (scene u)))))
           ∙ ap (λ (t : List Item). a ++ ended (flat_map item_lines t)) (sym (told-append xs ys (scene u)));
       most = λ d. let l = p.most d in let m = q.most d in omega (arith, l, m);
       legal = λ h. q.legal (p.legal h);

@@ -28,7 +28,7 @@ use Rattle.control_word.specs.Histories.{IsLegal}
 use Rattle.step_table.specs.Openings.{opening}
 use Rattle.step_table.specs.Stories.{Kept}
 use Rattle.script_text.specs.Traces.{IsTrace, TakeTurns, in_order}
-use Rattle.script_stepper.specs.Running.{plays, told}
+use Rattle.script_stepper.specs.Running.{plays, items_told}
 use Rattle.script_stepper.proofs.Takings.{takes_turns}
 use Rattle.script_stepper.proofs.TraceLemmas.{plays_extent}
 
@@ -42,7 +42,7 @@ same_blocks turns u v a b h = ap (λ (x : Shape). x.blocks) (same_shape turns u 
 
 -- a run to the end is a trace
 pub traced : (turns : List ℕ) (u v : Sight) (a b : List ℕ) (h : RunsOut turns u v a b) → AllOver v → Kept u.story
-    → IsTrace turns (scene u) (told (turns ++ in_order 1 h.more) (scene u)) (scene v)
+    → IsTrace turns (scene u) (items_told (turns ++ in_order 1 h.more) (scene u)) (scene v)
 traced turns u v a b h over kept =
     let all = turns ++ in_order 1 h.more in
     let legal : IsLegal (opening (plays all (scene u)).extent) (plays all (scene u)).history =
@@ -50,14 +50,14 @@ traced turns u v a b h over kept =
     record {
       more = h.more;
       each = h.each;
-      takes = subst (λ (s : Scene). TakeTurns all (scene u) (told all (scene u)) s) (sym h.run.scene_is) (takes_turns all (scene u) legal);
+      takes = subst (λ (s : Scene). TakeTurns all (scene u) (items_told all (scene u)) s) (sym h.run.scene_is) (takes_turns all (scene u) legal);
       over = over;
     }
 
 pub shown_text : (turns : List ℕ) (u v : Sight) (a b c : List ℕ) → a ≡ [] → RunsOut turns u v a b → AllOver v → Kept u.story
     → c ≡ b ++ ended (closing_lines (scene v)) → IsTurnText turns (scene u) c
 shown_text turns u v a b c none h over kept close =
-    let items = told (turns ++ in_order 1 h.more) (scene u) in
+    let items = items_told (turns ++ in_order 1 h.more) (scene u) in
     record {
       items = items;
       last = scene v;

@@ -14,7 +14,7 @@ use Rattle.step_table.specs.declared.holdings.Pointer.{Pointer}
 use Rattle.step_table.specs.declared.slot.Slot.{Slot}
 use Rattle.step_table.specs.Contents.{slot_of}
 use Rattle.step_table.specs.Deeds.{exact, field_at, is_expired, last_as, owned}
-use Rattle.step_table.specs.Holdings.{Slots, inside, is_full, owner_slot, slot, weak_slot}
+use Rattle.step_table.specs.Holdings.{Slots, inside, is_full, owner_slot, slot_pointer, weak_slot}
 use Rattle.step_table.specs.Openings.{opening}
 use Rattle.step_table.specs.Stories.{Nothing}
 use Rattle.step_threads.specs.declared.act.Act.{Act}
@@ -26,13 +26,13 @@ use Rattle.step_threads.specs.declared.said.Said.{Said}
 use Rattle.step_threads.specs.Courses.{Walk, hand, is_there, offered, other}
 use Rattle.step_threads.specs.Doings.{copies, leaves_as, put_on}
 use Rattle.step_threads.specs.Entries.{History, acted, giving, least}
-use Rattle.step_threads.specs.Rows.{Row, gone, may_go, row, said_by_row}
+use Rattle.step_threads.specs.Rows.{Row, walk_after_act, may_go, row, said_by_row}
 use Rattle.step_threads.specs.Scenes.{Scene, found, next, play, play_from, rest_of, rested_walk, said, said_from, said_of, state_in, walk_of, went}
-use Rattle.step_threads.specs.Unwinding.{Stop, Wound, clears, goes_on, stops, unwound}
+use Rattle.step_threads.specs.Unwinding.{Stop, Wound, history_clears, unwinds_on, stops, unwound}
 use Rattle.step_core.proofs.following.Parts.{gave, locking}
 use Rattle.step_core.proofs.following.Replies.{replied}
 use Rattle.script_text.specs.Traces.{ActsNow, IsChosen, Item, TakeTurns, TakesTurn, scene_after}
-use Rattle.script_stepper.specs.Running.{heard, plays, told}
+use Rattle.script_stepper.specs.Running.{heard, plays, items_told}
 use Rattle.script_stepper.proofs.OneAct.{Events, Right, comes, one_reply}
 use Rattle.script_stepper.proofs.TraceLemmas.{plays_extent}
 
@@ -79,18 +79,18 @@ module _ (z : Opening) (d : ℕ) (h : History) (n : ℕ) (w : Walk) (ts : List T
   fine : (a : Act) → Fine now d (event_of_act a)
   unfolding replied
   fine (Make form) = of_make (least d now.stores) _ (λ b e. (tt, e)) refl
-  fine (Share i) = of_map now d _ (λ x. of_copies now d x.kind x.place x) (slot w.slots i)
-  fine (Put i) = of_map now d _ (λ x. of_leaves now d x.kind x) (slot w.slots i)
-  fine (Leave i) = of_map now d _ (λ x. of_leaves now d x.kind x) (slot w.slots i)
-  fine (Clear i) = of_map now d _ (λ x. of_leaves now d x.kind x) (slot w.slots i)
-  fine Drop = of_map now d _ (λ x. of_leaves now d x.kind x) (slot w.slots (other w.slots))
-  fine (Count i) = of_map now d _ (λ x. (tt, refl)) (slot w.slots i)
-  fine (Downgrade i) = of_map now d _ (λ x. (tt, tt)) (slot w.slots i)
-  fine (Lock i must) = of_lock (weak_slot (slot w.slots i)) (locking now) (λ x b e. (e, tt))
-  fine (Expired i) = of_map now d _ (λ x. (refl, tt)) (slot w.slots i)
-  fine (Read i) = of_map now d _ (λ x. (λ p e. ap (field_at (now.object (owned now x))) e, tt)) (inside (slot w.slots i))
-  fine (FromThis i q) = of_map now d _ (λ x. of_copies now d q _ x) (giving now (inside (slot w.slots i)))
-  fine (Alias i j field) = of_map now d _ (λ x. (tt, tt)) (owner_slot (slot w.slots i))
+  fine (Share i) = of_map now d _ (λ x. of_copies now d x.kind x.place x) (slot_pointer w.slots i)
+  fine (Put i) = of_map now d _ (λ x. of_leaves now d x.kind x) (slot_pointer w.slots i)
+  fine (Leave i) = of_map now d _ (λ x. of_leaves now d x.kind x) (slot_pointer w.slots i)
+  fine (Clear i) = of_map now d _ (λ x. of_leaves now d x.kind x) (slot_pointer w.slots i)
+  fine Drop = of_map now d _ (λ x. of_leaves now d x.kind x) (slot_pointer w.slots (other w.slots))
+  fine (Count i) = of_map now d _ (λ x. (tt, refl)) (slot_pointer w.slots i)
+  fine (Downgrade i) = of_map now d _ (λ x. (tt, tt)) (slot_pointer w.slots i)
+  fine (Lock i must) = of_lock (weak_slot (slot_pointer w.slots i)) (locking now) (λ x b e. (e, tt))
+  fine (Expired i) = of_map now d _ (λ x. (refl, tt)) (slot_pointer w.slots i)
+  fine (Read i) = of_map now d _ (λ x. (λ p e. ap (field_at (now.object (owned now x))) e, tt)) (inside (slot_pointer w.slots i))
+  fine (FromThis i q) = of_map now d _ (λ x. of_copies now d q _ x) (giving now (inside (slot_pointer w.slots i)))
+  fine (Alias i j field) = of_map now d _ (λ x. (tt, tt)) (owner_slot (slot_pointer w.slots i))
   fine (Move i) = (tt, tt)
   fine (Ask q) = (tt, tt)
   fine (Offer i c) = of_map now d _ (λ x. of_copies now d x.kind x.place x) (offered w.slots i c)
@@ -113,7 +113,7 @@ module _ (d : ℕ) (c : Scene) (t : Task) where
 
   played : let q = replied exact opened d c.history t.statement walk rest t.act in
       play_from exact c d walk (Some t)
-      ≡ scene_after d c (put_on d q.event c.history) (gone walk t.statement rest (row t.act walk.slots walk.taken q.reply))
+      ≡ scene_after d c (put_on d q.event c.history) (walk_after_act walk t.statement rest (row t.act walk.slots walk.taken q.reply))
   played =
       let q = replied exact opened d c.history t.statement walk rest t.act in
       ap (λ (h : History). scene_after d c h (went (state_in c) d walk t.statement rest t.act)) q.history
@@ -128,8 +128,9 @@ module _ (d : ℕ) (c : Scene) (t : Task) where
       (comes opened d c.history p.event p.legal) f.0 p.chosen f.1 in (
         p.says ∙ ap (said_by_row t.statement) r.0 ∙ sym q.says,
         p.goes
-            ∙ ap (λ (e : Events). scene_after d c (put_on d e c.history) (gone walk t.statement rest (row t.act walk.slots walk.taken p.reply))) r.1
-            ∙ ap (λ (y : Row). scene_after d c (put_on d q.event c.history) (gone walk t.statement rest y)) r.0 ∙ sym played,
+            ∙ ap (λ (e : Events). scene_after d c (put_on d e c.history)
+            (walk_after_act walk t.statement rest (row t.act walk.slots walk.taken p.reply))) r.1
+            ∙ ap (λ (y : Row). scene_after d c (put_on d q.event c.history) (walk_after_act walk t.statement rest y)) r.0 ∙ sym played,
       )
 
 turn_is : (thread : ℕ) (c : Scene) (o : Option Task) (i : List Item) (a : Scene) → TakesTurn thread c o i a
@@ -140,14 +141,14 @@ turn_is thread c (Some t) i a p =
     let r = act_is (thread - 1) c t p.0 a p.1 in
     (p.2 ∙ ap (λ (x : Said). (thread, x) ∷ []) r.0, r.1)
 
-pub turns_are : (turns : List ℕ) (c : Scene) (i : List Item) (a : Scene) → TakeTurns turns c i a → (i ≡ told turns c) × (a ≡ plays turns c)
+pub turns_are : (turns : List ℕ) (c : Scene) (i : List Item) (a : Scene) → TakeTurns turns c i a → (i ≡ items_told turns c) × (a ≡ plays turns c)
 turns_are [] c i a p = p
 turns_are (thread ∷ turns) c i a p =
     let d = thread - 1 in
     let first = turn_is thread c (next (walk_of c d)) p.0 p.2 p.3 in
     let later = turns_are turns p.2 p.1 a p.4 in (
       p.5 ∙ ap (λ (l : List Item). l ++ p.1) first.0 ∙ ap (λ (l : List Item). heard thread (said d c) ++ l) later.0
-          ∙ ap (λ (m : Scene). heard thread (said d c) ++ told turns m) first.1,
+          ∙ ap (λ (m : Scene). heard thread (said d c) ++ items_told turns m) first.1,
       later.1 ∙ ap (plays turns) first.1,
     )
 
@@ -159,12 +160,12 @@ module _ (z : Opening) (d : ℕ) where
   stops_legal o (suc k) h p =
       let s = leads z h in
       let x = (s.object o).member (2 - k) in
-      let h' = clears z d o (2 - k) h in
+      let h' = history_clears z d o (2 - k) h in
       cond_both (has_object x) (record { history = h'; out = Some (k, slot_of s x) }) (stops z d o k h')
       (λ (c : Stop). IsLegal z c.history → IsLegal z h) (λ e q. q.0) (λ e q. (stops_legal o k h' q).0) p
 
   goes_legal : (e : Ending) (es : List Ending) (h : History) (slots : Slots) (others : Wound) (out : Option (ℕ × Slot))
-      → (IsLegal z others.history → IsLegal z h) → IsLegal z (goes_on e es h slots others out).history → IsLegal z h
+      → (IsLegal z others.history → IsLegal z h) → IsLegal z (unwinds_on e es h slots others out).history → IsLegal z h
   goes_legal e es h slots others None before p = before p
   goes_legal e es h slots others (Some x) before p = p
 
@@ -178,7 +179,7 @@ module _ (z : Opening) (d : ℕ) where
 
   rested_legal : (h : History) (w : Walk) → IsLegal z (rested_walk z d h w).history → IsLegal z h
   rested_legal h w p =
-      cond_both (is_full (slot w.slots (hand w.slots))) (record { history = h; slots = w.slots; endings = w.endings }) (unwound z d w.slots w.endings h)
+      cond_both (is_full (slot_pointer w.slots (hand w.slots))) (record { history = h; slots = w.slots; endings = w.endings }) (unwound z d w.slots w.endings h)
       (λ (x : Wound). IsLegal z x.history → IsLegal z h) (λ e q. q) (λ e q. unwound_legal w.slots w.endings h q) p
 
   put_legal : (e : Events) (h : History) → IsLegal z (put_on d e h) → IsLegal z h
@@ -224,13 +225,13 @@ before_plays (thread ∷ turns) c legal =
     before_play d c (next (walk_of c d))
     (subst (λ (z : Opening). IsLegal z (play d c).history) (ap opening (plays_extent (thread ∷ []) c)) (before_plays turns (play d c) legal))
 
-pub takes_turns : (turns : List ℕ) (c : Scene) → Legal (plays turns c) → TakeTurns turns c (told turns c) (plays turns c)
+pub takes_turns : (turns : List ℕ) (c : Scene) → Legal (plays turns c) → TakeTurns turns c (items_told turns c) (plays turns c)
 takes_turns [] c legal = (refl, refl)
 takes_turns (thread ∷ turns) c legal =
     let d = thread - 1 in
     let m = play d c in (
       heard thread (said d c),
-      told turns m,
+      items_told turns m,
       m,
       play_turn thread c (next (walk_of c d))
           (subst (λ (z : Opening). IsLegal z m.history) (ap opening (plays_extent (thread ∷ []) c)) (before_plays turns m legal)),

@@ -12,11 +12,12 @@ use Rattle.step_table.specs.declared.form.Form.{Form}
 use Rattle.step_threads.specs.declared.ending.Ending.{Ending}
 use Rattle.step_table.specs.declared.holdings.Pointer.{Pointer}
 use Rattle.step_table.specs.declared.past.Deed.{Deed}
-use Rattle.step_table.specs.Stories.{added, event_of}
-use Rattle.step_threads.specs.Courses.{Going, going, is_there, locked, offered, on_going, other}
-use Rattle.step_table.specs.Deeds.{alias, aliased, downgrade, exact, give, is_last, leave, leave_as, lock, on, read, share, share_as, tell_count, tell_expired}
-use Rattle.step_table.specs.Holdings.{Slots, inside, owner_slot, place_in, slot}
-use Rattle.step_threads.specs.Entries.{History, acted, compares, does, giving, least, loads, makes, swaps}
+use Rattle.step_table.specs.Stories.{event_added, event_of}
+use Rattle.step_threads.specs.Courses.{Going, going, is_there, locked_pointer, offered, on_going, other}
+use Rattle.step_table.specs.Deeds.{alias, aliased, downgrade, exact, give, is_last, leave, leave_as, lock, on, read_deed, share, share_as, tell_count}
+use Rattle.step_table.specs.Deeds.{tell_expired}
+use Rattle.step_table.specs.Holdings.{Slots, inside, owner_slot, place_in, slot_pointer}
+use Rattle.step_threads.specs.Entries.{History, acted, history_compares, does, giving, least, loads, make_deed, history_swaps}
 use Rattle.step_threads.specs.Scenes.{begins_end, begins_end_as, endings_by}
 use Rattle.step_core.specs.Totals.{ended_in, made_in}
 use Rattle.script_stepper.specs.Running.{parts_left}
@@ -44,35 +45,35 @@ same_if false h h' es m e = same 0 h h es refl refl
 
 -- a deed on what a slot holds, which neither makes an object nor ends one
 same_by : (z : Opening) (d : ℕ) (h : History) (es : List Ending) (f : Pointer → Deed) (x : Option Pointer)
-    → ((p : Pointer) → made_in (added d (event_of (leads z h) (f p)) h) ≡ made_in h)
-    → ((p : Pointer) → ended_in (added d (event_of (leads z h) (f p)) h) ≡ ended_in h) → Tally 0 h es (does z d h (option_map f x)) es
+    → ((p : Pointer) → made_in (event_added d (event_of (leads z h) (f p)) h) ≡ made_in h)
+    → ((p : Pointer) → ended_in (event_added d (event_of (leads z h) (f p)) h) ≡ ended_in h) → Tally 0 h es (does z d h (option_map f x)) es
 same_by z d h es f None m e = same 0 h h es refl refl
-same_by z d h es f (Some p) m e = same 0 h (added d (event_of (leads z h) (f p)) h) es (m p) (e p)
+same_by z d h es f (Some p) m e = same 0 h (event_added d (event_of (leads z h) (f p)) h) es (m p) (e p)
 
 make_tally : (z : Opening) (d : ℕ) (form : Form) (h : History) (es : List Ending) (b : Option ℕ)
-    → Tally 1 h es (does z d h (option_map (makes form) b)) es
+    → Tally 1 h es (does z d h (option_map (make_deed form) b)) es
 make_tally z d form h es None = same 1 h h es refl refl
 make_tally z d form h es (Some b) = record { made = omega arith; last = 0; ended = omega arith; parts = omega arith }
 
-shared_made : (d : ℕ) (h : History) (s : State) (p : Pointer) (k : Kind) → made_in (added d (event_of s (share_as k p)) h) ≡ made_in h
+shared_made : (d : ℕ) (h : History) (s : State) (p : Pointer) (k : Kind) → made_in (event_added d (event_of s (share_as k p)) h) ≡ made_in h
 shared_made d h s p Owner = refl
 shared_made d h s p Weak = refl
 
-shared_ended : (d : ℕ) (h : History) (s : State) (p : Pointer) (k : Kind) → ended_in (added d (event_of s (share_as k p)) h) ≡ ended_in h
+shared_ended : (d : ℕ) (h : History) (s : State) (p : Pointer) (k : Kind) → ended_in (event_added d (event_of s (share_as k p)) h) ≡ ended_in h
 shared_ended d h s p Owner = refl
 shared_ended d h s p Weak = refl
 
-given_made : (d : ℕ) (h : History) (s : State) (p : Pointer) (k : Kind) → made_in (added d (event_of s (give k p)) h) ≡ made_in h
+given_made : (d : ℕ) (h : History) (s : State) (p : Pointer) (k : Kind) → made_in (event_added d (event_of s (give k p)) h) ≡ made_in h
 given_made d h s p Owner = refl
 given_made d h s p Weak = refl
 
-given_ended : (d : ℕ) (h : History) (s : State) (p : Pointer) (k : Kind) → ended_in (added d (event_of s (give k p)) h) ≡ ended_in h
+given_ended : (d : ℕ) (h : History) (s : State) (p : Pointer) (k : Kind) → ended_in (event_added d (event_of s (give k p)) h) ≡ ended_in h
 given_ended d h s p Owner = refl
 given_ended d h s p Weak = refl
 
 -- a pointer leaves, and its object ends or not
 left_one : (d k : ℕ) (h : History) (es : List Ending) (s : State) (p : Pointer) (kind : Kind) (last : Bool)
-    → Tally 0 h es (added d (event_of s (leave_as kind p last)) h) (cond last (begins_end_as kind k p es) es)
+    → Tally 0 h es (event_added d (event_of s (leave_as kind p last)) h) (cond last (begins_end_as kind k p es) es)
 left_one d k h es s p Owner true = record { made = omega arith; last = 1; ended = omega arith; parts = omega arith }
 left_one d k h es s p Owner false = record { made = omega arith; last = 0; ended = omega arith; parts = omega arith }
 left_one d k h es s p Weak true = record { made = omega arith; last = 0; ended = omega arith; parts = omega arith }
@@ -85,28 +86,28 @@ left_tally z d k h es (Some p) = left_one d k h es (leads z h) p p.kind (is_last
 
 -- a value goes into a cell
 swapped : (z : Opening) (d : ℕ) (slots : Slots) (h : History) (es : List Ending) (o : Option Going)
-    → Tally 0 h es (on_going (swaps z d slots h) h o) es
+    → Tally 0 h es (on_going (history_swaps z d slots h) h o) es
 swapped z d slots h es None = same 0 h h es refl refl
-swapped z d slots h es (Some x) = same 0 h (swaps z d slots h x.0 x.1) es refl refl
+swapped z d slots h es (Some x) = same 0 h (history_swaps z d slots h x.0 x.1) es refl refl
 
 pub tally : (z : Opening) (d k : ℕ) (slots : Slots) (h : History) (es : List Ending) (a : Act)
     → Tally (may_make a) h es (acted exact z d slots h a) (endings_by (leads z h) k slots es a)
 tally z d k slots h es (Make form) = make_tally z d form h es (least d (leads z h).stores)
 tally z d k slots h es (Share i) =
-    same_by z d h es share (slot slots i) (λ p. shared_made d h (leads z h) p p.kind) (λ p. shared_ended d h (leads z h) p p.kind)
-tally z d k slots h es (Put i) = left_tally z d k h es (slot slots i)
-tally z d k slots h es (Leave i) = left_tally z d k h es (slot slots i)
-tally z d k slots h es (Clear i) = left_tally z d k h es (slot slots i)
-tally z d k slots h es (Count i) = same_by z d h es (tell_count exact (leads z h)) (slot slots i) (λ p. refl) (λ p. refl)
-tally z d k slots h es (Downgrade i) = same_by z d h es downgrade (slot slots i) (λ p. refl) (λ p. refl)
-tally z d k slots h es (Lock i must) = same_by z d h es (lock (leads z h)) (locked slots (Lock i must)) (λ p. refl) (λ p. refl)
-tally z d k slots h es (Expired i) = same_by z d h es (tell_expired (leads z h)) (slot slots i) (λ p. refl) (λ p. refl)
-tally z d k slots h es (Read i) = same_by z d h es (read (leads z h)) (inside (slot slots i)) (λ p. refl) (λ p. refl)
+    same_by z d h es share (slot_pointer slots i) (λ p. shared_made d h (leads z h) p p.kind) (λ p. shared_ended d h (leads z h) p p.kind)
+tally z d k slots h es (Put i) = left_tally z d k h es (slot_pointer slots i)
+tally z d k slots h es (Leave i) = left_tally z d k h es (slot_pointer slots i)
+tally z d k slots h es (Clear i) = left_tally z d k h es (slot_pointer slots i)
+tally z d k slots h es (Count i) = same_by z d h es (tell_count exact (leads z h)) (slot_pointer slots i) (λ p. refl) (λ p. refl)
+tally z d k slots h es (Downgrade i) = same_by z d h es downgrade (slot_pointer slots i) (λ p. refl) (λ p. refl)
+tally z d k slots h es (Lock i must) = same_by z d h es (lock (leads z h)) (locked_pointer slots (Lock i must)) (λ p. refl) (λ p. refl)
+tally z d k slots h es (Expired i) = same_by z d h es (tell_expired (leads z h)) (slot_pointer slots i) (λ p. refl) (λ p. refl)
+tally z d k slots h es (Read i) = same_by z d h es (read_deed (leads z h)) (inside (slot_pointer slots i)) (λ p. refl) (λ p. refl)
 tally z d k slots h es (FromThis i kind) =
-    same_by z d h es (give kind) (giving (leads z h) (inside (slot slots i))) (λ p. given_made d h (leads z h) p kind)
+    same_by z d h es (give kind) (giving (leads z h) (inside (slot_pointer slots i))) (λ p. given_made d h (leads z h) p kind)
     (λ p. given_ended d h (leads z h) p kind)
 tally z d k slots h es (Alias i j field) =
-    same_by z d h es (alias (aliased field (place_in slots j))) (owner_slot (slot slots i)) (λ p. refl) (λ p. refl)
+    same_by z d h es (alias (aliased field (place_in slots j))) (owner_slot (slot_pointer slots i)) (λ p. refl) (λ p. refl)
 tally z d k slots h es (Move i) = same 0 h h es refl refl
 tally z d k slots h es (Ask q) = same 0 h h es refl refl
 tally z d k slots h es (Offer i c) =
@@ -114,5 +115,5 @@ tally z d k slots h es (Offer i c) =
 tally z d k slots h es (Swap c) = swapped z d slots h es (going slots (Swap c))
 tally z d k slots h es (Exchange i c) = swapped z d slots h es (going slots (Exchange i c))
 tally z d k slots h es (Load c) = same_if (is_there slots c) h (loads z d slots h c) es refl refl
-tally z d k slots h es (Compare i c weak) = same 0 h (compares z d slots h i c weak) es refl refl
-tally z d k slots h es Drop = left_tally z d k h es (slot slots (other slots))
+tally z d k slots h es (Compare i c weak) = same 0 h (history_compares z d slots h i c weak) es refl refl
+tally z d k slots h es Drop = left_tally z d k h es (slot_pointer slots (other slots))

@@ -13,17 +13,17 @@ use Rattle.step_table.specs.Deeds.{exact}
 use Rattle.step_table.specs.Holdings.{Slots}
 use Rattle.step_threads.specs.Scenes.{Scene, next, next_of, nowhere, play, play_from, said, said_from, walk_of}
 use Rattle.script_text.specs.Traces.{Item}
-use Rattle.script_stepper.specs.Running.{heard, plays, told}
+use Rattle.script_stepper.specs.Running.{heard, plays, items_told}
 
 pub plays-append : (xs ys : List ℕ) (c : Scene) → plays (xs ++ ys) c ≡ plays ys (plays xs c)
 plays-append [] ys c = refl
 plays-append (x ∷ xs) ys c = plays-append xs ys (play (x - 1) c)
 
-pub told-append : (xs ys : List ℕ) (c : Scene) → told (xs ++ ys) c ≡ told xs c ++ told ys (plays xs c)
+pub told-append : (xs ys : List ℕ) (c : Scene) → items_told (xs ++ ys) c ≡ items_told xs c ++ items_told ys (plays xs c)
 told-append [] ys c = refl
 told-append (x ∷ xs) ys c =
     ap (λ (z : List Item). heard x (said (x - 1) c) ++ z) (told-append xs ys (play (x - 1) c))
-    ∙ sym (append_assoc (heard x (said (x - 1) c)) (told xs (play (x - 1) c)) (told ys (plays xs (play (x - 1) c))))
+    ∙ sym (append_assoc (heard x (said (x - 1) c)) (items_told xs (play (x - 1) c)) (items_told ys (plays xs (play (x - 1) c))))
 
 -- ---- a thread at its end
 
@@ -52,11 +52,11 @@ pub idle_plays : (j thread : ℕ) (c : Scene) → next (walk_of c (thread - 1)) 
 idle_plays zero thread c e = refl
 idle_plays (suc j) thread c e = ap (plays (replicate j thread)) (play_done (thread - 1) c e) ∙ idle_plays j thread c e
 
-pub idle_told : (j thread : ℕ) (c : Scene) → next (walk_of c (thread - 1)) ≡ None → told (replicate j thread) c ≡ []
+pub idle_told : (j thread : ℕ) (c : Scene) → next (walk_of c (thread - 1)) ≡ None → items_told (replicate j thread) c ≡ []
 idle_told zero thread c e = refl
 idle_told (suc j) thread c e =
-    ap (λ (x : Option Said). heard thread x ++ told (replicate j thread) (play (thread - 1) c)) (said_done (thread - 1) c e)
-    ∙ ap (told (replicate j thread)) (play_done (thread - 1) c e) ∙ idle_told j thread c e
+    ap (λ (x : Option Said). heard thread x ++ items_told (replicate j thread) (play (thread - 1) c)) (said_done (thread - 1) c e)
+    ∙ ap (items_told (replicate j thread)) (play_done (thread - 1) c e) ∙ idle_told j thread c e
 
 -- ---- what a turn leaves alone
 

@@ -10,7 +10,8 @@ use Rattle.std.proofs.lemmas.Bool.Decides.{nat_tests}
 use Rattle.std.proofs.lemmas.List.Elements.{All-cons, All-nil}
 use Rattle.std.proofs.lemmas.Str.{digit_value_digit}
 use Rattle.std.proofs.lemmas.Str.Parse.{digits_value-take-le}
-use Rattle.script_stepper.specs.TurnLists.{is_digit, is_turn, is_comma, turn_at, with_first, turns_from, list_at}
+use Rattle.script_stepper.specs.TurnLists.{is_turn, is_comma, turn_at, with_first, turns_from, list_at}
+use Rattle.script_text.specs.Words.{is_digit}
 
 -- a thread's number, from 1
 abbrev pub Names : ℕ → ℕ → Type 0

@@ -12,7 +12,8 @@ use Rattle.std.proofs.lemmas.List.Splits.{slice_split_first}
 use Rattle.std.proofs.lemmas.List.{take_rest}
 use Rattle.std.proofs.lemmas.Str.{IsUtf8-from_ascii}
 use Rattle.std.proofs.lemmas.Str.Parse.{IsNumeralModel, numerals_by_value, parse_digits}
-use Rattle.script_stepper.specs.TurnLists.{is_digit, is_comma, is_turn, turn_at, turns_from, list_at}
+use Rattle.script_stepper.specs.TurnLists.{is_comma, is_turn, turn_at, turns_from, list_at}
+use Rattle.script_text.specs.Words.{is_digit}
 
 -- where nothing passes, the list is the one part
 one_by : (b : Bool) (x : ℕ) (xs : List ℕ) (m : ℕ) → suc (length xs) ≤ cond (not b) (1 + m) 0

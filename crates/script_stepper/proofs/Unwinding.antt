@@ -11,11 +11,11 @@ use Rattle.control_word.specs.State.{Opening, State}
 use Rattle.step_threads.specs.declared.ending.Ending.{Ending}
 use Rattle.step_table.specs.declared.slot.Slot.{Slot}
 use Rattle.step_threads.specs.Courses.{Walk, hand}
-use Rattle.step_table.specs.Holdings.{Slots, is_full, plain, pointer_of, slot}
+use Rattle.step_table.specs.Holdings.{Slots, is_full, plain, pointer_of, slot_pointer}
 use Rattle.step_threads.specs.Entries.{History}
 use Rattle.step_table.specs.Contents.{slot_as, slot_of}
 use Rattle.step_threads.specs.Scenes.{rested_walk}
-use Rattle.step_threads.specs.Unwinding.{Wound, clears, goes_on, stops, unwound}
+use Rattle.step_threads.specs.Unwinding.{Wound, history_clears, unwinds_on, stops, unwound}
 use Rattle.step_core.specs.Totals.{ended_in, made_in}
 use Rattle.script_stepper.specs.Running.{parts_left}
 use Rattle.script_stepper.proofs.Acting.{IsFree}
@@ -43,9 +43,9 @@ stops_out z d o zero h = tt
 stops_out z d o (suc k) h =
     let s = leads z h in
     let x = (s.object o).member (2 - k) in
-    cond_both (has_object x) (record { history = clears z d o (2 - k) h; out = Some (k, slot_of s x) })
-    (stops z d o k (clears z d o (2 - k) h)) (λ c. IsOut (suc k) c.out) (λ e. (omega arith, full_of s x e))
-    (λ _. out_more k (stops z d o k (clears z d o (2 - k) h)).out (stops_out z d o k (clears z d o (2 - k) h)))
+    cond_both (has_object x) (record { history = history_clears z d o (2 - k) h; out = Some (k, slot_of s x) })
+    (stops z d o k (history_clears z d o (2 - k) h)) (λ c. IsOut (suc k) c.out) (λ e. (omega arith, full_of s x e))
+    (λ _. out_more k (stops z d o k (history_clears z d o (2 - k) h)).out (stops_out z d o k (history_clears z d o (2 - k) h)))
 
 -- the end of an object makes none, and leaves none to its end
 abbrev pub SameTotals : History → History → Type 0
@@ -59,15 +59,15 @@ stops_totals z d o zero h = (refl, refl)
 stops_totals z d o (suc k) h =
     let s = leads z h in
     let x = (s.object o).member (2 - k) in
-    cond_both (has_object x) (record { history = clears z d o (2 - k) h; out = Some (k, slot_of s x) })
-    (stops z d o k (clears z d o (2 - k) h)) (λ c. SameTotals h c.history) (λ e. (refl, refl))
-    (λ _. same_then h (clears z d o (2 - k) h) (stops z d o k (clears z d o (2 - k) h)).history (refl, refl)
-    (stops_totals z d o k (clears z d o (2 - k) h)))
+    cond_both (has_object x) (record { history = history_clears z d o (2 - k) h; out = Some (k, slot_of s x) })
+    (stops z d o k (history_clears z d o (2 - k) h)) (λ c. SameTotals h c.history) (λ e. (refl, refl))
+    (λ _. same_then h (history_clears z d o (2 - k) h) (stops z d o k (history_clears z d o (2 - k) h)).history (refl, refl)
+    (stops_totals z d o k (history_clears z d o (2 - k) h)))
 
 -- ---- endings that go on
 
 goes_totals : (e : Ending) (es : List Ending) (h m : History) (slots : Slots) (others : Wound) (o : Option (ℕ × Slot)) → SameTotals h m
-    → SameTotals m others.history → SameTotals h (goes_on e es m slots others o).history
+    → SameTotals m others.history → SameTotals h (unwinds_on e es m slots others o).history
 goes_totals e es h m slots others None p q = same_then h m others.history p q
 goes_totals e es h m slots others (Some x) p q = p
 
@@ -80,7 +80,7 @@ unwound_totals z d slots (e ∷ es) h =
     (unwound_totals z d slots es c.history)
 
 goes_size : (e : Ending) (es : List Ending) (m : History) (slots : Slots) (others : Wound) (o : Option (ℕ × Slot))
-    → length others.slots ≡ length slots → length (goes_on e es m slots others o).slots ≡ length slots
+    → length others.slots ≡ length slots → length (unwinds_on e es m slots others o).slots ≡ length slots
 goes_size e es m slots others None p = p
 goes_size e es m slots others (Some x) p = length-set slots (hand slots) x.1
 
@@ -91,7 +91,7 @@ unwound_size z d slots (e ∷ es) h =
     goes_size e es c.history slots (unwound z d slots es c.history) c.out (unwound_size z d slots es c.history)
 
 goes_less : (e : Ending) (es : List Ending) (m : History) (slots : Slots) (others : Wound) (o : Option (ℕ × Slot)) → IsOut (3 - e.stage) o
-    → parts_left others.endings ≤ parts_left es → parts_left (goes_on e es m slots others o).endings < parts_left (e ∷ es)
+    → parts_left others.endings ≤ parts_left es → parts_left (unwinds_on e es m slots others o).endings < parts_left (e ∷ es)
 goes_less e es m slots others None h p = omega (arith, p)
 goes_less e es m slots others (Some x) h p = let l = h.0 in omega (arith, l)
 
@@ -115,19 +115,19 @@ unwound_less z d slots (e ∷ es) h some =
 
 -- no ending is left, or what came out of a member is in hand
 abbrev pub IsWaiting : Slots → List Ending → Type 0
-IsWaiting slots es = (es ≡ []) ⊎ (is_full (slot slots (hand slots)) ≡ true)
+IsWaiting slots es = (es ≡ []) ⊎ (is_full (slot_pointer slots (hand slots)) ≡ true)
 
 hand_full : (slots : Slots) (x : Slot) → 0 < length slots → is_full (pointer_of x) ≡ true
-    → is_full (slot (slice_set slots (hand slots) x) (hand (slice_set slots (hand slots) x))) ≡ true
+    → is_full (slot_pointer (slice_set slots (hand slots) x) (hand (slice_set slots (hand slots) x))) ≡ true
 hand_full slots x some full =
     let n = length-set slots (hand slots) x in
     let same : hand slots ≡ hand (slice_set slots (hand slots) x) = omega (arith, n) in
-    subst (λ (j : ℕ). is_full (slot (slice_set slots (hand slots) x) j) ≡ true) same
+    subst (λ (j : ℕ). is_full (slot_pointer (slice_set slots (hand slots) x) j) ≡ true) same
     (ap (λ (y : Slot). is_full (pointer_of y)) (get_or-set_same slots (hand slots) x plain (omega (arith, some))) ∙ full)
 
 goes_waits : (e : Ending) (es : List Ending) (m : History) (slots : Slots) (others : Wound) (o : Option (ℕ × Slot)) (n : ℕ) → 0 < length slots
     → IsOut n o → IsWaiting others.slots others.endings
-    → IsWaiting (goes_on e es m slots others o).slots (goes_on e es m slots others o).endings
+    → IsWaiting (unwinds_on e es m slots others o).slots (unwinds_on e es m slots others o).endings
 goes_waits e es m slots others None n some h p = p
 goes_waits e es m slots others (Some x) n some h p = inr (hand_full slots x.1 some h.1)
 
@@ -147,31 +147,31 @@ still h w = record { history = h; slots = w.slots; endings = w.endings }
 
 pub rested_totals : (z : Opening) (d : ℕ) (h : History) (w : Walk) → SameTotals h (rested_walk z d h w).history
 rested_totals z d h w =
-    cond_both (is_full (slot w.slots (hand w.slots))) (still h w) (unwound z d w.slots w.endings h) (λ c. SameTotals h c.history)
+    cond_both (is_full (slot_pointer w.slots (hand w.slots))) (still h w) (unwound z d w.slots w.endings h) (λ c. SameTotals h c.history)
     (λ _. (refl, refl)) (λ _. unwound_totals z d w.slots w.endings h)
 
 pub rested_size : (z : Opening) (d : ℕ) (h : History) (w : Walk) → length (rested_walk z d h w).slots ≡ length w.slots
 rested_size z d h w =
-    cond_both (is_full (slot w.slots (hand w.slots))) (still h w) (unwound z d w.slots w.endings h) (λ c. length c.slots ≡ length w.slots)
+    cond_both (is_full (slot_pointer w.slots (hand w.slots))) (still h w) (unwound z d w.slots w.endings h) (λ c. length c.slots ≡ length w.slots)
     (λ _. refl) (λ _. unwound_size z d w.slots w.endings h)
 
 pub rested_parts : (z : Opening) (d : ℕ) (h : History) (w : Walk) → parts_left (rested_walk z d h w).endings ≤ parts_left w.endings
 rested_parts z d h w =
-    cond_both (is_full (slot w.slots (hand w.slots))) (still h w) (unwound z d w.slots w.endings h)
+    cond_both (is_full (slot_pointer w.slots (hand w.slots))) (still h w) (unwound z d w.slots w.endings h)
     (λ c. parts_left c.endings ≤ parts_left w.endings) (λ _. omega arith) (λ _. unwound_parts z d w.slots w.endings h)
 
 -- with nothing in hand they get one part further or more
 pub rested_less : (z : Opening) (d : ℕ) (h : History) (w : Walk) → IsFree w.slots → 0 < parts_left w.endings
     → parts_left (rested_walk z d h w).endings < parts_left w.endings
 rested_less z d h w free some =
-    cond_both (is_full (slot w.slots (hand w.slots))) (still h w) (unwound z d w.slots w.endings h)
+    cond_both (is_full (slot_pointer w.slots (hand w.slots))) (still h w) (unwound z d w.slots w.endings h)
     (λ c. parts_left c.endings < parts_left w.endings)
     (λ full. let none = ap (λ (x : Slot). is_full (pointer_of x)) free in absurd cc) (λ _. unwound_less z d w.slots w.endings h some)
 
 pub rested_waits : (z : Opening) (d : ℕ) (h : History) (w : Walk) → 0 < length w.slots
     → IsWaiting (rested_walk z d h w).slots (rested_walk z d h w).endings
 rested_waits z d h w some =
-    cond_both (is_full (slot w.slots (hand w.slots))) (still h w) (unwound z d w.slots w.endings h) (λ c. IsWaiting c.slots c.endings)
+    cond_both (is_full (slot_pointer w.slots (hand w.slots))) (still h w) (unwound z d w.slots w.endings h) (λ c. IsWaiting c.slots c.endings)
     (λ full. inr full) (λ _. unwound_waits z d w.slots w.endings h some)
 
 -- endings that wait go on no further
@@ -181,8 +181,8 @@ wound_none z d h w (x ∷ es) e none = absurd cc
 
 pub rested_still : (z : Opening) (d : ℕ) (h : History) (w : Walk) → IsWaiting w.slots w.endings → rested_walk z d h w ≡ still h w
 rested_still z d h w (inl none) =
-    cond_both (is_full (slot w.slots (hand w.slots))) (still h w) (unwound z d w.slots w.endings h) (λ c. c ≡ still h w)
+    cond_both (is_full (slot_pointer w.slots (hand w.slots))) (still h w) (unwound z d w.slots w.endings h) (λ c. c ≡ still h w)
     (λ _. refl) (λ _. wound_none z d h w w.endings refl none)
 rested_still z d h w (inr full) =
-    cond_both (is_full (slot w.slots (hand w.slots))) (still h w) (unwound z d w.slots w.endings h) (λ c. c ≡ still h w)
+    cond_both (is_full (slot_pointer w.slots (hand w.slots))) (still h w) (unwound z d w.slots w.endings h) (λ c. c ≡ still h w)
     (λ _. refl) (λ no. absurd cc)

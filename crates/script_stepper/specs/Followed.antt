@@ -4,7 +4,7 @@ use Rattle.std.specs.List.{flat_map}
 use Rattle.step_table.specs.Openings.{opening}
 use Rattle.step_table.specs.Stories.{Nothing}
 use Rattle.step_threads.specs.declared.said.Said.{Said}
-use Rattle.step_threads.specs.Doings.{Doing, Goes, Over, ahead, lines, onto, spoken}
+use Rattle.step_threads.specs.Doings.{Doing, GoesThrough, Over, ahead, lines, onto, spoken}
 use Rattle.step_threads.specs.Scenes.{Scene, walk_of}
 use Rattle.step_core.specs.Following.{no_worth}
 use Rattle.script_text.specs.Traces.{Item}
@@ -18,6 +18,6 @@ spoken_of x = spoken (x.0 - 1) x.1
 pub record TurnsFollow (c : Scene) (items : List Item) (last : Scene) : Type 0 where
   pub doings : List (Doing Nothing)
   pub history : last.history ≡ onto c.history doings
-  pub each : (d : ℕ) → Goes no_worth (opening c.extent) c.history d (walk_of c d) doings (walk_of last d)
+  pub each : (d : ℕ) → GoesThrough no_worth (opening c.extent) c.history d (walk_of c d) doings (walk_of last d)
   pub over : (d : ℕ) → ahead (walk_of last d) ≡ Over
   pub says : lines doings ≡ flat_map spoken_of items

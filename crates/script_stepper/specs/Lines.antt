@@ -93,5 +93,5 @@ closing_lines c = census_lines c.extent.shape.blocks (state_in c) ++ totals_text
     (ended_in c.history) ∷ []
 
 -- all lines of a run that says this and ends so
-abbrev pub shown : List Item → Scene → List (List ℕ)
-shown items last = flat_map item_lines items ++ closing_lines last
+abbrev pub run_lines : List Item → Scene → List (List ℕ)
+run_lines items last = flat_map item_lines items ++ closing_lines last

@@ -9,7 +9,7 @@ use Rattle.step_threads.specs.declared.ending.Ending.{Ending}
 use Rattle.step_threads.specs.declared.half.Half.TheVariants.{Rest}
 use Rattle.step_threads.specs.declared.said.Said.{Said}
 use Rattle.step_threads.specs.Courses.{Walk, hand}
-use Rattle.step_table.specs.Holdings.{is_full, slot}
+use Rattle.step_table.specs.Holdings.{is_full, slot_pointer}
 use Rattle.step_threads.specs.Scenes.{Scene, next, play, said, walk_of}
 use Rattle.step_core.specs.Totals.{ended_in, made_in}
 use Rattle.step_core.specs.Worlds.{Sight, half_of, scene}
@@ -19,7 +19,7 @@ use Rattle.script_text.specs.Traces.{Item, in_order}
 -- no object ends in the thread's hands, or what came out of a member of one is in hand and has to leave first
 pub record Waits (w : Walk) : Type 0 where
   pub some : 0 < length w.slots
-  pub endings : (w.endings ≡ []) ⊎ (is_full (slot w.slots (hand w.slots)) ≡ true)
+  pub endings : (w.endings ≡ []) ⊎ (is_full (slot_pointer w.slots (hand w.slots)) ≡ true)
 
 -- a thread at its end says nothing
 abbrev pub heard : ℕ → Option Said → List Item
@@ -32,9 +32,9 @@ plays [] c = c
 plays (thread ∷ turns) c = plays turns (play (thread - 1) c)
 
 -- what these turns say
-abbrev pub told : List ℕ → Scene → List Item
-told [] c = []
-told (thread ∷ turns) c = heard thread (said (thread - 1) c) ++ told turns (play (thread - 1) c)
+abbrev pub items_told : List ℕ → Scene → List Item
+items_told [] c = []
+items_told (thread ∷ turns) c = heard thread (said (thread - 1) c) ++ items_told turns (play (thread - 1) c)
 
 -- no thread is within an act
 pub record AllRest (u : Sight) : Type 0 where
@@ -71,7 +71,7 @@ turns_left d c = length (walk_of c d).todo + parts_left (walk_of c d).endings + 
 pub record HasRun (turns : List ℕ) (u u' : Sight) (old new : List ℕ) : Type 0 where
   pub rests : AllRest u'
   pub scene_is : scene u' ≡ plays turns (scene u)
-  pub text_is : new ≡ old ++ ended (flat_map item_lines (told turns (scene u)))
+  pub text_is : new ≡ old ++ ended (flat_map item_lines (items_told turns (scene u)))
   pub most : (d : ℕ) → turns_left d (scene u') ≤ turns_left d (scene u)
   pub legal : IsLegal (opening u.story.extent) u.story.history → IsLegal (opening u'.story.extent) u'.story.history
 

@@ -5,12 +5,12 @@ use Rattle.std.specs.Io.KnownBytes.{Appends}
 use Rattle.script_text.specs.declared.fault.Fault.{Fault}
 use Rattle.script_text.specs.declared.fault.Fault.TheVariants.{Memory, Syntax, BadTurn, Output, Input}
 use Rattle.script_text.specs.Drafts.{ScriptView}
-use Rattle.script_text.specs.Grammar.{Faulty, Reads, ended}
+use Rattle.script_text.specs.Grammar.{Faulty, ReadsAs, ended}
 use Rattle.script_stepper.specs.declared.stepping.Pace.{Pace}
 use Rattle.script_stepper.specs.declared.stepping.Pace.TheVariants as pace
 use Rattle.step_core.specs.Worlds.{Sight, scene}
 use Rattle.script_text.specs.Beginnings.{script_scene, script_sight}
-use Rattle.script_stepper.specs.Lines.{shown}
+use Rattle.script_stepper.specs.Lines.{run_lines}
 use Rattle.script_stepper.specs.Sinks.{AppendsBeginning}
 use Rattle.script_stepper.specs.StepRuns.{IsStepText}
 use Rattle.script_stepper.specs.TurnLists.{list_at}
@@ -50,7 +50,7 @@ pub record IsTurnText (turns : List ℕ) (c : Scene) (text : List ℕ) : Type 0 
   pub items : List Item
   pub last : Scene
   pub trace : IsTrace turns c items last
-  pub says : text ≡ ended (shown items last)
+  pub says : text ≡ ended (run_lines items last)
 
 -- what a script's run with these turns writes
 abbrev pub IsRunText : ScriptView → List ℕ → List ℕ → Type 0
@@ -70,17 +70,18 @@ abbrev pub IsTextBy : Pace → ScriptView → List ℕ → List ℕ → Type 0
 IsTextBy pace script turns text = IsShown pace turns (script_sight script) text
 
 -- the bytes read as a script, the list names turns of it, and this is a text that they have
-pub record IsRun (IsText : ScriptView → List ℕ → List ℕ → Type 0) (bytes list text : List ℕ) : Type 0 where
+pub record IsScriptRun (IsText : ScriptView → List ℕ → List ℕ
+    → Type 0) (bytes list text : List ℕ) : Type 0 where
   pub script : ScriptView
   pub turns : List ℕ
-  pub reads : Reads bytes script
+  pub reads : ReadsAs bytes script
   pub listed : list_at (length script.threads) list ≡ Ok turns
   pub says : IsText script turns text
 
 -- the bytes read as a script, and the list's number at this position, from 1, is the first that names no thread of it
 pub record IsBadTurn (bytes list : List ℕ) (position : ℕ) : Type 0 where
   pub script : ScriptView
-  pub reads : Reads bytes script
+  pub reads : ReadsAs bytes script
   pub faulty : list_at (length script.threads) list ≡ Err position
 
 -- a text, without where it lies in memory
@@ -89,14 +90,14 @@ text_in (Ok text) = Ok (string_bytes text)
 text_in (Err fault) = Err fault
 
 -- the text of the run, or the refusal that script and list have; a fault of the script comes first
-abbrev pub Tells : (ScriptView → List ℕ → List ℕ → Type 0) → List ℕ → List ℕ
+abbrev pub TellsRun : (ScriptView → List ℕ → List ℕ → Type 0) → List ℕ → List ℕ
     → Result (List ℕ) Fault → Type 0
-Tells IsText bytes list (Ok text) = IsRun IsText bytes list text
-Tells IsText bytes list (Err Memory) = Unit {0}
-Tells IsText bytes list (Err (Syntax line cause)) = Faulty bytes line cause
-Tells IsText bytes list (Err (BadTurn position)) = IsBadTurn bytes list position
-Tells IsText bytes list (Err Output) = ⊥
-Tells IsText bytes list (Err Input) = ⊥
+TellsRun IsText bytes list (Ok text) = IsScriptRun IsText bytes list text
+TellsRun IsText bytes list (Err Memory) = Unit {0}
+TellsRun IsText bytes list (Err (Syntax line cause)) = Faulty bytes line cause
+TellsRun IsText bytes list (Err (BadTurn position)) = IsBadTurn bytes list position
+TellsRun IsText bytes list (Err Output) = ⊥
+TellsRun IsText bytes list (Err Input) = ⊥
 
 -- the text that is to be told was taken, or a beginning of it where the output failed; at any other refusal nothing was
 abbrev pub Delivers : {A : Type 0} → (Result (List ℕ) Fault → Type 0) → Result A Fault → Option (List ℕ)

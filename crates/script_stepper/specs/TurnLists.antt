@@ -7,9 +7,7 @@ use Rattle.std.specs.Global.{Vec}
 use Rattle.std.specs.Str.Parse.{digits_value}
 use Rattle.script_text.specs.declared.fault.Fault.{Fault}
 use Rattle.script_text.specs.declared.fault.Fault.TheVariants as fault
-
-abbrev pub is_digit : ℕ → Bool
-is_digit b = nat_le 48 b && nat_le b 57
+use Rattle.script_text.specs.Words.{is_digit}
 
 abbrev pub is_comma : ℕ → Bool
 is_comma b = b == 44

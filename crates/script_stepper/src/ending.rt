@@ -4,7 +4,7 @@ ghost use Rattle.script_text.specs.declared.fault.Fault.TheVariants.{Memory};
 ghost use Rattle.script_text.specs.Beginnings.{script_scene};
 ghost use Rattle.step_core.specs.Totals.{IsAtEnd};
 ghost use Rattle.step_core.specs.Worlds.{scene};
-ghost use Rattle.script_stepper.specs.Ends.{IsEnd, IsRefused, IsRunOut};
+ghost use Rattle.script_stepper.specs.Ends.{IsRunEnd, IsRefused, IsRunOut};
 
 use crate::running::run_turns;
 use crate::stepping::{shape_of, world_of};
@@ -47,7 +47,7 @@ fn run_out(alloc: Global, script: &Script, turns: &[u8]) -> Result<End, Fault>
 /// each number of the list, then each thread to its end in number order. Refused by 1 where a growth was refused, by 10
 /// just where a line of the script is faulty, and then by 11 just where a number of the list is.
 pub fn end_of(alloc: Global, script: &[u8], turns: &[u8]) -> Result<End, Fault>
-    ensures end { IfOk result (λ end. IsEnd script.now turns.now (scene end.world)) }
+    ensures end { IfOk result (λ end. IsRunEnd script.now turns.now (scene end.world)) }
     ensures refused { IfErr result (λ fault. IsRefused script.now turns.now fault) }
 {
     let script = parse(alloc, script)?;

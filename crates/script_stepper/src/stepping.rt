@@ -4,7 +4,7 @@ ghost use Rattle.script_text.specs.declared.fault.Fault.TheVariants.{BadTurn, Me
 ghost use Rattle.script_text.specs.declared.fault.Cause.{Cause};
 ghost use Rattle.control_word.specs.Layout.{IsWithinLimits};
 ghost use Rattle.script_text.specs.Drafts.{ScriptView};
-ghost use Rattle.script_text.specs.Grammar.{Faulty, IsUnlessMemory, Reads, ended};
+ghost use Rattle.script_text.specs.Grammar.{Faulty, IsUnlessMemory, ReadsAs, ended};
 ghost use Rattle.script_text.specs.Scripts.{program_in};
 ghost use Rattle.step_core.specs.Worlds.{scene};
 ghost use Rattle.step_table.specs.Stories.{Kept};
@@ -12,7 +12,7 @@ ghost use Rattle.step_core.specs.Starts.{first_sight};
 ghost use Rattle.script_text.specs.Beginnings.{script_scene, script_shape, shape_for};
 ghost use Rattle.script_stepper.specs.Followed.{TurnsFollow};
 ghost use Rattle.script_stepper.specs.Running.{AllRest, IsThread};
-ghost use Rattle.script_stepper.specs.Runs.{Delivers, IsFineText, IsRunText, IsShown, IsTextBy, IsTurnText, Tells};
+ghost use Rattle.script_stepper.specs.Runs.{Delivers, IsFineText, IsRunText, IsShown, IsTextBy, IsTurnText, TellsRun};
 ghost use Rattle.script_stepper.specs.Runs.{WritesOne, is_output, text_in};
 ghost use Rattle.script_stepper.specs.StepRuns.{IsInterleaving};
 ghost use Rattle.script_stepper.specs.TurnLists.{list_at};
@@ -137,7 +137,7 @@ fn run(alloc: Global, script: &Script, turns: &[u8], pace: Pace) -> Result<Strin
 
 /// The text of the run of a script with a list of turns, or why there is none.
 fn answer(alloc: Global, script: &[u8], turns: &[u8], pace: Pace) -> Result<String, Fault>
-    ensures { Tells (IsTextBy pace) script.now turns.now (text_in result) }
+    ensures { TellsRun (IsTextBy pace) script.now turns.now (text_in result) }
 {
     let script = parse(alloc, script)?;
     let turns = turns_of(alloc, turns, script.threads() as u8)?;
@@ -153,7 +153,7 @@ fn deliver<S: Sink>(
     writer: &mut S,
 ) -> Result<(), Fault>
     requires { S.has_failed writer.old ≡ false }
-    ensures holds { Delivers (Tells (IsTextBy pace) script.now turns.now) result
+    ensures holds { Delivers (TellsRun (IsTextBy pace) script.now turns.now) result
         (S.taken writer.old) (S.taken writer.new) }
     ensures failed { S.has_failed writer.new ≡ is_output result }
 {
@@ -180,17 +180,17 @@ pub fn step_text<S: Sink>(
     requires { S.has_failed writer.old ≡ false }
 
     // What is answered is true of the script and the list, and the text that was taken is that of the run.
-    ensures holds { Delivers (Tells IsRunText script.now turns.now) result
+    ensures holds { Delivers (TellsRun IsRunText script.now turns.now) result
         (S.taken writer.old) (S.taken writer.new) }
     ensures failed { S.has_failed writer.new ≡ is_output result }
 
     // Want of memory aside, a fault of the script is answered, then one of the list, and else the run is told.
     ensures syntax { (line : ℕ) (cause : Cause) → Faulty script.now line cause
         → IsUnlessMemory result (Err (Syntax line cause)) }
-    ensures turns { (read : ScriptView) (position : ℕ) → Reads script.now read
+    ensures turns { (read : ScriptView) (position : ℕ) → ReadsAs script.now read
         → list_at (length read.threads) turns.now ≡ Err position
         → IsUnlessMemory result (Err (BadTurn position)) }
-    ensures runs { (read : ScriptView) (listed : List ℕ) → Reads script.now read
+    ensures runs { (read : ScriptView) (listed : List ℕ) → ReadsAs script.now read
         → list_at (length read.threads) turns.now ≡ Ok listed
         → WritesOne (IsRunText read listed) result (S.taken writer.old) (S.taken writer.new) }
 
@@ -219,17 +219,17 @@ pub fn fine_text<S: Sink>(
     requires { S.has_failed writer.old ≡ false }
 
     // What is answered is true of the script and the list, and the text that was taken is that of such a run.
-    ensures holds { Delivers (Tells IsFineText script.now turns.now) result
+    ensures holds { Delivers (TellsRun IsFineText script.now turns.now) result
         (S.taken writer.old) (S.taken writer.new) }
     ensures failed { S.has_failed writer.new ≡ is_output result }
 
     // Want of memory aside, a fault of the script is answered, then one of the list, and else the run is told.
     ensures syntax { (line : ℕ) (cause : Cause) → Faulty script.now line cause
         → IsUnlessMemory result (Err (Syntax line cause)) }
-    ensures turns { (read : ScriptView) (position : ℕ) → Reads script.now read
+    ensures turns { (read : ScriptView) (position : ℕ) → ReadsAs script.now read
         → list_at (length read.threads) turns.now ≡ Err position
         → IsUnlessMemory result (Err (BadTurn position)) }
-    ensures runs { (read : ScriptView) (listed : List ℕ) → Reads script.now read
+    ensures runs { (read : ScriptView) (listed : List ℕ) → ReadsAs script.now read
         → list_at (length read.threads) turns.now ≡ Ok listed
         → WritesOne (IsFineText read listed) result (S.taken writer.old) (S.taken writer.new) }
 

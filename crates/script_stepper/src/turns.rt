@@ -2,7 +2,8 @@
 ghost use Rattle.std.specs.Prelude.{◌≡◌, ◌∷◌, ◌++◌, ◌<◌, ◌≤◌, [], length, position};
 ghost use Rattle.std.specs.Prelude.{MatchOption, OnOk, IfErr};
 ghost use Rattle.std.specs.List.{slice_split, list_all};
-ghost use Rattle.script_stepper.specs.TurnLists.{is_digit, is_comma, turn_at, list_at, AnswersTurns};
+ghost use Rattle.script_stepper.specs.TurnLists.{is_comma, turn_at, list_at, AnswersTurns};
+ghost use Rattle.script_text.specs.Words.{is_digit};
 
 use script_text::Fault;
 use std::alloc::{AllocError, Global};

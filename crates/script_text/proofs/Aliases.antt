@@ -8,10 +8,10 @@ use Rattle.step_table.specs.declared.field.Field.{Field}
 use Rattle.step_table.specs.declared.field.Field.TheVariants.{Zero, One, Two, Three}
 use Rattle.control_word.specs.declared.handle.Kind.TheVariants.{Owner}
 use Rattle.step_threads.specs.declared.call.Name.{Name}
-use Rattle.step_threads.specs.Programs.{Asked, IsDeclared, owner}
+use Rattle.step_threads.specs.Programs.{Asked, IsDeclared, owner_asked}
 use Rattle.step_table.specs.Deeds.{field_number}
 use Rattle.script_text.specs.Reading.{◌>>=◌}
-use Rattle.script_text.specs.Words.{field_at, numbered_field}
+use Rattle.script_text.specs.Words.{field_of_word, numbered_field}
 use Rattle.script_text.specs.Names.{NameList, source_at, target_at, declared, name_text}
 use Rattle.script_text.specs.Shapes.{Aim, aim_of, aim_at, alias_at}
 use Rattle.script_text.specs.Scripts.{kinds_in}
@@ -28,8 +28,8 @@ field_below One = lit< tt
 field_below Two = lit< tt
 field_below Three = lit< tt
 
-field_again : (field : Field) → field_at (decimal (field_number field)) ≡ Ok field
-unfolding field_at
+field_again : (field : Field) → field_of_word (decimal (field_number field)) ≡ Ok field
+unfolding field_of_word
 field_again Zero = ap numbered_field (decimal_reads 0 (field_below Zero))
 field_again One = ap numbered_field (decimal_reads 1 (field_below One))
 field_again Two = ap numbered_field (decimal_reads 2 (field_below Two))
@@ -49,7 +49,7 @@ aim_words names (Some aim) = name_text names aim.0 ∷ decimal (field_number aim
 
 abbrev aim_asks : Aim → List Asked
 aim_asks None = []
-aim_asks (Some aim) = owner aim.0 ∷ []
+aim_asks (Some aim) = owner_asked aim.0 ∷ []
 
 abbrev aim_size : Aim → ℕ
 aim_size None = 1
@@ -63,7 +63,7 @@ IsAim names (Some aim) = (word : List ℕ) × (source_at names Owner word ≡ Ok
 of_is : (names : NameList) (name : Name) (word spelled : List ℕ) (aim : Aim) → source_at names Owner spelled ≡ Ok name
     → aim_of name word ≡ Ok aim → IsAim names aim
 of_is names name word spelled aim s h =
-    let b = both_give (field_at word) (λ field. given (at_field name field)) aim h in
+    let b = both_give (field_of_word word) (λ field. given (at_field name field)) aim h in
     subst (IsAim names) (same_given (at_field name b.value) aim b.second) (spelled, s)
 
 null_or : (b : Bool) (names : NameList) (source : Name) (word spelled : List ℕ) (aim : Aim)
@@ -121,7 +121,7 @@ abbrev pub write_alias : Writer Parts
 write_alias names p = name_text names p.0.0 ∷ name_text names p.0.1 ∷ aim_words names p.1
 
 abbrev pub asks_alias : Asker Parts
-asks_alias p = owner p.0.0 ∷ owner p.0.1 ∷ aim_asks p.1
+asks_alias p = owner_asked p.0.0 ∷ owner_asked p.0.1 ∷ aim_asks p.1
 
 abbrev pub alias_size : Sizer Parts
 alias_size p = suc (suc (aim_size p.1))

@@ -10,10 +10,11 @@ use Rattle.step_threads.specs.declared.call.Call.{Call}
 use Rattle.control_word.specs.declared.handle.Kind.{Kind}
 use Rattle.control_word.specs.declared.shape.Shape.{Shape}
 use Rattle.step_threads.specs.declared.call.CellName.{CellName}
-use Rattle.step_threads.specs.Programs.{AllHaveCells, Asked, HasCells, IsApart, IsFound, IsIn, Part, names_of, IsDeclared, IsWellNamed, IsPart, cells_of}
+use Rattle.step_threads.specs.Programs.{AllHaveCells, Asked, HasCells, IsApartFromCell, IsNameFound, IsIn, Part, names_of, IsDeclared, IsWellNamed, IsPart}
+use Rattle.step_threads.specs.Programs.{cells_of}
 use Rattle.script_text.specs.Names.{NameList}
 use Rattle.script_text.specs.Drafts.{Section, ScriptView, Draft, draft_in, new_draft, sections, script_of, no_section, with_call}
-use Rattle.script_text.specs.Grammar.{Leads, Begins}
+use Rattle.script_text.specs.Grammar.{Leads, BeginsWithDraft}
 use Rattle.script_text.specs.Scripts.{HasTextCells, converted, kinds_in, part_in, program_in, statement_count, IsScript}
 use Rattle.script_text.proofs.ReadNames.{slice_get-more, Grows}
 use Rattle.script_text.specs.declared.version.Version.{Version}
@@ -37,7 +38,7 @@ each_named kinds [] h = tt
 each_named kinds (c ∷ calls) h =
     (All-from_recursion (IsDeclared kinds) (names_of c) h.0, each_named kinds calls h.1)
 
-each_apart : (calls : List Call) → AllByRecursion Fits calls → AllByRecursion IsApart calls
+each_apart : (calls : List Call) → AllByRecursion Fits calls → AllByRecursion IsApartFromCell calls
 each_apart [] h = tt
 each_apart (c ∷ calls) h = (h.0.1, each_apart calls h.1)
 
@@ -54,7 +55,7 @@ section_is s few named fits = record {
     named =
         All-from_recursion (IsWellNamed (kinds_in s.names)) s.calls
         (each_named (kinds_in s.names) s.calls named);
-    apart = All-from_recursion IsApart s.calls (each_apart s.calls fits);
+    apart = All-from_recursion IsApartFromCell s.calls (each_apart s.calls fits);
   };
   fits = fits;
 }
@@ -79,8 +80,8 @@ count-last ss s =
 
 -- ---- more names
 
-found_more : (kinds more : List Kind) (n : ℕ) (kind : Option Kind) → IsFound kind (slice_get kinds n)
-    → IsFound kind (slice_get (kinds ++ more) n)
+found_more : (kinds more : List Kind) (n : ℕ) (kind : Option Kind) → IsNameFound kind (slice_get kinds n)
+    → IsNameFound kind (slice_get (kinds ++ more) n)
 found_more [] more n None h = absurd cc
 found_more (k ∷ kinds) more zero None h = h
 found_more (k ∷ kinds) more (suc n) None h = found_more kinds more n None h
@@ -210,7 +211,7 @@ parts_in shape has [] h = tt
 parts_in shape has (s ∷ ss) h =
     (All-from_recursion (HasCells shape) s.calls (calls_in shape has s.calls h.0.fits), parts_in shape has ss h.1)
 
-pub script_is : (bytes : List ℕ) (d : Draft) (number : ℕ) → Begins bytes d number []
+pub script_is : (bytes : List ℕ) (d : Draft) (number : ℕ) → BeginsWithDraft bytes d number []
     → IsScript (script_of d) d.count
 script_is bytes d number h =
     let b = lines_bounded h.lines new_draft d h.leads start in

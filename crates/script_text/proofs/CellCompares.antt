@@ -6,7 +6,7 @@ use Rattle.step_threads.specs.declared.call.Name.{Name}
 use Rattle.step_threads.specs.Programs.{as_in, kind_at, through}
 use Rattle.script_text.specs.Reading.{◌>>=◌}
 use Rattle.script_text.specs.Names.{NameList, name_text, source_at}
-use Rattle.script_text.specs.Cells.{cell_at, cell_text}
+use Rattle.script_text.specs.Cells.{cell_of_word, cell_text}
 use Rattle.script_text.specs.Shapes.{cell_and_sources}
 use Rattle.script_text.proofs.Cells.{as_kind, cell_again, cell_entry, cell_is, cell_still, cell_tidy, through_named}
 use Rattle.script_text.proofs.CellShapes.{Fits}
@@ -25,7 +25,7 @@ cell_and_two cell expected desired = (cell, expected, desired)
 
 -- the words of a compare that was read, which declares nothing
 record IsCompare (names new : NameList) (word other last : List ℕ) (p : CellName × Name × Name) : Type 0 where
-  cell : cell_at names word ≡ Ok p.0
+  cell : cell_of_word names word ≡ Ok p.0
   expected : source_at names (kind_at p.0) other ≡ Ok p.1
   desired : source_at names (kind_at p.0) last ≡ Ok p.2
   none : names ≡ new
@@ -35,7 +35,7 @@ compare_is : (names new : NameList) (word other last : List ℕ) (p : CellName �
 unfolding cell_and_sources
 compare_is names new word other last p h =
     let a =
-    both_give (cell_at names word)
+    both_give (cell_of_word names word)
     (λ c. source_at names (kind_at c) other >>= λ expected. source_at names (kind_at c) last
     >>= λ desired. given (with_names (cell_and_two c expected desired) names))
     (with_names p new) h in

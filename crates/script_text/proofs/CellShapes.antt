@@ -5,12 +5,12 @@ use Rattle.step_threads.specs.declared.call.Call.{Call}
 use Rattle.step_threads.specs.declared.call.Call.TheVariants as call
 use Rattle.step_threads.specs.declared.call.CellName.{CellName}
 use Rattle.step_threads.specs.declared.call.Name.{Name}
-use Rattle.step_threads.specs.Programs.{IsApart, as_in, kind_at, cells_of, is_member_of, through}
+use Rattle.step_threads.specs.Programs.{IsApartFromCell, as_in, kind_at, cells_of, is_member_of, through}
 use Rattle.script_text.specs.declared.fault.Cause.{Cause}
 use Rattle.script_text.specs.declared.fault.Cause.TheVariants.{NameUsedTwice}
 use Rattle.script_text.specs.Reading.{◌>>=◌}
 use Rattle.script_text.specs.Names.{NameList, declared, name_text, source_at, target_at}
-use Rattle.script_text.specs.Cells.{apart, cell_at, cell_text}
+use Rattle.script_text.specs.Cells.{apart, cell_of_word, cell_text}
 use Rattle.script_text.specs.Shapes.{cell_and_other, cell_and_source, target_and_cell}
 use Rattle.script_text.proofs.Cells.{IsTextCell, as_kind, cell_again, cell_entry, cell_grown, cell_is, cell_still, cell_tidy, through_named}
 use Rattle.script_text.proofs.TidyWords.{name_is_tidy}
@@ -19,7 +19,7 @@ use Rattle.script_text.proofs.Reversible.{Asker, IsReversible, Writer, always, s
 
 -- the cells of a call are among those that texts name, and an exchange is of another name's member
 abbrev pub Fits : Call → Type 0
-Fits c = AllByRecursion IsTextCell (cells_of c) × IsApart c
+Fits c = AllByRecursion IsTextCell (cells_of c) × IsApartFromCell c
 
 -- ---- a cell and a name
 
@@ -34,7 +34,7 @@ cell_pair cell name = (cell, name)
 
 -- the words of a cell and a source that were read, which declare nothing
 record IsPair (names new : NameList) (word other : List ℕ) (p : CellName × Name) : Type 0 where
-  cell : cell_at names word ≡ Ok p.0
+  cell : cell_of_word names word ≡ Ok p.0
   source : source_at names (kind_at p.0) other ≡ Ok p.1
   none : names ≡ new
 
@@ -43,7 +43,7 @@ pair_read : (names new : NameList) (word other : List ℕ) (p : CellName × Name
 unfolding cell_and_source
 pair_read names new word other p h =
     let a =
-    both_give (cell_at names word)
+    both_give (cell_of_word names word)
     (λ c. source_at names (kind_at c) other >>= λ source. given (with_names (cell_pair c source) names))
     (with_names p new) h in
     let b =
@@ -149,7 +149,7 @@ name_cell target cell = (target, cell)
 -- the words of a load that was read
 record IsLoad (names new : NameList) (word other : List ℕ) (p : Name × CellName) : Type 0 where
   written : List ℕ
-  cell : cell_at names other ≡ Ok p.1
+  cell : cell_of_word names other ≡ Ok p.1
   target : target_at names (kind_at p.1) word ≡ Ok written
   made : declared names (kind_at p.1) written ≡ Ok (with_names p.0 new)
 
@@ -158,7 +158,7 @@ load_is : (names new : NameList) (word other : List ℕ) (p : Name × CellName)
 unfolding target_and_cell
 load_is names new word other p h =
     let a =
-    both_give (cell_at names other)
+    both_give (cell_of_word names other)
     (λ c. target_at names (kind_at c) word >>= λ written. declared names (kind_at c) written
     >>= λ d. given (with_names (name_cell d.0 c) d.1))
     (with_names p new) h in

@@ -16,7 +16,7 @@ use Rattle.script_text.specs.declared.fault.Cause.TheVariants.{BadCell}
 use Rattle.script_text.specs.Reading.{◌>>=◌}
 use Rattle.script_text.specs.Words.{cell_number_at, cell_of_kind, free_cell_at, is_digit, is_name, number_at, numbered_cell}
 use Rattle.script_text.specs.Names.{NameList, name_text, source_at}
-use Rattle.script_text.specs.Cells.{cell_at, cell_by, cell_text, member_at, member_number_at, member_text, split_dot}
+use Rattle.script_text.specs.Cells.{cell_of_word, cell_by, cell_text, member_at, member_number_at, member_text, split_dot}
 use Rattle.script_text.specs.Scripts.{HasTextCells, kinds_in}
 use Rattle.script_text.proofs.CellWords.{digit_dot, dotted_tidy, member_again, member_below, name_cut, uncut}
 use Rattle.script_text.proofs.TidyWords.{IsTidy, both_true, is_tidy_byte}
@@ -94,8 +94,8 @@ by_is : (names : NameList) (word : List ℕ) (parts : Option (List ℕ × List �
 by_is names word None c h = free_is names word c h
 by_is names word (Some parts) c h = member_is names parts.0 parts.1 c h
 
-pub cell_is : (names : NameList) (word : List ℕ) (c : CellName) → cell_at names word ≡ Ok c → IsCell names c
-unfolding cell_at
+pub cell_is : (names : NameList) (word : List ℕ) (c : CellName) → cell_of_word names word ≡ Ok c → IsCell names c
+unfolding cell_of_word
 cell_is names word c h = by_is names word (split_dot word) c h
 
 -- ---- and is read again
@@ -111,13 +111,13 @@ number_uncut : (n : ℕ) → n < 128 → split_dot (decimal n) ≡ None
 number_uncut n h = uncut is_digit digit_dot (decimal n) (digits_decimal numerals n (fits_64 n h))
 
 dotted_again : (names : NameList) (word : List ℕ) (k : Name) (m : ℕ) → is_name word ≡ true → m < 3
-    → source_at names Owner word ≡ Ok k → cell_at names (word ++ 46 ∷ member_text m) ≡ Ok (member k m)
-unfolding cell_at member_at
+    → source_at names Owner word ≡ Ok k → cell_of_word names (word ++ 46 ∷ member_text m) ≡ Ok (member k m)
+unfolding cell_of_word member_at
 dotted_again names word k m name below source =
     rw (name_cut word (member_text m) name, name, member_again m below, source) refl
 
-pub cell_again : (names : NameList) (c : CellName) → IsCell names c → cell_at names (cell_text names c) ≡ Ok c
-unfolding cell_at free_cell_at
+pub cell_again : (names : NameList) (c : CellName) → IsCell names c → cell_of_word names (cell_text names c) ≡ Ok c
+unfolding cell_of_word free_cell_at
 cell_again names (free.Shared n) h = rw (number_uncut n h.text, number_again n h.text) refl
 cell_again names (free.Weak n) h = rw (number_uncut n h.text, number_again n h.text) refl
 cell_again names (free.Member k m) h =

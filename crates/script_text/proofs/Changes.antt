@@ -12,7 +12,7 @@ use Rattle.script_text.specs.declared.keyword.Keyword.{Keyword}
 use Rattle.script_text.specs.Reading.{◌>>=◌}
 use Rattle.script_text.specs.Words.{is_clean_byte, line_content, words_of}
 use Rattle.script_text.specs.Names.{NameList}
-use Rattle.script_text.specs.Keywords.{spelling_of, keywords, find_keyword, known, keyword_at, takes_words}
+use Rattle.script_text.specs.Keywords.{spelling_of, keywords, find_keyword, known_keyword, keyword_at, takes_words}
 use Rattle.script_text.specs.Calls.{call_at}
 use Rattle.script_text.specs.Versions.{most_threads}
 use Rattle.script_text.specs.Drafts.{Draft, no_section, next_thread, with_call, next_call, is_new, header_line, thread_line, statement_line, other_line}
@@ -70,7 +70,7 @@ found_word word (j ∷ ks) k h =
     found_by (bytes_eq word (spelling_of j).word) k j (find (λ i. bytes_eq word (spelling_of i).word) ks)
     word refl (found_word word ks k) h
 
-known_is : (r : Option Keyword) (k : Keyword) → known r ≡ Ok k → r ≡ Some k
+known_is : (r : Option Keyword) (k : Keyword) → known_keyword r ≡ Ok k → r ≡ Some k
 known_is None k h = absurd cc
 known_is (Some j) k h = let same : j ≡ k = cc in rw same refl
 

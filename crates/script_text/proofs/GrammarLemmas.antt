@@ -3,7 +3,7 @@ use Rattle.std.proofs.Common.{◌≡◌, ℕ, ◌+◌, ◌<◌, ◌≤◌, List,
 use Rattle.std.proofs.Common.{append_assoc, length-append}
 use Rattle.std.specs.List.{AllByRecursion}
 use Rattle.script_text.specs.Drafts.{Draft, new_draft, after_line}
-use Rattle.script_text.specs.Grammar.{HasNoFeed, IsCut, ended, Leads, Begins}
+use Rattle.script_text.specs.Grammar.{HasNoFeed, IsLineCut, ended, Leads, BeginsWithDraft}
 
 ended-last : (lines : List (List ℕ)) (line more : List ℕ)
     → ended lines ++ (line ++ 10 ∷ more) ≡ ended (lines ++ line ∷ []) ++ more
@@ -27,9 +27,9 @@ length-last : (lines : List (List ℕ)) (line : List ℕ) → length (lines ++ l
 length-last lines line = length-append lines (line ∷ [])
 
 -- one good line more
-pub begins_after : (bytes : List ℕ) (d e : Draft) (n : ℕ) (rest line more : List ℕ) → Begins bytes d n rest
-    → IsCut rest line more → after_line d line ≡ Ok e
-    → Begins bytes e (n + 1) more
+pub begins_after : (bytes : List ℕ) (d e : Draft) (n : ℕ) (rest line more : List ℕ) → BeginsWithDraft bytes d n rest
+    → IsLineCut rest line more → after_line d line ≡ Ok e
+    → BeginsWithDraft bytes e (n + 1) more
 begins_after bytes d e n rest line more b cut good = record {
   lines = b.lines ++ line ∷ [];
   text = b.text ∙ ap (λ (t : List ℕ). ended b.lines ++ t) cut.text ∙ ended-last b.lines line more;
@@ -43,7 +43,7 @@ fewer_lines [] = omega arith
 fewer_lines (l ∷ lines) = omega (arith, fewer_lines lines, length-append l (10 ∷ ended lines))
 
 -- there are fewer lines than bytes
-pub number_bound : (bytes : List ℕ) (d : Draft) (n : ℕ) (rest : List ℕ) → Begins bytes d n rest
+pub number_bound : (bytes : List ℕ) (d : Draft) (n : ℕ) (rest : List ℕ) → BeginsWithDraft bytes d n rest
     → n + length rest ≤ 1 + length bytes
 number_bound bytes d n rest b =
     let all : length bytes ≡ length (ended b.lines) + length rest =
@@ -51,5 +51,5 @@ number_bound bytes d n rest b =
     omega (arith, all, b.next, fewer_lines b.lines)
 
 -- a line that is cut off leaves fewer bytes
-pub cut_shorter : (bytes line rest : List ℕ) → IsCut bytes line rest → length rest < length bytes
+pub cut_shorter : (bytes line rest : List ℕ) → IsLineCut bytes line rest → length rest < length bytes
 cut_shorter bytes line rest cut = omega (arith, ap length cut.text, length-append line (10 ∷ rest))

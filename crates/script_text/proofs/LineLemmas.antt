@@ -4,7 +4,7 @@ use Rattle.std.proofs.Common.{drop, Some, None, refl, ap, arith}
 use Rattle.std.specs.List.{position, position_or_len}
 use Rattle.std.proofs.lemmas.Bool.{ltb-true, ltb-false, eqb-true}
 use Rattle.std.proofs.lemmas.List.{take_rest}
-use Rattle.script_text.specs.Grammar.{is_feed, HasNoFeed, IsCut}
+use Rattle.script_text.specs.Grammar.{is_feed, HasNoFeed, IsLineCut}
 
 -- ---- where the first line feed is
 
@@ -33,9 +33,9 @@ no_feed bytes h =
     passed bytes (ltb-false _ _ (none_by (ltb at (length bytes)) at h))
 
 cut_by : (b : Bool) (x : ℕ) (xs : List ℕ) (m : ℕ) → is_feed x ≡ b
-    → (m < length xs → IsCut xs (take m xs) (drop (m + 1) xs))
+    → (m < length xs → IsLineCut xs (take m xs) (drop (m + 1) xs))
     → cond (not b) (1 + m) 0 < suc (length xs)
-    → IsCut (x ∷ xs) (take (cond (not b) (1 + m) 0) (x ∷ xs)) (drop (cond (not b) (1 + m) 0 + 1) (x ∷ xs))
+    → IsLineCut (x ∷ xs) (take (cond (not b) (1 + m) 0) (x ∷ xs)) (drop (cond (not b) (1 + m) 0 + 1) (x ∷ xs))
 cut_by true x xs m is rest near = record { clean = tt; text = ap (λ b. b ∷ xs) (eqb-true _ _ is) }
 cut_by false x xs m is rest near =
     let cut = rest (omega arith) in
@@ -44,13 +44,13 @@ cut_by false x xs m is rest near =
     rw (one, two) (record { clean = (is, cut.clean); text = ap (λ (bs : List ℕ). x ∷ bs) cut.text })
 
 cut_at : (xs : List ℕ) → position_or_len is_feed xs < length xs
-    → IsCut xs (take (position_or_len is_feed xs) xs) (drop (position_or_len is_feed xs + 1) xs)
+    → IsLineCut xs (take (position_or_len is_feed xs) xs) (drop (position_or_len is_feed xs + 1) xs)
 cut_at [] near = absurd (omega arith)
 cut_at (x ∷ xs) near = cut_by (is_feed x) x xs (position_or_len is_feed xs) refl (cut_at xs) near
 
 -- where one is found, the bytes are cut there
 pub first_cut : (bytes : List ℕ) (i : ℕ) → position is_feed bytes ≡ Some i
-    → IsCut bytes (take i bytes) (take (length bytes - (i + 1)) (drop (i + 1) bytes))
+    → IsLineCut bytes (take i bytes) (take (length bytes - (i + 1)) (drop (i + 1) bytes))
 first_cut bytes i h =
     let at =
     some_by (ltb (position_or_len is_feed bytes) (length bytes)) (position_or_len is_feed bytes) i h in

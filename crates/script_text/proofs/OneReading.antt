@@ -6,7 +6,7 @@ use Rattle.script_text.specs.declared.fault.Cause.{Cause}
 use Rattle.script_text.specs.declared.fault.Fault.{Fault}
 use Rattle.script_text.specs.declared.fault.Fault.TheVariants as fault
 use Rattle.script_text.specs.Drafts.{Draft, ScriptView, new_draft, script_of, after_line}
-use Rattle.script_text.specs.Grammar.{is_feed, HasNoFeed, ended, Leads, Begins, Reads, IsUnfinished, IsFaultyLine, Faulty, Answers, IsUnlessMemory}
+use Rattle.script_text.specs.Grammar.{is_feed, HasNoFeed, ended, Leads, BeginsWithDraft, ReadsAs, IsUnfinished, IsFaultyLine, Faulty, Answers, IsUnlessMemory}
 
 -- a script, or the number of a line and a cause
 abbrev Reading : Type 0
@@ -145,7 +145,7 @@ one_by (x ∷ xs) (y ∷ ys) d e g n rest more r s clean also leads also_leads s
 
 -- what a text says: a script, or its first faulty line and the cause
 abbrev Says : List ℕ → Reading → Type 0
-Says bytes (Ok script) = Reads bytes script
+Says bytes (Ok script) = ReadsAs bytes script
 Says bytes (Err f) = Faulty bytes f.0 f.1
 
 -- the good lines of a text, and what follows them
@@ -153,7 +153,7 @@ record Lines (bytes : List ℕ) (r : Reading) : Type 0 where
   draft : Draft
   number : ℕ
   rest : List ℕ
-  begins : Begins bytes draft number rest
+  begins : BeginsWithDraft bytes draft number rest
   ends : Ends draft number rest r
 
 lines_of : (bytes : List ℕ) (r : Reading) → Says bytes r → Lines bytes r
@@ -182,7 +182,7 @@ fault_is line cause = Err (line, cause)
 
 -- an answer that is true of a text with a script is that script, want of memory aside
 pub reads_answer : (r : Result ScriptView Fault) (bytes : List ℕ) (script : ScriptView)
-    → Answers r bytes → Reads bytes script → IsUnlessMemory r (Ok script)
+    → Answers r bytes → ReadsAs bytes script → IsUnlessMemory r (Ok script)
 reads_answer (Ok s) bytes script a h =
     let same = one_reading bytes (script_is s) (script_is script) a h in inl cc
 reads_answer (Err fault.Memory) bytes script a h = inr refl

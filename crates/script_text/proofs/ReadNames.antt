@@ -11,12 +11,13 @@ use Rattle.std.proofs.lemmas.List.{append-nil}
 use Rattle.control_word.specs.declared.handle.Kind.{Kind}
 use Rattle.control_word.specs.declared.handle.Kind.TheVariants.{Owner, Weak}
 use Rattle.step_threads.specs.declared.call.Name.{Name}
-use Rattle.step_threads.specs.Programs.{IsDeclared, IsFound}
+use Rattle.step_threads.specs.Programs.{IsDeclared, IsNameFound}
 use Rattle.script_text.specs.declared.fault.Cause.{Cause}
 use Rattle.script_text.specs.declared.fault.Cause.TheVariants.{BadName, TooManyNames, WrongKindOfName}
 use Rattle.script_text.specs.Reading.{◌>>=◌}
 use Rattle.script_text.specs.Words.{is_name, name_at}
-use Rattle.script_text.specs.Names.{NameList, numbered, find_name, same_kind, found_source, found_target, found_any, source_at, any_source_at, asked_source_at}
+use Rattle.script_text.specs.Names.{NameList, numbered, find_name, found_source, found_target, found_any, source_at, any_source_at, asked_source_at}
+use Rattle.control_word.specs.Handles.{same_kind}
 use Rattle.script_text.specs.Names.{target_at, declared_at, declared, name_text, text_of_entry}
 use Rattle.script_text.specs.Scripts.{kinds_in}
 
@@ -84,7 +85,7 @@ IsDeclared-Entry names name word kind e =
 pub IsDeclared-any : (names : NameList) (name : Name) (word : List ℕ) (kind : Kind)
     → Entry names name word kind → IsDeclared (kinds_in names) (name, None)
 IsDeclared-any names name word kind e =
-    subst (λ (k : Option Kind). IsFound None k) (sym (IsDeclared-Entry names name word kind e)) refl
+    subst (λ (k : Option Kind). IsNameFound None k) (sym (IsDeclared-Entry names name word kind e)) refl
 
 -- ---- what is found
 

@@ -11,7 +11,7 @@ use Rattle.script_text.specs.Names.{NameList}
 use Rattle.script_text.specs.Keywords.{takes_words}
 use Rattle.script_text.specs.Calls.{call_at}
 use Rattle.script_text.specs.Drafts.{Section, ScriptView, Draft, draft_in, new_draft, sections, script_of, no_section, with_call, next_call, after_line}
-use Rattle.script_text.specs.Grammar.{HasNoFeed, ended, Leads, Begins, Reads}
+use Rattle.script_text.specs.Grammar.{HasNoFeed, ended, Leads, BeginsWithDraft, ReadsAs}
 use Rattle.script_text.specs.Canonical.{call_words, spaced, call_line, section_lines, begun_lines, thread_lines, header_words, header_lines, script_lines}
 use Rattle.script_text.specs.Canonical.{canonical}
 use Rattle.script_text.proofs.TidyWords.{IsTidy, after_tidy_line, no_feed_in}
@@ -213,7 +213,7 @@ start = record {
   two = headed_kept 4095 (omega arith) (omega arith);
 }
 
-canonical_reads : (d : Draft) → IsCanonical d → Reads (canonical (script_of d)) (script_of d)
+canonical_reads : (d : Draft) → IsCanonical d → ReadsAs (canonical (script_of d)) (script_of d)
 canonical_reads d c =
     let lines : List (List ℕ) = script_lines (script_of d) in
     record {
@@ -232,10 +232,10 @@ canonical_reads d c =
 
 -- a script's canonical text reads as it, and so does that of the same script in version 2
 pub record IsReadAgain (script : ScriptView) : Type 0 where
-  pub same : Reads (canonical script) script
-  pub two : Reads (canonical (converted script)) (converted script)
+  pub same : ReadsAs (canonical script) script
+  pub two : ReadsAs (canonical (converted script)) (converted script)
 
-pub round_trip : (bytes : List ℕ) (d : Draft) (number : ℕ) → Begins bytes d number []
+pub round_trip : (bytes : List ℕ) (d : Draft) (number : ℕ) → BeginsWithDraft bytes d number []
     → IsReadAgain (script_of d)
 unfolding in_two
 round_trip bytes d number b =

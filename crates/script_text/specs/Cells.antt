@@ -42,8 +42,8 @@ cell_by names word None = free_cell_at word
 cell_by names word (Some parts) = member_at names parts.0 parts.1
 
 -- the cell that a word is
-unfoldable pub cell_at : NameList → List ℕ → Result CellName Cause
-cell_at names word = cell_by names word (split_dot word)
+unfoldable pub cell_of_word : NameList → List ℕ → Result CellName Cause
+cell_of_word names word = cell_by names word (split_dot word)
 
 -- a name isn't exchanged with a member of what it owns
 abbrev pub apart : (CellName × Name) × NameList → Result ((CellName × Name) × NameList) Cause

@@ -17,7 +17,7 @@ abbrev pub HasNoFeed : List ℕ → Type 0
 HasNoFeed bytes = AllByRecursion (λ b. is_feed b ≡ false) bytes
 
 -- the bytes are a line, its line feed, and what follows it
-pub record IsCut (bytes line rest : List ℕ) : Type 0 where
+pub record IsLineCut (bytes line rest : List ℕ) : Type 0 where
   pub clean : HasNoFeed line
   pub text : bytes ≡ line ++ 10 ∷ rest
 
@@ -32,7 +32,7 @@ Leads d [] e = d ≡ e
 Leads d (line ∷ lines) e = (mid : Draft) × (after_line d line ≡ Ok mid) × Leads mid lines e
 
 -- the text begins with good lines that lead to the draft; the rest follows, its first line with this number
-pub record Begins (bytes : List ℕ) (draft : Draft) (number : ℕ) (rest : List ℕ) : Type 0 where
+pub record BeginsWithDraft (bytes : List ℕ) (draft : Draft) (number : ℕ) (rest : List ℕ) : Type 0 where
   pub lines : List (List ℕ)
   pub text : bytes ≡ ended lines ++ rest
   pub clean : AllByRecursion HasNoFeed lines
@@ -40,10 +40,10 @@ pub record Begins (bytes : List ℕ) (draft : Draft) (number : ℕ) (rest : List
   pub next : number ≡ 1 + length lines
 
 -- the text is good lines that lead to the script
-pub record Reads (bytes : List ℕ) (script : ScriptView) : Type 0 where
+pub record ReadsAs (bytes : List ℕ) (script : ScriptView) : Type 0 where
   pub draft : Draft
   pub number : ℕ
-  pub begins : Begins bytes draft number []
+  pub begins : BeginsWithDraft bytes draft number []
   pub says : script ≡ script_of draft
 
 -- a rest that no line feed ends
@@ -56,14 +56,14 @@ pub record IsUnfinished (rest : List ℕ) (cause : Cause) : Type 0 where
 pub record IsFaultyLine (draft : Draft) (rest : List ℕ) (cause : Cause) : Type 0 where
   pub line : List ℕ
   pub more : List ℕ
-  pub cut : IsCut rest line more
+  pub cut : IsLineCut rest line more
   pub says : after_line draft line ≡ Err cause
 
 -- the line with this number is the first faulty one of the text
 pub record Faulty (bytes : List ℕ) (number : ℕ) (cause : Cause) : Type 0 where
   pub draft : Draft
   pub rest : List ℕ
-  pub begins : Begins bytes draft number rest
+  pub begins : BeginsWithDraft bytes draft number rest
   pub fault : IsUnfinished rest cause ⊎ IsFaultyLine draft rest cause
 
 -- a refusal of a text that is true of it: want of memory, or its first faulty line
@@ -76,7 +76,7 @@ Refuses fault.Input bytes = ⊥
 
 -- an answer to a text that is true of it
 abbrev pub Answers : Result ScriptView Fault → List ℕ → Type 0
-Answers (Ok script) bytes = Reads bytes script
+Answers (Ok script) bytes = ReadsAs bytes script
 Answers (Err f) bytes = Refuses f bytes
 
 -- want of memory aside, the answer is this one

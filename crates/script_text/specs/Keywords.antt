@@ -67,13 +67,13 @@ abbrev pub find_keyword : List ℕ → Option Keyword
 find_keyword word = find (λ keyword. bytes_eq word (spelling_of keyword).word) keywords
 
 -- another first word begins no statement
-abbrev pub known : Option Keyword → Result Keyword Cause
-known None = Err UnknownStatement
-known (Some keyword) = Ok keyword
+abbrev pub known_keyword : Option Keyword → Result Keyword Cause
+known_keyword None = Err UnknownStatement
+known_keyword (Some keyword) = Ok keyword
 
 -- the statement that a first word begins
 unfoldable pub keyword_at : List ℕ → Result Keyword Cause
-keyword_at word = known (find_keyword word)
+keyword_at word = known_keyword (find_keyword word)
 
 -- whether so many words may follow
 abbrev pub takes_words : Keyword → ℕ → Bool

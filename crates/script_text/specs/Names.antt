@@ -11,6 +11,7 @@ use Rattle.script_text.specs.declared.fault.Cause.{Cause}
 use Rattle.script_text.specs.declared.fault.Cause.TheVariants.{UnknownName, WrongKindOfName, TooManyNames}
 use Rattle.script_text.specs.Reading.{◌>>=◌}
 use Rattle.script_text.specs.Words.{name_at}
+use Rattle.control_word.specs.Handles.{same_kind}
 
 -- the names with their kinds, in the order of their declarations; a name's number is its place
 abbrev pub NameList : Type 0
@@ -29,13 +30,6 @@ abbrev pub find_name : List ℕ → NameList → Option (ℕ × Kind)
 find_name name [] = None
 find_name name (n ∷ ns) =
     if bytes_eq name n.0 then Some (0, n.1) else option_map (λ p. (p.0 + 1, p.1)) (find_name name ns)
-
--- whether the two kinds are one
-abbrev pub same_kind : Kind → Kind → Bool
-same_kind Owner Owner = true
-same_kind Owner Weak = false
-same_kind Weak Owner = false
-same_kind Weak Weak = true
 
 -- a source is declared, and of this kind
 abbrev pub found_source : Kind → Option (ℕ × Kind) → Result Name Cause

@@ -6,7 +6,7 @@ use Rattle.step_threads.specs.Programs.{AllHaveCells, Part, IsProgram, call_coun
 use Rattle.script_text.specs.Names.{NameList}
 use Rattle.script_text.specs.Versions.{as_two, blocks_in, most_threads}
 use Rattle.script_text.specs.Drafts.{ScriptView, Section}
-use Rattle.script_text.specs.Grammar.{Reads}
+use Rattle.script_text.specs.Grammar.{ReadsAs}
 use Rattle.script_text.specs.Canonical.{canonical}
 
 -- the kinds of names, by their numbers
@@ -35,8 +35,8 @@ converted script = record { version = as_two script.version; threads = script.th
 
 -- a script that some text spells, with the number of its statements
 pub record IsScript (script : ScriptView) (count : ℕ) : Type 0 where
-  pub reads : Reads (canonical script) script
-  pub converts : Reads (canonical (converted script)) (converted script)
+  pub reads : ReadsAs (canonical script) script
+  pub converts : ReadsAs (canonical (converted script)) (converted script)
   pub counted : count ≡ statement_count script.threads
   pub threads : length script.threads ≤ most_threads script.version
   pub few : length script.threads ≤ 64

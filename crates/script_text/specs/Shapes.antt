@@ -14,10 +14,10 @@ use Rattle.step_threads.specs.declared.call.Name.{Name}
 use Rattle.script_text.specs.declared.fault.Cause.{Cause}
 use Rattle.script_text.specs.declared.fault.Cause.TheVariants.{WrongNumberOfWords}
 use Rattle.script_text.specs.Reading.{◌>>=◌}
-use Rattle.script_text.specs.Words.{number_at, field_at}
+use Rattle.script_text.specs.Words.{number_at, field_of_word}
 use Rattle.script_text.specs.Names.{NameList, asked_source_at, source_at, target_at, declared}
 use Rattle.step_threads.specs.Programs.{kind_at}
-use Rattle.script_text.specs.Cells.{apart, cell_at}
+use Rattle.script_text.specs.Cells.{apart, cell_of_word}
 
 -- the words, without where they lie in memory
 abbrev pub texts : List (Bor (List ℕ)) → List (List ℕ)
@@ -58,7 +58,7 @@ two_sources names asked _ = Err WrongNumberOfWords
 -- `C X`
 unfoldable pub cell_and_source : NameList → List (List ℕ) → Result ((CellName × Name) × NameList) Cause
 cell_and_source names (one ∷ other ∷ []) = do
-  cell ← cell_at names one
+  cell ← cell_of_word names one
   source ← source_at names (kind_at cell) other
   Ok ((cell, source), names)
 cell_and_source names _ = Err WrongNumberOfWords
@@ -70,7 +70,7 @@ cell_and_other names words = cell_and_source names words >>= apart
 -- `T C`: the target has the cell's kind
 unfoldable pub target_and_cell : NameList → List (List ℕ) → Result ((Name × CellName) × NameList) Cause
 target_and_cell names (target ∷ one ∷ []) = do
-  cell ← cell_at names one
+  cell ← cell_of_word names one
   name ← target_at names (kind_at cell) target
   new ← declared names (kind_at cell) name
   Ok ((new.0, cell), new.1)
@@ -79,7 +79,7 @@ target_and_cell names _ = Err WrongNumberOfWords
 -- `C X X`
 unfoldable pub cell_and_sources : NameList → List (List ℕ) → Result ((CellName × Name × Name) × NameList) Cause
 cell_and_sources names (one ∷ other ∷ last ∷ []) = do
-  cell ← cell_at names one
+  cell ← cell_of_word names one
   expected ← source_at names (kind_at cell) other
   desired ← source_at names (kind_at cell) last
   Ok ((cell, expected, desired), names)
@@ -92,7 +92,7 @@ Aim = Option (Name × Field)
 -- the field of what the source points into
 abbrev pub aim_of : Name → List ℕ → Result Aim Cause
 aim_of name word = do
-  field ← field_at word
+  field ← field_of_word word
   Ok (Some (name, field))
 
 -- `null`, `F` of the source, or `O F`

@@ -12,9 +12,9 @@ use Rattle.step_table.specs.Stories.{Nothing}
 use Rattle.step_threads.specs.declared.act.Task.{Task}
 use Rattle.step_threads.specs.declared.said.Said.{Said}
 use Rattle.step_threads.specs.Courses.{Walk}
-use Rattle.step_threads.specs.Doings.{Makes, put_on}
+use Rattle.step_threads.specs.Doings.{IsMakeEvent, put_on}
 use Rattle.step_threads.specs.Entries.{History, least}
-use Rattle.step_threads.specs.Rows.{Reply, gone, row, said_by_row}
+use Rattle.step_threads.specs.Rows.{Reply, walk_after_act, row, said_by_row}
 use Rattle.step_threads.specs.Scenes.{Scene, next, put_walk, rest_of, rested_walk, state_in, walk_of}
 use Rattle.step_core.specs.Following.{no_worth}
 
@@ -39,14 +39,14 @@ scene_after d c h w = put_walk c d w (rested_walk (opening c.extent) d h w)
 pub record ActsNow (d : ℕ) (c : Scene) (t : Task) (said : Said) (c' : Scene) : Type 0 where
   pub reply : Reply
   pub event : Option (Event Nothing)
-  pub makes : Makes no_worth (state_in c) d (walk_of c d).slots t.act reply event
+  pub makes : IsMakeEvent no_worth (state_in c) d (walk_of c d).slots t.act reply event
   pub legal : IsLegal (opening c.extent) (put_on d event c.history)
   pub chosen : IsChosen (state_in c) d event
   pub says : said ≡ said_by_row t.statement (row t.act (walk_of c d).slots (walk_of c d).taken reply)
   pub goes :
       let w = walk_of c d in
       c' ≡ scene_after d c (put_on d event c.history)
-      (gone w t.statement (rest_of w.endings w.todo) (row t.act w.slots w.taken reply))
+      (walk_after_act w t.statement (rest_of w.endings w.todo) (row t.act w.slots w.taken reply))
 
 -- a turn of a thread is its next act; at its end it does nothing
 abbrev pub TakesTurn : ℕ → Scene → Option Task → List Item → Scene → Type 0

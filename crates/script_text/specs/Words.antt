@@ -70,8 +70,8 @@ numbered_field (Ok n) = field_numbered n
 numbered_field (Err c) = Err BadField
 
 -- the field that a word is
-unfoldable pub field_at : List ℕ → Result Field Cause
-field_at word = numbered_field (number_at word)
+unfoldable pub field_of_word : List ℕ → Result Field Cause
+field_of_word word = numbered_field (number_at word)
 
 -- a cell's number, among 128 of its kind
 abbrev pub cell_numbered : ℕ → Result ℕ Cause

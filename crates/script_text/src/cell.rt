@@ -2,7 +2,7 @@
 
 ghost use Rattle.std.specs.Prelude.{◌≡◌, MatchOption, None, Some, position};
 ghost use Rattle.script_text.specs.Reading.{Gives};
-ghost use Rattle.script_text.specs.Cells.{cell_at, is_dot, member_at, member_number_at, split_dot};
+ghost use Rattle.script_text.specs.Cells.{cell_of_word, is_dot, member_at, member_number_at, split_dot};
 ghost use Rattle.script_text.specs.Shapes.{target_and_cell, cell_and_source, cell_and_other, cell_and_sources, texts};
 
 use crate::fault::{Cause, Stop};
@@ -56,9 +56,9 @@ fn member_of(names: &Names, name: &[u8], word: &[u8]) -> Result<CellName, Stop>
 }
 
 /// The cell that a word is.
-#[tactic(auto, unfolding(crate::specs::Cells::cell_at))]
+#[tactic(auto, unfolding(crate::specs::Cells::cell_of_word))]
 fn cell_of(names: &Names, word: &[u8]) -> Result<CellName, Stop>
-    ensures { Gives (λ c. c) result (cell_at names.now word.now) }
+    ensures { Gives (λ c. c) result (cell_of_word names.now word.now) }
 {
     match split_at_dot(word) {
         Some((name, member)) => member_of(names, name, member),

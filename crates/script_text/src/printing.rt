@@ -4,7 +4,7 @@ ghost use Rattle.std.specs.Prelude.{◌≡◌, map, OnOk, IfOk, IsOkUnless, stri
 ghost use Rattle.std.specs.List.{flat_map};
 ghost use Rattle.control_word.specs.declared.refusal.Refusal.TheVariants.{Memory};
 ghost use Rattle.script_text.specs.Drafts.{section_of};
-ghost use Rattle.script_text.specs.Grammar.{Reads};
+ghost use Rattle.script_text.specs.Grammar.{ReadsAs};
 ghost use Rattle.script_text.specs.Canonical.{AddsLines, section_lines, begun_lines, thread_lines, header_lines};
 ghost use Rattle.script_text.specs.Canonical.{canonical};
 
@@ -83,7 +83,7 @@ fn script_text(alloc: Global, version: Version, threads: &[Thread]) -> Result<St
 /// Refused by 1 alone, where a growth is refused.
 pub fn print(alloc: Global, script: &Script) -> Result<String, Refusal>
     ensures canonical { IfOk result (λ text. string_bytes text ≡ canonical script.now) }
-    ensures reads { IfOk result (λ text. Reads (string_bytes text) script.now) }
+    ensures reads { IfOk result (λ text. ReadsAs (string_bytes text) script.now) }
     ensures memory { IsOkUnless result Memory }
 {
     match script_text(alloc, script.version, script.threads.as_slice()) {

@@ -4,8 +4,8 @@ ghost use Rattle.std.specs.Prelude.{◌≡◌, ℕ, MatchOption, IfOk, map, posi
 ghost use Rattle.script_text.specs.declared.fault.Cause.{Cause};
 ghost use Rattle.script_text.specs.declared.fault.Fault.TheVariants.{Syntax};
 ghost use Rattle.script_text.specs.Drafts.{ScriptView, section_of, draft_of, sections};
-ghost use Rattle.script_text.specs.Grammar.{is_feed, HasNoFeed, IsCut, Reads, Faulty, Answers, IsUnlessMemory};
-ghost use Rattle.script_text.specs.Reach.{Reaches};
+ghost use Rattle.script_text.specs.Grammar.{is_feed, HasNoFeed, IsLineCut, ReadsAs, Faulty, Answers, IsUnlessMemory};
+ghost use Rattle.script_text.specs.Reach.{ReachesDraft};
 
 use crate::draft::{Draft, add_line, empty_draft};
 use crate::fault::{Cause, Fault, Stop};
@@ -23,7 +23,7 @@ fn line_end(bytes: &[u8]) -> Option<usize>
 /// The first line, without its line feed, and what follows it.
 fn split_line(bytes: &[u8]) -> Option<(&[u8], &[u8])>
     ensures { MatchOption result (HasNoFeed bytes.now)
-        (λ parts. IsCut bytes.now parts.0.now parts.1.now) }
+        (λ parts. IsLineCut bytes.now parts.0.now parts.1.now) }
 {
     let end = line_end(bytes)?;
     Some((&bytes[..end], &bytes[end + 1..]))
@@ -31,7 +31,7 @@ fn split_line(bytes: &[u8]) -> Option<(&[u8], &[u8])>
 
 /// The draft that the lines of a text lead to.
 fn read_lines(alloc: Global, bytes: &[u8]) -> Result<Draft, Fault>
-    ensures { Reaches result bytes.now }
+    ensures { ReachesDraft result bytes.now }
 {
     let mut draft = empty_draft(alloc, Version::One);
     let mut rest = bytes;
@@ -78,7 +78,7 @@ pub fn parse(alloc: Global, bytes: &[u8]) -> Result<Script, Fault>
 
     // A text that spells a script is read as that script, and a faulty one is refused with its fault,
     // want of memory aside.
-    ensures reads { (script : ScriptView) → Reads bytes.now script
+    ensures reads { (script : ScriptView) → ReadsAs bytes.now script
         → IsUnlessMemory result (Ok script) }
     ensures faulty { (line : ℕ) (cause : Cause) → Faulty bytes.now line cause
         → IsUnlessMemory result (Err (Syntax line cause)) }

@@ -4,7 +4,7 @@ ghost use Rattle.std.specs.Prelude.{◌≡◌, ◌||◌, map, IfOk};
 ghost use Rattle.std.specs.List.{list_all};
 ghost use Rattle.script_text.specs.Reading.{Gives};
 ghost use Rattle.script_text.specs.Words.{is_space, is_clean_byte, is_name_byte, is_digit, words_of, line_content};
-ghost use Rattle.script_text.specs.Words.{is_name, name_at, number_at, cell_number_at, free_cell_at, field_at};
+ghost use Rattle.script_text.specs.Words.{is_name, name_at, number_at, cell_number_at, free_cell_at, field_of_word};
 
 use crate::fault::{Cause, Stop};
 use control_word::limits::{NAME_BYTES, SCRIPT_SHARED_CELLS};
@@ -109,9 +109,9 @@ pub(crate) fn number_of(word: &[u8]) -> Result<u64, Stop>
 }
 
 /// The field that a word is.
-#[tactic(auto, unfolding(crate::specs::Words::field_at))]
+#[tactic(auto, unfolding(crate::specs::Words::field_of_word))]
 pub(crate) fn field_of(word: &[u8]) -> Result<Field, Stop>
-    ensures { Gives (λ f. f) result (field_at word.now) }
+    ensures { Gives (λ f. f) result (field_of_word word.now) }
 {
     match number_of(word) {
         Ok(0) => Ok(Field::Zero),

@@ -15,9 +15,9 @@ use Rattle.control_word.specs.declared.place.Block.{Block}
 use Rattle.control_word.specs.declared.place.Place.{Place}
 use Rattle.control_block.proofs.Endings.{fills_latest, fills_phase, not_live, still_ends}
 use Rattle.control_block.specs.Clearing.{Empties}
-use Rattle.control_block.specs.Desks.{Adds, DeskNow, KeepsOtherEndings, latest_of, object_in, on_latest, state_of}
+use Rattle.control_block.specs.Desks.{AddsEvent, DeskNow, KeepsOtherEndings, latest_of, object_in, on_latest, state_of}
 use Rattle.control_block.specs.Rule.{opening_of}
-use Rattle.shared_handle.specs.Endings.{ClearsUp, Ends, IsApart, IsBeside, IsLeft}
+use Rattle.shared_handle.specs.Endings.{ClearsUp, EndsInHand, IsApart, IsBeside, IsLeft}
 use Rattle.shared_handle.specs.declared.endings.Ending.{Ending}
 use Rattle.shared_handle.specs.declared.endings.Left.{Left}
 use Rattle.shared_handle.specs.declared.endings.Left.TheVariants.{Empty, Last, Others}
@@ -25,7 +25,7 @@ use Rattle.shared_handle.specs.declared.endings.Left.TheVariants.{Empty, Last, O
 module _ {V : Type 0} where
   -- an owner that was the last had a live object, which isn't one that ended before
   pub apart : (d e : DeskNow V) (b c : ℕ) (p : Option Place) → (object_in d b).phase ≡ ending d.name
-      → Adds d (Leave (on_latest d Owner p c) true) e → b ≢ c
+      → AddsEvent d (Leave (on_latest d Owner p c) true) e → b ≢ c
   apart d e b c p ends adds same =
       let z = opening_of d.shape in let h = on_latest d Owner p c in
       let legal = subst (IsLegal z) adds.seen adds.legal in
@@ -39,7 +39,7 @@ module _ {V : Type 0} where
   -- an object ends still after a call on which its block and its phase hang nowhere
   through : (d e : DeskNow V) (b : ℕ) (x : Event V) → ((s : State) → (after s d.name x).latest b ≡ s.latest b)
       → ((s : State) (o : ℕ) → ((after s d.name x).object o).phase ≡ (s.object o).phase)
-      → (object_in d b).phase ≡ ending d.name → Adds d x e → (object_in e b).phase ≡ ending e.name
+      → (object_in d b).phase ≡ ending d.name → AddsEvent d x e → (object_in e b).phase ≡ ending e.name
   through d e b x block phase ends adds =
       let z = opening_of d.shape in
       let legal = subst (IsLegal z) adds.seen adds.legal in
@@ -51,14 +51,15 @@ module _ {V : Type 0} where
       ∙ (phase s (latest_of d b) ∙ (still.object.phase ∙ (ends ∙ ap ending (sym adds.same.2)))))
 
   -- so after a clear of a member of any object
-  pub ends_through_clear : (d e : DeskNow V) (b o m : ℕ) (h : Handle) → (object_in d b).phase ≡ ending d.name → Adds d (ClearMember o m h) e
+  pub ends_through_clear : (d e : DeskNow V) (b o m : ℕ) (h : Handle) → (object_in d b).phase ≡ ending d.name → AddsEvent d (ClearMember o m h) e
       → (object_in e b).phase ≡ ending e.name
   ends_through_clear d e b o m h = through d e b (ClearMember o m h) (λ s. refl)
       (λ s i. put_cases (λ j (y : Object). y.phase ≡ (s.object j).phase) s.object o
       (record (s.object o) { member = put (s.object o).member m (empty (kind_of_member m)) }) i (λ q. ap (λ j. (s.object j).phase) (sym q)) (λ n. refl))
 
   -- and after a handle went into a cell
-  pub ends_through_swap : (d e : DeskNow V) (b : ℕ) (c : Cell) (new old : Handle) → (object_in d b).phase ≡ ending d.name → Adds d (Swap c new old) e
+  pub ends_through_swap : (d e : DeskNow V) (b : ℕ) (c : Cell) (new old : Handle) → (object_in d b).phase ≡ ending d.name
+      → AddsEvent d (Swap c new old) e
       → (object_in e b).phase ≡ ending e.name
   ends_through_swap d e b c new old = through d e b (Swap c new old)
       (λ s. ap (λ (f : ℕ → ℕ). f b) (fills_latest (loses d.name new s) c new)) (λ s i. fills_phase (loses d.name new s) c new i)
@@ -86,13 +87,13 @@ module _ {V : Type 0} where
   up_beside d e x (Last y) clears b = absurd clears.told
 
   -- what ends beside another ends still, whatever becomes of the other
-  pub ends_beside : (d e : DeskNow V) (x : Ending V) (b : ℕ) → KeepsOtherEndings d b e → x.block.0 ≢ b → Ends d x → Ends e x
+  pub ends_beside : (d e : DeskNow V) (x : Ending V) (b : ℕ) → KeepsOtherEndings d b e → x.block.0 ≢ b → EndsInHand d x → EndsInHand e x
   ends_beside d e x b keeps other h =
       let s = keeps x.block.0 x.value other h.ends in
       record { ends = s.ends; first = λ t. s.members 0 ∙ h.first t; next = λ t. s.members 1 ∙ h.next t; up = λ t. s.members 2 ∙ h.up t }
 
   -- the same, of what it came out of
-  pub ends_around : (d e : DeskNow V) (x : Ending V) (b : ℕ) → KeepsOtherEndings d b e → b ≢ x.block.0 → Ends d x → Ends e x
+  pub ends_around : (d e : DeskNow V) (x : Ending V) (b : ℕ) → KeepsOtherEndings d b e → b ≢ x.block.0 → EndsInHand d x → EndsInHand e x
   ends_around d e x b keeps other h = ends_beside d e x b keeps (λ same. other (sym same)) h
 
   -- two calls on one ending, one after the other

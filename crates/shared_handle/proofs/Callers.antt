@@ -10,8 +10,8 @@ use Rattle.control_word.specs.declared.place.Block.{Block}
 use Rattle.control_word.specs.declared.place.Place.{Place}
 use Rattle.control_block.specs.Desks.{DeskNow, KeepsEndings, bag_of}
 use Rattle.control_block.specs.Parting.{AreIn}
-use Rattle.shared_handle.specs.Calls.{Holds, with_handle, without_handle}
-use Rattle.shared_handle.specs.Endings.{Ends}
+use Rattle.control_block.specs.CellCalls.{HoldsHandle, with_handle, without_handle}
+use Rattle.shared_handle.specs.Endings.{EndsInHand}
 use Rattle.shared_handle.specs.declared.endings.Ending.{Ending}
 
 -- a handle that came last leaves
@@ -42,7 +42,7 @@ last_of_one (a ∷ (b ∷ l)) x y e = absurd (cc e)
 module _ {V : Type 0} where
   -- the handle that a bag lists is the desk's
   pub held_by : (d : DeskNow V) (k : Kind) (b : Option Block) (p : Option Place) (l : List Handle) → bag_of d ≡ l
-      → (x : Block) × (b ≡ Some x) × Has (handle k (Some x.0) p) l → Holds d k b p
+      → (x : Block) × (b ≡ Some x) × Has (handle k (Some x.0) p) l → HoldsHandle d k b p
   held_by d k (Some y) p l same (x, is, has) =
       let e : y ≡ x = cc is in
       subst (λ (m : List Handle). Has (handle k (Some y.0) p) m) (sym same) (subst (λ (z : Block). Has (handle k (Some z.0) p) l) (sym e) has)
@@ -50,25 +50,25 @@ module _ {V : Type 0} where
 
   -- so is the one that came last, and the one before it
   pub first_held : (d : DeskNow V) (k : Kind) (b : Option Block) (p : Option Place) (l : List Handle) → bag_of d ≡ with_handle k b p l
-      → (x : Block) × (b ≡ Some x) → Holds d k b p
+      → (x : Block) × (b ≡ Some x) → HoldsHandle d k b p
   first_held d k (Some y) p l same real = subst (λ (m : List Handle). Has (handle k (Some y.0) p) m) (sym same) (inl refl)
   first_held d k None p l same (x, is) = absurd (cc is)
 
   pub under_held : (d : DeskNow V) (j : Kind) (c : Option Block) (q : Option Place) (k : Kind) (b : Option Block) (p : Option Place) (l : List Handle)
-      → bag_of d ≡ with_handle j c q (with_handle k b p l) → (x : Block) × (b ≡ Some x) → Holds d k b p
+      → bag_of d ≡ with_handle j c q (with_handle k b p l) → (x : Block) × (b ≡ Some x) → HoldsHandle d k b p
   under_held d j (Some z) q k (Some y) p l same real = subst (λ (m : List Handle). Has (handle k (Some y.0) p) m) (sym same) (inr (inl refl))
   under_held d j None q k b p l same real = first_held d k b p l same real
   under_held d j c q k None p l same (x, is) = absurd (cc is)
 
   -- and so is what it had before another desk was joined
-  pub held_still : (d other e : DeskNow V) (k : Kind) (b : Option Block) (p : Option Place) (x : Block) → b ≡ Some x → Holds d k b p
+  pub held_still : (d other e : DeskNow V) (k : Kind) (b : Option Block) (p : Option Place) (x : Block) → b ≡ Some x → HoldsHandle d k b p
       → ((hs ks : List Handle) → AreIn hs (bag_of d) → AreIn ks (bag_of other) → AreIn (hs ++ ks) (bag_of e))
-      → Holds e k b p
+      → HoldsHandle e k b p
   held_still d other e k (Some b) p x is had all = let two = all (handle k (Some b.0) p ∷ []) [] (had, tt) tt in two.0
   held_still d other e k None p x is had all = absurd (cc is)
 
   -- what ends in the desk's hands ends there still
-  pub ends_kept : (d e : DeskNow V) (x : Ending V) → KeepsEndings d e → Ends d x → Ends e x
+  pub ends_kept : (d e : DeskNow V) (x : Ending V) → KeepsEndings d e → EndsInHand d x → EndsInHand e x
   ends_kept d e x keeps h =
       let s = keeps x.block.0 x.value h.ends in
       record { ends = s.ends; first = λ t. s.members 0 ∙ h.first t; next = λ t. s.members 1 ∙ h.next t; up = λ t. s.members 2 ∙ h.up t }

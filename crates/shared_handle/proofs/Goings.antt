@@ -5,7 +5,7 @@ use Rattle.control_word.specs.declared.event.Event.{Event}
 use Rattle.control_word.specs.declared.place.Block.{Block}
 use Rattle.control_word.specs.declared.place.Place.{Place}
 use Rattle.control_block.proofs.Own.{goes_by_call, goes_in_turn}
-use Rattle.control_block.specs.Desks.{Adds, DeskNow}
+use Rattle.control_block.specs.Desks.{AddsEvent, DeskNow}
 use Rattle.control_block.specs.Own.{Does}
 use Rattle.shared_handle.specs.Calls.{LeavesWeakly}
 use Rattle.shared_handle.specs.Endings.{IsClearing, IsLeft}
@@ -22,7 +22,7 @@ module _ {V : Type 0} where
   does_both is d e f a b =
       record { own = b.own ++ a.own; goes = goes_in_turn d a.own e b.own f a.goes b.goes; all = All-append is b.own a.own b.all a.all }
 
-  pub does_one : (is : Event V → Type 0) (d e : DeskNow V) (x : Event V) → Adds d x e → is x → Does is d e
+  pub does_one : (is : Event V → Type 0) (d e : DeskNow V) (x : Event V) → AddsEvent d x e → is x → Does is d e
   does_one is d e x adds p = record { own = x ∷ []; goes = goes_by_call d x e adds; all = All-cons is x [] p (All-nil is) }
 
   -- only the count of handles changed

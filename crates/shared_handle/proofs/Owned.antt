@@ -15,11 +15,12 @@ use Rattle.control_word.specs.declared.handle.Kind.TheVariants.{Owner, Weak}
 use Rattle.control_word.specs.declared.place.Block.{Block}
 use Rattle.control_word.specs.declared.place.Place.{Place}
 use Rattle.control_block.proofs.Bags.{shown_held}
-use Rattle.control_block.specs.Desks.{Adds, DeskNow, latest_of, on_latest}
+use Rattle.control_block.specs.Desks.{AddsEvent, DeskNow, latest_of, on_latest}
 use Rattle.control_block.specs.Handles.{IsProper}
 use Rattle.control_block.specs.Rule.{opening_of}
 use Rattle.control_block.specs.Standing.{Standing}
-use Rattle.shared_handle.specs.Calls.{Holds, IsOfThis, MayGive, pointed}
+use Rattle.shared_handle.specs.Calls.{IsOfThis, MayGive, pointed}
+use Rattle.control_block.specs.CellCalls.{HoldsHandle}
 use Rattle.shared_handle.specs.Locks.{HasOwner}
 
 -- a field of a block is taken as it is
@@ -33,7 +34,7 @@ as_it_is (Some q) points =
 
 module _ {V : Type 0} where
   -- a lock of an object that the desk has an owner of finds one
-  pub owner_found : (d e : DeskNow V) (b : Block) (q : Option Place) (got : Bool) → Adds d (Lock (on_latest d Weak q b.0) got) e
+  pub owner_found : (d e : DeskNow V) (b : Block) (q : Option Place) (got : Bool) → AddsEvent d (Lock (on_latest d Weak q b.0) got) e
       → HasOwner d (Some b) → got ≡ true
   owner_found d e b q got adds (p, has) =
       let z = opening_of d.shape in
@@ -46,7 +47,7 @@ module _ {V : Type 0} where
       legal.1.asks.1 ∙ ap not (ne_eqb (count s o) 0 (λ e. omega arith))
 
   -- a handle that a desk has points at one of a block's fields, or nowhere
-  pub points_well : (d : DeskNow V) (b : Option Block) (p : Option Place) → Standing d → IsProper Owner b p → Holds d Owner b p → IsPointer p
+  pub points_well : (d : DeskNow V) (b : Option Block) (p : Option Place) → Standing d → IsProper Owner b p → HoldsHandle d Owner b p → IsPointer p
   points_well d None p stands proper has = proper.0
   points_well d (Some b) p stands proper has =
       let z = opening_of d.shape in
@@ -54,21 +55,21 @@ module _ {V : Type 0} where
       ((are_formed z d.seen stands.legal).0 d.name (handle Owner (Some (latest_of d b.0)) p) mine.0).0
 
   -- it is in a block, if it owns something
-  this_low : (d : DeskNow V) (b : Block) (p : Option Place) → Standing d → Holds d Owner (Some b) p → 0 < b.0
+  this_low : (d : DeskNow V) (b : Block) (p : Option Place) → Standing d → HoldsHandle d Owner (Some b) p → 0 < b.0
   this_low d b p stands has =
       let z = opening_of d.shape in
       let mine = shown_held z d.seen d.name Owner p b.0 stands.legal has in
       let named = names_an_object z d.seen stands.legal d.name Owner (handle Owner (Some (latest_of d b.0)) p) (mine.0, refl, refl) in
       let inside = subst (InShape z) mine.1 named.3 in let low = inside.0 in omega arith
 
-  this_as_it_is : (d : DeskNow V) (b : Option Block) (p q : Option Place) → Standing d → Holds d Owner b p → IsOfThis b q → pointed q ≡ q
+  this_as_it_is : (d : DeskNow V) (b : Option Block) (p q : Option Place) → Standing d → HoldsHandle d Owner b p → IsOfThis b q → pointed q ≡ q
   this_as_it_is d None p q stands has this = absurd this
   this_as_it_is d (Some b) p q stands has this =
       let block : nat_lt 0 b.0 ≡ true = lt-ltb 0 b.0 (this_low d b p stands has) in
       subst (λ (x : Option Place). pointed x ≡ x) (sym this) (cond-true (nat_lt 0 b.0 && true) (place_at b.0) None (ap (λ t. t && true) block))
 
   -- so is each place that an owner may give
-  pub taken_as_given : (d : DeskNow V) (b : Option Block) (p q : Option Place) → Standing d → IsProper Owner b p → Holds d Owner b p
+  pub taken_as_given : (d : DeskNow V) (b : Option Block) (p q : Option Place) → Standing d → IsProper Owner b p → HoldsHandle d Owner b p
       → MayGive b p q → pointed q ≡ q
   taken_as_given d b p q stands proper has may =
       ⊎_elim (λ (own : q ≡ p). as_it_is q (subst IsPointer (sym own) (points_well d b p stands proper has)))

@@ -13,12 +13,12 @@ use Rattle.control_word.specs.declared.handle.Kind.TheVariants.{Owner}
 use Rattle.control_word.specs.declared.place.Block.{Block}
 use Rattle.control_word.specs.declared.place.Place.{Place}
 use Rattle.control_block.proofs.Endings.{still_ends}
-use Rattle.control_block.specs.Desks.{Adds, DeskNow, DomainNow, IsSameDesk, KeepsEndings, KeepsOtherEndings}
+use Rattle.control_block.specs.Desks.{AddsEvent, DeskNow, DomainNow, IsSameDesk, KeepsEndings, KeepsOtherEndings}
 use Rattle.control_block.specs.Desks.{endings_of, latest_of, object_in, on_latest, state_of}
 use Rattle.control_block.specs.Rule.{opening_of}
 use Rattle.shared_handle.proofs.Beside.{apart, ends_beside}
 use Rattle.shared_handle.proofs.Callers.{ends_kept}
-use Rattle.shared_handle.specs.Endings.{Clears, ClearsUp, Ends, IsBeside, IsClearing, IsLeft, more_ending}
+use Rattle.shared_handle.specs.Endings.{ClearsMember, ClearsUp, EndsInHand, IsBeside, IsClearing, IsLeft, more_ending}
 use Rattle.shared_handle.specs.Piles.{AllEnd, Carries, KeepsElsewhere, NotAmong, Stacked, piled}
 use Rattle.shared_handle.specs.declared.endings.Ending.{Ending}
 use Rattle.shared_handle.specs.declared.endings.Left.{Left}
@@ -32,7 +32,7 @@ module _ {V : Type 0} where
   abbrev pub Comes : DeskNow V → List (Ending V) → Left V → Type 0
   Comes e xs Empty = Unit {0}
   Comes e xs Others = Unit {0}
-  Comes e xs (Last y) = Ends e y × NotAmong y.block.0 xs
+  Comes e xs (Last y) = EndsInHand e y × NotAmong y.block.0 xs
 
   pub all_kept : (d e : DeskNow V) (xs : List (Ending V)) → KeepsEndings d e → AllEnd d xs → AllEnd e xs
   all_kept d e [] keeps all = tt
@@ -44,7 +44,7 @@ module _ {V : Type 0} where
 
   -- an object whose last owner leaves is none of them
   pub left_apart : (d e : DeskNow V) (c : ℕ) (p : Option Place) (xs : List (Ending V)) → AllEnd d xs
-      → Adds d (Leave (on_latest d Owner p c) true) e → NotAmong c xs
+      → AddsEvent d (Leave (on_latest d Owner p c) true) e → NotAmong c xs
   left_apart d e c p [] all adds = tt
   left_apart d e c p (x ∷ xs) all adds = (apart d e x.block.0 c p all.0.ends.phase adds, left_apart d e c p xs all.2 adds)
 
@@ -57,22 +57,23 @@ module _ {V : Type 0} where
   among_before c (x ∷ xs) y n = let t = among_before c xs y n.1 in ((n.0, t.0), t.1)
 
   -- one more
-  pub all_append : (d : DeskNow V) (xs : List (Ending V)) (y : Ending V) → AllEnd d xs → Ends d y → NotAmong y.block.0 xs → AllEnd d (xs ++ y ∷ [])
+  pub all_append : (d : DeskNow V) (xs : List (Ending V)) (y : Ending V) → AllEnd d xs → EndsInHand d y → NotAmong y.block.0 xs
+      → AllEnd d (xs ++ y ∷ [])
   all_append d [] y all ends n = (ends, tt, tt)
   all_append d (x ∷ xs) y all ends n =
       (all.0, among_append x.block.0 xs y all.1 (λ e. n.0 (sym e)), all_append d xs y all.2 ends n.1)
 
   -- and one less
-  pub all_last : (d : DeskNow V) (xs : List (Ending V)) (y : Ending V) → AllEnd d (xs ++ y ∷ []) → AllEnd d xs × Ends d y × NotAmong y.block.0 xs
+  pub all_last : (d : DeskNow V) (xs : List (Ending V)) (y : Ending V) → AllEnd d (xs ++ y ∷ []) → AllEnd d xs × EndsInHand d y × NotAmong y.block.0 xs
   all_last d [] y all = (tt, all.0, tt)
   all_last d (x ∷ xs) y all =
       let t = all_last d xs y all.2 in let n = among_before x.block.0 xs y all.1 in
       ((all.0, n.0, t.0), t.1, ((λ e. n.1 (sym e)), t.2))
 
   -- each of them ends in the desk's hands
-  pub one_ends : (d : DeskNow V) (xs : List (Ending V)) (i : ℕ) (x : Ending V) → AllEnd d xs → slice_get xs i ≡ Some x → Ends d x
+  pub one_ends : (d : DeskNow V) (xs : List (Ending V)) (i : ℕ) (x : Ending V) → AllEnd d xs → slice_get xs i ≡ Some x → EndsInHand d x
   one_ends d [] i x all at = absurd (cc at)
-  one_ends d (y ∷ xs) zero x all at = subst (Ends d) (ap (λ o. unwrap_or o y) at) all.0
+  one_ends d (y ∷ xs) zero x all at = subst (EndsInHand d) (ap (λ o. unwrap_or o y) at) all.0
   one_ends d (y ∷ xs) (suc i) x all at = one_ends d xs i x all.2 at
 
   -- the top is taken in hand
@@ -90,7 +91,7 @@ module _ {V : Type 0} where
 
   -- what ends, ends still when a member was cleared
   pub ends_through : (d e : DeskNow V) (b c m : ℕ) (h : Handle) → (object_in d b).phase ≡ ending d.name
-      → Adds d (ClearMember (latest_of d c) m h) e → (object_in e b).phase ≡ ending e.name
+      → AddsEvent d (ClearMember (latest_of d c) m h) e → (object_in e b).phase ≡ ending e.name
   ends_through d e b c m h ends adds =
       let z = opening_of d.shape in let o = latest_of d c in
       let legal = subst (IsLegal z) adds.seen adds.legal in
@@ -109,7 +110,7 @@ module _ {V : Type 0} where
 
   -- what came out of a member and was an object's last owner, was that of none of them
   pub out_apart : (d between e : DeskNow V) (b m : ℕ) (h : Handle) (c : ℕ) (p : Option Place) (xs : List (Ending V)) → AllEnd d xs
-      → Adds d (ClearMember (latest_of d b) m h) between → Adds between (Leave (on_latest between Owner p c) true) e → NotAmong c xs
+      → AddsEvent d (ClearMember (latest_of d b) m h) between → AddsEvent between (Leave (on_latest between Owner p c) true) e → NotAmong c xs
   out_apart d between e b m h c p [] all takes leaves = tt
   out_apart d between e b m h c p (x ∷ xs) all takes leaves = (
     apart between e x.block.0 c p (ends_through d between x.block.0 b m h all.0.ends.phase takes) leaves,
@@ -123,7 +124,7 @@ module _ {V : Type 0} where
   left_comes d e b p Others xs all is = tt
   left_comes d e b p (Last y) xs all is = (is.2, left_apart d e y.block.0 p xs all is.1)
 
-  pub clears_comes : (d e : DeskNow V) (x : Ending V) (m : ℕ) (xs : List (Ending V)) (left : Left V) → AllEnd d xs → Clears d x m left e
+  pub clears_comes : (d e : DeskNow V) (x : Ending V) (m : ℕ) (xs : List (Ending V)) (left : Left V) → AllEnd d xs → ClearsMember d x m left e
       → Comes e xs left
   clears_comes d e x m xs Empty all clears = tt
   clears_comes d e x m xs Others all clears = tt
@@ -177,7 +178,7 @@ module _ {V : Type 0} where
 
   -- a member of the one in hand was cleared
   pub cleared : (d e : DeskNow V) (x y : Ending V) (m : Member) (left : Left V) (xs : List (Ending V)) → AllEnd d (x ∷ xs)
-      → IsClearing d x m left e → KeepsOtherEndings d x.block.0 e → IsBeside x.block.0 left → y.block ≡ x.block → Ends e y
+      → IsClearing d x m left e → KeepsOtherEndings d x.block.0 e → IsBeside x.block.0 left → y.block ≡ x.block → EndsInHand e y
       → AllEnd e (y ∷ piled xs left)
   cleared d e x y m left xs all clears keeps beside same ends =
       let block : y.block.0 ≡ x.block.0 = ap (λ (b : Block). b.0) same in (
@@ -188,14 +189,14 @@ module _ {V : Type 0} where
 
   -- one of the top
   pub cleared_top : (d e : DeskNow V) (x y : Ending V) (m : Member) (left : Left V) (xs : List (Ending V)) → AllEnd d (xs ++ x ∷ [])
-      → IsClearing d x m left e → KeepsOtherEndings d x.block.0 e → IsBeside x.block.0 left → y.block ≡ x.block → Ends e y
+      → IsClearing d x m left e → KeepsOtherEndings d x.block.0 e → IsBeside x.block.0 left → y.block ≡ x.block → EndsInHand e y
       → AllEnd e (piled (xs ++ y ∷ []) left)
   cleared_top d e x y m left xs all clears keeps beside same ends =
       let t = all_last d xs x all in
       below_left e y xs left (cleared d e x y m left xs (t.1, t.2, t.0) clears keeps beside same ends)
 
   pub stacked_on : (domain : DomainNow) (d e : DeskNow V) (p q : Pile V) (x y : Ending V) (m : Member) (left : Left V) → Stacked domain d p x
-      → IsClearing d x m left e → KeepsOtherEndings d x.block.0 e → IsBeside x.block.0 left → y.block ≡ x.block → Ends e y
+      → IsClearing d x m left e → KeepsOtherEndings d x.block.0 e → IsBeside x.block.0 left → y.block ≡ x.block → EndsInHand e y
       → IsSameDesk d e → q.endings.items ≡ piled p.endings.items left → vec_capacity q.endings ≡ vec_capacity p.endings
       → Stacked domain e q y
   stacked_on domain d e p q x y m left s clears keeps beside same ends desk are room =
@@ -211,7 +212,7 @@ module _ {V : Type 0} where
 
   pub stacked_elsewhere : (d e : DeskNow V) (x y : Ending V) (m : Member) (left : Left V) (xs ys : List (Ending V))
       → IsClearing d x m left e → KeepsOtherEndings d x.block.0 e → endings_of e ≡ endings_of d + more_ending left → IsBeside x.block.0 left
-      → y.block ≡ x.block → Ends e y → ys ≡ piled xs left → KeepsElsewhere d (x ∷ xs) e (y ∷ ys)
+      → y.block ≡ x.block → EndsInHand e y → ys ≡ piled xs left → KeepsElsewhere d (x ∷ xs) e (y ∷ ys)
   stacked_elsewhere d e x y m left xs ys clears keeps count beside same ends are =
       record {
         count = let a = piled_many xs left in let b = ap length are in omega arith;

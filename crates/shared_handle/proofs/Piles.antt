@@ -11,7 +11,7 @@ use Rattle.control_block.specs.Standing.{Standing}
 use Rattle.shared_handle.proofs.Few.{few_listed}
 use Rattle.shared_handle.proofs.PiledEndings.{all_beside, all_kept, all_last, below_left, cleared, cleared_top, left_comes}
 use Rattle.shared_handle.proofs.PiledEndings.{piled_all, piled_cons, piled_many, swapped}
-use Rattle.shared_handle.specs.Endings.{Ends, IsAllClear, IsBeside, IsClearing, IsLeft, more_ending, with_clear}
+use Rattle.shared_handle.specs.Endings.{EndsInHand, IsAllClear, IsBeside, IsClearing, IsLeft, more_ending, with_clear}
 use Rattle.shared_handle.specs.Piles.{AllEnd, Bears, Carries, KeepsElsewhere, Stacked, is_cleared, next_member, piled}
 use Rattle.shared_handle.specs.declared.endings.Ending.{Ending}
 use Rattle.shared_handle.specs.declared.endings.Left.{Left}
@@ -28,7 +28,7 @@ module _ {V : Type 0} where
       let c : e.shape.blocks ≡ domain.shape.blocks = ap (λ (k : Shape). k.blocks) shape in omega arith
 
   pub room_left : (domain : DomainNow) (d e : DeskNow V) (p : Pile V) (x y : Ending V) (m : Member) (left : Left V) → Stacked domain d p x
-      → IsClearing d x m left e → KeepsOtherEndings d x.block.0 e → IsBeside x.block.0 left → y.block ≡ x.block → Ends e y
+      → IsClearing d x m left e → KeepsOtherEndings d x.block.0 e → IsBeside x.block.0 left → y.block ≡ x.block → EndsInHand e y
       → e.shape ≡ d.shape → Standing e → length p.endings.items + more_ending left ≤ vec_capacity p.endings
   room_left domain d e p x y m left s clears keeps beside same ends shape stands =
       let t = cleared d e x y m left p.endings.items (s.ends, s.apart, s.others) clears keeps beside same ends in
@@ -38,7 +38,7 @@ module _ {V : Type 0} where
   -- the one in hand goes back, and then what ends for it
   pub room_above : (domain : DomainNow) (d e : DeskNow V) (p : Pile V) (ys : List (Ending V)) (x y : Ending V) (m : Member) (left : Left V) (n : ℕ)
       → Stacked domain d p x → IsClearing d x m left e → KeepsOtherEndings d x.block.0 e → IsBeside x.block.0 left → y.block ≡ x.block
-      → Ends e y → e.shape ≡ d.shape → Standing e → ys ≡ p.endings.items ++ y ∷ [] → n ≡ vec_capacity p.endings
+      → EndsInHand e y → e.shape ≡ d.shape → Standing e → ys ≡ p.endings.items ++ y ∷ [] → n ≡ vec_capacity p.endings
       → length ys + more_ending left ≤ n
   room_above domain d e p ys x y m left n s clears keeps beside same ends shape stands are is =
       let t = below_left e y p.endings.items left
@@ -47,7 +47,7 @@ module _ {V : Type 0} where
       let b = piled_many (p.endings.items ++ y ∷ []) left in let c = ap length are in omega arith
 
   pub put_back : (domain : DomainNow) (d e : DeskNow V) (p q : Pile V) (x y : Ending V) (m : Member) (left : Left V) → Stacked domain d p x
-      → IsClearing d x m left e → KeepsOtherEndings d x.block.0 e → IsBeside x.block.0 left → y.block ≡ x.block → Ends e y
+      → IsClearing d x m left e → KeepsOtherEndings d x.block.0 e → IsBeside x.block.0 left → y.block ≡ x.block → EndsInHand e y
       → IsSameDesk d e → q.endings.items ≡ piled (p.endings.items ++ y ∷ []) left → vec_capacity q.endings ≡ vec_capacity p.endings
       → Carries domain e q
   put_back domain d e p q x y m left s clears keeps beside same ends desk are room =
@@ -61,7 +61,7 @@ module _ {V : Type 0} where
 
   pub back_elsewhere : (d e : DeskNow V) (x y : Ending V) (m : Member) (left : Left V) (below xs ys : List (Ending V)) → xs ≡ below ++ x ∷ []
       → IsClearing d x m left e → KeepsOtherEndings d x.block.0 e → endings_of e ≡ endings_of d + more_ending left → IsBeside x.block.0 left
-      → y.block ≡ x.block → Ends e y → ys ≡ piled (below ++ y ∷ []) left → KeepsElsewhere d xs e ys
+      → y.block ≡ x.block → EndsInHand e y → ys ≡ piled (below ++ y ∷ []) left → KeepsElsewhere d xs e ys
   back_elsewhere d e x y m left below xs ys were clears keeps count beside same ends are =
       record {
         count = let a = piled_many (below ++ y ∷ []) left in let b = ap length are in let c = ap length were in

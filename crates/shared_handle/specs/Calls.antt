@@ -13,19 +13,12 @@ use Rattle.control_word.specs.declared.place.Block.{Block}
 use Rattle.control_word.specs.declared.place.Place.{Place}
 use Rattle.control_block.specs.CellCalls as inner
 use Rattle.control_block.specs.declared.handles.Pointer.{Pointer}
-use Rattle.control_block.specs.Desks.{Adds, DeskNow, allowance_of, latest_of, on_latest, state_of}
+use Rattle.control_block.specs.Desks.{AddsEvent, DeskNow, allowance_of, latest_of, on_latest, state_of}
 
 -- what a handle of this kind, with this block and place, is on
 abbrev pub IsOn : Kind → Option Block → Option Place → Option Pointer → Type 0
 IsOn k b p None = b ≡ None
 IsOn k b p (Some of) = (of.kind ≡ k) × (b ≡ Some of.block) × (of.place ≡ p)
-
--- a bag with a handle more, and with one less
-abbrev pub with_handle : Kind → Option Block → Option Place → List Handle → List Handle
-with_handle = inner.with_handle
-
-abbrev pub without_handle : Kind → Option Block → Option Place → List Handle → List Handle
-without_handle = inner.without_handle
 
 -- where a weak handle of this points: an empty one has a null place ([util.smartptr.weak.const]; the null place: own)
 abbrev pub weak_place : Option Block → Option Place → Option Place
@@ -56,44 +49,40 @@ abbrev pub comes_before : Option Block → Option Block → Bool
 comes_before a b = owner_before (λ (n : ℕ). n) (by_number a) (by_number b)
 
 module _ {V : Type 0} where
-  -- the desk has the handle: its bag shows it, or it is empty and among those that are counted beyond the bag
-  abbrev pub Holds : DeskNow V → Kind → Option Block → Option Place → Type 0
-  Holds d k b p = inner.Holds d k b p
-
   -- the desk with another number of handles, and nothing else changed
   abbrev pub counting : ℕ → DeskNow V → DeskNow V
   counting n d = record d { held = n }
 
   -- an owner with place q came from one with place p ([util.smartptr.shared.const])
-  abbrev pub Shares : DeskNow V → Option Block → Option Place → Option Place → DeskNow V → Type 0
-  Shares d None p q e = e ≡ counting (d.held + 1) d
-  Shares d (Some b) p q e = Adds d (Share (on_latest d Owner p b.0) q) e
+  abbrev pub SharesOwner : DeskNow V → Option Block → Option Place → Option Place → DeskNow V → Type 0
+  SharesOwner d None p q e = e ≡ counting (d.held + 1) d
+  SharesOwner d (Some b) p q e = AddsEvent d (Share (on_latest d Owner p b.0) q) e
 
   -- a weak handle with place q came ([util.smartptr.weak.const])
   abbrev pub SharesWeakly : DeskNow V → Option Block → Option Place → DeskNow V → Type 0
   SharesWeakly d None q e = e ≡ counting (d.held + 1) d
-  SharesWeakly d (Some b) q e = Adds d (WeakShare (latest_of d b.0) q) e
+  SharesWeakly d (Some b) q e = AddsEvent d (WeakShare (latest_of d b.0) q) e
 
   -- a weak handle left ([util.smartptr.weak.dest]); whether its block is vacant now
   abbrev pub LeavesWeakly : DeskNow V → Option Block → Option Place → Bool → DeskNow V → Type 0
   LeavesWeakly d None p vacant e = (e ≡ counting (d.held - 1) d) × (vacant ≡ false)
-  LeavesWeakly d (Some b) p vacant e = Adds d (WeakLeave (on_latest d Weak p b.0) vacant) e
+  LeavesWeakly d (Some b) p vacant e = AddsEvent d (WeakLeave (on_latest d Weak p b.0) vacant) e
 
   -- use_count ([util.smartptr.shared.obs], [util.smartptr.weak.obs]): for a desk that has the whole allowance the count
   -- itself
-  abbrev pub IsCount : DeskNow V → Kind → Option Block → Option Place → ℕ → DeskNow V → Type 0
-  IsCount d k None p n e = (n ≡ 0) × (e ≡ d)
-  IsCount d k (Some b) p n e =
-      Adds d (Count (on_latest d k p b.0) n) e
+  abbrev pub IsUseCount : DeskNow V → Kind → Option Block → Option Place → ℕ → DeskNow V → Type 0
+  IsUseCount d k None p n e = (n ≡ 0) × (e ≡ d)
+  IsUseCount d k (Some b) p n e =
+      AddsEvent d (Count (on_latest d k p b.0) n) e
       × (allowance_of e ≡ d.shape.allowance → n ≡ count (state_of e) (latest_of d b.0))
 
   -- expired ([util.smartptr.weak.obs])
   abbrev pub IsExpiry : DeskNow V → Option Block → Option Place → Bool → DeskNow V → Type 0
   IsExpiry d None p expired e = (expired ≡ true) × (e ≡ d)
-  IsExpiry d (Some b) p expired e = Adds d (Expired (on_latest d Weak p b.0) expired) e
+  IsExpiry d (Some b) p expired e = AddsEvent d (Expired (on_latest d Weak p b.0) expired) e
 
   -- a new object, and its owner ([util.smartptr.shared.create], [util.smartptr.shared.const])
   abbrev pub Makes : DeskNow V → Bool → Bool → List ℕ → V → Option Block → Option Place
       → DeskNow V → Type 0
   Makes d enabled null fields x None p e = ⊥
-  Makes d enabled null fields x (Some b) p e = (p ≡ origin b.0 null) × Adds d (Make b enabled null fields x) e
+  Makes d enabled null fields x (Some b) p e = (p ≡ origin b.0 null) × AddsEvent d (Make b enabled null fields x) e

@@ -8,7 +8,8 @@ use Rattle.control_word.specs.declared.place.Block.{Block}
 use Rattle.control_word.specs.declared.place.Place.{Place}
 use Rattle.control_word.specs.declared.refusal.Refusal.{Refusal}
 use Rattle.control_word.specs.declared.refusal.Refusal.TheVariants.{Limit, NotEnabled, Null, Outside}
-use Rattle.control_block.specs.Desks.{Adds, DeskNow, IsCleared, IsEnding, allowance_of, held_of, object_in, on_latest}
+use Rattle.control_block.specs.Desks.{AddsEvent, DeskNow, IsCleared, IsEnding, allowance_of, held_of, object_in}
+use Rattle.control_block.specs.Desks.{on_latest}
 use Rattle.control_block.specs.Desks.{stock_of}
 use Rattle.control_block.specs.Clearing.{TakesOut}
 use Rattle.shared_handle.specs.Calls.{LeavesWeakly, counting}
@@ -35,7 +36,7 @@ IsPlaced b p (Err why) = ⊥
 
 module _ {V : Type 0} where
   -- the object ends in the desk's hands, with this value, and the members that are told to be cleared hold nothing
-  pub record Ends (d : DeskNow V) (x : Ending V) : Type 0 where
+  pub record EndsInHand (d : DeskNow V) (x : Ending V) : Type 0 where
     pub ends : IsEnding d x.block.0 x.value
     pub first : x.first ≡ true → IsCleared d x.block.0 0
     pub next : x.next ≡ true → IsCleared d x.block.0 1
@@ -51,9 +52,9 @@ module _ {V : Type 0} where
   -- ([util.smartptr.shared.dest])
   abbrev pub IsLeft : DeskNow V → Option Block → Option Place → Left V → DeskNow V → Type 0
   IsLeft d b p Empty e = (b ≡ None) × (e ≡ counting (d.held - 1) d)
-  IsLeft d b p Others e = (c : Block) × (b ≡ Some c) × Adds d (Leave (on_latest d Owner p c.0) false) e
-  IsLeft d b p (Last x) e = (b ≡ Some x.block) × Adds d (Leave (on_latest d Owner p x.block.0) true) e
-      × Ends e x × IsUncleared x
+  IsLeft d b p Others e = (c : Block) × (b ≡ Some c) × AddsEvent d (Leave (on_latest d Owner p c.0) false) e
+  IsLeft d b p (Last x) e = (b ≡ Some x.block) × AddsEvent d (Leave (on_latest d Owner p x.block.0) true) e
+      × EndsInHand e x × IsUncleared x
 
   -- what it says of an owner that left, by the block of what it owned, and by the value that came out where it was the
   -- last
@@ -85,7 +86,7 @@ module _ {V : Type 0} where
   IsGone b (Last x) = ⊥
 
   -- what a shared member of an object that ends held came out, and left (own)
-  pub record Clears (d : DeskNow V) (x : Ending V) (m : ℕ) (left : Left V) (e : DeskNow V) : Type 0 where
+  pub record ClearsMember (d : DeskNow V) (x : Ending V) (m : ℕ) (left : Left V) (e : DeskNow V) : Type 0 where
     pub block : Option Block
     pub place : Option Place
     pub between : DeskNow V
@@ -104,8 +105,8 @@ module _ {V : Type 0} where
     pub stock : length (stock_of e) ≡ length (stock_of d) + cond vacant 1 0
 
   abbrev pub IsClearing : DeskNow V → Ending V → Member → Left V → DeskNow V → Type 0
-  IsClearing d x First left e = Clears d x 0 left e × (length (stock_of e) ≡ length (stock_of d))
-  IsClearing d x Next left e = Clears d x 1 left e × (length (stock_of e) ≡ length (stock_of d))
+  IsClearing d x First left e = ClearsMember d x 0 left e × (length (stock_of e) ≡ length (stock_of d))
+  IsClearing d x Next left e = ClearsMember d x 1 left e × (length (stock_of e) ≡ length (stock_of d))
   IsClearing d x Up left e = ClearsUp d x left e
 
   -- the ending with this member cleared too
@@ -117,7 +118,7 @@ module _ {V : Type 0} where
   -- a field was read, or why not (own)
   abbrev pub IsRead : DeskNow V → Option Block → Option Place → Result ℕ Refusal → DeskNow V → Type 0
   IsRead d b p (Ok n) e = (q : Place) × (p ≡ Some q) × (b ≡ Some q.block)
-      × Adds d (Read (on_latest d Owner (Some q) q.block.0) n) e
+      × AddsEvent d (Read (on_latest d Owner (Some q) q.block.0) n) e
   IsRead d b p (Err Null) e = (p ≡ None) × (e ≡ d)
   IsRead d b p (Err Outside) e = IsOutside b p × (e ≡ d)
   IsRead d b p (Err why) e = ⊥

@@ -8,7 +8,8 @@ use Rattle.control_word.specs.declared.place.Block.{Block}
 use Rattle.control_word.specs.declared.place.Place.{Place}
 use Rattle.control_word.specs.declared.refusal.Refusal.{Refusal}
 use Rattle.control_word.specs.declared.refusal.Refusal.TheVariants.{BadWeak, Limit}
-use Rattle.control_block.specs.Desks.{Adds, DeskNow, HasHandle, allowance_of, held_of, latest_of, on_latest, state_of}
+use Rattle.control_block.specs.Desks.{AddsEvent, DeskNow, HasHandle, allowance_of, held_of, latest_of, on_latest}
+use Rattle.control_block.specs.Desks.{state_of}
 use Rattle.control_block.specs.LockCalls.{state_before}
 use Rattle.control_block.specs.declared.handles.Shared.{Shared}
 use Rattle.shared_handle.specs.Calls.{counting}
@@ -22,13 +23,13 @@ IsOwnerOf b p false h = (h.block ≡ None) × (h.place ≡ None)
 module _ {V : Type 0} where
   -- a lock of an object got an owner just where one remained at its step ([util.smartptr.weak.obs])
   abbrev pub IsLock : DeskNow V → Block → Option Place → Bool → DeskNow V → Type 0
-  IsLock d b p got e = Adds d (Lock (on_latest d Weak p b.0) got) e
+  IsLock d b p got e = AddsEvent d (Lock (on_latest d Weak p b.0) got) e
       × (got ≡ not (count (state_before e) (latest_of d b.0) == 0))
 
   -- the same of any weak handle: of an empty one there is no owner, and no event
-  abbrev pub Locks : DeskNow V → Option Block → Option Place → Bool → DeskNow V → Type 0
-  Locks d None p got e = (got ≡ false) × (e ≡ counting (d.held + 1) d)
-  Locks d (Some b) p got e = IsLock d b p got e
+  abbrev pub LocksHandle : DeskNow V → Option Block → Option Place → Bool → DeskNow V → Type 0
+  LocksHandle d None p got e = (got ≡ false) × (e ≡ counting (d.held + 1) d)
+  LocksHandle d (Some b) p got e = IsLock d b p got e
 
   -- the desk has an owner of the object in the block
   abbrev pub HasOwner : DeskNow V → Option Block → Type 0

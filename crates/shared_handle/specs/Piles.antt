@@ -5,8 +5,8 @@ use Rattle.control_word.specs.declared.event.Event.{Event}
 use Rattle.control_word.specs.declared.event.Event.TheVariants.{ClearMember, Finish, Leave, WeakLeave}
 use Rattle.control_word.specs.declared.place.Block.{Block}
 use Rattle.control_word.specs.declared.place.Place.{Place}
-use Rattle.control_block.specs.Desks.{Adds, Belongs, DeskNow, DomainNow, endings_of, latest_of, stock_of}
-use Rattle.shared_handle.specs.Endings.{Ends, IsAllClear, IsClearing, IsLeft, with_clear}
+use Rattle.control_block.specs.Desks.{AddsEvent, Belongs, DeskNow, DomainNow, endings_of, latest_of, stock_of}
+use Rattle.shared_handle.specs.Endings.{EndsInHand, IsAllClear, IsClearing, IsLeft, with_clear}
 use Rattle.shared_handle.specs.declared.endings.Ending.{Ending}
 use Rattle.shared_handle.specs.declared.endings.Left.{Left}
 use Rattle.shared_handle.specs.declared.endings.Left.TheVariants as left
@@ -47,7 +47,7 @@ module _ {V : Type 0} where
   -- they all end in the desk's hands, each in a block of its own
   abbrev pub AllEnd : DeskNow V → List (Ending V) → Type 0
   AllEnd d [] = Unit {0}
-  AllEnd d (x ∷ xs) = Ends d x × NotAmong x.block.0 xs × AllEnd d xs
+  AllEnd d (x ∷ xs) = EndsInHand d x × NotAmong x.block.0 xs × AllEnd d xs
 
   -- the pile with what came of a released owner
   abbrev pub piled : List (Ending V) → Left V → List (Ending V)
@@ -84,7 +84,7 @@ module _ {V : Type 0} where
   -- one of them is in hand, and the others are on the pile
   pub record Stacked (domain : DomainNow) (d : DeskNow V) (p : Pile V) (x : Ending V) : Type 0 where
     pub belongs : Belongs d domain
-    pub ends : Ends d x
+    pub ends : EndsInHand d x
     pub apart : NotAmong x.block.0 p.endings.items
     pub others : AllEnd d p.endings.items
     pub room : domain.shape.blocks ≤ vec_capacity p.endings
@@ -104,7 +104,7 @@ module _ {V : Type 0} where
     pub clear : IsAllClear x
     pub value : v ≡ x.value
     pub vacant : Bool
-    pub event : Adds d (Finish (latest_of d x.block.0) vacant v) e
+    pub event : AddsEvent d (Finish (latest_of d x.block.0) vacant v) e
     pub stock : length (stock_of e) ≡ length (stock_of d) + cond vacant 1 0
 
   -- the first member of the top that isn't cleared is emptied, and what ends for it lies above the top

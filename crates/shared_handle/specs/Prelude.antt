@@ -3,5 +3,5 @@
 pub use Rattle.control_word.specs.declared.handle.Kind.TheVariants.{Owner, Weak}
 pub use Rattle.control_word.specs.declared.place.Block.{Block}
 pub use Rattle.control_block.specs.Desks.{Belongs, IsSameDesk, allowance_of, bag_of, stock_of}
-pub use Rattle.shared_handle.specs.Calls.{Holds, with_handle, without_handle}
-pub use Rattle.shared_handle.specs.Endings.{Ends}
+pub use Rattle.control_block.specs.CellCalls.{HoldsHandle, with_handle, without_handle}
+pub use Rattle.shared_handle.specs.Endings.{EndsInHand}

@@ -2,7 +2,8 @@
 ghost use Rattle.std.specs.Prelude.{◌≡◌, ◌↔◌, ◌+◌, IfErr, IfOk, IsErr, OnOk};
 ghost use Rattle.control_word.specs.declared.handle.Kind.TheVariants.{Owner, Weak};
 ghost use Rattle.control_block.specs.Desks.{Belongs, Keeps, allowance_of, bag_of, held_of};
-ghost use Rattle.shared_handle.specs.Calls.{Holds, SharesWeakly, weak_place, with_handle};
+ghost use Rattle.shared_handle.specs.Calls.{SharesWeakly, weak_place};
+ghost use Rattle.control_block.specs.CellCalls.{HoldsHandle, with_handle};
 
 use control_block::desk::Desk;
 use control_block::domain::Domain;
@@ -20,7 +21,7 @@ pub fn downgrade<V: Drop + Send>(
     handle: &Shared,
 ) -> Result<handles::Weak, Refusal>
     requires domain { Belongs desk.old domain.now }
-    requires holds { Holds desk.old Owner handle.now.block handle.now.place }
+    requires holds { HoldsHandle desk.old Owner handle.now.block handle.now.place }
     ensures limit { IsErr result ↔ (held_of desk.old ≡ allowance_of desk.old) }
     ensures refused { IfErr result (λ why. (why ≡ Refusal.Limit) × (desk.new ≡ desk.old)) }
     ensures handle { IfOk result
@@ -29,7 +30,7 @@ pub fn downgrade<V: Drop + Send>(
     ensures bag { OnOk result
         (bag_of desk.new ≡ with_handle Weak handle.now.block handle.now.place (bag_of desk.old)) }
     ensures held { OnOk result (desk.new.held ≡ desk.old.held + 1) }
-    ensures holds { IfOk result (λ h. Holds desk.new Weak h.block h.place) }
+    ensures holds { IfOk result (λ h. HoldsHandle desk.new Weak h.block h.place) }
     ensures keeps { OnOk result (Keeps desk.old desk.new) }
 {
     let Some(block) = handle.block() else {

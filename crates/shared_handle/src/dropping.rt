@@ -3,7 +3,7 @@ ghost use Rattle.std.specs.Prelude.{◌≡◌, ◌+◌, IfSome, MatchOption, Non
 ghost use Rattle.control_word.specs.declared.handle.Kind.TheVariants.{Owner};
 ghost use Rattle.control_block.specs.Desks.{KeepsStock, bag_of};
 ghost use Rattle.control_block.specs.Own.{Does};
-ghost use Rattle.shared_handle.specs.Calls.{Holds, without_handle};
+ghost use Rattle.control_block.specs.CellCalls.{HoldsHandle, without_handle};
 ghost use Rattle.shared_handle.specs.Endings.{IsLeft};
 ghost use Rattle.shared_handle.specs.Piles.{Carries, Drops, IsParting, KeepsElsewhere};
 ghost use Rattle.shared_handle.specs.declared.endings.Left.{Left};
@@ -23,7 +23,7 @@ pub fn drop_shared<V: Drop + Send>(
     handle: Shared,
 ) -> Gone
     requires carries { Carries domain.now desk.old pile.old }
-    requires holds { Holds desk.old Owner handle.block handle.place }
+    requires holds { HoldsHandle desk.old Owner handle.block handle.place }
     ensures carries { Carries domain.now desk.new pile.new }
     ensures elsewhere { KeepsElsewhere desk.old pile.old.endings.items desk.new pile.new.endings.items }
     ensures left { Drops desk.old pile.old.endings.items handle.block handle.place result desk.new
@@ -49,7 +49,7 @@ pub fn reset<V: Drop + Send>(
     handle: &mut Option<Shared>,
 ) -> Gone
     requires carries { Carries domain.now desk.old pile.old }
-    requires holds { IfSome handle.old (λ h. Holds desk.old Owner h.block h.place) }
+    requires holds { IfSome handle.old (λ h. HoldsHandle desk.old Owner h.block h.place) }
     ensures carries { Carries domain.now desk.new pile.new }
     ensures elsewhere { KeepsElsewhere desk.old pile.old.endings.items desk.new pile.new.endings.items }
     ensures spent { handle.new ≡ None }

@@ -2,8 +2,8 @@
 ghost use Rattle.std.specs.Prelude.{◌≡◌, ◌↔◌, ◌+◌, is_some, IfErr, IfOk, IsErr, OnOk, None};
 ghost use Rattle.control_word.specs.declared.handle.Kind.TheVariants.{Owner, Weak};
 ghost use Rattle.control_block.specs.Desks.{Belongs, Keeps, allowance_of, bag_of, held_of};
-ghost use Rattle.shared_handle.specs.Calls.{Holds, with_handle};
-ghost use Rattle.shared_handle.specs.Locks.{HasOwner, IsOwnerOf, IsUpgrade, Locks, SawNoOwner};
+ghost use Rattle.control_block.specs.CellCalls.{HoldsHandle, with_handle};
+ghost use Rattle.shared_handle.specs.Locks.{HasOwner, IsOwnerOf, IsUpgrade, LocksHandle, SawNoOwner};
 
 use crate::pointers::weak_pointer;
 use control_block::desk::Desk;
@@ -27,16 +27,17 @@ pub fn lock<V: Drop + Send, R: Wait>(
     handle: &handles::Weak,
 ) -> Result<Shared, Refusal>
     requires domain { Belongs desk.old domain.now }
-    requires holds { Holds desk.old Weak handle.now.block handle.now.place }
+    requires holds { HoldsHandle desk.old Weak handle.now.block handle.now.place }
     ensures limit { IsErr result ↔ (held_of desk.old ≡ allowance_of desk.old) }
     ensures refused { IfErr result (λ why. (why ≡ Refusal.Limit) × (desk.new ≡ desk.old)) }
     ensures handle { IfOk result (λ h. IsOwnerOf handle.now.block handle.now.place (is_some h.block) h) }
-    ensures lock { IfOk result (λ h. Locks desk.old handle.now.block handle.now.place (is_some h.block) desk.new) }
+    ensures lock { IfOk result (λ h. LocksHandle desk.old handle.now.block handle.now.place
+        (is_some h.block) desk.new) }
     ensures expired { SawNoOwner desk.old handle.now.block → IfOk result (λ h. h.block ≡ None) }
     ensures owned { HasOwner desk.old handle.now.block → IfOk result (λ h. h.block ≡ handle.now.block) }
     ensures bag { IfOk result (λ h. bag_of desk.new ≡ with_handle Owner h.block h.place (bag_of desk.old)) }
     ensures held { OnOk result (desk.new.held ≡ desk.old.held + 1) }
-    ensures holds { IfOk result (λ h. Holds desk.new Owner h.block h.place) }
+    ensures holds { IfOk result (λ h. HoldsHandle desk.new Owner h.block h.place) }
     ensures keeps { OnOk result (Keeps desk.old desk.new) }
 {
     let Some(of) = weak_pointer(handle) else {
@@ -63,13 +64,13 @@ pub fn upgrade<V: Drop + Send, R: Wait>(
     handle: &handles::Weak,
 ) -> Result<Shared, Refusal>
     requires domain { Belongs desk.old domain.now }
-    requires holds { Holds desk.old Weak handle.now.block handle.now.place }
+    requires holds { HoldsHandle desk.old Weak handle.now.block handle.now.place }
     ensures upgrade { IsUpgrade desk.old handle.now.block handle.now.place result desk.new }
     ensures expired { SawNoOwner desk.old handle.now.block → IsErr result }
     ensures owned { HasOwner desk.old handle.now.block → IfErr result (λ why. why ≡ Refusal.Limit) }
     ensures bag { IfOk result (λ h. bag_of desk.new ≡ with_handle Owner h.block h.place (bag_of desk.old)) }
     ensures held { OnOk result (desk.new.held ≡ desk.old.held + 1) }
-    ensures holds { IfOk result (λ h. Holds desk.new Owner h.block h.place) }
+    ensures holds { IfOk result (λ h. HoldsHandle desk.new Owner h.block h.place) }
     ensures refused { IfErr result (λ _. (bag_of desk.new ≡ bag_of desk.old) × (desk.new.held ≡ desk.old.held)) }
     ensures keeps { Keeps desk.old desk.new }
 {

@@ -4,7 +4,8 @@ ghost use Rattle.control_word.specs.Handles as Handles;
 ghost use Rattle.control_word.specs.Handles.{IsPointer};
 ghost use Rattle.control_word.specs.declared.handle.Kind.TheVariants.{Owner};
 ghost use Rattle.control_block.specs.Desks.{Belongs, Keeps, bag_of};
-ghost use Rattle.shared_handle.specs.Calls.{Holds, IsCount};
+ghost use Rattle.shared_handle.specs.Calls.{IsUseCount};
+ghost use Rattle.control_block.specs.CellCalls.{HoldsHandle};
 ghost use Rattle.shared_handle.specs.Endings.{IsPlaced, IsRead};
 
 use crate::pointers::owner_pointer;
@@ -20,8 +21,8 @@ use std::marker::Brand;
 /// where there is no owner, and at most the count. An empty handle touches no word.
 pub fn use_count<V: Drop + Send>(domain: &Domain<V>, desk: &mut Desk<V>, handle: &Shared) -> u32
     requires domain { Belongs desk.old domain.now }
-    requires holds { Holds desk.old Owner handle.now.block handle.now.place }
-    ensures count { IsCount desk.old Owner handle.now.block handle.now.place result desk.new }
+    requires holds { HoldsHandle desk.old Owner handle.now.block handle.now.place }
+    ensures count { IsUseCount desk.old Owner handle.now.block handle.now.place result desk.new }
     ensures bag { bag_of desk.new ≡ bag_of desk.old }
     ensures held { desk.new.held ≡ desk.old.held }
     ensures keeps { Keeps desk.old desk.new }
@@ -54,7 +55,7 @@ pub fn read<V: Drop + Send>(
     handle: &Shared,
 ) -> Result<u64, Refusal>
     requires domain { Belongs desk.old domain.now }
-    requires holds { Holds desk.old Owner handle.now.block handle.now.place }
+    requires holds { HoldsHandle desk.old Owner handle.now.block handle.now.place }
     ensures read { IsRead desk.old handle.now.block handle.now.place result desk.new }
     ensures bag { bag_of desk.new ≡ bag_of desk.old }
     ensures held { desk.new.held ≡ desk.old.held }
@@ -72,7 +73,7 @@ pub fn place<V: Drop + Send>(
     handle: &Shared,
 ) -> Option<Place>
     ensures place { result ≡ handle.now.place }
-    ensures proper { Holds _desk.old Owner handle.now.block handle.now.place → IsPointer result }
+    ensures proper { HoldsHandle _desk.old Owner handle.now.block handle.now.place → IsPointer result }
     ensures same { _desk.new ≡ _desk.old }
 {
     _desk.stands();

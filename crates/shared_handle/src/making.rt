@@ -6,7 +6,8 @@ ghost use Rattle.control_word.specs.declared.handle.Kind.TheVariants as kind;
 ghost use Rattle.control_block.specs.Desks.{Belongs, IsSameDesk, KeepsEndings, allowance_of, bag_of, endings_of};
 ghost use Rattle.control_block.specs.Desks.{held_of, stock_of};
 ghost use Rattle.control_block.specs.Refusals.{IsFullOrLimit};
-ghost use Rattle.shared_handle.specs.Calls.{Holds, Makes, counting, with_handle};
+ghost use Rattle.shared_handle.specs.Calls.{Makes, counting};
+ghost use Rattle.control_block.specs.CellCalls.{HoldsHandle, with_handle};
 
 use control_block::calls;
 use control_block::desk::Desk;
@@ -22,7 +23,7 @@ pub fn empty<V: Drop + Send>(_domain: &Domain<V>, desk: &mut Desk<V>) -> Result<
     ensures refused { IfErr result (λ why. (why ≡ Refusal.Limit) × (desk.new ≡ desk.old)) }
     ensures handle { IfOk result (λ h. (h.block ≡ None) × (h.place ≡ None)) }
     ensures counted { OnOk result (desk.new ≡ counting (desk.old.held + 1) desk.old) }
-    ensures holds { IfOk result (λ h. Holds desk.new Owner h.block h.place) }
+    ensures holds { IfOk result (λ h. HoldsHandle desk.new Owner h.block h.place) }
 {
     calls::count_empty(desk)?;
     Ok(Shared::of_parts(None, None))
@@ -36,7 +37,7 @@ pub fn empty_weak<V: Drop + Send>(_domain: &Domain<V>, desk: &mut Desk<V>) -> Re
     ensures refused { IfErr result (λ why. (why ≡ Refusal.Limit) × (desk.new ≡ desk.old)) }
     ensures handle { IfOk result (λ h. (h.block ≡ None) × (h.place ≡ None)) }
     ensures counted { OnOk result (desk.new ≡ counting (desk.old.held + 1) desk.old) }
-    ensures holds { IfOk result (λ h. Holds desk.new kind.Weak h.block h.place) }
+    ensures holds { IfOk result (λ h. HoldsHandle desk.new kind.Weak h.block h.place) }
 {
     calls::count_empty(desk)?;
     Ok(Weak::of_parts(None, None))
@@ -58,7 +59,7 @@ fn make_as<V: Drop + Send>(
     ensures event { IfOk result (λ h. Makes desk.old enabled null fields value h.block h.place desk.new) }
     ensures bag { IfOk result (λ h. bag_of desk.new ≡ with_handle Owner h.block h.place (bag_of desk.old)) }
     ensures held { OnOk result (desk.new.held ≡ desk.old.held + 1) }
-    ensures holds { IfOk result (λ h. Holds desk.new Owner h.block h.place) }
+    ensures holds { IfOk result (λ h. HoldsHandle desk.new Owner h.block h.place) }
     ensures desk { OnOk result (IsSameDesk desk.old desk.new) }
     ensures stock { OnOk result (length (stock_of desk.new) + 1 ≡ length (stock_of desk.old)) }
     ensures endings { OnOk result (KeepsEndings desk.old desk.new) }
@@ -88,7 +89,7 @@ pub fn make<V: Drop + Send>(
     ensures event { IfOk result (λ h. Makes desk.old enabled false fields value h.block h.place desk.new) }
     ensures bag { IfOk result (λ h. bag_of desk.new ≡ with_handle Owner h.block h.place (bag_of desk.old)) }
     ensures held { OnOk result (desk.new.held ≡ desk.old.held + 1) }
-    ensures holds { IfOk result (λ h. Holds desk.new Owner h.block h.place) }
+    ensures holds { IfOk result (λ h. HoldsHandle desk.new Owner h.block h.place) }
     ensures desk { OnOk result (IsSameDesk desk.old desk.new) }
     ensures stock { OnOk result (length (stock_of desk.new) + 1 ≡ length (stock_of desk.old)) }
     ensures endings { OnOk result (KeepsEndings desk.old desk.new) }
@@ -111,7 +112,7 @@ pub fn make_null<V: Drop + Send>(
         (λ h. Makes desk.old false true (0 ∷ 0 ∷ 0 ∷ 0 ∷ []) value h.block h.place desk.new) }
     ensures bag { IfOk result (λ h. bag_of desk.new ≡ with_handle Owner h.block h.place (bag_of desk.old)) }
     ensures held { OnOk result (desk.new.held ≡ desk.old.held + 1) }
-    ensures holds { IfOk result (λ h. Holds desk.new Owner h.block h.place) }
+    ensures holds { IfOk result (λ h. HoldsHandle desk.new Owner h.block h.place) }
     ensures desk { OnOk result (IsSameDesk desk.old desk.new) }
     ensures stock { OnOk result (length (stock_of desk.new) + 1 ≡ length (stock_of desk.old)) }
     ensures endings { OnOk result (KeepsEndings desk.old desk.new) }

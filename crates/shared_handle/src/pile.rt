@@ -3,7 +3,7 @@ ghost use Rattle.std.specs.Prelude.{◌≡◌, ◌↔◌, ◌+◌, ◌-◌, ◌<
 ghost use Rattle.std.specs.Prelude.{slice_get};
 ghost use Rattle.std.specs.Prelude.{vec_capacity, Some, IfErr, IfNone, IfOk, IfSome, IsTrue};
 ghost use Rattle.control_block.specs.Desks.{Belongs, DeskNow, DomainNow, endings_of};
-ghost use Rattle.shared_handle.specs.Endings.{Ends, more_ending};
+ghost use Rattle.shared_handle.specs.Endings.{EndsInHand, more_ending};
 ghost use Rattle.shared_handle.specs.Piles.{Bears, Carries, gone_of, piled};
 
 use crate::endings::{Ending, Left, Member};
@@ -84,7 +84,7 @@ impl<V: Drop + Send> Pile<V> {
         ensures some { IfSome result
             (λ x. slice_get self.now.endings.items (length self.now.endings.items - 1) ≡ Some x.now) }
         ensures ends { IfSome result
-            (λ x. (domain : DomainNow) (d : DeskNow V) → Carries domain d self.now → Ends d x.now) }
+            (λ x. (domain : DomainNow) (d : DeskNow V) → Carries domain d self.now → EndsInHand d x.now) }
     {
         let top = self.endings.last()?;
         Some(top)

@@ -2,7 +2,8 @@
 ghost use Rattle.std.specs.Prelude.{◌≡◌, ◌↔◌, ◌+◌, IfErr, IfOk, IsErr, OnOk};
 ghost use Rattle.control_word.specs.declared.handle.Kind.TheVariants.{Owner};
 ghost use Rattle.control_block.specs.Desks.{Belongs, Keeps, KeepsStock, allowance_of, bag_of, endings_of, held_of};
-ghost use Rattle.shared_handle.specs.Calls.{Holds, MayGive, Shares, pointed, with_handle, without_handle};
+ghost use Rattle.shared_handle.specs.Calls.{MayGive, SharesOwner, pointed};
+ghost use Rattle.control_block.specs.CellCalls.{HoldsHandle, with_handle, without_handle};
 ghost use Rattle.shared_handle.specs.Endings.{IsApart, IsLeft, more_ending};
 
 use crate::endings::{Ending, Left};
@@ -23,15 +24,15 @@ pub(crate) fn share_to<V: Drop + Send>(
     place: Option<Place>,
 ) -> Result<Shared, Refusal>
     requires domain { Belongs desk.old domain.now }
-    requires holds { Holds desk.old Owner handle.now.block handle.now.place }
+    requires holds { HoldsHandle desk.old Owner handle.now.block handle.now.place }
     requires place { MayGive handle.now.block handle.now.place place }
     ensures limit { IsErr result ↔ (held_of desk.old ≡ allowance_of desk.old) }
     ensures refused { IfErr result (λ why. (why ≡ Refusal.Limit) × (desk.new ≡ desk.old)) }
     ensures handle { IfOk result (λ h. (h.block ≡ handle.now.block) × (h.place ≡ place)) }
-    ensures event { OnOk result (Shares desk.old handle.now.block handle.now.place place desk.new) }
+    ensures event { OnOk result (SharesOwner desk.old handle.now.block handle.now.place place desk.new) }
     ensures bag { OnOk result (bag_of desk.new ≡ with_handle Owner handle.now.block place (bag_of desk.old)) }
     ensures held { OnOk result (desk.new.held ≡ desk.old.held + 1) }
-    ensures holds { IfOk result (λ h. Holds desk.new Owner h.block h.place) }
+    ensures holds { IfOk result (λ h. HoldsHandle desk.new Owner h.block h.place) }
     ensures keeps { OnOk result (Keeps desk.old desk.new) }
 {
     let Some(of) = owner_pointer(handle) else {
@@ -50,15 +51,15 @@ pub fn share<V: Drop + Send>(
     handle: &Shared,
 ) -> Result<Shared, Refusal>
     requires domain { Belongs desk.old domain.now }
-    requires holds { Holds desk.old Owner handle.now.block handle.now.place }
+    requires holds { HoldsHandle desk.old Owner handle.now.block handle.now.place }
     ensures limit { IsErr result ↔ (held_of desk.old ≡ allowance_of desk.old) }
     ensures refused { IfErr result (λ why. (why ≡ Refusal.Limit) × (desk.new ≡ desk.old)) }
     ensures handle { IfOk result (λ h. (h.block ≡ handle.now.block) × (h.place ≡ handle.now.place)) }
-    ensures event { OnOk result (Shares desk.old handle.now.block handle.now.place handle.now.place desk.new) }
+    ensures event { OnOk result (SharesOwner desk.old handle.now.block handle.now.place handle.now.place desk.new) }
     ensures bag { OnOk result
         (bag_of desk.new ≡ with_handle Owner handle.now.block handle.now.place (bag_of desk.old)) }
     ensures held { OnOk result (desk.new.held ≡ desk.old.held + 1) }
-    ensures holds { IfOk result (λ h. Holds desk.new Owner h.block h.place) }
+    ensures holds { IfOk result (λ h. HoldsHandle desk.new Owner h.block h.place) }
     ensures keeps { OnOk result (Keeps desk.old desk.new) }
 {
     share_to(domain, desk, handle, handle.place())
@@ -76,16 +77,16 @@ pub fn alias<V: Drop + Send>(
     place: Option<Place>,
 ) -> Result<Shared, Refusal>
     requires domain { Belongs desk.old domain.now }
-    requires holds { Holds desk.old Owner handle.now.block handle.now.place }
+    requires holds { HoldsHandle desk.old Owner handle.now.block handle.now.place }
     ensures given { MayGive handle.now.block handle.now.place place → pointed place ≡ place }
     ensures limit { IsErr result ↔ (held_of desk.old ≡ allowance_of desk.old) }
     ensures refused { IfErr result (λ why. (why ≡ Refusal.Limit) × (desk.new ≡ desk.old)) }
     ensures handle { IfOk result (λ h. (h.block ≡ handle.now.block) × (h.place ≡ pointed place)) }
-    ensures event { OnOk result (Shares desk.old handle.now.block handle.now.place (pointed place) desk.new) }
+    ensures event { OnOk result (SharesOwner desk.old handle.now.block handle.now.place (pointed place) desk.new) }
     ensures bag { OnOk result
         (bag_of desk.new ≡ with_handle Owner handle.now.block (pointed place) (bag_of desk.old)) }
     ensures held { OnOk result (desk.new.held ≡ desk.old.held + 1) }
-    ensures holds { IfOk result (λ h. Holds desk.new Owner h.block h.place) }
+    ensures holds { IfOk result (λ h. HoldsHandle desk.new Owner h.block h.place) }
     ensures keeps { OnOk result (Keeps desk.old desk.new) }
 {
     desk.stands();
@@ -96,7 +97,7 @@ pub fn alias<V: Drop + Send>(
 /// and the object ends in the desk's hands, in another block than all that ended there before.
 pub fn release<V: Drop + Send>(domain: &Domain<V>, desk: &mut Desk<V>, handle: Shared) -> Left<V>
     requires domain { Belongs desk.old domain.now }
-    requires holds { Holds desk.old Owner handle.block handle.place }
+    requires holds { HoldsHandle desk.old Owner handle.block handle.place }
     ensures left { IsLeft desk.old handle.block handle.place result desk.new }
     ensures bag { bag_of desk.new ≡ without_handle Owner handle.block handle.place (bag_of desk.old) }
     ensures held { desk.new.held + 1 ≡ desk.old.held }

@@ -2,7 +2,8 @@
 ghost use Rattle.std.specs.Prelude.{◌≡◌, ◌+◌, IfErr, IfOk, OnOk};
 ghost use Rattle.control_word.specs.declared.handle.Kind.TheVariants.{Owner, Weak};
 ghost use Rattle.control_block.specs.Desks.{Belongs, Keeps, bag_of};
-ghost use Rattle.shared_handle.specs.Calls.{Holds, IsOfThis, Shares, SharesWeakly, with_handle};
+ghost use Rattle.shared_handle.specs.Calls.{IsOfThis, SharesOwner, SharesWeakly};
+ghost use Rattle.control_block.specs.CellCalls.{HoldsHandle, with_handle};
 ghost use Rattle.shared_handle.specs.Endings.{IsThis, MayGiveThis, WhyNotThis};
 
 use crate::looks::place_within;
@@ -22,7 +23,7 @@ fn this_block<V: Drop + Send>(
     handle: &Shared,
 ) -> Result<Block, Refusal>
     requires domain { Belongs desk.old domain.now }
-    requires holds { Holds desk.old Owner handle.now.block handle.now.place }
+    requires holds { HoldsHandle desk.old Owner handle.now.block handle.now.place }
     ensures this { IsThis desk.old handle.now.block handle.now.place result }
     ensures same { desk.new ≡ desk.old }
 {
@@ -46,15 +47,15 @@ pub fn shared_from_this<V: Drop + Send>(
     handle: &Shared,
 ) -> Result<Shared, Refusal>
     requires domain { Belongs desk.old domain.now }
-    requires holds { Holds desk.old Owner handle.now.block handle.now.place }
+    requires holds { HoldsHandle desk.old Owner handle.now.block handle.now.place }
     ensures refused { IfErr result
         (λ why. WhyNotThis desk.old handle.now.block handle.now.place why × (desk.new ≡ desk.old)) }
     ensures may { OnOk result (MayGiveThis desk.old handle.now.block handle.now.place) }
     ensures handle { IfOk result (λ h. (h.block ≡ handle.now.block) × IsOfThis h.block h.place) }
-    ensures event { IfOk result (λ h. Shares desk.old handle.now.block handle.now.place h.place desk.new) }
+    ensures event { IfOk result (λ h. SharesOwner desk.old handle.now.block handle.now.place h.place desk.new) }
     ensures bag { IfOk result (λ h. bag_of desk.new ≡ with_handle Owner h.block h.place (bag_of desk.old)) }
     ensures held { OnOk result (desk.new.held ≡ desk.old.held + 1) }
-    ensures holds { IfOk result (λ h. Holds desk.new Owner h.block h.place) }
+    ensures holds { IfOk result (λ h. HoldsHandle desk.new Owner h.block h.place) }
     ensures keeps { OnOk result (Keeps desk.old desk.new) }
 {
     let block = this_block(domain, desk, handle)?;
@@ -69,7 +70,7 @@ pub fn weak_from_this<V: Drop + Send>(
     handle: &Shared,
 ) -> Result<handles::Weak, Refusal>
     requires domain { Belongs desk.old domain.now }
-    requires holds { Holds desk.old Owner handle.now.block handle.now.place }
+    requires holds { HoldsHandle desk.old Owner handle.now.block handle.now.place }
     ensures refused { IfErr result
         (λ why. WhyNotThis desk.old handle.now.block handle.now.place why × (desk.new ≡ desk.old)) }
     ensures may { OnOk result (MayGiveThis desk.old handle.now.block handle.now.place) }
@@ -77,7 +78,7 @@ pub fn weak_from_this<V: Drop + Send>(
     ensures event { IfOk result (λ h. SharesWeakly desk.old h.block h.place desk.new) }
     ensures bag { IfOk result (λ h. bag_of desk.new ≡ with_handle Weak h.block h.place (bag_of desk.old)) }
     ensures held { OnOk result (desk.new.held ≡ desk.old.held + 1) }
-    ensures holds { IfOk result (λ h. Holds desk.new Weak h.block h.place) }
+    ensures holds { IfOk result (λ h. HoldsHandle desk.new Weak h.block h.place) }
     ensures keeps { OnOk result (Keeps desk.old desk.new) }
 {
     let block = this_block(domain, desk, handle)?;

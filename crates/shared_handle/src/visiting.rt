@@ -3,7 +3,7 @@ ghost use Rattle.std.specs.Prelude.{◌≡◌};
 ghost use Rattle.std.specs.Fn.{FnOnceReturnsAtMut};
 ghost use Rattle.control_word.specs.declared.handle.Kind.TheVariants.{Owner};
 ghost use Rattle.control_block.specs.Desks.{Belongs, Keeps, bag_of};
-ghost use Rattle.shared_handle.specs.Calls.{Holds};
+ghost use Rattle.control_block.specs.CellCalls.{HoldsHandle};
 ghost use Rattle.shared_handle.specs.Visits.{IsVisit};
 
 use crate::pointers::owner_pointer;
@@ -26,7 +26,7 @@ pub fn visit<V: Drop + Send, R, F: FnOnce(&mut V) -> R, W: Wait>(
     f: F,
 ) -> Result<R, Refused<F>>
     requires domain { Belongs desk.old domain.now }
-    requires holds { Holds desk.old Owner handle.now.block handle.now.place }
+    requires holds { HoldsHandle desk.old Owner handle.now.block handle.now.place }
     requires callable { F.IsAlwaysCallable f }
     ensures visit { IsVisit (λ was r becomes. FnOnceReturnsAtMut F.FnOnce f was r becomes) f desk.old handle.now.block
         handle.now.place result desk.new }

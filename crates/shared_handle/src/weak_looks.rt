@@ -2,7 +2,8 @@
 ghost use Rattle.std.specs.Prelude.{◌≡◌};
 ghost use Rattle.control_word.specs.declared.handle.Kind.TheVariants.{Weak};
 ghost use Rattle.control_block.specs.Desks.{Belongs, Keeps, bag_of};
-ghost use Rattle.shared_handle.specs.Calls.{Holds, IsCount, IsExpiry};
+ghost use Rattle.shared_handle.specs.Calls.{IsUseCount, IsExpiry};
+ghost use Rattle.control_block.specs.CellCalls.{HoldsHandle};
 
 use crate::ordering::HasOwner;
 use crate::pointers::weak_pointer;
@@ -27,8 +28,8 @@ pub fn use_count_weak<V: Drop + Send>(
     handle: &handles::Weak,
 ) -> u32
     requires domain { Belongs desk.old domain.now }
-    requires holds { Holds desk.old Weak handle.now.block handle.now.place }
-    ensures count { IsCount desk.old Weak handle.now.block handle.now.place result desk.new }
+    requires holds { HoldsHandle desk.old Weak handle.now.block handle.now.place }
+    ensures count { IsUseCount desk.old Weak handle.now.block handle.now.place result desk.new }
     ensures bag { bag_of desk.new ≡ bag_of desk.old }
     ensures held { desk.new.held ≡ desk.old.held }
     ensures keeps { Keeps desk.old desk.new }
@@ -47,7 +48,7 @@ pub fn expired<V: Drop + Send>(
     handle: &handles::Weak,
 ) -> bool
     requires domain { Belongs desk.old domain.now }
-    requires holds { Holds desk.old Weak handle.now.block handle.now.place }
+    requires holds { HoldsHandle desk.old Weak handle.now.block handle.now.place }
     ensures expired { IsExpiry desk.old handle.now.block handle.now.place result desk.new }
     ensures bag { bag_of desk.new ≡ bag_of desk.old }
     ensures held { desk.new.held ≡ desk.old.held }

@@ -3,7 +3,8 @@ ghost use Rattle.std.specs.Prelude.{◌≡◌, ◌↔◌, ◌+◌, Bool, cond, l
 ghost use Rattle.control_word.specs.declared.handle.Kind.TheVariants.{Weak};
 ghost use Rattle.control_block.specs.Desks.{Belongs, IsSameDesk, Keeps, KeepsEndings, allowance_of, bag_of, endings_of};
 ghost use Rattle.control_block.specs.Desks.{held_of, stock_of};
-ghost use Rattle.shared_handle.specs.Calls.{Holds, LeavesWeakly, SharesWeakly, weak_place, with_handle, without_handle};
+ghost use Rattle.shared_handle.specs.Calls.{LeavesWeakly, SharesWeakly, weak_place};
+ghost use Rattle.control_block.specs.CellCalls.{HoldsHandle, with_handle, without_handle};
 
 use control_block::desk::Desk;
 use control_block::domain::Domain;
@@ -22,7 +23,7 @@ pub fn share_weak<V: Drop + Send>(
     handle: &handles::Weak,
 ) -> Result<handles::Weak, Refusal>
     requires domain { Belongs desk.old domain.now }
-    requires holds { Holds desk.old Weak handle.now.block handle.now.place }
+    requires holds { HoldsHandle desk.old Weak handle.now.block handle.now.place }
     ensures limit { IsErr result ↔ (held_of desk.old ≡ allowance_of desk.old) }
     ensures refused { IfErr result (λ why. (why ≡ Refusal.Limit) × (desk.new ≡ desk.old)) }
     ensures handle { IfOk result
@@ -31,7 +32,7 @@ pub fn share_weak<V: Drop + Send>(
     ensures bag { OnOk result
         (bag_of desk.new ≡ with_handle Weak handle.now.block handle.now.place (bag_of desk.old)) }
     ensures held { OnOk result (desk.new.held ≡ desk.old.held + 1) }
-    ensures holds { IfOk result (λ h. Holds desk.new Weak h.block h.place) }
+    ensures holds { IfOk result (λ h. HoldsHandle desk.new Weak h.block h.place) }
     ensures keeps { OnOk result (Keeps desk.old desk.new) }
 {
     let Some(block) = handle.block() else {
@@ -45,7 +46,7 @@ pub fn share_weak<V: Drop + Send>(
 /// is vacant, and in the desk's store.
 pub fn release_weak<V: Drop + Send>(domain: &Domain<V>, desk: &mut Desk<V>, handle: handles::Weak)
     requires domain { Belongs desk.old domain.now }
-    requires holds { Holds desk.old Weak handle.block handle.place }
+    requires holds { HoldsHandle desk.old Weak handle.block handle.place }
     ensures event { (vacant : Bool) × LeavesWeakly desk.old handle.block handle.place vacant desk.new
         × (length (stock_of desk.new) ≡ length (stock_of desk.old) + cond vacant 1 0) }
     ensures bag { bag_of desk.new ≡ without_handle Weak handle.block handle.place (bag_of desk.old) }

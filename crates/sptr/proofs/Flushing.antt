@@ -5,7 +5,7 @@ use Rattle.std.specs.Io.KnownBytes.{Appends, Keeps}
 use Rattle.std.proofs.lemmas.List.{append-nil}
 use Rattle.script_text.specs.declared.fault.Fault.{Fault}
 use Rattle.script_text.specs.declared.fault.Fault.TheVariants.{Memory, Syntax, BadTurn, Output, Input}
-use Rattle.script_stepper.specs.Runs.{Delivers, Tells}
+use Rattle.script_stepper.specs.Runs.{Delivers, TellsRun}
 use Rattle.script_stepper.specs.Sinks.{AppendsBeginning}
 use Rattle.script_stepper.proofs.Writing.{Appends-kept, Appends-then}
 use Rattle.script_runner.specs.Telling.{TellsReport}
@@ -28,10 +28,10 @@ delivers_flushed {A} told (Err f) a b c h k e =
 
 -- what was answered is forgotten where the flush fails
 pub left_unflushed : (draws : Bool) (bytes list : List ℕ) (leaks : Bool) (fault : Fault) (a b c : Option (List ℕ))
-    → (text : List ℕ) × Tells (IsLeftText draws (Ok leaks)) bytes list (Ok text) × Appends a b text
-    → Keeps b c → fault ≡ Output → Delivers {A = Bool} (Tells (IsLeftText draws (Err fault)) bytes list) (Err fault) a c
+    → (text : List ℕ) × TellsRun (IsLeftText draws (Ok leaks)) bytes list (Ok text) × Appends a b text
+    → Keeps b c → fault ≡ Output → Delivers {A = Bool} (TellsRun (IsLeftText draws (Err fault)) bytes list) (Err fault) a c
 left_unflushed draws bytes list leaks fault a b c h k e =
-    subst (λ (f : Fault). Delivers {A = Bool} (Tells (IsLeftText draws (Err f)) bytes list) (Err f) a c) (sym e)
+    subst (λ (f : Fault). Delivers {A = Bool} (TellsRun (IsLeftText draws (Err f)) bytes list) (Err f) a c) (sym e)
     (h.0, forgotten draws leaks Output bytes list h.0 h.1, all_of a c h.0 (kept_after a b c h.0 h.2 k))
 
 delivers_unless : {A : Type 0} (told : Result (List ℕ) Fault → Type 0) (r : Result A Fault) (a b : Option (List ℕ)) → Delivers told r a b

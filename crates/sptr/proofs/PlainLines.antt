@@ -7,7 +7,7 @@ use Rattle.clap.specs.Words.{Text, fault_of}
 use Rattle.clap.specs.Lexer.{long_of, short_of}
 use Rattle.clap.specs.declared.error.kind.ErrorKind.TheVariants as kind
 use Rattle.clap.proofs.OnLiterals.{clap_on_literals}
-use Rattle.sptr.specs.CommandLine.{Asks, AsksPlainly, IsLine, check_line, command_named, convert_line, file_word}
+use Rattle.sptr.specs.CommandLine.{AsksFor, AsksPlainly, IsLine, check_line, command_named, convert_line, file_word}
 use Rattle.sptr.specs.CommandLine.{fine_line, left_line, names_file, program, run_line, step_line}
 use Rattle.sptr.specs.CommandLine.{dot_option, dot_words, draws_given, turns_file_option, turns_given, turns_option}
 use Rattle.sptr.specs.declared.command.Asked.{Asked}
@@ -129,7 +129,7 @@ left_with_turns true = with_turns (codes "left") (codes "--dot" ∷ []) (IsForLe
 -- the words have no fault, ask for this, and name no file
 pub record IsPlain (words : List Text) (asked : Asked) : Type 0 where
   pub faultless : fault_of program words ≡ []
-  pub asks : Asks words asked
+  pub asks : AsksFor words asked
   pub no_file : names_file words ≡ false
 
 pub plainly_asks : (words : List Text) (asked : Asked) → AsksPlainly words asked → IsPlain words asked

@@ -8,10 +8,10 @@ use Rattle.clap.specs.declared.error.kind.ErrorKind.{ErrorKind}
 use Rattle.clap.specs.declared.error.kind.ErrorKind.TheVariants as kind
 use Rattle.script_text.specs.declared.fault.Fault.{Fault}
 use Rattle.script_text.specs.declared.fault.Fault.TheVariants.{Memory}
-use Rattle.script_stepper.specs.Runs.{Delivers, IsFineText, IsRunText, Tells}
-use Rattle.sptr.specs.CommandLine.{Asks, AsksHelp, AsksPlainly, AsksVersion, NamesNoCommand, command_named, names_file, program}
+use Rattle.script_stepper.specs.Runs.{Delivers, IsFineText, IsRunText, TellsRun}
+use Rattle.sptr.specs.CommandLine.{AsksFor, AsksHelp, AsksPlainly, AsksVersion, NamesNoCommand, command_named, names_file, program}
 use Rattle.sptr.specs.CommandLine.{draws_given, turns_given}
-use Rattle.sptr.specs.Serving.{Answers, Converts, Counts, FindsIfAsked, IsAnswered, IsMistaken, IsReason, IsShown, IsTurnedAway, Report}
+use Rattle.sptr.specs.Serving.{AnswersCommand, Converts, CountsScript, FindsIfAsked, IsAnswered, IsMistaken, IsReason, IsShownText, IsTurnedAway, Report}
 use Rattle.sptr.specs.Serving.{UnlessInput, asks_left, known_unless}
 use Rattle.leak_report.specs.Left.{IsLeftText}
 use Rattle.script_runner.specs.Telling.{TellsReport}
@@ -42,11 +42,11 @@ pick false a b = b
 -- what the command with a name tells
 told : Text → Text → Bool → Result Bool Fault → List ℕ → Telling
 told name list draws answer bytes =
-    pick (bytes_eq name (codes "check")) (UnlessInput (Counts bytes))
+    pick (bytes_eq name (codes "check")) (UnlessInput (CountsScript bytes))
     (pick (bytes_eq name (codes "convert")) (UnlessInput (Converts bytes))
-    (pick (bytes_eq name (codes "step")) (UnlessInput (Tells IsRunText bytes list))
-    (pick (bytes_eq name (codes "fine")) (UnlessInput (Tells IsFineText bytes list))
-    (pick (bytes_eq name (codes "run")) (UnlessInput (TellsReport bytes)) (UnlessInput (Tells (IsLeftText draws answer) bytes list))))))
+    (pick (bytes_eq name (codes "step")) (UnlessInput (TellsRun IsRunText bytes list))
+    (pick (bytes_eq name (codes "fine")) (UnlessInput (TellsRun IsFineText bytes list))
+    (pick (bytes_eq name (codes "run")) (UnlessInput (TellsReport bytes)) (UnlessInput (TellsRun (IsLeftText draws answer) bytes list))))))
 
 finds : Text → Bool
 finds name = bytes_eq name (codes "left")
@@ -60,7 +60,7 @@ name_of (Fine turns) = codes "fine"
 name_of Run = codes "run"
 name_of (Left turns draws) = codes "left"
 
-named : (words : List Text) (a : Asked) → Asks words a → command_named words ≡ Some (name_of a)
+named : (words : List Text) (a : Asked) → AsksFor words a → command_named words ≡ Some (name_of a)
 unfolding name_of
 named words Check x = x
 named words Convert x = x
@@ -69,8 +69,8 @@ named words (Fine turns) x = x.0
 named words Run x = x
 named words (Left turns draws) x = x.0
 
-by_name : (words : List Text) (a : Asked) (answer : Result Bool Fault) (bytes : List ℕ) → Asks words a
-    → Answers a answer bytes ≡ told (name_of a) (turns_given words) (draws_given words) answer bytes
+by_name : (words : List Text) (a : Asked) (answer : Result Bool Fault) (bytes : List ℕ) → AsksFor words a
+    → AnswersCommand a answer bytes ≡ told (name_of a) (turns_given words) (draws_given words) answer bytes
 unfolding told pick name_of
 by_name words Check answer bytes x = refl
 by_name words Convert answer bytes x = refl
@@ -89,12 +89,12 @@ finds_by_name (Fine turns) = refl
 finds_by_name Run = refl
 finds_by_name (Left turns draws) = refl
 
-module _ (words : List Text) (a b : Asked) (x : Asks words a) (y : Asks words b) where
+module _ (words : List Text) (a b : Asked) (x : AsksFor words a) (y : AsksFor words b) where
   same_name : name_of a ≡ name_of b
   same_name = same_Some _ _ (sym (named words a x) ∙ named words b y)
 
   -- words ask for one thing
-  same_answers : (answer : Result Bool Fault) (bytes : List ℕ) → Answers a answer bytes ≡ Answers b answer bytes
+  same_answers : (answer : Result Bool Fault) (bytes : List ℕ) → AnswersCommand a answer bytes ≡ AnswersCommand b answer bytes
   same_answers answer bytes =
       by_name words a answer bytes x ∙ ap (λ name. told name (turns_given words) (draws_given words) answer bytes) same_name
       ∙ sym (by_name words b answer bytes y)
@@ -103,13 +103,13 @@ module _ (words : List Text) (a b : Asked) (x : Asks words a) (y : Asks words b)
   finds_same answer h none = h (finds_by_name a ∙ ap finds same_name ∙ sym (finds_by_name b) ∙ none)
 
   delivers_same : (input : Option (List ℕ)) (answer : Result Bool Fault) (old new : Option (List ℕ))
-      → IfSome input (λ bytes. Delivers (Answers a answer bytes) answer old new)
-      → IfSome input (λ bytes. Delivers (Answers b answer bytes) answer old new)
+      → IfSome input (λ bytes. Delivers (AnswersCommand a answer bytes) answer old new)
+      → IfSome input (λ bytes. Delivers (AnswersCommand b answer bytes) answer old new)
   delivers_same None answer old new h = tt
   delivers_same (Some bytes) answer old new h = subst (λ (t : Telling). Delivers t answer old new) (same_answers answer bytes) h
 
 module _ (words : List Text) (input : Option (List ℕ)) (status : ℕ) (old new : Option (List ℕ)) (has_failed : Bool) (faults : Report) where
-  pub answered_plainly : (a b : Asked) (files : Bool) → files ≡ names_file words → Asks words a → AsksPlainly words b
+  pub answered_plainly : (a b : Asked) (files : Bool) → files ≡ names_file words → AsksFor words a → AsksPlainly words b
       → IsAnswered a (known_unless files input) status old new has_failed faults → IsAnswered b input status old new has_failed faults
   answered_plainly a b files named x y h =
       let plain = plainly_asks words b y in
@@ -140,7 +140,7 @@ module _ (words : List Text) (input : Option (List ℕ)) (status : ℕ) (old new
       let m = h.memory (no_kind reason (fault_of program words) (plainly_asks words b y).faultless r) in
       record {
         answer = Err Memory;
-        delivers = nothing input (Answers b (Err Memory)) m.1.0;
+        delivers = nothing input (AnswersCommand b (Err Memory)) m.1.0;
         finds = λ none. tt;
         says = m.0;
         fails = m.1.1;
@@ -176,7 +176,7 @@ module _ (words : List Text) where
 
 module _ (words : List Text) (status : ℕ) (old new : Option (List ℕ)) (has_failed : Bool) (faults : Report) where
   pub helped_plainly : (reason : ErrorKind) → IsReason words reason → AsksHelp words → IsTurnedAway reason status old new has_failed faults
-      → IsShown status old new has_failed faults
+      → IsShownText status old new has_failed faults
   helped_plainly reason r y h = elim (only_kind words reason kind.DisplayHelp (help_fault words y) r) [
     | inl is ↦
         let m = h.memory is in
@@ -185,7 +185,7 @@ module _ (words : List Text) (status : ℕ) (old new : Option (List ℕ)) (has_f
   ]
 
   pub told_plainly : (reason : ErrorKind) → IsReason words reason → AsksVersion words → IsTurnedAway reason status old new has_failed faults
-      → IsShown status old new has_failed faults
+      → IsShownText status old new has_failed faults
   told_plainly reason r y h = elim (only_kind words reason kind.DisplayVersion (version_fault words y) r) [
     | inl is ↦
         let m = h.memory is in

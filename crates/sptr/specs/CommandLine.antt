@@ -63,12 +63,12 @@ abbrev pub command_named : List Text → Option Text
 command_named words = option_map (λ found. found.0) (subcommand_of program words)
 
 -- what a command was given for this, if it was
-abbrev pub word_in : Text → Option (Text × List Row) → Option Text
-word_in id found = option_and_then (λ (command : Text × List Row). first_of id command.1) found
+abbrev pub word_given : Text → Option (Text × List Row) → Option Text
+word_given id found = option_and_then (λ (command : Text × List Row). first_of id command.1) found
 
 -- whether a command was given a file, for the script or for the list of turns
 abbrev pub names_file_in : Option (Text × List Row) → Bool
-names_file_in found = is_some (word_in (codes "file") found) || is_some (word_in (codes "turns-file") found)
+names_file_in found = is_some (word_given (codes "file") found) || is_some (word_given (codes "turns-file") found)
 
 -- whether the words name one
 abbrev pub names_file : List Text → Bool
@@ -80,7 +80,7 @@ has_files files = is_some files.script || is_some files.turns
 
 -- the list that `--turns` gives, or none
 abbrev pub turns_given : List Text → Text
-turns_given words = unwrap_or (word_in (codes "turns") (subcommand_of program words)) []
+turns_given words = unwrap_or (word_given (codes "turns") (subcommand_of program words)) []
 
 -- how often a command was given this
 abbrev pub count_in : Text → Option (Text × List Row) → ℕ
@@ -92,13 +92,13 @@ abbrev pub draws_given : List Text → Bool
 draws_given words = nat_lt 0 (count_in (codes "dot") (subcommand_of program words))
 
 -- the words ask for this
-abbrev pub Asks : List Text → Asked → Type 0
-Asks words Check = command_named words ≡ Some (codes "check")
-Asks words Convert = command_named words ≡ Some (codes "convert")
-Asks words (Step turns) = (command_named words ≡ Some (codes "step")) × (turns.now ≡ turns_given words)
-Asks words (Fine turns) = (command_named words ≡ Some (codes "fine")) × (turns.now ≡ turns_given words)
-Asks words Run = command_named words ≡ Some (codes "run")
-Asks words (Left turns draws) =
+abbrev pub AsksFor : List Text → Asked → Type 0
+AsksFor words Check = command_named words ≡ Some (codes "check")
+AsksFor words Convert = command_named words ≡ Some (codes "convert")
+AsksFor words (Step turns) = (command_named words ≡ Some (codes "step")) × (turns.now ≡ turns_given words)
+AsksFor words (Fine turns) = (command_named words ≡ Some (codes "fine")) × (turns.now ≡ turns_given words)
+AsksFor words Run = command_named words ≡ Some (codes "run")
+AsksFor words (Left turns draws) =
     (command_named words ≡ Some (codes "left")) × (turns.now ≡ turns_given words) × (draws ≡ draws_given words)
 
 -- the words are the program's name, this command and these options, and then no list, `--turns=LIST`, or

@@ -9,28 +9,28 @@ use Rattle.std.specs.Io.KnownBytes.{Appends}
 use Rattle.script_stepper.specs.Sinks.{AppendsBeginning}
 use Rattle.script_text.specs.Faults.{fault_line}
 use Rattle.script_runner.specs.Telling.{TellsReport}
-use Rattle.script_stepper.specs.Runs.{Delivers, IsFineText, IsRunText, Tells, Writes, is_output}
+use Rattle.script_stepper.specs.Runs.{Delivers, IsFineText, IsRunText, TellsRun, Writes, is_output}
 use Rattle.script_text.specs.declared.fault.Fault.{Fault}
 use Rattle.script_text.specs.declared.fault.Fault.TheVariants.{Memory, Syntax, BadTurn, Output, Input}
 use Rattle.script_text.specs.Drafts.{ScriptView}
-use Rattle.script_text.specs.Grammar.{Reads, Refuses}
+use Rattle.script_text.specs.Grammar.{ReadsAs, Refuses}
 use Rattle.script_text.specs.Scripts.{converted, statement_count}
 use Rattle.script_text.specs.Canonical.{canonical}
-use Rattle.sptr.specs.CommandLine.{Asks, names_file, program}
+use Rattle.sptr.specs.CommandLine.{AsksFor, names_file, program}
 use Rattle.sptr.specs.Lines.{ok_line}
 use Rattle.sptr.specs.declared.command.Asked.{Asked}
 use Rattle.sptr.specs.declared.command.Asked.TheVariants.{Check, Convert, Fine, Left, Run, Step}
 
 -- the line that counts the script which the text reads as, or the refusal that the text has
-abbrev pub Counts : List ℕ → Result (List ℕ) Fault → Type 0
-Counts bytes (Ok text) = (script : ScriptView) × Reads bytes script
+abbrev pub CountsScript : List ℕ → Result (List ℕ) Fault → Type 0
+CountsScript bytes (Ok text) = (script : ScriptView) × ReadsAs bytes script
     × (text ≡ ok_line (length script.threads) (statement_count script.threads))
-Counts bytes (Err fault) = Refuses fault bytes
+CountsScript bytes (Err fault) = Refuses fault bytes
 
 -- the canonical text in version 2 of the script which the text reads as, or the refusal that the text has
 abbrev pub Converts : List ℕ → Result (List ℕ) Fault → Type 0
-Converts bytes (Ok text) = (script : ScriptView) × Reads bytes script × (text ≡ canonical (converted script))
-    × Reads text (converted script)
+Converts bytes (Ok text) = (script : ScriptView) × ReadsAs bytes script × (text ≡ canonical (converted script))
+    × ReadsAs text (converted script)
 Converts bytes (Err fault) = Refuses fault bytes
 
 -- the same where the input may have failed
@@ -43,13 +43,13 @@ UnlessInput told (Err Output) = told (Err Output)
 UnlessInput told (Err Input) = Unit {0}
 
 -- what a command answers to the bytes on the input; only `left` answers more than that, whether something is leaked
-abbrev pub Answers : Asked → Result Bool Fault → List ℕ → Result (List ℕ) Fault → Type 0
-Answers Check answer bytes = UnlessInput (Counts bytes)
-Answers Convert answer bytes = UnlessInput (Converts bytes)
-Answers (Step turns) answer bytes = UnlessInput (Tells IsRunText bytes turns.now)
-Answers (Fine turns) answer bytes = UnlessInput (Tells IsFineText bytes turns.now)
-Answers Run answer bytes = UnlessInput (TellsReport bytes)
-Answers (Left turns draws) answer bytes = UnlessInput (Tells (IsLeftText draws answer) bytes turns.now)
+abbrev pub AnswersCommand : Asked → Result Bool Fault → List ℕ → Result (List ℕ) Fault → Type 0
+AnswersCommand Check answer bytes = UnlessInput (CountsScript bytes)
+AnswersCommand Convert answer bytes = UnlessInput (Converts bytes)
+AnswersCommand (Step turns) answer bytes = UnlessInput (TellsRun IsRunText bytes turns.now)
+AnswersCommand (Fine turns) answer bytes = UnlessInput (TellsRun IsFineText bytes turns.now)
+AnswersCommand Run answer bytes = UnlessInput (TellsReport bytes)
+AnswersCommand (Left turns draws) answer bytes = UnlessInput (TellsRun (IsLeftText draws answer) bytes turns.now)
 
 abbrev pub asks_left : Asked → Bool
 asks_left Check = false
@@ -107,7 +107,7 @@ Reports (Err fault) r = IsReported fault r
 pub record IsAnswered (asked : Asked) (input : Option (List ℕ))
     (status : ℕ) (old new : Option (List ℕ)) (has_failed : Bool) (faults : Report) : Type 0 where
   pub answer : Result Bool Fault
-  pub delivers : IfSome input (λ bytes. Delivers (Answers asked answer bytes) answer old new)
+  pub delivers : IfSome input (λ bytes. Delivers (AnswersCommand asked answer bytes) answer old new)
   pub finds : FindsIfAsked asked answer
   pub says : status ≡ exit_status answer
   pub fails : has_failed ≡ is_output answer
@@ -118,7 +118,7 @@ abbrev pub known_unless : Bool → Option (List ℕ) → Option (List ℕ)
 known_unless has_file input = if has_file then None else input
 
 -- a text of `clap` went to the output, but for want of memory and a failed output, whose line went to the faults
-pub record IsShown (status : ℕ) (old new : Option (List ℕ)) (has_failed : Bool) (faults : Report)
+pub record IsShownText (status : ℕ) (old new : Option (List ℕ)) (has_failed : Bool) (faults : Report)
     : Type 0 where
   pub text : List ℕ
   pub answer : Result Unit Fault
@@ -141,8 +141,8 @@ IsMistaken status old new has_failed faults =
 -- of the words do not
 pub record IsTurnedAway (reason : ErrorKind)
     (status : ℕ) (old new : Option (List ℕ)) (has_failed : Bool) (faults : Report) : Type 0 where
-  pub help : reason ≡ kind.DisplayHelp → IsShown status old new has_failed faults
-  pub version : reason ≡ kind.DisplayVersion → IsShown status old new has_failed faults
+  pub help : reason ≡ kind.DisplayHelp → IsShownText status old new has_failed faults
+  pub version : reason ≡ kind.DisplayVersion → IsShownText status old new has_failed faults
   pub memory : reason ≡ kind.OutOfMemory → (status ≡ 1) × IsSilent old new has_failed × IsReported Memory faults
   pub mistake : reason ≢ kind.DisplayHelp → reason ≢ kind.DisplayVersion → reason ≢ kind.OutOfMemory
       → (status ≡ 2) × IsSilent old new has_failed
@@ -155,6 +155,6 @@ IsReason words reason = (reason ≡ kind.OutOfMemory) ⊎ IsAmong reason (fault_
 abbrev pub Serves : List Text → Option (List ℕ) → ℕ → Option (List ℕ) → Option (List ℕ)
     → Bool → Report → Type 0
 Serves words input status old new has_failed faults =
-    ((asked : Asked) × Asks words asked × (fault_of program words ≡ [])
+    ((asked : Asked) × AsksFor words asked × (fault_of program words ≡ [])
     × IsAnswered asked (known_unless (names_file words) input) status old new has_failed faults)
     ⊎ ((reason : ErrorKind) × IsReason words reason × IsTurnedAway reason status old new has_failed faults)

@@ -4,14 +4,14 @@ ghost use Rattle.std.specs.Prelude.{◌≡◌, ◌⊎◌, ◌||◌, false, List,
 ghost use Rattle.std.specs.Prelude.{string_bytes};
 ghost use Rattle.script_text.specs.declared.fault.Fault.TheVariants.{Input, Memory};
 ghost use Rattle.script_runner.specs.Telling.{TellsReport};
-ghost use Rattle.script_stepper.specs.Runs.{Delivers, IsFineText, IsRunText, Tells, Writes, is_output, text_in};
+ghost use Rattle.script_stepper.specs.Runs.{Delivers, IsFineText, IsRunText, TellsRun, Writes, is_output, text_in};
 ghost use Rattle.std.specs.Io.KnownBytes.{Keeps};
 ghost use Rattle.leak_report.specs.Left.{IsLeftText};
 ghost use Rattle.sptr.specs.Lines.{ok_line};
 ghost use Rattle.script_text.specs.Canonical.{canonical};
-ghost use Rattle.script_text.specs.Grammar.{Reads};
+ghost use Rattle.script_text.specs.Grammar.{ReadsAs};
 ghost use Rattle.script_text.specs.Scripts.{converted};
-ghost use Rattle.sptr.specs.Serving.{Converts, Counts, UnlessInput};
+ghost use Rattle.sptr.specs.Serving.{Converts, CountsScript, UnlessInput};
 
 use control_word::Refusal;
 use leak_report::left_text;
@@ -51,7 +51,7 @@ fn ok_text(alloc: Global, threads: u32, statements: u32) -> Result<String, Alloc
 
 /// The answer of `check` on a script's text.
 fn counted(alloc: Global, text: &[u8]) -> Result<String, Fault>
-    ensures { Counts text.now (text_in result) }
+    ensures { CountsScript text.now (text_in result) }
 {
     let script = parse(alloc, text)?;
     match ok_text(alloc, script.threads(), script.statements()) {
@@ -63,7 +63,7 @@ fn counted(alloc: Global, text: &[u8]) -> Result<String, Fault>
 /// The canonical text of a script in version 2.
 fn version_two(alloc: Global, script: &Script) -> Result<String, Refusal>
     ensures canonical { IfOk result (λ text. string_bytes text ≡ canonical (converted script.now)) }
-    ensures reads { IfOk result (λ text. Reads (string_bytes text) (converted script.now)) }
+    ensures reads { IfOk result (λ text. ReadsAs (string_bytes text) (converted script.now)) }
 {
     let script = script_text::convert(alloc, script)?;
     print(alloc, &script)
@@ -110,7 +110,7 @@ fn stepped<O: Write>(
     output: &mut Output<O>,
 ) -> Result<(), Fault>
     requires { output.old.has_failed ≡ false }
-    ensures told { Delivers (Tells IsRunText script.now turns.now) result
+    ensures told { Delivers (TellsRun IsRunText script.now turns.now) result
         (O.contents output.old.writer) (O.contents output.new.writer) }
     ensures failed { output.new.has_failed ≡ is_output result }
 {
@@ -126,7 +126,7 @@ fn finely_stepped<O: Write>(
     output: &mut Output<O>,
 ) -> Result<(), Fault>
     requires { output.old.has_failed ≡ false }
-    ensures told { Delivers (Tells IsFineText script.now turns.now) result
+    ensures told { Delivers (TellsRun IsFineText script.now turns.now) result
         (O.contents output.old.writer) (O.contents output.new.writer) }
     ensures failed { output.new.has_failed ≡ is_output result }
 {
@@ -160,7 +160,7 @@ fn left_told<O: Write>(
     output: &mut Output<O>,
 ) -> Result<bool, Fault>
     requires { output.old.has_failed ≡ false }
-    ensures told { Delivers (Tells (IsLeftText draws result) script.now turns.now) result
+    ensures told { Delivers (TellsRun (IsLeftText draws result) script.now turns.now) result
         (O.contents output.old.writer) (O.contents output.new.writer) }
     ensures failed { output.new.has_failed ≡ is_output result }
 {
@@ -179,7 +179,8 @@ pub(crate) fn check<I: Read, O: Write>(
 ) -> Result<(), Fault>
     requires { output.old.has_failed ≡ false }
     ensures counts { IfSome (I.remaining input.old) (λ bytes.
-        Delivers (UnlessInput (Counts bytes)) result (O.contents output.old.writer) (O.contents output.new.writer)) }
+        Delivers (UnlessInput (CountsScript bytes)) result (O.contents output.old.writer)
+        (O.contents output.new.writer)) }
     ensures failed { output.new.has_failed ≡ is_output result }
 {
     let bytes = bytes_of(alloc, input)?;
@@ -212,7 +213,7 @@ pub(crate) fn step<I: Read, O: Write>(
 ) -> Result<(), Fault>
     requires { output.old.has_failed ≡ false }
     ensures tells { IfSome (I.remaining input.old) (λ bytes.
-        Delivers (UnlessInput (Tells IsRunText bytes turns.now)) result
+        Delivers (UnlessInput (TellsRun IsRunText bytes turns.now)) result
         (O.contents output.old.writer) (O.contents output.new.writer)) }
     ensures failed { output.new.has_failed ≡ is_output result }
 {
@@ -229,7 +230,7 @@ pub(crate) fn fine<I: Read, O: Write>(
 ) -> Result<(), Fault>
     requires { output.old.has_failed ≡ false }
     ensures tells { IfSome (I.remaining input.old) (λ bytes.
-        Delivers (UnlessInput (Tells IsFineText bytes turns.now)) result
+        Delivers (UnlessInput (TellsRun IsFineText bytes turns.now)) result
         (O.contents output.old.writer) (O.contents output.new.writer)) }
     ensures failed { output.new.has_failed ≡ is_output result }
 {
@@ -265,7 +266,7 @@ pub(crate) fn left<I: Read, O: Write>(
 ) -> Result<bool, Fault>
     requires { output.old.has_failed ≡ false }
     ensures tells { IfSome (I.remaining input.old) (λ bytes.
-        Delivers (UnlessInput (Tells (IsLeftText draws result) bytes turns.now)) result
+        Delivers (UnlessInput (TellsRun (IsLeftText draws result) bytes turns.now)) result
         (O.contents output.old.writer) (O.contents output.new.writer)) }
     ensures failed { output.new.has_failed ≡ is_output result }
 {

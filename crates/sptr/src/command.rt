@@ -4,7 +4,7 @@ ghost use Rattle.std.specs.Prelude.{◌≡◌, IfOk, [], codes, false, is_some, 
 ghost use Rattle.clap.specs.Words.{FailsBy, app_of, count_of, fault_of, first_of, found_of, rows_of, rule_of, shape_of};
 ghost use Rattle.clap.specs.Words.{subcommand_rows_of, subcommand_of};
 ghost use Rattle.clap.specs.declared.builder.command.Command.TheViews.{out-Command};
-ghost use Rattle.sptr.specs.CommandLine.{Asks, check_line, convert_line, fine_line, left_line, program, run_line};
+ghost use Rattle.sptr.specs.CommandLine.{AsksFor, check_line, convert_line, fine_line, left_line, program, run_line};
 ghost use Rattle.sptr.specs.CommandLine.{step_line};
 ghost use Rattle.sptr.specs.CommandLine.{dot_option, file_word, turns_option, turns_file_option, has_files, names_file};
 ghost use Rattle.sptr.specs.CommandLine.{names_file_in};
@@ -215,7 +215,7 @@ fn files_of<'a>(matches: &ArgMatches<'a>) -> Files<'a>
 
 /// What the words of a command line ask for.
 pub(crate) fn asked_of<'a, S: AsStr>(alloc: Global, words: &'a [S]) -> Result<Line<'a>, Error>
-    ensures asks { IfOk result (λ line. Asks (map S.text words.entry.now) line.asked) }
+    ensures asks { IfOk result (λ line. AsksFor (map S.text words.entry.now) line.asked) }
     ensures files { IfOk result (λ line. has_files line.files ≡ names_file (map S.text words.entry.now)) }
     ensures kinds { FailsBy (fault_of program (map S.text words.entry.now)) result }
 {

@@ -4,7 +4,8 @@ ghost use Rattle.std.specs.Prelude.{◌≡◌, ◌≤◌, false, map};
 ghost use Rattle.clap.specs.Words.{kind_of};
 ghost use Rattle.sptr.specs.declared.command.Asked.{Asked};
 ghost use Rattle.sptr.specs.CommandLine.{AsksHelp, AsksPlainly, AsksVersion, NamesNoCommand, has_files};
-ghost use Rattle.sptr.specs.Serving.{IsAnswered, IsMistaken, IsReported, IsShown, IsTurnedAway, Serves, exit_status};
+ghost use Rattle.sptr.specs.Serving.{IsAnswered, IsMistaken, IsReported, IsShownText, IsTurnedAway, Serves};
+ghost use Rattle.sptr.specs.Serving.{exit_status};
 ghost use Rattle.sptr.specs.Serving.{known_unless, report};
 
 use crate::answers::written;
@@ -35,7 +36,8 @@ fn refuse<F: Write>(fault: Fault, faults: &mut Output<F>) -> u8
 /// Writes help, or the version, and answers the exit status.
 fn show<O: Write, F: Write>(text: &[u8], output: &mut Output<O>, faults: &mut Output<F>) -> u8
     requires { output.old.has_failed ≡ false }
-    ensures shows { IsShown result (O.contents output.old.writer) (O.contents output.new.writer) output.new.has_failed
+    ensures shows { IsShownText result (O.contents output.old.writer) (O.contents output.new.writer)
+        output.new.has_failed
         (report (F.contents faults.old.writer) faults.old.has_failed
         (F.contents faults.new.writer) faults.new.has_failed) }
     ensures quiet { result ≡ 0 → F.contents faults.new.writer ≡ F.contents faults.old.writer }
@@ -54,7 +56,8 @@ fn show_error<O: Write, F: Write>(
     faults: &mut Output<F>,
 ) -> u8
     requires { output.old.has_failed ≡ false }
-    ensures shows { IsShown result (O.contents output.old.writer) (O.contents output.new.writer) output.new.has_failed
+    ensures shows { IsShownText result (O.contents output.old.writer) (O.contents output.new.writer)
+        output.new.has_failed
         (report (F.contents faults.old.writer) faults.old.has_failed
         (F.contents faults.new.writer) faults.new.has_failed) }
     ensures quiet { result ≡ 0 → F.contents faults.new.writer ≡ F.contents faults.old.writer }
@@ -149,11 +152,11 @@ pub fn serve<R: rt::Files + Threads + Wait + Sync, S: AsStr, I: Read, O: Write, 
         (O.contents output.new.writer) output.new.has_failed
         (report (F.contents faults.old.writer) faults.old.has_failed
         (F.contents faults.new.writer) faults.new.has_failed) }
-    ensures help { AsksHelp (map S.text words.now) → IsShown result (O.contents output.old.writer)
+    ensures help { AsksHelp (map S.text words.now) → IsShownText result (O.contents output.old.writer)
         (O.contents output.new.writer) output.new.has_failed
         (report (F.contents faults.old.writer) faults.old.has_failed
         (F.contents faults.new.writer) faults.new.has_failed) }
-    ensures version { AsksVersion (map S.text words.now) → IsShown result (O.contents output.old.writer)
+    ensures version { AsksVersion (map S.text words.now) → IsShownText result (O.contents output.old.writer)
         (O.contents output.new.writer) output.new.has_failed
         (report (F.contents faults.old.writer) faults.old.has_failed
         (F.contents faults.new.writer) faults.new.has_failed) }

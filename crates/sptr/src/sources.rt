@@ -3,7 +3,7 @@
 ghost use Rattle.std.specs.Prelude.{◌≡◌, false, is_some, IfSome};
 ghost use Rattle.script_stepper.specs.Runs.{Delivers, is_output};
 ghost use Rattle.sptr.specs.CommandLine.{has_files};
-ghost use Rattle.sptr.specs.Serving.{Answers, FindsIfAsked, asks_left, known_unless};
+ghost use Rattle.sptr.specs.Serving.{AnswersCommand, FindsIfAsked, asks_left, known_unless};
 
 use crate::answers::{bytes_of, check, convert, fine, left, run, step};
 use crate::command::{Asked, Files, Line};
@@ -26,7 +26,7 @@ fn answer<R: Threads + Wait + Sync, I: Read, O: Write>(
 ) -> Result<bool, Fault>
     requires { output.old.has_failed ≡ false }
     ensures delivers { IfSome (I.remaining input.old) (λ bytes.
-        Delivers (Answers asked.entry result bytes) result (O.contents output.old.writer)
+        Delivers (AnswersCommand asked.entry result bytes) result (O.contents output.old.writer)
         (O.contents output.new.writer)) }
     ensures finds { FindsIfAsked asked.entry result }
     ensures failed { output.new.has_failed ≡ is_output result }
@@ -53,7 +53,7 @@ fn answer_script<R: rt::Files + Threads + Wait + Sync, I: Read, O: Write>(
 ) -> Result<bool, Fault>
     requires { output.old.has_failed ≡ false }
     ensures delivers { IfSome (known_unless (is_some script.entry) (I.remaining input.old)) (λ bytes.
-        Delivers (Answers asked.entry result bytes) result (O.contents output.old.writer)
+        Delivers (AnswersCommand asked.entry result bytes) result (O.contents output.old.writer)
         (O.contents output.new.writer)) }
     ensures finds { FindsIfAsked asked.entry result }
     ensures failed { output.new.has_failed ≡ is_output result }
@@ -122,7 +122,7 @@ pub(crate) fn answer_line<R: rt::Files + Threads + Wait + Sync, I: Read, O: Writ
 ) -> Result<bool, Fault>
     requires { output.old.has_failed ≡ false }
     ensures delivers { IfSome (known_unless (has_files line.entry.files) (I.remaining input.old)) (λ bytes.
-        Delivers (Answers line.entry.asked result bytes) result (O.contents output.old.writer)
+        Delivers (AnswersCommand line.entry.asked result bytes) result (O.contents output.old.writer)
         (O.contents output.new.writer)) }
     ensures finds { FindsIfAsked line.entry.asked result }
     ensures failed { output.new.has_failed ≡ is_output result }

@@ -12,7 +12,7 @@ use Rattle.step_threads.specs.Courses.{walk}
 use Rattle.step_threads.specs.Programs.{Part, part_of}
 use Rattle.step_core.specs.Starts.{first_walk}
 use Rattle.step_table.specs.Stories.{Story}
-use Rattle.step_threads.specs.Threads.{Fits}
+use Rattle.step_threads.specs.Threads.{FitsThread}
 use Rattle.step_core.specs.Worlds.{AllFit}
 
 at_pushed : {A : Type 0} (xs : List A) (y a : A) (i : ℕ) → slice_get (xs ++ y ∷ []) i ≡ Some a → (slice_get xs i ≡ Some a) ⊎
@@ -22,13 +22,13 @@ at_pushed [] y a (suc i) e = cc
 at_pushed (x ∷ xs) y a zero e = inl e
 at_pushed (x ∷ xs) y a (suc i) e = ⊎_elim (λ r. inl r) (λ r. inr (ap suc r.0, r.1)) (at_pushed xs y a i e)
 
-push_fit : (v : Story) (threads : List Thread) (t : Thread) (n : ℕ) → length threads ≡ n → AllFit v threads → Fits n t v → AllFit v
+push_fit : (v : Story) (threads : List Thread) (t : Thread) (n : ℕ) → length threads ≡ n → AllFit v threads → FitsThread n t v → AllFit v
     (threads ++ t ∷ [])
 push_fit v threads t n size all fits =
     record {
       each = λ d u at.
           ⊎_elim (λ r. all.each d u r)
-          (λ r. subst (λ (z : Thread). Fits d z v) r.1 (subst (λ (z : ℕ). Fits z t v) (sym (r.0 ∙ size)) fits)) (at_pushed threads t u d at);
+          (λ r. subst (λ (z : Thread). FitsThread d z v) r.1 (subst (λ (z : ℕ). FitsThread z t v) (sym (r.0 ∙ size)) fits)) (at_pushed threads t u d at);
     }
 
 push_mapped : {W : Type 0} (f : Thread → W) (g : Part → W) (threads : List Thread) (t : Thread) (actors : List Actor) (i : ℕ) (a : Actor)
@@ -52,7 +52,7 @@ pub record AreStarted (v : Story) (threads : List Thread) (actors : List Actor) 
 pub push_started : (v : Story) (threads new : List Thread) (t : Thread) (actors : List Actor) (n : ℕ) (a : Actor) → n < length actors
     → a ≡ get_or actors n a → AreStarted v threads actors n → new ≡ threads ++ t ∷ []
     → walk t.course ≡ first_walk (part_of a) → t.half ≡ Rest
-    → Fits n t v → AreStarted v new actors (n + 1)
+    → FitsThread n t v → AreStarted v new actors (n + 1)
 push_started v threads new t actors n a lt is started more w h fits =
     subst (λ (l : List Thread). AreStarted v l actors (n + 1)) (sym more)
     (record {

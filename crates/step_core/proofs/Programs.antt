@@ -9,7 +9,7 @@ use Rattle.std.proofs.lemmas.List.Elements.{All-append, All-cons, All-head, All-
 use Rattle.step_threads.specs.declared.call.Actor.{Actor}
 use Rattle.step_threads.specs.declared.call.Call.{Call}
 use Rattle.control_word.specs.declared.handle.Kind.{Kind}
-use Rattle.step_threads.specs.Programs.{Asked, IsDeclared, IsWellNamed, Part, call_count, listed, names_of, part_of}
+use Rattle.step_threads.specs.Programs.{Asked, IsDeclared, IsWellNamed, Part, call_count, asked_list, names_of, part_of}
 
 not_true : IsTrue false → ⊥
 not_true t = cc
@@ -29,9 +29,9 @@ all_right P (x ∷ xs) ys a = all_right P xs ys (All-tail P x (xs ++ ys) a)
 
 -- a test of a name that is there, as one of the list that it is
 pub one_named : (kinds : List Kind) (asked : Option Asked) (x : Asked) (b : Bool) → asked ≡ Some x → Tells b (IsDeclared kinds x)
-    → Tells b (All (IsDeclared kinds) (listed asked))
+    → Tells b (All (IsDeclared kinds) (asked_list asked))
 one_named kinds asked x b e h =
-    subst (λ (o : Option Asked). Tells b (All (IsDeclared kinds) (listed o))) (sym e) (
+    subst (λ (o : Option Asked). Tells b (All (IsDeclared kinds) (asked_list o))) (sym e) (
       λ t. All-cons (IsDeclared kinds) x [] (h.0 t) (All-nil (IsDeclared kinds)),
       λ a. h.1 (All-head (IsDeclared kinds) x [] a),
     )

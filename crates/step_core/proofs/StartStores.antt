@@ -16,7 +16,7 @@ use Rattle.step_threads.specs.declared.half.Half.TheVariants.{Rest}
 use Rattle.step_threads.specs.Actors.{Stocks, in_list}
 use Rattle.step_table.specs.Openings.{each_stock}
 use Rattle.step_core.specs.Starts.{first_story}
-use Rattle.step_threads.specs.Stocks.{Stored as Blocks, from}
+use Rattle.step_threads.specs.Stocks.{StoreView as Blocks, from}
 
 -- numbers from f on
 from_below : (b f n : ℕ) → b < f → in_list b (from f n) ≡ 0

@@ -18,16 +18,17 @@ use Rattle.step_threads.specs.declared.call.Name.{Name}
 use Rattle.step_threads.specs.declared.ending.Ending.{Ending}
 use Rattle.step_table.specs.declared.extent.Extent.{Extent}
 use Rattle.step_table.specs.declared.slot.Slot.{Slot}
-use Rattle.step_threads.specs.Acts.{acts, clearing, numbered, tasks_from}
-use Rattle.step_threads.specs.Courses.{HasCell, IsNamed, IsReady, Ready, hand, other}
-use Rattle.step_table.specs.Holdings.{Holds, IsSlot, Slots, full, owns, plain, value}
-use Rattle.step_threads.specs.Programs.{Asked, HasCells, IsDeclared, IsFound, IsIn, IsPart, IsWellNamed, Part, as_in, either, names_of, owner, through, weak}
+use Rattle.step_threads.specs.Acts.{acts, clearing, numbered_tasks, tasks_from}
+use Rattle.step_threads.specs.Courses.{HasCell, IsNamed, IsReady, TasksMayCome, hand, other}
+use Rattle.step_table.specs.Holdings.{HoldsBag, IsSlot, Slots, full, owns, plain, slot_value}
+use Rattle.step_threads.specs.Programs.{Asked, HasCells, IsDeclared, IsNameFound, IsIn, IsPart, IsWellNamed, Part, as_in, either, names_of, owner_asked}
+use Rattle.step_threads.specs.Programs.{through, weak_asked}
 use Rattle.step_core.specs.Starts.{HasFields, first_story}
 use Rattle.step_table.specs.Stories.{Nothing, Story, pending}
 use Rattle.step_table.proofs.tables.Start.{fresh_at}
 
 -- empty slots
-slot_none : (n i : ℕ) → value (replicate n plain) i ≡ plain
+slot_none : (n i : ℕ) → slot_value (replicate n plain) i ≡ plain
 slot_none zero i = refl
 slot_none (suc n) zero = refl
 slot_none (suc n) (suc i) = slot_none n i
@@ -40,7 +41,7 @@ none_full : (n : ℕ) → full (replicate n plain) ≡ 0
 none_full zero = refl
 none_full (suc n) = none_full n
 
-pub holds_start : (d n : ℕ) (x : Extent) → Holds d (replicate n plain) (first_story x)
+pub holds_start : (d n : ℕ) (x : Extent) → HoldsBag d (replicate n plain) (first_story x)
 holds_start d n x =
     record {
       owned = λ h. sym (none_owned (first_story x) h n);
@@ -52,13 +53,13 @@ pub idle_start : (d : ℕ) (x : Extent) → d < x.actors → pending (first_stor
 idle_start d x lt = ap (λ (v : View Nothing). v.pending) (fresh_at 0 x.actors d lt)
 
 -- a call's names are below the number of names
-within : (kinds : List Kind) (i : ℕ) (k : Option Kind) → IsFound k (slice_get kinds i) → i < length kinds
+within : (kinds : List Kind) (i : ℕ) (k : Option Kind) → IsNameFound k (slice_get kinds i) → i < length kinds
 within [] i None e = absurd cc
 within [] i (Some k) e = absurd cc
 within (x ∷ xs) zero k e = omega arith
 within (x ∷ xs) (suc i) k e = let r = within xs i k e in omega (arith, r)
 
-clearing_ready : (n k : ℕ) → k ≤ n → Ready n false (clearing k)
+clearing_ready : (n k : ℕ) → k ≤ n → TasksMayCome n false (clearing k)
 clearing_ready n zero le = refl
 clearing_ready n (suc k) le = ((omega arith, refl), tt, clearing_ready n k (omega arith))
 
@@ -74,57 +75,65 @@ in_within kinds c t h = within kinds t.0 (as_in c t).1 h
 cell_within : (kinds : List Kind) (c : CellName) → All (IsDeclared kinds) (through c) → IsNamed (length kinds) c
 cell_within kinds (cell.Shared n) all = tt
 cell_within kinds (cell.Weak n) all = tt
-cell_within kinds (cell.Member k m) all = within kinds k.0 (owner k).1 (All-head (IsDeclared kinds) (owner k) [] all)
+cell_within kinds (cell.Member k m) all = within kinds k.0 (owner_asked k).1 (All-head (IsDeclared kinds) (owner_asked k) [] all)
 
-call_ready : (kinds : List Kind) (k : ℕ) (c : Call) (ts : List Task) → IsWellNamed kinds c → HasFields c → Ready (length kinds) false ts
-    → Ready (length kinds) false (numbered k (acts c) ++ ts)
-call_ready kinds k (call.Make t f) ts named four r = ((refl, four), tt, (name_within kinds (call.Make t f) 0 (owner t) (omega arith) refl named, tt, r))
-call_ready kinds k (call.Empty t) ts named four r = ((name_within kinds (call.Empty t) 0 (owner t) (omega arith) refl named, refl), tt, r)
-call_ready kinds k (call.Reset t) ts named four r = ((name_within kinds (call.Reset t) 0 (owner t) (omega arith) refl named, refl), tt, r)
-call_ready kinds k (call.Count t) ts named four r = (name_within kinds (call.Count t) 0 (owner t) (omega arith) refl named, tt, r)
-call_ready kinds k (call.WeakEmpty t) ts named four r = ((name_within kinds (call.WeakEmpty t) 0 (weak t) (omega arith) refl named, refl), tt, r)
-call_ready kinds k (call.WeakReset t) ts named four r = ((name_within kinds (call.WeakReset t) 0 (weak t) (omega arith) refl named, refl), tt, r)
-call_ready kinds k (call.WeakCount t) ts named four r = (name_within kinds (call.WeakCount t) 0 (weak t) (omega arith) refl named, tt, r)
-call_ready kinds k (call.Expired t) ts named four r = (name_within kinds (call.Expired t) 0 (weak t) (omega arith) refl named, tt, r)
-call_ready kinds k (call.MakeThis t f) ts named four r = ((refl, four), tt, (name_within kinds (call.MakeThis t f) 0 (owner t) (omega arith) refl named, tt, r))
-call_ready kinds k (call.Null t) ts named four r = ((refl, refl), tt, (name_within kinds (call.Null t) 0 (owner t) (omega arith) refl named, tt, r))
+call_ready : (kinds : List Kind) (k : ℕ) (c : Call) (ts : List Task) → IsWellNamed kinds c → HasFields c → TasksMayCome (length kinds) false ts
+    → TasksMayCome (length kinds) false (numbered_tasks k (acts c) ++ ts)
+call_ready kinds k (call.Make t f) ts named four r = ((refl, four), tt, (name_within kinds (call.Make t f) 0 (owner_asked t) (omega arith) refl named, tt, r))
+call_ready kinds k (call.Empty t) ts named four r = ((name_within kinds (call.Empty t) 0 (owner_asked t) (omega arith) refl named, refl), tt, r)
+call_ready kinds k (call.Reset t) ts named four r = ((name_within kinds (call.Reset t) 0 (owner_asked t) (omega arith) refl named, refl), tt, r)
+call_ready kinds k (call.Count t) ts named four r = (name_within kinds (call.Count t) 0 (owner_asked t) (omega arith) refl named, tt, r)
+call_ready kinds k (call.WeakEmpty t) ts named four r = ((name_within kinds (call.WeakEmpty t) 0 (weak_asked t) (omega arith) refl named, refl), tt, r)
+call_ready kinds k (call.WeakReset t) ts named four r = ((name_within kinds (call.WeakReset t) 0 (weak_asked t) (omega arith) refl named, refl), tt, r)
+call_ready kinds k (call.WeakCount t) ts named four r = (name_within kinds (call.WeakCount t) 0 (weak_asked t) (omega arith) refl named, tt, r)
+call_ready kinds k (call.Expired t) ts named four r = (name_within kinds (call.Expired t) 0 (weak_asked t) (omega arith) refl named, tt, r)
+call_ready kinds k (call.MakeThis t f) ts named four r =
+    ((refl, four), tt, (name_within kinds (call.MakeThis t f) 0 (owner_asked t) (omega arith) refl named, tt, r))
+call_ready kinds k (call.Null t) ts named four r = ((refl, refl), tt, (name_within kinds (call.Null t) 0 (owner_asked t) (omega arith) refl named, tt, r))
 call_ready kinds k (call.Move t s) ts named four r = (
-  (name_within kinds (call.Move t s) 1 (owner s) (omega arith) refl named, refl),
+  (name_within kinds (call.Move t s) 1 (owner_asked s) (omega arith) refl named, refl),
   tt,
-  (name_within kinds (call.Move t s) 0 (owner t) (omega arith) refl named, tt, r),
+  (name_within kinds (call.Move t s) 0 (owner_asked t) (omega arith) refl named, tt, r),
 )
 call_ready kinds k (call.Alias t s o f) ts named four r = (
   (
-    name_within kinds (call.Alias t s o f) 1 (owner s) (omega arith) refl named,
-    name_within kinds (call.Alias t s o f) 2 (owner o) (omega arith) refl named,
+    name_within kinds (call.Alias t s o f) 1 (owner_asked s) (omega arith) refl named,
+    name_within kinds (call.Alias t s o f) 2 (owner_asked o) (omega arith) refl named,
     refl,
   ),
   tt,
-  (name_within kinds (call.Alias t s o f) 0 (owner t) (omega arith) refl named, tt, r),
+  (name_within kinds (call.Alias t s o f) 0 (owner_asked t) (omega arith) refl named, tt, r),
 )
 call_ready kinds k (call.AliasNull t s) ts named four r = (
   (
-    name_within kinds (call.AliasNull t s) 1 (owner s) (omega arith) refl named,
-    name_within kinds (call.AliasNull t s) 1 (owner s) (omega arith) refl named,
+    name_within kinds (call.AliasNull t s) 1 (owner_asked s) (omega arith) refl named,
+    name_within kinds (call.AliasNull t s) 1 (owner_asked s) (omega arith) refl named,
     refl,
   ),
   tt,
-  (name_within kinds (call.AliasNull t s) 0 (owner t) (omega arith) refl named, tt, r),
+  (name_within kinds (call.AliasNull t s) 0 (owner_asked t) (omega arith) refl named, tt, r),
 )
 call_ready kinds k (call.This t s) ts named four r = (
-  (name_within kinds (call.This t s) 1 (owner s) (omega arith) refl named, refl),
+  (name_within kinds (call.This t s) 1 (owner_asked s) (omega arith) refl named, refl),
   tt,
-  (name_within kinds (call.This t s) 0 (owner t) (omega arith) refl named, tt, r),
+  (name_within kinds (call.This t s) 0 (owner_asked t) (omega arith) refl named, tt, r),
 )
 call_ready kinds k (call.WeakThis t s) ts named four r = (
-  (name_within kinds (call.WeakThis t s) 1 (owner s) (omega arith) refl named, refl),
+  (name_within kinds (call.WeakThis t s) 1 (owner_asked s) (omega arith) refl named, refl),
   tt,
-  (name_within kinds (call.WeakThis t s) 0 (weak t) (omega arith) refl named, tt, r),
+  (name_within kinds (call.WeakThis t s) 0 (weak_asked t) (omega arith) refl named, tt, r),
 )
-call_ready kinds k (call.Read t) ts named four r = (name_within kinds (call.Read t) 0 (owner t) (omega arith) refl named, tt, r)
-call_ready kinds k (call.Place t) ts named four r = (name_within kinds (call.Place t) 0 (owner t) (omega arith) refl named, tt, r)
-call_ready kinds k (call.Same t s) ts named four r =
-    ((name_within kinds (call.Same t s) 0 (owner t) (omega arith) refl named, name_within kinds (call.Same t s) 1 (owner s) (omega arith) refl named), tt, r)
+call_ready kinds k (call.Read t) ts named four r = (name_within kinds (call.Read t) 0 (owner_asked t) (omega arith) refl named, tt, r)
+call_ready kinds k (call.Place t) ts named four r = (name_within kinds (call.Place t) 0 (owner_asked t) (omega arith) refl named, tt, r)
+call_ready kinds k (call.Same t s) ts named four r = (
+  (
+    name_within kinds (call.Same t s) 0 (owner_asked t) (omega arith) refl named,
+    name_within kinds (call.Same t s) 1 (owner_asked s) (omega arith) refl
+        named,
+  ),
+  tt,
+  r,
+)
 call_ready kinds k (call.Before t s) ts named four r = (
   (
     name_within kinds (call.Before t s) 0 (either t) (omega arith) refl named,
@@ -134,29 +143,29 @@ call_ready kinds k (call.Before t s) ts named four r = (
   r,
 )
 call_ready kinds k (call.Copy t s) ts named four r = (
-  (name_within kinds (call.Copy t s) 1 (owner s) (omega arith) refl named, refl),
+  (name_within kinds (call.Copy t s) 1 (owner_asked s) (omega arith) refl named, refl),
   tt,
-  (name_within kinds (call.Copy t s) 0 (owner t) (omega arith) refl named, tt, r),
+  (name_within kinds (call.Copy t s) 0 (owner_asked t) (omega arith) refl named, tt, r),
 )
 call_ready kinds k (call.Weak t s) ts named four r = (
-  (name_within kinds (call.Weak t s) 1 (owner s) (omega arith) refl named, refl),
+  (name_within kinds (call.Weak t s) 1 (owner_asked s) (omega arith) refl named, refl),
   tt,
-  (name_within kinds (call.Weak t s) 0 (weak t) (omega arith) refl named, tt, r),
+  (name_within kinds (call.Weak t s) 0 (weak_asked t) (omega arith) refl named, tt, r),
 )
 call_ready kinds k (call.WeakCopy t s) ts named four r = (
-  (name_within kinds (call.WeakCopy t s) 1 (weak s) (omega arith) refl named, refl),
+  (name_within kinds (call.WeakCopy t s) 1 (weak_asked s) (omega arith) refl named, refl),
   tt,
-  (name_within kinds (call.WeakCopy t s) 0 (weak t) (omega arith) refl named, tt, r),
+  (name_within kinds (call.WeakCopy t s) 0 (weak_asked t) (omega arith) refl named, tt, r),
 )
 call_ready kinds k (call.Lock t s) ts named four r = (
-  (name_within kinds (call.Lock t s) 1 (weak s) (omega arith) refl named, refl),
+  (name_within kinds (call.Lock t s) 1 (weak_asked s) (omega arith) refl named, refl),
   tt,
-  (name_within kinds (call.Lock t s) 0 (owner t) (omega arith) refl named, tt, r),
+  (name_within kinds (call.Lock t s) 0 (owner_asked t) (omega arith) refl named, tt, r),
 )
 call_ready kinds k (call.Upgrade t s) ts named four r = (
-  (name_within kinds (call.Upgrade t s) 1 (weak s) (omega arith) refl named, refl),
+  (name_within kinds (call.Upgrade t s) 1 (weak_asked s) (omega arith) refl named, refl),
   tt,
-  (name_within kinds (call.Upgrade t s) 0 (owner t) (omega arith) refl named, tt, r),
+  (name_within kinds (call.Upgrade t s) 0 (owner_asked t) (omega arith) refl named, tt, r),
 )
 call_ready kinds k (call.Store c t) ts named four r =
     let n = cell_within kinds c (All-tail (IsDeclared kinds) (as_in c t) (through c) named) in
@@ -175,7 +184,7 @@ call_ready kinds k (call.Compare c x y b) ts named four r =
     ((j, n, refl), tt, ((i, n), tt, (i, tt, (refl, tt, r))))
 
 tasks_ready : (kinds : List Kind) (k : ℕ) (calls : List Call) → All (IsWellNamed kinds) calls → All HasFields calls
-    → Ready (length kinds) false (tasks_from k calls (length kinds))
+    → TasksMayCome (length kinds) false (tasks_from k calls (length kinds))
 tasks_ready kinds k [] named four = clearing_ready (length kinds) (length kinds) (omega arith)
 tasks_ready kinds k (c ∷ cs) named four =
     call_ready kinds k c (tasks_from (k + 1) cs (length kinds)) (All-head (IsWellNamed kinds) c cs named) (All-head HasFields c cs four)
@@ -189,9 +198,9 @@ ready_start part tasks slots es fine four is empty =
     let h : other slots ≡ length part.kinds = omega (arith, s) in
     record {
       some = omega (arith, s);
-      free = λ t. inl (ap (λ (z : Slots). value z (hand slots)) empty ∙ slot_none (length part.kinds + 2) (hand slots));
-      owes = inl (ap (λ (z : Slots). value z (other slots)) empty ∙ slot_none (length part.kinds + 2) (other slots));
-      ready = subst (λ (n : ℕ). Ready n false tasks) (sym h) (subst (λ (z : List Task). Ready (length part.kinds) false z) (sym is)
+      free = λ t. inl (ap (λ (z : Slots). slot_value z (hand slots)) empty ∙ slot_none (length part.kinds + 2) (hand slots));
+      owes = inl (ap (λ (z : Slots). slot_value z (other slots)) empty ∙ slot_none (length part.kinds + 2) (other slots));
+      ready = subst (λ (n : ℕ). TasksMayCome n false tasks) (sym h) (subst (λ (z : List Task). TasksMayCome (length part.kinds) false z) (sym is)
           (tasks_ready part.kinds 1 part.calls fine.named four));
     }
 
@@ -220,7 +229,7 @@ four z t u w x h i j k = All-cons (HasTask z) t (u ∷ w ∷ x ∷ []) h (three 
 first_cell : (z : Shape) (c : CellName) → All (IsIn z) (c ∷ []) → IsIn z c
 first_cell z c h = All-head (IsIn z) c [] h
 
-call_cells : (z : Shape) (k : ℕ) (c : Call) → HasCells z c → All (HasTask z) (numbered k (acts c))
+call_cells : (z : Shape) (k : ℕ) (c : Call) → HasCells z c → All (HasTask z) (numbered_tasks k (acts c))
 call_cells z k (call.Make t f) h = two z _ _ tt tt
 call_cells z k (call.MakeThis t f) h = two z _ _ tt tt
 call_cells z k (call.Null t) h = two z _ _ tt tt
@@ -253,5 +262,5 @@ call_cells z k (call.Compare c x y b) h = four z _ _ _ _ (first_cell z c h) (fir
 pub tasks_cells : (z : Shape) (k n : ℕ) (calls : List Call) → All (HasCells z) calls → All (HasTask z) (tasks_from k calls n)
 tasks_cells z k n [] h = clearing_cells z n
 tasks_cells z k n (c ∷ cs) h =
-    All-append (HasTask z) (numbered k (acts c)) (tasks_from (k + 1) cs n) (call_cells z k c (All-head (HasCells z) c cs h))
+    All-append (HasTask z) (numbered_tasks k (acts c)) (tasks_from (k + 1) cs n) (call_cells z k c (All-head (HasCells z) c cs h))
     (tasks_cells z (k + 1) n cs (All-tail (HasCells z) c cs h))

@@ -23,9 +23,9 @@ use Rattle.control_word.specs.Layout.{spot}
 use Rattle.control_word.specs.Views.{owes, used_up}
 use Rattle.control_word.specs.Words.{slot as word_slot}
 use Rattle.step_threads.specs.declared.act.Act.{Act}
-use Rattle.step_table.specs.CellDeeds.{kind_in, owing}
+use Rattle.step_table.specs.CellDeeds.{kind_in_state, owing_funds}
 use Rattle.step_table.specs.Contents.{owing_for}
-use Rattle.step_table.specs.Holdings.{Holds, Slots}
+use Rattle.step_table.specs.Holdings.{HoldsBag, Slots}
 use Rattle.step_table.specs.declared.past.Deed.{Deed}
 use Rattle.step_threads.specs.declared.said.Stepped.{Stepped}
 use Rattle.step_threads.specs.declared.half.Half.{Half}
@@ -36,10 +36,11 @@ use Rattle.step_threads.specs.Courses.{CourseStill, HasCell, Walk, new_of, task_
 use Rattle.step_threads.specs.Scenes.{nowhere, walk_of}
 use Rattle.step_threads.specs.NextSteps.{answered, half_by, step_at, story_after, story_by, walk_by}
 use Rattle.step_threads.specs.Steps.{Step}
-use Rattle.step_table.specs.Stories.{Kept, Nothing, Story, after, pending, state}
+use Rattle.step_table.specs.Stories.{Kept, Nothing, Story, story_after_deed, pending, story_state}
 use Rattle.step_threads.specs.Endings.{EndsAll}
-use Rattle.step_threads.specs.Threads.{Fits, HasStepped, IsNext}
-use Rattle.step_core.specs.Turning.{HasBegun, IsAlone, IsInShape, IsLock, IsMatched, IsOut, IsProper, IsSeen, IsStill, IsSwap, IsTried, IsUnderWay, OthersOwe}
+use Rattle.step_threads.specs.Threads.{FitsThread, HasStepped, IsNext}
+use Rattle.step_core.specs.Turning.{HasBegun, IsAlone, IsInShape, NextActLocks, IsMatched, FundsAreHeld, IsProperHalf, IsSeen, IsStill, IsSwap, IsTried}
+use Rattle.step_core.specs.Turning.{IsUnderWay, OthersOwe}
 use Rattle.step_core.specs.Told.{IsTidy}
 use Rattle.step_core.specs.Worlds.{AllFit, Sight, Steps, half_of, is_loading, scene, step_of, thread_half, thread_walk}
 use Rattle.step_threads.proofs.Courses.{todo_at}
@@ -60,7 +61,8 @@ module _ {X : Type 0} where
   get_same (x ∷ xs) zero y lt = refl
   get_same (x ∷ xs) (suc i) y lt = get_same xs i y (omega arith)
 
-fits_others : (d : ℕ) (u : Thread) (v : Story) (n : ℕ) (x : Deed) → n ≢ d → Kept v → Kept (after v n x) → Fits d u v → Fits d u (after v n x)
+fits_others : (d : ℕ) (u : Thread) (v : Story) (n : ℕ) (x : Deed) → n ≢ d → Kept v → Kept (story_after_deed v n x) → FitsThread d u v
+    → FitsThread d u (story_after_deed v n x)
 fits_others d u v n x ne kept kept' fits =
     record {
       seat = fits.seat;
@@ -79,28 +81,29 @@ fits_others d u v n x ne kept kept' fits =
       cells = fits.cells;
     }
 
-fits_deed : (d : ℕ) (u : Thread) (v v' : Story) (n : ℕ) (x : Deed) → n ≢ d → Kept v → Kept v' → v' ≡ after v n x → Fits d u v → Fits d u v'
+fits_deed : (d : ℕ) (u : Thread) (v v' : Story) (n : ℕ) (x : Deed) → n ≢ d → Kept v → Kept v' → v' ≡ story_after_deed v n x → FitsThread d u v
+    → FitsThread d u v'
 fits_deed d u v v' n x ne kept kept' is fits =
-    subst (λ (w : Story). Fits d u w) (sym is) (fits_others d u v n x ne kept (subst (λ (w : Story). Kept w) is kept') fits)
+    subst (λ (w : Story). FitsThread d u w) (sym is) (fits_others d u v n x ne kept (subst (λ (w : Story). Kept w) is kept') fits)
 
 fits_by : (d : ℕ) (u : Thread) (v v' : Story) (n : ℕ) (x : Option Step) → n ≢ d → Kept v → Kept v' → v' ≡ story_by v n x
-    → Fits d u v → Fits d u v'
-fits_by d u v v' n None ne kept kept' is fits = subst (λ (w : Story). Fits d u w) (sym is) fits
+    → FitsThread d u v → FitsThread d u v'
+fits_by d u v v' n None ne kept kept' is fits = subst (λ (w : Story). FitsThread d u w) (sym is) fits
 fits_by d u v v' n (Some x) ne kept kept' is fits = done x.deed is
   where
-    done : (y : Option Deed) → v' ≡ story_after v n y → Fits d u v'
-    done None e = subst (λ (w : Story). Fits d u w) (sym e) fits
+    done : (y : Option Deed) → v' ≡ story_after v n y → FitsThread d u v'
+    done None e = subst (λ (w : Story). FitsThread d u w) (sym e) fits
     done (Some z) e = fits_deed d u v v' n z ne kept kept' e fits
 
 pub all_fit : (v v' : Story) (threads : List Thread) (n : ℕ) (t t' : Thread) (r : Stepped) → Kept v → Kept v' → AllFit v threads → n < length threads
-    → HasStepped n t v r t' v' → Fits n t' v' → AllFit v' (set threads n t')
+    → HasStepped n t v r t' v' → FitsThread n t' v' → AllFit v' (set threads n t')
 all_fit v v' threads n t t' r kept kept' all lt moved fits =
     record {
       each = λ d u at.
           ⊎_elim
           (λ (e : d ≡ n). let k : t' ≡ u = same_Some _ _ (sym (get_same threads n t' lt)
           ∙ subst (λ (j : ℕ). slice_get (set threads n t') j ≡ Some u) e at) in
-          subst (λ (j : ℕ). Fits j u v') (sym e) (subst (λ (w : Thread). Fits n w v') k fits))
+          subst (λ (j : ℕ). FitsThread j u v') (sym e) (subst (λ (w : Thread). FitsThread n w v') k fits))
           (λ (ne : d ≢ n). fits_by d u v v' n (step_at v n t.half (walk t.course)) (λ e. ne (sym e)) kept kept' moved.story
           (all.each d u (sym (get_other threads n d t' ne) ∙ at))) (cases_eq d n);
     }
@@ -158,7 +161,7 @@ begun_of d Clearing c v fits next = tt
 tried_of : (h : Half) (c : Course) → IsNext h c → IsTried h (walk c)
 tried_of Rest c next = tt
 tried_of (Making b i differs) c next = tt
-tried_of (Locking word) c next = subst (λ (ts : List Task). IsLock c.holdings.slots.items ts) (sym (todo_at c next.0)) next.1
+tried_of (Locking word) c next = subst (λ (ts : List Task). NextActLocks c.holdings.slots.items ts) (sym (todo_at c next.0)) next.1
 tried_of (Giving i kind x) c next = next.2
 tried_of Brought c next = subst (λ (ts : List Task). IsSwap c.holdings.slots.items ts) (sym (todo_at c next.0)) next.1
 tried_of (Saw x) c next = subst (λ (ts : List Task). IsSeen c.holdings.slots.items x ts) (sym (todo_at c next.0)) next.1
@@ -191,7 +194,7 @@ still_of c still =
     (λ (le : length c.tasks.items ≤ c.at). subst (λ (ts : List Task). IsStill (walk c) ts) (sym (drop_of_length-le c.tasks.items le)) tt)
     (cases_lt c.at (length c.tasks.items))
 
-proper_of : (d : ℕ) (h : Half) (c : Course) (v : Story) → HalfFits d h c.holdings.slots.items (task_at c).act v → IsProper d v h
+proper_of : (d : ℕ) (h : Half) (c : Course) (v : Story) → HalfFits d h c.holdings.slots.items (task_at c).act v → IsProperHalf d v h
 proper_of d Rest c v fits = fits
 proper_of d (Making b i differs) c v fits = tt
 proper_of d (Locking word) c v fits = tt
@@ -203,7 +206,7 @@ proper_of d (Refill stage cell x k) c v fits = ap is_some fits.owned
 proper_of d (Returning kind b funds k) c v fits = tt
 proper_of d Clearing c v fits = tt
 
-out_of : (d : ℕ) (h : Half) (c : Course) (v : Story) → HalfFits d h c.holdings.slots.items (task_at c).act v → IsOut d v h
+out_of : (d : ℕ) (h : Half) (c : Course) (v : Story) → HalfFits d h c.holdings.slots.items (task_at c).act v → FundsAreHeld d v h
 out_of d Rest c v fits = tt
 out_of d (Making b i differs) c v fits = tt
 out_of d (Locking word) c v fits = tt
@@ -219,12 +222,12 @@ none_idle : (v : Story) (d i : ℕ) → pending v d ≡ Idle → owes (pending v
 none_idle v d i idle = ap (λ (p : Pending Nothing). owes p i) idle
 
 -- funds alone are no load
-none_paying : (v : Story) (d i : ℕ) (k : Kind) (b : Block) (p : Option Place) (n : ℕ) → pending v d ≡ owing (state v) k (Some b) p n 0
+none_paying : (v : Story) (d i : ℕ) (k : Kind) (b : Block) (p : Option Place) (n : ℕ) → pending v d ≡ owing_funds (story_state v) k (Some b) p n 0
     → owes (pending v d) i ≡ 0
 none_paying v d i k b p n is =
     ap (λ (q : Pending Nothing). owes q i) is ∙ cond_both (i == spot b.0 (word_slot k)) 0 0 (λ (n : ℕ). n ≡ 0) (λ t. refl) (λ t. refl)
 
-none_brought : (v : Story) (d i : ℕ) (a : Slot) → pending v d ≡ owing_for (state v) a 256 → owes (pending v d) i ≡ 0
+none_brought : (v : Story) (d i : ℕ) (a : Slot) → pending v d ≡ owing_for (story_state v) a 256 → owes (pending v d) i ≡ 0
 none_brought v d i (Empty p) is = none_idle v d i is
 none_brought v d i (Full x) is = none_paying v d i x.kind x.block x.place 256 is
 
@@ -241,8 +244,8 @@ half_owes d (Matched x) slots a v i fits none = none_brought v d i (new_of slots
 half_owes d (Refill Turning c x k) slots a v i fits none = absurd (false≢true (sym none))
 half_owes d (Refill Checking c x k) slots a v i fits none = none_idle v d i fits.pays
 half_owes d (Refill Lacking c x k) slots a v i fits none = none_idle v d i fits.pays
-half_owes d (Refill Refilling c x k) slots a v i fits none = none_paying v d i (kind_in (state v) c) fits.block x.place x.taken fits.pays
-half_owes d (Refill Failing c x k) slots a v i fits none = none_paying v d i (kind_in (state v) c) fits.block x.place x.taken fits.pays
+half_owes d (Refill Refilling c x k) slots a v i fits none = none_paying v d i (kind_in_state (story_state v) c) fits.block x.place x.taken fits.pays
+half_owes d (Refill Failing c x k) slots a v i fits none = none_paying v d i (kind_in_state (story_state v) c) fits.block x.place x.taken fits.pays
 half_owes d (Returning kind b funds k) slots a v i fits none = none_paying v d i kind b fits.0 funds fits.1
 half_owes d Clearing slots a v i fits none = none_idle v d i fits
 
@@ -262,7 +265,7 @@ others_owe v threads n all many kept e ne quiet i =
     (get_or_past v.views e used_up (let s = kept.seats.size in let m = length-map threads thread_walk in omega (arith, s, le, many, m)))))
     (slice_get_cases threads e).1
 
-pub has_begun : (v : Story) (threads : List Thread) (n : ℕ) (t : Thread) → n < length threads → t ≡ get_or threads n t → Fits n t v → Kept v
+pub has_begun : (v : Story) (threads : List Thread) (n : ℕ) (t : Thread) → n < length threads → t ≡ get_or threads n t → FitsThread n t v → Kept v
     → AllFit v threads → length (map thread_walk threads) ≡ v.extent.actors
     → IsTidy (walk_of (scene (sight v threads)) n) → HasBegun n (sight v threads)
 has_begun v threads n t lt read fits kept all many tidy =
@@ -287,10 +290,10 @@ has_begun v threads n t lt read fits kept all many tidy =
       cell =
           subst (λ (k : Walk). IsInShape v.extent.shape k.todo) (sym w)
           (in_shape v.extent.shape (todo t.course) (All-drop (λ (x : Task). HasCell v.extent.shape x.act) t.course.at t.course.tasks.items fits.cells));
-      holds = subst (λ (k : Walk). Holds n k.slots v) (sym w) fits.holds;
+      holds = subst (λ (k : Walk). HoldsBag n k.slots v) (sym w) fits.holds;
       still = subst (λ (k : Walk). IsStill k k.todo) (sym w) (still_of t.course fits.still);
-      proper = subst (λ (k : Half). IsProper n v k) (sym h) (proper_of n t.half t.course v fits.half);
+      proper = subst (λ (k : Half). IsProperHalf n v k) (sym h) (proper_of n t.half t.course v fits.half);
       others = others_owe v threads n all many kept;
       tidy = tidy;
-      out = subst (λ (k : Half). IsOut n v k) (sym h) (out_of n t.half t.course v fits.half);
+      out = subst (λ (k : Half). FundsAreHeld n v k) (sym h) (out_of n t.half t.course v fits.half);
     }

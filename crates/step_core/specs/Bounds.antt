@@ -12,11 +12,11 @@ use Rattle.step_table.specs.declared.refill.Stage.TheVariants.{Turning, Checking
 use Rattle.step_threads.specs.declared.thread.Thread.{Thread}
 use Rattle.control_word.specs.declared.cell.CellWord.{CellWord}
 use Rattle.control_word.specs.Packing.{cell_bits}
-use Rattle.step_table.specs.Cells.{word_at}
-use Rattle.step_threads.specs.Courses.{Walk, cell_at, hand, locked, todo}
+use Rattle.step_table.specs.Cells.{word_of_cell}
+use Rattle.step_threads.specs.Courses.{Walk, cell_of_name, hand, locked_pointer, todo}
 use Rattle.step_table.specs.Deeds.{owner_word, on}
-use Rattle.step_table.specs.Holdings.{Slots, is_full, slot}
-use Rattle.step_table.specs.Stories.{Story, state}
+use Rattle.step_table.specs.Holdings.{Slots, is_full, slot_pointer}
+use Rattle.step_table.specs.Stories.{Story, story_state}
 use Rattle.step_core.specs.Totals.{ended_in, made_in}
 use Rattle.step_core.specs.Worlds.{Sight}
 use Rattle.step_threads.specs.Endings.{ending_steps}
@@ -50,7 +50,7 @@ spare Clearing = 14
 -- what came out of a member has to leave
 abbrev pub carried : List Ending → Slots → ℕ
 carried [] slots = 0
-carried (e ∷ es) slots = cond (is_full (slot slots (hand slots))) 1 0
+carried (e ∷ es) slots = cond (is_full (slot_pointer slots (hand slots))) 1 0
 
 -- the steps that a thread's tasks and endings have left
 abbrev pub task_steps : List Task → ℕ
@@ -69,12 +69,12 @@ left_to_do walks = sum_by walk_steps walks
 -- the word that counts the owners of what the next act locks
 abbrev pub lock_word : Story → Slots → List Task → ℕ
 lock_word v slots [] = 0
-lock_word v slots (t ∷ ts) = on (owner_word v) 0 (locked slots t.act)
+lock_word v slots (t ∷ ts) = on (owner_word v) 0 (locked_pointer slots t.act)
 
 -- the cell of the next act, where it is one that is looked at first, shows this
 abbrev pub shows_on : Story → Slots → CellWord → Act → Bool
-shows_on v slots x (Load c) = word_at v (cell_at (state v) slots c) == cell_bits x
-shows_on v slots x (Compare k c weak) = word_at v (cell_at (state v) slots c) == cell_bits x
+shows_on v slots x (Load c) = word_of_cell v (cell_of_name (story_state v) slots c) == cell_bits x
+shows_on v slots x (Compare k c weak) = word_of_cell v (cell_of_name (story_state v) slots c) == cell_bits x
 shows_on v slots x _ = false
 
 abbrev pub shows_next : Story → Slots → CellWord → List Task → Bool
@@ -99,7 +99,7 @@ alone v w (Giving i kind x) = spare (Giving i kind x)
 alone v w Brought = 14
 alone v w (Saw x) = cond (shows_next v w.slots x w.todo) 14 18
 alone v w (Matched x) = cond (shows_next v w.slots x w.todo) 13 17
-alone v w (Refill stage c x k) = refill_steps (word_at v c == cell_bits x) stage
+alone v w (Refill stage c x k) = refill_steps (word_of_cell v c == cell_bits x) stage
 alone v w (Returning kind b funds k) = 16
 alone v w Clearing = spare Clearing
 

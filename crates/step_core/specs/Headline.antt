@@ -20,7 +20,7 @@ use Rattle.step_threads.specs.declared.act.Act.TheVariants as act
 use Rattle.step_threads.specs.declared.act.Task.{Task}
 use Rattle.step_threads.specs.Scenes.{lock_answer, walk_of}
 use Rattle.step_table.specs.Deeds.{remains}
-use Rattle.step_table.specs.Stories.{Nothing, state}
+use Rattle.step_table.specs.Stories.{Nothing, story_state}
 use Rattle.step_core.specs.Sights.{AllHold, Sight, scene}
 
 -- the numbers in a block's words are those of the handles on it, in bags and cells together; the weak word has one
@@ -32,8 +32,8 @@ pub record TellsHandles (words : List ℕ) (s : State) (b : ℕ) : Type 0 where
 -- at each block at rest the counts are exactly the handles
 abbrev pub CountsAtRest : Sight → Type 0
 CountsAtRest u =
-    (b : ℕ) → InShape (opening u.story.extent) b → IsAtRest (state u.story) u.story.views b
-    → TellsHandles u.story.words (state u.story) b
+    (b : ℕ) → InShape (opening u.story.extent) b → IsAtRest (story_state u.story) u.story.views b
+    → TellsHandles u.story.words (story_state u.story) b
 
 -- the step was this event
 abbrev pub Was : Event Nothing → Sight → TraceStep → Sight → Type 0
@@ -43,45 +43,46 @@ Was e u x u' = u'.story.history ≡ entry (x.actor - 1) e ∷ u.story.history
 abbrev pub LocksWhereOwned : Sight → TraceStep → Sight → Type 0
 LocksWhereOwned u x u' =
     (w : Handle) (gave : Bool) → Was (Lock w gave) u x u'
-    → (gave ≡ true) ↔ (0 < count (state u.story) (object_of w))
+    → (gave ≡ true) ↔ (0 < count (story_state u.story) (object_of w))
 
 -- each object's value came out at most once, and exactly when the object is no longer live
 -- ([util.smartptr.shared.dest])
 abbrev pub ValuesOnce : Sight → Type 0
 ValuesOnce u =
-    (o : ℕ) → 1 ≤ o → o ≤ (state u.story).made
-    → (given o u.story.history ≤ 1) × (given o u.story.history ≡ 1 ↔ ((state u.story).object o).phase ≢ live)
+    (o : ℕ) → 1 ≤ o → o ≤ (story_state u.story).made
+    → (given o u.story.history ≤ 1)
+    × (given o u.story.history ≡ 1 ↔ ((story_state u.story).object o).phase ≢ live)
 
 -- the step was the leave of the last owner of o
 pub record LastLeft (o : ℕ) (u : Sight) (x : TraceStep) (u' : Sight) : Type 0 where
   pub owner : Handle
   pub left : Was (Leave owner true) u x u'
   pub object : object_of owner ≡ o
-  pub last : count (state u.story) o ≡ 1
+  pub last : count (story_state u.story) o ≡ 1
 
 -- the value of o had not come out before the step, and has after it
-pub record CameOut (o : ℕ) (u u' : Sight) : Type 0 where
+pub record ValueCameOut (o : ℕ) (u u' : Sight) : Type 0 where
   pub before : given o u.story.history ≡ 0
   pub after : given o u'.story.history ≡ 1
 
 -- a value comes out just at the leave of the object's last owner
 abbrev pub ValuesAtLastLeave : Sight → TraceStep → Sight → Type 0
 ValuesAtLastLeave u x u' =
-    (o : ℕ) → (LastLeft o u x u' × CameOut o u u')
+    (o : ℕ) → (LastLeft o u x u' × ValueCameOut o u u')
     ⊎ ((LastLeft o u x u' → ⊥) × (given o u'.story.history ≡ given o u.story.history))
 
 -- what a step tells of an object whose last owner left
-abbrev pub ended_by : Stepped → Option Ended
-ended_by (Step x) = x.ended
-ended_by (Quiet x) = x.ended
-ended_by Waited = None
-ended_by Done = None
+abbrev pub step_ended : Stepped → Option Ended
+step_ended (Step x) = x.ended
+step_ended (Quiet x) = x.ended
+step_ended Waited = None
+step_ended Done = None
 
 -- a step tells what an object leaves just where its last owner left: the object's fields, or that it was null
 abbrev pub TellsWhatIsLeft : Sight → TraceStep → Sight → Type 0
 TellsWhatIsLeft u x u' =
-    MatchOption (ended_by x.stepped) ((o : ℕ) → LastLeft o u x u' → ⊥)
-    (λ e. (o : ℕ) × LastLeft o u x u' × (e ≡ remains ((state u.story).object o)))
+    MatchOption (step_ended x.stepped) ((o : ℕ) → LastLeft o u x u' → ⊥)
+    (λ e. (o : ℕ) × LastLeft o u x u' × (e ≡ remains ((story_state u.story).object o)))
 
 -- what a step answers
 abbrev pub answer_by : Stepped → Option Answer
@@ -111,7 +112,7 @@ TellsLocks u x u' =
 
 -- no block is in the midst of anything
 abbrev pub AllAtRest : Sight → Type 0
-AllAtRest u = (b : ℕ) → InShape (opening u.story.extent) b → IsAtRest (state u.story) u.story.views b
+AllAtRest u = (b : ℕ) → InShape (opening u.story.extent) b → IsAtRest (story_state u.story) u.story.views b
 
 -- what holds before the first step of a run, and after each
 pub record AfterEach (u : Sight) : Type 0 where

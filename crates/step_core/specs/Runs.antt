@@ -64,12 +64,12 @@ compares_next (t ∷ ts) = is_compare t.act
 
 -- A call that owed funds goes on while its thread has begun something. A compare that missed begins again, once it
 -- has given back what it had brought; behind any other call no compare is next, as each comes after its own copy
-abbrev pub goes_on : Half → List Task → Bool
-goes_on Rest ts = compares_next ts
-goes_on _ ts = true
+abbrev pub call_goes_on : Half → List Task → Bool
+call_goes_on Rest ts = compares_next ts
+call_goes_on _ ts = true
 
 abbrev pub is_calling : Sight → ℕ → Bool
-is_calling u d = goes_on (half_of u d) (walk_of (scene u) d).todo
+is_calling u d = call_goes_on (half_of u d) (walk_of (scene u) d).todo
 
 -- thread d went on with its call, which wasn't done before any of these steps
 abbrev pub CallsOn : ℕ → Sight → List TraceStep → Sight → Type 0
@@ -129,23 +129,23 @@ pub record IsScheduled (turns : List ℕ) (u : Sight) (xs : List TraceStep) (u' 
   pub ends : RunInOrder (length u.walks) calm alone u'
 
 -- the step didn't wait
-abbrev pub Moves : TraceStep → Type 0
-Moves x = x.stepped ≢ Waited
+abbrev pub MovesOn : TraceStep → Type 0
+MovesOn x = x.stepped ≢ Waited
 
 -- the number names one of n actors, from 1
-abbrev pub Names : ℕ → ℕ → Type 0
-Names n turn = (1 ≤ turn) × (turn ≤ n)
+abbrev pub NamesActor : ℕ → ℕ → Type 0
+NamesActor n turn = (1 ≤ turn) × (turn ≤ n)
 
 -- the position, from 1, of the first number that names none of n actors
 pub record IsFirstBad (n : ℕ) (turns : List ℕ) (position : ℕ) : Type 0 where
   pub some : 1 ≤ position
   pub within : position ≤ length turns
-  pub bad : Names n (slice_index turns (position - 1)) → ⊥
-  pub before : (i : ℕ) → i < position - 1 → Names n (slice_index turns i)
+  pub bad : NamesActor n (slice_index turns (position - 1)) → ⊥
+  pub before : (i : ℕ) → i < position - 1 → NamesActor n (slice_index turns i)
 
 -- want of memory is told only of numbers that all name actors
 abbrev pub IsRefusedFor : ℕ → List ℕ → RunRefusal → Type 0
-IsRefusedFor n turns Memory = All (Names n) turns
+IsRefusedFor n turns Memory = All (NamesActor n) turns
 IsRefusedFor n turns (BadTurn position) = IsFirstBad n turns position
 
 abbrev pub refusal_of : RunRefusal → Refusal
@@ -153,10 +153,10 @@ refusal_of Memory = refusal.Memory
 refusal_of (BadTurn position) = refusal.BadTurn
 
 -- a list got longer by steps that are such a run, and none of them waited
-pub record Adds (R : Sight → List TraceStep → Sight → Type 0) (u : Sight) (xs : List TraceStep) (u' : Sight)
+pub record AddsRun (R : Sight → List TraceStep → Sight → Type 0) (u : Sight) (xs : List TraceStep) (u' : Sight)
     (xs' : List TraceStep)
     : Type 0 where
   pub added : List TraceStep
   pub items : xs' ≡ xs ++ added
   pub run : R u added u'
-  pub moves : All Moves added
+  pub moves : All MovesOn added

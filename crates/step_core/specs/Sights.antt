@@ -3,7 +3,7 @@ use Rattle.std.specs.Prelude.{◌≡◌, ◌≢◌, ◌↔◌, ℕ, ◌<◌, Boo
 use Rattle.std.specs.Prelude.{length, get_or, None}
 use Rattle.control_word.specs.declared.event.Event.{Event}
 use Rattle.control_word.specs.Histories.{entry}
-use Rattle.step_table.specs.Holdings.{Holds, slot}
+use Rattle.step_table.specs.Holdings.{HoldsBag, slot_pointer}
 use Rattle.step_table.specs.Stories.{Nothing, Story}
 use Rattle.step_threads.specs.declared.half.Half.{Half}
 use Rattle.step_threads.specs.declared.half.Half.TheVariants.{Rest}
@@ -31,14 +31,15 @@ IsAsLarge u u' = u'.story.extent ≡ u.story.extent
 
 -- the slots of each thread have just the handles that the history says its desk has
 abbrev pub AllHold : Sight → Type 0
-AllHold u = (d : ℕ) → d < length u.walks → Holds d (walk_of (scene u) d).slots u.story
+AllHold u = (d : ℕ) → d < length u.walks → HoldsBag d (walk_of (scene u) d).slots u.story
 
 -- thread d has made its last act, and ended its last object, and its names hold nothing
 pub record IsOver (d : ℕ) (u : Sight) : Type 0 where
   pub walk : (walk_of (scene u) d).todo ≡ []
   pub endings : (walk_of (scene u) d).endings ≡ []
   pub half : half_of u d ≡ Rest
-  pub names : (i : ℕ) → i < other (walk_of (scene u) d).slots → slot (walk_of (scene u) d).slots i ≡ None
+  pub names : (i : ℕ) → i < other (walk_of (scene u) d).slots
+      → slot_pointer (walk_of (scene u) d).slots i ≡ None
 
 abbrev pub is_event : Stepped → Bool
 is_event (stepped.Event x) = true
@@ -48,7 +49,7 @@ is_event _ = false
 -- history, and any other step leaves the history as it was; the answer is `Done` just at the thread's end, and then
 -- nothing changes; the other threads are where they were; and after it the slots of all threads have just what the
 -- history says
-pub record Takes (d : ℕ) (u : Sight) (r : Stepped) (u' : Sight) : Type 0 where
+pub record TakesStep (d : ℕ) (u : Sight) (r : Stepped) (u' : Sight) : Type 0 where
   pub event : is_event r ≡ true → (e : Event Nothing) × (u'.story.history ≡ entry d e ∷ u.story.history)
   pub quiet : is_event r ≡ false → u'.story.history ≡ u.story.history
   pub over : (r ≡ Done) ↔ IsOver d u

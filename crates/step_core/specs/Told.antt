@@ -12,11 +12,11 @@ use Rattle.step_threads.specs.declared.said.Stepped.{Stepped}
 use Rattle.step_threads.specs.declared.said.Stepped.TheVariants.{Event, Quiet, Waited, Done}
 use Rattle.step_threads.specs.declared.thread.Thread.{Thread}
 use Rattle.step_core.specs.Bounds.{left_to_do}
-use Rattle.step_table.specs.Holdings.{is_full, slot}
+use Rattle.step_table.specs.Holdings.{is_full, slot_pointer}
 use Rattle.step_threads.specs.Courses.{Walk, other}
-use Rattle.step_threads.specs.Endings.{endings_of}
+use Rattle.step_threads.specs.Endings.{endings_in_block}
 use Rattle.step_threads.specs.Scenes.{walk_of}
-use Rattle.step_table.specs.Stories.{Story, state}
+use Rattle.step_table.specs.Stories.{Story, story_state}
 use Rattle.step_core.specs.Totals.{ended_in, made_in}
 use Rattle.step_core.specs.Watching.{IsWatched}
 use Rattle.step_core.specs.Worlds.{Sight, scene, thread_half, thread_walk}
@@ -25,35 +25,35 @@ abbrev pub sight : Story → List Thread → Sight
 sight v threads = record { story = v; walks = map thread_walk threads; halves = map thread_half threads }
 
 -- each ending object is in an ending of the thread in whose hands it is
-abbrev pub AllEnd : State → (ℕ → List Ending) → Type 0
-AllEnd s f = (o e : ℕ) → (s.object o).phase ≡ ending e → 0 < endings_of (s.object o).block (f e)
+abbrev pub AllEndInThreads : State → (ℕ → List Ending) → Type 0
+AllEndInThreads s f = (o e : ℕ) → (s.object o).phase ≡ ending e → 0 < endings_in_block (s.object o).block (f e)
 
 -- one of these tasks leaves name i
-abbrev pub Leaves : ℕ → List Task → Type 0
-Leaves i [] = ⊥
-Leaves i (t ∷ ts) = (t.act ≡ Clear i) ⊎ Leaves i ts
+abbrev pub LeavesName : ℕ → List Task → Type 0
+LeavesName i [] = ⊥
+LeavesName i (t ∷ ts) = (t.act ≡ Clear i) ⊎ LeavesName i ts
 
 -- each task leaves a name at the thread's end, or has tasks behind it that leave all n names
 abbrev pub LeavesAll : ℕ → List Task → Type 0
 LeavesAll n [] = Unit {0}
 LeavesAll n (t ∷ ts) =
-    (((j : ℕ) × (t.act ≡ Clear j)) ⊎ ((i : ℕ) → i < n → Leaves i ts)) × LeavesAll n ts
+    (((j : ℕ) × (t.act ≡ Clear j)) ⊎ ((i : ℕ) → i < n → LeavesName i ts)) × LeavesAll n ts
 
 -- each name that holds something is left by a task to come
 pub record IsTidy (w : Walk) : Type 0 where
-  pub names : (i : ℕ) → i < other w.slots → is_full (slot w.slots i) ≡ true → Leaves i w.todo
+  pub names : (i : ℕ) → i < other w.slots → is_full (slot_pointer w.slots i) ≡ true → LeavesName i w.todo
   pub all : LeavesAll (other w.slots) w.todo
 
 -- the totals are those of the history, and small: an object is made by a task that has the steps of its end, and no
 -- more are left than were made. No cell has lost all of its funds. What a name holds is left before its thread's end
-pub record IsTold (u : Sight) (m e : ℕ) : Type 0 where
+pub record TotalsAreTold (u : Sight) (m e : ℕ) : Type 0 where
   pub threads : length u.walks ≡ u.story.extent.actors
   pub halves : length u.halves ≡ length u.walks
   pub made : m ≡ made_in u.story.history
   pub ended : e ≡ ended_in u.story.history
   pub order : e ≤ m
   pub few : 28 * m + left_to_do u.walks ≤ 13 * e + 1970176
-  pub endings : AllEnd (state u.story) (λ d. (walk_of (scene u) d).endings)
+  pub endings : AllEndInThreads (story_state u.story) (λ d. (walk_of (scene u) d).endings)
   pub watched : IsWatched u.story u.halves
   pub tidy : (d : ℕ) → IsTidy (walk_of (scene u) d)
 
@@ -71,14 +71,14 @@ is_prepared (Returning kind b funds k) = false
 is_prepared Clearing = false
 
 -- how many objects a step made, of a thread that had begun this, and of how many the last owner left by it
-abbrev pub makes : Half → Stepped → ℕ
-makes h (Event x) = cond (is_prepared h) 1 0
-makes h (Quiet x) = 0
-makes h Waited = 0
-makes h Done = 0
+abbrev pub step_makes : Half → Stepped → ℕ
+step_makes h (Event x) = cond (is_prepared h) 1 0
+step_makes h (Quiet x) = 0
+step_makes h Waited = 0
+step_makes h Done = 0
 
-abbrev pub ends_by : Stepped → ℕ
-ends_by (Event x) = cond (is_some x.ended) 1 0
-ends_by (Quiet x) = 0
-ends_by Waited = 0
-ends_by Done = 0
+abbrev pub step_ends : Stepped → ℕ
+step_ends (Event x) = cond (is_some x.ended) 1 0
+step_ends (Quiet x) = 0
+step_ends Waited = 0
+step_ends Done = 0

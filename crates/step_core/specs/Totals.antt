@@ -17,16 +17,16 @@ abbrev pub is_make : Event Nothing → Bool
 is_make (Make b enabled null fields v) = true
 is_make _ = false
 
-abbrev pub is_last : Event Nothing → Bool
-is_last (Leave h last) = last
-is_last _ = false
+abbrev pub is_last_leave : Event Nothing → Bool
+is_last_leave (Leave h last) = last
+is_last_leave _ = false
 
 -- how many objects were made, and of how many the last owner left (own)
 abbrev pub made_in : List (Entry Nothing) → ℕ
 made_in h = length (filter (λ (e : Entry Nothing). is_make e.event) h)
 
 abbrev pub ended_in : List (Entry Nothing) → ℕ
-ended_in h = length (filter (λ (e : Entry Nothing). is_last e.event) h)
+ended_in h = length (filter (λ (e : Entry Nothing). is_last_leave e.event) h)
 
 -- the owners and weak handles of what is in a block; none where it is vacant ([util.smartptr.shared.obs], and own)
 abbrev pub census_of : State → ℕ → Option Counts

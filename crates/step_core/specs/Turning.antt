@@ -17,29 +17,29 @@ use Rattle.control_word.specs.declared.shape.Shape.{Shape}
 use Rattle.control_word.specs.declared.view.Pending.TheVariants.{Idle}
 use Rattle.control_word.specs.Packing.{IsCellWord}
 use Rattle.control_word.specs.Views.{owes}
-use Rattle.step_threads.specs.Courses.{HasCell, Walk, form_of, going, hand, idle, locked}
+use Rattle.step_threads.specs.Courses.{HasCell, Walk, form_of, going, hand, idle, locked_pointer}
 use Rattle.control_word.specs.declared.place.Place.{Place}
-use Rattle.step_table.specs.CellDeeds.{owing}
+use Rattle.step_table.specs.CellDeeds.{owing_funds}
 use Rattle.step_table.specs.Refills.{RefillFits}
 use Rattle.step_table.specs.Deeds.{Telling, is_enabled}
 use Rattle.step_threads.specs.Endings.{EndsAll, first_of}
-use Rattle.step_table.specs.Holdings.{Holds, Slots, inside, is_full, slot}
+use Rattle.step_table.specs.Holdings.{HoldsBag, Slots, inside, is_full, slot_pointer}
 use Rattle.step_threads.specs.Entries.{least}
 use Rattle.step_threads.specs.Scenes.{play_with, rested, said_with, walk_of}
-use Rattle.step_table.specs.Stories.{Kept, Story, pending, state}
-use Rattle.step_threads.specs.Threads.{IsClearing, IsMatchedBy, IsSeenBy}
+use Rattle.step_table.specs.Stories.{Kept, Story, pending, story_state}
+use Rattle.step_threads.specs.Threads.{IsClearingMember, IsMatchedBy, IsSeenBy}
 use Rattle.step_core.specs.Told.{IsTidy}
-use Rattle.step_core.specs.Worlds.{Sight, TellsAll, half_of, is_loading, scene}
+use Rattle.step_core.specs.Worlds.{Sight, TellsAllCounts, half_of, is_loading, scene}
 
 -- a make that is under way is the next act, in the least block of the store
 abbrev pub IsUnderWay : ℕ → Story → Half → List Task → Type 0
 IsUnderWay d v Rest ts = Unit {0}
 IsUnderWay d v (Making b i differs) [] = ⊥
-IsUnderWay d v (Making b i differs) (t ∷ ts) = (i ≤ 5) × (least d (state v).stores ≡ Some b.0)
+IsUnderWay d v (Making b i differs) (t ∷ ts) = (i ≤ 5) × (least d (story_state v).stores ≡ Some b.0)
     × (t.act ≡ Make (form_of t.act))
 IsUnderWay d v (Locking word) ts = Unit {0}
 IsUnderWay d v (Giving i kind x) [] = ⊥
-IsUnderWay d v (Giving i kind x) (t ∷ ts) = (t.act ≡ FromThis i kind) × (is_enabled (state v) x ≡ true)
+IsUnderWay d v (Giving i kind x) (t ∷ ts) = (t.act ≡ FromThis i kind) × (is_enabled (story_state v) x ≡ true)
 IsUnderWay d v Brought ts = Unit {0}
 IsUnderWay d v (Saw x) ts = Unit {0}
 IsUnderWay d v (Matched x) ts = Unit {0}
@@ -48,9 +48,9 @@ IsUnderWay d v (Returning kind b funds k) ts = Unit {0}
 IsUnderWay d v Clearing ts = Unit {0}
 
 -- the next act locks a weak pointer
-abbrev pub IsLock : Slots → List Task → Type 0
-IsLock slots [] = ⊥
-IsLock slots (t ∷ ts) = is_full (locked slots t.act) ≡ true
+abbrev pub NextActLocks : Slots → List Task → Type 0
+NextActLocks slots [] = ⊥
+NextActLocks slots (t ∷ ts) = is_full (locked_pointer slots t.act) ≡ true
 
 -- the next act puts a value into a cell
 abbrev pub IsSwap : Slots → List Task → Type 0
@@ -69,12 +69,12 @@ IsMatched slots x (t ∷ ts) = IsMatchedBy slots x t.act
 
 -- a lock, a swap, a load or a compare that is under way is the next act, and a member that is to be taken out is there
 abbrev pub IsTried : Half → Walk → Type 0
-IsTried (Locking word) w = IsLock w.slots w.todo
-IsTried (Giving i kind x) w = inside (slot w.slots i) ≡ Some x
+IsTried (Locking word) w = NextActLocks w.slots w.todo
+IsTried (Giving i kind x) w = inside (slot_pointer w.slots i) ≡ Some x
 IsTried Brought w = IsSwap w.slots w.todo
 IsTried (Saw x) w = IsSeen w.slots x w.todo
 IsTried (Matched x) w = IsMatched w.slots x w.todo
-IsTried Clearing w = IsClearing w.slots w.endings
+IsTried Clearing w = IsClearingMember w.slots w.endings
 IsTried _ w = Unit {0}
 
 -- an act that is half done is one of a statement: no object ends in the thread's hands
@@ -101,18 +101,19 @@ IsStill w [] = Unit {0}
 IsStill w (t ∷ ts) = idle t.act w.slots w.taken ≡ false
 
 -- what was seen of a cell is the value of a word; at rest no call is half done
-abbrev pub IsProper : ℕ → Story → Half → Type 0
-IsProper d v Rest = pending v d ≡ Idle
-IsProper d v (Saw x) = IsCellWord x
-IsProper d v (Matched x) = IsCellWord x
-IsProper d v (Refill stage c x k) = is_some x.owned ≡ true
-IsProper d v _ = Unit {0}
+abbrev pub IsProperHalf : ℕ → Story → Half → Type 0
+IsProperHalf d v Rest = pending v d ≡ Idle
+IsProperHalf d v (Saw x) = IsCellWord x
+IsProperHalf d v (Matched x) = IsCellWord x
+IsProperHalf d v (Refill stage c x k) = is_some x.owned ≡ true
+IsProperHalf d v _ = Unit {0}
 
 -- funds that are out, or were taken of a cell, are of an object that the thread has a pointer to
-abbrev pub IsOut : ℕ → Story → Half → Type 0
-IsOut d v (Refill stage c x k) = RefillFits d stage c x v
-IsOut d v (Returning kind b funds k) = (p : Option Place) × (pending v d ≡ owing (state v) kind (Some b) p funds 0)
-IsOut d v _ = Unit {0}
+abbrev pub FundsAreHeld : ℕ → Story → Half → Type 0
+FundsAreHeld d v (Refill stage c x k) = RefillFits d stage c x v
+FundsAreHeld d v (Returning kind b funds k) = (p : Option Place)
+    × (pending v d ≡ owing_funds (story_state v) kind (Some b) p funds 0)
+FundsAreHeld d v _ = Unit {0}
 
 -- what another thread has half done is a load only where its half says so
 abbrev pub OthersOwe : ℕ → Sight → Type 0
@@ -131,17 +132,17 @@ pub record HasBegun (d : ℕ) (u : Sight) : Type 0 where
   pub seat : d < u.story.extent.actors
   pub kept : Kept u.story
   pub cell : IsInShape u.story.extent.shape (walk_of (scene u) d).todo
-  pub holds : Holds d (walk_of (scene u) d).slots u.story
+  pub holds : HoldsBag d (walk_of (scene u) d).slots u.story
   pub still : IsStill (walk_of (scene u) d) (walk_of (scene u) d).todo
-  pub proper : IsProper d u.story (half_of u d)
+  pub proper : IsProperHalf d u.story (half_of u d)
   pub others : OthersOwe d u
-  pub out : IsOut d u.story (half_of u d)
+  pub out : FundsAreHeld d u.story (half_of u d)
   pub tidy : IsTidy (walk_of (scene u) d)
 
 -- the thread's endings go on by themselves: what came out of a member isn't in hand
 abbrev pub is_ending : Sight → ℕ → Bool
 is_ending u d = let w = walk_of (scene u) d in is_some (first_of w.endings)
-    && not (is_full (slot w.slots (hand w.slots)))
+    && not (is_full (slot_pointer w.slots (hand w.slots)))
 
 abbrev pub is_refilling : Half → Bool
 is_refilling (Refill stage c x k) = true
@@ -179,7 +180,7 @@ is_acting (Matched x) = true
 is_acting _ = false
 
 -- the rest of thread d's act has gone on by itself
-pub record Rests (d : ℕ) (u u' : Sight) : Type 0 where
+pub record HasRested (d : ℕ) (u u' : Sight) : Type 0 where
   pub scene : scene u' ≡ rested d (scene u)
   pub over : has_rest u' d ≡ false
   pub halves : u'.halves ≡ slice_set u.halves d (returned (half_of u d))
@@ -197,7 +198,7 @@ turned (Some x) = Acted x
 -- thread d made its next act, but for the rest that goes on by itself after it
 pub record Plays (d : ℕ) (u : Sight) (r : Turned) (u' : Sight) : Type 0 where
   pub tell : Telling
-  pub tells : TellsAll d u (scene u) tell
+  pub tells : TellsAllCounts d u (scene u) tell
   pub answer : r ≡ turned (said_with tell d (scene u))
   pub scene : rested d (scene u') ≡ play_with tell d (scene u)
   pub done : is_acting (half_of u' d) ≡ false

@@ -9,7 +9,7 @@ use Rattle.step_table.specs.declared.cell_deed.Cell.TheVariants.{Free, Member}
 use Rattle.step_threads.specs.declared.half.Half.{Half}
 use Rattle.step_threads.specs.declared.half.Half.TheVariants.{Refill}
 use Rattle.step_table.specs.CellDeeds.{word_of}
-use Rattle.step_table.specs.Cells.{word_at}
+use Rattle.step_table.specs.Cells.{word_of_cell}
 use Rattle.step_table.specs.Refills.{is_low}
 use Rattle.step_table.specs.Stories.{Story}
 
@@ -28,13 +28,13 @@ abbrev pub watchers : ℕ → ℕ → ℕ → List Half → ℕ
 watchers blocks place word halves = length (filter (is_watching blocks place word) halves)
 
 -- a free cell of the shape, or a member of a block: no other words of a table are cells
-abbrev pub IsCellOf : Shape → Cell → Type 0
-IsCellOf z (Free n) = n < z.shared_cells + z.weak_cells
-IsCellOf z (Member b m) = (0 < b.0) × (b.0 ≤ z.blocks) × (m < 3)
+abbrev pub IsCellOfShape : Shape → Cell → Type 0
+IsCellOfShape z (Free n) = n < z.shared_cells + z.weak_cells
+IsCellOfShape z (Member b m) = (0 < b.0) × (b.0 ≤ z.blocks) × (m < 3)
 
 -- of no cell of the shape more funds are taken than 127, and one for each thread that has them to put back
 abbrev pub IsWatched : Story → List Half → Type 0
 IsWatched v halves =
     let z = v.extent.shape in
-    (c : Cell) → IsCellOf z c → word_at v c / 17179869184 ≤ 127 + watchers z.blocks
-    (word_of z.blocks c) (word_at v c) halves
+    (c : Cell) → IsCellOfShape z c → word_of_cell v c / 17179869184 ≤ 127 + watchers z.blocks
+    (word_of z.blocks c) (word_of_cell v c) halves

@@ -11,15 +11,15 @@ use Rattle.step_threads.specs.declared.said.Turned.{Turned}
 use Rattle.step_threads.specs.declared.said.Turned.TheVariants.{Acted, Waited, Done}
 use Rattle.step_threads.specs.declared.thread.Thread.{Thread}
 use Rattle.step_threads.specs.Courses.{Walk, walk}
-use Rattle.step_table.specs.Deeds.{Telling, Tells, exact}
-use Rattle.step_table.specs.Holdings.{slot}
+use Rattle.step_table.specs.Deeds.{Telling, TellsUseCount, exact}
+use Rattle.step_table.specs.Holdings.{slot_pointer}
 use Rattle.step_threads.specs.Scenes.{Scene, next, play_with, rested, said_with, state_in, walk_of}
 use Rattle.step_threads.specs.NextSteps.{answered, half_by, step_at, story_by, walk_by}
 use Rattle.step_threads.specs.Steps.{Step}
 use Rattle.step_table.specs.Stories.{Kept, Story}
-use Rattle.step_threads.specs.Threads.{Fits}
+use Rattle.step_threads.specs.Threads.{FitsThread}
 use Rattle.step_core.specs.Following.{Performs}
-use Rattle.step_core.specs.Sights.{Takes}
+use Rattle.step_core.specs.Sights.{TakesStep}
 
 abbrev pub thread_walk : Thread → Walk
 thread_walk t = walk t.course
@@ -29,7 +29,7 @@ thread_half t = t.half
 
 -- each thread has what its desk has
 pub record AllFit (v : Story) (threads : List Thread) : Type 0 where
-  pub each : (d : ℕ) (t : Thread) → slice_get threads d ≡ Some t → Fits d t v
+  pub each : (d : ℕ) (t : Thread) → slice_get threads d ≡ Some t → FitsThread d t v
 
 -- the next step of thread d, if it isn't at its end
 abbrev pub step_of : ℕ → Sight → Option Step
@@ -55,7 +55,7 @@ Steps d u r u' = (r ≡ answer_at d u) × (u' ≡ sight_by d u (step_of d u))
 -- act, or on the way of it; and the words stand for the history
 pub record Advances (d : ℕ) (u : Sight) (r : Stepped) (u' : Sight) : Type 0 where
   pub steps : Steps d u r u'
-  pub takes : Takes d u r u'
+  pub takes : TakesStep d u r u'
   pub performs : Performs d u r u'
   pub kept : Kept u'.story
 
@@ -78,19 +78,21 @@ abbrev pub NoneLoads : ℕ → Sight → Type 0
 NoneLoads d u = (e : ℕ) → e ≢ d → is_loading (half_of u e) ≡ false
 
 -- counts are told so of what thread d has in its slots, and exactly where no other thread has a load under way
-pub record TellsAll (d : ℕ) (u : Sight) (c : Scene) (tell : Telling) : Type 0 where
-  pub each : (i : ℕ) (x : Pointer) → slot (walk_of c d).slots i ≡ Some x → Tells u.story d (state_in c) tell x
-  pub settled : NoneLoads d u → (i : ℕ) (x : Pointer) → slot (walk_of c d).slots i ≡ Some x
+pub record TellsAllCounts (d : ℕ) (u : Sight) (c : Scene) (tell : Telling) : Type 0 where
+  pub each : (i : ℕ) (x : Pointer) → slot_pointer (walk_of c d).slots i ≡ Some x
+      → TellsUseCount u.story d (state_in c) tell x
+  pub settled : NoneLoads d u → (i : ℕ) (x : Pointer) → slot_pointer (walk_of c d).slots i ≡ Some x
       → tell (state_in c) x ≡ exact (state_in c) x
 
 -- a whole turn of thread d: its endings go on by themselves, then its next act comes, if it has one, and what that
 -- says, where a count may leave out the loads that others have under way; others are where they were
-abbrev pub Turns : ℕ → Sight → Turned → Sight → Type 0
-Turns d u (Acted x) u' =
+abbrev pub TakesWholeTurn : ℕ → Sight → Turned → Sight → Type 0
+TakesWholeTurn d u (Acted x) u' =
     let c = rested d (scene u) in
-    (tell : Telling) × TellsAll d u c tell × (Some x ≡ said_with tell d c) × (scene u' ≡ play_with tell d c)
+    (tell : Telling) × TellsAllCounts d u c tell × (Some x ≡ said_with tell d c)
+    × (scene u' ≡ play_with tell d c)
     × (u'.halves ≡ slice_set u.halves d Rest)
-Turns d u Waited u' = ⊥
-Turns d u Done u' =
+TakesWholeTurn d u Waited u' = ⊥
+TakesWholeTurn d u Done u' =
     let c = rested d (scene u) in (next (walk_of c d) ≡ None) × (scene u' ≡ c)
     × (u'.halves ≡ slice_set u.halves d Rest)

@@ -2,8 +2,8 @@
 ghost use Rattle.std.specs.Prelude.{◌≡◌, ◌↔◌, ◌<◌, ◌≤◌, [], None, IfSome};
 ghost use Rattle.control_word.specs.Packing.{number_of};
 ghost use Rattle.control_word.specs.State.{IsVacant};
-ghost use Rattle.step_table.specs.Cells.{IsThere, target_of};
-ghost use Rattle.step_table.specs.Stories.{Kept, state};
+ghost use Rattle.step_table.specs.Cells.{IsCellInUse, target_of};
+ghost use Rattle.step_table.specs.Stories.{Kept, story_state};
 ghost use Rattle.step_core.specs.Totals.{IsAtEnd, census_of, counts_in, ended_in, fields_of, made_in};
 
 use crate::world::World;
@@ -20,8 +20,8 @@ impl World {
         requires end { IsAtEnd self.now }
         requires some { 0 < block.0 }
         requires within { block.0 ≤ self.now.story.extent.shape.blocks }
-        ensures counts { result ≡ census_of (state self.now.story) block.0 }
-        ensures vacant { result ≡ None ↔ IsVacant (state self.now.story) block.0 }
+        ensures counts { result ≡ census_of (story_state self.now.story) block.0 }
+        ensures vacant { result ≡ None ↔ IsVacant (story_state self.now.story) block.0 }
     {
         self.table.known();
         counted(
@@ -36,7 +36,7 @@ impl World {
         requires end { IsAtEnd self.now }
         requires some { 0 < block.0 }
         requires within { block.0 ≤ self.now.story.extent.shape.blocks }
-        ensures { result ≡ fields_of (state self.now.story) block.0 }
+        ensures { result ≡ fields_of (story_state self.now.story) block.0 }
     {
         self.table.known();
         if self.census(block).is_none() {
@@ -55,7 +55,7 @@ impl World {
     pub fn known_at_end(&self)
         requires { IsAtEnd self.now }
         ensures kept { Kept self.now.story }
-        ensures hands { (state self.now.story).hands ≡ [] }
+        ensures hands { (story_state self.now.story).hands ≡ [] }
     {
         self.table.known();
     }
@@ -63,8 +63,8 @@ impl World {
     /// The block of the object that the handle in a cell is on; none where it is on none (own). Condition: the cell is
     /// free, or a member of what is in a block that isn't vacant.
     pub fn target(&self, cell: Cell) -> Option<Block>
-        requires { IsThere self.now.story cell }
-        ensures target { result ≡ target_of (state self.now.story) cell }
+        requires { IsCellInUse self.now.story cell }
+        ensures target { result ≡ target_of (story_state self.now.story) cell }
         ensures within { IfSome result (λ b. (0 < b.0) × (b.0 ≤ self.now.story.extent.shape.blocks)) }
     {
         self.table.known();

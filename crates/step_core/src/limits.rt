@@ -1,9 +1,11 @@
 //! Which programs a world may run.
 ghost use Rattle.std.specs.Prelude.{◌≡◌, ◌↔◌, ◌&&◌, ◌≤◌, ◌∷◌, ◌++◌, Some, None, All};
 ghost use Rattle.std.specs.Prelude.{IsTrue, map};
-ghost use Rattle.step_threads.specs.Programs.{AllHaveCells, HasCells, IsApart, IsDeclared, IsIn, IsPart, IsProgram};
-ghost use Rattle.step_threads.specs.Programs.{IsWellNamed, as_in, call_count, listed, names_of, owner, part_of};
-ghost use Rattle.step_threads.specs.Programs.{through, weak};
+ghost use Rattle.step_threads.specs.Programs.{AllHaveCells, HasCells, IsApartFromCell, IsDeclared, IsIn, IsPart};
+ghost use Rattle.step_threads.specs.Programs.{IsProgram};
+ghost use Rattle.step_threads.specs.Programs.{IsWellNamed, as_in, call_count, asked_list, names_of, owner_asked};
+ghost use Rattle.step_threads.specs.Programs.{part_of};
+ghost use Rattle.step_threads.specs.Programs.{through, weak_asked};
 ghost use Rattle.step_core.specs.Starts.{AllHaveFields, CanBegin, HasFields};
 
 use control_word::Shape;
@@ -35,7 +37,7 @@ fn is_declared(kinds: &[Kind], asked: Asked) -> bool
 
 /// The same, where there is such a name.
 fn is_declared_if(kinds: &[Kind], asked: Option<Asked>) -> bool
-    ensures { IsTrue result ↔ All (IsDeclared kinds.now) (listed asked) }
+    ensures { IsTrue result ↔ All (IsDeclared kinds.now) (asked_list asked) }
 {
     match asked {
         None => true,
@@ -47,13 +49,13 @@ fn is_declared_if(kinds: &[Kind], asked: Option<Asked>) -> bool
 type Names = (Asked, Option<Asked>, Option<Asked>);
 
 fn owner(name: Name) -> Asked
-    ensures { result ≡ owner name }
+    ensures { result ≡ owner_asked name }
 {
     (name, Some(Kind::Owner))
 }
 
 fn weak(name: Name) -> Asked
-    ensures { result ≡ weak name }
+    ensures { result ≡ weak_asked name }
 {
     (name, Some(Kind::Weak))
 }
@@ -67,7 +69,7 @@ fn as_in(cell: CellName, name: Name) -> Asked
 
 /// The name whose object a cell is a member of.
 fn through(cell: CellName) -> Option<Asked>
-    ensures { listed result ≡ through cell }
+    ensures { asked_list result ≡ through cell }
 {
     match cell {
         CellName::Member { name, .. } => Some(owner(name)),
@@ -84,7 +86,7 @@ fn two(first: Asked, second: Asked) -> Names
 
 /// The names of a call, each with the kind that the call asks for.
 fn names_of(call: Call) -> Names
-    ensures names { names_of call ≡ result.0 ∷ listed result.1 ++ listed result.2 }
+    ensures names { names_of call ≡ result.0 ∷ asked_list result.1 ++ asked_list result.2 }
     ensures fields { HasFields call }
 {
     match call {
@@ -155,7 +157,7 @@ fn is_well_named(kinds: &[Kind], call: Call) -> bool
 
 /// Whether a call exchanges no name with a member of its own object.
 fn is_apart(call: Call) -> bool
-    ensures { IsTrue result ↔ IsApart call }
+    ensures { IsTrue result ↔ IsApartFromCell call }
 {
     match call {
         Call::Exchange { cell, name } => !cell.is_member_of(name),

@@ -6,7 +6,7 @@ ghost use Rattle.step_table.specs.Openings.{IsExtent};
 ghost use Rattle.step_threads.specs.Programs.{AllHaveCells, IsPart, IsProgram, part_of, parts_of};
 ghost use Rattle.step_core.specs.Starts.{AllHaveFields, CanBegin, HasFields, first_sight, first_story, first_walk};
 ghost use Rattle.step_table.specs.Stories.{Kept};
-ghost use Rattle.step_threads.specs.Threads.{Fits};
+ghost use Rattle.step_threads.specs.Threads.{FitsThread};
 ghost use Rattle.step_core.specs.Worlds.{AllFit};
 
 use crate::limits::can_begin;
@@ -51,7 +51,7 @@ fn thread_of(alloc: Global, extent: &Extent, desk: u32, actor: &Actor) -> Result
     requires cells { AllHaveCells extent.now.shape (part_of actor.now) }
     ensures walk { IfOk result (λ t. walk t.course ≡ first_walk (part_of actor.now)) }
     ensures half { IfOk result (λ t. t.half ≡ Half.Rest) }
-    ensures fits { IfOk result (λ t. Fits desk t (first_story extent.now)) }
+    ensures fits { IfOk result (λ t. FitsThread desk t (first_story extent.now)) }
 {
     let names = actor.kinds.len() as u8;
     let tasks = tasks(alloc, actor.calls.as_slice(), names)?;

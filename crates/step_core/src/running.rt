@@ -7,7 +7,8 @@ ghost use Rattle.step_core.specs.Bounds.{most_steps, steps_of, task_steps, weigh
 ghost use Rattle.step_core.specs.Chains.{Through};
 ghost use Rattle.step_core.specs.Following.{Follows};
 ghost use Rattle.step_core.specs.Headline.{AfterEach, AllAtRest, OfEach};
-ghost use Rattle.step_core.specs.Runs.{Adds, FinishesCall, IsFirstBad, IsRefusedFor, IsRun, IsScheduled, Moves, Names};
+ghost use Rattle.step_core.specs.Runs.{AddsRun, FinishesCall, IsFirstBad, IsRefusedFor, IsRun, IsScheduled, MovesOn};
+ghost use Rattle.step_core.specs.Runs.{NamesActor};
 ghost use Rattle.step_core.specs.Runs.{RunInOrder, RunsToEnd, SettleInOrder, Settles, compares_next, is_calling};
 ghost use Rattle.step_core.specs.Runs.{is_compare, is_out, is_owing};
 ghost use Rattle.step_table.specs.Stories.{Kept};
@@ -35,12 +36,12 @@ impl World {
     /// Refused `BadTurn` just where some number names no actor, with the position of the first one, from 1. Refused
     /// `Memory` where a growth was really refused. The world is then as it was (own).
     pub fn run(&mut self, alloc: Global, turns: &[u8]) -> Result<Trace, RunRefusal>
-        ensures named { IfOk result (λ t. All (Names (length self.old.walks)) turns.now) }
+        ensures named { IfOk result (λ t. All (NamesActor (length self.old.walks)) turns.now) }
         ensures refused { IfErr result (λ why. IsRefusedFor (length self.old.walks) turns.now why) }
         ensures unchanged { IfErr result (λ why. self.new ≡ self.old) }
         ensures run { IfOk result (λ t. IsRun self.old t.steps.items self.new) }
         ensures scheduled { IfOk result (λ t. IsScheduled turns.now self.old t.steps.items self.new) }
-        ensures moves { IfOk result (λ t. All Moves t.steps.items) }
+        ensures moves { IfOk result (λ t. All MovesOn t.steps.items) }
         ensures headline { IfOk result (λ t. Through AfterEach
             (λ u x u'. OfEach u x u' × Advances (x.actor - 1) u x.stepped u') self.old t.steps.items self.new) }
         ensures follows { IfOk result (λ t. Follows self.old t.steps.items self.new) }
@@ -76,13 +77,13 @@ impl World {
 
     /// One step for each number.
     fn follow(&mut self, turns: &[u8], steps: &mut Vec<TraceStep>)
-        requires named { All (Names (length self.old.walks)) turns.now }
+        requires named { All (NamesActor (length self.old.walks)) turns.now }
         requires empty { steps.old.items ≡ [] }
         requires none { vec_len steps.old ≡ 0 }
         requires room { length turns.now + most_steps self.old + 6 * length self.old.walks ≤ vec_capacity steps.old }
         ensures run { IsRun self.old steps.new.items self.new }
         ensures numbers { map (λ x. x.actor) steps.new.items ≡ turns.now }
-        ensures moves { All Moves steps.new.items }
+        ensures moves { All MovesOn steps.new.items }
         ensures room { vec_len steps.new + most_steps self.new + 6 * length self.new.walks ≤ vec_capacity steps.new }
         ensures actors { length self.new.walks ≡ length self.old.walks }
     {
@@ -96,7 +97,8 @@ impl World {
     /// order.
     fn settle(&mut self, steps: &mut Vec<TraceStep>)
         requires room { vec_len steps.old + most_steps self.old + 6 * length self.old.walks ≤ vec_capacity steps.old }
-        ensures adds { Adds (SettleInOrder (length self.old.walks)) self.old steps.old.items self.new steps.new.items }
+        ensures adds { AddsRun (SettleInOrder (length self.old.walks)) self.old steps.old.items self.new
+            steps.new.items }
         ensures room { vec_len steps.new + most_steps self.new + 3 * length self.new.walks ≤ vec_capacity steps.new }
         ensures actors { length self.new.walks ≡ length self.old.walks }
     {
@@ -110,7 +112,7 @@ impl World {
     fn settle_one(&mut self, number: usize, steps: &mut Vec<TraceStep>)
         requires within { number < length self.old.walks }
         requires room { vec_len steps.old + most_steps self.old + 3 ≤ vec_capacity steps.old }
-        ensures adds { Adds (Settles number) self.old steps.old.items self.new steps.new.items }
+        ensures adds { AddsRun (Settles number) self.old steps.old.items self.new steps.new.items }
         ensures room { vec_len steps.new + most_steps self.new ≤ vec_len steps.old + most_steps self.old + 3 }
         ensures capacity { vec_capacity steps.old ≤ vec_capacity steps.new }
         ensures actors { length self.new.walks ≡ length self.old.walks }
@@ -124,7 +126,7 @@ impl World {
     fn finish_call(&mut self, number: usize, steps: &mut Vec<TraceStep>)
         requires within { number < length self.old.walks }
         requires room { vec_len steps.old + most_steps self.old + 3 ≤ vec_capacity steps.old }
-        ensures adds { Adds (FinishesCall number) self.old steps.old.items self.new steps.new.items }
+        ensures adds { AddsRun (FinishesCall number) self.old steps.old.items self.new steps.new.items }
         ensures room { vec_len steps.new + most_steps self.new ≤ vec_len steps.old + most_steps self.old + 3 }
         ensures capacity { vec_capacity steps.old ≤ vec_capacity steps.new }
         ensures actors { length self.new.walks ≡ length self.old.walks }
@@ -164,7 +166,7 @@ impl World {
     /// Each actor runs alone to its end, in number order.
     fn finish(&mut self, steps: &mut Vec<TraceStep>)
         requires room { vec_len steps.old + most_steps self.old + 3 * length self.old.walks ≤ vec_capacity steps.old }
-        ensures adds { Adds (RunInOrder (length self.old.walks)) self.old steps.old.items self.new steps.new.items }
+        ensures adds { AddsRun (RunInOrder (length self.old.walks)) self.old steps.old.items self.new steps.new.items }
         ensures actors { length self.new.walks ≡ length self.old.walks }
     {
         for number in 0..self.threads.len() {
@@ -176,7 +178,7 @@ impl World {
     fn finish_one(&mut self, number: usize, steps: &mut Vec<TraceStep>)
         requires within { number < length self.old.walks }
         requires room { vec_len steps.old + most_steps self.old + 3 ≤ vec_capacity steps.old }
-        ensures adds { Adds (RunsToEnd number) self.old steps.old.items self.new steps.new.items }
+        ensures adds { AddsRun (RunsToEnd number) self.old steps.old.items self.new steps.new.items }
         ensures room { vec_len steps.new + most_steps self.new ≤ vec_len steps.old + most_steps self.old + 3 }
         ensures capacity { vec_capacity steps.old ≤ vec_capacity steps.new }
         ensures actors { length self.new.walks ≡ length self.old.walks }
@@ -263,7 +265,8 @@ fn weight(act: Act) -> usize
 
 /// The position, from 1, of the first number that names none of so many actors.
 fn bad_turn(turns: &[u8], actors: usize) -> Option<usize>
-    ensures { MatchOption result (All (Names actors) turns.now) (λ position. IsFirstBad actors turns.now position) }
+    ensures { MatchOption result (All (NamesActor actors) turns.now)
+        (λ position. IsFirstBad actors turns.now position) }
 {
     for (index, turn) in turns.iter().enumerate() {
         if *turn == 0 || usize::from(*turn) > actors {

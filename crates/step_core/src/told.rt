@@ -1,13 +1,13 @@
 //! What a step adds to a world's totals.
 ghost use Rattle.std.specs.Prelude.{◌≡◌};
-ghost use Rattle.step_core.specs.Told.{ends_by, makes};
+ghost use Rattle.step_core.specs.Told.{step_ends, step_makes};
 
 use step_threads::half::Half;
 use step_threads::said::Stepped;
 
 /// How many objects a step made, of a thread that had begun this.
 pub(crate) fn makes(half: Half, stepped: Stepped) -> u32
-    ensures { result ≡ makes half stepped }
+    ensures { result ≡ step_makes half stepped }
 {
     match (stepped, half) {
         (Stepped::Event(_), Half::Making { index: 5, .. }) => 1,
@@ -17,7 +17,7 @@ pub(crate) fn makes(half: Half, stepped: Stepped) -> u32
 
 /// Of how many objects the last owner left by a step.
 pub(crate) fn ends(stepped: Stepped) -> u32
-    ensures { result ≡ ends_by stepped }
+    ensures { result ≡ step_ends stepped }
 {
     match stepped {
         Stepped::Event(said) => u32::from(said.ended.is_some()),

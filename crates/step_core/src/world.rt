@@ -1,11 +1,11 @@
 //! The machine: a table and the threads over it.
 ghost use Rattle.std.specs.Prelude.{◌≡◌, ◌≢◌, ◌<◌, ◌≤◌, ◌-◌, length, true, false};
-ghost use Rattle.step_core.specs.Sights.{AllHold, IsAsLarge, Takes, half_of, is_event};
+ghost use Rattle.step_core.specs.Sights.{AllHold, IsAsLarge, TakesStep, half_of, is_event};
 ghost use Rattle.step_core.specs.Following.{Performs};
 ghost use Rattle.step_table.specs.Stories.{Kept};
-ghost use Rattle.step_core.specs.Turning.{HasBegun, Plays, Rests, has_rest, is_acting, is_clearing, is_ending};
+ghost use Rattle.step_core.specs.Turning.{HasBegun, Plays, HasRested, has_rest, is_acting, is_clearing, is_ending};
 ghost use Rattle.step_core.specs.Turning.{is_refilling, is_returning, turned_by};
-ghost use Rattle.step_core.specs.Worlds.{Advances, GoesTo, Steps, Turns};
+ghost use Rattle.step_core.specs.Worlds.{Advances, GoesTo, Steps, TakesWholeTurn};
 
 use crate::told::{ends, makes};
 use std::marker::Model;
@@ -27,7 +27,7 @@ pub struct World {
 
 impl Model for World {
     ghost use Rattle.std.specs.Prelude.{map};
-    ghost use Rattle.step_core.specs.Told.{IsTold, sight};
+    ghost use Rattle.step_core.specs.Told.{TotalsAreTold, sight};
     ghost use Rattle.step_core.specs.Sights.{Sight};
     ghost use Rattle.step_core.specs.Worlds.{AllFit, thread_half, thread_walk};
 
@@ -39,7 +39,8 @@ impl Model for World {
       halves = map thread_half w.threads.items;
     } };
 
-    ghost invariant = { λ w. AllFit w.table w.threads.items × IsTold (sight w.table w.threads.items) w.made w.ended };
+    ghost invariant = { λ w. AllFit w.table w.threads.items
+        × TotalsAreTold (sight w.table w.threads.items) w.made w.ended };
 }
 
 impl World {
@@ -54,7 +55,7 @@ impl World {
         requires some { 0 < actor }
         requires within { actor ≤ length self.old.walks }
         ensures steps { Steps (actor - 1) self.old result self.new }
-        ensures takes { Takes (actor - 1) self.old result self.new }
+        ensures takes { TakesStep (actor - 1) self.old result self.new }
         ensures performs { Performs (actor - 1) self.old result self.new }
         ensures never { result ≢ Stepped.Waited }
         ensures kept { Kept self.new.story }
@@ -72,7 +73,7 @@ impl World {
     pub fn turn(&mut self, actor: u8) -> Turned
         requires some { 0 < actor }
         requires within { actor ≤ length self.old.walks }
-        ensures turns { Turns (actor - 1) self.old result self.new }
+        ensures turns { TakesWholeTurn (actor - 1) self.old result self.new }
         ensures steps { GoesTo (actor - 1) self.old self.new }
         ensures kept { Kept self.new.story }
         ensures hands { AllHold self.new }
@@ -90,7 +91,7 @@ impl World {
     /// The rest of an act, where it is under way: funds are turned, put back and given back, and objects end.
     fn rest(&mut self, number: usize)
         requires { number < length self.old.walks }
-        ensures rests { Rests number self.old self.new }
+        ensures rests { HasRested number self.old self.new }
         ensures goes { GoesTo number self.old self.new }
         ensures actors { length self.new.walks ≡ length self.old.walks }
     {

@@ -36,8 +36,8 @@ word_of blocks (Free n) = cell_place blocks n
 word_of blocks (Member b m) = spot b.0 (7 + m)
 
 -- the kind of the handles in it
-abbrev pub kind_in : State → Cell → Kind
-kind_in s c = kind_of s (cell_in s c)
+abbrev pub kind_in_state : State → Cell → Kind
+kind_in_state s c = kind_of s (cell_in s c)
 
 -- the object in a block, if there is a block
 abbrev pub object_at : State → Option Block → Option ℕ
@@ -49,13 +49,13 @@ abbrev pub handle_as : State → Kind → CellWord → Handle
 handle_as s k x = handle k (object_at s x.owned) x.place
 
 abbrev pub handle_told : State → Cell → CellWord → Handle
-handle_told s c x = handle_as s (kind_in s c) x
+handle_told s c x = handle_as s (kind_in_state s c) x
 
 module _ {V : Type 0} where
   -- so many funds are out on the count of the object in a block, and so many loads of it are under way
-  abbrev pub owing : State → Kind → Option Block → Option Place → ℕ → ℕ → Pending V
-  owing s k None p funds loads = Idle
-  owing s k (Some b) p funds loads = Paying k (s.latest b.0) p (spot b.0 (slot k)) funds loads
+  abbrev pub owing_funds : State → Kind → Option Block → Option Place → ℕ → ℕ → Pending V
+  owing_funds s k None p funds loads = Idle
+  owing_funds s k (Some b) p funds loads = Paying k (s.latest b.0) p (spot b.0 (slot k)) funds loads
 
   -- what a cell held was loaded, or compared and found to differ
   abbrev pub looked : State → Cell → CellWord → Option Compared → Event V
@@ -80,14 +80,14 @@ module _ {V : Type 0} where
   -- what is half done after it: the funds that are out
   abbrev pub cell_pending : State → CellDeed → Pending V
   cell_pending s (Look c x y) = Idle
-  cell_pending s (Bring k b p f) = owing s k (Some b) p f 0
+  cell_pending s (Bring k b p f) = owing_funds s k (Some b) p f 0
   cell_pending s (GiveBack k b f) = Idle
-  cell_pending s (Take c x y) = owing s (kind_in s c) x.owned x.place 1 1
+  cell_pending s (Take c x y) = owing_funds s (kind_in_state s c) x.owned x.place 1 1
   cell_pending s (Turn k b) = Idle
   cell_pending s (Refill c t) = Idle
-  cell_pending s (Swap c new x) = owing s (kind_in s c) x.owned x.place (256 - x.taken) 0
-  cell_pending s (CompareSwap c x y) = owing s (kind_in s c) x.owned x.place (256 - x.taken) 0
-  cell_pending s (TakeOut b m x) = owing s (kind_of_member m) x.owned x.place (256 - x.taken) 0
+  cell_pending s (Swap c new x) = owing_funds s (kind_in_state s c) x.owned x.place (256 - x.taken) 0
+  cell_pending s (CompareSwap c x y) = owing_funds s (kind_in_state s c) x.owned x.place (256 - x.taken) 0
+  cell_pending s (TakeOut b m x) = owing_funds s (kind_of_member m) x.owned x.place (256 - x.taken) 0
 
 -- the words after it, in a table of so many blocks
 abbrev pub cell_words : ℕ → List ℕ → CellDeed → List ℕ

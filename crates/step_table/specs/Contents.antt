@@ -20,11 +20,11 @@ use Rattle.step_table.specs.declared.cell_deed.Compared.{Compared}
 use Rattle.step_table.specs.declared.comparing.Comparing.{Comparing}
 use Rattle.step_table.specs.declared.slot.Slot.{Slot}
 use Rattle.step_table.specs.declared.slot.Slot.TheVariants.{Empty, Full}
-use Rattle.step_table.specs.CellDeeds.{cell_in, kind_in, owing}
-use Rattle.step_table.specs.Cells.{word_at}
+use Rattle.step_table.specs.CellDeeds.{cell_in, kind_in_state, owing_funds}
+use Rattle.step_table.specs.Cells.{word_of_cell}
 use Rattle.step_table.specs.Deeds.{owned}
-use Rattle.step_table.specs.Holdings.{Slots, place_of, plain, slot, value}
-use Rattle.step_table.specs.Stories.{Nothing, Story, state}
+use Rattle.step_table.specs.Holdings.{Slots, place_of, plain, slot_pointer, slot_value}
+use Rattle.step_table.specs.Stories.{Nothing, Story, story_state}
 
 -- the handle in a cell
 abbrev pub held_in : State → Cell → Handle
@@ -32,9 +32,9 @@ held_in s c = cell_of s (cell_in s c)
 
 -- a slot's value as histories name it; one without an object is of the kind of the cell that it is compared with or
 -- goes into
-abbrev pub told : State → Kind → Slot → Handle
-told s k (Empty p) = handle k None p
-told s k (Full x) = handle x.kind (Some (owned s x)) x.place
+abbrev pub named_handle : State → Kind → Slot → Handle
+named_handle s k (Empty p) = handle k None p
+named_handle s k (Full x) = handle x.kind (Some (owned s x)) x.place
 
 -- a handle as a slot has it
 abbrev pub slot_as : State → Handle → Option ℕ → Slot
@@ -64,21 +64,21 @@ is_of k (Full x) = same_kind x.kind k
 
 -- what a cell holds, and how many of its funds were taken
 abbrev pub seen : Story → Cell → CellWord
-seen v c = shown (blocks_of (state v)) (held_in (state v) c) (word_at v c / 17179869184)
+seen v c = shown (blocks_of (story_state v)) (held_in (story_state v) c) (word_of_cell v c / 17179869184)
 
 -- the block of what a slot's value owns or shares
-abbrev pub owned_by : Slot → Option Block
-owned_by (Empty p) = None
-owned_by (Full x) = Some x.block
+abbrev pub block_of_value : Slot → Option Block
+block_of_value (Empty p) = None
+block_of_value (Full x) = Some x.block
 
 -- a slot's value as it goes into a cell
 abbrev pub as_word : Slot → CellWord
-as_word x = record { owned = owned_by x; place = place_of x; taken = 0 }
+as_word x = record { owned = block_of_value x; place = place_of x; taken = 0 }
 
 -- what a compare expects, and what it wants to put there
 abbrev pub compared_in : Slots → Comparing → Compared
 compared_in slots y =
-    record { expected = as_word (value slots y.expected); new = as_word (value slots y.new); weak = y.weak }
+    record { expected = as_word (slot_value slots y.expected); new = as_word (slot_value slots y.new); weak = y.weak }
 
 -- the same value, however many funds were taken
 abbrev pub same_block : Option Block → Option Block → Bool
@@ -97,15 +97,15 @@ is_spent x = is_some x.owned && x.taken == 256
 -- the funds that were brought for a slot's value, which goes into a cell: without an object there are none
 abbrev pub owing_for : State → Slot → ℕ → Pending Nothing
 owing_for s (Empty p) n = Idle
-owing_for s (Full x) n = owing s x.kind (Some x.block) x.place n 0
+owing_for s (Full x) n = owing_funds s x.kind (Some x.block) x.place n 0
 
 -- the value of slot i goes into a cell, and what the cell held comes into slot k
-abbrev pub swapped : ℕ → ℕ → Slots → Slot → Slots
-swapped i k slots x = slice_set (slice_set slots k x) i plain
+abbrev pub slots_swapped : ℕ → ℕ → Slots → Slot → Slots
+slots_swapped i k slots x = slice_set (slice_set slots k x) i plain
 
 -- what was to go in from slot i is in slot k, and what the cell holds is in its place
 abbrev pub differed : ℕ → ℕ → Slots → Slot → Slots
-differed i k slots x = slice_set (slice_set slots k (value slots i)) i x
+differed i k slots x = slice_set (slice_set slots k (slot_value slots i)) i x
 
 -- the slots are there: what is expected and what is to go in may go into a cell of this kind, and the other slot has no
 -- object
@@ -114,17 +114,18 @@ pub record CanCompare (k : Kind) (slots : Slots) (y : Comparing) : Type 0 where
   pub new : y.new < length slots
   pub other : y.other < length slots
   pub apart : y.new ≢ y.other
-  pub empty : slot slots y.other ≡ None
-  pub kinds : (is_of k (value slots y.expected) ≡ true) × (is_of k (value slots y.new) ≡ true)
+  pub empty : slot_pointer slots y.other ≡ None
+  pub kinds : (is_of k (slot_value slots y.expected) ≡ true) × (is_of k (slot_value slots y.new) ≡ true)
 
 -- what steps on a cell tell, by what the cell holds and slots have
 abbrev pub load_of : State → Cell → Event Nothing
 load_of s c = event.Load (cell_in s c) (held_in s c)
 
 abbrev pub swap_of : State → Cell → Slot → Event Nothing
-swap_of s c x = event.Swap (cell_in s c) (told s (kind_in s c) x) (held_in s c)
+swap_of s c x = event.Swap (cell_in s c) (named_handle s (kind_in_state s c) x) (held_in s c)
 
 abbrev pub compare_of : State → Cell → Slot → Slot → Bool → Event Nothing
 compare_of s c expected new weak =
-    let h = told s (kind_in s c) expected in
-    event.Compare (cell_in s c) h (told s (kind_in s c) new) (held_in s c) (equivalent (held_in s c) h) weak
+    let h = named_handle s (kind_in_state s c) expected in
+    event.Compare (cell_in s c) h (named_handle s (kind_in_state s c) new) (held_in s c)
+    (equivalent (held_in s c) h) weak

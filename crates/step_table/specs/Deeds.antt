@@ -13,7 +13,7 @@ use Rattle.step_table.specs.declared.field.Field.{Field}
 use Rattle.step_table.specs.declared.holdings.Pointer.{Pointer}
 use Rattle.step_table.specs.declared.past.Deed.{Deed}
 use Rattle.step_table.specs.declared.past.Deed.TheVariants as deed
-use Rattle.step_table.specs.Stories.{Story, pending, state}
+use Rattle.step_table.specs.Stories.{Story, pending, story_state}
 use Rattle.step_table.specs.declared.field.Field.TheVariants.{Zero, One, Two, Three}
 use Rattle.control_word.specs.declared.handle.Handle.{Handle}
 use Rattle.control_word.specs.Handles.{handle, empty, owner_before}
@@ -109,7 +109,7 @@ IsSettled v d x = (e : ℕ) → e ≢ d → owes (pending v e) (spot x.block.0 0
 
 -- none are told just where there are none, never more than there are, and all that there are where no such load is
 -- under way
-pub record Tells (v : Story) (d : ℕ) (s : State) (tell : Telling) (x : Pointer) : Type 0 where
+pub record TellsUseCount (v : Story) (d : ℕ) (s : State) (tell : Telling) (x : Pointer) : Type 0 where
   pub none : (tell s x == 0) ≡ (exact s x == 0)
   pub most : tell s x ≤ exact s x
   pub exactly : IsSettled v d x → tell s x ≡ exact s x
@@ -118,7 +118,7 @@ abbrev pub tell_count : Telling → State → Pointer → Deed
 tell_count tell s x = deed.Count x.kind x.block x.place (tell s x)
 
 abbrev pub tell : Story → Pointer → Deed
-tell v = tell_count (by_word v) (state v)
+tell v = tell_count (by_word v) (story_state v)
 
 abbrev pub tell_expired : State → Pointer → Deed
 tell_expired s x = deed.Expired x.kind x.block x.place (is_expired s x)
@@ -138,8 +138,8 @@ field_at o (Some p) = slice_index o.fields p.field
 abbrev pub field_of : State → Pointer → ℕ
 field_of s x = field_at (s.object (owned s x)) x.place
 
-abbrev pub read : State → Pointer → Deed
-read s x = deed.Read x.block x.place (field_of s x)
+abbrev pub read_deed : State → Pointer → Deed
+read_deed s x = deed.Read x.block x.place (field_of s x)
 
 -- the object gives pointers to itself ([util.smartptr.enab])
 abbrev pub is_enabled : State → Pointer → Bool
@@ -163,8 +163,8 @@ on f none (Some x) = f x
 
 -- what owns nothing comes before all that owns something, and else the lesser block first ([util.smartptr.shared.obs];
 -- by block: own)
-abbrev pub before : State → Option Pointer → Option Pointer → Bool
-before s x y = owner_before (blocks_of s) (on (handle_of s) (empty Owner) x) (on (handle_of s) (empty Owner) y)
+abbrev pub pointer_before : State → Option Pointer → Option Pointer → Bool
+pointer_before s x y = owner_before (blocks_of s) (on (handle_of s) (empty Owner) x) (on (handle_of s) (empty Owner) y)
 
 abbrev pub remains : Object → Ended
 remains x = cond x.null ended.Null (ended.Fields x.fields)

@@ -12,7 +12,7 @@ use Rattle.control_word.specs.State.{State, bag_size, held, same_held}
 use Rattle.step_table.specs.declared.holdings.Pointer.{Pointer}
 use Rattle.step_table.specs.declared.slot.Slot.{Slot}
 use Rattle.step_table.specs.declared.slot.Slot.TheVariants.{Empty, Full}
-use Rattle.step_table.specs.Stories.{Story, handle_in, state}
+use Rattle.step_table.specs.Stories.{Story, handle_in_block, story_state}
 
 abbrev pub Slots : Type 0
 Slots = List Slot
@@ -34,27 +34,27 @@ abbrev pub filled : Option Pointer → Slot
 filled None = plain
 filled (Some x) = Full x
 
-abbrev pub value : Slots → ℕ → Slot
-value slots i = get_or slots i plain
+abbrev pub slot_value : Slots → ℕ → Slot
+slot_value slots i = get_or slots i plain
 
 -- what a slot has of an object, and the place that it stores
-abbrev pub slot : Slots → ℕ → Option Pointer
-slot slots i = pointer_of (value slots i)
+abbrev pub slot_pointer : Slots → ℕ → Option Pointer
+slot_pointer slots i = pointer_of (slot_value slots i)
 
 abbrev pub place_in : Slots → ℕ → Option Place
-place_in slots i = place_of (value slots i)
+place_in slots i = place_of (slot_value slots i)
 
 -- how often the desk has the handle
-abbrev pub times : State → ℕ → Handle → ℕ
-times s d h = length (filter (same_held (held d h)) s.hands)
+abbrev pub times_held : State → ℕ → Handle → ℕ
+times_held s d h = length (filter (same_held (held d h)) s.hands)
 
 abbrev pub is_it : Story → Handle → Slot → Bool
 is_it v h (Empty p) = false
-is_it v h (Full x) = same_handle h (handle_in v x.kind x.block x.place)
+is_it v h (Full x) = same_handle h (handle_in_block v x.kind x.block x.place)
 
-abbrev pub has_object : Slot → Bool
-has_object (Empty p) = false
-has_object (Full x) = true
+abbrev pub slot_has_object : Slot → Bool
+slot_has_object (Empty p) = false
+slot_has_object (Full x) = true
 
 abbrev pub is_full : Option Pointer → Bool
 is_full None = false
@@ -96,14 +96,14 @@ abbrev pub owns : Story → Slots → Handle → ℕ
 owns v slots h = length (filter (is_it v h) slots)
 
 abbrev pub full : Slots → ℕ
-full slots = length (filter has_object slots)
+full slots = length (filter slot_has_object slots)
 
 -- places in slots are well formed
 abbrev pub IsSlot : Slot → Type 0
 IsSlot x = IsPointer (place_of x)
 
 -- the slots have just the handles of the desk's bag
-pub record Holds (d : ℕ) (slots : Slots) (v : Story) : Type 0 where
-  pub owned : (h : Handle) → times (state v) d h ≡ owns v slots h
-  pub size : bag_size (state v) d ≡ full slots
-  pub formed : (i : ℕ) → IsSlot (value slots i)
+pub record HoldsBag (d : ℕ) (slots : Slots) (v : Story) : Type 0 where
+  pub owned : (h : Handle) → times_held (story_state v) d h ≡ owns v slots h
+  pub size : bag_size (story_state v) d ≡ full slots
+  pub formed : (i : ℕ) → IsSlot (slot_value slots i)

@@ -9,10 +9,10 @@ use Rattle.control_word.specs.State.{Has, held}
 use Rattle.step_table.specs.declared.cell_deed.Cell.{Cell}
 use Rattle.step_table.specs.declared.refill.Stage.{Stage}
 use Rattle.step_table.specs.declared.refill.Stage.TheVariants.{Turning, Checking, Lacking, Refilling, Failing}
-use Rattle.step_table.specs.CellDeeds.{kind_in, owing}
+use Rattle.step_table.specs.CellDeeds.{kind_in_state, owing_funds}
 use Rattle.step_table.specs.Cells.{IsOpenTo}
 use Rattle.step_table.specs.Contents.{same_value}
-use Rattle.step_table.specs.Stories.{Story, handle_in, pending, state}
+use Rattle.step_table.specs.Stories.{Story, handle_in_block, pending, story_state}
 
 -- one fund more is taken
 abbrev pub more_taken : CellWord → CellWord
@@ -28,11 +28,11 @@ is_drained x found = same_value x found && is_low found
 
 -- the funds that are out: the one that was taken, or those that were brought in place of all that were
 abbrev pub StageFits : ℕ → Stage → Kind → Block → CellWord → Story → Type 0
-StageFits d Turning k b x v = pending v d ≡ owing (state v) k (Some b) x.place 1 1
+StageFits d Turning k b x v = pending v d ≡ owing_funds (story_state v) k (Some b) x.place 1 1
 StageFits d Checking k b x v = pending v d ≡ Idle
 StageFits d Lacking k b x v = pending v d ≡ Idle
-StageFits d Refilling k b x v = pending v d ≡ owing (state v) k (Some b) x.place x.taken 0
-StageFits d Failing k b x v = pending v d ≡ owing (state v) k (Some b) x.place x.taken 0
+StageFits d Refilling k b x v = pending v d ≡ owing_funds (story_state v) k (Some b) x.place x.taken 0
+StageFits d Failing k b x v = pending v d ≡ owing_funds (story_state v) k (Some b) x.place x.taken 0
 
 -- the value has an object, the cell is open, and the desk has what it loaded
 pub record RefillFits (d : ℕ) (stage : Stage) (c : Cell) (x : CellWord) (v : Story) : Type 0 where
@@ -40,5 +40,5 @@ pub record RefillFits (d : ℕ) (stage : Stage) (c : Cell) (x : CellWord) (v : S
   pub block : Block
   pub owned : x.owned ≡ Some block
   pub opens : IsOpenTo v d c
-  pub has : Has (held d (handle_in v (kind_in (state v) c) block x.place)) (state v).hands
-  pub pays : StageFits d stage (kind_in (state v) c) block x v
+  pub has : Has (held d (handle_in_block v (kind_in_state (story_state v) c) block x.place)) (story_state v).hands
+  pub pays : StageFits d stage (kind_in_state (story_state v) c) block x v

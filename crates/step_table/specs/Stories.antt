@@ -35,8 +35,8 @@ pub record Story : Type 0 where
   pub views : List (View Nothing)
   pub history : List (Entry Nothing)
 
-abbrev pub state : Story → State
-state v = leads (opening v.extent) v.history
+abbrev pub story_state : Story → State
+story_state v = leads (opening v.extent) v.history
 
 abbrev pub view_in : List (View Nothing) → ℕ → View Nothing
 view_in views d = get_or views d used_up
@@ -46,18 +46,18 @@ abbrev pub pending : Story → ℕ → Pending Nothing
 pending v d = (view_in v.views d).pending
 
 -- the object that a handle on this block owns: no other keeps the block
-abbrev pub object_in : Story → Block → ℕ
-object_in v b = (state v).latest b.0
+abbrev pub object_of_block : Story → Block → ℕ
+object_of_block v b = (story_state v).latest b.0
 
 abbrev pub owner_in : Story → Block → Option Place → Handle
-owner_in v b p = owner (object_in v b) p
+owner_in v b p = owner (object_of_block v b) p
 
 abbrev pub weak_in : Story → Block → Option Place → Handle
-weak_in v b p = weak_of (object_in v b) p
+weak_in v b p = weak_of (object_of_block v b) p
 
 -- the handle of either kind
-abbrev pub handle_in : Story → Kind → Block → Option Place → Handle
-handle_in v k b p = handle k (Some (object_in v b)) p
+abbrev pub handle_in_block : Story → Kind → Block → Option Place → Handle
+handle_in_block v k b p = handle k (Some (object_of_block v b)) p
 
 -- the event of a deed in a state; a write of a vacant block is none
 abbrev pub event_of : State → Deed → Option (Event Nothing)
@@ -96,15 +96,15 @@ words_after v (Finish b vacant) = slice_set v.words (spot b.0 1) (slice_index v.
 words_after v (OnShelf b x) = shelf_words (opening v.extent) v.words b x
 words_after v (OnCell x) = cell_words v.extent.shape.blocks v.words x
 
-abbrev pub known : Pending Nothing → List ℕ
-known (Making b l) = l
-known _ = []
+abbrev pub known_words : Pending Nothing → List ℕ
+known_words (Making b l) = l
+known_words _ = []
 
 -- the desk's half-done call after it: a make and a call on a cell take several steps
 abbrev pub pending_after : Story → ℕ → Deed → Pending Nothing
 pending_after v d (Prepare b) = Making b (known_of v.words b.0)
-pending_after v d (Write b j n) = Making b (slice_set (known (pending v d)) j n)
-pending_after v d (OnCell x) = cell_pending (state v) x
+pending_after v d (Write b j n) = Making b (slice_set (known_words (pending v d)) j n)
+pending_after v d (OnCell x) = cell_pending (story_state v) x
 pending_after v d _ = Idle
 
 -- the desk is making an object in this block, and knows its five loose words
@@ -113,19 +113,19 @@ pub record IsMaking (v : Story) (d : ℕ) (b : Block) : Type 0 where
   pub size : length words ≡ 5
   pub making : pending v d ≡ Making b words
 
-abbrev pub added : ℕ → Option (Event Nothing) → List (Entry Nothing) → List (Entry Nothing)
-added d None h = h
-added d (Some e) h = entry d e ∷ h
+abbrev pub event_added : ℕ → Option (Event Nothing) → List (Entry Nothing) → List (Entry Nothing)
+event_added d None h = h
+event_added d (Some e) h = entry d e ∷ h
 
 abbrev pub history_after : Story → ℕ → Deed → List (Entry Nothing)
-history_after v d x = added d (event_of (state v) x) v.history
+history_after v d x = event_added d (event_of (story_state v) x) v.history
 
 abbrev pub views_after : Story → ℕ → Deed → List (View Nothing)
 views_after v d x = slice_set v.views d (sees_as (view_in v.views d) (pending_after v d x) (history_after v d x))
 
 -- the story after a deed of desk d
-abbrev pub after : Story → ℕ → Deed → Story
-after v d x =
+abbrev pub story_after_deed : Story → ℕ → Deed → Story
+story_after_deed v d x =
     record { extent = v.extent; words = words_after v x; views = views_after v d x; history = history_after v d x }
 
 -- each actor has a view of its own
@@ -150,6 +150,6 @@ pub record Kept (v : Story) : Type 0 where
   pub stands : Stands (opening v.extent) v.words v.views v.history
   pub seats : Seats v.views v.extent.actors
   pub doors : (d : ℕ) → ShutsNoDoor (pending v d)
-  pub whole : AllWhole (state v)
+  pub whole : AllWhole (story_state v)
   pub proper : IsExtent v.extent
-  pub allowed : (state v).allowance ≡ share_of v.extent
+  pub allowed : (story_state v).allowance ≡ share_of v.extent

@@ -7,10 +7,11 @@ ghost use Rattle.control_word.specs.declared.view.Pending.TheVariants.{Idle};
 ghost use Rattle.control_word.specs.Handles.{equivalent, same_place};
 ghost use Rattle.control_word.specs.Packing.{IsCellWord, cell_bits};
 ghost use Rattle.control_word.specs.State.{State, bag_size};
-ghost use Rattle.step_table.specs.CellDeeds.{handle_told, kind_in, owing, word_of};
+ghost use Rattle.step_table.specs.CellDeeds.{handle_told, kind_in_state, owing_funds, word_of};
 ghost use Rattle.step_table.specs.declared.cell_deed.Cell.{Cell as At};
-ghost use Rattle.step_table.specs.Cells.{HasInHand, IsOpenTo, IsSomewhere, IsThere, Shows, target_of, word_at};
-ghost use Rattle.step_table.specs.Stories.{after, pending, state};
+ghost use Rattle.step_table.specs.Cells.{HasInHand, IsOpenTo, IsSomewhere, IsCellInUse, ShowsCell, target_of};
+ghost use Rattle.step_table.specs.Cells.{word_of_cell};
+ghost use Rattle.step_table.specs.Stories.{story_after_deed, pending, story_state};
 
 use crate::cell_deed::{Cell, CellDeed, Compared};
 use crate::past::Deed;
@@ -54,8 +55,8 @@ impl Table {
     /// The block of the object that the handle in a cell is on; none where it is on none (own). Condition: the cell is
     /// free, or a member of what is in a block that isn't vacant.
     pub fn target(&self, cell: Cell) -> Option<Block>
-        requires { IsThere self.now cell }
-        ensures { result ≡ target_of (state self.now) cell }
+        requires { IsCellInUse self.now cell }
+        ensures { result ≡ target_of (story_state self.now) cell }
     {
         unpack(self.words.get(place_of(cell, self.extent.shape.blocks))).owned
     }
@@ -64,7 +65,7 @@ impl Table {
     pub fn shown(&self, desk: usize, cell: Cell) -> CellWord
         requires seat { desk < self.now.extent.actors }
         requires open { IsOpenTo self.now desk cell }
-        ensures { Shows self.now cell result }
+        ensures { ShowsCell self.now cell result }
     {
         unpack(self.words.get(place_of(cell, self.extent.shape.blocks)))
     }
@@ -74,7 +75,7 @@ impl Table {
         requires seat { desk < self.now.extent.actors }
         requires open { IsOpenTo self.now desk cell }
         requires seen { IsCellWord seen }
-        ensures { result ≡ (word_at self.now cell == cell_bits seen) }
+        ensures { result ≡ (word_of_cell self.now cell == cell_bits seen) }
     {
         self.words.get(place_of(cell, self.extent.shape.blocks)) == pack(seen)
     }
@@ -86,11 +87,12 @@ impl Table {
         requires open { IsOpenTo self.old desk cell }
         requires new { IsCellWord new × (new.taken ≡ 0) }
         requires hand { HasInHand self.old desk cell new }
-        requires owes { pending self.old desk ≡ owing (state self.old)
-            (kind_in (state self.old) cell) new.owned new.place 256 0 }
-        requires room { new.owned ≡ None → bag_size (state self.old) desk < (state self.old).allowance desk }
-        ensures found { Shows self.old cell result }
-        ensures after { self.new ≡ after self.old desk (Deed.OnCell (CellDeed.Swap cell new result)) }
+        requires owes { pending self.old desk ≡ owing_funds (story_state self.old)
+            (kind_in_state (story_state self.old) cell) new.owned new.place 256 0 }
+        requires room { new.owned ≡ None
+            → bag_size (story_state self.old) desk < (story_state self.old).allowance desk }
+        ensures found { ShowsCell self.old cell result }
+        ensures after { self.new ≡ story_after_deed self.old desk (Deed.OnCell (CellDeed.Swap cell new result)) }
     {
         let found = self.shown(desk, cell);
         let deed = CellDeed::Swap { cell, new, found };
@@ -108,10 +110,10 @@ impl Table {
         requires idle { pending self.old desk ≡ Idle }
         requires open { IsOpenTo self.old desk cell }
         requires seen { IsCellWord seen × (seen.owned ≢ None) × (seen.taken < 256) }
-        requires room { bag_size (state self.old) desk < (state self.old).allowance desk }
-        ensures same { result ≡ (word_at self.old cell == cell_bits seen) }
+        requires room { bag_size (story_state self.old) desk < (story_state self.old).allowance desk }
+        ensures same { result ≡ (word_of_cell self.old cell == cell_bits seen) }
         ensures after { self.new ≡ cond result
-            (after self.old desk (Deed.OnCell (CellDeed.Take cell seen None))) self.old }
+            (story_after_deed self.old desk (Deed.OnCell (CellDeed.Take cell seen None))) self.old }
     {
         if !self.shows(desk, cell, seen) {
             return false;
@@ -136,9 +138,9 @@ impl Table {
         requires seat { desk < self.old.extent.actors }
         requires idle { pending self.old desk ≡ Idle }
         requires open { IsOpenTo self.old desk cell }
-        ensures found { Shows self.old cell result }
+        ensures found { ShowsCell self.old cell result }
         ensures after { self.new ≡ cond (is_some result.owned) self.old
-            (after self.old desk (Deed.OnCell (CellDeed.Look cell result None))) }
+            (story_after_deed self.old desk (Deed.OnCell (CellDeed.Look cell result None))) }
     {
         let found = self.shown(desk, cell);
         if found.owned.is_some() {
@@ -160,11 +162,11 @@ impl Table {
         requires seat { desk < self.old.extent.actors }
         requires open { IsOpenTo self.old desk cell }
         requires seen { IsCellWord seen × (seen.owned ≢ None) }
-        requires owes { (p : Option Place) × (pending self.old desk ≡ owing (state self.old)
-            (kind_in (state self.old) cell) seen.owned p seen.taken 0) }
-        ensures same { result ≡ (word_at self.old cell == cell_bits seen) }
+        requires owes { (p : Option Place) × (pending self.old desk ≡ owing_funds (story_state self.old)
+            (kind_in_state (story_state self.old) cell) seen.owned p seen.taken 0) }
+        ensures same { result ≡ (word_of_cell self.old cell == cell_bits seen) }
         ensures after { self.new ≡ cond result
-            (after self.old desk (Deed.OnCell (CellDeed.Refill cell seen.taken))) self.old }
+            (story_after_deed self.old desk (Deed.OnCell (CellDeed.Refill cell seen.taken))) self.old }
     {
         if !self.shows(desk, cell, seen) {
             return false;
@@ -194,18 +196,18 @@ impl Table {
         requires seat { desk < self.old.extent.actors }
         requires open { IsOpenTo self.old desk cell }
         requires seen { IsCellWord seen }
-        requires alike { equivalent (handle_told (state self.old) cell seen)
-            (handle_told (state self.old) cell compared.expected) ≡ true }
+        requires alike { equivalent (handle_told (story_state self.old) cell seen)
+            (handle_told (story_state self.old) cell compared.expected) ≡ true }
         requires expected { HasInHand self.old desk cell compared.expected }
         requires new { IsCellWord compared.new × (compared.new.taken ≡ 0) }
         requires hand { HasInHand self.old desk cell compared.new }
-        requires owes { pending self.old desk ≡ owing (state self.old)
-            (kind_in (state self.old) cell) compared.new.owned compared.new.place 256 0 }
+        requires owes { pending self.old desk ≡ owing_funds (story_state self.old)
+            (kind_in_state (story_state self.old) cell) compared.new.owned compared.new.place 256 0 }
         requires room { compared.new.owned ≡ None
-            → bag_size (state self.old) desk < (state self.old).allowance desk }
-        ensures same { result ≡ (word_at self.old cell == cell_bits seen) }
+            → bag_size (story_state self.old) desk < (story_state self.old).allowance desk }
+        ensures same { result ≡ (word_of_cell self.old cell == cell_bits seen) }
         ensures after { self.new ≡ cond result
-            (after self.old desk (Deed.OnCell (CellDeed.CompareSwap cell seen compared))) self.old }
+            (story_after_deed self.old desk (Deed.OnCell (CellDeed.CompareSwap cell seen compared))) self.old }
     {
         if !self.shows(desk, cell, seen) {
             return false;
@@ -229,11 +231,11 @@ impl Table {
         requires open { IsOpenTo self.old desk cell }
         requires expected { HasInHand self.old desk cell compared.expected }
         requires hand { HasInHand self.old desk cell compared.new }
-        ensures found { Shows self.old cell result }
+        ensures found { ShowsCell self.old cell result }
         ensures after { self.new
-            ≡ cond (is_some result.owned || equivalent (handle_told (state self.old) cell result)
-            (handle_told (state self.old) cell compared.expected)) self.old
-            (after self.old desk (Deed.OnCell (CellDeed.Look cell result (Some compared)))) }
+            ≡ cond (is_some result.owned || equivalent (handle_told (story_state self.old) cell result)
+            (handle_told (story_state self.old) cell compared.expected)) self.old
+            (story_after_deed self.old desk (Deed.OnCell (CellDeed.Look cell result (Some compared)))) }
     {
         let found = self.shown(desk, cell);
         if found.owned.is_some() {
@@ -263,14 +265,14 @@ impl Table {
         requires idle { pending self.old desk ≡ Idle }
         requires open { IsOpenTo self.old desk cell }
         requires seen { IsCellWord seen × (seen.owned ≢ None) × (seen.taken < 256) }
-        requires differs { equivalent (handle_told (state self.old) cell seen)
-            (handle_told (state self.old) cell compared.expected) ≡ false }
+        requires differs { equivalent (handle_told (story_state self.old) cell seen)
+            (handle_told (story_state self.old) cell compared.expected) ≡ false }
         requires expected { HasInHand self.old desk cell compared.expected }
         requires hand { HasInHand self.old desk cell compared.new }
-        requires room { bag_size (state self.old) desk < (state self.old).allowance desk }
-        ensures same { result ≡ (word_at self.old cell == cell_bits seen) }
+        requires room { bag_size (story_state self.old) desk < (story_state self.old).allowance desk }
+        ensures same { result ≡ (word_of_cell self.old cell == cell_bits seen) }
         ensures after { self.new ≡ cond result
-            (after self.old desk (Deed.OnCell (CellDeed.Take cell seen (Some compared)))) self.old }
+            (story_after_deed self.old desk (Deed.OnCell (CellDeed.Take cell seen (Some compared)))) self.old }
     {
         if !self.shows(desk, cell, seen) {
             return false;

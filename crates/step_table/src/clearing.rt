@@ -4,8 +4,8 @@ ghost use Rattle.control_word.specs.declared.view.Pending.TheVariants.{Idle};
 ghost use Rattle.control_word.specs.Handles.{empty};
 ghost use Rattle.control_word.specs.Layout.{spot};
 ghost use Rattle.control_word.specs.State.{bag_size, ending, kind_of_member};
-ghost use Rattle.step_table.specs.Cells.{Shows};
-ghost use Rattle.step_table.specs.Stories.{after, object_in, pending, state};
+ghost use Rattle.step_table.specs.Cells.{ShowsCell};
+ghost use Rattle.step_table.specs.Stories.{story_after_deed, object_of_block, pending, story_state};
 
 use crate::cell_deed::{Cell, CellDeed};
 use crate::past::Deed;
@@ -21,12 +21,14 @@ impl Table {
     pub fn look_member(&mut self, desk: usize, block: Block, member: u8) -> u64
         requires seat { desk < self.old.extent.actors }
         requires idle { pending self.old desk ≡ Idle }
-        requires ending { ((state self.old).object (object_in self.old block)).phase ≡ ending desk }
+        requires ending { ((story_state self.old).object (object_of_block self.old block)).phase ≡ ending desk }
         requires inside { member < 3 }
         ensures found { result ≡ slice_index self.old.words (spot block.0 (7 + member)) }
         ensures empty { (result ≡ 0)
-            ↔ (((state self.old).object (object_in self.old block)).member member ≡ empty (kind_of_member member)) }
-        ensures after { self.new ≡ cond (result == 0) (after self.old desk (Deed.Clear block member)) self.old }
+            ↔ (((story_state self.old).object (object_of_block self.old block)).member member ≡ empty
+            (kind_of_member member)) }
+        ensures after { self.new ≡ cond (result == 0)
+            (story_after_deed self.old desk (Deed.Clear block member)) self.old }
     {
         let found = self
             .words
@@ -42,11 +44,11 @@ impl Table {
     pub fn clear_empty(&mut self, desk: usize, block: Block, member: u8)
         requires seat { desk < self.old.extent.actors }
         requires idle { pending self.old desk ≡ Idle }
-        requires ending { ((state self.old).object (object_in self.old block)).phase ≡ ending desk }
+        requires ending { ((story_state self.old).object (object_of_block self.old block)).phase ≡ ending desk }
         requires inside { member < 3 }
-        requires empty { ((state self.old).object (object_in self.old block)).member member
+        requires empty { ((story_state self.old).object (object_of_block self.old block)).member member
             ≡ empty (kind_of_member member) }
-        ensures { self.new ≡ after self.old desk (Deed.Clear block member) }
+        ensures { self.new ≡ story_after_deed self.old desk (Deed.Clear block member) }
     {
         let found = self.look_member(desk, block, member);
         prove_eq!(found, 0);
@@ -55,9 +57,9 @@ impl Table {
     /// What a member of an ending object holds, and how many of its funds were taken.
     fn shown_member(&self, desk: usize, block: Block, member: u8) -> CellWord
         requires seat { desk < self.now.extent.actors }
-        requires ending { ((state self.now).object (object_in self.now block)).phase ≡ ending desk }
+        requires ending { ((story_state self.now).object (object_of_block self.now block)).phase ≡ ending desk }
         requires inside { member < 3 }
-        ensures { Shows self.now (Cell.Member block member) result }
+        ensures { ShowsCell self.now (Cell.Member block member) result }
     {
         unpack(
             self.words
@@ -70,11 +72,12 @@ impl Table {
     pub fn take_out(&mut self, desk: usize, block: Block, member: u8) -> CellWord
         requires seat { desk < self.old.extent.actors }
         requires idle { pending self.old desk ≡ Idle }
-        requires ending { ((state self.old).object (object_in self.old block)).phase ≡ ending desk }
+        requires ending { ((story_state self.old).object (object_of_block self.old block)).phase ≡ ending desk }
         requires inside { member < 3 }
-        requires room { bag_size (state self.old) desk < (state self.old).allowance desk }
-        ensures found { Shows self.old (Cell.Member block member) result }
-        ensures after { self.new ≡ after self.old desk (Deed.OnCell (CellDeed.TakeOut block member result)) }
+        requires room { bag_size (story_state self.old) desk < (story_state self.old).allowance desk }
+        ensures found { ShowsCell self.old (Cell.Member block member) result }
+        ensures after { self.new ≡ story_after_deed self.old desk
+            (Deed.OnCell (CellDeed.TakeOut block member result)) }
     {
         let found = self.shown_member(desk, block, member);
         let deed = CellDeed::TakeOut {

@@ -4,12 +4,12 @@ ghost use Rattle.std.specs.Prelude.{◌≡◌, ◌≢◌, ◌<◌, ◌==◌, ◌
 ghost use Rattle.std.specs.Prelude.{length, None};
 ghost use Rattle.control_word.specs.declared.view.Pending.TheVariants.{Idle};
 ghost use Rattle.control_word.specs.Packing.{IsCellWord, cell_bits};
-ghost use Rattle.step_table.specs.CellDeeds.{kind_in};
-ghost use Rattle.step_table.specs.Cells.{IsOpenTo, word_at};
+ghost use Rattle.step_table.specs.CellDeeds.{kind_in_state};
+ghost use Rattle.step_table.specs.Cells.{IsOpenTo, word_of_cell};
 ghost use Rattle.step_table.specs.Contents.{CanCompare, as_word, compared_in, differed, held_in, owing_for, same_block};
-ghost use Rattle.step_table.specs.Contents.{same_value, seen, slot_of, swapped};
-ghost use Rattle.step_table.specs.Holdings.{Holds, Slots, value};
-ghost use Rattle.step_table.specs.Stories.{after, pending, state};
+ghost use Rattle.step_table.specs.Contents.{same_value, seen, slot_of, slots_swapped};
+ghost use Rattle.step_table.specs.Holdings.{HoldsBag, Slots, slot_value};
+ghost use Rattle.step_table.specs.Stories.{story_after_deed, pending, story_state};
 
 use crate::cell_deed::{Cell, CellDeed, Compared};
 use crate::cells::is_same_place;
@@ -35,7 +35,7 @@ impl Holdings {
     /// A slot's value as it goes into a cell.
     pub fn word(&self, at: usize) -> CellWord
         requires { at < length self.now.slots.items }
-        ensures { result ≡ as_word (value self.now.slots.items at) }
+        ensures { result ≡ as_word (slot_value self.now.slots.items at) }
     {
         self.slots[at].word()
     }
@@ -74,24 +74,24 @@ impl Holdings {
     ) -> CellWord
         requires seat { desk < table.old.extent.actors }
         requires idle { pending table.old desk ≡ Idle }
-        requires holds { Holds desk self.old.slots.items table.old }
+        requires holds { HoldsBag desk self.old.slots.items table.old }
         requires open { IsOpenTo table.old desk cell }
-        requires compare { CanCompare (kind_in (state table.old) cell) self.old.slots.items comparing }
+        requires compare { CanCompare (kind_in_state (story_state table.old) cell) self.old.slots.items comparing }
         ensures valid { IsCellWord result }
         ensures found { result ≡ seen table.old cell }
         ensures slots { self.new.slots.items
             ≡ cond (is_some result.owned
-            || same_value result (as_word (value self.old.slots.items comparing.expected))) self.old.slots.items
+            || same_value result (as_word (slot_value self.old.slots.items comparing.expected))) self.old.slots.items
             (differed comparing.new comparing.other self.old.slots.items
-            (slot_of (state table.old) (held_in (state table.old) cell))) }
+            (slot_of (story_state table.old) (held_in (story_state table.old) cell))) }
         ensures table { table.new
             ≡ cond (is_some result.owned
-            || same_value result (as_word (value self.old.slots.items comparing.expected))) table.old
-            (after table.old desk
+            || same_value result (as_word (slot_value self.old.slots.items comparing.expected))) table.old
+            (story_after_deed table.old desk
             (Deed.OnCell (CellDeed.Look cell result (Some (compared_in self.old.slots.items comparing))))) }
         ensures stays { (is_some result.owned || same_value result
-            (as_word (value self.old.slots.items comparing.expected))) ≡ true → self.new ≡ self.old }
-        ensures holds { Holds desk self.new.slots.items table.new }
+            (as_word (slot_value self.old.slots.items comparing.expected))) ≡ true → self.new ≡ self.old }
+        ensures holds { HoldsBag desk self.new.slots.items table.new }
     {
         table.known();
         let compared = self.compared(comparing);
@@ -119,21 +119,21 @@ impl Holdings {
     ) -> bool
         requires seat { desk < table.old.extent.actors }
         requires idle { pending table.old desk ≡ Idle }
-        requires holds { Holds desk self.old.slots.items table.old }
+        requires holds { HoldsBag desk self.old.slots.items table.old }
         requires open { IsOpenTo table.old desk cell }
         requires seen { IsCellWord seen × (seen.owned ≢ None) × (seen.taken < 256) }
-        requires compare { CanCompare (kind_in (state table.old) cell) self.old.slots.items comparing }
-        requires differs { same_value seen (as_word (value self.old.slots.items comparing.expected)) ≡ false }
-        ensures same { result ≡ (word_at table.old cell == cell_bits seen) }
+        requires compare { CanCompare (kind_in_state (story_state table.old) cell) self.old.slots.items comparing }
+        requires differs { same_value seen (as_word (slot_value self.old.slots.items comparing.expected)) ≡ false }
+        ensures same { result ≡ (word_of_cell table.old cell == cell_bits seen) }
         ensures slots { self.new.slots.items
             ≡ cond result (differed comparing.new comparing.other self.old.slots.items
-            (slot_of (state table.old) (held_in (state table.old) cell)))
+            (slot_of (story_state table.old) (held_in (story_state table.old) cell)))
             self.old.slots.items }
         ensures table { table.new
-            ≡ cond result (after table.old desk
+            ≡ cond result (story_after_deed table.old desk
             (Deed.OnCell (CellDeed.Take cell seen (Some (compared_in self.old.slots.items comparing))))) table.old }
         ensures stays { result ≡ false → self.new ≡ self.old }
-        ensures holds { Holds desk self.new.slots.items table.new }
+        ensures holds { HoldsBag desk self.new.slots.items table.new }
     {
         table.known();
         let compared = self.compared(comparing);
@@ -156,23 +156,23 @@ impl Holdings {
         comparing: Comparing,
     ) -> bool
         requires seat { desk < table.old.extent.actors }
-        requires holds { Holds desk self.old.slots.items table.old }
+        requires holds { HoldsBag desk self.old.slots.items table.old }
         requires open { IsOpenTo table.old desk cell }
         requires seen { IsCellWord seen }
-        requires compare { CanCompare (kind_in (state table.old) cell) self.old.slots.items comparing }
-        requires alike { same_value seen (as_word (value self.old.slots.items comparing.expected)) ≡ true }
-        requires owes { pending table.old desk ≡ owing_for (state table.old)
-            (value self.old.slots.items comparing.new) 256 }
-        ensures same { result ≡ (word_at table.old cell == cell_bits seen) }
+        requires compare { CanCompare (kind_in_state (story_state table.old) cell) self.old.slots.items comparing }
+        requires alike { same_value seen (as_word (slot_value self.old.slots.items comparing.expected)) ≡ true }
+        requires owes { pending table.old desk ≡ owing_for (story_state table.old)
+            (slot_value self.old.slots.items comparing.new) 256 }
+        ensures same { result ≡ (word_of_cell table.old cell == cell_bits seen) }
         ensures slots { self.new.slots.items
-            ≡ cond result (swapped comparing.new comparing.other self.old.slots.items
-            (slot_of (state table.old) (held_in (state table.old) cell)))
+            ≡ cond result (slots_swapped comparing.new comparing.other self.old.slots.items
+            (slot_of (story_state table.old) (held_in (story_state table.old) cell)))
             self.old.slots.items }
         ensures table { table.new
-            ≡ cond result (after table.old desk
+            ≡ cond result (story_after_deed table.old desk
             (Deed.OnCell (CellDeed.CompareSwap cell seen (compared_in self.old.slots.items comparing)))) table.old }
         ensures stays { result ≡ false → self.new ≡ self.old }
-        ensures holds { Holds desk self.new.slots.items table.new }
+        ensures holds { HoldsBag desk self.new.slots.items table.new }
     {
         table.known();
         let compared = self.compared(comparing);

@@ -1,9 +1,9 @@
 //! What cells hold, between their words and the slots of an actor.
 ghost use Rattle.std.specs.Prelude.{◌≡◌};
 ghost use Rattle.control_word.specs.State.{kind_of_member};
-ghost use Rattle.step_table.specs.CellDeeds.{kind_in};
+ghost use Rattle.step_table.specs.CellDeeds.{kind_in_state};
 ghost use Rattle.step_table.specs.Contents.{as_word, slot_in};
-ghost use Rattle.step_table.specs.Stories.{state};
+ghost use Rattle.step_table.specs.Stories.{story_state};
 
 use crate::cell_deed::Cell;
 use crate::holdings::Pointer;
@@ -15,7 +15,7 @@ use control_word::handle::Kind;
 impl Table {
     /// The kind of the handles in a cell.
     pub fn kind_in(&self, cell: Cell) -> Kind
-        ensures { result ≡ kind_in (state self.now) cell }
+        ensures { result ≡ kind_in_state (story_state self.now) cell }
     {
         match cell {
             Cell::Free { number } => self.kind_of_free(number),
@@ -25,7 +25,7 @@ impl Table {
 
     /// The shared cells come first.
     fn kind_of_free(&self, number: u32) -> Kind
-        ensures { result ≡ kind_in (state self.now) (Cell.Free number) }
+        ensures { result ≡ kind_in_state (story_state self.now) (Cell.Free number) }
     {
         if number < self.extent.shape.shared_cells {
             Kind::Owner

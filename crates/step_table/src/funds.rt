@@ -6,8 +6,8 @@ ghost use Rattle.control_word.specs.declared.view.Pending.TheVariants.{Idle};
 ghost use Rattle.control_word.specs.Layout.{spot};
 ghost use Rattle.control_word.specs.State.{Has, held};
 ghost use Rattle.control_word.specs.Words.{slot};
-ghost use Rattle.step_table.specs.CellDeeds.{owing};
-ghost use Rattle.step_table.specs.Stories.{after, handle_in, pending, state};
+ghost use Rattle.step_table.specs.CellDeeds.{owing_funds};
+ghost use Rattle.step_table.specs.Stories.{story_after_deed, handle_in_block, pending, story_state};
 
 use crate::cell_deed::CellDeed;
 use crate::holdings::Pointer;
@@ -35,10 +35,10 @@ impl Table {
     pub fn bring(&mut self, desk: usize, pointer: Pointer, funds: u32)
         requires seat { desk < self.old.extent.actors }
         requires idle { pending self.old desk ≡ Idle }
-        requires held { Has (held desk (handle_in self.old pointer.kind pointer.block pointer.place))
-            (state self.old).hands }
+        requires held { Has (held desk (handle_in_block self.old pointer.kind pointer.block pointer.place))
+            (story_state self.old).hands }
         requires few { funds ≤ 256 }
-        ensures { self.new ≡ after self.old desk
+        ensures { self.new ≡ story_after_deed self.old desk
             (Deed.OnCell (CellDeed.Bring pointer.kind pointer.block pointer.place funds)) }
     {
         let Pointer { kind, block, place } = pointer;
@@ -59,8 +59,8 @@ impl Table {
     pub fn give_back(&mut self, desk: usize, kind: Kind, block: Block, funds: u32)
         requires seat { desk < self.old.extent.actors }
         requires owes { (p : Option Place)
-            × (pending self.old desk ≡ owing (state self.old) kind (Some block) p funds 0) }
-        ensures { self.new ≡ after self.old desk (Deed.OnCell (CellDeed.GiveBack kind block funds)) }
+            × (pending self.old desk ≡ owing_funds (story_state self.old) kind (Some block) p funds 0) }
+        ensures { self.new ≡ story_after_deed self.old desk (Deed.OnCell (CellDeed.GiveBack kind block funds)) }
     {
         let found = self.words.get(count_word(block, kind));
         let deed = CellDeed::GiveBack { kind, block, funds };
@@ -74,8 +74,8 @@ impl Table {
     pub fn turn_fund(&mut self, desk: usize, kind: Kind, block: Block)
         requires seat { desk < self.old.extent.actors }
         requires owes { (p : Option Place)
-            × (pending self.old desk ≡ owing (state self.old) kind (Some block) p 1 1) }
-        ensures { self.new ≡ after self.old desk (Deed.OnCell (CellDeed.Turn kind block)) }
+            × (pending self.old desk ≡ owing_funds (story_state self.old) kind (Some block) p 1 1) }
+        ensures { self.new ≡ story_after_deed self.old desk (Deed.OnCell (CellDeed.Turn kind block)) }
     {
         let found = self.words.get(count_word(block, kind));
         let deed = CellDeed::Turn { kind, block };

@@ -11,9 +11,11 @@ ghost use Rattle.control_word.specs.Words.{flags_of};
 ghost use Rattle.step_table.specs.Deeds.{as_owner, as_weak, by_word, downgrade, is_expired, is_last, leave, lock};
 ghost use Rattle.step_table.specs.Deeds.{owned, owner_word, share, tell, tell_expired};
 ghost use Rattle.step_table.specs.Contents.{is_of};
-ghost use Rattle.step_table.specs.Holdings.{Holds, is_full, place_in, plain, slot, value, weak_as, weak_slot};
+ghost use Rattle.step_table.specs.Holdings.{HoldsBag, is_full, place_in, plain, slot_pointer, slot_value, weak_as};
+ghost use Rattle.step_table.specs.Holdings.{weak_slot};
 ghost use Rattle.step_table.specs.declared.slot.Slot.TheVariants.{Empty, Full};
-ghost use Rattle.step_table.specs.Stories.{IsMaking, Story, after, known, object_in, pending, state};
+ghost use Rattle.step_table.specs.Stories.{IsMaking, Story, story_after_deed, known_words, object_of_block, pending};
+ghost use Rattle.step_table.specs.Stories.{story_state};
 
 use crate::past::Deed;
 use crate::slot::Slot;
@@ -52,7 +54,7 @@ impl Holdings {
     /// What a slot holds.
     pub fn get(&self, at: usize) -> Option<Pointer>
         requires { at < length self.now.slots.items }
-        ensures { result ≡ slot self.now.slots.items at }
+        ensures { result ≡ slot_pointer self.now.slots.items at }
     {
         self.slots[at].pointer()
     }
@@ -68,7 +70,7 @@ impl Holdings {
     /// Whether a slot's value may go into a cell of this kind.
     pub fn is_of(&self, at: usize, kind: Kind) -> bool
         requires { at < length self.now.slots.items }
-        ensures { result ≡ is_of kind (value self.now.slots.items at) }
+        ensures { result ≡ is_of kind (slot_value self.now.slots.items at) }
     {
         self.slots[at].is_of(kind)
     }
@@ -84,7 +86,7 @@ impl Holdings {
     /// Whether a slot holds something.
     pub fn is_full(&self, at: usize) -> bool
         requires { at < length self.now.slots.items }
-        ensures { result ≡ is_full (slot self.now.slots.items at) }
+        ensures { result ≡ is_full (slot_pointer self.now.slots.items at) }
     {
         self.get(at).is_some()
     }
@@ -108,7 +110,7 @@ impl Holdings {
     /// The weak pointer that a slot holds, if it holds one.
     pub fn weak(&self, at: usize) -> Option<Pointer>
         requires { at < length self.now.slots.items }
-        ensures { result ≡ weak_slot (slot self.now.slots.items at) }
+        ensures { result ≡ weak_slot (slot_pointer self.now.slots.items at) }
     {
         match self.get(at) {
             Some(pointer) => weak(pointer),
@@ -120,13 +122,13 @@ impl Holdings {
     pub fn leave(&mut self, desk: usize, table: &mut Table, from: usize, pointer: Pointer) -> bool
         requires seat { desk < table.old.extent.actors }
         requires idle { pending table.old desk ≡ Idle }
-        requires holds { Holds desk self.old.slots.items table.old }
+        requires holds { HoldsBag desk self.old.slots.items table.old }
         requires inside { from < length self.old.slots.items }
-        requires from { slot self.old.slots.items from ≡ Some pointer }
+        requires from { slot_pointer self.old.slots.items from ≡ Some pointer }
         ensures slots { self.new.slots.items ≡ slice_set self.old.slots.items from plain }
-        ensures last { result ≡ is_last (state table.old) pointer }
-        ensures table { table.new ≡ after table.old desk (leave (state table.old) pointer) }
-        ensures holds { Holds desk self.new.slots.items table.new }
+        ensures last { result ≡ is_last (story_state table.old) pointer }
+        ensures table { table.new ≡ story_after_deed table.old desk (leave (story_state table.old) pointer) }
+        ensures holds { HoldsBag desk self.new.slots.items table.new }
     {
         table.known();
         let last = table.leave_pointer(desk, pointer);
@@ -138,11 +140,11 @@ impl Holdings {
     pub fn count(&self, desk: usize, table: &mut Table, from: usize, pointer: Pointer) -> u32
         requires seat { desk < table.old.extent.actors }
         requires idle { pending table.old desk ≡ Idle }
-        requires holds { Holds desk self.now.slots.items table.old }
-        requires from { slot self.now.slots.items from ≡ Some pointer }
-        ensures told { result ≡ by_word table.old (state table.old) pointer }
-        ensures table { table.new ≡ after table.old desk (tell table.old pointer) }
-        ensures holds { Holds desk self.now.slots.items table.new }
+        requires holds { HoldsBag desk self.now.slots.items table.old }
+        requires from { slot_pointer self.now.slots.items from ≡ Some pointer }
+        ensures told { result ≡ by_word table.old (story_state table.old) pointer }
+        ensures table { table.new ≡ story_after_deed table.old desk (tell table.old pointer) }
+        ensures holds { HoldsBag desk self.now.slots.items table.new }
     {
         table.known();
         table.count(desk, pointer)
@@ -152,11 +154,11 @@ impl Holdings {
     pub fn is_expired(&self, desk: usize, table: &mut Table, from: usize, pointer: Pointer) -> bool
         requires seat { desk < table.old.extent.actors }
         requires idle { pending table.old desk ≡ Idle }
-        requires holds { Holds desk self.now.slots.items table.old }
-        requires from { slot self.now.slots.items from ≡ Some pointer }
-        ensures exact { result ≡ is_expired (state table.old) pointer }
-        ensures table { table.new ≡ after table.old desk (tell_expired (state table.old) pointer) }
-        ensures holds { Holds desk self.now.slots.items table.new }
+        requires holds { HoldsBag desk self.now.slots.items table.old }
+        requires from { slot_pointer self.now.slots.items from ≡ Some pointer }
+        ensures exact { result ≡ is_expired (story_state table.old) pointer }
+        ensures table { table.new ≡ story_after_deed table.old desk (tell_expired (story_state table.old) pointer) }
+        ensures holds { HoldsBag desk self.now.slots.items table.new }
     {
         table.known();
         table.is_expired(desk, pointer)
@@ -166,13 +168,13 @@ impl Holdings {
     pub fn look_lock(&self, desk: usize, table: &mut Table, from: usize, pointer: Pointer) -> u64
         requires seat { desk < table.old.extent.actors }
         requires idle { pending table.old desk ≡ Idle }
-        requires holds { Holds desk self.now.slots.items table.old }
-        requires from { weak_slot (slot self.now.slots.items from) ≡ Some pointer }
+        requires holds { HoldsBag desk self.now.slots.items table.old }
+        requires from { weak_slot (slot_pointer self.now.slots.items from) ≡ Some pointer }
         ensures word { result ≡ owner_word table.old pointer }
-        ensures left { (result == 0) ≡ is_expired (state table.old) pointer }
+        ensures left { (result == 0) ≡ is_expired (story_state table.old) pointer }
         ensures table { table.new ≡ cond (result == 0)
-            (after table.old desk (lock (state table.old) pointer)) table.old }
-        ensures holds { Holds desk self.now.slots.items table.new }
+            (story_after_deed table.old desk (lock (story_state table.old) pointer)) table.old }
+        ensures holds { HoldsBag desk self.now.slots.items table.new }
     {
         table.known();
         table.look_lock(desk, pointer.block, pointer.place)
@@ -182,9 +184,10 @@ impl Holdings {
     pub fn set_empty(&mut self, at: usize, place: Option<Place>)
         requires inside { at < length self.old.slots.items }
         requires place { IsPointer place }
-        requires empty { slot self.old.slots.items at ≡ None }
+        requires empty { slot_pointer self.old.slots.items at ≡ None }
         ensures slots { self.new.slots.items ≡ slice_set self.old.slots.items at (Empty place) }
-        ensures holds { (d : ℕ) (v : Story) → Holds d self.old.slots.items v → Holds d self.new.slots.items v }
+        ensures holds { (d : ℕ) (v : Story) → HoldsBag d self.old.slots.items v
+            → HoldsBag d self.new.slots.items v }
     {
         self.slots[at] = Slot::Empty { place };
     }
@@ -194,10 +197,11 @@ impl Holdings {
         requires from { from < length self.old.slots.items }
         requires inside { to < length self.old.slots.items }
         requires apart { from ≢ to }
-        requires empty { slot self.old.slots.items to ≡ None }
+        requires empty { slot_pointer self.old.slots.items to ≡ None }
         ensures slots { self.new.slots.items
-            ≡ slice_set (slice_set self.old.slots.items to (value self.old.slots.items from)) from plain }
-        ensures holds { (d : ℕ) (v : Story) → Holds d self.old.slots.items v → Holds d self.new.slots.items v }
+            ≡ slice_set (slice_set self.old.slots.items to (slot_value self.old.slots.items from)) from plain }
+        ensures holds { (d : ℕ) (v : Story) → HoldsBag d self.old.slots.items v
+            → HoldsBag d self.new.slots.items v }
     {
         self.slots[to] = self.slots[from];
         self.slots[from] = Slot::Empty { place: None };

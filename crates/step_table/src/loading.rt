@@ -4,10 +4,10 @@ ghost use Rattle.std.specs.Prelude.{slice_set, Some, None};
 ghost use Rattle.control_word.specs.declared.view.Pending.TheVariants.{Idle};
 ghost use Rattle.control_word.specs.Packing.{IsCellWord, cell_bits};
 ghost use Rattle.control_word.specs.State.{ending};
-ghost use Rattle.step_table.specs.Cells.{IsOpenTo, word_at};
+ghost use Rattle.step_table.specs.Cells.{IsOpenTo, word_of_cell};
 ghost use Rattle.step_table.specs.Contents.{held_in, seen, slot_of};
-ghost use Rattle.step_table.specs.Holdings.{Holds, slot};
-ghost use Rattle.step_table.specs.Stories.{after, object_in, pending, state};
+ghost use Rattle.step_table.specs.Holdings.{HoldsBag, slot_pointer};
+ghost use Rattle.step_table.specs.Stories.{story_after_deed, object_of_block, pending, story_state};
 
 use crate::cell_deed::{Cell, CellDeed};
 use crate::contents::slot_in;
@@ -29,19 +29,19 @@ impl Holdings {
     ) -> bool
         requires seat { desk < table.old.extent.actors }
         requires idle { pending table.old desk ≡ Idle }
-        requires holds { Holds desk self.old.slots.items table.old }
+        requires holds { HoldsBag desk self.old.slots.items table.old }
         requires open { IsOpenTo table.old desk cell }
         requires seen { IsCellWord seen × (seen.owned ≢ None) × (seen.taken < 256) }
         requires inside { to < length self.old.slots.items }
-        requires empty { slot self.old.slots.items to ≡ None }
-        ensures same { result ≡ (word_at table.old cell == cell_bits seen) }
+        requires empty { slot_pointer self.old.slots.items to ≡ None }
+        ensures same { result ≡ (word_of_cell table.old cell == cell_bits seen) }
         ensures slots { self.new.slots.items
             ≡ cond result (slice_set self.old.slots.items to
-            (slot_of (state table.old) (held_in (state table.old) cell))) self.old.slots.items }
+            (slot_of (story_state table.old) (held_in (story_state table.old) cell))) self.old.slots.items }
         ensures table { table.new ≡ cond result
-            (after table.old desk (Deed.OnCell (CellDeed.Take cell seen None))) table.old }
+            (story_after_deed table.old desk (Deed.OnCell (CellDeed.Take cell seen None))) table.old }
         ensures stays { result ≡ false → self.new ≡ self.old }
-        ensures holds { Holds desk self.new.slots.items table.new }
+        ensures holds { HoldsBag desk self.new.slots.items table.new }
     {
         table.known();
         let kind = table.kind_in(cell);
@@ -63,19 +63,20 @@ impl Holdings {
     ) -> CellWord
         requires seat { desk < table.old.extent.actors }
         requires idle { pending table.old desk ≡ Idle }
-        requires holds { Holds desk self.old.slots.items table.old }
+        requires holds { HoldsBag desk self.old.slots.items table.old }
         requires open { IsOpenTo table.old desk cell }
         requires inside { to < length self.old.slots.items }
-        requires empty { slot self.old.slots.items to ≡ None }
+        requires empty { slot_pointer self.old.slots.items to ≡ None }
         ensures valid { IsCellWord result }
         ensures found { result ≡ seen table.old cell }
         ensures slots { self.new.slots.items
             ≡ cond (is_some result.owned) self.old.slots.items
-            (slice_set self.old.slots.items to (slot_of (state table.old) (held_in (state table.old) cell))) }
+            (slice_set self.old.slots.items to
+            (slot_of (story_state table.old) (held_in (story_state table.old) cell))) }
         ensures table { table.new ≡ cond (is_some result.owned) table.old
-            (after table.old desk (Deed.OnCell (CellDeed.Look cell result None))) }
+            (story_after_deed table.old desk (Deed.OnCell (CellDeed.Look cell result None))) }
         ensures stays { is_some result.owned ≡ true → self.new ≡ self.old }
-        ensures holds { Holds desk self.new.slots.items table.new }
+        ensures holds { HoldsBag desk self.new.slots.items table.new }
     {
         table.known();
         let kind = table.kind_in(cell);
@@ -99,20 +100,21 @@ impl Holdings {
     ) -> CellWord
         requires seat { desk < table.old.extent.actors }
         requires idle { pending table.old desk ≡ Idle }
-        requires holds { Holds desk self.old.slots.items table.old }
-        requires ending { ((state table.old).object (object_in table.old block)).phase ≡ ending desk }
+        requires holds { HoldsBag desk self.old.slots.items table.old }
+        requires ending { ((story_state table.old).object (object_of_block table.old block)).phase ≡ ending desk }
         requires member { member < 3 }
         requires inside { to < length self.old.slots.items }
-        requires empty { slot self.old.slots.items to ≡ None }
+        requires empty { slot_pointer self.old.slots.items to ≡ None }
         ensures valid { IsCellWord result }
         ensures found { result ≡ seen table.old (Cell.Member block member) }
         ensures slots { self.new.slots.items
             ≡ cond (is_some result.owned)
             (slice_set self.old.slots.items to
-            (slot_of (state table.old) (held_in (state table.old) (Cell.Member block member))))
+            (slot_of (story_state table.old) (held_in (story_state table.old) (Cell.Member block member))))
             self.old.slots.items }
-        ensures table { table.new ≡ after table.old desk (Deed.OnCell (CellDeed.TakeOut block member result)) }
-        ensures holds { Holds desk self.new.slots.items table.new }
+        ensures table { table.new ≡ story_after_deed table.old desk
+            (Deed.OnCell (CellDeed.TakeOut block member result)) }
+        ensures holds { HoldsBag desk self.new.slots.items table.new }
     {
         table.known();
         let kind = table.kind_in(Cell::Member { block, member });

@@ -4,7 +4,7 @@ ghost use Rattle.control_word.specs.declared.view.Pending.TheVariants.{Idle};
 ghost use Rattle.control_word.specs.Handles.{IsPointer};
 ghost use Rattle.control_word.specs.State.{Has, held, bag_size};
 ghost use Rattle.step_table.specs.Deeds.{is_last, leave, share};
-ghost use Rattle.step_table.specs.Stories.{after, handle_in, pending, state};
+ghost use Rattle.step_table.specs.Stories.{story_after_deed, handle_in_block, pending, story_state};
 
 use crate::holdings::Pointer;
 use crate::table::Table;
@@ -15,11 +15,11 @@ impl Table {
     pub(crate) fn copy_pointer(&mut self, desk: usize, pointer: Pointer)
         requires seat { desk < self.old.extent.actors }
         requires idle { pending self.old desk ≡ Idle }
-        requires held { Has (held desk (handle_in self.old pointer.kind pointer.block pointer.place))
-            (state self.old).hands }
+        requires held { Has (held desk (handle_in_block self.old pointer.kind pointer.block pointer.place))
+            (story_state self.old).hands }
         requires place { IsPointer pointer.place }
-        requires room { bag_size (state self.old) desk < (state self.old).allowance desk }
-        ensures { self.new ≡ after self.old desk (share pointer) }
+        requires room { bag_size (story_state self.old) desk < (story_state self.old).allowance desk }
+        ensures { self.new ≡ story_after_deed self.old desk (share pointer) }
     {
         match pointer.kind {
             Kind::Owner => self.share(desk, pointer.block, pointer.place, pointer.place),
@@ -32,10 +32,10 @@ impl Table {
     pub(crate) fn leave_pointer(&mut self, desk: usize, pointer: Pointer) -> bool
         requires seat { desk < self.old.extent.actors }
         requires idle { pending self.old desk ≡ Idle }
-        requires held { Has (held desk (handle_in self.old pointer.kind pointer.block pointer.place))
-            (state self.old).hands }
-        ensures last { result ≡ is_last (state self.old) pointer }
-        ensures after { self.new ≡ after self.old desk (leave (state self.old) pointer) }
+        requires held { Has (held desk (handle_in_block self.old pointer.kind pointer.block pointer.place))
+            (story_state self.old).hands }
+        ensures last { result ≡ is_last (story_state self.old) pointer }
+        ensures after { self.new ≡ story_after_deed self.old desk (leave (story_state self.old) pointer) }
     {
         match pointer.kind {
             Kind::Owner => self.leave(desk, pointer.block, pointer.place),

@@ -3,7 +3,7 @@ ghost use Rattle.std.specs.Prelude.{◌≡◌, ◌<◌, length, slice_index, Som
 ghost use Rattle.control_word.specs.declared.view.Pending.TheVariants.{Idle};
 ghost use Rattle.control_word.specs.State.{Has, held};
 ghost use Rattle.step_table.specs.Holdings.{inside_as, into};
-ghost use Rattle.step_table.specs.Stories.{after, object_in, owner_in, pending, state};
+ghost use Rattle.step_table.specs.Stories.{story_after_deed, object_of_block, owner_in, pending, story_state};
 
 use crate::holdings::{Holdings, Pointer};
 use crate::past::Deed;
@@ -17,11 +17,12 @@ impl Table {
     pub fn read(&mut self, desk: usize, block: Block, place: Place) -> u64
         requires seat { desk < self.old.extent.actors }
         requires idle { pending self.old desk ≡ Idle }
-        requires held { Has (held desk (owner_in self.old block (Some place))) (state self.old).hands }
+        requires held { Has (held desk (owner_in self.old block (Some place))) (story_state self.old).hands }
         requires inside { place.block.0 ≡ block.0 }
         requires field { place.field < 4 }
-        ensures value { result ≡ slice_index ((state self.old).object (object_in self.old block)).fields place.field }
-        ensures after { self.new ≡ after self.old desk (Deed.Read block (Some place) result) }
+        ensures value { result ≡ slice_index
+            ((story_state self.old).object (object_of_block self.old block)).fields place.field }
+        ensures after { self.new ≡ story_after_deed self.old desk (Deed.Read block (Some place) result) }
     {
         let value = self
             .words
@@ -39,13 +40,13 @@ impl Table {
 }
 
 impl Holdings {
-    ghost use Rattle.step_table.specs.Deeds.{field_of, read};
-    ghost use Rattle.step_table.specs.Holdings.{Holds, inside, slot};
+    ghost use Rattle.step_table.specs.Deeds.{field_of, read_deed};
+    ghost use Rattle.step_table.specs.Holdings.{HoldsBag, inside, slot_pointer};
 
     /// The owner that a slot holds, where it points into the object that it owns.
     pub fn inside(&self, at: usize) -> Option<Pointer>
         requires { at < length self.now.slots.items }
-        ensures { result ≡ inside (slot self.now.slots.items at) }
+        ensures { result ≡ inside (slot_pointer self.now.slots.items at) }
     {
         match self.get(at) {
             Some(pointer) => inside(pointer),
@@ -57,11 +58,11 @@ impl Holdings {
     pub fn read(&self, desk: usize, table: &mut Table, from: usize, pointer: Pointer) -> u64
         requires seat { desk < table.old.extent.actors }
         requires idle { pending table.old desk ≡ Idle }
-        requires holds { Holds desk self.now.slots.items table.old }
-        requires from { inside (slot self.now.slots.items from) ≡ Some pointer }
-        ensures value { result ≡ field_of (state table.old) pointer }
-        ensures table { table.new ≡ after table.old desk (read (state table.old) pointer) }
-        ensures holds { Holds desk self.now.slots.items table.new }
+        requires holds { HoldsBag desk self.now.slots.items table.old }
+        requires from { inside (slot_pointer self.now.slots.items from) ≡ Some pointer }
+        ensures value { result ≡ field_of (story_state table.old) pointer }
+        ensures table { table.new ≡ story_after_deed table.old desk (read_deed (story_state table.old) pointer) }
+        ensures holds { HoldsBag desk self.now.slots.items table.new }
     {
         table.known();
         let Some(place) = pointer.place else {

@@ -5,7 +5,7 @@ ghost use Rattle.control_word.specs.declared.view.Pending.TheVariants.{Idle};
 ghost use Rattle.control_word.specs.State.{Has, on_shelf, stored};
 ghost use Rattle.control_word.specs.Words.{shelf_spot};
 ghost use Rattle.step_table.specs.Openings.{opening};
-ghost use Rattle.step_table.specs.Stories.{after, pending, state};
+ghost use Rattle.step_table.specs.Stories.{story_after_deed, pending, story_state};
 
 use crate::past::Deed;
 use crate::table::Table;
@@ -41,8 +41,8 @@ impl Table {
     pub fn shelve(&mut self, desk: usize, block: Block)
         requires seat { desk < self.old.extent.actors }
         requires idle { pending self.old desk ≡ Idle }
-        requires stored { Has (stored desk block.0) (state self.old).stores }
-        ensures { self.new ≡ after self.old desk (Deed.OnShelf block ShelfDeed.Shelve) }
+        requires stored { Has (stored desk block.0) (story_state self.old).stores }
+        ensures { self.new ≡ story_after_deed self.old desk (Deed.OnShelf block ShelfDeed.Shelve) }
     {
         let word = self.place_on_shelf(block);
         let found = self.words.get(word);
@@ -56,8 +56,8 @@ impl Table {
     pub fn unshelve(&mut self, desk: usize, block: Block) -> bool
         requires seat { desk < self.old.extent.actors }
         requires idle { pending self.old desk ≡ Idle }
-        ensures got { result ≡ (state self.old).shelved block.0 }
-        ensures after { self.new ≡ after self.old desk
+        ensures got { result ≡ (story_state self.old).shelved block.0 }
+        ensures after { self.new ≡ story_after_deed self.old desk
             (Deed.OnShelf block (cond result ShelfDeed.Unshelve ShelfDeed.Miss)) }
     {
         let word = self.place_on_shelf(block);
@@ -74,7 +74,7 @@ impl Table {
     pub fn look_shelf(&self, word: u16) -> u64
         requires { word < 1024 }
         ensures { (b : ℕ) → b < 65536 → b / 64 ≡ word
-            → bit_at result (b % 64) ≡ on_shelf (state self.now) b }
+            → bit_at result (b % 64) ≡ on_shelf (story_state self.now) b }
     {
         self.known();
         let shape = &self.extent.shape;

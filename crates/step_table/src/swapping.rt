@@ -1,11 +1,11 @@
 //! How the values of an actor's slots go into cells. Each function is one atomic step.
 ghost use Rattle.std.specs.Prelude.{◌≡◌, ◌≢◌, ◌<◌, ◌≤◌, true, length, slice_set, Some, None};
 ghost use Rattle.control_word.specs.declared.view.Pending.TheVariants.{Idle};
-ghost use Rattle.step_table.specs.CellDeeds.{kind_in};
+ghost use Rattle.step_table.specs.CellDeeds.{kind_in_state};
 ghost use Rattle.step_table.specs.Cells.{IsOpenTo};
-ghost use Rattle.step_table.specs.Contents.{as_word, held_in, is_of, owing_for, seen, slot_of, swapped};
-ghost use Rattle.step_table.specs.Holdings.{Holds, slot, value};
-ghost use Rattle.step_table.specs.Stories.{after, pending, state};
+ghost use Rattle.step_table.specs.Contents.{as_word, held_in, is_of, owing_for, seen, slot_of, slots_swapped};
+ghost use Rattle.step_table.specs.Holdings.{HoldsBag, slot_pointer, slot_value};
+ghost use Rattle.step_table.specs.Stories.{story_after_deed, pending, story_state};
 
 use crate::cell_deed::{Cell, CellDeed};
 use crate::contents::slot_in;
@@ -21,12 +21,13 @@ impl Holdings {
     pub fn bring(&self, desk: usize, table: &mut Table, from: usize, pointer: Pointer)
         requires seat { desk < table.old.extent.actors }
         requires idle { pending table.old desk ≡ Idle }
-        requires holds { Holds desk self.now.slots.items table.old }
-        requires from { slot self.now.slots.items from ≡ Some pointer }
-        ensures owes { pending table.new desk ≡ owing_for (state table.new) (value self.now.slots.items from) 256 }
-        ensures table { table.new ≡ after table.old desk
+        requires holds { HoldsBag desk self.now.slots.items table.old }
+        requires from { slot_pointer self.now.slots.items from ≡ Some pointer }
+        ensures owes { pending table.new desk ≡ owing_for (story_state table.new)
+            (slot_value self.now.slots.items from) 256 }
+        ensures table { table.new ≡ story_after_deed table.old desk
             (Deed.OnCell (CellDeed.Bring pointer.kind pointer.block pointer.place 256)) }
-        ensures holds { Holds desk self.now.slots.items table.new }
+        ensures holds { HoldsBag desk self.now.slots.items table.new }
     {
         table.known();
         table.bring(desk, pointer, CELL_FUNDS);
@@ -35,18 +36,20 @@ impl Holdings {
     /// Exchanges a slot's value for what a cell holds.
     pub fn exchange(&mut self, desk: usize, table: &mut Table, cell: Cell, at: usize) -> CellWord
         requires seat { desk < table.old.extent.actors }
-        requires holds { Holds desk self.old.slots.items table.old }
+        requires holds { HoldsBag desk self.old.slots.items table.old }
         requires open { IsOpenTo table.old desk cell }
         requires inside { at < length self.old.slots.items }
-        requires kind { is_of (kind_in (state table.old) cell) (value self.old.slots.items at) ≡ true }
-        requires owes { pending table.old desk ≡ owing_for (state table.old) (value self.old.slots.items at) 256 }
+        requires kind { is_of (kind_in_state (story_state table.old) cell)
+            (slot_value self.old.slots.items at) ≡ true }
+        requires owes { pending table.old desk ≡ owing_for (story_state table.old)
+            (slot_value self.old.slots.items at) 256 }
         ensures found { result ≡ seen table.old cell }
         ensures few { result.taken ≤ 256 }
         ensures slots { self.new.slots.items ≡ slice_set self.old.slots.items at
-            (slot_of (state table.old) (held_in (state table.old) cell)) }
-        ensures table { table.new ≡ after table.old desk
-            (Deed.OnCell (CellDeed.Swap cell (as_word (value self.old.slots.items at)) result)) }
-        ensures holds { Holds desk self.new.slots.items table.new }
+            (slot_of (story_state table.old) (held_in (story_state table.old) cell)) }
+        ensures table { table.new ≡ story_after_deed table.old desk
+            (Deed.OnCell (CellDeed.Swap cell (as_word (slot_value self.old.slots.items at)) result)) }
+        ensures holds { HoldsBag desk self.new.slots.items table.new }
     {
         table.known();
         let kind = table.kind_in(cell);
@@ -66,21 +69,23 @@ impl Holdings {
         to: usize,
     ) -> CellWord
         requires seat { desk < table.old.extent.actors }
-        requires holds { Holds desk self.old.slots.items table.old }
+        requires holds { HoldsBag desk self.old.slots.items table.old }
         requires open { IsOpenTo table.old desk cell }
         requires from { from < length self.old.slots.items }
         requires inside { to < length self.old.slots.items }
         requires apart { from ≢ to }
-        requires empty { slot self.old.slots.items to ≡ None }
-        requires kind { is_of (kind_in (state table.old) cell) (value self.old.slots.items from) ≡ true }
-        requires owes { pending table.old desk ≡ owing_for (state table.old) (value self.old.slots.items from) 256 }
+        requires empty { slot_pointer self.old.slots.items to ≡ None }
+        requires kind { is_of (kind_in_state (story_state table.old) cell)
+            (slot_value self.old.slots.items from) ≡ true }
+        requires owes { pending table.old desk ≡ owing_for (story_state table.old)
+            (slot_value self.old.slots.items from) 256 }
         ensures found { result ≡ seen table.old cell }
         ensures few { result.taken ≤ 256 }
-        ensures slots { self.new.slots.items ≡ swapped from to self.old.slots.items
-            (slot_of (state table.old) (held_in (state table.old) cell)) }
-        ensures table { table.new ≡ after table.old desk
-            (Deed.OnCell (CellDeed.Swap cell (as_word (value self.old.slots.items from)) result)) }
-        ensures holds { Holds desk self.new.slots.items table.new }
+        ensures slots { self.new.slots.items ≡ slots_swapped from to self.old.slots.items
+            (slot_of (story_state table.old) (held_in (story_state table.old) cell)) }
+        ensures table { table.new ≡ story_after_deed table.old desk
+            (Deed.OnCell (CellDeed.Swap cell (as_word (slot_value self.old.slots.items from)) result)) }
+        ensures holds { HoldsBag desk self.new.slots.items table.new }
     {
         table.known();
         let kind = table.kind_in(cell);

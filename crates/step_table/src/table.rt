@@ -9,8 +9,9 @@ ghost use Rattle.control_word.specs.Views.{fresh, owed};
 ghost use Rattle.step_table.specs.Deeds.{told_number, remains};
 ghost use Rattle.control_word.specs.Words.{flags_of};
 ghost use Rattle.step_table.specs.Openings.{IsExtent};
-ghost use Rattle.step_table.specs.Stories.{IsMaking, Kept, after, handle_in, history_after, known, object_in, owner_in};
-ghost use Rattle.step_table.specs.Stories.{pending, state, views_after};
+ghost use Rattle.step_table.specs.Stories.{IsMaking, Kept, story_after_deed, handle_in_block, history_after};
+ghost use Rattle.step_table.specs.Stories.{known_words, object_of_block, owner_in};
+ghost use Rattle.step_table.specs.Stories.{pending, story_state, views_after};
 
 use crate::ended::Ended;
 use crate::extent::Extent;
@@ -76,7 +77,7 @@ impl Table {
 
     /// How many cells for shared pointers there are: the weak ones stand behind them.
     pub fn shared_cells(&self) -> u32
-        ensures shared { result ≡ (state self.now).shared }
+        ensures shared { result ≡ (story_state self.now).shared }
         ensures few { result ≤ 256 }
     {
         self.known();
@@ -105,8 +106,8 @@ impl Table {
     pub fn prepare(&mut self, desk: usize, block: Block)
         requires seat { desk < self.old.extent.actors }
         requires idle { pending self.old desk ≡ Idle }
-        requires stored { Has (stored desk block.0) (state self.old).stores }
-        ensures { self.new ≡ after self.old desk (Deed.Prepare block) }
+        requires stored { Has (stored desk block.0) (story_state self.old).stores }
+        ensures { self.new ≡ story_after_deed self.old desk (Deed.Prepare block) }
     {
         let past = self.then(desk, Deed::Prepare { block });
         self.words.set(block_word(block, WEAKS), 1);
@@ -118,7 +119,7 @@ impl Table {
         requires seat { desk < self.now.extent.actors }
         requires making { IsMaking self.now desk block }
         requires inside { index < 5 }
-        ensures { result ≡ slice_index (known (pending self.now desk)) index }
+        ensures { result ≡ slice_index (known_words (pending self.now desk)) index }
     {
         self.words
             .get(block_word(block, FLAGS + usize::from(index)))
@@ -129,7 +130,7 @@ impl Table {
         requires seat { desk < self.old.extent.actors }
         requires making { IsMaking self.old desk block }
         requires inside { index < 5 }
-        ensures { self.new ≡ after self.old desk (Deed.Write block index value) }
+        ensures { self.new ≡ story_after_deed self.old desk (Deed.Write block index value) }
     {
         let past = self.then(
             desk,
@@ -148,9 +149,9 @@ impl Table {
     pub fn claim(&mut self, desk: usize, block: Block, enabled: bool, null: bool, fields: [u64; 4])
         requires seat { desk < self.old.extent.actors }
         requires making { IsMaking self.old desk block }
-        requires known { known (pending self.old desk) ≡ flags_of enabled null ∷ fields }
-        requires room { bag_size (state self.old) desk < (state self.old).allowance desk }
-        ensures { self.new ≡ after self.old desk (Deed.Claim block enabled null fields) }
+        requires known { known_words (pending self.old desk) ≡ flags_of enabled null ∷ fields }
+        requires room { bag_size (story_state self.old) desk < (story_state self.old).allowance desk }
+        ensures { self.new ≡ story_after_deed self.old desk (Deed.Claim block enabled null fields) }
     {
         let past = self.then(
             desk,
@@ -169,10 +170,10 @@ impl Table {
     pub fn share(&mut self, desk: usize, block: Block, of: Option<Place>, place: Option<Place>)
         requires seat { desk < self.old.extent.actors }
         requires idle { pending self.old desk ≡ Idle }
-        requires held { Has (held desk (owner_in self.old block of)) (state self.old).hands }
+        requires held { Has (held desk (owner_in self.old block of)) (story_state self.old).hands }
         requires place { IsPointer place }
-        requires room { bag_size (state self.old) desk < (state self.old).allowance desk }
-        ensures { self.new ≡ after self.old desk (Deed.Share block of place) }
+        requires room { bag_size (story_state self.old) desk < (story_state self.old).allowance desk }
+        ensures { self.new ≡ story_after_deed self.old desk (Deed.Share block of place) }
     {
         let found = self.words.get(block_word(block, OWNERS));
         let past = self.then(desk, Deed::Share { block, of, place });
@@ -184,9 +185,9 @@ impl Table {
     pub fn leave(&mut self, desk: usize, block: Block, place: Option<Place>) -> bool
         requires seat { desk < self.old.extent.actors }
         requires idle { pending self.old desk ≡ Idle }
-        requires held { Has (held desk (owner_in self.old block place)) (state self.old).hands }
-        ensures last { result ≡ (count (state self.old) (object_in self.old block) == 1) }
-        ensures after { self.new ≡ after self.old desk (Deed.Leave block place result) }
+        requires held { Has (held desk (owner_in self.old block place)) (story_state self.old).hands }
+        ensures last { result ≡ (count (story_state self.old) (object_of_block self.old block) == 1) }
+        ensures after { self.new ≡ story_after_deed self.old desk (Deed.Leave block place result) }
     {
         let found = self.words.get(block_word(block, OWNERS));
         let last = is_last(found);
@@ -201,14 +202,15 @@ impl Table {
     pub fn count(&mut self, desk: usize, pointer: Pointer) -> u32
         requires seat { desk < self.old.extent.actors }
         requires idle { pending self.old desk ≡ Idle }
-        requires held { Has (held desk (handle_in self.old pointer.kind pointer.block pointer.place))
-            (state self.old).hands }
+        requires held { Has (held desk (handle_in_block self.old pointer.kind pointer.block pointer.place))
+            (story_state self.old).hands }
         ensures told { result ≡ told_number (slice_index self.old.words (spot pointer.block.0 0)) }
-        ensures none { (result == 0) ≡ (count (state self.old) (object_in self.old pointer.block) == 0) }
-        ensures most { result ≤ count (state self.old) (object_in self.old pointer.block) }
+        ensures none { (result == 0) ≡ (count (story_state self.old) (object_of_block self.old pointer.block) == 0) }
+        ensures most { result ≤ count (story_state self.old) (object_of_block self.old pointer.block) }
         ensures exact { owed self.old.views (spot pointer.block.0 0) ≡ 0
-            → result ≡ count (state self.old) (object_in self.old pointer.block) }
-        ensures after { self.new ≡ after self.old desk (Deed.Count pointer.kind pointer.block pointer.place result) }
+            → result ≡ count (story_state self.old) (object_of_block self.old pointer.block) }
+        ensures after { self.new ≡ story_after_deed self.old desk
+            (Deed.Count pointer.kind pointer.block pointer.place result) }
     {
         let owners = told_count(self.words.get(block_word(pointer.block, OWNERS)));
         self.past = self.then(
@@ -228,11 +230,12 @@ impl Table {
     pub fn finish(&mut self, desk: usize, block: Block) -> bool
         requires seat { desk < self.old.extent.actors }
         requires idle { pending self.old desk ≡ Idle }
-        requires ending { ((state self.old).object (object_in self.old block)).phase ≡ ending desk }
-        requires cleared { (m : ℕ) → m < 3 → ((state self.old).object (object_in self.old block)).member m
+        requires ending { ((story_state self.old).object (object_of_block self.old block)).phase ≡ ending desk }
+        requires cleared { (m : ℕ) → m < 3
+            → ((story_state self.old).object (object_of_block self.old block)).member m
             ≡ empty (kind_of_member m) }
-        ensures vacant { result ≡ (weak (state self.old) (object_in self.old block) == 0) }
-        ensures after { self.new ≡ after self.old desk (Deed.Finish block result) }
+        ensures vacant { result ≡ (weak (story_state self.old) (object_of_block self.old block) == 0) }
+        ensures after { self.new ≡ story_after_deed self.old desk (Deed.Finish block result) }
     {
         let found = self.words.get(block_word(block, WEAKS));
         let vacant = is_last(found);
@@ -244,7 +247,7 @@ impl Table {
 
     /// A word of the flags (2) or fields (3 to 6) of an ending object: none of them changes any more.
     fn body_word(&self, desk: usize, block: Block, word: usize) -> u64
-        requires ending { ((state self.now).object (object_in self.now block)).phase ≡ ending desk }
+        requires ending { ((story_state self.now).object (object_of_block self.now block)).phase ≡ ending desk }
         requires inside { word < 7 }
         ensures { result ≡ slice_index self.now.words (spot block.0 word) }
     {
@@ -253,8 +256,8 @@ impl Table {
 
     /// What an ending object leaves: its fields, or that it was null.
     pub fn remains(&self, desk: usize, block: Block) -> Ended
-        requires ending { ((state self.now).object (object_in self.now block)).phase ≡ ending desk }
-        ensures { result ≡ remains ((state self.now).object (object_in self.now block)) }
+        requires ending { ((story_state self.now).object (object_of_block self.now block)).phase ≡ ending desk }
+        ensures { result ≡ remains ((story_state self.now).object (object_of_block self.now block)) }
     {
         self.known();
         if is_null(self.body_word(desk, block, FLAGS)) {

@@ -6,10 +6,10 @@ ghost use Rattle.control_word.specs.Events.{origin};
 ghost use Rattle.control_word.specs.Words.{flags_of};
 ghost use Rattle.control_word.specs.declared.view.Pending.TheVariants.{Idle};
 ghost use Rattle.step_table.specs.Deeds.{as_owner, as_weak, downgrade, is_expired, lock, owner_word, share};
-ghost use Rattle.step_table.specs.Holdings.{Holds, slot, weak_slot};
+ghost use Rattle.step_table.specs.Holdings.{HoldsBag, slot_pointer, weak_slot};
 ghost use Rattle.step_table.specs.declared.slot.Slot.TheVariants.{Full};
 ghost use Rattle.control_word.specs.Words.{flags_of};
-ghost use Rattle.step_table.specs.Stories.{IsMaking, after, known, pending, state};
+ghost use Rattle.step_table.specs.Stories.{IsMaking, story_after_deed, known_words, pending, story_state};
 
 use crate::form::Form;
 use crate::holdings::{Holdings, Pointer};
@@ -31,13 +31,13 @@ impl Holdings {
     )
         requires seat { desk < table.old.extent.actors }
         requires idle { pending table.old desk ≡ Idle }
-        requires holds { Holds desk self.old.slots.items table.old }
-        requires from { slot self.old.slots.items from ≡ Some pointer }
+        requires holds { HoldsBag desk self.old.slots.items table.old }
+        requires from { slot_pointer self.old.slots.items from ≡ Some pointer }
         requires inside { to < length self.old.slots.items }
-        requires empty { slot self.old.slots.items to ≡ None }
+        requires empty { slot_pointer self.old.slots.items to ≡ None }
         ensures slots { self.new.slots.items ≡ slice_set self.old.slots.items to (Full pointer) }
-        ensures table { table.new ≡ after table.old desk (share pointer) }
-        ensures holds { Holds desk self.new.slots.items table.new }
+        ensures table { table.new ≡ story_after_deed table.old desk (share pointer) }
+        ensures holds { HoldsBag desk self.new.slots.items table.new }
     {
         table.known();
         table.copy_pointer(desk, pointer);
@@ -55,13 +55,13 @@ impl Holdings {
     )
         requires seat { desk < table.old.extent.actors }
         requires idle { pending table.old desk ≡ Idle }
-        requires holds { Holds desk self.old.slots.items table.old }
-        requires from { slot self.old.slots.items from ≡ Some pointer }
+        requires holds { HoldsBag desk self.old.slots.items table.old }
+        requires from { slot_pointer self.old.slots.items from ≡ Some pointer }
         requires inside { to < length self.old.slots.items }
-        requires empty { slot self.old.slots.items to ≡ None }
+        requires empty { slot_pointer self.old.slots.items to ≡ None }
         ensures slots { self.new.slots.items ≡ slice_set self.old.slots.items to (Full (as_weak pointer)) }
-        ensures table { table.new ≡ after table.old desk (downgrade pointer) }
-        ensures holds { Holds desk self.new.slots.items table.new }
+        ensures table { table.new ≡ story_after_deed table.old desk (downgrade pointer) }
+        ensures holds { HoldsBag desk self.new.slots.items table.new }
     {
         table.known();
         table.weak_share(desk, pointer, pointer.place);
@@ -85,18 +85,18 @@ impl Holdings {
     ) -> u64
         requires seat { desk < table.old.extent.actors }
         requires idle { pending table.old desk ≡ Idle }
-        requires holds { Holds desk self.old.slots.items table.old }
-        requires from { weak_slot (slot self.old.slots.items from) ≡ Some pointer }
+        requires holds { HoldsBag desk self.old.slots.items table.old }
+        requires from { weak_slot (slot_pointer self.old.slots.items from) ≡ Some pointer }
         requires inside { to < length self.old.slots.items }
-        requires empty { slot self.old.slots.items to ≡ None }
+        requires empty { slot_pointer self.old.slots.items to ≡ None }
         requires some { 0 < found }
         ensures word { result ≡ owner_word table.old pointer }
-        ensures left { (result == 0) ≡ is_expired (state table.old) pointer }
+        ensures left { (result == 0) ≡ is_expired (story_state table.old) pointer }
         ensures slots { self.new.slots.items ≡ cond (result == found)
             (slice_set self.old.slots.items to (Full (as_owner pointer))) self.old.slots.items }
         ensures table { table.new ≡ cond (result == found)
-            (after table.old desk (lock (state table.old) pointer)) table.old }
-        ensures holds { Holds desk self.new.slots.items table.new }
+            (story_after_deed table.old desk (lock (story_state table.old) pointer)) table.old }
+        ensures holds { HoldsBag desk self.new.slots.items table.new }
     {
         table.known();
         let now = table.try_lock(desk, pointer.block, pointer.place, found);
@@ -115,14 +115,15 @@ impl Holdings {
     pub fn claim(&mut self, desk: usize, table: &mut Table, to: usize, block: Block, form: Form)
         requires seat { desk < table.old.extent.actors }
         requires making { IsMaking table.old desk block }
-        requires known { known (pending table.old desk) ≡ flags_of form.enabled form.null ∷ form.fields }
-        requires holds { Holds desk self.old.slots.items table.old }
+        requires known { known_words (pending table.old desk) ≡ flags_of form.enabled form.null ∷ form.fields }
+        requires holds { HoldsBag desk self.old.slots.items table.old }
         requires inside { to < length self.old.slots.items }
-        requires empty { slot self.old.slots.items to ≡ None }
+        requires empty { slot_pointer self.old.slots.items to ≡ None }
         ensures slots { self.new.slots.items ≡ slice_set self.old.slots.items to
             (Full (record { kind = Owner; block = block; place = origin block.0 form.null })) }
-        ensures table { table.new ≡ after table.old desk (Deed.Claim block form.enabled form.null form.fields) }
-        ensures holds { Holds desk self.new.slots.items table.new }
+        ensures table { table.new ≡ story_after_deed table.old desk
+            (Deed.Claim block form.enabled form.null form.fields) }
+        ensures holds { HoldsBag desk self.new.slots.items table.new }
     {
         table.known();
         table.claim(desk, block, form.enabled, form.null, form.fields);

@@ -7,7 +7,7 @@ ghost use Rattle.control_word.specs.State.{Has, bag_size, held};
 ghost use Rattle.control_word.specs.Words.{flags_of};
 ghost use Rattle.step_table.specs.Deeds.{give, is_enabled, this_as};
 ghost use Rattle.step_table.specs.declared.slot.Slot.TheVariants.{Full};
-ghost use Rattle.step_table.specs.Stories.{after, handle_in, pending, state};
+ghost use Rattle.step_table.specs.Stories.{story_after_deed, handle_in_block, pending, story_state};
 
 use crate::holdings::{Holdings, Pointer};
 use crate::table::Table;
@@ -18,9 +18,9 @@ use control_word::place::{Block, Place};
 impl Table {
     /// Whether an object gives pointers to itself, by a handle of it: its flag doesn't change.
     pub fn is_enabled(&self, desk: usize, pointer: Pointer) -> bool
-        requires { Has (held desk (handle_in self.now pointer.kind pointer.block pointer.place))
-            (state self.now).hands }
-        ensures { result ≡ is_enabled (state self.now) pointer }
+        requires { Has (held desk (handle_in_block self.now pointer.kind pointer.block pointer.place))
+            (story_state self.now).hands }
+        ensures { result ≡ is_enabled (story_state self.now) pointer }
     {
         self.known();
         is_enabled(self.word(pointer.block, FLAGS))
@@ -30,11 +30,11 @@ impl Table {
     pub fn give(&mut self, desk: usize, kind: Kind, pointer: Pointer)
         requires seat { desk < self.old.extent.actors }
         requires idle { pending self.old desk ≡ Idle }
-        requires held { Has (held desk (handle_in self.old pointer.kind pointer.block pointer.place))
-            (state self.old).hands }
+        requires held { Has (held desk (handle_in_block self.old pointer.kind pointer.block pointer.place))
+            (story_state self.old).hands }
         requires owner { pointer.kind ≡ Owner }
-        requires room { bag_size (state self.old) desk < (state self.old).allowance desk }
-        ensures { self.new ≡ after self.old desk (give kind pointer) }
+        requires room { bag_size (story_state self.old) desk < (story_state self.old).allowance desk }
+        ensures { self.new ≡ story_after_deed self.old desk (give kind pointer) }
     {
         self.known();
         let place = itself(pointer.block);
@@ -46,13 +46,13 @@ impl Table {
 }
 
 impl Holdings {
-    ghost use Rattle.step_table.specs.Holdings.{Holds, inside, slot};
+    ghost use Rattle.step_table.specs.Holdings.{HoldsBag, inside, slot_pointer};
 
     /// Whether the object of an owner in a slot gives pointers to itself.
     pub fn is_enabled(&self, desk: usize, table: &Table, from: usize, pointer: Pointer) -> bool
-        requires holds { Holds desk self.now.slots.items table.now }
-        requires from { inside (slot self.now.slots.items from) ≡ Some pointer }
-        ensures { result ≡ is_enabled (state table.now) pointer }
+        requires holds { HoldsBag desk self.now.slots.items table.now }
+        requires from { inside (slot_pointer self.now.slots.items from) ≡ Some pointer }
+        ensures { result ≡ is_enabled (story_state table.now) pointer }
     {
         table.is_enabled(desk, pointer)
     }
@@ -69,13 +69,13 @@ impl Holdings {
     )
         requires seat { desk < table.old.extent.actors }
         requires idle { pending table.old desk ≡ Idle }
-        requires holds { Holds desk self.old.slots.items table.old }
-        requires from { inside (slot self.old.slots.items from) ≡ Some pointer }
+        requires holds { HoldsBag desk self.old.slots.items table.old }
+        requires from { inside (slot_pointer self.old.slots.items from) ≡ Some pointer }
         requires inside { to < length self.old.slots.items }
-        requires empty { slot self.old.slots.items to ≡ None }
+        requires empty { slot_pointer self.old.slots.items to ≡ None }
         ensures slots { self.new.slots.items ≡ slice_set self.old.slots.items to (Full (this_as kind pointer)) }
-        ensures table { table.new ≡ after table.old desk (give kind pointer) }
-        ensures holds { Holds desk self.new.slots.items table.new }
+        ensures table { table.new ≡ story_after_deed table.old desk (give kind pointer) }
+        ensures holds { HoldsBag desk self.new.slots.items table.new }
     {
         table.known();
         table.give(desk, kind, pointer);

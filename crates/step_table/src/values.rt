@@ -2,9 +2,9 @@
 ghost use Rattle.std.specs.Prelude.{◌≡◌, ◌<◌, length, slice_set, Some, None};
 ghost use Rattle.control_word.specs.Handles.{IsPointer};
 ghost use Rattle.control_word.specs.declared.view.Pending.TheVariants.{Idle};
-ghost use Rattle.step_table.specs.Deeds.{alias, at_place, on, before};
-ghost use Rattle.step_table.specs.Holdings.{Holds, owner_as, owner_slot, slot};
-ghost use Rattle.step_table.specs.Stories.{after, pending, state};
+ghost use Rattle.step_table.specs.Deeds.{alias, at_place, on, pointer_before};
+ghost use Rattle.step_table.specs.Holdings.{HoldsBag, owner_as, owner_slot, slot_pointer};
+ghost use Rattle.step_table.specs.Stories.{story_after_deed, pending, story_state};
 ghost use Rattle.step_table.specs.declared.slot.Slot.TheVariants.{Full};
 
 use crate::holdings::{Holdings, Pointer};
@@ -17,7 +17,7 @@ impl Holdings {
     /// The owner that a slot holds, if it holds one.
     pub fn owner(&self, at: usize) -> Option<Pointer>
         requires { at < length self.now.slots.items }
-        ensures { result ≡ owner_slot (slot self.now.slots.items at) }
+        ensures { result ≡ owner_slot (slot_pointer self.now.slots.items at) }
     {
         match self.get(at) {
             Some(pointer) => owner(pointer),
@@ -37,14 +37,14 @@ impl Holdings {
     )
         requires seat { desk < table.old.extent.actors }
         requires idle { pending table.old desk ≡ Idle }
-        requires holds { Holds desk self.old.slots.items table.old }
-        requires from { owner_slot (slot self.old.slots.items from) ≡ Some pointer }
+        requires holds { HoldsBag desk self.old.slots.items table.old }
+        requires from { owner_slot (slot_pointer self.old.slots.items from) ≡ Some pointer }
         requires place { IsPointer place }
         requires inside { to < length self.old.slots.items }
-        requires empty { slot self.old.slots.items to ≡ None }
+        requires empty { slot_pointer self.old.slots.items to ≡ None }
         ensures slots { self.new.slots.items ≡ slice_set self.old.slots.items to (Full (at_place place pointer)) }
-        ensures table { table.new ≡ after table.old desk (alias place pointer) }
-        ensures holds { Holds desk self.new.slots.items table.new }
+        ensures table { table.new ≡ story_after_deed table.old desk (alias place pointer) }
+        ensures holds { HoldsBag desk self.new.slots.items table.new }
     {
         table.known();
         table.share(desk, pointer.block, pointer.place, place);
@@ -57,11 +57,11 @@ impl Holdings {
 
     /// Whether what one slot owns comes before what another owns: their blocks tell it.
     pub fn is_before(&self, _desk: usize, table: &Table, first: u8, second: u8) -> bool
-        requires holds { Holds _desk self.now.slots.items table.now }
+        requires holds { HoldsBag _desk self.now.slots.items table.now }
         requires first { first < length self.now.slots.items }
         requires second { second < length self.now.slots.items }
-        ensures { result ≡ before (state table.now) (slot self.now.slots.items first)
-            (slot self.now.slots.items second) }
+        ensures { result ≡ pointer_before (story_state table.now) (slot_pointer self.now.slots.items first)
+            (slot_pointer self.now.slots.items second) }
     {
         table.known();
         rank(self.get(usize::from(first))) < rank(self.get(usize::from(second)))

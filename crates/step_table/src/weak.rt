@@ -4,7 +4,8 @@ ghost use Rattle.control_word.specs.declared.view.Pending.TheVariants.{Idle};
 ghost use Rattle.control_word.specs.Events.{is_gone, place_at};
 ghost use Rattle.control_word.specs.Layout.{spot};
 ghost use Rattle.control_word.specs.State.{Has, held, bag_size, count, weak};
-ghost use Rattle.step_table.specs.Stories.{after, handle_in, object_in, pending, state, weak_in};
+ghost use Rattle.step_table.specs.Stories.{story_after_deed, handle_in_block, object_of_block, pending, story_state};
+ghost use Rattle.step_table.specs.Stories.{weak_in};
 
 use crate::holdings::Pointer;
 use crate::past::Deed;
@@ -19,11 +20,11 @@ impl Table {
     pub(crate) fn weak_share(&mut self, desk: usize, pointer: Pointer, place: Option<Place>)
         requires seat { desk < self.old.extent.actors }
         requires idle { pending self.old desk ≡ Idle }
-        requires held { Has (held desk (handle_in self.old pointer.kind pointer.block pointer.place))
-            (state self.old).hands }
+        requires held { Has (held desk (handle_in_block self.old pointer.kind pointer.block pointer.place))
+            (story_state self.old).hands }
         requires place { (place ≡ pointer.place) ⊎ (place ≡ place_at pointer.block.0) }
-        requires room { bag_size (state self.old) desk < (state self.old).allowance desk }
-        ensures { self.new ≡ after self.old desk (Deed.WeakShare pointer.block place) }
+        requires room { bag_size (story_state self.old) desk < (story_state self.old).allowance desk }
+        ensures { self.new ≡ story_after_deed self.old desk (Deed.WeakShare pointer.block place) }
     {
         let block = pointer.block;
         let found = self.words.get(block_word(block, WEAKS));
@@ -37,10 +38,10 @@ impl Table {
     pub(crate) fn weak_leave(&mut self, desk: usize, block: Block, place: Option<Place>) -> bool
         requires seat { desk < self.old.extent.actors }
         requires idle { pending self.old desk ≡ Idle }
-        requires held { Has (held desk (weak_in self.old block place)) (state self.old).hands }
-        ensures vacant { result ≡ (weak (state self.old) (object_in self.old block) == 1
-            && is_gone ((state self.old).object (object_in self.old block)).phase) }
-        ensures after { self.new ≡ after self.old desk (Deed.WeakLeave block place result) }
+        requires held { Has (held desk (weak_in self.old block place)) (story_state self.old).hands }
+        ensures vacant { result ≡ (weak (story_state self.old) (object_of_block self.old block) == 1
+            && is_gone ((story_state self.old).object (object_of_block self.old block)).phase) }
+        ensures after { self.new ≡ story_after_deed self.old desk (Deed.WeakLeave block place result) }
     {
         let found = self.words.get(block_word(block, WEAKS));
         let vacant = is_last(found);
@@ -61,10 +62,10 @@ impl Table {
     pub fn is_expired(&mut self, desk: usize, pointer: Pointer) -> bool
         requires seat { desk < self.old.extent.actors }
         requires idle { pending self.old desk ≡ Idle }
-        requires held { Has (held desk (handle_in self.old pointer.kind pointer.block pointer.place))
-            (state self.old).hands }
-        ensures exact { result ≡ (count (state self.old) (object_in self.old pointer.block) == 0) }
-        ensures after { self.new ≡ after self.old desk
+        requires held { Has (held desk (handle_in_block self.old pointer.kind pointer.block pointer.place))
+            (story_state self.old).hands }
+        ensures exact { result ≡ (count (story_state self.old) (object_of_block self.old pointer.block) == 0) }
+        ensures after { self.new ≡ story_after_deed self.old desk
             (Deed.Expired pointer.kind pointer.block pointer.place result) }
     {
         let Pointer { kind, block, place } = pointer;
@@ -86,10 +87,11 @@ impl Table {
     pub fn look_lock(&mut self, desk: usize, block: Block, place: Option<Place>) -> u64
         requires seat { desk < self.old.extent.actors }
         requires idle { pending self.old desk ≡ Idle }
-        requires held { Has (held desk (weak_in self.old block place)) (state self.old).hands }
+        requires held { Has (held desk (weak_in self.old block place)) (story_state self.old).hands }
         ensures found { result ≡ slice_index self.old.words (spot block.0 0) }
-        ensures left { (result == 0) ≡ (count (state self.old) (object_in self.old block) == 0) }
-        ensures after { self.new ≡ cond (result == 0) (after self.old desk (Deed.Lock block place false)) self.old }
+        ensures left { (result == 0) ≡ (count (story_state self.old) (object_of_block self.old block) == 0) }
+        ensures after { self.new ≡ cond (result == 0)
+            (story_after_deed self.old desk (Deed.Lock block place false)) self.old }
     {
         let found = self.words.get(block_word(block, OWNERS));
         if found > 0 {
@@ -111,13 +113,13 @@ impl Table {
     pub fn try_lock(&mut self, desk: usize, block: Block, place: Option<Place>, found: u64) -> u64
         requires seat { desk < self.old.extent.actors }
         requires idle { pending self.old desk ≡ Idle }
-        requires held { Has (held desk (weak_in self.old block place)) (state self.old).hands }
-        requires room { bag_size (state self.old) desk < (state self.old).allowance desk }
+        requires held { Has (held desk (weak_in self.old block place)) (story_state self.old).hands }
+        requires room { bag_size (story_state self.old) desk < (story_state self.old).allowance desk }
         requires some { 0 < found }
         ensures word { result ≡ slice_index self.old.words (spot block.0 0) }
-        ensures left { (result == 0) ≡ (count (state self.old) (object_in self.old block) == 0) }
+        ensures left { (result == 0) ≡ (count (story_state self.old) (object_of_block self.old block) == 0) }
         ensures after { self.new ≡ cond (result == found)
-            (after self.old desk (Deed.Lock block place true)) self.old }
+            (story_after_deed self.old desk (Deed.Lock block place true)) self.old }
     {
         let now = self.words.get(block_word(block, OWNERS));
         if now != found {

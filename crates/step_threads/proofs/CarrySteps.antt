@@ -12,51 +12,53 @@ use Rattle.step_threads.specs.declared.said.Said.{Said}
 use Rattle.step_threads.specs.declared.said.Stepped.{Stepped}
 use Rattle.step_threads.specs.declared.said.Stepped.TheVariants.{Event, Quiet}
 use Rattle.step_threads.specs.declared.thread.Thread.{Thread}
-use Rattle.step_threads.specs.Courses.{hand, settled, todo, walk}
+use Rattle.step_threads.specs.Courses.{hand, walk_settled, todo, walk}
 use Rattle.step_table.specs.Deeds.{is_last, leave, on}
-use Rattle.step_table.specs.Holdings.{Slots, is_full, plain, slot}
+use Rattle.step_table.specs.Holdings.{Slots, is_full, plain, slot_pointer}
 use Rattle.step_threads.specs.Scenes.{begins_end, begins_end_as, ended_by, remains_as, went}
-use Rattle.step_threads.specs.NextSteps.{is_event}
-use Rattle.step_threads.specs.Steps.{acts}
-use Rattle.step_table.specs.Stories.{Story, after, object_in, state}
-use Rattle.step_threads.specs.Threads.{Fits, HasStepped}
+use Rattle.step_threads.specs.NextSteps.{deed_is_event}
+use Rattle.step_threads.specs.Steps.{step_of_act}
+use Rattle.step_table.specs.Stories.{Story, story_after_deed, object_of_block, story_state}
+use Rattle.step_threads.specs.Threads.{FitsThread, HasStepped}
 use Rattle.step_threads.proofs.Carrying.{none_taken}
 use Rattle.step_threads.proofs.Hands.{settled_hand}
 use Rattle.step_threads.proofs.LeaveSteps.{begun_left, ended_left, left_event}
 use Rattle.step_threads.proofs.Steps.{at_carried, stepped_as, waits_ending}
 
-module _ (d : ℕ) (t t' : Thread) (v w : Story) (h : Holdings) (x : Pointer) (last : Bool) (e : Ending) (es : List Ending) (fits : Fits d t v)
-    (is : t.course.endings.list ≡ e ∷ es) (at : slot t.course.holdings.slots.items (hand t.course.holdings.slots.items) ≡ Some x)
-    (said : last ≡ is_last (state v) x) (same : t'.course ≡ record t.course { holdings = h; endings = t'.course.endings })
+module _ (d : ℕ) (t t' : Thread) (v w : Story) (h : Holdings) (x : Pointer) (last : Bool) (e : Ending) (es : List Ending) (fits : FitsThread d t v)
+    (is : t.course.endings.list ≡ e ∷ es) (at : slot_pointer t.course.holdings.slots.items (hand t.course.holdings.slots.items) ≡ Some x)
+    (said : last ≡ is_last (story_state v) x) (same : t'.course ≡ record t.course { holdings = h; endings = t'.course.endings })
     (slots : h.slots.items ≡ set t.course.holdings.slots.items (hand t.course.holdings.slots.items) plain)
     (list : t'.course.endings.list ≡ cond last (begins_end_as x.kind e.statement x t.course.endings.list) t.course.endings.list) where
-  went_carried : walk t'.course ≡ went (state v) d (walk t.course) e.statement (todo t.course) (Leave (hand t.course.holdings.slots.items))
+  went_carried : walk t'.course ≡ went (story_state v) d (walk t.course) e.statement (todo t.course) (Leave (hand t.course.holdings.slots.items))
   went_carried =
       let c = t.course in
       let i = hand c.holdings.slots.items in
       let empty = set c.holdings.slots.items i plain in
       let l = t'.course.endings.list in
-      let begun : l ≡ on (λ y. begins_end (state v) e.statement y c.endings.list) c.endings.list (slot c.holdings.slots.items i) =
-      list ∙ begun_left (state v) e.statement c.endings.list (Some x) last said
-      ∙ ap (λ (o : Option Pointer). on (λ y. begins_end (state v) e.statement y c.endings.list) c.endings.list o) (sym at) in
+      let begun : l ≡ on (λ y. begins_end (story_state v) e.statement y c.endings.list) c.endings.list (slot_pointer c.holdings.slots.items i) =
+      list ∙ begun_left (story_state v) e.statement c.endings.list (Some x) last said
+      ∙ ap (λ (o : Option Pointer). on (λ y. begins_end (story_state v) e.statement y c.endings.list) c.endings.list o) (sym at) in
       ap walk same
       ∙ ap (λ (z : Slots). record { slots = z; taken = c.taken; endings = l; todo = todo c }) slots
       ∙ sym (settled_hand c plain l fits.within fits.ready fits.still (none_taken d c v e es fits.endings is))
-      ∙ ap (λ (r : List Ending). settled empty c.taken r (todo c)) begun
+      ∙ ap (λ (r : List Ending). walk_settled empty c.taken r (todo c)) begun
 
   pub stepped_carried : (ended : Option Ended) (r : Stepped) → t.half ≡ Rest
-      → is_full (slot t.course.holdings.slots.items (hand t.course.holdings.slots.items)) ≡ true → w ≡ after v d (leave (state v) x)
-      → ended ≡ cond last (remains_as x.kind ((state w).object (object_in w x.block))) None → t'.half ≡ t.half
+      → is_full (slot_pointer t.course.holdings.slots.items (hand t.course.holdings.slots.items)) ≡ true
+      → w ≡ story_after_deed v d (leave (story_state v) x)
+      → ended ≡ cond last (remains_as x.kind ((story_state w).object (object_of_block w x.block))) None → t'.half ≡ t.half
       → r ≡ Event (record { statement = e.statement; answer = None; ended = ended }) → HasStepped d t v r t' w
   stepped_carried ended r rests full story left half says =
       let c = t.course in
       let i = hand c.holdings.slots.items in
-      let deed = leave (state v) x in
-      let y : Said = record { statement = e.statement; answer = None; ended = ended_by (state v) (slot c.holdings.slots.items i) } in
-      let remains : ended ≡ ended_by (state v) (slot c.holdings.slots.items i) =
-      left ∙ ended_left v w d (Some x) last story said ∙ ap (ended_by (state v)) (sym at) in
-      stepped_as d t v (acts v d (walk c) e.statement (todo c) (Leave i) (Some deed) Rest) r t' w (waits_ending d t v e es is rests)
+      let deed = leave (story_state v) x in
+      let y : Said = record { statement = e.statement; answer = None; ended = ended_by (story_state v) (slot_pointer c.holdings.slots.items i) } in
+      let remains : ended ≡ ended_by (story_state v) (slot_pointer c.holdings.slots.items i) =
+      left ∙ ended_left v w d (Some x) last story said ∙ ap (ended_by (story_state v)) (sym at) in
+      stepped_as d t v (step_of_act v d (walk c) e.statement (todo c) (Leave i) (Some deed) Rest) r t' w (waits_ending d t v e es is rests)
       (at_carried d t v e es is rests full
-      ∙ ap (λ (o : Option Pointer). Some (acts v d (walk c) e.statement (todo c) (Leave i) (option_map (leave (state v)) o) Rest)) at)
+      ∙ ap (λ (o : Option Pointer). Some (step_of_act v d (walk c) e.statement (todo c) (Leave i) (option_map (leave (story_state v)) o) Rest)) at)
       (says ∙ ap (λ (z : Option Ended). Event (record { statement = e.statement; answer = None; ended = z })) remains
-      ∙ sym (cond-true (is_event v (Some deed)) (Event y) (Quiet y) (left_event v x x.kind (is_last (state v) x)))) story went_carried (half ∙ rests)
+      ∙ sym (cond-true (deed_is_event v (Some deed)) (Event y) (Quiet y) (left_event v x x.kind (is_last (story_state v) x)))) story went_carried
+      (half ∙ rests)

@@ -22,14 +22,14 @@ use Rattle.step_table.specs.declared.holdings.Holdings.{Holdings}
 use Rattle.step_table.specs.declared.holdings.Pointer.{Pointer}
 use Rattle.step_threads.specs.declared.thread.Thread.{Thread}
 use Rattle.step_table.specs.Deeds.{is_last, leave, leave_as}
-use Rattle.step_table.specs.Holdings.{Holds, Slots, plain}
+use Rattle.step_table.specs.Holdings.{HoldsBag, Slots, plain}
 use Rattle.step_table.specs.Openings.{opening}
-use Rattle.step_table.specs.Stories.{Kept, Story, after, object_in, state}
+use Rattle.step_table.specs.Stories.{Kept, Story, story_after_deed, object_of_block, story_state}
 use Rattle.step_threads.specs.Courses.{IsReady, hand, todo}
-use Rattle.step_threads.specs.Endings.{EndsAll, IsEnding, Stack, endings_of}
+use Rattle.step_threads.specs.Endings.{EndsAll, IsEndingAtStage, Stack, endings_in_block}
 use Rattle.step_threads.specs.Scenes.{begins_end_as}
-use Rattle.step_threads.specs.Stocks.{Stored}
-use Rattle.step_threads.specs.Threads.{EndsFit, Fits, IsStocked, IsStockedBy}
+use Rattle.step_threads.specs.Stocks.{StoreView}
+use Rattle.step_threads.specs.Threads.{EndsFit, FitsThread, IsStocked, IsStockedBy}
 use Rattle.step_threads.proofs.Endings.{idle_left, left_ending, stocks_left}
 use Rattle.step_threads.proofs.Hands.{hand_ready, still_hand}
 use Rattle.step_threads.proofs.holding.Ends.{each_end, one_more}
@@ -40,98 +40,100 @@ pub none_taken : (d : ℕ) (c : Course) (v : Story) (e : Ending) (es : List Endi
 none_taken d c v e es fit is = ⊎_elim (λ (n : c.endings.list ≡ []). absurd cc) (λ (n : c.taken ≡ false). n) fit.empty
 
 -- a pointer's leave leaves the endings
-left_each : (d : ℕ) (v : Story) (x : Pointer) (k : Kind) (b : Bool) (y : Ending) → IsEnding d y v → IsEnding d y (after v d (leave_as k x b))
+left_each : (d : ℕ) (v : Story) (x : Pointer) (k : Kind) (b : Bool) (y : Ending) → IsEndingAtStage d y v
+    → IsEndingAtStage d y (story_after_deed v d (leave_as k x b))
 left_each d v x Weak b y is = record { ending = is.ending; within = is.within; cleared = is.cleared }
 left_each d v x Owner b y is =
-    let o = object_in v x.block in
-    let z = (state v).object o in
+    let o = object_of_block v x.block in
+    let z = (story_state v).object o in
     record {
       ending =
-          put_cases (λ j (u : Object). u.phase ≡ ending d) (state v).object o (cond b (moved_to (ending d) z) z) (object_in v y.block)
+          put_cases (λ j (u : Object). u.phase ≡ ending d) (story_state v).object o (cond b (moved_to (ending d) z) z) (object_of_block v y.block)
           (λ q. cond_both b (moved_to (ending d) z) z (λ (u : Object). u.phase ≡ ending d) (λ t. refl)
-          (λ t. ap (λ (j : ℕ). ((state v).object j).phase) (sym q) ∙ is.ending)) (λ q. is.ending);
+          (λ t. ap (λ (j : ℕ). ((story_state v).object j).phase) (sym q) ∙ is.ending)) (λ q. is.ending);
       within = is.within;
       cleared = λ m lt.
-          put_cases (λ j (u : Object). u.member m ≡ empty (kind_of_member m)) (state v).object o (cond b (moved_to (ending d) z) z) (object_in v y.block)
+          put_cases (λ j (u : Object). u.member m ≡ empty (kind_of_member m)) (story_state v).object o (cond b (moved_to (ending d) z) z)
+          (object_of_block v y.block)
           (λ q. cond_both b (moved_to (ending d) z) z (λ (u : Object). u.member m ≡ empty (kind_of_member m))
-          (λ t. ap (λ (j : ℕ). ((state v).object j).member m) (sym q) ∙ is.cleared m lt)
-          (λ t. ap (λ (j : ℕ). ((state v).object j).member m) (sym q) ∙ is.cleared m lt)) (λ q. is.cleared m lt);
+          (λ t. ap (λ (j : ℕ). ((story_state v).object j).member m) (sym q) ∙ is.cleared m lt)
+          (λ t. ap (λ (j : ℕ). ((story_state v).object j).member m) (sym q) ∙ is.cleared m lt)) (λ q. is.cleared m lt);
     }
 
 -- an object that is live is in no ending
-live_apart : (d : ℕ) (v : Story) (b : Block) (es : List Ending) → ((state v).object (object_in v b)).phase ≡ live
-    → All (λ (e : Ending). IsEnding d e v) es
-    → endings_of b.0 es ≡ 0
+live_apart : (d : ℕ) (v : Story) (b : Block) (es : List Ending) → ((story_state v).object (object_of_block v b)).phase ≡ live
+    → All (λ (e : Ending). IsEndingAtStage d e v) es
+    → endings_in_block b.0 es ≡ 0
 live_apart d v b [] alive all = refl
 live_apart d v b (y ∷ ys) alive all =
-    let i = live_apart d v b ys alive (All-tail (λ (e : Ending). IsEnding d e v) y ys all) in
-    let is = All-head (λ (e : Ending). IsEnding d e v) y ys all in
+    let i = live_apart d v b ys alive (All-tail (λ (e : Ending). IsEndingAtStage d e v) y ys all) in
+    let is = All-head (λ (e : Ending). IsEndingAtStage d e v) y ys all in
     let o = one_more b.0 y ys in
     let z = cond-false {A = ℕ} (y.block.0 == b.0) 1 0 (ne_eqb y.block.0 b.0 (λ q.
-    let k : ending d ≡ live = sym is.ending ∙ ap (λ (n : ℕ). ((state v).object ((state v).latest n)).phase) q ∙ alive in cc)) in
+    let k : ending d ≡ live = sym is.ending ∙ ap (λ (n : ℕ). ((story_state v).object ((story_state v).latest n)).phase) q ∙ alive in cc)) in
     omega (arith, i, o, z)
 
 -- what leaves has a live object, if it is an owner
-owner_live : (d : ℕ) (v : Story) (x : Pointer) (b : Bool) → Kept v → Kept (after v d (leave_as Owner x b))
-    → ((state v).object (object_in v x.block)).phase ≡ live
+owner_live : (d : ℕ) (v : Story) (x : Pointer) (b : Bool) → Kept v → Kept (story_after_deed v d (leave_as Owner x b))
+    → ((story_state v).object (object_of_block v x.block)).phase ≡ live
 owner_live d v x b kept kept' =
     let fine = sound (opening v.extent) v.history kept.stands.legal in
-    counted_live (opening v.extent) (state v) (object_in v x.block) fine
-    (owner_counted (state v) d (object_in v x.block) x.place kept'.stands.legal.1.asks.0.0)
+    counted_live (opening v.extent) (story_state v) (object_of_block v x.block) fine
+    (owner_counted (story_state v) d (object_of_block v x.block) x.place kept'.stands.legal.1.asks.0.0)
 
 -- the endings after it: the last owner's object is in one more
 pub ends_leaving : (d : ℕ) (v : Story) (x : Pointer) (k : Kind) (b : Bool) (n : ℕ) (es : List Ending) → Kept v
-    → Kept (after v d (leave_as k x b)) → EndsAll d es v
-    → EndsAll d (cond b (begins_end_as k n x es) es) (after v d (leave_as k x b))
+    → Kept (story_after_deed v d (leave_as k x b)) → EndsAll d es v
+    → EndsAll d (cond b (begins_end_as k n x es) es) (story_after_deed v d (leave_as k x b))
 ends_leaving d v x Owner true n es kept kept' ends =
-    let w = after v d (leave_as Owner x true) in
+    let w = story_after_deed v d (leave_as Owner x true) in
     let e : Ending = record { block = x.block; stage = 0; statement = n } in
     let none = live_apart d v x.block es (owner_live d v x true kept kept') ends.each in
     record {
-      each = All-cons (λ (y : Ending). IsEnding d y w) e es
+      each = All-cons (λ (y : Ending). IsEndingAtStage d y w) e es
           (record { ending = left_ending v d x true refl; within = omega arith; cleared = λ m lt. absurd (omega arith) })
           (each_end d v w es (λ y is. left_each d v x Owner true y is) ends.each);
       once = λ c.
           let o = one_more c e es in
           let u = ends.once c in
-          ⊎_elim (λ (q : x.block.0 ≡ c). let z : endings_of c es ≡ 0 = subst (λ (i : ℕ). endings_of i es ≡ 0) q none in
+          ⊎_elim (λ (q : x.block.0 ≡ c). let z : endings_in_block c es ≡ 0 = subst (λ (i : ℕ). endings_in_block i es ≡ 0) q none in
           let a = cond-true {A = ℕ} (x.block.0 == c) 1 0 (eq-eqb x.block.0 c q) in omega (arith, o, z, a))
           (λ (q : x.block.0 ≢ c). let a = cond-false {A = ℕ} (x.block.0 == c) 1 0 (ne_eqb x.block.0 c q) in omega (arith, o, u, a))
           (cases_eq x.block.0 c);
     }
 ends_leaving d v x Owner false n es kept kept' ends =
-    record { each = each_end d v (after v d (leave_as Owner x false)) es (λ y is. left_each d v x Owner false y is) ends.each; once = ends.once }
+    record { each = each_end d v (story_after_deed v d (leave_as Owner x false)) es (λ y is. left_each d v x Owner false y is) ends.each; once = ends.once }
 ends_leaving d v x Weak true n es kept kept' ends =
-    record { each = each_end d v (after v d (leave_as Weak x true)) es (λ y is. left_each d v x Weak true y is) ends.each; once = ends.once }
+    record { each = each_end d v (story_after_deed v d (leave_as Weak x true)) es (λ y is. left_each d v x Weak true y is) ends.each; once = ends.once }
 ends_leaving d v x Weak false n es kept kept' ends =
-    record { each = each_end d v (after v d (leave_as Weak x false)) es (λ y is. left_each d v x Weak false y is) ends.each; once = ends.once }
+    record { each = each_end d v (story_after_deed v d (leave_as Weak x false)) es (λ y is. left_each d v x Weak false y is) ends.each; once = ends.once }
 
 -- there is room for one more
 pub carried_room : (d : ℕ) (c : Course) (v w : Story) (x : Pointer) (last : Bool) → Kept v → Kept w → EndsFit d c v
-    → w ≡ after v d (leave (state v) x)
-    → last ≡ is_last (state v) x → x.kind ≡ Owner → last ≡ true → length c.endings.list < c.endings.room
+    → w ≡ story_after_deed v d (leave (story_state v) x)
+    → last ≡ is_last (story_state v) x → x.kind ≡ Owner → last ≡ true → length c.endings.list < c.endings.room
 carried_room d c v w x last kept kept' fit is said at ended =
-    go x.kind at (is_last (state v) x) (sym said ∙ ended) (subst Kept is kept')
+    go x.kind at (is_last (story_state v) x) (sym said ∙ ended) (subst Kept is kept')
   where
-    go : (k : Kind) → k ≡ Owner → (b : Bool) → b ≡ true → Kept (after v d (leave_as k x b)) → length c.endings.list < c.endings.room
+    go : (k : Kind) → k ≡ Owner → (b : Bool) → b ≡ true → Kept (story_after_deed v d (leave_as k x b)) → length c.endings.list < c.endings.room
     go Weak e b q kept' = cc
     go Owner e false q kept' = cc
     go Owner e true q kept' =
         let f : suc (length c.endings.list) ≤ v.extent.shape.blocks =
-        ends_few d (after v d (leave_as Owner x true)) (begins_end_as Owner 0 x c.endings.list) kept'
+        ends_few d (story_after_deed v d (leave_as Owner x true)) (begins_end_as Owner 0 x c.endings.list) kept'
         (ends_leaving d v x Owner true 0 c.endings.list kept kept' fit.all) in
         let r = fit.roomy in omega (arith, f, r)
 
-carried_on : (d : ℕ) (t : Thread) (v : Story) (h : Holdings) (r : Stack) (s : Stored) (n : ℕ) (x : Pointer) (k : Kind) (b : Bool)
+carried_on : (d : ℕ) (t : Thread) (v : Story) (h : Holdings) (r : Stack) (s : StoreView) (n : ℕ) (x : Pointer) (k : Kind) (b : Bool)
     (e : Ending) (es : List Ending)
-    → Kept v → Fits d t v → t.half ≡ Rest → t.course.endings.list ≡ e ∷ es → Kept (after v d (leave_as k x b))
-    → Holds d h.slots.items (after v d (leave_as k x b))
+    → Kept v → FitsThread d t v → t.half ≡ Rest → t.course.endings.list ≡ e ∷ es → Kept (story_after_deed v d (leave_as k x b))
+    → HoldsBag d h.slots.items (story_after_deed v d (leave_as k x b))
     → h.slots.items ≡ set t.course.holdings.slots.items (hand t.course.holdings.slots.items) plain
     → r.list ≡ cond b (begins_end_as k n x t.course.endings.list) t.course.endings.list → t.course.endings.room ≤ r.room
     → IsStocked k x.block.0 b t.stock s
-    → Fits d (record { course = record t.course { holdings = h; endings = r }; stock = s; half = Rest }) (after v d (leave_as k x b))
+    → FitsThread d (record { course = record t.course { holdings = h; endings = r }; stock = s; half = Rest }) (story_after_deed v d (leave_as k x b))
 carried_on d t v h r s n x k b e es kept fits rests is kept' holds slots list room stock =
-    let w = after v d (leave_as k x b) in
+    let w = story_after_deed v d (leave_as k x b) in
     let c = t.course in
     let none = none_taken d c v e es fits.endings is in
     record {
@@ -155,19 +157,21 @@ carried_on d t v h r s n x k b e es kept fits rests is kept' holds slots list ro
 
 -- a thread after what it had in hand left
 pub fits_carried : (d : ℕ) (t t' : Thread) (v w : Story) (h : Holdings) (n : ℕ) (x : Pointer) (last : Bool) (e : Ending) (es : List Ending)
-    → Kept v → Kept w → Fits d t v → t.half ≡ Rest → t.course.endings.list ≡ e ∷ es → w ≡ after v d (leave (state v) x)
-    → last ≡ is_last (state v) x
-    → Holds d h.slots.items w → h.slots.items ≡ set t.course.holdings.slots.items (hand t.course.holdings.slots.items) plain
+    → Kept v → Kept w → FitsThread d t v → t.half ≡ Rest → t.course.endings.list ≡ e ∷ es
+    → w ≡ story_after_deed v d (leave (story_state v) x)
+    → last ≡ is_last (story_state v) x
+    → HoldsBag d h.slots.items w → h.slots.items ≡ set t.course.holdings.slots.items (hand t.course.holdings.slots.items) plain
     → t'.course ≡ record t.course { holdings = h; endings = t'.course.endings }
     → t'.course.endings.list ≡ cond last (begins_end_as x.kind n x t.course.endings.list) t.course.endings.list
-    → t.course.endings.room ≤ t'.course.endings.room → t'.half ≡ t.half → IsStockedBy (Some x) last t.stock t'.stock → Fits d t' w
+    → t.course.endings.room ≤ t'.course.endings.room → t'.half ≡ t.half → IsStockedBy (Some x) last t.stock t'.stock → FitsThread d t' w
 fits_carried d t t' v w h n x last e es kept kept' fits rests is story said holds slots same list room half stock =
     let r = t'.course.endings in
-    let b = is_last (state v) x in
-    subst (λ (k : Course). Fits d (record { course = k; stock = t'.stock; half = t'.half }) w) (sym same)
-    (subst (λ (q : Half). Fits d (record { course = record t.course { holdings = h; endings = r }; stock = t'.stock; half = q }) w) (sym (half ∙ rests))
-    (subst (λ (u : Story). Fits d (record { course = record t.course { holdings = h; endings = r }; stock = t'.stock; half = Rest }) u) (sym story)
+    let b = is_last (story_state v) x in
+    subst (λ (k : Course). FitsThread d (record { course = k; stock = t'.stock; half = t'.half }) w) (sym same)
+    (subst (λ (q : Half). FitsThread d (record { course = record t.course { holdings = h; endings = r }; stock = t'.stock; half = q }) w)
+    (sym (half ∙ rests))
+    (subst (λ (u : Story). FitsThread d (record { course = record t.course { holdings = h; endings = r }; stock = t'.stock; half = Rest }) u) (sym story)
     (carried_on d t v h r t'.stock n x x.kind b e es kept fits rests is (subst Kept story kept')
-    (subst (λ (u : Story). Holds d h.slots.items u) story holds) slots
+    (subst (λ (u : Story). HoldsBag d h.slots.items u) story holds) slots
     (list ∙ ap (λ (q : Bool). cond q (begins_end_as x.kind n x t.course.endings.list) t.course.endings.list) said) room
     (subst (λ (q : Bool). IsStocked x.kind x.block.0 q t.stock t'.stock) said stock))))

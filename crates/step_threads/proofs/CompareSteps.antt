@@ -22,19 +22,19 @@ use Rattle.step_threads.specs.declared.said.Said.{Said}
 use Rattle.step_threads.specs.declared.said.Stepped.{Stepped}
 use Rattle.step_threads.specs.declared.said.Stepped.TheVariants.{Event, Quiet}
 use Rattle.step_threads.specs.declared.thread.Thread.{Thread}
-use Rattle.step_table.specs.CellDeeds.{kind_in}
-use Rattle.step_table.specs.Cells.{word_at}
+use Rattle.step_table.specs.CellDeeds.{kind_in_state}
+use Rattle.step_table.specs.Cells.{word_of_cell}
 use Rattle.step_table.specs.Contents.{as_word, compared_in, is_of, same_value, seen}
 use Rattle.step_table.specs.Deeds.{on}
-use Rattle.step_table.specs.Holdings.{Holds, Slots, slot, value}
+use Rattle.step_table.specs.Holdings.{HoldsBag, Slots, slot_pointer, slot_value}
 use Rattle.step_table.specs.Refills.{more_taken}
-use Rattle.step_table.specs.Stories.{Kept, Story, after, event_of, state}
-use Rattle.step_threads.specs.Courses.{Walk, cell_at, comparing, hand, is_there, rest, settled, task_at, walk}
+use Rattle.step_table.specs.Stories.{Kept, Story, story_after_deed, event_of, story_state}
+use Rattle.step_threads.specs.Courses.{Walk, cell_of_name, comparing, hand, is_there, rest, walk_settled, task_at, walk}
 use Rattle.step_threads.specs.Entries.{is_expected}
 use Rattle.step_threads.specs.Programs.{IsIn, kind_at}
 use Rattle.step_threads.specs.Scenes.{came, compared}
 use Rattle.step_threads.specs.NextSteps.{matched, matched_on, saw, saw_on, step_at, waits}
-use Rattle.step_threads.specs.Steps.{Step, acts, fetches, gives_back, matches, missed, settles, silent, takes, within}
+use Rattle.step_threads.specs.Steps.{Step, step_of_act, fetches, gives_back, matches, missed, settles, silent, takes, within}
 use Rattle.step_threads.specs.Threads.{HasStepped}
 use Rattle.step_threads.proofs.CellNames.{cell_open, goes_in}
 use Rattle.step_threads.proofs.Courses.{todo_at}
@@ -50,24 +50,25 @@ answers n b = record { statement = n; answer = Some (Answered b); ended = None }
 -- where a thread is by a compare
 abbrev pub compared_walk : Thread → Story → CellName → Bool → Walk
 compared_walk t v c b =
-    let x = compared t.course.holdings.slots.items (came (state v) t.course.holdings.slots.items c) b in settled x.0 x.1 t.course.endings.list (rest t.course)
+    let x = compared t.course.holdings.slots.items (came (story_state v) t.course.holdings.slots.items c) b in
+    walk_settled x.0 x.1 t.course.endings.list (rest t.course)
 
 -- words tell whether a cell holds what is expected
-pub expected_told : (d : ℕ) (slots : Slots) (v : Story) (k : ℕ) (c : CellName) → Kept v → d < v.extent.actors → Holds d slots v
+pub expected_told : (d : ℕ) (slots : Slots) (v : Story) (k : ℕ) (c : CellName) → Kept v → d < v.extent.actors → HoldsBag d slots v
     → IsIn v.extent.shape c
-    → is_there slots c ≡ true → is_of (kind_at c) (value slots k) ≡ true
-    → same_value (seen v (cell_at (state v) slots c)) (as_word (value slots k)) ≡ is_expected (state v) slots k c
+    → is_there slots c ≡ true → is_of (kind_at c) (slot_value slots k) ≡ true
+    → same_value (seen v (cell_of_name (story_state v) slots c)) (as_word (slot_value slots k)) ≡ is_expected (story_state v) slots k c
 expected_told d slots v k c kept lt holds inside there is =
-    let at = cell_at (state v) slots c in
+    let at = cell_of_name (story_state v) slots c in
     alike_seen d slots v k kept holds at (seen v at) (seen_found v d at kept lt (cell_open v d slots c inside holds there))
-    (goes_in v slots c (value slots k) inside is)
+    (goes_in v slots c (slot_value slots k) inside is)
 
 -- what a cell shows still is what it holds
-pub shown_still : (d : ℕ) (slots : Slots) (v : Story) (c : CellName) (x : CellWord) → Kept v → d < v.extent.actors → Holds d slots v
-    → IsIn v.extent.shape c → is_there slots c ≡ true → IsCellWord x → word_at v (cell_at (state v) slots c) ≡ cell_bits x
-    → x ≡ seen v (cell_at (state v) slots c)
+pub shown_still : (d : ℕ) (slots : Slots) (v : Story) (c : CellName) (x : CellWord) → Kept v → d < v.extent.actors → HoldsBag d slots v
+    → IsIn v.extent.shape c → is_there slots c ≡ true → IsCellWord x → word_of_cell v (cell_of_name (story_state v) slots c) ≡ cell_bits x
+    → x ≡ seen v (cell_of_name (story_state v) slots c)
 shown_still d slots v c x kept lt holds inside there valid bits =
-    let at = cell_at (state v) slots c in
+    let at = cell_of_name (story_state v) slots c in
     shows_seen v d at x (open_found v d at x kept lt (cell_open v d slots c inside holds there) valid bits)
 
 module _ (d : ℕ) (t : Thread) (v : Story) (k : ℕ) (c : CellName) (weak : Bool) (x : CellWord) (lt : t.course.at < length t.course.tasks.items)
@@ -76,7 +77,7 @@ module _ (d : ℕ) (t : Thread) (v : Story) (k : ℕ) (c : CellName) (weak : Boo
   slots = t.course.holdings.slots.items
 
   abbrev place : Cell
-  place = cell_at (state v) slots c
+  place = cell_of_name (story_state v) slots c
 
   abbrev wanted : Compared
   wanted = compared_in slots (comparing slots k weak)
@@ -86,17 +87,17 @@ module _ (d : ℕ) (t : Thread) (v : Story) (k : ℕ) (c : CellName) (weak : Boo
 
   -- a compare that is done, by an event that tells it
   done : (b : Bool) (y : Deed) (h : Half) (r : Stepped) (t' : Thread) (v' : Story) → waits v t.half (walk t.course) ≡ false
-      → is_some (event_of (state v) y) ≡ true
-      → step_at v d t.half (walk t.course) ≡ Some (acts v d (walk t.course) number (rest t.course) (Compare k c weak) (Some y) h)
-      → is_expected (state v) slots k c ≡ b → r ≡ Event (answers number b) → v' ≡ after v d y
+      → is_some (event_of (story_state v) y) ≡ true
+      → step_at v d t.half (walk t.course) ≡ Some (step_of_act v d (walk t.course) number (rest t.course) (Compare k c weak) (Some y) h)
+      → is_expected (story_state v) slots k c ≡ b → r ≡ Event (answers number b) → v' ≡ story_after_deed v d y
       → walk t'.course ≡ compared_walk t v c b → t'.half ≡ h
       → HasStepped d t v r t' v'
   done b y h r t' v' goes event is tells answer story walked half =
       let w = walk t.course in
-      stepped_as d t v (acts v d w number (rest t.course) (Compare k c weak) (Some y) h) r t' v' goes is
+      stepped_as d t v (step_of_act v d w number (rest t.course) (Compare k c weak) (Some y) h) r t' v' goes is
       (answer ∙ ap (λ (q : Bool). Event (answers number q)) (sym tells)
-      ∙ sym (cond-true (is_some (event_of (state v) y)) (Event (answers number (is_expected (state v) slots k c)))
-      (Quiet (answers number (is_expected (state v) slots k c))) event))
+      ∙ sym (cond-true (is_some (event_of (story_state v) y)) (Event (answers number (is_expected (story_state v) slots k c)))
+      (Quiet (answers number (is_expected (story_state v) slots k c))) event))
       story (walked ∙ ap (λ (q : Bool). compared_walk t v c q) (sym tells)) half
 
   -- the next step of a compare that has seen its cell
@@ -110,38 +111,41 @@ module _ (d : ℕ) (t : Thread) (v : Story) (k : ℕ) (c : CellName) (weak : Boo
     still_on : waits v t.half (walk t.course) ≡ false
     still_on = let w = walk t.course in ap (λ (h : Half). waits v h w) saws
 
-    module _ (differs : same_value x (as_word (value slots k)) ≡ false) where
+    module _ (differs : same_value x (as_word (slot_value slots k)) ≡ false) where
       takes_on : step_at v d t.half (walk t.course) ≡ Some (takes v d (walk t.course) number (rest t.course) (Compare k c weak) place (Some wanted) x)
       takes_on =
           let w = walk t.course in
           let ts = rest t.course in
           let a = Compare k c weak in
           seen_on ∙ ap (λ (s : Step). Some s) (cond-false (same_value x wanted.expected)
-          (on (fetches w number x) (matches v d w number ts a place wanted x) (slot slots (hand slots)))
+          (on (fetches w number x) (matches v d w number ts a place wanted x) (slot_pointer slots (hand slots)))
           (takes v d w number ts a place (Some wanted) x) differs)
 
       -- a fund is taken
-      pub differs_taken : (r : Stepped) (t' : Thread) (v' : Story) → (word_at v place == cell_bits x) ≡ true → is_expected (state v) slots k c ≡ false
-          → r ≡ Event (answers number false) → v' ≡ after v d (OnCell (Take place x (Some wanted))) → walk t'.course ≡ compared_walk t v c false
+      pub differs_taken : (r : Stepped) (t' : Thread) (v' : Story) → (word_of_cell v place == cell_bits x) ≡ true
+          → is_expected (story_state v) slots k c ≡ false
+          → r ≡ Event (answers number false) → v' ≡ story_after_deed v d (OnCell (Take place x (Some wanted)))
+          → walk t'.course ≡ compared_walk t v c false
           → t'.half ≡ Refill Turning place (more_taken x) number → HasStepped d t v r t' v'
       differs_taken r t' v' same tells answer story walked half =
           done false (OnCell (Take place x (Some wanted))) (Refill Turning place (more_taken x) number) r t' v' still_on refl
           (takes_on ∙ ap (λ (s : Step). Some s) (takes_it v d (walk t.course) number (rest t.course) (Compare k c weak) place (Some wanted) x same))
           tells answer story walked half
 
-    module _ (same : same_value x (as_word (value slots k)) ≡ true) where
+    module _ (same : same_value x (as_word (slot_value slots k)) ≡ true) where
       alike_on : step_at v d t.half (walk t.course)
           ≡ Some (on (fetches (walk t.course) number x) (matches v d (walk t.course) number (rest t.course) (Compare k c weak) place wanted x)
-          (slot slots (hand slots)))
+          (slot_pointer slots (hand slots)))
       alike_on =
           let w = walk t.course in
           let ts = rest t.course in
           let a = Compare k c weak in
           seen_on ∙ ap (λ (s : Step). Some s) (cond-true (same_value x wanted.expected)
-          (on (fetches w number x) (matches v d w number ts a place wanted x) (slot slots (hand slots))) (takes v d w number ts a place (Some wanted) x) same)
+          (on (fetches w number x) (matches v d w number ts a place wanted x) (slot_pointer slots (hand slots)))
+          (takes v d w number ts a place (Some wanted) x) same)
 
       -- the funds of what is to go in are brought
-      pub fetches_funds : (p : Pointer) → slot slots (hand slots) ≡ Some p
+      pub fetches_funds : (p : Pointer) → slot_pointer slots (hand slots) ≡ Some p
           → step_at v d t.half (walk t.course) ≡ Some (fetches (walk t.course) number x p)
       fetches_funds p at =
           let w = walk t.course in
@@ -149,7 +153,7 @@ module _ (d : ℕ) (t : Thread) (v : Story) (k : ℕ) (c : CellName) (weak : Boo
           ∙ ap (λ (o : Option Pointer). Some (on (fetches w number x) (matches v d w number (rest t.course) (Compare k c weak) place wanted x) o)) at
 
       -- or there are none to bring
-      pub fetches_none : slot slots (hand slots) ≡ None
+      pub fetches_none : slot_pointer slots (hand slots) ≡ None
           → step_at v d t.half (walk t.course) ≡ Some (matches v d (walk t.course) number (rest t.course) (Compare k c weak) place wanted x)
       fetches_none at =
           let w = walk t.course in
@@ -168,24 +172,26 @@ module _ (d : ℕ) (t : Thread) (v : Story) (k : ℕ) (c : CellName) (weak : Boo
   module _ (at : step_at v d t.half (walk t.course) ≡ Some (matches v d (walk t.course) number (rest t.course) (Compare k c weak) place wanted x))
       (goes : waits v t.half (walk t.course) ≡ false) where
     -- swaps
-    pub swaps_it : (r : Stepped) (t' : Thread) (v' : Story) → (word_at v place == cell_bits x) ≡ true → is_expected (state v) slots k c ≡ true
-        → r ≡ Event (answers number true) → v' ≡ after v d (OnCell (CompareSwap place x wanted)) → walk t'.course ≡ compared_walk t v c true
-        → t'.half ≡ gives_back (kind_in (state v) place) number x x.owned → HasStepped d t v r t' v'
+    pub swaps_it : (r : Stepped) (t' : Thread) (v' : Story) → (word_of_cell v place == cell_bits x) ≡ true
+        → is_expected (story_state v) slots k c ≡ true
+        → r ≡ Event (answers number true) → v' ≡ story_after_deed v d (OnCell (CompareSwap place x wanted))
+        → walk t'.course ≡ compared_walk t v c true
+        → t'.half ≡ gives_back (kind_in_state (story_state v) place) number x x.owned → HasStepped d t v r t' v'
     swaps_it r t' v' same tells answer story walked half =
         let w = walk t.course in
-        let h = gives_back (kind_in (state v) place) number x x.owned in
+        let h = gives_back (kind_in_state (story_state v) place) number x x.owned in
         done true (OnCell (CompareSwap place x wanted)) h r t' v' goes refl
-        (at ∙ ap (λ (s : Step). Some s) (cond-true (word_at v place == cell_bits x)
-        (acts v d w number (rest t.course) (Compare k c weak) (Some (OnCell (CompareSwap place x wanted))) h)
-        (within w number None (missed number (slot slots (hand slots)))) same)) tells answer story walked half
+        (at ∙ ap (λ (s : Step). Some s) (cond-true (word_of_cell v place == cell_bits x)
+        (step_of_act v d w number (rest t.course) (Compare k c weak) (Some (OnCell (CompareSwap place x wanted))) h)
+        (within w number None (missed number (slot_pointer slots (hand slots)))) same)) tells answer story walked half
 
     -- or the cell shows something else: it gives back what was brought, and begins again
-    pub swaps_none : (r : Stepped) (t' : Thread) (v' : Story) → (word_at v place == cell_bits x) ≡ false → r ≡ Quiet (silent number) → v' ≡ v
-        → walk t'.course ≡ walk t.course → t'.half ≡ missed number (slot slots (hand slots)) → HasStepped d t v r t' v'
+    pub swaps_none : (r : Stepped) (t' : Thread) (v' : Story) → (word_of_cell v place == cell_bits x) ≡ false → r ≡ Quiet (silent number) → v' ≡ v
+        → walk t'.course ≡ walk t.course → t'.half ≡ missed number (slot_pointer slots (hand slots)) → HasStepped d t v r t' v'
     swaps_none r t' v' same answer story walked half =
         let w = walk t.course in
-        let h = gives_back (kind_in (state v) place) number x x.owned in
-        stepped_as d t v (within w number None (missed number (slot slots (hand slots)))) r t' v' goes
-        (at ∙ ap (λ (s : Step). Some s) (cond-false (word_at v place == cell_bits x)
-        (acts v d w number (rest t.course) (Compare k c weak) (Some (OnCell (CompareSwap place x wanted))) h)
-        (within w number None (missed number (slot slots (hand slots)))) same)) answer story walked half
+        let h = gives_back (kind_in_state (story_state v) place) number x x.owned in
+        stepped_as d t v (within w number None (missed number (slot_pointer slots (hand slots)))) r t' v' goes
+        (at ∙ ap (λ (s : Step). Some s) (cond-false (word_of_cell v place == cell_bits x)
+        (step_of_act v d w number (rest t.course) (Compare k c weak) (Some (OnCell (CompareSwap place x wanted))) h)
+        (within w number None (missed number (slot_pointer slots (hand slots)))) same)) answer story walked half

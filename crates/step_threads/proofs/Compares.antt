@@ -8,11 +8,12 @@ use Rattle.step_threads.specs.declared.act.Task.{Task}
 use Rattle.step_threads.specs.declared.call.CellName.{CellName}
 use Rattle.step_threads.specs.declared.course.Course.{Course}
 use Rattle.step_table.specs.declared.slot.Slot.{Slot}
-use Rattle.step_table.specs.CellDeeds.{kind_in}
-use Rattle.step_table.specs.Contents.{CanCompare, is_of, swapped}
-use Rattle.step_table.specs.Holdings.{plain, pointer_of, value}
-use Rattle.step_table.specs.Stories.{Story, state}
-use Rattle.step_threads.specs.Courses.{Begins, CourseReady, CourseStill, Drops, Follows, HasCell, IsReady, Ready, cell_at, comparing, dropping, hand, idle}
+use Rattle.step_table.specs.CellDeeds.{kind_in_state}
+use Rattle.step_table.specs.Contents.{CanCompare, is_of, slots_swapped}
+use Rattle.step_table.specs.Holdings.{plain, pointer_of, slot_value}
+use Rattle.step_table.specs.Stories.{Story, story_state}
+use Rattle.step_threads.specs.Courses.{MayComeNext, CourseReady, CourseStill, DropsInTime, MayFollow, HasCell, IsReady, TasksMayCome, cell_of_name, comparing}
+use Rattle.step_threads.specs.Courses.{dropping, hand, idle}
 use Rattle.step_threads.specs.Courses.{is_there, other, rest, taken_after, task_at}
 use Rattle.step_threads.specs.Programs.{IsIn, kind_at}
 use Rattle.step_threads.proofs.CellNames.{goes_in}
@@ -31,30 +32,31 @@ module _ (c : Course) (k : ℕ) (x : CellName) (weak : Bool) (lt : c.at < length
   pub expects_name : k < other c.holdings.slots.items
   expects_name =
       let n = other c.holdings.slots.items in
-      let b : Begins n c.taken (Compare k x weak) = subst (Begins n c.taken) act (ready_head c lt ready).0 in b.0
+      let b : MayComeNext n c.taken (Compare k x weak) = subst (MayComeNext n c.taken) act (ready_head c lt ready).0 in b.0
 
   -- what comes out is dropped
-  pub drops_after : Drops (rest c)
-  drops_after = let f : Follows (Compare k x weak) (rest c) = subst (λ (a : Act). Follows a (rest c)) act (ready_head c lt ready).1 in f
+  pub drops_after : DropsInTime (rest c)
+  drops_after = let f : MayFollow (Compare k x weak) (rest c) = subst (λ (a : Act). MayFollow a (rest c)) act (ready_head c lt ready).1 in f
 
   -- nothing is to be dropped yet
-  pub nothing_owed : value c.holdings.slots.items (other c.holdings.slots.items) ≡ plain
+  pub nothing_owed : slot_value c.holdings.slots.items (other c.holdings.slots.items) ≡ plain
   nothing_owed =
       let slots = c.holdings.slots.items in
-      let P = λ (ts : List Task). (value slots (other slots) ≡ plain) ⊎ Drops ts in
-      ⊎_elim (λ (e : value slots (other slots) ≡ plain). e)
-      (λ (q : dropping (Drops (rest c)) (task_at c).act). let z : dropping (Drops (rest c)) (Compare k x weak) = subst
-      (dropping (Drops (rest c))) act q in absurd z)
+      let P = λ (ts : List Task). (slot_value slots (other slots) ≡ plain) ⊎ DropsInTime ts in
+      ⊎_elim (λ (e : slot_value slots (other slots) ≡ plain). e)
+      (λ (q : dropping (DropsInTime (rest c)) (task_at c).act). let z : dropping (DropsInTime (rest c)) (Compare k x weak) = subst
+      (dropping (DropsInTime (rest c))) act q in absurd z)
       (subst P (todo_at c lt) ready.owes)
 
   -- the cell is there, and what goes in, and what is expected, may be in it
   pub may_compare : CourseStill c
-      → (is_there c.holdings.slots.items x ≡ true) × (is_of (kind_at x) (value c.holdings.slots.items (hand c.holdings.slots.items)) ≡ true)
-      × (is_of (kind_at x) (value c.holdings.slots.items k) ≡ true)
+      → (is_there c.holdings.slots.items x ≡ true) × (is_of (kind_at x) (slot_value c.holdings.slots.items (hand c.holdings.slots.items)) ≡ true)
+      × (is_of (kind_at x) (slot_value c.holdings.slots.items k) ≡ true)
   may_compare still = four c.taken _ _ _ (subst (λ (a : Act). idle a c.holdings.slots.items c.taken ≡ false) act (still lt))
 
   pub can_compare : (v : Story) → CourseStill c → HasCell v.extent.shape (task_at c).act
-      → CanCompare (kind_in (state v) (cell_at (state v) c.holdings.slots.items x)) c.holdings.slots.items (comparing c.holdings.slots.items k weak)
+      → CanCompare (kind_in_state (story_state v) (cell_of_name (story_state v) c.holdings.slots.items x)) c.holdings.slots.items
+      (comparing c.holdings.slots.items k weak)
   can_compare v still cell =
       let slots = c.holdings.slots.items in
       let inside : IsIn v.extent.shape x = subst (HasCell v.extent.shape) act cell in
@@ -67,24 +69,24 @@ module _ (c : Course) (k : ℕ) (x : CellName) (weak : Bool) (lt : c.at < length
         other = omega (arith, some);
         apart = omega (arith, some);
         empty = ap pointer_of nothing_owed;
-        kinds = (goes_in v slots x (value slots k) inside may.2, goes_in v slots x (value slots (hand slots)) inside may.1);
+        kinds = (goes_in v slots x (slot_value slots k) inside may.2, goes_in v slots x (slot_value slots (hand slots)) inside may.1);
       }
 
   -- the cell is swapped: what comes out is to be dropped
   pub swapped_ready : (y : Slot)
-      → IsReady (swapped (hand c.holdings.slots.items) (other c.holdings.slots.items) c.holdings.slots.items y) false c.endings.list (rest c)
+      → IsReady (slots_swapped (hand c.holdings.slots.items) (other c.holdings.slots.items) c.holdings.slots.items y) false c.endings.list (rest c)
   swapped_ready y =
       let slots = c.holdings.slots.items in
       let n = other slots in
-      let l = swapped (hand slots) n slots y in
+      let l = slots_swapped (hand slots) n slots y in
       let e : length l ≡ length slots = length-set (set slots n y) (hand slots) plain ∙ length-set slots n y in
       let m = length-set slots n y in
       let some = ready.some in
-      let r : Ready n true (rest c) = subst (λ (a : Act). Ready n (taken_after a c.taken) (rest c)) act (ready_head c lt ready).2 in
+      let r : TasksMayCome n true (rest c) = subst (λ (a : Act). TasksMayCome n (taken_after a c.taken) (rest c)) act (ready_head c lt ready).2 in
       record {
         some = omega (arith, e, some);
         free = λ t.
-            inl (ap (λ (i : ℕ). value l (i - 1)) e ∙ get_or-set_same (set slots n y) (hand slots) plain plain (omega (arith, m, some)));
+            inl (ap (λ (i : ℕ). slot_value l (i - 1)) e ∙ get_or-set_same (set slots n y) (hand slots) plain plain (omega (arith, m, some)));
         owes = inr drops_after;
-        ready = subst (λ (i : ℕ). Ready (i - 2) false (rest c)) (sym e) (ready_any n (rest c) r);
+        ready = subst (λ (i : ℕ). TasksMayCome (i - 2) false (rest c)) (sym e) (ready_any n (rest c) r);
       }

@@ -10,24 +10,25 @@ use Rattle.step_threads.specs.declared.act.Act.TheVariants.{Offer, Swap, Exchang
 use Rattle.step_threads.specs.declared.act.Task.{Task}
 use Rattle.step_threads.specs.declared.course.Course.{Course}
 use Rattle.step_threads.specs.declared.ending.Ending.{Ending}
-use Rattle.step_threads.specs.Courses.{Begins, CourseReady, Drops, Follows, IsCarried, IsReady, Ready, Walk, dropping, hand, idle, no_task, other, placed, rest}
-use Rattle.step_threads.specs.Courses.{settled, slots_idle, taken_after}
+use Rattle.step_threads.specs.Courses.{MayComeNext, CourseReady, DropsInTime, MayFollow, IsCarried, IsReady, TasksMayCome, Walk, dropping, hand, idle, no_task}
+use Rattle.step_threads.specs.Courses.{other, placed, rest}
+use Rattle.step_threads.specs.Courses.{walk_settled, slots_idle, taken_after}
 use Rattle.step_threads.specs.Passing.{IsPassed}
 use Rattle.step_threads.specs.Courses.{taken_idle, task_at, todo}
 use Rattle.step_threads.specs.Endings.{Stack}
 use Rattle.step_table.specs.declared.slot.Slot.{Slot}
-use Rattle.step_table.specs.Holdings.{Slots, is_full, plain, pointer_of, value}
+use Rattle.step_table.specs.Holdings.{Slots, is_full, plain, pointer_of, slot_value}
 use Rattle.step_threads.specs.Steps.{with_endings}
 
 pub todo_at : (c : Course) → c.at < length c.tasks.items → todo c ≡ task_at c ∷ drop (c.at + 1) c.tasks.items
 todo_at c lt = drop_more c.tasks.items c.at no_task lt
 
 settled_idle : (slots : Slots) (taken : Bool) (es : List Ending) (t : Task) (ts : List Task) → idle t.act slots taken ≡ true
-    → settled slots taken es (t ∷ ts) ≡ settled (slots_idle t.act slots taken) (taken_idle t.act taken) es ts
+    → walk_settled slots taken es (t ∷ ts) ≡ walk_settled (slots_idle t.act slots taken) (taken_idle t.act taken) es ts
 settled_idle slots taken es t ts e = cond-true (idle t.act slots taken) _ _ e
 
 pub settled_still : (slots : Slots) (taken : Bool) (es : List Ending) (t : Task) (ts : List Task) → idle t.act slots taken ≡ false
-    → settled slots taken es (t ∷ ts) ≡ record { slots = slots; taken = taken; endings = es; todo = t ∷ ts }
+    → walk_settled slots taken es (t ∷ ts) ≡ record { slots = slots; taken = taken; endings = es; todo = t ∷ ts }
 settled_still slots taken es t ts e = cond-false (idle t.act slots taken) _ _ e
 
 with_either : (b : Bool) (x y x' y' : Walk) (es : List Ending) → with_endings x es ≡ x' → with_endings y es ≡ y'
@@ -37,7 +38,7 @@ with_either false x y x' y' es e f = f
 
 -- the endings have no part in it
 pub settled_with : (slots : Slots) (taken : Bool) (es es' : List Ending) (ts : List Task)
-    → with_endings (settled slots taken es ts) es' ≡ settled slots taken es' ts
+    → with_endings (walk_settled slots taken es ts) es' ≡ walk_settled slots taken es' ts
 settled_with slots taken es es' [] = refl
 settled_with slots taken es es' (t ∷ ts) =
     with_either (idle t.act slots taken) _ _ _ _ es' (settled_with (slots_idle t.act slots taken) (taken_idle t.act taken) es es' ts) refl
@@ -69,21 +70,21 @@ taken_either true x y e f = e
 taken_either false x y e f = f
 
 -- where nothing was taken nothing is
-pub settled_taken : (slots : Slots) (es : List Ending) (ts : List Task) → (settled slots false es ts).taken ≡ false
+pub settled_taken : (slots : Slots) (es : List Ending) (ts : List Task) → (walk_settled slots false es ts).taken ≡ false
 settled_taken slots es [] = refl
 settled_taken slots es (t ∷ ts) =
     taken_either (idle t.act slots false) _ _
-    (subst (λ (b : Bool). (settled (slots_idle t.act slots false) b es ts).taken ≡ false) (sym (idle_taken t.act))
+    (subst (λ (b : Bool). (walk_settled (slots_idle t.act slots false) b es ts).taken ≡ false) (sym (idle_taken t.act))
     (settled_taken (slots_idle t.act slots false) es ts)) refl
 
-pub left_taken : (c : Course) (slots : Slots) → c.taken ≡ false → (settled slots c.taken c.endings.list (rest c)).taken ≡ false
-left_taken c slots e = ap (λ (b : Bool). (settled slots b c.endings.list (rest c)).taken) e ∙ settled_taken slots c.endings.list (rest c)
+pub left_taken : (c : Course) (slots : Slots) → c.taken ≡ false → (walk_settled slots c.taken c.endings.list (rest c)).taken ≡ false
+left_taken c slots e = ap (λ (b : Bool). (walk_settled slots b c.endings.list (rest c)).taken) e ∙ settled_taken slots c.endings.list (rest c)
 
 pub passed_todo : (a b : Course) → IsPassed a b → todo b ≡ drop (a.at + 1) a.tasks.items
 passed_todo a b p = let x = p.at in let y = p.tasks in cc
 
 pub passed_same : (a b : Course) → a.at < length a.tasks.items → idle (task_at a).act a.holdings.slots.items a.taken ≡ true → IsPassed a b
-    → settled b.holdings.slots.items b.taken b.endings.list (todo b) ≡ settled a.holdings.slots.items a.taken a.endings.list (todo a)
+    → walk_settled b.holdings.slots.items b.taken b.endings.list (todo b) ≡ walk_settled a.holdings.slots.items a.taken a.endings.list (todo a)
 passed_same a b lt e p =
     let h = todo_at a lt in
     let i = settled_idle a.holdings.slots.items a.taken a.endings.list (task_at a) (drop (a.at + 1) a.tasks.items) e in
@@ -92,59 +93,60 @@ passed_same a b lt e p =
     cc
 
 placed_length : (k : ℕ) (slots : Slots) → length (placed k slots) ≡ length slots
-placed_length k slots = length-set (set slots k (value slots (hand slots))) (hand slots) plain ∙ length-set slots k (value slots (hand slots))
+placed_length k slots = length-set (set slots k (slot_value slots (hand slots))) (hand slots) plain ∙ length-set slots k (slot_value slots (hand slots))
 
-placed_hand : (k : ℕ) (slots : Slots) → 1 < length slots → value (placed k slots) (hand (placed k slots)) ≡ plain
+placed_hand : (k : ℕ) (slots : Slots) → 1 < length slots → slot_value (placed k slots) (hand (placed k slots)) ≡ plain
 placed_hand k slots lt =
     let e = placed_length k slots in
     let h : hand (placed k slots) ≡ hand slots = ap (λ (n : ℕ). n - 1) e in
-    ap (λ (n : ℕ). value (placed k slots) n) h
-    ∙ get_or-set_same (set slots k (value slots (hand slots))) (hand slots) plain plain (let l = length-set slots k (value slots
+    ap (λ (n : ℕ). slot_value (placed k slots) n) h
+    ∙ get_or-set_same (set slots k (slot_value slots (hand slots))) (hand slots) plain plain (let l = length-set slots k (slot_value slots
     (hand slots)) in omega (arith, l))
 
 -- the slots behind the names stay where the length does
 other_same : (slots slots' : Slots) → length slots' ≡ length slots → other slots' ≡ other slots
 other_same slots slots' e = ap (λ (n : ℕ). n - 2) e
 
-placed_other : (k : ℕ) (slots : Slots) → 1 < length slots → k < other slots → value slots (other slots) ≡ plain
-    → value (placed k slots) (other (placed k slots)) ≡ plain
+placed_other : (k : ℕ) (slots : Slots) → 1 < length slots → k < other slots → slot_value slots (other slots) ≡ plain
+    → slot_value (placed k slots) (other (placed k slots)) ≡ plain
 placed_other k slots lt below e =
-    ap (λ (n : ℕ). value (placed k slots) n) (other_same slots (placed k slots) (placed_length k slots))
-    ∙ get_or-set_other (set slots k (value slots (hand slots))) (hand slots) (other slots) plain plain (omega (arith, lt))
-    ∙ get_or-set_other slots k (other slots) (value slots (hand slots)) plain (omega (arith, below))
+    ap (λ (n : ℕ). slot_value (placed k slots) n) (other_same slots (placed k slots) (placed_length k slots))
+    ∙ get_or-set_other (set slots k (slot_value slots (hand slots))) (hand slots) (other slots) plain plain (omega (arith, lt))
+    ∙ get_or-set_other slots k (other slots) (slot_value slots (hand slots)) plain (omega (arith, below))
     ∙ e
 
-ready_same : (slots slots' : Slots) (taken : Bool) (ts : List Task) → length slots' ≡ length slots → Ready (other slots) taken ts
-    → Ready (other slots') taken ts
-ready_same slots slots' taken ts e r = subst (λ (n : ℕ). Ready n taken ts) (sym (other_same slots slots' e)) r
+ready_same : (slots slots' : Slots) (taken : Bool) (ts : List Task) → length slots' ≡ length slots → TasksMayCome (other slots) taken ts
+    → TasksMayCome (other slots') taken ts
+ready_same slots slots' taken ts e r = subst (λ (n : ℕ). TasksMayCome n taken ts) (sym (other_same slots slots' e)) r
 
 -- with nothing taken the hand is plain, or carries what came out of a member
 abbrev pub IsFree : Slots → List Ending → Type 0
-IsFree slots es = (value slots (hand slots) ≡ plain) ⊎ IsCarried slots es
+IsFree slots es = (slot_value slots (hand slots) ≡ plain) ⊎ IsCarried slots es
 
-carried_same : (slots slots' : Slots) (es : List Ending) → value slots' (hand slots') ≡ value slots (hand slots)
+carried_same : (slots slots' : Slots) (es : List Ending) → slot_value slots' (hand slots') ≡ slot_value slots (hand slots)
     → IsCarried slots es → IsCarried slots' es
 carried_same slots slots' [] e c = c
 carried_same slots slots' (x ∷ es) e c = ap (λ (y : Slot). is_full (pointer_of y)) e ∙ c
 
-free_same : (slots slots' : Slots) (es : List Ending) → value slots' (hand slots') ≡ value slots (hand slots) → IsFree slots es → IsFree slots' es
+free_same : (slots slots' : Slots) (es : List Ending) → slot_value slots' (hand slots') ≡ slot_value slots (hand slots) → IsFree slots es
+    → IsFree slots' es
 free_same slots slots' es e (inl f) = inl (e ∙ f)
 free_same slots slots' es e (inr c) = inr (carried_same slots slots' es e c)
 
 -- where no object ends nothing is carried
 pub free_plain : (slots : Slots) (taken : Bool) (es : List Ending)
-    → (taken ≡ false → (value slots (hand slots) ≡ plain) ⊎ IsCarried slots es) → es ≡ []
-    → taken ≡ false → value slots (hand slots) ≡ plain
+    → (taken ≡ false → (slot_value slots (hand slots) ≡ plain) ⊎ IsCarried slots es) → es ≡ []
+    → taken ≡ false → slot_value slots (hand slots) ≡ plain
 free_plain slots taken es free none e =
-    ⊎_elim (λ (f : value slots (hand slots) ≡ plain). f) (λ (c : IsCarried slots es). absurd (subst (IsCarried slots) none c)) (free e)
+    ⊎_elim (λ (f : slot_value slots (hand slots) ≡ plain). f) (λ (c : IsCarried slots es). absurd (subst (IsCarried slots) none c)) (free e)
 
 pub hand_plain : (c : Course) → CourseReady c → c.endings.list ≡ [] → c.taken ≡ false
-    → value c.holdings.slots.items (hand c.holdings.slots.items) ≡ plain
+    → slot_value c.holdings.slots.items (hand c.holdings.slots.items) ≡ plain
 hand_plain c ready none e = free_plain c.holdings.slots.items c.taken c.endings.list ready.free none e
 
 -- what was taken goes to a slot below the hand
-placed_ready : (k : ℕ) (slots : Slots) (es : List Ending) (ts : List Task) → 1 < length slots → Ready (other slots) false ts
-    → (value (placed k slots) (other (placed k slots)) ≡ plain) ⊎ Drops ts → IsReady (placed k slots) false es ts
+placed_ready : (k : ℕ) (slots : Slots) (es : List Ending) (ts : List Task) → 1 < length slots → TasksMayCome (other slots) false ts
+    → (slot_value (placed k slots) (other (placed k slots)) ≡ plain) ⊎ DropsInTime ts → IsReady (placed k slots) false es ts
 placed_ready k slots es ts lt r owes =
     let e = placed_length k slots in
     record {
@@ -155,34 +157,35 @@ placed_ready k slots es ts lt r owes =
     }
 
 put_ready : (k : ℕ) (slots : Slots) (taken : Bool) (es : List Ending) (ts : List Task) → 1 < length slots → k < other slots
-    → (taken ≡ false → IsFree slots es) → (value slots (other slots) ≡ plain) ⊎ Drops ts → Ready (other slots) false ts
+    → (taken ≡ false → IsFree slots es) → (slot_value slots (other slots) ≡ plain) ⊎ DropsInTime ts → TasksMayCome (other slots) false ts
     → IsReady (cond taken (placed k slots) slots) false es ts
 put_ready k slots true es ts lt below free (inl e) r = placed_ready k slots es ts lt r (inl (placed_other k slots lt below e))
 put_ready k slots true es ts lt below free (inr e) r = placed_ready k slots es ts lt r (inr e)
 put_ready k slots false es ts lt below free owes r = record { some = lt; free = free; owes = owes; ready = r }
 
 -- what is in hand, and goes nowhere, is to be dropped
-swap_ready : (slots : Slots) (taken : Bool) (es : List Ending) (ts : List Task) → 1 < length slots → (taken ≡ false → IsFree slots es) → Drops ts
-    → Ready (other slots) false ts → IsReady (cond taken (placed (other slots) slots) slots) false es ts
+swap_ready : (slots : Slots) (taken : Bool) (es : List Ending) (ts : List Task) → 1 < length slots → (taken ≡ false → IsFree slots es)
+    → DropsInTime ts
+    → TasksMayCome (other slots) false ts → IsReady (cond taken (placed (other slots) slots) slots) false es ts
 swap_ready slots true es ts lt free drops r = placed_ready (other slots) slots es ts lt r (inr drops)
 swap_ready slots false es ts lt free drops r = record { some = lt; free = free; owes = inr drops; ready = r }
 
 drop_ready : (slots : Slots) (taken : Bool) (es : List Ending) (ts : List Task) → 1 < length slots → (taken ≡ false → IsFree slots es)
-    → Ready (other slots) taken ts → IsReady (set slots (other slots) plain) taken es ts
+    → TasksMayCome (other slots) taken ts → IsReady (set slots (other slots) plain) taken es ts
 drop_ready slots taken es ts lt free r =
     let x = set slots (other slots) plain in
     let e : length x ≡ length slots = length-set slots (other slots) plain in
     record {
       some = omega (arith, e, lt);
       free = λ t.
-          free_same slots x es (ap (λ (n : ℕ). value x (n - 1)) e
+          free_same slots x es (ap (λ (n : ℕ). slot_value x (n - 1)) e
           ∙ get_or-set_other slots (other slots) (hand slots) plain plain (omega (arith, lt))) (free t);
       owes =
-          inl (ap (λ (n : ℕ). value x n) (other_same slots x e) ∙ get_or-set_same slots (other slots) plain plain (omega (arith, lt)));
+          inl (ap (λ (n : ℕ). slot_value x n) (other_same slots x e) ∙ get_or-set_same slots (other slots) plain plain (omega (arith, lt)));
       ready = ready_same slots x taken ts e r;
     }
 
-weaker : (n : ℕ) (act : Act) → Begins n true act → Begins n false act
+weaker : (n : ℕ) (act : Act) → MayComeNext n true act → MayComeNext n false act
 weaker n (Make form) b = (refl, b.1)
 weaker n (Share k) b = (b.0, refl)
 weaker n (Put k) b = b
@@ -204,8 +207,8 @@ weaker n (Load c) b = (b.0, refl)
 weaker n (Compare k c weak) b = b
 weaker n Drop b = refl
 
-ready_more : (n : ℕ) (act : Act) (ts : List Task) → (Ready n true ts → Ready n false ts) → Ready n (taken_after act true) ts
-    → Ready n (taken_after act false) ts
+ready_more : (n : ℕ) (act : Act) (ts : List Task) → (TasksMayCome n true ts → TasksMayCome n false ts) → TasksMayCome n (taken_after act true) ts
+    → TasksMayCome n (taken_after act false) ts
 ready_more n (Make form) ts f r = r
 ready_more n (Share k) ts f r = r
 ready_more n (Put k) ts f r = r
@@ -228,13 +231,13 @@ ready_more n (Compare k c weak) ts f r = r
 ready_more n Drop ts f r = f r
 
 -- what is ready for a value in hand is ready for none
-pub ready_any : (n : ℕ) (ts : List Task) → Ready n true ts → Ready n false ts
+pub ready_any : (n : ℕ) (ts : List Task) → TasksMayCome n true ts → TasksMayCome n false ts
 ready_any n [] r = refl
 ready_any n (t ∷ ts) r = (weaker n t.act r.0, r.1, ready_more n t.act ts (ready_any n ts) r.2)
 
 ready_past : (act : Act) (slots : Slots) (taken : Bool) (es : List Ending) (ts : List Task) → idle act slots taken ≡ true → 1 < length slots
-    → (taken ≡ false → IsFree slots es) → (value slots (other slots) ≡ plain) ⊎ dropping (Drops ts) act
-    → Begins (other slots) taken act → Follows act ts → Ready (other slots) (taken_after act taken) ts
+    → (taken ≡ false → IsFree slots es) → (slot_value slots (other slots) ≡ plain) ⊎ dropping (DropsInTime ts) act
+    → MayComeNext (other slots) taken act → MayFollow act ts → TasksMayCome (other slots) (taken_after act taken) ts
     → IsReady (slots_idle act slots taken) (taken_idle act taken) es ts
 ready_past (Make form) slots taken es ts i lt free owes b f r = absurd (false≢true i)
 ready_past (Share k) slots taken es ts i lt free owes b f r = absurd (false≢true i)
@@ -260,21 +263,21 @@ ready_past Drop slots taken es ts i lt free owes b f r = drop_ready slots taken 
 
 -- what the next act may rely on, and what is left to do after it
 pub ready_head : (c : Course) → c.at < length c.tasks.items → CourseReady c
-    → Begins (other c.holdings.slots.items) c.taken (task_at c).act × Follows (task_at c).act (rest c)
-    × Ready (other c.holdings.slots.items) (taken_after (task_at c).act c.taken) (rest c)
-ready_head c lt r = subst (λ (ts : List Task). Ready (other c.holdings.slots.items) c.taken ts) (todo_at c lt) r.ready
+    → MayComeNext (other c.holdings.slots.items) c.taken (task_at c).act × MayFollow (task_at c).act (rest c)
+    × TasksMayCome (other c.holdings.slots.items) (taken_after (task_at c).act c.taken) (rest c)
+ready_head c lt r = subst (λ (ts : List Task). TasksMayCome (other c.holdings.slots.items) c.taken ts) (todo_at c lt) r.ready
 
 pub owes_head : (c : Course) → c.at < length c.tasks.items → CourseReady c
-    → (value c.holdings.slots.items (other c.holdings.slots.items) ≡ plain) ⊎ dropping (Drops (rest c)) (task_at c).act
+    → (slot_value c.holdings.slots.items (other c.holdings.slots.items) ≡ plain) ⊎ dropping (DropsInTime (rest c)) (task_at c).act
 owes_head c lt r =
-    subst (λ (ts : List Task). (value c.holdings.slots.items (other c.holdings.slots.items) ≡ plain) ⊎ Drops ts) (todo_at c lt) r.owes
+    subst (λ (ts : List Task). (slot_value c.holdings.slots.items (other c.holdings.slots.items) ≡ plain) ⊎ DropsInTime ts) (todo_at c lt) r.owes
 
 -- nothing is to be dropped, where the next act neither drops it nor comes before one that does
-pub owed_by : (c : Course) (a : Act) → c.at < length c.tasks.items → CourseReady c → (task_at c).act ≡ a → (dropping (Drops (rest c)) a → ⊥)
-    → value c.holdings.slots.items (other c.holdings.slots.items) ≡ plain
+pub owed_by : (c : Course) (a : Act) → c.at < length c.tasks.items → CourseReady c → (task_at c).act ≡ a → (dropping (DropsInTime (rest c)) a → ⊥)
+    → slot_value c.holdings.slots.items (other c.holdings.slots.items) ≡ plain
 owed_by c a lt r act never =
-    ⊎_elim (λ (e : value c.holdings.slots.items (other c.holdings.slots.items) ≡ plain). e)
-    (λ (e : dropping (Drops (rest c)) (task_at c).act). absurd (never (subst (dropping (Drops (rest c))) act e))) (owes_head c lt r)
+    ⊎_elim (λ (e : slot_value c.holdings.slots.items (other c.holdings.slots.items) ≡ plain). e)
+    (λ (e : dropping (DropsInTime (rest c)) (task_at c).act). absurd (never (subst (dropping (DropsInTime (rest c))) act e))) (owes_head c lt r)
 
 pub passed_ready : (a b : Course) → a.at < length a.tasks.items → idle (task_at a).act a.holdings.slots.items a.taken ≡ true → IsPassed a b
     → CourseReady a → CourseReady b

@@ -22,13 +22,13 @@ use Rattle.step_threads.specs.declared.said.Stepped.TheVariants.{Event}
 use Rattle.step_threads.specs.declared.thread.Thread.{Thread}
 use Rattle.step_table.specs.CellDeeds.{handle_as}
 use Rattle.step_table.specs.Contents.{held_in, seen, slot_as, slot_of}
-use Rattle.step_table.specs.Holdings.{Holds, Slots, is_full, pointer_of, slot}
-use Rattle.step_table.specs.Stories.{Kept, Story, after, pending, state}
+use Rattle.step_table.specs.Holdings.{HoldsBag, Slots, is_full, pointer_of, slot_pointer}
+use Rattle.step_table.specs.Stories.{Kept, Story, story_after_deed, pending, story_state}
 use Rattle.step_threads.specs.Actors.{HalfFits, Stocks}
 use Rattle.step_threads.specs.Courses.{CourseReady, CourseStill, IsCarried, IsReady, hand, idle, task_at, todo, walk}
-use Rattle.step_threads.specs.Endings.{EndsAll, IsEnding, Stack, first_of, staged, staged_first}
+use Rattle.step_threads.specs.Endings.{EndsAll, IsEndingAtStage, Stack, first_of, staged, staged_first}
 use Rattle.step_threads.specs.Steps.{empties, gives_back, silent}
-use Rattle.step_threads.specs.Threads.{Fits, HasStepped, IsClearing, IsNext}
+use Rattle.step_threads.specs.Threads.{FitsThread, HasStepped, IsClearingMember, IsNext}
 use Rattle.step_threads.proofs.Carrying.{none_taken}
 use Rattle.step_threads.proofs.EndSteps.{cleared_ends, ready_bare}
 use Rattle.step_threads.proofs.Hands.{hand_ready, held_hand, still_hand}
@@ -40,15 +40,17 @@ pub none_full : (o : Option Pointer) → is_full o ≡ false → o ≡ None
 none_full None e = refl
 none_full (Some x) e = cc
 
-pub clearing_here : (slots : Slots) (es : List Ending) (e : Ending) → IsClearing slots es → first_of es ≡ Some e
-    → (e.stage < 3) × (is_full (slot slots (hand slots)) ≡ false)
+pub clearing_here : (slots : Slots) (es : List Ending) (e : Ending) → IsClearingMember slots es → first_of es ≡ Some e
+    → (e.stage < 3) × (is_full (slot_pointer slots (hand slots)) ≡ false)
 clearing_here slots [] e clear is = absurd clear
-clearing_here slots (x ∷ xs) e clear is = subst (λ (y : Ending). (y.stage < 3) × (is_full (slot slots (hand slots)) ≡ false)) (same_Some x e is) clear
+clearing_here slots (x ∷ xs) e clear is =
+    subst (λ (y : Ending). (y.stage < 3) × (is_full (slot_pointer slots (hand slots)) ≡ false)) (same_Some x e is) clear
 
-pub is_clearing : (d : ℕ) (t : Thread) (v : Story) → Fits d t v → t.half ≡ Clearing → IsClearing t.course.holdings.slots.items t.course.endings.list
+pub is_clearing : (d : ℕ) (t : Thread) (v : Story) → FitsThread d t v → t.half ≡ Clearing
+    → IsClearingMember t.course.holdings.slots.items t.course.endings.list
 is_clearing d t v fits half = subst (λ (h : Half). IsNext h t.course) half fits.next
 
-pub idle_clearing : (d : ℕ) (t : Thread) (v : Story) → Fits d t v → t.half ≡ Clearing → pending v d ≡ Idle
+pub idle_clearing : (d : ℕ) (t : Thread) (v : Story) → FitsThread d t v → t.half ≡ Clearing → pending v d ≡ Idle
 idle_clearing d t v fits half = subst (λ (h : Half). HalfFits d h t.course.holdings.slots.items (task_at t.course).act v) half fits.half
 
 -- what has an object fills a slot
@@ -59,14 +61,14 @@ full_as s block h (Some o) e = refl
 
 -- where it has an object it is carried, and else nothing is in hand as before
 module _ (c : Course) (h : Holdings) (y : Slot) (e : Ending) (es l : List Ending) (ready : CourseReady c)
-    (bare : is_full (slot c.holdings.slots.items (hand c.holdings.slots.items)) ≡ false) (is : l ≡ e ∷ es) where
+    (bare : is_full (slot_pointer c.holdings.slots.items (hand c.holdings.slots.items)) ≡ false) (is : l ≡ e ∷ es) where
   emptied_ready : (o : Option Block) → (is_some o ≡ true → is_full (pointer_of y) ≡ true)
       → h.slots.items ≡ cond (is_some o) (set c.holdings.slots.items (hand c.holdings.slots.items) y) c.holdings.slots.items
       → IsReady h.slots.items c.taken l (todo c)
   emptied_ready None full slots = subst (λ (z : Slots). IsReady z c.taken l (todo c)) (sym slots) (ready_bare c l ready bare)
   emptied_ready (Some b) full slots =
       let new = set c.holdings.slots.items (hand c.holdings.slots.items) y in
-      let carried : is_full (slot new (hand new)) ≡ true =
+      let carried : is_full (slot_pointer new (hand new)) ≡ true =
       ap (λ (z : Slot). is_full (pointer_of z)) (held_hand c.holdings.slots.items y ready.some) ∙ full refl in
       subst (λ (z : Slots). IsReady z c.taken l (todo c)) (sym slots)
       (hand_ready c.holdings.slots.items y c.taken c.endings.list l (todo c) ready
@@ -79,27 +81,32 @@ module _ (c : Course) (h : Holdings) (y : Slot) (e : Ending) (es l : List Ending
   emptied_still r (Some b) still none slots = still_hand c (record c { holdings = h; endings = r }) y ready still none slots refl refl refl
 
 pub fits_emptied : (d : ℕ) (t : Thread) (v : Story) (e : Ending) (es : List Ending) (h : Holdings) (r : Stack) (q : Half) (n : ℕ) (x : CellWord) → Kept v
-    → Fits d t v → t.half ≡ Clearing → t.course.endings.list ≡ e ∷ es → IsEnding d e v → x ≡ seen v (Member e.block e.stage)
+    → FitsThread d t v → t.half ≡ Clearing → t.course.endings.list ≡ e ∷ es → IsEndingAtStage d e v → x ≡ seen v (Member e.block e.stage)
     → h.slots.items
     ≡ cond (is_some x.owned)
-    (set t.course.holdings.slots.items (hand t.course.holdings.slots.items) (slot_of (state v) (held_in (state v) (Member e.block e.stage))))
+    (set t.course.holdings.slots.items (hand t.course.holdings.slots.items) (slot_of (story_state v) (held_in (story_state v) (Member e.block e.stage))))
     t.course.holdings.slots.items
-    → Holds d h.slots.items (after v d (OnCell (TakeOut e.block e.stage x))) → r.list ≡ staged_first t.course.endings.list
+    → HoldsBag d h.slots.items (story_after_deed v d (OnCell (TakeOut e.block e.stage x))) → r.list ≡ staged_first t.course.endings.list
     → t.course.endings.room ≤ r.room → q ≡ gives_back (kind_of_member e.stage) n x x.owned
-    → Fits d (record { course = record t.course { holdings = h; endings = r }; stock = t.stock; half = q }) (after v d (OnCell (TakeOut e.block e.stage x)))
+    → FitsThread d (record {
+      course = record t.course { holdings = h; endings = r };
+      stock = t.stock;
+      half =
+          q;
+    }) (story_after_deed v d (OnCell (TakeOut e.block e.stage x)))
 fits_emptied d t v e es h r q n x kept fits was list is found slots holds new room back =
-    let w = after v d (OnCell (TakeOut e.block e.stage x)) in
+    let w = story_after_deed v d (OnCell (TakeOut e.block e.stage x)) in
     let c = t.course in
     let k = kind_of_member e.stage in
-    let y = slot_of (state v) (held_in (state v) (Member e.block e.stage)) in
-    let handle = held_in (state v) (Member e.block e.stage) in
-    let clear = subst (λ (l : List Ending). IsClearing c.holdings.slots.items l) list (is_clearing d t v fits was) in
+    let y = slot_of (story_state v) (held_in (story_state v) (Member e.block e.stage)) in
+    let handle = held_in (story_state v) (Member e.block e.stage) in
+    let clear = subst (λ (l : List Ending). IsClearingMember c.holdings.slots.items l) list (is_clearing d t v fits was) in
     let staged_list : r.list ≡ staged e ∷ es = new ∙ ap staged_first list in
     let none = none_taken d c v e es fits.endings list in
     let full : is_some x.owned ≡ true → is_full (pointer_of y) ≡ true =
-    (λ some. full_as (state v) (blocks_of (state v)) handle handle.object (ap (λ (z : CellWord). is_some z.owned) (sym found) ∙ some)) in
+    (λ some. full_as (story_state v) (blocks_of (story_state v)) handle handle.object (ap (λ (z : CellWord). is_some z.owned) (sym found) ∙ some)) in
     let s : Stocks d t.stock.blocks t.stock.room Clearing v = subst (λ (z : Half). Stocks d t.stock.blocks t.stock.room z v) was fits.stocks in
-    subst (λ (z : Half). Fits d (record { course = record c { holdings = h; endings = r }; stock = t.stock; half = z }) w) (sym back)
+    subst (λ (z : Half). FitsThread d (record { course = record c { holdings = h; endings = r }; stock = t.stock; half = z }) w) (sym back)
     (record {
       seat = fits.seat;
       holds = holds;
@@ -116,7 +123,7 @@ fits_emptied d t v e es h r q n x kept fits was list is found slots holds new ro
       endings =
           record {
             all = subst (λ (l : List Ending). EndsAll d l w) (sym staged_list)
-                (cleared_ends d v e es (handle_as (state v) k x) w.words w.views
+                (cleared_ends d v e es (handle_as (story_state v) k x) w.words w.views
                 (subst (λ (l : List Ending). EndsAll d l v) list fits.endings.all) is clear.0);
             roomy = (let q = fits.endings.roomy in omega (arith, q, room));
             empty = inr none;
@@ -129,18 +136,18 @@ pub stepped_emptied : (d : ℕ) (t : Thread) (v w : Story) (e : Ending) (es : Li
     → t.half ≡ Clearing → t.course.endings.list ≡ e ∷ es → x ≡ seen v (Member e.block e.stage)
     → h.slots.items
     ≡ cond (is_some x.owned)
-    (set t.course.holdings.slots.items (hand t.course.holdings.slots.items) (slot_of (state v) (held_in (state v) (Member e.block e.stage))))
+    (set t.course.holdings.slots.items (hand t.course.holdings.slots.items) (slot_of (story_state v) (held_in (story_state v) (Member e.block e.stage))))
     t.course.holdings.slots.items
-    → w ≡ after v d (OnCell (TakeOut e.block e.stage x)) → r.list ≡ staged_first t.course.endings.list
+    → w ≡ story_after_deed v d (OnCell (TakeOut e.block e.stage x)) → r.list ≡ staged_first t.course.endings.list
     → q ≡ gives_back (kind_of_member e.stage) e.statement x x.owned
     → HasStepped d t v (Event (silent e.statement)) (record { course = record t.course { holdings = h; endings = r }; stock = t.stock; half = q }) w
 stepped_emptied d t v w e es h r q x was list found slots story new back =
     let c = t.course in
     let old = c.holdings.slots.items in
-    let full = set old (hand old) (slot_of (state v) (held_in (state v) (Member e.block e.stage))) in
+    let full = set old (hand old) (slot_of (story_state v) (held_in (story_state v) (Member e.block e.stage))) in
     stepped_as d t v (empties v (walk c) e es) (Event (silent e.statement))
     (record { course = record c { holdings = h; endings = r }; stock = t.stock; half = q }) w (waits_clearing d t v e es list was)
-    (at_clearing d t v e es list was) refl (story ∙ ap (λ (z : CellWord). after v d (OnCell (TakeOut e.block e.stage z))) found)
+    (at_clearing d t v e es list was) refl (story ∙ ap (λ (z : CellWord). story_after_deed v d (OnCell (TakeOut e.block e.stage z))) found)
     (ap (λ (z : Slots). record { slots = z; taken = c.taken; endings = r.list; todo = todo c })
     (slots ∙ ap (λ (z : CellWord). cond (is_some z.owned) full old) found)
     ∙ ap

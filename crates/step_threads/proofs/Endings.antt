@@ -24,11 +24,11 @@ use Rattle.step_threads.specs.Scenes.{begins_end_as}
 use Rattle.step_threads.specs.declared.thread.Thread.{Thread}
 use Rattle.step_threads.specs.Actors.{HalfFits, Stocks, in_store}
 use Rattle.step_threads.specs.Courses.{CourseReady, HasGoneOn, IsReady, done_on, task_at, todo}
-use Rattle.step_threads.specs.Endings.{EndsAll, IsEnding, Stack}
-use Rattle.step_table.specs.Holdings.{Holds}
-use Rattle.step_threads.specs.Stocks.{Stored}
-use Rattle.step_table.specs.Stories.{Kept, Story, after, object_in, pending, state}
-use Rattle.step_threads.specs.Threads.{Fits, IsStocked, IsStockedBy}
+use Rattle.step_threads.specs.Endings.{EndsAll, IsEndingAtStage, Stack}
+use Rattle.step_table.specs.Holdings.{HoldsBag}
+use Rattle.step_threads.specs.Stocks.{StoreView}
+use Rattle.step_table.specs.Stories.{Kept, Story, story_after_deed, object_of_block, pending, story_state}
+use Rattle.step_threads.specs.Threads.{FitsThread, IsStocked, IsStockedBy}
 use Rattle.step_threads.proofs.Courses.{hand_plain}
 use Rattle.step_threads.proofs.holding.Few.{store_few}
 use Rattle.step_threads.proofs.Threads.{cells_on, own_pending, resting}
@@ -36,86 +36,89 @@ use Rattle.step_threads.proofs.holding.Ends.{ends_none, ends_nothing, ends_one}
 use Rattle.step_threads.proofs.holding.Storing.{one_stored}
 use Rattle.step_table.proofs.tables.Places.{ending_busy, handle_busy, there}
 
-pub finished_store : (d : ℕ) (v : Story) (b : Block) (c : ℕ) → ((state v).object (object_in v b)).block ≡ b.0
-    → in_store (state (after v d (Finish b true))) d c ≡ cond (b.0 == c) 1 0 + in_store (state v) d c
+pub finished_store : (d : ℕ) (v : Story) (b : Block) (c : ℕ) → ((story_state v).object (object_of_block v b)).block ≡ b.0
+    → in_store (story_state (story_after_deed v d (Finish b true))) d c ≡ cond (b.0 == c) 1 0 + in_store (story_state v) d c
 finished_store d v b c at =
-    let y = ((state v).object (object_in v b)).block in
-    let a = num_cons (same_stored (stored d c)) (stored d y) (state v).stores in
+    let y = ((story_state v).object (object_of_block v b)).block in
+    let a = num_cons (same_stored (stored d c)) (stored d y) (story_state v).stores in
     let o = one_stored d y c in
     let e : ◌≡◌ {A = ℕ} (cond (y == c) 1 0) (cond (b.0 == c) 1 0) = ap (λ (k : ℕ). cond (k == c) 1 0) at in
     omega (arith, a, o, e)
 
 -- a block that is vacant again has room in the store
-pub room_left : (d : ℕ) (t : Thread) (v : Story) (e : Ending) → Kept v → Kept (after v d (Finish e.block true)) → Fits d t v → t.half ≡ Rest
-    → IsEnding d e v → length t.stock.blocks < t.stock.room
+pub room_left : (d : ℕ) (t : Thread) (v : Story) (e : Ending) → Kept v → Kept (story_after_deed v d (Finish e.block true)) → FitsThread d t v
+    → t.half ≡ Rest
+    → IsEndingAtStage d e v → length t.stock.blocks < t.stock.room
 room_left d t v e kept kept' fits rests is =
     let b = e.block in
     let at = (there v b kept (ending_busy v d b is.ending)).0 in
     let s = resting d t v fits rests in
-    let f = store_few d (after v d (Finish b true)) (b.0 ∷ t.stock.blocks) kept'
+    let f = store_few d (story_after_deed v d (Finish b true)) (b.0 ∷ t.stock.blocks) kept'
     (λ c. let g = finished_store d v b c at in let a = sum_by-cons (λ (y : ℕ). cond (y == c) 1 0) b.0 t.stock.blocks in
     let o = s.stocked c in omega (arith, g, a, o)) in
     let r = s.roomy in omega (arith, f, r)
 
 -- the object whose last owner leaves is ending in the desk's hands
 pub left_ending : (v : Story) (d : ℕ) (x : Pointer) (last : Bool) → last ≡ true
-    → let w = after v d (Leave x.block x.place last) in ((state w).object (object_in w x.block)).phase ≡ ending d
+    → let w = story_after_deed v d (Leave x.block x.place last) in ((story_state w).object (object_of_block w x.block)).phase ≡ ending d
 left_ending v d x last is =
-    let o = object_in v x.block in
-    let y = (state v).object o in
-    put_cases (λ j (z : Object). z.phase ≡ ending d) (state v).object o (cond last (moved_to (ending d) y) y) o
+    let o = object_of_block v x.block in
+    let y = (story_state v).object o in
+    put_cases (λ j (z : Object). z.phase ≡ ending d) (story_state v).object o (cond last (moved_to (ending d) y) y) o
     (λ e. ap (λ (z : Object). z.phase) (cond-true last (moved_to (ending d) y) y is)) (λ n. absurd (n refl))
 
 -- where a pointer leaves that was the last owner, its object is ending in the desk's hands
-pub ending_left : (v w : Story) (d : ℕ) (o : Option Pointer) (last : Bool) (x : Pointer) → w ≡ done_on (leave (state v)) v d o
-    → last ≡ on (is_last (state v)) false o → o ≡ Some x → x.kind ≡ Owner → last ≡ true
-    → ((state w).object (object_in w x.block)).phase ≡ ending d
+pub ending_left : (v w : Story) (d : ℕ) (o : Option Pointer) (last : Bool) (x : Pointer) → w ≡ done_on (leave (story_state v)) v d o
+    → last ≡ on (is_last (story_state v)) false o → o ≡ Some x → x.kind ≡ Owner → last ≡ true
+    → ((story_state w).object (object_of_block w x.block)).phase ≡ ending d
 ending_left v w d o last x is said at kind t =
-    subst (λ (u : Story). ((state u).object (object_in u x.block)).phase ≡ ending d) (sym (is ∙ ap (done_on (leave (state v)) v d) at))
-    (go x.kind kind (is_last (state v) x) (sym (said ∙ ap (on (is_last (state v)) false) at) ∙ t))
+    subst (λ (u : Story). ((story_state u).object (object_of_block u x.block)).phase ≡ ending d) (sym (is ∙ ap (done_on (leave (story_state v)) v d) at))
+    (go x.kind kind (is_last (story_state v) x) (sym (said ∙ ap (on (is_last (story_state v)) false) at) ∙ t))
   where
-    go : (k : Kind) → k ≡ Owner → (b : Bool) → b ≡ true → let u = after v d (leave_as k x b) in
-        ((state u).object (object_in u x.block)).phase ≡ ending d
+    go : (k : Kind) → k ≡ Owner → (b : Bool) → b ≡ true → let u = story_after_deed v d (leave_as k x b) in
+        ((story_state u).object (object_of_block u x.block)).phase ≡ ending d
     go Owner e b t = left_ending v d x b t
     go Weak e b t = cc
 
 -- a block that is vacant by a weak pointer's leave comes into the store
-left_store : (d : ℕ) (v : Story) (b : Block) (p : Option Place) (c : ℕ) → ((state v).object (object_in v b)).block ≡ b.0
-    → in_store (state (after v d (WeakLeave b p true))) d c ≡ cond (b.0 == c) 1 0 + in_store (state v) d c
+left_store : (d : ℕ) (v : Story) (b : Block) (p : Option Place) (c : ℕ) → ((story_state v).object (object_of_block v b)).block ≡ b.0
+    → in_store (story_state (story_after_deed v d (WeakLeave b p true))) d c ≡ cond (b.0 == c) 1 0 + in_store (story_state v) d c
 left_store d v b p c at =
-    let y = ((state v).object (object_in v b)).block in
-    let a = num_cons (same_stored (stored d c)) (stored d y) (state v).stores in
+    let y = ((story_state v).object (object_of_block v b)).block in
+    let a = num_cons (same_stored (stored d c)) (stored d y) (story_state v).stores in
     let o = one_stored d y c in
     let e : ◌≡◌ {A = ℕ} (cond (y == c) 1 0) (cond (b.0 == c) 1 0) = ap (λ (k : ℕ). cond (k == c) 1 0) at in
     omega (arith, a, o, e)
 
-left_place : (d : ℕ) (v : Story) (b : Block) (p : Option Place) (vacant : Bool) → Kept v → Kept (after v d (WeakLeave b p vacant))
-    → ((state v).object (object_in v b)).block ≡ b.0
+left_place : (d : ℕ) (v : Story) (b : Block) (p : Option Place) (vacant : Bool) → Kept v → Kept (story_after_deed v d (WeakLeave b p vacant))
+    → ((story_state v).object (object_of_block v b)).block ≡ b.0
 left_place d v b p vacant kept kept' = (there v b kept (handle_busy v d Weak b p kept kept'.stands.legal.1.asks.0.0)).0
 
 -- it has room there
-pub room_weak : (v w : Story) (d : ℕ) (t : Thread) (o : Option Pointer) (last : Bool) (x : Pointer) → Kept v → Kept w → Fits d t v → t.half ≡ Rest
-    → w ≡ done_on (leave (state v)) v d o → last ≡ on (is_last (state v)) false o → o ≡ Some x → x.kind ≡ Weak → last ≡ true
+pub room_weak : (v w : Story) (d : ℕ) (t : Thread) (o : Option Pointer) (last : Bool) (x : Pointer) → Kept v → Kept w → FitsThread d t v
+    → t.half ≡ Rest
+    → w ≡ done_on (leave (story_state v)) v d o → last ≡ on (is_last (story_state v)) false o → o ≡ Some x → x.kind ≡ Weak → last ≡ true
     → length t.stock.blocks < t.stock.room
 room_weak v w d t o last x kept kept' fits e is said at kind ended =
-    go x.kind kind (is_last (state v) x) (sym (said ∙ ap (on (is_last (state v)) false) at) ∙ ended)
-    (subst (λ (u : Story). Kept u) (is ∙ ap (done_on (leave (state v)) v d) at) kept')
+    go x.kind kind (is_last (story_state v) x) (sym (said ∙ ap (on (is_last (story_state v)) false) at) ∙ ended)
+    (subst (λ (u : Story). Kept u) (is ∙ ap (done_on (leave (story_state v)) v d) at) kept')
   where
-    go : (k : Kind) → k ≡ Weak → (b : Bool) → b ≡ true → Kept (after v d (leave_as k x b)) → length t.stock.blocks < t.stock.room
+    go : (k : Kind) → k ≡ Weak → (b : Bool) → b ≡ true → Kept (story_after_deed v d (leave_as k x b)) → length t.stock.blocks < t.stock.room
     go Owner e b q kept' = cc
     go Weak k b q kept' =
-        let later : Kept (after v d (WeakLeave x.block x.place true)) = subst (λ (z : Bool). Kept (after v d (WeakLeave x.block x.place z))) q kept' in
+        let later : Kept (story_after_deed v d (WeakLeave x.block x.place true)) =
+        subst (λ (z : Bool). Kept (story_after_deed v d (WeakLeave x.block x.place z))) q kept' in
         let s = resting d t v fits e in
-        let f = store_few d (after v d (WeakLeave x.block x.place true)) (x.block.0 ∷ t.stock.blocks) later
+        let f = store_few d (story_after_deed v d (WeakLeave x.block x.place true)) (x.block.0 ∷ t.stock.blocks) later
         (λ c. let g = left_store d v x.block x.place c (left_place d v x.block x.place true kept later) in
         let a = sum_by-cons (λ (y : ℕ). cond (y == c) 1 0) x.block.0 t.stock.blocks in
         let o = s.stocked c in omega (arith, g, a, o)) in
         let r = s.roomy in omega (arith, f, r)
 
 -- there is room for its ending
-pub begins_room : (v w : Story) (d : ℕ) (t : Thread) (c : Course) (o : Option Pointer) (last : Bool) (x : Pointer) → Kept w → Fits d t v
-    → t.course.endings.list ≡ [] → c.endings ≡ t.course.endings → w ≡ done_on (leave (state v)) v d o
-    → last ≡ on (is_last (state v)) false o → o ≡ Some x → x.kind ≡ Owner → last ≡ true → length c.endings.list < c.endings.room
+pub begins_room : (v w : Story) (d : ℕ) (t : Thread) (c : Course) (o : Option Pointer) (last : Bool) (x : Pointer) → Kept w → FitsThread d t v
+    → t.course.endings.list ≡ [] → c.endings ≡ t.course.endings → w ≡ done_on (leave (story_state v)) v d o
+    → last ≡ on (is_last (story_state v)) false o → o ≡ Some x → x.kind ≡ Owner → last ≡ true → length c.endings.list < c.endings.room
 begins_room v w d t c o last x kept' fits none same is said at kind ended =
     let phase = ending_left v w d o last x is said at kind ended in
     let place = (there w x.block kept' (ending_busy w d x.block phase)).1 in
@@ -125,15 +128,16 @@ begins_room v w d t c o last x kept' fits none same is said at kind ended =
     let q : c.endings.room ≡ t.course.endings.room = ap (λ (z : Stack). z.room) same in
     let low = place.0 in let high = place.1 in omega (arith, low, high, extent, r, e, q)
   where
-    same_extent : (v : Story) (d : ℕ) (o : Option Pointer) → (done_on (leave (state v)) v d o).extent.shape.blocks ≡ v.extent.shape.blocks
+    same_extent : (v : Story) (d : ℕ) (o : Option Pointer) → (done_on (leave (story_state v)) v d o).extent.shape.blocks ≡ v.extent.shape.blocks
     same_extent v d None = refl
     same_extent v d (Some x) = refl
 
 -- the stock after a pointer left
-pub stocks_left : (d : ℕ) (t : Thread) (v : Story) (x : Pointer) (s : Stored) (k : Kind) (b : Bool) → Kept v → Fits d t v → t.half ≡ Rest
-    → Kept (after v d (leave_as k x b)) → IsStocked k x.block.0 b t.stock s → Stocks d s.blocks s.room Rest (after v d (leave_as k x b))
+pub stocks_left : (d : ℕ) (t : Thread) (v : Story) (x : Pointer) (s : StoreView) (k : Kind) (b : Bool) → Kept v → FitsThread d t v → t.half ≡ Rest
+    → Kept (story_after_deed v d (leave_as k x b)) → IsStocked k x.block.0 b t.stock s
+    → Stocks d s.blocks s.room Rest (story_after_deed v d (leave_as k x b))
 stocks_left d t v x s Owner b kept fits e kept' is =
-    let y = resting d t v fits e in subst (λ (z : Stored). Stocks d z.blocks z.room Rest (after v d (leave_as Owner x b))) (sym is)
+    let y = resting d t v fits e in subst (λ (z : StoreView). Stocks d z.blocks z.room Rest (story_after_deed v d (leave_as Owner x b))) (sym is)
     (record { stocked = y.stocked; roomy = y.roomy })
 stocks_left d t v x s Weak true kept fits e kept' is =
     let y = resting d t v fits e in
@@ -145,22 +149,23 @@ stocks_left d t v x s Weak true kept fits e kept' is =
       roomy = (let r = y.roomy in let q = is.1 in omega (arith, r, q));
     }
 stocks_left d t v x s Weak false kept fits e kept' is =
-    let y = resting d t v fits e in subst (λ (z : Stored). Stocks d z.blocks z.room Rest (after v d (leave_as Weak x false))) (sym is)
+    let y = resting d t v fits e in subst (λ (z : StoreView). Stocks d z.blocks z.room Rest (story_after_deed v d (leave_as Weak x false))) (sym is)
     (record { stocked = y.stocked; roomy = y.roomy })
 
-pub idle_left : (d : ℕ) (t : Thread) (v : Story) (x : Pointer) (k : Kind) (b : Bool) → Kept v → Fits d t v
-    → pending (after v d (leave_as k x b)) d ≡ Idle
+pub idle_left : (d : ℕ) (t : Thread) (v : Story) (x : Pointer) (k : Kind) (b : Bool) → Kept v → FitsThread d t v
+    → pending (story_after_deed v d (leave_as k x b)) d ≡ Idle
 idle_left d t v x Owner b kept fits = own_pending v d (Leave x.block x.place b) kept fits.seat
 idle_left d t v x Weak b kept fits = own_pending v d (WeakLeave x.block x.place b) kept fits.seat
 
 -- the endings after it: none before, and at most its own
-ends_left : (d : ℕ) (v : Story) (x : Pointer) (k : Kind) (b : Bool) (n : ℕ) → EndsAll d (cond b (begins_end_as k n x []) []) (after v d (leave_as k x b))
+ends_left : (d : ℕ) (v : Story) (x : Pointer) (k : Kind) (b : Bool) (n : ℕ)
+    → EndsAll d (cond b (begins_end_as k n x []) []) (story_after_deed v d (leave_as k x b))
 ends_left d v x Owner true n =
-    ends_one d (after v d (Leave x.block x.place true)) (record { block = x.block; stage = 0; statement = n })
+    ends_one d (story_after_deed v d (Leave x.block x.place true)) (record { block = x.block; stage = 0; statement = n })
     (record { ending = left_ending v d x true refl; within = omega arith; cleared = λ m lt. absurd (omega arith) })
-ends_left d v x Owner false n = ends_nothing d (after v d (Leave x.block x.place false))
-ends_left d v x Weak true n = ends_nothing d (after v d (WeakLeave x.block x.place true))
-ends_left d v x Weak false n = ends_nothing d (after v d (WeakLeave x.block x.place false))
+ends_left d v x Owner false n = ends_nothing d (story_after_deed v d (Leave x.block x.place false))
+ends_left d v x Weak true n = ends_nothing d (story_after_deed v d (WeakLeave x.block x.place true))
+ends_left d v x Weak false n = ends_nothing d (story_after_deed v d (WeakLeave x.block x.place false))
 
 -- with no endings the hand is plain, so others may come
 ready_ends : (c : Course) (es : List Ending) → CourseReady c → c.endings.list ≡ [] → IsReady c.holdings.slots.items c.taken es (todo c)
@@ -174,13 +179,15 @@ pub record HasLeft (d : ℕ) (c c' c'' : Course) (w : Story) (n : ℕ) (o : Opti
   pub list : c''.endings.list ≡ on (λ x. cond last (begins_end_as x.kind n x c'.endings.list) c'.endings.list) c'.endings.list o
   pub roomy : c'.endings.room ≤ c''.endings.room
 
-fits_leaving : (d : ℕ) (t : Thread) (v : Story) (c : Course) (r : Stack) (s : Stored) (n : ℕ) (x : Pointer) (k : Kind) (b : Bool) → Kept v → Fits d t v
-    → t.half ≡ Rest → t.course.endings.list ≡ [] → Kept (after v d (leave_as k x b)) → HasGoneOn d t.course c (after v d (leave_as k x b))
+fits_leaving : (d : ℕ) (t : Thread) (v : Story) (c : Course) (r : Stack) (s : StoreView) (n : ℕ) (x : Pointer) (k : Kind) (b : Bool) → Kept v
+    → FitsThread d t v
+    → t.half ≡ Rest → t.course.endings.list ≡ [] → Kept (story_after_deed v d (leave_as k x b))
+    → HasGoneOn d t.course c (story_after_deed v d (leave_as k x b))
     → c.taken ≡ false → r.list ≡ cond b (begins_end_as k n x c.endings.list) c.endings.list → c.endings.room ≤ r.room
     → IsStocked k x.block.0 b t.stock s
-    → Fits d (record { course = record c { endings = r }; stock = s; half = Rest }) (after v d (leave_as k x b))
+    → FitsThread d (record { course = record c { endings = r }; stock = s; half = Rest }) (story_after_deed v d (leave_as k x b))
 fits_leaving d t v c r s n x k b kept fits e none kept' on empty list room is =
-    let w = after v d (leave_as k x b) in
+    let w = story_after_deed v d (leave_as k x b) in
     let nothing : c.endings.list ≡ [] = ap (λ (z : Stack). z.list) on.endings ∙ none in
     record {
       seat = fits.seat;
@@ -199,14 +206,14 @@ fits_leaving d t v c r s n x k b kept fits e none kept' on empty list room is =
                 omega (arith, q, z, room));
             empty = inr empty;
           };
-      cells = cells_on d t.course c (after v d (leave_as k x b)) on fits.cells;
+      cells = cells_on d t.course c (story_after_deed v d (leave_as k x b)) on fits.cells;
     }
 
 -- a thread after it left what a slot held
 pub fits_left : (d : ℕ) (t t' : Thread) (v w : Story) (c : Course) (n : ℕ) (o : Option Pointer) (last : Bool) → Kept v → Kept w
-    → Fits d t v → t.half ≡ Rest
-    → t.course.endings.list ≡ [] → w ≡ done_on (leave (state v)) v d o → last ≡ on (is_last (state v)) false o
-    → HasLeft d t.course c t'.course w n o last → t'.half ≡ t.half → IsStockedBy o last t.stock t'.stock → Fits d t' w
+    → FitsThread d t v → t.half ≡ Rest
+    → t.course.endings.list ≡ [] → w ≡ done_on (leave (story_state v)) v d o → last ≡ on (is_last (story_state v)) false o
+    → HasLeft d t.course c t'.course w n o last → t'.half ≡ t.half → IsStockedBy o last t.stock t'.stock → FitsThread d t' w
 fits_left d t t' v w c n None last kept kept' fits e none is said left half stock =
     let idle : HalfFits d Rest t.course.holdings.slots.items (task_at t.course).act v =
     subst (λ (h : Half). HalfFits d h t.course.holdings.slots.items (task_at t.course).act v) e fits.half in
@@ -214,13 +221,13 @@ fits_left d t t' v w c n None last kept kept' fits e none is said left half stoc
     let nothing : r.list ≡ [] = left.list ∙ ap (λ (z : Stack). z.list) left.gone.endings ∙ none in
     let room : t.course.endings.room ≤ r.room = let z : c.endings.room ≡ t.course.endings.room = ap (λ (y : Stack). y.room) left.gone.endings in
     let q = left.roomy in omega (arith, z, q) in
-    subst (λ (k : Course). Fits d (record { course = k; stock = t'.stock; half = t'.half }) w) (sym left.same)
-    (subst (λ (h : Half). Fits d (record { course = record c { endings = r }; stock = t'.stock; half = h }) w) (sym (half ∙ e))
-    (subst (λ (u : Story). Fits d (record { course = record c { endings = r }; stock = t'.stock; half = Rest }) u) (sym is)
-    (subst (λ (s : Stored). Fits d (record { course = record c { endings = r }; stock = s; half = Rest }) v) (sym stock)
+    subst (λ (k : Course). FitsThread d (record { course = k; stock = t'.stock; half = t'.half }) w) (sym left.same)
+    (subst (λ (h : Half). FitsThread d (record { course = record c { endings = r }; stock = t'.stock; half = h }) w) (sym (half ∙ e))
+    (subst (λ (u : Story). FitsThread d (record { course = record c { endings = r }; stock = t'.stock; half = Rest }) u) (sym is)
+    (subst (λ (s : StoreView). FitsThread d (record { course = record c { endings = r }; stock = s; half = Rest }) v) (sym stock)
     (record {
       seat = fits.seat;
-      holds = subst (λ (u : Story). Holds d c.holdings.slots.items u) is left.gone.holds;
+      holds = subst (λ (u : Story). HoldsBag d c.holdings.slots.items u) is left.gone.holds;
       within = left.gone.within;
       ready = ready_ends c r.list left.gone.ready (ap (λ (z : Stack). z.list) left.gone.endings ∙ none);
       still = left.gone.still;
@@ -231,13 +238,13 @@ fits_left d t t' v w c n None last kept kept' fits e none is said left half stoc
       cells = cells_on d t.course c v (subst (λ (u : Story). HasGoneOn d t.course c u) is left.gone) fits.cells;
     }))))
 fits_left d t t' v w c n (Some x) last kept kept' fits e none is said left half stock =
-    let b = is_last (state v) x in
+    let b = is_last (story_state v) x in
     let r = t'.course.endings in
     let list : r.list ≡ cond b (begins_end_as x.kind n x c.endings.list) c.endings.list =
     left.list ∙ ap (λ (q : Bool). cond q (begins_end_as x.kind n x c.endings.list) c.endings.list) said in
-    subst (λ (k : Course). Fits d (record { course = k; stock = t'.stock; half = t'.half }) w) (sym left.same)
-    (subst (λ (h : Half). Fits d (record { course = record c { endings = r }; stock = t'.stock; half = h }) w) (sym (half ∙ e))
-    (subst (λ (u : Story). Fits d (record { course = record c { endings = r }; stock = t'.stock; half = Rest }) u) (sym is)
+    subst (λ (k : Course). FitsThread d (record { course = k; stock = t'.stock; half = t'.half }) w) (sym left.same)
+    (subst (λ (h : Half). FitsThread d (record { course = record c { endings = r }; stock = t'.stock; half = h }) w) (sym (half ∙ e))
+    (subst (λ (u : Story). FitsThread d (record { course = record c { endings = r }; stock = t'.stock; half = Rest }) u) (sym is)
     (fits_leaving d t v c r t'.stock n x x.kind b kept fits e none (subst (λ (u : Story). Kept u) is kept')
     (subst (λ (u : Story). HasGoneOn d t.course c u) is left.gone) left.empty list left.roomy
     (subst (λ (q : Bool). IsStocked x.kind x.block.0 q t.stock t'.stock) said stock))))

@@ -10,11 +10,11 @@ use Rattle.step_threads.specs.declared.half.Half.TheVariants.{Rest, Giving}
 use Rattle.step_table.specs.declared.holdings.Pointer.{Pointer}
 use Rattle.step_threads.specs.declared.thread.Thread.{Thread}
 use Rattle.step_threads.specs.Actors.{HalfFits}
-use Rattle.step_threads.specs.Courses.{Begins, CourseReady, IsReady, Ready, other, rest, taken_after, task_at}
+use Rattle.step_threads.specs.Courses.{MayComeNext, CourseReady, IsReady, TasksMayCome, other, rest, taken_after, task_at}
 use Rattle.step_table.specs.Deeds.{is_enabled}
-use Rattle.step_table.specs.Holdings.{inside, slot}
-use Rattle.step_table.specs.Stories.{Story, pending, state}
-use Rattle.step_threads.specs.Threads.{Fits}
+use Rattle.step_table.specs.Holdings.{inside, slot_pointer}
+use Rattle.step_table.specs.Stories.{Story, pending, story_state}
+use Rattle.step_threads.specs.Threads.{FitsThread}
 use Rattle.step_threads.proofs.Courses.{owed_by, ready_any, ready_head}
 use Rattle.step_threads.proofs.Threads.{resting}
 use Rattle.step_table.proofs.holding.Inside.{inside_held}
@@ -25,8 +25,8 @@ pub refused_this : (c : Course) (k : ℕ) (q : Kind) → c.at < length c.tasks.i
 refused_this c k q lt ready act =
     let h = ready_head c lt ready in
     let n = other c.holdings.slots.items in
-    let b : Begins n c.taken (FromThis k q) = subst (Begins n c.taken) act h.0 in
-    let r : Ready n true (rest c) = subst (λ (a : Act). Ready n (taken_after a c.taken) (rest c)) act h.2 in
+    let b : MayComeNext n c.taken (FromThis k q) = subst (MayComeNext n c.taken) act h.0 in
+    let r : TasksMayCome n true (rest c) = subst (λ (a : Act). TasksMayCome n (taken_after a c.taken) (rest c)) act h.2 in
     record {
       some = ready.some;
       free = λ e. ready.free b.1;
@@ -35,10 +35,10 @@ refused_this c k q lt ready act =
     }
 
 -- the object was asked, and gives pointers to itself
-pub fits_asked : (d : ℕ) (t : Thread) (v : Story) (i : ℕ) (q : Kind) (x : Pointer) → Fits d t v → t.half ≡ Rest → t.course.endings.list ≡ []
+pub fits_asked : (d : ℕ) (t : Thread) (v : Story) (i : ℕ) (q : Kind) (x : Pointer) → FitsThread d t v → t.half ≡ Rest → t.course.endings.list ≡ []
     → t.course.at < length t.course.tasks.items
-    → (task_at t.course).act ≡ FromThis i q → inside (slot t.course.holdings.slots.items i) ≡ Some x → is_enabled (state v) x ≡ true
-    → Fits d (record { course = t.course; stock = t.stock; half = Giving i q x }) v
+    → (task_at t.course).act ≡ FromThis i q → inside (slot_pointer t.course.holdings.slots.items i) ≡ Some x → is_enabled (story_state v) x ≡ true
+    → FitsThread d (record { course = t.course; stock = t.stock; half = Giving i q x }) v
 fits_asked d t v i q x fits e none lt act at enabled =
     let s = resting d t v fits e in
     let idle : pending v d ≡ Idle = subst (λ (h : Half). HalfFits d h t.course.holdings.slots.items (task_at t.course).act v) e fits.half in

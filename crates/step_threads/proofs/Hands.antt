@@ -12,43 +12,44 @@ use Rattle.step_threads.specs.declared.act.Task.{Task}
 use Rattle.step_threads.specs.declared.course.Course.{Course}
 use Rattle.step_threads.specs.declared.ending.Ending.{Ending}
 use Rattle.step_table.specs.declared.slot.Slot.{Slot}
-use Rattle.step_table.specs.Holdings.{Slots, is_full, plain, pointer_of, slot, value}
-use Rattle.step_threads.specs.Courses.{Begins, CourseReady, CourseStill, IsCarried, IsReady, Ready, hand, idle, other, rest, settled, taken_after, task_at}
+use Rattle.step_table.specs.Holdings.{Slots, is_full, plain, pointer_of, slot_pointer, slot_value}
+use Rattle.step_threads.specs.Courses.{MayComeNext, CourseReady, CourseStill, IsCarried, IsReady, TasksMayCome, hand, idle, other, rest, walk_settled}
+use Rattle.step_threads.specs.Courses.{taken_after, task_at}
 use Rattle.step_threads.specs.Courses.{todo}
 use Rattle.std.proofs.lemmas.Bool.{false≢true}
 use Rattle.step_threads.proofs.Courses.{owed_by, ready_head, settled_still, todo_at}
 
 -- a course that is at an act with these slots, or at its end, stays there
 settled_at : (c : Course) (slots : Slots) (es : List Ending) → (c.at < length c.tasks.items → idle (task_at c).act slots c.taken ≡ false)
-    → settled slots c.taken es (todo c) ≡ record { slots = slots; taken = c.taken; endings = es; todo = todo c }
+    → walk_settled slots c.taken es (todo c) ≡ record { slots = slots; taken = c.taken; endings = es; todo = todo c }
 settled_at c slots es still =
     ⊎_elim (λ (lt : c.at < length c.tasks.items). subst Same (sym (todo_at c lt))
     (settled_still slots c.taken es (task_at c) (drop (c.at + 1) c.tasks.items) (still lt)))
     (λ (le : length c.tasks.items ≤ c.at). subst Same (sym (drop_all c.at c.tasks.items le)) refl) (cases_lt c.at (length c.tasks.items))
   where
     Same : List Task → Type 0
-    Same ts = settled slots c.taken es ts ≡ record { slots = slots; taken = c.taken; endings = es; todo = ts }
+    Same ts = walk_settled slots c.taken es ts ≡ record { slots = slots; taken = c.taken; endings = es; todo = ts }
 
 module _ (slots : Slots) (x : Slot) where
   pub held_length : length (set slots (hand slots) x) ≡ length slots
   held_length = length-set slots (hand slots) x
 
-  pub held_hand : 1 < length slots → value (set slots (hand slots) x) (hand (set slots (hand slots) x)) ≡ x
+  pub held_hand : 1 < length slots → slot_value (set slots (hand slots) x) (hand (set slots (hand slots) x)) ≡ x
   held_hand lt =
-      ap (λ (n : ℕ). value (set slots (hand slots) x) (n - 1)) held_length ∙ get_or-set_same slots (hand slots) x plain (omega (arith, lt))
+      ap (λ (n : ℕ). slot_value (set slots (hand slots) x) (n - 1)) held_length ∙ get_or-set_same slots (hand slots) x plain (omega (arith, lt))
 
-  pub held_below : (k : ℕ) → k < hand slots → value (set slots (hand slots) x) k ≡ value slots k
+  pub held_below : (k : ℕ) → k < hand slots → slot_value (set slots (hand slots) x) k ≡ slot_value slots k
   held_below k lt = get_or-set_other slots (hand slots) k x plain (omega (arith, lt))
 
-  pub held_owed : 1 < length slots → value (set slots (hand slots) x) (other (set slots (hand slots) x)) ≡ value slots (other slots)
-  held_owed lt = ap (λ (n : ℕ). value (set slots (hand slots) x) (n - 2)) held_length ∙ held_below (other slots) (omega (arith, lt))
+  pub held_owed : 1 < length slots → slot_value (set slots (hand slots) x) (other (set slots (hand slots) x)) ≡ slot_value slots (other slots)
+  held_owed lt = ap (λ (n : ℕ). slot_value (set slots (hand slots) x) (n - 2)) held_length ∙ held_below (other slots) (omega (arith, lt))
 
-  empty_same : (i j : ℕ) → value (set slots (hand slots) x) i ≡ value slots j
-      → not (is_full (slot (set slots (hand slots) x) i)) ≡ not (is_full (slot slots j))
+  empty_same : (i j : ℕ) → slot_value (set slots (hand slots) x) i ≡ slot_value slots j
+      → not (is_full (slot_pointer (set slots (hand slots) x) i)) ≡ not (is_full (slot_pointer slots j))
   empty_same i j e = ap (λ (y : Slot). not (is_full (pointer_of y))) e
 
   -- the next task is an act or none, whatever is in hand
-  pub idle_hand : (a : Act) → 1 < length slots → Begins (other slots) false a → idle a (set slots (hand slots) x) false ≡ idle a slots false
+  pub idle_hand : (a : Act) → 1 < length slots → MayComeNext (other slots) false a → idle a (set slots (hand slots) x) false ≡ idle a slots false
   idle_hand (Make form) lt b = refl
   idle_hand (Share k) lt b = refl
   idle_hand (Put k) lt b = refl
@@ -79,8 +80,8 @@ module _ (slots : Slots) (x : Slot) where
       record {
         some = omega (arith, e, some);
         free = λ t. ⊎_elim (λ (p : x ≡ plain). inl (held_hand some ∙ p)) inr (free t);
-        owes = ⊎_elim (λ (p : value slots (other slots) ≡ plain). inl (held_owed some ∙ p)) inr ready.owes;
-        ready = subst (λ (n : ℕ). Ready (n - 2) taken ts) (sym e) ready.ready;
+        owes = ⊎_elim (λ (p : slot_value slots (other slots) ≡ plain). inl (held_owed some ∙ p)) inr ready.owes;
+        ready = subst (λ (n : ℕ). TasksMayCome (n - 2) taken ts) (sym e) ready.ready;
       }
 
 -- a lock takes an owner
@@ -93,7 +94,7 @@ locked_ready c k must x lt ready act =
       some = ready.some;
       free = λ t. absurd (false≢true (sym t));
       owes = inl (owed_by c (Lock k must) lt ready act (λ e. e));
-      ready = subst (λ (a : Act). Ready n (taken_after a c.taken) (rest c)) act (ready_head c lt ready).2;
+      ready = subst (λ (a : Act). TasksMayCome n (taken_after a c.taken) (rest c)) act (ready_head c lt ready).2;
     })
     (λ t. absurd (false≢true (sym t)))
 
@@ -103,11 +104,11 @@ act_still : (c : Course) (x : Slot) → CourseReady c → CourseStill c → c.ta
 act_still c x ready still e lt =
     let slots = c.holdings.slots.items in
     let a = (task_at c).act in
-    let b : Begins (other slots) false a = subst (λ (t : Bool). Begins (other slots) t a) e (ready_head c lt ready).0 in
+    let b : MayComeNext (other slots) false a = subst (λ (t : Bool). MayComeNext (other slots) t a) e (ready_head c lt ready).0 in
     ap (idle a (set slots (hand slots) x)) e ∙ idle_hand slots x a ready.some b ∙ ap (idle a slots) (sym e) ∙ still lt
 
 pub settled_hand : (c : Course) (x : Slot) (es : List Ending) → c.at ≤ length c.tasks.items → CourseReady c → CourseStill c → c.taken ≡ false
-    → settled (set c.holdings.slots.items (hand c.holdings.slots.items) x) c.taken es (todo c)
+    → walk_settled (set c.holdings.slots.items (hand c.holdings.slots.items) x) c.taken es (todo c)
     ≡ record { slots = set c.holdings.slots.items (hand c.holdings.slots.items) x; taken = c.taken; endings = es; todo = todo c }
 settled_hand c x es within ready still e = settled_at c (set c.holdings.slots.items (hand c.holdings.slots.items) x) es (act_still c x ready still e)
 

@@ -16,14 +16,14 @@ use Rattle.step_threads.specs.declared.said.Said.{Said}
 use Rattle.step_threads.specs.declared.said.Stepped.{Stepped}
 use Rattle.step_threads.specs.declared.said.Stepped.TheVariants.{Event, Quiet}
 use Rattle.step_threads.specs.declared.thread.Thread.{Thread}
-use Rattle.step_threads.specs.Courses.{Walk, done_on, rest, settled, task_at, walk}
+use Rattle.step_threads.specs.Courses.{Walk, done_on, rest, walk_settled, task_at, walk}
 use Rattle.step_table.specs.Deeds.{by_word, is_last, leave, leave_as, owned, on, remains}
 use Rattle.step_threads.specs.Endings.{Stack}
 use Rattle.step_table.specs.Holdings.{is_full}
-use Rattle.step_threads.specs.Scenes.{answer_of, begins_end, begins_end_as, ended_by, ended_of, hands, left, remains_as, went}
+use Rattle.step_threads.specs.Scenes.{answer_of, begins_end, begins_end_as, ended_by, ended_of, hands, leaving_pointer, remains_as, went}
 use Rattle.step_threads.specs.NextSteps.{first, waits_on}
-use Rattle.step_threads.specs.Steps.{Step, acts, with_endings}
-use Rattle.step_table.specs.Stories.{Story, after, event_of, object_in, state}
+use Rattle.step_threads.specs.Steps.{Step, step_of_act, with_endings}
+use Rattle.step_table.specs.Stories.{Story, story_after_deed, event_of, object_of_block, story_state}
 use Rattle.step_threads.specs.Threads.{HasStepped}
 use Rattle.step_threads.proofs.Courses.{settled_with}
 use Rattle.step_threads.proofs.Endings.{HasLeft}
@@ -31,18 +31,18 @@ use Rattle.step_threads.proofs.Steps.{at_act, on_slot, says_on, stepped_as, wait
 
 -- a leave changes nothing of what its object leaves
 same_remains : (v : Story) (d : ℕ) (x : Pointer) (k : Kind) (b : Bool)
-    → (let u = after v d (leave_as k x b) in cond b (remains_as k ((state u).object (object_in u x.block))) None)
-    ≡ cond b (remains_as k ((state v).object (owned (state v) x))) None
+    → (let u = story_after_deed v d (leave_as k x b) in cond b (remains_as k ((story_state u).object (object_of_block u x.block))) None)
+    ≡ cond b (remains_as k ((story_state v).object (owned (story_state v) x))) None
 same_remains v d x Owner true =
-    let o = object_in v x.block in
-    let y = (state v).object o in
+    let o = object_of_block v x.block in
+    let y = (story_state v).object o in
     ap (λ (r : Ended). Some r)
-    (put_cases (λ j (z : Object). remains z ≡ remains y) (state v).object o (moved_to (ending d) y) o (λ e. refl) (λ n. absurd (n refl)))
+    (put_cases (λ j (z : Object). remains z ≡ remains y) (story_state v).object o (moved_to (ending d) y) o (λ e. refl) (λ n. absurd (n refl)))
 same_remains v d x Owner false = refl
 same_remains v d x Weak true = refl
 same_remains v d x Weak false = refl
 
-pub left_event : (v : Story) (x : Pointer) (k : Kind) (b : Bool) → is_some (event_of (state v) (leave_as k x b)) ≡ true
+pub left_event : (v : Story) (x : Pointer) (k : Kind) (b : Bool) → is_some (event_of (story_state v) (leave_as k x b)) ≡ true
 left_event v x Owner b = refl
 left_event v x Weak b = refl
 
@@ -50,14 +50,15 @@ some_full : (o : Option Pointer) → is_some o ≡ is_full o
 some_full None = refl
 some_full (Some x) = refl
 
-pub ended_left : (v w : Story) (d : ℕ) (o : Option Pointer) (last : Bool) → w ≡ done_on (leave (state v)) v d o
-    → last ≡ on (is_last (state v)) false o
-    → on (λ x. cond last (remains_as x.kind ((state w).object (object_in w x.block))) None) None o ≡ ended_by (state v) o
+pub ended_left : (v w : Story) (d : ℕ) (o : Option Pointer) (last : Bool) → w ≡ done_on (leave (story_state v)) v d o
+    → last ≡ on (is_last (story_state v)) false o
+    → on (λ x. cond last (remains_as x.kind ((story_state w).object (object_of_block w x.block))) None) None o ≡ ended_by (story_state v) o
 ended_left v w d None last is said = refl
 ended_left v w d (Some x) last is said =
-    ap (λ (u : Story). cond last (remains_as x.kind ((state u).object (object_in u x.block))) None) is
-    ∙ ap (λ (b : Bool). let u = after v d (leave (state v) x) in cond b (remains_as x.kind ((state u).object (object_in u x.block))) None) said
-    ∙ same_remains v d x x.kind (is_last (state v) x)
+    ap (λ (u : Story). cond last (remains_as x.kind ((story_state u).object (object_of_block u x.block))) None) is
+    ∙ ap (λ (b : Bool). let u = story_after_deed v d (leave (story_state v) x) in
+    cond b (remains_as x.kind ((story_state u).object (object_of_block u x.block))) None) said
+    ∙ same_remains v d x x.kind (is_last (story_state v) x)
 
 pub begun_left : (s : State) (k : ℕ) (es : List Ending) (o : Option Pointer) (last : Bool) → last ≡ on (is_last s) false o
     → on (λ x. cond last (begins_end_as x.kind k x es) es) es o ≡ on (λ x. begins_end s k x es) es o
@@ -66,19 +67,19 @@ begun_left s k es (Some x) last said = ap (λ (b : Bool). cond b (begins_end_as 
 
 -- where a thread is that left what a slot held
 pub went_left : (d : ℕ) (c c' c'' : Course) (v w : Story) (a : Act) (o : Option Pointer) (last : Bool) (k : ℕ)
-    → HasLeft d c c' c'' w k o last → left c.holdings.slots.items a ≡ o → last ≡ on (is_last (state v)) false o
-    → walk c' ≡ (let x = hands (state v) d c.holdings.slots.items c.taken a in settled x.0 x.1 c.endings.list (rest c))
-    → walk c'' ≡ went (state v) d (walk c) k (rest c) a
+    → HasLeft d c c' c'' w k o last → leaving_pointer c.holdings.slots.items a ≡ o → last ≡ on (is_last (story_state v)) false o
+    → walk c' ≡ (let x = hands (story_state v) d c.holdings.slots.items c.taken a in walk_settled x.0 x.1 c.endings.list (rest c))
+    → walk c'' ≡ went (story_state v) d (walk c) k (rest c) a
 went_left d c c' c'' v w a o last k has leaves said walked =
-    let x = hands (state v) d c.holdings.slots.items c.taken a in
+    let x = hands (story_state v) d c.holdings.slots.items c.taken a in
     let es = c.endings.list in
     let l = c''.endings.list in
     let e : c'.endings.list ≡ es = ap (λ (z : Stack). z.list) has.gone.endings in
-    let list : l ≡ on (λ y. begins_end (state v) k y es) es (left c.holdings.slots.items a) =
-    has.list ∙ ap (λ (r : List Ending). on (λ y. cond last (begins_end_as y.kind k y r) r) r o) e ∙ begun_left (state v) k es o last said
-    ∙ ap (λ (q : Option Pointer). on (λ y. begins_end (state v) k y es) es q) (sym leaves) in
+    let list : l ≡ on (λ y. begins_end (story_state v) k y es) es (leaving_pointer c.holdings.slots.items a) =
+    has.list ∙ ap (λ (r : List Ending). on (λ y. cond last (begins_end_as y.kind k y r) r) r o) e ∙ begun_left (story_state v) k es o last said
+    ∙ ap (λ (q : Option Pointer). on (λ y. begins_end (story_state v) k y es) es q) (sym leaves) in
     ap walk has.same ∙ ap (λ (z : Walk). with_endings z l) walked ∙ settled_with x.0 x.1 es l (rest c) ∙ ap
-    (λ (r : List Ending). settled x.0 x.1 r (rest c)) list
+    (λ (r : List Ending). walk_settled x.0 x.1 r (rest c)) list
 
 -- a step that left what a slot held, and what is said of it
 pub stepped_left : (d : ℕ) (t t' : Thread) (v w : Story) (r : Stepped) (a : Act) (o : Option Pointer) (last : Bool) (ended : Option Ended) (k : ℕ)
@@ -86,27 +87,28 @@ pub stepped_left : (d : ℕ) (t t' : Thread) (v w : Story) (r : Stepped) (a : Ac
     → (task_at t.course).act ≡ a
     → waits_on v (walk t.course) a ≡ false
     → first v d (walk t.course) (task_at t.course).statement (rest t.course) a
-    ≡ acts v d (walk t.course) (task_at t.course).statement (rest t.course) a (option_map (leave (state v)) o) Rest
-    → answer_of (by_word v) (state v) d t.course.holdings.slots.items a ≡ None
-    → ended_of (state v) t.course.holdings.slots.items a ≡ ended_by (state v) o
-    → w ≡ done_on (leave (state v)) v d o → last ≡ on (is_last (state v)) false o
-    → ended ≡ on (λ x. cond last (remains_as x.kind ((state w).object (object_in w x.block))) None) None o
-    → t'.half ≡ t.half → walk t'.course ≡ went (state v) d (walk t.course) k (rest t.course) a
+    ≡ step_of_act v d (walk t.course) (task_at t.course).statement (rest t.course) a (option_map (leave (story_state v)) o) Rest
+    → answer_of (by_word v) (story_state v) d t.course.holdings.slots.items a ≡ None
+    → ended_of (story_state v) t.course.holdings.slots.items a ≡ ended_by (story_state v) o
+    → w ≡ done_on (leave (story_state v)) v d o → last ≡ on (is_last (story_state v)) false o
+    → ended ≡ on (λ x. cond last (remains_as x.kind ((story_state w).object (object_of_block w x.block))) None) None o
+    → t'.half ≡ t.half → walk t'.course ≡ went (story_state v) d (walk t.course) k (rest t.course) a
     → r ≡ cond (is_some o) (Event (record { statement = k; answer = None; ended = ended })) (Quiet (record { statement = k; answer = None; ended = ended }))
     → HasStepped d t v r t' w
 stepped_left d t t' v w r a o last ended k number rests none lt act goes one silent ends is said left half walked says =
     let n = (task_at t.course).statement in
     let y : Said = record {
       statement = n;
-      answer = answer_of (by_word v) (state v) d t.course.holdings.slots.items a;
-      ended = ended_of (state v) t.course.holdings.slots.items a;
+      answer = answer_of (by_word v) (story_state v) d t.course.holdings.slots.items a;
+      ended = ended_of (story_state v) t.course.holdings.slots.items a;
     } in
-    let e : ended ≡ ended_of (state v) t.course.holdings.slots.items a = left ∙ ended_left v w d o last is said ∙ sym ends in
+    let e : ended ≡ ended_of (story_state v) t.course.holdings.slots.items a = left ∙ ended_left v w d o last is said ∙ sym ends in
     let same : ◌≡◌ {A = Said} (record { statement = k; answer = None; ended = ended }) y =
     ap (λ (m : ℕ). record { statement = m; answer = None; ended = ended }) number
     ∙ ap (λ (z : Option Ended). record { statement = n; answer = None; ended = z }) e
-    ∙ ap (λ z. record { statement = n; answer = z; ended = ended_of (state v) t.course.holdings.slots.items a }) (sym silent) in
-    stepped_as d t v (acts v d (walk t.course) n (rest t.course) a (option_map (leave (state v)) o) Rest) r t' w
+    ∙ ap (λ z. record { statement = n; answer = z; ended = ended_of (story_state v) t.course.holdings.slots.items a }) (sym silent) in
+    stepped_as d t v (step_of_act v d (walk t.course) n (rest t.course) a (option_map (leave (story_state v)) o) Rest) r t' w
     (waits_act t v a rests none lt act ∙ goes) (at_act d t v a rests none lt act ∙ ap (λ (x : Step). Some x) one)
-    (says_on (leave (state v)) v o r _ y (is_some o) (λ x. left_event v x x.kind (is_last (state v) x)) says (some_full o) same)
-    (is ∙ on_slot (leave (state v)) v d o) (walked ∙ ap (λ (m : ℕ). went (state v) d (walk t.course) m (rest t.course) a) number) (half ∙ rests)
+    (says_on (leave (story_state v)) v o r _ y (is_some o) (λ x. left_event v x x.kind (is_last (story_state v) x)) says (some_full o) same)
+    (is ∙ on_slot (leave (story_state v)) v d o) (walked ∙ ap (λ (m : ℕ). went (story_state v) d (walk t.course) m (rest t.course) a) number)
+    (half ∙ rests)

@@ -13,10 +13,10 @@ use Rattle.step_table.specs.declared.past.Deed.TheVariants.{OnCell}
 use Rattle.step_table.specs.declared.refill.Stage.TheVariants.{Turning}
 use Rattle.step_threads.specs.declared.thread.Thread.{Thread}
 use Rattle.step_table.specs.Refills.{more_taken}
-use Rattle.step_threads.specs.Courses.{HasCell, HasGoneOn, cell_at, is_there, task_at}
+use Rattle.step_threads.specs.Courses.{HasCell, HasGoneOn, cell_of_name, is_there, task_at}
 use Rattle.step_threads.specs.Programs.{IsIn}
-use Rattle.step_table.specs.Stories.{Kept, Story, after, state}
-use Rattle.step_threads.specs.Threads.{Fits, IsLoaded, IsNext, IsSeenBy}
+use Rattle.step_table.specs.Stories.{Kept, Story, story_after_deed, story_state}
+use Rattle.step_threads.specs.Threads.{FitsThread, IsLoaded, IsNext, IsSeenBy}
 use Rattle.step_threads.proofs.CellNames.{cell_open}
 use Rattle.step_threads.proofs.LookFits.{fits_gone}
 use Rattle.step_threads.proofs.StoreFits.{half_here}
@@ -28,31 +28,36 @@ pub owned_some : (o : Option Block) → o ≢ None → (b : Block) × (o ≡ Som
 owned_some None n = absurd (n refl)
 owned_some (Some b) n = (b, refl)
 
-pub cell_of_load : (d : ℕ) (t : Thread) (v : Story) (c : CellName) → Fits d t v → t.course.at < length t.course.tasks.items
+pub cell_of_load : (d : ℕ) (t : Thread) (v : Story) (c : CellName) → FitsThread d t v → t.course.at < length t.course.tasks.items
     → (task_at t.course).act ≡ Load c
     → IsIn v.extent.shape c
 cell_of_load d t v c fits lt act = subst (λ (a : Act). HasCell v.extent.shape a) act (cell_here t.course v lt fits.cells)
 
 -- what a thread is at that has seen a cell
-pub saw_next : (d : ℕ) (t : Thread) (v : Story) (x : CellWord) → Fits d t v → t.half ≡ Saw x → IsNext (Saw x) t.course
+pub saw_next : (d : ℕ) (t : Thread) (v : Story) (x : CellWord) → FitsThread d t v → t.half ≡ Saw x → IsNext (Saw x) t.course
 saw_next d t v x fits e = subst (λ h. IsNext h t.course) e fits.next
 
-pub saw_load : (d : ℕ) (t : Thread) (v : Story) (c : CellName) (x : CellWord) → Fits d t v → t.half ≡ Saw x → (task_at t.course).act ≡ Load c
+pub saw_load : (d : ℕ) (t : Thread) (v : Story) (c : CellName) (x : CellWord) → FitsThread d t v → t.half ≡ Saw x → (task_at t.course).act ≡ Load c
     → IsSeenBy t.course.holdings.slots.items x (Load c)
 saw_load d t v c x fits e act = subst (λ (a : Act). IsSeenBy t.course.holdings.slots.items x a) act (saw_next d t v x fits e).1
 
-pub saw_there : (d : ℕ) (t : Thread) (v : Story) (c : CellName) (x : CellWord) → Fits d t v → t.half ≡ Saw x → (task_at t.course).act ≡ Load c
+pub saw_there : (d : ℕ) (t : Thread) (v : Story) (c : CellName) (x : CellWord) → FitsThread d t v → t.half ≡ Saw x → (task_at t.course).act ≡ Load c
     → is_there t.course.holdings.slots.items c ≡ true
 saw_there d t v c x fits e act = (saw_load d t v c x fits e act).0
 
-module _ (d : ℕ) (t : Thread) (v : Story) (c : CellName) (x : CellWord) (fits : Fits d t v) where
+module _ (d : ℕ) (t : Thread) (v : Story) (c : CellName) (x : CellWord) (fits : FitsThread d t v) where
   -- a fund is taken
   pub fits_taken : (c' : Course) (k : ℕ) → Kept v → t.half ≡ Saw x → (task_at t.course).act ≡ Load c
-      → HasGoneOn d t.course c' (after v d (OnCell (Take (cell_at (state v) t.course.holdings.slots.items c) x None)))
-      → Fits d (record { course = c'; stock = t.stock; half = Refill Turning (cell_at (state v) t.course.holdings.slots.items c) (more_taken x) k })
-      (after v d (OnCell (Take (cell_at (state v) t.course.holdings.slots.items c) x None)))
+      → HasGoneOn d t.course c' (story_after_deed v d (OnCell (Take (cell_of_name (story_state v) t.course.holdings.slots.items c) x None)))
+      → FitsThread d (record {
+        course = c';
+        stock = t.stock;
+        half =
+            Refill Turning (cell_of_name (story_state v) t.course.holdings.slots.items c) (more_taken x) k;
+      })
+      (story_after_deed v d (OnCell (Take (cell_of_name (story_state v) t.course.holdings.slots.items c) x None)))
   fits_taken c' k kept e act on =
-      let at = cell_at (state v) t.course.holdings.slots.items c in
+      let at = cell_of_name (story_state v) t.course.holdings.slots.items c in
       let next = saw_next d t v x fits e in
       let saw = saw_load d t v c x fits e act in
       let loaded : IsLoaded x = saw.1 in

@@ -13,8 +13,8 @@ use Rattle.step_threads.specs.declared.thread.Thread.{Thread}
 use Rattle.step_threads.specs.Actors.{HalfFits, Stocks, claimed}
 use Rattle.step_threads.specs.Courses.{HasGoneOn, task_at}
 use Rattle.step_table.specs.Openings.{opening}
-use Rattle.step_table.specs.Stories.{Nothing, Story, added, after, event_of, state}
-use Rattle.step_threads.specs.Threads.{Fits, IsNext}
+use Rattle.step_table.specs.Stories.{Nothing, Story, event_added, story_after_deed, event_of, story_state}
+use Rattle.step_threads.specs.Threads.{FitsThread, IsNext}
 use Rattle.step_threads.proofs.Threads.{cells_on}
 use Rattle.step_table.proofs.contained.Others.{holds_quiet}
 use Rattle.step_threads.proofs.holding.Ends.{each_end, ends_gone}
@@ -23,9 +23,9 @@ use Rattle.step_threads.proofs.holding.Ends.{each_end, ends_gone}
 abbrev pub ClaimsNone : Half → Type 0
 ClaimsNone h = (b : ℕ) → claimed h b ≡ 0
 
-module _ (d : ℕ) (t : Thread) (v : Story) (h h' : Half) (fits : Fits d t v) (was : t.half ≡ h) (none : ClaimsNone h) (none' : ClaimsNone h') where
+module _ (d : ℕ) (t : Thread) (v : Story) (h h' : Half) (fits : FitsThread d t v) (was : t.half ≡ h) (none : ClaimsNone h) (none' : ClaimsNone h') where
   -- the stock is that of the same store
-  stocks_as : (w : Story) → (state w).stores ≡ (state v).stores → w.extent ≡ v.extent → Stocks d t.stock.blocks t.stock.room h' w
+  stocks_as : (w : Story) → (story_state w).stores ≡ (story_state v).stores → w.extent ≡ v.extent → Stocks d t.stock.blocks t.stock.room h' w
   stocks_as w same e =
       let s = fits.stocks in
       record {
@@ -38,7 +38,7 @@ module _ (d : ℕ) (t : Thread) (v : Story) (h h' : Half) (fits : Fits d t v) (w
 
   -- nothing was done to the table, and the thread is at the same act
   pub fits_half : HalfFits d h' t.course.holdings.slots.items (task_at t.course).act v → IsNext h' t.course
-      → Fits d (record { course = t.course; stock = t.stock; half = h' }) v
+      → FitsThread d (record { course = t.course; stock = t.stock; half = h' }) v
   fits_half half next =
       record {
         seat = fits.seat;
@@ -54,12 +54,12 @@ module _ (d : ℕ) (t : Thread) (v : Story) (h h' : Half) (fits : Fits d t v) (w
       }
 
   -- a step that is no event was made, and the thread is at the same act
-  pub fits_quiet : (x : Deed) → event_of (state v) x ≡ None
-      → HalfFits d h' t.course.holdings.slots.items (task_at t.course).act (after v d x) → IsNext h' t.course
-      → Fits d (record { course = t.course; stock = t.stock; half = h' }) (after v d x)
+  pub fits_quiet : (x : Deed) → event_of (story_state v) x ≡ None
+      → HalfFits d h' t.course.holdings.slots.items (task_at t.course).act (story_after_deed v d x) → IsNext h' t.course
+      → FitsThread d (record { course = t.course; stock = t.stock; half = h' }) (story_after_deed v d x)
   fits_quiet x quiet half next =
-      let w = after v d x in
-      let same : state w ≡ state v = ap (λ (o : Option (Event Nothing)). leads (opening v.extent) (added d o v.history)) quiet in
+      let w = story_after_deed v d x in
+      let same : story_state w ≡ story_state v = ap (λ (o : Option (Event Nothing)). leads (opening v.extent) (event_added d o v.history)) quiet in
       record {
         seat = fits.seat;
         holds = holds_quiet d d t.course.holdings.slots.items v x quiet fits.holds;
@@ -88,11 +88,11 @@ module _ (d : ℕ) (t : Thread) (v : Story) (h h' : Half) (fits : Fits d t v) (w
       }
 
   -- a step was made that moves no block, and the thread went on
-  pub fits_gone : (x : Deed) (c : Course) → t.course.endings.list ≡ [] → (state (after v d x)).stores ≡ (state v).stores
-      → HasGoneOn d t.course c (after v d x) → HalfFits d h' c.holdings.slots.items (task_at c).act (after v d x) → IsNext h' c
-      → Fits d (record { course = c; stock = t.stock; half = h' }) (after v d x)
+  pub fits_gone : (x : Deed) (c : Course) → t.course.endings.list ≡ [] → (story_state (story_after_deed v d x)).stores ≡ (story_state v).stores
+      → HasGoneOn d t.course c (story_after_deed v d x) → HalfFits d h' c.holdings.slots.items (task_at c).act (story_after_deed v d x) → IsNext h' c
+      → FitsThread d (record { course = c; stock = t.stock; half = h' }) (story_after_deed v d x)
   fits_gone x c empty stores on half next =
-      let w = after v d x in
+      let w = story_after_deed v d x in
       record {
         seat = fits.seat;
         holds = on.holds;

@@ -17,11 +17,11 @@ use Rattle.step_table.specs.declared.refill.Stage.{Stage}
 use Rattle.step_table.specs.declared.refill.Stage.TheVariants.{Turning}
 use Rattle.step_threads.specs.declared.said.Stepped.{Stepped}
 use Rattle.step_threads.specs.declared.thread.Thread.{Thread}
-use Rattle.step_table.specs.Cells.{word_at}
+use Rattle.step_table.specs.Cells.{word_of_cell}
 use Rattle.step_table.specs.Refills.{more_taken}
 use Rattle.step_threads.specs.Courses.{Walk, walk}
 use Rattle.step_threads.specs.NextSteps.{step_at, stepped, story_after, waits}
-use Rattle.step_threads.specs.Steps.{acts, refills_on, takes, within}
+use Rattle.step_threads.specs.Steps.{step_of_act, refills_on, takes, within}
 use Rattle.step_table.specs.Stories.{Story}
 use Rattle.step_threads.specs.Threads.{HasStepped}
 use Rattle.step_threads.proofs.Steps.{stepped_as}
@@ -38,7 +38,7 @@ refilled d t v stage c x k b r t' v' half owned =
 
 module _ (v : Story) (d : ℕ) (w : Walk) (k : ℕ) (ts : List Task) (a : Act) (c : Cell) (y : Option Compared) (x : CellWord) where
   -- what a fund is taken of shows the same still, or not
-  pub takes_it : (word_at v c == cell_bits x) ≡ true
-      → takes v d w k ts a c y x ≡ acts v d w k ts a (Some (OnCell (Take c x y))) (Refill Turning c (more_taken x) k)
-  takes_it same = cond-true (word_at v c == cell_bits x) (acts v d w k ts a (Some (OnCell (Take c x y))) (Refill Turning c (more_taken x) k))
+  pub takes_it : (word_of_cell v c == cell_bits x) ≡ true
+      → takes v d w k ts a c y x ≡ step_of_act v d w k ts a (Some (OnCell (Take c x y))) (Refill Turning c (more_taken x) k)
+  takes_it same = cond-true (word_of_cell v c == cell_bits x) (step_of_act v d w k ts a (Some (OnCell (Take c x y))) (Refill Turning c (more_taken x) k))
       (within w k None Rest) same

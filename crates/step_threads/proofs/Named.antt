@@ -11,14 +11,14 @@ use Rattle.step_threads.specs.declared.course.Course.{Course}
 use Rattle.step_threads.specs.declared.said.Answer.{Answer}
 use Rattle.step_threads.specs.declared.said.Said.{Said}
 use Rattle.step_table.specs.Holdings.{Slots, place_in}
-use Rattle.step_threads.specs.Courses.{Begins, CourseReady, IsNamed, Walk, is_there, other, settled, task_at}
+use Rattle.step_threads.specs.Courses.{MayComeNext, CourseReady, IsNamed, Walk, is_there, other, walk_settled, task_at}
 use Rattle.step_threads.specs.Scenes.{Hands, outside, refusal}
 use Rattle.step_threads.proofs.CellNames.{cell_named}
 use Rattle.step_threads.proofs.Courses.{ready_head}
 
 module _ (c : Course) (x : CellName) (lt : c.at < length c.tasks.items) (ready : CourseReady c) where
-  begins : (a : Act) → (task_at c).act ≡ a → Begins (other c.holdings.slots.items) c.taken a
-  begins a act = subst (Begins (other c.holdings.slots.items) c.taken) act (ready_head c lt ready).0
+  begins : (a : Act) → (task_at c).act ≡ a → MayComeNext (other c.holdings.slots.items) c.taken a
+  begins a act = subst (MayComeNext (other c.holdings.slots.items) c.taken) act (ready_head c lt ready).0
 
   pub named_load : (task_at c).act ≡ Load x → IsNamed (length c.holdings.slots.items) x
   named_load act = cell_named c.holdings.slots.items x (begins (Load x) act).0
@@ -31,7 +31,7 @@ told_as n a = record { statement = n; answer = a; ended = None }
 
 -- where a thread is that has this in its slots
 abbrev pub walked_by : Walk → List Task → Hands → Walk
-walked_by w ts y = settled y.0 y.1 w.endings ts
+walked_by w ts y = walk_settled y.0 y.1 w.endings ts
 
 pub refusal_none : (slots : Slots) (c : CellName) → is_there slots c ≡ true → refusal slots c ≡ None
 refusal_none slots (Shared n) there = refl

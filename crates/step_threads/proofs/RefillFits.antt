@@ -11,16 +11,16 @@ use Rattle.step_table.specs.declared.past.Deed.TheVariants.{OnCell}
 use Rattle.step_table.specs.declared.refill.Stage.{Stage}
 use Rattle.step_table.specs.declared.refill.Stage.TheVariants.{Turning, Checking, Lacking, Refilling, Failing}
 use Rattle.step_threads.specs.declared.thread.Thread.{Thread}
-use Rattle.step_table.specs.CellDeeds.{kind_in}
+use Rattle.step_table.specs.CellDeeds.{kind_in_state}
 use Rattle.step_table.specs.Refills.{RefillFits, is_low}
-use Rattle.step_table.specs.Stories.{Kept, Story, after, state}
-use Rattle.step_threads.specs.Threads.{Fits}
+use Rattle.step_table.specs.Stories.{Kept, Story, story_after_deed, story_state}
+use Rattle.step_threads.specs.Threads.{FitsThread}
 use Rattle.step_threads.proofs.LookFits.{fits_half, fits_quiet}
 use Rattle.step_threads.proofs.StoreFits.{half_here}
 use Rattle.step_threads.proofs.Threads.{own_pending}
 use Rattle.step_table.proofs.contained.Refilling.{brings_funds, gives_back, misses_cell, turns_fund}
 
-pub refill_here : (d : ℕ) (t : Thread) (v : Story) (stage : Stage) (c : Cell) (x : CellWord) (k : ℕ) → Fits d t v → t.half ≡ Refill stage c x k
+pub refill_here : (d : ℕ) (t : Thread) (v : Story) (stage : Stage) (c : Cell) (x : CellWord) (k : ℕ) → FitsThread d t v → t.half ≡ Refill stage c x k
     → RefillFits d stage c x v
 refill_here d t v stage c x k fits e = half_here d t v (Refill stage c x k) fits e
 
@@ -28,45 +28,48 @@ refill_here d t v stage c x k fits e = half_here d t v (Refill stage c x k) fits
 abbrev pub At : Thread → Half → Thread
 At t h = record { course = t.course; stock = t.stock; half = h }
 
-pub fits_as : (d : ℕ) (t : Thread) (h h' : Half) (w w' : Story) → h' ≡ h → w' ≡ w → Fits d (At t h) w → Fits d (At t h') w'
-fits_as d t h h' w w' e is fits = subst (λ (q : Half). Fits d (At t q) w') (sym e) (subst (λ (u : Story). Fits d (At t h) u) (sym is) fits)
+pub fits_as : (d : ℕ) (t : Thread) (h h' : Half) (w w' : Story) → h' ≡ h → w' ≡ w → FitsThread d (At t h) w → FitsThread d (At t h') w'
+fits_as d t h h' w w' e is fits = subst (λ (q : Half). FitsThread d (At t q) w') (sym e) (subst (λ (u : Story). FitsThread d (At t h) u) (sym is) fits)
 
-module _ (d : ℕ) (t : Thread) (v : Story) (c : Cell) (x : CellWord) (k : ℕ) (fits : Fits d t v) where
+module _ (d : ℕ) (t : Thread) (v : Story) (c : Cell) (x : CellWord) (k : ℕ) (fits : FitsThread d t v) where
   -- the fund is turned
   pub fits_turned : (b : Block) → Kept v → t.half ≡ Refill Turning c x k
-      → Fits d (At t (cond (is_low x) (Refill Checking c x k) Rest)) (after v d (OnCell (Turn (kind_in (state v) c) b)))
+      → FitsThread d (At t (cond (is_low x) (Refill Checking c x k) Rest)) (story_after_deed v d (OnCell (Turn (kind_in_state (story_state v) c) b)))
   fits_turned b kept e = go (is_low x)
     where
-      go : (low : Bool) → Fits d (At t (cond low (Refill Checking c x k) Rest)) (after v d (OnCell (Turn (kind_in (state v) c) b)))
+      go : (low : Bool) → FitsThread d (At t (cond low (Refill Checking c x k) Rest))
+          (story_after_deed v d (OnCell (Turn (kind_in_state (story_state v) c) b)))
       go true =
-          fits_quiet d t v (Refill Turning c x k) (Refill Checking c x k) fits e (λ q. refl) (λ q. refl) (OnCell (Turn (kind_in (state v) c) b)) refl
+          fits_quiet d t v (Refill Turning c x k) (Refill Checking c x k) fits e (λ q. refl) (λ q. refl)
+          (OnCell (Turn (kind_in_state (story_state v) c) b)) refl
           (turns_fund d v kept fits.seat c x b (refill_here d t v Turning c x k fits e)) tt
       go false =
-          fits_quiet d t v (Refill Turning c x k) Rest fits e (λ q. refl) (λ q. refl) (OnCell (Turn (kind_in (state v) c) b)) refl
-          (own_pending v d (OnCell (Turn (kind_in (state v) c) b)) kept fits.seat) tt
+          fits_quiet d t v (Refill Turning c x k) Rest fits e (λ q. refl) (λ q. refl) (OnCell (Turn (kind_in_state (story_state v) c) b)) refl
+          (own_pending v d (OnCell (Turn (kind_in_state (story_state v) c) b)) kept fits.seat) tt
 
   -- funds are brought
   pub fits_refunded : (b : Block) → Kept v → t.half ≡ Refill Lacking c x k → x.owned ≡ Some b
-      → Fits d (At t (Refill Refilling c x k)) (after v d (OnCell (Bring (kind_in (state v) c) b x.place x.taken)))
+      → FitsThread d (At t (Refill Refilling c x k)) (story_after_deed v d (OnCell (Bring (kind_in_state (story_state v) c) b x.place x.taken)))
   fits_refunded b kept e owned =
       fits_quiet d t v (Refill Lacking c x k) (Refill Refilling c x k) fits e (λ q. refl) (λ q. refl)
-      (OnCell (Bring (kind_in (state v) c) b x.place x.taken)) refl
+      (OnCell (Bring (kind_in_state (story_state v) c) b x.place x.taken)) refl
       (brings_funds d v kept fits.seat c x b (refill_here d t v Lacking c x k fits e) owned) tt
 
   -- they go into the cell
-  pub fits_refilled : Kept v → t.half ≡ Refill Refilling c x k → Fits d (At t Rest) (after v d (OnCell (Refills c x.taken)))
+  pub fits_refilled : Kept v → t.half ≡ Refill Refilling c x k → FitsThread d (At t Rest) (story_after_deed v d (OnCell (Refills c x.taken)))
   fits_refilled kept e =
       fits_quiet d t v (Refill Refilling c x k) Rest fits e (λ q. refl) (λ q. refl) (OnCell (Refills c x.taken)) refl
       (own_pending v d (OnCell (Refills c x.taken)) kept fits.seat) tt
 
-  pub fits_missed : t.half ≡ Refill Refilling c x k → Fits d (At t (Refill Failing c x k)) v
+  pub fits_missed : t.half ≡ Refill Refilling c x k → FitsThread d (At t (Refill Failing c x k)) v
   fits_missed e =
       fits_half d t v (Refill Refilling c x k) (Refill Failing c x k) fits e (λ q. refl) (λ q. refl)
       (misses_cell d v c x (refill_here d t v Refilling c x k fits e)) tt
 
   -- they are given back
   pub fits_failed : (b : Block) → Kept v → t.half ≡ Refill Failing c x k
-      → Fits d (At t (Refill Checking c x k)) (after v d (OnCell (GiveBack (kind_in (state v) c) b x.taken)))
+      → FitsThread d (At t (Refill Checking c x k)) (story_after_deed v d (OnCell (GiveBack (kind_in_state (story_state v) c) b x.taken)))
   fits_failed b kept e =
-      fits_quiet d t v (Refill Failing c x k) (Refill Checking c x k) fits e (λ q. refl) (λ q. refl) (OnCell (GiveBack (kind_in (state v) c) b x.taken)) refl
+      fits_quiet d t v (Refill Failing c x k) (Refill Checking c x k) fits e (λ q. refl) (λ q. refl)
+      (OnCell (GiveBack (kind_in_state (story_state v) c) b x.taken)) refl
       (gives_back d v kept fits.seat c x b (refill_here d t v Failing c x k fits e)) tt

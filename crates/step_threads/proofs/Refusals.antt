@@ -4,7 +4,7 @@ use Rattle.step_threads.specs.declared.act.Act.{Act}
 use Rattle.step_threads.specs.declared.act.Act.TheVariants.{Offer, Exchange, Load}
 use Rattle.step_threads.specs.declared.call.CellName.{CellName}
 use Rattle.step_threads.specs.declared.course.Course.{Course}
-use Rattle.step_threads.specs.Courses.{Begins, CourseReady, Drops, IsReady, Ready, dropping, other, rest, taken_after, task_at}
+use Rattle.step_threads.specs.Courses.{MayComeNext, CourseReady, DropsInTime, IsReady, TasksMayCome, dropping, other, rest, taken_after, task_at}
 use Rattle.step_threads.proofs.Courses.{owed_by, ready_any, ready_head}
 
 -- the first act of a statement on a cell
@@ -13,15 +13,15 @@ IsOn a c = (a ≡ Load c) ⊎ ((k : ℕ) × ((a ≡ Offer k c) ⊎ (a ≡ Exchan
 
 module _ (c : Course) (x : CellName) (lt : c.at < length c.tasks.items) (ready : CourseReady c) where
   -- nothing is to be dropped at it, and the rest is ready for what was taken
-  on_ready : (a : Act) → IsOn a x → (dropping (Drops (rest c)) a → ⊥)
-      × (Begins (other c.holdings.slots.items) c.taken a → Ready (other c.holdings.slots.items) (taken_after a c.taken) (rest c)
-      → Ready (other c.holdings.slots.items) c.taken (rest c))
+  on_ready : (a : Act) → IsOn a x → (dropping (DropsInTime (rest c)) a → ⊥)
+      × (MayComeNext (other c.holdings.slots.items) c.taken a → TasksMayCome (other c.holdings.slots.items) (taken_after a c.taken) (rest c)
+      → TasksMayCome (other c.holdings.slots.items) c.taken (rest c))
   on_ready a on =
       let n = other c.holdings.slots.items in
-      let P : Act → Type 0 = λ (b : Act). (dropping (Drops (rest c)) b → ⊥)
-      × (Begins n c.taken b → Ready n (taken_after b c.taken) (rest c) → Ready n c.taken (rest c)) in
-      let none : c.taken ≡ false → Ready n true (rest c) → Ready n c.taken (rest c) =
-      λ e r. subst (λ (b : Bool). Ready n b (rest c)) (sym e) (ready_any n (rest c) r) in
+      let P : Act → Type 0 = λ (b : Act). (dropping (DropsInTime (rest c)) b → ⊥)
+      × (MayComeNext n c.taken b → TasksMayCome n (taken_after b c.taken) (rest c) → TasksMayCome n c.taken (rest c)) in
+      let none : c.taken ≡ false → TasksMayCome n true (rest c) → TasksMayCome n c.taken (rest c) =
+      λ e r. subst (λ (b : Bool). TasksMayCome n b (rest c)) (sym e) (ready_any n (rest c) r) in
       ⊎_elim (λ (e : a ≡ Load x). subst P (sym e) ((λ z. z), (λ b r. none b.1 r)))
       (λ (q : (k : ℕ) × ((a ≡ Offer k x) ⊎ (a ≡ Exchange k x))).
       ⊎_elim (λ (e : a ≡ Offer q.0 x). subst P (sym e) ((λ z. z), (λ b r. none b.2 r)))

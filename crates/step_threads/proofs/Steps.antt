@@ -15,11 +15,12 @@ use Rattle.step_threads.specs.declared.said.Stepped.{Stepped}
 use Rattle.step_threads.specs.declared.said.Stepped.TheVariants.{Event, Quiet, Waited}
 use Rattle.step_threads.specs.declared.thread.Thread.{Thread}
 use Rattle.step_threads.specs.Courses.{done_on, hand, rest, task_at, todo, walk}
-use Rattle.step_table.specs.Holdings.{is_full, slot}
-use Rattle.step_threads.specs.NextSteps.{at_rest, begun, emptied, first, half_by, is_event, step_at, stepped, story_after, story_by, waits, waits_at, waits_on}
+use Rattle.step_table.specs.Holdings.{is_full, slot_pointer}
+use Rattle.step_threads.specs.NextSteps.{at_rest, begun, emptied, first, half_by, deed_is_event, step_at, stepped, story_after, story_by, waits, waits_at}
+use Rattle.step_threads.specs.NextSteps.{waits_on}
 use Rattle.step_threads.specs.NextSteps.{walk_by}
 use Rattle.step_threads.specs.Steps.{Step, empties, ends_on}
-use Rattle.step_table.specs.Stories.{Story, event_of, state}
+use Rattle.step_table.specs.Stories.{Story, event_of, story_state}
 use Rattle.step_threads.specs.Threads.{HasStepped}
 use Rattle.step_threads.proofs.Courses.{todo_at}
 
@@ -62,7 +63,7 @@ module _ (d : ℕ) (t : Thread) (v : Story) (e : Ending) (es : List Ending) (is 
   at_rest_here : t.half ≡ Rest → step_at v d t.half (walk t.course) ≡ at_rest v d (walk t.course) (e ∷ es)
   at_rest_here r = ap (λ (h : Half). step_at v d h (walk t.course)) r ∙ ap (λ (l : List Ending). at_rest v d (walk t.course) l) is
 
-  pub at_carried : t.half ≡ Rest → is_full (slot t.course.holdings.slots.items (hand t.course.holdings.slots.items)) ≡ true
+  pub at_carried : t.half ≡ Rest → is_full (slot_pointer t.course.holdings.slots.items (hand t.course.holdings.slots.items)) ≡ true
       → step_at v d t.half (walk t.course)
       ≡ Some (first v d (walk t.course) e.statement (todo t.course) (Leave (hand t.course.holdings.slots.items)))
   at_carried r full =
@@ -84,12 +85,12 @@ pub on_slot : (f : Pointer → Deed) (v : Story) (d : ℕ) (o : Option Pointer) 
 on_slot f v d None = refl
 on_slot f v d (Some x) = refl
 
-pub event_on : (f : Pointer → Deed) (v : Story) (o : Option Pointer) → ((x : Pointer) → is_some (event_of (state v) (f x)) ≡ true)
-    → is_full o ≡ is_event v (option_map f o)
+pub event_on : (f : Pointer → Deed) (v : Story) (o : Option Pointer) → ((x : Pointer) → is_some (event_of (story_state v) (f x)) ≡ true)
+    → is_full o ≡ deed_is_event v (option_map f o)
 event_on f v None event = refl
 event_on f v (Some x) event = sym (event x)
 
 pub says_on : (f : Pointer → Deed) (v : Story) (o : Option Pointer) (r : Stepped) (x y : Said) (b : Bool)
-    → ((p : Pointer) → is_some (event_of (state v) (f p)) ≡ true) → r ≡ cond b (Event x) (Quiet x) → b ≡ is_full o → x ≡ y
-    → r ≡ cond (is_event v (option_map f o)) (Event y) (Quiet y)
+    → ((p : Pointer) → is_some (event_of (story_state v) (f p)) ≡ true) → r ≡ cond b (Event x) (Quiet x) → b ≡ is_full o → x ≡ y
+    → r ≡ cond (deed_is_event v (option_map f o)) (Event y) (Quiet y)
 says_on f v o r x y b event is e same = let k = event_on f v o event in cc

@@ -23,15 +23,16 @@ use Rattle.step_table.specs.declared.past.Deed.{Deed}
 use Rattle.step_table.specs.declared.past.Deed.TheVariants.{OnCell}
 use Rattle.step_threads.specs.declared.thread.Thread.{Thread}
 use Rattle.step_threads.specs.Actors.{HalfFits, Stocks, claimed, in_store}
-use Rattle.step_table.specs.CellDeeds.{owing}
+use Rattle.step_table.specs.CellDeeds.{owing_funds}
 use Rattle.step_table.specs.Contents.{is_of}
-use Rattle.step_threads.specs.Courses.{Begins, CourseReady, Going, HasCell, HasGoneOn, cell_at, going_from, hand, idle, is_there, done_on, other, task_at}
+use Rattle.step_threads.specs.Courses.{MayComeNext, CourseReady, Going, HasCell, HasGoneOn, cell_of_name, going_from, hand, idle, is_there, done_on, other}
+use Rattle.step_threads.specs.Courses.{task_at}
 use Rattle.step_table.specs.Deeds.{share_as, on}
-use Rattle.step_table.specs.Holdings.{Slots, value}
+use Rattle.step_table.specs.Holdings.{Slots, slot_value}
 use Rattle.step_threads.specs.Programs.{IsIn, kind_at}
 use Rattle.step_threads.specs.Steps.{gives_back}
-use Rattle.step_table.specs.Stories.{Kept, Story, after, pending, pending_after, state}
-use Rattle.step_threads.specs.Threads.{Fits, IsNext}
+use Rattle.step_table.specs.Stories.{Kept, Story, story_after_deed, pending, pending_after, story_state}
+use Rattle.step_threads.specs.Threads.{FitsThread, IsNext}
 use Rattle.step_threads.proofs.CellNames.{cell_kind}
 use Rattle.step_threads.proofs.Courses.{ready_head}
 use Rattle.step_threads.proofs.Threads.{cell_here, cells_on, own_pending, resting}
@@ -41,26 +42,26 @@ use Rattle.step_table.proofs.contained.Told.{kind_stays}
 use Rattle.step_threads.proofs.holding.Ends.{each_end, ends_gone}
 
 -- what is half done of the next act
-pub half_here : (d : ℕ) (t : Thread) (v : Story) (h : Half) → Fits d t v → t.half ≡ h
+pub half_here : (d : ℕ) (t : Thread) (v : Story) (h : Half) → FitsThread d t v → t.half ≡ h
     → HalfFits d h t.course.holdings.slots.items (task_at t.course).act v
 half_here d t v h fits e = subst (λ (x : Half). HalfFits d x t.course.holdings.slots.items (task_at t.course).act v) e fits.half
 
 -- the cell of the next act is in the shape
-pub cell_of_swap : (d : ℕ) (t : Thread) (v : Story) (c : CellName) → Fits d t v → t.course.at < length t.course.tasks.items
+pub cell_of_swap : (d : ℕ) (t : Thread) (v : Story) (c : CellName) → FitsThread d t v → t.course.at < length t.course.tasks.items
     → (task_at t.course).act ≡ Swap c
     → IsIn v.extent.shape c
 cell_of_swap d t v c fits lt act = subst (λ (a : Act). HasCell v.extent.shape a) act (cell_here t.course v lt fits.cells)
 
-pub cell_of_exchange : (d : ℕ) (t : Thread) (v : Story) (k : ℕ) (c : CellName) → Fits d t v → t.course.at < length t.course.tasks.items
+pub cell_of_exchange : (d : ℕ) (t : Thread) (v : Story) (k : ℕ) (c : CellName) → FitsThread d t v → t.course.at < length t.course.tasks.items
     → (task_at t.course).act ≡ Exchange k c → IsIn v.extent.shape c
 cell_of_exchange d t v k c fits lt act = subst (λ (a : Act). HasCell v.extent.shape a) act (cell_here t.course v lt fits.cells)
 
 -- a swap that comes is one: the cell is there, and what is in hand may go in
 pub swap_goes : (c : Course) (x : CellName) → c.at < length c.tasks.items
     → (c.at < length c.tasks.items → idle (task_at c).act c.holdings.slots.items c.taken ≡ false) → (task_at c).act ≡ Swap x
-    → (is_there c.holdings.slots.items x ≡ true) × (is_of (kind_at x) (value c.holdings.slots.items (hand c.holdings.slots.items)) ≡ true)
+    → (is_there c.holdings.slots.items x ≡ true) × (is_of (kind_at x) (slot_value c.holdings.slots.items (hand c.holdings.slots.items)) ≡ true)
 swap_goes c x lt still act =
-    go c.taken (is_there c.holdings.slots.items x) (is_of (kind_at x) (value c.holdings.slots.items (hand c.holdings.slots.items)))
+    go c.taken (is_there c.holdings.slots.items x) (is_of (kind_at x) (slot_value c.holdings.slots.items (hand c.holdings.slots.items)))
     (subst (λ (a : Act). idle a c.holdings.slots.items c.taken ≡ false) act (still lt))
   where
     go : (a b c : Bool) → not (a && b && c) ≡ false → (b ≡ true) × (c ≡ true)
@@ -70,18 +71,20 @@ swap_goes c x lt still act =
     go false b c e = cc
 
 -- where it goes
-pub going_is : (slots : Slots) (c : CellName) (i : ℕ) → is_there slots c ≡ true → is_of (kind_at c) (value slots i) ≡ true
+pub going_is : (slots : Slots) (c : CellName) (i : ℕ) → is_there slots c ≡ true → is_of (kind_at c) (slot_value slots i) ≡ true
     → going_from slots c i ≡ Some (c, i)
 going_is slots c i there is =
-    ap (λ (b : Bool). cond {A = Option Going} (b && is_of (kind_at c) (value slots i)) (Some (c, i)) None) there
+    ap (λ (b : Bool). cond {A = Option Going} (b && is_of (kind_at c) (slot_value slots i)) (Some (c, i)) None) there
     ∙ ap (λ (b : Bool). cond {A = Option Going} b (Some (c, i)) None) is
 
 pub drop_empty : (c : Course) → c.at < length c.tasks.items → CourseReady c → (task_at c).act ≡ Drop → c.taken ≡ false
 drop_empty c lt ready act =
-    let b : Begins (other c.holdings.slots.items) c.taken Drop = subst (Begins (other c.holdings.slots.items) c.taken) act (ready_head c lt ready).0 in b
+    let b : MayComeNext (other c.holdings.slots.items) c.taken Drop =
+    subst (MayComeNext (other c.holdings.slots.items) c.taken) act (ready_head c lt ready).0 in b
 
 -- a swap moves no block
-same_stores : (v : Story) (d : ℕ) (c : Cell) (new x : CellWord) → (state (after v d (OnCell (cell_deed.Swap c new x)))).stores ≡ (state v).stores
+same_stores : (v : Story) (d : ℕ) (c : Cell) (new x : CellWord)
+    → (story_state (story_after_deed v d (OnCell (cell_deed.Swap c new x)))).stores ≡ (story_state v).stores
 same_stores v d (Free n) new x = refl
 same_stores v d (Member b m) new x = refl
 
@@ -98,26 +101,26 @@ next_back k n x (Some b) c = tt
 
 -- what came out owes its funds
 pub half_back : (d : ℕ) (slots : Slots) (a : Act) (w : Story) (k : Kind) (n : ℕ) (x : CellWord) (o : Option Block) → x.owned ≡ o
-    → pending w d ≡ owing (state w) k x.owned x.place (256 - x.taken) 0 → HalfFits d (gives_back k n x o) slots a w
-half_back d slots a w k n x None e is = is ∙ ap (λ (b : Option Block). owing (state w) k b x.place (256 - x.taken) 0) e
-half_back d slots a w k n x (Some b) e is = (x.place, is ∙ ap (λ (b : Option Block). owing (state w) k b x.place (256 - x.taken) 0) e)
+    → pending w d ≡ owing_funds (story_state w) k x.owned x.place (256 - x.taken) 0 → HalfFits d (gives_back k n x o) slots a w
+half_back d slots a w k n x None e is = is ∙ ap (λ (b : Option Block). owing_funds (story_state w) k b x.place (256 - x.taken) 0) e
+half_back d slots a w k n x (Some b) e is = (x.place, is ∙ ap (λ (b : Option Block). owing_funds (story_state w) k b x.place (256 - x.taken) 0) e)
 
 -- the swap is made
-pub fits_swapped : (d : ℕ) (t : Thread) (v : Story) (c : CellName) (new x : CellWord) (n : ℕ) (h : Half) (c' : Course) → Kept v → Fits d t v
+pub fits_swapped : (d : ℕ) (t : Thread) (v : Story) (c : CellName) (new x : CellWord) (n : ℕ) (h : Half) (c' : Course) → Kept v → FitsThread d t v
     → (t.half ≡ Rest) ⊎ (t.half ≡ Brought) → t.course.endings.list ≡ [] → IsIn v.extent.shape c
-    → HasGoneOn d t.course c' (after v d (OnCell (cell_deed.Swap (cell_at (state v) t.course.holdings.slots.items c) new x)))
+    → HasGoneOn d t.course c' (story_after_deed v d (OnCell (cell_deed.Swap (cell_of_name (story_state v) t.course.holdings.slots.items c) new x)))
     → h ≡ gives_back (kind_at c) n x x.owned
-    → Fits d (record { course = c'; stock = t.stock; half = h })
-    (after v d (OnCell (cell_deed.Swap (cell_at (state v) t.course.holdings.slots.items c) new x)))
+    → FitsThread d (record { course = c'; stock = t.stock; half = h })
+    (story_after_deed v d (OnCell (cell_deed.Swap (cell_of_name (story_state v) t.course.holdings.slots.items c) new x)))
 fits_swapped d t v c new x n h c' kept fits was none lt on e =
-    let at = cell_at (state v) t.course.holdings.slots.items c in
-    let w = after v d (OnCell (cell_deed.Swap at new x)) in
+    let at = cell_of_name (story_state v) t.course.holdings.slots.items c in
+    let w = story_after_deed v d (OnCell (cell_deed.Swap at new x)) in
     let k = cell_kind v t.course.holdings.slots.items c lt in
     let s = fits.stocks in
-    let owes : pending w d ≡ owing (state w) (kind_at c) x.owned x.place (256 - x.taken) 0 =
-    owes_after v d (cell_deed.Swap at new x) kept fits.seat ∙ ap (λ (q : Kind). owing (state w) q x.owned x.place (256 - x.taken) 0)
+    let owes : pending w d ≡ owing_funds (story_state w) (kind_at c) x.owned x.place (256 - x.taken) 0 =
+    owes_after v d (cell_deed.Swap at new x) kept fits.seat ∙ ap (λ (q : Kind). owing_funds (story_state w) q x.owned x.place (256 - x.taken) 0)
     (kind_stays v w at refl ∙ k) in
-    subst (λ (q : Half). Fits d (record { course = c'; stock = t.stock; half = q }) w) (sym e)
+    subst (λ (q : Half). FitsThread d (record { course = c'; stock = t.stock; half = q }) w) (sym e)
     (record {
       seat = fits.seat;
       holds = on.holds;
@@ -130,7 +133,7 @@ fits_swapped d t v c new x n h c' kept fits was none lt on e =
           record {
             stocked = λ b.
                 let a = s.stocked b in
-                let same : in_store (state w) d b ≡ in_store (state v) d b =
+                let same : in_store (story_state w) d b ≡ in_store (story_state v) d b =
                 ap (λ l. length (filter (same_stored (stored d b)) l)) (same_stores v d at new x) in
                 let before = claimed_none t.half b was in
                 let behind = claims_none (kind_at c) n x x.owned b in omega (arith, a, same, before, behind);
@@ -141,11 +144,11 @@ fits_swapped d t v c new x n h c' kept fits was none lt on e =
     })
 
 -- the funds are given back
-pub fits_returned : (d : ℕ) (t : Thread) (v : Story) (k : Kind) (b : Block) (f n : ℕ) → Kept v → Fits d t v → t.half ≡ Returning k b f n
-    → Fits d (record { course = t.course; stock = t.stock; half = Rest }) (after v d (OnCell (cell_deed.GiveBack k b f)))
+pub fits_returned : (d : ℕ) (t : Thread) (v : Story) (k : Kind) (b : Block) (f n : ℕ) → Kept v → FitsThread d t v → t.half ≡ Returning k b f n
+    → FitsThread d (record { course = t.course; stock = t.stock; half = Rest }) (story_after_deed v d (OnCell (cell_deed.GiveBack k b f)))
 fits_returned d t v k b f n kept fits e =
     let x = OnCell (cell_deed.GiveBack k b f) in
-    let w = after v d x in
+    let w = story_after_deed v d x in
     let s : Stocks d t.stock.blocks t.stock.room (Returning k b f n) v = subst (λ (h : Half). Stocks d t.stock.blocks t.stock.room h v) e fits.stocks in
     record {
       seat = fits.seat;
@@ -171,15 +174,17 @@ fits_returned d t v k b f n kept fits e =
     }
 
 -- a deed on what a slot holds was done, and the thread went on
-pub fits_done : (f : Pointer → Deed) (d : ℕ) (t : Thread) (v w : Story) (o : Option Pointer) (c : Course) → Kept v → Fits d t v → t.half ≡ Rest
+pub fits_done : (f : Pointer → Deed) (d : ℕ) (t : Thread) (v w : Story) (o : Option Pointer) (c : Course) → Kept v → FitsThread d t v
+    → t.half ≡ Rest
     → t.course.endings.list ≡ [] → ((x : Pointer) → pending_after v d (f x) ≡ Idle)
-    → ((x : Pointer) → (state (after v d (f x))).stores ≡ (state v).stores) → w ≡ done_on f v d o → HasGoneOn d t.course c w
-    → Fits d (record { course = c; stock = t.stock; half = Rest }) w
+    → ((x : Pointer) → (story_state (story_after_deed v d (f x))).stores ≡ (story_state v).stores) → w ≡ done_on f v d o → HasGoneOn d t.course c w
+    → FitsThread d (record { course = c; stock = t.stock; half = Rest }) w
 fits_done f d t v w o c kept fits e none calm stores is on =
-    subst (λ (u : Story). Fits d (record { course = c; stock = t.stock; half = Rest }) u) (sym is)
+    subst (λ (u : Story). FitsThread d (record { course = c; stock = t.stock; half = Rest }) u) (sym is)
     (go o (subst (λ (u : Story). HasGoneOn d t.course c u) is on))
   where
-    go : (o : Option Pointer) → HasGoneOn d t.course c (done_on f v d o) → Fits d (record { course = c; stock = t.stock; half = Rest }) (done_on f v d o)
+    go : (o : Option Pointer) → HasGoneOn d t.course c (done_on f v d o)
+        → FitsThread d (record { course = c; stock = t.stock; half = Rest }) (done_on f v d o)
     go None on =
         let s = resting d t v fits e in
         record {
@@ -196,7 +201,7 @@ fits_done f d t v w o c kept fits e none calm stores is on =
         }
     go (Some x) on =
         let s = resting d t v fits e in
-        let u = after v d (f x) in
+        let u = story_after_deed v d (f x) in
         record {
           seat = fits.seat;
           holds = on.holds;
@@ -218,6 +223,6 @@ pub share_calm : (v : Story) (d : ℕ) (x : Pointer) (k : Kind) → pending_afte
 share_calm v d x Owner = refl
 share_calm v d x Weak = refl
 
-pub share_stores : (v : Story) (d : ℕ) (x : Pointer) (k : Kind) → (state (after v d (share_as k x))).stores ≡ (state v).stores
+pub share_stores : (v : Story) (d : ℕ) (x : Pointer) (k : Kind) → (story_state (story_after_deed v d (share_as k x))).stores ≡ (story_state v).stores
 share_stores v d x Owner = refl
 share_stores v d x Weak = refl

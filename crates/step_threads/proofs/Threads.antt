@@ -24,12 +24,12 @@ use Rattle.step_threads.specs.declared.half.Half.TheVariants.{Rest, Making}
 use Rattle.step_table.specs.declared.past.Deed.{Deed}
 use Rattle.step_table.specs.declared.past.Deed.TheVariants as deed
 use Rattle.step_threads.specs.declared.thread.Thread.{Thread}
-use Rattle.step_threads.specs.Actors.{HalfFits, IsPrepared, Stocks, in_list, wanted}
-use Rattle.step_threads.specs.Courses.{Begins, CourseReady, HasCell, HasGoneOn, IsReady, Ready, form_of, no_task, other, rest, taken_after, task_at}
+use Rattle.step_threads.specs.Actors.{HalfFits, IsPreparedSoFar, Stocks, in_list, wanted}
+use Rattle.step_threads.specs.Courses.{MayComeNext, CourseReady, HasCell, HasGoneOn, IsReady, TasksMayCome, form_of, no_task, other, rest, taken_after, task_at}
 use Rattle.step_threads.specs.Entries.{least}
-use Rattle.step_threads.specs.Stocks.{Stored}
-use Rattle.step_table.specs.Stories.{Kept, Nothing, Story, after, known, pending, pending_after, state}
-use Rattle.step_threads.specs.Threads.{Fits, IsNext, form_at}
+use Rattle.step_threads.specs.Stocks.{StoreView}
+use Rattle.step_table.specs.Stories.{Kept, Nothing, Story, story_after_deed, known_words, pending, pending_after, story_state}
+use Rattle.step_threads.specs.Threads.{FitsThread, IsNext, form_at}
 use Rattle.step_threads.proofs.Courses.{owed_by, ready_any, ready_head}
 use Rattle.step_threads.proofs.holding.Ends.{ends_gone, ends_none}
 use Rattle.step_threads.proofs.holding.Least.{least_stored, none_stored}
@@ -37,14 +37,14 @@ use Rattle.step_threads.proofs.holding.Storing.{stocks_claim, stocks_take}
 use Rattle.step_table.proofs.tables.Places.{making_stored, named}
 
 -- the desk's own half-done call after its deed
-pub own_pending : (v : Story) (d : ℕ) (x : Deed) → Kept v → d < v.extent.actors → pending (after v d x) d ≡ pending_after v d x
+pub own_pending : (v : Story) (d : ℕ) (x : Deed) → Kept v → d < v.extent.actors → pending (story_after_deed v d x) d ≡ pending_after v d x
 own_pending v d x kept lt =
     ap (λ (w : View Nothing). w.pending) (get_or-set_same v.views d _ used_up (let s = kept.seats.size in omega (arith, s)))
 
 -- a make comes with nothing in hand
 pub make_empty : (c : Course) (form : Form) → c.at < length c.tasks.items → CourseReady c → (task_at c).act ≡ Make form → c.taken ≡ false
 make_empty c form lt ready act =
-    let b : Begins (other c.holdings.slots.items) c.taken (Make form) = subst (Begins (other c.holdings.slots.items) c.taken) act
+    let b : MayComeNext (other c.holdings.slots.items) c.taken (Make form) = subst (MayComeNext (other c.holdings.slots.items) c.taken) act
     (ready_head c lt ready).0 in b.0
 
 -- a lock that gives no owner takes an empty value, or nothing where it is refused
@@ -53,8 +53,8 @@ pub lost_ready : (c : Course) (k : ℕ) (must : Bool) → c.at < length c.tasks.
 lost_ready c k must lt ready act =
     let h = ready_head c lt ready in
     let n = other c.holdings.slots.items in
-    let b : Begins n c.taken (Lock k must) = subst (Begins n c.taken) act h.0 in
-    let r : Ready n true (rest c) = subst (λ (a : Act). Ready n (taken_after a c.taken) (rest c)) act h.2 in
+    let b : MayComeNext n c.taken (Lock k must) = subst (MayComeNext n c.taken) act h.0 in
+    let r : TasksMayCome n true (rest c) = subst (λ (a : Act). TasksMayCome n (taken_after a c.taken) (rest c)) act h.2 in
     record {
       some = ready.some;
       free = λ e. ready.free b.1;
@@ -62,7 +62,7 @@ lost_ready c k must lt ready act =
       ready = go must r;
     }
   where
-    go : (m : Bool) → Ready (other c.holdings.slots.items) true (rest c) → Ready (other c.holdings.slots.items) (not m) (rest c)
+    go : (m : Bool) → TasksMayCome (other c.holdings.slots.items) true (rest c) → TasksMayCome (other c.holdings.slots.items) (not m) (rest c)
     go true r = ready_any (other c.holdings.slots.items) (rest c) r
     go false r = r
 
@@ -72,8 +72,8 @@ pub leave_empty : (c : Course) (k : ℕ) → c.at < length c.tasks.items → Cou
 leave_empty c k lt ready act =
     let n = other c.holdings.slots.items in
     let h = (ready_head c lt ready).0 in
-    ⊎_elim (λ (e : (task_at c).act ≡ Leave k). let b : Begins n c.taken (Leave k) = subst (Begins n c.taken) e h in b.1)
-    (λ (e : (task_at c).act ≡ Clear k). let b : Begins n c.taken (Clear k) = subst (Begins n c.taken) e h in b.1) act
+    ⊎_elim (λ (e : (task_at c).act ≡ Leave k). let b : MayComeNext n c.taken (Leave k) = subst (MayComeNext n c.taken) e h in b.1)
+    (λ (e : (task_at c).act ≡ Clear k). let b : MayComeNext n c.taken (Clear k) = subst (MayComeNext n c.taken) e h in b.1) act
 
 -- a make that is refused takes nothing
 pub refused_ready : (c : Course) (form : Form) → c.at < length c.tasks.items → CourseReady c → (task_at c).act ≡ Make form
@@ -81,13 +81,13 @@ pub refused_ready : (c : Course) (form : Form) → c.at < length c.tasks.items �
 refused_ready c form lt ready act =
     let h = ready_head c lt ready in
     let n = other c.holdings.slots.items in
-    let b : Begins n c.taken (Make form) = subst (Begins n c.taken) act h.0 in
-    let r : Ready n true (rest c) = subst (λ (a : Act). Ready n (taken_after a c.taken) (rest c)) act h.2 in
+    let b : MayComeNext n c.taken (Make form) = subst (MayComeNext n c.taken) act h.0 in
+    let r : TasksMayCome n true (rest c) = subst (λ (a : Act). TasksMayCome n (taken_after a c.taken) (rest c)) act h.2 in
     record {
       some = ready.some;
       free = ready.free;
       owes = inl (owed_by c (Make form) lt ready act (λ e. e));
-      ready = subst (λ (t : Bool). Ready n t (rest c)) (sym b.0) (ready_any n (rest c) r);
+      ready = subst (λ (t : Bool). TasksMayCome n t (rest c)) (sym b.0) (ready_any n (rest c) r);
     }
 
 pub form_here : (c : Course) (form : Form) → (task_at c).act ≡ Make form → form_at c ≡ form
@@ -109,32 +109,33 @@ pub cell_here : (c : Course) (v : Story) → c.at < length c.tasks.items → All
     → HasCell v.extent.shape (task_at c).act
 cell_here c v lt cells = cells c.at no_task lt
 
-pub resting : (d : ℕ) (t : Thread) (v : Story) → Fits d t v → t.half ≡ Rest → Stocks d t.stock.blocks t.stock.room Rest v
+pub resting : (d : ℕ) (t : Thread) (v : Story) → FitsThread d t v → t.half ≡ Rest → Stocks d t.stock.blocks t.stock.room Rest v
 resting d t v fits e = subst (λ (h : Half). Stocks d t.stock.blocks t.stock.room h v) e fits.stocks
 
-pub prepared : (d : ℕ) (t : Thread) (v : Story) (b : Block) (i : ℕ) (f : Bool) → Fits d t v → t.half ≡ Making b i f
-    → IsPrepared d b i (form_at t.course) v
+pub prepared : (d : ℕ) (t : Thread) (v : Story) (b : Block) (i : ℕ) (f : Bool) → FitsThread d t v → t.half ≡ Making b i f
+    → IsPreparedSoFar d b i (form_at t.course) v
 prepared d t v b i f fits e = subst (λ (h : Half). HalfFits d h t.course.holdings.slots.items (task_at t.course).act v) e fits.half
 
 -- the block that the stock gave is the least of the store, which has none where the stock is empty
-pub least_here : (d : ℕ) (t : Thread) (v : Story) (b : Block) (s : Stored) → Fits d t v → t.half ≡ Rest
+pub least_here : (d : ℕ) (t : Thread) (v : Story) (b : Block) (s : StoreView) → FitsThread d t v → t.half ≡ Rest
     → IsPermutation t.stock.blocks (b.0 ∷ s.blocks)
-    → All (λ c. b.0 ≤ c) t.stock.blocks → least d (state v).stores ≡ Some b.0
+    → All (λ c. b.0 ≤ c) t.stock.blocks → least d (story_state v).stores ≡ Some b.0
 least_here d t v b s fits e p all =
     let x = resting d t v fits e in
-    least_stored d b.0 (state v).stores t.stock.blocks (λ c. let q = x.stocked c in omega (arith, q))
+    least_stored d b.0 (story_state v).stores t.stock.blocks (λ c. let q = x.stocked c in omega (arith, q))
     (let a = sum_by_popped (λ (c : ℕ). cond (c == b.0) 1 0) b.0 t.stock.blocks s.blocks p in
     let o = cond-true {A = ℕ} (b.0 == b.0) 1 0 (eq-eqb b.0 b.0 refl) in omega (arith, a, o)) all
 
-pub least_nowhere : (d : ℕ) (t : Thread) (v : Story) → Fits d t v → t.half ≡ Rest → t.stock.blocks ≡ [] → least d (state v).stores ≡ None
+pub least_nowhere : (d : ℕ) (t : Thread) (v : Story) → FitsThread d t v → t.half ≡ Rest → t.stock.blocks ≡ []
+    → least d (story_state v).stores ≡ None
 least_nowhere d t v fits e none =
     let x = resting d t v fits e in
-    none_stored d (state v).stores (λ c. let q = x.stocked c in let z : in_list c t.stock.blocks ≡ 0 = ap (in_list c) none in omega (arith, q, z))
+    none_stored d (story_state v).stores (λ c. let q = x.stocked c in let z : in_list c t.stock.blocks ≡ 0 = ap (in_list c) none in omega (arith, q, z))
 
-pub fits_prepare : (d : ℕ) (t : Thread) (v : Story) (b : Block) (s : Stored) (form : Form) → Kept v → Fits d t v → t.half ≡ Rest
+pub fits_prepare : (d : ℕ) (t : Thread) (v : Story) (b : Block) (s : StoreView) (form : Form) → Kept v → FitsThread d t v → t.half ≡ Rest
     → t.course.endings.list ≡ [] → t.course.at < length t.course.tasks.items → (task_at t.course).act ≡ Make form
     → IsPermutation t.stock.blocks (b.0 ∷ s.blocks) → All (λ c. b.0 ≤ c) t.stock.blocks → s.room ≡ t.stock.room
-    → Fits d (record { course = t.course; stock = s; half = Making b 0 false }) (after v d (deed.Prepare b))
+    → FitsThread d (record { course = t.course; stock = s; half = Making b 0 false }) (story_after_deed v d (deed.Prepare b))
 fits_prepare d t v b s form kept fits e none lt act p all room =
     let o = own_pending v d (deed.Prepare b) kept fits.seat in
     let x = stocks_take d t.stock.blocks s.blocks t.stock.room 0 false v b (resting d t v fits e) p in
@@ -153,12 +154,12 @@ fits_prepare d t v b s form kept fits e none lt act p all room =
           };
       next = (lt, next_here t.course form act, none);
       stocks = record { stocked = x.stocked; roomy = (let q = x.roomy in omega (arith, q, room)) };
-      endings = ends_none d t.course (after v d (deed.Prepare b)) none fits.endings.roomy;
+      endings = ends_none d t.course (story_after_deed v d (deed.Prepare b)) none fits.endings.roomy;
       cells = fits.cells;
     }
 
-pub fits_write : (d : ℕ) (t : Thread) (v : Story) (b : Block) (i : ℕ) → Kept v → Fits d t v → t.half ≡ Making b i true → i < 5
-    → Fits d (record { course = t.course; stock = t.stock; half = Making b (i + 1) false }) (after v d (deed.Write b i (get_or (wanted
+pub fits_write : (d : ℕ) (t : Thread) (v : Story) (b : Block) (i : ℕ) → Kept v → FitsThread d t v → t.half ≡ Making b i true → i < 5
+    → FitsThread d (record { course = t.course; stock = t.stock; half = Making b (i + 1) false }) (story_after_deed v d (deed.Write b i (get_or (wanted
     (form_at t.course)) i 0)))
 fits_write d t v b i kept fits e lt =
     let n = get_or (wanted (form_at t.course)) i 0 in
@@ -166,8 +167,8 @@ fits_write d t v b i kept fits e lt =
     let o = own_pending v d (deed.Write b i n) kept fits.seat in
     let x : Stocks d t.stock.blocks t.stock.room (Making b i true) v = subst (λ (h : Half). Stocks d t.stock.blocks t.stock.room h v) e fits.stocks in
     let y : IsNext (Making b i true) t.course = subst (λ (h : Half). IsNext h t.course) e fits.next in
-    let k = known (pending v d) in
-    let five : length k ≡ 5 = ap (λ (q : Pending Nothing). length (known q)) p.making.making ∙ p.making.size in
+    let k = known_words (pending v d) in
+    let five : length k ≡ 5 = ap (λ (q : Pending Nothing). length (known_words q)) p.making.making ∙ p.making.size in
     record {
       seat = fits.seat;
       holds = record { owned = fits.holds.owned; size = fits.holds.size; formed = fits.holds.formed };
@@ -180,7 +181,7 @@ fits_write d t v b i kept fits e lt =
             within = omega arith;
             least = p.least;
             done = λ j l.
-                ap (λ (q : Pending Nothing). get_or (known q) j 0) o
+                ap (λ (q : Pending Nothing). get_or (known_words q) j 0) o
                 ∙ ⊎_elim (λ (u : j ≡ i). subst
                 (λ (m : ℕ). get_or (set k i n) m 0 ≡ get_or (wanted (form_at t.course)) m 0) (sym u) (get_or-set_same k i n 0 (omega
                 (arith, five))))
@@ -188,18 +189,19 @@ fits_write d t v b i kept fits e lt =
           };
       next = y;
       stocks = record { stocked = x.stocked; roomy = x.roomy };
-      endings = ends_none d t.course (after v d (deed.Write b i n)) y.2 fits.endings.roomy;
+      endings = ends_none d t.course (story_after_deed v d (deed.Write b i n)) y.2 fits.endings.roomy;
       cells = fits.cells;
     }
 
-pub fits_claim : (d : ℕ) (t : Thread) (v : Story) (b : Block) (f : Bool) (form : Form) (c : Course) → Kept v → Fits d t v → t.half ≡ Making b 5 f
-    → HasGoneOn d t.course c (after v d (deed.Claim b form.enabled form.null form.fields))
-    → Fits d (record { course = c; stock = t.stock; half = Rest }) (after v d (deed.Claim b form.enabled form.null form.fields))
+pub fits_claim : (d : ℕ) (t : Thread) (v : Story) (b : Block) (f : Bool) (form : Form) (c : Course) → Kept v → FitsThread d t v
+    → t.half ≡ Making b 5 f
+    → HasGoneOn d t.course c (story_after_deed v d (deed.Claim b form.enabled form.null form.fields))
+    → FitsThread d (record { course = c; stock = t.stock; half = Rest }) (story_after_deed v d (deed.Claim b form.enabled form.null form.fields))
 fits_claim d t v b f form c kept fits e on =
     let p = prepared d t v b 5 f fits e in
     let x : Stocks d t.stock.blocks t.stock.room (Making b 5 f) v = subst (λ (h : Half). Stocks d t.stock.blocks t.stock.room h v) e fits.stocks in
     let y : IsNext (Making b 5 f) t.course = subst (λ (h : Half). IsNext h t.course) e fits.next in
-    let has = subst (λ (n : ℕ). Has (stored n b.0) (state v).stores) (named v d kept fits.seat)
+    let has = subst (λ (n : ℕ). Has (stored n b.0) (story_state v).stores) (named v d kept fits.seat)
     (making_stored v d b p.making.words kept fits.seat p.making.making) in
     record {
       seat = fits.seat;
@@ -210,6 +212,6 @@ fits_claim d t v b f form c kept fits e on =
       half = own_pending v d (deed.Claim b form.enabled form.null form.fields) kept fits.seat;
       next = tt;
       stocks = stocks_claim d t.stock.blocks t.stock.room 5 f v b form x has;
-      endings = ends_gone d t.course c v (after v d (deed.Claim b form.enabled form.null form.fields)) fits.endings y.2 on.endings refl;
-      cells = cells_on d t.course c (after v d (deed.Claim b form.enabled form.null form.fields)) on fits.cells;
+      endings = ends_gone d t.course c v (story_after_deed v d (deed.Claim b form.enabled form.null form.fields)) fits.endings y.2 on.endings refl;
+      cells = cells_on d t.course c (story_after_deed v d (deed.Claim b form.enabled form.null form.fields)) on fits.cells;
     }

@@ -13,7 +13,7 @@ use Rattle.step_threads.specs.declared.half.Half.{Half}
 use Rattle.step_threads.specs.declared.half.Half.TheVariants.{Rest, Making, Locking, Giving, Brought, Saw, Matched}
 use Rattle.step_threads.specs.declared.half.Half.TheVariants.{Refill, Returning, Clearing}
 use Rattle.step_table.specs.declared.holdings.Pointer.{Pointer}
-use Rattle.step_table.specs.CellDeeds.{owing}
+use Rattle.step_table.specs.CellDeeds.{owing_funds}
 use Rattle.step_table.specs.Contents.{owing_for}
 use Rattle.step_threads.specs.Courses.{form_of, new_of}
 use Rattle.step_table.specs.Deeds.{is_enabled}
@@ -21,7 +21,7 @@ use Rattle.step_table.specs.Holdings.{Slots}
 use Rattle.step_threads.specs.Entries.{least}
 use Rattle.control_word.specs.Packing.{IsCellWord}
 use Rattle.step_table.specs.Refills.{RefillFits}
-use Rattle.step_table.specs.Stories.{IsMaking, Story, handle_in, known, pending, state}
+use Rattle.step_table.specs.Stories.{IsMaking, Story, handle_in_block, known_words, pending, story_state}
 
 -- how often the desk has the block in its store, and how often a list has it
 abbrev pub in_store : State → ℕ → ℕ → ℕ
@@ -45,7 +45,7 @@ claimed Clearing b = 0
 
 -- The stock has just the desk's vacant blocks, but for the one that a making took
 pub record Stocks (d : ℕ) (blocks : List ℕ) (room : ℕ) (half : Half) (v : Story) : Type 0 where
-  pub stocked : (b : ℕ) → in_store (state v) d b ≡ in_list b blocks + claimed half b
+  pub stocked : (b : ℕ) → in_store (story_state v) d b ≡ in_list b blocks + claimed half b
   pub roomy : v.extent.shape.blocks ≤ room
 
 -- what a make wants its block's loose words to be: the flags and the fields
@@ -53,28 +53,28 @@ abbrev pub wanted : Form → List ℕ
 wanted form = flags_of form.enabled form.null ∷ form.fields
 
 -- the block is the least of the store, and the words before are as they are wanted
-pub record IsPrepared (d : ℕ) (b : Block) (at : ℕ) (form : Form) (v : Story) : Type 0 where
+pub record IsPreparedSoFar (d : ℕ) (b : Block) (at : ℕ) (form : Form) (v : Story) : Type 0 where
   pub making : IsMaking v d b
   pub within : at ≤ 5
-  pub least : least d (state v).stores ≡ Some b.0
-  pub done : (j : ℕ) → j < at → get_or (known (pending v d)) j 0 ≡ get_or (wanted form) j 0
+  pub least : least d (story_state v).stores ≡ Some b.0
+  pub done : (j : ℕ) → j < at → get_or (known_words (pending v d)) j 0 ≡ get_or (wanted form) j 0
 
 -- the desk has a pointer whose object gives pointers to itself
 pub record IsGiving (d : ℕ) (x : Pointer) (v : Story) : Type 0 where
   pub idle : pending v d ≡ Idle
-  pub has : Has (held d (handle_in v x.kind x.block x.place)) (state v).hands
-  pub enabled : is_enabled (state v) x ≡ true
+  pub has : Has (held d (handle_in_block v x.kind x.block x.place)) (story_state v).hands
+  pub enabled : is_enabled (story_state v) x ≡ true
 
 -- what is half done of an act, with this in the slots, is as the desk's view says
 abbrev pub HalfFits : ℕ → Half → Slots → Act → Story → Type 0
 HalfFits d Rest slots a v = pending v d ≡ Idle
-HalfFits d (Making b i differs) slots a v = IsPrepared d b i (form_of a) v
+HalfFits d (Making b i differs) slots a v = IsPreparedSoFar d b i (form_of a) v
 HalfFits d (Locking found) slots a v = (pending v d ≡ Idle) × (0 < found)
 HalfFits d (Giving i kind x) slots a v = IsGiving d x v
-HalfFits d Brought slots a v = pending v d ≡ owing_for (state v) (new_of slots a) 256
+HalfFits d Brought slots a v = pending v d ≡ owing_for (story_state v) (new_of slots a) 256
 HalfFits d (Saw x) slots a v = (pending v d ≡ Idle) × IsCellWord x
-HalfFits d (Matched x) slots a v = (pending v d ≡ owing_for (state v) (new_of slots a) 256) × IsCellWord x
+HalfFits d (Matched x) slots a v = (pending v d ≡ owing_for (story_state v) (new_of slots a) 256) × IsCellWord x
 HalfFits d (Refill stage c x k) slots a v = RefillFits d stage c x v
 HalfFits d Clearing slots a v = pending v d ≡ Idle
 HalfFits d (Returning kind b funds k) slots a v = (p : Option Place)
-    × (pending v d ≡ owing (state v) kind (Some b) p funds 0)
+    × (pending v d ≡ owing_funds (story_state v) kind (Some b) p funds 0)

@@ -56,9 +56,9 @@ tail (Named name) = act.Put name.0 ∷ []
 tail (Into cell) = act.Swap cell ∷ act.Drop ∷ []
 tail (IntoAs cell name weak) = act.Compare name.0 cell weak ∷ act.Put name.0 ∷ act.Drop ∷ []
 
-abbrev pub numbered : ℕ → List Act → List Task
-numbered k [] = []
-numbered k (a ∷ rest) = record { statement = k; act = a } ∷ numbered k rest
+abbrev pub numbered_tasks : ℕ → List Act → List Task
+numbered_tasks k [] = []
+numbered_tasks k (a ∷ rest) = record { statement = k; act = a } ∷ numbered_tasks k rest
 
 -- at its end a thread leaves its n names, the last declared first
 abbrev pub clearing : ℕ → List Task
@@ -68,4 +68,4 @@ clearing (suc n) = record { statement = 0; act = act.Clear n } ∷ clearing n
 -- all tasks of a thread with n names, whose next statement is k
 abbrev pub tasks_from : ℕ → List Call → ℕ → List Task
 tasks_from k [] n = clearing n
-tasks_from k (c ∷ cs) n = numbered k (acts c) ++ tasks_from (k + 1) cs n
+tasks_from k (c ∷ cs) n = numbered_tasks k (acts c) ++ tasks_from (k + 1) cs n

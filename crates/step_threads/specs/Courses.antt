@@ -22,13 +22,14 @@ use Rattle.step_table.specs.declared.comparing.Comparing.{Comparing}
 use Rattle.step_table.specs.Contents.{is_of}
 use Rattle.step_threads.specs.declared.ending.Ending.{Ending}
 use Rattle.step_table.specs.Deeds.{on}
-use Rattle.step_table.specs.Holdings.{Holds, Slots, inside, is_full, plain, pointer_of, slot, value, weak_slot}
+use Rattle.step_table.specs.Holdings.{HoldsBag, Slots, inside, is_full, plain, pointer_of, slot_pointer, slot_value}
+use Rattle.step_table.specs.Holdings.{weak_slot}
 use Rattle.control_word.specs.declared.view.Pending.TheVariants.{Idle}
 use Rattle.step_table.specs.declared.holdings.Pointer.{Pointer}
 use Rattle.step_table.specs.declared.past.Deed.{Deed}
 use Rattle.step_table.specs.declared.slot.Slot.{Slot}
 use Rattle.step_threads.specs.Programs.{IsIn, kind_at}
-use Rattle.step_table.specs.Stories.{Story, after, pending}
+use Rattle.step_table.specs.Stories.{Story, story_after_deed, pending}
 
 -- the last slot, for what an act takes
 abbrev pub hand : Slots → ℕ
@@ -40,18 +41,18 @@ other slots = length slots - 2
 
 -- the object is there whose member the cell is: the name owns it and points into it
 abbrev pub is_there : Slots → CellName → Bool
-is_there slots (cell.Member k m) = is_full (inside (slot slots k.0))
+is_there slots (cell.Member k m) = is_full (inside (slot_pointer slots k.0))
 is_there slots _ = true
 
 -- the block of that object; 0, which no object is in, where there is none
 abbrev pub block_at : Slots → ℕ → Block
-block_at slots k = on (λ (x : Pointer). x.block) (record { 0 = 0 }) (inside (slot slots k))
+block_at slots k = on (λ (x : Pointer). x.block) (record { 0 = 0 }) (inside (slot_pointer slots k))
 
 -- the cell in the table: the weak ones stand behind the shared ones
-abbrev pub cell_at : State → Slots → CellName → Cell
-cell_at s slots (cell.Shared n) = Free n
-cell_at s slots (cell.Weak n) = Free (s.shared + n)
-cell_at s slots (cell.Member k m) = Member (block_at slots k.0) m
+abbrev pub cell_of_name : State → Slots → CellName → Cell
+cell_of_name s slots (cell.Shared n) = Free n
+cell_of_name s slots (cell.Weak n) = Free (s.shared + n)
+cell_of_name s slots (cell.Member k m) = Member (block_at slots k.0) m
 
 -- what is taken of a value for a cell of a kind
 abbrev pub fitting : Kind → Slot → Slot
@@ -59,14 +60,14 @@ fitting k x = cond (is_of k x) x plain
 
 -- the pointer that is taken of a name for a cell that is there
 abbrev pub offered : Slots → ℕ → CellName → Option Pointer
-offered slots k c = cond (is_there slots c) (pointer_of (fitting (kind_at c) (value slots k))) None
+offered slots k c = cond (is_there slots c) (pointer_of (fitting (kind_at c) (slot_value slots k))) None
 
 -- a cell that is swapped, and the slot whose value goes in
 abbrev pub Going : Type 0
 Going = CellName × ℕ
 
 abbrev pub going_from : Slots → CellName → ℕ → Option Going
-going_from slots c k = cond (is_there slots c && is_of (kind_at c) (value slots k)) (Some (c, k)) None
+going_from slots c k = cond (is_there slots c && is_of (kind_at c) (slot_value slots k)) (Some (c, k)) None
 
 -- those of an act, where the cell is there and the value may go in
 abbrev pub going : Slots → Act → Option Going
@@ -80,9 +81,9 @@ on_going f none (Some x) = f x.0 x.1
 
 -- the value that an act puts into a cell, or would
 abbrev pub new_of : Slots → Act → Slot
-new_of slots (Swap c) = value slots (hand slots)
-new_of slots (Exchange k c) = value slots k
-new_of slots (Compare k c weak) = value slots (hand slots)
+new_of slots (Swap c) = slot_value slots (hand slots)
+new_of slots (Exchange k c) = slot_value slots k
+new_of slots (Compare k c weak) = slot_value slots (hand slots)
 new_of slots _ = plain
 
 -- what is in hand goes into a cell that is equivalent to slot k, and what the cell held is to be dropped; else what is
@@ -99,34 +100,34 @@ form_of (Make form) = form
 form_of _ = no_form
 
 -- the weak handle that an act locks
-abbrev pub locked : Slots → Act → Option Pointer
-locked slots (Lock k must) = weak_slot (slot slots k)
-locked slots _ = None
+abbrev pub locked_pointer : Slots → Act → Option Pointer
+locked_pointer slots (Lock k must) = weak_slot (slot_pointer slots k)
+locked_pointer slots _ = None
 
 -- the cell is there, and what was taken may go in
 abbrev pub is_offered : Slots → Bool → CellName → Bool
-is_offered slots taken c = taken && is_there slots c && is_of (kind_at c) (value slots (hand slots))
+is_offered slots taken c = taken && is_there slots c && is_of (kind_at c) (slot_value slots (hand slots))
 
 -- and so may what it is compared with
 abbrev pub is_compared : Slots → Bool → ℕ → CellName → Bool
-is_compared slots taken k c = is_offered slots taken c && is_of (kind_at c) (value slots k)
+is_compared slots taken k c = is_offered slots taken c && is_of (kind_at c) (slot_value slots k)
 
 -- a task that is no act where it comes
 abbrev pub idle : Act → Slots → Bool → Bool
-idle (Put k) slots taken = not (taken && is_full (slot slots k))
-idle (Clear k) slots taken = not (is_full (slot slots k))
+idle (Put k) slots taken = not (taken && is_full (slot_pointer slots k))
+idle (Clear k) slots taken = not (is_full (slot_pointer slots k))
 idle (Swap c) slots taken = not (is_offered slots taken c)
 idle (Compare k c weak) slots taken = not (is_compared slots taken k c)
-idle Drop slots taken = not (is_full (slot slots (other slots)))
+idle Drop slots taken = not (is_full (slot_pointer slots (other slots)))
 idle _ slots taken = false
 
 -- the value of slot i goes to slot k
-abbrev pub passed : ℕ → ℕ → Slots → Slots
-passed i k slots = slice_set (slice_set slots k (value slots i)) i plain
+abbrev pub slot_passed : ℕ → ℕ → Slots → Slots
+slot_passed i k slots = slice_set (slice_set slots k (slot_value slots i)) i plain
 
 -- the value in hand is in slot k
 abbrev pub placed : ℕ → Slots → Slots
-placed k slots = passed (hand slots) k slots
+placed k slots = slot_passed (hand slots) k slots
 
 -- what a task leaves that is idle: what is in hand and goes nowhere is to be dropped
 abbrev pub slots_idle : Act → Slots → Bool → Slots
@@ -150,10 +151,10 @@ pub record Walk : Type 0 where
   pub todo : List Task
 
 -- the thread at its next act
-abbrev pub settled : Slots → Bool → List Ending → List Task → Walk
-settled slots taken endings [] = record { slots = slots; taken = taken; endings = endings; todo = [] }
-settled slots taken endings (t ∷ ts) =
-    cond (idle t.act slots taken) (settled (slots_idle t.act slots taken) (taken_idle t.act taken) endings ts)
+abbrev pub walk_settled : Slots → Bool → List Ending → List Task → Walk
+walk_settled slots taken endings [] = record { slots = slots; taken = taken; endings = endings; todo = [] }
+walk_settled slots taken endings (t ∷ ts) =
+    cond (idle t.act slots taken) (walk_settled (slots_idle t.act slots taken) (taken_idle t.act taken) endings ts)
     (record { slots = slots; taken = taken; endings = endings; todo = t ∷ ts })
 
 -- a question about some of n names
@@ -168,27 +169,27 @@ IsNamed n (cell.Member k m) = k.0 < n
 IsNamed n _ = Unit {0}
 
 -- an act that may come with n names, where something was taken or not
-abbrev pub Begins : ℕ → Bool → Act → Type 0
-Begins n taken (Make form) = (taken ≡ false) × (length form.fields ≡ 4)
-Begins n taken (Share k) = (k < n) × (taken ≡ false)
-Begins n taken (Put k) = k < n
-Begins n taken (Leave k) = (k < n) × (taken ≡ false)
-Begins n taken (Clear k) = (k < n) × (taken ≡ false)
-Begins n taken (Count k) = k < n
-Begins n taken (Downgrade k) = (k < n) × (taken ≡ false)
-Begins n taken (Lock k must) = (k < n) × (taken ≡ false)
-Begins n taken (Expired k) = k < n
-Begins n taken (Read k) = k < n
-Begins n taken (FromThis k kind) = (k < n) × (taken ≡ false)
-Begins n taken (Alias k j field) = (k < n) × (j < n) × (taken ≡ false)
-Begins n taken (Move k) = (k < n) × (taken ≡ false)
-Begins n taken (Ask q) = IsAbout n q
-Begins n taken (Offer k c) = (k < n) × IsNamed n c × (taken ≡ false)
-Begins n taken (Swap c) = IsNamed n c
-Begins n taken (Exchange k c) = (k < n) × IsNamed n c × (taken ≡ false)
-Begins n taken (Load c) = IsNamed n c × (taken ≡ false)
-Begins n taken (Compare k c weak) = (k < n) × IsNamed n c
-Begins n taken Drop = taken ≡ false
+abbrev pub MayComeNext : ℕ → Bool → Act → Type 0
+MayComeNext n taken (Make form) = (taken ≡ false) × (length form.fields ≡ 4)
+MayComeNext n taken (Share k) = (k < n) × (taken ≡ false)
+MayComeNext n taken (Put k) = k < n
+MayComeNext n taken (Leave k) = (k < n) × (taken ≡ false)
+MayComeNext n taken (Clear k) = (k < n) × (taken ≡ false)
+MayComeNext n taken (Count k) = k < n
+MayComeNext n taken (Downgrade k) = (k < n) × (taken ≡ false)
+MayComeNext n taken (Lock k must) = (k < n) × (taken ≡ false)
+MayComeNext n taken (Expired k) = k < n
+MayComeNext n taken (Read k) = k < n
+MayComeNext n taken (FromThis k kind) = (k < n) × (taken ≡ false)
+MayComeNext n taken (Alias k j field) = (k < n) × (j < n) × (taken ≡ false)
+MayComeNext n taken (Move k) = (k < n) × (taken ≡ false)
+MayComeNext n taken (Ask q) = IsAbout n q
+MayComeNext n taken (Offer k c) = (k < n) × IsNamed n c × (taken ≡ false)
+MayComeNext n taken (Swap c) = IsNamed n c
+MayComeNext n taken (Exchange k c) = (k < n) × IsNamed n c × (taken ≡ false)
+MayComeNext n taken (Load c) = IsNamed n c × (taken ≡ false)
+MayComeNext n taken (Compare k c weak) = (k < n) × IsNamed n c
+MayComeNext n taken Drop = taken ≡ false
 
 abbrev pub taken_after : Act → Bool → Bool
 taken_after (Make form) taken = true
@@ -212,19 +213,20 @@ dropping later (Put k) = later
 dropping later _ = ⊥
 
 -- what is to be dropped is, before another act fills its slot
-abbrev pub Drops : List Task → Type 0
-Drops [] = ⊥
-Drops (t ∷ ts) = dropping (Drops ts) t.act
+abbrev pub DropsInTime : List Task → Type 0
+DropsInTime [] = ⊥
+DropsInTime (t ∷ ts) = dropping (DropsInTime ts) t.act
 
-abbrev pub Follows : Act → List Task → Type 0
-Follows (Swap c) ts = Drops ts
-Follows (Compare k c weak) ts = Drops ts
-Follows _ ts = Unit {0}
+abbrev pub MayFollow : Act → List Task → Type 0
+MayFollow (Swap c) ts = DropsInTime ts
+MayFollow (Compare k c weak) ts = DropsInTime ts
+MayFollow _ ts = Unit {0}
 
 -- the tasks may come with n names, where something was taken or not; at the end nothing is taken
-abbrev pub Ready : ℕ → Bool → List Task → Type 0
-Ready n taken [] = taken ≡ false
-Ready n taken (t ∷ ts) = Begins n taken t.act × Follows t.act ts × Ready n (taken_after t.act taken) ts
+abbrev pub TasksMayCome : ℕ → Bool → List Task → Type 0
+TasksMayCome n taken [] = taken ≡ false
+TasksMayCome n taken (t ∷ ts) = MayComeNext n taken t.act × MayFollow t.act ts
+    × TasksMayCome n (taken_after t.act taken) ts
 
 -- the shape has the cell of an act
 abbrev pub HasCell : Shape → Act → Type 0
@@ -238,14 +240,14 @@ HasCell z _ = Unit {0}
 -- an object ends, and what came out of one of its members is in hand
 abbrev pub IsCarried : Slots → List Ending → Type 0
 IsCarried slots [] = ⊥
-IsCarried slots (e ∷ es) = is_full (slot slots (hand slots)) ≡ true
+IsCarried slots (e ∷ es) = is_full (slot_pointer slots (hand slots)) ≡ true
 
 -- what a thread relies on
 pub record IsReady (slots : Slots) (taken : Bool) (endings : List Ending) (todo : List Task) : Type 0 where
   pub some : 1 < length slots
-  pub free : taken ≡ false → (value slots (hand slots) ≡ plain) ⊎ IsCarried slots endings
-  pub owes : (value slots (other slots) ≡ plain) ⊎ Drops todo
-  pub ready : Ready (other slots) taken todo
+  pub free : taken ≡ false → (slot_value slots (hand slots) ≡ plain) ⊎ IsCarried slots endings
+  pub owes : (slot_value slots (other slots) ≡ plain) ⊎ DropsInTime todo
+  pub ready : TasksMayCome (other slots) taken todo
 
 abbrev pub no_task : Task
 no_task = record { statement = 0; act = Count 0 }
@@ -269,7 +271,7 @@ CourseStill c = c.at < length c.tasks.items → idle (task_at c).act c.holdings.
 pub record CanAct (d : ℕ) (c : Course) (v : Story) : Type 0 where
   pub seat : d < v.extent.actors
   pub idle : pending v d ≡ Idle
-  pub holds : Holds d c.holdings.slots.items v
+  pub holds : HoldsBag d c.holdings.slots.items v
   pub within : c.at < length c.tasks.items
   pub ready : CourseReady c
   pub still : CourseStill c
@@ -278,7 +280,7 @@ pub record CanAct (d : ℕ) (c : Course) (v : Story) : Type 0 where
 
 -- the thread is at a later act, or at its end
 pub record HasGoneOn (d : ℕ) (c c' : Course) (v : Story) : Type 0 where
-  pub holds : Holds d c'.holdings.slots.items v
+  pub holds : HoldsBag d c'.holdings.slots.items v
   pub tasks : c'.tasks ≡ c.tasks
   pub endings : c'.endings ≡ c.endings
   pub within : c'.at ≤ length c'.tasks.items
@@ -293,4 +295,4 @@ rest c = drop (c.at + 1) c.tasks.items
 -- the deed is done where the slot holds something
 abbrev pub done_on : (Pointer → Deed) → Story → ℕ → Option Pointer → Story
 done_on f v d None = v
-done_on f v d (Some x) = after v d (f x)
+done_on f v d (Some x) = story_after_deed v d (f x)

@@ -18,10 +18,10 @@ use Rattle.step_table.specs.declared.ended.Ended.{Ended}
 use Rattle.step_table.specs.declared.form.Form.{Form}
 use Rattle.step_table.specs.declared.holdings.Pointer.{Pointer}
 use Rattle.step_table.specs.declared.slot.Slot.{Slot}
-use Rattle.step_table.specs.CellDeeds.{cell_in, kind_in}
-use Rattle.step_table.specs.Contents.{slot_of, told}
-use Rattle.step_table.specs.Deeds.{aliased, before, handle_of, is_enabled, owned}
-use Rattle.step_table.specs.Holdings.{Slots, inside, is_full, owner_slot, place_in, slot, value, weak_slot}
+use Rattle.step_table.specs.CellDeeds.{cell_in, kind_in_state}
+use Rattle.step_table.specs.Contents.{slot_of, named_handle}
+use Rattle.step_table.specs.Deeds.{aliased, pointer_before, handle_of, is_enabled, owned}
+use Rattle.step_table.specs.Holdings.{Slots, inside, is_full, owner_slot, place_in, slot_pointer, slot_value, weak_slot}
 use Rattle.step_threads.specs.declared.act.Act.{Act}
 use Rattle.step_threads.specs.declared.act.Act.TheVariants.{Make, Share, Downgrade, Lock, Put, Leave, Clear, Count}
 use Rattle.step_threads.specs.declared.act.Act.TheVariants.{Expired, Read, FromThis, Alias, Move, Ask, Offer, Swap}
@@ -32,9 +32,9 @@ use Rattle.step_threads.specs.declared.act.Task.{Task}
 use Rattle.step_threads.specs.declared.call.CellName.{CellName}
 use Rattle.step_threads.specs.declared.ending.Ending.{Ending}
 use Rattle.step_threads.specs.declared.said.Said.{Said}
-use Rattle.step_threads.specs.Courses.{Walk, cell_at, hand, is_there, offered, other}
+use Rattle.step_threads.specs.Courses.{Walk, cell_of_name, hand, is_there, offered, other}
 use Rattle.step_threads.specs.Endings.{staged}
-use Rattle.step_threads.specs.Rows.{Reply, Plain, Found, Got, Told, Came, Compared, Left, gone, may_go, row}
+use Rattle.step_threads.specs.Rows.{Reply, Plain, Found, Got, Told, Came, Compared, Left, walk_after_act, may_go, row}
 use Rattle.step_threads.specs.Rows.{said_by_row}
 use Rattle.step_threads.specs.Scenes.{remains_as}
 use Rattle.step_threads.specs.Steps.{silent}
@@ -49,9 +49,9 @@ Where true p q = p
 Where false p q = q
 
 -- what comes before the other; other questions are answered by the slots
-abbrev pub comes_before : State → Slots → Question → Bool
-comes_before s l (question.Before i j) = before s (slot l i) (slot l j)
-comes_before s l _ = true
+abbrev pub answers_order : State → Slots → Question → Bool
+answers_order s l (question.Before i j) = pointer_before s (slot_pointer l i) (slot_pointer l j)
+answers_order s l _ = true
 
 -- what a thread says that has something to say, with its desk
 abbrev pub spoken : ℕ → Said → List (ℕ × Said)
@@ -68,7 +68,11 @@ abbrev pub ahead_of : Slots → List Ending → List Task → Ahead
 ahead_of l [] [] = Over
 ahead_of l [] (t ∷ ts) = AnAct t ts
 ahead_of l (e ∷ es) ts =
-    cond (is_full (slot l (hand l))) (AnAct (record { statement = e.statement; act = Leave (hand l) }) ts) (AnEnd e es)
+    cond (is_full (slot_pointer l (hand l))) (AnAct (record {
+      statement = e.statement;
+      act =
+          Leave (hand l);
+    }) ts) (AnEnd e es)
 
 abbrev pub ahead : Walk → Ahead
 ahead w = ahead_of w.slots w.endings w.todo
@@ -93,72 +97,77 @@ module _ {V : Type 0} where
   leaves_as s Weak vacant x = event.WeakLeave (weak_of (owned s x) x.place) vacant
 
   -- a pointer leaves; where it was the last owner it is told what its object leaves
-  abbrev pub Leaves : State → Option Pointer → Bool → Option Ended → Option (Event V) → Type 0
-  Leaves s None last left e = (last ≡ false) × (left ≡ None) × (e ≡ None)
-  Leaves s (Some x) last left e =
+  abbrev pub IsLeaveEvent : State → Option Pointer → Bool → Option Ended → Option (Event V) → Type 0
+  IsLeaveEvent s None last left e = (last ≡ false) × (left ≡ None) × (e ≡ None)
+  IsLeaveEvent s (Some x) last left e =
       (e ≡ Some (leaves_as s x.kind last x)) × (left ≡ cond last (remains_as x.kind (s.object (owned s x))) None)
 
   -- what a cell held comes into a slot: by a load, a swap for the value of slot i, or a compare of that of slot k
-  abbrev pub Loads : State → Slots → CellName → Slot → Option (Event V) → Type 0
-  Loads s l c x e = (h : Handle) × (e ≡ Some (event.Load (cell_in s (cell_at s l c)) h)) × (x ≡ slot_of s h)
-
-  abbrev pub Swaps : State → Slots → CellName → ℕ → Slot → Option (Event V) → Type 0
-  Swaps s l c i x e =
-      let y = cell_at s l c in
-      (h : Handle) × (e ≡ Some (event.Swap (cell_in s y) (told s (kind_in s y) (value l i)) h))
+  abbrev pub IsLoadEvent : State → Slots → CellName → Slot → Option (Event V) → Type 0
+  IsLoadEvent s l c x e = (h : Handle) × (e ≡ Some (event.Load (cell_in s (cell_of_name s l c)) h))
       × (x ≡ slot_of s h)
 
-  abbrev pub Compares : State → Slots → CellName → ℕ → Bool → Bool → Slot → Option (Event V) → Type 0
-  Compares s l c k weak swaps x e =
-      let y = cell_at s l c in
-      let q = kind_in s y in
+  abbrev pub IsSwapEvent : State → Slots → CellName → ℕ → Slot → Option (Event V) → Type 0
+  IsSwapEvent s l c i x e =
+      let y = cell_of_name s l c in
+      (h : Handle) × (e ≡ Some (event.Swap (cell_in s y) (named_handle s (kind_in_state s y) (slot_value l i)) h))
+      × (x ≡ slot_of s h)
+
+  abbrev pub IsCompareEvent : State → Slots → CellName → ℕ → Bool → Bool → Slot
+      → Option (Event V) → Type 0
+  IsCompareEvent s l c k weak swaps x e =
+      let y = cell_of_name s l c in
+      let q = kind_in_state s y in
       (h : Handle)
-      × (e ≡ Some (event.Compare (cell_in s y) (told s q (value l k)) (told s q (value l (hand l))) h swaps weak))
+      × (e ≡ Some (event.Compare (cell_in s y) (named_handle s q (slot_value l k))
+      (named_handle s q (slot_value l (hand l))) h swaps weak))
       × (x ≡ slot_of s h)
 
   -- The act of desk d with this reply, with these slots, in state s, is event e, or none. Whether the reply of an event
   -- is right is asked by the history; of an act that is none it is said here. An object's value is what its form is
   -- worth
-  abbrev pub Makes : (Form → V) → State → ℕ → Slots → Act → Reply → Option (Event V) → Type 0
-  Makes worth s d l (Make form) (Found None) e = (stock s d ≡ []) × (e ≡ None)
-  Makes worth s d l (Make form) (Found (Some b)) e =
+  abbrev pub IsMakeEvent : (Form → V) → State → ℕ → Slots → Act → Reply → Option (Event V) → Type 0
+  IsMakeEvent worth s d l (Make form) (Found None) e = (stock s d ≡ []) × (e ≡ None)
+  IsMakeEvent worth s d l (Make form) (Found (Some b)) e =
       e ≡ Some (event.Make (record { 0 = b }) form.enabled form.null form.fields (worth form))
-  Makes worth s d l (Share k) Plain e = e ≡ option_map (copy s) (slot l k)
-  Makes worth s d l (Put k) (Left last left) e = Leaves s (slot l k) last left e
-  Makes worth s d l (Leave k) (Left last left) e = Leaves s (slot l k) last left e
-  Makes worth s d l (Clear k) (Left last left) e = Leaves s (slot l k) last left e
-  Makes worth s d l Drop (Left last left) e = Leaves s (slot l (other l)) last left e
-  Makes worth s d l (Count k) (Told n) e =
-      On (λ x. e ≡ Some (event.Count (handle_of s x) n)) ((n ≡ 0) × (e ≡ None)) (slot l k)
-  Makes worth s d l (Downgrade k) Plain e = e ≡ option_map (λ (x : Pointer). copies s Weak x.place x) (slot l k)
-  Makes worth s d l (Lock k must) (Got got) e =
+  IsMakeEvent worth s d l (Share k) Plain e = e ≡ option_map (copy s) (slot_pointer l k)
+  IsMakeEvent worth s d l (Put k) (Left last left) e = IsLeaveEvent s (slot_pointer l k) last left e
+  IsMakeEvent worth s d l (Leave k) (Left last left) e = IsLeaveEvent s (slot_pointer l k) last left e
+  IsMakeEvent worth s d l (Clear k) (Left last left) e = IsLeaveEvent s (slot_pointer l k) last left e
+  IsMakeEvent worth s d l Drop (Left last left) e = IsLeaveEvent s (slot_pointer l (other l)) last left e
+  IsMakeEvent worth s d l (Count k) (Told n) e =
+      On (λ x. e ≡ Some (event.Count (handle_of s x) n)) ((n ≡ 0) × (e ≡ None)) (slot_pointer l k)
+  IsMakeEvent worth s d l (Downgrade k) Plain e =
+      e ≡ option_map (λ (x : Pointer). copies s Weak x.place x) (slot_pointer l k)
+  IsMakeEvent worth s d l (Lock k must) (Got got) e =
       On (λ x. e ≡ Some (event.Lock (weak_of (owned s x) x.place) got))
-      ((got ≡ false) × (e ≡ None)) (weak_slot (slot l k))
-  Makes worth s d l (Expired k) (Got b) e =
-      On (λ x. e ≡ Some (event.Expired (handle_of s x) b)) ((b ≡ true) × (e ≡ None)) (slot l k)
-  Makes worth s d l (Read k) (Told n) e =
-      On (λ x. e ≡ Some (event.Read (owner (owned s x) x.place) n)) (e ≡ None) (inside (slot l k))
-  Makes worth s d l (FromThis k kind) (Got got) e =
+      ((got ≡ false) × (e ≡ None)) (weak_slot (slot_pointer l k))
+  IsMakeEvent worth s d l (Expired k) (Got b) e =
+      On (λ x. e ≡ Some (event.Expired (handle_of s x) b)) ((b ≡ true) × (e ≡ None)) (slot_pointer l k)
+  IsMakeEvent worth s d l (Read k) (Told n) e =
+      On (λ x. e ≡ Some (event.Read (owner (owned s x) x.place) n)) (e ≡ None) (inside (slot_pointer l k))
+  IsMakeEvent worth s d l (FromThis k kind) (Got got) e =
       On (λ x. (got ≡ is_enabled s x) × (e ≡ cond got (Some (copies s kind (place_at x.block.0) x)) None))
-      ((got ≡ false) × (e ≡ None)) (inside (slot l k))
-  Makes worth s d l (Alias k j field) Plain e =
-      e ≡ option_map (copies s Owner (aliased field (place_in l j))) (owner_slot (slot l k))
-  Makes worth s d l (Move k) Plain e = e ≡ None
-  Makes worth s d l (Ask q) (Got b) e = (b ≡ comes_before s l q) × (e ≡ None)
-  Makes worth s d l (Offer k c) Plain e = e ≡ option_map (copy s) (offered l k c)
-  Makes worth s d l (Swap c) (Came x) e = Where (may_go l c (hand l)) (Swaps s l c (hand l) x e) (e ≡ None)
-  Makes worth s d l (Exchange k c) (Came x) e = Where (may_go l c k) (Swaps s l c k x e) (e ≡ None)
-  Makes worth s d l (Load c) (Came x) e = Where (is_there l c) (Loads s l c x e) (e ≡ None)
-  Makes worth s d l (Compare k c weak) (Compared swaps x) e = Compares s l c k weak swaps x e
-  Makes worth s d l _ _ e = ⊥
+      ((got ≡ false) × (e ≡ None)) (inside (slot_pointer l k))
+  IsMakeEvent worth s d l (Alias k j field) Plain e =
+      e ≡ option_map (copies s Owner (aliased field (place_in l j))) (owner_slot (slot_pointer l k))
+  IsMakeEvent worth s d l (Move k) Plain e = e ≡ None
+  IsMakeEvent worth s d l (Ask q) (Got b) e = (b ≡ answers_order s l q) × (e ≡ None)
+  IsMakeEvent worth s d l (Offer k c) Plain e = e ≡ option_map (copy s) (offered l k c)
+  IsMakeEvent worth s d l (Swap c) (Came x) e =
+      Where (may_go l c (hand l)) (IsSwapEvent s l c (hand l) x e) (e ≡ None)
+  IsMakeEvent worth s d l (Exchange k c) (Came x) e = Where (may_go l c k) (IsSwapEvent s l c k x e) (e ≡ None)
+  IsMakeEvent worth s d l (Load c) (Came x) e = Where (is_there l c) (IsLoadEvent s l c x e) (e ≡ None)
+  IsMakeEvent worth s d l (Compare k c weak) (Compared swaps x) e = IsCompareEvent s l c k weak swaps x e
+  IsMakeEvent worth s d l _ _ e = ⊥
 
   -- an act is made, with some reply: what is done, what it says, and where the thread is then
   pub record MakesAct (worth : Form → V) (s : State) (w : Walk) (t : Task) (ts : List Task) (x : Doing V)
       (u : Walk) : Type 0 where
     pub reply : Reply
-    pub makes : Makes worth s x.desk w.slots t.act reply x.event
+    pub makes : IsMakeEvent worth s x.desk w.slots t.act reply x.event
     pub says : x.said ≡ said_by_row t.statement (row t.act w.slots w.taken reply)
-    pub goes : u ≡ gone w t.statement ts (row t.act w.slots w.taken reply)
+    pub goes : u ≡ walk_after_act w t.statement ts (row t.act w.slots w.taken reply)
 
   -- the next member of an ending object is cleared; what it held comes into the hand, if it has an object
   pub record ClearsNext (s : State) (w : Walk) (e : Ending) (es : List Ending) (x : Doing V) (u : Walk) : Type 0 where
@@ -174,7 +183,8 @@ module _ {V : Type 0} where
     }
 
   -- an ending object without a member left is finished
-  pub record Finishes (s : State) (w : Walk) (e : Ending) (es : List Ending) (x : Doing V) (u : Walk) : Type 0 where
+  pub record FinishesEnding (s : State) (w : Walk) (e : Ending) (es : List Ending) (x : Doing V) (u : Walk)
+      : Type 0 where
     pub vacant : Bool
     pub value : V
     pub none : 3 ≤ e.stage
@@ -185,11 +195,11 @@ module _ {V : Type 0} where
   abbrev pub DoesAhead : (Form → V) → State → Walk → Doing V → Walk → Ahead → Type 0
   DoesAhead worth s w x u Over = ⊥
   DoesAhead worth s w x u (AnAct t ts) = MakesAct worth s w t ts x u
-  DoesAhead worth s w x u (AnEnd e es) = ClearsNext s w e es x u ⊎ Finishes s w e es x u
+  DoesAhead worth s w x u (AnEnd e es) = ClearsNext s w e es x u ⊎ FinishesEnding s w e es x u
 
   -- in state s a thread that is at w does this next, and is at u then
-  abbrev pub Does : (Form → V) → State → Walk → Doing V → Walk → Type 0
-  Does worth s w x u = DoesAhead worth s w x u (ahead w)
+  abbrev pub DoesNext : (Form → V) → State → Walk → Doing V → Walk → Type 0
+  DoesNext worth s w x u = DoesAhead worth s w x u (ahead w)
 
   abbrev pub put_on : ℕ → Option (Event V) → List (Entry V) → List (Entry V)
   put_on d None h = h
@@ -202,11 +212,12 @@ module _ {V : Type 0} where
 
   -- what desk d did since h takes its thread from w to u, each in the state in which it stands; others' doings are
   -- passed
-  abbrev pub Goes : (Form → V) → Opening → List (Entry V) → ℕ → Walk → List (Doing V) → Walk → Type 0
-  Goes worth z h d w [] u = u ≡ w
-  Goes worth z h d w (x ∷ l) u =
-      ((x.desk ≢ d) × Goes worth z h d w l u)
-      ⊎ ((x.desk ≡ d) × ((m : Walk) × Goes worth z h d w l m × Does worth (leads z (onto h l)) m x u))
+  abbrev pub GoesThrough : (Form → V) → Opening → List (Entry V) → ℕ → Walk → List (Doing V)
+      → Walk → Type 0
+  GoesThrough worth z h d w [] u = u ≡ w
+  GoesThrough worth z h d w (x ∷ l) u =
+      ((x.desk ≢ d) × GoesThrough worth z h d w l u)
+      ⊎ ((x.desk ≡ d) × ((m : Walk) × GoesThrough worth z h d w l m × DoesNext worth (leads z (onto h l)) m x u))
 
   -- what was said, the oldest first
   abbrev pub lines : List (Doing V) → List (ℕ × Said)

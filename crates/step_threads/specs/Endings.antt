@@ -4,7 +4,7 @@ use Rattle.std.specs.Prelude.{Option, Some, None, sum_by, ◌*◌, ◌-◌}
 use Rattle.control_word.specs.Handles.{empty}
 use Rattle.control_word.specs.State.{ending, kind_of_member}
 use Rattle.step_threads.specs.declared.ending.Ending.{Ending}
-use Rattle.step_table.specs.Stories.{Story, object_in, state}
+use Rattle.step_table.specs.Stories.{Story, object_of_block, story_state}
 
 -- the endings that are under way, the one begun last first, and how many there may be
 pub record Stack : Type 0 where
@@ -24,20 +24,20 @@ staged_first [] = []
 staged_first (e ∷ es) = staged e ∷ es
 
 -- how many endings are of the object in a block
-abbrev pub endings_of : ℕ → List Ending → ℕ
-endings_of b es = sum_by (λ (e : Ending). cond (e.block.0 == b) 1 0) es
+abbrev pub endings_in_block : ℕ → List Ending → ℕ
+endings_in_block b es = sum_by (λ (e : Ending). cond (e.block.0 == b) 1 0) es
 
 -- the object ends in the desk's hands, and its members before the stage are cleared
-pub record IsEnding (d : ℕ) (e : Ending) (v : Story) : Type 0 where
-  pub ending : ((state v).object (object_in v e.block)).phase ≡ ending d
+pub record IsEndingAtStage (d : ℕ) (e : Ending) (v : Story) : Type 0 where
+  pub ending : ((story_state v).object (object_of_block v e.block)).phase ≡ ending d
   pub within : e.stage ≤ 3
-  pub cleared : (m : ℕ) → m < e.stage → ((state v).object (object_in v e.block)).member m
+  pub cleared : (m : ℕ) → m < e.stage → ((story_state v).object (object_of_block v e.block)).member m
       ≡ empty (kind_of_member m)
 
 -- each object is in one ending at most
 pub record EndsAll (d : ℕ) (es : List Ending) (v : Story) : Type 0 where
-  pub each : All (λ (e : Ending). IsEnding d e v) es
-  pub once : (b : ℕ) → endings_of b es ≤ 1
+  pub each : All (λ (e : Ending). IsEndingAtStage d e v) es
+  pub once : (b : ℕ) → endings_in_block b es ≤ 1
 
 -- the steps that the end of an object has left: four for each member, as what comes out of it has to leave, and the
 -- last

@@ -10,8 +10,8 @@ use Rattle.step_table.specs.declared.form.Form.{Form}
 use Rattle.step_table.specs.Holdings.{Slots, plain}
 use Rattle.step_threads.specs.declared.said.Said.{Said}
 use Rattle.step_threads.specs.Acts.{tasks_from}
-use Rattle.step_threads.specs.Courses.{Walk, settled}
-use Rattle.step_threads.specs.Doings.{Doing, Goes, Over, ahead, lines, onto}
+use Rattle.step_threads.specs.Courses.{Walk, walk_settled}
+use Rattle.step_threads.specs.Doings.{Doing, GoesThrough, Over, ahead, lines, onto}
 use Rattle.step_threads.specs.Programs.{Part}
 
 -- n names, what is to be dropped and the hand, all empty
@@ -20,7 +20,7 @@ no_slots n = replicate (n + 2) plain
 
 -- a thread that holds nothing, at the first act of its calls
 abbrev pub first_walk : Part → Walk
-first_walk part = settled (no_slots (length part.kinds)) false [] (tasks_from 1 part.calls (length part.kinds))
+first_walk part = walk_settled (no_slots (length part.kinds)) false [] (tasks_from 1 part.calls (length part.kinds))
 
 -- what this desk said
 abbrev pub said_on : ℕ → List (ℕ × Said) → List Said
@@ -35,15 +35,15 @@ module _ {V : Type 0} where
     pub doings : List (Doing V)
     pub events : onto [] doings ≡ h
     pub last : Walk
-    pub goes : Goes worth z [] d (first_walk part) doings last
+    pub goes : GoesThrough worth z [] d (first_walk part) doings last
     pub over : ahead last ≡ Over
     pub says : said_on d (lines doings) ≡ said
 
   -- splits and joins are no thread's
-  abbrev pub IsParting : Event V → Type 0
-  IsParting (Split to n hs bs) = Unit {0}
-  IsParting (Join other) = Unit {0}
-  IsParting _ = ⊥
+  abbrev pub IsSplitOrJoin : Event V → Type 0
+  IsSplitOrJoin (Split to n hs bs) = Unit {0}
+  IsSplitOrJoin (Join other) = Unit {0}
+  IsSplitOrJoin _ = ⊥
 
   -- the history is legal, and an interleaving of these threads, on the desks from n on, each of which says this; nobody
   -- else has an event in it
@@ -53,4 +53,4 @@ module _ {V : Type 0} where
     pub legal : IsLegal z h
     pub each : (i : ℕ) (part : Part) → slice_get parts i ≡ Some part
         → Marked worth z h (n + i) part (said (n + i))
-    pub others : All (λ (e : Entry V). ((n ≤ e.desk) × (e.desk < n + length parts)) ⊎ IsParting e.event) h
+    pub others : All (λ (e : Entry V). ((n ≤ e.desk) × (e.desk < n + length parts)) ⊎ IsSplitOrJoin e.event) h

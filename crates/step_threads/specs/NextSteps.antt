@@ -19,48 +19,58 @@ use Rattle.step_table.specs.declared.past.Deed.{Deed}
 use Rattle.step_threads.specs.declared.said.Stepped.{Stepped}
 use Rattle.step_threads.specs.declared.said.Stepped.TheVariants.{Event, Quiet, Waited, Done}
 use Rattle.step_threads.specs.Actors.{wanted}
-use Rattle.step_threads.specs.Courses.{Going, Walk, cell_at, comparing, form_of, going, hand, is_there, locked, offered}
+use Rattle.step_threads.specs.Courses.{Going, Walk, cell_of_name, comparing, form_of, going, hand, is_there}
+use Rattle.step_threads.specs.Courses.{locked_pointer, offered}
 use Rattle.step_threads.specs.Courses.{on_going, other}
 use Rattle.step_table.specs.Contents.{as_word, compared_in, is_spent, same_value, seen}
-use Rattle.step_table.specs.Deeds.{downgrade, give, leave, read, share, tell, tell_expired, alias, aliased, on}
-use Rattle.step_table.specs.Holdings.{inside, is_full, slot, owner_slot, place_in, value}
+use Rattle.step_table.specs.Deeds.{downgrade, give, leave, read_deed, share, tell, tell_expired, alias, aliased, on}
+use Rattle.step_table.specs.Holdings.{inside, is_full, slot_pointer, owner_slot, place_in, slot_value}
 use Rattle.step_threads.specs.Entries.{least}
-use Rattle.step_table.specs.Stories.{Story, after, event_of, known, pending, state}
-use Rattle.step_threads.specs.Steps.{Step, acts, begins, looks, tries, asks, swaps, sends, sees, takes, compares}
+use Rattle.step_table.specs.Stories.{Story, story_after_deed, event_of, known_words, pending, story_state}
+use Rattle.step_threads.specs.Steps.{Step, step_of_act, begins, looks, tries, asks, step_of_swap, sends, step_of_look}
+use Rattle.step_threads.specs.Steps.{takes, step_of_compare}
 use Rattle.step_threads.specs.Steps.{matches, settles, refills_on, returns, prepares, claims, ends_on, empties}
 
 -- the first step of the next act, or the whole of it
 abbrev pub first : Story → ℕ → Walk → ℕ → List Task → Act → Step
-first v d w k ts (Make form) = begins w k ts (least d (state v).stores)
-first v d w k ts (Share i) = acts v d w k ts (Share i) (option_map share (slot w.slots i)) Rest
-first v d w k ts (Put i) = acts v d w k ts (Put i) (option_map (leave (state v)) (slot w.slots i)) Rest
-first v d w k ts (Leave i) = acts v d w k ts (Leave i) (option_map (leave (state v)) (slot w.slots i)) Rest
-first v d w k ts (Clear i) = acts v d w k ts (Clear i) (option_map (leave (state v)) (slot w.slots i)) Rest
-first v d w k ts (Count i) = acts v d w k ts (Count i) (option_map (tell v) (slot w.slots i)) Rest
-first v d w k ts (Downgrade i) = acts v d w k ts (Downgrade i) (option_map downgrade (slot w.slots i)) Rest
+first v d w k ts (Make form) = begins w k ts (least d (story_state v).stores)
+first v d w k ts (Share i) = step_of_act v d w k ts (Share i) (option_map share (slot_pointer w.slots i)) Rest
+first v d w k ts (Put i) =
+    step_of_act v d w k ts (Put i) (option_map (leave (story_state v)) (slot_pointer w.slots i)) Rest
+first v d w k ts (Leave i) =
+    step_of_act v d w k ts (Leave i) (option_map (leave (story_state v)) (slot_pointer w.slots i)) Rest
+first v d w k ts (Clear i) =
+    step_of_act v d w k ts (Clear i) (option_map (leave (story_state v)) (slot_pointer w.slots i)) Rest
+first v d w k ts (Count i) = step_of_act v d w k ts (Count i) (option_map (tell v) (slot_pointer w.slots i)) Rest
+first v d w k ts (Downgrade i) =
+    step_of_act v d w k ts (Downgrade i) (option_map downgrade (slot_pointer w.slots i)) Rest
 first v d w k ts (Lock i must) = let a = Lock i must in
-    on (looks v d w k ts a) (acts v d w k ts a None Rest) (locked w.slots a)
-first v d w k ts (Expired i) = acts v d w k ts (Expired i) (option_map (tell_expired (state v)) (slot w.slots i)) Rest
-first v d w k ts (Read i) = acts v d w k ts (Read i) (option_map (read (state v)) (inside (slot w.slots i))) Rest
-first v d w k ts (FromThis i kind) = on (asks v d w k ts i kind) (acts v d w k ts (FromThis i kind) None Rest)
-    (inside (slot w.slots i))
+    on (looks v d w k ts a) (step_of_act v d w k ts a None Rest) (locked_pointer w.slots a)
+first v d w k ts (Expired i) =
+    step_of_act v d w k ts (Expired i) (option_map (tell_expired (story_state v)) (slot_pointer w.slots i)) Rest
+first v d w k ts (Read i) =
+    step_of_act v d w k ts (Read i) (option_map (read_deed (story_state v)) (inside (slot_pointer w.slots i))) Rest
+first v d w k ts (FromThis i kind) = on (asks v d w k ts i kind) (step_of_act v d w k ts (FromThis i kind) None Rest)
+    (inside (slot_pointer w.slots i))
 first v d w k ts (Alias i j field) =
-    acts v d w k ts (Alias i j field)
-    (option_map (alias (aliased field (place_in w.slots j))) (owner_slot (slot w.slots i))) Rest
-first v d w k ts (Move i) = acts v d w k ts (Move i) None Rest
-first v d w k ts (Ask q) = acts v d w k ts (Ask q) None Rest
-first v d w k ts (Offer i c) = acts v d w k ts (Offer i c) (option_map share (offered w.slots i c)) Rest
+    step_of_act v d w k ts (Alias i j field)
+    (option_map (alias (aliased field (place_in w.slots j))) (owner_slot (slot_pointer w.slots i))) Rest
+first v d w k ts (Move i) = step_of_act v d w k ts (Move i) None Rest
+first v d w k ts (Ask q) = step_of_act v d w k ts (Ask q) None Rest
+first v d w k ts (Offer i c) = step_of_act v d w k ts (Offer i c) (option_map share (offered w.slots i c)) Rest
 first v d w k ts (Swap c) = let a = Swap c in
-    on_going (sends v d w k ts a) (acts v d w k ts a None Rest) (going w.slots a)
+    on_going (sends v d w k ts a) (step_of_act v d w k ts a None Rest) (going w.slots a)
 first v d w k ts (Exchange i c) = let a = Exchange i c in
-    on_going (sends v d w k ts a) (acts v d w k ts a None Rest) (going w.slots a)
+    on_going (sends v d w k ts a) (step_of_act v d w k ts a None Rest) (going w.slots a)
 first v d w k ts (Load c) =
-    let x = cell_at (state v) w.slots c in
-    cond (is_there w.slots c) (sees v d w k ts (Load c) x None (seen v x)) (acts v d w k ts (Load c) None Rest)
+    let x = cell_of_name (story_state v) w.slots c in
+    cond (is_there w.slots c) (step_of_look v d w k ts (Load c) x None (seen v x))
+    (step_of_act v d w k ts (Load c) None Rest)
 first v d w k ts (Compare i c weak) =
-    let x = cell_at (state v) w.slots c in
-    compares v d w k ts (Compare i c weak) x (compared_in w.slots (comparing w.slots i weak)) (seen v x)
-first v d w k ts Drop = acts v d w k ts Drop (option_map (leave (state v)) (slot w.slots (other w.slots))) Rest
+    let x = cell_of_name (story_state v) w.slots c in
+    step_of_compare v d w k ts (Compare i c weak) x (compared_in w.slots (comparing w.slots i weak)) (seen v x)
+first v d w k ts Drop =
+    step_of_act v d w k ts Drop (option_map (leave (story_state v)) (slot_pointer w.slots (other w.slots))) Rest
 
 abbrev pub begun : Story → ℕ → Walk → List Task → Option Step
 begun v d w [] = None
@@ -68,23 +78,25 @@ begun v d w (t ∷ ts) = Some (first v d w t.statement ts t.act)
 
 abbrev pub tried : Story → ℕ → Walk → ℕ → List Task → Option Step
 tried v d w word [] = None
-tried v d w word (t ∷ ts) = option_map (tries v d w t.statement ts t.act word) (locked w.slots t.act)
+tried v d w word (t ∷ ts) = option_map (tries v d w t.statement ts t.act word) (locked_pointer w.slots t.act)
 
 -- the object gives pointers to itself: one is taken
-abbrev pub given : Story → ℕ → Walk → ℕ → Kind → Pointer → List Task → Option Step
-given v d w i kind x [] = None
-given v d w i kind x (t ∷ ts) = Some (acts v d w t.statement ts (FromThis i kind) (Some (give kind x)) Rest)
+abbrev pub given_step : Story → ℕ → Walk → ℕ → Kind → Pointer → List Task → Option Step
+given_step v d w i kind x [] = None
+given_step v d w i kind x (t ∷ ts) =
+    Some (step_of_act v d w t.statement ts (FromThis i kind) (Some (give kind x)) Rest)
 
 -- the funds are brought: the swap
 abbrev pub sent : Story → ℕ → Walk → List Task → Option Step
 sent v d w [] = None
-sent v d w (t ∷ ts) = option_map (λ (x : Going). swaps v d w t.statement ts t.act x.0 x.1) (going w.slots t.act)
+sent v d w (t ∷ ts) =
+    option_map (λ (x : Going). step_of_swap v d w t.statement ts t.act x.0 x.1) (going w.slots t.act)
 
 -- the next step of an act on a cell that was seen to hold this
 abbrev pub saw_on : Story → ℕ → Walk → ℕ → List Task → CellWord → Act → Option Step
-saw_on v d w k ts x (Load c) = Some (takes v d w k ts (Load c) (cell_at (state v) w.slots c) None x)
+saw_on v d w k ts x (Load c) = Some (takes v d w k ts (Load c) (cell_of_name (story_state v) w.slots c) None x)
 saw_on v d w k ts x (Compare i c weak) =
-    Some (settles v d w k ts (Compare i c weak) (cell_at (state v) w.slots c)
+    Some (settles v d w k ts (Compare i c weak) (cell_of_name (story_state v) w.slots c)
     (compared_in w.slots (comparing w.slots i weak)) x)
 saw_on v d w k ts x _ = None
 
@@ -96,7 +108,7 @@ saw v d w x (t ∷ ts) = saw_on v d w t.statement ts x t.act
 -- to go in
 abbrev pub matched_on : Story → ℕ → Walk → ℕ → List Task → CellWord → Act → Option Step
 matched_on v d w k ts x (Compare i c weak) =
-    Some (matches v d w k ts (Compare i c weak) (cell_at (state v) w.slots c)
+    Some (matches v d w k ts (Compare i c weak) (cell_of_name (story_state v) w.slots c)
     (compared_in w.slots (comparing w.slots i weak)) x)
 matched_on v d w k ts x _ = None
 
@@ -108,7 +120,7 @@ abbrev pub made_on : Story → ℕ → Walk → Block → ℕ → Bool → List 
 made_on v d w b i differs [] = None
 made_on v d w b i differs (t ∷ ts) =
     Some (cond (i == 5) (claims w t.statement ts b (form_of t.act))
-    (prepares (get_or (known (pending v d)) i 0) (get_or (wanted (form_of t.act)) i 0) w t.statement b i differs))
+    (prepares (get_or (known_words (pending v d)) i 0) (get_or (wanted (form_of t.act)) i 0) w t.statement b i differs))
 
 abbrev pub emptied : Story → Walk → List Ending → Option Step
 emptied v w [] = None
@@ -119,7 +131,7 @@ emptied v w (e ∷ es) = Some (empties v w e es)
 abbrev pub at_rest : Story → ℕ → Walk → List Ending → Option Step
 at_rest v d w [] = begun v d w w.todo
 at_rest v d w (e ∷ es) =
-    Some (cond (is_full (slot w.slots (hand w.slots)))
+    Some (cond (is_full (slot_pointer w.slots (hand w.slots)))
     (first v d w e.statement w.todo (Leave (hand w.slots))) (ends_on v w e es))
 
 -- the step of desk d's thread that has begun this and is here; none at its end
@@ -127,7 +139,7 @@ abbrev pub step_at : Story → ℕ → Half → Walk → Option Step
 step_at v d Rest w = at_rest v d w w.endings
 step_at v d (Making b i differs) w = made_on v d w b i differs w.todo
 step_at v d (Locking word) w = tried v d w word w.todo
-step_at v d (Giving i kind x) w = given v d w i kind x w.todo
+step_at v d (Giving i kind x) w = given_step v d w i kind x w.todo
 step_at v d Brought w = sent v d w w.todo
 step_at v d (Saw x) w = saw v d w x w.todo
 step_at v d (Matched x) w = matched v d w x w.todo
@@ -138,7 +150,7 @@ step_at v d Clearing w = emptied v w w.endings
 -- what it makes of the table
 abbrev pub story_after : Story → ℕ → Option Deed → Story
 story_after v d None = v
-story_after v d (Some x) = after v d x
+story_after v d (Some x) = story_after_deed v d x
 
 abbrev pub story_by : Story → ℕ → Option Step → Story
 story_by v d None = v
@@ -152,16 +164,17 @@ abbrev pub half_by : Half → Option Step → Half
 half_by h None = h
 half_by h (Some x) = x.half
 
-abbrev pub is_event : Story → Option Deed → Bool
-is_event v None = false
-is_event v (Some x) = is_some (event_of (state v) x)
+abbrev pub deed_is_event : Story → Option Deed → Bool
+deed_is_event v None = false
+deed_is_event v (Some x) = is_some (event_of (story_state v) x)
 
 -- the next act looks at a cell of whose value all funds were taken, and which it loads, or finds to differ: it waits
 -- until some are put back
 abbrev pub waits_on : Story → Walk → Act → Bool
-waits_on v w (Load c) = is_there w.slots c && is_spent (seen v (cell_at (state v) w.slots c))
+waits_on v w (Load c) = is_there w.slots c && is_spent (seen v (cell_of_name (story_state v) w.slots c))
 waits_on v w (Compare i c weak) =
-    let x = seen v (cell_at (state v) w.slots c) in not (same_value x (as_word (value w.slots i))) && is_spent x
+    let x = seen v (cell_of_name (story_state v) w.slots c) in
+    not (same_value x (as_word (slot_value w.slots i))) && is_spent x
 waits_on v w _ = false
 
 abbrev pub waits_at : Story → Walk → List Ending → List Task → Bool
@@ -176,7 +189,7 @@ waits v _ w = false
 -- what the step answers, where it doesn't wait: an event says so
 abbrev pub stepped : Story → Option Step → Stepped
 stepped v None = Done
-stepped v (Some x) = cond (is_event v x.deed) (Event x.said) (Quiet x.said)
+stepped v (Some x) = cond (deed_is_event v x.deed) (Event x.said) (Quiet x.said)
 
 -- and a step that waits says so
 abbrev pub answered : Story → ℕ → Half → Walk → Stepped

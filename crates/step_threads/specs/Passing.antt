@@ -1,7 +1,7 @@
 -- An idle act of a course is passed over. All of it is own.
 use Rattle.std.specs.Prelude.{◌≡◌, ℕ, ◌+◌}
 use Rattle.step_threads.specs.declared.course.Course.{Course}
-use Rattle.step_table.specs.Holdings.{Holds}
+use Rattle.step_table.specs.Holdings.{HoldsBag}
 use Rattle.step_table.specs.Stories.{Story}
 use Rattle.step_threads.specs.Courses.{slots_idle, taken_idle, task_at}
 
@@ -12,4 +12,4 @@ pub record IsPassed (a b : Course) : Type 0 where
   pub at : b.at ≡ a.at + 1
   pub tasks : b.tasks ≡ a.tasks
   pub endings : b.endings ≡ a.endings
-  pub holds : (d : ℕ) (v : Story) → Holds d a.holdings.slots.items v → Holds d b.holdings.slots.items v
+  pub holds : (d : ℕ) (v : Story) → HoldsBag d a.holdings.slots.items v → HoldsBag d b.holdings.slots.items v

@@ -34,11 +34,11 @@ parts_of program = map part_of program.actors.items
 abbrev pub Asked : Type 0
 Asked = Name × Option Kind
 
-abbrev pub owner : Name → Asked
-owner name = (name, Some Owner)
+abbrev pub owner_asked : Name → Asked
+owner_asked name = (name, Some Owner)
 
-abbrev pub weak : Name → Asked
-weak name = (name, Some kind.Weak)
+abbrev pub weak_asked : Name → Asked
+weak_asked name = (name, Some kind.Weak)
 
 abbrev pub either : Name → Asked
 either name = (name, None)
@@ -60,34 +60,34 @@ is_member_of (cell.Member k m) name = k.0 == name.0
 is_member_of _ name = false
 
 abbrev pub through : CellName → List Asked
-through (cell.Member k m) = owner k ∷ []
+through (cell.Member k m) = owner_asked k ∷ []
 through _ = []
 
 -- the names of a call
 abbrev pub names_of : Call → List Asked
-names_of (Make target fields) = owner target ∷ []
-names_of (MakeThis target fields) = owner target ∷ []
-names_of (Null target) = owner target ∷ []
-names_of (Empty target) = owner target ∷ []
-names_of (Reset name) = owner name ∷ []
-names_of (Copy target source) = owner target ∷ owner source ∷ []
-names_of (Move target source) = owner target ∷ owner source ∷ []
-names_of (Alias target source of field) = owner target ∷ owner source ∷ owner of ∷ []
-names_of (AliasNull target source) = owner target ∷ owner source ∷ []
-names_of (Count name) = owner name ∷ []
-names_of (call.Weak target source) = weak target ∷ owner source ∷ []
-names_of (WeakCopy target source) = weak target ∷ weak source ∷ []
-names_of (WeakEmpty target) = weak target ∷ []
-names_of (WeakReset name) = weak name ∷ []
-names_of (Lock target source) = owner target ∷ weak source ∷ []
-names_of (Upgrade target source) = owner target ∷ weak source ∷ []
-names_of (WeakCount name) = weak name ∷ []
-names_of (Expired name) = weak name ∷ []
-names_of (This target source) = owner target ∷ owner source ∷ []
-names_of (WeakThis target source) = weak target ∷ owner source ∷ []
-names_of (Read name) = owner name ∷ []
-names_of (Place name) = owner name ∷ []
-names_of (Same first second) = owner first ∷ owner second ∷ []
+names_of (Make target fields) = owner_asked target ∷ []
+names_of (MakeThis target fields) = owner_asked target ∷ []
+names_of (Null target) = owner_asked target ∷ []
+names_of (Empty target) = owner_asked target ∷ []
+names_of (Reset name) = owner_asked name ∷ []
+names_of (Copy target source) = owner_asked target ∷ owner_asked source ∷ []
+names_of (Move target source) = owner_asked target ∷ owner_asked source ∷ []
+names_of (Alias target source of field) = owner_asked target ∷ owner_asked source ∷ owner_asked of ∷ []
+names_of (AliasNull target source) = owner_asked target ∷ owner_asked source ∷ []
+names_of (Count name) = owner_asked name ∷ []
+names_of (call.Weak target source) = weak_asked target ∷ owner_asked source ∷ []
+names_of (WeakCopy target source) = weak_asked target ∷ weak_asked source ∷ []
+names_of (WeakEmpty target) = weak_asked target ∷ []
+names_of (WeakReset name) = weak_asked name ∷ []
+names_of (Lock target source) = owner_asked target ∷ weak_asked source ∷ []
+names_of (Upgrade target source) = owner_asked target ∷ weak_asked source ∷ []
+names_of (WeakCount name) = weak_asked name ∷ []
+names_of (Expired name) = weak_asked name ∷ []
+names_of (This target source) = owner_asked target ∷ owner_asked source ∷ []
+names_of (WeakThis target source) = weak_asked target ∷ owner_asked source ∷ []
+names_of (Read name) = owner_asked name ∷ []
+names_of (Place name) = owner_asked name ∷ []
+names_of (Same first second) = owner_asked first ∷ owner_asked second ∷ []
 names_of (Before first second) = either first ∷ either second ∷ []
 names_of (Store cell source) = as_in cell source ∷ through cell
 names_of (Exchange cell name) = as_in cell name ∷ through cell
@@ -116,22 +116,22 @@ abbrev pub AllHaveCells : Shape → Part → Type 0
 AllHaveCells shape part = All (HasCells shape) part.calls
 
 -- a name isn't exchanged with a member of its own object
-abbrev pub IsApart : Call → Type 0
-IsApart (Exchange cell name) = is_member_of cell name ≡ false
-IsApart _ = Unit {0}
+abbrev pub IsApartFromCell : Call → Type 0
+IsApartFromCell (Exchange cell name) = is_member_of cell name ≡ false
+IsApartFromCell _ = Unit {0}
 
-abbrev pub listed : Option Asked → List Asked
-listed None = []
-listed (Some x) = x ∷ []
+abbrev pub asked_list : Option Asked → List Asked
+asked_list None = []
+asked_list (Some x) = x ∷ []
 
 -- a name with this kind is there, or with any where none is asked for
-abbrev pub IsFound : Option Kind → Option Kind → Type 0
-IsFound None found = IsTrue (is_some found)
-IsFound (Some kind) found = found ≡ Some kind
+abbrev pub IsNameFound : Option Kind → Option Kind → Type 0
+IsNameFound None found = IsTrue (is_some found)
+IsNameFound (Some kind) found = found ≡ Some kind
 
 -- among names of these kinds the name is one, and of the kind that is asked for
 abbrev pub IsDeclared : List Kind → Asked → Type 0
-IsDeclared kinds asked = IsFound asked.1 (slice_get kinds asked.0.0)
+IsDeclared kinds asked = IsNameFound asked.1 (slice_get kinds asked.0.0)
 
 -- each name of the call is declared, with the kind that the call asks for
 abbrev pub IsWellNamed : List Kind → Call → Type 0
@@ -141,7 +141,7 @@ IsWellNamed kinds call = All (IsDeclared kinds) (names_of call)
 pub record IsPart (part : Part) : Type 0 where
   pub few : length part.kinds ≤ 32
   pub named : All (IsWellNamed part.kinds) part.calls
-  pub apart : All IsApart part.calls
+  pub apart : All IsApartFromCell part.calls
 
 -- how many calls the parts have together
 abbrev pub call_count : List Part → ℕ

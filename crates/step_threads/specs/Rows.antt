@@ -9,9 +9,10 @@ use Rattle.control_word.specs.Handles.{same_place}
 use Rattle.step_table.specs.declared.ended.Ended.{Ended}
 use Rattle.step_table.specs.declared.holdings.Pointer.{Pointer}
 use Rattle.step_table.specs.declared.slot.Slot.{Slot}
-use Rattle.step_table.specs.Contents.{is_of, swapped}
+use Rattle.step_table.specs.Contents.{is_of, slots_swapped}
 use Rattle.step_table.specs.Deeds.{as_owner, as_weak, this_as}
-use Rattle.step_table.specs.Holdings.{Slots, filled, inside, is_full, place_in, plain, slot, value, weak_slot}
+use Rattle.step_table.specs.Holdings.{Slots, filled, inside, is_full, place_in, plain, slot_pointer, slot_value}
+use Rattle.step_table.specs.Holdings.{weak_slot}
 use Rattle.step_threads.specs.declared.act.Act.{Act}
 use Rattle.step_threads.specs.declared.act.Act.TheVariants.{Make, Share, Downgrade, Lock, Put, Leave, Clear, Count}
 use Rattle.step_threads.specs.declared.act.Act.TheVariants.{Expired, Read, FromThis, Alias, Move, Ask, Offer, Swap}
@@ -24,7 +25,7 @@ use Rattle.step_threads.specs.declared.ending.Ending.{Ending}
 use Rattle.step_threads.specs.declared.said.Answer.{Answer}
 use Rattle.step_threads.specs.declared.said.Answer.TheVariants as answer
 use Rattle.step_threads.specs.declared.said.Said.{Said}
-use Rattle.step_threads.specs.Courses.{Walk, fitting, hand, is_there, other, passed, placed, settled}
+use Rattle.step_threads.specs.Courses.{Walk, fitting, hand, is_there, other, slot_passed, placed, walk_settled}
 use Rattle.step_threads.specs.Programs.{kind_at}
 use Rattle.step_threads.specs.Scenes.{Hands, alias_in, compared, full_answer, holding, lock_answer, outside, refusal}
 use Rattle.step_threads.specs.Scenes.{taking}
@@ -72,36 +73,40 @@ asked slots (question.Before i j) b = answer.Before b
 
 -- why an object gives no pointer to itself: it isn't enabled, or there is none to ask
 abbrev pub not_given : Slots → ℕ → Answer
-not_given slots k = cond (is_full (inside (slot slots k))) (answer.Refused NotEnabled) (outside (place_in slots k))
+not_given slots k = cond (is_full (inside (slot_pointer slots k))) (answer.Refused NotEnabled)
+    (outside (place_in slots k))
 
 -- the cell is there, and the value of slot k may go into it
 abbrev pub may_go : Slots → CellName → ℕ → Bool
-may_go slots c k = is_there slots c && is_of (kind_at c) (value slots k)
+may_go slots c k = is_there slots c && is_of (kind_at c) (slot_value slots k)
 
 -- each act, by its reply
 abbrev pub row : Act → Slots → Bool → Reply → Row
 row (Make form) l taken (Found b) = having (holding l form.null b) (full_answer b)
-row (Share k) l taken Plain = having (slice_set l (hand l) (value l k), true) None
-row (Put k) l taken (Left last e) = leaving (placed k (slice_set l k plain), false) (slot l k) last e
-row (Leave k) l taken (Left last e) = leaving (slice_set l k plain, taken) (slot l k) last e
-row (Clear k) l taken (Left last e) = leaving (slice_set l k plain, taken) (slot l k) last e
-row Drop l taken (Left last e) = leaving (slice_set l (other l) plain, taken) (slot l (other l)) last e
+row (Share k) l taken Plain = having (slice_set l (hand l) (slot_value l k), true) None
+row (Put k) l taken (Left last e) = leaving (placed k (slice_set l k plain), false) (slot_pointer l k) last e
+row (Leave k) l taken (Left last e) = leaving (slice_set l k plain, taken) (slot_pointer l k) last e
+row (Clear k) l taken (Left last e) = leaving (slice_set l k plain, taken) (slot_pointer l k) last e
+row Drop l taken (Left last e) = leaving (slice_set l (other l) plain, taken) (slot_pointer l (other l)) last e
 row (Count k) l taken (Told n) = having (l, taken) (Some (answer.Count n))
-row (Downgrade k) l taken Plain = having (slice_set l (hand l) (filled (option_map as_weak (slot l k))), true) None
+row (Downgrade k) l taken Plain =
+    having (slice_set l (hand l) (filled (option_map as_weak (slot_pointer l k))), true) None
 row (Lock k must) l taken (Got got) =
-    having (taking l must (cond got (option_map as_owner (weak_slot (slot l k))) None)) (Some (lock_answer must got))
+    having (taking l must (cond got (option_map as_owner (weak_slot (slot_pointer l k))) None))
+    (Some (lock_answer must got))
 row (Expired k) l taken (Got b) = having (l, taken) (Some (answer.Expired b))
 row (Read k) l taken (Told n) =
-    having (l, taken) (Some (cond (is_full (inside (slot l k))) (answer.Read n) (outside (place_in l k))))
+    having (l, taken) (Some (cond (is_full (inside (slot_pointer l k))) (answer.Read n) (outside (place_in l k))))
 row (FromThis k kind) l taken (Got got) =
-    having (taking l true (option_map (this_as kind) (cond got (inside (slot l k)) None)))
+    having (taking l true (option_map (this_as kind) (cond got (inside (slot_pointer l k)) None)))
     (cond got None (Some (not_given l k)))
 row (Alias k j field) l taken Plain = having (slice_set l (hand l) (alias_in l k j field), true) None
-row (Move k) l taken Plain = having (passed k (hand l) l, true) None
+row (Move k) l taken Plain = having (slot_passed k (hand l) l, true) None
 row (Ask q) l taken (Got b) = having (l, taken) (Some (asked l q b))
 row (Offer k c) l taken Plain =
-    having (cond (is_there l c) (slice_set l (hand l) (fitting (kind_at c) (value l k)), true) (l, taken)) (refusal l c)
-row (Swap c) l taken (Came x) = having (cond (may_go l c (hand l)) (swapped (hand l) (other l) l x) l, false) None
+    having (cond (is_there l c) (slice_set l (hand l) (fitting (kind_at c) (slot_value l k)), true)
+    (l, taken)) (refusal l c)
+row (Swap c) l taken (Came x) = having (cond (may_go l c (hand l)) (slots_swapped (hand l) (other l) l x) l, false) None
 row (Exchange k c) l taken (Came x) = having (cond (may_go l c k) (slice_set l k x) l, taken) (refusal l c)
 row (Load c) l taken (Came x) = having (cond (is_there l c) (slice_set l (hand l) x, true) (l, taken)) (refusal l c)
 row (Compare k c weak) l taken (Compared swaps x) = having (compared l x swaps) (Some (answer.Compared swaps))
@@ -113,8 +118,8 @@ with_end k None es = es
 with_end k (Some b) es = record { block = b; stage = 0; statement = k } ∷ es
 
 -- where a thread is after an act of statement k, with these tasks after it, and what the act says
-abbrev pub gone : Walk → ℕ → List Task → Row → Walk
-gone w k ts y = settled y.slots y.taken (with_end k y.ending w.endings) ts
+abbrev pub walk_after_act : Walk → ℕ → List Task → Row → Walk
+walk_after_act w k ts y = walk_settled y.slots y.taken (with_end k y.ending w.endings) ts
 
 abbrev pub said_by_row : ℕ → Row → Said
 said_by_row k y = record { statement = k; answer = y.answer; ended = y.ended }

@@ -19,7 +19,7 @@ use Rattle.step_threads.specs.declared.act.Task.{Task}
 use Rattle.step_threads.specs.declared.call.CellName.{CellName}
 use Rattle.step_threads.specs.declared.call.CellName.TheVariants.{Member}
 use Rattle.step_table.specs.declared.field.Field.{Field}
-use Rattle.step_table.specs.Contents.{differed, held_in, slot_of, swapped}
+use Rattle.step_table.specs.Contents.{differed, held_in, slot_of, slots_swapped}
 use Rattle.step_threads.specs.declared.ending.Ending.{Ending}
 use Rattle.step_table.specs.declared.extent.Extent.{Extent}
 use Rattle.step_table.specs.declared.holdings.Pointer.{Pointer}
@@ -29,11 +29,13 @@ use Rattle.step_table.specs.declared.ended.Ended.{Ended}
 use Rattle.step_threads.specs.declared.said.Said.{Said}
 use Rattle.step_table.specs.declared.slot.Slot.TheVariants.{Full, Empty}
 use Rattle.step_threads.specs.Programs.{kind_at}
-use Rattle.step_threads.specs.Courses.{Walk, cell_at, fitting, going, hand, is_there, locked, on_going, other, placed}
-use Rattle.step_threads.specs.Courses.{settled, passed}
+use Rattle.step_threads.specs.Courses.{Walk, cell_of_name, fitting, going, hand, is_there, locked_pointer, on_going}
+use Rattle.step_threads.specs.Courses.{other, placed}
+use Rattle.step_threads.specs.Courses.{walk_settled, slot_passed}
 use Rattle.step_table.specs.Deeds.{Telling, exact, as_weak, field_of, is_enabled, is_expired, is_last, owned}
-use Rattle.step_table.specs.Deeds.{owner_left, this_as, aliased, at_place, on, remains, before}
-use Rattle.step_table.specs.Holdings.{Slots, filled, inside, is_full, place_in, plain, slot, value, owner_slot}
+use Rattle.step_table.specs.Deeds.{owner_left, this_as, aliased, at_place, on, remains, pointer_before}
+use Rattle.step_table.specs.Holdings.{Slots, filled, inside, is_full, place_in, plain, slot_pointer, slot_value}
+use Rattle.step_table.specs.Holdings.{owner_slot}
 use Rattle.step_table.specs.declared.slot.Slot.{Slot}
 use Rattle.step_table.specs.Openings.{opening}
 use Rattle.step_threads.specs.Entries.{History, least, is_expected, giving, acted}
@@ -73,39 +75,41 @@ alias_of p None = Empty p
 alias_of p (Some x) = Full (at_place p x)
 
 abbrev pub alias_in : Slots → ℕ → ℕ → Option Field → Slot
-alias_in slots k j field = alias_of (aliased field (place_in slots j)) (owner_slot (slot slots k))
+alias_in slots k j field = alias_of (aliased field (place_in slots j)) (owner_slot (slot_pointer slots k))
 
 -- what comes out of a cell
 abbrev pub came : State → Slots → CellName → Slot
-came s slots c = slot_of s (held_in s (cell_at s slots c))
+came s slots c = slot_of s (held_in s (cell_of_name s slots c))
 
 -- what was in hand is in the cell, and what comes out is to be dropped; or what was in hand is, and what the cell holds
 -- is taken
 abbrev pub compared : Slots → Slot → Bool → Hands
-compared slots x true = (swapped (hand slots) (other slots) slots x, false)
+compared slots x true = (slots_swapped (hand slots) (other slots) slots x, false)
 compared slots x false = (differed (hand slots) (other slots) slots x, true)
 
 -- what it has by an act
 abbrev pub hands : State → ℕ → Slots → Bool → Act → Hands
 hands s d slots taken (Make form) = holding slots form.null (least d s.stores)
-hands s d slots taken (Share k) = (slice_set slots (hand slots) (value slots k), true)
+hands s d slots taken (Share k) = (slice_set slots (hand slots) (slot_value slots k), true)
 hands s d slots taken (Put k) = (placed k (slice_set slots k plain), false)
 hands s d slots taken (Leave k) = (slice_set slots k plain, taken)
 hands s d slots taken (Clear k) = (slice_set slots k plain, taken)
 hands s d slots taken (Count k) = (slots, taken)
-hands s d slots taken (Downgrade k) = (slice_set slots (hand slots) (filled (option_map as_weak (slot slots k))), true)
-hands s d slots taken (Lock k must) = taking slots must (found s (locked slots (Lock k must)))
+hands s d slots taken (Downgrade k) =
+    (slice_set slots (hand slots) (filled (option_map as_weak (slot_pointer slots k))), true)
+hands s d slots taken (Lock k must) = taking slots must (found s (locked_pointer slots (Lock k must)))
 hands s d slots taken (Expired k) = (slots, taken)
 hands s d slots taken (Read k) = (slots, taken)
 hands s d slots taken (FromThis k kind) =
-    taking slots true (option_map (this_as kind) (giving s (inside (slot slots k))))
+    taking slots true (option_map (this_as kind) (giving s (inside (slot_pointer slots k))))
 hands s d slots taken (Alias k j field) = (slice_set slots (hand slots) (alias_in slots k j field), true)
-hands s d slots taken (Move k) = (passed k (hand slots) slots, true)
+hands s d slots taken (Move k) = (slot_passed k (hand slots) slots, true)
 hands s d slots taken (Ask q) = (slots, taken)
 hands s d slots taken (Offer k c) =
-    cond (is_there slots c) (slice_set slots (hand slots) (fitting (kind_at c) (value slots k)), true) (slots, taken)
+    cond (is_there slots c) (slice_set slots (hand slots) (fitting (kind_at c) (slot_value slots k)), true)
+    (slots, taken)
 hands s d slots taken (Swap c) =
-    (on_going (λ x k. swapped k (other slots) slots (came s slots x)) slots (going slots (Swap c)), false)
+    (on_going (λ x k. slots_swapped k (other slots) slots (came s slots x)) slots (going slots (Swap c)), false)
 hands s d slots taken (Exchange k c) =
     (on_going (λ x i. slice_set slots i (came s slots x)) slots (going slots (Exchange k c)), taken)
 hands s d slots taken (Load c) =
@@ -114,12 +118,12 @@ hands s d slots taken (Compare k c weak) = compared slots (came s slots c) (is_e
 hands s d slots taken Drop = (slice_set slots (other slots) plain, taken)
 
 -- the pointer that leaves by an act
-abbrev pub left : Slots → Act → Option Pointer
-left slots (Put k) = slot slots k
-left slots (Leave k) = slot slots k
-left slots (Clear k) = slot slots k
-left slots Drop = slot slots (other slots)
-left slots _ = None
+abbrev pub leaving_pointer : Slots → Act → Option Pointer
+leaving_pointer slots (Put k) = slot_pointer slots k
+leaving_pointer slots (Leave k) = slot_pointer slots k
+leaving_pointer slots (Clear k) = slot_pointer slots k
+leaving_pointer slots Drop = slot_pointer slots (other slots)
+leaving_pointer slots _ = None
 
 -- the endings after a pointer's leave by statement k: where it was the last owner, its object's end begins
 abbrev pub begins_end_as : Kind → ℕ → Pointer → List Ending → List Ending
@@ -130,11 +134,11 @@ abbrev pub begins_end : State → ℕ → Pointer → List Ending → List Endin
 begins_end s k x es = cond (is_last s x) (begins_end_as x.kind k x es) es
 
 abbrev pub endings_by : State → ℕ → Slots → List Ending → Act → List Ending
-endings_by s k slots es a = on (λ x. begins_end s k x es) es (left slots a)
+endings_by s k slots es a = on (λ x. begins_end s k x es) es (leaving_pointer slots a)
 
 -- where the thread is by an act of statement k alone, with these tasks after it
 abbrev pub went : State → ℕ → Walk → ℕ → List Task → Act → Walk
-went s d w k ts a = let x = hands s d w.slots w.taken a in settled x.0 x.1 (endings_by s k w.slots w.endings a) ts
+went s d w k ts a = let x = hands s d w.slots w.taken a in walk_settled x.0 x.1 (endings_by s k w.slots w.endings a) ts
 
 -- what came out of a member of an ending object leaves before all else
 abbrev pub next_of : Slots → List Ending → List Task → Option Task
@@ -180,7 +184,7 @@ this_answer s p (Some x) = cond (is_enabled s x) None (Some (answer.Refused NotE
 abbrev pub reply : State → Slots → Question → Answer
 reply s slots (question.Place k) = answer.Place (place_in slots k)
 reply s slots (question.Same i j) = answer.Same (same_place (place_in slots i) (place_in slots j))
-reply s slots (question.Before i j) = answer.Before (before s (slot slots i) (slot slots j))
+reply s slots (question.Before i j) = answer.Before (pointer_before s (slot_pointer slots i) (slot_pointer slots j))
 
 -- an act on a member of no object is refused, by where the name points
 abbrev pub refusal : Slots → CellName → Option Answer
@@ -190,11 +194,12 @@ refusal slots _ = None
 -- what an act answers: a make is refused where the store is empty, and a count is the number of owners that is told
 abbrev pub answer_of : Telling → State → ℕ → Slots → Act → Option Answer
 answer_of tell s d slots (Make form) = full_answer (least d s.stores)
-answer_of tell s d slots (Count k) = Some (answer.Count (on (tell s) 0 (slot slots k)))
-answer_of tell s d slots (Lock k must) = Some (lock_answer must (is_full (found s (locked slots (Lock k must)))))
-answer_of tell s d slots (Expired k) = Some (answer.Expired (on (is_expired s) true (slot slots k)))
-answer_of tell s d slots (Read k) = Some (read_answer s (place_in slots k) (inside (slot slots k)))
-answer_of tell s d slots (FromThis k kind) = this_answer s (place_in slots k) (inside (slot slots k))
+answer_of tell s d slots (Count k) = Some (answer.Count (on (tell s) 0 (slot_pointer slots k)))
+answer_of tell s d slots (Lock k must) =
+    Some (lock_answer must (is_full (found s (locked_pointer slots (Lock k must)))))
+answer_of tell s d slots (Expired k) = Some (answer.Expired (on (is_expired s) true (slot_pointer slots k)))
+answer_of tell s d slots (Read k) = Some (read_answer s (place_in slots k) (inside (slot_pointer slots k)))
+answer_of tell s d slots (FromThis k kind) = this_answer s (place_in slots k) (inside (slot_pointer slots k))
 answer_of tell s d slots (Ask q) = Some (reply s slots q)
 answer_of tell s d slots (Offer k c) = refusal slots c
 answer_of tell s d slots (Exchange k c) = refusal slots c
@@ -211,10 +216,10 @@ abbrev pub ended_by : State → Option Pointer → Option Ended
 ended_by s x = on (λ y. cond (is_last s y) (remains_as y.kind (s.object (owned s y))) None) None x
 
 abbrev pub ended_of : State → Slots → Act → Option Ended
-ended_of s slots (Put k) = ended_by s (slot slots k)
-ended_of s slots (Leave k) = ended_by s (slot slots k)
-ended_of s slots (Clear k) = ended_by s (slot slots k)
-ended_of s slots Drop = ended_by s (slot slots (other slots))
+ended_of s slots (Put k) = ended_by s (slot_pointer slots k)
+ended_of s slots (Leave k) = ended_by s (slot_pointer slots k)
+ended_of s slots (Clear k) = ended_by s (slot_pointer slots k)
+ended_of s slots Drop = ended_by s (slot_pointer slots (other slots))
 ended_of s slots _ = None
 
 abbrev pub said_of : Telling → State → ℕ → Slots → Task → Said
@@ -233,7 +238,7 @@ state_in c = leads (opening c.extent) c.history
 -- a thread's endings go on by themselves, unless what came out of a member is in hand
 abbrev pub rested_walk : Opening → ℕ → History → Walk → Wound
 rested_walk z d h w =
-    cond (is_full (slot w.slots (hand w.slots))) (record { history = h; slots = w.slots; endings = w.endings })
+    cond (is_full (slot_pointer w.slots (hand w.slots))) (record { history = h; slots = w.slots; endings = w.endings })
     (unwound z d w.slots w.endings h)
 
 abbrev pub put_walk : Scene → ℕ → Walk → Wound → Scene

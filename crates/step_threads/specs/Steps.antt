@@ -20,22 +20,22 @@ use Rattle.step_table.specs.declared.past.Deed.{Deed}
 use Rattle.step_table.specs.declared.past.Deed.TheVariants as deed
 use Rattle.step_threads.specs.declared.said.Said.{Said}
 use Rattle.step_threads.specs.Programs.{kind_at}
-use Rattle.step_threads.specs.Courses.{Walk, cell_at, hand, settled}
+use Rattle.step_threads.specs.Courses.{Walk, cell_of_name, hand, walk_settled}
 use Rattle.control_word.specs.Packing.{cell_bits}
 use Rattle.step_table.specs.declared.cell_deed.Cell.{Cell}
 use Rattle.step_table.specs.declared.cell_deed.Cell.TheVariants.{Member}
 use Rattle.step_table.specs.declared.cell_deed.Compared.{Compared}
 use Rattle.step_table.specs.declared.refill.Stage.{Stage}
 use Rattle.step_table.specs.declared.refill.Stage.TheVariants.{Turning, Checking, Lacking, Refilling, Failing}
-use Rattle.step_table.specs.CellDeeds.{kind_in}
-use Rattle.step_table.specs.Cells.{word_at}
+use Rattle.step_table.specs.CellDeeds.{kind_in_state}
+use Rattle.step_table.specs.Cells.{word_of_cell}
 use Rattle.step_table.specs.Contents.{as_word, held_in, is_spent, same_value, seen, slot_of}
 use Rattle.step_table.specs.Refills.{is_drained, is_low, more_taken}
 use Rattle.step_table.specs.Deeds.{by_word, is_enabled, lock, owner_word, on}
 use Rattle.step_threads.specs.Endings.{staged}
-use Rattle.step_table.specs.Holdings.{slot, value}
+use Rattle.step_table.specs.Holdings.{slot_pointer, slot_value}
 use Rattle.step_threads.specs.Scenes.{answer_of, ended_of, full_answer, holding, went}
-use Rattle.step_table.specs.Stories.{Story, object_in, state}
+use Rattle.step_table.specs.Stories.{Story, object_of_block, story_state}
 
 -- what a step does to the table, if anything; what the thread has begun and not ended after it; where it is then; what
 -- it says
@@ -49,16 +49,16 @@ abbrev pub silent : ℕ → Said
 silent k = record { statement = k; answer = None; ended = None }
 
 -- an act of statement k on what a slot holds: a count tells what the word does
-abbrev pub acts : Story → ℕ → Walk → ℕ → List Task → Act → Option Deed → Half → Step
-acts v d w k ts a x h =
+abbrev pub step_of_act : Story → ℕ → Walk → ℕ → List Task → Act → Option Deed → Half → Step
+step_of_act v d w k ts a x h =
     record {
       deed = x;
       half = h;
-      walk = went (state v) d w k ts a;
+      walk = went (story_state v) d w k ts a;
       said = record {
         statement = k;
-        answer = answer_of (by_word v) (state v) d w.slots a;
-        ended = ended_of (state v) w.slots a;
+        answer = answer_of (by_word v) (story_state v) d w.slots a;
+        ended = ended_of (story_state v) w.slots a;
       };
     }
 
@@ -72,7 +72,7 @@ begins w k ts None =
     record {
       deed = None;
       half = Rest;
-      walk = settled w.slots false w.endings ts;
+      walk = walk_settled w.slots false w.endings ts;
       said = record { statement = k; answer = full_answer None; ended = None };
     }
 begins w k ts (Some b) =
@@ -85,19 +85,20 @@ trying w k word = record { deed = None; half = cond (word == 0) Rest (Locking wo
 
 -- a lock looks first. Where it finds 0 no owner is left, and that is the whole of it
 abbrev pub looks : Story → ℕ → Walk → ℕ → List Task → Act → Pointer → Step
-looks v d w k ts a x = cond (owner_word v x == 0) (acts v d w k ts a (Some (lock (state v) x)) Rest)
+looks v d w k ts a x = cond (owner_word v x == 0) (step_of_act v d w k ts a (Some (lock (story_state v) x)) Rest)
     (trying w k (owner_word v x))
 
 -- then it is tried with the word that it found, and goes on with the word that it finds where that is another
 abbrev pub tries : Story → ℕ → Walk → ℕ → List Task → Act → ℕ → Pointer → Step
-tries v d w k ts a word x = cond (owner_word v x == word) (acts v d w k ts a (Some (lock (state v) x)) Rest)
+tries v d w k ts a word x =
+    cond (owner_word v x == word) (step_of_act v d w k ts a (Some (lock (story_state v) x)) Rest)
     (trying w k (owner_word v x))
 
 -- an owner's object is asked for a pointer: a look tells whether it gives any, and then the pointer is taken
 abbrev pub asks : Story → ℕ → Walk → ℕ → List Task → ℕ → Kind → Pointer → Step
 asks v d w k ts i kind x =
-    cond (is_enabled (state v) x) (record { deed = None; half = Giving i kind x; walk = w; said = silent k })
-    (acts v d w k ts (FromThis i kind) None Rest)
+    cond (is_enabled (story_state v) x) (record { deed = None; half = Giving i kind x; walk = w; said = silent k })
+    (step_of_act v d w k ts (FromThis i kind) None Rest)
 
 -- a pointer's funds are brought for a cell, and the swap is next
 abbrev pub brings : Walk → ℕ → Pointer → Step
@@ -114,38 +115,40 @@ gives_back kind k x None = Rest
 gives_back kind k x (Some b) = Returning kind b (256 - x.taken) k
 
 -- a slot's value goes into a cell, and what that held comes out
-abbrev pub swaps : Story → ℕ → Walk → ℕ → List Task → Act → CellName → ℕ → Step
-swaps v d w k ts a c i =
-    let x = cell_at (state v) w.slots c in
+abbrev pub step_of_swap : Story → ℕ → Walk → ℕ → List Task → Act → CellName → ℕ → Step
+step_of_swap v d w k ts a c i =
+    let x = cell_of_name (story_state v) w.slots c in
     let found = seen v x in
-    acts v d w k ts a (Some (deed.OnCell (cell_deed.Swap x (as_word (value w.slots i)) found)))
+    step_of_act v d w k ts a (Some (deed.OnCell (cell_deed.Swap x (as_word (slot_value w.slots i)) found)))
     (gives_back (kind_at c) k found found.owned)
 
 -- where the value has an object its funds are brought first
 abbrev pub sends : Story → ℕ → Walk → ℕ → List Task → Act → CellName → ℕ → Step
-sends v d w k ts a c i = on (brings w k) (swaps v d w k ts a c i) (slot w.slots i)
+sends v d w k ts a c i = on (brings w k) (step_of_swap v d w k ts a c i) (slot_pointer w.slots i)
 
 -- a cell was looked at: it is tried next with what it was seen to hold, which has an object. Where all of its funds
 -- were taken nothing is done, and without an object that is the whole of it
-abbrev pub sees : Story → ℕ → Walk → ℕ → List Task → Act → Cell
+abbrev pub step_of_look : Story → ℕ → Walk → ℕ → List Task → Act → Cell
     → Option Compared → CellWord → Step
-sees v d w k ts a c y x =
+step_of_look v d w k ts a c y x =
     cond (is_spent x) (within w k None Rest)
     (cond (is_some x.owned) (within w k None (Saw x))
-    (acts v d w k ts a (Some (deed.OnCell (cell_deed.Look c x y))) Rest))
+    (step_of_act v d w k ts a (Some (deed.OnCell (cell_deed.Look c x y))) Rest))
 
 -- a fund of a cell is taken, where it shows the same still; else the act begins again
 abbrev pub takes : Story → ℕ → Walk → ℕ → List Task → Act → Cell
     → Option Compared → CellWord → Step
 takes v d w k ts a c y x =
-    cond (word_at v c == cell_bits x)
-    (acts v d w k ts a (Some (deed.OnCell (cell_deed.Take c x y))) (Refill Turning c (more_taken x) k))
+    cond (word_of_cell v c == cell_bits x)
+    (step_of_act v d w k ts a (Some (deed.OnCell (cell_deed.Take c x y))) (Refill Turning c (more_taken x) k))
     (within w k None Rest)
 
 -- a compare looks at its cell: one that holds what is expected is tried next, and one that differs is as one that is
 -- loaded
-abbrev pub compares : Story → ℕ → Walk → ℕ → List Task → Act → Cell → Compared → CellWord → Step
-compares v d w k ts a c y x = cond (same_value x y.expected) (within w k None (Saw x)) (sees v d w k ts a c (Some y) x)
+abbrev pub step_of_compare : Story → ℕ → Walk → ℕ → List Task → Act → Cell → Compared
+    → CellWord → Step
+step_of_compare v d w k ts a c y x =
+    cond (same_value x y.expected) (within w k None (Saw x)) (step_of_look v d w k ts a c (Some y) x)
 
 -- what was brought for a value is given back, where it has an object
 abbrev pub missed : ℕ → Option Pointer → Half
@@ -156,10 +159,10 @@ missed k (Some x) = Returning x.kind x.block 256 k
 -- and the act begins again
 abbrev pub matches : Story → ℕ → Walk → ℕ → List Task → Act → Cell → Compared → CellWord → Step
 matches v d w k ts a c y x =
-    cond (word_at v c == cell_bits x)
-    (acts v d w k ts a (Some (deed.OnCell (cell_deed.CompareSwap c x y)))
-    (gives_back (kind_in (state v) c) k x x.owned))
-    (within w k None (missed k (slot w.slots (hand w.slots))))
+    cond (word_of_cell v c == cell_bits x)
+    (step_of_act v d w k ts a (Some (deed.OnCell (cell_deed.CompareSwap c x y)))
+    (gives_back (kind_in_state (story_state v) c) k x x.owned))
+    (within w k None (missed k (slot_pointer w.slots (hand w.slots))))
 
 -- the funds of what is to go in are brought, where it has an object, and then the cell is swapped
 abbrev pub fetches : Walk → ℕ → CellWord → Pointer → Step
@@ -168,7 +171,8 @@ fetches w k x p = within w k (Some (deed.OnCell (cell_deed.Bring p.kind p.block 
 -- a compare goes on that has seen this
 abbrev pub settles : Story → ℕ → Walk → ℕ → List Task → Act → Cell → Compared → CellWord → Step
 settles v d w k ts a c y x =
-    cond (same_value x y.expected) (on (fetches w k x) (matches v d w k ts a c y x) (slot w.slots (hand w.slots)))
+    cond (same_value x y.expected)
+    (on (fetches w k x) (matches v d w k ts a c y x) (slot_pointer w.slots (hand w.slots)))
     (takes v d w k ts a c (Some y) x)
 
 -- the next step of a thread that took a fund of a cell, whose value had an object in this block. The fund becomes a
@@ -176,16 +180,18 @@ settles v d w k ts a c y x =
 -- cell shows something else by then they are given back, and it is looked at again
 abbrev pub refills_on : Story → Walk → Stage → Cell → CellWord → ℕ → Block → Step
 refills_on v w Turning c x k b =
-    within w k (Some (deed.OnCell (cell_deed.Turn (kind_in (state v) c) b)))
+    within w k (Some (deed.OnCell (cell_deed.Turn (kind_in_state (story_state v) c) b)))
     (cond (is_low x) (Refill Checking c x k) Rest)
 refills_on v w Checking c x k b = within w k None (cond (is_drained x (seen v c)) (Refill Lacking c (seen v c) k) Rest)
 refills_on v w Lacking c x k b =
-    within w k (Some (deed.OnCell (cell_deed.Bring (kind_in (state v) c) b x.place x.taken))) (Refill Refilling c x k)
+    within w k (Some (deed.OnCell (cell_deed.Bring (kind_in_state (story_state v) c) b x.place x.taken)))
+    (Refill Refilling c x k)
 refills_on v w Refilling c x k b =
-    cond (word_at v c == cell_bits x) (within w k (Some (deed.OnCell (cell_deed.Refill c x.taken))) Rest)
+    cond (word_of_cell v c == cell_bits x) (within w k (Some (deed.OnCell (cell_deed.Refill c x.taken))) Rest)
     (within w k None (Refill Failing c x k))
 refills_on v w Failing c x k b =
-    within w k (Some (deed.OnCell (cell_deed.GiveBack (kind_in (state v) c) b x.taken))) (Refill Checking c x k)
+    within w k (Some (deed.OnCell (cell_deed.GiveBack (kind_in_state (story_state v) c) b x.taken)))
+    (Refill Checking c x k)
 
 -- funds are given back
 abbrev pub returns : Walk → Kind → Block → ℕ → ℕ → Step
@@ -211,7 +217,7 @@ claims w k ts b form =
     record {
       deed = Some (deed.Claim b form.enabled form.null form.fields);
       half = Rest;
-      walk = settled x.0 x.1 w.endings ts;
+      walk = walk_settled x.0 x.1 w.endings ts;
       said = silent k;
     }
 
@@ -224,12 +230,12 @@ abbrev pub ends_on : Story → Walk → Ending → List Ending → Step
 ends_on v w e es =
     cond (e.stage == 3)
     (record {
-      deed = Some (deed.Finish e.block (weak (state v) (object_in v e.block) == 0));
+      deed = Some (deed.Finish e.block (weak (story_state v) (object_of_block v e.block) == 0));
       half = Rest;
       walk = with_endings w es;
       said = silent e.statement;
     })
-    (cond (word_at v (Member e.block e.stage) == 0)
+    (cond (word_of_cell v (Member e.block e.stage) == 0)
     (within (with_endings w (staged e ∷ es)) e.statement (Some (deed.Clear e.block e.stage)) Rest)
     (within w e.statement None Clearing))
 
@@ -239,7 +245,7 @@ empties v w e es =
     let c = Member e.block e.stage in
     let x = seen v c in
     let slots = cond (is_some x.owned)
-    (slice_set w.slots (hand w.slots) (slot_of (state v) (held_in (state v) c))) w.slots in
+    (slice_set w.slots (hand w.slots) (slot_of (story_state v) (held_in (story_state v) c))) w.slots in
     within (record { slots = slots; taken = w.taken; endings = staged e ∷ es; todo = w.todo }) e.statement
     (Some (deed.OnCell (cell_deed.TakeOut e.block e.stage x)))
     (gives_back (kind_of_member e.stage) e.statement x x.owned)

@@ -5,7 +5,7 @@ use Rattle.std.specs.Ordering.{nat_cmp}
 use Rattle.std.specs.declared.cmp.Reverse.{Reverse}
 
 -- the blocks in a store, in some order, and how many it may have
-pub record Stored : Type 0 where
+pub record StoreView : Type 0 where
   pub blocks : List ℕ
   pub room : ℕ
 

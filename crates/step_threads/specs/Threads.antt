@@ -16,14 +16,15 @@ use Rattle.step_threads.specs.declared.half.Half.TheVariants.{Refill, Returning,
 use Rattle.step_threads.specs.declared.said.Stepped.{Stepped}
 use Rattle.step_threads.specs.declared.thread.Thread.{Thread}
 use Rattle.step_threads.specs.Actors.{HalfFits, Stocks}
-use Rattle.step_threads.specs.Courses.{CourseReady, CourseStill, HasCell, form_of, going, hand, is_there, locked}
+use Rattle.step_threads.specs.Courses.{CourseReady, CourseStill, HasCell, form_of, going, hand, is_there}
+use Rattle.step_threads.specs.Courses.{locked_pointer}
 use Rattle.step_threads.specs.Courses.{task_at, walk}
 use Rattle.step_table.specs.declared.holdings.Pointer.{Pointer}
 use Rattle.step_threads.specs.declared.ending.Ending.{Ending}
 use Rattle.step_threads.specs.Endings.{EndsAll}
 use Rattle.step_table.specs.Contents.{as_word, same_value}
-use Rattle.step_table.specs.Holdings.{Holds, Slots, inside, is_full, slot, value}
-use Rattle.step_threads.specs.Stocks.{Stored}
+use Rattle.step_table.specs.Holdings.{HoldsBag, Slots, inside, is_full, slot_pointer, slot_value}
+use Rattle.step_threads.specs.Stocks.{StoreView}
 use Rattle.step_threads.specs.NextSteps.{answered, half_by, step_at, story_by, walk_by}
 use Rattle.step_table.specs.Stories.{Story}
 
@@ -38,18 +39,18 @@ IsLoaded x = (x.owned ≢ None) × (x.taken < 256)
 -- the next act loads what was seen, or compares it
 abbrev pub IsSeenBy : Slots → CellWord → Act → Type 0
 IsSeenBy slots x (Load c) = (is_there slots c ≡ true) × IsLoaded x
-IsSeenBy slots x (Compare k c weak) = (same_value x (as_word (value slots k)) ≡ true) ⊎ IsLoaded x
+IsSeenBy slots x (Compare k c weak) = (same_value x (as_word (slot_value slots k)) ≡ true) ⊎ IsLoaded x
 IsSeenBy slots x _ = ⊥
 
 -- it swaps what was seen, which is what it expects
 abbrev pub IsMatchedBy : Slots → CellWord → Act → Type 0
-IsMatchedBy slots x (Compare k c weak) = same_value x (as_word (value slots k)) ≡ true
+IsMatchedBy slots x (Compare k c weak) = same_value x (as_word (slot_value slots k)) ≡ true
 IsMatchedBy slots x _ = ⊥
 
 -- the object that ends first has a member left, and nothing came out of one that is in hand
-abbrev pub IsClearing : Slots → List Ending → Type 0
-IsClearing slots [] = ⊥
-IsClearing slots (e ∷ es) = (e.stage < 3) × (is_full (slot slots (hand slots)) ≡ false)
+abbrev pub IsClearingMember : Slots → List Ending → Type 0
+IsClearingMember slots [] = ⊥
+IsClearingMember slots (e ∷ es) = (e.stage < 3) × (is_full (slot_pointer slots (hand slots)) ≡ false)
 
 -- a make, a lock, a pointer from this or an act on a cell that is under way is the next act, and no object ends
 abbrev pub IsNext : Half → Course → Type 0
@@ -57,10 +58,10 @@ IsNext Rest c = Unit {0}
 IsNext (Making b i differs) c = (c.at < length c.tasks.items) × ((task_at c).act ≡ Make (form_at c))
     × (c.endings.list ≡ [])
 IsNext (Locking word) c = (c.at < length c.tasks.items)
-    × (is_full (locked c.holdings.slots.items (task_at c).act) ≡ true) × (c.endings.list ≡ [])
+    × (is_full (locked_pointer c.holdings.slots.items (task_at c).act) ≡ true) × (c.endings.list ≡ [])
 IsNext (Giving i kind x) c =
     (c.at < length c.tasks.items) × ((task_at c).act ≡ FromThis i kind)
-    × (inside (slot c.holdings.slots.items i) ≡ Some x) × (c.endings.list ≡ [])
+    × (inside (slot_pointer c.holdings.slots.items i) ≡ Some x) × (c.endings.list ≡ [])
 IsNext Brought c = (c.at < length c.tasks.items) × (is_some (going c.holdings.slots.items (task_at c).act) ≡ true)
     × (c.endings.list ≡ [])
 IsNext (Saw x) c = (c.at < length c.tasks.items) × IsSeenBy c.holdings.slots.items x (task_at c).act
@@ -69,7 +70,7 @@ IsNext (Matched x) c = (c.at < length c.tasks.items) × IsMatchedBy c.holdings.s
     × (c.endings.list ≡ [])
 IsNext (Refill stage cell x k) c = Unit {0}
 IsNext (Returning kind b funds k) c = Unit {0}
-IsNext Clearing c = IsClearing c.holdings.slots.items c.endings.list
+IsNext Clearing c = IsClearingMember c.holdings.slots.items c.endings.list
 
 -- the objects that end in a thread's hands are those of its endings; there is room for more, and nothing was taken
 -- meanwhile
@@ -79,9 +80,9 @@ pub record EndsFit (d : ℕ) (c : Course) (v : Story) : Type 0 where
   pub empty : (c.endings.list ≡ []) ⊎ (c.taken ≡ false)
 
 -- between two steps the thread has what its desk has, and its half-done act is as its desk's view says
-pub record Fits (d : ℕ) (t : Thread) (v : Story) : Type 0 where
+pub record FitsThread (d : ℕ) (t : Thread) (v : Story) : Type 0 where
   pub seat : d < v.extent.actors
-  pub holds : Holds d t.course.holdings.slots.items v
+  pub holds : HoldsBag d t.course.holdings.slots.items v
   pub within : t.course.at ≤ length t.course.tasks.items
   pub ready : CourseReady t.course
   pub still : CourseStill t.course
@@ -99,10 +100,10 @@ pub record HasStepped (d : ℕ) (t : Thread) (v : Story) (r : Stepped) (t' : Thr
   pub half : t'.half ≡ half_by t.half (step_at v d t.half (walk t.course))
 
 -- the stock after a pointer left: a block that is vacant by it comes in
-abbrev pub IsStocked : Kind → ℕ → Bool → Stored → Stored → Type 0
+abbrev pub IsStocked : Kind → ℕ → Bool → StoreView → StoreView → Type 0
 IsStocked Weak b true s s' = IsPermutation (b ∷ s.blocks) s'.blocks × (s.room ≤ s'.room)
 IsStocked _ b last s s' = s' ≡ s
 
-abbrev pub IsStockedBy : Option Pointer → Bool → Stored → Stored → Type 0
+abbrev pub IsStockedBy : Option Pointer → Bool → StoreView → StoreView → Type 0
 IsStockedBy None last s s' = s' ≡ s
 IsStockedBy (Some x) last s s' = IsStocked x.kind x.block.0 last s s'

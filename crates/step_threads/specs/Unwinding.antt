@@ -19,8 +19,8 @@ pub record Stop : Type 0 where
   pub out : Option (ℕ × Slot)
 
 -- a member of an ending object is cleared
-abbrev pub clears : Opening → ℕ → ℕ → ℕ → History → History
-clears z d o m h = entry d (event.ClearMember o m (((leads z h).object o).member m)) ∷ h
+abbrev pub history_clears : Opening → ℕ → ℕ → ℕ → History → History
+history_clears z d o m h = entry d (event.ClearMember o m (((leads z h).object o).member m)) ∷ h
 
 -- an object ends: its members that are left are cleared in order, up to one that held an object; with none left it is
 -- finished
@@ -29,8 +29,8 @@ stops z d o zero h = record { history = entry d (event.Finish o (weak (leads z h
 stops z d o (suc k) h =
     let s = leads z h in
     let x = (s.object o).member (2 - k) in
-    cond (has_object x) (record { history = clears z d o (2 - k) h; out = Some (k, slot_of s x) })
-    (stops z d o k (clears z d o (2 - k) h))
+    cond (has_object x) (record { history = history_clears z d o (2 - k) h; out = Some (k, slot_of s x) })
+    (stops z d o k (history_clears z d o (2 - k) h))
 
 -- how far a thread's endings come by themselves
 pub record Wound : Type 0 where
@@ -39,9 +39,9 @@ pub record Wound : Type 0 where
   pub endings : List Ending
 
 -- the first ending came to its end, and the others went on, or a member's handle is in hand
-abbrev pub goes_on : Ending → List Ending → History → Slots → Wound → Option (ℕ × Slot) → Wound
-goes_on e es h slots others None = others
-goes_on e es h slots others (Some p) =
+abbrev pub unwinds_on : Ending → List Ending → History → Slots → Wound → Option (ℕ × Slot) → Wound
+unwinds_on e es h slots others None = others
+unwinds_on e es h slots others (Some p) =
     record {
       history = h;
       slots = slice_set slots (hand slots) p.1;
@@ -53,4 +53,4 @@ abbrev pub unwound : Opening → ℕ → Slots → List Ending → History → W
 unwound z d slots [] h = record { history = h; slots = slots; endings = [] }
 unwound z d slots (e ∷ es) h =
     let c = stops z d ((leads z h).latest e.block.0) (3 - e.stage) h in
-    goes_on e es c.history slots (unwound z d slots es c.history) c.out
+    unwinds_on e es c.history slots (unwound z d slots es c.history) c.out

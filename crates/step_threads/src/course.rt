@@ -5,8 +5,9 @@ ghost use Rattle.control_word.specs.declared.handle.Kind.TheVariants.{Owner};
 ghost use Rattle.control_word.specs.Words.{flags_of};
 ghost use Rattle.step_table.specs.Deeds.{as_weak, by_word, downgrade, is_expired, is_last, leave, share, tell};
 ghost use Rattle.step_table.specs.Deeds.{tell_expired};
-ghost use Rattle.step_table.specs.Holdings.{Holds, filled, is_full, plain, slot, value};
-ghost use Rattle.step_table.specs.Stories.{IsMaking, Story, after, known, object_in, pending, state};
+ghost use Rattle.step_table.specs.Holdings.{HoldsBag, filled, is_full, plain, slot_pointer, slot_value};
+ghost use Rattle.step_table.specs.Stories.{IsMaking, Story, story_after_deed, known_words, object_of_block, pending};
+ghost use Rattle.step_table.specs.Stories.{story_state};
 ghost use Rattle.step_table.specs.declared.holdings.Pointer.{Pointer};
 ghost use Rattle.step_table.specs.declared.slot.Slot.TheVariants.{Full};
 ghost use Rattle.control_word.specs.Events.{origin};
@@ -34,8 +35,9 @@ pub struct Course {
 
 impl Course {
     ghost use Rattle.step_table.specs.Deeds.{on};
-    ghost use Rattle.step_threads.specs.Courses.{CanAct, CourseReady, HasGoneOn, IsReady, done_on, hand, idle, passed};
-    ghost use Rattle.step_threads.specs.Courses.{placed, rest, settled, task_at, todo, walk};
+    ghost use Rattle.step_threads.specs.Courses.{CanAct, CourseReady, HasGoneOn, IsReady, done_on, hand, idle};
+    ghost use Rattle.step_threads.specs.Courses.{slot_passed};
+    ghost use Rattle.step_threads.specs.Courses.{placed, rest, walk_settled, task_at, todo, walk};
     ghost use Rattle.step_threads.specs.Passing.{IsPassed};
 
     /// Whether the next task is no act where it comes.
@@ -75,12 +77,12 @@ impl Course {
     /// What was taken goes to a slot that holds nothing.
     fn put_down(&mut self, to: usize)
         requires inside { to < hand self.old.holdings.slots.items }
-        requires empty { self.old.taken ≡ true → slot self.old.holdings.slots.items to ≡ None }
-        ensures slots { self.new.holdings.slots.items ≡ cond self.old.taken (passed
+        requires empty { self.old.taken ≡ true → slot_pointer self.old.holdings.slots.items to ≡ None }
+        ensures slots { self.new.holdings.slots.items ≡ cond self.old.taken (slot_passed
             (hand self.old.holdings.slots.items) to self.old.holdings.slots.items) self.old.holdings.slots.items }
         ensures course { self.new ≡ record self.old { holdings = self.new.holdings; taken = false } }
-        ensures holds { (d : ℕ) (v : Story) → Holds d self.old.holdings.slots.items v
-            → Holds d self.new.holdings.slots.items v }
+        ensures holds { (d : ℕ) (v : Story) → HoldsBag d self.old.holdings.slots.items v
+            → HoldsBag d self.new.holdings.slots.items v }
     {
         if self.taken {
             let hand = self.holdings.hand();
@@ -93,7 +95,7 @@ impl Course {
     pub fn settle(&mut self)
         requires within { self.old.at ≤ length self.old.tasks.items }
         requires ready { CourseReady self.old }
-        ensures walk { walk self.new ≡ settled self.old.holdings.slots.items self.old.taken
+        ensures walk { walk self.new ≡ walk_settled self.old.holdings.slots.items self.old.taken
             self.old.endings.list (todo self.old) }
         ensures tasks { self.new.tasks ≡ self.old.tasks }
         ensures endings { self.new.endings ≡ self.old.endings }
@@ -102,8 +104,8 @@ impl Course {
         ensures ready { CourseReady self.new }
         ensures still { self.new.at < length self.new.tasks.items
             → idle (task_at self.new).act self.new.holdings.slots.items self.new.taken ≡ false }
-        ensures holds { (d : ℕ) (v : Story) → Holds d self.old.holdings.slots.items v
-            → Holds d self.new.holdings.slots.items v }
+        ensures holds { (d : ℕ) (v : Story) → HoldsBag d self.old.holdings.slots.items v
+            → HoldsBag d self.new.holdings.slots.items v }
     {
         while self.at < self.tasks.len() && self.is_idle() {
             self.pass();
@@ -122,9 +124,9 @@ impl Course {
     pub(crate) fn go_on(&mut self)
         requires within { self.old.at < length self.old.tasks.items }
         requires ready { IsReady self.old.holdings.slots.items self.old.taken self.old.endings.list (rest self.old) }
-        ensures walk { walk self.new ≡ settled self.old.holdings.slots.items self.old.taken
+        ensures walk { walk self.new ≡ walk_settled self.old.holdings.slots.items self.old.taken
             self.old.endings.list (rest self.old) }
-        ensures on { (d : ℕ) (v : Story) → Holds d self.old.holdings.slots.items v
+        ensures on { (d : ℕ) (v : Story) → HoldsBag d self.old.holdings.slots.items v
             → HasGoneOn d self.old self.new v }
     {
         self.at += 1;
@@ -136,8 +138,8 @@ impl Course {
         requires within { self.old.at < length self.old.tasks.items }
         requires ready { IsReady self.old.holdings.slots.items taken self.old.endings.list (rest self.old) }
         ensures walk { walk self.new
-            ≡ settled self.old.holdings.slots.items taken self.old.endings.list (rest self.old) }
-        ensures on { (d : ℕ) (v : Story) → Holds d self.old.holdings.slots.items v
+            ≡ walk_settled self.old.holdings.slots.items taken self.old.endings.list (rest self.old) }
+        ensures on { (d : ℕ) (v : Story) → HoldsBag d self.old.holdings.slots.items v
             → HasGoneOn d self.old self.new v }
     {
         self.taken = taken;
@@ -148,11 +150,11 @@ impl Course {
     pub(crate) fn share(&mut self, desk: usize, table: &mut Table, name: u8) -> bool
         requires can { CanAct desk self.old table.old }
         requires act { (task_at self.old).act ≡ Act.Share name }
-        ensures event { result ≡ is_full (slot self.old.holdings.slots.items name) }
-        ensures table { table.new ≡ done_on share table.old desk (slot self.old.holdings.slots.items name) }
+        ensures event { result ≡ is_full (slot_pointer self.old.holdings.slots.items name) }
+        ensures table { table.new ≡ done_on share table.old desk (slot_pointer self.old.holdings.slots.items name) }
         ensures walk { walk self.new
-            ≡ settled (slice_set self.old.holdings.slots.items (hand self.old.holdings.slots.items)
-            (value self.old.holdings.slots.items name)) true self.old.endings.list (rest self.old) }
+            ≡ walk_settled (slice_set self.old.holdings.slots.items (hand self.old.holdings.slots.items)
+            (slot_value self.old.holdings.slots.items name)) true self.old.endings.list (rest self.old) }
         ensures on { HasGoneOn desk self.old self.new table.new }
     {
         let from = usize::from(name);
@@ -177,11 +179,12 @@ impl Course {
     pub(crate) fn downgrade(&mut self, desk: usize, table: &mut Table, name: u8) -> bool
         requires can { CanAct desk self.old table.old }
         requires act { (task_at self.old).act ≡ Act.Downgrade name }
-        ensures event { result ≡ is_full (slot self.old.holdings.slots.items name) }
-        ensures table { table.new ≡ done_on downgrade table.old desk (slot self.old.holdings.slots.items name) }
+        ensures event { result ≡ is_full (slot_pointer self.old.holdings.slots.items name) }
+        ensures table { table.new ≡ done_on downgrade table.old desk
+            (slot_pointer self.old.holdings.slots.items name) }
         ensures walk { walk self.new
-            ≡ settled (slice_set self.old.holdings.slots.items (hand self.old.holdings.slots.items)
-            (filled (option_map as_weak (slot self.old.holdings.slots.items name)))) true
+            ≡ walk_settled (slice_set self.old.holdings.slots.items (hand self.old.holdings.slots.items)
+            (filled (option_map as_weak (slot_pointer self.old.holdings.slots.items name)))) true
             self.old.endings.list (rest self.old) }
         ensures on { HasGoneOn desk self.old self.new table.new }
     {
@@ -205,10 +208,12 @@ impl Course {
     pub(crate) fn leave(&mut self, desk: usize, table: &mut Table, name: u8) -> bool
         requires can { CanAct desk self.old table.old }
         requires act { ((task_at self.old).act ≡ Act.Leave name) ⊎ ((task_at self.old).act ≡ Act.Clear name) }
-        ensures last { result ≡ on (is_last (state table.old)) false (slot self.old.holdings.slots.items name) }
-        ensures table { table.new ≡ done_on (leave (state table.old)) table.old desk
-            (slot self.old.holdings.slots.items name) }
-        ensures walk { walk self.new ≡ settled (slice_set self.old.holdings.slots.items name plain) self.old.taken
+        ensures last { result ≡ on (is_last (story_state table.old)) false
+            (slot_pointer self.old.holdings.slots.items name) }
+        ensures table { table.new ≡ done_on (leave (story_state table.old)) table.old desk
+            (slot_pointer self.old.holdings.slots.items name) }
+        ensures walk { walk self.new ≡ walk_settled (slice_set self.old.holdings.slots.items name plain)
+            self.old.taken
             self.old.endings.list (rest self.old) }
         ensures on { HasGoneOn desk self.old self.new table.new }
     {
@@ -231,11 +236,12 @@ impl Course {
     pub fn put(&mut self, desk: usize, table: &mut Table, name: u8) -> bool
         requires can { CanAct desk self.old table.old }
         requires act { (task_at self.old).act ≡ Act.Put name }
-        ensures full { is_full (slot self.old.holdings.slots.items name) ≡ true }
-        ensures last { result ≡ on (is_last (state table.old)) false (slot self.old.holdings.slots.items name) }
-        ensures table { table.new ≡ done_on (leave (state table.old)) table.old desk
-            (slot self.old.holdings.slots.items name) }
-        ensures walk { walk self.new ≡ settled (placed name (slice_set self.old.holdings.slots.items name plain))
+        ensures full { is_full (slot_pointer self.old.holdings.slots.items name) ≡ true }
+        ensures last { result ≡ on (is_last (story_state table.old)) false
+            (slot_pointer self.old.holdings.slots.items name) }
+        ensures table { table.new ≡ done_on (leave (story_state table.old)) table.old desk
+            (slot_pointer self.old.holdings.slots.items name) }
+        ensures walk { walk self.new ≡ walk_settled (placed name (slice_set self.old.holdings.slots.items name plain))
             false self.old.endings.list (rest self.old) }
         ensures on { HasGoneOn desk self.old self.new table.new }
     {
@@ -257,15 +263,16 @@ impl Course {
     pub(crate) fn claim(&mut self, desk: usize, table: &mut Table, block: Block, form: Form)
         requires seat { desk < table.old.extent.actors }
         requires making { IsMaking table.old desk block }
-        requires known { known (pending table.old desk) ≡ flags_of form.enabled form.null ∷ form.fields }
-        requires holds { Holds desk self.old.holdings.slots.items table.old }
+        requires known { known_words (pending table.old desk) ≡ flags_of form.enabled form.null ∷ form.fields }
+        requires holds { HoldsBag desk self.old.holdings.slots.items table.old }
         requires within { self.old.at < length self.old.tasks.items }
         requires ready { CourseReady self.old }
         requires none { self.old.endings.list ≡ [] }
         requires act { (task_at self.old).act ≡ Act.Make form }
-        ensures table { table.new ≡ after table.old desk (Deed.Claim block form.enabled form.null form.fields) }
+        ensures table { table.new ≡ story_after_deed table.old desk
+            (Deed.Claim block form.enabled form.null form.fields) }
         ensures walk { walk self.new
-            ≡ settled (slice_set self.old.holdings.slots.items (hand self.old.holdings.slots.items)
+            ≡ walk_settled (slice_set self.old.holdings.slots.items (hand self.old.holdings.slots.items)
             (Full (record { kind = Owner; block = block; place = origin block.0 form.null }))) true
             self.old.endings.list (rest self.old) }
         ensures on { HasGoneOn desk self.old self.new table.new }

@@ -3,11 +3,11 @@ ghost use Rattle.std.specs.Prelude.{◌≡◌, ◌<◌, ◌≤◌, ◌⊎◌, []
 ghost use Rattle.control_word.specs.State.{ending};
 ghost use Rattle.control_word.specs.declared.handle.Kind.TheVariants.{Owner, Weak};
 ghost use Rattle.step_table.specs.Deeds.{on};
-ghost use Rattle.step_table.specs.Holdings.{is_full, slot};
+ghost use Rattle.step_table.specs.Holdings.{is_full, slot_pointer};
 ghost use Rattle.step_threads.specs.Courses.{hand};
 ghost use Rattle.step_threads.specs.Endings.{first_of};
 ghost use Rattle.step_threads.specs.Scenes.{begins_end_as, remains_as};
-ghost use Rattle.step_table.specs.Stories.{object_in, state};
+ghost use Rattle.step_table.specs.Stories.{object_of_block, story_state};
 ghost use Rattle.step_threads.specs.declared.act.Act.{Act};
 ghost use Rattle.step_threads.specs.declared.half.Half.{Half};
 ghost use Rattle.step_table.specs.declared.holdings.Pointer.{Pointer};
@@ -22,18 +22,18 @@ use step_table::table::Table;
 
 impl Thread {
     ghost use Rattle.step_threads.specs.Courses.{task_at};
-    ghost use Rattle.step_threads.specs.Threads.{Fits, HasStepped, IsStocked, IsStockedBy};
+    ghost use Rattle.step_threads.specs.Threads.{FitsThread, HasStepped, IsStocked, IsStockedBy};
 
     /// Leaves what a name holds, if anything. Where that was the last owner, the end of its object begins.
     pub(crate) fn leave(&mut self, desk: usize, table: &mut Table, name: u8) -> Stepped
-        requires fits { Fits desk self.old table.old }
+        requires fits { FitsThread desk self.old table.old }
         requires rest { self.old.half ≡ Half.Rest }
         requires none { self.old.course.endings.list ≡ [] }
         requires within { self.old.course.at < length self.old.course.tasks.items }
         requires act { ((task_at self.old.course).act ≡ Act.Leave name)
             ⊎ ((task_at self.old.course).act ≡ Act.Clear name) }
         ensures stepped { HasStepped desk self.old table.old result self.new table.new }
-        ensures fits { Fits desk self.new table.new }
+        ensures fits { FitsThread desk self.new table.new }
     {
         table.known();
         let statement = self.course.statement();
@@ -54,13 +54,13 @@ impl Thread {
     /// Leaves what a name holds, and puts there what is in hand. Where that was the last owner, the end of its object
     /// begins.
     pub fn put(&mut self, desk: usize, table: &mut Table, name: u8) -> Stepped
-        requires fits { Fits desk self.old table.old }
+        requires fits { FitsThread desk self.old table.old }
         requires rest { self.old.half ≡ Half.Rest }
         requires none { self.old.course.endings.list ≡ [] }
         requires within { self.old.course.at < length self.old.course.tasks.items }
         requires act { (task_at self.old.course).act ≡ Act.Put name }
         ensures stepped { HasStepped desk self.old table.old result self.new table.new }
-        ensures fits { Fits desk self.new table.new }
+        ensures fits { FitsThread desk self.new table.new }
     {
         table.known();
         let statement = self.course.statement();
@@ -85,13 +85,13 @@ impl Thread {
         table: &mut Table,
         ending: Ending,
     ) -> Stepped
-        requires fits { Fits desk self.old table.old }
+        requires fits { FitsThread desk self.old table.old }
         requires rest { self.old.half ≡ Half.Rest }
         requires first { first_of self.old.course.endings.list ≡ Some ending }
         requires carried { is_full
-            (slot self.old.course.holdings.slots.items (hand self.old.course.holdings.slots.items)) ≡ true }
+            (slot_pointer self.old.course.holdings.slots.items (hand self.old.course.holdings.slots.items)) ≡ true }
         ensures stepped { HasStepped desk self.old table.old result self.new table.new }
-        ensures fits { Fits desk self.new table.new }
+        ensures fits { FitsThread desk self.new table.new }
     {
         table.known();
         let hand = self.course.holdings.hand();
@@ -120,7 +120,7 @@ impl Thread {
         statement: u32,
     ) -> Option<Ended>
         requires ending { (x : Pointer) → held ≡ Some x → x.kind ≡ Owner → last ≡ true
-            → ((state table.now).object (object_in table.now x.block)).phase ≡ ending desk }
+            → ((story_state table.now).object (object_of_block table.now x.block)).phase ≡ ending desk }
         requires begins { (x : Pointer) → held ≡ Some x → x.kind ≡ Owner → last ≡ true
             → length self.old.course.endings.list < self.old.course.endings.room }
         requires room { (x : Pointer) → held ≡ Some x → x.kind ≡ Weak → last ≡ true
@@ -133,7 +133,7 @@ impl Thread {
         ensures stock { IsStockedBy held last self.old.stock self.new.stock }
         ensures half { self.new.half ≡ self.old.half }
         ensures ended { result ≡ on (λ x. cond last
-            (remains_as x.kind ((state table.now).object (object_in table.now x.block))) None) None held }
+            (remains_as x.kind ((story_state table.now).object (object_of_block table.now x.block))) None) None held }
     {
         match held {
             Some(pointer) if last => self.close(desk, table, pointer, statement),
@@ -141,7 +141,7 @@ impl Thread {
         }
     }
 
-    /// After the last leave of a kind, as `left` says.
+    /// After the last leave of a kind, as `leaving_pointer` says.
     fn close(
         &mut self,
         desk: usize,
@@ -150,7 +150,7 @@ impl Thread {
         statement: u32,
     ) -> Option<Ended>
         requires ending { pointer.kind ≡ Owner
-            → ((state table.now).object (object_in table.now pointer.block)).phase ≡ ending desk }
+            → ((story_state table.now).object (object_of_block table.now pointer.block)).phase ≡ ending desk }
         requires begins { pointer.kind ≡ Owner → length self.old.course.endings.list
             < self.old.course.endings.room }
         requires room { pointer.kind ≡ Weak → length self.old.stock.blocks < self.old.stock.room }
@@ -161,7 +161,7 @@ impl Thread {
         ensures stock { IsStocked pointer.kind pointer.block.0 true self.old.stock self.new.stock }
         ensures half { self.new.half ≡ self.old.half }
         ensures ended { result ≡ remains_as pointer.kind
-            ((state table.now).object (object_in table.now pointer.block)) }
+            ((story_state table.now).object (object_of_block table.now pointer.block)) }
     {
         match pointer.kind {
             Kind::Owner => {

@@ -11,17 +11,17 @@ use step_table::table::Table;
 
 impl Thread {
     ghost use Rattle.step_threads.specs.Courses.{task_at};
-    ghost use Rattle.step_threads.specs.Threads.{Fits, HasStepped};
+    ghost use Rattle.step_threads.specs.Threads.{FitsThread, HasStepped};
 
     /// The first step of a lock: it looks at the word of the owners. Without a weak pointer it touches no word.
     pub fn lock(&mut self, desk: usize, table: &mut Table, name: u8, must: bool) -> Stepped
-        requires fits { Fits desk self.old table.old }
+        requires fits { FitsThread desk self.old table.old }
         requires rest { self.old.half ≡ Half.Rest }
         requires none { self.old.course.endings.list ≡ [] }
         requires within { self.old.course.at < length self.old.course.tasks.items }
         requires act { (task_at self.old.course).act ≡ Act.Lock name must }
         ensures stepped { HasStepped desk self.old table.old result self.new table.new }
-        ensures fits { Fits desk self.new table.new }
+        ensures fits { FitsThread desk self.new table.new }
     {
         table.known();
         let statement = self.course.statement();
@@ -41,10 +41,10 @@ impl Thread {
 
     /// The next step of a lock that is under way.
     pub(crate) fn lock_on(&mut self, desk: usize, table: &mut Table, word: u64) -> Stepped
-        requires fits { Fits desk self.old table.old }
+        requires fits { FitsThread desk self.old table.old }
         requires half { self.old.half ≡ Half.Locking word }
         ensures stepped { HasStepped desk self.old table.old result self.new table.new }
-        ensures fits { Fits desk self.new table.new }
+        ensures fits { FitsThread desk self.new table.new }
     {
         let Act::Lock { name, must } = self.course.tasks[self.course.at].act else {
             unreachable!()
@@ -62,11 +62,11 @@ impl Thread {
         must: bool,
         word: u64,
     ) -> Stepped
-        requires fits { Fits desk self.old table.old }
+        requires fits { FitsThread desk self.old table.old }
         requires half { self.old.half ≡ Half.Locking word }
         requires act { (task_at self.old.course).act ≡ Act.Lock name must }
         ensures stepped { HasStepped desk self.old table.old result self.new table.new }
-        ensures fits { Fits desk self.new table.new }
+        ensures fits { FitsThread desk self.new table.new }
     {
         table.known();
         let statement = self.course.statement();

@@ -2,10 +2,10 @@
 ghost use Rattle.std.specs.Prelude.{◌≡◌, ◌⊎◌, ◌<◌, true, false, length, Some, None, []};
 ghost use Rattle.step_table.specs.Contents.{as_word, owing_for, same_value};
 ghost use Rattle.step_threads.specs.Courses.{hand};
-ghost use Rattle.step_table.specs.Holdings.{value};
+ghost use Rattle.step_table.specs.Holdings.{slot_value};
 ghost use Rattle.step_table.specs.Refills.{more_taken};
 ghost use Rattle.step_threads.specs.Steps.{missed};
-ghost use Rattle.step_table.specs.Stories.{pending, state};
+ghost use Rattle.step_table.specs.Stories.{pending, story_state};
 ghost use Rattle.step_threads.specs.declared.half.Half.{Half};
 ghost use Rattle.step_table.specs.declared.refill.Stage.{Stage};
 
@@ -25,18 +25,18 @@ use step_table::table::Table;
 
 impl Thread {
     ghost use Rattle.step_threads.specs.Courses.{task_at};
-    ghost use Rattle.step_threads.specs.Threads.{Fits, HasStepped};
+    ghost use Rattle.step_threads.specs.Threads.{FitsThread, HasStepped};
 
     /// The first step of a load: a look at the cell, where it is there; else it is refused. A value without an object
     /// is loaded at once, and one of which all funds were taken has to wait.
     pub(crate) fn load(&mut self, desk: usize, table: &mut Table, cell: CellName) -> Stepped
-        requires fits { Fits desk self.old table.old }
+        requires fits { FitsThread desk self.old table.old }
         requires rest { self.old.half ≡ Half.Rest }
         requires none { self.old.course.endings.list ≡ [] }
         requires within { self.old.course.at < length self.old.course.tasks.items }
         requires act { (task_at self.old.course).act ≡ Act.Load cell }
         ensures stepped { HasStepped desk self.old table.old result self.new table.new }
-        ensures fits { Fits desk self.new table.new }
+        ensures fits { FitsThread desk self.new table.new }
     {
         table.known();
         if !self.course.is_there(cell) {
@@ -64,13 +64,13 @@ impl Thread {
         cell: CellName,
         weak: bool,
     ) -> Stepped
-        requires fits { Fits desk self.old table.old }
+        requires fits { FitsThread desk self.old table.old }
         requires rest { self.old.half ≡ Half.Rest }
         requires none { self.old.course.endings.list ≡ [] }
         requires within { self.old.course.at < length self.old.course.tasks.items }
         requires act { (task_at self.old.course).act ≡ Act.Compare name cell weak }
         ensures stepped { HasStepped desk self.old table.old result self.new table.new }
-        ensures fits { Fits desk self.new table.new }
+        ensures fits { FitsThread desk self.new table.new }
     {
         table.known();
         let statement = self.course.statement();
@@ -90,10 +90,10 @@ impl Thread {
 
     /// The next step of a load or a compare that has seen this.
     pub(crate) fn look_on(&mut self, desk: usize, table: &mut Table, found: CellWord) -> Stepped
-        requires fits { Fits desk self.old table.old }
+        requires fits { FitsThread desk self.old table.old }
         requires half { self.old.half ≡ Half.Saw found }
         ensures stepped { HasStepped desk self.old table.old result self.new table.new }
-        ensures fits { Fits desk self.new table.new }
+        ensures fits { FitsThread desk self.new table.new }
     {
         match self.course.tasks[self.course.at].act {
             Act::Load { cell } => self.take(desk, table, cell, found),
@@ -110,11 +110,11 @@ impl Thread {
 
     /// Takes a fund of a cell that is loaded, where it shows the same still; else the load begins again.
     fn take(&mut self, desk: usize, table: &mut Table, cell: CellName, found: CellWord) -> Stepped
-        requires fits { Fits desk self.old table.old }
+        requires fits { FitsThread desk self.old table.old }
         requires half { self.old.half ≡ Half.Saw found }
         requires act { (task_at self.old.course).act ≡ Act.Load cell }
         ensures stepped { HasStepped desk self.old table.old result self.new table.new }
-        ensures fits { Fits desk self.new table.new }
+        ensures fits { FitsThread desk self.new table.new }
     {
         table.known();
         let statement = self.course.statement();
@@ -138,12 +138,12 @@ impl Thread {
         weak: bool,
         found: CellWord,
     ) -> Stepped
-        requires fits { Fits desk self.old table.old }
+        requires fits { FitsThread desk self.old table.old }
         requires half { self.old.half ≡ Half.Saw found }
         requires act { (task_at self.old.course).act ≡ Act.Compare name cell weak }
-        requires differs { same_value found (as_word (value self.old.course.holdings.slots.items name)) ≡ false }
+        requires differs { same_value found (as_word (slot_value self.old.course.holdings.slots.items name)) ≡ false }
         ensures stepped { HasStepped desk self.old table.old result self.new table.new }
-        ensures fits { Fits desk self.new table.new }
+        ensures fits { FitsThread desk self.new table.new }
     {
         table.known();
         let statement = self.course.statement();
@@ -170,12 +170,12 @@ impl Thread {
         weak: bool,
         found: CellWord,
     ) -> Stepped
-        requires fits { Fits desk self.old table.old }
+        requires fits { FitsThread desk self.old table.old }
         requires half { self.old.half ≡ Half.Saw found }
         requires act { (task_at self.old.course).act ≡ Act.Compare name cell weak }
-        requires alike { same_value found (as_word (value self.old.course.holdings.slots.items name)) ≡ true }
+        requires alike { same_value found (as_word (slot_value self.old.course.holdings.slots.items name)) ≡ true }
         ensures stepped { HasStepped desk self.old table.old result self.new table.new }
-        ensures fits { Fits desk self.new table.new }
+        ensures fits { FitsThread desk self.new table.new }
     {
         table.known();
         let statement = self.course.statement();
@@ -190,10 +190,10 @@ impl Thread {
 
     /// The funds are brought: the cell is swapped, where it shows the same still.
     pub(crate) fn match_on(&mut self, desk: usize, table: &mut Table, found: CellWord) -> Stepped
-        requires fits { Fits desk self.old table.old }
+        requires fits { FitsThread desk self.old table.old }
         requires half { self.old.half ≡ Half.Matched found }
         ensures stepped { HasStepped desk self.old table.old result self.new table.new }
-        ensures fits { Fits desk self.new table.new }
+        ensures fits { FitsThread desk self.new table.new }
     {
         let Act::Compare { name, cell, weak } = self.course.tasks[self.course.at].act else {
             unreachable!()
@@ -213,14 +213,14 @@ impl Thread {
         weak: bool,
         found: CellWord,
     ) -> Stepped
-        requires fits { Fits desk self.old table.old }
+        requires fits { FitsThread desk self.old table.old }
         requires half { (self.old.half ≡ Half.Saw found) ⊎ (self.old.half ≡ Half.Matched found) }
         requires act { (task_at self.old.course).act ≡ Act.Compare name cell weak }
-        requires alike { same_value found (as_word (value self.old.course.holdings.slots.items name)) ≡ true }
-        requires owes { pending table.old desk ≡ owing_for (state table.old)
-            (value self.old.course.holdings.slots.items (hand self.old.course.holdings.slots.items)) 256 }
+        requires alike { same_value found (as_word (slot_value self.old.course.holdings.slots.items name)) ≡ true }
+        requires owes { pending table.old desk ≡ owing_for (story_state table.old)
+            (slot_value self.old.course.holdings.slots.items (hand self.old.course.holdings.slots.items)) 256 }
         ensures stepped { HasStepped desk self.old table.old result self.new table.new }
-        ensures fits { Fits desk self.new table.new }
+        ensures fits { FitsThread desk self.new table.new }
     {
         table.known();
         let statement = self.course.statement();

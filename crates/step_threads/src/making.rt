@@ -15,17 +15,17 @@ use step_table::table::Table;
 
 impl Thread {
     ghost use Rattle.step_threads.specs.Courses.{task_at};
-    ghost use Rattle.step_threads.specs.Threads.{Fits, HasStepped};
+    ghost use Rattle.step_threads.specs.Threads.{FitsThread, HasStepped};
 
     /// Begins a make in the least block. Where there is none the statement is refused.
     pub(crate) fn begin(&mut self, desk: usize, table: &mut Table, form: Form) -> Stepped
-        requires fits { Fits desk self.old table.old }
+        requires fits { FitsThread desk self.old table.old }
         requires rest { self.old.half ≡ Half.Rest }
         requires none { self.old.course.endings.list ≡ [] }
         requires within { self.old.course.at < length self.old.course.tasks.items }
         requires act { (task_at self.old.course).act ≡ Act.Make form }
         ensures stepped { HasStepped desk self.old table.old result self.new table.new }
-        ensures fits { Fits desk self.new table.new }
+        ensures fits { FitsThread desk self.new table.new }
     {
         let statement = self.course.statement();
         match self.stock.take_least() {
@@ -60,10 +60,10 @@ impl Thread {
         index: u8,
         differs: bool,
     ) -> Stepped
-        requires fits { Fits desk self.old table.old }
+        requires fits { FitsThread desk self.old table.old }
         requires half { self.old.half ≡ Half.Making block index differs }
         ensures stepped { HasStepped desk self.old table.old result self.new table.new }
-        ensures fits { Fits desk self.new table.new }
+        ensures fits { FitsThread desk self.new table.new }
     {
         let Act::Make { form } = self.course.tasks[self.course.at].act else {
             unreachable!()
@@ -86,12 +86,12 @@ impl Thread {
         index: u8,
         form: Form,
     ) -> Stepped
-        requires fits { Fits desk self.old table.old }
+        requires fits { FitsThread desk self.old table.old }
         requires half { self.old.half ≡ Half.Making block index false }
         requires inside { index < 5 }
         requires act { (task_at self.old.course).act ≡ Act.Make form }
         ensures stepped { HasStepped desk self.old table.old result self.new table.new }
-        ensures fits { Fits desk self.new table.new }
+        ensures fits { FitsThread desk self.new table.new }
     {
         let so = table.look(desk, block, index) == wanted_word(index, &form);
         let index = if so { index + 1 } else { index };
@@ -112,12 +112,12 @@ impl Thread {
         index: u8,
         form: Form,
     ) -> Stepped
-        requires fits { Fits desk self.old table.old }
+        requires fits { FitsThread desk self.old table.old }
         requires half { self.old.half ≡ Half.Making block index true }
         requires inside { index < 5 }
         requires act { (task_at self.old.course).act ≡ Act.Make form }
         ensures stepped { HasStepped desk self.old table.old result self.new table.new }
-        ensures fits { Fits desk self.new table.new }
+        ensures fits { FitsThread desk self.new table.new }
     {
         table.known();
         table.write(desk, block, index, wanted_word(index, &form));
@@ -138,11 +138,11 @@ impl Thread {
         differs: bool,
         form: Form,
     ) -> Stepped
-        requires fits { Fits desk self.old table.old }
+        requires fits { FitsThread desk self.old table.old }
         requires half { self.old.half ≡ Half.Making block 5 differs }
         requires act { (task_at self.old.course).act ≡ Act.Make form }
         ensures stepped { HasStepped desk self.old table.old result self.new table.new }
-        ensures fits { Fits desk self.new table.new }
+        ensures fits { FitsThread desk self.new table.new }
     {
         table.known();
         let statement = self.course.statement();

@@ -1,14 +1,14 @@
 //! How a thread puts values into cells, act by act.
 ghost use Rattle.std.specs.Prelude.{◌≡◌, ◌<◌, ◌≤◌, true, false, length, slice_set};
-ghost use Rattle.step_table.specs.Contents.{as_word, is_of, owing_for, seen, swapped};
+ghost use Rattle.step_table.specs.Contents.{as_word, is_of, owing_for, seen, slots_swapped};
 ghost use Rattle.step_threads.specs.Programs.{kind_at};
-ghost use Rattle.step_threads.specs.Courses.{CanAct, CourseReady, HasCell, HasGoneOn, IsNamed, cell_at, done_on};
-ghost use Rattle.step_threads.specs.Courses.{fitting, hand, is_offered, is_there, offered, other, rest, settled};
+ghost use Rattle.step_threads.specs.Courses.{CanAct, CourseReady, HasCell, HasGoneOn, IsNamed, cell_of_name, done_on};
+ghost use Rattle.step_threads.specs.Courses.{fitting, hand, is_offered, is_there, offered, other, rest, walk_settled};
 ghost use Rattle.step_threads.specs.Courses.{task_at, walk};
 ghost use Rattle.step_table.specs.Deeds.{is_last, leave, share, on};
-ghost use Rattle.step_table.specs.Holdings.{Holds, is_full, plain, slot, value};
+ghost use Rattle.step_table.specs.Holdings.{HoldsBag, is_full, plain, slot_pointer, slot_value};
 ghost use Rattle.step_threads.specs.Scenes.{came};
-ghost use Rattle.step_table.specs.Stories.{after, pending, state};
+ghost use Rattle.step_table.specs.Stories.{story_after_deed, pending, story_state};
 
 use crate::act::Act;
 use crate::call::CellName;
@@ -34,7 +34,7 @@ impl Course {
     pub(crate) fn cell(&self, table: &Table, cell: CellName) -> Cell
         requires named { IsNamed (length self.now.holdings.slots.items) cell }
         requires there { is_there self.now.holdings.slots.items cell ≡ true }
-        ensures { result ≡ cell_at (state table.now) self.now.holdings.slots.items cell }
+        ensures { result ≡ cell_of_name (story_state table.now) self.now.holdings.slots.items cell }
     {
         table.known();
         match cell {
@@ -68,7 +68,7 @@ impl Course {
     /// Whether a slot's value may go into a cell.
     pub(crate) fn may_go_in(&self, at: usize, cell: CellName) -> bool
         requires { at < length self.now.holdings.slots.items }
-        ensures { result ≡ is_of (kind_at cell) (value self.now.holdings.slots.items at) }
+        ensures { result ≡ is_of (kind_at cell) (slot_value self.now.holdings.slots.items at) }
     {
         self.holdings.is_of(at, cell.kind())
     }
@@ -80,8 +80,9 @@ impl Course {
         requires there { is_there self.old.holdings.slots.items cell ≡ true }
         ensures event { result ≡ is_full (offered self.old.holdings.slots.items name cell) }
         ensures table { table.new ≡ done_on share table.old desk (offered self.old.holdings.slots.items name cell) }
-        ensures walk { walk self.new ≡ settled (slice_set self.old.holdings.slots.items
-            (hand self.old.holdings.slots.items) (fitting (kind_at cell) (value self.old.holdings.slots.items name)))
+        ensures walk { walk self.new ≡ walk_settled (slice_set self.old.holdings.slots.items
+            (hand self.old.holdings.slots.items)
+            (fitting (kind_at cell) (slot_value self.old.holdings.slots.items name)))
             true self.old.endings.list (rest self.old) }
         ensures on { HasGoneOn desk self.old self.new table.new }
     {
@@ -110,26 +111,28 @@ impl Course {
     /// Puts what is in hand into a cell, for which its funds were brought. What the cell held is to be dropped.
     pub fn swap(&mut self, desk: usize, table: &mut Table, cell: CellName) -> CellWord
         requires seat { desk < table.old.extent.actors }
-        requires holds { Holds desk self.old.holdings.slots.items table.old }
+        requires holds { HoldsBag desk self.old.holdings.slots.items table.old }
         requires within { self.old.at < length self.old.tasks.items }
         requires ready { CourseReady self.old }
         requires act { (task_at self.old).act ≡ Act.Swap cell }
         requires there { is_there self.old.holdings.slots.items cell ≡ true }
         requires cell { HasCell table.old.extent.shape (task_at self.old).act }
         requires kind { is_of (kind_at cell)
-            (value self.old.holdings.slots.items (hand self.old.holdings.slots.items)) ≡ true }
-        requires owes { pending table.old desk ≡ owing_for (state table.old)
-            (value self.old.holdings.slots.items (hand self.old.holdings.slots.items)) 256 }
-        ensures found { result ≡ seen table.old (cell_at (state table.old) self.old.holdings.slots.items cell) }
+            (slot_value self.old.holdings.slots.items (hand self.old.holdings.slots.items)) ≡ true }
+        requires owes { pending table.old desk ≡ owing_for (story_state table.old)
+            (slot_value self.old.holdings.slots.items (hand self.old.holdings.slots.items)) 256 }
+        ensures found { result ≡ seen table.old
+            (cell_of_name (story_state table.old) self.old.holdings.slots.items cell) }
         ensures few { result.taken ≤ 256 }
         ensures table { table.new
-            ≡ after table.old desk
-            (Deed.OnCell (CellDeed.Swap (cell_at (state table.old) self.old.holdings.slots.items cell)
-            (as_word (value self.old.holdings.slots.items (hand self.old.holdings.slots.items))) result)) }
+            ≡ story_after_deed table.old desk
+            (Deed.OnCell (CellDeed.Swap (cell_of_name (story_state table.old) self.old.holdings.slots.items cell)
+            (as_word (slot_value self.old.holdings.slots.items (hand self.old.holdings.slots.items))) result)) }
         ensures walk { walk self.new
-            ≡ settled (swapped (hand self.old.holdings.slots.items)
+            ≡ walk_settled (slots_swapped (hand self.old.holdings.slots.items)
             (other self.old.holdings.slots.items) self.old.holdings.slots.items
-            (came (state table.old) self.old.holdings.slots.items cell)) false self.old.endings.list (rest self.old) }
+            (came (story_state table.old) self.old.holdings.slots.items cell)) false self.old.endings.list
+            (rest self.old) }
         ensures on { HasGoneOn desk self.old self.new table.new }
     {
         let hand = self.holdings.hand();
@@ -149,23 +152,24 @@ impl Course {
         cell: CellName,
     ) -> CellWord
         requires seat { desk < table.old.extent.actors }
-        requires holds { Holds desk self.old.holdings.slots.items table.old }
+        requires holds { HoldsBag desk self.old.holdings.slots.items table.old }
         requires within { self.old.at < length self.old.tasks.items }
         requires ready { CourseReady self.old }
         requires act { (task_at self.old).act ≡ Act.Exchange name cell }
         requires there { is_there self.old.holdings.slots.items cell ≡ true }
         requires cell { HasCell table.old.extent.shape (task_at self.old).act }
-        requires kind { is_of (kind_at cell) (value self.old.holdings.slots.items name) ≡ true }
-        requires owes { pending table.old desk ≡ owing_for (state table.old)
-            (value self.old.holdings.slots.items name) 256 }
-        ensures found { result ≡ seen table.old (cell_at (state table.old) self.old.holdings.slots.items cell) }
+        requires kind { is_of (kind_at cell) (slot_value self.old.holdings.slots.items name) ≡ true }
+        requires owes { pending table.old desk ≡ owing_for (story_state table.old)
+            (slot_value self.old.holdings.slots.items name) 256 }
+        ensures found { result ≡ seen table.old
+            (cell_of_name (story_state table.old) self.old.holdings.slots.items cell) }
         ensures few { result.taken ≤ 256 }
-        ensures table { table.new ≡ after table.old desk
-            (Deed.OnCell (CellDeed.Swap (cell_at (state table.old) self.old.holdings.slots.items cell)
-            (as_word (value self.old.holdings.slots.items name)) result)) }
+        ensures table { table.new ≡ story_after_deed table.old desk
+            (Deed.OnCell (CellDeed.Swap (cell_of_name (story_state table.old) self.old.holdings.slots.items cell)
+            (as_word (slot_value self.old.holdings.slots.items name)) result)) }
         ensures walk { walk self.new
-            ≡ settled (slice_set self.old.holdings.slots.items name
-            (came (state table.old) self.old.holdings.slots.items cell)) self.old.taken
+            ≡ walk_settled (slice_set self.old.holdings.slots.items name
+            (came (story_state table.old) self.old.holdings.slots.items cell)) self.old.taken
             self.old.endings.list (rest self.old) }
         ensures on { HasGoneOn desk self.old self.new table.new }
     {
@@ -179,12 +183,13 @@ impl Course {
     pub(crate) fn drop_other(&mut self, desk: usize, table: &mut Table) -> bool
         requires can { CanAct desk self.old table.old }
         requires act { (task_at self.old).act ≡ Act.Drop }
-        ensures full { is_full (slot self.old.holdings.slots.items (other self.old.holdings.slots.items)) ≡ true }
-        ensures last { result ≡ on (is_last (state table.old)) false
-            (slot self.old.holdings.slots.items (other self.old.holdings.slots.items)) }
-        ensures table { table.new ≡ done_on (leave (state table.old)) table.old desk
-            (slot self.old.holdings.slots.items (other self.old.holdings.slots.items)) }
-        ensures walk { walk self.new ≡ settled (slice_set self.old.holdings.slots.items
+        ensures full { is_full
+            (slot_pointer self.old.holdings.slots.items (other self.old.holdings.slots.items)) ≡ true }
+        ensures last { result ≡ on (is_last (story_state table.old)) false
+            (slot_pointer self.old.holdings.slots.items (other self.old.holdings.slots.items)) }
+        ensures table { table.new ≡ done_on (leave (story_state table.old)) table.old desk
+            (slot_pointer self.old.holdings.slots.items (other self.old.holdings.slots.items)) }
+        ensures walk { walk self.new ≡ walk_settled (slice_set self.old.holdings.slots.items
             (other self.old.holdings.slots.items) plain) self.old.taken self.old.endings.list (rest self.old) }
         ensures on { HasGoneOn desk self.old self.new table.new }
     {

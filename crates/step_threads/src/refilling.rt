@@ -19,7 +19,7 @@ use step_table::table::Table;
 const MOST_TAKEN: u16 = 127;
 
 impl Thread {
-    ghost use Rattle.step_threads.specs.Threads.{Fits, HasStepped};
+    ghost use Rattle.step_threads.specs.Threads.{FitsThread, HasStepped};
 
     /// The next step of a thread that took a fund of a cell.
     pub(crate) fn refill_on(
@@ -31,10 +31,10 @@ impl Thread {
         found: CellWord,
         statement: u32,
     ) -> Stepped
-        requires fits { Fits desk self.old table.old }
+        requires fits { FitsThread desk self.old table.old }
         requires half { self.old.half ≡ Half.Refill stage cell found statement }
         ensures stepped { HasStepped desk self.old table.old result self.new table.new }
-        ensures fits { Fits desk self.new table.new }
+        ensures fits { FitsThread desk self.new table.new }
     {
         let Some(block) = found.owned else {
             unreachable!()
@@ -58,11 +58,11 @@ impl Thread {
         block: Block,
         statement: u32,
     ) -> Stepped
-        requires fits { Fits desk self.old table.old }
+        requires fits { FitsThread desk self.old table.old }
         requires half { self.old.half ≡ Half.Refill Stage.Turning cell found statement }
         requires owned { found.owned ≡ Some block }
         ensures stepped { HasStepped desk self.old table.old result self.new table.new }
-        ensures fits { Fits desk self.new table.new }
+        ensures fits { FitsThread desk self.new table.new }
     {
         table.known();
         table.turn_fund(desk, table.kind_in(cell), block);
@@ -83,10 +83,10 @@ impl Thread {
         found: CellWord,
         statement: u32,
     ) -> Stepped
-        requires fits { Fits desk self.old table.old }
+        requires fits { FitsThread desk self.old table.old }
         requires half { self.old.half ≡ Half.Refill Stage.Checking cell found statement }
         ensures stepped { HasStepped desk self.old table.old result self.new table.new }
-        ensures fits { Fits desk self.new table.new }
+        ensures fits { FitsThread desk self.new table.new }
     {
         table.known();
         let now = table.shown(desk, cell);
@@ -108,11 +108,11 @@ impl Thread {
         block: Block,
         statement: u32,
     ) -> Stepped
-        requires fits { Fits desk self.old table.old }
+        requires fits { FitsThread desk self.old table.old }
         requires half { self.old.half ≡ Half.Refill Stage.Lacking cell found statement }
         requires owned { found.owned ≡ Some block }
         ensures stepped { HasStepped desk self.old table.old result self.new table.new }
-        ensures fits { Fits desk self.new table.new }
+        ensures fits { FitsThread desk self.new table.new }
     {
         table.known();
         let pointer = Pointer {
@@ -134,10 +134,10 @@ impl Thread {
         found: CellWord,
         statement: u32,
     ) -> Stepped
-        requires fits { Fits desk self.old table.old }
+        requires fits { FitsThread desk self.old table.old }
         requires half { self.old.half ≡ Half.Refill Stage.Refilling cell found statement }
         ensures stepped { HasStepped desk self.old table.old result self.new table.new }
-        ensures fits { Fits desk self.new table.new }
+        ensures fits { FitsThread desk self.new table.new }
     {
         table.known();
         self.half = if table.refill_cell(desk, cell, found) {
@@ -158,11 +158,11 @@ impl Thread {
         block: Block,
         statement: u32,
     ) -> Stepped
-        requires fits { Fits desk self.old table.old }
+        requires fits { FitsThread desk self.old table.old }
         requires half { self.old.half ≡ Half.Refill Stage.Failing cell found statement }
         requires owned { found.owned ≡ Some block }
         ensures stepped { HasStepped desk self.old table.old result self.new table.new }
-        ensures fits { Fits desk self.new table.new }
+        ensures fits { FitsThread desk self.new table.new }
     {
         table.known();
         let kind = table.kind_in(cell);

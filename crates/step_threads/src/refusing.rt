@@ -12,11 +12,11 @@ use step_table::table::Table;
 
 impl Thread {
     ghost use Rattle.step_threads.specs.Courses.{task_at};
-    ghost use Rattle.step_threads.specs.Threads.{Fits, HasStepped};
+    ghost use Rattle.step_threads.specs.Threads.{FitsThread, HasStepped};
 
     /// The first act of a statement on a member is refused, by where the name points whose object isn't there.
     pub(crate) fn refuse(&mut self, desk: usize, table: &Table, cell: CellName) -> Stepped
-        requires fits { Fits desk self.old table.now }
+        requires fits { FitsThread desk self.old table.now }
         requires rest { self.old.half ≡ Half.Rest }
         requires none { self.old.course.endings.list ≡ [] }
         requires within { self.old.course.at < length self.old.course.tasks.items }
@@ -25,7 +25,7 @@ impl Thread {
             ⊎ ((task_at self.old.course).act ≡ Act.Exchange k cell))) }
         requires there { is_there self.old.course.holdings.slots.items cell ≡ false }
         ensures stepped { HasStepped desk self.old table.now result self.new table.now }
-        ensures fits { Fits desk self.new table.now }
+        ensures fits { FitsThread desk self.new table.now }
     {
         table.known();
         let statement = self.course.statement();

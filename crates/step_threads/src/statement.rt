@@ -1,6 +1,6 @@
 //! The acts of statements, and the tasks of a thread.
 ghost use Rattle.std.specs.Prelude.{◌≡◌, ◌<◌, ◌^◌, ◌++◌, ◌∷◌, length, IfOk, OnOk};
-ghost use Rattle.step_threads.specs.Acts.{acts, numbered, tail, tasks_from};
+ghost use Rattle.step_threads.specs.Acts.{acts, numbered_tasks, tail, tasks_from};
 
 use crate::act::{Act, Question, Task};
 use crate::call::{Call, CellName, Name};
@@ -49,7 +49,7 @@ pub enum Tail {
 
 /// The tasks of a call.
 fn add(tasks: &mut Vec<Task>, statement: u32, call: Call) -> Result<(), AllocError>
-    ensures { OnOk result (tasks.new.items ≡ tasks.old.items ++ numbered statement (acts call)) }
+    ensures { OnOk result (tasks.new.items ≡ tasks.old.items ++ numbered_tasks statement (acts call)) }
 {
     let (act, tail) = parts(call);
     tasks.push(Task { statement, act })?;

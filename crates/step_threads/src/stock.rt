@@ -25,10 +25,10 @@ pub struct Stock {
 
 impl Model for Stock {
     ghost use Rattle.std.specs.Prelude.{◌++◌, ◌-◌};
-    ghost use Rattle.step_threads.specs.Stocks.{IsRange, Stored, from, numbers};
+    ghost use Rattle.step_threads.specs.Stocks.{IsRange, StoreView, from, numbers};
     ghost use Rattle.std.specs.BinaryHeap.{heap_items, heap_capacity};
 
-    ghost Value = { Stored };
+    ghost Value = { StoreView };
 
     ghost view = { λ s. record {
       blocks = numbers (heap_items s.returned) ++ from s.next (s.end - s.next);

@@ -1,13 +1,13 @@
 //! How a thread puts values into cells, step by step.
 ghost use Rattle.std.specs.Prelude.{◌≡◌, ◌⊎◌, ◌<◌, ◌≤◌, length, true, Option, []};
 ghost use Rattle.control_word.specs.declared.place.Place.{Place};
-ghost use Rattle.step_table.specs.CellDeeds.{owing};
+ghost use Rattle.step_table.specs.CellDeeds.{owing_funds};
 ghost use Rattle.step_table.specs.Contents.{is_of, owing_for};
 ghost use Rattle.step_threads.specs.Programs.{kind_at};
 ghost use Rattle.step_threads.specs.Courses.{hand, is_there};
-ghost use Rattle.step_table.specs.Holdings.{value};
+ghost use Rattle.step_table.specs.Holdings.{slot_value};
 ghost use Rattle.step_threads.specs.Steps.{gives_back};
-ghost use Rattle.step_table.specs.Stories.{pending, state};
+ghost use Rattle.step_table.specs.Stories.{pending, story_state};
 ghost use Rattle.step_threads.specs.declared.half.Half.{Half};
 
 use crate::act::Act;
@@ -23,7 +23,7 @@ use step_table::table::Table;
 
 impl Thread {
     ghost use Rattle.step_threads.specs.Courses.{task_at};
-    ghost use Rattle.step_threads.specs.Threads.{Fits, HasStepped};
+    ghost use Rattle.step_threads.specs.Threads.{FitsThread, HasStepped};
 
     /// Takes a copy of what a name holds, for a cell that is there; else it is refused.
     pub(crate) fn offer(
@@ -33,13 +33,13 @@ impl Thread {
         name: u8,
         cell: CellName,
     ) -> Stepped
-        requires fits { Fits desk self.old table.old }
+        requires fits { FitsThread desk self.old table.old }
         requires rest { self.old.half ≡ Half.Rest }
         requires none { self.old.course.endings.list ≡ [] }
         requires within { self.old.course.at < length self.old.course.tasks.items }
         requires act { (task_at self.old.course).act ≡ Act.Offer name cell }
         ensures stepped { HasStepped desk self.old table.old result self.new table.new }
-        ensures fits { Fits desk self.new table.new }
+        ensures fits { FitsThread desk self.new table.new }
     {
         table.known();
         if !self.course.is_there(cell) {
@@ -53,13 +53,13 @@ impl Thread {
     /// The first step of a store: the funds of what is in hand are brought. A value without an object goes into the
     /// cell at once.
     pub fn store(&mut self, desk: usize, table: &mut Table, cell: CellName) -> Stepped
-        requires fits { Fits desk self.old table.old }
+        requires fits { FitsThread desk self.old table.old }
         requires rest { self.old.half ≡ Half.Rest }
         requires none { self.old.course.endings.list ≡ [] }
         requires within { self.old.course.at < length self.old.course.tasks.items }
         requires act { (task_at self.old.course).act ≡ Act.Swap cell }
         ensures stepped { HasStepped desk self.old table.old result self.new table.new }
-        ensures fits { Fits desk self.new table.new }
+        ensures fits { FitsThread desk self.new table.new }
     {
         table.known();
         let statement = self.course.statement();
@@ -82,13 +82,13 @@ impl Thread {
         name: u8,
         cell: CellName,
     ) -> Stepped
-        requires fits { Fits desk self.old table.old }
+        requires fits { FitsThread desk self.old table.old }
         requires rest { self.old.half ≡ Half.Rest }
         requires none { self.old.course.endings.list ≡ [] }
         requires within { self.old.course.at < length self.old.course.tasks.items }
         requires act { (task_at self.old.course).act ≡ Act.Exchange name cell }
         ensures stepped { HasStepped desk self.old table.old result self.new table.new }
-        ensures fits { Fits desk self.new table.new }
+        ensures fits { FitsThread desk self.new table.new }
     {
         table.known();
         if !self.course.is_there(cell) {
@@ -110,10 +110,10 @@ impl Thread {
 
     /// The funds are brought: the value goes into the cell.
     pub(crate) fn put_in(&mut self, desk: usize, table: &mut Table) -> Stepped
-        requires fits { Fits desk self.old table.old }
+        requires fits { FitsThread desk self.old table.old }
         requires half { self.old.half ≡ Half.Brought }
         ensures stepped { HasStepped desk self.old table.old result self.new table.new }
-        ensures fits { Fits desk self.new table.new }
+        ensures fits { FitsThread desk self.new table.new }
     {
         match self.course.tasks[self.course.at].act {
             Act::Swap { cell } => self.swap(desk, table, cell),
@@ -124,18 +124,18 @@ impl Thread {
 
     /// What is in hand goes into the cell. What comes out is to be dropped, once its funds are given back.
     fn swap(&mut self, desk: usize, table: &mut Table, cell: CellName) -> Stepped
-        requires fits { Fits desk self.old table.old }
+        requires fits { FitsThread desk self.old table.old }
         requires half { (self.old.half ≡ Half.Rest) ⊎ (self.old.half ≡ Half.Brought) }
         requires none { self.old.course.endings.list ≡ [] }
         requires within { self.old.course.at < length self.old.course.tasks.items }
         requires act { (task_at self.old.course).act ≡ Act.Swap cell }
         requires there { is_there self.old.course.holdings.slots.items cell ≡ true }
         requires kind { is_of (kind_at cell)
-            (value self.old.course.holdings.slots.items (hand self.old.course.holdings.slots.items)) ≡ true }
-        requires owes { pending table.old desk ≡ owing_for (state table.old)
-            (value self.old.course.holdings.slots.items (hand self.old.course.holdings.slots.items)) 256 }
+            (slot_value self.old.course.holdings.slots.items (hand self.old.course.holdings.slots.items)) ≡ true }
+        requires owes { pending table.old desk ≡ owing_for (story_state table.old)
+            (slot_value self.old.course.holdings.slots.items (hand self.old.course.holdings.slots.items)) 256 }
         ensures stepped { HasStepped desk self.old table.old result self.new table.new }
-        ensures fits { Fits desk self.new table.new }
+        ensures fits { FitsThread desk self.new table.new }
     {
         table.known();
         let statement = self.course.statement();
@@ -147,17 +147,17 @@ impl Thread {
     /// What a name holds goes into the cell, and what comes out into the name.
     #[tactic(auto, using(crate::proofs::Named::refusal_none))]
     fn exchange(&mut self, desk: usize, table: &mut Table, name: u8, cell: CellName) -> Stepped
-        requires fits { Fits desk self.old table.old }
+        requires fits { FitsThread desk self.old table.old }
         requires half { (self.old.half ≡ Half.Rest) ⊎ (self.old.half ≡ Half.Brought) }
         requires none { self.old.course.endings.list ≡ [] }
         requires within { self.old.course.at < length self.old.course.tasks.items }
         requires act { (task_at self.old.course).act ≡ Act.Exchange name cell }
         requires there { is_there self.old.course.holdings.slots.items cell ≡ true }
-        requires kind { is_of (kind_at cell) (value self.old.course.holdings.slots.items name) ≡ true }
-        requires owes { pending table.old desk ≡ owing_for (state table.old)
-            (value self.old.course.holdings.slots.items name) 256 }
+        requires kind { is_of (kind_at cell) (slot_value self.old.course.holdings.slots.items name) ≡ true }
+        requires owes { pending table.old desk ≡ owing_for (story_state table.old)
+            (slot_value self.old.course.holdings.slots.items name) 256 }
         ensures stepped { HasStepped desk self.old table.old result self.new table.new }
-        ensures fits { Fits desk self.new table.new }
+        ensures fits { FitsThread desk self.new table.new }
     {
         table.known();
         let statement = self.course.statement();
@@ -176,10 +176,10 @@ impl Thread {
         funds: u32,
         statement: u32,
     ) -> Stepped
-        requires fits { Fits desk self.old table.old }
+        requires fits { FitsThread desk self.old table.old }
         requires half { self.old.half ≡ Half.Returning kind block funds statement }
         ensures stepped { HasStepped desk self.old table.old result self.new table.new }
-        ensures fits { Fits desk self.new table.new }
+        ensures fits { FitsThread desk self.new table.new }
     {
         table.known();
         table.give_back(desk, kind, block, funds);
@@ -189,13 +189,13 @@ impl Thread {
 
     /// Leaves what is to be dropped. Where that was the last owner, the end of its object begins.
     pub(crate) fn drop_other(&mut self, desk: usize, table: &mut Table) -> Stepped
-        requires fits { Fits desk self.old table.old }
+        requires fits { FitsThread desk self.old table.old }
         requires rest { self.old.half ≡ Half.Rest }
         requires none { self.old.course.endings.list ≡ [] }
         requires within { self.old.course.at < length self.old.course.tasks.items }
         requires act { (task_at self.old.course).act ≡ Act.Drop }
         ensures stepped { HasStepped desk self.old table.old result self.new table.new }
-        ensures fits { Fits desk self.new table.new }
+        ensures fits { FitsThread desk self.new table.new }
     {
         table.known();
         let statement = self.course.statement();

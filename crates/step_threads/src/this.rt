@@ -14,18 +14,18 @@ use step_table::table::Table;
 
 impl Thread {
     ghost use Rattle.step_threads.specs.Courses.{task_at};
-    ghost use Rattle.step_threads.specs.Threads.{Fits, HasStepped};
+    ghost use Rattle.step_threads.specs.Threads.{FitsThread, HasStepped};
 
     /// The first step of a pointer from this: it looks whether the object gives any. It touches no word where the name
     /// doesn't point into the object that it owns.
     pub(crate) fn from_this(&mut self, desk: usize, table: &Table, name: u8, kind: Kind) -> Stepped
-        requires fits { Fits desk self.old table.now }
+        requires fits { FitsThread desk self.old table.now }
         requires rest { self.old.half ≡ Half.Rest }
         requires none { self.old.course.endings.list ≡ [] }
         requires within { self.old.course.at < length self.old.course.tasks.items }
         requires act { (task_at self.old.course).act ≡ Act.FromThis name kind }
         ensures stepped { HasStepped desk self.old table.now result self.new table.now }
-        ensures fits { Fits desk self.new table.now }
+        ensures fits { FitsThread desk self.new table.now }
     {
         table.known();
         let statement = self.course.statement();
@@ -57,10 +57,10 @@ impl Thread {
         kind: Kind,
         pointer: Pointer,
     ) -> Stepped
-        requires fits { Fits desk self.old table.old }
+        requires fits { FitsThread desk self.old table.old }
         requires half { self.old.half ≡ Half.Giving name kind pointer }
         ensures stepped { HasStepped desk self.old table.old result self.new table.new }
-        ensures fits { Fits desk self.new table.new }
+        ensures fits { FitsThread desk self.new table.new }
     {
         table.known();
         let statement = self.course.statement();

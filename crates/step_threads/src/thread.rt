@@ -19,13 +19,13 @@ pub struct Thread {
 
 impl Thread {
     ghost use Rattle.step_threads.specs.Courses.{task_at};
-    ghost use Rattle.step_threads.specs.Threads.{Fits, HasStepped};
+    ghost use Rattle.step_threads.specs.Threads.{FitsThread, HasStepped};
 
     /// The next atomic step, or the next act that touches no word.
     pub fn step(&mut self, desk: usize, table: &mut Table) -> Stepped
-        requires fits { Fits desk self.old table.old }
+        requires fits { FitsThread desk self.old table.old }
         ensures stepped { HasStepped desk self.old table.old result self.new table.new }
-        ensures fits { Fits desk self.new table.new }
+        ensures fits { FitsThread desk self.new table.new }
     {
         match self.half {
             Half::Rest => self.go(desk, table),
@@ -61,10 +61,10 @@ impl Thread {
 
     /// Within no act: what came out of a member leaves, or the ending begun last goes on, or else the next act comes.
     fn go(&mut self, desk: usize, table: &mut Table) -> Stepped
-        requires fits { Fits desk self.old table.old }
+        requires fits { FitsThread desk self.old table.old }
         requires rest { self.old.half ≡ Half.Rest }
         ensures stepped { HasStepped desk self.old table.old result self.new table.new }
-        ensures fits { Fits desk self.new table.new }
+        ensures fits { FitsThread desk self.new table.new }
     {
         match self.course.endings.first() {
             Some(ending) if self.course.holdings.is_full(self.course.holdings.hand()) => {
@@ -77,11 +77,11 @@ impl Thread {
 
     /// The next act, or the first step of it.
     fn act(&mut self, desk: usize, table: &mut Table) -> Stepped
-        requires fits { Fits desk self.old table.old }
+        requires fits { FitsThread desk self.old table.old }
         requires rest { self.old.half ≡ Half.Rest }
         requires none { self.old.course.endings.list ≡ [] }
         ensures stepped { HasStepped desk self.old table.old result self.new table.new }
-        ensures fits { Fits desk self.new table.new }
+        ensures fits { FitsThread desk self.new table.new }
     {
         if self.course.at == self.course.tasks.len() {
             return Stepped::Done;
@@ -111,13 +111,13 @@ impl Thread {
 
     /// Takes a copy of what a name holds.
     fn share(&mut self, desk: usize, table: &mut Table, name: u8) -> Stepped
-        requires fits { Fits desk self.old table.old }
+        requires fits { FitsThread desk self.old table.old }
         requires rest { self.old.half ≡ Half.Rest }
         requires none { self.old.course.endings.list ≡ [] }
         requires within { self.old.course.at < length self.old.course.tasks.items }
         requires act { (task_at self.old.course).act ≡ Act.Share name }
         ensures stepped { HasStepped desk self.old table.old result self.new table.new }
-        ensures fits { Fits desk self.new table.new }
+        ensures fits { FitsThread desk self.new table.new }
     {
         table.known();
         let statement = self.course.statement();
@@ -127,13 +127,13 @@ impl Thread {
 
     /// Takes a weak pointer to the object of what a name holds.
     fn downgrade(&mut self, desk: usize, table: &mut Table, name: u8) -> Stepped
-        requires fits { Fits desk self.old table.old }
+        requires fits { FitsThread desk self.old table.old }
         requires rest { self.old.half ≡ Half.Rest }
         requires none { self.old.course.endings.list ≡ [] }
         requires within { self.old.course.at < length self.old.course.tasks.items }
         requires act { (task_at self.old.course).act ≡ Act.Downgrade name }
         ensures stepped { HasStepped desk self.old table.old result self.new table.new }
-        ensures fits { Fits desk self.new table.new }
+        ensures fits { FitsThread desk self.new table.new }
     {
         table.known();
         let statement = self.course.statement();
@@ -143,13 +143,13 @@ impl Thread {
 
     /// Tells whether no owner is left of the object of what a name holds; also where it is empty.
     fn expired(&mut self, desk: usize, table: &mut Table, name: u8) -> Stepped
-        requires fits { Fits desk self.old table.old }
+        requires fits { FitsThread desk self.old table.old }
         requires rest { self.old.half ≡ Half.Rest }
         requires none { self.old.course.endings.list ≡ [] }
         requires within { self.old.course.at < length self.old.course.tasks.items }
         requires act { (task_at self.old.course).act ≡ Act.Expired name }
         ensures stepped { HasStepped desk self.old table.old result self.new table.new }
-        ensures fits { Fits desk self.new table.new }
+        ensures fits { FitsThread desk self.new table.new }
     {
         table.known();
         let statement = self.course.statement();
@@ -168,13 +168,13 @@ impl Thread {
 
     /// Tells how many owners the object has that a name holds, as its word tells; 0 where it is empty.
     fn count(&mut self, desk: usize, table: &mut Table, name: u8) -> Stepped
-        requires fits { Fits desk self.old table.old }
+        requires fits { FitsThread desk self.old table.old }
         requires rest { self.old.half ≡ Half.Rest }
         requires none { self.old.course.endings.list ≡ [] }
         requires within { self.old.course.at < length self.old.course.tasks.items }
         requires act { (task_at self.old.course).act ≡ Act.Count name }
         ensures stepped { HasStepped desk self.old table.old result self.new table.new }
-        ensures fits { Fits desk self.new table.new }
+        ensures fits { FitsThread desk self.new table.new }
     {
         table.known();
         let statement = self.course.statement();

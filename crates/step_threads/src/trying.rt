@@ -2,13 +2,14 @@
 ghost use Rattle.std.specs.Prelude.{◌≡◌, ◌≢◌, ◌<◌, ◌==◌, ◌||◌, cond, is_some, true, false};
 ghost use Rattle.std.specs.Prelude.{length, slice_set, Some, None};
 ghost use Rattle.control_word.specs.Packing.{IsCellWord, cell_bits};
-ghost use Rattle.step_table.specs.Cells.{word_at};
+ghost use Rattle.step_table.specs.Cells.{word_of_cell};
 ghost use Rattle.step_table.specs.Contents.{as_word, compared_in, owing_for, same_value, seen};
-ghost use Rattle.step_threads.specs.Courses.{CanAct, CourseReady, CourseStill, HasCell, HasGoneOn, IsNamed, cell_at};
-ghost use Rattle.step_threads.specs.Courses.{comparing, hand, is_compared, is_there, rest, settled, task_at, walk};
-ghost use Rattle.step_table.specs.Holdings.{Holds, value};
+ghost use Rattle.step_threads.specs.Courses.{CanAct, CourseReady, CourseStill, HasCell, HasGoneOn, IsNamed};
+ghost use Rattle.step_threads.specs.Courses.{cell_of_name};
+ghost use Rattle.step_threads.specs.Courses.{comparing, hand, is_compared, is_there, rest, walk_settled, task_at, walk};
+ghost use Rattle.step_table.specs.Holdings.{HoldsBag, slot_value};
 ghost use Rattle.step_threads.specs.Scenes.{came, compared};
-ghost use Rattle.step_table.specs.Stories.{after, pending, state};
+ghost use Rattle.step_table.specs.Stories.{story_after_deed, pending, story_state};
 
 use crate::act::Act;
 use crate::call::CellName;
@@ -47,7 +48,7 @@ impl Course {
     /// What a name holds, as a cell's word tells it.
     pub fn word(&self, name: u8) -> CellWord
         requires { name < length self.now.holdings.slots.items }
-        ensures { result ≡ as_word (value self.now.holdings.slots.items name) }
+        ensures { result ≡ as_word (slot_value self.now.holdings.slots.items name) }
     {
         self.holdings.word(usize::from(name))
     }
@@ -55,7 +56,7 @@ impl Course {
     /// Whether a word tells the value of a name, however many funds were taken.
     pub(crate) fn is_alike(&self, name: u8, found: CellWord) -> bool
         requires { name < length self.now.holdings.slots.items }
-        ensures { result ≡ same_value found (as_word (value self.now.holdings.slots.items name)) }
+        ensures { result ≡ same_value found (as_word (slot_value self.now.holdings.slots.items name)) }
     {
         is_same_value(found, self.word(name))
     }
@@ -71,13 +72,15 @@ impl Course {
         requires act { (task_at self.old).act ≡ Act.Load cell }
         requires there { is_there self.old.holdings.slots.items cell ≡ true }
         ensures valid { IsCellWord result }
-        ensures found { result ≡ seen table.old (cell_at (state table.old) self.old.holdings.slots.items cell) }
-        ensures table { table.new ≡ cond (is_some result.owned) table.old (after table.old desk
-            (Deed.OnCell (CellDeed.Look (cell_at (state table.old) self.old.holdings.slots.items cell) result None))) }
+        ensures found { result ≡ seen table.old
+            (cell_of_name (story_state table.old) self.old.holdings.slots.items cell) }
+        ensures table { table.new ≡ cond (is_some result.owned) table.old (story_after_deed table.old desk
+            (Deed.OnCell (CellDeed.Look (cell_of_name (story_state table.old) self.old.holdings.slots.items cell)
+            result None))) }
         ensures stays { is_some result.owned ≡ true → self.new ≡ self.old }
         ensures walk { is_some result.owned ≡ false → walk self.new
-            ≡ settled (slice_set self.old.holdings.slots.items (hand self.old.holdings.slots.items) (came
-            (state table.old) self.old.holdings.slots.items cell)) true self.old.endings.list (rest self.old) }
+            ≡ walk_settled (slice_set self.old.holdings.slots.items (hand self.old.holdings.slots.items) (came
+            (story_state table.old) self.old.holdings.slots.items cell)) true self.old.endings.list (rest self.old) }
         ensures on { is_some result.owned ≡ false → HasGoneOn desk self.old self.new table.new }
     {
         let hand = self.holdings.hand();
@@ -103,13 +106,15 @@ impl Course {
         requires there { is_there self.old.holdings.slots.items cell ≡ true }
         requires seen { IsCellWord seen × (seen.owned ≢ None) × (seen.taken < 256) }
         ensures same { result
-            ≡ (word_at table.old (cell_at (state table.old) self.old.holdings.slots.items cell) == cell_bits seen) }
-        ensures table { table.new ≡ cond result (after table.old desk (Deed.OnCell
-            (CellDeed.Take (cell_at (state table.old) self.old.holdings.slots.items cell) seen None))) table.old }
+            ≡ (word_of_cell table.old (cell_of_name (story_state table.old) self.old.holdings.slots.items cell) ==
+            cell_bits seen) }
+        ensures table { table.new ≡ cond result (story_after_deed table.old desk (Deed.OnCell
+            (CellDeed.Take (cell_of_name (story_state table.old) self.old.holdings.slots.items cell) seen None)))
+            table.old }
         ensures stays { result ≡ false → self.new ≡ self.old }
         ensures walk { result ≡ true → walk self.new
-            ≡ settled (slice_set self.old.holdings.slots.items (hand self.old.holdings.slots.items) (came
-            (state table.old) self.old.holdings.slots.items cell)) true self.old.endings.list (rest self.old) }
+            ≡ walk_settled (slice_set self.old.holdings.slots.items (hand self.old.holdings.slots.items) (came
+            (story_state table.old) self.old.holdings.slots.items cell)) true self.old.endings.list (rest self.old) }
         ensures on { result ≡ true → HasGoneOn desk self.old self.new table.new }
     {
         let hand = self.holdings.hand();
@@ -134,20 +139,27 @@ impl Course {
         requires can { CanAct desk self.old table.old }
         requires act { (task_at self.old).act ≡ Act.Compare name cell weak }
         ensures valid { IsCellWord result }
-        ensures found { result ≡ seen table.old (cell_at (state table.old) self.old.holdings.slots.items cell) }
+        ensures found { result ≡ seen table.old
+            (cell_of_name (story_state table.old) self.old.holdings.slots.items cell) }
         ensures table { table.new
-            ≡ cond (is_some result.owned || same_value result (as_word (value self.old.holdings.slots.items name)))
+            ≡ cond (is_some result.owned || same_value result
+            (as_word (slot_value self.old.holdings.slots.items name)))
             table.old
-            (after table.old desk
-            (Deed.OnCell (CellDeed.Look (cell_at (state table.old) self.old.holdings.slots.items cell) result (Some
+            (story_after_deed table.old desk
+            (Deed.OnCell (CellDeed.Look (cell_of_name (story_state table.old) self.old.holdings.slots.items
+            cell) result (Some
             (compared_in self.old.holdings.slots.items (comparing self.old.holdings.slots.items name weak)))))) }
-        ensures stays { (is_some result.owned || same_value result (as_word (value self.old.holdings.slots.items name)))
+        ensures stays { (is_some result.owned || same_value result
+            (as_word (slot_value self.old.holdings.slots.items name)))
             ≡ true → self.new ≡ self.old }
-        ensures walk { (is_some result.owned || same_value result (as_word (value self.old.holdings.slots.items name)))
+        ensures walk { (is_some result.owned || same_value result
+            (as_word (slot_value self.old.holdings.slots.items name)))
             ≡ false → walk self.new
-            ≡ settled (compared self.old.holdings.slots.items (came (state table.old) self.old.holdings.slots.items
+            ≡ walk_settled (compared self.old.holdings.slots.items
+            (came (story_state table.old) self.old.holdings.slots.items
             cell) false).0 true self.old.endings.list (rest self.old) }
-        ensures on { (is_some result.owned || same_value result (as_word (value self.old.holdings.slots.items name)))
+        ensures on { (is_some result.owned || same_value result
+            (as_word (slot_value self.old.holdings.slots.items name)))
             ≡ false → HasGoneOn desk self.old self.new table.new }
     {
         let comparing = self.comparing(name, weak);
@@ -174,17 +186,19 @@ impl Course {
         requires can { CanAct desk self.old table.old }
         requires act { (task_at self.old).act ≡ Act.Compare name cell weak }
         requires seen { IsCellWord seen × (seen.owned ≢ None) × (seen.taken < 256) }
-        requires differs { same_value seen (as_word (value self.old.holdings.slots.items name)) ≡ false }
+        requires differs { same_value seen (as_word (slot_value self.old.holdings.slots.items name)) ≡ false }
         ensures same { result
-            ≡ (word_at table.old (cell_at (state table.old) self.old.holdings.slots.items cell) == cell_bits seen) }
+            ≡ (word_of_cell table.old (cell_of_name (story_state table.old) self.old.holdings.slots.items cell) ==
+            cell_bits seen) }
         ensures table { table.new
-            ≡ cond result (after table.old desk
-            (Deed.OnCell (CellDeed.Take (cell_at (state table.old) self.old.holdings.slots.items cell) seen
+            ≡ cond result (story_after_deed table.old desk
+            (Deed.OnCell (CellDeed.Take (cell_of_name (story_state table.old) self.old.holdings.slots.items cell) seen
             (Some (compared_in self.old.holdings.slots.items (comparing self.old.holdings.slots.items name weak))))))
             table.old }
         ensures stays { result ≡ false → self.new ≡ self.old }
-        ensures walk { result ≡ true → walk self.new ≡ settled
-            (compared self.old.holdings.slots.items (came (state table.old) self.old.holdings.slots.items cell) false).0
+        ensures walk { result ≡ true → walk self.new ≡ walk_settled
+            (compared self.old.holdings.slots.items
+            (came (story_state table.old) self.old.holdings.slots.items cell) false).0
             true self.old.endings.list (rest self.old) }
         ensures on { result ≡ true → HasGoneOn desk self.old self.new table.new }
     {
@@ -211,26 +225,29 @@ impl Course {
         seen: CellWord,
     ) -> bool
         requires seat { desk < table.old.extent.actors }
-        requires holds { Holds desk self.old.holdings.slots.items table.old }
+        requires holds { HoldsBag desk self.old.holdings.slots.items table.old }
         requires within { self.old.at < length self.old.tasks.items }
         requires ready { CourseReady self.old }
         requires still { CourseStill self.old }
         requires act { (task_at self.old).act ≡ Act.Compare name cell weak }
         requires cell { HasCell table.old.extent.shape (task_at self.old).act }
         requires seen { IsCellWord seen }
-        requires alike { same_value seen (as_word (value self.old.holdings.slots.items name)) ≡ true }
-        requires owes { pending table.old desk ≡ owing_for (state table.old)
-            (value self.old.holdings.slots.items (hand self.old.holdings.slots.items)) 256 }
+        requires alike { same_value seen (as_word (slot_value self.old.holdings.slots.items name)) ≡ true }
+        requires owes { pending table.old desk ≡ owing_for (story_state table.old)
+            (slot_value self.old.holdings.slots.items (hand self.old.holdings.slots.items)) 256 }
         ensures same { result
-            ≡ (word_at table.old (cell_at (state table.old) self.old.holdings.slots.items cell) == cell_bits seen) }
+            ≡ (word_of_cell table.old (cell_of_name (story_state table.old) self.old.holdings.slots.items cell) ==
+            cell_bits seen) }
         ensures table { table.new
-            ≡ cond result (after table.old desk
-            (Deed.OnCell (CellDeed.CompareSwap (cell_at (state table.old) self.old.holdings.slots.items cell) seen
+            ≡ cond result (story_after_deed table.old desk
+            (Deed.OnCell (CellDeed.CompareSwap
+            (cell_of_name (story_state table.old) self.old.holdings.slots.items cell) seen
             (compared_in self.old.holdings.slots.items (comparing self.old.holdings.slots.items name weak)))))
             table.old }
         ensures stays { result ≡ false → self.new ≡ self.old }
-        ensures walk { result ≡ true → walk self.new ≡ settled
-            (compared self.old.holdings.slots.items (came (state table.old) self.old.holdings.slots.items cell) true).0
+        ensures walk { result ≡ true → walk self.new ≡ walk_settled
+            (compared self.old.holdings.slots.items
+            (came (story_state table.old) self.old.holdings.slots.items cell) true).0
             false self.old.endings.list (rest self.old) }
         ensures on { result ≡ true → HasGoneOn desk self.old self.new table.new }
     {

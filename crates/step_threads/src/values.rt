@@ -1,9 +1,9 @@
 //! What is done with pointers by their values: aliases, moves, and what is told of them.
 ghost use Rattle.std.specs.Prelude.{◌≡◌, ◌<◌, ℕ, length, slice_set, true, Some, None, []};
 ghost use Rattle.step_table.specs.Deeds.{alias, aliased, on};
-ghost use Rattle.step_table.specs.Holdings.{Holds, is_full, owner_slot, place_in, slot};
+ghost use Rattle.step_table.specs.Holdings.{HoldsBag, is_full, owner_slot, place_in, slot_pointer};
 ghost use Rattle.step_threads.specs.Scenes.{alias_in, reply};
-ghost use Rattle.step_table.specs.Stories.{Story, state};
+ghost use Rattle.step_table.specs.Stories.{Story, story_state};
 ghost use Rattle.step_threads.specs.declared.act.Act.{Act};
 ghost use Rattle.step_threads.specs.declared.half.Half.{Half};
 
@@ -21,9 +21,9 @@ impl Question {
 
     /// What is told of slots.
     pub(crate) fn reply(self, desk: usize, table: &Table, holdings: &Holdings) -> Answer
-        requires holds { Holds desk holdings.now.slots.items table.now }
+        requires holds { HoldsBag desk holdings.now.slots.items table.now }
         requires about { IsAbout (length holdings.now.slots.items) self }
-        ensures { result ≡ reply (state table.now) holdings.now.slots.items self }
+        ensures { result ≡ reply (story_state table.now) holdings.now.slots.items self }
     {
         match self {
             Question::Place { name } => Answer::Place(holdings.place(usize::from(name))),
@@ -38,7 +38,8 @@ impl Question {
 }
 
 impl Course {
-    ghost use Rattle.step_threads.specs.Courses.{CanAct, CourseReady, HasGoneOn, done_on, hand, passed, rest, settled};
+    ghost use Rattle.step_threads.specs.Courses.{CanAct, CourseReady, HasGoneOn, done_on, hand, slot_passed, rest};
+    ghost use Rattle.step_threads.specs.Courses.{walk_settled};
     ghost use Rattle.step_threads.specs.Courses.{task_at, walk};
 
     /// Takes an alias of what a name holds, as the act says. Answers whether that touched a block.
@@ -52,12 +53,12 @@ impl Course {
     ) -> bool
         requires can { CanAct desk self.old table.old }
         requires act { (task_at self.old).act ≡ Act.Alias name of field }
-        ensures event { result ≡ is_full (owner_slot (slot self.old.holdings.slots.items name)) }
+        ensures event { result ≡ is_full (owner_slot (slot_pointer self.old.holdings.slots.items name)) }
         ensures table { table.new
             ≡ done_on (alias (aliased field (place_in self.old.holdings.slots.items of))) table.old desk
-            (owner_slot (slot self.old.holdings.slots.items name)) }
+            (owner_slot (slot_pointer self.old.holdings.slots.items name)) }
         ensures walk { walk self.new
-            ≡ settled (slice_set self.old.holdings.slots.items (hand self.old.holdings.slots.items)
+            ≡ walk_settled (slice_set self.old.holdings.slots.items (hand self.old.holdings.slots.items)
             (alias_in self.old.holdings.slots.items name of field)) true self.old.endings.list (rest self.old) }
         ensures on { HasGoneOn desk self.old self.new table.new }
     {
@@ -85,9 +86,9 @@ impl Course {
         requires ready { CourseReady self.old }
         requires none { self.old.endings.list ≡ [] }
         requires act { (task_at self.old).act ≡ Act.Move name }
-        ensures walk { walk self.new ≡ settled (passed name (hand self.old.holdings.slots.items)
+        ensures walk { walk self.new ≡ walk_settled (slot_passed name (hand self.old.holdings.slots.items)
             self.old.holdings.slots.items) true self.old.endings.list (rest self.old) }
-        ensures on { (d : ℕ) (v : Story) → Holds d self.old.holdings.slots.items v
+        ensures on { (d : ℕ) (v : Story) → HoldsBag d self.old.holdings.slots.items v
             → HasGoneOn d self.old self.new v }
     {
         let hand = self.holdings.hand();
@@ -99,8 +100,8 @@ impl Course {
     pub(crate) fn reply(&mut self, desk: usize, table: &Table, question: Question) -> Answer
         requires can { CanAct desk self.old table.now }
         requires act { (task_at self.old).act ≡ Act.Ask question }
-        ensures answer { result ≡ reply (state table.now) self.old.holdings.slots.items question }
-        ensures walk { walk self.new ≡ settled self.old.holdings.slots.items self.old.taken
+        ensures answer { result ≡ reply (story_state table.now) self.old.holdings.slots.items question }
+        ensures walk { walk self.new ≡ walk_settled self.old.holdings.slots.items self.old.taken
             self.old.endings.list (rest self.old) }
         ensures on { HasGoneOn desk self.old self.new table.now }
     {
@@ -112,7 +113,7 @@ impl Course {
 
 impl Thread {
     ghost use Rattle.step_threads.specs.Courses.{task_at};
-    ghost use Rattle.step_threads.specs.Threads.{Fits, HasStepped};
+    ghost use Rattle.step_threads.specs.Threads.{FitsThread, HasStepped};
 
     /// Takes an alias of what a name holds: an owner more, or no word is touched where the name has no object.
     pub fn alias(
@@ -123,13 +124,13 @@ impl Thread {
         of: u8,
         field: Option<Field>,
     ) -> Stepped
-        requires fits { Fits desk self.old table.old }
+        requires fits { FitsThread desk self.old table.old }
         requires rest { self.old.half ≡ Half.Rest }
         requires none { self.old.course.endings.list ≡ [] }
         requires within { self.old.course.at < length self.old.course.tasks.items }
         requires act { (task_at self.old.course).act ≡ Act.Alias name of field }
         ensures stepped { HasStepped desk self.old table.old result self.new table.new }
-        ensures fits { Fits desk self.new table.new }
+        ensures fits { FitsThread desk self.new table.new }
     {
         table.known();
         let statement = self.course.statement();
@@ -139,13 +140,13 @@ impl Thread {
 
     /// Takes what a name holds, which becomes empty: no word is touched.
     pub(crate) fn pull(&mut self, desk: usize, table: &Table, name: u8) -> Stepped
-        requires fits { Fits desk self.old table.now }
+        requires fits { FitsThread desk self.old table.now }
         requires rest { self.old.half ≡ Half.Rest }
         requires none { self.old.course.endings.list ≡ [] }
         requires within { self.old.course.at < length self.old.course.tasks.items }
         requires act { (task_at self.old.course).act ≡ Act.Move name }
         ensures stepped { HasStepped desk self.old table.now result self.new table.now }
-        ensures fits { Fits desk self.new table.now }
+        ensures fits { FitsThread desk self.new table.now }
     {
         table.known();
         let statement = self.course.statement();
@@ -155,13 +156,13 @@ impl Thread {
 
     /// Tells what is asked of names: no word is touched.
     pub(crate) fn reply(&mut self, desk: usize, table: &Table, question: Question) -> Stepped
-        requires fits { Fits desk self.old table.now }
+        requires fits { FitsThread desk self.old table.now }
         requires rest { self.old.half ≡ Half.Rest }
         requires none { self.old.course.endings.list ≡ [] }
         requires within { self.old.course.at < length self.old.course.tasks.items }
         requires act { (task_at self.old.course).act ≡ Act.Ask question }
         ensures stepped { HasStepped desk self.old table.now result self.new table.now }
-        ensures fits { Fits desk self.new table.now }
+        ensures fits { FitsThread desk self.new table.now }
     {
         table.known();
         let statement = self.course.statement();

@@ -16,7 +16,7 @@ use Rattle.control_word.specs.declared.shape.Shape.{Shape}
 use Rattle.control_word.specs.declared.view.Pending.{Pending}
 use Rattle.control_word.specs.declared.view.Pending.TheVariants.{Idle, Paying}
 use Rattle.control_block.specs.Rule.{Ruled, opening_of, view_of}
-use Rattle.control_block.specs.Plays.{At, Holding, Rests}
+use Rattle.control_block.specs.Plays.{At, HoldingInBlock, Rests}
 use Rattle.control_block.specs.FundPlays.{brought}
 use Rattle.control_block.proofs.Passage.{held_there, point, ready}
 use Rattle.control_block.proofs.Still.{allows_move}
@@ -28,7 +28,7 @@ pub whole_funds : (f : ℕ) → f * 4294967296 / 4294967296 ≡ f
 whole_funds f = omega arith
 
 module _ {V : Type 0} where
-  pub allows_bring : (k : Shape) (slots id b o i f : ℕ) (m : Kind) (p : Option Place) (me : At V) → Rests me → Holding me.0 m o p b → f ≤ 256
+  pub allows_bring : (k : Shape) (slots id b o i f : ℕ) (m : Kind) (p : Option Place) (me : At V) → Rests me → HoldingInBlock me.0 m o p b → f ≤ 256
       → i ≡ spot b (slot m)
       → Allows (Ruled k) slots id me i (λ n. (n + f * 4294967296) % 2 ^ 64) (brought m o p (step slots i (f * 4294967296) 0 none) me)
   allows_bring k slots id b o i f m p me rests holds few e =

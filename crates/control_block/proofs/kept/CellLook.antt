@@ -19,7 +19,7 @@ use Rattle.control_word.specs.declared.shape.Shape.{Shape}
 use Rattle.control_word.specs.declared.view.Pending.TheVariants.{Idle}
 use Rattle.control_block.specs.Rule.{Ruled, opening_of, seeing}
 use Rattle.control_block.specs.Plays.{At, Rests}
-use Rattle.control_block.specs.CellPlays.{IsCellAt, IsHeld, kind_in, as_loaded, as_peeked, loaded_empty, of_cell, peeked}
+use Rattle.control_block.specs.CellPlays.{IsCellAt, IsHeld, kind_in, as_loaded, as_peeked, loaded_empty, of_cell, cell_peeked}
 use Rattle.control_block.specs.declared.board.Sight.{Sight}
 use Rattle.control_block.proofs.CellWords.{Decoded, Opened, decoded, found_is, is_open, opened}
 use Rattle.control_block.proofs.Passage.{adds, knows, plain, point, quiet_next, ready}
@@ -70,7 +70,7 @@ module _ {V : Type 0} where
       )
 
   pub allows_peek : (k : Shape) (slots id i : ℕ) (c : Cell) (me : At V) → me.0.view.spent ≡ false → IsCellAt me.0 c i
-      → Allows (Ruled k) slots id me i (λ n. n) (peeked c (step slots i 0 0 none) me)
+      → Allows (Ruled k) slots id me i (λ n. n) (cell_peeked c (step slots i 0 0 none) me)
   allows_peek k slots id i c me awake cell =
       allows_cell_look k slots id i c me (as_peeked c me) awake cell
       (λ s r at is d. (me.0, unmoved k s id i me.0 r at, (is_held k s r id me.0 at awake c d.taken, refl)))

@@ -34,7 +34,7 @@ use Rattle.control_word.specs.declared.view.Pending.{Pending}
 use Rattle.control_word.specs.declared.view.Pending.TheVariants.{Idle, Visiting}
 use Rattle.control_word.specs.declared.view.View.{View}
 use Rattle.control_block.specs.Rule.{IsSlotOf, Ruled, kept, opening_of, seeing, view_of, until_gone}
-use Rattle.control_block.specs.Plays.{At, Holding, Rests}
+use Rattle.control_block.specs.Plays.{At, HoldingInBlock, Rests}
 use Rattle.control_block.specs.DoorPlays.{opened, shut}
 use Rattle.control_block.specs.declared.board.Sight.{Sight}
 use Rattle.control_block.proofs.Passage.{adds, held_there, moves, next, point, ready}
@@ -45,7 +45,7 @@ drops_four : (n : ℕ) → 4 ≤ n → n < 18446744073709551616 → (n + (2 ^ 64
 drops_four n enough lt = omega arith
 
 module _ {V : Type 0} where
-  module _ (k : Shape) (slots id o i found : ℕ) (b : Block) (p : Option Place) (me : At V) (rests : Rests me) (holds : Holding me.0 Owner o p b.0)
+  module _ (k : Shape) (slots id o i found : ℕ) (b : Block) (p : Option Place) (me : At V) (rests : Rests me) (holds : HoldingInBlock me.0 Owner o p b.0)
       (e : i ≡ spot b.0 2) (open' : found < 4) where
     pub allows_shut : Allows (Ruled k) slots id me i (λ n. either (n == found) (found + 4) n) (shut b o p (step slots i found (found + 4) none) me)
     allows_shut s r sized at small = ⊎_elim hit miss (cases_eq (get_or s.words i 0) found)

@@ -20,7 +20,7 @@ use Rattle.control_word.specs.declared.place.Place.{Place}
 use Rattle.control_word.specs.declared.shape.Shape.{Shape}
 use Rattle.control_word.specs.declared.view.Pending.TheVariants.{Idle}
 use Rattle.control_block.specs.Rule.{Ruled, opening_of, seeing, view_of}
-use Rattle.control_block.specs.Plays.{At, HasRoomFor, Holding, Rests, tells}
+use Rattle.control_block.specs.Plays.{At, HasRoomFor, HoldingInBlock, Rests, tells}
 use Rattle.control_block.specs.LockPlays.{GotOwner, earlier, locked, sought_owner}
 use Rattle.control_block.specs.declared.board.Sight.{Sight}
 use Rattle.control_block.proofs.Passage.{adds, held_there, plain, point, quiet_next, ready, still_room}
@@ -40,7 +40,7 @@ module _ {V : Type 0} where
       (subst (λ k. got ≡ not (Rattle.control_word.specs.State.count (leads (opening_of k) (a.between ++ v.view.seen)) o == 0)) (sym shape)
       (subst (IsLegal (opening_of v.shape)) seen a.legal).1.asks.1)
 
-  pub allows_seek : (k : Shape) (slots id b o i : ℕ) (p : Option Place) (me : At V) → Rests me → Holding me.0 Weak o p b → i ≡ spot b 0
+  pub allows_seek : (k : Shape) (slots id b o i : ℕ) (p : Option Place) (me : At V) → Rests me → HoldingInBlock me.0 Weak o p b → i ≡ spot b 0
       → Allows (Ruled k) slots id me i (λ n. n) (sought_owner o p (step slots i 0 0 none) me)
   allows_seek k slots id b o i p me rests holds e s r sized at small =
       let v = me.0 in let z = opening_of k in let n = get_or s.words i 0 in
@@ -74,7 +74,7 @@ module _ {V : Type 0} where
         ),
       )) (cases_eq n 0)
 
-  pub allows_lock : (k : Shape) (slots id b o i found : ℕ) (p : Option Place) (me : At V) → Rests me → Holding me.0 Weak o p b → HasRoomFor me.0
+  pub allows_lock : (k : Shape) (slots id b o i found : ℕ) (p : Option Place) (me : At V) → Rests me → HoldingInBlock me.0 Weak o p b → HasRoomFor me.0
       → found ≢ 0 → i ≡ spot b 0
       → Allows (Ruled k) slots id me i (λ n. either (n == found) (suc found) n) (locked o p (step slots i found (suc found) none) me)
   allows_lock k slots id b o i found p me rests holds more some' e =

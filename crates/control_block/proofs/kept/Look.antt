@@ -23,7 +23,7 @@ use Rattle.control_word.specs.declared.place.Place.{Place}
 use Rattle.control_word.specs.declared.shape.Shape.{Shape}
 use Rattle.control_word.specs.declared.view.Pending.TheVariants.{Idle}
 use Rattle.control_block.specs.Rule.{Ruled, opening_of, view_of}
-use Rattle.control_block.specs.Plays.{At, Holding, Rests, counted, found_expired, read}
+use Rattle.control_block.specs.Plays.{At, HoldingInBlock, Rests, counted, found_expired, read}
 use Rattle.control_block.proofs.Passage.{allows_event, allows_telling, held_there, plain, point, ready}
 
 halved : (n : ℕ) → n ≡ n % 4294967296 + 4294967296 * (n / 4294967296)
@@ -48,7 +48,8 @@ module _ {V : Type 0} where
       → Stands z (set words i (get_or words i 0)) views h
   looked z words i views h stands = subst (λ l. Stands z l views h) (sym (load_is_write words i)) stands
 
-  pub allows_count : (k : Shape) (slots id b o i : ℕ) (m : Kind) (p : Option Place) (me : At V) → Rests me → Holding me.0 m o p b → i ≡ spot b 0
+  pub allows_count : (k : Shape) (slots id b o i : ℕ) (m : Kind) (p : Option Place) (me : At V) → Rests me → HoldingInBlock me.0 m o p b
+      → i ≡ spot b 0
       → Allows (Ruled k) slots id me i (λ n. n) (counted m o p (step slots i 0 0 none) me)
   allows_count k slots id b o i m p me rests holds e =
       allows_telling k slots id i me (λ n. n)
@@ -72,7 +73,7 @@ module _ {V : Type 0} where
         ),
       ))
 
-  pub allows_expired : (k : Shape) (slots id b o i : ℕ) (p : Option Place) (me : At V) → Rests me → Holding me.0 Weak o p b → i ≡ spot b 0
+  pub allows_expired : (k : Shape) (slots id b o i : ℕ) (p : Option Place) (me : At V) → Rests me → HoldingInBlock me.0 Weak o p b → i ≡ spot b 0
       → Allows (Ruled k) slots id me i (λ n. n) (found_expired o p (step slots i 0 0 none) me)
   allows_expired k slots id b o i p me rests holds e =
       allows_event k slots id i me (λ n. n) (λ n. Expired (weak_of o p) (n == 0)) Idle rests.awake rests.empty
@@ -86,14 +87,14 @@ module _ {V : Type 0} where
       (law.tells_expired (point k s r id v) o p (ready k s r id v at rests.awake Idle rests.idle) mine.0)))
 
   pub allows_read : (k : Shape) (slots id i o : ℕ) (place : Place) (p : Option Place) (me : At V) → Rests me → p ≡ Some place
-      → Holding me.0 Owner o p place.block.0 → place.field < 4 → i ≡ spot place.block.0 (3 + place.field)
+      → HoldingInBlock me.0 Owner o p place.block.0 → place.field < 4 → i ≡ spot place.block.0 (3 + place.field)
       → Allows (Ruled k) slots id me i (λ n. n) (read o p (step slots i 0 0 none) me)
   allows_read k slots id i o place p me rests is holds low e =
       allows_event k slots id i me (λ n. n) (λ n. Read (owner o p) n) Idle rests.awake rests.empty
       (λ n. (plain (λ s d. refl) (λ s d. refl) (λ s f. refl)))
       (λ s r at small.
       let v = me.0 in let z = opening_of k in let views = map view_of s.views in
-      let mine = held_there k s r id v at rests.awake Owner o (Some place) place.block.0 (subst (λ x. Holding v Owner o x place.block.0) is holds) in
+      let mine = held_there k s r id v at rests.awake Owner o (Some place) place.block.0 (subst (λ x. HoldingInBlock v Owner o x place.block.0) is holds) in
       let h : ℕ → Option Place → List (Entry V) = λ x y. entry v.view.name (Read (owner o y) (get_or s.words x 0)) ∷ r.history in
       looked z s.words i _ _ (subst (λ (y : ℕ
       × Option Place). Stands z s.words (set views id (sees_as v.view Idle (h y.0 y.1))) (h y.0 y.1)) (λ j. (sym e j, sym is j))

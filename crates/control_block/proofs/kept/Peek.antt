@@ -26,7 +26,7 @@ use Rattle.control_word.specs.declared.view.Pending.{Pending}
 use Rattle.control_word.specs.declared.view.Pending.TheVariants.{Idle, Making, Merging, Parting, Paying, Visiting}
 use Rattle.control_word.specs.declared.view.View.{View}
 use Rattle.control_block.specs.Rule.{Ruled, opening_of, view_of}
-use Rattle.control_block.specs.Plays.{At, Ends, Holding, IsNear, IsTold, known, peeked}
+use Rattle.control_block.specs.Plays.{At, Ends, HoldingInBlock, IsNearObject, IsTold, known, peeked}
 use Rattle.control_block.specs.declared.board.Sight.{Sight}
 use Rattle.control_block.proofs.Endings.{ends_busy, ends_here}
 use Rattle.control_block.proofs.Lists.{set_same}
@@ -111,7 +111,7 @@ module _ {V : Type 0} where
       let g = ap (λ j. get_or (object_words (blocks_of s) (s.object o)) j 0) e in
       ap (λ i. get_or words (spot b i) 0) at ∙ (omega (arith, r, none', g, f))
 
-  pub allows_peek : (k : Shape) (slots id b o i j : ℕ) (me : At V) → me.0.view.spent ≡ false → IsNear me.0 o b → j < 5 → i ≡ spot b (2 + j)
+  pub allows_peek : (k : Shape) (slots id b o i j : ℕ) (me : At V) → me.0.view.spent ≡ false → IsNearObject me.0 o b → j < 5 → i ≡ spot b (2 + j)
       → Allows (Ruled k) slots id me i (λ n. n) (peeked o j (step slots i 0 0 none) me)
   allows_peek k slots id b o i j me awake near low e s r sized at small =
       let v = me.0 in let z = opening_of k in let h = leads z r.history in
@@ -136,11 +136,11 @@ module _ {V : Type 0} where
       )
     where
       near_there : (k : Shape) (s : Table.State (Option V) (Sight V)) (r : Ruled k s) (id : ℕ) (v : Sight V) (at : get_elem? s.views id ≡ some v)
-          (awake : v.view.spent ≡ false) (o b : ℕ) → IsNear v o b
+          (awake : v.view.spent ≡ false) (o b : ℕ) → IsNearObject v o b
           → (((leads (opening_of k) r.history).object o).block ≡ b) × IsBusy (leads (opening_of k) r.history) o ×
           (o ≤ (leads (opening_of k) v.view.seen).made)
       near_there k s r id v at awake o b near = ⊎_elim
-          (λ (t : (m : Kind) × (p : Option Place) × Holding v m o p b).
+          (λ (t : (m : Kind) × (p : Option Place) × HoldingInBlock v m o p b).
           let z = opening_of k in let mine = held_there k s r id v at awake t.0 o t.1 b t.2 in (
             mine.1,
             held_busy z (leads z r.history) v.view.name o t.0 t.1 (sound z r.history r.stands.legal) mine.0,

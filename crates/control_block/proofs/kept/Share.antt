@@ -15,7 +15,7 @@ use Rattle.control_word.specs.declared.handle.Kind.TheVariants.{Owner}
 use Rattle.control_word.specs.declared.place.Place.{Place}
 use Rattle.control_word.specs.declared.shape.Shape.{Shape}
 use Rattle.control_word.specs.declared.view.Pending.TheVariants.{Idle}
-use Rattle.control_block.specs.Plays.{At, HasRoomFor, Holding, Rests, shared}
+use Rattle.control_block.specs.Plays.{At, HasRoomFor, HoldingInBlock, Rests, shared}
 use Rattle.control_block.specs.Rule.{Ruled, opening_of, view_of}
 use Rattle.control_block.proofs.Passage.{allows_event, held_there, plain, point, ready, still_room}
 
@@ -23,7 +23,7 @@ pub wraps : (n : ℕ) → n + 1099511627776 < 18446744073709551616 → (n + 1) %
 wraps n lt = omega arith
 
 module _ {V : Type 0} where
-  pub allows_share : (k : Shape) (slots id b o i : ℕ) (p q : Option Place) (me : At V) → Rests me → Holding me.0 Owner o p b → IsPointer q
+  pub allows_share : (k : Shape) (slots id b o i : ℕ) (p q : Option Place) (me : At V) → Rests me → HoldingInBlock me.0 Owner o p b → IsPointer q
       → HasRoomFor me.0 → i ≡ spot b 0
       → Allows (Ruled k) slots id me i (λ n. (n + 1) % 2 ^ 64) (shared o p q (step slots i 1 0 none) me)
   allows_share k slots id b o i p q me rests holds fine more e =

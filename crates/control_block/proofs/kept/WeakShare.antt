@@ -21,7 +21,7 @@ use Rattle.control_word.specs.declared.place.Place.{Place}
 use Rattle.control_word.specs.declared.shape.Shape.{Shape}
 use Rattle.control_word.specs.declared.view.Pending.TheVariants.{Idle}
 use Rattle.control_block.specs.Rule.{Ruled, opening_of, view_of}
-use Rattle.control_block.specs.Plays.{At, Ends, HasRoomFor, Holding, MayShareWeakly, Rests, known, weakly_shared}
+use Rattle.control_block.specs.Plays.{At, Ends, HasRoomFor, HoldingInBlock, MayShareWeakly, Rests, known, weakly_shared}
 use Rattle.control_block.specs.declared.board.Sight.{Sight}
 use Rattle.control_block.proofs.Endings.{ends_busy, ends_here}
 use Rattle.control_block.proofs.Passage.{allows_event, held_there, plain, point, ready, still_ending, still_room}
@@ -35,7 +35,7 @@ module _ {V : Type 0} where
         → (0 < weak_number (leads (opening_of k) r.history) o) × (((leads (opening_of k) r.history).object o).block ≡ b)
         × Asks {V = V} (leads (opening_of k) r.history) v.view.name (WeakShare o q)
     may_share may = ⊎_elim
-        (λ (t : (m : Kind) × (p : Option Place) × Holding v m o p b × ((q ≡ p) ⊎ (q ≡ place_at b))).
+        (λ (t : (m : Kind) × (p : Option Place) × HoldingInBlock v m o p b × ((q ≡ p) ⊎ (q ≡ place_at b))).
         let z = opening_of k in let mine = held_there k s r id v at awake t.0 o t.1 b t.2 in (
           held_busy z (leads z r.history) v.view.name o t.0 t.1 (sound z r.history r.stands.legal) mine.0,
           mine.1,

@@ -1,8 +1,9 @@
 //! Calls on cells. Each makes its events, and when it returns nothing is under way: no fund is out, and no load.
 ghost use Rattle.std.specs.Prelude.{◌≡◌, ◌↔◌, ◌+◌, IfErr, IfOk, IsErr, OnOk};
 ghost use Rattle.control_word.specs.declared.event.Event.TheVariants.{Load, Swap};
-ghost use Rattle.control_block.specs.Desks.{Belongs, Adds, Keeps, allowance_of, bag_of, held_of};
-ghost use Rattle.control_block.specs.CellCalls.{Holds, IsOpenAt, cell_at, handle_in, with_handle, without_handle};
+ghost use Rattle.control_block.specs.Desks.{Belongs, AddsEvent, Keeps, allowance_of, bag_of, held_of};
+ghost use Rattle.control_block.specs.CellCalls.{HoldsHandle, IsOpenAt, cell_of_site, handle_in, with_handle};
+ghost use Rattle.control_block.specs.CellCalls.{without_handle};
 
 use crate::cell_calls::{CellAt, Content, Site, word_of};
 use crate::desk::Desk;
@@ -22,14 +23,14 @@ pub fn load<V: Drop + Send, A: Aimed, R: Wait>(
     cell: CellAt,
 ) -> Result<Content, Refusal>
     requires domain { Belongs desk.old domain.now }
-    requires cell { IsOpenAt desk.old cell.site cell.kind × (A.cell ≡ cell_at desk.old cell.site) }
+    requires cell { IsOpenAt desk.old cell.site cell.kind × (A.cell ≡ cell_of_site desk.old cell.site) }
     ensures limit { IsErr result ↔ (held_of desk.old ≡ allowance_of desk.old) }
     ensures refused { IfErr result (λ why. (why ≡ Refusal.Limit) × (desk.new ≡ desk.old)) }
     ensures event { IfOk result
-        (λ h. Adds desk.old (Load A.cell (handle_in desk.new cell.kind h.block h.place)) desk.new) }
+        (λ h. AddsEvent desk.old (Load A.cell (handle_in desk.new cell.kind h.block h.place)) desk.new) }
     ensures bag { IfOk result (λ h. bag_of desk.new ≡ with_handle cell.kind h.block h.place (bag_of desk.old)) }
     ensures held { OnOk result (desk.new.held ≡ desk.old.held + 1) }
-    ensures holds { IfOk result (λ h. Holds desk.new cell.kind h.block h.place) }
+    ensures holds { IfOk result (λ h. HoldsHandle desk.new cell.kind h.block h.place) }
     ensures kind { IfOk result (λ h. h.kind ≡ cell.kind) }
     ensures keeps { OnOk result (Keeps desk.old desk.new) }
 {
@@ -57,15 +58,15 @@ pub fn exchange<V: Drop + Send, A: Aimed>(
     new: Content,
 ) -> Content
     requires domain { Belongs desk.old domain.now }
-    requires cell { IsOpenAt desk.old site new.kind × (A.cell ≡ cell_at desk.old site) }
+    requires cell { IsOpenAt desk.old site new.kind × (A.cell ≡ cell_of_site desk.old site) }
     requires new { A.new ≡ handle_in desk.old new.kind new.block new.place }
-    requires holds { Holds desk.old new.kind new.block new.place }
-    ensures event { Adds desk.old
+    requires holds { HoldsHandle desk.old new.kind new.block new.place }
+    ensures event { AddsEvent desk.old
         (Swap A.cell A.new (handle_in desk.new new.kind result.block result.place)) desk.new }
     ensures bag { bag_of desk.new ≡ with_handle new.kind result.block result.place
         (without_handle new.kind new.block new.place (bag_of desk.old)) }
     ensures held { desk.new.held ≡ desk.old.held }
-    ensures holds { Holds desk.new new.kind result.block result.place }
+    ensures holds { HoldsHandle desk.new new.kind result.block result.place }
     ensures kind { result.kind ≡ new.kind }
     ensures keeps { Keeps desk.old desk.new }
 {

@@ -2,8 +2,9 @@
 ghost use Rattle.std.specs.Prelude.{◌≡◌, ◌↔◌, ◌+◌, cond, IfErr, IfOk, IsErr, OnOk};
 ghost use Rattle.control_word.specs.declared.event.Event.TheVariants.{Compare};
 ghost use Rattle.control_block.specs.Desks.{Belongs};
-ghost use Rattle.control_block.specs.CellCalls.{Holds, IsOpenAt, cell_at, handle_in, with_handle, without_handle};
-ghost use Rattle.control_block.specs.Desks.{Adds, Keeps, allowance_of, bag_of, held_of};
+ghost use Rattle.control_block.specs.CellCalls.{HoldsHandle, IsOpenAt, cell_of_site, handle_in, with_handle};
+ghost use Rattle.control_block.specs.CellCalls.{without_handle};
+ghost use Rattle.control_block.specs.Desks.{AddsEvent, Keeps, allowance_of, bag_of, held_of};
 
 use crate::cell_calls::{Content, Offer, Site, word_of};
 use crate::desk::Desk;
@@ -24,20 +25,20 @@ pub fn compare<V: Drop + Send, A: Aimed, R: Wait>(
     offer: Offer,
 ) -> Result<(bool, Content), Refusal>
     requires domain { Belongs desk.old domain.now }
-    requires cell { IsOpenAt desk.old site offer.new.kind × (A.cell ≡ cell_at desk.old site) }
+    requires cell { IsOpenAt desk.old site offer.new.kind × (A.cell ≡ cell_of_site desk.old site) }
     requires expected { A.expected ≡ handle_in desk.old offer.new.kind offer.expected.block offer.expected.place }
     requires new { A.new ≡ handle_in desk.old offer.new.kind offer.new.block offer.new.place }
-    requires holds { Holds desk.old offer.new.kind offer.expected.block offer.expected.place
-        × Holds desk.old offer.new.kind offer.new.block offer.new.place }
+    requires holds { HoldsHandle desk.old offer.new.kind offer.expected.block offer.expected.place
+        × HoldsHandle desk.old offer.new.kind offer.new.block offer.new.place }
     ensures limit { IsErr result ↔ (held_of desk.old ≡ allowance_of desk.old) }
     ensures refused { IfErr result (λ why. (why ≡ Refusal.Limit) × (desk.new ≡ desk.old)) }
-    ensures event { IfOk result (λ r. Adds desk.old
+    ensures event { IfOk result (λ r. AddsEvent desk.old
         (Compare A.cell A.expected A.new (handle_in desk.new offer.new.kind r.1.block r.1.place) r.0 A.weak) desk.new) }
     ensures bag { IfOk result (λ r. bag_of desk.new ≡ with_handle offer.new.kind r.1.block r.1.place
         (cond r.0 (without_handle offer.new.kind offer.new.block offer.new.place (bag_of desk.old))
         (bag_of desk.old))) }
     ensures held { IfOk result (λ r. desk.new.held ≡ desk.old.held + cond r.0 0 1) }
-    ensures holds { IfOk result (λ r. Holds desk.new offer.new.kind r.1.block r.1.place) }
+    ensures holds { IfOk result (λ r. HoldsHandle desk.new offer.new.kind r.1.block r.1.place) }
     ensures kind { IfOk result (λ r. r.1.kind ≡ offer.new.kind) }
     ensures keeps { OnOk result (Keeps desk.old desk.new) }
 {

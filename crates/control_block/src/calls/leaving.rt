@@ -6,7 +6,8 @@ ghost use Rattle.control_word.specs.Handles.{handle, same_handle};
 ghost use Rattle.control_word.specs.declared.event.Event.TheVariants.{Finish, Leave, WeakLeave};
 ghost use Rattle.control_word.specs.declared.handle.Kind.TheVariants.{Owner, Weak};
 ghost use Rattle.control_word.specs.State.{count, without};
-ghost use Rattle.control_block.specs.Desks.{Belongs, Adds, HasHandle, IsCleared, IsEnding, IsSameDesk, KeepsEndings};
+ghost use Rattle.control_block.specs.Desks.{Belongs, AddsEvent, HasHandle, IsCleared, IsEnding, IsSameDesk};
+ghost use Rattle.control_block.specs.Desks.{KeepsEndings};
 ghost use Rattle.control_block.specs.Desks.{KeepsOtherEndings, KeepsStock, bag_of, endings_of, latest_of, on_latest};
 ghost use Rattle.control_block.specs.Desks.{stock_of};
 ghost use Rattle.control_block.specs.Leaving.{freed};
@@ -31,7 +32,7 @@ pub fn leave<V: Drop + Send, A: About>(
     requires domain { Belongs desk.old domain.now }
     requires meant { (A.kind ≡ of.kind) × (A.place ≡ of.place) }
     requires holds { HasHandle desk.old Owner A.place of.block.0 }
-    ensures event { Adds desk.old (Leave (on_latest desk.old Owner A.place of.block.0) (is_some result)) desk.new }
+    ensures event { AddsEvent desk.old (Leave (on_latest desk.old Owner A.place of.block.0) (is_some result)) desk.new }
     ensures ending { IfSome result (IsEnding desk.new of.block.0) }
     ensures bag { bag_of desk.new ≡ without same_handle (handle Owner (Some of.block.0) A.place) (bag_of desk.old) }
     ensures held { desk.new.held + 1 ≡ desk.old.held }
@@ -53,7 +54,7 @@ pub fn leave_weak<V: Drop + Send, A: About>(
     requires domain { Belongs desk.old domain.now }
     requires meant { (A.kind ≡ of.kind) × (A.place ≡ of.place) }
     requires holds { HasHandle desk.old Weak A.place of.block.0 }
-    ensures event { Adds desk.old (WeakLeave (on_latest desk.old Weak A.place of.block.0) result) desk.new }
+    ensures event { AddsEvent desk.old (WeakLeave (on_latest desk.old Weak A.place of.block.0) result) desk.new }
     ensures bag { bag_of desk.new ≡ without same_handle (handle Weak (Some of.block.0) A.place) (bag_of desk.old) }
     ensures held { desk.new.held + 1 ≡ desk.old.held }
     ensures desk { IsSameDesk desk.old desk.new }
@@ -75,7 +76,7 @@ pub fn finish<V: Drop + Send>(domain: &Domain<V>, desk: &mut Desk<V>, block: Blo
     requires clear { (m : ℕ) → m < 3 → IsCleared desk.old block.0 m }
     ensures value { (x : V) → IsEnding desk.old block.0 x → result.0 ≡ x }
     ensures event { (x : V) → IsEnding desk.old block.0 x
-        → Adds desk.old (Finish (latest_of desk.old block.0) result.1 x) desk.new }
+        → AddsEvent desk.old (Finish (latest_of desk.old block.0) result.1 x) desk.new }
     ensures bag { bag_of desk.new ≡ bag_of desk.old }
     ensures held { desk.new.held ≡ desk.old.held }
     ensures desk { IsSameDesk desk.old desk.new }

@@ -5,7 +5,8 @@ ghost use Rattle.control_word.specs.Handles.{handle};
 ghost use Rattle.control_word.specs.State.{count};
 ghost use Rattle.control_word.specs.declared.event.Event.TheVariants.{Lock};
 ghost use Rattle.control_word.specs.declared.handle.Kind.TheVariants.{Owner, Weak};
-ghost use Rattle.control_block.specs.Desks.{Belongs, Adds, HasHandle, Keeps, allowance_of, bag_of, held_of, latest_of};
+ghost use Rattle.control_block.specs.Desks.{Belongs, AddsEvent, HasHandle, Keeps, allowance_of, bag_of, held_of};
+ghost use Rattle.control_block.specs.Desks.{latest_of};
 ghost use Rattle.control_block.specs.Desks.{on_latest, state_of};
 ghost use Rattle.control_block.specs.LockCalls.{state_before};
 
@@ -35,7 +36,7 @@ pub fn lock<V: Drop + Send, A: About, R: Wait>(
     ensures refused { IfErr result (λ why. (why ≡ Refusal.Limit) × (desk.new ≡ desk.old)) }
     ensures handle { IfOk result (λ r. IfSome r (λ h. (h.block ≡ Some of.block) × (h.place ≡ of.place))) }
     ensures event { IfOk result
-        (λ r. Adds desk.old (Lock (on_latest desk.old Weak A.place of.block.0) (is_some r)) desk.new) }
+        (λ r. AddsEvent desk.old (Lock (on_latest desk.old Weak A.place of.block.0) (is_some r)) desk.new) }
     ensures exact { IfOk result
         (λ r. is_some r ≡ not (count (state_before desk.new) (latest_of desk.old of.block.0) == 0)) }
     ensures expired { count (state_of desk.old) (latest_of desk.old of.block.0) ≡ 0

@@ -5,7 +5,8 @@ ghost use Rattle.control_word.specs.Handles.{handle};
 ghost use Rattle.control_word.specs.declared.event.Event.TheVariants.{Make};
 ghost use Rattle.control_word.specs.declared.handle.Kind.TheVariants.{Owner};
 ghost use Rattle.control_block.specs.Refusals.{IsFullOrLimit};
-ghost use Rattle.control_block.specs.Desks.{Belongs, Adds, IsSameDesk, KeepsEndings, allowance_of, bag_of, endings_of};
+ghost use Rattle.control_block.specs.Desks.{Belongs, AddsEvent, IsSameDesk, KeepsEndings, allowance_of, bag_of};
+ghost use Rattle.control_block.specs.Desks.{endings_of};
 ghost use Rattle.control_block.specs.Desks.{held_of, stock_of};
 
 use crate::desk::Desk;
@@ -43,7 +44,7 @@ pub fn make<V: Drop + Send>(
     ensures refusals { IsFullOrLimit (held_of desk.old ≡ allowance_of desk.old) (stock_of desk.old ≡ []) result }
     ensures refused { IfErr result (λ r. (r.back ≡ value) × (desk.new ≡ desk.old)) }
     ensures handle { IfOk result (λ h. (h.kind ≡ Owner) × (h.place ≡ origin h.block.0 null)) }
-    ensures event { IfOk result (λ h. Adds desk.old (Make h.block enabled null fields value) desk.new) }
+    ensures event { IfOk result (λ h. AddsEvent desk.old (Make h.block enabled null fields value) desk.new) }
     ensures bag { IfOk result (λ h. bag_of desk.new ≡ handle Owner (Some h.block.0) h.place ∷ bag_of desk.old) }
     ensures held { OnOk result (desk.new.held ≡ desk.old.held + 1) }
     ensures desk { OnOk result (IsSameDesk desk.old desk.new) }

@@ -4,7 +4,7 @@ ghost use Rattle.control_word.specs.declared.event.Event.TheVariants.{Count, Exp
 ghost use Rattle.control_word.specs.declared.handle.Kind.TheVariants.{Owner, Weak};
 ghost use Rattle.control_word.specs.declared.place.Place.{Place};
 ghost use Rattle.control_word.specs.State.{count};
-ghost use Rattle.control_block.specs.Desks.{Belongs, Adds, HasHandle, Keeps, allowance_of, bag_of, latest_of};
+ghost use Rattle.control_block.specs.Desks.{Belongs, AddsEvent, HasHandle, Keeps, allowance_of, bag_of, latest_of};
 ghost use Rattle.control_block.specs.Desks.{on_latest, state_of};
 
 use crate::calls::About;
@@ -21,7 +21,7 @@ pub fn count<V: Drop + Send, A: About>(domain: &Domain<V>, desk: &mut Desk<V>, o
     requires domain { Belongs desk.old domain.now }
     requires meant { (A.kind ≡ of.kind) × (A.place ≡ of.place) }
     requires holds { HasHandle desk.old A.kind A.place of.block.0 }
-    ensures event { Adds desk.old (Count (on_latest desk.old A.kind A.place of.block.0) result) desk.new }
+    ensures event { AddsEvent desk.old (Count (on_latest desk.old A.kind A.place of.block.0) result) desk.new }
     ensures sole { allowance_of desk.new ≡ desk.old.shape.allowance
         → result ≡ count (state_of desk.new) (latest_of desk.old of.block.0) }
     ensures bag { bag_of desk.new ≡ bag_of desk.old }
@@ -40,7 +40,7 @@ pub fn is_expired<V: Drop + Send, A: About>(
     requires domain { Belongs desk.old domain.now }
     requires meant { (A.kind ≡ of.kind) × (A.place ≡ of.place) }
     requires holds { HasHandle desk.old Weak A.place of.block.0 }
-    ensures event { Adds desk.old (Expired (on_latest desk.old Weak A.place of.block.0) result) desk.new }
+    ensures event { AddsEvent desk.old (Expired (on_latest desk.old Weak A.place of.block.0) result) desk.new }
     ensures bag { bag_of desk.new ≡ bag_of desk.old }
     ensures held { desk.new.held ≡ desk.old.held }
     ensures keeps { Keeps desk.old desk.new }
@@ -52,7 +52,7 @@ pub fn is_expired<V: Drop + Send, A: About>(
 pub fn read<V: Drop + Send>(domain: &Domain<V>, desk: &mut Desk<V>, place: Place) -> u64
     requires domain { Belongs desk.old domain.now }
     requires holds { HasHandle desk.old Owner (Some place) place.block.0 }
-    ensures event { Adds desk.old (Read (on_latest desk.old Owner (Some place) place.block.0) result) desk.new }
+    ensures event { AddsEvent desk.old (Read (on_latest desk.old Owner (Some place) place.block.0) result) desk.new }
     ensures bag { bag_of desk.new ≡ bag_of desk.old }
     ensures held { desk.new.held ≡ desk.old.held }
     ensures keeps { Keeps desk.old desk.new }

@@ -5,7 +5,7 @@ ghost use Rattle.control_word.specs.Handles.{handle};
 ghost use Rattle.control_word.specs.declared.event.Event.TheVariants.{Share, WeakShare};
 ghost use Rattle.control_word.specs.declared.handle.Kind.TheVariants.{Owner, Weak};
 ghost use Rattle.control_word.specs.declared.place.Place.{Place};
-ghost use Rattle.control_block.specs.Desks.{Belongs, Adds, HasHandle, Keeps, MayGiveWeak, MayPoint, allowance_of};
+ghost use Rattle.control_block.specs.Desks.{Belongs, AddsEvent, HasHandle, Keeps, MayGiveWeak, MayPoint, allowance_of};
 ghost use Rattle.control_block.specs.Desks.{bag_of, held_of, latest_of, on_latest};
 
 use crate::calls::About;
@@ -32,7 +32,7 @@ pub fn share<V: Drop + Send, A: About>(
     ensures refused { IfErr result (λ why. (why ≡ Refusal.Limit) × (desk.new ≡ desk.old)) }
     ensures handle { IfOk result (λ h. (h.block ≡ Some of.block) × (h.place ≡ wanted)) }
     ensures event { OnOk result
-        (Adds desk.old (Share (on_latest desk.old Owner A.place of.block.0) A.wanted) desk.new) }
+        (AddsEvent desk.old (Share (on_latest desk.old Owner A.place of.block.0) A.wanted) desk.new) }
     ensures bag { OnOk result (bag_of desk.new ≡ handle Owner (Some of.block.0) A.wanted ∷ bag_of desk.old) }
     ensures held { OnOk result (desk.new.held ≡ desk.old.held + 1) }
     ensures keeps { OnOk result (Keeps desk.old desk.new) }
@@ -63,7 +63,7 @@ pub fn share_weak<V: Drop + Send, A: About>(
     ensures limit { IsErr result ↔ (held_of desk.old ≡ allowance_of desk.old) }
     ensures refused { IfErr result (λ why. (why ≡ Refusal.Limit) × (desk.new ≡ desk.old)) }
     ensures handle { IfOk result (λ h. (h.block ≡ Some block) × (h.place ≡ wanted)) }
-    ensures event { OnOk result (Adds desk.old (WeakShare (latest_of desk.old block.0) A.wanted) desk.new) }
+    ensures event { OnOk result (AddsEvent desk.old (WeakShare (latest_of desk.old block.0) A.wanted) desk.new) }
     ensures bag { OnOk result (bag_of desk.new ≡ handle Weak (Some block.0) A.wanted ∷ bag_of desk.old) }
     ensures held { OnOk result (desk.new.held ≡ desk.old.held + 1) }
     ensures keeps { OnOk result (Keeps desk.old desk.new) }

@@ -3,7 +3,7 @@
 ghost use Rattle.std.specs.Prelude.{◌≡◌, ◌+◌, cond, is_some, length};
 ghost use Rattle.control_word.specs.declared.handle.Kind.TheVariants.{Owner, Weak};
 ghost use Rattle.control_block.specs.Desks.{Belongs};
-ghost use Rattle.control_block.specs.CellCalls.{Holds, IsOpenAt, cell_at, handle_in, without_handle};
+ghost use Rattle.control_block.specs.CellCalls.{HoldsHandle, IsOpenAt, cell_of_site, handle_in, without_handle};
 ghost use Rattle.control_block.specs.Desks.{IsSameDesk, KeepsEndings, KeepsStock, bag_of, endings_of, stock_of};
 ghost use Rattle.control_block.specs.Storing.{Replaces, ReplacesWeakly};
 
@@ -28,9 +28,9 @@ pub fn store_shared<V: Drop + Send, A: Aimed>(
     new: Shared,
 ) -> (Content, Option<InPlace<V>>)
     requires domain { Belongs desk.old domain.now }
-    requires cell { IsOpenAt desk.old site Owner × (A.cell ≡ cell_at desk.old site) }
+    requires cell { IsOpenAt desk.old site Owner × (A.cell ≡ cell_of_site desk.old site) }
     requires new { A.new ≡ handle_in desk.old Owner new.block new.place }
-    requires holds { Holds desk.old Owner new.block new.place }
+    requires holds { HoldsHandle desk.old Owner new.block new.place }
     ensures stored { Replaces desk.old A.cell A.new result.0.block result.0.place result.1 desk.new }
     ensures bag { bag_of desk.new ≡ without_handle Owner new.block new.place (bag_of desk.old) }
     ensures held { desk.new.held + 1 ≡ desk.old.held }
@@ -66,9 +66,9 @@ pub fn store_weak<V: Drop + Send, A: Aimed>(
     new: handles::Weak,
 ) -> (Content, bool)
     requires domain { Belongs desk.old domain.now }
-    requires cell { IsOpenAt desk.old site Weak × (A.cell ≡ cell_at desk.old site) }
+    requires cell { IsOpenAt desk.old site Weak × (A.cell ≡ cell_of_site desk.old site) }
     requires new { A.new ≡ handle_in desk.old Weak new.block new.place }
-    requires holds { Holds desk.old Weak new.block new.place }
+    requires holds { HoldsHandle desk.old Weak new.block new.place }
     ensures stored { ReplacesWeakly desk.old A.cell A.new result.0.block result.0.place result.1 desk.new }
     ensures bag { bag_of desk.new ≡ without_handle Weak new.block new.place (bag_of desk.old) }
     ensures held { desk.new.held + 1 ≡ desk.old.held }

@@ -3,7 +3,7 @@ ghost use Rattle.std.specs.Prelude.{◌≡◌};
 ghost use Rattle.std.specs.Fn.{FnOnceReturnsAtMut};
 ghost use Rattle.control_word.specs.declared.event.Event.TheVariants.{Visit};
 ghost use Rattle.control_word.specs.declared.handle.Kind.TheVariants.{Owner};
-ghost use Rattle.control_block.specs.Desks.{Belongs, Adds, HasHandle, Keeps, bag_of, on_latest};
+ghost use Rattle.control_block.specs.Desks.{Belongs, AddsEvent, HasHandle, Keeps, bag_of, on_latest};
 
 use crate::calls::About;
 use crate::desk::Desk;
@@ -26,7 +26,7 @@ pub fn visit<V: Drop + Send, A: About, R, F: FnOnce(&mut V) -> R, W: Wait>(
     requires holds { HasHandle desk.old Owner A.place of.block.0 }
     requires callable { F.IsAlwaysCallable f }
     ensures event { (was : V) × (becomes : V) × FnOnceReturnsAtMut F.FnOnce f was result becomes
-        × Adds desk.old (Visit (on_latest desk.old Owner A.place of.block.0) was becomes) desk.new }
+        × AddsEvent desk.old (Visit (on_latest desk.old Owner A.place of.block.0) was becomes) desk.new }
     ensures bag { bag_of desk.new ≡ bag_of desk.old }
     ensures held { desk.new.held ≡ desk.old.held }
     ensures keeps { Keeps desk.old desk.new }

@@ -6,7 +6,7 @@ ghost use Rattle.control_word.specs.declared.event.Event.TheVariants.{Compare, L
 ghost use Rattle.control_word.specs.declared.handle.Handle.{Handle};
 ghost use Rattle.control_word.specs.declared.handle.Kind.TheVariants.{Owner};
 ghost use Rattle.control_word.specs.Handles.{empty};
-ghost use Rattle.control_block.specs.CellPlays.{compare_swapped, differed_empty, loaded_empty, peeked, refilled};
+ghost use Rattle.control_block.specs.CellPlays.{compare_swapped, differed_empty, loaded_empty, cell_peeked, refilled};
 ghost use Rattle.control_block.specs.CellPlays.{swapped, took};
 
 use crate::board::Sight;
@@ -40,7 +40,7 @@ impl Aimed for Brand {
 pub struct Peeks<A>(PhantomData<A>);
 
 impl<V, A: Aimed> Play<Slot<V>, Sight<V>> for Peeks<A> {
-    ghost then = { peeked A.cell };
+    ghost then = { cell_peeked A.cell };
 }
 
 /// A look, which is the load of a cell without an object.

@@ -11,7 +11,7 @@ ghost use Rattle.control_block.specs.CellPlays.{Gave, IsCellAt, IsWordOf, debt, 
 ghost use Rattle.control_block.specs.CellRounds.{CameOut, IsCounted};
 ghost use Rattle.control_block.specs.FundPlays.{Owes};
 ghost use Rattle.control_block.specs.Inside.{IsSized};
-ghost use Rattle.control_block.specs.Plays.{HasRoomFor, Holding, Rests, goes_on, in_call, known};
+ghost use Rattle.control_block.specs.Plays.{HasRoomFor, HoldingInBlock, Rests, goes_on, in_call, known};
 
 use crate::board::{Board, Chair};
 use crate::plays::StepArgs;
@@ -49,7 +49,7 @@ pub fn refill<V, A: Aimed, M: StepArgs, R: Wait>(
     requires rests { Rests chair.old.me }
     requires word { word < board.now.table_id.words }
     requires cell { IsCellAt chair.old.me.0 A.cell word × (kind ≡ kind_in chair.old.me.0.shape A.cell) }
-    requires holds { (M.kind ≡ kind) × Holding chair.old.me.0 M.kind M.object M.place block.0 }
+    requires holds { (M.kind ≡ kind) × HoldingInBlock chair.old.me.0 M.kind M.object M.place block.0 }
     requires count { IsCounted kind block board.now.table_id }
     ensures chair { (chair.new.table_id ≡ chair.old.table_id) × (chair.new.id ≡ chair.old.id)
         × (chair.new.me ≡ chair.old.me) }
@@ -85,7 +85,7 @@ pub(crate) fn top_up<V, A: Aimed, R: Wait>(
     requires cell { IsCellAt chair.old.me.0 A.cell word × (kind ≡ kind_in chair.old.me.0.shape A.cell) }
     requires seen { seen.taken < 256 }
     requires holds { IfSome seen.owned
-        (λ b. Holding chair.old.me.0 kind ((known chair.old.me.0).latest b.0) seen.place b.0) }
+        (λ b. HoldingInBlock chair.old.me.0 kind ((known chair.old.me.0).latest b.0) seen.place b.0) }
     requires count { IfSome seen.owned (λ b. IsCounted kind b board.now.table_id) }
     ensures chair { (chair.new.table_id ≡ chair.old.table_id) × (chair.new.id ≡ chair.old.id)
         × (chair.new.me ≡ chair.old.me) }
@@ -176,7 +176,7 @@ pub(crate) fn bring_for<V, A: Aimed>(
     requires rests { Rests chair.old.me }
     requires count { IfSome block (λ b. IsCounted kind b board.now.table_id) }
     requires holds { (A.new.kind ≡ kind)
-        × IfSome block (λ b. Holding chair.old.me.0 A.new.kind (object_of A.new) A.new.place b.0) }
+        × IfSome block (λ b. HoldingInBlock chair.old.me.0 A.new.kind (object_of A.new) A.new.place b.0) }
     ensures chair { (chair.new.table_id ≡ chair.old.table_id) × (chair.new.id ≡ chair.old.id) }
     ensures brought { chair.new.me.0 ≡ in_call chair.old.me.0 (debt A.new block 256) }
     ensures owes { Owes (debt A.new block 256) chair.new.me }
@@ -222,7 +222,8 @@ pub(crate) fn swap_in<V, A: Aimed>(
     requires cell { IsCellAt chair.old.me.0 A.cell word × (kind ≡ kind_in chair.old.me.0.shape A.cell) }
     requires new { IsCellWord new × (new.taken ≡ 0) × IsWordOf chair.old.me.0 A.new new }
     requires hand { InHand (known chair.old.me.0) chair.old.me.0.view.name kind A.new }
-    requires holds { IfSome new.owned (λ b. Holding chair.old.me.0 A.new.kind (object_of A.new) A.new.place b.0) }
+    requires holds { IfSome new.owned (λ b. HoldingInBlock chair.old.me.0 A.new.kind (object_of A.new)
+        A.new.place b.0) }
     requires count { IfSome new.owned (λ b. IsCounted kind b board.now.table_id) }
     requires room { A.new.object ≡ None → HasRoomFor chair.old.me.0 }
     ensures chair { (chair.new.table_id ≡ chair.old.table_id) × (chair.new.id ≡ chair.old.id)
@@ -249,7 +250,8 @@ pub fn swap<V, A: Aimed>(
     requires cell { IsCellAt chair.old.me.0 A.cell word × (kind ≡ kind_in chair.old.me.0.shape A.cell) }
     requires new { IsCellWord new × (new.taken ≡ 0) × IsWordOf chair.old.me.0 A.new new }
     requires hand { InHand (known chair.old.me.0) chair.old.me.0.view.name kind A.new }
-    requires holds { IfSome new.owned (λ b. Holding chair.old.me.0 A.new.kind (object_of A.new) A.new.place b.0) }
+    requires holds { IfSome new.owned (λ b. HoldingInBlock chair.old.me.0 A.new.kind (object_of A.new)
+        A.new.place b.0) }
     requires count { IfSome new.owned (λ b. IsCounted kind b board.now.table_id) }
     requires room { A.new.object ≡ None → HasRoomFor chair.old.me.0 }
     ensures chair { (chair.new.table_id ≡ chair.old.table_id)

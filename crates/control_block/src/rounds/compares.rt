@@ -9,7 +9,7 @@ ghost use Rattle.control_word.specs.declared.event.Event.TheVariants.{Compare};
 ghost use Rattle.control_block.specs.CellPlays.{IsCellAt, IsWordOf, kind_in};
 ghost use Rattle.control_block.specs.CellRounds.{CameOut, IsCounted};
 ghost use Rattle.control_block.specs.Inside.{IsSized};
-ghost use Rattle.control_block.specs.Plays.{HasRoomFor, Holding, Rests, known};
+ghost use Rattle.control_block.specs.Plays.{HasRoomFor, HoldingInBlock, Rests, known};
 
 use crate::board::{Board, Chair};
 use crate::pause::Pause;
@@ -84,7 +84,8 @@ fn try_swap<V, A: Aimed>(
     requires new { IsCellWord new × (new.taken ≡ 0) × IsWordOf chair.old.me.0 A.new new }
     requires hands { InHand (known chair.old.me.0) chair.old.me.0.view.name kind A.expected
         × InHand (known chair.old.me.0) chair.old.me.0.view.name kind A.new }
-    requires holds { IfSome new.owned (λ b. Holding chair.old.me.0 A.new.kind (object_of A.new) A.new.place b.0) }
+    requires holds { IfSome new.owned (λ b. HoldingInBlock chair.old.me.0 A.new.kind (object_of A.new)
+        A.new.place b.0) }
     requires count { IfSome new.owned (λ b. IsCounted kind b board.now.table_id) }
     requires room { HasRoomFor chair.old.me.0 }
     ensures chair { (chair.new.table_id ≡ chair.old.table_id)
@@ -123,7 +124,8 @@ pub fn compare<V, A: Aimed, R: Wait>(
     requires new { IsCellWord new × (new.taken ≡ 0) × IsWordOf chair.old.me.0 A.new new }
     requires hands { InHand (known chair.old.me.0) chair.old.me.0.view.name kind A.expected
         × InHand (known chair.old.me.0) chair.old.me.0.view.name kind A.new }
-    requires holds { IfSome new.owned (λ b. Holding chair.old.me.0 A.new.kind (object_of A.new) A.new.place b.0) }
+    requires holds { IfSome new.owned (λ b. HoldingInBlock chair.old.me.0 A.new.kind (object_of A.new)
+        A.new.place b.0) }
     requires count { IfSome new.owned (λ b. IsCounted kind b board.now.table_id) }
     requires room { HasRoomFor chair.old.me.0 }
     ensures chair { (chair.new.table_id ≡ chair.old.table_id)

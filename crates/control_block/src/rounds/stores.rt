@@ -9,7 +9,7 @@ ghost use Rattle.control_block.specs.CellPlays.{IsCellAt, IsWordOf, kind_in};
 ghost use Rattle.control_block.specs.CellRounds.{IsCounted};
 ghost use Rattle.control_block.specs.Inside.{IsSized};
 ghost use Rattle.control_block.specs.Leaving.{OutAndGone, OutAndGoneWeakly};
-ghost use Rattle.control_block.specs.Plays.{HasRoomFor, Holding, Rests, known};
+ghost use Rattle.control_block.specs.Plays.{HasRoomFor, HoldingInBlock, Rests, known};
 
 use crate::board::{Board, Chair};
 use crate::in_place::InPlace;
@@ -35,7 +35,8 @@ pub fn store_shared<V: Drop + Send, A: Aimed>(
     requires cell { IsCellAt chair.old.me.0 A.cell word × (Owner ≡ kind_in chair.old.me.0.shape A.cell) }
     requires new { IsCellWord new × (new.taken ≡ 0) × IsWordOf chair.old.me.0 A.new new }
     requires hand { InHand (known chair.old.me.0) chair.old.me.0.view.name Owner A.new }
-    requires holds { IfSome new.owned (λ b. Holding chair.old.me.0 A.new.kind (object_of A.new) A.new.place b.0) }
+    requires holds { IfSome new.owned (λ b. HoldingInBlock chair.old.me.0 A.new.kind (object_of A.new)
+        A.new.place b.0) }
     requires count { IfSome new.owned (λ b. IsCounted Owner b board.now.table_id) }
     requires room { A.new.object ≡ None → HasRoomFor chair.old.me.0 }
     ensures chair { (chair.new.table_id ≡ chair.old.table_id)
@@ -62,7 +63,8 @@ pub fn store_weak<V, A: Aimed>(
     requires cell { IsCellAt chair.old.me.0 A.cell word × (Weak ≡ kind_in chair.old.me.0.shape A.cell) }
     requires new { IsCellWord new × (new.taken ≡ 0) × IsWordOf chair.old.me.0 A.new new }
     requires hand { InHand (known chair.old.me.0) chair.old.me.0.view.name Weak A.new }
-    requires holds { IfSome new.owned (λ b. Holding chair.old.me.0 A.new.kind (object_of A.new) A.new.place b.0) }
+    requires holds { IfSome new.owned (λ b. HoldingInBlock chair.old.me.0 A.new.kind (object_of A.new)
+        A.new.place b.0) }
     requires count { IfSome new.owned (λ b. IsCounted Weak b board.now.table_id) }
     requires room { A.new.object ≡ None → HasRoomFor chair.old.me.0 }
     ensures chair { (chair.new.table_id ≡ chair.old.table_id)

@@ -4,7 +4,7 @@ ghost use Rattle.control_word.specs.Handles.{owner};
 ghost use Rattle.control_word.specs.Layout.{spot};
 ghost use Rattle.control_word.specs.declared.event.Event.TheVariants.{Visit};
 ghost use Rattle.control_word.specs.declared.handle.Kind.TheVariants.{Owner};
-ghost use Rattle.control_block.specs.Plays.{Holding, Rests, tells};
+ghost use Rattle.control_block.specs.Plays.{HoldingInBlock, Rests, tells};
 ghost use Rattle.control_block.specs.DoorPlays.{IsVisiting};
 ghost use Rattle.control_block.specs.declared.board.Sight.{Sight};
 
@@ -27,7 +27,8 @@ pub fn shut<V: Drop + Send, M: StepArgs, R: Wait>(
     requires board { chair.old.table_id ≡ board.now.table_id }
     requires rests { Rests chair.old.me }
     requires word { (0 < block.0) × (spot block.0 2 < board.now.table_id.words) }
-    requires holds { (M.block ≡ block) × (M.word ≡ 0) × Holding chair.old.me.0 Owner M.object M.place block.0 }
+    requires holds { (M.block ≡ block) × (M.word ≡ 0)
+        × HoldingInBlock chair.old.me.0 Owner M.object M.place block.0 }
     ensures chair { (chair.new.table_id ≡ chair.old.table_id) × (chair.new.id ≡ chair.old.id) }
     ensures visiting { (x : V) × IsVisiting chair.old.me.0 block M.object M.place
         (spot block.0 2) x (Some x) chair.new.me }

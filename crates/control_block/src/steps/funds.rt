@@ -3,7 +3,7 @@ ghost use Rattle.std.specs.Prelude.{◌≡◌, ℕ, ◌<◌, ◌≤◌, [], Opti
 ghost use Rattle.control_word.specs.Layout.{spot};
 ghost use Rattle.control_word.specs.Words.{slot};
 ghost use Rattle.control_word.specs.declared.place.Place.{Place};
-ghost use Rattle.control_block.specs.Plays.{Holding, Rests, goes_on, in_call};
+ghost use Rattle.control_block.specs.Plays.{HoldingInBlock, Rests, goes_on, in_call};
 ghost use Rattle.control_block.specs.FundPlays.{Owes, owing};
 
 use crate::board::{Board, Chair};
@@ -38,7 +38,7 @@ pub fn bring<V, M: StepArgs>(
     requires board { chair.old.table_id ≡ board.now.table_id }
     requires rests { Rests chair.old.me }
     requires word { (0 < block.0) × (spot block.0 (slot kind) < board.now.table_id.words) }
-    requires holds { (M.kind ≡ kind) × Holding chair.old.me.0 M.kind M.object M.place block.0 }
+    requires holds { (M.kind ≡ kind) × HoldingInBlock chair.old.me.0 M.kind M.object M.place block.0 }
     requires few { funds ≤ 256 }
     ensures chair { (chair.new.table_id ≡ chair.old.table_id) × (chair.new.id ≡ chair.old.id)
         × (chair.new.me.1 ≡ []) }

@@ -4,7 +4,7 @@ ghost use Rattle.control_word.specs.Handles.{weak_of};
 ghost use Rattle.control_word.specs.Layout.{spot};
 ghost use Rattle.control_word.specs.declared.event.Event.TheVariants.{Lock};
 ghost use Rattle.control_word.specs.declared.handle.Kind.TheVariants.{Weak};
-ghost use Rattle.control_block.specs.Plays.{HasRoomFor, Holding, Rests, tells};
+ghost use Rattle.control_block.specs.Plays.{HasRoomFor, HoldingInBlock, Rests, tells};
 ghost use Rattle.control_block.specs.LockPlays.{GotOwner};
 
 use crate::board::{Board, Chair};
@@ -28,7 +28,7 @@ pub fn lock<V, M: StepArgs, R: Wait>(
     requires board { chair.old.table_id ≡ board.now.table_id }
     requires rests { Rests chair.old.me }
     requires word { (0 < block.0) × (spot block.0 0 < board.now.table_id.words) }
-    requires holds { Holding chair.old.me.0 Weak M.object M.place block.0 }
+    requires holds { HoldingInBlock chair.old.me.0 Weak M.object M.place block.0 }
     requires room { HasRoomFor chair.old.me.0 }
     ensures chair { (chair.new.table_id ≡ chair.old.table_id) × (chair.new.id ≡ chair.old.id)
         × (chair.new.me.1 ≡ chair.old.me.1) }

@@ -1,6 +1,6 @@
 //! Calls on cells.
 ghost use Rattle.std.specs.Prelude.{◌≡◌, IfErr, IfOk, OnOk};
-ghost use Rattle.handle_table.specs.Cells.{Exchanges, Loads, Stores, WhyNotLoaded, WhyNotSwapped};
+ghost use Rattle.handle_table.specs.Cells.{ExchangesSlot, LoadsIntoSlot, StoresFromSlot, WhyNotLoaded, WhyNotSwapped};
 
 use crate::cells::held::{exchange_held, load_held};
 use crate::cells::{Cell, find};
@@ -16,7 +16,7 @@ impl<'d, V: Drop + Send, H: Home> HandleTable<'d, V, H> {
     /// [util.smartptr.atomic.weak]). What lay there leaves.
     #[inline(always)]
     pub fn load<R: Wait>(&mut self, rt: &R, cell: Cell, to: usize) -> Result<(), Fault>
-        ensures loaded { OnOk result (Loads self.old cell to self.new) }
+        ensures loaded { OnOk result (LoadsIntoSlot self.old cell to self.new) }
         ensures refused { IfErr result (λ why. WhyNotLoaded self.old cell to why × (self.new ≡ self.old)) }
     {
         if to >= self.slots.len() {
@@ -45,7 +45,7 @@ impl<'d, V: Drop + Send, H: Home> HandleTable<'d, V, H> {
     /// A handle goes out of its slot into the cell, and what the cell held leaves ([util.smartptr.atomic.shared],
     /// [util.smartptr.atomic.weak]). The slot is vacant then. It waits for nobody.
     pub fn store(&mut self, from: usize, cell: Cell) -> Result<Gone, Fault>
-        ensures stored { IfOk result (λ gone. Stores self.old from cell gone self.new) }
+        ensures stored { IfOk result (λ gone. StoresFromSlot self.old from cell gone self.new) }
         ensures refused { IfErr result (λ why. WhyNotSwapped self.old from cell why × (self.new ≡ self.old)) }
     {
         let at = match find(self.domain, &self.desk, &self.slots, cell) {
@@ -63,7 +63,7 @@ impl<'d, V: Drop + Send, H: Home> HandleTable<'d, V, H> {
     /// A handle goes out of its slot into the cell, and what the cell held comes into the slot, in one step on the cell
     /// ([util.smartptr.atomic.shared], [util.smartptr.atomic.weak]). It waits for nobody.
     pub fn exchange(&mut self, at: usize, cell: Cell) -> Result<(), Fault>
-        ensures exchanged { OnOk result (Exchanges self.old at cell self.new) }
+        ensures exchanged { OnOk result (ExchangesSlot self.old at cell self.new) }
         ensures refused { IfErr result (λ why. WhyNotSwapped self.old at cell why × (self.new ≡ self.old)) }
     {
         let there = match find(self.domain, &self.desk, &self.slots, cell) {

@@ -2,8 +2,8 @@
 ghost use Rattle.std.specs.Prelude.{◌≡◌, ◌<◌, ◌∷◌, true, false, length, slice_set, IfErr, IfOk, None};
 ghost use Rattle.std.specs.Prelude.{Some};
 ghost use Rattle.shared_handle.specs.Piles.{Bears};
-ghost use Rattle.handle_table.specs.Compares.{Compares, Follows, WhyNotCompared};
-ghost use Rattle.handle_table.specs.Tables.{Fits, on_pile};
+ghost use Rattle.handle_table.specs.Compares.{ComparesSlots, FollowsCompare, WhyNotCompared};
+ghost use Rattle.handle_table.specs.Tables.{FitsSlots, on_pile};
 
 use crate::cells::held::{Form, Spurious, Strong, compare_held};
 use crate::cells::{Cell, find};
@@ -42,11 +42,11 @@ fn follow<V: Drop + Send>(
 )
     requires bears { Bears domain.now desk.old pile.old }
     requires there { (expected < length slots.old.items) × (desired < length slots.old.items) }
-    requires swapped { swapped ≡ true → Fits desk.old (Some found ∷ slice_set slots.old.items desired None) }
-    requires differs { swapped ≡ false → Fits desk.old (Some found ∷ slots.old.items) }
+    requires swapped { swapped ≡ true → FitsSlots desk.old (Some found ∷ slice_set slots.old.items desired None) }
+    requires differs { swapped ≡ false → FitsSlots desk.old (Some found ∷ slots.old.items) }
     ensures bears { Bears domain.now desk.new pile.new }
-    ensures fits { Fits desk.new slots.new.items }
-    ensures follows { Follows swapped desk.old slots.old.items
+    ensures fits { FitsSlots desk.new slots.new.items }
+    ensures follows { FollowsCompare swapped desk.old slots.old.items
         (on_pile pile.old) found expected desired desk.new slots.new.items (on_pile pile.new) }
 {
     if swapped {
@@ -66,7 +66,8 @@ impl<'d, V: Drop + Send, H: Home> HandleTable<'d, V, H> {
         expected: usize,
         desired: usize,
     ) -> Result<bool, Fault>
-        ensures compared { IfOk result (λ swapped. Compares F.weak self.old cell expected desired swapped self.new) }
+        ensures compared { IfOk result (λ swapped. ComparesSlots F.weak self.old cell expected desired
+            swapped self.new) }
         ensures refused { IfErr result
             (λ why. WhyNotCompared self.old cell expected desired why × (self.new ≡ self.old)) }
     {
@@ -112,7 +113,8 @@ impl<'d, V: Drop + Send, H: Home> HandleTable<'d, V, H> {
         expected: usize,
         desired: usize,
     ) -> Result<bool, Fault>
-        ensures compared { IfOk result (λ swapped. Compares false self.old cell expected desired swapped self.new) }
+        ensures compared { IfOk result (λ swapped. ComparesSlots false self.old cell expected desired
+            swapped self.new) }
         ensures refused { IfErr result
             (λ why. WhyNotCompared self.old cell expected desired why × (self.new ≡ self.old)) }
     {
@@ -128,7 +130,8 @@ impl<'d, V: Drop + Send, H: Home> HandleTable<'d, V, H> {
         expected: usize,
         desired: usize,
     ) -> Result<bool, Fault>
-        ensures compared { IfOk result (λ swapped. Compares true self.old cell expected desired swapped self.new) }
+        ensures compared { IfOk result (λ swapped. ComparesSlots true self.old cell expected desired
+            swapped self.new) }
         ensures refused { IfErr result
             (λ why. WhyNotCompared self.old cell expected desired why × (self.new ≡ self.old)) }
     {

@@ -1,12 +1,12 @@
 //! The calls of a desk on cells of either kind.
 ghost use Rattle.std.specs.Prelude.{◌≡◌, ◌+◌, cond, IfErr, IfOk, OnOk};
 ghost use Rattle.control_word.specs.declared.refusal.Refusal.TheVariants.{Limit};
-ghost use Rattle.control_block.specs.CellCalls.{Holds, IsOpenAt, cell_at, without_handle};
+ghost use Rattle.control_block.specs.CellCalls.{HoldsHandle, IsOpenAt, cell_of_site, without_handle};
 ghost use Rattle.control_block.specs.Desks.{Belongs, Keeps, allowance_of, bag_of, held_of};
-ghost use Rattle.control_block.specs.HandleLists.{IsHeld, with_held, without_held};
+ghost use Rattle.control_block.specs.HandleLists.{IsHeldByDesk, with_held, without_held};
 ghost use Rattle.atomic_cells.specs.Cells.{Exchanges, Loads};
 ghost use Rattle.atomic_cells.specs.Compares.{Compares};
-ghost use Rattle.handle_table.specs.Parts.{kind_of, owned_by, place_of};
+ghost use Rattle.handle_table.specs.Parts.{kind_of_held, block_of_held, place_of_held};
 
 use crate::slots::kinds::{held_of, into_content};
 use control_block::cell_calls::{self, CellAt, Content, Offer};
@@ -53,9 +53,10 @@ pub(crate) fn load_held<V: Drop + Send, R: Wait>(
 ) -> Result<Held, Refusal>
     requires domain { Belongs desk.old domain.now }
     requires cell { IsOpenAt desk.old cell.site cell.kind }
-    ensures kind { IfOk result (λ h. kind_of h ≡ cell.kind) }
+    ensures kind { IfOk result (λ h. kind_of_held h ≡ cell.kind) }
     ensures event { IfOk result
-        (λ h. Loads desk.old (cell_at desk.old cell.site) cell.kind (owned_by h) (place_of h) desk.new) }
+        (λ h. Loads desk.old (cell_of_site desk.old cell.site) cell.kind (block_of_held h)
+        (place_of_held h) desk.new) }
     ensures bag { IfOk result (λ h. bag_of desk.new ≡ with_held h (bag_of desk.old)) }
     ensures held { OnOk result (desk.new.held ≡ desk.old.held + 1) }
     ensures keeps { OnOk result (Keeps desk.old desk.new) }
@@ -78,10 +79,11 @@ pub(crate) fn exchange_held<V: Drop + Send>(
 ) -> Held
     requires domain { Belongs desk.old domain.now }
     requires cell { IsOpenAt desk.old cell.site cell.kind }
-    requires held { IsHeld desk.old handle × (kind_of handle ≡ cell.kind) }
-    ensures kind { kind_of result ≡ cell.kind }
-    ensures event { Exchanges desk.old (cell_at desk.old cell.site) cell.kind (owned_by handle) (place_of handle)
-        (owned_by result) (place_of result) desk.new }
+    requires held { IsHeldByDesk desk.old handle × (kind_of_held handle ≡ cell.kind) }
+    ensures kind { kind_of_held result ≡ cell.kind }
+    ensures event { Exchanges desk.old (cell_of_site desk.old cell.site) cell.kind (block_of_held handle)
+        (place_of_held handle)
+        (block_of_held result) (place_of_held result) desk.new }
     ensures bag { bag_of desk.new ≡ with_held result (without_held handle (bag_of desk.old)) }
     ensures held { desk.new.held ≡ desk.old.held }
     ensures keeps { Keeps desk.old desk.new }
@@ -103,12 +105,12 @@ pub(crate) fn compare_held<V: Drop + Send, F: Form, R: Wait>(
 ) -> Result<(bool, Held), Refusal>
     requires domain { Belongs desk.old domain.now }
     requires cell { IsOpenAt desk.old cell.site cell.kind }
-    requires holds { Holds desk.old cell.kind expected.block expected.place
-        × Holds desk.old cell.kind new.block new.place }
+    requires holds { HoldsHandle desk.old cell.kind expected.block expected.place
+        × HoldsHandle desk.old cell.kind new.block new.place }
     requires kinds { (expected.kind ≡ cell.kind) × (new.kind ≡ cell.kind) }
-    ensures kind { IfOk result (λ r. kind_of r.1 ≡ cell.kind) }
-    ensures event { IfOk result (λ r. Compares desk.old (cell_at desk.old cell.site) cell.kind expected.block
-        expected.place new.block new.place r.0 (owned_by r.1) (place_of r.1) F.weak desk.new) }
+    ensures kind { IfOk result (λ r. kind_of_held r.1 ≡ cell.kind) }
+    ensures event { IfOk result (λ r. Compares desk.old (cell_of_site desk.old cell.site) cell.kind expected.block
+        expected.place new.block new.place r.0 (block_of_held r.1) (place_of_held r.1) F.weak desk.new) }
     ensures bag { IfOk result (λ r. bag_of desk.new ≡ with_held r.1
         (cond r.0 (without_handle cell.kind new.block new.place (bag_of desk.old)) (bag_of desk.old))) }
     ensures held { IfOk result (λ r. desk.new.held ≡ desk.old.held + cond r.0 0 1) }

@@ -2,8 +2,9 @@
 ghost use Rattle.std.specs.Prelude.{◌≡◌, ◌+◌, IfErr, IfOk, OnOk};
 ghost use Rattle.control_word.specs.declared.refusal.Refusal.TheVariants.{Limit};
 ghost use Rattle.control_block.specs.Desks.{Belongs, Keeps, allowance_of, bag_of, held_of};
-ghost use Rattle.control_block.specs.HandleLists.{IsHeld, with_held};
-ghost use Rattle.handle_table.specs.Calls.{Copies, Downgrades, IsCopy, Moves, WhyNoCopy, WhyNotDowngraded, WhyNotMoved};
+ghost use Rattle.control_block.specs.HandleLists.{IsHeldByDesk, with_held};
+ghost use Rattle.handle_table.specs.Calls.{Copies, Downgrades, IsCopy, MovesSlot, WhyNoCopy, WhyNotDowngraded};
+ghost use Rattle.handle_table.specs.Calls.{WhyNotMoved};
 ghost use Rattle.handle_table.specs.declared.fault.Fault.TheVariants as fault;
 
 use crate::fault::Fault;
@@ -23,7 +24,7 @@ fn copy_of<V: Drop + Send>(
     handle: &Held,
 ) -> Result<Held, Refusal>
     requires domain { Belongs desk.old domain.now }
-    requires held { IsHeld desk.old handle.now }
+    requires held { IsHeldByDesk desk.old handle.now }
     ensures copy { IfOk result (λ h. IsCopy handle.now desk.old h desk.new) }
     ensures bag { IfOk result (λ h. bag_of desk.new ≡ with_held h (bag_of desk.old)) }
     ensures held { OnOk result (desk.new.held ≡ desk.old.held + 1) }
@@ -106,7 +107,7 @@ impl<'d, V: Drop + Send, H: Home> HandleTable<'d, V, H> {
     /// A handle goes to another slot ([util.smartptr.shared.assign]), and its own is vacant then. What lay there
     /// leaves. A handle that is moved to its own slot stays there.
     pub fn move_to(&mut self, from: usize, to: usize) -> Result<(), Fault>
-        ensures moved { OnOk result (Moves self.old from to self.new) }
+        ensures moved { OnOk result (MovesSlot self.old from to self.new) }
         ensures refused { IfErr result (λ why. WhyNotMoved self.old from to why × (self.new ≡ self.old)) }
     {
         if to >= self.slots.len() {

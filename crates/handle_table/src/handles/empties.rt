@@ -1,6 +1,6 @@
 //! Empty handles.
 ghost use Rattle.std.specs.Prelude.{◌≡◌, IfErr, OnOk};
-ghost use Rattle.handle_table.specs.Handles.{Empties, EmptiesWeakly, WhyNotEmptied};
+ghost use Rattle.handle_table.specs.Handles.{EmptiesSlot, EmptiesSlotWeakly, WhyNotEmptied};
 
 use crate::fault::Fault;
 use crate::slots::assigning::assign;
@@ -11,7 +11,7 @@ impl<'d, V: Drop + Send, H: Home> HandleTable<'d, V, H> {
     /// An owner of nothing, whose place is null, is assigned to a slot ([util.smartptr.shared.const]). What lay there
     /// leaves.
     pub fn empty(&mut self, to: usize) -> Result<(), Fault>
-        ensures emptied { OnOk result (Empties self.old to self.new) }
+        ensures emptied { OnOk result (EmptiesSlot self.old to self.new) }
         ensures refused { IfErr result (λ why. WhyNotEmptied self.old to why × (self.new ≡ self.old)) }
     {
         if to >= self.slots.len() {
@@ -36,7 +36,7 @@ impl<'d, V: Drop + Send, H: Home> HandleTable<'d, V, H> {
 
     /// A weak handle on nothing is assigned to a slot ([util.smartptr.weak.const]). What lay there leaves.
     pub fn empty_weak(&mut self, to: usize) -> Result<(), Fault>
-        ensures emptied { OnOk result (EmptiesWeakly self.old to self.new) }
+        ensures emptied { OnOk result (EmptiesSlotWeakly self.old to self.new) }
         ensures refused { IfErr result (λ why. WhyNotEmptied self.old to why × (self.new ≡ self.old)) }
     {
         if to >= self.slots.len() {

@@ -1,7 +1,7 @@
 //! Handles that leave, and objects that end.
 ghost use Rattle.std.specs.Prelude.{◌≡◌, [], List, IfErr, IfNone, IfOk, IfSome};
 ghost use Rattle.shared_handle.specs.Piles.{FoldsBack, Past, values_of};
-ghost use Rattle.handle_table.specs.Calls.{EndsOne, Resets, Settles, WhyNoHandle};
+ghost use Rattle.handle_table.specs.Calls.{EndsOne, Resets, SettlesEndings, WhyNoHandle};
 
 use crate::fault::Fault;
 use crate::slots::assigning::let_go;
@@ -38,7 +38,7 @@ impl<'d, V: Drop + Send, H: Home> HandleTable<'d, V, H> {
     /// owned (own). The values are dropped as they come out.
     #[tactic(auto, using(shared_handle::proofs::Piles::bears_after))]
     pub fn settle<R: Wait>(&mut self, rt: &R)
-        ensures settled { (rounds : List (Past V)) × Settles self.old rounds self.new }
+        ensures settled { (rounds : List (Past V)) × SettlesEndings self.old rounds self.new }
     {
         self.pile.settle(rt, self.domain, &mut self.desk);
     }
@@ -47,7 +47,7 @@ impl<'d, V: Drop + Send, H: Home> HandleTable<'d, V, H> {
     #[tactic(auto, using(shared_handle::proofs::Piles::bears_after))]
     pub fn settle_with<R: Wait, F: FnMut(V)>(&mut self, rt: &R, take: F)
         requires { F.IsAlwaysCallable take }
-        ensures settled { (rounds : List (Past V)) × Settles self.old rounds self.new
+        ensures settled { (rounds : List (Past V)) × SettlesEndings self.old rounds self.new
             × ((last : F) × FoldsBack (λ p x q. F.step p x tt q) take (values_of rounds) last) }
     {
         self.pile.settle_with(rt, self.domain, &mut self.desk, take);

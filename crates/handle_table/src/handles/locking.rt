@@ -1,6 +1,6 @@
 //! Owners from weak handles.
 ghost use Rattle.std.specs.Prelude.{◌≡◌, IfErr, IfOk};
-ghost use Rattle.handle_table.specs.Calls.{Locks, WhyNotLocked};
+ghost use Rattle.handle_table.specs.Calls.{LocksSlot, WhyNotLocked};
 
 use crate::fault::Fault;
 use crate::slots::assigning::assign;
@@ -14,7 +14,7 @@ impl<'d, V: Drop + Send, H: Home> HandleTable<'d, V, H> {
     /// step, or else an empty one, is assigned to a slot; whether it owns. What lay there leaves.
     #[inline(always)]
     pub fn lock<R: Wait>(&mut self, rt: &R, from: usize, to: usize) -> Result<bool, Fault>
-        ensures locked { IfOk result (λ got. Locks self.old from to got self.new) }
+        ensures locked { IfOk result (λ got. LocksSlot self.old from to got self.new) }
         ensures refused { IfErr result (λ why. WhyNotLocked self.old from to why × (self.new ≡ self.old)) }
     {
         if to >= self.slots.len() {

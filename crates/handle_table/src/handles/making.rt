@@ -3,7 +3,7 @@ ghost use Rattle.std.specs.Prelude.{◌≡◌, [], IfErr, IsErr, OnOk};
 ghost use Rattle.control_block.specs.Desks.{stock_of};
 ghost use Rattle.control_block.specs.Own.{IsSole};
 ghost use Rattle.control_block.specs.Shelf.{shelved_of};
-ghost use Rattle.handle_table.specs.Calls.{Makes, MakesNull, WhyNotMade};
+ghost use Rattle.handle_table.specs.Calls.{MakesIntoSlot, MakesNull, WhyNotMade};
 ghost use Rattle.handle_table.specs.Shelving.{IsSupplied, WhyNotSupplied};
 
 use crate::fault::{Fault, Returned};
@@ -27,7 +27,7 @@ impl<'d, V: Drop + Send, H: Home> HandleTable<'d, V, H> {
         enabled: bool,
         value: V,
     ) -> Result<(), Returned<V>>
-        ensures made { OnOk result (IsSupplied (λ t. Makes t to enabled fields value self.new) self.old) }
+        ensures made { OnOk result (IsSupplied (λ t. MakesIntoSlot t to enabled fields value self.new) self.old) }
         ensures refused { IfErr result
             (λ r. WhyNotSupplied self.old to r.why × (r.back ≡ value) × (self.new ≡ self.old)) }
         ensures full { IsSole self.old.desk → stock_of self.old.desk ≡ [] → shelved_of self.old.desk ≡ 0
@@ -72,7 +72,7 @@ impl<'d, V: Drop + Send, H: Home> HandleTable<'d, V, H> {
         enabled: bool,
         value: V,
     ) -> Result<(), Returned<V>>
-        ensures made { OnOk result (Makes self.old to enabled fields value self.new) }
+        ensures made { OnOk result (MakesIntoSlot self.old to enabled fields value self.new) }
         ensures refused { IfErr result
             (λ r. WhyNotMade self.old to r.why × (r.back ≡ value) × (self.new ≡ self.old)) }
         ensures full { stock_of self.old.desk ≡ [] → IsErr result }

@@ -2,7 +2,7 @@
 ghost use Rattle.std.specs.Prelude.{◌≡◌, IfErr, IfOk};
 ghost use Rattle.shared_handle.specs.Calls.{comes_before};
 ghost use Rattle.handle_table.specs.Pairs.{AreInOrder, PointAlike, WhyNoHandles, WhyNoOwners};
-ghost use Rattle.handle_table.specs.Parts.{owned_by};
+ghost use Rattle.handle_table.specs.Parts.{block_of_held};
 
 use crate::fault::Fault;
 use crate::slots::{handle_at, owner_at};
@@ -18,7 +18,7 @@ fn is_before<V: Drop + Send, A: HasOwner>(
     one: &A,
     other: &Held,
 ) -> bool
-    ensures before { result ≡ comes_before (A.owned one.now) (owned_by other.now) }
+    ensures before { result ≡ comes_before (A.owned one.now) (block_of_held other.now) }
     ensures same { desk.new ≡ desk.old }
 {
     match other {
@@ -34,7 +34,7 @@ fn are_in_order<V: Drop + Send>(
     one: &Held,
     other: &Held,
 ) -> bool
-    ensures before { result ≡ comes_before (owned_by one.now) (owned_by other.now) }
+    ensures before { result ≡ comes_before (block_of_held one.now) (block_of_held other.now) }
     ensures same { desk.new ≡ desk.old }
 {
     match one {

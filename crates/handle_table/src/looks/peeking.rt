@@ -6,7 +6,7 @@ ghost use Rattle.control_block.specs.declared.handles.Held.{Held};
 ghost use Rattle.shared_handle.specs.Piles.{AllEnd};
 ghost use Rattle.handle_table.specs.Calls.{WhyNoHandle};
 ghost use Rattle.handle_table.specs.Peeks.{IsPeeked};
-ghost use Rattle.handle_table.specs.Tables.{Fits, IsAt};
+ghost use Rattle.handle_table.specs.Tables.{FitsSlots, IsAt};
 
 use crate::fault::Fault;
 use crate::slots::handle_at;
@@ -58,7 +58,7 @@ impl<'d, V: Drop + Send, H: Home> HandleTable<'d, V, H> {
     pub fn stands(&self)
         ensures here { Belongs self.now.desk H.domain }
         ensures stands { Standing self.now.desk }
-        ensures fits { Fits self.now.desk self.now.slots }
+        ensures fits { FitsSlots self.now.desk self.now.slots }
         ensures ends { AllEnd self.now.desk self.now.endings }
     {
         self.desk.stands();

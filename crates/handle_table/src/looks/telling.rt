@@ -1,8 +1,8 @@
 //! What a handle in a slot tells.
 ghost use Rattle.std.specs.Prelude.{◌≡◌, ◌⊎◌, Err, IfErr, IfOk, Ok};
 ghost use Rattle.control_block.specs.Desks.{Belongs, Keeps, bag_of};
-ghost use Rattle.control_block.specs.HandleLists.{IsHeld};
-ghost use Rattle.handle_table.specs.Calls.{Counts, CountsOf, Expires, IsNotRead, PointsTo, Reads, WhyNoHandle};
+ghost use Rattle.control_block.specs.HandleLists.{IsHeldByDesk};
+ghost use Rattle.handle_table.specs.Calls.{CountsSlot, CountsOf, Expires, IsNotRead, PointsTo, ReadsSlot, WhyNoHandle};
 ghost use Rattle.handle_table.specs.Calls.{WhyNoOwner, WhyNoWeak};
 
 use crate::fault::Fault;
@@ -16,7 +16,7 @@ use shared_handle::{Held, expired, read, use_count, use_count_weak};
 /// How many owners the handle's object has.
 fn count_of<V: Drop + Send>(domain: &Domain<V>, desk: &mut Desk<V>, handle: &Held) -> u32
     requires domain { Belongs desk.old domain.now }
-    requires held { IsHeld desk.old handle.now }
+    requires held { IsHeldByDesk desk.old handle.now }
     ensures count { CountsOf desk.old handle.now result desk.new }
     ensures bag { bag_of desk.new ≡ bag_of desk.old }
     ensures held { desk.new.held ≡ desk.old.held }
@@ -32,7 +32,7 @@ impl<'d, V: Drop + Send, H: Home> HandleTable<'d, V, H> {
     /// The field that an owner points at (own). It is refused where the place is null, or isn't in the object that it
     /// owns.
     pub fn read(&mut self, at: usize) -> Result<u64, Fault>
-        ensures read { IfOk result (λ field. Reads self.old at (Ok field) self.new) }
+        ensures read { IfOk result (λ field. ReadsSlot self.old at (Ok field) self.new) }
         ensures refused { IfErr result (λ why.
             (WhyNoOwner self.old.slots at why ⊎ IsNotRead self.old at why self.new) × (self.new ≡ self.old)) }
     {
@@ -48,7 +48,7 @@ impl<'d, V: Drop + Send, H: Home> HandleTable<'d, V, H> {
 
     /// `use_count` ([util.smartptr.shared.obs], [util.smartptr.weak.obs]) of a handle of either kind.
     pub fn use_count(&mut self, at: usize) -> Result<u32, Fault>
-        ensures count { IfOk result (λ n. Counts self.old at n self.new) }
+        ensures count { IfOk result (λ n. CountsSlot self.old at n self.new) }
         ensures refused { IfErr result (λ why. WhyNoHandle self.old.slots at why × (self.new ≡ self.old)) }
     {
         match handle_at(&self.slots, at) {

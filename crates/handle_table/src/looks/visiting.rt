@@ -1,7 +1,7 @@
 //! Work on the value of an object.
 ghost use Rattle.std.specs.Prelude.{◌≡◌, IfErr, IfOk};
 ghost use Rattle.std.specs.Fn.{FnOnceReturnsAtMut};
-ghost use Rattle.handle_table.specs.Visits.{Visits, WhyNotVisited};
+ghost use Rattle.handle_table.specs.Visits.{VisitsSlot, WhyNotVisited};
 
 use crate::fault::{Fault, Returned};
 use crate::slots::owner_at;
@@ -21,7 +21,7 @@ impl<'d, V: Drop + Send, H: Home> HandleTable<'d, V, H> {
         f: F,
     ) -> Result<R, Returned<F>>
         requires { F.IsAlwaysCallable f }
-        ensures visited { IfOk result (λ answer. Visits
+        ensures visited { IfOk result (λ answer. VisitsSlot
             (λ was r becomes. FnOnceReturnsAtMut F.FnOnce f was r becomes) f self.old at answer self.new) }
         ensures refused { IfErr result
             (λ r. WhyNotVisited self.old at r.why × (r.back ≡ f) × (self.new ≡ self.old)) }

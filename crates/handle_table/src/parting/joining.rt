@@ -1,6 +1,6 @@
 //! Two tables of a domain become one.
 ghost use Rattle.std.specs.Prelude.{◌≡◌, IfErr, IfNone, IfSome, OnOk};
-ghost use Rattle.handle_table.specs.Parting.{AreFree, Clashes, IsFree, Joins, WhyNotJoined, together};
+ghost use Rattle.handle_table.specs.Parting.{AreFree, Clashes, IsFreeFor, JoinsTables, WhyNotJoined, slots_together};
 
 use crate::fault::{Fault, Returned};
 use crate::slots::{handle_at, put, spent};
@@ -9,7 +9,7 @@ use shared_handle::Held;
 
 /// Why the handle in this slot of the second table, if it has one, can't come into the first.
 fn clash(slots: &Vec<Option<Held>>, others: &Vec<Option<Held>>, at: usize) -> Option<Fault>
-    ensures free { IfNone result (IsFree slots.now.items others.now.items at) }
+    ensures free { IfNone result (IsFreeFor slots.now.items others.now.items at) }
     ensures clash { IfSome result (λ why. Clashes slots.now.items others.now.items at why) }
 {
     match handle_at(others, at) {
@@ -41,7 +41,7 @@ fn first_clash(slots: &Vec<Option<Held>>, others: &Vec<Option<Held>>) -> Option<
 /// The handles in the slots of the second table come into those of the same numbers of the first.
 fn take_in(slots: &mut Vec<Option<Held>>, others: Vec<Option<Held>>)
     requires { AreFree slots.old.items others.items }
-    ensures { slots.new.items ≡ together slots.old.items others.items }
+    ensures { slots.new.items ≡ slots_together slots.old.items others.items }
 {
     let mut others = others;
     while let Some(other) = others.pop() {
@@ -62,7 +62,7 @@ impl<'d, V: Drop + Send, H: Home> HandleTable<'d, V, H> {
         &mut self,
         other: HandleTable<'d, V, H>,
     ) -> Result<(), Returned<HandleTable<'d, V, H>>>
-        ensures joined { OnOk result (Joins self.old other.entry self.new) }
+        ensures joined { OnOk result (JoinsTables self.old other.entry self.new) }
         ensures refused { IfErr result (λ r. WhyNotJoined self.old.slots other.entry.slots r.why
             × (r.back ≡ other.entry) × (self.new ≡ self.old)) }
     {

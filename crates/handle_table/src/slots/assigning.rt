@@ -1,10 +1,10 @@
 //! Handles that leave their slots, and those that come in their places.
 ghost use Rattle.std.specs.Prelude.{◌≡◌, ◌+◌, ◌<◌, ◌∷◌, length, Some};
 ghost use Rattle.control_block.specs.Desks.{bag_of};
-ghost use Rattle.control_block.specs.HandleLists.{IsHeld, without_held};
+ghost use Rattle.control_block.specs.HandleLists.{IsHeldByDesk, without_held};
 ghost use Rattle.shared_handle.specs.Piles.{Bears};
 ghost use Rattle.handle_table.specs.Calls.{Assigns, LetsGo};
-ghost use Rattle.handle_table.specs.Tables.{Fits, on_pile};
+ghost use Rattle.handle_table.specs.Tables.{FitsSlots, on_pile};
 
 use crate::slots::put;
 use control_block::desk::Desk;
@@ -21,7 +21,7 @@ pub(crate) fn let_go<V: Drop + Send>(
     handle: Held,
 ) -> Gone
     requires bears { Bears domain.now desk.old pile.old }
-    requires held { IsHeld desk.old handle }
+    requires held { IsHeldByDesk desk.old handle }
     ensures bears { Bears domain.now desk.new pile.new }
     ensures left { LetsGo desk.old (on_pile pile.old) handle result desk.new (on_pile pile.new) }
     ensures bag { bag_of desk.new ≡ without_held handle (bag_of desk.old) }
@@ -51,10 +51,10 @@ pub(crate) fn assign<V: Drop + Send>(
     handle: Held,
 )
     requires bears { Bears domain.now desk.old pile.old }
-    requires fits { Fits desk.old (Some handle ∷ slots.old.items) }
+    requires fits { FitsSlots desk.old (Some handle ∷ slots.old.items) }
     requires there { to < length slots.old.items }
     ensures bears { Bears domain.now desk.new pile.new }
-    ensures fits { Fits desk.new slots.new.items }
+    ensures fits { FitsSlots desk.new slots.new.items }
     ensures assigns { Assigns desk.old slots.old.items
         (on_pile pile.old) to handle desk.new slots.new.items (on_pile pile.new) }
     ensures many { length slots.new.items ≡ length slots.old.items }

@@ -2,8 +2,8 @@
 ghost use Rattle.std.specs.Prelude.{◌≡◌, slice_get, slice_set, IfErr, IfOk, None, Some};
 ghost use Rattle.control_word.specs.declared.handle.Kind.TheVariants as kind;
 ghost use Rattle.handle_table.specs.Calls.{WhyNoOwner, WhyNoWeak};
-ghost use Rattle.handle_table.specs.Cells.{IsShown, WhyNoneOf};
-ghost use Rattle.handle_table.specs.Parts.{IsContent, kind_of};
+ghost use Rattle.handle_table.specs.Cells.{IsShownToCell, WhyNoneOf};
+ghost use Rattle.handle_table.specs.Parts.{IsContent, kind_of_held};
 
 use crate::fault::Fault;
 use crate::slots::{owner_at, take_handle, weak_at};
@@ -49,7 +49,7 @@ pub(crate) fn held_of(content: Content) -> Held
 
 /// What a cell sees of the owner in the slot.
 fn owner_content(slots: &Vec<Option<Held>>, at: usize) -> Result<Content, Fault>
-    ensures found { IfOk result (IsShown slots.now.items at kind.Owner) }
+    ensures found { IfOk result (IsShownToCell slots.now.items at kind.Owner) }
     ensures fault { IfErr result (WhyNoOwner slots.now.items at) }
 {
     match owner_at(slots, at) {
@@ -64,7 +64,7 @@ fn owner_content(slots: &Vec<Option<Held>>, at: usize) -> Result<Content, Fault>
 
 /// And of the weak handle.
 fn weak_content(slots: &Vec<Option<Held>>, at: usize) -> Result<Content, Fault>
-    ensures found { IfOk result (IsShown slots.now.items at kind.Weak) }
+    ensures found { IfOk result (IsShownToCell slots.now.items at kind.Weak) }
     ensures fault { IfErr result (WhyNoWeak slots.now.items at) }
 {
     match weak_at(slots, at) {
@@ -79,7 +79,7 @@ fn weak_content(slots: &Vec<Option<Held>>, at: usize) -> Result<Content, Fault>
 
 /// What a cell sees of the handle in the slot, which is of this kind.
 pub(crate) fn content_at(slots: &Vec<Option<Held>>, at: usize, kind: Kind) -> Result<Content, Fault>
-    ensures found { IfOk result (IsShown slots.now.items at kind) }
+    ensures found { IfOk result (IsShownToCell slots.now.items at kind) }
     ensures fault { IfErr result (WhyNoneOf kind slots.now.items at) }
 {
     match kind {
@@ -90,7 +90,7 @@ pub(crate) fn content_at(slots: &Vec<Option<Held>>, at: usize, kind: Kind) -> Re
 
 /// The handle in the slot, which is of this kind, goes out of it.
 pub(crate) fn take_kind(slots: &mut Vec<Option<Held>>, at: usize, kind: Kind) -> Result<Held, Fault>
-    ensures taken { IfOk result (λ h. (slice_get slots.old.items at ≡ Some (Some h)) × (kind_of h ≡ kind)
+    ensures taken { IfOk result (λ h. (slice_get slots.old.items at ≡ Some (Some h)) × (kind_of_held h ≡ kind)
         × (slots.new.items ≡ slice_set slots.old.items at None)) }
     ensures fault { IfErr result
         (λ why. WhyNoneOf kind slots.old.items at why × (slots.new.items ≡ slots.old.items)) }

@@ -24,14 +24,14 @@ pub struct TableScene<V: Drop + Send, H: Home> {
 }
 
 impl<V: Drop + Send, H: Home> Model for TableScene<V, H> {
-    ghost use Rattle.scene_structures.specs.Stacks.{Serves};
+    ghost use Rattle.scene_structures.specs.Stacks.{ServesDomain};
     ghost use Rattle.shared_handle.specs.declared.pile.Pile.{Pile};
 
     ghost Value = { Pile V };
 
     ghost view = { λ s. s.scene };
 
-    ghost invariant = { λ s. Serves H.domain s.scene };
+    ghost invariant = { λ s. ServesDomain H.domain s.scene };
 }
 
 impl<V: Drop + Send, H: Home> TableScene<V, H> {

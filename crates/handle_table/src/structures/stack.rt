@@ -1,6 +1,6 @@
 //! A stack in a free shared cell, which threads push on and pop from without a lock (own).
 ghost use Rattle.std.specs.Prelude.{◌≡◌, IfErr, IfOk, OnOk};
-ghost use Rattle.handle_table.specs.Structures.{PopsNode, PushesNode, WhyNoAccess, WhyNoNewNode};
+ghost use Rattle.handle_table.specs.Structures.{PopsIntoSlot, PushesNode, WhyNoAccess, WhyNoNewNode};
 ghost use Rattle.handle_table.specs.Structures.{WhyNotPopped};
 
 use crate::fault::{Fault, Returned};
@@ -92,7 +92,7 @@ impl<'d, V: Drop + Send, H: Home> HandleTable<'d, V, H> {
         stack: &mut TableStack<V, H>,
         to: usize,
     ) -> Result<bool, Fault>
-        ensures popped { IfOk result (λ got. PopsNode self.old stack.old.cell to got self.new) }
+        ensures popped { IfOk result (λ got. PopsIntoSlot self.old stack.old.cell to got self.new) }
         ensures refused { IfErr result (λ why. WhyNotPopped self.old to why × (self.new ≡ self.old)) }
         ensures cell { stack.new.cell ≡ stack.old.cell }
     {

@@ -2,7 +2,8 @@
 ghost use Rattle.std.specs.Prelude.{◌≡◌, ℕ, ◌+◌, ◌<◌, Bool, cond, length};
 ghost use Rattle.control_block.specs.Desks.{Belongs, IsCleared, IsSameDesk, KeepsOtherEndings, bag_of, endings_of};
 ghost use Rattle.control_block.specs.Desks.{stock_of};
-ghost use Rattle.shared_handle.specs.Endings.{Clears, ClearsUp, Ends, IsApart, IsBeside, IsClearing, more_ending};
+ghost use Rattle.shared_handle.specs.Endings.{ClearsMember, ClearsUp, EndsInHand, IsApart, IsBeside, IsClearing};
+ghost use Rattle.shared_handle.specs.Endings.{more_ending};
 ghost use Rattle.shared_handle.specs.Endings.{with_clear};
 
 use crate::endings::{Ending, Left, Member};
@@ -14,10 +15,10 @@ impl<V: Drop + Send> Ending<V> {
     // A shared member is emptied; which one is cleared by then is noted by the caller.
     fn clear_shared(&self, domain: &Domain<V>, desk: &mut Desk<V>, member: u32) -> Left<V>
         requires domain { Belongs desk.old domain.now }
-        requires ends { Ends desk.old self.now }
+        requires ends { EndsInHand desk.old self.now }
         requires member { member < 2 }
-        ensures clears { Clears desk.old self.now member result desk.new }
-        ensures ends { Ends desk.new self.now }
+        ensures clears { ClearsMember desk.old self.now member result desk.new }
+        ensures ends { EndsInHand desk.new self.now }
         ensures cleared { IsCleared desk.new self.now.block.0 member }
         ensures bag { bag_of desk.new ≡ bag_of desk.old }
         ensures held { desk.new.held ≡ desk.old.held }
@@ -42,9 +43,9 @@ impl<V: Drop + Send> Ending<V> {
     #[tactic(auto, using(crate::proofs::Beside::up_beside))]
     fn clear_up(&self, domain: &Domain<V>, desk: &mut Desk<V>) -> Left<V>
         requires domain { Belongs desk.old domain.now }
-        requires ends { Ends desk.old self.now }
+        requires ends { EndsInHand desk.old self.now }
         ensures clears { ClearsUp desk.old self.now result desk.new }
-        ensures ends { Ends desk.new self.now }
+        ensures ends { EndsInHand desk.new self.now }
         ensures cleared { IsCleared desk.new self.now.block.0 2 }
         ensures bag { bag_of desk.new ≡ bag_of desk.old }
         ensures held { desk.new.held ≡ desk.old.held }
@@ -73,11 +74,11 @@ impl<V: Drop + Send> Ending<V> {
         member: Member,
     ) -> Left<V>
         requires domain { Belongs desk.old domain.now }
-        requires ends { Ends desk.old self.old }
+        requires ends { EndsInHand desk.old self.old }
         ensures clears { IsClearing desk.old self.old member result desk.new }
         ensures noted { self.new ≡ with_clear member self.old }
         ensures object { (self.new.block ≡ self.old.block) × (self.new.value ≡ self.old.value) }
-        ensures ends { Ends desk.new self.new }
+        ensures ends { EndsInHand desk.new self.new }
         ensures bag { bag_of desk.new ≡ bag_of desk.old }
         ensures held { desk.new.held ≡ desk.old.held }
         ensures desk { IsSameDesk desk.old desk.new }

@@ -5,10 +5,11 @@ ghost use Rattle.control_word.specs.declared.event.Event.TheVariants.{Finish};
 ghost use Rattle.control_word.specs.declared.handle.Kind.TheVariants.{Weak};
 ghost use Rattle.control_word.specs.Histories.{value};
 ghost use Rattle.control_block.specs.Rule.{opening_of};
-ghost use Rattle.control_block.specs.Desks.{Belongs, Adds, IsEnding, IsSameDesk, Keeps, KeepsOtherEndings};
+ghost use Rattle.control_block.specs.Desks.{Belongs, AddsEvent, IsEnding, IsSameDesk, Keeps, KeepsOtherEndings};
 ghost use Rattle.control_block.specs.Desks.{allowance_of, bag_of, endings_of, held_of, latest_of, object_in, stock_of};
-ghost use Rattle.shared_handle.specs.Calls.{Holds, IsOfThis, SharesWeakly, with_handle};
-ghost use Rattle.shared_handle.specs.Endings.{Ends, IsAllClear, IsUncleared, WhyNoWeakThis};
+ghost use Rattle.shared_handle.specs.Calls.{IsOfThis, SharesWeakly};
+ghost use Rattle.control_block.specs.CellCalls.{HoldsHandle, with_handle};
+ghost use Rattle.shared_handle.specs.Endings.{EndsInHand, IsAllClear, IsUncleared, WhyNoWeakThis};
 
 use crate::endings::Ending;
 use control_block::desk::Desk;
@@ -23,7 +24,7 @@ impl<V: Drop + Send> Ending<V> {
     /// The object's four fields (own).
     pub fn fields(&self, domain: &Domain<V>, desk: &mut Desk<V>) -> [u64; 4]
         requires domain { Belongs desk.old domain.now }
-        requires ends { Ends desk.old self.now }
+        requires ends { EndsInHand desk.old self.now }
         ensures fields { (k : ℕ) → k < 4
             → slice_index result k ≡ slice_index (object_in desk.old self.now.block.0).fields k }
         ensures same { desk.new ≡ desk.old }
@@ -34,7 +35,7 @@ impl<V: Drop + Send> Ending<V> {
     /// Whether it is the end of an owned null pointer ([util.smartptr.shared.const]).
     pub fn is_null(&self, domain: &Domain<V>, desk: &mut Desk<V>) -> bool
         requires domain { Belongs desk.old domain.now }
-        requires ends { Ends desk.old self.now }
+        requires ends { EndsInHand desk.old self.now }
         ensures null { result ≡ (object_in desk.old self.now.block.0).null }
         ensures same { desk.new ≡ desk.old }
     {
@@ -69,7 +70,7 @@ impl<V: Drop + Send> Ending<V> {
         desk: &mut Desk<V>,
     ) -> Result<Shared, Refusal>
         requires domain { Belongs desk.old domain.now }
-        requires ends { Ends desk.old self.now }
+        requires ends { EndsInHand desk.old self.now }
         ensures refused { result
             ≡ Err (cond (object_in desk.old self.now.block.0).enabled Refusal.BadWeak Refusal.NotEnabled) }
         ensures same { desk.new ≡ desk.old }
@@ -90,7 +91,7 @@ impl<V: Drop + Send> Ending<V> {
         desk: &mut Desk<V>,
     ) -> Result<handles::Weak, Refusal>
         requires domain { Belongs desk.old domain.now }
-        requires ends { Ends desk.old self.now }
+        requires ends { EndsInHand desk.old self.now }
         ensures refused { IfErr result (λ why. WhyNoWeakThis desk.old self.now.block why × (desk.new ≡ desk.old)) }
         ensures may { OnOk result
             ((held_of desk.old ≢ allowance_of desk.old) × ((object_in desk.old self.now.block.0).enabled ≡ true)) }
@@ -98,7 +99,7 @@ impl<V: Drop + Send> Ending<V> {
         ensures event { IfOk result (λ h. SharesWeakly desk.old h.block h.place desk.new) }
         ensures bag { IfOk result (λ h. bag_of desk.new ≡ with_handle Weak h.block h.place (bag_of desk.old)) }
         ensures held { OnOk result (desk.new.held ≡ desk.old.held + 1) }
-        ensures holds { IfOk result (λ h. Holds desk.new Weak h.block h.place) }
+        ensures holds { IfOk result (λ h. HoldsHandle desk.new Weak h.block h.place) }
         ensures keeps { OnOk result (Keeps desk.old desk.new) }
     {
         if desk.held() == desk.allowance() {
@@ -116,11 +117,11 @@ impl<V: Drop + Send> Ending<V> {
     /// weak handle is left, the block is vacant, and in the desk's store. It refuses nothing.
     pub fn finish(self, domain: &Domain<V>, desk: &mut Desk<V>) -> V
         requires domain { Belongs desk.old domain.now }
-        requires ends { Ends desk.old self }
+        requires ends { EndsInHand desk.old self }
         requires clear { IsAllClear self }
         ensures value { (result ≡ self.value)
             × (value (opening_of desk.old.shape) desk.old.seen (latest_of desk.old self.block.0) ≡ Some result) }
-        ensures event { (vacant : Bool) × Adds desk.old (Finish (latest_of desk.old self.block.0) vacant result)
+        ensures event { (vacant : Bool) × AddsEvent desk.old (Finish (latest_of desk.old self.block.0) vacant result)
             desk.new × (length (stock_of desk.new) ≡ length (stock_of desk.old) + cond vacant 1 0) }
         ensures bag { bag_of desk.new ≡ bag_of desk.old }
         ensures held { desk.new.held ≡ desk.old.held }

@@ -9,11 +9,11 @@ use Rattle.step_table.specs.declared.extent.Extent.{Extent}
 use Rattle.step_table.specs.Openings.{opening}
 use Rattle.step_threads.specs.declared.said.Said.{Said}
 use Rattle.step_threads.specs.Courses.{Walk}
-use Rattle.step_threads.specs.Doings.{Does, Goes, onto, put_on, spoken}
+use Rattle.step_threads.specs.Doings.{DoesNext, GoesThrough, onto, put_on, spoken}
 use Rattle.step_threads.specs.Entries.{History}
 use Rattle.step_threads.specs.Scenes.{Scene, walk_of}
 use Rattle.step_core.specs.declared.trace.TraceStep.{TraceStep}
-use Rattle.step_core.specs.Following.{ActsNext, Follows, Passes, lines_of, no_worth, said_by, spoken_by}
+use Rattle.step_core.specs.Following.{ActsNext, Follows, PassesQuietly, lines_of, no_worth, said_by, spoken_by}
 use Rattle.step_core.specs.Runs.{IsRun}
 use Rattle.step_core.specs.Sights.{Sight, scene}
 use Rattle.step_core.specs.Worlds.{Advances}
@@ -28,12 +28,12 @@ lines_more (y ∷ xs) x =
 
 module _ (u m m' : Sight) (xs : List TraceStep) (x : TraceStep) (f : Follows u xs m) (a : Advances (x.actor - 1) m x.stepped m') where
   -- a step that is no act
-  pass : Passes (x.actor - 1) m x.stepped m' → Follows u (xs ++ x ∷ []) m'
+  pass : PassesQuietly (x.actor - 1) m x.stepped m' → Follows u (xs ++ x ∷ []) m'
   pass p =
       record {
         doings = f.doings;
         history = ap (λ (c : Scene). c.history) p.stays ∙ f.history;
-        each = λ e. subst (λ (w : Walk). Goes no_worth (opening u.story.extent) u.story.history e (walk_of (scene u) e) f.doings w)
+        each = λ e. subst (λ (w : Walk). GoesThrough no_worth (opening u.story.extent) u.story.history e (walk_of (scene u) e) f.doings w)
             (sym (ap (λ (c : Scene). walk_of c e) p.stays)) (f.each e);
         says = f.says ∙ sym (lines_more xs x ∙ ap (λ (l : List (ℕ × Said)). lines_of xs ++ l) p.silent ∙ append-nil (lines_of xs));
         extent = a.takes.extent ∙ f.extent;
@@ -46,9 +46,9 @@ module _ (u m m' : Sight) (xs : List TraceStep) (x : TraceStep) (f : Follows u x
       let z = opening u.story.extent in
       let h = u.story.history in
       let y = p.doing in
-      let does : Does no_worth (leads z (onto h f.doings)) (walk_of (scene m) d) y (walk_of (scene m') d) =
-      subst (λ (q : History). Does no_worth (leads z q) (walk_of (scene m) d) y (walk_of (scene m') d)) f.history
-      (subst (λ (k : Extent). Does no_worth (leads (opening k) m.story.history) (walk_of (scene m) d) y (walk_of (scene m') d)) f.extent
+      let does : DoesNext no_worth (leads z (onto h f.doings)) (walk_of (scene m) d) y (walk_of (scene m') d) =
+      subst (λ (q : History). DoesNext no_worth (leads z q) (walk_of (scene m) d) y (walk_of (scene m') d)) f.history
+      (subst (λ (k : Extent). DoesNext no_worth (leads (opening k) m.story.history) (walk_of (scene m) d) y (walk_of (scene m') d)) f.extent
       p.does) in
       record {
         doings = y ∷ f.doings;
@@ -59,12 +59,12 @@ module _ (u m m' : Sight) (xs : List TraceStep) (x : TraceStep) (f : Follows u x
               (
                 walk_of (scene m) e,
                 f.each e,
-                subst (λ (k : ℕ). Does no_worth (leads z (onto h f.doings)) (walk_of (scene m) k) y (walk_of (scene m') k)) q does,
+                subst (λ (k : ℕ). DoesNext no_worth (leads z (onto h f.doings)) (walk_of (scene m) k) y (walk_of (scene m') k)) q does,
               ),
             ))
             (λ (n : d ≢ e). inl (
               λ q. n (sym p.desk ∙ q),
-              subst (λ (w : Walk). Goes no_worth z h e (walk_of (scene u) e) f.doings w) (sym (a.takes.walks e (λ q. n (sym q)))) (f.each e),
+              subst (λ (w : Walk). GoesThrough no_worth z h e (walk_of (scene u) e) f.doings w) (sym (a.takes.walks e (λ q. n (sym q)))) (f.each e),
             ))
             (cases_eq d e);
         says = ap (λ (l : List (ℕ × Said)). l ++ spoken y.desk y.said) f.says
@@ -76,7 +76,7 @@ module _ (u m m' : Sight) (xs : List TraceStep) (x : TraceStep) (f : Follows u x
 follow_step : (u m m' : Sight) (xs : List TraceStep) (x : TraceStep) → Follows u xs m → Advances (x.actor - 1) m x.stepped m'
     → Follows u (xs ++ x ∷ []) m'
 follow_step u m m' xs x f a =
-    ⊎_elim (λ (p : Passes (x.actor - 1) m x.stepped m'). pass u m m' xs x f a p)
+    ⊎_elim (λ (p : PassesQuietly (x.actor - 1) m x.stepped m'). pass u m m' xs x f a p)
     (λ (p : ActsNext (x.actor - 1) m x.stepped m'). act u m m' xs x f a p) a.performs
 
 follow_on : (u m u' : Sight) (xs ys : List TraceStep) → Follows u xs m → IsRun m ys u' → Follows u (xs ++ ys) u'

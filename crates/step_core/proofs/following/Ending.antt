@@ -11,19 +11,19 @@ use Rattle.control_word.specs.Histories.{entry}
 use Rattle.control_word.specs.State.{kind_of_member, weak}
 use Rattle.step_table.specs.declared.cell_deed.Cell.TheVariants.{Member}
 use Rattle.step_table.specs.declared.past.Deed.TheVariants as deed
-use Rattle.step_table.specs.Cells.{word_at}
+use Rattle.step_table.specs.Cells.{word_of_cell}
 use Rattle.step_table.specs.Contents.{slot_of}
-use Rattle.step_table.specs.Holdings.{is_full, slot}
-use Rattle.step_table.specs.Stories.{Kept, Nothing, Story, object_in, state}
+use Rattle.step_table.specs.Holdings.{is_full, slot_pointer}
+use Rattle.step_table.specs.Stories.{Kept, Nothing, Story, object_of_block, story_state}
 use Rattle.step_threads.specs.declared.ending.Ending.{Ending}
 use Rattle.step_threads.specs.declared.half.Half.TheVariants.{Rest, Clearing}
 use Rattle.step_threads.specs.declared.said.Stepped.{Stepped}
 use Rattle.step_threads.specs.declared.said.Stepped.TheVariants as answered
 use Rattle.step_threads.specs.Courses.{Walk, hand}
-use Rattle.step_threads.specs.Doings.{Ahead, AnEnd, Does, DoesAhead, Doing, ahead, ahead_of, put_on, spoken}
-use Rattle.step_threads.specs.Endings.{IsEnding, staged}
+use Rattle.step_threads.specs.Doings.{Ahead, AnEnd, DoesNext, DoesAhead, Doing, ahead, ahead_of, put_on, spoken}
+use Rattle.step_threads.specs.Endings.{IsEndingAtStage, staged}
 use Rattle.step_threads.specs.Scenes.{walk_of}
-use Rattle.step_threads.specs.NextSteps.{is_event, stepped, story_after}
+use Rattle.step_threads.specs.NextSteps.{deed_is_event, stepped, story_after}
 use Rattle.step_threads.specs.Steps.{Step, empties, ends_on, silent, with_endings, within}
 use Rattle.step_core.specs.Following.{Performs, no_worth, said_by, spoken_by}
 use Rattle.step_core.specs.Worlds.{Sight, scene, sight_by}
@@ -33,7 +33,7 @@ use Rattle.step_core.proofs.turning.Members.{seen_object, told_member}
 -- a step says what it says
 said_step : (v : Story) (x : Step) → said_by (stepped v (Some x)) ≡ Some x.said
 said_step v x =
-    cond_both (is_event v x.deed) (answered.Event x.said) (answered.Quiet x.said) (λ (r : Stepped). said_by r ≡ Some x.said)
+    cond_both (deed_is_event v x.deed) (answered.Event x.said) (answered.Quiet x.said) (λ (r : Stepped). said_by r ≡ Some x.said)
     (λ e. refl) (λ e. refl)
 
 -- what step x of thread d does, with this event
@@ -43,13 +43,13 @@ doing_of d x y = record { desk = d; event = y; said = x.said }
 module _ (d : ℕ) (u : Sight) (x : Step) where
   -- an act was made
   pub made : (y : Option (Event Nothing)) → d < length u.walks → (story_after u.story d x.deed).history ≡ put_on d y u.story.history
-      → Does no_worth (state u.story) (walk_of (scene u) d) (doing_of d x y) x.walk
+      → DoesNext no_worth (story_state u.story) (walk_of (scene u) d) (doing_of d x y) x.walk
       → Performs d u (stepped u.story (Some x)) (sight_by d u (Some x))
   made y lt history does =
       inr (record {
         doing = doing_of d x y;
         desk = refl;
-        does = subst (λ (m : Walk). Does no_worth (state u.story) (walk_of (scene u) d) (doing_of d x y) m)
+        does = subst (λ (m : Walk). DoesNext no_worth (story_state u.story) (walk_of (scene u) d) (doing_of d x y) m)
             (sym (walk_after d u (Some x) lt)) does;
         history = history;
         says = said_step u.story x;
@@ -66,23 +66,23 @@ module _ (d : ℕ) (u : Sight) (x : Step) where
 
 -- an object that ends in the thread's hands, where nothing is in hand
 module _ (d : ℕ) (u : Sight) (e : Ending) (es : List Ending) (lt : d < length u.walks) (is : (walk_of (scene u) d).endings ≡ e ∷ es)
-    (free : let w = walk_of (scene u) d in is_full (slot w.slots (hand w.slots)) ≡ false) (kept : Kept u.story)
-    (seat : d < u.story.extent.actors) (end : IsEnding d e u.story) where
+    (free : let w = walk_of (scene u) d in is_full (slot_pointer w.slots (hand w.slots)) ≡ false) (kept : Kept u.story)
+    (seat : d < u.story.extent.actors) (end : IsEndingAtStage d e u.story) where
   next_end : ahead (walk_of (scene u) d) ≡ AnEnd e es
   next_end =
       let w = walk_of (scene u) d in
-      ap (λ (l : List Ending). ahead_of w.slots l w.todo) is ∙ cond-false (is_full (slot w.slots (hand w.slots))) _ _ free
+      ap (λ (l : List Ending). ahead_of w.slots l w.todo) is ∙ cond-false (is_full (slot_pointer w.slots (hand w.slots))) _ _ free
 
   ending_made : (x : Step) (y : Option (Event Nothing)) → (story_after u.story d x.deed).history ≡ put_on d y u.story.history
-      → DoesAhead no_worth (state u.story) (walk_of (scene u) d) (doing_of d x y) x.walk (AnEnd e es)
+      → DoesAhead no_worth (story_state u.story) (walk_of (scene u) d) (doing_of d x y) x.walk (AnEnd e es)
       → Performs d u (stepped u.story (Some x)) (sight_by d u (Some x))
   ending_made x y history does =
       let w = walk_of (scene u) d in
       made d u x y lt history
-      (subst (λ (a : Ahead). DoesAhead no_worth (state u.story) w (doing_of d x y) x.walk a) (sym next_end) does)
+      (subst (λ (a : Ahead). DoesAhead no_worth (story_state u.story) w (doing_of d x y) x.walk a) (sym next_end) does)
 
   abbrev cleared_event : Handle → Event Nothing
-  cleared_event h = event.ClearMember (object_in u.story e.block) e.stage h
+  cleared_event h = event.ClearMember (object_of_block u.story e.block) e.stage h
 
   -- what a member holds is taken out
   pub takes_out : e.stage < 3
@@ -90,8 +90,8 @@ module _ (d : ℕ) (u : Sight) (e : Ending) (es : List Ending) (lt : d < length 
   takes_out less =
       let w = walk_of (scene u) d in
       let v = u.story in
-      let s = state v in
-      let h = (s.object (object_in v e.block)).member e.stage in
+      let s = story_state v in
+      let h = (s.object (object_of_block v e.block)).member e.stage in
       ending_made (empties v w e es) (Some (cleared_event h))
       (ap (λ (q : Handle). entry d (cleared_event q) ∷ v.history) (told_member v d e.block e.stage kept seat end.ending less))
       (inl (record {
@@ -109,18 +109,18 @@ module _ (d : ℕ) (u : Sight) (e : Ending) (es : List Ending) (lt : d < length 
   ends_next =
       let w = walk_of (scene u) d in
       let v = u.story in
-      let vacant = weak (state v) (object_in v e.block) == 0 in
+      let vacant = weak (story_state v) (object_of_block v e.block) == 0 in
       let f : Step = record { deed = Some (deed.Finish e.block vacant); half = Rest; walk = with_endings w es; said = silent e.statement } in
       let m = within (with_endings w (staged e ∷ es)) e.statement (Some (deed.Clear e.block e.stage)) Rest in
       let l = within w e.statement None Clearing in
-      cond_both (e.stage == 3) f (cond (word_at v (Member e.block e.stage) == 0) m l)
+      cond_both (e.stage == 3) f (cond (word_of_cell v (Member e.block e.stage) == 0) m l)
       (λ (x : Step). Performs d u (stepped v (Some x)) (sight_by d u (Some x)))
-      (λ t. ending_made f (Some (event.Finish (object_in v e.block) vacant tt)) refl
+      (λ t. ending_made f (Some (event.Finish (object_of_block v e.block) vacant tt)) refl
       (inr (record { vacant = vacant; value = tt; none = (let q = eqb-true e.stage 3 t in omega (arith, q)); makes = refl; says = refl; goes = refl })))
       (λ t. let ne = eqb-false e.stage 3 t in
       let most = end.within in
       let less : e.stage < 3 = omega (arith, most, ne) in
-      cond_both (word_at v (Member e.block e.stage) == 0) m l
+      cond_both (word_of_cell v (Member e.block e.stage) == 0) m l
       (λ (x : Step). Performs d u (stepped v (Some x)) (sight_by d u (Some x)))
       (λ z. ending_made m (Some (cleared_event (empty (kind_of_member e.stage)))) refl
       (inl (record { held = empty (kind_of_member e.stage); some = less; makes = refl; says = refl; goes = refl })))

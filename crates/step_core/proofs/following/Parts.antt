@@ -20,7 +20,7 @@ use Rattle.step_threads.specs.declared.act.Question.TheVariants as question
 use Rattle.step_threads.specs.declared.ending.Ending.{Ending}
 use Rattle.step_threads.specs.declared.said.Answer.{Answer}
 use Rattle.step_threads.specs.declared.said.Answer.TheVariants as answer
-use Rattle.step_threads.specs.Doings.{Leaves, On, comes_before, copies, leaves_as}
+use Rattle.step_threads.specs.Doings.{IsLeaveEvent, On, answers_order, copies, leaves_as}
 use Rattle.step_threads.specs.Entries.{giving, least, lesser}
 use Rattle.step_threads.specs.Rows.{asked, ending_as, ending_by, with_end}
 use Rattle.step_threads.specs.Scenes.{begins_end, begins_end_as, ended_by, found, outside, read_answer, reply as answered, this_answer}
@@ -58,7 +58,7 @@ module _ (s : State) where
   abbrev pub leaving_event : Pointer → Event Nothing
   leaving_event x = leaves_as s x.kind (is_last s x) x
 
-  pub leave_makes : (o : Option Pointer) → Leaves s o (on (is_last s) false o) (ended_by s o) (option_map leaving_event o)
+  pub leave_makes : (o : Option Pointer) → IsLeaveEvent s o (on (is_last s) false o) (ended_by s o) (option_map leaving_event o)
   leave_makes None = (refl, refl, refl)
   leave_makes (Some x) = (refl, refl)
 
@@ -127,7 +127,7 @@ module _ (s : State) where
   read_says p None = refl
   read_says p (Some x) = refl
 
-  pub asks : (l : Slots) (q : Question) → answered s l q ≡ asked l q (comes_before s l q)
+  pub asks : (l : Slots) (q : Question) → answered s l q ≡ asked l q (answers_order s l q)
   asks l (question.Place i) = refl
   asks l (question.Same i j) = refl
   asks l (question.Before i j) = refl

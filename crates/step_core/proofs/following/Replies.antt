@@ -10,11 +10,11 @@ use Rattle.control_word.specs.State.{Opening, State}
 use Rattle.step_table.specs.declared.form.Form.{Form}
 use Rattle.step_table.specs.declared.holdings.Pointer.{Pointer}
 use Rattle.step_table.specs.declared.past.Deed.{Deed}
-use Rattle.step_table.specs.Contents.{compare_of, held_in, load_of, swap_of, swapped}
-use Rattle.step_table.specs.Deeds.{Telling, alias, aliased, downgrade, field_of, give, is_expired, is_last, leave, lock, on, read, share, tell_count}
+use Rattle.step_table.specs.Contents.{compare_of, held_in, load_of, swap_of, slots_swapped}
+use Rattle.step_table.specs.Deeds.{Telling, alias, aliased, downgrade, field_of, give, is_expired, is_last, leave, lock, on, read_deed, share, tell_count}
 use Rattle.step_table.specs.Deeds.{tell_expired, this_as}
-use Rattle.step_table.specs.Holdings.{Slots, inside, is_full, owner_slot, place_in, plain, slot, value, weak_slot}
-use Rattle.step_table.specs.Stories.{Nothing, added, event_of}
+use Rattle.step_table.specs.Holdings.{Slots, inside, is_full, owner_slot, place_in, plain, slot_pointer, slot_value, weak_slot}
+use Rattle.step_table.specs.Stories.{Nothing, event_added, event_of}
 use Rattle.step_threads.specs.declared.act.Act.{Act}
 use Rattle.step_threads.specs.declared.act.Act.TheVariants.{Make, Share, Downgrade, Lock, Put, Leave, Clear, Count, Expired, Read, FromThis, Alias, Move, Ask}
 use Rattle.step_threads.specs.declared.act.Act.TheVariants.{Offer, Swap, Exchange, Load, Compare, Drop}
@@ -22,10 +22,10 @@ use Rattle.step_threads.specs.declared.act.Task.{Task}
 use Rattle.step_threads.specs.declared.call.CellName.{CellName}
 use Rattle.step_threads.specs.declared.ending.Ending.{Ending}
 use Rattle.step_threads.specs.declared.said.Answer.{Answer}
-use Rattle.step_threads.specs.Courses.{Walk, cell_at, hand, is_there, offered, on_going, other, placed, settled}
-use Rattle.step_threads.specs.Doings.{Loads, Makes, Swaps, Where, comes_before, copies, copy, put_on}
-use Rattle.step_threads.specs.Entries.{History, acted, does, giving, is_expected, least, loads, makes, swaps}
-use Rattle.step_threads.specs.Rows.{Reply, Plain, Found, Got, Told, Came, Compared, Left, gone, may_go, row, said_by_row}
+use Rattle.step_threads.specs.Courses.{Walk, cell_of_name, hand, is_there, offered, on_going, other, placed, walk_settled}
+use Rattle.step_threads.specs.Doings.{IsLoadEvent, IsMakeEvent, IsSwapEvent, Where, answers_order, copies, copy, put_on}
+use Rattle.step_threads.specs.Entries.{History, acted, does, giving, is_expected, least, loads, make_deed, history_swaps}
+use Rattle.step_threads.specs.Rows.{Reply, Plain, Found, Got, Told, Came, Compared, Left, walk_after_act, may_go, row, said_by_row}
 use Rattle.step_threads.specs.Scenes.{came, ended_by, found, said_of, taking, went}
 use Rattle.step_core.specs.Following.{no_worth}
 use Rattle.step_core.proofs.following.Parts.{asks, counting, expiring, gave, gives, leave_ends, leave_makes, leaving_event, left, lock_found, lock_makes}
@@ -35,10 +35,10 @@ use Rattle.step_core.proofs.following.Parts.{locking, none_stored, on_pointer, r
 pub record Replied (tell : Telling) (z : Opening) (d : ℕ) (h : History) (n : ℕ) (w : Walk) (ts : List Task) (a : Act) : Type 0 where
   pub reply : Reply
   pub event : Option (Event Nothing)
-  pub makes : Makes no_worth (leads z h) d w.slots a reply event
+  pub makes : IsMakeEvent no_worth (leads z h) d w.slots a reply event
   pub history : acted tell z d w.slots h a ≡ put_on d event h
   pub says : said_of tell (leads z h) d w.slots (record { statement = n; act = a }) ≡ said_by_row n (row a w.slots w.taken reply)
-  pub goes : went (leads z h) d w n ts a ≡ gone w n ts (row a w.slots w.taken reply)
+  pub goes : went (leads z h) d w n ts a ≡ walk_after_act w n ts (row a w.slots w.taken reply)
 
 module _ (tell : Telling) (z : Opening) (d : ℕ) (h : History) (n : ℕ) (w : Walk) (ts : List Task) where
   abbrev now : State
@@ -47,7 +47,7 @@ module _ (tell : Telling) (z : Opening) (d : ℕ) (h : History) (n : ℕ) (w : W
   pub doing : (f : Pointer → Deed) (g : Pointer → Event Nothing) → ((x : Pointer) → event_of now (f x) ≡ Some (g x)) → (o : Option Pointer)
       → does z d h (option_map f o) ≡ put_on d (option_map g o) h
   doing f g same None = refl
-  doing f g same (Some x) = ap (λ (e : Option (Event Nothing)). added d e h) (same x)
+  doing f g same (Some x) = ap (λ (e : Option (Event Nothing)). event_added d e h) (same x)
 
   -- a pointer leaves
   pub left_at : (o : Option Pointer) → does z d h (option_map (leave now) o) ≡ put_on d (option_map (leaving_event now) o) h
@@ -60,26 +60,26 @@ module _ (tell : Telling) (z : Opening) (d : ℕ) (h : History) (n : ℕ) (w : W
   abbrev made_of : Form → ℕ → Event Nothing
   made_of form b = event.Make (record { 0 = b }) form.enabled form.null form.fields tt
 
-  pub make_history : (form : Form) (o : Option ℕ) → does z d h (option_map (makes form) o) ≡ put_on d (option_map (made_of form) o) h
+  pub make_history : (form : Form) (o : Option ℕ) → does z d h (option_map (make_deed form) o) ≡ put_on d (option_map (made_of form) o) h
   make_history form None = refl
   make_history form (Some b) = refl
 
   pub make_makes : (form : Form) (o : Option ℕ) → least d now.stores ≡ o
-      → Makes no_worth now d w.slots (Make form) (Found o) (option_map (made_of form) o)
+      → IsMakeEvent no_worth now d w.slots (Make form) (Found o) (option_map (made_of form) o)
   make_makes form None e = (none_stored d now.stores e, refl)
   make_makes form (Some b) e = refl
 
   abbrev swap_event : CellName → ℕ → Event Nothing
-  swap_event c i = swap_of now (cell_at now w.slots c) (value w.slots i)
+  swap_event c i = swap_of now (cell_of_name now w.slots c) (slot_value w.slots i)
 
   pub swap_history : (c : CellName) (i : ℕ) (b : Bool)
-      → on_going (swaps z d w.slots h) h (cond b (Some (c, i)) None) ≡ put_on d (cond b (Some (swap_event c i)) None) h
+      → on_going (history_swaps z d w.slots h) h (cond b (Some (c, i)) None) ≡ put_on d (cond b (Some (swap_event c i)) None) h
   swap_history c i true = refl
   swap_history c i false = refl
 
   pub swap_makes : (c : CellName) (i : ℕ) (b : Bool)
-      → let e = cond b (Some (swap_event c i)) None in Where b (Swaps now w.slots c i (came now w.slots c) e) (e ≡ None)
-  swap_makes c i true = (held_in now (cell_at now w.slots c), refl, refl)
+      → let e = cond b (Some (swap_event c i)) None in Where b (IsSwapEvent now w.slots c i (came now w.slots c) e) (e ≡ None)
+  swap_makes c i true = (held_in now (cell_of_name now w.slots c), refl, refl)
   swap_makes c i false = refl
 
   pub swap_slots : (c : CellName) (i : ℕ) (f : CellName → ℕ → Slots) (b : Bool)
@@ -88,13 +88,13 @@ module _ (tell : Telling) (z : Opening) (d : ℕ) (h : History) (n : ℕ) (w : W
   swap_slots c i f false = refl
 
   pub load_history : (c : CellName) (b : Bool)
-      → cond b (loads z d w.slots h c) h ≡ put_on d (cond b (Some (load_of now (cell_at now w.slots c))) None) h
+      → cond b (loads z d w.slots h c) h ≡ put_on d (cond b (Some (load_of now (cell_of_name now w.slots c))) None) h
   load_history c true = refl
   load_history c false = refl
 
   pub load_makes : (c : CellName) (b : Bool)
-      → let e = cond b (Some (load_of now (cell_at now w.slots c))) None in Where b (Loads now w.slots c (came now w.slots c) e) (e ≡ None)
-  load_makes c true = (held_in now (cell_at now w.slots c), refl, refl)
+      → let e = cond b (Some (load_of now (cell_of_name now w.slots c))) None in Where b (IsLoadEvent now w.slots c (came now w.slots c) e) (e ≡ None)
+  load_makes c true = (held_in now (cell_of_name now w.slots c), refl, refl)
   load_makes c false = refl
 
   -- each act
@@ -112,55 +112,55 @@ module _ (tell : Telling) (z : Opening) (d : ℕ) (h : History) (n : ℕ) (w : W
   replied (Share i) =
       record {
         reply = Plain;
-        event = option_map (copy now) (slot w.slots i);
+        event = option_map (copy now) (slot_pointer w.slots i);
         makes = refl;
-        history = doing share (copy now) (λ x. shared now x.kind x) (slot w.slots i);
+        history = doing share (copy now) (λ x. shared now x.kind x) (slot_pointer w.slots i);
         says = refl;
         goes = refl;
       }
   replied (Put i) =
-      let o = slot w.slots i in
+      let o = slot_pointer w.slots i in
       record {
         reply = Left (on (is_last now) false o) (ended_by now o);
         event = option_map (leaving_event now) o;
         makes = leave_makes now o;
         history = left_at o;
         says = refl;
-        goes = ap (λ (es : List Ending). settled (placed i (slice_set w.slots i plain)) false es ts) (leave_ends now n w.endings o);
+        goes = ap (λ (es : List Ending). walk_settled (placed i (slice_set w.slots i plain)) false es ts) (leave_ends now n w.endings o);
       }
   replied (Leave i) =
-      let o = slot w.slots i in
+      let o = slot_pointer w.slots i in
       record {
         reply = Left (on (is_last now) false o) (ended_by now o);
         event = option_map (leaving_event now) o;
         makes = leave_makes now o;
         history = left_at o;
         says = refl;
-        goes = ap (λ (es : List Ending). settled (slice_set w.slots i plain) w.taken es ts) (leave_ends now n w.endings o);
+        goes = ap (λ (es : List Ending). walk_settled (slice_set w.slots i plain) w.taken es ts) (leave_ends now n w.endings o);
       }
   replied (Clear i) =
-      let o = slot w.slots i in
+      let o = slot_pointer w.slots i in
       record {
         reply = Left (on (is_last now) false o) (ended_by now o);
         event = option_map (leaving_event now) o;
         makes = leave_makes now o;
         history = left_at o;
         says = refl;
-        goes = ap (λ (es : List Ending). settled (slice_set w.slots i plain) w.taken es ts) (leave_ends now n w.endings o);
+        goes = ap (λ (es : List Ending). walk_settled (slice_set w.slots i plain) w.taken es ts) (leave_ends now n w.endings o);
       }
   replied Drop =
       let i = other w.slots in
-      let o = slot w.slots i in
+      let o = slot_pointer w.slots i in
       record {
         reply = Left (on (is_last now) false o) (ended_by now o);
         event = option_map (leaving_event now) o;
         makes = leave_makes now o;
         history = left_at o;
         says = refl;
-        goes = ap (λ (es : List Ending). settled (slice_set w.slots i plain) w.taken es ts) (leave_ends now n w.endings o);
+        goes = ap (λ (es : List Ending). walk_settled (slice_set w.slots i plain) w.taken es ts) (leave_ends now n w.endings o);
       }
   replied (Count i) =
-      let o = slot w.slots i in
+      let o = slot_pointer w.slots i in
       record {
         reply = Told (on (tell now) 0 o);
         event = option_map (λ (x : Pointer). counting now x (tell now x)) o;
@@ -170,7 +170,7 @@ module _ (tell : Telling) (z : Opening) (d : ℕ) (h : History) (n : ℕ) (w : W
         goes = refl;
       }
   replied (Downgrade i) =
-      let o = slot w.slots i in
+      let o = slot_pointer w.slots i in
       let g = λ (x : Pointer). copies {V = Nothing} now Weak x.place x in
       record {
         reply = Plain;
@@ -181,17 +181,17 @@ module _ (tell : Telling) (z : Opening) (d : ℕ) (h : History) (n : ℕ) (w : W
         goes = refl;
       }
   replied (Lock i must) =
-      let o = weak_slot (slot w.slots i) in
+      let o = weak_slot (slot_pointer w.slots i) in
       record {
         reply = Got (is_full (found now o));
         event = option_map (locking now (is_full (found now o))) o;
         makes = lock_makes now o;
         history = lock_history o;
         says = refl;
-        goes = ap (λ (q : Option Pointer). let x = taking w.slots must q in settled x.0 x.1 w.endings ts) (lock_found now o);
+        goes = ap (λ (q : Option Pointer). let x = taking w.slots must q in walk_settled x.0 x.1 w.endings ts) (lock_found now o);
       }
   replied (Expired i) =
-      let o = slot w.slots i in
+      let o = slot_pointer w.slots i in
       record {
         reply = Got (on (is_expired now) true o);
         event = option_map (λ (x : Pointer). expiring now x (is_expired now x)) o;
@@ -201,18 +201,18 @@ module _ (tell : Telling) (z : Opening) (d : ℕ) (h : History) (n : ℕ) (w : W
         goes = refl;
       }
   replied (Read i) =
-      let o = inside (slot w.slots i) in
+      let o = inside (slot_pointer w.slots i) in
       let g : Pointer → Event Nothing = λ x. reading now (field_of now x) x in
       record {
         reply = Told (on (field_of now) 0 o);
         event = option_map g o;
         makes = read_makes now o;
-        history = doing (read now) g (λ x. refl) o;
+        history = doing (read_deed now) g (λ x. refl) o;
         says = ap (λ (a : Answer). record { statement = n; answer = Some a; ended = None }) (read_says now (place_in w.slots i) o);
         goes = refl;
       }
   replied (FromThis i q) =
-      let o = inside (slot w.slots i) in
+      let o = inside (slot_pointer w.slots i) in
       let g = λ (x : Pointer). copies {V = Nothing} now q (place_at x.block.0) x in
       record {
         reply = Got (is_full (giving now o));
@@ -220,10 +220,10 @@ module _ (tell : Telling) (z : Opening) (d : ℕ) (h : History) (n : ℕ) (w : W
         makes = this_makes now q o;
         history = doing (give q) g (λ x. gives now q x) (giving now o);
         says = ap (λ (a : Option Answer). record { statement = n; answer = a; ended = None }) (this_answers now (place_in w.slots i) o);
-        goes = ap (λ (y : Option Pointer). let x = taking w.slots true (option_map (this_as q) y) in settled x.0 x.1 w.endings ts) (this_found now o);
+        goes = ap (λ (y : Option Pointer). let x = taking w.slots true (option_map (this_as q) y) in walk_settled x.0 x.1 w.endings ts) (this_found now o);
       }
   replied (Alias i j field) =
-      let o = owner_slot (slot w.slots i) in
+      let o = owner_slot (slot_pointer w.slots i) in
       let p = aliased field (place_in w.slots j) in
       record {
         reply = Plain;
@@ -236,7 +236,7 @@ module _ (tell : Telling) (z : Opening) (d : ℕ) (h : History) (n : ℕ) (w : W
   replied (Move i) = record { reply = Plain; event = None; makes = refl; history = refl; says = refl; goes = refl }
   replied (Ask q) =
       record {
-        reply = Got (comes_before now w.slots q);
+        reply = Got (answers_order now w.slots q);
         event = None;
         makes = (refl, refl);
         history = refl;
@@ -256,14 +256,14 @@ module _ (tell : Telling) (z : Opening) (d : ℕ) (h : History) (n : ℕ) (w : W
   replied (Swap c) =
       let i = hand w.slots in
       let b = may_go w.slots c i in
-      let f = λ (x : CellName) (k : ℕ). swapped k (other w.slots) w.slots (came now w.slots x) in
+      let f = λ (x : CellName) (k : ℕ). slots_swapped k (other w.slots) w.slots (came now w.slots x) in
       record {
         reply = Came (came now w.slots c);
         event = cond b (Some (swap_event c i)) None;
         makes = swap_makes c i b;
         history = swap_history c i b;
         says = refl;
-        goes = ap (λ (l : Slots). settled l false w.endings ts) (swap_slots c i f b);
+        goes = ap (λ (l : Slots). walk_settled l false w.endings ts) (swap_slots c i f b);
       }
   replied (Exchange i c) =
       let b = may_go w.slots c i in
@@ -274,23 +274,23 @@ module _ (tell : Telling) (z : Opening) (d : ℕ) (h : History) (n : ℕ) (w : W
         makes = swap_makes c i b;
         history = swap_history c i b;
         says = refl;
-        goes = ap (λ (l : Slots). settled l w.taken w.endings ts) (swap_slots c i f b);
+        goes = ap (λ (l : Slots). walk_settled l w.taken w.endings ts) (swap_slots c i f b);
       }
   replied (Load c) =
       let b = is_there w.slots c in
       record {
         reply = Came (came now w.slots c);
-        event = cond b (Some (load_of now (cell_at now w.slots c))) None;
+        event = cond b (Some (load_of now (cell_of_name now w.slots c))) None;
         makes = load_makes c b;
         history = load_history c b;
         says = refl;
         goes = refl;
       }
   replied (Compare i c weak) =
-      let y = cell_at now w.slots c in
+      let y = cell_of_name now w.slots c in
       record {
         reply = Compared (is_expected now w.slots i c) (came now w.slots c);
-        event = Some (compare_of now y (value w.slots i) (value w.slots (hand w.slots)) weak);
+        event = Some (compare_of now y (slot_value w.slots i) (slot_value w.slots (hand w.slots)) weak);
         makes = (held_in now y, refl, refl);
         history = refl;
         says = refl;

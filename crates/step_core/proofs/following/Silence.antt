@@ -13,22 +13,22 @@ use Rattle.step_table.specs.declared.holdings.Pointer.{Pointer}
 use Rattle.step_table.specs.declared.past.Deed.TheVariants as deed
 use Rattle.step_table.specs.declared.refill.Stage.{Stage}
 use Rattle.step_table.specs.declared.refill.Stage.TheVariants.{Turning, Checking, Lacking, Refilling, Failing}
-use Rattle.step_table.specs.Cells.{word_at}
+use Rattle.step_table.specs.Cells.{word_of_cell}
 use Rattle.step_table.specs.Contents.{compared_in, is_spent, same_value, seen}
 use Rattle.step_table.specs.Deeds.{is_enabled, lock, on, owner_word}
-use Rattle.step_table.specs.Holdings.{inside, slot}
-use Rattle.step_table.specs.Stories.{Story, state}
+use Rattle.step_table.specs.Holdings.{inside, slot_pointer}
+use Rattle.step_table.specs.Stories.{Story, story_state}
 use Rattle.step_threads.specs.declared.act.Act.{Act}
 use Rattle.step_threads.specs.declared.act.Act.TheVariants.{Make, Share, Downgrade, Lock, Put, Leave, Clear, Count, Expired, Read, FromThis, Alias, Move, Ask}
 use Rattle.step_threads.specs.declared.act.Act.TheVariants.{Offer, Swap, Exchange, Load, Compare, Drop}
 use Rattle.step_threads.specs.declared.act.Task.{Task}
 use Rattle.step_threads.specs.declared.call.CellName.{CellName}
 use Rattle.step_threads.specs.declared.half.Half.TheVariants.{Rest, Giving, Refill, Saw}
-use Rattle.step_threads.specs.Courses.{Going, Walk, cell_at, comparing, going, is_there, locked, on_going}
+use Rattle.step_threads.specs.Courses.{Going, Walk, cell_of_name, comparing, going, is_there, locked_pointer, on_going}
 use Rattle.step_threads.specs.Entries.{least}
 use Rattle.step_threads.specs.Programs.{kind_at}
 use Rattle.step_threads.specs.NextSteps.{first}
-use Rattle.step_threads.specs.Steps.{Step, acts, asks, begins, brings, looks, refills_on, sees, sends, silent, swaps, trying, within}
+use Rattle.step_threads.specs.Steps.{Step, step_of_act, asks, begins, brings, looks, refills_on, step_of_look, sends, silent, step_of_swap, trying, within}
 use Rattle.step_core.specs.Turning.{is_acting}
 use Rattle.step_core.proofs.turning.Swapping.{no_more}
 
@@ -40,53 +40,53 @@ module _ (v : Story) (d : ℕ) (w : Walk) (k : ℕ) (ts : List Task) where
   begins_said None = λ t. absurd (false≢true t)
   begins_said (Some b) = λ t. refl
 
-  looks_said : (a : Act) (o : Option Pointer) → IsSilent (on (looks v d w k ts a) (acts v d w k ts a None Rest) o)
+  looks_said : (a : Act) (o : Option Pointer) → IsSilent (on (looks v d w k ts a) (step_of_act v d w k ts a None Rest) o)
   looks_said a None = λ t. absurd (false≢true t)
   looks_said a (Some y) =
-      cond_both (owner_word v y == 0) (acts v d w k ts a (Some (lock (state v) y)) Rest) (trying w k (owner_word v y)) IsSilent
+      cond_both (owner_word v y == 0) (step_of_act v d w k ts a (Some (lock (story_state v) y)) Rest) (trying w k (owner_word v y)) IsSilent
       (λ e t. absurd (false≢true t)) (λ e t. refl)
 
   asks_said : (i : ℕ) (q : Kind) (o : Option Pointer)
-      → IsSilent (on (asks v d w k ts i q) (acts v d w k ts (FromThis i q) None Rest) o)
+      → IsSilent (on (asks v d w k ts i q) (step_of_act v d w k ts (FromThis i q) None Rest) o)
   asks_said i q None = λ t. absurd (false≢true t)
   asks_said i q (Some y) =
-      cond_both (is_enabled (state v) y) (record { deed = None; half = Giving i q y; walk = w; said = silent k })
-      (acts v d w k ts (FromThis i q) None Rest) IsSilent (λ e t. refl) (λ e t. absurd (false≢true t))
+      cond_both (is_enabled (story_state v) y) (record { deed = None; half = Giving i q y; walk = w; said = silent k })
+      (step_of_act v d w k ts (FromThis i q) None Rest) IsSilent (λ e t. refl) (λ e t. absurd (false≢true t))
 
   sends_said : (a : Act) (c : CellName) (i : ℕ) (o : Option Pointer)
-      → IsSilent (on (brings w k) (swaps v d w k ts a c i) o)
+      → IsSilent (on (brings w k) (step_of_swap v d w k ts a c i) o)
   sends_said a c i None =
-      λ t. let found = seen v (cell_at (state v) w.slots c) in
+      λ t. let found = seen v (cell_of_name (story_state v) w.slots c) in
       absurd (false≢true (sym (no_more (kind_at c) k found found.owned) ∙ t))
   sends_said a c i (Some p) = λ t. refl
 
   goes_said : (a : Act) (o : Option Going)
-      → IsSilent (on_going (sends v d w k ts a) (acts v d w k ts a None Rest) o)
+      → IsSilent (on_going (sends v d w k ts a) (step_of_act v d w k ts a None Rest) o)
   goes_said a None = λ t. absurd (false≢true t)
-  goes_said a (Some g) = sends_said a g.0 g.1 (slot w.slots g.1)
+  goes_said a (Some g) = sends_said a g.0 g.1 (slot_pointer w.slots g.1)
 
-  sees_said : (a : Act) (c : Cell) (y : Option Compared) (x : CellWord) → IsSilent (sees v d w k ts a c y x)
+  sees_said : (a : Act) (c : Cell) (y : Option Compared) (x : CellWord) → IsSilent (step_of_look v d w k ts a c y x)
   sees_said a c y x =
-      let look = acts v d w k ts a (Some (deed.OnCell (cell_deed.Look c x y))) Rest in
+      let look = step_of_act v d w k ts a (Some (deed.OnCell (cell_deed.Look c x y))) Rest in
       cond_both (is_spent x) (within w k None Rest) (cond (is_some x.owned) (within w k None (Saw x)) look) IsSilent (λ e t. refl)
       (λ e. cond_both (is_some x.owned) (within w k None (Saw x)) look IsSilent (λ q t. refl) (λ q t. absurd (false≢true t)))
 
   -- an act that has just begun
   pub first_said : (a : Act) → IsSilent (first v d w k ts a)
-  first_said (Make form) = begins_said (least d (state v).stores)
-  first_said (Lock i must) = looks_said (Lock i must) (locked w.slots (Lock i must))
-  first_said (FromThis i kind) = asks_said i kind (inside (slot w.slots i))
+  first_said (Make form) = begins_said (least d (story_state v).stores)
+  first_said (Lock i must) = looks_said (Lock i must) (locked_pointer w.slots (Lock i must))
+  first_said (FromThis i kind) = asks_said i kind (inside (slot_pointer w.slots i))
   first_said (Swap c) = goes_said (Swap c) (going w.slots (Swap c))
   first_said (Exchange i c) = goes_said (Exchange i c) (going w.slots (Exchange i c))
   first_said (Load c) =
-      let x = cell_at (state v) w.slots c in
-      cond_both (is_there w.slots c) (sees v d w k ts (Load c) x None (seen v x)) (acts v d w k ts (Load c) None Rest) IsSilent
+      let x = cell_of_name (story_state v) w.slots c in
+      cond_both (is_there w.slots c) (step_of_look v d w k ts (Load c) x None (seen v x)) (step_of_act v d w k ts (Load c) None Rest) IsSilent
       (λ e. sees_said (Load c) x None (seen v x)) (λ e t. absurd (false≢true t))
   first_said (Compare i c weak) =
-      let x = cell_at (state v) w.slots c in
+      let x = cell_of_name (story_state v) w.slots c in
       let a = Compare i c weak in
       let y = compared_in w.slots (comparing w.slots i weak) in
-      cond_both (same_value (seen v x) y.expected) (within w k None (Saw (seen v x))) (sees v d w k ts a x (Some y) (seen v x)) IsSilent
+      cond_both (same_value (seen v x) y.expected) (within w k None (Saw (seen v x))) (step_of_look v d w k ts a x (Some y) (seen v x)) IsSilent
       (λ e t. refl) (λ e. sees_said a x (Some y) (seen v x))
   first_said (Share i) = λ t. absurd (false≢true t)
   first_said (Downgrade i) = λ t. absurd (false≢true t)
@@ -109,6 +109,6 @@ refills_said v w Turning c x k b = refl
 refills_said v w Checking c x k b = refl
 refills_said v w Lacking c x k b = refl
 refills_said v w Refilling c x k b =
-    cond_both (word_at v c == cell_bits x) (within w k (Some (deed.OnCell (cell_deed.Refill c x.taken))) Rest)
+    cond_both (word_of_cell v c == cell_bits x) (within w k (Some (deed.OnCell (cell_deed.Refill c x.taken))) Rest)
     (within w k None (Refill Failing c x k)) (λ (y : Step). y.said ≡ silent k) (λ e. refl) (λ e. refl)
 refills_said v w Failing c x k b = refl

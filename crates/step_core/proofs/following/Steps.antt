@@ -4,10 +4,10 @@ use Rattle.std.proofs.Common.{⊎_elim, inl}
 use Rattle.std.proofs.Common.{get_or-set_same}
 use Rattle.std.specs.Prelude.{Option, Some, option_map}
 use Rattle.std.proofs.lemmas.Bool.{cond-false, cond-true}
-use Rattle.step_table.specs.Holdings.{is_full, slot}
+use Rattle.step_table.specs.Holdings.{is_full, slot_pointer}
 use Rattle.step_table.specs.Openings.{opening}
 use Rattle.step_table.specs.Refills.{RefillFits}
-use Rattle.step_table.specs.Stories.{state}
+use Rattle.step_table.specs.Stories.{story_state}
 use Rattle.step_threads.specs.declared.act.Act.TheVariants.{Leave}
 use Rattle.step_threads.specs.declared.act.Task.{Task}
 use Rattle.step_threads.specs.declared.ending.Ending.{Ending}
@@ -21,9 +21,9 @@ use Rattle.step_threads.specs.Endings.{EndsAll}
 use Rattle.step_threads.specs.Scenes.{Scene, nowhere, walk_of, went}
 use Rattle.step_threads.specs.NextSteps.{at_rest, emptied, first, step_at, stepped, story_after, waits}
 use Rattle.step_threads.specs.Steps.{Step, empties, ends_on, refills_on, returns, silent as silently}
-use Rattle.step_threads.specs.Threads.{IsClearing}
+use Rattle.step_threads.specs.Threads.{IsClearingMember}
 use Rattle.step_core.specs.Following.{Performs, no_worth}
-use Rattle.step_core.specs.Turning.{HasBegun, IsOut, IsTried, is_acting}
+use Rattle.step_core.specs.Turning.{HasBegun, FundsAreHeld, IsTried, is_acting}
 use Rattle.step_core.specs.Worlds.{Sight, Steps, half_of, scene, sight_by, step_of}
 use Rattle.step_core.proofs.following.Ending.{doing_of, ends_next, made, passed, takes_out}
 use Rattle.step_core.proofs.following.Replies.{replied}
@@ -52,11 +52,11 @@ module _ (d : ℕ) (u : Sight) where
       let v = u.story in
       let q = replied (tell_of v t.act) (opening v.extent) d v.history t.statement w ts t.act in
       let y = doing_of d x q.event in
-      let here : x.walk ≡ went (state v) d w t.statement ts t.act =
+      let here : x.walk ≡ went (story_state v) d w t.statement ts t.act =
       sym (walk_after d u (Some x) lt) ∙ ap (λ (c : Scene). walk_of c d) so.1
-      ∙ get_or-set_same u.walks d (went (state v) d w t.statement ts t.act) nowhere lt in
+      ∙ get_or-set_same u.walks d (went (story_state v) d w t.statement ts t.act) nowhere lt in
       made d u x q.event lt (ap (λ (c : Scene). c.history) so.1 ∙ q.history)
-      (subst (λ (a : Ahead). DoesAhead no_worth (state v) w y x.walk a) (sym next)
+      (subst (λ (a : Ahead). DoesAhead no_worth (story_state v) w y x.walk a) (sym next)
       (record { reply = q.reply; makes = q.makes; says = so.0 ∙ q.says; goes = here ∙ q.goes }))
 
   -- a step of an act that is under way
@@ -102,23 +102,23 @@ module _ (d : ℕ) (u : Sight) where
 
     -- what came out of a member leaves
     carried_now : (e : Ending) (es : List Ending) → half_of u d ≡ Rest → (walk_of (scene u) d).endings ≡ e ∷ es
-        → let w = walk_of (scene u) d in is_full (slot w.slots (hand w.slots)) ≡ true → Now (step_of d u)
+        → let w = walk_of (scene u) d in is_full (slot_pointer w.slots (hand w.slots)) ≡ true → Now (step_of d u)
     carried_now e es rest is full =
         let w = walk_of (scene u) d in
         let t : Task = record { statement = e.statement; act = Leave (hand w.slots) } in
         let next : ahead w ≡ AnAct t w.todo =
-        ap (λ (l : List Ending). ahead_of w.slots l w.todo) is ∙ cond-true (is_full (slot w.slots (hand w.slots))) _ _ full in
+        ap (λ (l : List Ending). ahead_of w.slots l w.todo) is ∙ cond-true (is_full (slot_pointer w.slots (hand w.slots))) _ _ full in
         subst Now (sym (carried_step d u e es rest is full))
         (acts_now t w.todo (first u.story d w t.statement w.todo t.act) next begun.walks (refl, does_so d u.story _ _))
 
     ending_now : (e : Ending) (es : List Ending) → half_of u d ≡ Rest → (walk_of (scene u) d).endings ≡ e ∷ es
-        → let w = walk_of (scene u) d in is_full (slot w.slots (hand w.slots)) ≡ false → Now (step_of d u)
+        → let w = walk_of (scene u) d in is_full (slot_pointer w.slots (hand w.slots)) ≡ false → Now (step_of d u)
     ending_now e es rest is free =
         let w = walk_of (scene u) d in
         let v = u.story in
         let s : step_of d u ≡ Some (ends_on v w e es) = ap (λ (h : Half). step_at v d h w) rest
         ∙ ap (λ (l : List Ending). at_rest v d w l) is
-        ∙ ap (λ (k : Step). Some k) (cond-false (is_full (slot w.slots (hand w.slots))) _ _ free) in
+        ∙ ap (λ (k : Step). Some k) (cond-false (is_full (slot_pointer w.slots (hand w.slots))) _ _ free) in
         let ends = first_ends d v e es (subst (λ (l : List Ending). EndsAll d l v) is begun.ends) in
         subst Now (sym s) (ends_next d u e es begun.walks is free begun.kept begun.seat ends)
 
@@ -127,13 +127,13 @@ module _ (d : ℕ) (u : Sight) where
     rest_now [] [] rest is todo wakes =
         subst Now (sym (begun_step d u [] rest is todo)) (inl (record { silent = refl; stays = scene_as u _ _ _ _ refl (same_walks d u) }))
     rest_now [] (t ∷ ts) rest is todo wakes = first_now t ts rest is todo wakes
-    rest_now (e ∷ es) ts rest is todo wakes = go (is_full (slot (walk_of (scene u) d).slots (hand (walk_of (scene u) d).slots))) refl
+    rest_now (e ∷ es) ts rest is todo wakes = go (is_full (slot_pointer (walk_of (scene u) d).slots (hand (walk_of (scene u) d).slots))) refl
       where
-        go : (b : Bool) → let w = walk_of (scene u) d in is_full (slot w.slots (hand w.slots)) ≡ b → Now (step_of d u)
+        go : (b : Bool) → let w = walk_of (scene u) d in is_full (slot_pointer w.slots (hand w.slots)) ≡ b → Now (step_of d u)
         go true full = carried_now e es rest is full
         go false free = ending_now e es rest is free
 
-    clearing_now : (es : List Ending) → half_of u d ≡ Clearing → (walk_of (scene u) d).endings ≡ es → IsClearing (walk_of (scene u) d).slots es
+    clearing_now : (es : List Ending) → half_of u d ≡ Clearing → (walk_of (scene u) d).endings ≡ es → IsClearingMember (walk_of (scene u) d).slots es
         → Now (step_of d u)
     clearing_now [] half is clears = absurd clears
     clearing_now (e ∷ es) half is clears =
@@ -158,7 +158,7 @@ module _ (d : ℕ) (u : Sight) where
     half_now (Refill stage c x k) e wakes =
         let w = walk_of (scene u) d in
         let v = u.story in
-        let fits : RefillFits d stage c x v = subst (λ (h : Half). IsOut d v h) e begun.out in
+        let fits : RefillFits d stage c x v = subst (λ (h : Half). FundsAreHeld d v h) e begun.out in
         let y = refills_on v w stage c x k fits.block in
         let said = refills_said v w stage c x k fits.block in
         pays_now (Refill stage c x k) y

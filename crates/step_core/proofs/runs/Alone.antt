@@ -16,11 +16,11 @@ use Rattle.control_word.specs.declared.cell.CellWord.{CellWord}
 use Rattle.step_core.specs.Bounds.{alone, lock_word, shows_next, spare, walk_steps}
 use Rattle.step_threads.specs.Courses.{Walk}
 use Rattle.step_table.specs.Deeds.{is_last, leave, leave_as, owned}
-use Rattle.step_threads.specs.Scenes.{ended_by, left as leaves_by, remains_as}
+use Rattle.step_threads.specs.Scenes.{ended_by, leaving_pointer as leaves_by, remains_as}
 use Rattle.step_threads.specs.NextSteps.{stepped as stepped_by, story_after}
-use Rattle.step_threads.specs.Steps.{Step, acts}
-use Rattle.step_table.specs.Stories.{Story, state}
-use Rattle.step_core.specs.Told.{ends_by, is_prepared, makes}
+use Rattle.step_threads.specs.Steps.{Step, step_of_act}
+use Rattle.step_table.specs.Stories.{Story, story_state}
+use Rattle.step_core.specs.Told.{step_ends, is_prepared, step_makes}
 use Rattle.step_core.proofs.telling.Walking.{ends_at, went_plain}
 
 pub alone_of_lock : (v : Story) (w : Walk) (word : ℕ) → (14 ≤ alone v w (Locking word)) × (alone v w (Locking word) ≤ 16)
@@ -53,16 +53,16 @@ pub record Lessens (v v' : Story) (h h' : Half) (w w' : Walk) (made ended : ℕ)
 abbrev pub IsLess : Story → ℕ → Half → Walk → Option Step → Type 0
 IsLess v d h w None = (w.todo ≡ []) × (w.endings ≡ []) × (h ≡ Rest)
 IsLess v d h w (Some x) =
-    Lessens v (story_after v d x.deed) h x.half w x.walk (makes h (stepped_by v (Some x))) (ends_by (stepped_by v (Some x)))
+    Lessens v (story_after v d x.deed) h x.half w x.walk (step_makes h (stepped_by v (Some x))) (step_ends (stepped_by v (Some x)))
 
 -- none is made but by a make that is prepared
-pub none_made : (h : Half) (r : Stepped) → is_prepared h ≡ false → makes h r ≡ 0
+pub none_made : (h : Half) (r : Stepped) → is_prepared h ≡ false → step_makes h r ≡ 0
 none_made h (stepped.Event x) e = ap (λ (b : Bool). cond b 1 0) e
 none_made h (stepped.Quiet x) e = refl
 none_made h stepped.Waited e = refl
 none_made h stepped.Done e = refl
 
-pub one_made : (h : Half) (r : Stepped) → makes h r ≤ 1
+pub one_made : (h : Half) (r : Stepped) → step_makes h r ≤ 1
 one_made h (stepped.Event x) = go (is_prepared h)
   where
     go : (b : Bool) → cond b 1 0 ≤ 1
@@ -75,47 +75,47 @@ one_made h stepped.Done = omega arith
 -- the act is done by which nothing leaves
 pub plain_less : (v : Story) (d k : ℕ) (h : Half) (w : Walk) (t : Task) (ts : List Task) (a : Act) (x : Option Deed) → is_prepared h ≡ false
     → leaves_by w.slots a ≡ None → w.endings ≡ [] → w.todo ≡ t ∷ ts → 14 ≤ alone v w h → 14 ≤ spare h
-    → IsLess v d h w (Some (acts v d w k ts a x Rest))
+    → IsLess v d h w (Some (step_of_act v d w k ts a x Rest))
 plain_less v d k h w t ts a x unmade stays none is own most =
-    let l = went_plain (state v) d k w t ts a none is stays in
-    let m = none_made h (stepped_by v (Some (acts v d w k ts a x Rest))) unmade in
+    let l = went_plain (story_state v) d k w t ts a none is stays in
+    let m = none_made h (stepped_by v (Some (step_of_act v d w k ts a x Rest))) unmade in
     record { own = omega (arith, l, m, own); most = omega (arith, l, m, most) }
 
 -- the steps that an object's end gets are told
 left_ends : (v : Story) (d k : ℕ) (x : Walk) (o : Option Pointer)
-    → ends_by (stepped_by v (Some (record {
-      deed = option_map (leave (state v)) o;
+    → step_ends (stepped_by v (Some (record {
+      deed = option_map (leave (story_state v)) o;
       half = Rest;
       walk = x;
-      said = record { statement = k; answer = None; ended = ended_by (state v) o };
-    }))) ≡ ends_at (state v) o
+      said = record { statement = k; answer = None; ended = ended_by (story_state v) o };
+    }))) ≡ ends_at (story_state v) o
 left_ends v d k x None = refl
-left_ends v d k x (Some y) = go y.kind (is_last (state v) y)
+left_ends v d k x (Some y) = go y.kind (is_last (story_state v) y)
   where
-    go : (q : Kind) (b : Bool) → ends_by (stepped_by v (Some (record {
+    go : (q : Kind) (b : Bool) → step_ends (stepped_by v (Some (record {
       deed = Some (leave_as q y b);
       half = Rest;
       walk = x;
-      said = record { statement = k; answer = None; ended = cond b (remains_as q ((state v).object (owned (state v) y))) None };
-    }))) ≡ cond (is_some (cond b (remains_as q ((state v).object (owned (state v) y))) None)) 1 0
+      said = record { statement = k; answer = None; ended = cond b (remains_as q ((story_state v).object (owned (story_state v) y))) None };
+    }))) ≡ cond (is_some (cond b (remains_as q ((story_state v).object (owned (story_state v) y))) None)) 1 0
     go Owner b = refl
     go Weak true = refl
     go Weak false = refl
 
 -- so it is where a pointer leaves
-pub left_less : (v : Story) (d k : ℕ) (w x : Walk) (o : Option Pointer) → walk_steps x + 1 ≤ walk_steps w + 13 * ends_at (state v) o
+pub left_less : (v : Story) (d k : ℕ) (w x : Walk) (o : Option Pointer) → walk_steps x + 1 ≤ walk_steps w + 13 * ends_at (story_state v) o
     → IsLess v d Rest w (Some (record {
-      deed = option_map (leave (state v)) o;
+      deed = option_map (leave (story_state v)) o;
       half = Rest;
       walk = x;
-      said = record { statement = k; answer = None; ended = ended_by (state v) o };
+      said = record { statement = k; answer = None; ended = ended_by (story_state v) o };
     }))
 left_less v d k w x o le =
     let y : Step = record {
-      deed = option_map (leave (state v)) o;
+      deed = option_map (leave (story_state v)) o;
       half = Rest;
       walk = x;
-      said = record { statement = k; answer = None; ended = ended_by (state v) o };
+      said = record { statement = k; answer = None; ended = ended_by (story_state v) o };
     } in
     let m = none_made Rest (stepped_by v (Some y)) refl in
     let e = left_ends v d k x o in

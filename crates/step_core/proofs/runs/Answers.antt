@@ -18,22 +18,22 @@ use Rattle.step_table.specs.declared.past.Deed.TheVariants as deed
 use Rattle.step_threads.specs.declared.said.Said.{Said}
 use Rattle.step_threads.specs.Actors.{wanted}
 use Rattle.step_threads.specs.declared.ending.Ending.{Ending}
-use Rattle.step_threads.specs.Courses.{Going, Walk, cell_at, comparing, form_of, going, hand, locked, offered, on_going, other}
-use Rattle.step_table.specs.Deeds.{is_enabled, read, as_owner, downgrade, is_expired, is_last, leave, leave_as, lock, owner_word, share, share_as, tell}
+use Rattle.step_threads.specs.Courses.{Going, Walk, cell_of_name, comparing, form_of, going, hand, locked_pointer, offered, on_going, other}
+use Rattle.step_table.specs.Deeds.{is_enabled, read_deed, as_owner, downgrade, is_expired, is_last, leave, leave_as, lock, owner_word, share, share_as, tell}
 use Rattle.step_table.specs.Deeds.{tell_expired, alias, aliased, on}
 use Rattle.step_threads.specs.Endings.{staged}
 use Rattle.step_core.specs.Headline.{LocksNext}
-use Rattle.step_table.specs.Holdings.{inside, is_full, slot, owner_slot, place_in}
+use Rattle.step_table.specs.Holdings.{inside, is_full, slot_pointer, owner_slot, place_in}
 use Rattle.step_threads.specs.Entries.{least}
 use Rattle.step_threads.specs.Scenes.{found, lock_answer}
-use Rattle.step_threads.specs.NextSteps.{at_rest, emptied, given as given_by, begun, first, made_on}
-use Rattle.step_threads.specs.Steps.{asks, brings, Step, acts, begins, claims, ends_on, looks}
+use Rattle.step_threads.specs.NextSteps.{at_rest, emptied, given_step as given_by, begun, first, made_on}
+use Rattle.step_threads.specs.Steps.{asks, brings, Step, step_of_act, begins, claims, ends_on, looks}
 use Rattle.step_threads.specs.NextSteps.{sent, step_at, tried}
-use Rattle.step_threads.specs.Steps.{prepares, sends, silent, swaps, tries, trying, with_endings, within}
-use Rattle.step_table.specs.Stories.{Story, known, object_in, pending, state}
+use Rattle.step_threads.specs.Steps.{prepares, sends, silent, step_of_swap, tries, trying, with_endings, within}
+use Rattle.step_table.specs.Stories.{Story, known_words, object_of_block, pending, story_state}
 use Rattle.step_table.specs.declared.cell_deed.Cell.{Cell}
 use Rattle.step_table.specs.declared.cell_deed.Cell.TheVariants.{Member}
-use Rattle.step_table.specs.Cells.{word_at}
+use Rattle.step_table.specs.Cells.{word_of_cell}
 use Rattle.step_table.specs.Contents.{compared_in, seen}
 use Rattle.step_core.proofs.telling.Cases.{IsEach, IsEachAct, IsEachRefill, each_compares, each_load, each_matched, each_refill, each_saw}
 
@@ -80,31 +80,31 @@ module _ (l : List Task) where
       go false = refl
 
   lock_done : (v : Story) (d k i : ℕ) (w : Walk) (ts : List Task) (must : Bool) (x : Pointer)
-      → locked w.slots (Lock i must) ≡ Some x
-      → LocksNext k must l → Tells l (Some (acts v d w k ts (Lock i must) (Some (lock (state v) x)) Rest))
+      → locked_pointer w.slots (Lock i must) ≡ Some x
+      → LocksNext k must l → Tells l (Some (step_of_act v d w k ts (Lock i must) (Some (lock (story_state v) x)) Rest))
   lock_done v d k i w ts must x at next = (
     must,
     next,
-    ap (λ (o : Option Pointer). Some (lock_answer must (is_full (found (state v) o)))) at ∙
-        ap (λ (b : Bool). Some (lock_answer must b)) (given (state v) x),
+    ap (λ (o : Option Pointer). Some (lock_answer must (is_full (found (story_state v) o)))) at ∙
+        ap (λ (b : Bool). Some (lock_answer must b)) (given (story_state v) x),
   )
 
   lock_tells : (v : Story) (d k i : ℕ) (w : Walk) (ts : List Task) (must : Bool) (o : Option Pointer)
-      → locked w.slots (Lock i must) ≡ o
+      → locked_pointer w.slots (Lock i must) ≡ o
       → LocksNext k must l → Tells l (Some (on (looks v d w k ts (Lock i must))
-      (acts v d w k ts (Lock i must) None Rest) o))
+      (step_of_act v d w k ts (Lock i must) None Rest) o))
   lock_tells v d k i w ts must None at next = tt
   lock_tells v d k i w ts must (Some x) at next =
-      cond_both (owner_word v x == 0) (acts v d w k ts (Lock i must) (Some (lock (state v) x)) Rest)
+      cond_both (owner_word v x == 0) (step_of_act v d w k ts (Lock i must) (Some (lock (story_state v) x)) Rest)
       (trying w k (owner_word v x))
       (λ (s : Step). Tells l (Some s)) (λ e. lock_done v d k i w ts must x at next) (λ e. tt)
 
   ask_tells : (v : Story) (d k i : ℕ) (q : Kind) (w : Walk) (ts : List Task) (o : Option Pointer)
-      → Tells l (Some (on (asks v d w k ts i q) (acts v d w k ts (FromThis i q) None Rest) o))
+      → Tells l (Some (on (asks v d w k ts i q) (step_of_act v d w k ts (FromThis i q) None Rest) o))
   ask_tells v d k i q w ts None = tt
   ask_tells v d k i q w ts (Some x) =
-      cond_both (is_enabled (state v) x) (record { deed = None; half = Giving i q x; walk = w; said = silent k })
-      (acts v d w k ts (FromThis i q) None Rest) (λ (y : Step). Tells l (Some y)) (λ e. tt) (λ e. tt)
+      cond_both (is_enabled (story_state v) x) (record { deed = None; half = Giving i q x; walk = w; said = silent k })
+      (step_of_act v d w k ts (FromThis i q) None Rest) (λ (y : Step). Tells l (Some y)) (λ e. tt) (λ e. tt)
 
   given_tells : (v : Story) (d i : ℕ) (q : Kind) (x : Pointer) (w : Walk) (ts : List Task)
       → Tells l (given_by v d w i q x ts)
@@ -114,11 +114,11 @@ module _ (l : List Task) where
 
   -- a value goes into a cell, or its funds are brought first
   going_tells : (v : Story) (d k : ℕ) (w : Walk) (ts : List Task) (a : Act) (o : Option Going)
-      → Tells l (Some (on_going (sends v d w k ts a) (acts v d w k ts a None Rest) o))
+      → Tells l (Some (on_going (sends v d w k ts a) (step_of_act v d w k ts a None Rest) o))
   going_tells v d k w ts a None = tt
-  going_tells v d k w ts a (Some x) = go (slot w.slots x.1)
+  going_tells v d k w ts a (Some x) = go (slot_pointer w.slots x.1)
     where
-      go : (o : Option Pointer) → Tells l (Some (on (brings w k) (swaps v d w k ts a x.0 x.1) o))
+      go : (o : Option Pointer) → Tells l (Some (on (brings w k) (step_of_swap v d w k ts a x.0 x.1) o))
       go None = tt
       go (Some y) = tt
 
@@ -126,7 +126,7 @@ module _ (l : List Task) where
   sent_tells v d w [] = tt
   sent_tells v d w (t ∷ ts) = go (going w.slots t.act)
     where
-      go : (o : Option Going) → Tells l (option_map (λ (x : Going). swaps v d w t.statement ts t.act x.0 x.1) o)
+      go : (o : Option Going) → Tells l (option_map (λ (x : Going). step_of_swap v d w t.statement ts t.act x.0 x.1) o)
       go None = tt
       go (Some x) = tt
 
@@ -140,8 +140,8 @@ module _ (l : List Task) where
   each_act v d w k ts =
       record {
         none = tt;
-        load = λ c. each_cell v d w k ts (Load c) (cell_at (state v) w.slots c);
-        compare = λ i c weak. each_cell v d w k ts (Compare i c weak) (cell_at (state v) w.slots c);
+        load = λ c. each_cell v d w k ts (Load c) (cell_of_name (story_state v) w.slots c);
+        compare = λ i c weak. each_cell v d w k ts (Compare i c weak) (cell_of_name (story_state v) w.slots c);
       }
 
   each_stage : (v : Story) (w : Walk) (k : ℕ) → IsEachRefill v w k (λ (x : Step). Tells l (Some x))
@@ -158,21 +158,21 @@ module _ (l : List Task) where
   first_tells : (v : Story) (d k : ℕ) (w : Walk) (ts : List Task) (a : Act)
       → ((i : ℕ) (must : Bool) → a ≡ Lock i must → LocksNext k must l)
       → Tells l (Some (first v d w k ts a))
-  first_tells v d k w ts (Make form) next = begin_tells w k ts (least d (state v).stores)
-  first_tells v d k w ts (Share i) next = plain share _ (λ x. share_plain x.kind x) (slot w.slots i)
+  first_tells v d k w ts (Make form) next = begin_tells w k ts (least d (story_state v).stores)
+  first_tells v d k w ts (Share i) next = plain share _ (λ x. share_plain x.kind x) (slot_pointer w.slots i)
   first_tells v d k w ts (Put i) next =
-      plain (leave (state v)) _ (λ x. leave_plain x.kind x (is_last (state v) x)) (slot w.slots i)
+      plain (leave (story_state v)) _ (λ x. leave_plain x.kind x (is_last (story_state v) x)) (slot_pointer w.slots i)
   first_tells v d k w ts (Leave i) next =
-      plain (leave (state v)) _ (λ x. leave_plain x.kind x (is_last (state v) x)) (slot w.slots i)
+      plain (leave (story_state v)) _ (λ x. leave_plain x.kind x (is_last (story_state v) x)) (slot_pointer w.slots i)
   first_tells v d k w ts (Clear i) next =
-      plain (leave (state v)) _ (λ x. leave_plain x.kind x (is_last (state v) x)) (slot w.slots i)
-  first_tells v d k w ts (Count i) next = plain (tell v) _ (λ x. refl) (slot w.slots i)
-  first_tells v d k w ts (Downgrade i) next = plain downgrade _ (λ x. refl) (slot w.slots i)
-  first_tells v d k w ts (Expired i) next = plain (tell_expired (state v)) _ (λ x. refl) (slot w.slots i)
-  first_tells v d k w ts (Read i) next = plain (read (state v)) _ (λ x. refl) (inside (slot w.slots i))
-  first_tells v d k w ts (FromThis i kind) next = ask_tells v d k i kind w ts (inside (slot w.slots i))
+      plain (leave (story_state v)) _ (λ x. leave_plain x.kind x (is_last (story_state v) x)) (slot_pointer w.slots i)
+  first_tells v d k w ts (Count i) next = plain (tell v) _ (λ x. refl) (slot_pointer w.slots i)
+  first_tells v d k w ts (Downgrade i) next = plain downgrade _ (λ x. refl) (slot_pointer w.slots i)
+  first_tells v d k w ts (Expired i) next = plain (tell_expired (story_state v)) _ (λ x. refl) (slot_pointer w.slots i)
+  first_tells v d k w ts (Read i) next = plain (read_deed (story_state v)) _ (λ x. refl) (inside (slot_pointer w.slots i))
+  first_tells v d k w ts (FromThis i kind) next = ask_tells v d k i kind w ts (inside (slot_pointer w.slots i))
   first_tells v d k w ts (Alias i j field) next =
-      plain (alias (aliased field (place_in w.slots j))) _ (λ x. refl) (owner_slot (slot w.slots i))
+      plain (alias (aliased field (place_in w.slots j))) _ (λ x. refl) (owner_slot (slot_pointer w.slots i))
   first_tells v d k w ts (Move i) next = tt
   first_tells v d k w ts (Ask q) next = tt
   first_tells v d k w ts (Offer i c) next = plain share _ (λ x. share_plain x.kind x) (offered w.slots i c)
@@ -180,15 +180,15 @@ module _ (l : List Task) where
   first_tells v d k w ts (Exchange i c) next = going_tells v d k w ts (Exchange i c) (going w.slots (Exchange i c))
   first_tells v d k w ts (Load c) next =
       each_load v d w k ts c (λ (x : Step). Tells l (Some x))
-      (each_cell v d w k ts (Load c) (cell_at (state v) w.slots c)) tt
+      (each_cell v d w k ts (Load c) (cell_of_name (story_state v) w.slots c)) tt
   first_tells v d k w ts (Compare i c weak) next =
-      each_compares v d w k ts (Compare i c weak) (cell_at (state v) w.slots c) (λ (x : Step). Tells l (Some x))
-      (each_cell v d w k ts (Compare i c weak) (cell_at (state v) w.slots c))
-      (compared_in w.slots (comparing w.slots i weak)) (seen v (cell_at (state v) w.slots c))
+      each_compares v d w k ts (Compare i c weak) (cell_of_name (story_state v) w.slots c) (λ (x : Step). Tells l (Some x))
+      (each_cell v d w k ts (Compare i c weak) (cell_of_name (story_state v) w.slots c))
+      (compared_in w.slots (comparing w.slots i weak)) (seen v (cell_of_name (story_state v) w.slots c))
   first_tells v d k w ts Drop next =
-      plain (leave (state v)) _ (λ x. leave_plain x.kind x (is_last (state v) x)) (slot w.slots (other w.slots))
+      plain (leave (story_state v)) _ (λ x. leave_plain x.kind x (is_last (story_state v) x)) (slot_pointer w.slots (other w.slots))
   first_tells v d k w ts (Lock i must) next =
-      lock_tells v d k i w ts must (locked w.slots (Lock i must)) refl (next i must refl)
+      lock_tells v d k i w ts must (locked_pointer w.slots (Lock i must)) refl (next i must refl)
 
   task_tells : (v : Story) (d : ℕ) (w : Walk) (ts : List Task) → l ≡ ts → Tells l (begun v d w ts)
   task_tells v d w [] is = tt
@@ -204,7 +204,7 @@ module _ (l : List Task) where
       → Tells l (made_on v d w b i f ts)
   make_tells v d i w b f [] = tt
   make_tells v d i w b f (t ∷ ts) =
-      let found = get_or (known (pending v d)) i 0 in
+      let found = get_or (known_words (pending v d)) i 0 in
       let want = get_or (wanted (form_of t.act)) i 0 in
       cond_both (i == 5) (claims w t.statement ts b (form_of t.act)) (prepares found want w t.statement b i f)
       (λ (x : Step). Tells l (Some x))
@@ -213,16 +213,16 @@ module _ (l : List Task) where
   end_tells : (v : Story) (w : Walk) (e : Ending) (es : List Ending) → Tells l (Some (ends_on v w e es))
   end_tells v w e es =
       let finished : Step = record {
-        deed = Some (deed.Finish e.block (weak (state v) (object_in v e.block) == 0));
+        deed = Some (deed.Finish e.block (weak (story_state v) (object_of_block v e.block) == 0));
         half = Rest;
         walk = with_endings w es;
         said = silent e.statement;
       } in
       let cleared = within (with_endings w (staged e ∷ es)) e.statement (Some (deed.Clear e.block e.stage)) Rest in
       let looked = within w e.statement None Clearing in
-      cond_both (e.stage == 3) finished (cond (word_at v (Member e.block e.stage) == 0) cleared looked)
+      cond_both (e.stage == 3) finished (cond (word_of_cell v (Member e.block e.stage) == 0) cleared looked)
       (λ (x : Step). Tells l (Some x)) (λ c. tt)
-      (λ c. cond_both (word_at v (Member e.block e.stage) == 0) cleared looked (λ (x : Step). Tells l (Some x))
+      (λ c. cond_both (word_of_cell v (Member e.block e.stage) == 0) cleared looked (λ (x : Step). Tells l (Some x))
       (λ b. tt) (λ b. tt))
 
   -- what comes out of a member leaves later
@@ -233,7 +233,7 @@ module _ (l : List Task) where
   rest_tells : (v : Story) (d : ℕ) (w : Walk) (es : List Ending) → l ≡ w.todo → Tells l (at_rest v d w es)
   rest_tells v d w [] is = task_tells v d w w.todo is
   rest_tells v d w (e ∷ es) is =
-      cond_both (is_full (slot w.slots (hand w.slots))) (first v d w e.statement w.todo (Leave (hand w.slots)))
+      cond_both (is_full (slot_pointer w.slots (hand w.slots))) (first v d w e.statement w.todo (Leave (hand w.slots)))
       (ends_on v w e es)
       (λ (x : Step). Tells l (Some x)) (λ c. first_tells v d e.statement w w.todo (Leave (hand w.slots))
       (λ i must q. cc)) (λ c. end_tells v w e es)
@@ -242,17 +242,17 @@ module _ (l : List Task) where
   tried_tells v d word w [] is = tt
   tried_tells v d word w (t ∷ ts) is = go t.act refl
     where
-      one : (i : ℕ) (must : Bool) (o : Option Pointer) → locked w.slots (Lock i must) ≡ o → LocksNext t.statement must l
+      one : (i : ℕ) (must : Bool) (o : Option Pointer) → locked_pointer w.slots (Lock i must) ≡ o → LocksNext t.statement must l
           → Tells l (option_map (tries v d w t.statement ts (Lock i must) word) o)
       one i must None at next = tt
       one i must (Some x) at next =
-          cond_both (owner_word v x == word) (acts v d w t.statement ts (Lock i must) (Some (lock (state v) x)) Rest)
+          cond_both (owner_word v x == word) (step_of_act v d w t.statement ts (Lock i must) (Some (lock (story_state v) x)) Rest)
           (trying w t.statement (owner_word v x)) (λ (s : Step). Tells l (Some s))
           (λ e. lock_done v d t.statement i w ts must x at next) (λ e. tt)
 
-      go : (a : Act) → t.act ≡ a → Tells l (option_map (tries v d w t.statement ts a word) (locked w.slots a))
+      go : (a : Act) → t.act ≡ a → Tells l (option_map (tries v d w t.statement ts a word) (locked_pointer w.slots a))
       go (Lock i must) e =
-          one i must (locked w.slots (Lock i must)) refl (subst (LocksNext t.statement must) (sym is) (refl, (i, e)))
+          one i must (locked_pointer w.slots (Lock i must)) refl (subst (LocksNext t.statement must) (sym is) (refl, (i, e)))
       go _ e = tt
 
   pub step_tells : (v : Story) (d : ℕ) (h : Half) (w : Walk) → l ≡ w.todo → Tells l (step_at v d h w)

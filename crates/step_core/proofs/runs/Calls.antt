@@ -12,7 +12,7 @@ use Rattle.step_threads.specs.declared.said.Stepped.{Stepped}
 use Rattle.step_threads.specs.declared.said.Stepped.TheVariants.{Waited, Done}
 use Rattle.step_core.specs.declared.trace.TraceStep.{TraceStep}
 use Rattle.step_threads.specs.Scenes.{walk_of}
-use Rattle.step_core.specs.Runs.{Adds, CallsOn, FinishesCall, IsRun, Moves, Settles, compares_next, goes_on, is_calling, is_owing}
+use Rattle.step_core.specs.Runs.{AddsRun, CallsOn, FinishesCall, IsRun, MovesOn, Settles, compares_next, call_goes_on, is_calling, is_owing}
 use Rattle.step_core.specs.Turning.{HasBegun}
 use Rattle.step_core.specs.Worlds.{Advances, Sight, Steps, half_of, scene}
 use Rattle.step_core.proofs.runs.Chains.{moves_more}
@@ -49,7 +49,7 @@ pub record IsGoing (d : ℕ) (u : Sight) (xs : List TraceStep) (m : Sight) (ys :
   pub added : List TraceStep
   pub items : ys ≡ xs ++ added
   pub calls : CallsOn d u added m
-  pub moves : All Moves added
+  pub moves : All MovesOn added
   pub actors : length m.walks ≡ length u.walks
 
 pub going_more : (d : ℕ) (u m w : Sight) (xs ys zs : List TraceStep) (r : Stepped) → IsGoing d u xs m ys
@@ -72,11 +72,11 @@ calling_on d u u' r begun steps goes done =
     let over = (at_end d u u' begun (subst (λ (s : Stepped). Steps d u s u') done steps)).1 in
     false≢true (sym (ended (half_of u d) (walk_of (scene u) d).todo over.half over.walk) ∙ goes)
   where
-    ended : (h : Half) (ts : List Task) → h ≡ Rest → ts ≡ [] → goes_on h ts ≡ false
-    ended h ts rests none = ap (λ (x : Half). goes_on x ts) rests ∙ ap compares_next none
+    ended : (h : Half) (ts : List Task) → h ≡ Rest → ts ≡ [] → call_goes_on h ts ≡ false
+    ended h ts rests none = ap (λ (x : Half). call_goes_on x ts) rests ∙ ap compares_next none
 
 -- a thread whose call is done rests
-pub rests : (h : Half) (ts : List Task) → goes_on h ts ≡ false → h ≡ Rest
+pub rests : (h : Half) (ts : List Task) → call_goes_on h ts ≡ false → h ≡ Rest
 rests Rest ts e = refl
 rests (Making b i f) ts e = absurd (false≢true (sym e))
 rests (Locking word) ts e = absurd (false≢true (sym e))
@@ -90,8 +90,8 @@ rests Clearing ts e = absurd (false≢true (sym e))
 
 -- one thread more, which had a call to finish or none
 pub settled_one : (d : ℕ) (u u' : Sight) (xs ys : List TraceStep) → is_owing (half_of u d) ≡ true
-    → Adds (FinishesCall d) u xs u' ys
-    → Adds (Settles d) u xs u' ys
+    → AddsRun (FinishesCall d) u xs u' ys
+    → AddsRun (Settles d) u xs u' ys
 settled_one d u u' xs ys is adds =
     record {
       added = adds.added;
@@ -101,11 +101,11 @@ settled_one d u u' xs ys is adds =
     }
 
 pub settled_none : (d : ℕ) (u : Sight) (xs : List TraceStep) → is_owing (half_of u d) ≡ false
-    → Adds (Settles d) u xs u xs
+    → AddsRun (Settles d) u xs u xs
 settled_none d u xs is =
     record {
       added = [];
       items = sym (append-nil xs);
       run = record { owing = λ yes. absurd (false≢true (sym is ∙ yes)); none = λ _. (refl, refl) };
-      moves = All-nil Moves;
+      moves = All-nil MovesOn;
     }

@@ -7,7 +7,7 @@ use Rattle.std.proofs.lemmas.List.Elements.{All-append, All-cons, All-nil}
 use Rattle.step_threads.specs.declared.said.Stepped.{Stepped}
 use Rattle.step_threads.specs.declared.said.Stepped.TheVariants.{Waited, Done}
 use Rattle.step_core.specs.declared.trace.TraceStep.{TraceStep}
-use Rattle.step_core.specs.Runs.{Adds, InOrder, IsRun, IsStepOf, Moves, RunsToEnd}
+use Rattle.step_core.specs.Runs.{AddsRun, InOrder, IsRun, IsStepOf, MovesOn, RunsToEnd}
 use Rattle.step_core.specs.Sights.{IsOver}
 use Rattle.step_core.specs.Worlds.{Advances, Sight}
 
@@ -25,12 +25,12 @@ pub number_of : (n : ℕ) → (n + 1) - 1 ≡ n
 number_of n = omega arith
 
 -- no step of a longer list waits, where the last doesn't
-pub moves_more : (xs ys : List TraceStep) (n : ℕ) (r : Stepped) → All Moves xs → r ≢ Waited
+pub moves_more : (xs ys : List TraceStep) (n : ℕ) (r : Stepped) → All MovesOn xs → r ≢ Waited
     → ys ≡ xs ++ record { actor = n; stepped = r } ∷ []
-    → All Moves ys
+    → All MovesOn ys
 moves_more xs ys n r all never is =
     let x : TraceStep = record { actor = n; stepped = r } in
-    subst (All Moves) (sym is) (All-append Moves xs (x ∷ []) all (All-cons Moves x [] never (All-nil Moves)))
+    subst (All MovesOn) (sym is) (All-append MovesOn xs (x ∷ []) all (All-cons MovesOn x [] never (All-nil MovesOn)))
 
 -- how far thread d has run alone
 pub record IsOn (d : ℕ) (u : Sight) (xs : List TraceStep) (m : Sight) (ys : List TraceStep) : Type 0 where
@@ -38,7 +38,7 @@ pub record IsOn (d : ℕ) (u : Sight) (xs : List TraceStep) (m : Sight) (ys : Li
   pub items : ys ≡ xs ++ added
   pub run : IsRun u added m
   pub alone : All (IsStepOf d) added
-  pub moves : All Moves added
+  pub moves : All MovesOn added
   pub actors : length m.walks ≡ length u.walks
 
 pub on_more : (d : ℕ) (u m w : Sight) (xs ys zs : List TraceStep) (r : Stepped) → IsOn d u xs m ys → Advances d m r w
@@ -58,7 +58,7 @@ on_more d u m w xs ys zs r on advances actors ne never is =
     }
 
 pub on_end : (d : ℕ) (u m w : Sight) (xs ys : List TraceStep) → IsOn d u xs m ys → w ≡ m → IsOver d m
-    → Adds (RunsToEnd d) u xs w ys
+    → AddsRun (RunsToEnd d) u xs w ys
 on_end d u m w xs ys on same over =
     record {
       added = on.added;
@@ -84,14 +84,14 @@ in_order R each (suc n) u u' xs runs =
 pub whole : (R : ℕ → Sight → List TraceStep → Sight → Type 0)
     → ((d : ℕ) (m w : Sight) (ys : List TraceStep) → R d m ys w → IsRun m ys w)
     → (n : ℕ) (u m u' : Sight) (xs ys : List TraceStep)
-    → IsRun u xs m → Adds (InOrder R n) m xs u' ys → IsRun u ys u'
+    → IsRun u xs m → AddsRun (InOrder R n) m xs u' ys → IsRun u ys u'
 whole R each n u m u' xs ys run adds =
     subst (λ (l : List TraceStep). IsRun u l u') (sym adds.items)
     (run_joined u m u' xs adds.added run (in_order R each n m u' adds.added adds.run))
 
 -- so many threads ran in this way, and then the next
 pub adds_more : (R : ℕ → Sight → List TraceStep → Sight → Type 0) (n : ℕ) (u m u' : Sight) (xs ys zs : List TraceStep)
-    → Adds (InOrder R n) u xs m ys → Adds (R n) m ys u' zs → Adds (InOrder R (n + 1)) u xs u' zs
+    → AddsRun (InOrder R n) u xs m ys → AddsRun (R n) m ys u' zs → AddsRun (InOrder R (n + 1)) u xs u' zs
 adds_more R n u m u' xs ys zs a b =
     record {
       added = a.added ++ b.added;
@@ -99,16 +99,16 @@ adds_more R n u m u' xs ys zs a b =
       run =
           subst (λ (k : ℕ). InOrder R k u (a.added ++ b.added) u') (suc_more n)
           (a.added, b.added, m, refl, a.run, b.run);
-      moves = All-append Moves a.added b.added a.moves b.moves;
+      moves = All-append MovesOn a.added b.added a.moves b.moves;
     }
   where
     suc_more : (k : ℕ) → suc k ≡ k + 1
     suc_more k = omega arith
 
 -- nor one of a list that a part made longer
-pub moves_on : (R : Sight → List TraceStep → Sight → Type 0) (u u' : Sight) (xs ys : List TraceStep) → All Moves xs
-    → Adds R u xs u' ys → All Moves ys
-moves_on R u u' xs ys all adds = subst (All Moves) (sym adds.items) (All-append Moves xs adds.added all adds.moves)
+pub moves_on : (R : Sight → List TraceStep → Sight → Type 0) (u u' : Sight) (xs ys : List TraceStep) → All MovesOn xs
+    → AddsRun R u xs u' ys → All MovesOn ys
+moves_on R u u' xs ys all adds = subst (All MovesOn) (sym adds.items) (All-append MovesOn xs adds.added all adds.moves)
 
 -- one more number, and its step
 pub number_more : (xs ys : List TraceStep) (turns : List ℕ) (i : ℕ) (r : Stepped) → i < length turns

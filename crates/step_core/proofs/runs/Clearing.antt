@@ -5,16 +5,16 @@ use Rattle.std.proofs.lemmas.Bool.{cond_both, eqb-false}
 use Rattle.control_word.specs.State.{kind_of_member, weak}
 use Rattle.step_table.specs.declared.cell_deed.Cell.TheVariants.{Member}
 use Rattle.step_table.specs.declared.past.Deed.TheVariants as deed
-use Rattle.step_table.specs.Cells.{word_at}
+use Rattle.step_table.specs.Cells.{word_of_cell}
 use Rattle.step_table.specs.Contents.{seen}
-use Rattle.step_table.specs.Stories.{Story, object_in, state}
+use Rattle.step_table.specs.Stories.{Story, object_of_block, story_state}
 use Rattle.step_threads.specs.declared.ending.Ending.{Ending}
 use Rattle.step_threads.specs.declared.half.Half.TheVariants.{Rest, Clearing}
 use Rattle.step_threads.specs.Courses.{Walk}
 use Rattle.step_threads.specs.Endings.{staged}
 use Rattle.step_threads.specs.NextSteps.{emptied, story_after}
 use Rattle.step_threads.specs.Steps.{Step, empties, ends_on, silent, with_endings, within}
-use Rattle.step_threads.specs.Threads.{IsClearing}
+use Rattle.step_threads.specs.Threads.{IsClearingMember}
 use Rattle.step_core.proofs.runs.Alone.{IsLess}
 use Rattle.step_core.proofs.runs.Trying.{alone_back}
 use Rattle.step_core.proofs.telling.Walking.{IsFree, carried_most, over_less, staged_less, taken_out}
@@ -24,16 +24,16 @@ pub end_less : (v : Story) (d : ℕ) (w : Walk) (e : Ending) (es : List Ending) 
     → IsLess v d Rest w (Some (ends_on v w e es))
 end_less v d w e es is free le =
     let finished : Step = record {
-      deed = Some (deed.Finish e.block (weak (state v) (object_in v e.block) == 0));
+      deed = Some (deed.Finish e.block (weak (story_state v) (object_of_block v e.block) == 0));
       half = Rest;
       walk = with_endings w es;
       said = silent e.statement;
     } in
     let cleared = within (with_endings w (staged e ∷ es)) e.statement (Some (deed.Clear e.block e.stage)) Rest in
     let looked = within w e.statement None Clearing in
-    cond_both (e.stage == 3) finished (cond (word_at v (Member e.block e.stage) == 0) cleared looked) (λ (x : Step). IsLess v d Rest w (Some x))
+    cond_both (e.stage == 3) finished (cond (word_of_cell v (Member e.block e.stage) == 0) cleared looked) (λ (x : Step). IsLess v d Rest w (Some x))
     (λ _. let a = over_less w e es is free in record { own = omega (arith, a); most = omega (arith, a) })
-    (λ ne. cond_both (word_at v (Member e.block e.stage) == 0) cleared looked (λ (x : Step). IsLess v d Rest w (Some x))
+    (λ ne. cond_both (word_of_cell v (Member e.block e.stage) == 0) cleared looked (λ (x : Step). IsLess v d Rest w (Some x))
     (λ _.
     let n = eqb-false e.stage 3 ne in
     let a = staged_less w e es is free (omega (arith, le, n)) in
@@ -41,7 +41,8 @@ end_less v d w e es is free le =
     (λ _. record { own = omega arith; most = omega arith }))
 
 -- what a member holds comes out: it has to leave, and what of its funds wasn't taken is given back
-pub out_less : (v : Story) (d : ℕ) (w : Walk) (es : List Ending) → w.endings ≡ es → IsClearing w.slots es → IsLess v d Clearing w (emptied v w es)
+pub out_less : (v : Story) (d : ℕ) (w : Walk) (es : List Ending) → w.endings ≡ es → IsClearingMember w.slots es
+    → IsLess v d Clearing w (emptied v w es)
 out_less v d w [] is held = absurd held
 out_less v d w (e ∷ es) is held =
     let y = empties v w e es in

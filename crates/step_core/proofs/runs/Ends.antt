@@ -9,7 +9,7 @@ use Rattle.step_threads.specs.declared.half.Half.{Half}
 use Rattle.step_threads.specs.declared.half.Half.TheVariants.{Rest}
 use Rattle.step_threads.specs.declared.said.Stepped.{Stepped}
 use Rattle.step_core.specs.declared.trace.TraceStep.{TraceStep}
-use Rattle.step_table.specs.Holdings.{slot}
+use Rattle.step_table.specs.Holdings.{slot_pointer}
 use Rattle.step_threads.specs.Courses.{Walk, other}
 use Rattle.step_core.specs.Runs.{IsRun, IsStepOf, RunInOrder}
 use Rattle.step_core.specs.Sights.{IsOver}
@@ -26,7 +26,7 @@ still_over d e u u' r ne steps over =
       walk = ap (λ (w : Walk). w.todo) (get_or-set_other u.walks d e (walk_by (walk_of (scene u) d) x) nowhere ne) ∙ over.walk;
       endings = ap (λ (w : Walk). w.endings) (get_or-set_other u.walks d e (walk_by (walk_of (scene u) d) x) nowhere ne) ∙ over.endings;
       half = get_or-set_other u.halves d e (half_by (half_of u d) x) Rest ne ∙ over.half;
-      names = subst (λ (w : Walk). (i : ℕ) → i < other w.slots → slot w.slots i ≡ None)
+      names = subst (λ (w : Walk). (i : ℕ) → i < other w.slots → slot_pointer w.slots i ≡ None)
           (sym (get_or-set_other u.walks d e (walk_by (walk_of (scene u) d) x) nowhere ne)) over.names;
     })
 

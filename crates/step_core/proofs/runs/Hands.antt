@@ -10,43 +10,43 @@ use Rattle.control_word.proofs.lists.Tallies.{num, num_has}
 use Rattle.control_word.specs.State.{Held, bag_size}
 use Rattle.step_table.specs.declared.slot.Slot.{Slot}
 use Rattle.step_table.specs.declared.slot.Slot.TheVariants.{Empty, Full}
-use Rattle.step_table.specs.Holdings.{Slots, full, has_object, plain, pointer_of, slot, value}
+use Rattle.step_table.specs.Holdings.{Slots, full, slot_has_object, plain, pointer_of, slot_pointer, slot_value}
 use Rattle.step_table.specs.Openings.{opening, share_of}
-use Rattle.step_table.specs.Stories.{Kept, Story, state}
+use Rattle.step_table.specs.Stories.{Kept, Story, story_state}
 use Rattle.step_threads.specs.declared.act.Task.{Task}
 use Rattle.step_threads.specs.declared.ending.Ending.{Ending}
 use Rattle.step_threads.specs.declared.thread.Thread.{Thread}
-use Rattle.step_threads.specs.Courses.{Drops, IsReady, Ready, Walk, hand, other}
+use Rattle.step_threads.specs.Courses.{DropsInTime, IsReady, TasksMayCome, Walk, hand, other}
 use Rattle.step_threads.specs.Scenes.{nowhere}
 use Rattle.step_threads.proofs.Courses.{free_plain}
-use Rattle.step_core.specs.Told.{IsTold, sight}
+use Rattle.step_core.specs.Told.{TotalsAreTold, sight}
 use Rattle.step_core.specs.Totals.{IsAtEnd}
 use Rattle.step_core.specs.Worlds.{AllFit, Sight, thread_walk}
 use Rattle.step_core.proofs.runs.Measures.{empty_names}
 
-not_full : (x : Slot) → pointer_of x ≡ None → has_object x ≡ false
+not_full : (x : Slot) → pointer_of x ≡ None → slot_has_object x ≡ false
 not_full (Empty p) e = refl
 not_full (Full x) e = cc
 
-none_full : (slots : Slots) → ((i : ℕ) → i < length slots → slot slots i ≡ None) → full slots ≡ 0
+none_full : (slots : Slots) → ((i : ℕ) → i < length slots → slot_pointer slots i ≡ None) → full slots ≡ 0
 none_full [] f = refl
 none_full (x ∷ xs) f =
     let e = not_full x (f 0 (omega arith)) in
-    ap (length {A = Slot}) (cond-false (has_object x) (x ∷ filter has_object xs) (filter has_object xs) e)
+    ap (length {A = Slot}) (cond-false (slot_has_object x) (x ∷ filter slot_has_object xs) (filter slot_has_object xs) e)
     ∙ none_full xs (λ i lt. f (suc i) (omega (arith, lt)))
 
 -- with no task left nothing was taken, and nothing is to be dropped
 empty_slots : (slots : Slots) (taken : Bool) (es : List Ending) (ts : List Task) → IsReady slots taken es ts → ts ≡ [] → es ≡ []
-    → ((i : ℕ) → i < other slots → slot slots i ≡ None) → (i : ℕ) → i < length slots → slot slots i ≡ None
+    → ((i : ℕ) → i < other slots → slot_pointer slots i ≡ None) → (i : ℕ) → i < length slots → slot_pointer slots i ≡ None
 empty_slots slots taken es ts ready none over names i lt =
-    let not : taken ≡ false = subst (λ (l : List Task). Ready (other slots) taken l) none ready.ready in
-    let mine : value slots (hand slots) ≡ plain = free_plain slots taken es ready.free over not in
-    let owed : value slots (other slots) ≡ plain =
-    ⊎_elim (λ (p : value slots (other slots) ≡ plain). p) (λ (d : Drops ts). absurd (subst Drops none d)) ready.owes in
+    let not : taken ≡ false = subst (λ (l : List Task). TasksMayCome (other slots) taken l) none ready.ready in
+    let mine : slot_value slots (hand slots) ≡ plain = free_plain slots taken es ready.free over not in
+    let owed : slot_value slots (other slots) ≡ plain =
+    ⊎_elim (λ (p : slot_value slots (other slots) ≡ plain). p) (λ (d : DropsInTime ts). absurd (subst DropsInTime none d)) ready.owes in
     let some = ready.some in
-    ⊎_elim (λ (e : i ≡ hand slots). ap (slot slots) e ∙ ap pointer_of mine)
+    ⊎_elim (λ (e : i ≡ hand slots). ap (slot_pointer slots) e ∙ ap pointer_of mine)
     (λ (ne : i ≢ hand slots).
-    ⊎_elim (λ (e : i ≡ other slots). ap (slot slots) e ∙ ap pointer_of owed)
+    ⊎_elim (λ (e : i ≡ other slots). ap (slot_pointer slots) e ∙ ap pointer_of owed)
     (λ (no : i ≢ other slots). names i (omega (arith, lt, some, ne, no))) (cases_eq i (other slots)))
     (cases_eq i (hand slots))
 
@@ -57,8 +57,8 @@ at_thread (t ∷ ts) zero lt = (t, refl, refl)
 at_thread (t ∷ ts) (suc d) lt = at_thread ts d (omega (arith, lt))
 
 -- a thread at its end has nothing
-empty_bag : (v : Story) (threads : List Thread) (m e d : ℕ) → AllFit v threads → IsTold (sight v threads) m e → IsAtEnd (sight v threads)
-    → d < length threads → bag_size (state v) d ≡ 0
+empty_bag : (v : Story) (threads : List Thread) (m e d : ℕ) → AllFit v threads → TotalsAreTold (sight v threads) m e → IsAtEnd (sight v threads)
+    → d < length threads → bag_size (story_state v) d ≡ 0
 empty_bag v threads m e d fit told end lt =
     let r = at_thread threads d lt in
     let t = r.0 in
@@ -68,14 +68,14 @@ empty_bag v threads m e d fit told end lt =
     let within : d < length ws = omega (arith, lt, l) in
     let todo : (thread_walk t).todo ≡ [] = sym (ap (λ (w : Walk). w.todo) r.2) ∙ end.walks d nowhere within in
     let over : (thread_walk t).endings ≡ [] = sym (ap (λ (w : Walk). w.endings) r.2) ∙ end.endings d nowhere within in
-    let names = subst (λ (w : Walk). (i : ℕ) → i < other w.slots → slot w.slots i ≡ None) r.2
+    let names = subst (λ (w : Walk). (i : ℕ) → i < other w.slots → slot_pointer w.slots i ≡ None) r.2
     (empty_names (get_or ws d nowhere) (told.tidy d) (end.walks d nowhere within)) in
     f.holds.size
     ∙ none_full (thread_walk t).slots (empty_slots (thread_walk t).slots (thread_walk t).taken (thread_walk t).endings (thread_walk t).todo
     f.ready todo over names)
 
 -- a desk that isn't a thread's has no allowance
-no_bag : (v : Story) (d : ℕ) → Kept v → v.extent.actors ≤ d → bag_size (state v) d ≡ 0
+no_bag : (v : Story) (d : ℕ) → Kept v → v.extent.actors ≤ d → bag_size (story_state v) d ≡ 0
 no_bag v d kept le =
     let r = (allowed (opening v.extent) v.history kept.stands.legal).rooms d in
     let a = ap (λ (f : ℕ → ℕ). f d) kept.allowed in
@@ -88,16 +88,17 @@ no_hands (x ∷ xs) f =
     let some = num_has (λ (y : Held). y.desk == x.desk) x (x ∷ xs) (inl refl) (eq-eqb x.desk x.desk refl) in
     let none = f x.desk in absurd (omega (arith, some, none))
 
-all_empty : (v : Story) (threads : List Thread) (m e : ℕ) → AllFit v threads → IsTold (sight v threads) m e → Kept v → IsAtEnd (sight v threads)
-    → (state v).hands ≡ []
+all_empty : (v : Story) (threads : List Thread) (m e : ℕ) → AllFit v threads → TotalsAreTold (sight v threads) m e → Kept v
+    → IsAtEnd (sight v threads)
+    → (story_state v).hands ≡ []
 all_empty v threads m e fit told kept end =
     let l = length-map threads thread_walk in
     let n = told.threads in
-    no_hands (state v).hands
+    no_hands (story_state v).hands
     (λ d. ⊎_elim (λ (lt : d < length threads). empty_bag v threads m e d fit told end lt)
     (λ (ge : length threads ≤ d). no_bag v d kept (omega (arith, l, n, ge))) (cases_lt d (length threads)))
 
 pub hands_now : (u : Sight) (v : Story) (threads : List Thread) (m e : ℕ) → sight v threads ≡ u → AllFit v threads
-    → IsTold (sight v threads) m e → Kept v → IsAtEnd u → (state u.story).hands ≡ []
+    → TotalsAreTold (sight v threads) m e → Kept v → IsAtEnd u → (story_state u.story).hands ≡ []
 hands_now u v threads m e is fit told kept =
-    subst (λ (x : Sight). IsAtEnd x → (state x.story).hands ≡ []) is (all_empty v threads m e fit told kept)
+    subst (λ (x : Sight). IsAtEnd x → (story_state x.story).hands ≡ []) is (all_empty v threads m e fit told kept)

@@ -17,12 +17,12 @@ use Rattle.control_word.proofs.views.Resting.{rests_exactly}
 use Rattle.step_table.specs.declared.extent.Extent.{Extent}
 use Rattle.step_table.specs.declared.past.Deed.{Deed}
 use Rattle.step_core.specs.declared.trace.TraceStep.{TraceStep}
-use Rattle.step_core.specs.Headline.{CameOut, CountsAtRest, LastLeft, LocksWhereOwned, ValuesAtLastLeave, ValuesOnce, Was}
+use Rattle.step_core.specs.Headline.{ValueCameOut, CountsAtRest, LastLeft, LocksWhereOwned, ValuesAtLastLeave, ValuesOnce, Was}
 use Rattle.step_table.specs.Openings.{opening}
 use Rattle.step_threads.specs.NextSteps.{story_after, story_by}
 use Rattle.step_threads.specs.Steps.{Step}
-use Rattle.step_table.specs.Stories.{Kept, Nothing, Story, added, event_of, state}
-use Rattle.step_core.specs.Totals.{is_last}
+use Rattle.step_table.specs.Stories.{Kept, Nothing, Story, event_added, event_of, story_state}
+use Rattle.step_core.specs.Totals.{is_last_leave}
 use Rattle.step_core.specs.Worlds.{Sight, Steps, step_of}
 
 -- a step of the run, with what was before it and what is after it
@@ -48,7 +48,7 @@ same_extent v d (Some x) = go x.deed
     go (Some y) = refl
 
 -- the event of a step could come there
-pub asked : (u : Sight) (x : TraceStep) (u' : Sight) (e : Event Nothing) → IsStep u x u' → Was e u x u' → Asks (state u.story) (x.actor - 1) e
+pub asked : (u : Sight) (x : TraceStep) (u' : Sight) (e : Event Nothing) → IsStep u x u' → Was e u x u' → Asks (story_state u.story) (x.actor - 1) e
 asked u x u' e step was =
     let d = x.actor - 1 in
     let same : u'.story.extent ≡ u.story.extent = ap (λ (m : Sight). m.story.extent) step.steps.1 ∙ same_extent u.story d (step_of d u) in
@@ -66,7 +66,7 @@ gave_where gave n e = go (n == 0) refl e
 
 pub locks : (u : Sight) (x : TraceStep) (u' : Sight) → IsStep u x u' → LocksWhereOwned u x u'
 locks u x u' step = λ w gave was.
-    let a = asked u x u' (Lock w gave) step was in gave_where gave (count (state u.story) (object_of w)) a.1
+    let a = asked u x u' (Lock w gave) step was in gave_where gave (count (story_state u.story) (object_of w)) a.1
 
 -- a step is one event, or none
 told : (v : Story) (d : ℕ) (x : Option Step)
@@ -74,19 +74,20 @@ told : (v : Story) (d : ℕ) (x : Option Step)
 told v d None = inl refl
 told v d (Some x) = go x.deed
   where
-    one : (e : Option (Event Nothing)) → (added d e v.history ≡ v.history) ⊎ ((y : Event Nothing) × (added d e v.history ≡ entry d y ∷ v.history))
+    one : (e : Option (Event Nothing)) → (event_added d e v.history ≡ v.history)
+        ⊎ ((y : Event Nothing) × (event_added d e v.history ≡ entry d y ∷ v.history))
     one None = inl refl
     one (Some e) = inr (e, refl)
 
     go : (y : Option Deed) → ((story_after v d y).history ≡ v.history)
         ⊎ ((e : Event Nothing) × ((story_after v d y).history ≡ entry d e ∷ v.history))
     go None = inl refl
-    go (Some y) = one (event_of (state v) y)
+    go (Some y) = one (event_of (story_state v) y)
 
 -- what the newest event is
 abbrev pub newest_is_last : List (Entry Nothing) → Bool
 newest_is_last [] = false
-newest_is_last (e ∷ h) = is_last e.event
+newest_is_last (e ∷ h) = is_last_leave e.event
 
 abbrev left_object : Event Nothing → ℕ
 left_object (Leave h last) = object_of h
@@ -96,7 +97,7 @@ abbrev newest_object : List (Entry Nothing) → ℕ
 newest_object [] = 0
 newest_object (e ∷ h) = left_object e.event
 
-ends_none : (o : ℕ) (e : Event Nothing) → is_last e ≡ false → ends_by o e ≡ 0
+ends_none : (o : ℕ) (e : Event Nothing) → is_last_leave e ≡ false → ends_by o e ≡ 0
 ends_none o (Leave h true) none = absurd (false≢true (sym none))
 ends_none o (Leave h false) none = refl
 ends_none o _ none = refl
@@ -104,13 +105,13 @@ ends_none o _ none = refl
 -- the value comes out at the step, or nothing of it changes
 abbrev pub AtLastLeave : ℕ → Sight → TraceStep → Sight → Type 0
 AtLastLeave o u x u' =
-    (LastLeft o u x u' × CameOut o u u') ⊎ ((LastLeft o u x u' → ⊥) × (given o u'.story.history ≡ given o u.story.history))
+    (LastLeft o u x u' × ValueCameOut o u u') ⊎ ((LastLeft o u x u' → ⊥) × (given o u'.story.history ≡ given o u.story.history))
 
 no_event : (o : ℕ) (u : Sight) (x : TraceStep) (u' : Sight) → u'.story.history ≡ u.story.history → AtLastLeave o u x u'
 no_event o u x u' same =
     inr (λ l. let n = ap (λ (h : List (Entry Nothing)). length h) (sym same ∙ l.left) in omega (arith, n), ap (given o) same)
 
-other_event : (o : ℕ) (u : Sight) (x : TraceStep) (u' : Sight) (e : Event Nothing) → Was e u x u' → is_last e ≡ false → AtLastLeave o u x u'
+other_event : (o : ℕ) (u : Sight) (x : TraceStep) (u' : Sight) (e : Event Nothing) → Was e u x u' → is_last_leave e ≡ false → AtLastLeave o u x u'
 other_event o u x u' e was none =
     let g = ap (given o) was in
     let z = ends_none o e none in
@@ -123,7 +124,7 @@ last_event o u x u' h step was = go (object_of h == o) refl
     go true e =
         let same = eqb-true (object_of h) o e in
         let asks = asked u x u' (Leave h true) step was in
-        let one : count (state u.story) o ≡ 1 = ap (count (state u.story)) (sym same) ∙ eqb-true _ 1 (sym asks.1) in
+        let one : count (story_state u.story) o ≡ 1 = ap (count (story_state u.story)) (sym same) ∙ eqb-true _ 1 (sym asks.1) in
         let lives = (live_while_owned (opening u.story.extent) u.story.history step.before.stands.legal o).1 (omega (arith, one)) in
         let none : given o u.story.history ≡ 0 = given_over (opening u.story.extent) u.story.history step.before.stands.legal o ∙ ap over lives in
         let g = ap (given o) was in

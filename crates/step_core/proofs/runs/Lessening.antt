@@ -19,19 +19,19 @@ use Rattle.step_threads.specs.Actors.{wanted}
 use Rattle.step_core.specs.Bounds.{alone, lock_word, spare, walk_steps, weight}
 use Rattle.step_table.specs.Contents.{seen}
 use Rattle.step_threads.specs.Programs.{kind_at}
-use Rattle.step_threads.specs.Courses.{Going, HasCell, Walk, cell_at, form_of, going, hand, idle, locked, offered, on_going, other, settled}
-use Rattle.step_table.specs.Deeds.{alias, aliased, downgrade, give, is_enabled, lock, owner_word, read, share, tell, tell_expired, on}
-use Rattle.step_threads.specs.Endings.{EndsAll, IsEnding}
-use Rattle.step_table.specs.Holdings.{Holds, inside, is_full, owner_slot, place_in, slot}
+use Rattle.step_threads.specs.Courses.{Going, HasCell, Walk, cell_of_name, form_of, going, hand, idle, locked_pointer, offered, on_going, other, walk_settled}
+use Rattle.step_table.specs.Deeds.{alias, aliased, downgrade, give, is_enabled, lock, owner_word, read_deed, share, tell, tell_expired, on}
+use Rattle.step_threads.specs.Endings.{EndsAll, IsEndingAtStage}
+use Rattle.step_table.specs.Holdings.{HoldsBag, inside, is_full, owner_slot, place_in, slot_pointer}
 use Rattle.step_threads.specs.Entries.{least}
-use Rattle.step_threads.specs.Scenes.{holding, left as leaves_by, went}
-use Rattle.step_threads.specs.NextSteps.{at_rest, begun, first, given, made_on}
-use Rattle.step_threads.specs.Steps.{Step, acts, asks, begins, brings, claims, ends_on, looks, prepares}
+use Rattle.step_threads.specs.Scenes.{holding, leaving_pointer as leaves_by, went}
+use Rattle.step_threads.specs.NextSteps.{at_rest, begun, first, given_step, made_on}
+use Rattle.step_threads.specs.Steps.{Step, step_of_act, asks, begins, brings, claims, ends_on, looks, prepares}
 use Rattle.step_threads.specs.NextSteps.{sent, step_at, stepped as stepped_by, story_after, tried, waits, waits_at, waits_on}
-use Rattle.step_threads.specs.Steps.{sends, silent, swaps, tries, trying}
-use Rattle.step_table.specs.Stories.{Kept, Story, known, pending, state}
+use Rattle.step_threads.specs.Steps.{sends, silent, step_of_swap, tries, trying}
+use Rattle.step_table.specs.Stories.{Kept, Story, known_words, pending, story_state}
 use Rattle.step_core.specs.Told.{is_prepared}
-use Rattle.step_core.specs.Turning.{IsAlone, IsInShape, IsLock, IsOut, IsStill, IsSwap, IsTried, IsUnderWay}
+use Rattle.step_core.specs.Turning.{IsAlone, IsInShape, NextActLocks, FundsAreHeld, IsStill, IsSwap, IsTried, IsUnderWay}
 use Rattle.step_core.proofs.runs.Clearing.{end_less, out_less}
 use Rattle.step_core.proofs.runs.Trying.{alone_back}
 use Rattle.step_core.proofs.telling.Walking.{carried_leaves, settled_alone, walk_alone, weight_two, went_less}
@@ -43,7 +43,7 @@ begun_less : (v : Story) (d k : ℕ) (w : Walk) (t : Task) (ts : List Task) (o :
     → IsLess v d Rest w (Some (begins w k ts o))
 begun_less v d k w t ts None none is =
     let l = settled_alone w.slots false ts in
-    let n = ap (λ (es : List Ending). walk_steps (settled w.slots false es ts)) none in
+    let n = ap (λ (es : List Ending). walk_steps (walk_settled w.slots false es ts)) none in
     let a = walk_alone w t ts none is in
     let b = weight_two t.act in
     record { own = omega (arith, l, n, a, b); most = omega (arith, l, n, a, b) }
@@ -57,34 +57,34 @@ trying_less v d k h w word is most none more =
     (λ e. let z = none e in record { own = omega (arith, z); most = omega (arith, most) })
     (λ e. let a = alone_same v w word is in record { own = omega (arith, more, a); most = omega (arith, most) })
 
-word_is : (v : Story) (w : Walk) (t : Task) (ts : List Task) (x : Pointer) → w.todo ≡ t ∷ ts → locked w.slots t.act ≡ Some x
+word_is : (v : Story) (w : Walk) (t : Task) (ts : List Task) (x : Pointer) → w.todo ≡ t ∷ ts → locked_pointer w.slots t.act ≡ Some x
     → lock_word v w.slots w.todo ≡ owner_word v x
 word_is v w t ts x is e = ap (lock_word v w.slots) is ∙ ap (on (owner_word v) 0) e
 
 looked_less : (v : Story) (d k : ℕ) (w : Walk) (t : Task) (ts : List Task) (i : ℕ) (must : Bool) (o : Option Pointer) → w.endings ≡ []
-    → w.todo ≡ t ∷ ts → t.act ≡ Lock i must → locked w.slots (Lock i must) ≡ o
-    → IsLess v d Rest w (Some (on (looks v d w k ts (Lock i must)) (acts v d w k ts (Lock i must) None Rest) o))
+    → w.todo ≡ t ∷ ts → t.act ≡ Lock i must → locked_pointer w.slots (Lock i must) ≡ o
+    → IsLess v d Rest w (Some (on (looks v d w k ts (Lock i must)) (step_of_act v d w k ts (Lock i must) None Rest) o))
 looked_less v d k w t ts i must None none is a e = plain_less v d k Rest w t ts (Lock i must) None refl refl none is (omega arith) (omega arith)
 looked_less v d k w t ts i must (Some x) none is a e =
-    cond_both (owner_word v x == 0) (acts v d w k ts (Lock i must) (Some (lock (state v) x)) Rest) (trying w k (owner_word v x))
+    cond_both (owner_word v x == 0) (step_of_act v d w k ts (Lock i must) (Some (lock (story_state v) x)) Rest) (trying w k (owner_word v x))
     (λ (y : Step). IsLess v d Rest w (Some y))
-    (λ _. plain_less v d k Rest w t ts (Lock i must) (Some (lock (state v) x)) refl refl none is (omega arith) (omega arith))
-    (λ ne. trying_less v d k Rest w (owner_word v x) (word_is v w t ts x is (ap (locked w.slots) a ∙ e)) (omega arith)
+    (λ _. plain_less v d k Rest w t ts (Lock i must) (Some (lock (story_state v) x)) refl refl none is (omega arith) (omega arith))
+    (λ ne. trying_less v d k Rest w (owner_word v x) (word_is v w t ts x is (ap (locked_pointer w.slots) a ∙ e)) (omega arith)
     (λ z. absurd (false≢true (sym ne ∙ z))) (omega arith))
 
 -- an object that is asked has one step more: it gives a pointer then
 asked_less : (v : Story) (d k : ℕ) (w : Walk) (t : Task) (ts : List Task) (i : ℕ) (q : Kind) (o : Option Pointer)
     → w.endings ≡ [] → w.todo ≡ t ∷ ts
-    → IsLess v d Rest w (Some (on (asks v d w k ts i q) (acts v d w k ts (FromThis i q) None Rest) o))
+    → IsLess v d Rest w (Some (on (asks v d w k ts i q) (step_of_act v d w k ts (FromThis i q) None Rest) o))
 asked_less v d k w t ts i q None none is = plain_less v d k Rest w t ts (FromThis i q) None refl refl none is (omega arith) (omega arith)
 asked_less v d k w t ts i q (Some x) none is =
-    cond_both (is_enabled (state v) x) (record { deed = None; half = Giving i q x; walk = w; said = silent k })
-    (acts v d w k ts (FromThis i q) None Rest) (λ (y : Step). IsLess v d Rest w (Some y))
+    cond_both (is_enabled (story_state v) x) (record { deed = None; half = Giving i q x; walk = w; said = silent k })
+    (step_of_act v d w k ts (FromThis i q) None Rest) (λ (y : Step). IsLess v d Rest w (Some y))
     (λ b. record { own = omega arith; most = omega arith })
     (λ b. plain_less v d k Rest w t ts (FromThis i q) None refl refl none is (omega arith) (omega arith))
 
 give_less : (v : Story) (d i : ℕ) (q : Kind) (x : Pointer) (w : Walk) (ts : List Task) → w.endings ≡ [] → w.todo ≡ ts
-    → IsUnderWay d v (Giving i q x) ts → IsLess v d (Giving i q x) w (given v d w i q x ts)
+    → IsUnderWay d v (Giving i q x) ts → IsLess v d (Giving i q x) w (given_step v d w i q x ts)
 give_less v d i q x w [] none is way = absurd way
 give_less v d i q x w (t ∷ ts) none is way =
     plain_less v d t.statement (Giving i q x) w t ts (FromThis i q) (Some (give q x)) refl refl none is (omega arith) (omega arith)
@@ -92,11 +92,11 @@ give_less v d i q x w (t ∷ ts) none is way =
 -- a value goes into a cell
 swapped_less : (v : Story) (d k : ℕ) (h : Half) (w : Walk) (t : Task) (ts : List Task) (a : Act) (x : Going) → is_prepared h ≡ false
     → w.endings ≡ [] → w.todo ≡ t ∷ ts → t.act ≡ a → going w.slots a ≡ Some x → 14 ≤ alone v w h → 15 ≤ spare h
-    → IsLess v d h w (Some (swaps v d w k ts a x.0 x.1))
+    → IsLess v d h w (Some (step_of_swap v d w k ts a x.0 x.1))
 swapped_less v d k h w t ts a x unmade none is same goes own most =
-    let y = swaps v d w k ts a x.0 x.1 in
-    let found = seen v (cell_at (state v) w.slots x.0) in
-    let l = went_swap (state v) d k w t ts a x none is same goes in
+    let y = step_of_swap v d w k ts a x.0 x.1 in
+    let found = seen v (cell_of_name (story_state v) w.slots x.0) in
+    let l = went_swap (story_state v) d k w t ts a x none is same goes in
     let m = none_made h (stepped_by v (Some y)) unmade in
     let r = alone_back (story_after v d y.deed) y.walk (kind_at x.0) k found found.owned in
     let b = r.0 in
@@ -106,15 +106,15 @@ swapped_less v d k h w t ts a x unmade none is same goes own most =
 -- its funds are brought first, where it has an object
 brought_less : (v : Story) (d k : ℕ) (w : Walk) (t : Task) (ts : List Task) (a : Act) (x : Going) → w.endings ≡ [] → w.todo ≡ t ∷ ts
     → t.act ≡ a → going w.slots a ≡ Some x → (o : Option Pointer)
-    → IsLess v d Rest w (Some (on (brings w k) (swaps v d w k ts a x.0 x.1) o))
+    → IsLess v d Rest w (Some (on (brings w k) (step_of_swap v d w k ts a x.0 x.1) o))
 brought_less v d k w t ts a x none is same goes None = swapped_less v d k Rest w t ts a x refl none is same goes (omega arith) (omega arith)
 brought_less v d k w t ts a x none is same goes (Some y) = record { own = omega arith; most = omega arith }
 
 going_less : (v : Story) (d k : ℕ) (w : Walk) (t : Task) (ts : List Task) (a : Act) (o : Option Going) → w.endings ≡ [] → w.todo ≡ t ∷ ts
     → t.act ≡ a → going w.slots a ≡ o → leaves_by w.slots a ≡ None
-    → IsLess v d Rest w (Some (on_going (sends v d w k ts a) (acts v d w k ts a None Rest) o))
+    → IsLess v d Rest w (Some (on_going (sends v d w k ts a) (step_of_act v d w k ts a None Rest) o))
 going_less v d k w t ts a None none is same goes stays = plain_less v d k Rest w t ts a None refl stays none is (omega arith) (omega arith)
-going_less v d k w t ts a (Some x) none is same goes stays = brought_less v d k w t ts a x none is same goes (slot w.slots x.1)
+going_less v d k w t ts a (Some x) none is same goes stays = brought_less v d k w t ts a x none is same goes (slot_pointer w.slots x.1)
 
 sent_less : (v : Story) (d : ℕ) (w : Walk) (ts : List Task) → w.endings ≡ [] → w.todo ≡ ts → IsSwap w.slots ts
     → IsLess v d Brought w (sent v d w ts)
@@ -122,35 +122,37 @@ sent_less v d w [] none is held = absurd held
 sent_less v d w (t ∷ ts) none is held = go (going w.slots t.act) refl held
   where
     go : (o : Option Going) → going w.slots t.act ≡ o → is_some o ≡ true
-        → IsLess v d Brought w (option_map (λ (x : Going). swaps v d w t.statement ts t.act x.0 x.1) o)
+        → IsLess v d Brought w (option_map (λ (x : Going). step_of_swap v d w t.statement ts t.act x.0 x.1) o)
     go None goes some = absurd (false≢true some)
     go (Some x) goes some = swapped_less v d t.statement Brought w t ts t.act x refl none is refl goes (omega arith) (omega arith)
 
-first_less : (v : Story) (d k : ℕ) (w : Walk) (t : Task) (ts : List Task) (a : Act) → Kept v → d < v.extent.actors → Holds d w.slots v
+first_less : (v : Story) (d k : ℕ) (w : Walk) (t : Task) (ts : List Task) (a : Act) → Kept v → d < v.extent.actors → HoldsBag d w.slots v
     → w.endings ≡ [] → w.todo ≡ t ∷ ts → t.act ≡ a → HasCell v.extent.shape a → idle a w.slots w.taken ≡ false → waits_on v w a ≡ false
     → IsLess v d Rest w (Some (first v d w k ts a))
-first_less v d k w t ts (Make form) kept seat holds none is same has still calm = begun_less v d k w t ts (least d (state v).stores) none is
+first_less v d k w t ts (Make form) kept seat holds none is same has still calm = begun_less v d k w t ts (least d (story_state v).stores) none is
 first_less v d k w t ts (Put i) kept seat holds none is same has still calm =
-    left_less v d k w (went (state v) d w k ts (Put i)) (slot w.slots i) (went_less (state v) d k w t ts (Put i) none is)
+    left_less v d k w (went (story_state v) d w k ts (Put i)) (slot_pointer w.slots i) (went_less (story_state v) d k w t ts (Put i) none is)
 first_less v d k w t ts (Leave i) kept seat holds none is same has still calm =
-    left_less v d k w (went (state v) d w k ts (Leave i)) (slot w.slots i) (went_less (state v) d k w t ts (Leave i) none is)
+    left_less v d k w (went (story_state v) d w k ts (Leave i)) (slot_pointer w.slots i) (went_less (story_state v) d k w t ts (Leave i) none is)
 first_less v d k w t ts (Clear i) kept seat holds none is same has still calm =
-    left_less v d k w (went (state v) d w k ts (Clear i)) (slot w.slots i) (went_less (state v) d k w t ts (Clear i) none is)
+    left_less v d k w (went (story_state v) d w k ts (Clear i)) (slot_pointer w.slots i) (went_less (story_state v) d k w t ts (Clear i) none is)
 first_less v d k w t ts (Lock i must) kept seat holds none is same has still calm =
-    looked_less v d k w t ts i must (locked w.slots (Lock i must)) none is same refl
-first_less v d k w t ts (FromThis i kind) kept seat holds none is same has still calm = asked_less v d k w t ts i kind (inside (slot w.slots i)) none is
+    looked_less v d k w t ts i must (locked_pointer w.slots (Lock i must)) none is same refl
+first_less v d k w t ts (FromThis i kind) kept seat holds none is same has still calm = asked_less v d k w t ts i kind (inside (slot_pointer w.slots i)) none is
 first_less v d k w t ts (Share i) kept seat holds none is same has still calm =
-    plain_less v d k Rest w t ts (Share i) (option_map share (slot w.slots i)) refl refl none is (omega arith) (omega arith)
+    plain_less v d k Rest w t ts (Share i) (option_map share (slot_pointer w.slots i)) refl refl none is (omega arith) (omega arith)
 first_less v d k w t ts (Downgrade i) kept seat holds none is same has still calm =
-    plain_less v d k Rest w t ts (Downgrade i) (option_map downgrade (slot w.slots i)) refl refl none is (omega arith) (omega arith)
+    plain_less v d k Rest w t ts (Downgrade i) (option_map downgrade (slot_pointer w.slots i)) refl refl none is (omega arith) (omega arith)
 first_less v d k w t ts (Count i) kept seat holds none is same has still calm =
-    plain_less v d k Rest w t ts (Count i) (option_map (tell v) (slot w.slots i)) refl refl none is (omega arith) (omega arith)
+    plain_less v d k Rest w t ts (Count i) (option_map (tell v) (slot_pointer w.slots i)) refl refl none is (omega arith) (omega arith)
 first_less v d k w t ts (Expired i) kept seat holds none is same has still calm =
-    plain_less v d k Rest w t ts (Expired i) (option_map (tell_expired (state v)) (slot w.slots i)) refl refl none is (omega arith) (omega arith)
+    plain_less v d k Rest w t ts (Expired i) (option_map (tell_expired (story_state v)) (slot_pointer w.slots i)) refl refl none is (omega arith) (omega arith)
 first_less v d k w t ts (Read i) kept seat holds none is same has still calm =
-    plain_less v d k Rest w t ts (Read i) (option_map (read (state v)) (inside (slot w.slots i))) refl refl none is (omega arith) (omega arith)
+    plain_less v d k Rest w t ts (Read i) (option_map (read_deed (story_state v)) (inside (slot_pointer w.slots i))) refl refl none is
+    (omega arith) (omega arith)
 first_less v d k w t ts (Alias i j field) kept seat holds none is same has still calm =
-    plain_less v d k Rest w t ts (Alias i j field) (option_map (alias (aliased field (place_in w.slots j))) (owner_slot (slot w.slots i))) refl refl none is
+    plain_less v d k Rest w t ts (Alias i j field) (option_map (alias (aliased field (place_in w.slots j))) (owner_slot (slot_pointer w.slots i)))
+    refl refl none is
     (omega arith) (omega arith)
 first_less v d k w t ts (Move i) kept seat holds none is same has still calm =
     plain_less v d k Rest w t ts (Move i) None refl refl none is (omega arith) (omega arith)
@@ -165,23 +167,23 @@ first_less v d k w t ts (Load c) kept seat holds none is same has still calm = l
 first_less v d k w t ts (Compare i c weak) kept seat holds none is same has still calm =
     compare_less v d w kept seat holds k t ts i c weak none is same has still calm
 first_less v d k w t ts Drop kept seat holds none is same has still calm =
-    left_less v d k w (went (state v) d w k ts Drop) (slot w.slots (other w.slots)) (went_less (state v) d k w t ts Drop none is)
+    left_less v d k w (went (story_state v) d w k ts Drop) (slot_pointer w.slots (other w.slots)) (went_less (story_state v) d k w t ts Drop none is)
 
-task_less : (v : Story) (d : ℕ) (w : Walk) (ts : List Task) → Kept v → d < v.extent.actors → Holds d w.slots v → w.endings ≡ [] → w.todo ≡ ts
+task_less : (v : Story) (d : ℕ) (w : Walk) (ts : List Task) → Kept v → d < v.extent.actors → HoldsBag d w.slots v → w.endings ≡ [] → w.todo ≡ ts
     → IsInShape v.extent.shape ts → IsStill w ts → waits_at v w [] ts ≡ false → IsLess v d Rest w (begun v d w ts)
 task_less v d w [] kept seat holds none is has still calm = (is, none, refl)
 task_less v d w (t ∷ ts) kept seat holds none is has still calm =
     first_less v d t.statement w t ts t.act kept seat holds none is refl has still calm
 
-rest_less : (v : Story) (d : ℕ) (w : Walk) (es : List Ending) → Kept v → d < v.extent.actors → Holds d w.slots v → w.endings ≡ es
+rest_less : (v : Story) (d : ℕ) (w : Walk) (es : List Ending) → Kept v → d < v.extent.actors → HoldsBag d w.slots v → w.endings ≡ es
     → EndsAll d es v → IsInShape v.extent.shape w.todo → IsStill w w.todo → waits_at v w es w.todo ≡ false → IsLess v d Rest w (at_rest v d w es)
 rest_less v d w [] kept seat holds is ends has still calm = task_less v d w w.todo kept seat holds is refl has still calm
 rest_less v d w (e ∷ es) kept seat holds is ends has still calm =
-    cond_both (is_full (slot w.slots (hand w.slots))) (first v d w e.statement w.todo (Leave (hand w.slots))) (ends_on v w e es)
+    cond_both (is_full (slot_pointer w.slots (hand w.slots))) (first v d w e.statement w.todo (Leave (hand w.slots))) (ends_on v w e es)
     (λ (x : Step). IsLess v d Rest w (Some x))
-    (λ full. left_less v d e.statement w (went (state v) d w e.statement w.todo (Leave (hand w.slots))) (slot w.slots (hand w.slots))
-    (carried_leaves (state v) d e.statement w e es is full))
-    (λ free. end_less v d w e es is free (All-head (λ (x : Ending). IsEnding d x v) e es ends.each).within)
+    (λ full. left_less v d e.statement w (went (story_state v) d w e.statement w.todo (Leave (hand w.slots))) (slot_pointer w.slots (hand w.slots))
+    (carried_leaves (story_state v) d e.statement w e es is full))
+    (λ free. end_less v d w e es is free (All-head (λ (x : Ending). IsEndingAtStage d x v) e es ends.each).within)
 
 prepared_less : (v : Story) (d found want k i : ℕ) (w : Walk) (b : Block) (f : Bool) → i ≤ 5 → (i ≡ 5 → ⊥)
     → IsLess v d (Making b i f) w (Some (prepares found want w k b i f))
@@ -200,7 +202,7 @@ claimed_less : (v : Story) (d k i : ℕ) (w : Walk) (t : Task) (ts : List Task) 
 claimed_less v d k i w t ts b f form same none is =
     let x = holding w.slots form.null (Some b.0) in
     let l = settled_alone x.0 x.1 ts in
-    let n = ap (λ (es : List Ending). walk_steps (settled x.0 x.1 es ts)) none in
+    let n = ap (λ (es : List Ending). walk_steps (walk_settled x.0 x.1 es ts)) none in
     let a = walk_alone w t ts none is in
     let g : weight t.act ≡ 28 = ap weight same in
     let m = one_made (Making b i f) (stepped_by v (Some (claims w k ts b form))) in
@@ -211,22 +213,22 @@ make_less : (v : Story) (d i : ℕ) (w : Walk) (b : Block) (f : Bool) (ts : List
     → IsUnderWay d v (Making b i f) ts → IsLess v d (Making b i f) w (made_on v d w b i f ts)
 make_less v d i w b f [] none is way = absurd way
 make_less v d i w b f (t ∷ ts) none is way =
-    let found = get_or (known (pending v d)) i 0 in
+    let found = get_or (known_words (pending v d)) i 0 in
     let want = get_or (wanted (form_of t.act)) i 0 in
     cond_both (i == 5) (claims w t.statement ts b (form_of t.act)) (prepares found want w t.statement b i f)
     (λ (x : Step). IsLess v d (Making b i f) w (Some x)) (λ e. claimed_less v d t.statement i w t ts b f (form_of t.act) way.2 none is)
     (λ e. prepared_less v d found want t.statement i w b f way.0 (eqb-false i 5 e))
 
 tried_less : (v : Story) (d word : ℕ) (w : Walk) (t : Task) (ts : List Task) (a : Act) (o : Option Pointer) → w.endings ≡ [] → w.todo ≡ t ∷ ts
-    → t.act ≡ a → locked w.slots a ≡ o → is_full o ≡ true → IsLess v d (Locking word) w (option_map (tries v d w t.statement ts a word) o)
+    → t.act ≡ a → locked_pointer w.slots a ≡ o → is_full o ≡ true → IsLess v d (Locking word) w (option_map (tries v d w t.statement ts a word) o)
 tried_less v d word w t ts a None none is same e full = absurd (false≢true full)
 tried_less v d word w t ts (Lock i must) (Some x) none is same e full =
     let k = t.statement in
-    let found_word = word_is v w t ts x is (ap (locked w.slots) same ∙ e) in
+    let found_word = word_is v w t ts x is (ap (locked_pointer w.slots) same ∙ e) in
     let low = (alone_of_lock v w word).0 in
-    cond_both (owner_word v x == word) (acts v d w k ts (Lock i must) (Some (lock (state v) x)) Rest) (trying w k (owner_word v x))
+    cond_both (owner_word v x == word) (step_of_act v d w k ts (Lock i must) (Some (lock (story_state v) x)) Rest) (trying w k (owner_word v x))
     (λ (y : Step). IsLess v d (Locking word) w (Some y))
-    (λ _. plain_less v d k (Locking word) w t ts (Lock i must) (Some (lock (state v) x)) refl refl none is low (omega arith))
+    (λ _. plain_less v d k (Locking word) w t ts (Lock i must) (Some (lock (story_state v) x)) refl refl none is low (omega arith))
     (λ ne. let other = alone_other v w word (ap (λ (z : ℕ). z == word) found_word ∙ ne) in
     trying_less v d k (Locking word) w (owner_word v x) found_word (omega arith) (λ _. omega (arith, other)) (omega (arith, other)))
 tried_less v d word w t ts (Make form) (Some x) none is same e full = cc
@@ -249,15 +251,15 @@ tried_less v d word w t ts (Load c) (Some x) none is same e full = cc
 tried_less v d word w t ts (Compare i c weak) (Some x) none is same e full = cc
 tried_less v d word w t ts Drop (Some x) none is same e full = cc
 
-lock_less : (v : Story) (d word : ℕ) (w : Walk) (ts : List Task) → w.endings ≡ [] → w.todo ≡ ts → IsLock w.slots ts
+lock_less : (v : Story) (d word : ℕ) (w : Walk) (ts : List Task) → w.endings ≡ [] → w.todo ≡ ts → NextActLocks w.slots ts
     → IsLess v d (Locking word) w (tried v d w word ts)
 lock_less v d word w [] none is full = absurd full
-lock_less v d word w (t ∷ ts) none is full = tried_less v d word w t ts t.act (locked w.slots t.act) none is refl refl full
+lock_less v d word w (t ∷ ts) none is full = tried_less v d word w t ts t.act (locked_pointer w.slots t.act) none is refl refl full
 
 -- each step that isn't the last is one less, where the thread hasn't to wait
-module _ (v : Story) (d : ℕ) (w : Walk) (kept : Kept v) (seat : d < v.extent.actors) (holds : Holds d w.slots v) where
+module _ (v : Story) (d : ℕ) (w : Walk) (kept : Kept v) (seat : d < v.extent.actors) (holds : HoldsBag d w.slots v) where
   pub less : (h : Half) → IsUnderWay d v h w.todo → IsTried h w → IsAlone h w.endings → EndsAll d w.endings v
-      → IsInShape v.extent.shape w.todo → IsStill w w.todo → IsOut d v h → waits v h w ≡ false → IsLess v d h w (step_at v d h w)
+      → IsInShape v.extent.shape w.todo → IsStill w w.todo → FundsAreHeld d v h → waits v h w ≡ false → IsLess v d h w (step_at v d h w)
   less Rest way held none ends has still out calm = rest_less v d w w.endings kept seat holds refl ends has still calm
   less (Making b i f) way held none ends has still out calm = make_less v d i w b f w.todo none refl way
   less (Locking word) way held none ends has still out calm = lock_less v d word w w.todo none refl held

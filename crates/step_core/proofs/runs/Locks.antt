@@ -15,10 +15,10 @@ use Rattle.step_threads.specs.declared.said.Stepped.TheVariants as stepped
 use Rattle.step_core.specs.declared.trace.TraceStep.{TraceStep}
 use Rattle.step_core.specs.Headline.{LocksNext, TellsLocks, Was, answer_by, statement_by}
 use Rattle.step_threads.specs.Scenes.{lock_answer, walk_of}
-use Rattle.step_threads.specs.NextSteps.{is_event}
+use Rattle.step_threads.specs.NextSteps.{deed_is_event}
 use Rattle.step_threads.specs.Steps.{Step}
 use Rattle.step_threads.specs.NextSteps.{stepped as stepped_by, story_after, story_by}
-use Rattle.step_table.specs.Stories.{Nothing, Story, added, event_of, state}
+use Rattle.step_table.specs.Stories.{Nothing, Story, event_added, event_of, story_state}
 use Rattle.step_core.specs.Worlds.{Sight, half_of, scene, step_of}
 use Rattle.step_table.proofs.tables.CellDeeds.{by_event}
 use Rattle.step_core.proofs.runs.Waiting.{IsTold, told_at}
@@ -27,13 +27,13 @@ use Rattle.step_core.proofs.runs.Answers.{Says, Tells, lock_of, step_tells}
 
 as_answered : (v : Story) (x : Step) → answer_by (stepped_by v (Some x)) ≡ x.said.answer
 as_answered v x =
-    cond_both (is_event v x.deed) (stepped.Event x.said) (stepped.Quiet x.said)
+    cond_both (deed_is_event v x.deed) (stepped.Event x.said) (stepped.Quiet x.said)
     (λ (r : Stepped). answer_by r ≡ x.said.answer) (λ e. refl)
     (λ e. refl)
 
 as_stated : (v : Story) (x : Step) → statement_by (stepped_by v (Some x)) ≡ Some x.said.statement
 as_stated v x =
-    cond_both (is_event v x.deed) (stepped.Event x.said) (stepped.Quiet x.said)
+    cond_both (deed_is_event v x.deed) (stepped.Event x.said) (stepped.Quiet x.said)
     (λ (r : Stepped). ◌≡◌ {A = Option ℕ} (statement_by r) (Some x.said.statement)) (λ e. refl) (λ e. refl)
 
 -- what the newest event gave, if it is a lock
@@ -47,7 +47,7 @@ newest_gave (e ∷ h) = gave_by e.event
 
 -- an event that is a lock comes by a deed that is one
 by_deed : (v : Story) (d : ℕ) (y : Deed) (w : Handle) (gave : Bool)
-    → added d (event_of (state v) y) v.history ≡ entry d (event.Lock w gave) ∷ v.history
+    → event_added d (event_of (story_state v) y) v.history ≡ entry d (event.Lock w gave) ∷ v.history
     → lock_of (Some y) ≡ Some gave
 by_deed v d (deed.Lock b p got) w gave e = ap newest_gave e
 by_deed v d (deed.Prepare b) w gave e =
@@ -55,11 +55,11 @@ by_deed v d (deed.Prepare b) w gave e =
 by_deed v d (deed.Write b j n) w gave e =
     absurd (let m = ap (λ (h : List (Entry Nothing)). length h) e in omega (arith, m))
 by_deed v d (deed.OnCell x) w gave e =
-    by_event (λ (a : Option (Event Nothing)). added d a v.history ≡ entry d (event.Lock w gave) ∷ v.history → None ≡
+    by_event (λ (a : Option (Event Nothing)). event_added d a v.history ≡ entry d (event.Lock w gave) ∷ v.history → None ≡
     Some gave)
     (λ q. absurd (let n = ap (λ (h : List (Entry Nothing)). length h) q in omega (arith, n)))
     (λ c h q. ap newest_gave q) (λ c x n h b f q. ap newest_gave q)
-    (λ c n h q. ap newest_gave q) (λ o m h q. ap newest_gave q) (state v) x e
+    (λ c n h q. ap newest_gave q) (λ o m h q. ap newest_gave q) (story_state v) x e
 by_deed v d (deed.OnShelf b Shelve) w gave e = ap newest_gave e
 by_deed v d (deed.OnShelf b Unshelve) w gave e = ap newest_gave e
 by_deed v d (deed.OnShelf b Miss) w gave e =

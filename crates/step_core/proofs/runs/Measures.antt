@@ -12,15 +12,15 @@ use Rattle.step_threads.specs.declared.said.Stepped.{Stepped}
 use Rattle.step_threads.specs.declared.said.Stepped.TheVariants.{Event, Quiet, Waited, Done}
 use Rattle.step_core.specs.Bounds.{alone, living, most_steps, spare, walk_steps}
 use Rattle.step_table.specs.declared.holdings.Pointer.{Pointer}
-use Rattle.step_table.specs.Holdings.{is_full, slot}
+use Rattle.step_table.specs.Holdings.{is_full, slot_pointer}
 use Rattle.step_threads.specs.Courses.{Walk, other}
 use Rattle.step_table.specs.Openings.{opening}
 use Rattle.step_core.specs.Sights.{IsOver}
 use Rattle.step_threads.specs.Scenes.{nowhere, walk_of}
-use Rattle.step_threads.specs.NextSteps.{is_event, story_after, story_by, stepped, waits}
+use Rattle.step_threads.specs.NextSteps.{deed_is_event, story_after, story_by, stepped, waits}
 use Rattle.step_threads.specs.Steps.{Step}
 use Rattle.step_table.specs.Stories.{Kept, Story}
-use Rattle.step_core.specs.Told.{IsTidy, Leaves, ends_by, makes}
+use Rattle.step_core.specs.Told.{IsTidy, LeavesName, step_ends, step_makes}
 use Rattle.step_core.specs.Turning.{HasBegun}
 use Rattle.step_core.specs.Worlds.{Sight, Steps, answer_at, half_of, scene, sight_by, step_of}
 use Rattle.step_core.proofs.runs.Alone.{IsLess}
@@ -48,7 +48,7 @@ pub record Falls (d : ℕ) (u u' : Sight) : Type 0 where
 
 -- what lives after a step, by what it made and of what the last owner left
 living_by : (d : ℕ) (u : Sight) → HasBegun d u → Kept (story_by u.story d (step_of d u))
-    → living (sight_by d u (step_of d u)) + ends_by (stepped u.story (step_of d u)) ≤ living u + makes (half_of u d) (stepped u.story (step_of d u))
+    → living (sight_by d u (step_of d u)) + step_ends (stepped u.story (step_of d u)) ≤ living u + step_makes (half_of u d) (stepped u.story (step_of d u))
 living_by d u begun kept =
     let x = step_of d u in
     let c = counted u.story d (half_of u d) (walk_of (scene u) d) begun.half begun.tried begun.alone in
@@ -58,7 +58,7 @@ living_by d u begun kept =
     omega (arith, law, m, e)
 
 falls : (d : ℕ) (u : Sight) (x : Step) → d < length u.walks → d < length u.halves
-    → living (sight_by d u (Some x)) + ends_by (stepped u.story (Some x)) ≤ living u + makes (half_of u d) (stepped u.story (Some x))
+    → living (sight_by d u (Some x)) + step_ends (stepped u.story (Some x)) ≤ living u + step_makes (half_of u d) (stepped u.story (Some x))
     → IsLess u.story d (half_of u d) (walk_of (scene u) d) (Some x) → Falls d u (sight_by d u (Some x))
 falls d u x lt within live fewer =
     let v = story_after u.story d x.deed in
@@ -82,7 +82,7 @@ falls d u x lt within live fewer =
 
 never_done : (v : Story) (x : Step) → stepped v (Some x) ≢ Done
 never_done v x =
-    cond_both (is_event v x.deed) (Event x.said) (Quiet x.said) (λ (r : Stepped). r ≢ Done) (λ _ e. event_done e) (λ _ e. quiet_done e)
+    cond_both (deed_is_event v x.deed) (Event x.said) (Quiet x.said) (λ (r : Stepped). r ≢ Done) (λ _ e. event_done e) (λ _ e. quiet_done e)
   where
     event_done : Event x.said ≡ Done → ⊥
     event_done e = cc
@@ -115,12 +115,12 @@ left d u begun calm =
     begun.still begun.out calm
 
 -- what a name holds is left by a task to come, so that all are empty where none is
-pub empty_names : (w : Walk) → IsTidy w → w.todo ≡ [] → (i : ℕ) → i < other w.slots → slot w.slots i ≡ None
-empty_names w tidy none i lt = go (slot w.slots i) refl
+pub empty_names : (w : Walk) → IsTidy w → w.todo ≡ [] → (i : ℕ) → i < other w.slots → slot_pointer w.slots i ≡ None
+empty_names w tidy none i lt = go (slot_pointer w.slots i) refl
   where
-    go : (o : Option Pointer) → slot w.slots i ≡ o → o ≡ None
+    go : (o : Option Pointer) → slot_pointer w.slots i ≡ o → o ≡ None
     go None e = refl
-    go (Some x) e = absurd (subst (Leaves i) none (tidy.names i lt (ap is_full e)))
+    go (Some x) e = absurd (subst (LeavesName i) none (tidy.names i lt (ap is_full e)))
 
 -- a step at the end changes nothing
 pub at_end : (d : ℕ) (u u' : Sight) → HasBegun d u → Steps d u Done u' → (u' ≡ u) × IsOver d u
@@ -146,7 +146,7 @@ before_end d u u' r begun kept lt steps ne never =
     go (step_of d u) c.answer steps.1 (living_by d u begun (subst (λ (w : Sight). Kept w.story) steps.1 kept)) (left d u begun c.calm)
   where
     go : (o : Option Step) → r ≡ stepped u.story o → u' ≡ sight_by d u o
-        → living (sight_by d u o) + ends_by (stepped u.story o) ≤ living u + makes (half_of u d) (stepped u.story o)
+        → living (sight_by d u o) + step_ends (stepped u.story o) ≤ living u + step_makes (half_of u d) (stepped u.story o)
         → IsLess u.story d (half_of u d) (walk_of (scene u) d) o → Falls d u u'
     go None e f live l = absurd (ne e)
     go (Some x) e f live l = subst (λ (w : Sight). Falls d u w) (sym f) (falls d u x lt begun.within live l)
@@ -159,7 +159,7 @@ never_more d u u' r begun kept lt steps never =
     go (step_of d u) steps.1 (living_by d u begun (subst (λ (w : Sight). Kept w.story) steps.1 kept)) (left d u begun c.calm)
   where
     go : (o : Option Step) → u' ≡ sight_by d u o
-        → living (sight_by d u o) + ends_by (stepped u.story o) ≤ living u + makes (half_of u d) (stepped u.story o)
+        → living (sight_by d u o) + step_ends (stepped u.story o) ≤ living u + step_makes (half_of u d) (stepped u.story o)
         → IsLess u.story d (half_of u d) (walk_of (scene u) d) o → most_steps u' ≤ most_steps u
     go None f live l =
         let e : u' ≡ u = f ∙ same_sight u _ _ (set-get_or u.walks d nowhere) (set-get_or u.halves d Rest) in

@@ -10,8 +10,8 @@ use Rattle.control_word.specs.declared.event.Entry.{Entry}
 use Rattle.control_word.specs.declared.event.Event.{Event}
 use Rattle.control_word.specs.Histories.{entry}
 use Rattle.step_table.specs.declared.past.Deed.{Deed}
-use Rattle.step_table.specs.Holdings.{Holds}
-use Rattle.step_table.specs.Stories.{Kept, Nothing, Story, added, event_of, state}
+use Rattle.step_table.specs.Holdings.{HoldsBag}
+use Rattle.step_table.specs.Stories.{Kept, Nothing, Story, event_added, event_of, story_state}
 use Rattle.step_threads.specs.declared.ending.Ending.{Ending}
 use Rattle.step_threads.specs.declared.act.Task.{Task}
 use Rattle.step_threads.specs.declared.half.Half.{Half}
@@ -22,9 +22,9 @@ use Rattle.step_threads.specs.declared.said.Stepped.TheVariants.{Event as Happen
 use Rattle.step_threads.specs.declared.thread.Thread.{Thread}
 use Rattle.step_threads.specs.Courses.{Walk, walk}
 use Rattle.step_threads.specs.Scenes.{nowhere, walk_of}
-use Rattle.step_threads.specs.NextSteps.{answered, at_rest, begun, half_by, is_event as is_done, stepped, story_after, story_by, waits_at, walk_by}
+use Rattle.step_threads.specs.NextSteps.{answered, at_rest, begun, half_by, deed_is_event as is_done, stepped, story_after, story_by, waits_at, walk_by}
 use Rattle.step_threads.specs.Steps.{Step}
-use Rattle.step_core.specs.Sights.{AllHold, Sight, Takes, half_of, is_event, scene}
+use Rattle.step_core.specs.Sights.{AllHold, Sight, TakesStep, half_of, is_event, scene}
 use Rattle.step_core.specs.Turning.{HasBegun}
 use Rattle.step_core.specs.Worlds.{Advances, AllFit, Steps, step_of, thread_walk}
 use Rattle.step_core.proofs.Worlds.{sight}
@@ -43,13 +43,13 @@ OneMore d h b h' = (b ≡ true → (e : Event Nothing) × (h' ≡ entry d e ∷ 
 same_history : (d : ℕ) (h : History) → OneMore d h false h
 same_history d h = (λ t. absurd (false≢true t), λ f. refl)
 
-by_event : (d : ℕ) (h : History) (y : Option (Event Nothing)) → OneMore d h (is_some y) (added d y h)
+by_event : (d : ℕ) (h : History) (y : Option (Event Nothing)) → OneMore d h (is_some y) (event_added d y h)
 by_event d h None = same_history d h
 by_event d h (Some e) = (λ t. (e, refl), λ f. absurd (false≢true (sym f)))
 
 by_deed : (d : ℕ) (v : Story) (z : Option Deed) → OneMore d v.history (is_done v z) (story_after v d z).history
 by_deed d v None = same_history d v.history
-by_deed d v (Some x) = by_event d v.history (event_of (state v) x)
+by_deed d v (Some x) = by_event d v.history (event_of (story_state v) x)
 
 event_on : (b : Bool) (x : Said) → is_event (cond b (Happened x) (Quiet x)) ≡ b
 event_on true x = refl
@@ -88,7 +88,7 @@ all_hold v threads all d lt =
     (λ (p : (t : Thread) × (d < length threads) × (slice_get threads d ≡ Some t) × (get_or threads d t ≡ t)).
     let w : get_or (map thread_walk threads) d nowhere ≡ walk p.0.course = get_or-map thread_walk threads d p.0
     nowhere p.1 ∙ ap thread_walk p.3 in
-    subst (λ (k : Walk). Holds d k.slots v) (sym w) (all.each d p.0 p.2).holds)
+    subst (λ (k : Walk). HoldsBag d k.slots v) (sym w) (all.each d p.0 p.2).holds)
     (λ (q : (length threads ≤ d) × (slice_get threads d ≡ None)). absurd
     (let le = q.0 in let m = length-map threads thread_walk in omega (arith, le, m, lt)))
     (slice_get_cases threads d).1
@@ -99,7 +99,7 @@ pub advances : (d : ℕ) (u u' : Sight) (r : Stepped) → HasBegun d u → Steps
 advances d u u' r begun steps never actors kept hands =
     let x = step_of d u in
     let one = by_answer d u r u' (told_at d u r u' steps) in
-    let t : Takes d u r u' = record {
+    let t : TakesStep d u r u' = record {
       event = one.0;
       quiet = one.1;
       over = (

@@ -8,7 +8,7 @@ use Rattle.step_threads.specs.declared.half.Half.TheVariants.{Rest, Making, Lock
 use Rattle.step_threads.specs.declared.thread.Thread.{Thread}
 use Rattle.step_core.specs.Bounds.{left_to_do, living, most_steps, spare, steps_of, walk_steps}
 use Rattle.step_table.specs.Stories.{Kept, Story}
-use Rattle.step_core.specs.Told.{IsTold, sight}
+use Rattle.step_core.specs.Told.{TotalsAreTold, sight}
 use Rattle.step_core.specs.Worlds.{AllFit, thread_half, thread_walk}
 use Rattle.step_core.proofs.telling.Walking.{carried_most}
 
@@ -54,7 +54,7 @@ enough v threads =
     omega (arith, a, b, l, m)
 
 -- what the totals say of it
-pub few_steps : (v : Story) (threads : List Thread) (m e : ℕ) → IsTold (sight v threads) m e
+pub few_steps : (v : Story) (threads : List Thread) (m e : ℕ) → TotalsAreTold (sight v threads) m e
     → (sum_by steps_of threads + 13 * (m - e) ≤ 1970176) × (living (sight v threads) ≡ m - e)
 few_steps v threads m e told =
     let a = (all_steps threads).1 in
@@ -68,6 +68,6 @@ pub within : (v : Story) (threads : List Thread) → AllFit v threads → (d : �
     → t.course.at ≤ length t.course.tasks.items
 within v threads all d t at = (all.each d t at).within
 
-pub few_threads : (v : Story) (threads : List Thread) (m e : ℕ) → Kept v → IsTold (sight v threads) m e → length threads ≤ 64
+pub few_threads : (v : Story) (threads : List Thread) (m e : ℕ) → Kept v → TotalsAreTold (sight v threads) m e → length threads ≤ 64
 few_threads v threads m e kept told =
     let l = length-map threads thread_walk in let t = told.threads in let f = kept.proper.few in omega (arith, l, t, f)

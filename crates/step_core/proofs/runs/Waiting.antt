@@ -14,12 +14,12 @@ use Rattle.step_threads.specs.declared.said.Stepped.TheVariants.{Waited}
 use Rattle.step_table.specs.declared.cell_deed.CellDeed.TheVariants as cell_deed
 use Rattle.step_table.specs.declared.past.Deed.TheVariants as deed
 use Rattle.step_table.specs.Contents.{as_word, compared_in, is_spent, same_value, seen}
-use Rattle.step_table.specs.Holdings.{value}
-use Rattle.step_table.specs.Stories.{Story, state}
-use Rattle.step_threads.specs.Courses.{Walk, cell_at, comparing, is_there}
+use Rattle.step_table.specs.Holdings.{slot_value}
+use Rattle.step_table.specs.Stories.{Story, story_state}
+use Rattle.step_threads.specs.Courses.{Walk, cell_of_name, comparing, is_there}
 use Rattle.step_threads.specs.Scenes.{walk_of}
 use Rattle.step_threads.specs.NextSteps.{at_rest, begun, first, step_at, stepped, story_after, story_by, waits, waits_at, waits_on}
-use Rattle.step_threads.specs.Steps.{Step, acts, within}
+use Rattle.step_threads.specs.Steps.{Step, step_of_act, within}
 use Rattle.step_core.specs.Worlds.{Sight, Steps, half_of, scene, step_of}
 
 -- a thread that waits does nothing
@@ -42,16 +42,16 @@ differs v d k w x y false b e = spent v d k w x b e
 
 act_quiet : (v : Story) (d k : ℕ) (w : Walk) (ts : List Task) (a : Act) → Quiet v d (waits_on v w a) (story_after v d (first v d w k ts a).deed)
 act_quiet v d k w ts (Load c) e =
-    let z = cell_at (state v) w.slots c in
+    let z = cell_of_name (story_state v) w.slots c in
     let x = seen v z in
-    guarded v d k w (cond (is_some x.owned) (within w k None (Saw x)) (acts v d w k ts (Load c) (Some (deed.OnCell (cell_deed.Look z x None))) Rest))
-    (acts v d w k ts (Load c) None Rest) (is_there w.slots c) (is_spent x) e
+    guarded v d k w (cond (is_some x.owned) (within w k None (Saw x)) (step_of_act v d w k ts (Load c) (Some (deed.OnCell (cell_deed.Look z x None))) Rest))
+    (step_of_act v d w k ts (Load c) None Rest) (is_there w.slots c) (is_spent x) e
 act_quiet v d k w ts (Compare i c weak) e =
-    let z = cell_at (state v) w.slots c in
+    let z = cell_of_name (story_state v) w.slots c in
     let x = seen v z in
     let y = compared_in w.slots (comparing w.slots i weak) in
-    let look = acts v d w k ts (Compare i c weak) (Some (deed.OnCell (cell_deed.Look z x (Some y)))) Rest in
-    differs v d k w (cond (is_some x.owned) (within w k None (Saw x)) look) (within w k None (Saw x)) (same_value x (as_word (value w.slots i)))
+    let look = step_of_act v d w k ts (Compare i c weak) (Some (deed.OnCell (cell_deed.Look z x (Some y)))) Rest in
+    differs v d k w (cond (is_some x.owned) (within w k None (Saw x)) look) (within w k None (Saw x)) (same_value x (as_word (slot_value w.slots i)))
     (is_spent x) e
 act_quiet v d k w ts (Make form) e = absurd (false≢true e)
 act_quiet v d k w ts (Share i) e = absurd (false≢true e)

@@ -21,67 +21,68 @@ use Rattle.step_threads.specs.declared.act.Task.{Task}
 use Rattle.step_threads.specs.declared.call.CellName.{CellName}
 use Rattle.step_threads.specs.declared.half.Half.{Half}
 use Rattle.step_threads.specs.declared.half.Half.TheVariants.{Rest, Saw, Refill}
-use Rattle.step_table.specs.CellDeeds.{kind_in}
-use Rattle.step_table.specs.Cells.{word_at}
+use Rattle.step_table.specs.CellDeeds.{kind_in_state}
+use Rattle.step_table.specs.Cells.{word_of_cell}
 use Rattle.step_table.specs.Contents.{compared_in, is_spent, same_value, seen}
 use Rattle.step_table.specs.Deeds.{on}
-use Rattle.step_table.specs.Holdings.{slot}
+use Rattle.step_table.specs.Holdings.{slot_pointer}
 use Rattle.step_table.specs.Refills.{is_drained, is_low, more_taken}
-use Rattle.step_table.specs.Stories.{Story, state}
-use Rattle.step_threads.specs.Courses.{Walk, cell_at, comparing, hand, is_there}
+use Rattle.step_table.specs.Stories.{Story, story_state}
+use Rattle.step_threads.specs.Courses.{Walk, cell_of_name, comparing, hand, is_there}
 use Rattle.step_threads.specs.NextSteps.{first, matched, matched_on, saw, saw_on}
-use Rattle.step_threads.specs.Steps.{Step, acts, compares, fetches, gives_back, matches, missed, refills_on, sees, settles, takes, within}
+use Rattle.step_threads.specs.Steps.{Step, step_of_act, step_of_compare, fetches, gives_back, matches, missed, refills_on, step_of_look, settles, takes, within}
 
 -- steps of a thread that rests or is within an act, so that nothing is done; that look at a cell, take a fund of it, or swap it; and
 -- those on funds
 pub record IsEach (v : Story) (d : ℕ) (w : Walk) (k : ℕ) (ts : List Task) (a : Act) (c : Cell) (P : Step → Type 0) : Type 0 where
   pub quiet : (h : Half) → P (within w k None h)
-  pub look : (x : CellWord) (y : Option Compared) → P (acts v d w k ts a (Some (deed.OnCell (cell_deed.Look c x y))) Rest)
-  pub take : (x : CellWord) (y : Option Compared) (h : Half) → P (acts v d w k ts a (Some (deed.OnCell (cell_deed.Take c x y))) h)
-  pub swap : (x : CellWord) (y : Compared) (h : Half) → P (acts v d w k ts a (Some (deed.OnCell (cell_deed.CompareSwap c x y))) h)
+  pub look : (x : CellWord) (y : Option Compared) → P (step_of_act v d w k ts a (Some (deed.OnCell (cell_deed.Look c x y))) Rest)
+  pub take : (x : CellWord) (y : Option Compared) (h : Half) → P (step_of_act v d w k ts a (Some (deed.OnCell (cell_deed.Take c x y))) h)
+  pub swap : (x : CellWord) (y : Compared) (h : Half) → P (step_of_act v d w k ts a (Some (deed.OnCell (cell_deed.CompareSwap c x y))) h)
   pub bring : (x : CellWord) (p : Pointer) → P (fetches w k x p)
 
 pub each_sees : (v : Story) (d : ℕ) (w : Walk) (k : ℕ) (ts : List Task) (a : Act) (c : Cell) (P : Step → Type 0) → IsEach v d w k ts a c P
-    → (y : Option Compared) (x : CellWord) → P (sees v d w k ts a c y x)
+    → (y : Option Compared) (x : CellWord) → P (step_of_look v d w k ts a c y x)
 each_sees v d w k ts a c P each y x =
-    let look = acts v d w k ts a (Some (deed.OnCell (cell_deed.Look c x y))) Rest in
+    let look = step_of_act v d w k ts a (Some (deed.OnCell (cell_deed.Look c x y))) Rest in
     cond_both (is_spent x) (within w k None Rest) (cond (is_some x.owned) (within w k None (Saw x)) look) P (λ e. each.quiet Rest)
     (λ e. cond_both (is_some x.owned) (within w k None (Saw x)) look P (λ f. each.quiet (Saw x)) (λ f. each.look x y))
 
 pub each_compares : (v : Story) (d : ℕ) (w : Walk) (k : ℕ) (ts : List Task) (a : Act) (c : Cell) (P : Step → Type 0) → IsEach v d w k ts a c P
-    → (y : Compared) (x : CellWord) → P (compares v d w k ts a c y x)
+    → (y : Compared) (x : CellWord) → P (step_of_compare v d w k ts a c y x)
 each_compares v d w k ts a c P each y x =
-    cond_both (same_value x y.expected) (within w k None (Saw x)) (sees v d w k ts a c (Some y) x) P (λ e. each.quiet (Saw x))
+    cond_both (same_value x y.expected) (within w k None (Saw x)) (step_of_look v d w k ts a c (Some y) x) P (λ e. each.quiet (Saw x))
     (λ e. each_sees v d w k ts a c P each (Some y) x)
 
 -- a load, which is refused where its cell isn't there
 pub each_load : (v : Story) (d : ℕ) (w : Walk) (k : ℕ) (ts : List Task) (c : CellName) (P : Step → Type 0)
-    → IsEach v d w k ts (Load c) (cell_at (state v) w.slots c) P → P (acts v d w k ts (Load c) None Rest) → P (first v d w k ts (Load c))
+    → IsEach v d w k ts (Load c) (cell_of_name (story_state v) w.slots c) P → P (step_of_act v d w k ts (Load c) None Rest)
+    → P (first v d w k ts (Load c))
 each_load v d w k ts c P each refused =
-    let x = cell_at (state v) w.slots c in
-    cond_both (is_there w.slots c) (sees v d w k ts (Load c) x None (seen v x)) (acts v d w k ts (Load c) None Rest) P
+    let x = cell_of_name (story_state v) w.slots c in
+    cond_both (is_there w.slots c) (step_of_look v d w k ts (Load c) x None (seen v x)) (step_of_act v d w k ts (Load c) None Rest) P
     (λ e. each_sees v d w k ts (Load c) x P each None (seen v x)) (λ e. refused)
 
 each_takes : (v : Story) (d : ℕ) (w : Walk) (k : ℕ) (ts : List Task) (a : Act) (c : Cell) (P : Step → Type 0) → IsEach v d w k ts a c P
     → (y : Option Compared) (x : CellWord) → P (takes v d w k ts a c y x)
 each_takes v d w k ts a c P each y x =
-    cond_both (word_at v c == cell_bits x)
-    (acts v d w k ts a (Some (deed.OnCell (cell_deed.Take c x y))) (Refill Turning c (more_taken x) k)) (within w k None Rest) P
+    cond_both (word_of_cell v c == cell_bits x)
+    (step_of_act v d w k ts a (Some (deed.OnCell (cell_deed.Take c x y))) (Refill Turning c (more_taken x) k)) (within w k None Rest) P
     (λ e. each.take x y (Refill Turning c (more_taken x) k)) (λ e. each.quiet Rest)
 
 each_matches : (v : Story) (d : ℕ) (w : Walk) (k : ℕ) (ts : List Task) (a : Act) (c : Cell) (P : Step → Type 0) → IsEach v d w k ts a c P
     → (y : Compared) (x : CellWord) → P (matches v d w k ts a c y x)
 each_matches v d w k ts a c P each y x =
-    let h = gives_back (kind_in (state v) c) k x x.owned in
-    let m = missed k (slot w.slots (hand w.slots)) in
-    cond_both (word_at v c == cell_bits x) (acts v d w k ts a (Some (deed.OnCell (cell_deed.CompareSwap c x y))) h) (within w k None m) P
+    let h = gives_back (kind_in_state (story_state v) c) k x x.owned in
+    let m = missed k (slot_pointer w.slots (hand w.slots)) in
+    cond_both (word_of_cell v c == cell_bits x) (step_of_act v d w k ts a (Some (deed.OnCell (cell_deed.CompareSwap c x y))) h) (within w k None m) P
     (λ e. each.swap x y h) (λ e. each.quiet m)
 
 each_settles : (v : Story) (d : ℕ) (w : Walk) (k : ℕ) (ts : List Task) (a : Act) (c : Cell) (P : Step → Type 0) → IsEach v d w k ts a c P
     → (y : Compared) (x : CellWord) → P (settles v d w k ts a c y x)
 each_settles v d w k ts a c P each y x =
-    cond_both (same_value x y.expected) (on (fetches w k x) (matches v d w k ts a c y x) (slot w.slots (hand w.slots)))
-    (takes v d w k ts a c (Some y) x) P (λ e. go (slot w.slots (hand w.slots))) (λ e. each_takes v d w k ts a c P each (Some y) x)
+    cond_both (same_value x y.expected) (on (fetches w k x) (matches v d w k ts a c y x) (slot_pointer w.slots (hand w.slots)))
+    (takes v d w k ts a c (Some y) x) P (λ e. go (slot_pointer w.slots (hand w.slots))) (λ e. each_takes v d w k ts a c P each (Some y) x)
   where
     go : (o : Option Pointer) → P (on (fetches w k x) (matches v d w k ts a c y x) o)
     go None = each_matches v d w k ts a c P each y x
@@ -90,14 +91,15 @@ each_settles v d w k ts a c P each y x =
 -- each act that may be half done
 pub record IsEachAct (v : Story) (d : ℕ) (w : Walk) (k : ℕ) (ts : List Task) (P : Option Step → Type 0) : Type 0 where
   pub none : P None
-  pub load : (c : CellName) → IsEach v d w k ts (Load c) (cell_at (state v) w.slots c) (λ (x : Step). P (Some x))
-  pub compare : (i : ℕ) (c : CellName) (weak : Bool) → IsEach v d w k ts (Compare i c weak) (cell_at (state v) w.slots c) (λ (x : Step). P (Some x))
+  pub load : (c : CellName) → IsEach v d w k ts (Load c) (cell_of_name (story_state v) w.slots c) (λ (x : Step). P (Some x))
+  pub compare : (i : ℕ) (c : CellName) (weak : Bool)
+      → IsEach v d w k ts (Compare i c weak) (cell_of_name (story_state v) w.slots c) (λ (x : Step). P (Some x))
 
 saw_act : (v : Story) (d : ℕ) (w : Walk) (k : ℕ) (ts : List Task) (P : Option Step → Type 0) → IsEachAct v d w k ts P → (x : CellWord) (a : Act)
     → P (saw_on v d w k ts x a)
-saw_act v d w k ts P each x (Load c) = each_takes v d w k ts (Load c) (cell_at (state v) w.slots c) (λ (s : Step). P (Some s)) (each.load c) None x
+saw_act v d w k ts P each x (Load c) = each_takes v d w k ts (Load c) (cell_of_name (story_state v) w.slots c) (λ (s : Step). P (Some s)) (each.load c) None x
 saw_act v d w k ts P each x (Compare i c weak) =
-    each_settles v d w k ts (Compare i c weak) (cell_at (state v) w.slots c) (λ (s : Step). P (Some s)) (each.compare i c weak)
+    each_settles v d w k ts (Compare i c weak) (cell_of_name (story_state v) w.slots c) (λ (s : Step). P (Some s)) (each.compare i c weak)
     (compared_in w.slots (comparing w.slots i weak)) x
 saw_act v d w k ts P each x (Make form) = each.none
 saw_act v d w k ts P each x (Share i) = each.none
@@ -121,7 +123,7 @@ saw_act v d w k ts P each x Drop = each.none
 matched_act : (v : Story) (d : ℕ) (w : Walk) (k : ℕ) (ts : List Task) (P : Option Step → Type 0) → IsEachAct v d w k ts P → (x : CellWord) (a : Act)
     → P (matched_on v d w k ts x a)
 matched_act v d w k ts P each x (Compare i c weak) =
-    each_matches v d w k ts (Compare i c weak) (cell_at (state v) w.slots c) (λ (s : Step). P (Some s)) (each.compare i c weak)
+    each_matches v d w k ts (Compare i c weak) (cell_of_name (story_state v) w.slots c) (λ (s : Step). P (Some s)) (each.compare i c weak)
     (compared_in w.slots (comparing w.slots i weak)) x
 matched_act v d w k ts P each x (Load c) = each.none
 matched_act v d w k ts P each x (Make form) = each.none
@@ -163,13 +165,13 @@ pub record IsEachRefill (v : Story) (w : Walk) (k : ℕ) (P : Step → Type 0) :
 
 refill_stage : (v : Story) (w : Walk) (k : ℕ) (P : Step → Type 0) → IsEachRefill v w k P → (c : Cell) (x : CellWord) (b : Block) (stage : Stage)
     → P (refills_on v w stage c x k b)
-refill_stage v w k P each c x b Turning = each.turn (kind_in (state v) c) b (cond (is_low x) (Refill Checking c x k) Rest)
+refill_stage v w k P each c x b Turning = each.turn (kind_in_state (story_state v) c) b (cond (is_low x) (Refill Checking c x k) Rest)
 refill_stage v w k P each c x b Checking = each.quiet (cond (is_drained x (seen v c)) (Refill Lacking c (seen v c) k) Rest)
-refill_stage v w k P each c x b Lacking = each.bring (kind_in (state v) c) b x.place x.taken (Refill Refilling c x k)
+refill_stage v w k P each c x b Lacking = each.bring (kind_in_state (story_state v) c) b x.place x.taken (Refill Refilling c x k)
 refill_stage v w k P each c x b Refilling =
-    cond_both (word_at v c == cell_bits x) (within w k (Some (deed.OnCell (cell_deed.Refill c x.taken))) Rest)
+    cond_both (word_of_cell v c == cell_bits x) (within w k (Some (deed.OnCell (cell_deed.Refill c x.taken))) Rest)
     (within w k None (Refill Failing c x k)) P (λ e. each.refill c x.taken Rest) (λ e. each.quiet (Refill Failing c x k))
-refill_stage v w k P each c x b Failing = each.back (kind_in (state v) c) b x.taken (Refill Checking c x k)
+refill_stage v w k P each c x b Failing = each.back (kind_in_state (story_state v) c) b x.taken (Refill Checking c x k)
 
 pub each_refill : (v : Story) (w : Walk) (k : ℕ) (P : Option Step → Type 0) → P None → IsEachRefill v w k (λ (x : Step). P (Some x))
     → (stage : Stage) (c : Cell) (x : CellWord) (o : Option Block) → P (option_map (refills_on v w stage c x k) o)

@@ -27,9 +27,9 @@ use Rattle.step_threads.specs.Actors.{HalfFits}
 use Rattle.step_threads.specs.Courses.{Walk, task_at}
 use Rattle.step_table.specs.Openings.{opening}
 use Rattle.step_threads.specs.Scenes.{nowhere}
-use Rattle.step_table.specs.Stories.{Kept, Nothing, Story, pending, state}
-use Rattle.step_threads.specs.Endings.{endings_of}
-use Rattle.step_core.specs.Told.{IsTold, sight}
+use Rattle.step_table.specs.Stories.{Kept, Nothing, Story, pending, story_state}
+use Rattle.step_threads.specs.Endings.{endings_in_block}
+use Rattle.step_core.specs.Told.{TotalsAreTold, sight}
 use Rattle.step_core.specs.Totals.{IsAtEnd, census_of, counts_in}
 use Rattle.step_core.specs.Worlds.{AllFit, Sight, thread_half, thread_walk}
 
@@ -41,9 +41,9 @@ at_view (x ∷ xs) (suc i) w e = let r = at_view xs i w e in (let l = r.0 in ome
 -- nobody has begun anything, and no object is ending
 pub record IsStill (v : Story) : Type 0 where
   pub idle : (d : ℕ) → d < v.extent.actors → pending v d ≡ Idle
-  pub none : (o e : ℕ) → ((state v).object o).phase ≡ ending e → ⊥
+  pub none : (o e : ℕ) → ((story_state v).object o).phase ≡ ending e → ⊥
 
-pub at_rest : (v : Story) (b : ℕ) → Kept v → IsStill v → IsAtRest (state v) v.views b
+pub at_rest : (v : Story) (b : ℕ) → Kept v → IsStill v → IsAtRest (story_state v) v.views b
 at_rest v b kept still = record {
   still = λ o e here p. still.none o e p;
   unnamed = λ i w at names.
@@ -51,12 +51,12 @@ at_rest v b kept still = record {
       let size = kept.seats.size in
       let lt : i < v.extent.actors = (let l = r.0 in omega (arith, l, size)) in
       let p : w.pending ≡ Idle = ap (λ (z : View Nothing). z.pending) (sym r.1) ∙ still.idle i lt in
-      subst (λ (q : Pending Nothing). NamesBlock (state v) q b) p names;
+      subst (λ (q : Pending Nothing). NamesBlock (story_state v) q b) p names;
 }
 
 pub exact : (v : Story) (b : ℕ) → Kept v → IsStill v → InShape (opening v.extent) b
-    → (number_of (slice_index v.words (spot b 0)) ≡ count (state v) ((state v).latest b))
-    × (number_of (slice_index v.words (spot b 1)) ≡ weak_number (state v) ((state v).latest b))
+    → (number_of (slice_index v.words (spot b 0)) ≡ count (story_state v) ((story_state v).latest b))
+    × (number_of (slice_index v.words (spot b 1)) ≡ weak_number (story_state v) ((story_state v).latest b))
 exact v b kept still inside = rests_exactly (opening v.extent) v.words v.views v.history kept.stands b inside (at_rest v b kept still)
 
 -- a block is vacant just where its latest object has no weak number
@@ -86,9 +86,9 @@ counted owners weaks = Some (record { owners = owners; weaks = weaks })
 -- the numbers that were read say what the state says
 pub census_is : (v : Story) (b owners number : ℕ) → Kept v → IsStill v → InShape (opening v.extent) b
     → owners ≡ number_of (slice_index v.words (spot b 0)) → number ≡ number_of (slice_index v.words (spot b 1))
-    → counts_in owners number ≡ census_of (state v) b
+    → counts_in owners number ≡ census_of (story_state v) b
 census_is v b owners number kept still inside read read' =
-    let s = state v in
+    let s = story_state v in
     let o = s.latest b in
     let e = exact v b kept still inside in
     let fine = sound (opening v.extent) v.history kept.stands.legal in
@@ -105,10 +105,11 @@ not_none : (c : Counts) → ◌≡◌ {A = Option Counts} (Some c) None → ⊥
 not_none c e = cc
 
 -- none is told just where the block is vacant
-pub none_vacant : (v : Story) (b : ℕ) → Kept v → (census_of (state v) b ≡ None → IsVacant (state v) b) × (IsVacant (state v) b → census_of
-    (state v) b ≡ None)
+pub none_vacant : (v : Story) (b : ℕ) → Kept v → (census_of (story_state v) b ≡ None → IsVacant (story_state v) b)
+    × (IsVacant (story_state v) b → census_of
+    (story_state v) b ≡ None)
 none_vacant v b kept =
-    let s = state v in
+    let s = story_state v in
     let n = weak_number s (s.latest b) in
     let fine = sound (opening v.extent) v.history kept.stands.legal in (
       λ e. ⊎_elim (λ (z : n ≡ 0). vacant_by (opening v.extent) s b fine z)
@@ -146,25 +147,27 @@ idle_end v threads fit all d lt =
     subst (λ (x : Half). HalfFits d x t.0.course.holdings.slots.items (task_at t.0.course).act v) h (fit.each d t.0 t.1).half
 
 -- a world whose threads are at their end
-still_end : (v : Story) (threads : List Thread) (m e : ℕ) → AllFit v threads → IsTold (sight v threads) m e → IsAtEnd (sight v threads) → IsStill v
+still_end : (v : Story) (threads : List Thread) (m e : ℕ) → AllFit v threads → TotalsAreTold (sight v threads) m e
+    → IsAtEnd (sight v threads) → IsStill v
 still_end v threads m e fit told end =
     let l = length-map threads thread_walk in
     let n = told.threads in
     record {
       idle = λ d lt. idle_end v threads fit end.halves d (omega (arith, l, n, lt));
       none = λ o i p.
-          let none = ap (endings_of ((state v).object o).block) (all_over (map thread_walk threads) i end.endings) in
+          let none = ap (endings_in_block ((story_state v).object o).block) (all_over (map thread_walk threads) i end.endings) in
           let some = told.endings o i p in
           absurd (omega (arith, none, some));
     }
 
-pub still_now : (u : Sight) (v : Story) (threads : List Thread) (m e : ℕ) → sight v threads ≡ u → AllFit v threads → IsTold (sight v threads) m e
+pub still_now : (u : Sight) (v : Story) (threads : List Thread) (m e : ℕ) → sight v threads ≡ u → AllFit v threads
+    → TotalsAreTold (sight v threads) m e
     → IsAtEnd u → IsStill u.story
 still_now u v threads m e is fit told = subst (λ (x : Sight). IsAtEnd x → IsStill x.story) is (still_end v threads m e fit told)
 
 pub census_now : (u : Sight) (v : Story) (threads : List Thread) (m e b x y : ℕ) (r : Option Counts) → sight v threads ≡ u → AllFit v threads
-    → IsTold (sight v threads) m e → Kept v → IsAtEnd u → 0 < b → b ≤ u.story.extent.shape.blocks → x ≡ slice_index v.words (spot b 0)
-    → y ≡ slice_index v.words (spot b 1) → r ≡ counts_in (number_of x) (number_of y) → r ≡ census_of (state u.story) b
+    → TotalsAreTold (sight v threads) m e → Kept v → IsAtEnd u → 0 < b → b ≤ u.story.extent.shape.blocks → x ≡ slice_index v.words (spot b 0)
+    → y ≡ slice_index v.words (spot b 1) → r ≡ counts_in (number_of x) (number_of y) → r ≡ census_of (story_state u.story) b
 census_now u v threads m e b x y r is fit told kept end from within read read' answer =
     answer
     ∙ census_is u.story b (number_of x) (number_of y) (subst (λ (z : Sight). Kept z.story) is kept)

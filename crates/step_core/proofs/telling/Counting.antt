@@ -18,22 +18,22 @@ use Rattle.step_table.specs.declared.ended.Ended.{Ended}
 use Rattle.step_threads.specs.Actors.{wanted}
 use Rattle.step_threads.specs.declared.ending.Ending.{Ending}
 use Rattle.step_core.specs.Bounds.{walk_steps, weight}
-use Rattle.step_threads.specs.Courses.{Going, Walk, cell_at, comparing, form_of, going, hand, locked, offered, on_going, other, settled}
+use Rattle.step_threads.specs.Courses.{Going, Walk, cell_of_name, comparing, form_of, going, hand, locked_pointer, offered, on_going, other, walk_settled}
 use Rattle.step_threads.specs.Endings.{staged}
 use Rattle.step_table.specs.declared.cell_deed.Cell.TheVariants.{Member}
-use Rattle.step_table.specs.Cells.{word_at}
+use Rattle.step_table.specs.Cells.{word_of_cell}
 use Rattle.step_table.specs.Contents.{compared_in, seen}
-use Rattle.step_table.specs.Holdings.{inside, is_full, owner_slot, place_in, slot}
+use Rattle.step_table.specs.Holdings.{inside, is_full, owner_slot, place_in, slot_pointer}
 use Rattle.step_threads.specs.Entries.{least}
 use Rattle.step_table.specs.Deeds.{by_word, on, give, is_enabled, lock, owner_word, aliased}
-use Rattle.step_threads.specs.Scenes.{answer_of, ended_of, holding, left as leaves_by, went}
-use Rattle.step_threads.specs.NextSteps.{at_rest, begun, emptied, first, given, made_on, sent, step_at, tried}
-use Rattle.step_threads.specs.Steps.{Step, acts, asks, begins, brings, claims, empties, ends_on, looks, prepares, sends, silent, swaps}
+use Rattle.step_threads.specs.Scenes.{answer_of, ended_of, holding, leaving_pointer as leaves_by, went}
+use Rattle.step_threads.specs.NextSteps.{at_rest, begun, emptied, first, given_step, made_on, sent, step_at, tried}
+use Rattle.step_threads.specs.Steps.{Step, step_of_act, asks, begins, brings, claims, empties, ends_on, looks, prepares, sends, silent, step_of_swap}
 use Rattle.step_threads.specs.Steps.{tries, trying, with_endings, within}
 use Rattle.control_word.specs.declared.handle.Kind.{Kind}
 use Rattle.control_word.specs.declared.handle.Kind.TheVariants.{Owner, Weak}
-use Rattle.step_table.specs.Stories.{Story, known, object_in, pending, state}
-use Rattle.step_threads.specs.Threads.{IsClearing}
+use Rattle.step_table.specs.Stories.{Story, known_words, object_of_block, pending, story_state}
+use Rattle.step_threads.specs.Threads.{IsClearingMember}
 use Rattle.step_core.specs.Told.{is_prepared}
 use Rattle.step_core.specs.Totals.{made_in}
 use Rattle.step_core.specs.Turning.{IsAlone, IsTried, IsUnderWay}
@@ -50,14 +50,13 @@ made_one v d i k w t ts b f form e same none is =
     let m : suc (made_in v.history) ≡ made_in v.history + cond (i == 5) 1 0 = omega (arith, c) in
     let x = holding w.slots form.null (Some b.0) in
     let l = settled_alone x.0 x.1 ts in
-    let n : walk_steps (settled x.0 x.1 w.endings ts) ≡ walk_steps (settled x.0 x.1 [] ts) =
-    ap (λ (es : List Ending). walk_steps (settled x.0 x.1 es ts)) none in
+    let n : walk_steps (walk_settled x.0 x.1 w.endings ts) ≡ walk_steps (walk_settled x.0 x.1 [] ts) =
+    ap (λ (es : List Ending). walk_steps (walk_settled x.0 x.1 es ts)) none in
     let a = walk_alone w t ts none is in
     let g : weight t.act ≡ 28 = ap weight same in
     record { made = m; ended = plus_none _; few = omega (arith, c, l, n, a, g) }
 
-prepared_one : (v : Story) (d k found want i : ℕ) (w : Walk) (b : Block) (f : Bool)
-    → IsCounted v d (Making b i f) w (Some (prepares found want w k b i f))
+prepared_one : (v : Story) (d k found want i : ℕ) (w : Walk) (b : Block) (f : Bool) → IsCounted v d (Making b i f) w (Some (prepares found want w k b i f))
 prepared_one v d k found want i w b true = record { made = plus_none _; ended = plus_none _; few = omega arith }
 prepared_one v d k found want i w b false = record { made = plus_none _; ended = plus_none _; few = omega arith }
 
@@ -65,7 +64,7 @@ counted_make : (v : Story) (d i : ℕ) (w : Walk) (b : Block) (f : Bool) (ts : L
     → IsUnderWay d v (Making b i f) ts → IsCounted v d (Making b i f) w (made_on v d w b i f ts)
 counted_make v d i w b f [] is none way = absurd way
 counted_make v d i w b f (t ∷ ts) is none way =
-    let found = get_or (known (pending v d)) i 0 in let want = get_or (wanted (form_of t.act)) i 0 in
+    let found = get_or (known_words (pending v d)) i 0 in let want = get_or (wanted (form_of t.act)) i 0 in
     cond_both (i == 5) (claims w t.statement ts b (form_of t.act)) (prepares found want w t.statement b i f)
     (λ (x : Step). IsCounted v d (Making b i f) w (Some x)) (λ e. made_one v d i t.statement w t ts b f (form_of t.act) e way.2 none is)
     (λ e. prepared_one v d t.statement found want i w b f)
@@ -74,28 +73,28 @@ begun_in : (v : Story) (d k : ℕ) (w : Walk) (t : Task) (ts : List Task) (o : O
     → IsCounted v d Rest w (Some (begins w k ts o))
 begun_in v d k w t ts None none is =
     let l = settled_alone w.slots false ts in
-    let n : walk_steps (settled w.slots false w.endings ts) ≡ walk_steps (settled w.slots false [] ts) =
-    ap (λ (es : List Ending). walk_steps (settled w.slots false es ts)) none in
+    let n : walk_steps (walk_settled w.slots false w.endings ts) ≡ walk_steps (walk_settled w.slots false [] ts) =
+    ap (λ (es : List Ending). walk_steps (walk_settled w.slots false es ts)) none in
     let a = walk_alone w t ts none is in
     record { made = plus_none _; ended = plus_none _; few = omega (arith, l, n, a) }
 begun_in v d k w t ts (Some b) none is = record { made = plus_none _; ended = plus_none _; few = omega arith }
 
 -- an act by which nothing leaves
 plain : (v : Story) (d k : ℕ) (w : Walk) (t : Task) (ts : List Task) (a : Act) → w.endings ≡ [] → w.todo ≡ t ∷ ts → leaves_by w.slots a ≡ None
-    → walk_steps (went (state v) d w k ts a) ≤ walk_steps w
-plain v d k w t ts a none is stays = let l = went_plain (state v) d k w t ts a none is stays in omega (arith, l)
+    → walk_steps (went (story_state v) d w k ts a) ≤ walk_steps w
+plain v d k w t ts a none is stays = let l = went_plain (story_state v) d k w t ts a none is stays in omega (arith, l)
 
 -- an object is asked for a pointer, or gives one
 asked_one : (v : Story) (d k : ℕ) (w : Walk) (t : Task) (ts : List Task) (i : ℕ) (q : Kind) (o : Option Pointer) → w.endings ≡ []
-    → w.todo ≡ t ∷ ts → IsCounted v d Rest w (Some (on (asks v d w k ts i q) (acts v d w k ts (FromThis i q) None Rest) o))
+    → w.todo ≡ t ∷ ts → IsCounted v d Rest w (Some (on (asks v d w k ts i q) (step_of_act v d w k ts (FromThis i q) None Rest) o))
 asked_one v d k w t ts i q None none is =
-    quiet v d k Rest Rest w (went (state v) d w k ts (FromThis i q)) (answer_of (by_word v) (state v) d w.slots (FromThis i q))
+    quiet v d k Rest Rest w (went (story_state v) d w k ts (FromThis i q)) (answer_of (by_word v) (story_state v) d w.slots (FromThis i q))
     (plain v d k w t ts (FromThis i q) none is refl)
 asked_one v d k w t ts i q (Some y) none is =
-    cond_both (is_enabled (state v) y) (record { deed = None; half = Giving i q y; walk = w; said = silent k })
-    (acts v d w k ts (FromThis i q) None Rest) (λ (x : Step). IsCounted v d Rest w (Some x))
+    cond_both (is_enabled (story_state v) y) (record { deed = None; half = Giving i q y; walk = w; said = silent k })
+    (step_of_act v d w k ts (FromThis i q) None Rest) (λ (x : Step). IsCounted v d Rest w (Some x))
     (λ b. quiet v d k Rest (Giving i q y) w w None (omega arith))
-    (λ b. quiet v d k Rest Rest w (went (state v) d w k ts (FromThis i q)) (answer_of (by_word v) (state v) d w.slots (FromThis i q))
+    (λ b. quiet v d k Rest Rest w (went (story_state v) d w k ts (FromThis i q)) (answer_of (by_word v) (story_state v) d w.slots (FromThis i q))
     (plain v d k w t ts (FromThis i q) none is refl))
 
 given_one : (v : Story) (d i k : ℕ) (q r : Kind) (y : Pointer) (w x : Walk) (a : Option Answer) → walk_steps x ≤ walk_steps w
@@ -109,108 +108,112 @@ given_one v d i k q Owner y w x a le = record { made = plus_none _; ended = plus
 given_one v d i k q Weak y w x a le = record { made = plus_none _; ended = plus_none _; few = omega (arith, le) }
 
 counted_give : (v : Story) (d i : ℕ) (q : Kind) (y : Pointer) (w : Walk) (ts : List Task) → w.todo ≡ ts → w.endings ≡ []
-    → IsCounted v d (Giving i q y) w (given v d w i q y ts)
+    → IsCounted v d (Giving i q y) w (given_step v d w i q y ts)
 counted_give v d i q y w [] is none = record { made = plus_none _; ended = plus_none _; few = omega arith }
 counted_give v d i q y w (t ∷ ts) is none =
-    given_one v d i t.statement q q y w (went (state v) d w t.statement ts (FromThis i q)) (answer_of (by_word v) (state v) d w.slots (FromThis i q))
+    given_one v d i t.statement q q y w (went (story_state v) d w t.statement ts (FromThis i q))
+    (answer_of (by_word v) (story_state v) d w.slots (FromThis i q))
     (plain v d t.statement w t ts (FromThis i q) none is refl)
 
 -- a lock is tried, or done
 tried_or : (v : Story) (d k : ℕ) (h : Half) (w : Walk) (t : Task) (ts : List Task) (word i : ℕ) (must : Bool) (y : Pointer) (b : Bool)
     → is_prepared h ≡ false → w.endings ≡ [] → w.todo ≡ t ∷ ts
-    → IsCounted v d h w (Some (cond b (acts v d w k ts (Lock i must) (Some (lock (state v) y)) Rest) (trying w k word)))
+    → IsCounted v d h w (Some (cond b (step_of_act v d w k ts (Lock i must) (Some (lock (story_state v) y)) Rest) (trying w k word)))
 tried_or v d k h w t ts word i must y true e none is =
-    locked_by v d k h w (went (state v) d w k ts (Lock i must)) (answer_of (by_word v) (state v) d w.slots (Lock i must)) y e
+    locked_by v d k h w (went (story_state v) d w k ts (Lock i must)) (answer_of (by_word v) (story_state v) d w.slots (Lock i must)) y e
     (plain v d k w t ts (Lock i must) none is refl)
 tried_or v d k h w t ts word i must y false e none is = quiet v d k h (cond (word == 0) Rest (Locking word)) w w None (omega arith)
 
 looked : (v : Story) (d k : ℕ) (w : Walk) (t : Task) (ts : List Task) (i : ℕ) (must : Bool) (o : Option Pointer) → w.endings ≡ []
-    → w.todo ≡ t ∷ ts → IsCounted v d Rest w (Some (on (looks v d w k ts (Lock i must)) (acts v d w k ts (Lock i must) None Rest) o))
+    → w.todo ≡ t ∷ ts → IsCounted v d Rest w (Some (on (looks v d w k ts (Lock i must)) (step_of_act v d w k ts (Lock i must) None Rest) o))
 looked v d k w t ts i must None none is =
-    quiet v d k Rest Rest w (went (state v) d w k ts (Lock i must)) (answer_of (by_word v) (state v) d w.slots (Lock i must))
+    quiet v d k Rest Rest w (went (story_state v) d w k ts (Lock i must)) (answer_of (by_word v) (story_state v) d w.slots (Lock i must))
     (plain v d k w t ts (Lock i must) none is refl)
 looked v d k w t ts i must (Some y) none is = tried_or v d k Rest w t ts (owner_word v y) i must y (owner_word v y == 0) refl none is
 
 -- a value goes into a cell
 swapped : (v : Story) (d k : ℕ) (h : Half) (w : Walk) (t : Task) (ts : List Task) (a : Act) (x : Going) → is_prepared h ≡ false
-    → w.endings ≡ [] → w.todo ≡ t ∷ ts → t.act ≡ a → going w.slots a ≡ Some x → IsCounted v d h w (Some (swaps v d w k ts a x.0 x.1))
+    → w.endings ≡ [] → w.todo ≡ t ∷ ts → t.act ≡ a → going w.slots a ≡ Some x → IsCounted v d h w (Some (step_of_swap v d w k ts a x.0 x.1))
 swapped v d k h w t ts a x e none is same goes =
     let z : ◌≡◌ {A = ℕ} (cond (is_prepared h) 1 0) 0 = ap (λ (b : Bool). cond b 1 0) e in
-    let y = swapping (state v) w.slots a x goes in
-    let n : ◌≡◌ {A = ℕ} (cond (is_some (ended_of (state v) w.slots a)) 1 0) 0 = ap (λ (o : Option Ended). cond (is_some o) 1 0) y.ends in
-    let l = went_swap (state v) d k w t ts a x none is same goes in
+    let y = swapping (story_state v) w.slots a x goes in
+    let n : ◌≡◌ {A = ℕ} (cond (is_some (ended_of (story_state v) w.slots a)) 1 0) 0 = ap (λ (o : Option Ended). cond (is_some o) 1 0) y.ends in
+    let l = went_swap (story_state v) d k w t ts a x none is same goes in
     record { made = omega (arith, z); ended = omega (arith, n); few = omega (arith, l, z, n) }
 
 -- the funds of what goes in are brought first, where it has an object
 brought : (v : Story) (d k : ℕ) (w : Walk) (t : Task) (ts : List Task) (a : Act) (x : Going) → w.endings ≡ [] → w.todo ≡ t ∷ ts
     → t.act ≡ a → going w.slots a ≡ Some x → (o : Option Pointer)
-    → IsCounted v d Rest w (Some (on (brings w k) (swaps v d w k ts a x.0 x.1) o))
+    → IsCounted v d Rest w (Some (on (brings w k) (step_of_swap v d w k ts a x.0 x.1) o))
 brought v d k w t ts a x none is same goes None = swapped v d k Rest w t ts a x refl none is same goes
 brought v d k w t ts a x none is same goes (Some y) = record { made = plus_none _; ended = plus_none _; few = omega arith }
 
 going_in : (v : Story) (d k : ℕ) (w : Walk) (t : Task) (ts : List Task) (a : Act) (o : Option Going) → w.endings ≡ [] → w.todo ≡ t ∷ ts
-    → t.act ≡ a → going w.slots a ≡ o → IsCounted v d Rest w (Some (acts v d w k ts a None Rest))
-    → IsCounted v d Rest w (Some (on_going (sends v d w k ts a) (acts v d w k ts a None Rest) o))
+    → t.act ≡ a → going w.slots a ≡ o → IsCounted v d Rest w (Some (step_of_act v d w k ts a None Rest))
+    → IsCounted v d Rest w (Some (on_going (sends v d w k ts a) (step_of_act v d w k ts a None Rest) o))
 going_in v d k w t ts a None none is same goes idle = idle
-going_in v d k w t ts a (Some x) none is same goes idle = brought v d k w t ts a x none is same goes (slot w.slots x.1)
+going_in v d k w t ts a (Some x) none is same goes idle = brought v d k w t ts a x none is same goes (slot_pointer w.slots x.1)
 
 counted_send : (v : Story) (d : ℕ) (w : Walk) (ts : List Task) → w.endings ≡ [] → w.todo ≡ ts → IsCounted v d Brought w (sent v d w ts)
 counted_send v d w [] none is = record { made = plus_none _; ended = plus_none _; few = omega arith }
 counted_send v d w (t ∷ ts) none is = go (going w.slots t.act) refl
   where
     go : (o : Option Going) → going w.slots t.act ≡ o
-        → IsCounted v d Brought w (option_map (λ (x : Going). swaps v d w t.statement ts t.act x.0 x.1) o)
+        → IsCounted v d Brought w (option_map (λ (x : Going). step_of_swap v d w t.statement ts t.act x.0 x.1) o)
     go None goes = record { made = plus_none _; ended = plus_none _; few = omega arith }
     go (Some x) goes = swapped v d t.statement Brought w t ts t.act x refl none is refl goes
 
 counted_act : (v : Story) (d k : ℕ) (w : Walk) (t : Task) (ts : List Task) (a : Act) → w.endings ≡ [] → w.todo ≡ t ∷ ts → t.act ≡ a
     → IsCounted v d Rest w (Some (first v d w k ts a))
-counted_act v d k w t ts (Make form) none is same = begun_in v d k w t ts (least d (state v).stores) none is
+counted_act v d k w t ts (Make form) none is same = begun_in v d k w t ts (least d (story_state v).stores) none is
 counted_act v d k w t ts (Share i) none is same =
-    shared v d k w (went (state v) d w k ts (Share i)) None (plain v d k w t ts (Share i) none is refl) (slot w.slots i)
+    shared v d k w (went (story_state v) d w k ts (Share i)) None (plain v d k w t ts (Share i) none is refl) (slot_pointer w.slots i)
 counted_act v d k w t ts (Put i) none is same =
-    left v d k w (went (state v) d w k ts (Put i)) (slot w.slots i) (went_less (state v) d k w t ts (Put i) none is)
+    left v d k w (went (story_state v) d w k ts (Put i)) (slot_pointer w.slots i) (went_less (story_state v) d k w t ts (Put i) none is)
 counted_act v d k w t ts (Leave i) none is same =
-    left v d k w (went (state v) d w k ts (Leave i)) (slot w.slots i) (went_less (state v) d k w t ts (Leave i) none is)
+    left v d k w (went (story_state v) d w k ts (Leave i)) (slot_pointer w.slots i) (went_less (story_state v) d k w t ts (Leave i) none is)
 counted_act v d k w t ts (Clear i) none is same =
-    left v d k w (went (state v) d w k ts (Clear i)) (slot w.slots i) (went_less (state v) d k w t ts (Clear i) none is)
+    left v d k w (went (story_state v) d w k ts (Clear i)) (slot_pointer w.slots i) (went_less (story_state v) d k w t ts (Clear i) none is)
 counted_act v d k w t ts (Count i) none is same =
-    told v d k w (went (state v) d w k ts (Count i)) (answer_of (by_word v) (state v) d w.slots (Count i)) (plain v d k w t ts (Count i) none is refl)
-    (slot w.slots i)
+    told v d k w (went (story_state v) d w k ts (Count i)) (answer_of (by_word v) (story_state v) d w.slots (Count i))
+    (plain v d k w t ts (Count i) none is refl)
+    (slot_pointer w.slots i)
 counted_act v d k w t ts (Downgrade i) none is same =
-    downgraded v d k w (went (state v) d w k ts (Downgrade i)) (plain v d k w t ts (Downgrade i) none is refl) (slot w.slots i)
-counted_act v d k w t ts (Lock i must) none is same = looked v d k w t ts i must (locked w.slots (Lock i must)) none is
+    downgraded v d k w (went (story_state v) d w k ts (Downgrade i)) (plain v d k w t ts (Downgrade i) none is refl) (slot_pointer w.slots i)
+counted_act v d k w t ts (Lock i must) none is same = looked v d k w t ts i must (locked_pointer w.slots (Lock i must)) none is
 counted_act v d k w t ts (Alias i j field) none is same =
-    aliased_by v d k w (went (state v) d w k ts (Alias i j field)) (aliased field (place_in w.slots j))
-    (plain v d k w t ts (Alias i j field) none is refl) (owner_slot (slot w.slots i))
+    aliased_by v d k w (went (story_state v) d w k ts (Alias i j field)) (aliased field (place_in w.slots j))
+    (plain v d k w t ts (Alias i j field) none is refl) (owner_slot (slot_pointer w.slots i))
 counted_act v d k w t ts (Move i) none is same =
-    quiet v d k Rest Rest w (went (state v) d w k ts (Move i)) None (plain v d k w t ts (Move i) none is refl)
+    quiet v d k Rest Rest w (went (story_state v) d w k ts (Move i)) None (plain v d k w t ts (Move i) none is refl)
 counted_act v d k w t ts (Ask q) none is same =
-    quiet v d k Rest Rest w (went (state v) d w k ts (Ask q)) (answer_of (by_word v) (state v) d w.slots (Ask q)) (plain v d k w t ts (Ask q) none is refl)
+    quiet v d k Rest Rest w (went (story_state v) d w k ts (Ask q)) (answer_of (by_word v) (story_state v) d w.slots (Ask q))
+    (plain v d k w t ts (Ask q) none is refl)
 counted_act v d k w t ts (Expired i) none is same =
-    expired v d k w (went (state v) d w k ts (Expired i)) (answer_of (by_word v) (state v) d w.slots (Expired i))
-    (plain v d k w t ts (Expired i) none is refl) (slot w.slots i)
+    expired v d k w (went (story_state v) d w k ts (Expired i)) (answer_of (by_word v) (story_state v) d w.slots (Expired i))
+    (plain v d k w t ts (Expired i) none is refl) (slot_pointer w.slots i)
 counted_act v d k w t ts (Read i) none is same =
-    read_one v d k w (went (state v) d w k ts (Read i)) (answer_of (by_word v) (state v) d w.slots (Read i)) (plain v d k w t ts (Read i) none is refl)
-    (inside (slot w.slots i))
-counted_act v d k w t ts (FromThis i kind) none is same = asked_one v d k w t ts i kind (inside (slot w.slots i)) none is
+    read_one v d k w (went (story_state v) d w k ts (Read i)) (answer_of (by_word v) (story_state v) d w.slots (Read i))
+    (plain v d k w t ts (Read i) none is refl)
+    (inside (slot_pointer w.slots i))
+counted_act v d k w t ts (FromThis i kind) none is same = asked_one v d k w t ts i kind (inside (slot_pointer w.slots i)) none is
 counted_act v d k w t ts (Offer i c) none is same =
-    shared v d k w (went (state v) d w k ts (Offer i c)) (answer_of (by_word v) (state v) d w.slots (Offer i c))
+    shared v d k w (went (story_state v) d w k ts (Offer i c)) (answer_of (by_word v) (story_state v) d w.slots (Offer i c))
     (plain v d k w t ts (Offer i c) none is refl) (offered w.slots i c)
 counted_act v d k w t ts (Swap c) none is same =
     going_in v d k w t ts (Swap c) (going w.slots (Swap c)) none is same refl
-    (quiet v d k Rest Rest w (went (state v) d w k ts (Swap c)) None (plain v d k w t ts (Swap c) none is refl))
+    (quiet v d k Rest Rest w (went (story_state v) d w k ts (Swap c)) None (plain v d k w t ts (Swap c) none is refl))
 counted_act v d k w t ts (Exchange i c) none is same =
     going_in v d k w t ts (Exchange i c) (going w.slots (Exchange i c)) none is same refl
-    (quiet v d k Rest Rest w (went (state v) d w k ts (Exchange i c)) (answer_of (by_word v) (state v) d w.slots (Exchange i c))
+    (quiet v d k Rest Rest w (went (story_state v) d w k ts (Exchange i c)) (answer_of (by_word v) (story_state v) d w.slots (Exchange i c))
     (plain v d k w t ts (Exchange i c) none is refl))
 counted_act v d k w t ts (Load c) none is same = load_one v d k w t ts c none is
 counted_act v d k w t ts (Compare i c weak) none is same =
-    compares_one v d k w t ts (Compare i c weak) (cell_at (state v) w.slots c) (compared_in w.slots (comparing w.slots i weak))
-    (seen v (cell_at (state v) w.slots c))
+    compares_one v d k w t ts (Compare i c weak) (cell_of_name (story_state v) w.slots c) (compared_in w.slots (comparing w.slots i weak))
+    (seen v (cell_of_name (story_state v) w.slots c))
     none is refl refl
 counted_act v d k w t ts Drop none is same =
-    left v d k w (went (state v) d w k ts Drop) (slot w.slots (other w.slots)) (went_less (state v) d k w t ts Drop none is)
+    left v d k w (went (story_state v) d w k ts Drop) (slot_pointer w.slots (other w.slots)) (went_less (story_state v) d k w t ts Drop none is)
 
 counted_task : (v : Story) (d : ℕ) (w : Walk) (ts : List Task) → w.endings ≡ [] → w.todo ≡ ts → IsCounted v d Rest w (begun v d w ts)
 counted_task v d w [] none is = record { made = plus_none _; ended = plus_none _; few = omega arith }
@@ -219,10 +222,8 @@ counted_task v d w (t ∷ ts) none is = counted_act v d t.statement w t ts t.act
 counted_end : (v : Story) (d : ℕ) (w : Walk) (e : Ending) (es : List Ending) → w.endings ≡ e ∷ es → IsFree w.slots
     → IsCounted v d Rest w (Some (ends_on v w e es))
 counted_end v d w e es is free =
-    let a = over_less w e es is free in
-    let b = staged_most w e es is free in
     let finished : Step = record {
-      deed = Some (deed.Finish e.block (weak (state v) (object_in v e.block) == 0));
+      deed = Some (deed.Finish e.block (weak (story_state v) (object_of_block v e.block) == 0));
       half = Rest;
       walk = with_endings w es;
       said = silent e.statement;
@@ -230,14 +231,14 @@ counted_end v d w e es is free =
     let cleared = within (with_endings w (staged e ∷ es)) e.statement (Some (deed.Clear e.block e.stage)) Rest in
     let looked = within w e.statement None Clearing in
     let P : Step → Type 0 = λ x. IsCounted v d Rest w (Some x) in
-    cond_both (e.stage == 3) finished (cond (word_at v (Member e.block e.stage) == 0) cleared looked) P
-    (λ _. record { made = plus_none _; ended = plus_none _; few = omega (arith, a) })
-    (λ _. cond_both (word_at v (Member e.block e.stage) == 0) cleared looked P
-    (λ _. record { made = plus_none _; ended = plus_none _; few = omega (arith, b) })
+    cond_both (e.stage == 3) finished (cond (word_of_cell v (Member e.block e.stage) == 0) cleared looked) P
+    (λ _. record { made = plus_none _; ended = plus_none _; few = omega (arith, over_less w e es is free) })
+    (λ _. cond_both (word_of_cell v (Member e.block e.stage) == 0) cleared looked P
+    (λ _. record { made = plus_none _; ended = plus_none _; few = omega (arith, staged_most w e es is free) })
     (λ _. record { made = plus_none _; ended = plus_none _; few = omega arith }))
 
 -- what a member holds comes out
-counted_out : (v : Story) (d : ℕ) (w : Walk) (es : List Ending) → w.endings ≡ es → IsClearing w.slots es
+counted_out : (v : Story) (d : ℕ) (w : Walk) (es : List Ending) → w.endings ≡ es → IsClearingMember w.slots es
     → IsCounted v d Clearing w (emptied v w es)
 counted_out v d w [] is held = record { made = plus_none _; ended = plus_none _; few = omega arith }
 counted_out v d w (e ∷ es) is held =
@@ -249,14 +250,13 @@ counted_out v d w (e ∷ es) is held =
 counted_rest : (v : Story) (d : ℕ) (w : Walk) (es : List Ending) → w.endings ≡ es → IsCounted v d Rest w (at_rest v d w es)
 counted_rest v d w [] is = counted_task v d w w.todo is refl
 counted_rest v d w (e ∷ es) is =
-    cond_both (is_full (slot w.slots (hand w.slots))) (first v d w e.statement w.todo (Leave (hand w.slots))) (ends_on v w e es)
+    cond_both (is_full (slot_pointer w.slots (hand w.slots))) (first v d w e.statement w.todo (Leave (hand w.slots))) (ends_on v w e es)
     (λ (x : Step). IsCounted v d Rest w (Some x))
-    (λ full. left v d e.statement w (went (state v) d w e.statement w.todo (Leave (hand w.slots))) (slot w.slots (hand w.slots))
-    (carried_leaves (state v) d e.statement w e es is full))
-    (λ free. counted_end v d w e es is free)
+    (λ full. left v d e.statement w (went (story_state v) d w e.statement w.todo (Leave (hand w.slots))) (slot_pointer w.slots (hand w.slots))
+    (carried_leaves (story_state v) d e.statement w e es is full)) (λ free. counted_end v d w e es is free)
 
 counted_try : (v : Story) (d word : ℕ) (w : Walk) (t : Task) (ts : List Task) (a : Act) (o : Option Pointer) → w.endings ≡ [] → w.todo ≡ t ∷ ts
-    → locked w.slots a ≡ o → IsCounted v d (Locking word) w (option_map (tries v d w t.statement ts a word) o)
+    → locked_pointer w.slots a ≡ o → IsCounted v d (Locking word) w (option_map (tries v d w t.statement ts a word) o)
 counted_try v d word w t ts a None none is e = record { made = plus_none _; ended = plus_none _; few = omega arith }
 counted_try v d word w t ts (Lock i must) (Some y) none is e =
     tried_or v d t.statement (Locking word) w t ts (owner_word v y) i must y (owner_word v y == word) refl none is
@@ -283,7 +283,7 @@ counted_try v d word w t ts Drop (Some y) none is e = cc
 counted_lock : (v : Story) (d word : ℕ) (w : Walk) (ts : List Task) → w.endings ≡ [] → w.todo ≡ ts
     → IsCounted v d (Locking word) w (tried v d w word ts)
 counted_lock v d word w [] none is = record { made = plus_none _; ended = plus_none _; few = omega arith }
-counted_lock v d word w (t ∷ ts) none is = counted_try v d word w t ts t.act (locked w.slots t.act) none is refl
+counted_lock v d word w (t ∷ ts) none is = counted_try v d word w t ts t.act (locked_pointer w.slots t.act) none is refl
 
 -- each step is counted
 pub counted : (v : Story) (d : ℕ) (h : Half) (w : Walk) → IsUnderWay d v h w.todo → IsTried h w → IsAlone h w.endings

@@ -11,22 +11,23 @@ use Rattle.step_threads.specs.declared.said.Answer.{Answer}
 use Rattle.step_core.specs.Bounds.{walk_steps}
 use Rattle.step_threads.specs.Courses.{Walk}
 use Rattle.step_threads.specs.Scenes.{ended_by, remains_as}
-use Rattle.step_table.specs.Deeds.{remains, read, downgrade, is_last as is_last_of, leave, leave_as, lock, owned, share, share_as, tell, tell_expired, alias}
+use Rattle.step_table.specs.Deeds.{remains, read_deed, downgrade, is_last as is_last_of, leave, leave_as, lock, owned, share, share_as, tell, tell_expired}
+use Rattle.step_table.specs.Deeds.{alias}
 use Rattle.step_threads.specs.NextSteps.{stepped, story_by, walk_by}
 use Rattle.step_threads.specs.Steps.{Step, silent}
 use Rattle.control_word.specs.declared.handle.Kind.{Kind}
 use Rattle.control_word.specs.declared.handle.Kind.TheVariants.{Owner, Weak}
-use Rattle.step_table.specs.Stories.{Story, owner_in, state}
-use Rattle.step_core.specs.Told.{ends_by, is_prepared, makes}
+use Rattle.step_table.specs.Stories.{Story, owner_in, story_state}
+use Rattle.step_core.specs.Told.{step_ends, is_prepared, step_makes}
 use Rattle.step_core.specs.Totals.{ended_in, made_in}
 use Rattle.step_core.proofs.telling.Order.{ended_more}
 use Rattle.step_core.proofs.telling.Walking.{ends_at}
 
 -- the step is counted, where h is what the thread had begun: an object is made by a task that has the steps of its end
 pub record IsCounted (v : Story) (d : ℕ) (h : Half) (w : Walk) (x : Option Step) : Type 0 where
-  pub made : made_in (story_by v d x).history ≡ made_in v.history + makes h (stepped v x)
-  pub ended : ended_in (story_by v d x).history ≡ ended_in v.history + ends_by (stepped v x)
-  pub few : 28 * makes h (stepped v x) + walk_steps (walk_by w x) ≤ walk_steps w + 13 * ends_by (stepped v x)
+  pub made : made_in (story_by v d x).history ≡ made_in v.history + step_makes h (stepped v x)
+  pub ended : ended_in (story_by v d x).history ≡ ended_in v.history + step_ends (stepped v x)
+  pub few : 28 * step_makes h (stepped v x) + walk_steps (walk_by w x) ≤ walk_steps w + 13 * step_ends (stepped v x)
 
 pub plus_none : (n : ℕ) → n ≡ n + 0
 plus_none n = omega arith
@@ -71,7 +72,7 @@ aliased_by v d k w x p le (Some y) = record { made = plus_none _; ended = plus_n
 
 pub expired : (v : Story) (d k : ℕ) (w x : Walk) (a : Option Answer) → walk_steps x ≤ walk_steps w → (y : Option Pointer)
     → IsCounted v d Rest w (Some (record {
-      deed = option_map (tell_expired (state v)) y;
+      deed = option_map (tell_expired (story_state v)) y;
       half = Rest;
       walk = x;
       said = record { statement = k; answer = a; ended = None };
@@ -81,7 +82,7 @@ expired v d k w x a le (Some y) = record { made = plus_none _; ended = plus_none
 
 pub read_one : (v : Story) (d k : ℕ) (w x : Walk) (a : Option Answer) → walk_steps x ≤ walk_steps w → (y : Option Pointer)
     → IsCounted v d Rest w (Some (record {
-      deed = option_map (read (state v)) y;
+      deed = option_map (read_deed (story_state v)) y;
       half = Rest;
       walk = x;
       said = record { statement = k; answer = a; ended = None };
@@ -92,7 +93,7 @@ read_one v d k w x a le (Some y) = record { made = plus_none _; ended = plus_non
 -- a lock that is done
 pub locked_by : (v : Story) (d k : ℕ) (h : Half) (w x : Walk) (a : Option Answer) (y : Pointer) → is_prepared h ≡ false → walk_steps x ≤ walk_steps w
     → IsCounted v d h w (Some (record {
-      deed = Some (lock (state v) y);
+      deed = Some (lock (story_state v) y);
       half = Rest;
       walk = x;
       said = record { statement = k; answer = a; ended = None };
@@ -112,15 +113,15 @@ told v d k w x a le None = record { made = plus_none _; ended = plus_none _; few
 told v d k w x a le (Some y) = record { made = plus_none _; ended = plus_none _; few = omega (arith, le) }
 
 left_by : (v : Story) (d k : ℕ) (w x : Walk) (y : Pointer) (q : Kind) (b : Bool)
-    → walk_steps x ≤ walk_steps w + 13 * cond (is_some (cond b (remains_as q ((state v).object (owned (state v) y))) None)) 1 0
+    → walk_steps x ≤ walk_steps w + 13 * cond (is_some (cond b (remains_as q ((story_state v).object (owned (story_state v) y))) None)) 1 0
     → IsCounted v d Rest w (Some (record {
       deed = Some (leave_as q y b);
       half = Rest;
       walk = x;
-      said = record { statement = k; answer = None; ended = cond b (remains_as q ((state v).object (owned (state v) y))) None };
+      said = record { statement = k; answer = None; ended = cond b (remains_as q ((story_state v).object (owned (story_state v) y))) None };
     }))
 left_by v d k w x y Owner b le =
-    let s = state v in
+    let s = story_state v in
     let r = remains (s.object (owned s y)) in
     let t = some_if b r in
     let u : ◌≡◌ {A = ℕ} (cond (is_some (cond b (Some r) None)) 1 0) (cond b 1 0) = ap (λ (z : Bool). cond z 1 0) t in
@@ -134,12 +135,12 @@ left_by v d k w x y Owner b le =
 left_by v d k w x y Weak true le = record { made = plus_none _; ended = plus_none _; few = omega (arith, le) }
 left_by v d k w x y Weak false le = record { made = plus_none _; ended = plus_none _; few = omega (arith, le) }
 
-pub left : (v : Story) (d k : ℕ) (w x : Walk) (y : Option Pointer) → walk_steps x + 1 ≤ walk_steps w + 13 * ends_at (state v) y
+pub left : (v : Story) (d k : ℕ) (w x : Walk) (y : Option Pointer) → walk_steps x + 1 ≤ walk_steps w + 13 * ends_at (story_state v) y
     → IsCounted v d Rest w (Some (record {
-      deed = option_map (leave (state v)) y;
+      deed = option_map (leave (story_state v)) y;
       half = Rest;
       walk = x;
-      said = record { statement = k; answer = None; ended = ended_by (state v) y };
+      said = record { statement = k; answer = None; ended = ended_by (story_state v) y };
     }))
 left v d k w x None le = record { made = plus_none _; ended = plus_none _; few = omega (arith, le) }
-left v d k w x (Some y) le = left_by v d k w x y y.kind (is_last_of (state v) y) (omega (arith, le))
+left v d k w x (Some y) le = left_by v d k w x y y.kind (is_last_of (story_state v) y) (omega (arith, le))

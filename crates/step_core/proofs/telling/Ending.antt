@@ -26,19 +26,19 @@ use Rattle.step_table.specs.declared.past.Deed.TheVariants as deed
 use Rattle.step_threads.specs.declared.said.Said.{Said}
 use Rattle.step_threads.specs.Actors.{wanted}
 use Rattle.step_table.specs.declared.cell_deed.CellDeed.TheVariants as cell_deed
-use Rattle.step_table.specs.Cells.{word_at}
+use Rattle.step_table.specs.Cells.{word_of_cell}
 use Rattle.step_table.specs.Contents.{compared_in, seen}
-use Rattle.step_threads.specs.Courses.{Walk, cell_at, comparing, form_of, going, hand, locked, offered, other}
-use Rattle.step_table.specs.Deeds.{alias, aliased, downgrade, is_last, leave, leave_as, read, share, tell, tell_expired, on}
-use Rattle.step_threads.specs.Endings.{endings_of, staged}
-use Rattle.step_table.specs.Holdings.{inside, is_full, owner_slot, place_in, slot}
+use Rattle.step_threads.specs.Courses.{Walk, cell_of_name, comparing, form_of, going, hand, locked_pointer, offered, other}
+use Rattle.step_table.specs.Deeds.{alias, aliased, downgrade, is_last, leave, leave_as, read_deed, share, tell, tell_expired, on}
+use Rattle.step_threads.specs.Endings.{endings_in_block, staged}
+use Rattle.step_table.specs.Holdings.{inside, is_full, owner_slot, place_in, slot_pointer}
 use Rattle.step_table.specs.Openings.{opening}
 use Rattle.step_threads.specs.Entries.{least}
 use Rattle.step_threads.specs.Scenes.{begins_end, begins_end_as, endings_by, hands, holding, went}
 use Rattle.step_threads.specs.NextSteps.{at_rest, begun, emptied, first, made_on, step_at, story_by}
 use Rattle.step_threads.specs.Steps.{Step, begins, claims, empties, ends_on, prepares, silent, with_endings, within}
-use Rattle.step_table.specs.Stories.{Kept, Story, after, known, object_in, pending, state}
-use Rattle.step_core.specs.Told.{AllEnd}
+use Rattle.step_table.specs.Stories.{Kept, Story, story_after_deed, known_words, object_of_block, pending, story_state}
+use Rattle.step_core.specs.Told.{AllEndInThreads}
 use Rattle.step_table.proofs.tables.Places.{owner_busy, there}
 use Rattle.step_core.proofs.telling.Trying.{compares_on, load_on, matched_on, refill_on, saw_on}
 use Rattle.step_core.proofs.telling.Walking.{settled_endings}
@@ -47,38 +47,39 @@ use Rattle.step_core.proofs.telling.Still.{sent_on, shared, tried_on}
 use Rattle.step_core.proofs.telling.Still.{within as on_the_way}
 
 -- an owner leaves
-left_by : (v : Story) (d k : ℕ) (w x : Walk) (a : Said) (f : Lists) → f d ≡ w.endings → AllEnd (state v) f → Kept v → (y : Pointer) (last : Bool)
+left_by : (v : Story) (d k : ℕ) (w x : Walk) (a : Said) (f : Lists) → f d ≡ w.endings → AllEndInThreads (story_state v) f → Kept v
+    → (y : Pointer) (last : Bool)
     → x.endings ≡ cond last (begins_end_as Owner k y w.endings) w.endings
     → Right v d w f (Some (record { deed = Some (deed.Leave y.block y.place last); half = Rest; walk = x; said = a }))
 left_by v d k w x a f at all kept y true is = record {
   right = λ g after now else.
-      let s = state v in
-      let o = object_in v y.block in
+      let s = story_state v in
+      let o = object_of_block v y.block in
       let has = after.stands.legal.1.asks.0.0 in
       let here = (there v y.block kept (owner_busy v d y.block y.place kept has)).0 in
       let new : Ending = record { block = y.block; stage = 0; statement = k } in
-      let more : (b : ℕ) → endings_of b (new ∷ w.endings) ≡ cond (y.block.0 == b) 1 0 + endings_of b w.endings =
+      let more : (b : ℕ) → endings_in_block b (new ∷ w.endings) ≡ cond (y.block.0 == b) 1 0 + endings_in_block b w.endings =
       λ b. sum_by-cons (λ (e : Ending). cond (e.block.0 == b) 1 0) new w.endings in
       let one : ◌≡◌ {A = ℕ} (cond (y.block.0 == (s.object o).block) 1 0) 1 =
       ap (λ (b : Bool). cond b 1 0) (eq-eqb y.block.0 (s.object o).block (sym here)) in
-      end_put s (state (story_by v d (Some (record { deed = Some (deed.Leave y.block y.place true); half = Rest; walk = x; said = a })))) g o
+      end_put s (story_state (story_by v d (Some (record { deed = Some (deed.Leave y.block y.place true); half = Rest; walk = x; said = a })))) g o
       (record (s.object o) { phase = ending d }) refl
       (λ e p. let q : d ≡ e = cc in
-      subst (λ (j : ℕ). 0 < endings_of (s.object o).block (g j)) q
-      (subst (λ (l : List Ending). 0 < endings_of (s.object o).block l) (sym (now ∙ is)) (let m = more (s.object o).block in omega (arith, m, one))))
+      subst (λ (j : ℕ). 0 < endings_in_block (s.object o).block (g j)) q
+      (subst (λ (l : List Ending). 0 < endings_in_block (s.object o).block l) (sym (now ∙ is)) (let m = more (s.object o).block in omega (arith, m, one))))
       (λ r e n p.
       passes d f g w.endings (new ∷ w.endings) at (now ∙ is) else (λ b t. let m = more b in omega (arith, m, t)) (s.object r).block e (all r e p));
 }
 left_by v d k w x a f at all kept y false is = record {
   right = λ g after now else.
-      let s = state v in
-      let o = object_in v y.block in
+      let s = story_state v in
+      let o = object_of_block v y.block in
       let keep = passes d f g w.endings w.endings at (now ∙ is) else (λ b t. t) in
-      end_put s (state (story_by v d (Some (record { deed = Some (deed.Leave y.block y.place false); half = Rest; walk = x; said = a })))) g o
+      end_put s (story_state (story_by v d (Some (record { deed = Some (deed.Leave y.block y.place false); half = Rest; walk = x; said = a })))) g o
       (s.object o) refl (λ e p. keep (s.object o).block e (all o e p)) (λ r e n p. keep (s.object r).block e (all r e p));
 }
 
-left_as : (v : Story) (d k : ℕ) (w x : Walk) (a : Said) (f : Lists) → f d ≡ w.endings → AllEnd (state v) f → Kept v
+left_as : (v : Story) (d k : ℕ) (w x : Walk) (a : Said) (f : Lists) → f d ≡ w.endings → AllEndInThreads (story_state v) f → Kept v
     → (y : Pointer) (q : Kind) (last : Bool)
     → x.endings ≡ cond last (begins_end_as q k y w.endings) w.endings
     → Right v d w f (Some (record { deed = Some (leave_as q y last); half = Rest; walk = x; said = a }))
@@ -86,47 +87,48 @@ left_as v d k w x a f at all kept y Owner last is = left_by v d k w x a f at all
 left_as v d k w x a f at all kept y Weak true is = same v d w f _ refl is at all
 left_as v d k w x a f at all kept y Weak false is = same v d w f _ refl is at all
 
-left : (v : Story) (d k : ℕ) (w x : Walk) (a : Said) (f : Lists) → f d ≡ w.endings → AllEnd (state v) f → Kept v → (y : Option Pointer)
-    → x.endings ≡ on (λ z. begins_end (state v) k z w.endings) w.endings y
-    → Right v d w f (Some (record { deed = option_map (leave (state v)) y; half = Rest; walk = x; said = a }))
+left : (v : Story) (d k : ℕ) (w x : Walk) (a : Said) (f : Lists) → f d ≡ w.endings → AllEndInThreads (story_state v) f → Kept v
+    → (y : Option Pointer)
+    → x.endings ≡ on (λ z. begins_end (story_state v) k z w.endings) w.endings y
+    → Right v d w f (Some (record { deed = option_map (leave (story_state v)) y; half = Rest; walk = x; said = a }))
 left v d k w x a f at all kept None is = same v d w f _ refl is at all
-left v d k w x a f at all kept (Some y) is = left_as v d k w x a f at all kept y y.kind (is_last (state v) y) is
+left v d k w x a f at all kept (Some y) is = left_as v d k w x a f at all kept y y.kind (is_last (story_state v) y) is
 
 -- where the thread's endings are after an act
 act_endings : (v : Story) (d k : ℕ) (w : Walk) (ts : List Task) (a : Act)
-    → (went (state v) d w k ts a).endings ≡ endings_by (state v) k w.slots w.endings a
+    → (went (story_state v) d w k ts a).endings ≡ endings_by (story_state v) k w.slots w.endings a
 act_endings v d k w ts a =
-    let y = hands (state v) d w.slots w.taken a in settled_endings y.0 y.1 (endings_by (state v) k w.slots w.endings a) ts
+    let y = hands (story_state v) d w.slots w.taken a in settled_endings y.0 y.1 (endings_by (story_state v) k w.slots w.endings a) ts
 
-begun_in : (v : Story) (d k : ℕ) (w : Walk) (ts : List Task) (f : Lists) → f d ≡ w.endings → AllEnd (state v) f → (o : Option ℕ)
+begun_in : (v : Story) (d k : ℕ) (w : Walk) (ts : List Task) (f : Lists) → f d ≡ w.endings → AllEndInThreads (story_state v) f → (o : Option ℕ)
     → Right v d w f (Some (begins w k ts o))
 begun_in v d k w ts f at all None = same v d w f _ refl (settled_endings w.slots false w.endings ts) at all
 begun_in v d k w ts f at all (Some b) = same v d w f _ refl refl at all
 
-acted : (v : Story) (d k : ℕ) (w : Walk) (ts : List Task) (f : Lists) → f d ≡ w.endings → AllEnd (state v) f → Kept v → (a : Act)
+acted : (v : Story) (d k : ℕ) (w : Walk) (ts : List Task) (f : Lists) → f d ≡ w.endings → AllEndInThreads (story_state v) f → Kept v → (a : Act)
     → Right v d w f (Some (first v d w k ts a))
-acted v d k w ts f at all kept (Make form) = begun_in v d k w ts f at all (least d (state v).stores)
+acted v d k w ts f at all kept (Make form) = begun_in v d k w ts f at all (least d (story_state v).stores)
 acted v d k w ts f at all kept (Share i) =
-    plain v d k w ts (Share i) _ Rest f refl (done_on v d share (slot w.slots i) (λ x. shared v d x.kind x)) at all
+    plain v d k w ts (Share i) _ Rest f refl (done_on v d share (slot_pointer w.slots i) (λ x. shared v d x.kind x)) at all
 acted v d k w ts f at all kept (Put i) =
-    left v d k w (went (state v) d w k ts (Put i)) _ f at all kept (slot w.slots i) (act_endings v d k w ts (Put i))
+    left v d k w (went (story_state v) d w k ts (Put i)) _ f at all kept (slot_pointer w.slots i) (act_endings v d k w ts (Put i))
 acted v d k w ts f at all kept (Leave i) =
-    left v d k w (went (state v) d w k ts (Leave i)) _ f at all kept (slot w.slots i) (act_endings v d k w ts (Leave i))
+    left v d k w (went (story_state v) d w k ts (Leave i)) _ f at all kept (slot_pointer w.slots i) (act_endings v d k w ts (Leave i))
 acted v d k w ts f at all kept (Clear i) =
-    left v d k w (went (state v) d w k ts (Clear i)) _ f at all kept (slot w.slots i) (act_endings v d k w ts (Clear i))
+    left v d k w (went (story_state v) d w k ts (Clear i)) _ f at all kept (slot_pointer w.slots i) (act_endings v d k w ts (Clear i))
 acted v d k w ts f at all kept (Count i) =
-    plain v d k w ts (Count i) _ Rest f refl (done_on v d (tell v) (slot w.slots i) (λ x. refl)) at all
+    plain v d k w ts (Count i) _ Rest f refl (done_on v d (tell v) (slot_pointer w.slots i) (λ x. refl)) at all
 acted v d k w ts f at all kept (Downgrade i) =
-    plain v d k w ts (Downgrade i) _ Rest f refl (done_on v d downgrade (slot w.slots i) (λ x. refl)) at all
-acted v d k w ts f at all kept (Lock i must) = looked v d k w ts i must f at all (locked w.slots (Lock i must))
+    plain v d k w ts (Downgrade i) _ Rest f refl (done_on v d downgrade (slot_pointer w.slots i) (λ x. refl)) at all
+acted v d k w ts f at all kept (Lock i must) = looked v d k w ts i must f at all (locked_pointer w.slots (Lock i must))
 acted v d k w ts f at all kept (Expired i) =
-    plain v d k w ts (Expired i) _ Rest f refl (done_on v d (tell_expired (state v)) (slot w.slots i) (λ x. refl)) at all
+    plain v d k w ts (Expired i) _ Rest f refl (done_on v d (tell_expired (story_state v)) (slot_pointer w.slots i) (λ x. refl)) at all
 acted v d k w ts f at all kept (Read i) =
-    plain v d k w ts (Read i) _ Rest f refl (done_on v d (read (state v)) (inside (slot w.slots i)) (λ x. refl)) at all
-acted v d k w ts f at all kept (FromThis i kind) = asked v d k w ts i kind f at all (inside (slot w.slots i))
+    plain v d k w ts (Read i) _ Rest f refl (done_on v d (read_deed (story_state v)) (inside (slot_pointer w.slots i)) (λ x. refl)) at all
+acted v d k w ts f at all kept (FromThis i kind) = asked v d k w ts i kind f at all (inside (slot_pointer w.slots i))
 acted v d k w ts f at all kept (Alias i j field) =
     plain v d k w ts (Alias i j field) _ Rest f refl
-    (done_on v d (alias (aliased field (place_in w.slots j))) (owner_slot (slot w.slots i)) (λ x. refl)) at all
+    (done_on v d (alias (aliased field (place_in w.slots j))) (owner_slot (slot_pointer w.slots i)) (λ x. refl)) at all
 acted v d k w ts f at all kept (Move i) = plain v d k w ts (Move i) None Rest f refl refl at all
 acted v d k w ts f at all kept (Ask q) = plain v d k w ts (Ask q) None Rest f refl refl at all
 acted v d k w ts f at all kept (Offer i c) =
@@ -135,77 +137,86 @@ acted v d k w ts f at all kept (Swap c) = going_in v d k w ts (Swap c) (going w.
 acted v d k w ts f at all kept (Exchange i c) = going_in v d k w ts (Exchange i c) (going w.slots (Exchange i c)) f at all refl refl
 acted v d k w ts f at all kept (Load c) = load_on v d k w ts c f at all
 acted v d k w ts f at all kept (Compare i c weak) =
-    compares_on v d k w ts (Compare i c weak) c (compared_in w.slots (comparing w.slots i weak)) (seen v (cell_at (state v) w.slots c)) f refl at all
+    compares_on v d k w ts (Compare i c weak) c (compared_in w.slots (comparing w.slots i weak)) (seen v (cell_of_name (story_state v) w.slots c)) f refl at all
 acted v d k w ts f at all kept Drop =
-    left v d k w (went (state v) d w k ts Drop) _ f at all kept (slot w.slots (other w.slots)) (act_endings v d k w ts Drop)
+    left v d k w (went (story_state v) d w k ts Drop) _ f at all kept (slot_pointer w.slots (other w.slots)) (act_endings v d k w ts Drop)
 
-begun_task : (v : Story) (d : ℕ) (w : Walk) (f : Lists) → f d ≡ w.endings → AllEnd (state v) f → Kept v → (ts : List Task)
+begun_task : (v : Story) (d : ℕ) (w : Walk) (f : Lists) → f d ≡ w.endings → AllEndInThreads (story_state v) f → Kept v → (ts : List Task)
     → Right v d w f (begun v d w ts)
 begun_task v d w f at all kept [] = same v d w f None refl refl at all
 begun_task v d w f at all kept (t ∷ ts) = acted v d t.statement w ts f at all kept t.act
 
 -- a member is cleared, or what it held is out
 staged_right : (v : Story) (d m : ℕ) (w x : Walk) (e : Ending) (es : List Ending) (a : Deed) (h : Half) (c : Handle) (f : Lists) → w.endings ≡ e ∷ es
-    → x.endings ≡ staged e ∷ es → (let o = (state v).object in let p = object_in v e.block in
-    (state (after v d a)).object ≡ put o p (record (o p) { member = put (o p).member m c })) → f d ≡ w.endings → AllEnd (state v) f
+    → x.endings ≡ staged e ∷ es → (let o = (story_state v).object in let p = object_of_block v e.block in
+    (story_state (story_after_deed v d a)).object ≡ put o p (record (o p) { member = put (o p).member m c })) → f d ≡ w.endings
+    → AllEndInThreads (story_state v) f
     → Right v d w f (Some (within x e.statement (Some a) h))
 staged_right v d m w x e es a h c f was becomes is at all =
-    let o = (state v).object in
-    let p = object_in v e.block in
+    let o = (story_state v).object in
+    let p = object_of_block v e.block in
     alike v d w f (Some (within x e.statement (Some a) h))
     (subst (λ (g : ℕ → Object). IsAlike o g) (sym is) (put_alike o p m c))
     (λ b has.
     let n = sum_by-cons (λ (y : Ending). cond (y.block.0 == b) 1 0) e es in
     let q = sum_by-cons (λ (y : Ending). cond (y.block.0 == b) 1 0) (staged e) es in
-    let old = ap (endings_of b) was in
-    let new = ap (endings_of b) becomes in
+    let old = ap (endings_in_block b) was in
+    let new = ap (endings_in_block b) becomes in
     omega (arith, n, q, old, new, has)) at all
 
 -- the object is gone: no other ends in its block
-finished : (v : Story) (d : ℕ) (w : Walk) (e : Ending) (es : List Ending) (vacant : Bool) (f : Lists) → f d ≡ e ∷ es → AllEnd (state v) f → Kept v
+finished : (v : Story) (d : ℕ) (w : Walk) (e : Ending) (es : List Ending) (vacant : Bool) (f : Lists) → f d ≡ e ∷ es
+    → AllEndInThreads (story_state v) f → Kept v
     → Right v d w f (Some (record { deed = Some (deed.Finish e.block vacant); half = Rest; walk = with_endings w es; said = silent e.statement }))
 finished v d w e es vacant f at all kept = record {
   right = λ g after now else.
-      let s = state v in
-      let o = object_in v e.block in
+      let s = story_state v in
+      let o = object_of_block v e.block in
       end_put s
-      (state (story_by v d (Some (record { deed = Some (deed.Finish e.block vacant); half = Rest; walk = with_endings w es; said = silent e.statement })))) g o
+      (story_state (story_by v d (Some (record {
+        deed = Some (deed.Finish e.block vacant);
+        half = Rest;
+        walk = with_endings w es;
+        said =
+            silent e.statement;
+      })))) g o
       _ refl (λ i p. absurd (gone_ends i p))
       (λ r i n p.
       ⊎_elim
       (λ (q : i ≡ d).
-      let h : 0 < endings_of (s.object r).block (e ∷ es) =
-      subst (λ (l : List Ending). 0 < endings_of (s.object r).block l) (ap f q ∙ at) (all r i p) in
+      let h : 0 < endings_in_block (s.object r).block (e ∷ es) =
+      subst (λ (l : List Ending). 0 < endings_in_block (s.object r).block l) (ap f q ∙ at) (all r i p) in
       let c : common (s.object r).phase ≡ 1 = ap common p in
       let l = ((sound (opening v.extent) v.history kept.stands.legal).placed r (omega (arith, c))).0 in
       let m = sum_by-cons (λ (x : Ending). cond (x.block.0 == (s.object r).block) 1 0) e es in
       let other : e.block.0 ≢ (s.object r).block = λ t. n (sym l ∙ ap s.latest (sym t)) in
       let z : ◌≡◌ {A = ℕ} (cond (e.block.0 == (s.object r).block) 1 0) 0 =
       ap (λ (b : Bool). cond b 1 0) (ne_eqb e.block.0 (s.object r).block other) in
-      subst (λ (x : List Ending). 0 < endings_of (s.object r).block x) (sym (ap g q ∙ now)) (omega (arith, h, m, z)))
-      (λ (k : i ≢ d). subst (λ (x : List Ending). 0 < endings_of (s.object r).block x) (sym (else i k)) (all r i p)) (cases_eq i d));
+      subst (λ (x : List Ending). 0 < endings_in_block (s.object r).block x) (sym (ap g q ∙ now)) (omega (arith, h, m, z)))
+      (λ (k : i ≢ d). subst (λ (x : List Ending). 0 < endings_in_block (s.object r).block x) (sym (else i k)) (all r i p)) (cases_eq i d));
 }
   where
     gone_ends : (i : ℕ) → gone ≡ ending i → ⊥
     gone_ends i p = cc
 
-ended : (v : Story) (d : ℕ) (w : Walk) (e : Ending) (es : List Ending) (f : Lists) → f d ≡ w.endings → w.endings ≡ e ∷ es → AllEnd (state v) f
+ended : (v : Story) (d : ℕ) (w : Walk) (e : Ending) (es : List Ending) (f : Lists) → f d ≡ w.endings → w.endings ≡ e ∷ es
+    → AllEndInThreads (story_state v) f
     → Kept v → Right v d w f (Some (ends_on v w e es))
 ended v d w e es f at was all kept =
-    let vacant = weak (state v) (object_in v e.block) == 0 in
+    let vacant = weak (story_state v) (object_of_block v e.block) == 0 in
     let done : Step = record { deed = Some (deed.Finish e.block vacant); half = Rest; walk = with_endings w es; said = silent e.statement } in
     let cleared = within (with_endings w (staged e ∷ es)) e.statement (Some (deed.Clear e.block e.stage)) Rest in
     let looked = within w e.statement None Clearing in
     let P : Step → Type 0 = λ x. Right v d w f (Some x) in
-    cond_both (e.stage == 3) done (cond (word_at v (Member e.block e.stage) == 0) cleared looked) P
+    cond_both (e.stage == 3) done (cond (word_of_cell v (Member e.block e.stage) == 0) cleared looked) P
     (λ c. finished v d w e es vacant f (at ∙ was) all kept)
-    (λ c. cond_both (word_at v (Member e.block e.stage) == 0) cleared looked P
+    (λ c. cond_both (word_of_cell v (Member e.block e.stage) == 0) cleared looked P
     (λ z. staged_right v d e.stage w (with_endings w (staged e ∷ es)) e es (deed.Clear e.block e.stage) Rest
     (empty (kind_of_member e.stage)) f was refl refl at
     all)
     (λ z. on_the_way v d e.statement w None Clearing f refl at all))
 
-emptying : (v : Story) (d : ℕ) (w : Walk) (f : Lists) → f d ≡ w.endings → AllEnd (state v) f → (es : List Ending) → w.endings ≡ es
+emptying : (v : Story) (d : ℕ) (w : Walk) (f : Lists) → f d ≡ w.endings → AllEndInThreads (story_state v) f → (es : List Ending) → w.endings ≡ es
     → Right v d w f (emptied v w es)
 emptying v d w f at all [] was = same v d w f None refl refl at all
 emptying v d w f at all (e ∷ es) was =
@@ -214,46 +225,47 @@ emptying v d w f at all (e ∷ es) was =
     staged_right v d e.stage w x.walk e es (deed.OnCell (cell_deed.TakeOut e.block e.stage found)) x.half (empty (kind_of_member e.stage)) f was refl refl
     at all
 
-rested : (v : Story) (d : ℕ) (w : Walk) (f : Lists) → f d ≡ w.endings → AllEnd (state v) f → Kept v → (es : List Ending) → w.endings ≡ es
+rested : (v : Story) (d : ℕ) (w : Walk) (f : Lists) → f d ≡ w.endings → AllEndInThreads (story_state v) f → Kept v → (es : List Ending)
+    → w.endings ≡ es
     → Right v d w f (at_rest v d w es)
 rested v d w f at all kept [] is = begun_task v d w f at all kept w.todo
 rested v d w f at all kept (e ∷ es) is =
-    cond_both (is_full (slot w.slots (hand w.slots))) (first v d w e.statement w.todo (Leave (hand w.slots))) (ends_on v w e es)
+    cond_both (is_full (slot_pointer w.slots (hand w.slots))) (first v d w e.statement w.todo (Leave (hand w.slots))) (ends_on v w e es)
     (λ (x : Step). Right v d w f (Some x)) (λ c. acted v d e.statement w w.todo f at all kept (Leave (hand w.slots)))
     (λ c. ended v d w e es f at is all kept)
 
 -- an object is made
-claimed : (v : Story) (d k : ℕ) (w : Walk) (ts : List Task) (b : Block) (form : Form) (f : Lists) → f d ≡ w.endings → AllEnd (state v) f
+claimed : (v : Story) (d k : ℕ) (w : Walk) (ts : List Task) (b : Block) (form : Form) (f : Lists) → f d ≡ w.endings → AllEndInThreads (story_state v) f
     → Right v d w f (Some (claims w k ts b form))
 claimed v d k w ts b form f at all = record {
   right = λ g after now else.
-      let s = state v in
+      let s = story_state v in
       let x = holding w.slots form.null (Some b.0) in
       let keep = passes d f g w.endings w.endings at (now ∙ settled_endings x.0 x.1 w.endings ts) else (λ j t. t) in
-      end_put s (state (story_by v d (Some (claims w k ts b form)))) g (suc s.made) _ refl (λ e p. absurd (live_ends e p))
+      end_put s (story_state (story_by v d (Some (claims w k ts b form)))) g (suc s.made) _ refl (λ e p. absurd (live_ends e p))
       (λ r e n p. keep (s.object r).block e (all r e p));
 }
   where
     live_ends : (e : ℕ) → live ≡ ending e → ⊥
     live_ends e p = cc
 
-prepared : (v : Story) (d k found want i : ℕ) (w : Walk) (b : Block) (c : Bool) (f : Lists) → f d ≡ w.endings → AllEnd (state v) f
+prepared : (v : Story) (d k found want i : ℕ) (w : Walk) (b : Block) (c : Bool) (f : Lists) → f d ≡ w.endings → AllEndInThreads (story_state v) f
     → Right v d w f (Some (prepares found want w k b i c))
 prepared v d k found want i w b true f at all = same v d w f _ refl refl at all
 prepared v d k found want i w b false f at all = same v d w f _ refl refl at all
 
-making : (v : Story) (d i : ℕ) (w : Walk) (b : Block) (c : Bool) (f : Lists) → f d ≡ w.endings → AllEnd (state v) f → (ts : List Task)
+making : (v : Story) (d i : ℕ) (w : Walk) (b : Block) (c : Bool) (f : Lists) → f d ≡ w.endings → AllEndInThreads (story_state v) f → (ts : List Task)
     → Right v d w f (made_on v d w b i c ts)
 making v d i w b c f at all [] = same v d w f None refl refl at all
 making v d i w b c f at all (t ∷ ts) =
-    let found = get_or (known (pending v d)) i 0 in
+    let found = get_or (known_words (pending v d)) i 0 in
     let want = get_or (wanted (form_of t.act)) i 0 in
     cond_both (i == 5) (claims w t.statement ts b (form_of t.act)) (prepares found want w t.statement b i c)
     (λ (x : Step). Right v d w f (Some x))
     (λ e. claimed v d t.statement w ts b (form_of t.act) f at all) (λ e. prepared v d t.statement found want i w b c f at all)
 
 -- after each step
-pub ends_right : (v : Story) (d : ℕ) (h : Half) (w : Walk) (f : Lists) → f d ≡ w.endings → AllEnd (state v) f → Kept v
+pub ends_right : (v : Story) (d : ℕ) (h : Half) (w : Walk) (f : Lists) → f d ≡ w.endings → AllEndInThreads (story_state v) f → Kept v
     → Right v d w f (step_at v d h w)
 ends_right v d Rest w f at all kept = rested v d w f at all kept w.endings refl
 ends_right v d (Making b i c) w f at all kept = making v d i w b c f at all w.todo

@@ -7,14 +7,14 @@ use Rattle.step_threads.specs.declared.act.Act.TheVariants.{Clear}
 use Rattle.step_threads.specs.declared.act.Task.{Task}
 use Rattle.step_threads.specs.declared.call.Call.{Call}
 use Rattle.step_table.specs.Holdings.{plain, pointer_of}
-use Rattle.step_threads.specs.Acts.{acts as acts_of, clearing, numbered, tasks_from}
+use Rattle.step_threads.specs.Acts.{acts as acts_of, clearing, numbered_tasks, tasks_from}
 use Rattle.step_threads.specs.Programs.{Part}
 use Rattle.step_threads.specs.Scenes.{nowhere}
 use Rattle.step_core.specs.Starts.{first_walk, no_slots}
-use Rattle.step_core.specs.Told.{IsTidy, Leaves, LeavesAll}
+use Rattle.step_core.specs.Told.{IsTidy, LeavesName, LeavesAll}
 use Rattle.step_core.proofs.telling.Tidying.{fresh_tidy}
 
-leaves_clearing : (n i : ℕ) → i < n → Leaves i (clearing n)
+leaves_clearing : (n i : ℕ) → i < n → LeavesName i (clearing n)
 leaves_clearing zero i lt = absurd (omega (arith, lt))
 leaves_clearing (suc n) i lt =
     ⊎_elim (λ (e : i ≡ n). inl (ap Clear (sym e))) (λ (ne : i ≢ n). inr (leaves_clearing n i (omega (arith, lt, ne))))
@@ -24,17 +24,17 @@ clearing_all : (m n : ℕ) → LeavesAll m (clearing n)
 clearing_all m zero = tt
 clearing_all m (suc n) = (inl (n, refl), clearing_all m n)
 
-numbered_leaves : (k : ℕ) (l : List Act) (ts : List Task) (i : ℕ) → Leaves i ts → Leaves i (numbered k l ++ ts)
+numbered_leaves : (k : ℕ) (l : List Act) (ts : List Task) (i : ℕ) → LeavesName i ts → LeavesName i (numbered_tasks k l ++ ts)
 numbered_leaves k [] ts i left = left
 numbered_leaves k (a ∷ rest) ts i left = inr (numbered_leaves k rest ts i left)
 
-numbered_all : (m k : ℕ) (l : List Act) (ts : List Task) → ((i : ℕ) → i < m → Leaves i ts) → LeavesAll m ts
-    → LeavesAll m (numbered k l ++ ts)
+numbered_all : (m k : ℕ) (l : List Act) (ts : List Task) → ((i : ℕ) → i < m → LeavesName i ts) → LeavesAll m ts
+    → LeavesAll m (numbered_tasks k l ++ ts)
 numbered_all m k [] ts left all = all
 numbered_all m k (a ∷ rest) ts left all =
     (inr (λ i lt. numbered_leaves k rest ts i (left i lt)), numbered_all m k rest ts left all)
 
-tasks_leave : (k : ℕ) (calls : List Call) (n i : ℕ) → i < n → Leaves i (tasks_from k calls n)
+tasks_leave : (k : ℕ) (calls : List Call) (n i : ℕ) → i < n → LeavesName i (tasks_from k calls n)
 tasks_leave k [] n i lt = leaves_clearing n i lt
 tasks_leave k (c ∷ cs) n i lt =
     numbered_leaves k (acts_of c) (tasks_from (k + 1) cs n) i (tasks_leave (k + 1) cs n i lt)

@@ -18,21 +18,22 @@ use Rattle.step_table.specs.declared.cell_deed.Cell.TheVariants.{Member}
 use Rattle.step_table.specs.declared.form.Form.{Form}
 use Rattle.step_table.specs.declared.holdings.Pointer.{Pointer}
 use Rattle.step_table.specs.declared.past.Deed.TheVariants as deed
-use Rattle.step_table.specs.Cells.{word_at}
+use Rattle.step_table.specs.Cells.{word_of_cell}
 use Rattle.step_table.specs.Contents.{compared_in, held_in, seen, slot_of}
 use Rattle.step_table.specs.Deeds.{is_enabled, lock, on, owner_word}
-use Rattle.step_table.specs.Holdings.{Slots, inside, is_full, slot}
-use Rattle.step_table.specs.Stories.{Story, known, object_in, pending, state}
+use Rattle.step_table.specs.Holdings.{Slots, inside, is_full, slot_pointer}
+use Rattle.step_table.specs.Stories.{Story, known_words, object_of_block, pending, story_state}
 use Rattle.control_word.specs.State.{weak}
 use Rattle.step_threads.specs.Actors.{wanted}
-use Rattle.step_threads.specs.Courses.{Going, Walk, cell_at, comparing, form_of, going, hand, locked, on_going, other, settled}
+use Rattle.step_threads.specs.Courses.{Going, Walk, cell_of_name, comparing, form_of, going, hand, locked_pointer, on_going, other, walk_settled}
 use Rattle.step_threads.specs.Endings.{staged}
 use Rattle.step_threads.specs.Entries.{least}
 use Rattle.step_threads.specs.Scenes.{holding, nowhere, walk_of, went}
-use Rattle.step_threads.specs.NextSteps.{at_rest, begun, emptied, first, given, made_on, matched, matched_on, saw, saw_on, sent, step_at, tried, walk_by}
-use Rattle.step_threads.specs.Steps.{Step, acts, asks, begins, brings, claims, ends_on, looks, prepares, sends, silent, swaps, tries, trying, with_endings}
+use Rattle.step_threads.specs.NextSteps.{at_rest, begun, emptied, first, given_step, made_on, matched, matched_on, saw, saw_on, sent, step_at, tried, walk_by}
+use Rattle.step_threads.specs.Steps.{Step, step_of_act, asks, begins, brings, claims, ends_on, looks, prepares, sends, silent, step_of_swap, tries, trying}
+use Rattle.step_threads.specs.Steps.{with_endings}
 use Rattle.step_threads.specs.Steps.{within}
-use Rattle.step_core.specs.Told.{IsTidy, Leaves, LeavesAll}
+use Rattle.step_core.specs.Told.{IsTidy, LeavesName, LeavesAll}
 use Rattle.step_core.specs.Turning.{IsUnderWay}
 use Rattle.step_core.specs.Worlds.{Sight, half_of, scene, sight_by, step_of}
 use Rattle.step_core.proofs.telling.Cases.{IsEach, IsEachAct, each_compares, each_load, each_matched, each_refill, each_saw}
@@ -40,7 +41,7 @@ use Rattle.step_core.proofs.telling.Tidying.{any_tidy, hand_tidy, left_tidy, mak
 
 -- the first step of an act leaves the walk as it is, is the act, or is refused
 module _ (v : Story) (d k : ℕ) (w : Walk) (ts : List Task) (P : Walk → Type 0) (same : P w) where
-  each_cell : (a : Act) (c : Cell) → P (went (state v) d w k ts a) → IsEach v d w k ts a c (λ (x : Step). P x.walk)
+  each_cell : (a : Act) (c : Cell) → P (went (story_state v) d w k ts a) → IsEach v d w k ts a c (λ (x : Step). P x.walk)
   each_cell a c done =
       record {
         quiet = λ h. same;
@@ -51,47 +52,47 @@ module _ (v : Story) (d k : ℕ) (w : Walk) (ts : List Task) (P : Walk → Type 
             same;
       }
 
-  going_by : (a : Act) (o : Option Going) → P (went (state v) d w k ts a)
-      → P (on_going (sends v d w k ts a) (acts v d w k ts a None Rest) o).walk
+  going_by : (a : Act) (o : Option Going) → P (went (story_state v) d w k ts a)
+      → P (on_going (sends v d w k ts a) (step_of_act v d w k ts a None Rest) o).walk
   going_by a None done = done
-  going_by a (Some g) done = go (slot w.slots g.1)
+  going_by a (Some g) done = go (slot_pointer w.slots g.1)
     where
-      go : (o : Option Pointer) → P (on (brings w k) (swaps v d w k ts a g.0 g.1) o).walk
+      go : (o : Option Pointer) → P (on (brings w k) (step_of_swap v d w k ts a g.0 g.1) o).walk
       go None = done
       go (Some p) = same
 
-  looks_by : (a : Act) (o : Option Pointer) → P (went (state v) d w k ts a)
-      → P (on (looks v d w k ts a) (acts v d w k ts a None Rest) o).walk
+  looks_by : (a : Act) (o : Option Pointer) → P (went (story_state v) d w k ts a)
+      → P (on (looks v d w k ts a) (step_of_act v d w k ts a None Rest) o).walk
   looks_by a None done = done
   looks_by a (Some x) done =
-      cond_both (owner_word v x == 0) (acts v d w k ts a (Some (lock (state v) x)) Rest) (trying w k (owner_word v x))
+      cond_both (owner_word v x == 0) (step_of_act v d w k ts a (Some (lock (story_state v) x)) Rest) (trying w k (owner_word v x))
       (λ (s : Step). P s.walk)
       (λ e. done) (λ e. same)
 
-  begins_by : (o : Option ℕ) → P (settled w.slots false w.endings ts) → P (begins w k ts o).walk
+  begins_by : (o : Option ℕ) → P (walk_settled w.slots false w.endings ts) → P (begins w k ts o).walk
   begins_by None made = made
   begins_by (Some b) made = same
 
-  first_by : (a : Act) → P (went (state v) d w k ts a)
-      → ((form : Form) → a ≡ Make form → P (settled w.slots false w.endings ts))
+  first_by : (a : Act) → P (went (story_state v) d w k ts a)
+      → ((form : Form) → a ≡ Make form → P (walk_settled w.slots false w.endings ts))
       → P (first v d w k ts a).walk
-  first_by (Make form) done made = begins_by (least d (state v).stores) (made form refl)
-  first_by (Lock i must) done made = looks_by (Lock i must) (locked w.slots (Lock i must)) done
-  first_by (FromThis i kind) done made = go (inside (slot w.slots i))
+  first_by (Make form) done made = begins_by (least d (story_state v).stores) (made form refl)
+  first_by (Lock i must) done made = looks_by (Lock i must) (locked_pointer w.slots (Lock i must)) done
+  first_by (FromThis i kind) done made = go (inside (slot_pointer w.slots i))
     where
-      go : (o : Option Pointer) → P (on (asks v d w k ts i kind) (acts v d w k ts (FromThis i kind) None Rest) o).walk
+      go : (o : Option Pointer) → P (on (asks v d w k ts i kind) (step_of_act v d w k ts (FromThis i kind) None Rest) o).walk
       go None = done
       go (Some x) =
-          cond_both (is_enabled (state v) x) (record { deed = None; half = Giving i kind x; walk = w; said = silent k })
-          (acts v d w k ts (FromThis i kind) None Rest) (λ (s : Step). P s.walk) (λ e. same) (λ e. done)
+          cond_both (is_enabled (story_state v) x) (record { deed = None; half = Giving i kind x; walk = w; said = silent k })
+          (step_of_act v d w k ts (FromThis i kind) None Rest) (λ (s : Step). P s.walk) (λ e. same) (λ e. done)
   first_by (Swap c) done made = going_by (Swap c) (going w.slots (Swap c)) done
   first_by (Exchange i c) done made = going_by (Exchange i c) (going w.slots (Exchange i c)) done
   first_by (Load c) done made =
-      each_load v d w k ts c (λ (x : Step). P x.walk) (each_cell (Load c) (cell_at (state v) w.slots c) done) done
+      each_load v d w k ts c (λ (x : Step). P x.walk) (each_cell (Load c) (cell_of_name (story_state v) w.slots c) done) done
   first_by (Compare i c weak) done made =
-      each_compares v d w k ts (Compare i c weak) (cell_at (state v) w.slots c) (λ (x : Step). P x.walk)
-      (each_cell (Compare i c weak) (cell_at (state v) w.slots c) done)
-      (compared_in w.slots (comparing w.slots i weak)) (seen v (cell_at (state v) w.slots c))
+      each_compares v d w k ts (Compare i c weak) (cell_of_name (story_state v) w.slots c) (λ (x : Step). P x.walk)
+      (each_cell (Compare i c weak) (cell_of_name (story_state v) w.slots c) done)
+      (compared_in w.slots (comparing w.slots i weak)) (seen v (cell_of_name (story_state v) w.slots c))
   first_by _ done made = done
 
 -- the thread is tidy after its step
@@ -102,7 +103,7 @@ module _ (v : Story) (d : ℕ) (w : Walk) (tidy : IsTidy w) where
   task_tidy : (ts : List Task) → w.todo ≡ ts → Tidy (begun v d w ts)
   task_tidy [] is = tidy
   task_tidy (t ∷ ts) is =
-      first_by v d t.statement w ts IsTidy tidy t.act (went_tidy (state v) d t.statement w t ts is tidy)
+      first_by v d t.statement w ts IsTidy tidy t.act (went_tidy (story_state v) d t.statement w t ts is tidy)
       (λ form e. make_tidy w t ts form w.slots false is e refl tidy)
 
   with_tidy : (es : List Ending) → IsTidy (with_endings w es)
@@ -111,25 +112,25 @@ module _ (v : Story) (d : ℕ) (w : Walk) (tidy : IsTidy w) where
   end_tidy : (e : Ending) (es : List Ending) → IsTidy (ends_on v w e es).walk
   end_tidy e es =
       let finished : Step = record {
-        deed = Some (deed.Finish e.block (weak (state v) (object_in v e.block) == 0));
+        deed = Some (deed.Finish e.block (weak (story_state v) (object_of_block v e.block) == 0));
         half = Rest;
         walk = with_endings w es;
         said = silent e.statement;
       } in
       let cleared = within (with_endings w (staged e ∷ es)) e.statement (Some (deed.Clear e.block e.stage)) Rest in
       let looked = within w e.statement None Clearing in
-      cond_both (e.stage == 3) finished (cond (word_at v (Member e.block e.stage) == 0) cleared looked)
+      cond_both (e.stage == 3) finished (cond (word_of_cell v (Member e.block e.stage) == 0) cleared looked)
       (λ (x : Step). IsTidy x.walk)
       (λ c. with_tidy es)
-      (λ c. cond_both (word_at v (Member e.block e.stage) == 0) cleared looked (λ (x : Step). IsTidy x.walk)
+      (λ c. cond_both (word_of_cell v (Member e.block e.stage) == 0) cleared looked (λ (x : Step). IsTidy x.walk)
       (λ b. with_tidy (staged e ∷ es)) (λ b. tidy))
 
   rest_tidy : (es : List Ending) → Tidy (at_rest v d w es)
   rest_tidy [] = task_tidy w.todo refl
   rest_tidy (e ∷ es) =
-      cond_both (is_full (slot w.slots (hand w.slots))) (first v d w e.statement w.todo (Leave (hand w.slots)))
+      cond_both (is_full (slot_pointer w.slots (hand w.slots))) (first v d w e.statement w.todo (Leave (hand w.slots)))
       (ends_on v w e es)
-      (λ (x : Step). IsTidy x.walk) (λ c. left_tidy (state v) d e.statement w tidy) (λ c. end_tidy e es)
+      (λ (x : Step). IsTidy x.walk) (λ c. left_tidy (story_state v) d e.statement w tidy) (λ c. end_tidy e es)
 
   prepared_tidy : (found want k i : ℕ) (b : Block) (f : Bool) → IsTidy (prepares found want w k b i f).walk
   prepared_tidy found want k i b true = tidy
@@ -139,7 +140,7 @@ module _ (v : Story) (d : ℕ) (w : Walk) (tidy : IsTidy w) where
       → Tidy (made_on v d w b i f ts)
   making_tidy b i f [] is way = tidy
   making_tidy b i f (t ∷ ts) is way =
-      let found = get_or (known (pending v d)) i 0 in
+      let found = get_or (known_words (pending v d)) i 0 in
       let want = get_or (wanted (form_of t.act)) i 0 in
       let x = holding w.slots (form_of t.act).null (Some b.0) in
       cond_both (i == 5) (claims w t.statement ts b (form_of t.act)) (prepares found want w t.statement b i f)
@@ -149,49 +150,49 @@ module _ (v : Story) (d : ℕ) (w : Walk) (tidy : IsTidy w) where
 
   locking_tidy : (word : ℕ) (ts : List Task) → w.todo ≡ ts → Tidy (tried v d w word ts)
   locking_tidy word [] is = tidy
-  locking_tidy word (t ∷ ts) is = go (locked w.slots t.act)
+  locking_tidy word (t ∷ ts) is = go (locked_pointer w.slots t.act)
     where
       go : (o : Option Pointer) → Tidy (option_map (tries v d w t.statement ts t.act word) o)
       go None = tidy
       go (Some x) =
-          cond_both (owner_word v x == word) (acts v d w t.statement ts t.act (Some (lock (state v) x)) Rest)
+          cond_both (owner_word v x == word) (step_of_act v d w t.statement ts t.act (Some (lock (story_state v) x)) Rest)
           (trying w t.statement (owner_word v x))
-          (λ (s : Step). IsTidy s.walk) (λ e. went_tidy (state v) d t.statement w t ts is tidy) (λ e. tidy)
+          (λ (s : Step). IsTidy s.walk) (λ e. went_tidy (story_state v) d t.statement w t ts is tidy) (λ e. tidy)
 
   giving_tidy : (i : ℕ) (kind : Kind) (x : Pointer) (ts : List Task) → w.todo ≡ ts → IsUnderWay d v (Giving i kind x) ts
-      → Tidy (given v d w i kind x ts)
+      → Tidy (given_step v d w i kind x ts)
   giving_tidy i kind x [] is way = tidy
   giving_tidy i kind x (t ∷ ts) is way =
-      subst (λ (a : Act). IsTidy (went (state v) d w t.statement ts a)) way.0
-      (went_tidy (state v) d t.statement w t ts is tidy)
+      subst (λ (a : Act). IsTidy (went (story_state v) d w t.statement ts a)) way.0
+      (went_tidy (story_state v) d t.statement w t ts is tidy)
 
   brought_tidy : (ts : List Task) → w.todo ≡ ts → Tidy (sent v d w ts)
   brought_tidy [] is = tidy
   brought_tidy (t ∷ ts) is = go (going w.slots t.act)
     where
-      go : (o : Option Going) → Tidy (option_map (λ (x : Going). swaps v d w t.statement ts t.act x.0 x.1) o)
+      go : (o : Option Going) → Tidy (option_map (λ (x : Going). step_of_swap v d w t.statement ts t.act x.0 x.1) o)
       go None = tidy
-      go (Some x) = went_tidy (state v) d t.statement w t ts is tidy
+      go (Some x) = went_tidy (story_state v) d t.statement w t ts is tidy
 
   -- all names are left behind the first task
   abbrev AllLeft : List Task → Type 0
   AllLeft [] = Unit {0}
-  AllLeft (t ∷ ts) = ((i : ℕ) → i < other w.slots → Leaves i ts) × LeavesAll (other w.slots) ts
+  AllLeft (t ∷ ts) = ((i : ℕ) → i < other w.slots → LeavesName i ts) × LeavesAll (other w.slots) ts
 
   each_tidy : (t : Task) (ts : List Task) → AllLeft (t ∷ ts) → IsEachAct v d w t.statement ts Tidy
   each_tidy t ts left =
       record {
         none = tidy;
-        load = λ c. each_cell v d t.statement w ts IsTidy tidy (Load c) (cell_at (state v) w.slots c)
-            (any_tidy (state v) d t.statement w ts (Load c) left.0 left.1);
+        load = λ c. each_cell v d t.statement w ts IsTidy tidy (Load c) (cell_of_name (story_state v) w.slots c)
+            (any_tidy (story_state v) d t.statement w ts (Load c) left.0 left.1);
         compare =
-            λ i c weak. each_cell v d t.statement w ts IsTidy tidy (Compare i c weak) (cell_at (state v) w.slots c)
-            (any_tidy (state v) d t.statement w ts (Compare i c weak) left.0 left.1);
+            λ i c weak. each_cell v d t.statement w ts IsTidy tidy (Compare i c weak) (cell_of_name (story_state v) w.slots c)
+            (any_tidy (story_state v) d t.statement w ts (Compare i c weak) left.0 left.1);
       }
 
   -- the tasks of a thread that leaves a name, or leaves all behind its next
   abbrev Heads : Task → List Task → Type 0
-  Heads t ts = ((j : ℕ) × (t.act ≡ Clear j)) ⊎ ((i : ℕ) → i < other w.slots → Leaves i ts)
+  Heads t ts = ((j : ℕ) × (t.act ≡ Clear j)) ⊎ ((i : ℕ) → i < other w.slots → LeavesName i ts)
 
   heads : (t : Task) (ts : List Task) → w.todo ≡ t ∷ ts → Heads t ts × LeavesAll (other w.slots) ts
   heads t ts is = subst (LeavesAll (other w.slots)) is tidy.all
@@ -219,9 +220,9 @@ module _ (v : Story) (d : ℕ) (w : Walk) (tidy : IsTidy w) where
   out_tidy (e ∷ es) =
       let c = Member e.block e.stage in
       let x = seen v c in
-      cond_both (is_some x.owned) (slice_set w.slots (hand w.slots) (slot_of (state v) (held_in (state v) c))) w.slots
+      cond_both (is_some x.owned) (slice_set w.slots (hand w.slots) (slot_of (story_state v) (held_in (story_state v) c))) w.slots
       (λ (l : Slots). IsTidy (record { slots = l; taken = w.taken; endings = staged e ∷ es; todo = w.todo }))
-      (λ _. hand_tidy w (slot_of (state v) (held_in (state v) c)) (staged e ∷ es) tidy) (λ _. with_tidy (staged e ∷ es))
+      (λ _. hand_tidy w (slot_of (story_state v) (held_in (story_state v) c)) (staged e ∷ es) tidy) (λ _. with_tidy (staged e ∷ es))
 
   pub step_tidy : (h : Half) → IsUnderWay d v h w.todo → Tidy (step_at v d h w)
   step_tidy Rest way = rest_tidy w.endings

@@ -16,7 +16,7 @@ use Rattle.control_word.specs.Handles.{object_of}
 use Rattle.control_word.specs.Histories.{IsLegal, ends_by, given, leads}
 use Rattle.control_word.specs.State.{Opening, Phase, State, ending, gone, live, unmade}
 use Rattle.step_table.specs.Stories.{Nothing}
-use Rattle.step_core.specs.Totals.{ended_in, is_last, is_make, made_in}
+use Rattle.step_core.specs.Totals.{ended_in, is_last_leave, is_make, made_in}
 
 made_after : (s : State) (d : ℕ) (a : Event Nothing) → (after s d a).made ≡ s.made + cond (is_make a) 1 0
 made_after s d (Make b enabled null fields val) = omega arith
@@ -53,14 +53,14 @@ made_more e h false is =
     let c = cond-false (is_make e.event) (e ∷ filter p h) (filter p h) is in
     let l = ap (λ (z : List (Entry Nothing)). length z) c in omega (arith, l)
 
-pub ended_more : (e : Entry Nothing) (h : List (Entry Nothing)) (b : Bool) → is_last e.event ≡ b → ended_in (e ∷ h) ≡ ended_in h + cond b 1 0
+pub ended_more : (e : Entry Nothing) (h : List (Entry Nothing)) (b : Bool) → is_last_leave e.event ≡ b → ended_in (e ∷ h) ≡ ended_in h + cond b 1 0
 ended_more e h true is =
-    let p : Entry Nothing → Bool = λ x. is_last x.event in
-    let c = cond-true (is_last e.event) (e ∷ filter p h) (filter p h) is in
+    let p : Entry Nothing → Bool = λ x. is_last_leave x.event in
+    let c = cond-true (is_last_leave e.event) (e ∷ filter p h) (filter p h) is in
     let l = ap (λ (z : List (Entry Nothing)). length z) c in omega (arith, l)
 ended_more e h false is =
-    let p : Entry Nothing → Bool = λ x. is_last x.event in
-    let c = cond-false (is_last e.event) (e ∷ filter p h) (filter p h) is in
+    let p : Entry Nothing → Bool = λ x. is_last_leave x.event in
+    let c = cond-false (is_last_leave e.event) (e ∷ filter p h) (filter p h) is in
     let l = ap (λ (z : List (Entry Nothing)). length z) c in omega (arith, l)
 
 made_is : (z : Opening) (h : List (Entry Nothing)) → (leads z h).made ≡ made_in h
@@ -90,7 +90,7 @@ within (suc n) o a low high =
     ⊎_elim (λ (e : o ≡ suc n). let p = ap (λ (i : ℕ). ends_by i a) e in omega (arith, p))
     (λ (ne : o ≢ suc n). let i = within n o a low (omega (arith, high, ne)) in omega (arith, i)) (cases_eq o (suc n))
 
-last_within : (n : ℕ) (a : Event Nothing) → ((o : ℕ) → 0 < ends_by o a → (1 ≤ o) × (o ≤ n)) → cond (is_last a) 1 0 ≤ all_ends n a
+last_within : (n : ℕ) (a : Event Nothing) → ((o : ℕ) → 0 < ends_by o a → (1 ≤ o) × (o ≤ n)) → cond (is_last_leave a) 1 0 ≤ all_ends n a
 last_within n (Leave h true) range =
     let o = object_of h in
     let a : Event Nothing = Leave h true in
@@ -132,7 +132,7 @@ ended_most z [] legal n le = omega arith
 ended_most z (e ∷ h) legal n le =
     let m = made_after (leads z h) e.desk e.event in
     let i = ended_most z h legal.0 n (omega (arith, m, le)) in
-    let a = ended_more e h (is_last e.event) refl in
+    let a = ended_more e h (is_last_leave e.event) refl in
     let g = more_given n e h in
     let l = last_within n e.event
     (λ o some.

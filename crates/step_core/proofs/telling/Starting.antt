@@ -14,13 +14,13 @@ use Rattle.step_threads.specs.declared.call.Call.{Call}
 use Rattle.step_threads.specs.declared.call.Call.TheVariants as call
 use Rattle.step_table.specs.declared.extent.Extent.{Extent}
 use Rattle.step_threads.specs.declared.thread.Thread.{Thread}
-use Rattle.step_threads.specs.Acts.{acts, clearing, numbered, tasks_from}
+use Rattle.step_threads.specs.Acts.{acts, clearing, numbered_tasks, tasks_from}
 use Rattle.step_core.specs.Bounds.{left_to_do, task_steps, walk_steps, weight}
 use Rattle.step_threads.specs.Courses.{Walk}
 use Rattle.step_threads.specs.Scenes.{nowhere}
 use Rattle.step_threads.specs.Programs.{IsPart, IsProgram, Part, call_count}
 use Rattle.step_core.specs.Starts.{first_story, first_walk, no_slots}
-use Rattle.step_core.specs.Told.{IsTidy, IsTold, sight}
+use Rattle.step_core.specs.Told.{IsTidy, TotalsAreTold, sight}
 use Rattle.step_core.specs.Worlds.{thread_half, thread_walk}
 use Rattle.step_core.proofs.watching.Worlds.{watched_start}
 use Rattle.step_core.proofs.telling.Firsts.{tidy_first}
@@ -38,11 +38,11 @@ abbrev act_steps : List Act → ℕ
 act_steps [] = 0
 act_steps (a ∷ rest) = weight a + act_steps rest
 
-numbered_steps : (k : ℕ) (l : List Act) (ts : List Task) → task_steps (numbered k l ++ ts) ≡ act_steps l + task_steps ts
+numbered_steps : (k : ℕ) (l : List Act) (ts : List Task) → task_steps (numbered_tasks k l ++ ts) ≡ act_steps l + task_steps ts
 numbered_steps k [] ts = omega arith
 numbered_steps k (a ∷ rest) ts =
     let i = numbered_steps k rest ts in
-    let b = sum_by-cons (λ (t : Task). weight t.act) (record { statement = k; act = a }) (numbered k rest ++ ts) in
+    let b = sum_by-cons (λ (t : Task). weight t.act) (record { statement = k; act = a }) (numbered_tasks k rest ++ ts) in
     omega (arith, i, b)
 
 call_steps : (c : Call) → act_steps (acts c) ≤ 30
@@ -109,7 +109,7 @@ zero_at (suc n) zero = refl
 zero_at (suc n) (suc i) = zero_at n i
 
 pub told_start : (x : Extent) (parts : List Part) (threads : List Thread) → x.actors ≡ length parts → IsProgram parts
-    → map thread_walk threads ≡ map first_walk parts → IsTold (sight (first_story x) threads) 0 0
+    → map thread_walk threads ≡ map first_walk parts → TotalsAreTold (sight (first_story x) threads) 0 0
 told_start x parts threads size fine walks =
     let l = length-map threads thread_walk in
     let k = length-map threads thread_half in

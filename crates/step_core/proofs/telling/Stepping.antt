@@ -12,7 +12,7 @@ use Rattle.step_threads.specs.Scenes.{nowhere, walk_of}
 use Rattle.step_threads.specs.NextSteps.{half_by, story_after, story_by, stepped, walk_by}
 use Rattle.step_threads.specs.Steps.{Step}
 use Rattle.step_table.specs.Stories.{Kept, Story}
-use Rattle.step_core.specs.Told.{IsTold, ends_by, makes}
+use Rattle.step_core.specs.Told.{TotalsAreTold, step_ends, step_makes}
 use Rattle.step_core.specs.Turning.{HasBegun}
 use Rattle.step_core.specs.Worlds.{Sight, Steps, half_of, scene, sight_by, step_of}
 use Rattle.step_core.proofs.watching.Worlds.{watched_step}
@@ -31,8 +31,9 @@ same_extent v d (Some x) = go x.deed
     go (Some y) = refl
 
 told_step : (d : ℕ) (u : Sight) (m e : ℕ) → Kept u.story → Kept (story_by u.story d (step_of d u)) → HasBegun d u
-    → d < length u.walks → IsTold u m e
-    → IsTold (sight_by d u (step_of d u)) (m + makes (half_of u d) (stepped u.story (step_of d u))) (e + ends_by (stepped u.story (step_of d u)))
+    → d < length u.walks → TotalsAreTold u m e
+    → TotalsAreTold (sight_by d u (step_of d u)) (m + step_makes (half_of u d) (stepped u.story (step_of d u)))
+    (e + step_ends (stepped u.story (step_of d u)))
 told_step d u m e kept after begun lt told =
     let x = step_of d u in
     let w = walk_of (scene u) d in
@@ -58,15 +59,16 @@ told_step d u m e kept after begun lt told =
       tidy = tidy_after d u begun.half lt told.tidy;
     }
 
-pub told_by : (d : ℕ) (u v : Sight) (r : Stepped) (m e : ℕ) → Kept u.story → Kept v.story → HasBegun d u → d < length u.walks → IsTold u m e
-    → Steps d u r v → IsTold v (m + makes (half_of u d) r) (e + ends_by r)
+pub told_by : (d : ℕ) (u v : Sight) (r : Stepped) (m e : ℕ) → Kept u.story → Kept v.story → HasBegun d u → d < length u.walks
+    → TotalsAreTold u m e
+    → Steps d u r v → TotalsAreTold v (m + step_makes (half_of u d) r) (e + step_ends r)
 told_by d u v r m e kept after begun lt told steps =
     let x = step_of d u in
     let k : Kept (story_by u.story d x) = subst (λ (y : Sight). Kept y.story) steps.1 after in
     let same = answered_adds u.story d (half_of u d) (walk_of (scene u) d) in
-    let a : makes (half_of u d) r ≡ makes (half_of u d) (stepped u.story x) = ap (makes (half_of u d)) steps.0 ∙ same.0 in
-    let b : ends_by r ≡ ends_by (stepped u.story x) = ap ends_by steps.0 ∙ same.1 in
-    subst (λ (y : Sight). IsTold y (m + makes (half_of u d) r) (e + ends_by r)) (sym steps.1)
-    (subst (λ (j : ℕ). IsTold (sight_by d u x) (m + j) (e + ends_by r)) (sym a)
-    (subst (λ (j : ℕ). IsTold (sight_by d u x) (m + makes (half_of u d) (stepped u.story x)) (e + j)) (sym b)
+    let a : step_makes (half_of u d) r ≡ step_makes (half_of u d) (stepped u.story x) = ap (step_makes (half_of u d)) steps.0 ∙ same.0 in
+    let b : step_ends r ≡ step_ends (stepped u.story x) = ap step_ends steps.0 ∙ same.1 in
+    subst (λ (y : Sight). TotalsAreTold y (m + step_makes (half_of u d) r) (e + step_ends r)) (sym steps.1)
+    (subst (λ (j : ℕ). TotalsAreTold (sight_by d u x) (m + j) (e + step_ends r)) (sym a)
+    (subst (λ (j : ℕ). TotalsAreTold (sight_by d u x) (m + step_makes (half_of u d) (stepped u.story x)) (e + j)) (sym b)
     (told_step d u m e kept k begun lt told)))

@@ -25,15 +25,15 @@ use Rattle.step_table.specs.declared.past.Deed.TheVariants as deed
 use Rattle.step_table.specs.declared.cell_deed.CellDeed.TheVariants as cell_deed
 use Rattle.step_table.specs.Contents.{as_word, seen}
 use Rattle.step_threads.specs.Programs.{kind_at}
-use Rattle.step_threads.specs.Courses.{Going, Walk, cell_at, going, locked, on_going}
+use Rattle.step_threads.specs.Courses.{Going, Walk, cell_of_name, going, locked_pointer, on_going}
 use Rattle.step_table.specs.Deeds.{give, is_enabled, lock, owner_word, share_as, on}
-use Rattle.step_threads.specs.Endings.{endings_of}
-use Rattle.step_table.specs.Holdings.{slot, value}
-use Rattle.step_threads.specs.Scenes.{begins_end, endings_by, hands, left as leaves_by, went}
-use Rattle.step_threads.specs.NextSteps.{given, sent, story_after, story_by, tried, walk_by}
-use Rattle.step_threads.specs.Steps.{Step, acts, asks, brings, gives_back, looks, sends, silent, swaps, tries, trying}
-use Rattle.step_table.specs.Stories.{Kept, Story, state}
-use Rattle.step_core.specs.Told.{AllEnd}
+use Rattle.step_threads.specs.Endings.{endings_in_block}
+use Rattle.step_table.specs.Holdings.{slot_pointer, slot_value}
+use Rattle.step_threads.specs.Scenes.{begins_end, endings_by, hands, leaving_pointer as leaves_by, went}
+use Rattle.step_threads.specs.NextSteps.{given_step, sent, story_after, story_by, tried, walk_by}
+use Rattle.step_threads.specs.Steps.{Step, step_of_act, asks, brings, gives_back, looks, sends, silent, step_of_swap, tries, trying}
+use Rattle.step_table.specs.Stories.{Kept, Story, story_state}
+use Rattle.step_core.specs.Told.{AllEndInThreads}
 use Rattle.step_core.proofs.telling.Walking.{settled_endings}
 use Rattle.step_core.proofs.telling.Swapping.{swapping}
 
@@ -46,31 +46,31 @@ IsElse d f g = (e : ℕ) → e ≢ d → g e ≡ f e
 
 -- an ending for an object that had one
 abbrev pub Follows : List Ending → List Ending → Type 0
-Follows old new = (b : ℕ) → 0 < endings_of b old → 0 < endings_of b new
+Follows old new = (b : ℕ) → 0 < endings_in_block b old → 0 < endings_in_block b new
 
 follows_same : (old new : List Ending) → new ≡ old → Follows old new
-follows_same old new is b has = subst (λ (l : List Ending). 0 < endings_of b l) (sym is) has
+follows_same old new is b has = subst (λ (l : List Ending). 0 < endings_in_block b l) (sym is) has
 
 pub passes : (d : ℕ) (f g : Lists) (old new : List Ending) → f d ≡ old → g d ≡ new → IsElse d f g → Follows old new
-    → (b e : ℕ) → 0 < endings_of b (f e) → 0 < endings_of b (g e)
+    → (b e : ℕ) → 0 < endings_in_block b (f e) → 0 < endings_in_block b (g e)
 passes d f g old new was now else own b e has =
     ⊎_elim
     (λ (q : e ≡ d).
-    let h : 0 < endings_of b old = subst (λ (l : List Ending). 0 < endings_of b l) (ap f q ∙ was) has in
-    subst (λ (l : List Ending). 0 < endings_of b l) (sym (ap g q ∙ now)) (own b h))
-    (λ (n : e ≢ d). subst (λ (l : List Ending). 0 < endings_of b l) (sym (else e n)) has) (cases_eq e d)
+    let h : 0 < endings_in_block b old = subst (λ (l : List Ending). 0 < endings_in_block b l) (ap f q ∙ was) has in
+    subst (λ (l : List Ending). 0 < endings_in_block b l) (sym (ap g q ∙ now)) (own b h))
+    (λ (n : e ≢ d). subst (λ (l : List Ending). 0 < endings_in_block b l) (sym (else e n)) has) (cases_eq e d)
 
 -- one object is another
 pub end_put : (s t : State) (g : Lists) (o : ℕ) (x : Object) → t.object ≡ put s.object o x
-    → ((e : ℕ) → x.phase ≡ ending e → 0 < endings_of x.block (g e))
-    → ((p e : ℕ) → p ≢ o → (s.object p).phase ≡ ending e → 0 < endings_of (s.object p).block (g e)) → AllEnd t g
+    → ((e : ℕ) → x.phase ≡ ending e → 0 < endings_in_block x.block (g e))
+    → ((p e : ℕ) → p ≢ o → (s.object p).phase ≡ ending e → 0 < endings_in_block (s.object p).block (g e)) → AllEndInThreads t g
 end_put s t g o x is here else p e =
-    let P : Object → Type 0 = λ y. y.phase ≡ ending e → 0 < endings_of y.block (g e) in
+    let P : Object → Type 0 = λ y. y.phase ≡ ending e → 0 < endings_in_block y.block (g e) in
     subst P (sym (ap (λ (k : ℕ → Object). k p) is)) (put_cases (λ k y. P y) s.object o x p (λ q. here e) (λ n. else p e n))
 
 -- after the step all is as it should be
 pub record Right (v : Story) (d : ℕ) (w : Walk) (f : Lists) (x : Option Step) : Type 0 where
-  pub right : (g : Lists) → Kept (story_by v d x) → g d ≡ (walk_by w x).endings → IsElse d f g → AllEnd (state (story_by v d x)) g
+  pub right : (g : Lists) → Kept (story_by v d x) → g d ≡ (walk_by w x).endings → IsElse d f g → AllEndInThreads (story_state (story_by v d x)) g
 
 -- each object is in the block that it was in, and ends in whose hands it did
 abbrev pub IsAlike : (ℕ → Object) → (ℕ → Object) → Type 0
@@ -88,90 +88,92 @@ fills_alike s d (Free n) new old o = (refl, refl)
 fills_alike s d (Member p m) new old o = put_alike s.object p m new o
 
 -- where no object begins to end or comes to its end
-pub alike : (v : Story) (d : ℕ) (w : Walk) (f : Lists) (x : Option Step) → IsAlike (state v).object (state (story_by v d x)).object
-    → Follows w.endings (walk_by w x).endings → f d ≡ w.endings → AllEnd (state v) f → Right v d w f x
+pub alike : (v : Story) (d : ℕ) (w : Walk) (f : Lists) (x : Option Step) → IsAlike (story_state v).object (story_state (story_by v d x)).object
+    → Follows w.endings (walk_by w x).endings → f d ≡ w.endings → AllEndInThreads (story_state v) f → Right v d w f x
 alike v d w f x is own at all = record {
   right = λ g kept now else o e p.
       let i = is o in
-      subst (λ (b : ℕ). 0 < endings_of b (g e)) (sym i.1)
-      (passes d f g w.endings (walk_by w x).endings at now else own ((state v).object o).block e (all o e (sym i.0 ∙ p)));
+      subst (λ (b : ℕ). 0 < endings_in_block b (g e)) (sym i.1)
+      (passes d f g w.endings (walk_by w x).endings at now else own ((story_state v).object o).block e (all o e (sym i.0 ∙ p)));
 }
 
 -- where no object changes
 same_alike : (f g : ℕ → Object) → g ≡ f → IsAlike f g
 same_alike f g is o = (ap (λ (k : ℕ → Object). (k o).phase) is, ap (λ (k : ℕ → Object). (k o).block) is)
 
-pub same : (v : Story) (d : ℕ) (w : Walk) (f : Lists) (x : Option Step) → (state (story_by v d x)).object ≡ (state v).object
-    → (walk_by w x).endings ≡ w.endings → f d ≡ w.endings → AllEnd (state v) f → Right v d w f x
+pub same : (v : Story) (d : ℕ) (w : Walk) (f : Lists) (x : Option Step) → (story_state (story_by v d x)).object ≡ (story_state v).object
+    → (walk_by w x).endings ≡ w.endings → f d ≡ w.endings → AllEndInThreads (story_state v) f → Right v d w f x
 same v d w f x is own at all =
-    alike v d w f x (same_alike (state v).object (state (story_by v d x)).object is) (follows_same w.endings (walk_by w x).endings own) at all
+    alike v d w f x (same_alike (story_state v).object (story_state (story_by v d x)).object is) (follows_same w.endings (walk_by w x).endings own) at all
 
 -- an act on what a slot holds
 pub done_on : (v : Story) (d : ℕ) (f : Pointer → Deed) (o : Option Pointer)
-    → ((x : Pointer) → (state (story_after v d (Some (f x)))).object ≡ (state v).object)
-    → (state (story_after v d (option_map f o))).object ≡ (state v).object
+    → ((x : Pointer) → (story_state (story_after v d (Some (f x)))).object ≡ (story_state v).object)
+    → (story_state (story_after v d (option_map f o))).object ≡ (story_state v).object
 done_on v d f None still = refl
 done_on v d f (Some x) still = still x
 
-pub shared : (v : Story) (d : ℕ) (q : Kind) (x : Pointer) → (state (story_after v d (Some (share_as q x)))).object ≡ (state v).object
+pub shared : (v : Story) (d : ℕ) (q : Kind) (x : Pointer) → (story_state (story_after v d (Some (share_as q x)))).object ≡ (story_state v).object
 shared v d Owner x = refl
 shared v d Weak x = refl
 
-gave : (v : Story) (d : ℕ) (q : Kind) (x : Pointer) → (state (story_after v d (Some (give q x)))).object ≡ (state v).object
+gave : (v : Story) (d : ℕ) (q : Kind) (x : Pointer) → (story_state (story_after v d (Some (give q x)))).object ≡ (story_state v).object
 gave v d Owner x = refl
 gave v d Weak x = refl
 
 -- an act by which nothing leaves
 pub plain_alike : (v : Story) (d k : ℕ) (w : Walk) (ts : List Task) (a : Act) (x : Option Deed) (h : Half) (f : Lists) → leaves_by w.slots a ≡ None
-    → IsAlike (state v).object (state (story_after v d x)).object → f d ≡ w.endings → AllEnd (state v) f
-    → Right v d w f (Some (acts v d w k ts a x h))
+    → IsAlike (story_state v).object (story_state (story_after v d x)).object → f d ≡ w.endings → AllEndInThreads (story_state v) f
+    → Right v d w f (Some (step_of_act v d w k ts a x h))
 plain_alike v d k w ts a x h f stays is at all =
-    let y = hands (state v) d w.slots w.taken a in
-    let e = settled_endings y.0 y.1 (endings_by (state v) k w.slots w.endings a) ts in
-    let n = ap (λ (o : Option Pointer). on (λ z. begins_end (state v) k z w.endings) w.endings o) stays in
-    alike v d w f (Some (acts v d w k ts a x h)) is (follows_same w.endings (went (state v) d w k ts a).endings (e ∙ n)) at all
+    let y = hands (story_state v) d w.slots w.taken a in
+    let e = settled_endings y.0 y.1 (endings_by (story_state v) k w.slots w.endings a) ts in
+    let n = ap (λ (o : Option Pointer). on (λ z. begins_end (story_state v) k z w.endings) w.endings o) stays in
+    alike v d w f (Some (step_of_act v d w k ts a x h)) is (follows_same w.endings (went (story_state v) d w k ts a).endings (e ∙ n)) at all
 
 pub plain : (v : Story) (d k : ℕ) (w : Walk) (ts : List Task) (a : Act) (x : Option Deed) (h : Half) (f : Lists) → leaves_by w.slots a ≡ None
-    → (state (story_after v d x)).object ≡ (state v).object → f d ≡ w.endings → AllEnd (state v) f
-    → Right v d w f (Some (acts v d w k ts a x h))
+    → (story_state (story_after v d x)).object ≡ (story_state v).object → f d ≡ w.endings → AllEndInThreads (story_state v) f
+    → Right v d w f (Some (step_of_act v d w k ts a x h))
 plain v d k w ts a x h f stays is at all =
-    plain_alike v d k w ts a x h f stays (same_alike (state v).object (state (story_after v d x)).object is) at all
+    plain_alike v d k w ts a x h f stays (same_alike (story_state v).object (story_state (story_after v d x)).object is) at all
 
 -- a step within an act
-pub within : (v : Story) (d k : ℕ) (w : Walk) (x : Option Deed) (h : Half) (f : Lists) → (state (story_after v d x)).object ≡ (state v).object
-    → f d ≡ w.endings → AllEnd (state v) f → Right v d w f (Some (record { deed = x; half = h; walk = w; said = silent k }))
+pub within : (v : Story) (d k : ℕ) (w : Walk) (x : Option Deed) (h : Half) (f : Lists) → (story_state (story_after v d x)).object ≡ (story_state v).object
+    → f d ≡ w.endings → AllEndInThreads (story_state v) f → Right v d w f (Some (record { deed = x; half = h; walk = w; said = silent k }))
 within v d k w x h f is at all = same v d w f _ is refl at all
 
 -- an object is asked for a pointer, or gives one
-pub asked : (v : Story) (d k : ℕ) (w : Walk) (ts : List Task) (i : ℕ) (q : Kind) (f : Lists) → f d ≡ w.endings → AllEnd (state v) f
+pub asked : (v : Story) (d k : ℕ) (w : Walk) (ts : List Task) (i : ℕ) (q : Kind) (f : Lists) → f d ≡ w.endings → AllEndInThreads (story_state v) f
     → (o : Option Pointer)
-    → Right v d w f (Some (on (asks v d w k ts i q) (acts v d w k ts (FromThis i q) None Rest) o))
+    → Right v d w f (Some (on (asks v d w k ts i q) (step_of_act v d w k ts (FromThis i q) None Rest) o))
 asked v d k w ts i q f at all None = plain v d k w ts (FromThis i q) None Rest f refl refl at all
 asked v d k w ts i q f at all (Some y) =
-    cond_both (is_enabled (state v) y) (record { deed = None; half = Giving i q y; walk = w; said = silent k })
-    (acts v d w k ts (FromThis i q) None Rest) (λ (x : Step). Right v d w f (Some x))
+    cond_both (is_enabled (story_state v) y) (record { deed = None; half = Giving i q y; walk = w; said = silent k })
+    (step_of_act v d w k ts (FromThis i q) None Rest) (λ (x : Step). Right v d w f (Some x))
     (λ e. within v d k w None (Giving i q y) f refl at all) (λ e. plain v d k w ts (FromThis i q) None Rest f refl refl at all)
 
-pub given_on : (v : Story) (d i : ℕ) (q : Kind) (y : Pointer) (w : Walk) (f : Lists) → f d ≡ w.endings → AllEnd (state v) f → (ts : List Task)
-    → Right v d w f (given v d w i q y ts)
+pub given_on : (v : Story) (d i : ℕ) (q : Kind) (y : Pointer) (w : Walk) (f : Lists) → f d ≡ w.endings → AllEndInThreads (story_state v) f
+    → (ts : List Task)
+    → Right v d w f (given_step v d w i q y ts)
 given_on v d i q y w f at all [] = same v d w f None refl refl at all
 given_on v d i q y w f at all (t ∷ ts) = plain v d t.statement w ts (FromThis i q) (Some (give q y)) Rest f refl (gave v d q y) at all
 
 -- a lock is tried, or done
-tried_or : (v : Story) (d k word : ℕ) (w : Walk) (ts : List Task) (i : ℕ) (must : Bool) (f : Lists) → f d ≡ w.endings → AllEnd (state v) f
+tried_or : (v : Story) (d k word : ℕ) (w : Walk) (ts : List Task) (i : ℕ) (must : Bool) (f : Lists) → f d ≡ w.endings
+    → AllEndInThreads (story_state v) f
     → (y : Pointer) (c : Bool)
-    → Right v d w f (Some (cond c (acts v d w k ts (Lock i must) (Some (lock (state v) y)) Rest) (trying w k word)))
-tried_or v d k word w ts i must f at all y true = plain v d k w ts (Lock i must) (Some (lock (state v) y)) Rest f refl refl at all
+    → Right v d w f (Some (cond c (step_of_act v d w k ts (Lock i must) (Some (lock (story_state v) y)) Rest) (trying w k word)))
+tried_or v d k word w ts i must f at all y true = plain v d k w ts (Lock i must) (Some (lock (story_state v) y)) Rest f refl refl at all
 tried_or v d k word w ts i must f at all y false = within v d k w None (cond (word == 0) Rest (Locking word)) f refl at all
 
-pub looked : (v : Story) (d k : ℕ) (w : Walk) (ts : List Task) (i : ℕ) (must : Bool) (f : Lists) → f d ≡ w.endings → AllEnd (state v) f
+pub looked : (v : Story) (d k : ℕ) (w : Walk) (ts : List Task) (i : ℕ) (must : Bool) (f : Lists) → f d ≡ w.endings → AllEndInThreads (story_state v) f
     → (o : Option Pointer)
-    → Right v d w f (Some (on (looks v d w k ts (Lock i must)) (acts v d w k ts (Lock i must) None Rest) o))
+    → Right v d w f (Some (on (looks v d w k ts (Lock i must)) (step_of_act v d w k ts (Lock i must) None Rest) o))
 looked v d k w ts i must f at all None = plain v d k w ts (Lock i must) None Rest f refl refl at all
 looked v d k w ts i must f at all (Some y) = tried_or v d k (owner_word v y) w ts i must f at all y (owner_word v y == 0)
 
-tried_by : (v : Story) (d word k : ℕ) (w : Walk) (ts : List Task) (a : Act) (f : Lists) → f d ≡ w.endings → AllEnd (state v) f
-    → (o : Option Pointer) → locked w.slots a ≡ o → Right v d w f (option_map (tries v d w k ts a word) o)
+tried_by : (v : Story) (d word k : ℕ) (w : Walk) (ts : List Task) (a : Act) (f : Lists) → f d ≡ w.endings → AllEndInThreads (story_state v) f
+    → (o : Option Pointer) → locked_pointer w.slots a ≡ o → Right v d w f (option_map (tries v d w k ts a word) o)
 tried_by v d word k w ts a f at all None e = same v d w f None refl refl at all
 tried_by v d word k w ts (Lock i must) f at all (Some y) e = tried_or v d k (owner_word v y) w ts i must f at all y (owner_word v y == word)
 tried_by v d word k w ts (Make form) f at all (Some y) e = cc
@@ -194,40 +196,42 @@ tried_by v d word k w ts (Load c) f at all (Some y) e = cc
 tried_by v d word k w ts (Compare i c weak) f at all (Some y) e = cc
 tried_by v d word k w ts Drop f at all (Some y) e = cc
 
-pub tried_on : (v : Story) (d word : ℕ) (w : Walk) (f : Lists) → f d ≡ w.endings → AllEnd (state v) f → (ts : List Task)
+pub tried_on : (v : Story) (d word : ℕ) (w : Walk) (f : Lists) → f d ≡ w.endings → AllEndInThreads (story_state v) f → (ts : List Task)
     → Right v d w f (tried v d w word ts)
 tried_on v d word w f at all [] = same v d w f None refl refl at all
-tried_on v d word w f at all (t ∷ ts) = tried_by v d word t.statement w ts t.act f at all (locked w.slots t.act) refl
+tried_on v d word w f at all (t ∷ ts) = tried_by v d word t.statement w ts t.act f at all (locked_pointer w.slots t.act) refl
 
 -- a value goes into a cell
-swapped : (v : Story) (d k : ℕ) (w : Walk) (ts : List Task) (a : Act) (x : Going) (f : Lists) → f d ≡ w.endings → AllEnd (state v) f
-    → going w.slots a ≡ Some x → Right v d w f (Some (swaps v d w k ts a x.0 x.1))
+swapped : (v : Story) (d k : ℕ) (w : Walk) (ts : List Task) (a : Act) (x : Going) (f : Lists) → f d ≡ w.endings → AllEndInThreads (story_state v) f
+    → going w.slots a ≡ Some x → Right v d w f (Some (step_of_swap v d w k ts a x.0 x.1))
 swapped v d k w ts a x f at all goes =
-    let c = cell_at (state v) w.slots x.0 in
+    let c = cell_of_name (story_state v) w.slots x.0 in
     let found = seen v c in
-    let new = as_word (value w.slots x.1) in
+    let new = as_word (slot_value w.slots x.1) in
     plain_alike v d k w ts a (Some (deed.OnCell (cell_deed.Swap c new found))) (gives_back (kind_at x.0) k found found.owned) f
-    (swapping (state v) w.slots a x goes).stays
-    (fills_alike (state v) d (cell_in (state v) c) (handle_told (state v) c new) (handle_told (state v) c found)) at all
+    (swapping (story_state v) w.slots a x goes).stays
+    (fills_alike (story_state v) d (cell_in (story_state v) c) (handle_told (story_state v) c new) (handle_told (story_state v) c found)) at all
 
 -- its funds are brought first, where it has an object
-brought : (v : Story) (d k : ℕ) (w : Walk) (ts : List Task) (a : Act) (x : Going) (f : Lists) → f d ≡ w.endings → AllEnd (state v) f
-    → going w.slots a ≡ Some x → (o : Option Pointer) → Right v d w f (Some (on (brings w k) (swaps v d w k ts a x.0 x.1) o))
+brought : (v : Story) (d k : ℕ) (w : Walk) (ts : List Task) (a : Act) (x : Going) (f : Lists) → f d ≡ w.endings → AllEndInThreads (story_state v) f
+    → going w.slots a ≡ Some x → (o : Option Pointer) → Right v d w f (Some (on (brings w k) (step_of_swap v d w k ts a x.0 x.1) o))
 brought v d k w ts a x f at all goes None = swapped v d k w ts a x f at all goes
 brought v d k w ts a x f at all goes (Some y) =
     within v d k w (Some (deed.OnCell (cell_deed.Bring y.kind y.block y.place 256))) Brought f refl at all
 
-pub going_in : (v : Story) (d k : ℕ) (w : Walk) (ts : List Task) (a : Act) (o : Option Going) (f : Lists) → f d ≡ w.endings → AllEnd (state v) f
+pub going_in : (v : Story) (d k : ℕ) (w : Walk) (ts : List Task) (a : Act) (o : Option Going) (f : Lists) → f d ≡ w.endings
+    → AllEndInThreads (story_state v) f
     → going w.slots a ≡ o → leaves_by w.slots a ≡ None
-    → Right v d w f (Some (on_going (sends v d w k ts a) (acts v d w k ts a None Rest) o))
+    → Right v d w f (Some (on_going (sends v d w k ts a) (step_of_act v d w k ts a None Rest) o))
 going_in v d k w ts a None f at all goes stays = plain v d k w ts a None Rest f stays refl at all
-going_in v d k w ts a (Some x) f at all goes stays = brought v d k w ts a x f at all goes (slot w.slots x.1)
+going_in v d k w ts a (Some x) f at all goes stays = brought v d k w ts a x f at all goes (slot_pointer w.slots x.1)
 
-pub sent_on : (v : Story) (d : ℕ) (w : Walk) (f : Lists) → f d ≡ w.endings → AllEnd (state v) f → (ts : List Task) → Right v d w f (sent v d w ts)
+pub sent_on : (v : Story) (d : ℕ) (w : Walk) (f : Lists) → f d ≡ w.endings → AllEndInThreads (story_state v) f → (ts : List Task)
+    → Right v d w f (sent v d w ts)
 sent_on v d w f at all [] = same v d w f None refl refl at all
 sent_on v d w f at all (t ∷ ts) = go (going w.slots t.act) refl
   where
     go : (o : Option Going) → going w.slots t.act ≡ o
-        → Right v d w f (option_map (λ (x : Going). swaps v d w t.statement ts t.act x.0 x.1) o)
+        → Right v d w f (option_map (λ (x : Going). step_of_swap v d w t.statement ts t.act x.0 x.1) o)
     go None goes = same v d w f None refl refl at all
     go (Some x) goes = swapped v d t.statement w ts t.act x f at all goes

@@ -9,13 +9,13 @@ use Rattle.step_threads.specs.declared.act.Task.{Task}
 use Rattle.step_core.specs.Bounds.{walk_steps, weight}
 use Rattle.step_threads.specs.Courses.{Going, Walk, going}
 use Rattle.step_table.specs.Holdings.{Slots}
-use Rattle.step_threads.specs.Scenes.{ended_of, left, went}
+use Rattle.step_threads.specs.Scenes.{ended_of, leaving_pointer, went}
 use Rattle.step_core.proofs.telling.Walking.{went_still}
 
 -- a value goes into a cell by the act: it takes three steps, and nothing leaves
 pub record IsSwapping (s : State) (slots : Slots) (a : Act) : Type 0 where
   pub weight : weight a ≡ 3
-  pub stays : left slots a ≡ None
+  pub stays : leaving_pointer slots a ≡ None
   pub ends : ended_of s slots a ≡ None
 
 pub swapping : (s : State) (slots : Slots) (a : Act) (x : Going) → going slots a ≡ Some x → IsSwapping s slots a

@@ -13,11 +13,11 @@ use Rattle.step_threads.specs.declared.ending.Ending.{Ending}
 use Rattle.step_table.specs.declared.form.Form.{Form}
 use Rattle.step_table.specs.declared.holdings.Pointer.{Pointer}
 use Rattle.step_table.specs.declared.slot.Slot.{Slot}
-use Rattle.step_table.specs.Holdings.{Slots, is_full, plain, pointer_of, slot, value}
-use Rattle.step_threads.specs.Courses.{Going, Walk, going, hand, idle, is_there, on_going, other, placed, settled, slots_idle, taken_idle}
+use Rattle.step_table.specs.Holdings.{Slots, is_full, plain, pointer_of, slot_pointer, slot_value}
+use Rattle.step_threads.specs.Courses.{Going, Walk, going, hand, idle, is_there, on_going, other, placed, walk_settled, slots_idle, taken_idle}
 use Rattle.step_threads.specs.Entries.{is_expected, least}
 use Rattle.step_threads.specs.Scenes.{Hands, came, compared, endings_by, hands, holding, taking, went}
-use Rattle.step_core.specs.Told.{IsTidy, Leaves, LeavesAll}
+use Rattle.step_core.specs.Told.{IsTidy, LeavesName, LeavesAll}
 
 set_twice : (slots : Slots) (i j : ℕ) (x y : Slot) → length (slice_set (slice_set slots i x) j y) ≡ length slots
 set_twice slots i j x y = length-set (slice_set slots i x) j y ∙ length-set slots i x
@@ -28,13 +28,13 @@ kept_or b slots x same = cond_both b x slots (λ (l : Slots). length l ≡ lengt
 -- an idle task leaves as many slots
 idle_size : (a : Act) (slots : Slots) (taken : Bool) → length (slots_idle a slots taken) ≡ length slots
 idle_size (Put k) slots taken =
-    kept_or taken slots (placed k slots) (set_twice slots k (hand slots) (value slots (hand slots)) plain)
+    kept_or taken slots (placed k slots) (set_twice slots k (hand slots) (slot_value slots (hand slots)) plain)
 idle_size (Swap c) slots taken =
     kept_or taken slots (placed (other slots) slots)
-    (set_twice slots (other slots) (hand slots) (value slots (hand slots)) plain)
+    (set_twice slots (other slots) (hand slots) (slot_value slots (hand slots)) plain)
 idle_size (Compare k c weak) slots taken =
     kept_or taken slots (placed (other slots) slots)
-    (set_twice slots (other slots) (hand slots) (value slots (hand slots)) plain)
+    (set_twice slots (other slots) (hand slots) (slot_value slots (hand slots)) plain)
 idle_size Drop slots taken = length-set slots (other slots) plain
 idle_size _ slots taken = refl
 
@@ -58,7 +58,7 @@ hands_size s d slots taken (Downgrade k) = length-set slots (hand slots) _
 hands_size s d slots taken (Lock k must) = taking_size slots must _
 hands_size s d slots taken (FromThis k kind) = taking_size slots true _
 hands_size s d slots taken (Alias k j field) = length-set slots (hand slots) _
-hands_size s d slots taken (Move k) = set_twice slots (hand slots) k (value slots k) plain
+hands_size s d slots taken (Move k) = set_twice slots (hand slots) k (slot_value slots k) plain
 hands_size s d slots taken (Offer k c) =
     cond_both (is_there slots c) (slice_set slots (hand slots) _, true) (slots, taken)
     (λ (x : Hands). length x.0 ≡ length slots)
@@ -83,7 +83,7 @@ hands_size s d slots taken (Compare k c weak) = go (is_expected s slots k c)
   where
     go : (b : Bool) → length (compared slots (came s slots c) b).0 ≡ length slots
     go true = set_twice slots (other slots) (hand slots) (came s slots c) plain
-    go false = set_twice slots (other slots) (hand slots) (value slots (hand slots)) (came s slots c)
+    go false = set_twice slots (other slots) (hand slots) (slot_value slots (hand slots)) (came s slots c)
 hands_size s d slots taken Drop = length-set slots (other slots) plain
 hands_size s d slots taken _ = refl
 
@@ -96,19 +96,19 @@ not_full true e f = false≢true e
 not_full false e f = false≢true f
 
 slot_kept : (slots : Slots) (i j : ℕ) (x : Slot) → i ≢ j
-    → is_full (slot (slice_set slots j x) i) ≡ is_full (slot slots i)
+    → is_full (slot_pointer (slice_set slots j x) i) ≡ is_full (slot_pointer slots i)
 slot_kept slots i j x ne = ap (λ (y : Slot). is_full (pointer_of y)) (get_or-set_other slots j i x plain ne)
 
 -- what is full of n names is left by these tasks
 abbrev Named : ℕ → Slots → List Task → Type 0
-Named n slots ts = (i : ℕ) → i < n → is_full (slot slots i) ≡ true → Leaves i ts
+Named n slots ts = (i : ℕ) → i < n → is_full (slot_pointer slots i) ≡ true → LeavesName i ts
 
 -- a task that leaves a name, or has all names left behind it
 abbrev Heads : ℕ → Task → List Task → Type 0
-Heads n t ts = ((j : ℕ) × (t.act ≡ Clear j)) ⊎ ((i : ℕ) → i < n → Leaves i ts)
+Heads n t ts = ((j : ℕ) × (t.act ≡ Clear j)) ⊎ ((i : ℕ) → i < n → LeavesName i ts)
 
 -- the name that is left isn't this one
-others_left : (i j : ℕ) (t : Task) (ts : List Task) → t.act ≡ Clear j → i ≢ j → Leaves i (t ∷ ts) → Leaves i ts
+others_left : (i j : ℕ) (t : Task) (ts : List Task) → t.act ≡ Clear j → i ≢ j → LeavesName i (t ∷ ts) → LeavesName i ts
 others_left i j t ts is ne (inl p) = absurd (ne (ap name_of (sym p ∙ is)))
 others_left i j t ts is ne (inr q) = q
 
@@ -117,20 +117,20 @@ idle_names : (n : ℕ) (slots : Slots) (taken : Bool) (t : Task) (ts : List Task
     → Named n (slots_idle t.act slots taken) ts
 idle_names n slots taken t ts e names (inr all) = λ i lt full. all i lt
 idle_names n slots taken t ts e names (inl p) = λ i lt full.
-    let held = subst (λ (a : Act). is_full (slot (slots_idle a slots taken) i) ≡ true) p.1 full in
+    let held = subst (λ (a : Act). is_full (slot_pointer (slots_idle a slots taken) i) ≡ true) p.1 full in
     let free = subst (λ (a : Act). idle a slots taken ≡ true) p.1 e in
-    others_left i p.0 t ts p.1 (λ same. not_full (is_full (slot slots i))
-    (subst (λ (k : ℕ). not (is_full (slot slots k)) ≡ true) (sym same) free) held)
+    others_left i p.0 t ts p.1 (λ same. not_full (is_full (slot_pointer slots i))
+    (subst (λ (k : ℕ). not (is_full (slot_pointer slots k)) ≡ true) (sym same) free) held)
     (names i lt held)
 
 settled_tidy : (n : ℕ) (slots : Slots) (taken : Bool) (es : List Ending) (ts : List Task) → length slots - 2 ≡ n
     → Named n slots ts → LeavesAll n ts
-    → IsTidy (settled slots taken es ts)
+    → IsTidy (walk_settled slots taken es ts)
 settled_tidy n slots taken es [] size names all =
     record { names = λ i lt full. names i (omega (arith, lt, size)) full; all = tt }
 settled_tidy n slots taken es (t ∷ ts) size names all =
     let l = idle_size t.act slots taken in
-    cond_both (idle t.act slots taken) (settled (slots_idle t.act slots taken) (taken_idle t.act taken) es ts)
+    cond_both (idle t.act slots taken) (walk_settled (slots_idle t.act slots taken) (taken_idle t.act taken) es ts)
     (record { slots = slots; taken = taken; endings = es; todo = t ∷ ts }) IsTidy
     (λ e. settled_tidy n (slots_idle t.act slots taken) (taken_idle t.act taken) es ts (omega (arith, l, size))
     (idle_names n slots taken t ts e names all.0) all.1)
@@ -142,7 +142,7 @@ settled_tidy n slots taken es (t ∷ ts) size names all =
 
 -- where all names are left behind it, any act may come
 pub any_tidy : (s : State) (d k : ℕ) (w : Walk) (ts : List Task) (a : Act)
-    → ((i : ℕ) → i < other w.slots → Leaves i ts) → LeavesAll (other w.slots) ts
+    → ((i : ℕ) → i < other w.slots → LeavesName i ts) → LeavesAll (other w.slots) ts
     → IsTidy (went s d w k ts a)
 any_tidy s d k w ts a left all =
     let x = hands s d w.slots w.taken a in
@@ -151,7 +151,7 @@ any_tidy s d k w ts a left all =
     (λ i lt full. left i lt) all
 
 -- a name that is left holds nothing
-emptied : (slots : Slots) (j : ℕ) → j < length slots → is_full (slot (slice_set slots j plain) j) ≡ false
+emptied : (slots : Slots) (j : ℕ) → j < length slots → is_full (slot_pointer (slice_set slots j plain) j) ≡ false
 emptied slots j lt = ap (λ (y : Slot). is_full (pointer_of y)) (get_or-set_same slots j plain plain lt)
 
 -- the next act is made
@@ -166,9 +166,9 @@ went_tidy s d k w t ts is tidy = go all.0
     cleared j e = λ i lt full.
         ⊎_elim
         (λ (same : i ≡ j). absurd (false≢true (sym (emptied w.slots j (omega (arith, lt, same)))
-        ∙ subst (λ (m : ℕ). is_full (slot (slice_set w.slots j plain) m) ≡ true) same full)))
+        ∙ subst (λ (m : ℕ). is_full (slot_pointer (slice_set w.slots j plain) m) ≡ true) same full)))
         (λ (ne : i ≢ j). others_left i j t ts e ne
-        (subst (Leaves i) is (tidy.names i lt (sym (slot_kept w.slots i j plain ne) ∙ full))))
+        (subst (LeavesName i) is (tidy.names i lt (sym (slot_kept w.slots i j plain ne) ∙ full))))
         (cases_eq i j)
 
     go : Heads (other w.slots) t ts → IsTidy (went s d w k ts t.act)
@@ -183,12 +183,12 @@ went_tidy s d k w t ts is tidy = go all.0
 -- a make comes into the hand, or is refused
 pub make_tidy : (w : Walk) (t : Task) (ts : List Task) (form : Form) (slots : Slots) (taken : Bool) → w.todo ≡ t ∷ ts
     → t.act ≡ Make form
-    → length slots ≡ length w.slots → IsTidy w → IsTidy (settled slots taken w.endings ts)
+    → length slots ≡ length w.slots → IsTidy w → IsTidy (walk_settled slots taken w.endings ts)
 make_tidy w t ts form slots taken is make size tidy =
     let all : LeavesAll (other w.slots) (t ∷ ts) = subst (LeavesAll (other w.slots)) is tidy.all in
     settled_tidy (other w.slots) slots taken w.endings ts (omega (arith, size)) (λ i lt full. left all.0 i lt) all.1
   where
-    left : Heads (other w.slots) t ts → (i : ℕ) → i < other w.slots → Leaves i ts
+    left : Heads (other w.slots) t ts → (i : ℕ) → i < other w.slots → LeavesName i ts
     left (inl p) = absurd (let e = sym make ∙ p.1 in cc)
     left (inr f) = f
 
@@ -216,8 +216,8 @@ left_tidy s d k w tidy =
     (omega (arith, l)) (held_names w plain tidy) tidy.all
 
 -- a thread begins so, with all names empty
-pub fresh_tidy : (slots : Slots) (ts : List Task) → ((i : ℕ) → slot slots i ≡ None) → LeavesAll (other slots) ts
-    → IsTidy (settled slots false [] ts)
+pub fresh_tidy : (slots : Slots) (ts : List Task) → ((i : ℕ) → slot_pointer slots i ≡ None) → LeavesAll (other slots) ts
+    → IsTidy (walk_settled slots false [] ts)
 fresh_tidy slots ts none all =
     settled_tidy (other slots) slots false [] ts refl
     (λ i lt full. absurd (false≢true (sym (ap is_full (none i)) ∙ full))) all

@@ -13,51 +13,53 @@ use Rattle.step_threads.specs.declared.act.Task.{Task}
 use Rattle.step_threads.specs.declared.call.CellName.{CellName}
 use Rattle.step_threads.specs.declared.half.Half.TheVariants.{Rest, Matched, Refill}
 use Rattle.step_table.specs.CellDeeds.{cell_in, handle_told}
-use Rattle.step_table.specs.Stories.{Story, state}
-use Rattle.step_threads.specs.Courses.{Walk, cell_at}
-use Rattle.step_threads.specs.Scenes.{left}
+use Rattle.step_table.specs.Stories.{Story, story_state}
+use Rattle.step_threads.specs.Courses.{Walk, cell_of_name}
+use Rattle.step_threads.specs.Scenes.{leaving_pointer}
 use Rattle.step_threads.specs.NextSteps.{first, matched, saw, step_at, story_after}
-use Rattle.step_threads.specs.Steps.{Step, compares}
-use Rattle.step_core.specs.Told.{AllEnd}
+use Rattle.step_threads.specs.Steps.{Step, step_of_compare}
+use Rattle.step_core.specs.Told.{AllEndInThreads}
 use Rattle.step_core.proofs.telling.Cases.{IsEach, IsEachAct, each_compares, each_load, each_matched, each_refill, each_saw}
 use Rattle.step_core.proofs.telling.Still.{Lists, Right, fills_alike, plain, plain_alike, same, within}
 
 still_looked : (v : Story) (d : ℕ) (c : Cell) (x : CellWord) (y : Option Compared)
-    → (state (story_after v d (Some (deed.OnCell (cell_deed.Look c x y))))).object ≡ (state v).object
+    → (story_state (story_after v d (Some (deed.OnCell (cell_deed.Look c x y))))).object ≡ (story_state v).object
 still_looked v d c x None = refl
 still_looked v d c x (Some y) = refl
 
 still_taken : (v : Story) (d : ℕ) (c : Cell) (x : CellWord) (y : Option Compared)
-    → (state (story_after v d (Some (deed.OnCell (cell_deed.Take c x y))))).object ≡ (state v).object
+    → (story_state (story_after v d (Some (deed.OnCell (cell_deed.Take c x y))))).object ≡ (story_state v).object
 still_taken v d c x None = refl
 still_taken v d c x (Some y) = refl
 
-each_right : (v : Story) (d k : ℕ) (w : Walk) (ts : List Task) (a : Act) (c : CellName) (f : Lists) → left w.slots a ≡ None → f d ≡ w.endings
-    → AllEnd (state v) f → IsEach v d w k ts a (cell_at (state v) w.slots c) (λ (x : Step). Right v d w f (Some x))
+each_right : (v : Story) (d k : ℕ) (w : Walk) (ts : List Task) (a : Act) (c : CellName) (f : Lists) → leaving_pointer w.slots a ≡ None
+    → f d ≡ w.endings
+    → AllEndInThreads (story_state v) f → IsEach v d w k ts a (cell_of_name (story_state v) w.slots c) (λ (x : Step). Right v d w f (Some x))
 each_right v d k w ts a c f stays at all =
-    let z = cell_at (state v) w.slots c in
+    let z = cell_of_name (story_state v) w.slots c in
     record {
       quiet = λ h. within v d k w None h f refl at all;
       look = λ x y. plain v d k w ts a (Some (deed.OnCell (cell_deed.Look z x y))) Rest f stays (still_looked v d z x y) at all;
       take = λ x y h. plain v d k w ts a (Some (deed.OnCell (cell_deed.Take z x y))) h f stays (still_taken v d z x y) at all;
       swap = λ x y h.
           plain_alike v d k w ts a (Some (deed.OnCell (cell_deed.CompareSwap z x y))) h f stays
-          (fills_alike (state v) d (cell_in (state v) z) (handle_told (state v) z y.new) (handle_told (state v) z x)) at all;
+          (fills_alike (story_state v) d (cell_in (story_state v) z) (handle_told (story_state v) z y.new) (handle_told (story_state v) z x)) at all;
       bring = λ x p. within v d k w (Some (deed.OnCell (cell_deed.Bring p.kind p.block p.place 256))) (Matched x) f refl at all;
     }
 
-pub load_on : (v : Story) (d k : ℕ) (w : Walk) (ts : List Task) (c : CellName) (f : Lists) → f d ≡ w.endings → AllEnd (state v) f
+pub load_on : (v : Story) (d k : ℕ) (w : Walk) (ts : List Task) (c : CellName) (f : Lists) → f d ≡ w.endings → AllEndInThreads (story_state v) f
     → Right v d w f (Some (first v d w k ts (Load c)))
 load_on v d k w ts c f at all =
     each_load v d w k ts c (λ (s : Step). Right v d w f (Some s)) (each_right v d k w ts (Load c) c f refl at all)
     (plain v d k w ts (Load c) None Rest f refl refl at all)
 
 pub compares_on : (v : Story) (d k : ℕ) (w : Walk) (ts : List Task) (a : Act) (c : CellName) (y : Compared) (x : CellWord) (f : Lists)
-    → left w.slots a ≡ None → f d ≡ w.endings → AllEnd (state v) f → Right v d w f (Some (compares v d w k ts a (cell_at (state v) w.slots c) y x))
+    → leaving_pointer w.slots a ≡ None → f d ≡ w.endings → AllEndInThreads (story_state v) f
+    → Right v d w f (Some (step_of_compare v d w k ts a (cell_of_name (story_state v) w.slots c) y x))
 compares_on v d k w ts a c y x f stays at all =
-    each_compares v d w k ts a (cell_at (state v) w.slots c) (λ (s : Step). Right v d w f (Some s)) (each_right v d k w ts a c f stays at all) y x
+    each_compares v d w k ts a (cell_of_name (story_state v) w.slots c) (λ (s : Step). Right v d w f (Some s)) (each_right v d k w ts a c f stays at all) y x
 
-act_right : (v : Story) (d k : ℕ) (w : Walk) (ts : List Task) (f : Lists) → f d ≡ w.endings → AllEnd (state v) f
+act_right : (v : Story) (d k : ℕ) (w : Walk) (ts : List Task) (f : Lists) → f d ≡ w.endings → AllEndInThreads (story_state v) f
     → IsEachAct v d w k ts (λ (o : Option Step). Right v d w f o)
 act_right v d k w ts f at all = record {
   none = same v d w f None refl refl at all;
@@ -65,19 +67,20 @@ act_right v d k w ts f at all = record {
   compare = λ i c weak. each_right v d k w ts (Compare i c weak) c f refl at all;
 }
 
-pub saw_on : (v : Story) (d : ℕ) (x : CellWord) (w : Walk) (f : Lists) → f d ≡ w.endings → AllEnd (state v) f → (ts : List Task)
+pub saw_on : (v : Story) (d : ℕ) (x : CellWord) (w : Walk) (f : Lists) → f d ≡ w.endings → AllEndInThreads (story_state v) f → (ts : List Task)
     → Right v d w f (saw v d w x ts)
 saw_on v d x w f at all ts =
     each_saw v d w (λ (o : Option Step). Right v d w f o) x ts (same v d w f None refl refl at all)
     (λ t us e. act_right v d t.statement w us f at all)
 
-pub matched_on : (v : Story) (d : ℕ) (x : CellWord) (w : Walk) (f : Lists) → f d ≡ w.endings → AllEnd (state v) f → (ts : List Task)
+pub matched_on : (v : Story) (d : ℕ) (x : CellWord) (w : Walk) (f : Lists) → f d ≡ w.endings → AllEndInThreads (story_state v) f → (ts : List Task)
     → Right v d w f (matched v d w x ts)
 matched_on v d x w f at all ts =
     each_matched v d w (λ (o : Option Step). Right v d w f o) x ts (same v d w f None refl refl at all)
     (λ t us e. act_right v d t.statement w us f at all)
 
-pub refill_on : (v : Story) (d : ℕ) (stage : Stage) (c : Cell) (x : CellWord) (k : ℕ) (w : Walk) (f : Lists) → f d ≡ w.endings → AllEnd (state v) f
+pub refill_on : (v : Story) (d : ℕ) (stage : Stage) (c : Cell) (x : CellWord) (k : ℕ) (w : Walk) (f : Lists) → f d ≡ w.endings
+    → AllEndInThreads (story_state v) f
     → Right v d w f (step_at v d (Refill stage c x k) w)
 refill_on v d stage c x k w f at all =
     each_refill v w k (λ (o : Option Step). Right v d w f o) (same v d w f None refl refl at all) (record {

@@ -13,16 +13,16 @@ use Rattle.step_threads.specs.declared.half.Half.TheVariants.{Rest, Making, Lock
 use Rattle.step_threads.specs.declared.said.Stepped.{Stepped}
 use Rattle.step_threads.specs.declared.said.Stepped.TheVariants.{Event, Quiet, Waited}
 use Rattle.step_table.specs.Contents.{as_word, compared_in, is_spent, same_value, seen}
-use Rattle.step_table.specs.Holdings.{value}
-use Rattle.step_table.specs.Stories.{Story, state}
-use Rattle.step_threads.specs.Courses.{Walk, cell_at, comparing, is_there}
-use Rattle.step_threads.specs.NextSteps.{answered, at_rest, begun, first, is_event, step_at, stepped, waits, waits_at, waits_on}
-use Rattle.step_threads.specs.Steps.{Step, acts, within}
-use Rattle.step_core.specs.Told.{ends_by, makes}
+use Rattle.step_table.specs.Holdings.{slot_value}
+use Rattle.step_table.specs.Stories.{Story, story_state}
+use Rattle.step_threads.specs.Courses.{Walk, cell_of_name, comparing, is_there}
+use Rattle.step_threads.specs.NextSteps.{answered, at_rest, begun, first, deed_is_event, step_at, stepped, waits, waits_at, waits_on}
+use Rattle.step_threads.specs.Steps.{Step, step_of_act, within}
+use Rattle.step_core.specs.Told.{step_ends, step_makes}
 
 -- two answers of a step of a thread at rest that add as much
 abbrev Adds : Stepped → Stepped → Type 0
-Adds r r' = (makes Rest r ≡ makes Rest r') × (ends_by r ≡ ends_by r')
+Adds r r' = (step_makes Rest r ≡ step_makes Rest r') × (step_ends r ≡ step_ends r')
 
 -- a step that looks at a cell all of whose funds were taken does nothing
 spent : (v : Story) (k : ℕ) (w : Walk) (x : Step) (b : Bool)
@@ -45,17 +45,17 @@ differs v k w x y false false = (refl, refl)
 act_adds : (v : Story) (d k : ℕ) (w : Walk) (ts : List Task) (a : Act)
     → let r = stepped v (Some (first v d w k ts a)) in Adds (cond (waits_on v w a) Waited r) r
 act_adds v d k w ts (Load c) =
-    let z = cell_at (state v) w.slots c in
+    let z = cell_of_name (story_state v) w.slots c in
     let x = seen v z in
     there v k w
-    (cond (is_some x.owned) (within w k None (Saw x)) (acts v d w k ts (Load c) (Some (deed.OnCell (cell_deed.Look z x None))) Rest))
-    (acts v d w k ts (Load c) None Rest) (is_there w.slots c) (is_spent x)
+    (cond (is_some x.owned) (within w k None (Saw x)) (step_of_act v d w k ts (Load c) (Some (deed.OnCell (cell_deed.Look z x None))) Rest))
+    (step_of_act v d w k ts (Load c) None Rest) (is_there w.slots c) (is_spent x)
 act_adds v d k w ts (Compare i c weak) =
-    let z = cell_at (state v) w.slots c in
+    let z = cell_of_name (story_state v) w.slots c in
     let x = seen v z in
     let y = compared_in w.slots (comparing w.slots i weak) in
-    let look = acts v d w k ts (Compare i c weak) (Some (deed.OnCell (cell_deed.Look z x (Some y)))) Rest in
-    differs v k w (cond (is_some x.owned) (within w k None (Saw x)) look) (within w k None (Saw x)) (same_value x (as_word (value w.slots i)))
+    let look = step_of_act v d w k ts (Compare i c weak) (Some (deed.OnCell (cell_deed.Look z x (Some y)))) Rest in
+    differs v k w (cond (is_some x.owned) (within w k None (Saw x)) look) (within w k None (Saw x)) (same_value x (as_word (slot_value w.slots i)))
     (is_spent x)
 act_adds v d k w ts (Make form) = (refl, refl)
 act_adds v d k w ts (Share i) = (refl, refl)
@@ -86,7 +86,7 @@ rest_adds v d w [] = task_adds v d w w.todo
 rest_adds v d w (e ∷ es) = (refl, refl)
 
 pub answered_adds : (v : Story) (d : ℕ) (h : Half) (w : Walk)
-    → let r = stepped v (step_at v d h w) in (makes h (answered v d h w) ≡ makes h r) × (ends_by (answered v d h w) ≡ ends_by r)
+    → let r = stepped v (step_at v d h w) in (step_makes h (answered v d h w) ≡ step_makes h r) × (step_ends (answered v d h w) ≡ step_ends r)
 answered_adds v d Rest w = rest_adds v d w w.endings
 answered_adds v d (Making b i differs) w = (refl, refl)
 answered_adds v d (Locking word) w = (refl, refl)
@@ -101,7 +101,7 @@ answered_adds v d Clearing w = (refl, refl)
 -- a step that doesn't wait says so
 stepped_on : (v : Story) (x : Option Step) → stepped v x ≢ Waited
 stepped_on v None e = cc
-stepped_on v (Some x) e = go (is_event v x.deed) e
+stepped_on v (Some x) e = go (deed_is_event v x.deed) e
   where
     go : (b : Bool) → cond b (Event x.said) (Quiet x.said) ≡ Waited → ⊥
     go true f = cc

@@ -15,35 +15,35 @@ use Rattle.step_threads.specs.declared.ending.Ending.{Ending}
 use Rattle.step_table.specs.declared.holdings.Pointer.{Pointer}
 use Rattle.step_core.specs.Bounds.{carried, task_steps, walk_steps, weight}
 use Rattle.step_threads.specs.Endings.{ending_steps, staged}
-use Rattle.step_threads.specs.Courses.{Walk, hand, idle, other, placed, settled, slots_idle, taken_idle}
+use Rattle.step_threads.specs.Courses.{Walk, hand, idle, other, placed, walk_settled, slots_idle, taken_idle}
 use Rattle.step_table.specs.Deeds.{is_last, owned, on}
 use Rattle.step_table.specs.declared.slot.Slot.{Slot}
 use Rattle.step_threads.specs.Steps.{with_endings}
-use Rattle.step_table.specs.Holdings.{Slots, is_full, plain, pointer_of, slot, value}
-use Rattle.step_threads.specs.Scenes.{begins_end, begins_end_as, ended_by, endings_by, hands, left, remains_as, went}
+use Rattle.step_table.specs.Holdings.{Slots, is_full, plain, pointer_of, slot_pointer, slot_value}
+use Rattle.step_threads.specs.Scenes.{begins_end, begins_end_as, ended_by, endings_by, hands, leaving_pointer, remains_as, went}
 
 -- what settling passes over has no steps left
-pub settled_steps : (slots : Slots) (taken : Bool) (es : List Ending) (ts : List Task) → task_steps (settled slots taken es ts).todo ≤ task_steps ts
+pub settled_steps : (slots : Slots) (taken : Bool) (es : List Ending) (ts : List Task) → task_steps (walk_settled slots taken es ts).todo ≤ task_steps ts
 settled_steps slots taken es [] = omega arith
 settled_steps slots taken es (t ∷ ts) =
     let r = settled_steps (slots_idle t.act slots taken) (taken_idle t.act taken) es ts in
     let s = sum_by-cons (λ (x : Task). weight x.act) t ts in
-    cond_both (idle t.act slots taken) (settled (slots_idle t.act slots taken) (taken_idle t.act taken) es ts)
+    cond_both (idle t.act slots taken) (walk_settled (slots_idle t.act slots taken) (taken_idle t.act taken) es ts)
     (record { slots = slots; taken = taken; endings = es; todo = t ∷ ts }) (λ (w : Walk). task_steps w.todo ≤ task_steps (t ∷ ts))
     (λ e. omega (arith, r, s)) (λ e. omega arith)
 
-pub settled_endings : (slots : Slots) (taken : Bool) (es : List Ending) (ts : List Task) → (settled slots taken es ts).endings ≡ es
+pub settled_endings : (slots : Slots) (taken : Bool) (es : List Ending) (ts : List Task) → (walk_settled slots taken es ts).endings ≡ es
 settled_endings slots taken es [] = refl
 settled_endings slots taken es (t ∷ ts) =
     let r = settled_endings (slots_idle t.act slots taken) (taken_idle t.act taken) es ts in
-    cond_both (idle t.act slots taken) (settled (slots_idle t.act slots taken) (taken_idle t.act taken) es ts)
+    cond_both (idle t.act slots taken) (walk_settled (slots_idle t.act slots taken) (taken_idle t.act taken) es ts)
     (record { slots = slots; taken = taken; endings = es; todo = t ∷ ts }) (λ (w : Walk). w.endings ≡ es) (λ e. r) (λ e. refl)
 
 -- nothing is in hand
 abbrev pub IsFree : Slots → Type 0
-IsFree slots = is_full (slot slots (hand slots)) ≡ false
+IsFree slots = is_full (slot_pointer slots (hand slots)) ≡ false
 
-emptied_at : (slots : Slots) (k : ℕ) → k ≡ hand slots → is_full (slot (slice_set slots k plain) k) ≡ false
+emptied_at : (slots : Slots) (k : ℕ) → k ≡ hand slots → is_full (slot_pointer (slice_set slots k plain) k) ≡ false
 emptied_at [] k e = refl
 emptied_at (x ∷ xs) k e =
     let lt : k < length (x ∷ xs) = omega (arith, e) in
@@ -54,12 +54,12 @@ emptied : (slots : Slots) (k : ℕ) → k ≡ hand slots → IsFree (slice_set s
 emptied slots k e =
     let l = length-set slots k plain in
     let h : hand (slice_set slots k plain) ≡ k = omega (arith, l, e) in
-    subst (λ (i : ℕ). is_full (slot (slice_set slots k plain) i) ≡ false) (sym h) (emptied_at slots k e)
+    subst (λ (i : ℕ). is_full (slot_pointer (slice_set slots k plain) i) ≡ false) (sym h) (emptied_at slots k e)
 
 placed_free : (k : ℕ) (slots : Slots) → IsFree (placed k slots)
 placed_free k slots =
-    let l = length-set slots k (value slots (hand slots)) in
-    emptied (slice_set slots k (value slots (hand slots))) (hand slots) (omega (arith, l))
+    let l = length-set slots k (slot_value slots (hand slots)) in
+    emptied (slice_set slots k (slot_value slots (hand slots))) (hand slots) (omega (arith, l))
 
 -- what is to be dropped has left
 dropped_free : (slots : Slots) → IsFree slots → IsFree (slice_set slots (other slots) plain)
@@ -68,7 +68,7 @@ dropped_free slots free =
     let h : hand (slice_set slots (other slots) plain) ≡ hand slots = omega (arith, l) in
     ⊎_elim (λ (e : hand slots ≡ other slots). emptied slots (other slots) (sym e))
     (λ (n : hand slots ≢ other slots).
-    subst (λ (i : ℕ). is_full (slot (slice_set slots (other slots) plain) i) ≡ false) (sym h)
+    subst (λ (i : ℕ). is_full (slot_pointer (slice_set slots (other slots) plain) i) ≡ false) (sym h)
     (ap (λ (y : Slot). is_full (pointer_of y)) (get_or-set_other slots (other slots) (hand slots) plain plain n) ∙ free))
     (cases_eq (hand slots) (other slots))
 
@@ -97,11 +97,11 @@ idle_free (Compare k c weak) slots true free = placed_free (other slots) slots
 idle_free (Compare k c weak) slots false free = free
 idle_free Drop slots taken free = dropped_free slots free
 
-settled_free : (slots : Slots) (taken : Bool) (es : List Ending) (ts : List Task) → IsFree slots → IsFree (settled slots taken es ts).slots
+settled_free : (slots : Slots) (taken : Bool) (es : List Ending) (ts : List Task) → IsFree slots → IsFree (walk_settled slots taken es ts).slots
 settled_free slots taken es [] free = free
 settled_free slots taken es (t ∷ ts) free =
     let r = settled_free (slots_idle t.act slots taken) (taken_idle t.act taken) es ts (idle_free t.act slots taken free) in
-    cond_both (idle t.act slots taken) (settled (slots_idle t.act slots taken) (taken_idle t.act taken) es ts)
+    cond_both (idle t.act slots taken) (walk_settled (slots_idle t.act slots taken) (taken_idle t.act taken) es ts)
     (record { slots = slots; taken = taken; endings = es; todo = t ∷ ts }) (λ (w : Walk). IsFree w.slots) (λ e. r) (λ e. free)
 
 carried_free : (es : List Ending) (slots : Slots) → IsFree slots → carried es slots ≡ 0
@@ -134,7 +134,7 @@ begun_carried s k slots (Some x) = go x.kind (is_last s x)
   where
     go : (q : Kind) (b : Bool) → carried (cond b (begins_end_as q k x []) []) slots
         ≤ cond (is_some (cond b (remains_as q (s.object (owned s x))) None)) 1 0
-    go Owner true = carried_one (is_full (slot slots (hand slots)))
+    go Owner true = carried_one (is_full (slot_pointer slots (hand slots)))
     go Owner false = omega arith
     go Weak true = omega arith
     go Weak false = omega arith
@@ -162,12 +162,12 @@ weight_two (Compare k c weak) = omega arith
 weight_two Drop = omega arith
 
 -- settled without an ending, a thread has the steps of its tasks alone
-pub settled_alone : (slots : Slots) (taken : Bool) (ts : List Task) → walk_steps (settled slots taken [] ts) ≤ task_steps ts
+pub settled_alone : (slots : Slots) (taken : Bool) (ts : List Task) → walk_steps (walk_settled slots taken [] ts) ≤ task_steps ts
 settled_alone slots taken ts =
     let s = settled_steps slots taken [] ts in
     let e = settled_endings slots taken [] ts in
     let a = ap (λ (l : List Ending). sum_by ending_steps l) e in
-    let b = ap (λ (l : List Ending). carried l (settled slots taken [] ts).slots) e in
+    let b = ap (λ (l : List Ending). carried l (walk_settled slots taken [] ts).slots) e in
     omega (arith, s, a, b)
 
 -- a thread whose endings are over, at its next task
@@ -181,32 +181,33 @@ walk_alone w t ts none is =
 
 -- an act of a statement takes its steps, and brings those of the object that it ends
 pub went_steps : (s : State) (d k : ℕ) (w : Walk) (t : Task) (ts : List Task) (a : Act) → w.endings ≡ [] → w.todo ≡ t ∷ ts
-    → walk_steps (went s d w k ts a) + weight t.act ≤ walk_steps w + 14 * ends_at s (left w.slots a)
+    → walk_steps (went s d w k ts a) + weight t.act ≤ walk_steps w + 14 * ends_at s (leaving_pointer w.slots a)
 went_steps s d k w t ts a none is =
     let x = hands s d w.slots w.taken a in
     let es = endings_by s k w.slots w.endings a in
     let r = settled_steps x.0 x.1 es ts in
-    let e : es ≡ on (λ p. begins_end s k p []) [] (left w.slots a) = ap (λ (l : List Ending). on (λ p. begins_end s k p l) l (left w.slots a)) none in
+    let e : es ≡ on (λ p. begins_end s k p []) [] (leaving_pointer w.slots a) =
+    ap (λ (l : List Ending). on (λ p. begins_end s k p l) l (leaving_pointer w.slots a)) none in
     let f = settled_endings x.0 x.1 es ts ∙ e in
     let b = ap (λ (l : List Ending). sum_by ending_steps l) f in
-    let c = begun_steps s k [] (left w.slots a) in
+    let c = begun_steps s k [] (leaving_pointer w.slots a) in
     let g = ap (λ (l : List Ending). carried l (went s d w k ts a).slots) f in
-    let h = begun_carried s k (went s d w k ts a).slots (left w.slots a) in
+    let h = begun_carried s k (went s d w k ts a).slots (leaving_pointer w.slots a) in
     let i = walk_alone w t ts none is in
     omega (arith, r, b, c, g, h, i)
 
 -- what came out of a member leaves
 pub carried_leaves : (s : State) (d k : ℕ) (w : Walk) (e : Ending) (es : List Ending) → w.endings ≡ e ∷ es
-    → is_full (slot w.slots (hand w.slots)) ≡ true
-    → walk_steps (went s d w k w.todo (Leave (hand w.slots))) + 1 ≤ walk_steps w + 13 * ends_at s (slot w.slots (hand w.slots))
+    → is_full (slot_pointer w.slots (hand w.slots)) ≡ true
+    → walk_steps (went s d w k w.todo (Leave (hand w.slots))) + 1 ≤ walk_steps w + 13 * ends_at s (slot_pointer w.slots (hand w.slots))
 carried_leaves s d k w e es is full =
     let slots = slice_set w.slots (hand w.slots) plain in
     let new = endings_by s k w.slots w.endings (Leave (hand w.slots)) in
     let r = settled_steps slots w.taken new w.todo in
     let f = settled_endings slots w.taken new w.todo in
     let b = ap (λ (l : List Ending). sum_by ending_steps l) f in
-    let c = begun_steps s k w.endings (slot w.slots (hand w.slots)) in
-    let g = carried_free (settled slots w.taken new w.todo).endings (settled slots w.taken new w.todo).slots
+    let c = begun_steps s k w.endings (slot_pointer w.slots (hand w.slots)) in
+    let g = carried_free (walk_settled slots w.taken new w.todo).endings (walk_settled slots w.taken new w.todo).slots
     (settled_free slots w.taken new w.todo (emptied w.slots (hand w.slots) refl)) in
     let h = ap (λ (l : List Ending). carried l w.slots) is in
     let i : carried (e ∷ es) w.slots ≡ 1 = ap (λ (q : Bool). cond q 1 0) full in
@@ -214,23 +215,23 @@ carried_leaves s d k w e es is full =
 
 -- an act of a statement that nothing leaves by
 pub went_still : (s : State) (d k : ℕ) (w : Walk) (t : Task) (ts : List Task) (a : Act) → w.endings ≡ [] → w.todo ≡ t ∷ ts
-    → left w.slots a ≡ None → walk_steps (went s d w k ts a) + weight t.act ≤ walk_steps w
+    → leaving_pointer w.slots a ≡ None → walk_steps (went s d w k ts a) + weight t.act ≤ walk_steps w
 went_still s d k w t ts a none is stays =
     let l = went_steps s d k w t ts a none is in
-    let z : ends_at s (left w.slots a) ≡ 0 = ap (ends_at s) stays in
+    let z : ends_at s (leaving_pointer w.slots a) ≡ 0 = ap (ends_at s) stays in
     omega (arith, l, z)
 
 pub went_plain : (s : State) (d k : ℕ) (w : Walk) (t : Task) (ts : List Task) (a : Act) → w.endings ≡ [] → w.todo ≡ t ∷ ts
-    → left w.slots a ≡ None → walk_steps (went s d w k ts a) + 2 ≤ walk_steps w
+    → leaving_pointer w.slots a ≡ None → walk_steps (went s d w k ts a) + 2 ≤ walk_steps w
 went_plain s d k w t ts a none is stays =
     let l = went_still s d k w t ts a none is stays in let j = weight_two t.act in omega (arith, l, j)
 
 -- any act of a statement
 pub went_less : (s : State) (d k : ℕ) (w : Walk) (t : Task) (ts : List Task) (a : Act) → w.endings ≡ [] → w.todo ≡ t ∷ ts
-    → walk_steps (went s d w k ts a) + 1 ≤ walk_steps w + 13 * ends_at s (left w.slots a)
+    → walk_steps (went s d w k ts a) + 1 ≤ walk_steps w + 13 * ends_at s (leaving_pointer w.slots a)
 went_less s d k w t ts a none is =
     let l = went_steps s d k w t ts a none is in
-    let z = carried_one (is_some (ended_by s (left w.slots a))) in
+    let z = carried_one (is_some (ended_by s (leaving_pointer w.slots a))) in
     let j = weight_two t.act in
     omega (arith, l, z, j)
 
@@ -265,7 +266,7 @@ staged_less w e es is free lt =
 -- at most one pointer came out of a member, and isn't left yet
 pub carried_most : (es : List Ending) (slots : Slots) → carried es slots ≤ 1
 carried_most [] slots = omega arith
-carried_most (e ∷ es) slots = carried_one (is_full (slot slots (hand slots)))
+carried_most (e ∷ es) slots = carried_one (is_full (slot_pointer slots (hand slots)))
 
 -- what a member held is out
 pub taken_out : (w : Walk) (slots : Slots) (e : Ending) (es : List Ending) → w.endings ≡ e ∷ es → e.stage < 3

@@ -9,14 +9,14 @@ use Rattle.step_threads.specs.declared.act.Task.{Task}
 use Rattle.step_threads.specs.declared.half.Half.TheVariants.{Rest, Giving}
 use Rattle.step_table.specs.declared.holdings.Pointer.{Pointer}
 use Rattle.control_word.specs.declared.handle.Kind.{Kind}
-use Rattle.step_threads.specs.Courses.{going, locked}
+use Rattle.step_threads.specs.Courses.{going, locked_pointer}
 use Rattle.step_table.specs.Deeds.{is_enabled, lock, owner_word, on}
-use Rattle.step_table.specs.Holdings.{inside, slot}
+use Rattle.step_table.specs.Holdings.{inside, slot_pointer}
 use Rattle.step_threads.specs.Entries.{least}
 use Rattle.step_threads.specs.Scenes.{walk_of}
 use Rattle.step_threads.specs.NextSteps.{first, waits_on}
-use Rattle.step_threads.specs.Steps.{Step, acts, asks, begins, looks, silent, trying}
-use Rattle.step_table.specs.Stories.{state}
+use Rattle.step_threads.specs.Steps.{Step, step_of_act, asks, begins, looks, silent, trying}
+use Rattle.step_table.specs.Stories.{story_state}
 use Rattle.step_core.specs.Turning.{is_acting}
 use Rattle.step_core.specs.Worlds.{Sight, scene, sight_by}
 use Rattle.step_core.proofs.turning.Ending.{same_walks, scene_as}
@@ -27,17 +27,17 @@ use Rattle.step_core.proofs.turning.Looking.{CanLook, compare_first, compare_sam
 -- each act
 pub acts_so : (d : ℕ) (u : Sight) (k : ℕ) (ts : List Task) (a : Act) → CanLook d u a → waits_on u.story (walk_of (scene u) d) a ≡ false
     → let x = first u.story d (walk_of (scene u) d) k ts a in is_acting x.half ≡ false → Acts d u k ts a x
-acts_so d u k ts (Make form) can none is = begins_so d u k ts form (least d (state u.story).stores) refl is
+acts_so d u k ts (Make form) can none is = begins_so d u k ts form (least d (story_state u.story).stores) refl is
 acts_so d u k ts (Share i) can none is = (refl, does_so d u.story _ _)
 acts_so d u k ts (Put i) can none is = (refl, does_so d u.story _ _)
 acts_so d u k ts (Leave i) can none is = (refl, does_so d u.story _ _)
 acts_so d u k ts (Clear i) can none is = (refl, does_so d u.story _ _)
 acts_so d u k ts (Count i) can none is = (refl, does_so d u.story _ _)
 acts_so d u k ts (Downgrade i) can none is = (refl, does_so d u.story _ _)
-acts_so d u k ts (Lock i must) can none is = looks_so d u k ts i must (locked (walk_of (scene u) d).slots (Lock i must)) refl is
+acts_so d u k ts (Lock i must) can none is = looks_so d u k ts i must (locked_pointer (walk_of (scene u) d).slots (Lock i must)) refl is
 acts_so d u k ts (Expired i) can none is = (refl, does_so d u.story _ _)
 acts_so d u k ts (Read i) can none is = (refl, does_so d u.story _ _)
-acts_so d u k ts (FromThis i kind) can none is = asks_so d u k ts i kind (inside (slot (walk_of (scene u) d).slots i)) refl is
+acts_so d u k ts (FromThis i kind) can none is = asks_so d u k ts i kind (inside (slot_pointer (walk_of (scene u) d).slots i)) refl is
 acts_so d u k ts (Alias i j field) can none is = (refl, does_so d u.story _ _)
 acts_so d u k ts (Move i) can none is = (refl, refl)
 acts_so d u k ts (Ask q) can none is = (refl, refl)
@@ -58,40 +58,41 @@ begins_same d u k ts (Some b) is = scene_as u _ _ _ _ refl (same_walks d u)
 -- a lock that has just begun
 looks_same : (d : ℕ) (u : Sight) (k : ℕ) (ts : List Task) (a : Act) (o : Option Pointer)
     → let w = walk_of (scene u) d in
-    let x = on (looks u.story d w k ts a) (acts u.story d w k ts a None Rest) o in is_acting x.half ≡ true → scene (sight_by d u (Some x)) ≡ scene u
+    let x = on (looks u.story d w k ts a) (step_of_act u.story d w k ts a None Rest) o in is_acting x.half ≡ true
+    → scene (sight_by d u (Some x)) ≡ scene u
 looks_same d u k ts a None is = absurd (false≢true is)
 looks_same d u k ts a (Some y) is =
     let w = walk_of (scene u) d in
     let n = owner_word u.story y in
-    cond_both (n == 0) (acts u.story d w k ts a (Some (lock (state u.story) y)) Rest) (trying w k n)
+    cond_both (n == 0) (step_of_act u.story d w k ts a (Some (lock (story_state u.story) y)) Rest) (trying w k n)
     (λ (x : Step). is_acting x.half ≡ true → scene (sight_by d u (Some x)) ≡ scene u) (λ t q. absurd (false≢true q))
     (λ t q. scene_as u _ _ _ _ refl (same_walks d u)) is
 
 -- an object that was just asked
 asks_same : (d : ℕ) (u : Sight) (k : ℕ) (ts : List Task) (i : ℕ) (q : Kind) (o : Option Pointer)
     → let w = walk_of (scene u) d in
-    let x = on (asks u.story d w k ts i q) (acts u.story d w k ts (FromThis i q) None Rest) o in
+    let x = on (asks u.story d w k ts i q) (step_of_act u.story d w k ts (FromThis i q) None Rest) o in
     is_acting x.half ≡ true → scene (sight_by d u (Some x)) ≡ scene u
 asks_same d u k ts i q None is = absurd (false≢true is)
 asks_same d u k ts i q (Some y) is =
     let w = walk_of (scene u) d in
-    cond_both (is_enabled (state u.story) y) (record { deed = None; half = Giving i q y; walk = w; said = silent k })
-    (acts u.story d w k ts (FromThis i q) None Rest) (λ (x : Step). is_acting x.half ≡ true → scene (sight_by d u (Some x)) ≡ scene u)
+    cond_both (is_enabled (story_state u.story) y) (record { deed = None; half = Giving i q y; walk = w; said = silent k })
+    (step_of_act u.story d w k ts (FromThis i q) None Rest) (λ (x : Step). is_acting x.half ≡ true → scene (sight_by d u (Some x)) ≡ scene u)
     (λ t z. scene_as u _ _ _ _ refl (same_walks d u)) (λ t z. absurd (false≢true z)) is
 
 pub first_same : (d : ℕ) (u : Sight) (k : ℕ) (ts : List Task) (a : Act)
     → let x = first u.story d (walk_of (scene u) d) k ts a in is_acting x.half ≡ true → scene (sight_by d u (Some x)) ≡ scene u
-first_same d u k ts (Make form) is = begins_same d u k ts (least d (state u.story).stores) is
+first_same d u k ts (Make form) is = begins_same d u k ts (least d (story_state u.story).stores) is
 first_same d u k ts (Share i) is = absurd (false≢true is)
 first_same d u k ts (Put i) is = absurd (false≢true is)
 first_same d u k ts (Leave i) is = absurd (false≢true is)
 first_same d u k ts (Clear i) is = absurd (false≢true is)
 first_same d u k ts (Count i) is = absurd (false≢true is)
 first_same d u k ts (Downgrade i) is = absurd (false≢true is)
-first_same d u k ts (Lock i must) is = looks_same d u k ts (Lock i must) (locked (walk_of (scene u) d).slots (Lock i must)) is
+first_same d u k ts (Lock i must) is = looks_same d u k ts (Lock i must) (locked_pointer (walk_of (scene u) d).slots (Lock i must)) is
 first_same d u k ts (Expired i) is = absurd (false≢true is)
 first_same d u k ts (Read i) is = absurd (false≢true is)
-first_same d u k ts (FromThis i kind) is = asks_same d u k ts i kind (inside (slot (walk_of (scene u) d).slots i)) is
+first_same d u k ts (FromThis i kind) is = asks_same d u k ts i kind (inside (slot_pointer (walk_of (scene u) d).slots i)) is
 first_same d u k ts (Alias i j field) is = absurd (false≢true is)
 first_same d u k ts (Move i) is = absurd (false≢true is)
 first_same d u k ts (Ask q) is = absurd (false≢true is)

@@ -8,12 +8,12 @@ use Rattle.step_threads.specs.declared.act.Task.{Task}
 use Rattle.step_threads.specs.declared.half.Half.{Half}
 use Rattle.step_threads.specs.declared.half.Half.TheVariants.{Rest, Locking}
 use Rattle.step_table.specs.declared.holdings.Pointer.{Pointer}
-use Rattle.step_threads.specs.Courses.{locked}
+use Rattle.step_threads.specs.Courses.{locked_pointer}
 use Rattle.step_table.specs.Deeds.{lock, owner_word, on}
 use Rattle.step_table.specs.Holdings.{is_full}
 use Rattle.step_threads.specs.Scenes.{walk_of}
-use Rattle.step_threads.specs.Steps.{acts, looks, tries, trying}
-use Rattle.step_table.specs.Stories.{state}
+use Rattle.step_threads.specs.Steps.{step_of_act, looks, tries, trying}
+use Rattle.step_table.specs.Stories.{story_state}
 use Rattle.step_core.specs.Worlds.{Sight, scene}
 use Rattle.step_core.proofs.turning.Saying.{lock_so}
 use Rattle.step_core.proofs.turning.Trials.{Outcome, is_at_cell, is_looking, is_on, left_on}
@@ -23,7 +23,7 @@ full_some None e = absurd (false≢true e)
 full_some (Some y) e = (y, refl)
 
 module _ (d : ℕ) (u : Sight) (k : ℕ) (ts : List Task) (a : Act) (y : Pointer)
-    (locks : locked (walk_of (scene u) d).slots a ≡ Some y) where
+    (locks : locked_pointer (walk_of (scene u) d).slots a ≡ Some y) where
   looking : is_looking (walk_of (scene u) d).slots a ≡ true
   looking = ap (λ (o : Option Pointer). is_full o || is_at_cell (walk_of (scene u) d).slots a) locks
 
@@ -46,7 +46,7 @@ module _ (d : ℕ) (u : Sight) (k : ℕ) (ts : List Task) (a : Act) (y : Pointer
   tries_out word =
       let w = walk_of (scene u) d in
       let n = owner_word u.story y in
-      cond_both (n == word) (acts u.story d w k ts a (Some (lock (state u.story) y)) Rest) (trying w k n)
+      cond_both (n == word) (step_of_act u.story d w k ts a (Some (lock (story_state u.story) y)) Rest) (trying w k n)
       (Outcome d u k ts a (Locking word))
       (λ t. inl (record { event = refl; so = lock_so d u k ts a y locks; over = refl }))
       (λ f. trying_on (Locking word)
@@ -59,7 +59,7 @@ module _ (d : ℕ) (u : Sight) (k : ℕ) (ts : List Task) (a : Act) (y : Pointer
   looks_out =
       let w = walk_of (scene u) d in
       let n = owner_word u.story y in
-      cond_both (n == 0) (acts u.story d w k ts a (Some (lock (state u.story) y)) Rest) (trying w k n)
+      cond_both (n == 0) (step_of_act u.story d w k ts a (Some (lock (story_state u.story) y)) Rest) (trying w k n)
       (Outcome d u k ts a Rest)
       (λ t. inl (record { event = refl; so = lock_so d u k ts a y locks; over = refl }))
       (λ f. seen f)
@@ -78,9 +78,9 @@ module _ (d : ℕ) (u : Sight) (k : ℕ) (ts : List Task) (a : Act) (y : Pointer
           inr (record { quiet = refl; said = refl; walk = refl; history = refl; extent = refl; half = p.0; less = p.1 })
 
 pub lock_rest : (d : ℕ) (u : Sight) (k : ℕ) (ts : List Task) (i : ℕ) (must : Bool) (o : Option Pointer)
-    → locked (walk_of (scene u) d).slots (Lock i must) ≡ o → is_looking (walk_of (scene u) d).slots (Lock i must) ≡ true
+    → locked_pointer (walk_of (scene u) d).slots (Lock i must) ≡ o → is_looking (walk_of (scene u) d).slots (Lock i must) ≡ true
     → let w = walk_of (scene u) d in
     let a = Lock i must in
-    Outcome d u k ts a Rest (on (looks u.story d w k ts a) (acts u.story d w k ts a None Rest) o)
+    Outcome d u k ts a Rest (on (looks u.story d w k ts a) (step_of_act u.story d w k ts a None Rest) o)
 lock_rest d u k ts i must None e is = absurd (false≢true (sym (ap (λ (o : Option Pointer). is_full o || false) e) ∙ is))
 lock_rest d u k ts i must (Some y) e is = looks_out d u k ts (Lock i must) y e

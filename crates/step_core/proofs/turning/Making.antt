@@ -11,12 +11,12 @@ use Rattle.step_threads.specs.declared.half.Half.{Half}
 use Rattle.step_threads.specs.declared.half.Half.TheVariants.{Making}
 use Rattle.step_table.specs.Openings.{opening}
 use Rattle.step_threads.specs.Actors.{wanted}
-use Rattle.step_threads.specs.Courses.{form_of, settled}
-use Rattle.step_threads.specs.Entries.{does, least, makes}
+use Rattle.step_threads.specs.Courses.{form_of, walk_settled}
+use Rattle.step_threads.specs.Entries.{does, least, make_deed}
 use Rattle.step_threads.specs.Scenes.{full_answer, holding, walk_of}
 use Rattle.step_threads.specs.NextSteps.{made_on}
 use Rattle.step_threads.specs.Steps.{claims, prepares}
-use Rattle.step_table.specs.Stories.{known, pending, state}
+use Rattle.step_table.specs.Stories.{known_words, pending, story_state}
 use Rattle.step_core.specs.Turning.{IsUnderWay}
 use Rattle.step_core.specs.Worlds.{Sight, scene}
 use Rattle.step_core.proofs.turning.Saying.{Acts, acted_said, acted_scene}
@@ -24,7 +24,7 @@ use Rattle.step_core.proofs.turning.Trials.{Next, Outcome, Tried, is_on, left_on
 
 -- a claim is what the make says and makes
 claims_so : (d : ℕ) (u : Sight) (k : ℕ) (ts : List Task) (b : Block) (a : Act) → a ≡ Make (form_of a)
-    → least d (state u.story).stores ≡ Some b.0
+    → least d (story_state u.story).stores ≡ Some b.0
     → Acts d u k ts a (claims (walk_of (scene u) d) k ts b (form_of a))
 claims_so d u k ts b a is low =
     let w = walk_of (scene u) d in
@@ -33,8 +33,8 @@ claims_so d u k ts b a is low =
           ap (acted_said d u k) (sym is),
       ap (λ (q : Option ℕ). record {
         extent = u.story.extent;
-        history = does (opening u.story.extent) d u.story.history (option_map (makes f) q);
-        walks = set u.walks d (let y = holding w.slots f.null q in settled y.0 y.1 w.endings ts);
+        history = does (opening u.story.extent) d u.story.history (option_map (make_deed f) q);
+        walks = set u.walks d (let y = holding w.slots f.null q in walk_settled y.0 y.1 w.endings ts);
       }) (sym low)
           ∙ ap (acted_scene d u k ts) (sym is),
     )
@@ -56,7 +56,7 @@ pub making_out : (d : ℕ) (u : Sight) (b : Block) (i : ℕ) (g : Bool) (t : Tas
     → Next d u t.statement ts t.act (Making b i g) (made_on u.story d (walk_of (scene u) d) b i g (t ∷ ts))
 making_out d u b i g t ts way =
     let w = walk_of (scene u) d in
-    let f = get_or (known (pending u.story d)) i 0 in
+    let f = get_or (known_words (pending u.story d)) i 0 in
     let n = get_or (wanted (form_of t.act)) i 0 in
     let x = claims w t.statement ts b (form_of t.act) in
     let y = prepares f n w t.statement b i g in

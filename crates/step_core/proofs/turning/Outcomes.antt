@@ -8,14 +8,14 @@ use Rattle.control_word.specs.Packing.{IsCellWord, cell_bits}
 use Rattle.step_table.specs.declared.cell_deed.CellDeed.TheVariants.{CompareSwap, Look, Take}
 use Rattle.step_table.specs.declared.holdings.Pointer.{Pointer}
 use Rattle.step_table.specs.declared.past.Deed.TheVariants.{OnCell}
-use Rattle.step_table.specs.CellDeeds.{kind_in}
-use Rattle.step_table.specs.Cells.{word_at}
+use Rattle.step_table.specs.CellDeeds.{kind_in_state}
+use Rattle.step_table.specs.Cells.{word_of_cell}
 use Rattle.step_table.specs.Contents.{as_word, compared_in, is_spent, same_value, seen}
 use Rattle.step_table.specs.Deeds.{on}
-use Rattle.step_table.specs.Holdings.{slot, value}
+use Rattle.step_table.specs.Holdings.{slot_pointer, slot_value}
 use Rattle.step_table.specs.declared.refill.Stage.TheVariants.{Turning}
 use Rattle.step_table.specs.Refills.{more_taken}
-use Rattle.step_table.specs.Stories.{state}
+use Rattle.step_table.specs.Stories.{story_state}
 use Rattle.step_table.proofs.contained.Coming.{open_found}
 use Rattle.step_table.proofs.contained.Telling.{compare_swap_tells, differing_tells, look_tells, take_tells}
 use Rattle.step_table.proofs.holding.Owning.{slot_held}
@@ -25,10 +25,10 @@ use Rattle.step_threads.specs.declared.act.Act.TheVariants.{Offer, Swap, Exchang
 use Rattle.step_threads.specs.declared.act.Task.{Task}
 use Rattle.step_threads.specs.declared.call.CellName.{CellName}
 use Rattle.step_threads.specs.declared.half.Half.TheVariants.{Rest, Saw, Matched, Refill}
-use Rattle.step_threads.specs.Courses.{cell_at, comparing, hand, is_there, locked}
+use Rattle.step_threads.specs.Courses.{cell_of_name, comparing, hand, is_there, locked_pointer}
 use Rattle.step_threads.specs.Scenes.{walk_of}
 use Rattle.step_threads.specs.NextSteps.{first, matched_on, saw_on, waits_on}
-use Rattle.step_threads.specs.Steps.{acts, fetches, gives_back, matches, sees, settles, takes, within}
+use Rattle.step_threads.specs.Steps.{step_of_act, fetches, gives_back, matches, step_of_look, settles, takes, within}
 use Rattle.step_threads.specs.Threads.{IsMatchedBy, IsSeenBy}
 use Rattle.step_core.specs.Bounds.{shows_on}
 use Rattle.step_core.specs.Worlds.{Sight, scene}
@@ -44,22 +44,22 @@ less_matched false = omega arith
 
 module _ (d : ℕ) (u : Sight) (k : ℕ) (ts : List Task) (c : CellName) where
   load_rest : CanLook d u (Load c) → waits_on u.story (walk_of (scene u) d) (Load c) ≡ false → is_there (walk_of (scene u) d).slots c ≡ true
-      → let v = u.story in let w = walk_of (scene u) d in let x = cell_at (state v) w.slots c in
-      Outcome d u k ts (Load c) Rest (sees v d w k ts (Load c) x None (seen v x))
+      → let v = u.story in let w = walk_of (scene u) d in let x = cell_of_name (story_state v) w.slots c in
+      Outcome d u k ts (Load c) Rest (step_of_look v d w k ts (Load c) x None (seen v x))
   load_rest can none there =
       let v = u.story in
       let w = walk_of (scene u) d in
-      let x = cell_at (state v) w.slots c in
+      let x = cell_of_name (story_state v) w.slots c in
       let found = found_now d u c (Load c) can can.cell there in
       sees_out d u k ts (Load c) x (seen v x) there None (sym (ap (λ (b : Bool). b && is_spent (seen v x)) there) ∙ none) (eq-eqb _ _ found.shows.bits)
       (load_so d u k ts c (OnCell (Look x (seen v x) None)) Rest there (look_tells v x (seen v x) found))
 
   load_saw : (x : CellWord) → IsCellWord x → CanLook d u (Load c) → is_there (walk_of (scene u) d).slots c ≡ true
       → let v = u.story in let w = walk_of (scene u) d in
-      Outcome d u k ts (Load c) (Saw x) (takes v d w k ts (Load c) (cell_at (state v) w.slots c) None x)
+      Outcome d u k ts (Load c) (Saw x) (takes v d w k ts (Load c) (cell_of_name (story_state v) w.slots c) None x)
   load_saw x valid can there =
       let v = u.story in
-      let y = cell_at (state v) (walk_of (scene u) d).slots c in
+      let y = cell_of_name (story_state v) (walk_of (scene u) d).slots c in
       takes_out d u k ts (Load c) y x there None refl
       (λ t. load_so d u k ts c (OnCell (Take y x None)) (Refill Turning y (more_taken x) k) there
       (take_tells v y x (open_found v d y x can.kept can.seat (cell_now d u c (Load c) can can.cell there) valid (eqb-true _ _ t))))
@@ -70,43 +70,43 @@ module _ (d : ℕ) (u : Sight) (k : ℕ) (ts : List Task) (c : CellName) where
     compare_rest none =
         let v = u.story in
         let w = walk_of (scene u) d in
-        let x = cell_at (state v) w.slots c in
+        let x = cell_of_name (story_state v) w.slots c in
         let a = Compare i c weak in
         let q = compared_in w.slots (comparing w.slots i weak) in
         let there = (may_compare d u i c weak can).there in
         let found = found_now d u c a can can.cell there in
         let shows : shows_on v w.slots (seen v x) a ≡ true = eq-eqb _ _ found.shows.bits in
         let n : left_on v w.slots a (Saw (seen v x)) ≡ 3 = ap (λ (b : Bool). cond b 3 7) shows in
-        cond_both (same_value (seen v x) (as_word (value w.slots i))) (within w k None (Saw (seen v x))) (sees v d w k ts a x (Some q) (seen v x))
+        cond_both (same_value (seen v x) (as_word (slot_value w.slots i))) (within w k None (Saw (seen v x))) (step_of_look v d w k ts a x (Some q) (seen v x))
         (Outcome d u k ts a Rest)
         (λ t. inr (record { quiet = refl; said = refl; walk = refl; history = refl; extent = refl; half = refl; less = omega (arith, n) }))
         (λ f. sees_out d u k ts a x (seen v x) refl (Some q) (sym (ap (λ (b : Bool). not b && is_spent (seen v x)) f) ∙ none) shows
         (unlike_so d u k ts i c weak can f))
 
-    swapped_so : (x : CellWord) → IsCellWord x → same_value x (as_word (value (walk_of (scene u) d).slots i)) ≡ true
-        → let v = u.story in let w = walk_of (scene u) d in let y = cell_at (state v) w.slots c in
-        (word_at v y == cell_bits x) ≡ true
-        → Acts d u k ts (Compare i c weak) (acts v d w k ts (Compare i c weak)
-        (Some (OnCell (CompareSwap y x (compared_in w.slots (comparing w.slots i weak))))) (gives_back (kind_in (state v) y) k x x.owned))
+    swapped_so : (x : CellWord) → IsCellWord x → same_value x (as_word (slot_value (walk_of (scene u) d).slots i)) ≡ true
+        → let v = u.story in let w = walk_of (scene u) d in let y = cell_of_name (story_state v) w.slots c in
+        (word_of_cell v y == cell_bits x) ≡ true
+        → Acts d u k ts (Compare i c weak) (step_of_act v d w k ts (Compare i c weak)
+        (Some (OnCell (CompareSwap y x (compared_in w.slots (comparing w.slots i weak))))) (gives_back (kind_in_state (story_state v) y) k x x.owned))
     swapped_so x valid same t =
         let v = u.story in
         let w = walk_of (scene u) d in
-        let y = cell_at (state v) w.slots c in
+        let y = cell_of_name (story_state v) w.slots c in
         let q = comparing w.slots i weak in
         let may = may_compare d u i c weak can in
         let found = open_found v d y x can.kept can.seat (cell_now d u c (Compare i c weak) can can.cell may.there) valid (eqb-true _ _ t) in
-        compare_so d u k ts i c weak (OnCell (CompareSwap y x (compared_in w.slots q))) (gives_back (kind_in (state v) y) k x x.owned)
+        compare_so d u k ts i c weak (OnCell (CompareSwap y x (compared_in w.slots q))) (gives_back (kind_in_state (story_state v) y) k x x.owned)
         (compare_swap_tells v y x found d w.slots q can.kept can.holds may.expected may.new same)
 
-    differs_so : (x : CellWord) → IsCellWord x → same_value x (as_word (value (walk_of (scene u) d).slots i)) ≡ false
-        → let v = u.story in let w = walk_of (scene u) d in let y = cell_at (state v) w.slots c in
-        (word_at v y == cell_bits x) ≡ true
-        → Acts d u k ts (Compare i c weak) (acts v d w k ts (Compare i c weak)
+    differs_so : (x : CellWord) → IsCellWord x → same_value x (as_word (slot_value (walk_of (scene u) d).slots i)) ≡ false
+        → let v = u.story in let w = walk_of (scene u) d in let y = cell_of_name (story_state v) w.slots c in
+        (word_of_cell v y == cell_bits x) ≡ true
+        → Acts d u k ts (Compare i c weak) (step_of_act v d w k ts (Compare i c weak)
         (Some (OnCell (Take y x (Some (compared_in w.slots (comparing w.slots i weak)))))) (Refill Turning y (more_taken x) k))
     differs_so x valid differs t =
         let v = u.story in
         let w = walk_of (scene u) d in
-        let y = cell_at (state v) w.slots c in
+        let y = cell_of_name (story_state v) w.slots c in
         let q = comparing w.slots i weak in
         let may = may_compare d u i c weak can in
         let found = open_found v d y x can.kept can.seat (cell_now d u c (Compare i c weak) can can.cell may.there) valid (eqb-true _ _ t) in
@@ -114,12 +114,12 @@ module _ (d : ℕ) (u : Sight) (k : ℕ) (ts : List Task) (c : CellName) where
         (differing_tells v y x found d w.slots q can.kept can.holds may.expected may.new differs)
 
     -- the funds of what goes in are brought
-    fetches_out : (x : CellWord) (p : Pointer) → slot (walk_of (scene u) d).slots (hand (walk_of (scene u) d).slots) ≡ Some p
+    fetches_out : (x : CellWord) (p : Pointer) → slot_pointer (walk_of (scene u) d).slots (hand (walk_of (scene u) d).slots) ≡ Some p
         → Tried d u.story (walk_of (scene u) d) (Compare i c weak) (Saw x) (fetches (walk_of (scene u) d) k x p)
     fetches_out x p e =
         let v = u.story in
         let w = walk_of (scene u) d in
-        let y = cell_at (state v) w.slots c in
+        let y = cell_of_name (story_state v) w.slots c in
         let b = kept_block d v p.kind p.block p.place can.kept (slot_held d w.slots v (hand w.slots) p can.holds e) in
         let same = brought_word d v y p.kind p.block p.place 256
         (cell_now d u c (Compare i c weak) can can.cell (may_compare d u i c weak can).there) b.0 b.1 in
@@ -130,47 +130,47 @@ module _ (d : ℕ) (u : Sight) (k : ℕ) (ts : List Task) (c : CellName) where
           history = refl;
           extent = refl;
           half = refl;
-          less = subst (λ (n : ℕ). cond (n == cell_bits x) 2 6 < cond (word_at v y == cell_bits x) 3 7) (sym same)
-              (less_matched (word_at v y == cell_bits x));
+          less = subst (λ (n : ℕ). cond (n == cell_bits x) 2 6 < cond (word_of_cell v y == cell_bits x) 3 7) (sym same)
+              (less_matched (word_of_cell v y == cell_bits x));
         }
 
     -- what is expected was seen
-    settles_so : (x : CellWord) → IsCellWord x → same_value x (as_word (value (walk_of (scene u) d).slots i)) ≡ true → (o : Option Pointer)
+    settles_so : (x : CellWord) → IsCellWord x → same_value x (as_word (slot_value (walk_of (scene u) d).slots i)) ≡ true → (o : Option Pointer)
         → let v = u.story in let w = walk_of (scene u) d in let a = Compare i c weak in
-        slot w.slots (hand w.slots) ≡ o
+        slot_pointer w.slots (hand w.slots) ≡ o
         → Outcome d u k ts a (Saw x)
-        (on (fetches w k x) (matches v d w k ts a (cell_at (state v) w.slots c) (compared_in w.slots (comparing w.slots i weak)) x) o)
+        (on (fetches w k x) (matches v d w k ts a (cell_of_name (story_state v) w.slots c) (compared_in w.slots (comparing w.slots i weak)) x) o)
     settles_so x valid same None e =
         let v = u.story in
         let w = walk_of (scene u) d in
         let a = Compare i c weak in
-        matches_out d u k ts a (cell_at (state v) w.slots c) x refl (compared_in w.slots (comparing w.slots i weak)) (Saw x)
+        matches_out d u k ts a (cell_of_name (story_state v) w.slots c) x refl (compared_in w.slots (comparing w.slots i weak)) (Saw x)
         (λ f. let n : left_on v w.slots a (Saw x) ≡ 7 = ap (λ (b : Bool). cond b 3 7) f in omega (arith, n)) (swapped_so x valid same)
     settles_so x valid same (Some p) e = inr (fetches_out x p e)
 
     compare_saw : (x : CellWord) → IsCellWord x
         → let v = u.story in let w = walk_of (scene u) d in
         Outcome d u k ts (Compare i c weak) (Saw x)
-        (settles v d w k ts (Compare i c weak) (cell_at (state v) w.slots c) (compared_in w.slots (comparing w.slots i weak)) x)
+        (settles v d w k ts (Compare i c weak) (cell_of_name (story_state v) w.slots c) (compared_in w.slots (comparing w.slots i weak)) x)
     compare_saw x valid =
         let v = u.story in
         let w = walk_of (scene u) d in
         let a = Compare i c weak in
-        let y = cell_at (state v) w.slots c in
+        let y = cell_of_name (story_state v) w.slots c in
         let q = compared_in w.slots (comparing w.slots i weak) in
-        cond_both (same_value x (as_word (value w.slots i))) (on (fetches w k x) (matches v d w k ts a y q x) (slot w.slots (hand w.slots)))
-        (takes v d w k ts a y (Some q) x) (Outcome d u k ts a (Saw x)) (λ t. settles_so x valid t (slot w.slots (hand w.slots)) refl)
+        cond_both (same_value x (as_word (slot_value w.slots i))) (on (fetches w k x) (matches v d w k ts a y q x) (slot_pointer w.slots (hand w.slots)))
+        (takes v d w k ts a y (Some q) x) (Outcome d u k ts a (Saw x)) (λ t. settles_so x valid t (slot_pointer w.slots (hand w.slots)) refl)
         (λ f. takes_out d u k ts a y x refl (Some q) refl (differs_so x valid f))
 
-    compare_matched : (x : CellWord) → IsCellWord x → same_value x (as_word (value (walk_of (scene u) d).slots i)) ≡ true
+    compare_matched : (x : CellWord) → IsCellWord x → same_value x (as_word (slot_value (walk_of (scene u) d).slots i)) ≡ true
         → let v = u.story in let w = walk_of (scene u) d in
         Outcome d u k ts (Compare i c weak) (Matched x)
-        (matches v d w k ts (Compare i c weak) (cell_at (state v) w.slots c) (compared_in w.slots (comparing w.slots i weak)) x)
+        (matches v d w k ts (Compare i c weak) (cell_of_name (story_state v) w.slots c) (compared_in w.slots (comparing w.slots i weak)) x)
     compare_matched x valid same =
         let v = u.story in
         let w = walk_of (scene u) d in
         let a = Compare i c weak in
-        matches_out d u k ts a (cell_at (state v) w.slots c) x refl (compared_in w.slots (comparing w.slots i weak)) (Matched x)
+        matches_out d u k ts a (cell_of_name (story_state v) w.slots c) x refl (compared_in w.slots (comparing w.slots i weak)) (Matched x)
         (λ f. let n : left_on v w.slots a (Matched x) ≡ 6 = ap (λ (b : Bool). cond b 2 6) f in omega (arith, n)) (swapped_so x valid same)
 
 -- the first step of an act that looks
@@ -180,15 +180,15 @@ pub rest_out : (d : ℕ) (u : Sight) (k : ℕ) (ts : List Task) (a : Act) → is
 rest_out d u k ts (Load c) is can none =
     let v = u.story in
     let w = walk_of (scene u) d in
-    let x = cell_at (state v) w.slots c in
+    let x = cell_of_name (story_state v) w.slots c in
     subst (Outcome d u k ts (Load c) Rest)
-    (sym (cond-true (is_there w.slots c) (sees v d w k ts (Load c) x None (seen v x)) (acts v d w k ts (Load c) None Rest) is))
+    (sym (cond-true (is_there w.slots c) (step_of_look v d w k ts (Load c) x None (seen v x)) (step_of_act v d w k ts (Load c) None Rest) is))
     (load_rest d u k ts c can none is)
 rest_out d u k ts (Compare i c weak) is can none = compare_rest d u k ts c i weak can none
 rest_out d u k ts (Make form) is can none = absurd (false≢true is)
 rest_out d u k ts (Share j) is can none = absurd (false≢true is)
 rest_out d u k ts (Downgrade j) is can none = absurd (false≢true is)
-rest_out d u k ts (Lock j must) is can none = lock_rest d u k ts j must (locked (walk_of (scene u) d).slots (Lock j must)) refl is
+rest_out d u k ts (Lock j must) is can none = lock_rest d u k ts j must (locked_pointer (walk_of (scene u) d).slots (Lock j must)) refl is
 rest_out d u k ts (Put j) is can none = absurd (false≢true is)
 rest_out d u k ts (Leave j) is can none = absurd (false≢true is)
 rest_out d u k ts (Clear j) is can none = absurd (false≢true is)
@@ -209,10 +209,10 @@ pub saw_out : (d : ℕ) (u : Sight) (k : ℕ) (ts : List Task) (x : CellWord) (a
     → Next d u k ts a (Saw x) (saw_on u.story d (walk_of (scene u) d) k ts x a)
 saw_out d u k ts x (Load c) is valid can =
     let v = u.story in let w = walk_of (scene u) d in
-    (takes v d w k ts (Load c) (cell_at (state v) w.slots c) None x, refl, load_saw d u k ts c x valid can is.0, λ j e. cc)
+    (takes v d w k ts (Load c) (cell_of_name (story_state v) w.slots c) None x, refl, load_saw d u k ts c x valid can is.0, λ j e. cc)
 saw_out d u k ts x (Compare i c weak) is valid can =
     let v = u.story in let w = walk_of (scene u) d in (
-      settles v d w k ts (Compare i c weak) (cell_at (state v) w.slots c) (compared_in w.slots (comparing w.slots i weak)) x,
+      settles v d w k ts (Compare i c weak) (cell_of_name (story_state v) w.slots c) (compared_in w.slots (comparing w.slots i weak)) x,
       refl,
       compare_saw d u k ts c i weak can x valid,
       λ j e. cc,
@@ -240,7 +240,7 @@ pub matched_out : (d : ℕ) (u : Sight) (k : ℕ) (ts : List Task) (x : CellWord
     → CanLook d u a → Next d u k ts a (Matched x) (matched_on u.story d (walk_of (scene u) d) k ts x a)
 matched_out d u k ts x (Compare i c weak) is valid can =
     let v = u.story in let w = walk_of (scene u) d in (
-      matches v d w k ts (Compare i c weak) (cell_at (state v) w.slots c) (compared_in w.slots (comparing w.slots i weak)) x,
+      matches v d w k ts (Compare i c weak) (cell_of_name (story_state v) w.slots c) (compared_in w.slots (comparing w.slots i weak)) x,
       refl,
       compare_matched d u k ts c i weak can x valid is,
       λ j e. cc,

@@ -11,10 +11,10 @@ use Rattle.step_threads.specs.declared.said.Stepped.{Stepped}
 use Rattle.step_threads.specs.declared.said.Stepped.TheVariants.{Waited}
 use Rattle.step_threads.specs.Courses.{hand}
 use Rattle.step_table.specs.Deeds.{exact}
-use Rattle.step_table.specs.Holdings.{is_full, slot}
+use Rattle.step_table.specs.Holdings.{is_full, slot_pointer}
 use Rattle.step_threads.specs.Scenes.{next, next_of, play_from, rest_of, rested, said_from, walk_of}
 use Rattle.step_threads.specs.NextSteps.{at_rest, begun, first, step_at, stepped, waits}
-use Rattle.step_threads.specs.Steps.{Step, acts, ends_on}
+use Rattle.step_threads.specs.Steps.{Step, step_of_act, ends_on}
 use Rattle.step_core.specs.Turning.{HasBegun, Plays, has_rest, is_acting, is_clearing, is_ending, is_refilling, is_returning, returned, turned, turned_by}
 use Rattle.step_core.specs.Worlds.{Sight, Steps, half_of, scene, sight_by, step_of}
 use Rattle.step_core.proofs.turning.Ending.{half_after, halves_after, rested_none, same_walks, scene_as}
@@ -106,17 +106,17 @@ over_returned Clearing m = refl
 
 -- what came out of a member is in hand, and leaves
 pub carried_step : (d : ℕ) (u : Sight) (e : Ending) (es : List Ending) → half_of u d ≡ Rest → (walk_of (scene u) d).endings ≡ e ∷ es
-    → let w = walk_of (scene u) d in is_full (slot w.slots (hand w.slots)) ≡ true
+    → let w = walk_of (scene u) d in is_full (slot_pointer w.slots (hand w.slots)) ≡ true
     → step_of d u ≡ Some (first u.story d w e.statement w.todo (Leave (hand w.slots)))
 carried_step d u e es rest is full =
     let w = walk_of (scene u) d in
     let v = u.story in
     ap (λ (h : Half). step_at v d h w) rest ∙ ap (λ (l : List Ending). at_rest v d w l) is
     ∙ ap (λ (x : Step). Some x)
-    (cond-true (is_full (slot w.slots (hand w.slots))) (first v d w e.statement w.todo (Leave (hand w.slots))) (ends_on v w e es) full)
+    (cond-true (is_full (slot_pointer w.slots (hand w.slots))) (first v d w e.statement w.todo (Leave (hand w.slots))) (ends_on v w e es) full)
 
 plays_carried : (d : ℕ) (u : Sight) (r : Stepped) (e : Ending) (es : List Ending) → half_of u d ≡ Rest → (walk_of (scene u) d).endings ≡ e ∷ es
-    → let w = walk_of (scene u) d in is_full (slot w.slots (hand w.slots)) ≡ true → r ≡ stepped u.story (step_of d u) → HasBegun d u
+    → let w = walk_of (scene u) d in is_full (slot_pointer w.slots (hand w.slots)) ≡ true → r ≡ stepped u.story (step_of d u) → HasBegun d u
     → Plays d u (turned_by r) (sight_by d u (step_of d u))
 plays_carried d u r e es rest is full answer begun =
     let w = walk_of (scene u) d in

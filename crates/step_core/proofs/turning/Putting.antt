@@ -6,7 +6,7 @@ use Rattle.step_threads.specs.declared.half.Half.TheVariants.{Brought}
 use Rattle.step_threads.specs.Courses.{Going, going}
 use Rattle.step_threads.specs.Scenes.{walk_of}
 use Rattle.step_threads.specs.NextSteps.{sent}
-use Rattle.step_threads.specs.Steps.{swaps}
+use Rattle.step_threads.specs.Steps.{step_of_swap}
 use Rattle.step_core.specs.Worlds.{Sight, scene}
 use Rattle.step_core.proofs.turning.Swapping.{CanPut, some_of, swap_over, swaps_so}
 use Rattle.step_core.proofs.turning.Trials.{Next}
@@ -17,8 +17,8 @@ pub putting_out : (d : ℕ) (u : Sight) (t : Task) (ts : List Task) → CanPut d
 putting_out d u t ts can is =
     let w = walk_of (scene u) d in
     let g = some_of (going w.slots t.act) is in (
-      swaps u.story d w t.statement ts t.act g.0.0 g.0.1,
-      ap (option_map (λ (x : Going). swaps u.story d w t.statement ts t.act x.0 x.1)) g.1,
+      step_of_swap u.story d w t.statement ts t.act g.0.0 g.0.1,
+      ap (option_map (λ (x : Going). step_of_swap u.story d w t.statement ts t.act x.0 x.1)) g.1,
       inl (record {
         event = refl;
         so = swaps_so d u t.statement ts t.act g.0.0 g.0.1 can g.1;

@@ -12,18 +12,18 @@ use Rattle.control_word.specs.declared.handle.Kind.{Kind}
 use Rattle.control_word.specs.declared.place.Block.{Block}
 use Rattle.step_threads.specs.declared.said.Stepped.{Stepped}
 use Rattle.step_threads.specs.Courses.{Walk, hand}
-use Rattle.step_threads.specs.Endings.{EndsAll, IsEnding, first_of}
-use Rattle.step_table.specs.Holdings.{is_full, slot}
+use Rattle.step_threads.specs.Endings.{EndsAll, IsEndingAtStage, first_of}
+use Rattle.step_table.specs.Holdings.{is_full, slot_pointer}
 use Rattle.step_threads.specs.Scenes.{Scene, rested, walk_of}
 use Rattle.step_threads.specs.NextSteps.{at_rest, emptied, step_at, story_after}
 use Rattle.step_threads.specs.Steps.{Step, empties, ends_on, refills_on, returns}
-use Rattle.step_threads.specs.Threads.{IsClearing}
+use Rattle.step_threads.specs.Threads.{IsClearingMember}
 use Rattle.control_word.specs.declared.cell.CellWord.{CellWord}
 use Rattle.step_table.specs.declared.cell_deed.Cell.{Cell}
 use Rattle.step_table.specs.declared.refill.Stage.{Stage}
 use Rattle.step_table.specs.Refills.{RefillFits}
 use Rattle.step_table.specs.Stories.{Story}
-use Rattle.step_core.specs.Turning.{HasBegun, IsAlone, IsOut, IsTried, has_rest, is_clearing, is_ending, is_refilling, is_returning, returned}
+use Rattle.step_core.specs.Turning.{HasBegun, IsAlone, FundsAreHeld, IsTried, has_rest, is_clearing, is_ending, is_refilling, is_returning, returned}
 use Rattle.step_core.specs.Worlds.{Advances, GoesTo, Sight, Steps, half_of, scene, sight_by, step_of}
 use Rattle.step_core.proofs.turning.Refilling.{Pays, funds_left, refills_so, returns_so}
 use Rattle.step_core.proofs.turning.Chains.{more_steps, one_step}
@@ -55,8 +55,8 @@ within_none (Refill stage cell wd line) e es alone n m c = absurd (false≢true 
 within_none (Returning kind b funds k) e es alone n m c = absurd (false≢true (sym n))
 within_none Clearing e es alone n m c = absurd (false≢true (sym c))
 
-pub first_ends : (d : ℕ) (v : Story) (e : Ending) (es : List Ending) → EndsAll d (e ∷ es) v → IsEnding d e v
-first_ends d v e es ends = All-head (λ (x : Ending). IsEnding d x v) e es ends.each
+pub first_ends : (d : ℕ) (v : Story) (e : Ending) (es : List Ending) → EndsAll d (e ∷ es) v → IsEndingAtStage d e v
+first_ends d v e es ends = All-head (λ (x : Ending). IsEndingAtStage d x v) e es ends.each
 
 abbrev Onward : ℕ → Sight → Sight → Type 0
 Onward d u v =
@@ -128,7 +128,7 @@ stepped_refill : (d : ℕ) (u : Sight) (stage : Stage) (c : Cell) (x : CellWord)
     → Onward d u (sight_by d u (step_of d u))
 stepped_refill d u stage c x k e begun =
     let w = walk_of (scene u) d in
-    let fits : RefillFits d stage c x u.story = subst (λ (h : Half). IsOut d u.story h) e begun.out in
+    let fits : RefillFits d stage c x u.story = subst (λ (h : Half). FundsAreHeld d u.story h) e begun.out in
     let y = refills_on u.story w stage c x k fits.block in
     let s : step_of d u ≡ Some y = ap (λ (h : Half). step_at u.story d h w) e ∙ ap (option_map (refills_on u.story w stage c x k)) fits.owned in
     stepped_pay d u (Refill stage c x k) y e refl refl s (refills_so d u.story w stage c x k begun.kept begun.seat fits) begun
@@ -139,26 +139,26 @@ none_full false is = refl
 
 -- an object ends
 stepped_end : (d : ℕ) (u : Sight) (l : List Ending) → (walk_of (scene u) d).endings ≡ l → HasBegun d u
-    → let w = walk_of (scene u) d in (is_some (first_of l) && not (is_full (slot w.slots (hand w.slots)))) ≡ true
+    → let w = walk_of (scene u) d in (is_some (first_of l) && not (is_full (slot_pointer w.slots (hand w.slots)))) ≡ true
     → is_returning (half_of u d) ≡ false → is_refilling (half_of u d) ≡ false → is_clearing (half_of u d) ≡ false
     → Onward d u (sight_by d u (step_of d u))
 stepped_end d u [] e begun is back fill clear = absurd (false≢true is)
 stepped_end d u (x ∷ es) e begun is back fill clear =
     let w = walk_of (scene u) d in
-    let free = none_full (is_full (slot w.slots (hand w.slots))) is in
+    let free = none_full (is_full (slot_pointer w.slots (hand w.slots))) is in
     let rest : half_of u d ≡ Rest =
     within_none (half_of u d) x es (subst (λ (l : List Ending). IsAlone (half_of u d) l) e begun.alone) back fill clear in
     let ends = first_ends d u.story x es (subst (λ (l : List Ending). EndsAll d l u.story) e begun.ends) in
     let y = ends_on u.story w x es in
     let s : step_of d u ≡ Some y = ap (λ (h : Half). step_at u.story d h w) rest ∙ ap (λ (l : List Ending). at_rest u.story d w l) e
-    ∙ ap (λ (k : Step). Some k) (cond-false (is_full (slot w.slots (hand w.slots))) _ _ free) in
+    ∙ ap (λ (k : Step). Some k) (cond-false (is_full (slot_pointer w.slots (hand w.slots))) _ _ free) in
     stepped_same d 1 u y begun s (ap returned rest)
     (let f = ap (funds_left u.story) rest in let l = ap look_left rest in omega (arith, f, l))
     (end_step d u x es begun.walks e free begun.kept begun.seat ends)
 
 -- a member is taken out
 stepped_clear : (d : ℕ) (u : Sight) (l : List Ending) → (walk_of (scene u) d).endings ≡ l → half_of u d ≡ Clearing → HasBegun d u
-    → IsClearing (walk_of (scene u) d).slots l → Onward d u (sight_by d u (step_of d u))
+    → IsClearingMember (walk_of (scene u) d).slots l → Onward d u (sight_by d u (step_of d u))
 stepped_clear d u [] e half begun is = absurd is
 stepped_clear d u (x ∷ es) e half begun is =
     let w = walk_of (scene u) d in
@@ -211,9 +211,10 @@ pub on_less : (d : ℕ) (v v' : Sight) (r : Stepped) → HasBegun d v → has_re
 on_less d v v' r begun is steps =
     subst (λ (w : Sight). rest_left d w < rest_left d v) (sym steps.1) (stepped_rest d v (half_of v d) refl begun is).3
 
-rested_by : (w : Walk) (l : List Ending) → w.endings ≡ l → (is_some (first_of l) && not (is_full (slot w.slots (hand w.slots)))) ≡ false → IsRested w
+rested_by : (w : Walk) (l : List Ending) → w.endings ≡ l
+    → (is_some (first_of l) && not (is_full (slot_pointer w.slots (hand w.slots)))) ≡ false → IsRested w
 rested_by w [] e is = inl e
-rested_by w (x ∷ es) e is = inr (some_full (is_full (slot w.slots (hand w.slots))) is)
+rested_by w (x ∷ es) e is = inr (some_full (is_full (slot_pointer w.slots (hand w.slots))) is)
   where
     some_full : (b : Bool) → (true && not b) ≡ false → b ≡ true
     some_full true is = refl
@@ -224,11 +225,11 @@ pub ended : (d : ℕ) (v : Sight) → is_ending v d ≡ false → IsRested (walk
 ended d v is = let w = walk_of (scene v) d in rested_by w w.endings refl is
 
 pub carried : (d : ℕ) (v : Sight) (e : Ending) (es : List Ending) → is_ending v d ≡ false → (walk_of (scene v) d).endings ≡ e ∷ es
-    → let w = walk_of (scene v) d in is_full (slot w.slots (hand w.slots)) ≡ true
+    → let w = walk_of (scene v) d in is_full (slot_pointer w.slots (hand w.slots)) ≡ true
 carried d v e es is at =
     let w = walk_of (scene v) d in
     ⊎_elim (λ (none : w.endings ≡ []). absurd (some_none (sym at ∙ none)))
-    (λ (full : is_full (slot w.slots (hand w.slots)) ≡ true). full) (ended d v is)
+    (λ (full : is_full (slot_pointer w.slots (hand w.slots)) ≡ true). full) (ended d v is)
   where
     some_none : (e ∷ es) ≡ [] → ⊥
     some_none q = cc

@@ -20,15 +20,15 @@ use Rattle.step_table.specs.declared.holdings.Pointer.{Pointer}
 use Rattle.step_table.specs.declared.past.Deed.TheVariants as deed
 use Rattle.step_threads.specs.declared.said.Answer.{Answer}
 use Rattle.step_table.specs.Contents.{as_word, is_of, seen}
-use Rattle.step_threads.specs.Courses.{Going, HasCell, cell_at, going, going_from, hand, is_there, on_going}
-use Rattle.step_threads.specs.Entries.{History, acted, swaps as swaps_in}
+use Rattle.step_threads.specs.Courses.{Going, HasCell, cell_of_name, going, going_from, hand, is_there, on_going}
+use Rattle.step_threads.specs.Entries.{History, acted, history_swaps as swaps_in}
 use Rattle.step_table.specs.Deeds.{Telling, on}
-use Rattle.step_table.specs.Holdings.{Holds, Slots, slot, value}
+use Rattle.step_table.specs.Holdings.{HoldsBag, Slots, slot_pointer, slot_value}
 use Rattle.step_table.specs.Openings.{opening}
 use Rattle.step_threads.specs.Programs.{IsIn, kind_at}
 use Rattle.step_threads.specs.Scenes.{ended_of, walk_of, went}
-use Rattle.step_threads.specs.Steps.{acts, brings, gives_back, sends, swaps}
-use Rattle.step_table.specs.Stories.{Kept, Nothing, Story, added, history_after, state}
+use Rattle.step_threads.specs.Steps.{step_of_act, brings, gives_back, sends, step_of_swap}
+use Rattle.step_table.specs.Stories.{Kept, Nothing, Story, event_added, history_after, story_state}
 use Rattle.step_core.specs.Turning.{is_acting}
 use Rattle.step_core.specs.Worlds.{Sight, scene, sight_by}
 use Rattle.step_threads.proofs.CellNames.{cell_open, goes_in}
@@ -40,33 +40,33 @@ use Rattle.step_core.proofs.turning.Telling.{tell_of, told_answer}
 
 -- the cell is there, and the value may go into it
 abbrev Goes : Shape → Slots → CellName → ℕ → Type 0
-Goes z slots c i = IsIn z c × (is_there slots c ≡ true) × (is_of (kind_at c) (value slots i) ≡ true)
+Goes z slots c i = IsIn z c × (is_there slots c ≡ true) × (is_of (kind_at c) (slot_value slots i) ≡ true)
 
 -- the event of a swap tells what goes in and what comes out
-swap_told : (v : Story) (d : ℕ) (slots : Slots) (c : CellName) (i : ℕ) → Kept v → d < v.extent.actors → Holds d slots v
+swap_told : (v : Story) (d : ℕ) (slots : Slots) (c : CellName) (i : ℕ) → Kept v → d < v.extent.actors → HoldsBag d slots v
     → Goes v.extent.shape slots c i
-    → let x = cell_at (state v) slots c in
-    history_after v d (deed.OnCell (cell_deed.Swap x (as_word (value slots i)) (seen v x))) ≡ swaps_in (opening v.extent) d slots v.history c i
+    → let x = cell_of_name (story_state v) slots c in
+    history_after v d (deed.OnCell (cell_deed.Swap x (as_word (slot_value slots i)) (seen v x))) ≡ swaps_in (opening v.extent) d slots v.history c i
 swap_told v d slots c i kept lt holds goes =
-    let s = state v in
-    let x = cell_at s slots c in
+    let s = story_state v in
+    let x = cell_of_name s slots c in
     let found = seen_found v d x kept lt (cell_open v d slots c goes.0 holds goes.1) in
-    ap (λ (o : Option (Event Nothing)). added d o v.history)
-    (swap_tells v x (seen v x) found (value slots i) (goes_in v slots c (value slots i) goes.0 goes.2))
+    ap (λ (o : Option (Event Nothing)). event_added d o v.history)
+    (swap_tells v x (seen v x) found (slot_value slots i) (goes_in v slots c (slot_value slots i) goes.0 goes.2))
 
 goes_from : (z : Shape) (slots : Slots) (x : CellName) (k : ℕ) (c : CellName) (i : ℕ) → going_from slots x k ≡ Some (c, i)
     → IsIn z x → Goes z slots c i
-goes_from z slots x k c i e is = go (is_there slots x && is_of (kind_at x) (value slots k)) refl
+goes_from z slots x k c i e is = go (is_there slots x && is_of (kind_at x) (slot_value slots k)) refl
   where
-    go : (b : Bool) → (is_there slots x && is_of (kind_at x) (value slots k)) ≡ b → Goes z slots c i
+    go : (b : Bool) → (is_there slots x && is_of (kind_at x) (slot_value slots k)) ≡ b → Goes z slots c i
     go true q =
-        let p = and_parts (is_there slots x) (is_of (kind_at x) (value slots k)) q in
+        let p = and_parts (is_there slots x) (is_of (kind_at x) (slot_value slots k)) q in
         let f : ◌≡◌ {A = Option Going} (Some (x, k)) (Some (c, i)) =
-        sym (cond-true (is_there slots x && is_of (kind_at x) (value slots k)) (Some (x, k)) None q) ∙ e in
+        sym (cond-true (is_there slots x && is_of (kind_at x) (slot_value slots k)) (Some (x, k)) None q) ∙ e in
         subst (λ (g : Going). Goes z slots g.0 g.1) (same_Some _ _ f) (is, p.0, p.1)
     go false q =
         let f : ◌≡◌ {A = Option Going} None (Some (c, i)) =
-        sym (cond-false (is_there slots x && is_of (kind_at x) (value slots k)) (Some (x, k)) None q) ∙ e in cc
+        sym (cond-false (is_there slots x && is_of (kind_at x) (slot_value slots k)) (Some (x, k)) None q) ∙ e in cc
 
 -- an act that puts a value into a cell
 abbrev Puts : Telling → Opening → ℕ → Slots → History → Shape → Act → CellName → ℕ → Type 0
@@ -103,21 +103,22 @@ no_more q k x None = refl
 no_more q k x (Some b) = refl
 
 pub swap_over : (d : ℕ) (u : Sight) (k : ℕ) (ts : List Task) (a : Act) (c : CellName) (i : ℕ)
-    → is_acting (swaps u.story d (walk_of (scene u) d) k ts a c i).half ≡ false
-swap_over d u k ts a c i = let found = seen u.story (cell_at (state u.story) (walk_of (scene u) d).slots c) in no_more (kind_at c) k found found.owned
+    → is_acting (step_of_swap u.story d (walk_of (scene u) d) k ts a c i).half ≡ false
+swap_over d u k ts a c i = let found = seen u.story (cell_of_name (story_state u.story) (walk_of (scene u) d).slots c) in
+    no_more (kind_at c) k found found.owned
 
 -- the thread's desk is there and has what its slots tell, and the shape has the cell of its act
 abbrev pub CanPut : ℕ → Sight → Act → Type 0
-CanPut d u a = (d < u.story.extent.actors) × Kept u.story × HasCell u.story.extent.shape a × Holds d (walk_of (scene u) d).slots u.story
+CanPut d u a = (d < u.story.extent.actors) × Kept u.story × HasCell u.story.extent.shape a × HoldsBag d (walk_of (scene u) d).slots u.story
 
 pub swaps_so : (d : ℕ) (u : Sight) (k : ℕ) (ts : List Task) (a : Act) (c : CellName) (i : ℕ) → CanPut d u a
-    → going (walk_of (scene u) d).slots a ≡ Some (c, i) → Acts d u k ts a (swaps u.story d (walk_of (scene u) d) k ts a c i)
+    → going (walk_of (scene u) d).slots a ≡ Some (c, i) → Acts d u k ts a (step_of_swap u.story d (walk_of (scene u) d) k ts a c i)
 swaps_so d u k ts a c i can e =
     let w = walk_of (scene u) d in
     let v = u.story in
     let p = puts_as (tell_of v a) (opening v.extent) d w.slots v.history v.extent.shape a c i e can.2 in (
-      ap (λ (q : Option Answer). record { statement = k; answer = q; ended = ended_of (state v) w.slots a }) (told_answer v (state v) d w.slots a),
-      ap (λ (h : History). record { extent = v.extent; history = h; walks = set u.walks d (went (state v) d w k ts a) })
+      ap (λ (q : Option Answer). record { statement = k; answer = q; ended = ended_of (story_state v) w.slots a }) (told_answer v (story_state v) d w.slots a),
+      ap (λ (h : History). record { extent = v.extent; history = h; walks = set u.walks d (went (story_state v) d w k ts a) })
           (swap_told v d w.slots c i can.1 can.0 can.3 p.1 ∙ sym p.0),
     )
 
@@ -125,7 +126,7 @@ swaps_so d u k ts a c i can e =
 sends_so : (d : ℕ) (u : Sight) (k : ℕ) (ts : List Task) (a : Act) (c : CellName) (i : ℕ) (o : Option Pointer) → CanPut d u a
     → going (walk_of (scene u) d).slots a ≡ Some (c, i)
     → let w = walk_of (scene u) d in
-    let x = on (brings w k) (swaps u.story d w k ts a c i) o in is_acting x.half ≡ false → Acts d u k ts a x
+    let x = on (brings w k) (step_of_swap u.story d w k ts a c i) o in is_acting x.half ≡ false → Acts d u k ts a x
 sends_so d u k ts a c i None can e is = swaps_so d u k ts a c i can e
 sends_so d u k ts a c i (Some p) can e is = absurd (false≢true (sym is))
 
@@ -133,29 +134,29 @@ pub goes_so : (d : ℕ) (u : Sight) (k : ℕ) (ts : List Task) (a : Act) (g : Op
     → acted (tell_of u.story a) (opening u.story.extent) d (walk_of (scene u) d).slots u.story.history a
     ≡ on_going (swaps_in (opening u.story.extent) d (walk_of (scene u) d).slots u.story.history) u.story.history (going (walk_of (scene u) d).slots a)
     → let w = walk_of (scene u) d in
-    let x = on_going (sends u.story d w k ts a) (acts u.story d w k ts a None Rest) g in is_acting x.half ≡ false → Acts d u k ts a x
+    let x = on_going (sends u.story d w k ts a) (step_of_act u.story d w k ts a None Rest) g in is_acting x.half ≡ false → Acts d u k ts a x
 goes_so d u k ts a None can e by is =
     let w = walk_of (scene u) d in
     let v = u.story in (
-      ap (λ (q : Option Answer). record { statement = k; answer = q; ended = ended_of (state v) w.slots a }) (told_answer v (state v) d w.slots a),
-      ap (λ (h : History). record { extent = v.extent; history = h; walks = set u.walks d (went (state v) d w k ts a) })
+      ap (λ (q : Option Answer). record { statement = k; answer = q; ended = ended_of (story_state v) w.slots a }) (told_answer v (story_state v) d w.slots a),
+      ap (λ (h : History). record { extent = v.extent; history = h; walks = set u.walks d (went (story_state v) d w k ts a) })
           (sym (by ∙ ap (on_going (swaps_in (opening v.extent) d w.slots v.history) v.history) e)),
     )
-goes_so d u k ts a (Some g) can e by is = sends_so d u k ts a g.0 g.1 (slot (walk_of (scene u) d).slots g.1) can e is
+goes_so d u k ts a (Some g) can e by is = sends_so d u k ts a g.0 g.1 (slot_pointer (walk_of (scene u) d).slots g.1) can e is
 
 -- funds that were just brought
 sends_same : (d : ℕ) (u : Sight) (k : ℕ) (ts : List Task) (a : Act) (c : CellName) (i : ℕ) (o : Option Pointer)
     → let w = walk_of (scene u) d in
-    let x = on (brings w k) (swaps u.story d w k ts a c i) o in is_acting x.half ≡ true → scene (sight_by d u (Some x)) ≡ scene u
+    let x = on (brings w k) (step_of_swap u.story d w k ts a c i) o in is_acting x.half ≡ true → scene (sight_by d u (Some x)) ≡ scene u
 sends_same d u k ts a c i None is = absurd (false≢true (sym (swap_over d u k ts a c i) ∙ is))
 sends_same d u k ts a c i (Some p) is = scene_as u _ _ _ _ refl (same_walks d u)
 
 pub goes_same : (d : ℕ) (u : Sight) (k : ℕ) (ts : List Task) (a : Act) (g : Option Going)
     → let w = walk_of (scene u) d in
-    let x = on_going (sends u.story d w k ts a) (acts u.story d w k ts a None Rest) g in
+    let x = on_going (sends u.story d w k ts a) (step_of_act u.story d w k ts a None Rest) g in
     is_acting x.half ≡ true → scene (sight_by d u (Some x)) ≡ scene u
 goes_same d u k ts a None is = absurd (false≢true is)
-goes_same d u k ts a (Some g) is = sends_same d u k ts a g.0 g.1 (slot (walk_of (scene u) d).slots g.1) is
+goes_same d u k ts a (Some g) is = sends_same d u k ts a g.0 g.1 (slot_pointer (walk_of (scene u) d).slots g.1) is
 
 pub some_of : (o : Option Going) → is_some o ≡ true → (g : Going) × (o ≡ Some g)
 some_of None e = absurd (false≢true e)

@@ -12,7 +12,7 @@ use Rattle.control_word.specs.Views.{owes}
 use Rattle.step_table.specs.declared.holdings.Pointer.{Pointer}
 use Rattle.step_table.specs.declared.past.Deed.{Deed}
 use Rattle.step_table.specs.Deeds.{Telling, by_word, exact}
-use Rattle.step_table.specs.Holdings.{Slots, slot}
+use Rattle.step_table.specs.Holdings.{Slots, slot_pointer}
 use Rattle.step_table.specs.Stories.{Nothing, Story, pending}
 use Rattle.step_table.proofs.holding.Counting.{tells}
 use Rattle.step_table.proofs.holding.Keeping.{same_pending}
@@ -26,8 +26,8 @@ use Rattle.step_threads.specs.declared.said.Stepped.TheVariants.{Waited}
 use Rattle.step_threads.specs.Scenes.{Scene, answer_of, walk_of}
 use Rattle.step_threads.specs.NextSteps.{stepped, story_after, story_by, waits}
 use Rattle.step_threads.specs.Steps.{Step}
-use Rattle.step_core.specs.Turning.{HasBegun, IsProper}
-use Rattle.step_core.specs.Worlds.{GoesTo, Sight, Steps, StepsBy, TellsAll, half_of, is_loading, scene, step_of}
+use Rattle.step_core.specs.Turning.{HasBegun, IsProperHalf}
+use Rattle.step_core.specs.Worlds.{GoesTo, Sight, Steps, StepsBy, TellsAllCounts, half_of, is_loading, scene, step_of}
 
 -- a count is told by the word, and no other act tells any
 abbrev pub tell_of : Story → Act → Telling
@@ -79,7 +79,7 @@ count_or v (Load c) = inr refl
 count_or v (Compare k c weak) = inr refl
 count_or v Drop = inr refl
 
-pub exact_told : (d : ℕ) (u : Sight) → TellsAll d u (scene u) exact
+pub exact_told : (d : ℕ) (u : Sight) → TellsAllCounts d u (scene u) exact
 exact_told d u =
     record {
       each = λ i x e. record { none = refl; most = omega arith; exactly = λ s. refl };
@@ -87,30 +87,30 @@ exact_told d u =
     }
 
 -- at rest words tell counts
-words_told : (d : ℕ) (u : Sight) → HasBegun d u → half_of u d ≡ Rest → TellsAll d u (scene u) (by_word u.story)
+words_told : (d : ℕ) (u : Sight) → HasBegun d u → half_of u d ≡ Rest → TellsAllCounts d u (scene u) (by_word u.story)
 words_told d u begun rest =
     let w = walk_of (scene u) d in
-    let idle : pending u.story d ≡ Idle = subst (λ (h : Half). IsProper d u.story h) rest begun.proper in
-    let each = λ (i : ℕ) (x : Pointer) (e : slot w.slots i ≡ Some x). tells d i w.slots x u.story begun.kept begun.seat idle begun.holds e in
+    let idle : pending u.story d ≡ Idle = subst (λ (h : Half). IsProperHalf d u.story h) rest begun.proper in
+    let each = λ (i : ℕ) (x : Pointer) (e : slot_pointer w.slots i ≡ Some x). tells d i w.slots x u.story begun.kept begun.seat idle begun.holds e in
     record {
       each = each;
       settled = λ none i x e. (each i x e).exactly (λ k ne. begun.others k ne (none k ne) (spot x.block.0 0));
     }
 
-pub tells_rest : (d : ℕ) (u : Sight) (a : Act) → HasBegun d u → half_of u d ≡ Rest → TellsAll d u (scene u) (tell_of u.story a)
+pub tells_rest : (d : ℕ) (u : Sight) (a : Act) → HasBegun d u → half_of u d ≡ Rest → TellsAllCounts d u (scene u) (tell_of u.story a)
 tells_rest d u a begun rest =
     ⊎_elim
-    (λ (p : (i : ℕ) × (a ≡ Count i)). subst (λ (b : Act). TellsAll d u (scene u) (tell_of u.story b)) (sym p.1) (words_told d u begun rest))
-    (λ (e : tell_of u.story a ≡ exact). subst (λ (t : Telling). TellsAll d u (scene u) t) (sym e) (exact_told d u))
+    (λ (p : (i : ℕ) × (a ≡ Count i)). subst (λ (b : Act). TellsAllCounts d u (scene u) (tell_of u.story b)) (sym p.1) (words_told d u begun rest))
+    (λ (e : tell_of u.story a ≡ exact). subst (λ (t : Telling). TellsAllCounts d u (scene u) t) (sym e) (exact_told d u))
     (count_or u.story a)
 
 -- an act that is no count, as this tells
 pub tells_unless : (d : ℕ) (u : Sight) (P : Act → Type 0) (a : Act) → ((i : ℕ) → P (Count i) → ⊥) → P a
-    → TellsAll d u (scene u) (tell_of u.story a)
+    → TellsAllCounts d u (scene u) (tell_of u.story a)
 tells_unless d u P a never is =
     ⊎_elim
     (λ (p : (i : ℕ) × (a ≡ Count i)). absurd (never p.0 (subst P p.1 is)))
-    (λ (e : tell_of u.story a ≡ exact). subst (λ (t : Telling). TellsAll d u (scene u) t) (sym e) (exact_told d u))
+    (λ (e : tell_of u.story a ≡ exact). subst (λ (t : Telling). TellsAllCounts d u (scene u) t) (sym e) (exact_told d u))
     (count_or u.story a)
 
 -- what others have half done stays through steps of a thread
@@ -135,10 +135,10 @@ goes_stays d u v goes = go goes.0 u goes.1
 
 -- what is told after steps of the thread's own is told before them
 pub tells_back : (d : ℕ) (u v : Sight) (tell : Telling) (h : Half) (c : Scene) → GoesTo d u v → v.halves ≡ set u.halves d h → scene v ≡ c
-    → TellsAll d v (scene v) tell → TellsAll d u c tell
+    → TellsAllCounts d v (scene v) tell → TellsAllCounts d u c tell
 tells_back d u v tell h c goes halves is all =
     let stay = goes_stays d u v goes in
-    subst (λ (b : Scene). TellsAll d u b tell) is (record {
+    subst (λ (b : Scene). TellsAllCounts d u b tell) is (record {
       each = λ i x e. let t = all.each i x e in record {
         none = t.none;
         most = t.most;

@@ -10,23 +10,23 @@ use Rattle.step_table.specs.declared.cell_deed.CellDeed.TheVariants.{CompareSwap
 use Rattle.step_table.specs.declared.cell_deed.Compared.{Compared}
 use Rattle.step_table.specs.declared.holdings.Pointer.{Pointer}
 use Rattle.step_table.specs.declared.past.Deed.TheVariants.{OnCell}
-use Rattle.step_table.specs.CellDeeds.{kind_in}
-use Rattle.step_table.specs.Cells.{word_at}
+use Rattle.step_table.specs.CellDeeds.{kind_in_state}
+use Rattle.step_table.specs.Cells.{word_of_cell}
 use Rattle.step_table.specs.Contents.{is_spent}
-use Rattle.step_table.specs.Holdings.{Slots, is_full, slot}
+use Rattle.step_table.specs.Holdings.{Slots, is_full, slot_pointer}
 use Rattle.step_table.specs.declared.refill.Stage.TheVariants.{Turning}
 use Rattle.step_table.specs.Refills.{more_taken}
-use Rattle.step_table.specs.Stories.{Story, state}
+use Rattle.step_table.specs.Stories.{Story, story_state}
 use Rattle.step_threads.specs.declared.act.Act.{Act}
 use Rattle.step_threads.specs.declared.act.Act.TheVariants.{Count, Load, Compare}
 use Rattle.step_threads.specs.declared.act.Task.{Task}
 use Rattle.step_threads.specs.declared.half.Half.{Half}
 use Rattle.step_threads.specs.declared.half.Half.TheVariants.{Rest, Making, Locking, Saw, Matched, Refill, Returning, Clearing}
 use Rattle.step_table.specs.Deeds.{on, owner_word}
-use Rattle.step_threads.specs.Courses.{Walk, hand, is_there, locked}
+use Rattle.step_threads.specs.Courses.{Walk, hand, is_there, locked_pointer}
 use Rattle.step_threads.specs.Scenes.{walk_of}
-use Rattle.step_threads.specs.NextSteps.{is_event as is_done, story_after}
-use Rattle.step_threads.specs.Steps.{Step, acts, gives_back, matches, missed, sees, silent, takes, within}
+use Rattle.step_threads.specs.NextSteps.{deed_is_event as is_done, story_after}
+use Rattle.step_threads.specs.Steps.{Step, step_of_act, gives_back, matches, missed, step_of_look, silent, takes, within}
 use Rattle.step_core.specs.Bounds.{shows_on}
 use Rattle.step_core.specs.Turning.{is_acting}
 use Rattle.step_core.specs.Worlds.{Sight, scene}
@@ -41,14 +41,14 @@ is_at_cell slots _ = false
 
 -- or at the count of what it locks
 abbrev pub is_looking : Slots → Act → Bool
-is_looking slots a = is_full (locked slots a) || is_at_cell slots a
+is_looking slots a = is_full (locked_pointer slots a) || is_at_cell slots a
 
 -- the steps that it has left, where nobody else steps: what was seen and is so still is done next, and else it begins
 -- again
 abbrev pub left_on : Story → Slots → Act → Half → ℕ
 left_on v slots a Rest = 4
 left_on v slots a (Making b i differs) = 2 * (5 - i) + cond differs 0 1
-left_on v slots a (Locking word) = cond (on (owner_word v) 0 (locked slots a) == word) 3 5
+left_on v slots a (Locking word) = cond (on (owner_word v) 0 (locked_pointer slots a) == word) 3 5
 left_on v slots a (Saw x) = cond (shows_on v slots x a) 3 7
 left_on v slots a (Matched x) = cond (shows_on v slots x a) 2 6
 left_on v slots a (Returning kind b funds k) = 5
@@ -89,11 +89,11 @@ module _ (d : ℕ) (u : Sight) (k : ℕ) (ts : List Task) (a : Act) (c : Cell) (
     (looking : is_looking (walk_of (scene u) d).slots a ≡ true) where
   -- what a look does that doesn't wait
   pub sees_out : (y : Option Compared) → is_spent x ≡ false → shows_on u.story (walk_of (scene u) d).slots x a ≡ true
-      → Acts d u k ts a (acts u.story d (walk_of (scene u) d) k ts a (Some (OnCell (Look c x y))) Rest)
-      → Outcome d u k ts a Rest (sees u.story d (walk_of (scene u) d) k ts a c y x)
+      → Acts d u k ts a (step_of_act u.story d (walk_of (scene u) d) k ts a (Some (OnCell (Look c x y))) Rest)
+      → Outcome d u k ts a Rest (step_of_look u.story d (walk_of (scene u) d) k ts a c y x)
   sees_out y spent shows so =
       let w = walk_of (scene u) d in
-      let look = acts u.story d w k ts a (Some (OnCell (Look c x y))) Rest in
+      let look = step_of_act u.story d w k ts a (Some (OnCell (Look c x y))) Rest in
       cond_both (is_spent x) (within w k None Rest) (cond (is_some x.owned) (within w k None (Saw x)) look)
       (Outcome d u k ts a Rest)
       (λ t. absurd (false≢true (sym spent ∙ t)))
@@ -107,15 +107,15 @@ module _ (d : ℕ) (u : Sight) (k : ℕ) (ts : List Task) (a : Act) (c : Cell) (
 
   -- a fund is taken, or the act begins again
   pub takes_out : (y : Option Compared)
-      → shows_on u.story (walk_of (scene u) d).slots x a ≡ (word_at u.story c == cell_bits x)
-      → ((word_at u.story c == cell_bits x) ≡ true
-      → Acts d u k ts a (acts u.story d (walk_of (scene u) d) k ts a (Some (OnCell (Take c x y)))
+      → shows_on u.story (walk_of (scene u) d).slots x a ≡ (word_of_cell u.story c == cell_bits x)
+      → ((word_of_cell u.story c == cell_bits x) ≡ true
+      → Acts d u k ts a (step_of_act u.story d (walk_of (scene u) d) k ts a (Some (OnCell (Take c x y)))
       (Refill Turning c (more_taken x) k)))
       → Outcome d u k ts a (Saw x) (takes u.story d (walk_of (scene u) d) k ts a c y x)
   takes_out y shows so =
       let v = u.story in
       let w = walk_of (scene u) d in
-      cond_both (word_at v c == cell_bits x) (acts v d w k ts a (Some (OnCell (Take c x y)))
+      cond_both (word_of_cell v c == cell_bits x) (step_of_act v d w k ts a (Some (OnCell (Take c x y)))
       (Refill Turning c (more_taken x) k)) (within w k None Rest)
       (Outcome d u k ts a (Saw x)) (λ t. inl (record { event = refl; so = so t; over = refl }))
       (λ f. let n : left_on v w.slots a (Saw x) ≡ 7 = ap (λ (b : Bool). cond b 3 7) (shows ∙ f) in
@@ -138,20 +138,20 @@ module _ (d : ℕ) (u : Sight) (k : ℕ) (ts : List Task) (a : Act) (c : Cell) (
 
   -- the cell is swapped, or what was brought is given back and the act begins again
   pub matches_out : (y : Compared) (h : Half)
-      → ((word_at u.story c == cell_bits x) ≡ false → 5 < left_on u.story (walk_of (scene u) d).slots a h)
-      → ((word_at u.story c == cell_bits x) ≡ true → Acts d u k ts a
-      (acts u.story d (walk_of (scene u) d) k ts a (Some (OnCell (CompareSwap c x y)))
-      (gives_back (kind_in (state u.story) c) k x x.owned)))
+      → ((word_of_cell u.story c == cell_bits x) ≡ false → 5 < left_on u.story (walk_of (scene u) d).slots a h)
+      → ((word_of_cell u.story c == cell_bits x) ≡ true → Acts d u k ts a
+      (step_of_act u.story d (walk_of (scene u) d) k ts a (Some (OnCell (CompareSwap c x y)))
+      (gives_back (kind_in_state (story_state u.story) c) k x x.owned)))
       → Outcome d u k ts a h (matches u.story d (walk_of (scene u) d) k ts a c y x)
   matches_out y h much so =
       let v = u.story in
       let w = walk_of (scene u) d in
-      let g = gives_back (kind_in (state v) c) k x x.owned in
-      let m = missed k (slot w.slots (hand w.slots)) in
-      cond_both (word_at v c == cell_bits x) (acts v d w k ts a (Some (OnCell (CompareSwap c x y))) g)
+      let g = gives_back (kind_in_state (story_state v) c) k x x.owned in
+      let m = missed k (slot_pointer w.slots (hand w.slots)) in
+      cond_both (word_of_cell v c == cell_bits x) (step_of_act v d w k ts a (Some (OnCell (CompareSwap c x y))) g)
       (within w k None m) (Outcome d u k ts a h)
-      (λ t. inl (record { event = refl; so = so t; over = no_more (kind_in (state v) c) k x x.owned }))
-      (λ f. let p = missed_trial (slot w.slots (hand w.slots)) in
+      (λ t. inl (record { event = refl; so = so t; over = no_more (kind_in_state (story_state v) c) k x x.owned }))
+      (λ f. let p = missed_trial (slot_pointer w.slots (hand w.slots)) in
       let low = p.1 in
       let n = much f in
       inr (record {

@@ -13,7 +13,7 @@ use Rattle.step_threads.specs.declared.said.Stepped.{Stepped}
 use Rattle.step_threads.specs.declared.said.Stepped.TheVariants.{Event, Quiet, Waited}
 use Rattle.step_threads.specs.Courses.{Walk}
 use Rattle.step_threads.specs.Scenes.{Scene, walk_of}
-use Rattle.step_threads.specs.NextSteps.{is_event as is_done, stepped, story_after}
+use Rattle.step_threads.specs.NextSteps.{deed_is_event as is_done, stepped, story_after}
 use Rattle.step_core.specs.Sights.{is_event}
 use Rattle.step_core.specs.Turning.{HasBegun, Plays, turned_by}
 use Rattle.step_core.specs.Worlds.{Advances, GoesTo, Sight, Steps, half_of, scene, sight_by, step_of}

@@ -9,8 +9,8 @@ use Rattle.step_threads.specs.declared.said.Said.{Said}
 use Rattle.step_threads.specs.declared.said.Turned.{Turned}
 use Rattle.step_threads.specs.Scenes.{Scene, next, play_from, play_with, rested, said_from, said_with, walk_of}
 use Rattle.step_table.specs.Deeds.{Telling}
-use Rattle.step_core.specs.Turning.{Plays, Rests, returned, turned}
-use Rattle.step_core.specs.Worlds.{GoesTo, Sight, TellsAll, Turns, half_of, scene}
+use Rattle.step_core.specs.Turning.{Plays, HasRested, returned, turned}
+use Rattle.step_core.specs.Worlds.{GoesTo, Sight, TellsAllCounts, TakesWholeTurn, half_of, scene}
 use Rattle.step_core.proofs.turning.Playing.{over_returned}
 use Rattle.step_core.proofs.turning.Telling.{tells_back}
 
@@ -34,19 +34,19 @@ no_next tell c d None e = refl
 no_next tell c d (Some t) e = cc
 
 turns_by : (d : ℕ) (u u' : Sight) (r : Turned) (tell : Telling) (o : Option Said)
-    → let c = rested d (scene u) in TellsAll d u c tell
+    → let c = rested d (scene u) in TellsAllCounts d u c tell
     → said_with tell d c ≡ o → r ≡ turned o → scene u' ≡ play_with tell d c → u'.halves ≡ set u.halves d Rest
-    → Turns d u r u'
+    → TakesWholeTurn d u r u'
 turns_by d u u' r tell (Some x) tells is answer played halves =
-    subst (λ (t : Turned). Turns d u t u') (sym answer) (tell, tells, sym is, played, halves)
+    subst (λ (t : Turned). TakesWholeTurn d u t u') (sym answer) (tell, tells, sym is, played, halves)
 turns_by d u u' r tell None tells is answer played halves =
     let c = rested d (scene u) in
     let t = no_next tell c d (next (walk_of c d)) is in
-    subst (λ (t : Turned). Turns d u t u') (sym answer) (t, played ∙ ap (play_from tell c d (walk_of c d)) t, halves)
+    subst (λ (t : Turned). TakesWholeTurn d u t u') (sym answer) (t, played ∙ ap (play_from tell c d (walk_of c d)) t, halves)
 
 -- the rest that was under way, the act, and the rest that goes on after it
-pub turns : (d : ℕ) (u v w u' : Sight) (r : Turned) → GoesTo d u v → Rests d u v → Plays d v r w → Rests d w u'
-    → Turns d u r u'
+pub turns : (d : ℕ) (u v w u' : Sight) (r : Turned) → GoesTo d u v → HasRested d u v → Plays d v r w → HasRested d w u'
+    → TakesWholeTurn d u r u'
 turns d u v w u' r goes before plays behind =
     let tell = plays.tell in
     let c = rested d (scene u) in

@@ -15,16 +15,16 @@ use Rattle.step_table.specs.declared.slot.Slot.{Slot}
 use Rattle.step_threads.specs.Courses.{hand}
 use Rattle.step_threads.specs.Endings.{staged}
 use Rattle.step_table.specs.Contents.{slot_as, slot_of}
-use Rattle.step_table.specs.Holdings.{Slots, is_full, plain, pointer_of, slot}
+use Rattle.step_table.specs.Holdings.{Slots, is_full, plain, pointer_of, slot_pointer}
 use Rattle.step_threads.specs.Entries.{History}
-use Rattle.step_threads.specs.Unwinding.{Stop, Wound, clears, goes_on, stops, unwound}
+use Rattle.step_threads.specs.Unwinding.{Stop, Wound, history_clears, unwinds_on, stops, unwound}
 
 -- how the endings go on, by how far the first comes
 abbrev goes : Opening → ℕ → Slots → Ending → List Ending → Stop → Wound
-goes z d slots e es c = goes_on e es c.history slots (unwound z d slots es c.history) c.out
+goes z d slots e es c = unwinds_on e es c.history slots (unwound z d slots es c.history) c.out
 
 goes_staged : (e : Ending) (es : List Ending) (h : History) (slots : Slots) (others : Wound) (out : Option (ℕ × Slot))
-    → goes_on (staged e) es h slots others out ≡ goes_on e es h slots others out
+    → unwinds_on (staged e) es h slots others out ≡ unwinds_on e es h slots others out
 goes_staged e es h slots others None = refl
 goes_staged e es h slots others (Some p) = refl
 
@@ -39,18 +39,18 @@ unwound_finish z d slots e es h is =
 pub unwound_empty : (z : Opening) (d : ℕ) (slots : Slots) (e : Ending) (es : List Ending) (h : History) → e.stage < 3
     → let o = (leads z h).latest e.block.0 in
     has_object (((leads z h).object o).member e.stage) ≡ false
-    → unwound z d slots (staged e ∷ es) (clears z d o e.stage h) ≡ unwound z d slots (e ∷ es) h
+    → unwound z d slots (staged e ∷ es) (history_clears z d o e.stage h) ≡ unwound z d slots (e ∷ es) h
 unwound_empty z d slots e es h lt bare =
     let o = (leads z h).latest e.block.0 in
     let n = 2 - e.stage in
     let more : ◌≡◌ {A = ℕ} (3 - e.stage) (suc n) = omega (arith, lt) in
     let less : ◌≡◌ {A = ℕ} (3 - (e.stage + 1)) n = omega (arith, lt) in
     let same : ◌≡◌ {A = ℕ} (2 - n) e.stage = omega (arith, lt) in
-    let c = stops z d o n (clears z d o e.stage h) in
+    let c = stops z d o n (history_clears z d o e.stage h) in
     let b : has_object (((leads z h).object o).member (2 - n)) ≡ false = ap (λ (m : ℕ). has_object (((leads z h).object o).member m)) same ∙ bare in
-    ap (λ (j : ℕ). goes z d slots (staged e) es (stops z d o j (clears z d o e.stage h))) less
+    ap (λ (j : ℕ). goes z d slots (staged e) es (stops z d o j (history_clears z d o e.stage h))) less
     ∙ goes_staged e es c.history slots (unwound z d slots es c.history) c.out
-    ∙ ap (λ (m : ℕ). goes z d slots e es (stops z d o n (clears z d o m h))) (sym same)
+    ∙ ap (λ (m : ℕ). goes z d slots e es (stops z d o n (history_clears z d o m h))) (sym same)
     ∙ ap (goes z d slots e es) (sym (cond-false (has_object (((leads z h).object o).member (2 - n))) _ _ b))
     ∙ ap (λ (j : ℕ). goes z d slots e es (stops z d o j h)) (sym more)
 
@@ -60,7 +60,12 @@ pub unwound_full : (z : Opening) (d : ℕ) (slots : Slots) (e : Ending) (es : Li
     let o = s.latest e.block.0 in
     let x = (s.object o).member e.stage in
     has_object x ≡ true
-    → unwound z d slots (e ∷ es) h ≡ record { history = clears z d o e.stage h; slots = set slots (hand slots) (slot_of s x); endings = staged e ∷ es }
+    → unwound z d slots (e ∷ es) h ≡ record {
+      history = history_clears z d o e.stage h;
+      slots = set slots (hand slots) (slot_of s x);
+      endings =
+          staged e ∷ es;
+    }
 unwound_full z d slots e es h lt full =
     let s = leads z h in
     let o = s.latest e.block.0 in
@@ -71,12 +76,12 @@ unwound_full z d slots e es h lt full =
     let b : has_object ((s.object o).member (2 - n)) ≡ true = ap (λ (m : ℕ). has_object ((s.object o).member m)) same ∙ full in
     ap (λ (j : ℕ). goes z d slots e es (stops z d o j h)) more
     ∙ ap (goes z d slots e es) (cond-true (has_object ((s.object o).member (2 - n))) (record {
-      history = clears z d o (2 - n) h;
+      history = history_clears z d o (2 - n) h;
       out = Some (n, slot_of s ((s.object o).member (2 - n)));
     }) _ b)
-    ∙ ap (λ (m : ℕ). goes z d slots e es (record { history = clears z d o m h; out = Some (n, slot_of s ((s.object o).member m)) })) same
+    ∙ ap (λ (m : ℕ). goes z d slots e es (record { history = history_clears z d o m h; out = Some (n, slot_of s ((s.object o).member m)) })) same
     ∙ ap (λ (j : ℕ). record {
-      history = clears z d o e.stage h;
+      history = history_clears z d o e.stage h;
       slots = set slots (hand slots) (slot_of s ((s.object o).member e.stage));
       endings = record { block = e.block; stage = j; statement = e.statement } ∷ es;
     }) next
@@ -88,11 +93,11 @@ out_full s h (Some o) e = refl
 
 -- and then the hand is full
 pub hand_out : (s : State) (slots : Slots) (h : Handle) → 0 < length slots → has_object h ≡ true
-    → let l = set slots (hand slots) (slot_of s h) in is_full (slot l (hand l)) ≡ true
+    → let l = set slots (hand slots) (slot_of s h) in is_full (slot_pointer l (hand l)) ≡ true
 hand_out s slots h lt full =
     let l = set slots (hand slots) (slot_of s h) in
     let same : hand l ≡ hand slots = ap (λ (n : ℕ). n - 1) (length-set slots (hand slots) (slot_of s h)) in
     let inside : hand slots < length slots = omega (arith, lt) in
-    ap (λ (i : ℕ). is_full (slot l i)) same
+    ap (λ (i : ℕ). is_full (slot_pointer l i)) same
     ∙ ap (λ (y : Slot). is_full (pointer_of y)) (get_or-set_same slots (hand slots) (slot_of s h) plain inside)
     ∙ out_full s h h.object full

@@ -13,11 +13,11 @@ use Rattle.step_threads.specs.declared.act.Task.{Task}
 use Rattle.step_threads.specs.declared.ending.Ending.{Ending}
 use Rattle.step_threads.specs.declared.half.Half.{Half}
 use Rattle.step_threads.specs.declared.half.Half.TheVariants.{Rest, Making, Locking, Giving, Brought, Saw, Matched, Refill, Returning, Clearing}
-use Rattle.step_threads.specs.Courses.{Walk, locked}
+use Rattle.step_threads.specs.Courses.{Walk, locked_pointer}
 use Rattle.step_threads.specs.Scenes.{walk_of}
-use Rattle.step_threads.specs.NextSteps.{at_rest, begun as begun_at, first, given, made_on, matched, matched_on, saw, saw_on, sent, step_at, tried, waits}
+use Rattle.step_threads.specs.NextSteps.{at_rest, begun as begun_at, first, given_step, made_on, matched, matched_on, saw, saw_on, sent, step_at, tried, waits}
 use Rattle.step_threads.specs.Steps.{Step, returns, tries}
-use Rattle.step_core.specs.Turning.{HasBegun, IsAlone, IsInShape, IsLock, IsMatched, IsProper, IsSeen, IsSwap, IsTried, IsUnderWay}
+use Rattle.step_core.specs.Turning.{HasBegun, IsAlone, IsInShape, NextActLocks, IsMatched, IsProperHalf, IsSeen, IsSwap, IsTried, IsUnderWay}
 use Rattle.step_core.specs.Worlds.{Sight, half_of, scene, step_of}
 use Rattle.step_core.proofs.turning.Giving.{giving_out}
 use Rattle.step_core.proofs.turning.Locking.{full_some, tries_out}
@@ -121,7 +121,7 @@ module _ (d : ℕ) (u : Sight) where
         let w = walk_of (scene u) d in
         let v = u.story in
         trial_by (Saw x) t ts (saw_on v d w t.statement ts x t.act) e (alone_now (Saw x) e) todo (ap (saw v d w x) todo)
-        (saw_out d u t.statement ts x t.act seen (subst (λ (h : Half). IsProper d v h) e begun.proper)
+        (saw_out d u t.statement ts x t.act seen (subst (λ (h : Half). IsProperHalf d v h) e begun.proper)
         (can_look d u t ts todo begun))
 
     trial_matched : (ts : List Task) (x : CellWord) → half_of u d ≡ Matched x → (walk_of (scene u) d).todo ≡ ts
@@ -132,7 +132,7 @@ module _ (d : ℕ) (u : Sight) where
         let v = u.story in
         trial_by (Matched x) t ts (matched_on v d w t.statement ts x t.act) e (alone_now (Matched x) e) todo
         (ap (matched v d w x) todo)
-        (matched_out d u t.statement ts x t.act seen (subst (λ (h : Half). IsProper d v h) e begun.proper)
+        (matched_out d u t.statement ts x t.act seen (subst (λ (h : Half). IsProperHalf d v h) e begun.proper)
         (can_look d u t ts todo begun))
 
     trial_making : (ts : List Task) (b : Block) (i : ℕ) (f : Bool) → half_of u d ≡ Making b i f
@@ -145,11 +145,11 @@ module _ (d : ℕ) (u : Sight) where
         (ap (made_on u.story d w b i f) todo) (making_out d u b i f t ts way)
 
     trial_locking : (ts : List Task) (word : ℕ) → half_of u d ≡ Locking word → (walk_of (scene u) d).todo ≡ ts
-        → IsLock (walk_of (scene u) d).slots ts → Trial d u
+        → NextActLocks (walk_of (scene u) d).slots ts → Trial d u
     trial_locking [] word e todo is = absurd is
     trial_locking (t ∷ ts) word e todo is =
         let w = walk_of (scene u) d in
-        let y = full_some (locked w.slots t.act) is in
+        let y = full_some (locked_pointer w.slots t.act) is in
         let x = tries u.story d w t.statement ts t.act word y.0 in
         trial_by (Locking word) t ts (Some x) e (alone_now (Locking word) e) todo
         (ap (tried u.story d w word) todo ∙ ap (option_map (tries u.story d w t.statement ts t.act word)) y.1) (
@@ -157,7 +157,7 @@ module _ (d : ℕ) (u : Sight) where
           refl,
           tries_out d u t.statement ts t.act y.0 y.1 word,
           λ i q.
-              (let p = y.1 in let z = ap (locked w.slots) q in cc),
+              (let p = y.1 in let z = ap (locked_pointer w.slots) q in cc),
         )
 
     trial_giving : (ts : List Task) (i : ℕ) (kind : Kind) (x : Pointer) → half_of u d ≡ Giving i kind x
@@ -166,8 +166,8 @@ module _ (d : ℕ) (u : Sight) where
     trial_giving [] i kind x e todo way = absurd way
     trial_giving (t ∷ ts) i kind x e todo way =
         let w = walk_of (scene u) d in
-        trial_by (Giving i kind x) t ts (given u.story d w i kind x (t ∷ ts)) e (alone_now (Giving i kind x) e) todo
-        (ap (given u.story d w i kind x) todo) (giving_out d u i kind x t ts way (tried_now (Giving i kind x) e))
+        trial_by (Giving i kind x) t ts (given_step u.story d w i kind x (t ∷ ts)) e (alone_now (Giving i kind x) e) todo
+        (ap (given_step u.story d w i kind x) todo) (giving_out d u i kind x t ts way (tried_now (Giving i kind x) e))
 
     trial_brought : (ts : List Task) → half_of u d ≡ Brought → (walk_of (scene u) d).todo ≡ ts
         → IsSwap (walk_of (scene u) d).slots ts → Trial d u

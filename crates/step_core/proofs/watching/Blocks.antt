@@ -18,12 +18,12 @@ use Rattle.step_table.specs.declared.holdings.Pointer.{Pointer}
 use Rattle.step_table.specs.declared.past.Deed.{Deed}
 use Rattle.step_table.specs.declared.past.Deed.TheVariants as deed
 use Rattle.step_table.specs.CellDeeds.{word_of}
-use Rattle.step_table.specs.Cells.{IsSomewhere, word_at}
+use Rattle.step_table.specs.Cells.{IsSomewhere, word_of_cell}
 use Rattle.step_table.specs.Contents.{is_of}
 use Rattle.step_table.specs.Deeds.{alias, downgrade, give, is_expired, leave_as, lock, share_as}
-use Rattle.step_table.specs.Holdings.{Holds, Slots, inside, owner_as, owner_slot, plain, pointer_of, slot, value, weak_as, weak_slot}
+use Rattle.step_table.specs.Holdings.{HoldsBag, Slots, inside, owner_as, owner_slot, plain, pointer_of, slot_pointer, slot_value, weak_as, weak_slot}
 use Rattle.step_table.specs.Openings.{opening}
-use Rattle.step_table.specs.Stories.{Kept, Story, state}
+use Rattle.step_table.specs.Stories.{Kept, Story, story_state}
 use Rattle.step_table.proofs.holding.Inside.{inside_is}
 use Rattle.step_table.proofs.holding.Owning.{slot_held}
 use Rattle.step_table.proofs.tables.Places.{handle_busy, there, vacant_place}
@@ -36,21 +36,21 @@ use Rattle.step_core.proofs.watching.Words.{block_off}
 
 -- the deed leaves the words of cells
 abbrev pub StaysOff : Story → ℕ → Option Deed → Type 0
-StaysOff v d x = (c : Cell) → IsSomewhere c → slice_index (story_after v d x).words (word_of v.extent.shape.blocks c) ≡ word_at v c
+StaysOff v d x = (c : Cell) → IsSomewhere c → slice_index (story_after v d x).words (word_of v.extent.shape.blocks c) ≡ word_of_cell v c
 
 abbrev pub IsThere : Story → Block → Type 0
 IsThere v b = InShape (opening v.extent) b.0
 
 -- the block of a pointer in a slot is one of the table
-module _ (v : Story) (d : ℕ) (slots : Slots) (kept : Kept v) (holds : Holds d slots v) (i : ℕ) (x : Pointer) where
-  pub slot_there : slot slots i ≡ Some x → IsThere v x.block
+module _ (v : Story) (d : ℕ) (slots : Slots) (kept : Kept v) (holds : HoldsBag d slots v) (i : ℕ) (x : Pointer) where
+  pub slot_there : slot_pointer slots i ≡ Some x → IsThere v x.block
   slot_there e = (there v x.block kept (handle_busy v d x.kind x.block x.place kept (slot_held d slots v i x holds e))).1
 
-  pub inside_there : inside (slot slots i) ≡ Some x → IsThere v x.block
-  inside_there e = slot_there (inside_is (slot slots i) x e).0
+  pub inside_there : inside (slot_pointer slots i) ≡ Some x → IsThere v x.block
+  inside_there e = slot_there (inside_is (slot_pointer slots i) x e).0
 
-  pub owner_there : owner_slot (slot slots i) ≡ Some x → IsThere v x.block
-  owner_there e = slot_there (owner_is (slot slots i) e)
+  pub owner_there : owner_slot (slot_pointer slots i) ≡ Some x → IsThere v x.block
+  owner_there e = slot_there (owner_is (slot_pointer slots i) e)
     where
       owner_is : (o : Option Pointer) → owner_slot o ≡ Some x → o ≡ Some x
       owner_is None e = cc
@@ -60,8 +60,8 @@ module _ (v : Story) (d : ℕ) (slots : Slots) (kept : Kept v) (holds : Holds d 
           go Weak e = cc
           go Owner e = e
 
-  pub weak_there : weak_slot (slot slots i) ≡ Some x → IsThere v x.block
-  weak_there e = slot_there (weak_is (slot slots i) e)
+  pub weak_there : weak_slot (slot_pointer slots i) ≡ Some x → IsThere v x.block
+  weak_there e = slot_there (weak_is (slot_pointer slots i) e)
     where
       weak_is : (o : Option Pointer) → weak_slot o ≡ Some x → o ≡ Some x
       weak_is None e = cc
@@ -72,9 +72,9 @@ module _ (v : Story) (d : ℕ) (slots : Slots) (kept : Kept v) (holds : Holds d 
           go Weak e = e
 
   pub offered_there : (c : CellName) → offered slots i c ≡ Some x → IsThere v x.block
-  offered_there c e = slot_there (offered_is (is_there slots c) (is_of (kind_at c) (value slots i)) e)
+  offered_there c e = slot_there (offered_is (is_there slots c) (is_of (kind_at c) (slot_value slots i)) e)
     where
-      offered_is : (b t : Bool) → cond b (pointer_of (cond t (value slots i) plain)) None ≡ Some x → slot slots i ≡ Some x
+      offered_is : (b t : Bool) → cond b (pointer_of (cond t (slot_value slots i) plain)) None ≡ Some x → slot_pointer slots i ≡ Some x
       offered_is true true e = e
       offered_is true false e = cc
       offered_is false t e = cc
@@ -99,8 +99,8 @@ least_shape v d b (x ∷ xs) all e =
         lower (inl lt) = subst (λ (n : ℕ). InShape (opening v.extent) n) (sym (min-eq_left {n = x.block} {m = c} (omega arith))) here
         lower (inr le) = subst (λ (n : ℕ). InShape (opening v.extent) n) (sym (min-eq_right {n = c} {m = x.block} (omega arith))) (later c refl)
 
-pub least_there : (v : Story) (d : ℕ) (b : Block) → Kept v → least d (state v).stores ≡ Some b.0 → IsThere v b
-least_there v d b kept e = least_shape v d b.0 (state v).stores (λ f c h. vacant_place v f (record { 0 = c }) kept h) e
+pub least_there : (v : Story) (d : ℕ) (b : Block) → Kept v → least d (story_state v).stores ≡ Some b.0 → IsThere v b
+least_there v d b kept e = least_shape v d b.0 (story_state v).stores (λ f c h. vacant_place v f (record { 0 = c }) kept h) e
 
 slot_few : (k : Kind) → slot_of_kind k < 7
 slot_few Owner = omega arith
@@ -143,11 +143,11 @@ module _ (v : Story) (d : ℕ) where
   leave_off Owner x last is = block_off v x.block.0 0 (slice_index v.words (spot x.block.0 0) - 1) is (omega arith)
   leave_off Weak x last is = block_off v x.block.0 1 (slice_index v.words (spot x.block.0 1) - 1) is (omega arith)
 
-  pub lock_off : (x : Pointer) → IsThere v x.block → StaysOff v d (Some (lock (state v) x))
-  lock_off x is c valid = go (not (is_expired (state v) x))
+  pub lock_off : (x : Pointer) → IsThere v x.block → StaysOff v d (Some (lock (story_state v) x))
+  lock_off x is c valid = go (not (is_expired (story_state v) x))
     where
       go : (b : Bool) → slice_index (cond b (slice_set v.words (spot x.block.0 0) (suc (slice_index v.words (spot x.block.0 0)))) v.words)
-          (word_of v.extent.shape.blocks c) ≡ word_at v c
+          (word_of v.extent.shape.blocks c) ≡ word_of_cell v c
       go true = block_off v x.block.0 0 (suc (slice_index v.words (spot x.block.0 0))) is (omega arith) c valid
       go false = refl
 

@@ -18,26 +18,26 @@ use Rattle.step_table.specs.declared.past.Deed.{Deed}
 use Rattle.step_table.specs.declared.past.Deed.TheVariants as deed
 use Rattle.step_table.specs.declared.refill.Stage.{Stage}
 use Rattle.step_table.specs.declared.refill.Stage.TheVariants.{Turning, Checking, Lacking, Refilling, Failing}
-use Rattle.step_table.specs.CellDeeds.{kind_in, word_of}
-use Rattle.step_table.specs.Cells.{IsSomewhere, word_at}
+use Rattle.step_table.specs.CellDeeds.{kind_in_state, word_of}
+use Rattle.step_table.specs.Cells.{IsSomewhere, word_of_cell}
 use Rattle.step_table.specs.Contents.{same_value, seen}
 use Rattle.step_table.specs.Refills.{RefillFits, is_drained, is_low, more_taken}
-use Rattle.step_table.specs.Stories.{Kept, Story, state}
+use Rattle.step_table.specs.Stories.{Kept, Story, story_state}
 use Rattle.step_table.proofs.contained.Coming.{seen_found}
 use Rattle.step_table.proofs.tables.Places.{handle_busy, there}
 use Rattle.step_threads.specs.Courses.{Walk}
 use Rattle.step_threads.specs.NextSteps.{story_after}
 use Rattle.step_threads.specs.Steps.{Step, refills_on, within}
-use Rattle.step_core.specs.Watching.{IsCellOf, content, is_watching}
+use Rattle.step_core.specs.Watching.{IsCellOfShape, content, is_watching}
 use Rattle.step_core.proofs.watching.Blocks.{IsThere, StaysOff, bring_off, give_back_off, turn_off}
 use Rattle.step_core.proofs.watching.Words.{Watch, bit, flag, more_told, same_told, taken_told}
 
 -- a cell of the shape has a place
-pub somewhere : (z : Shape) (c : Cell) → IsCellOf z c → IsSomewhere c
+pub somewhere : (z : Shape) (c : Cell) → IsCellOfShape z c → IsSomewhere c
 somewhere z (Free n) is = tt
 somewhere z (Member b m) is = (is.0, is.2)
 
-in_words : (v : Story) (c : Cell) → Kept v → IsCellOf v.extent.shape c → word_of v.extent.shape.blocks c < length v.words
+in_words : (v : Story) (c : Cell) → Kept v → IsCellOfShape v.extent.shape c → word_of v.extent.shape.blocks c < length v.words
 in_words v (Free n) kept lt = let s = kept.stands.shows.sized in omega (arith, s, lt)
 in_words v (Member b m) kept is =
     let s = kept.stands.shows.sized in
@@ -50,7 +50,7 @@ in_words v (Member b m) kept is =
 abbrev pub WatchesWord : Story → Half → List ℕ → Half → Type 0
 WatchesWord v h words g =
     let z = v.extent.shape in
-    (c : Cell) → IsCellOf z c → Watch z.blocks (word_of z.blocks c) (word_at v c) (slice_index words (word_of z.blocks c)) h g
+    (c : Cell) → IsCellOfShape z c → Watch z.blocks (word_of z.blocks c) (word_of_cell v c) (slice_index words (word_of z.blocks c)) h g
 
 abbrev pub Watches : Story → ℕ → Half → Option Deed → Half → Type 0
 Watches v d h x g = WatchesWord v h (story_after v d x).words g
@@ -61,7 +61,7 @@ IsQuiet v h = (p a : ℕ) → bit v.extent.shape.blocks p a h ≡ 0
 
 pub still : (v : Story) (d : ℕ) (h : Half) (x : Option Deed) (g : Half) → IsQuiet v h → StaysOff v d x → Watches v d h x g
 still v d h x g quiet off c is =
-    inl (off c (somewhere v.extent.shape c is), (let q = quiet (word_of v.extent.shape.blocks c) (word_at v c) in omega (arith, q)))
+    inl (off c (somewhere v.extent.shape c is), (let q = quiet (word_of v.extent.shape.blocks c) (word_of_cell v c) in omega (arith, q)))
 
 -- the thread has the same funds to put back
 pub going_on : (v : Story) (d : ℕ) (s r : Stage) (c : Cell) (y : CellWord) (k : ℕ) (x : Option Deed) → StaysOff v d x
@@ -75,7 +75,7 @@ elsewhere v s c x k p a ne =
 
 -- one cell's word is another
 module _ (v : Story) (c : Cell) (word : ℕ) (h g : Half) (kept : Kept v)
-    (here : Watch v.extent.shape.blocks (word_of v.extent.shape.blocks c) (word_at v c) word h g)
+    (here : Watch v.extent.shape.blocks (word_of v.extent.shape.blocks c) (word_of_cell v c) word h g)
     (else : (p a : ℕ) → p ≢ word_of v.extent.shape.blocks c → bit v.extent.shape.blocks p a h ≡ 0) where
   pub changed : WatchesWord v h (slice_set v.words (word_of v.extent.shape.blocks c) word) g
   changed e is =
@@ -86,11 +86,11 @@ module _ (v : Story) (c : Cell) (word : ℕ) (h g : Half) (kept : Kept v)
       ⊎_elim
       (λ (t : p ≡ q).
       let b : slice_index (slice_set v.words p word) p ≡ word = get_or-set_same v.words p word 0 size in
-      let w : Watch z.blocks p (word_at v e) word h g = subst (λ (i : ℕ). Watch z.blocks i (slice_index v.words i) word h g) (sym t) here in
-      subst (λ (i : ℕ). Watch z.blocks p (word_at v e) (slice_index (slice_set v.words i word) p) h g) t
-      (subst (λ (i : ℕ). Watch z.blocks p (word_at v e) i h g) (sym b) w))
+      let w : Watch z.blocks p (word_of_cell v e) word h g = subst (λ (i : ℕ). Watch z.blocks i (slice_index v.words i) word h g) (sym t) here in
+      subst (λ (i : ℕ). Watch z.blocks p (word_of_cell v e) (slice_index (slice_set v.words i word) p) h g) t
+      (subst (λ (i : ℕ). Watch z.blocks p (word_of_cell v e) i h g) (sym b) w))
       (λ (ne : p ≢ q).
-      inl (get_or-set_other v.words q p word 0 ne, (let o = else p (word_at v e) ne in omega (arith, o)))) (cases_eq p q)
+      inl (get_or-set_other v.words q p word 0 ne, (let o = else p (word_of_cell v e) ne in omega (arith, o)))) (cases_eq p q)
 
 -- a value goes into the cell, of which no fund was taken
 pub put_in : (v : Story) (d : ℕ) (c : Cell) (x : CellWord) (h g : Half) → Kept v → IsQuiet v h → IsCellWord x → x.taken ≡ 0
@@ -99,24 +99,24 @@ put_in v d c x h g kept quiet valid none =
     changed v c (cell_bits x) h g kept (inr (inl (let t = taken_told x valid in omega (arith, t, none)))) (λ p a ne. quiet p a)
 
 -- a fund is taken
-pub taken : (v : Story) (c : Cell) (x : CellWord) (k : ℕ) → Kept v → IsCellWord x → word_at v c ≡ cell_bits x
-    → WatchesWord v (Saw x) (slice_set v.words (word_of v.extent.shape.blocks c) (word_at v c + 17179869184)) (Refill Turning c (more_taken x) k)
+pub taken : (v : Story) (c : Cell) (x : CellWord) (k : ℕ) → Kept v → IsCellWord x → word_of_cell v c ≡ cell_bits x
+    → WatchesWord v (Saw x) (slice_set v.words (word_of v.extent.shape.blocks c) (word_of_cell v c + 17179869184)) (Refill Turning c (more_taken x) k)
 taken v c x k kept valid shows =
-    changed v c (word_at v c + 17179869184) (Saw x) (Refill Turning c (more_taken x) k) kept (go (is_low (more_taken x)) refl) (λ p a ne. refl)
+    changed v c (word_of_cell v c + 17179869184) (Saw x) (Refill Turning c (more_taken x) k) kept (go (is_low (more_taken x)) refl) (λ p a ne. refl)
   where
     blocks : ℕ
     blocks = v.extent.shape.blocks
 
     go : (b : Bool) → is_low (more_taken x) ≡ b
-        → Watch blocks (word_of blocks c) (word_at v c) (word_at v c + 17179869184) (Saw x) (Refill Turning c (more_taken x) k)
+        → Watch blocks (word_of blocks c) (word_of_cell v c) (word_of_cell v c + 17179869184) (Saw x) (Refill Turning c (more_taken x) k)
     go true low =
-        let same : cell_bits (more_taken x) ≡ word_at v c + 17179869184 = more_told x ∙ ap (λ (n : ℕ). n + 17179869184) (sym shows) in
+        let same : cell_bits (more_taken x) ≡ word_of_cell v c + 17179869184 = more_told x ∙ ap (λ (n : ℕ). n + 17179869184) (sym shows) in
         inr (inr (
           refl,
           refl,
           ap (λ (t : Bool). cond t 1 0)
               (and_from _ _ (and_from _ _ (eq-eqb (word_of blocks c) (word_of blocks c) refl) low)
-              (eq-eqb (content (cell_bits (more_taken x))) (content (word_at v c + 17179869184)) (ap content same))),
+              (eq-eqb (content (cell_bits (more_taken x))) (content (word_of_cell v c + 17179869184)) (ap content same))),
         ))
     go false high =
         let few : suc x.taken ≤ 127 = ltb-false 127 (suc x.taken) high in
@@ -142,7 +142,7 @@ pub block_there : (v : Story) (d : ℕ) (s : Stage) (c : Cell) (x : CellWord) �
     → x.owned ≡ Some b → IsThere v b
 block_there v d s c x kept fits b own =
     subst (IsThere v) (same_Some _ _ (sym fits.owned ∙ own))
-    (there v fits.block kept (handle_busy v d (kind_in (state v) c) fits.block x.place kept fits.has)).1
+    (there v fits.block kept (handle_busy v d (kind_in_state (story_state v) c) fits.block x.place kept fits.has)).1
 
 module _ (v : Story) (d : ℕ) (c : Cell) (x : CellWord) (k : ℕ) (w : Walk) (kept : Kept v) (seat : d < v.extent.actors) where
   -- the cell is looked at
@@ -162,7 +162,7 @@ module _ (v : Story) (d : ℕ) (c : Cell) (x : CellWord) (k : ℕ) (w : Walk) (k
       y = seen v c
 
       here : ℕ
-      here = word_at v other
+      here = word_of_cell v other
 
       away : p ≢ q → Watch blocks p here here (Refill Checking c x k) (cond (is_drained x y) (Refill Lacking c y k) Rest)
       away ne = inl (refl, (let o = elsewhere v Checking c x k p here ne in omega (arith, o)))
@@ -204,21 +204,22 @@ module _ (v : Story) (d : ℕ) (c : Cell) (x : CellWord) (k : ℕ) (w : Walk) (k
   pub refilled : (s : Stage) → RefillFits d s c x v → (b : Block) → x.owned ≡ Some b
       → Watches v d (Refill s c x k) (refills_on v w s c x k b).deed (refills_on v w s c x k b).half
   refilled Turning fits b own =
-      let t = turn_off v d (kind_in (state v) c) b (block_there v d Turning c x kept fits b own) in
+      let t = turn_off v d (kind_in_state (story_state v) c) b (block_there v d Turning c x kept fits b own) in
       cond_both (is_low x) (Refill Checking c x k) Rest
-      (λ (g : Half). Watches v d (Refill Turning c x k) (Some (deed.OnCell (cell_deed.Turn (kind_in (state v) c) b))) g)
-      (λ low. going_on v d Turning Checking c x k (Some (deed.OnCell (cell_deed.Turn (kind_in (state v) c) b))) t)
-      (λ few. still v d (Refill Turning c x k) (Some (deed.OnCell (cell_deed.Turn (kind_in (state v) c) b))) Rest (few_quiet v Turning c x k few) t)
+      (λ (g : Half). Watches v d (Refill Turning c x k) (Some (deed.OnCell (cell_deed.Turn (kind_in_state (story_state v) c) b))) g)
+      (λ low. going_on v d Turning Checking c x k (Some (deed.OnCell (cell_deed.Turn (kind_in_state (story_state v) c) b))) t)
+      (λ few. still v d (Refill Turning c x k) (Some (deed.OnCell (cell_deed.Turn (kind_in_state (story_state v) c) b))) Rest
+      (few_quiet v Turning c x k few) t)
   refilled Checking fits b own = checked fits
   refilled Lacking fits b own =
-      going_on v d Lacking Refilling c x k (Some (deed.OnCell (cell_deed.Bring (kind_in (state v) c) b x.place x.taken)))
-      (bring_off v d (kind_in (state v) c) b x.place x.taken (block_there v d Lacking c x kept fits b own))
+      going_on v d Lacking Refilling c x k (Some (deed.OnCell (cell_deed.Bring (kind_in_state (story_state v) c) b x.place x.taken)))
+      (bring_off v d (kind_in_state (story_state v) c) b x.place x.taken (block_there v d Lacking c x kept fits b own))
   refilled Refilling fits b own =
-      cond_both (word_at v c == cell_bits x) (within w k (Some (deed.OnCell (cell_deed.Refill c x.taken))) Rest) (within w k None (Refill Failing c x k))
+      cond_both (word_of_cell v c == cell_bits x) (within w k (Some (deed.OnCell (cell_deed.Refill c x.taken))) Rest) (within w k None (Refill Failing c x k))
       (λ (y : Step). Watches v d (Refill Refilling c x k) y.deed y.half)
-      (λ e. changed v c (word_at v c - 17179869184 * x.taken) (Refill Refilling c x k) Rest kept
+      (λ e. changed v c (word_of_cell v c - 17179869184 * x.taken) (Refill Refilling c x k) Rest kept
       (inr (inl (let s = eqb-true _ _ e in let t = taken_told x fits.valid in omega (arith, s, t)))) (λ p a ne. elsewhere v Refilling c x k p a ne))
       (λ e. going_on v d Refilling Failing c x k None (λ n valid. refl))
   refilled Failing fits b own =
-      going_on v d Failing Checking c x k (Some (deed.OnCell (cell_deed.GiveBack (kind_in (state v) c) b x.taken)))
-      (give_back_off v d (kind_in (state v) c) b x.taken (block_there v d Failing c x kept fits b own))
+      going_on v d Failing Checking c x k (Some (deed.OnCell (cell_deed.GiveBack (kind_in_state (story_state v) c) b x.taken)))
+      (give_back_off v d (kind_in_state (story_state v) c) b x.taken (block_there v d Failing c x kept fits b own))

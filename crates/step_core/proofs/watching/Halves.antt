@@ -26,32 +26,33 @@ use Rattle.step_table.specs.declared.holdings.Pointer.{Pointer}
 use Rattle.step_table.specs.declared.past.Deed.TheVariants as deed
 use Rattle.step_table.specs.declared.refill.Stage.{Stage}
 use Rattle.step_threads.specs.Actors.{wanted}
-use Rattle.step_table.specs.CellDeeds.{owing}
-use Rattle.step_table.specs.Cells.{word_at}
+use Rattle.step_table.specs.CellDeeds.{owing_funds}
+use Rattle.step_table.specs.Cells.{word_of_cell}
 use Rattle.step_table.specs.Contents.{seen}
-use Rattle.step_threads.specs.Courses.{Walk, cell_at, form_of, going, hand, locked}
+use Rattle.step_threads.specs.Courses.{Walk, cell_of_name, form_of, going, hand, locked_pointer}
 use Rattle.step_table.specs.Deeds.{give}
 use Rattle.step_threads.specs.Endings.{staged}
-use Rattle.step_table.specs.Holdings.{Holds, inside, is_full, slot}
+use Rattle.step_table.specs.Holdings.{HoldsBag, inside, is_full, slot_pointer}
 use Rattle.step_table.specs.Openings.{opening}
-use Rattle.step_threads.specs.NextSteps.{at_rest, begun, emptied, first, given}
+use Rattle.step_threads.specs.NextSteps.{at_rest, begun, emptied, first, given_step}
 use Rattle.step_threads.specs.Steps.{Step, claims, ends_on, gives_back}
 use Rattle.step_threads.specs.NextSteps.{made_on, matched, matched_on, saw, saw_on, sent, step_at, story_after, story_by, tried}
 use Rattle.step_threads.specs.Steps.{prepares, refills_on, silent, with_endings, within}
-use Rattle.step_table.specs.Stories.{Kept, Nothing, Story, known, object_in, pending, state, view_in}
+use Rattle.step_table.specs.Stories.{Kept, Nothing, Story, known_words, object_of_block, pending, story_state, view_in}
 use Rattle.step_table.proofs.tables.Places.{ending_busy, handle_busy, there}
 use Rattle.step_table.proofs.tables.Standing.{point, ready}
-use Rattle.step_core.specs.Turning.{IsOut, IsProper, IsTried, IsUnderWay}
+use Rattle.step_core.specs.Turning.{FundsAreHeld, IsProperHalf, IsTried, IsUnderWay}
 use Rattle.step_core.proofs.watching.Blocks.{IsThere, claim_off, finish_off, give_back_off, give_off, inside_there, least_there, write_off}
 use Rattle.step_core.proofs.watching.Cells.{changed, refilled, still}
 use Rattle.step_core.proofs.watching.Steps.{IsWatch, first_watch, matches_watch, sent_watch, settles_watch, takes_watch, tries_watch}
 
-module _ (v : Story) (d : ℕ) (w : Walk) (kept : Kept v) (seat : d < v.extent.actors) (holds : Holds d w.slots v) where
+module _ (v : Story) (d : ℕ) (w : Walk) (kept : Kept v) (seat : d < v.extent.actors) (holds : HoldsBag d w.slots v) where
   tried_watch : (word : ℕ) (ts : List Task) → IsWatch v d (Locking word) (tried v d w word ts)
   tried_watch word [] = tt
-  tried_watch word (t ∷ ts) = tries_watch v d w kept seat holds t.statement word ts t.act (locked w.slots t.act) refl
+  tried_watch word (t ∷ ts) = tries_watch v d w kept seat holds t.statement word ts t.act (locked_pointer w.slots t.act) refl
 
-  given_watch : (i : ℕ) (q : Kind) (x : Pointer) (ts : List Task) → inside (slot w.slots i) ≡ Some x → IsWatch v d (Giving i q x) (given v d w i q x ts)
+  given_watch : (i : ℕ) (q : Kind) (x : Pointer) (ts : List Task) → inside (slot_pointer w.slots i) ≡ Some x
+      → IsWatch v d (Giving i q x) (given_step v d w i q x ts)
   given_watch i q x [] e = tt
   given_watch i q x (t ∷ ts) e =
       still v d (Giving i q x) (Some (give q x)) Rest (λ p a. refl) (give_off v d q x (inside_there v d w.slots kept holds i x e))
@@ -71,7 +72,7 @@ module _ (v : Story) (d : ℕ) (w : Walk) (kept : Kept v) (seat : d < v.extent.a
   made_watch b i f [] way = tt
   made_watch b i f (t ∷ ts) way =
       let form = form_of t.act in
-      let found = get_or (known (pending v d)) i 0 in
+      let found = get_or (known_words (pending v d)) i 0 in
       let want = get_or (wanted form) i 0 in
       let is = least_there v d b kept way.1 in
       cond_both (i == 5) (claims w t.statement ts b form) (prepares found want w t.statement b i f) (λ (y : Step). IsWatch v d (Making b i f) (Some y))
@@ -80,8 +81,9 @@ module _ (v : Story) (d : ℕ) (w : Walk) (kept : Kept v) (seat : d < v.extent.a
       (λ ne. prepares_watch found want t.statement b i f (let l = way.0 in let n = eqb-false i 5 ne in omega (arith, l, n)) is)
 
   saw_watch : (k : ℕ) (ts : List Task) (x : CellWord) (a : Act) → IsCellWord x → IsWatch v d (Saw x) (saw_on v d w k ts x a)
-  saw_watch k ts x (Load c) valid = takes_watch v d w kept seat holds k ts (Load c) (cell_at (state v) w.slots c) None x valid
-  saw_watch k ts x (Compare i c weak) valid = settles_watch v d w kept seat holds k ts (Compare i c weak) (cell_at (state v) w.slots c) i weak x valid
+  saw_watch k ts x (Load c) valid = takes_watch v d w kept seat holds k ts (Load c) (cell_of_name (story_state v) w.slots c) None x valid
+  saw_watch k ts x (Compare i c weak) valid =
+      settles_watch v d w kept seat holds k ts (Compare i c weak) (cell_of_name (story_state v) w.slots c) i weak x valid
   saw_watch k ts x (Make form) valid = tt
   saw_watch k ts x (Share i) valid = tt
   saw_watch k ts x (Downgrade i) valid = tt
@@ -103,7 +105,7 @@ module _ (v : Story) (d : ℕ) (w : Walk) (kept : Kept v) (seat : d < v.extent.a
 
   matched_watch : (k : ℕ) (ts : List Task) (x : CellWord) (a : Act) → IsWatch v d (Matched x) (matched_on v d w k ts x a)
   matched_watch k ts x (Compare i c weak) =
-      matches_watch v d w kept seat holds (Matched x) k ts (Compare i c weak) (cell_at (state v) w.slots c) i weak x (λ p q. refl)
+      matches_watch v d w kept seat holds (Matched x) k ts (Compare i c weak) (cell_of_name (story_state v) w.slots c) i weak x (λ p q. refl)
   matched_watch k ts x (Load c) = tt
   matched_watch k ts x (Make form) = tt
   matched_watch k ts x (Share i) = tt
@@ -133,15 +135,15 @@ module _ (v : Story) (d : ℕ) (w : Walk) (kept : Kept v) (seat : d < v.extent.a
   tried_on_watch x (t ∷ ts) = matched_watch t.statement ts x t.act
 
   -- funds are out for an object that the desk has a handle of
-  paid_there : (kind : Kind) (b : Block) (p : Option Place) (f : ℕ) → pending v d ≡ owing (state v) kind (Some b) p f 0 → IsThere v b
+  paid_there : (kind : Kind) (b : Block) (p : Option Place) (f : ℕ) → pending v d ≡ owing_funds (story_state v) kind (Some b) p f 0 → IsThere v b
   paid_there kind b p f is =
-      let r = ready v d (owing (state v) kind (Some b) p f 0) kept seat is in
-      let fine : Fits v.words (state v) (value_of (opening v.extent) v.history) (me (point v d)) (owing (state v) kind (Some b) p f 0) =
-      subst (λ (q : Pending Nothing). Fits v.words (state v) (value_of (opening v.extent) v.history) (me (point v d)) q) is
+      let r = ready v d (owing_funds (story_state v) kind (Some b) p f 0) kept seat is in
+      let fine : Fits v.words (story_state v) (value_of (opening v.extent) v.history) (me (point v d)) (owing_funds (story_state v) kind (Some b) p f 0) =
+      subst (λ (q : Pending Nothing). Fits v.words (story_state v) (value_of (opening v.extent) v.history) (me (point v d)) q) is
       (kept.stands.team.seated d (view_in v.views d) r.seated r.awake).fits in
       (there v b kept (handle_busy v (me (point v d)) kind b p kept fine.0)).1
 
-  refill_watch : (s : Stage) (c : Cell) (x : CellWord) (k : ℕ) (o : Option Block) → x.owned ≡ o → IsOut d v (Refill s c x k)
+  refill_watch : (s : Stage) (c : Cell) (x : CellWord) (k : ℕ) (o : Option Block) → x.owned ≡ o → FundsAreHeld d v (Refill s c x k)
       → IsWatch v d (Refill s c x k) (option_map (refills_on v w s c x k) o)
   refill_watch s c x k None e out = tt
   refill_watch s c x k (Some b) e out = refilled v d c x k w kept seat s out b e
@@ -149,16 +151,16 @@ module _ (v : Story) (d : ℕ) (w : Walk) (kept : Kept v) (seat : d < v.extent.a
   -- an object that ends is one of the table
   ends_watch : (e : Ending) (es : List Ending) → Kept (story_after v d (ends_on v w e es).deed) → IsWatch v d Rest (Some (ends_on v w e es))
   ends_watch e es =
-      let finish = deed.Finish e.block (weak (state v) (object_in v e.block) == 0) in
+      let finish = deed.Finish e.block (weak (story_state v) (object_of_block v e.block) == 0) in
       let cleared = within (with_endings w (staged e ∷ es)) e.statement (Some (deed.Clear e.block e.stage)) Rest in
       let looked = within w e.statement None Clearing in
       let P : Step → Type 0 = λ s. Kept (story_after v d s.deed) → IsWatch v d Rest (Some s) in
       cond_both (e.stage == 3) (record { deed = Some finish; half = Rest; walk = with_endings w es; said = silent e.statement })
-      (cond (word_at v (Member e.block e.stage) == 0) cleared looked) P
+      (cond (word_of_cell v (Member e.block e.stage) == 0) cleared looked) P
       (λ t after. still v d Rest (Some finish) Rest (λ p a. refl)
-      (finish_off v d e.block (weak (state v) (object_in v e.block) == 0)
+      (finish_off v d e.block (weak (story_state v) (object_of_block v e.block) == 0)
       (there v e.block kept (ending_busy v d e.block after.stands.legal.1.asks.0)).1))
-      (λ t. cond_both (word_at v (Member e.block e.stage) == 0) cleared looked P
+      (λ t. cond_both (word_of_cell v (Member e.block e.stage) == 0) cleared looked P
       (λ z after. still v d Rest (Some (deed.Clear e.block e.stage)) Rest (λ p a. refl) (λ n valid. refl))
       (λ z after. still v d Rest None Clearing (λ p a. refl) (λ n valid. refl)))
 
@@ -177,11 +179,12 @@ module _ (v : Story) (d : ℕ) (w : Walk) (kept : Kept v) (seat : d < v.extent.a
   rest_watch : (es : List Ending) → Kept (story_by v d (at_rest v d w es)) → IsWatch v d Rest (at_rest v d w es)
   rest_watch [] after = begun_watch w.todo
   rest_watch (e ∷ es) after =
-      cond_both (is_full (slot w.slots (hand w.slots))) (first v d w e.statement w.todo (Leave (hand w.slots))) (ends_on v w e es)
+      cond_both (is_full (slot_pointer w.slots (hand w.slots))) (first v d w e.statement w.todo (Leave (hand w.slots))) (ends_on v w e es)
       (λ (s : Step). Kept (story_after v d s.deed) → IsWatch v d Rest (Some s))
       (λ t a. first_watch v d w kept seat holds e.statement w.todo (Leave (hand w.slots))) (λ t a. ends_watch e es a) after
 
-  pub each_watch : (h : Half) → IsUnderWay d v h w.todo → IsTried h w → IsProper d v h → IsOut d v h → Kept (story_by v d (step_at v d h w))
+  pub each_watch : (h : Half) → IsUnderWay d v h w.todo → IsTried h w → IsProperHalf d v h → FundsAreHeld d v h
+      → Kept (story_by v d (step_at v d h w))
       → IsWatch v d h (step_at v d h w)
   each_watch Rest way held proper out after = rest_watch w.endings after
   each_watch (Making b i f) way held proper out after = made_watch b i f w.todo way

@@ -21,19 +21,20 @@ use Rattle.step_table.specs.declared.cell_deed.Compared.{Compared}
 use Rattle.step_table.specs.declared.holdings.Pointer.{Pointer}
 use Rattle.step_table.specs.declared.past.Deed.TheVariants as deed
 use Rattle.step_table.specs.declared.refill.Stage.TheVariants.{Turning}
-use Rattle.step_table.specs.CellDeeds.{kind_in}
-use Rattle.step_table.specs.Cells.{word_at}
+use Rattle.step_table.specs.CellDeeds.{kind_in_state}
+use Rattle.step_table.specs.Cells.{word_of_cell}
 use Rattle.step_table.specs.Contents.{as_word, compared_in, is_spent, same_value, seen}
 use Rattle.step_table.specs.Refills.{more_taken}
 use Rattle.step_threads.specs.Programs.{kind_at}
-use Rattle.step_threads.specs.Courses.{Going, Walk, cell_at, comparing, going, hand, is_there, locked, offered, on_going, other}
-use Rattle.step_table.specs.Deeds.{alias, aliased, downgrade, is_enabled, is_last, leave, lock, owner_word, read, share, tell, tell_expired, on}
+use Rattle.step_threads.specs.Courses.{Going, Walk, cell_of_name, comparing, going, hand, is_there, locked_pointer, offered, on_going, other}
+use Rattle.step_table.specs.Deeds.{alias, aliased, downgrade, is_enabled, is_last, leave, lock, owner_word, read_deed, share, tell, tell_expired, on}
 use Rattle.step_threads.specs.Entries.{least}
-use Rattle.step_table.specs.Holdings.{Holds, inside, owner_slot, place_in, slot, value, weak_slot}
+use Rattle.step_table.specs.Holdings.{HoldsBag, inside, owner_slot, place_in, slot_pointer, slot_value, weak_slot}
 use Rattle.step_threads.specs.NextSteps.{first}
-use Rattle.step_threads.specs.Steps.{Step, acts, asks, begins, brings, compares, fetches, gives_back, looks, matches, missed, sees, sends, settles, silent}
-use Rattle.step_threads.specs.Steps.{swaps, takes, tries, trying, within}
-use Rattle.step_table.specs.Stories.{Kept, Story, state}
+use Rattle.step_threads.specs.Steps.{Step, step_of_act, asks, begins, brings, step_of_compare, fetches, gives_back, looks, matches, missed, step_of_look, sends}
+use Rattle.step_threads.specs.Steps.{settles, silent}
+use Rattle.step_threads.specs.Steps.{step_of_swap, takes, tries, trying, within}
+use Rattle.step_table.specs.Stories.{Kept, Story, story_state}
 use Rattle.step_table.proofs.contained.Told.{word_valid}
 use Rattle.step_core.proofs.watching.Blocks.{IsThere, alias_off, bring_off, downgrade_off, each_off, leave_off, least_there, lock_off, offered_there}
 use Rattle.step_core.proofs.watching.Blocks.{owner_there, prepare_off, share_off, slot_there, weak_there}
@@ -45,7 +46,7 @@ IsWatch v d h None = Unit {0}
 IsWatch v d h (Some x) = Watches v d h x.deed x.half
 
 -- the weak pointer that an act locks is in a slot
-locked_is : (w : Walk) (a : Act) (x : Pointer) → locked w.slots a ≡ Some x → (i : ℕ) × (weak_slot (slot w.slots i) ≡ Some x)
+locked_is : (w : Walk) (a : Act) (x : Pointer) → locked_pointer w.slots a ≡ Some x → (i : ℕ) × (weak_slot (slot_pointer w.slots i) ≡ Some x)
 locked_is w (Lock i must) x e = (i, e)
 locked_is w (Make form) x e = cc
 locked_is w (Share i) x e = cc
@@ -67,16 +68,16 @@ locked_is w (Load c) x e = cc
 locked_is w (Compare i c weak) x e = cc
 locked_is w Drop x e = cc
 
-module _ (v : Story) (d : ℕ) (w : Walk) (kept : Kept v) (seat : d < v.extent.actors) (holds : Holds d w.slots v) where
-  in_slot : (i : ℕ) (x : Pointer) → slot w.slots i ≡ Some x → IsThere v x.block
+module _ (v : Story) (d : ℕ) (w : Walk) (kept : Kept v) (seat : d < v.extent.actors) (holds : HoldsBag d w.slots v) where
+  in_slot : (i : ℕ) (x : Pointer) → slot_pointer w.slots i ≡ Some x → IsThere v x.block
   in_slot i x e = slot_there v d w.slots kept holds i x e
 
-  leaves : (i : ℕ) → Watches v d Rest (option_map (leave (state v)) (slot w.slots i)) Rest
+  leaves : (i : ℕ) → Watches v d Rest (option_map (leave (story_state v)) (slot_pointer w.slots i)) Rest
   leaves i =
-      still v d Rest (option_map (leave (state v)) (slot w.slots i)) Rest (λ p a. refl)
-      (each_off v d (leave (state v)) (slot w.slots i) (λ x e. leave_off v d x.kind x (is_last (state v) x) (in_slot i x e)))
+      still v d Rest (option_map (leave (story_state v)) (slot_pointer w.slots i)) Rest (λ p a. refl)
+      (each_off v d (leave (story_state v)) (slot_pointer w.slots i) (λ x e. leave_off v d x.kind x (is_last (story_state v) x) (in_slot i x e)))
 
-  begins_watch : (k : ℕ) (ts : List Task) (o : Option ℕ) → least d (state v).stores ≡ o
+  begins_watch : (k : ℕ) (ts : List Task) (o : Option ℕ) → least d (story_state v).stores ≡ o
       → Watches v d Rest (begins w k ts o).deed (begins w k ts o).half
   begins_watch k ts None e = still v d Rest None Rest (λ p a. refl) (λ n valid. refl)
   begins_watch k ts (Some b) e =
@@ -86,79 +87,83 @@ module _ (v : Story) (d : ℕ) (w : Walk) (kept : Kept v) (seat : d < v.extent.a
   trying_watch : (h : Half) (k word : ℕ) → IsQuiet v h → Watches v d h None (trying w k word).half
   trying_watch h k word quiet = still v d h None (trying w k word).half quiet (λ n valid. refl)
 
-  locks_watch : (h : Half) (a : Act) (x : Pointer) → IsQuiet v h → locked w.slots a ≡ Some x → Watches v d h (Some (lock (state v) x)) Rest
+  locks_watch : (h : Half) (a : Act) (x : Pointer) → IsQuiet v h → locked_pointer w.slots a ≡ Some x
+      → Watches v d h (Some (lock (story_state v) x)) Rest
   locks_watch h a x quiet e =
-      let l = locked_is w a x e in still v d h (Some (lock (state v) x)) Rest quiet (lock_off v d x (weak_there v d w.slots kept holds l.0 x l.1))
+      let l = locked_is w a x e in still v d h (Some (lock (story_state v) x)) Rest quiet (lock_off v d x (weak_there v d w.slots kept holds l.0 x l.1))
 
-  looks_watch : (k : ℕ) (ts : List Task) (a : Act) (o : Option Pointer) → locked w.slots a ≡ o
-      → IsWatch v d Rest (Some (on (looks v d w k ts a) (acts v d w k ts a None Rest) o))
+  looks_watch : (k : ℕ) (ts : List Task) (a : Act) (o : Option Pointer) → locked_pointer w.slots a ≡ o
+      → IsWatch v d Rest (Some (on (looks v d w k ts a) (step_of_act v d w k ts a None Rest) o))
   looks_watch k ts a None e = still v d Rest None Rest (λ p a. refl) (λ n valid. refl)
   looks_watch k ts a (Some x) e =
-      cond_both (owner_word v x == 0) (acts v d w k ts a (Some (lock (state v) x)) Rest) (trying w k (owner_word v x))
+      cond_both (owner_word v x == 0) (step_of_act v d w k ts a (Some (lock (story_state v) x)) Rest) (trying w k (owner_word v x))
       (λ (y : Step). IsWatch v d Rest (Some y)) (λ t. locks_watch Rest a x (λ p q. refl) e)
       (λ t. trying_watch Rest k (owner_word v x) (λ p q. refl))
 
-  pub tries_watch : (k word : ℕ) (ts : List Task) (a : Act) (o : Option Pointer) → locked w.slots a ≡ o
+  pub tries_watch : (k word : ℕ) (ts : List Task) (a : Act) (o : Option Pointer) → locked_pointer w.slots a ≡ o
       → IsWatch v d (Locking word) (option_map (tries v d w k ts a word) o)
   tries_watch k word ts a None e = tt
   tries_watch k word ts a (Some x) e =
-      cond_both (owner_word v x == word) (acts v d w k ts a (Some (lock (state v) x)) Rest) (trying w k (owner_word v x))
+      cond_both (owner_word v x == word) (step_of_act v d w k ts a (Some (lock (story_state v) x)) Rest) (trying w k (owner_word v x))
       (λ (y : Step). IsWatch v d (Locking word) (Some y)) (λ t. locks_watch (Locking word) a x (λ p q. refl) e)
       (λ t. trying_watch (Locking word) k (owner_word v x) (λ p q. refl))
 
   asks_watch : (k : ℕ) (ts : List Task) (i : ℕ) (q : Kind) (o : Option Pointer)
-      → IsWatch v d Rest (Some (on (asks v d w k ts i q) (acts v d w k ts (FromThis i q) None Rest) o))
+      → IsWatch v d Rest (Some (on (asks v d w k ts i q) (step_of_act v d w k ts (FromThis i q) None Rest) o))
   asks_watch k ts i q None = still v d Rest None Rest (λ p a. refl) (λ n valid. refl)
   asks_watch k ts i q (Some x) =
-      cond_both (is_enabled (state v) x) (record { deed = None; half = Giving i q x; walk = w; said = silent k })
-      (acts v d w k ts (FromThis i q) None Rest) (λ (y : Step). IsWatch v d Rest (Some y))
+      cond_both (is_enabled (story_state v) x) (record { deed = None; half = Giving i q x; walk = w; said = silent k })
+      (step_of_act v d w k ts (FromThis i q) None Rest) (λ (y : Step). IsWatch v d Rest (Some y))
       (λ t. still v d Rest None (Giving i q x) (λ p a. refl) (λ n valid. refl)) (λ t. still v d Rest None Rest (λ p a. refl) (λ n valid. refl))
 
   -- a value goes into a cell
-  swaps_watch : (h : Half) (k : ℕ) (ts : List Task) (a : Act) (c : CellName) (i : ℕ) → IsQuiet v h → IsWatch v d h (Some (swaps v d w k ts a c i))
+  swaps_watch : (h : Half) (k : ℕ) (ts : List Task) (a : Act) (c : CellName) (i : ℕ) → IsQuiet v h
+      → IsWatch v d h (Some (step_of_swap v d w k ts a c i))
   swaps_watch h k ts a c i quiet =
-      let found = seen v (cell_at (state v) w.slots c) in
-      put_in v d (cell_at (state v) w.slots c) (as_word (value w.slots i)) h (gives_back (kind_at c) k found found.owned) kept quiet
+      let found = seen v (cell_of_name (story_state v) w.slots c) in
+      put_in v d (cell_of_name (story_state v) w.slots c) (as_word (slot_value w.slots i)) h (gives_back (kind_at c) k found found.owned) kept quiet
       (word_valid d w.slots v i kept holds) refl
 
-  sends_watch : (k : ℕ) (ts : List Task) (a : Act) (c : CellName) (i : ℕ) (o : Option Pointer) → slot w.slots i ≡ o
-      → IsWatch v d Rest (Some (on (brings w k) (swaps v d w k ts a c i) o))
+  sends_watch : (k : ℕ) (ts : List Task) (a : Act) (c : CellName) (i : ℕ) (o : Option Pointer) → slot_pointer w.slots i ≡ o
+      → IsWatch v d Rest (Some (on (brings w k) (step_of_swap v d w k ts a c i) o))
   sends_watch k ts a c i None e = swaps_watch Rest k ts a c i (λ p q. refl)
   sends_watch k ts a c i (Some x) e =
       still v d Rest (Some (deed.OnCell (cell_deed.Bring x.kind x.block x.place 256))) Brought (λ p q. refl)
       (bring_off v d x.kind x.block x.place 256 (in_slot i x e))
 
   going_watch : (k : ℕ) (ts : List Task) (a : Act) (o : Option Going)
-      → IsWatch v d Rest (Some (on_going (sends v d w k ts a) (acts v d w k ts a None Rest) o))
+      → IsWatch v d Rest (Some (on_going (sends v d w k ts a) (step_of_act v d w k ts a None Rest) o))
   going_watch k ts a None = still v d Rest None Rest (λ p q. refl) (λ n valid. refl)
-  going_watch k ts a (Some x) = sends_watch k ts a x.0 x.1 (slot w.slots x.1) refl
+  going_watch k ts a (Some x) = sends_watch k ts a x.0 x.1 (slot_pointer w.slots x.1) refl
 
   pub sent_watch : (k : ℕ) (ts : List Task) (a : Act) (o : Option Going)
-      → IsWatch v d Brought (option_map (λ (x : Going). swaps v d w k ts a x.0 x.1) o)
+      → IsWatch v d Brought (option_map (λ (x : Going). step_of_swap v d w k ts a x.0 x.1) o)
   sent_watch k ts a None = tt
   sent_watch k ts a (Some x) = swaps_watch Brought k ts a x.0 x.1 (λ p q. refl)
 
   -- a cell is looked at
-  sees_watch : (k : ℕ) (ts : List Task) (a : Act) (c : Cell) (y : Option Compared) (x : CellWord) → IsWatch v d Rest (Some (sees v d w k ts a c y x))
+  sees_watch : (k : ℕ) (ts : List Task) (a : Act) (c : Cell) (y : Option Compared) (x : CellWord)
+      → IsWatch v d Rest (Some (step_of_look v d w k ts a c y x))
   sees_watch k ts a c y x =
       let quiet : IsQuiet v Rest = λ p q. refl in
       cond_both (is_spent x) (within w k None Rest)
-      (cond (is_some x.owned) (within w k None (Saw x)) (acts v d w k ts a (Some (deed.OnCell (cell_deed.Look c x y))) Rest))
+      (cond (is_some x.owned) (within w k None (Saw x)) (step_of_act v d w k ts a (Some (deed.OnCell (cell_deed.Look c x y))) Rest))
       (λ (s : Step). IsWatch v d Rest (Some s)) (λ t. still v d Rest None Rest quiet (λ n valid. refl))
-      (λ t. cond_both (is_some x.owned) (within w k None (Saw x)) (acts v d w k ts a (Some (deed.OnCell (cell_deed.Look c x y))) Rest)
+      (λ t. cond_both (is_some x.owned) (within w k None (Saw x)) (step_of_act v d w k ts a (Some (deed.OnCell (cell_deed.Look c x y))) Rest)
       (λ (s : Step). IsWatch v d Rest (Some s)) (λ t. still v d Rest None (Saw x) quiet (λ n valid. refl))
       (λ t. still v d Rest (Some (deed.OnCell (cell_deed.Look c x y))) Rest quiet (λ n valid. refl)))
 
-  compares_watch : (k : ℕ) (ts : List Task) (a : Act) (c : Cell) (y : Compared) (x : CellWord) → IsWatch v d Rest (Some (compares v d w k ts a c y x))
+  compares_watch : (k : ℕ) (ts : List Task) (a : Act) (c : Cell) (y : Compared) (x : CellWord)
+      → IsWatch v d Rest (Some (step_of_compare v d w k ts a c y x))
   compares_watch k ts a c y x =
-      cond_both (same_value x y.expected) (within w k None (Saw x)) (sees v d w k ts a c (Some y) x) (λ (s : Step). IsWatch v d Rest (Some s))
+      cond_both (same_value x y.expected) (within w k None (Saw x)) (step_of_look v d w k ts a c (Some y) x) (λ (s : Step). IsWatch v d Rest (Some s))
       (λ t. still v d Rest None (Saw x) (λ p q. refl) (λ n valid. refl)) (λ t. sees_watch k ts a c (Some y) x)
 
   pub takes_watch : (k : ℕ) (ts : List Task) (a : Act) (c : Cell) (y : Option Compared) (x : CellWord) → IsCellWord x
       → IsWatch v d (Saw x) (Some (takes v d w k ts a c y x))
   takes_watch k ts a c y x valid =
-      cond_both (word_at v c == cell_bits x)
-      (acts v d w k ts a (Some (deed.OnCell (cell_deed.Take c x y))) (Refill Turning c (more_taken x) k)) (within w k None Rest)
+      cond_both (word_of_cell v c == cell_bits x)
+      (step_of_act v d w k ts a (Some (deed.OnCell (cell_deed.Take c x y))) (Refill Turning c (more_taken x) k)) (within w k None Rest)
       (λ (s : Step). IsWatch v d (Saw x) (Some s)) (λ t. taken v c x k kept valid (eqb-true _ _ t))
       (λ t. still v d (Saw x) None Rest (λ p q. refl) (λ n valid. refl))
 
@@ -166,15 +171,15 @@ module _ (v : Story) (d : ℕ) (w : Walk) (kept : Kept v) (seat : d < v.extent.a
       → IsWatch v d h (Some (matches v d w k ts a c (compared_in w.slots (comparing w.slots i weak)) x))
   matches_watch h k ts a c i weak x quiet =
       let y = compared_in w.slots (comparing w.slots i weak) in
-      cond_both (word_at v c == cell_bits x)
-      (acts v d w k ts a (Some (deed.OnCell (cell_deed.CompareSwap c x y))) (gives_back (kind_in (state v) c) k x x.owned))
-      (within w k None (missed k (slot w.slots (hand w.slots)))) (λ (s : Step). IsWatch v d h (Some s))
-      (λ t. put_in v d c (as_word (value w.slots (hand w.slots))) h (gives_back (kind_in (state v) c) k x x.owned) kept quiet
+      cond_both (word_of_cell v c == cell_bits x)
+      (step_of_act v d w k ts a (Some (deed.OnCell (cell_deed.CompareSwap c x y))) (gives_back (kind_in_state (story_state v) c) k x x.owned))
+      (within w k None (missed k (slot_pointer w.slots (hand w.slots)))) (λ (s : Step). IsWatch v d h (Some s))
+      (λ t. put_in v d c (as_word (slot_value w.slots (hand w.slots))) h (gives_back (kind_in_state (story_state v) c) k x x.owned) kept quiet
       (word_valid d w.slots v (hand w.slots) kept holds) refl)
-      (λ t. still v d h None (missed k (slot w.slots (hand w.slots))) quiet (λ n valid. refl))
+      (λ t. still v d h None (missed k (slot_pointer w.slots (hand w.slots))) quiet (λ n valid. refl))
 
   fetched_watch : (k : ℕ) (ts : List Task) (a : Act) (c : Cell) (i : ℕ) (weak : Bool) (x : CellWord) (o : Option Pointer)
-      → slot w.slots (hand w.slots) ≡ o
+      → slot_pointer w.slots (hand w.slots) ≡ o
       → IsWatch v d (Saw x) (Some (on (fetches w k x) (matches v d w k ts a c (compared_in w.slots (comparing w.slots i weak)) x) o))
   fetched_watch k ts a c i weak x None e = matches_watch (Saw x) k ts a c i weak x (λ p q. refl)
   fetched_watch k ts a c i weak x (Some y) e =
@@ -185,35 +190,35 @@ module _ (v : Story) (d : ℕ) (w : Walk) (kept : Kept v) (seat : d < v.extent.a
       → IsWatch v d (Saw x) (Some (settles v d w k ts a c (compared_in w.slots (comparing w.slots i weak)) x))
   settles_watch k ts a c i weak x valid =
       let y = compared_in w.slots (comparing w.slots i weak) in
-      cond_both (same_value x y.expected) (on (fetches w k x) (matches v d w k ts a c y x) (slot w.slots (hand w.slots)))
+      cond_both (same_value x y.expected) (on (fetches w k x) (matches v d w k ts a c y x) (slot_pointer w.slots (hand w.slots)))
       (takes v d w k ts a c (Some y) x) (λ (s : Step). IsWatch v d (Saw x) (Some s))
-      (λ t. fetched_watch k ts a c i weak x (slot w.slots (hand w.slots)) refl) (λ t. takes_watch k ts a c (Some y) x valid)
+      (λ t. fetched_watch k ts a c i weak x (slot_pointer w.slots (hand w.slots)) refl) (λ t. takes_watch k ts a c (Some y) x valid)
 
   pub first_watch : (k : ℕ) (ts : List Task) (a : Act) → IsWatch v d Rest (Some (first v d w k ts a))
-  first_watch k ts (Make form) = begins_watch k ts (least d (state v).stores) refl
+  first_watch k ts (Make form) = begins_watch k ts (least d (story_state v).stores) refl
   first_watch k ts (Share i) =
-      still v d Rest (option_map share (slot w.slots i)) Rest (λ p q. refl)
-      (each_off v d share (slot w.slots i) (λ x e. share_off v d x.kind x (in_slot i x e)))
+      still v d Rest (option_map share (slot_pointer w.slots i)) Rest (λ p q. refl)
+      (each_off v d share (slot_pointer w.slots i) (λ x e. share_off v d x.kind x (in_slot i x e)))
   first_watch k ts (Put i) = leaves i
   first_watch k ts (Leave i) = leaves i
   first_watch k ts (Clear i) = leaves i
   first_watch k ts (Count i) =
-      still v d Rest (option_map (tell v) (slot w.slots i)) Rest (λ p q. refl) (each_off v d (tell v) (slot w.slots i) (λ x e n valid. refl))
+      still v d Rest (option_map (tell v) (slot_pointer w.slots i)) Rest (λ p q. refl) (each_off v d (tell v) (slot_pointer w.slots i) (λ x e n valid. refl))
   first_watch k ts (Downgrade i) =
-      still v d Rest (option_map downgrade (slot w.slots i)) Rest (λ p q. refl)
-      (each_off v d downgrade (slot w.slots i) (λ x e. downgrade_off v d x (in_slot i x e)))
-  first_watch k ts (Lock i must) = looks_watch k ts (Lock i must) (locked w.slots (Lock i must)) refl
+      still v d Rest (option_map downgrade (slot_pointer w.slots i)) Rest (λ p q. refl)
+      (each_off v d downgrade (slot_pointer w.slots i) (λ x e. downgrade_off v d x (in_slot i x e)))
+  first_watch k ts (Lock i must) = looks_watch k ts (Lock i must) (locked_pointer w.slots (Lock i must)) refl
   first_watch k ts (Expired i) =
-      still v d Rest (option_map (tell_expired (state v)) (slot w.slots i)) Rest (λ p q. refl)
-      (each_off v d (tell_expired (state v)) (slot w.slots i) (λ x e n valid. refl))
+      still v d Rest (option_map (tell_expired (story_state v)) (slot_pointer w.slots i)) Rest (λ p q. refl)
+      (each_off v d (tell_expired (story_state v)) (slot_pointer w.slots i) (λ x e n valid. refl))
   first_watch k ts (Read i) =
-      still v d Rest (option_map (read (state v)) (inside (slot w.slots i))) Rest (λ p q. refl)
-      (each_off v d (read (state v)) (inside (slot w.slots i)) (λ x e n valid. refl))
-  first_watch k ts (FromThis i q) = asks_watch k ts i q (inside (slot w.slots i))
+      still v d Rest (option_map (read_deed (story_state v)) (inside (slot_pointer w.slots i))) Rest (λ p q. refl)
+      (each_off v d (read_deed (story_state v)) (inside (slot_pointer w.slots i)) (λ x e n valid. refl))
+  first_watch k ts (FromThis i q) = asks_watch k ts i q (inside (slot_pointer w.slots i))
   first_watch k ts (Alias i j field) =
       let f = alias (aliased field (place_in w.slots j)) in
-      still v d Rest (option_map f (owner_slot (slot w.slots i))) Rest (λ p q. refl)
-      (each_off v d f (owner_slot (slot w.slots i))
+      still v d Rest (option_map f (owner_slot (slot_pointer w.slots i))) Rest (λ p q. refl)
+      (each_off v d f (owner_slot (slot_pointer w.slots i))
       (λ x e. alias_off v d (aliased field (place_in w.slots j)) x (owner_there v d w.slots kept holds i x e)))
   first_watch k ts (Move i) = still v d Rest None Rest (λ p q. refl) (λ n valid. refl)
   first_watch k ts (Ask q) = still v d Rest None Rest (λ p q. refl) (λ n valid. refl)
@@ -223,11 +228,11 @@ module _ (v : Story) (d : ℕ) (w : Walk) (kept : Kept v) (seat : d < v.extent.a
   first_watch k ts (Swap c) = going_watch k ts (Swap c) (going w.slots (Swap c))
   first_watch k ts (Exchange i c) = going_watch k ts (Exchange i c) (going w.slots (Exchange i c))
   first_watch k ts (Load c) =
-      let x = cell_at (state v) w.slots c in
-      cond_both (is_there w.slots c) (sees v d w k ts (Load c) x None (seen v x)) (acts v d w k ts (Load c) None Rest)
+      let x = cell_of_name (story_state v) w.slots c in
+      cond_both (is_there w.slots c) (step_of_look v d w k ts (Load c) x None (seen v x)) (step_of_act v d w k ts (Load c) None Rest)
       (λ (s : Step). IsWatch v d Rest (Some s)) (λ t. sees_watch k ts (Load c) x None (seen v x))
       (λ t. still v d Rest None Rest (λ p q. refl) (λ n valid. refl))
   first_watch k ts (Compare i c weak) =
-      compares_watch k ts (Compare i c weak) (cell_at (state v) w.slots c) (compared_in w.slots (comparing w.slots i weak))
-      (seen v (cell_at (state v) w.slots c))
+      compares_watch k ts (Compare i c weak) (cell_of_name (story_state v) w.slots c) (compared_in w.slots (comparing w.slots i weak))
+      (seen v (cell_of_name (story_state v) w.slots c))
   first_watch k ts Drop = leaves (other w.slots)

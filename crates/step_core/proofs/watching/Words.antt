@@ -21,7 +21,7 @@ use Rattle.step_threads.specs.declared.half.Half.TheVariants.{Rest, Making, Lock
 use Rattle.step_table.specs.declared.cell_deed.Cell.{Cell}
 use Rattle.step_table.specs.declared.cell_deed.Cell.TheVariants.{Free, Member}
 use Rattle.step_table.specs.CellDeeds.{word_of}
-use Rattle.step_table.specs.Cells.{IsSomewhere, word_at}
+use Rattle.step_table.specs.Cells.{IsSomewhere, word_of_cell}
 use Rattle.step_table.specs.Contents.{same_block, same_value}
 use Rattle.step_table.specs.Openings.{opening}
 use Rattle.step_table.specs.Refills.{is_low, more_taken}
@@ -111,7 +111,7 @@ spot_off v b j (Member a m) is lt there e =
     let low = is.0 in let from = there.0 in let few = there.1 in omega (arith, low, lt, from, few, e)
 
 pub block_off : (v : Story) (b j word : ℕ) → InShape (opening v.extent) b → j < 7 → (c : Cell) → IsSomewhere c
-    → slice_index (slice_set v.words (spot b j) word) (word_of v.extent.shape.blocks c) ≡ word_at v c
+    → slice_index (slice_set v.words (spot b j) word) (word_of v.extent.shape.blocks c) ≡ word_of_cell v c
 block_off v b j word is lt c there = get_or-set_other v.words (spot b j) (word_of v.extent.shape.blocks c) word 0 (spot_off v b j c is lt there)
 
 -- what a cell's word tells, in numbers

@@ -20,19 +20,19 @@ use Rattle.step_table.specs.declared.cell_deed.Cell.TheVariants.{Member}
 use Rattle.step_table.specs.declared.holdings.Pointer.{Pointer}
 use Rattle.step_table.specs.declared.past.Deed.{Deed}
 use Rattle.step_table.specs.CellDeeds.{word_of}
-use Rattle.step_table.specs.Cells.{word_at}
+use Rattle.step_table.specs.Cells.{word_of_cell}
 use Rattle.step_table.specs.Contents.{as_word, is_of, is_spent, same_value, seen}
 use Rattle.step_table.specs.Deeds.{on}
-use Rattle.step_table.specs.Holdings.{Holds, Slots, inside, is_full, slot, value}
-use Rattle.step_table.specs.Stories.{Kept, Story, state}
+use Rattle.step_table.specs.Holdings.{HoldsBag, Slots, inside, is_full, slot_pointer, slot_value}
+use Rattle.step_table.specs.Stories.{Kept, Story, story_state}
 use Rattle.step_table.proofs.contained.Told.{shared_is}
-use Rattle.step_threads.specs.Courses.{HasCell, Walk, cell_at, hand, idle, is_compared, is_offered, is_there}
+use Rattle.step_threads.specs.Courses.{HasCell, Walk, cell_of_name, hand, idle, is_compared, is_offered, is_there}
 use Rattle.step_threads.specs.Programs.{IsIn, kind_at}
 use Rattle.step_threads.specs.Scenes.{walk_of}
 use Rattle.step_threads.specs.NextSteps.{half_by, story_after, story_by, waits, waits_at, waits_on}
 use Rattle.step_threads.specs.Steps.{Step}
 use Rattle.step_core.specs.Turning.{HasBegun, IsInShape, IsStill}
-use Rattle.step_core.specs.Watching.{IsCellOf, IsWatched, is_watching}
+use Rattle.step_core.specs.Watching.{IsCellOfShape, IsWatched, is_watching}
 use Rattle.step_core.specs.Worlds.{Sight, half_of, scene, sight_by, step_of}
 use Rattle.step_core.proofs.watching.Blocks.{inside_there}
 use Rattle.step_core.proofs.watching.Cells.{Watches, last_false}
@@ -63,48 +63,50 @@ filter_few p (x ∷ xs) =
     cond_both (p x) (x ∷ filter p xs) (filter p xs) (λ (l : List Half). length l ≤ length (x ∷ xs)) (λ t. omega (arith, i)) (λ t. omega (arith, i))
 
 -- the cell that is named is one of the shape, where it is there
-pub named_cell : (v : Story) (d : ℕ) (slots : Slots) → Kept v → Holds d slots v → (c : CellName) → IsIn v.extent.shape c → is_there slots c ≡ true
-    → IsCellOf v.extent.shape (cell_at (state v) slots c)
+pub named_cell : (v : Story) (d : ℕ) (slots : Slots) → Kept v → HoldsBag d slots v → (c : CellName) → IsIn v.extent.shape c
+    → is_there slots c ≡ true
+    → IsCellOfShape v.extent.shape (cell_of_name (story_state v) slots c)
 named_cell v d slots kept holds (cell.Shared n) lt is = omega (arith, lt)
 named_cell v d slots kept holds (cell.Weak n) lt is = let s = shared_is v in omega (arith, s, lt)
-named_cell v d slots kept holds (cell.Member k m) lt is = go (inside (slot slots k.0)) refl is
+named_cell v d slots kept holds (cell.Member k m) lt is = go (inside (slot_pointer slots k.0)) refl is
   where
-    go : (o : Option Pointer) → inside (slot slots k.0) ≡ o → is_full o ≡ true
-        → IsCellOf v.extent.shape (Member (on (λ (x : Pointer). x.block) (record { 0 = 0 }) o) m)
+    go : (o : Option Pointer) → inside (slot_pointer slots k.0) ≡ o → is_full o ≡ true
+        → IsCellOfShape v.extent.shape (Member (on (λ (x : Pointer). x.block) (record { 0 = 0 }) o) m)
     go None e full = cc
     go (Some x) e full = let t = inside_there v d slots kept holds k.0 x e in (t.0, t.1, lt)
 
 -- a cell that is compared is there
 compared_there : (slots : Slots) (taken : Bool) (k : ℕ) (c : CellName) → is_compared slots taken k c ≡ true → is_there slots c ≡ true
 compared_there slots taken k c is =
-    let a = and_parts (is_offered slots taken c) (is_of (kind_at c) (value slots k)) is in
-    let b = and_parts (taken && is_there slots c) (is_of (kind_at c) (value slots (hand slots))) a.0 in
+    let a = and_parts (is_offered slots taken c) (is_of (kind_at c) (slot_value slots k)) is in
+    let b = and_parts (taken && is_there slots c) (is_of (kind_at c) (slot_value slots (hand slots))) a.0 in
     (and_parts taken (is_there slots c) b.0).1
 
 module _ (v : Story) (l : List Half) (few : length l ≤ 64) (was : IsWatched v l) where
   -- of no cell all funds are taken
-  not_spent : (c : Cell) → IsCellOf v.extent.shape c → is_spent (seen v c) ≡ false
+  not_spent : (c : Cell) → IsCellOfShape v.extent.shape c → is_spent (seen v c) ≡ false
   not_spent c is =
       let z = v.extent.shape in
       let a = was c is in
-      let m = filter_few (is_watching z.blocks (word_of z.blocks c) (word_at v c)) l in
-      let ne : (word_at v c / 17179869184 == 256) ≡ false = ne_eqb _ 256 (λ e. omega (arith, a, m, few, e)) in
+      let m = filter_few (is_watching z.blocks (word_of z.blocks c) (word_of_cell v c)) l in
+      let ne : (word_of_cell v c / 17179869184 == 256) ≡ false = ne_eqb _ 256 (λ e. omega (arith, a, m, few, e)) in
       ap (λ (t : Bool). is_some (seen v c).owned && t) ne ∙ last_false (is_some (seen v c).owned)
 
-  module _ (d : ℕ) (w : Walk) (kept : Kept v) (holds : Holds d w.slots v) where
-    cell_spent : (c : CellName) → IsIn v.extent.shape c → is_there w.slots c ≡ true → is_spent (seen v (cell_at (state v) w.slots c)) ≡ false
-    cell_spent c has is = not_spent (cell_at (state v) w.slots c) (named_cell v d w.slots kept holds c has is)
+  module _ (d : ℕ) (w : Walk) (kept : Kept v) (holds : HoldsBag d w.slots v) where
+    cell_spent : (c : CellName) → IsIn v.extent.shape c → is_there w.slots c ≡ true
+        → is_spent (seen v (cell_of_name (story_state v) w.slots c)) ≡ false
+    cell_spent c has is = not_spent (cell_of_name (story_state v) w.slots c) (named_cell v d w.slots kept holds c has is)
 
     load_waits : (c : CellName) → IsIn v.extent.shape c → (b : Bool) → is_there w.slots c ≡ b
-        → (b && is_spent (seen v (cell_at (state v) w.slots c))) ≡ false
+        → (b && is_spent (seen v (cell_of_name (story_state v) w.slots c))) ≡ false
     load_waits c has false is = refl
     load_waits c has true is = cell_spent c has is
 
     act_waits : (a : Act) → HasCell v.extent.shape a → idle a w.slots w.taken ≡ false → waits_on v w a ≡ false
     act_waits (Load c) has still = load_waits c has (is_there w.slots c) refl
     act_waits (Compare i c weak) has still =
-        let x = seen v (cell_at (state v) w.slots c) in
-        let b = not (same_value x (as_word (value w.slots i))) in
+        let x = seen v (cell_of_name (story_state v) w.slots c) in
+        let b = not (same_value x (as_word (slot_value w.slots i))) in
         ap (λ (t : Bool). b && t) (cell_spent c has (compared_there w.slots w.taken i c (not-false _ still))) ∙ last_false b
     act_waits (Make form) has still = refl
     act_waits (Share i) has still = refl

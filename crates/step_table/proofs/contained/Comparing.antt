@@ -12,8 +12,8 @@ use Rattle.step_table.specs.declared.comparing.Comparing.{Comparing}
 use Rattle.step_table.specs.declared.past.Deed.TheVariants.{OnCell}
 use Rattle.step_table.specs.CellDeeds.{handle_told}
 use Rattle.step_table.specs.Contents.{as_word, compared_in, differed, held_in, same_value, slot_of}
-use Rattle.step_table.specs.Holdings.{Holds, Slots, plain, pointer_of, slot, value}
-use Rattle.step_table.specs.Stories.{Kept, Story, after, state}
+use Rattle.step_table.specs.Holdings.{HoldsBag, Slots, plain, pointer_of, slot_pointer, slot_value}
+use Rattle.step_table.specs.Stories.{Kept, Story, story_after_deed, story_state}
 use Rattle.step_table.proofs.contained.Coming.{holds_seen, holds_taken}
 use Rattle.step_table.proofs.contained.Told.{alike, slot_busy}
 use Rattle.step_table.proofs.holding.Owning.{holds_move}
@@ -34,44 +34,48 @@ done_if true b x y e f = cc
 done_if false true x y e f = cc
 done_if false false x y e f = refl
 
-module _ (d : ℕ) (slots : Slots) (v : Story) (c : Cell) (x : CellWord) (y : Comparing) (q : Compared) (kept : Kept v) (holds : Holds d slots v)
+module _ (d : ℕ) (slots : Slots) (v : Story) (c : Cell) (x : CellWord) (y : Comparing) (q : Compared) (kept : Kept v) (holds : HoldsBag d slots v)
     (is : q ≡ compared_in slots y) where
   -- the word that was found tells what is expected, or not
-  pub alike_in : equivalent (handle_told (state v) c x) (handle_told (state v) c q.expected) ≡ same_value x (as_word (value slots y.expected))
+  pub alike_in : equivalent (handle_told (story_state v) c x) (handle_told (story_state v) c q.expected) ≡ same_value x
+      (as_word (slot_value slots y.expected))
   alike_in =
-      ap (λ (p : Compared). equivalent (handle_told (state v) c x) (handle_told (state v) c p.expected)) is
-      ∙ alike v c x (as_word (value slots y.expected)) kept (slot_busy d slots v y.expected kept holds)
+      ap (λ (p : Compared). equivalent (handle_told (story_state v) c x) (handle_told (story_state v) c p.expected)) is
+      ∙ alike v c x (as_word (slot_value slots y.expected)) kept (slot_busy d slots v y.expected kept holds)
 
-  pub looked_in : cond (is_some x.owned || equivalent (handle_told (state v) c x) (handle_told (state v) c q.expected)) v
-      (after v d (OnCell (Look c x (Some q))))
-      ≡ cond (is_some x.owned || same_value x (as_word (value slots y.expected))) v (after v d (OnCell (Look c x (Some (compared_in slots y)))))
+  pub looked_in : cond (is_some x.owned || equivalent (handle_told (story_state v) c x) (handle_told (story_state v) c q.expected)) v
+      (story_after_deed v d (OnCell (Look c x (Some q))))
+      ≡ cond (is_some x.owned || same_value x (as_word (slot_value slots y.expected))) v
+      (story_after_deed v d (OnCell (Look c x (Some (compared_in slots y)))))
   looked_in =
-      ap (λ (b : Bool). cond (is_some x.owned || b) v (after v d (OnCell (Look c x (Some q))))) alike_in
-      ∙ ap (λ (p : Compared). cond (is_some x.owned || same_value x (as_word (value slots y.expected))) v (after v d (OnCell (Look c x (Some p))))) is
+      ap (λ (b : Bool). cond (is_some x.owned || b) v (story_after_deed v d (OnCell (Look c x (Some q))))) alike_in
+      ∙ ap (λ (p : Compared). cond (is_some x.owned || same_value x (as_word (slot_value slots y.expected))) v
+      (story_after_deed v d (OnCell (Look c x (Some p))))) is
 
-module _ (d : ℕ) (slots : Slots) (v : Story) (i j : ℕ) (c : Cell) (x : CellWord) (y : Compared) (holds : Holds d slots v) (found : Found v c x)
-    (li : i < length slots) (lj : j < length slots) (apart : i ≢ j) (e : slot slots j ≡ None) where
+module _ (d : ℕ) (slots : Slots) (v : Story) (i j : ℕ) (c : Cell) (x : CellWord) (y : Compared) (holds : HoldsBag d slots v) (found : Found v c x)
+    (li : i < length slots) (lj : j < length slots) (apart : i ≢ j) (e : slot_pointer slots j ≡ None) where
   -- the new value is aside, and its slot is empty
   abbrev aside : Slots
-  aside = set (set slots j (value slots i)) i plain
+  aside = set (set slots j (slot_value slots i)) i plain
 
-  holds_aside : Holds d aside v
+  holds_aside : HoldsBag d aside v
   holds_aside = holds_move d slots v i j holds li lj apart e
 
   inside : i < length aside
-  inside = let a = length-set (set slots j (value slots i)) i plain in let b = length-set slots j (value slots i) in omega (arith, a, b, li)
+  inside = let a = length-set (set slots j (slot_value slots i)) i plain in let b = length-set slots j (slot_value slots i) in omega (arith, a, b, li)
 
-  bare : slot aside i ≡ None
-  bare = ap pointer_of (get_or-set_same (set slots j (value slots i)) i plain plain (let b = length-set slots j (value slots i) in omega (arith, b, li)))
+  bare : slot_pointer aside i ≡ None
+  bare = ap pointer_of (get_or-set_same (set slots j (slot_value slots i)) i plain plain (let b = length-set slots j (slot_value slots i) in
+      omega (arith, b, li)))
 
-  pub holds_differed : Holds d (differed i j slots (slot_of (state v) (held_in (state v) c))) (after v d (OnCell (Take c x (Some y))))
+  pub holds_differed : HoldsBag d (differed i j slots (slot_of (story_state v) (held_in (story_state v) c))) (story_after_deed v d (OnCell (Take c x (Some y))))
   holds_differed =
-      let w = after v d (OnCell (Take c x (Some y))) in
-      subst (λ (l : Slots). Holds d l w) (set-set (set slots j (value slots i)) i plain (slot_of (state v) (held_in (state v) c)))
+      let w = story_after_deed v d (OnCell (Take c x (Some y))) in
+      subst (λ (l : Slots). HoldsBag d l w) (set-set (set slots j (slot_value slots i)) i plain (slot_of (story_state v) (held_in (story_state v) c)))
       (holds_taken d aside v i c x holds_aside found inside bare (Some y))
 
-  pub holds_unlike : Holds d (differed i j slots (slot_of (state v) (held_in (state v) c))) (after v d (OnCell (Look c x (Some y))))
+  pub holds_unlike : HoldsBag d (differed i j slots (slot_of (story_state v) (held_in (story_state v) c))) (story_after_deed v d (OnCell (Look c x (Some y))))
   holds_unlike =
-      let w = after v d (OnCell (Look c x (Some y))) in
-      subst (λ (l : Slots). Holds d l w) (set-set (set slots j (value slots i)) i plain (slot_of (state v) (held_in (state v) c)))
+      let w = story_after_deed v d (OnCell (Look c x (Some y))) in
+      subst (λ (l : Slots). HoldsBag d l w) (set-set (set slots j (slot_value slots i)) i plain (slot_of (story_state v) (held_in (story_state v) c)))
       (holds_seen d aside v i c x holds_aside found inside bare (Some y))

@@ -25,15 +25,15 @@ use Rattle.step_table.specs.declared.cell_deed.CellDeed.TheVariants.{Look, Bring
 use Rattle.step_table.specs.declared.cell_deed.Compared.{Compared}
 use Rattle.step_table.specs.declared.past.Deed.TheVariants.{OnCell}
 use Rattle.step_table.specs.declared.refill.Stage.TheVariants.{Turning, Checking, Lacking, Refilling, Failing}
-use Rattle.step_table.specs.CellDeeds.{cell_in, cell_pending, handle_told, kind_in, object_at, owing}
+use Rattle.step_table.specs.CellDeeds.{cell_in, cell_pending, handle_told, kind_in_state, object_at, owing_funds}
 use Rattle.step_table.specs.Cells.{IsOpenTo}
 use Rattle.step_table.specs.Refills.{RefillFits, more_taken}
-use Rattle.step_table.specs.Stories.{Kept, Nothing, Story, after, handle_in, pending, state}
+use Rattle.step_table.specs.Stories.{Kept, Nothing, Story, story_after_deed, handle_in_block, pending, story_state}
 use Rattle.step_table.proofs.contained.Going.{swap_latest}
 use Rattle.step_table.proofs.contained.Told.{kind_stays}
 
 -- no object comes into a block
-cell_latest : (v : Story) (d : ℕ) (x : CellDeed) → (state (after v d (OnCell x))).latest ≡ (state v).latest
+cell_latest : (v : Story) (d : ℕ) (x : CellDeed) → (story_state (story_after_deed v d (OnCell x))).latest ≡ (story_state v).latest
 cell_latest v d (Look c x None) = refl
 cell_latest v d (Look c x (Some y)) = refl
 cell_latest v d (Bring k b p f) = refl
@@ -42,39 +42,45 @@ cell_latest v d (Take c x None) = refl
 cell_latest v d (Take c x (Some y)) = refl
 cell_latest v d (Turn k b) = refl
 cell_latest v d (Refill c t) = refl
-cell_latest v d (Swap c new x) = swap_latest d (cell_in (state v) c) (handle_told (state v) c new) (handle_told (state v) c x) (state v)
-cell_latest v d (CompareSwap c x y) = swap_latest d (cell_in (state v) c) (handle_told (state v) c y.new) (handle_told (state v) c x) (state v)
+cell_latest v d (Swap c new x) = swap_latest d (cell_in (story_state v) c) (handle_told (story_state v) c new) (handle_told (story_state v) c x) (story_state v)
+cell_latest v d (CompareSwap c x y) =
+    swap_latest d (cell_in (story_state v) c) (handle_told (story_state v) c y.new) (handle_told (story_state v) c x) (story_state v)
 cell_latest v d (TakeOut b m x) = refl
 
 same_owing : (s t : State) (k : Kind) (o : Option Block) (p : Option Place) (f l : ℕ) → t.latest ≡ s.latest
-    → ◌≡◌ {A = Pending Nothing} (owing s k o p f l) (owing t k o p f l)
+    → ◌≡◌ {A = Pending Nothing} (owing_funds s k o p f l) (owing_funds t k o p f l)
 same_owing s t k None p f l latest = refl
 same_owing s t k (Some b) p f l latest = ap (λ (g : ℕ → ℕ). Paying k (g b.0) p (spot b.0 (slot k)) f l) (sym latest)
 
-owing_at : (v w : Story) (c : Cell) (o : Option Block) (p : Option Place) (f l : ℕ) → w.extent ≡ v.extent → (state w).latest ≡ (state v).latest
-    → ◌≡◌ {A = Pending Nothing} (owing (state v) (kind_in (state v) c) o p f l) (owing (state w) (kind_in (state w) c) o p f l)
+owing_at : (v w : Story) (c : Cell) (o : Option Block) (p : Option Place) (f l : ℕ) → w.extent ≡ v.extent
+    → (story_state w).latest ≡ (story_state v).latest
+    → ◌≡◌ {A = Pending Nothing} (owing_funds (story_state v) (kind_in_state (story_state v) c) o p f l)
+    (owing_funds (story_state w) (kind_in_state (story_state w) c) o p f l)
 owing_at v w c o p f l same latest =
-    same_owing (state v) (state w) (kind_in (state v) c) o p f l latest ∙ ap (λ (k : Kind). owing (state w) k o p f l) (sym (kind_stays v w c same))
+    same_owing (story_state v) (story_state w) (kind_in_state (story_state v) c) o p f l latest ∙ ap (λ (k : Kind). owing_funds (story_state w) k o p f l)
+    (sym (kind_stays v w c same))
 
 -- what is out after a step of its own, as the state tells it that the step leaves
 pub owes_after : (v : Story) (d : ℕ) (x : CellDeed) → Kept v → d < v.extent.actors
-    → pending (after v d (OnCell x)) d ≡ cell_pending (state (after v d (OnCell x))) x
+    → pending (story_after_deed v d (OnCell x)) d ≡ cell_pending (story_state (story_after_deed v d (OnCell x))) x
 owes_after v d x kept lt =
     ap (λ (w : View Nothing). w.pending) (get_or-set_same v.views d _ used_up (let s = kept.seats.size in omega (arith, s, lt))) ∙ go x
   where
-    go : (x : CellDeed) → ◌≡◌ {A = Pending Nothing} (cell_pending (state v) x) (cell_pending (state (after v d (OnCell x))) x)
+    go : (x : CellDeed) → ◌≡◌ {A = Pending Nothing} (cell_pending (story_state v) x) (cell_pending (story_state (story_after_deed v d (OnCell x))) x)
     go (Look c x y) = refl
     go (Bring k b p f) = refl
     go (GiveBack k b f) = refl
-    go (Take c x y) = let w = after v d (OnCell (Take c x y)) in owing_at v w c x.owned x.place 1 1 refl (cell_latest v d (Take c x y))
+    go (Take c x y) = let w = story_after_deed v d (OnCell (Take c x y)) in owing_at v w c x.owned x.place 1 1 refl (cell_latest v d (Take c x y))
     go (Turn k b) = refl
     go (Refill c t) = refl
-    go (Swap c new x) = let w = after v d (OnCell (Swap c new x)) in owing_at v w c x.owned x.place (256 - x.taken) 0 refl (cell_latest v d (Swap c new x))
+    go (Swap c new x) = let w = story_after_deed v d (OnCell (Swap c new x)) in
+        owing_at v w c x.owned x.place (256 - x.taken) 0 refl (cell_latest v d (Swap c new x))
     go (CompareSwap c x y) =
-        let w = after v d (OnCell (CompareSwap c x y)) in owing_at v w c x.owned x.place (256 - x.taken) 0 refl (cell_latest v d (CompareSwap c x y))
-    go (TakeOut b m x) = same_owing (state v) (state (after v d (OnCell (TakeOut b m x)))) (kind_of_member m) x.owned x.place (256 - x.taken) 0 refl
+        let w = story_after_deed v d (OnCell (CompareSwap c x y)) in owing_at v w c x.owned x.place (256 - x.taken) 0 refl (cell_latest v d (CompareSwap c x y))
+    go (TakeOut b m x) = same_owing (story_state v) (story_state (story_after_deed v d (OnCell (TakeOut b m x)))) (kind_of_member m) x.owned x.place
+        (256 - x.taken) 0 refl
 
-kind_got : (s : State) (d : ℕ) (h : Handle) (c : Cell) → kind_in (gets d h s) c ≡ kind_in s c
+kind_got : (s : State) (d : ℕ) (h : Handle) (c : Cell) → kind_in_state (gets d h s) c ≡ kind_in_state s c
 kind_got s d h (Free n) = refl
 kind_got s d h (Member b m) = refl
 
@@ -104,32 +110,32 @@ open_got s d h (Member b m) way =
 module _ (d : ℕ) (v : Story) (kept : Kept v) (lt : d < v.extent.actors) where
   -- a fund is taken
   pub begins_refill : (c : Cell) (x : CellWord) (y : Option Compared) (b : Block) → IsOpenTo v d c → IsCellWord x → x.owned ≡ Some b → x.taken < 256
-      → RefillFits d Turning c (more_taken x) (after v d (OnCell (Take c x y)))
+      → RefillFits d Turning c (more_taken x) (story_after_deed v d (OnCell (Take c x y)))
   begins_refill c x y b way valid some few = go y
     where
-      got : (w : Story) → state w ≡ gets d (handle_told (state v) c x) (state v) → w.extent ≡ v.extent
-          → pending w d ≡ owing (state w) (kind_in (state w) c) x.owned x.place 1 1 → RefillFits d Turning c (more_taken x) w
+      got : (w : Story) → story_state w ≡ gets d (handle_told (story_state v) c x) (story_state v) → w.extent ≡ v.extent
+          → pending w d ≡ owing_funds (story_state w) (kind_in_state (story_state w) c) x.owned x.place 1 1 → RefillFits d Turning c (more_taken x) w
       got w is same owes =
-          let s = state v in
+          let s = story_state v in
           let t = gets d (handle_told s c x) s in
           record {
             valid = record { owned = valid.owned; place = valid.place; taken = omega (arith, few) };
             block = b;
             owned = some;
             opens = subst (λ (u : State). IsOpen u d (cell_in u c)) (sym is) (open_got s d (handle_told s c x) c way);
-            has = subst (λ (u : State). Has (held d (handle (kind_in u c) (Some (u.latest b.0)) x.place)) u.hands) (sym is)
+            has = subst (λ (u : State). Has (held d (handle (kind_in_state u c) (Some (u.latest b.0)) x.place)) u.hands) (sym is)
                 (subst (λ (k : Kind). Has (held d (handle k (Some (s.latest b.0)) x.place)) t.hands) (sym (kind_got s d (handle_told s c x) c))
-                (has_got s d (kind_in s c) x.owned x.place b some));
-            pays = owes ∙ ap (λ (o : Option Block). owing (state w) (kind_in (state w) c) o x.place 1 1) some;
+                (has_got s d (kind_in_state s c) x.owned x.place b some));
+            pays = owes ∙ ap (λ (o : Option Block). owing_funds (story_state w) (kind_in_state (story_state w) c) o x.place 1 1) some;
           }
 
-      go : (y : Option Compared) → RefillFits d Turning c (more_taken x) (after v d (OnCell (Take c x y)))
-      go None = got (after v d (OnCell (Take c x None))) refl refl (owes_after v d (Take c x None) kept lt)
-      go (Some q) = got (after v d (OnCell (Take c x (Some q)))) refl refl (owes_after v d (Take c x (Some q)) kept lt)
+      go : (y : Option Compared) → RefillFits d Turning c (more_taken x) (story_after_deed v d (OnCell (Take c x y)))
+      go None = got (story_after_deed v d (OnCell (Take c x None))) refl refl (owes_after v d (Take c x None) kept lt)
+      go (Some q) = got (story_after_deed v d (OnCell (Take c x (Some q)))) refl refl (owes_after v d (Take c x (Some q)) kept lt)
 
   -- the fund is turned
   pub turns_fund : (c : Cell) (x : CellWord) (b : Block) → RefillFits d Turning c x v
-      → RefillFits d Checking c x (after v d (OnCell (Turn (kind_in (state v) c) b)))
+      → RefillFits d Checking c x (story_after_deed v d (OnCell (Turn (kind_in_state (story_state v) c) b)))
   turns_fund c x b fits =
       record {
         valid = fits.valid;
@@ -137,26 +143,26 @@ module _ (d : ℕ) (v : Story) (kept : Kept v) (lt : d < v.extent.actors) where
         owned = fits.owned;
         opens = fits.opens;
         has = fits.has;
-        pays = owes_after v d (Turn (kind_in (state v) c) b) kept lt;
+        pays = owes_after v d (Turn (kind_in_state (story_state v) c) b) kept lt;
       }
 
   -- as many funds are brought as were taken
   pub brings_funds : (c : Cell) (x : CellWord) (b : Block) → RefillFits d Lacking c x v → x.owned ≡ Some b
-      → RefillFits d Refilling c x (after v d (OnCell (Bring (kind_in (state v) c) b x.place x.taken)))
+      → RefillFits d Refilling c x (story_after_deed v d (OnCell (Bring (kind_in_state (story_state v) c) b x.place x.taken)))
   brings_funds c x b fits some =
       record {
         valid = fits.valid;
         block = b;
         owned = some;
         opens = fits.opens;
-        has = subst (λ (q : Block). Has (held d (handle_in v (kind_in (state v) c) q x.place)) (state v).hands)
+        has = subst (λ (q : Block). Has (held d (handle_in_block v (kind_in_state (story_state v) c) q x.place)) (story_state v).hands)
             (same_Some _ _ (sym fits.owned ∙ some)) fits.has;
-        pays = owes_after v d (Bring (kind_in (state v) c) b x.place x.taken) kept lt;
+        pays = owes_after v d (Bring (kind_in_state (story_state v) c) b x.place x.taken) kept lt;
       }
 
   -- the funds are given back
   pub gives_back : (c : Cell) (x : CellWord) (b : Block) → RefillFits d Failing c x v
-      → RefillFits d Checking c x (after v d (OnCell (GiveBack (kind_in (state v) c) b x.taken)))
+      → RefillFits d Checking c x (story_after_deed v d (OnCell (GiveBack (kind_in_state (story_state v) c) b x.taken)))
   gives_back c x b fits =
       record {
         valid = fits.valid;
@@ -164,7 +170,7 @@ module _ (d : ℕ) (v : Story) (kept : Kept v) (lt : d < v.extent.actors) where
         owned = fits.owned;
         opens = fits.opens;
         has = fits.has;
-        pays = owes_after v d (GiveBack (kind_in (state v) c) b x.taken) kept lt;
+        pays = owes_after v d (GiveBack (kind_in_state (story_state v) c) b x.taken) kept lt;
       }
 
 module _ (d : ℕ) (v : Story) where

@@ -5,9 +5,9 @@ use Rattle.control_word.specs.declared.view.Pending.{Pending}
 use Rattle.control_word.specs.declared.view.Pending.TheVariants.{Idle}
 use Rattle.control_word.specs.Layout.{spot}
 use Rattle.control_word.specs.Views.{owed, owes}
-use Rattle.step_table.specs.Deeds.{IsSettled, Tells, by_word, owner_word, told_number}
-use Rattle.step_table.specs.Holdings.{Holds, Slots, slot}
-use Rattle.step_table.specs.Stories.{Kept, Nothing, Story, pending, state}
+use Rattle.step_table.specs.Deeds.{IsSettled, TellsUseCount, by_word, owner_word, told_number}
+use Rattle.step_table.specs.Holdings.{HoldsBag, Slots, slot_pointer}
+use Rattle.step_table.specs.Stories.{Kept, Nothing, Story, pending, story_state}
 use Rattle.step_table.specs.declared.holdings.Pointer.{Pointer}
 use Rattle.step_table.proofs.holding.Owning.{slot_held}
 use Rattle.step_table.proofs.tables.Doors.{none_in}
@@ -20,8 +20,8 @@ settled_owes v d x idle settled =
     (λ e. ⊎_elim (λ (is : e ≡ d). ap (λ (p : Pending Nothing). owes p (spot x.block.0 0)) (ap (pending v) is ∙ idle))
     (λ (ne : e ≢ d). settled e ne) (cases_eq e d))
 
-pub tells : (d i : ℕ) (slots : Slots) (x : Pointer) (v : Story) → Kept v → d < v.extent.actors → pending v d ≡ Idle → Holds d slots v
-    → slot slots i ≡ Some x → Tells v d (state v) (by_word v) x
+pub tells : (d i : ℕ) (slots : Slots) (x : Pointer) (v : Story) → Kept v → d < v.extent.actors → pending v d ≡ Idle → HoldsBag d slots v
+    → slot_pointer slots i ≡ Some x → TellsUseCount v d (story_state v) (by_word v) x
 tells d i slots x v kept lt idle holds at =
     let has = slot_held d slots v i x holds at in
     let n = told_number (owner_word v x) in

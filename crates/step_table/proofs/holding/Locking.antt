@@ -5,25 +5,27 @@ use Rattle.step_table.specs.declared.holdings.Pointer.{Pointer}
 use Rattle.step_table.specs.declared.slot.Slot.TheVariants.{Full}
 use Rattle.step_table.specs.declared.past.Deed.TheVariants.{Lock}
 use Rattle.step_table.specs.Deeds.{as_owner}
-use Rattle.step_table.specs.Holdings.{Holds, Slots, slot}
-use Rattle.step_table.specs.Stories.{Story, after}
+use Rattle.step_table.specs.Holdings.{HoldsBag, Slots, slot_pointer}
+use Rattle.step_table.specs.Stories.{Story, story_after_deed}
 use Rattle.step_table.proofs.holding.Owning.{holds_look, holds_more}
 
 -- a look that finds 0 is the event of the empty lock
 pub looked : (v : Story) (d : ℕ) (x : Pointer) (t e : Bool) → t ≡ e
-    → cond t (after v d (Lock x.block x.place false)) v ≡ cond t (after v d (Lock x.block x.place (not e))) v
-looked v d x t e is = subst (λ (q : Bool). cond t (after v d (Lock x.block x.place false)) v ≡ cond t (after v d (Lock x.block x.place (not q))) v) is (go t)
+    → cond t (story_after_deed v d (Lock x.block x.place false)) v ≡ cond t (story_after_deed v d (Lock x.block x.place (not e))) v
+looked v d x t e is =
+    subst (λ (q : Bool). cond t (story_after_deed v d (Lock x.block x.place false)) v ≡ cond t
+    (story_after_deed v d (Lock x.block x.place (not q))) v) is (go t)
   where
-    go : (t : Bool) → cond t (after v d (Lock x.block x.place false)) v ≡ cond t (after v d (Lock x.block x.place (not t))) v
+    go : (t : Bool) → cond t (story_after_deed v d (Lock x.block x.place false)) v ≡ cond t (story_after_deed v d (Lock x.block x.place (not t))) v
     go true = refl
     go false = refl
 
-pub holds_looked : (d : ℕ) (slots : Slots) (v : Story) (x : Pointer) (t : Bool) → Holds d slots v
-    → Holds d slots (cond t (after v d (Lock x.block x.place false)) v)
-holds_looked d slots v x true holds = holds_look d slots v (after v d (Lock x.block x.place false)) refl refl holds
+pub holds_looked : (d : ℕ) (slots : Slots) (v : Story) (x : Pointer) (t : Bool) → HoldsBag d slots v
+    → HoldsBag d slots (cond t (story_after_deed v d (Lock x.block x.place false)) v)
+holds_looked d slots v x true holds = holds_look d slots v (story_after_deed v d (Lock x.block x.place false)) refl refl holds
 holds_looked d slots v x false holds = holds
 
-pub holds_tried : (d : ℕ) (slots : Slots) (v : Story) (i : ℕ) (x : Pointer) → Holds d slots v → IsPointer x.place → i < length slots
-    → slot slots i ≡ None
-    → Holds d (set slots i (Full (as_owner x))) (after v d (Lock x.block x.place true))
-holds_tried d slots v i x holds fine lt e = holds_more d slots v (after v d (Lock x.block x.place true)) i (as_owner x) holds refl refl fine lt e
+pub holds_tried : (d : ℕ) (slots : Slots) (v : Story) (i : ℕ) (x : Pointer) → HoldsBag d slots v → IsPointer x.place → i < length slots
+    → slot_pointer slots i ≡ None
+    → HoldsBag d (set slots i (Full (as_owner x))) (story_after_deed v d (Lock x.block x.place true))
+holds_tried d slots v i x holds fine lt e = holds_more d slots v (story_after_deed v d (Lock x.block x.place true)) i (as_owner x) holds refl refl fine lt e

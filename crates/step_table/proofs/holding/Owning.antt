@@ -22,47 +22,48 @@ use Rattle.step_table.specs.declared.slot.Slot.{Slot}
 use Rattle.step_table.specs.declared.slot.Slot.TheVariants.{Empty, Full}
 use Rattle.step_table.specs.declared.past.Deed.TheVariants.{Claim}
 use Rattle.step_table.specs.Deeds.{leave_as, share, share_as}
-use Rattle.step_table.specs.Holdings.{Holds, IsSlot, Slots, has_object, is_it, owns, plain, pointer_of, slot, times, value, weak_as, weak_slot}
+use Rattle.step_table.specs.Holdings.{HoldsBag, IsSlot, Slots, slot_has_object, is_it, owns, plain, pointer_of, slot_pointer, times_held, slot_value, weak_as}
+use Rattle.step_table.specs.Holdings.{weak_slot}
 use Rattle.step_table.specs.Openings.{opening}
-use Rattle.step_table.specs.Stories.{Story, Kept, after, handle_in, object_in, state, weak_in}
+use Rattle.step_table.specs.Stories.{Story, Kept, story_after_deed, handle_in_block, object_of_block, story_state, weak_in}
 use Rattle.step_table.proofs.tables.Places.{handle_busy, there}
 use Rattle.step_table.proofs.holding.Slots.{counted_has, full_is, full_less, has_slot, num_none, num_set, num_some, one_held, one_slot, slot_inside}
 use Rattle.step_table.proofs.tables.Start.{forty}
 
 -- a pointer in a slot is a handle in the bag
-pub slot_held : (d : ℕ) (slots : Slots) (v : Story) (i : ℕ) (x : Pointer) → Holds d slots v → slot slots i ≡ Some x
-    → Has (held d (handle_in v x.kind x.block x.place)) (state v).hands
+pub slot_held : (d : ℕ) (slots : Slots) (v : Story) (i : ℕ) (x : Pointer) → HoldsBag d slots v → slot_pointer slots i ≡ Some x
+    → Has (held d (handle_in_block v x.kind x.block x.place)) (story_state v).hands
 slot_held d slots v i x holds e =
-    let h = handle_in v x.kind x.block x.place in
+    let h = handle_in_block v x.kind x.block x.place in
     let n = num_has (is_it v h) (Full x) slots (has_slot slots i x e) (handle_self h) in
-    counted_has (held d h) (state v).hands (let o = holds.owned h in omega (arith, n, o))
+    counted_has (held d h) (story_state v).hands (let o = holds.owned h in omega (arith, n, o))
 
-pub slot_formed : (d : ℕ) (slots : Slots) (v : Story) (i : ℕ) (x : Pointer) → Holds d slots v → slot slots i ≡ Some x → IsPointer x.place
-slot_formed d slots v i x holds e = subst IsSlot (full_is (value slots i) x e) (holds.formed i)
+pub slot_formed : (d : ℕ) (slots : Slots) (v : Story) (i : ℕ) (x : Pointer) → HoldsBag d slots v → slot_pointer slots i ≡ Some x → IsPointer x.place
+slot_formed d slots v i x holds e = subst IsSlot (full_is (slot_value slots i) x e) (holds.formed i)
 
 -- where a slot is empty the desk may have one more handle
-pub has_room : (d : ℕ) (slots : Slots) (v : Story) (i : ℕ) → Kept v → d < v.extent.actors → Holds d slots v → length slots < 35
-    → i < length slots → slot slots i ≡ None
-    → bag_size (state v) d < (state v).allowance d
+pub has_room : (d : ℕ) (slots : Slots) (v : Story) (i : ℕ) → Kept v → d < v.extent.actors → HoldsBag d slots v → length slots < 35
+    → i < length slots → slot_pointer slots i ≡ None → bag_size (story_state v) d < (story_state v).allowance d
 has_room d slots v i kept lt holds few inside e =
     let a = full_less slots i inside e in
     let b = forty v.extent kept.proper d lt in
     let c = ap (λ (f : ℕ → ℕ). f d) kept.allowed in
     let s = holds.size in omega (arith, a, b, c, s)
 
-formed_set : (slots : Slots) (i : ℕ) (x : Slot) → ((j : ℕ) → IsSlot (value slots j)) → i < length slots → IsSlot x → (j : ℕ)
-    → IsSlot (value (set slots i x) j)
+formed_set : (slots : Slots) (i : ℕ) (x : Slot) → ((j : ℕ) → IsSlot (slot_value slots j)) → i < length slots → IsSlot x → (j : ℕ)
+    → IsSlot (slot_value (set slots i x) j)
 formed_set slots i x all lt fine j =
-    ⊎_elim (λ (e : j ≡ i). subst (λ (k : ℕ). IsSlot (value (set slots i x) k)) (sym e) (subst IsSlot (sym (get_or-set_same slots i x plain lt)) fine))
+    ⊎_elim (λ (e : j ≡ i). subst (λ (k : ℕ). IsSlot (slot_value (set slots i x) k)) (sym e)
+    (subst IsSlot (sym (get_or-set_same slots i x plain lt)) fine))
     (λ (n : j ≢ i). subst IsSlot (sym (get_or-set_other slots i j x plain n)) (all j)) (cases_eq j i)
 
-same_is : (v w : Story) (h : Handle) (y : Slot) → ((p : Pointer) → pointer_of y ≡ Some p → object_in w p.block ≡ object_in v p.block)
+same_is : (v w : Story) (h : Handle) (y : Slot) → ((p : Pointer) → pointer_of y ≡ Some p → object_of_block w p.block ≡ object_of_block v p.block)
     → is_it w h y ≡ is_it v h y
 same_is v w h (Empty q) f = refl
 same_is v w h (Full p) f = ap (λ (o : ℕ). same_handle h (handle p.kind (Some o) p.place)) (f p refl)
 
 pub same_owns : (v w : Story) (h : Handle) (slots : Slots)
-    → ((i : ℕ) (p : Pointer) → slot slots i ≡ Some p → object_in w p.block ≡ object_in v p.block)
+    → ((i : ℕ) (p : Pointer) → slot_pointer slots i ≡ Some p → object_of_block w p.block ≡ object_of_block v p.block)
     → owns w slots h ≡ owns v slots h
 same_owns v w h [] f = refl
 same_owns v w h (y ∷ ys) f =
@@ -74,65 +75,67 @@ same_owns v w h (y ∷ ys) f =
     omega (arith, i, a, b, c)
 
 -- a handle more, in a slot that was empty
-pub holds_more : (d : ℕ) (slots : Slots) (v w : Story) (i : ℕ) (x : Pointer) → Holds d slots v
-    → (state w).hands ≡ held d (handle_in v x.kind x.block x.place) ∷ (state v).hands → (state w).latest ≡ (state v).latest → IsPointer x.place
-    → i < length slots → slot slots i ≡ None → Holds d (set slots i (Full x)) w
+pub holds_more : (d : ℕ) (slots : Slots) (v w : Story) (i : ℕ) (x : Pointer) → HoldsBag d slots v
+    → (story_state w).hands ≡ held d (handle_in_block v x.kind x.block x.place) ∷ (story_state v).hands
+    → (story_state w).latest ≡ (story_state v).latest → IsPointer x.place
+    → i < length slots → slot_pointer slots i ≡ None → HoldsBag d (set slots i (Full x)) w
 holds_more d slots v w i x holds hands latest fine lt e =
-    let y = handle_in v x.kind x.block x.place in
+    let y = handle_in_block v x.kind x.block x.place in
     let new = set slots i (Full x) in
     record {
       owned = λ h.
-          let a = num_cons (same_held (held d h)) (held d y) (state v).hands in
+          let a = num_cons (same_held (held d h)) (held d y) (story_state v).hands in
           let b = one_held d h y in
           let s = num_set (is_it v h) slots i (Full x) lt in
-          let z = num_none (is_it v h) (value slots i) (λ q. refl) e in
+          let z = num_none (is_it v h) (slot_value slots i) (λ q. refl) e in
           let t = one_slot (is_it v h) (Full x) in
           let o = holds.owned h in
-          let m : times (state w) d h ≡ num (same_held (held d h)) (held d y ∷ (state v).hands) =
+          let m : times_held (story_state w) d h ≡ num (same_held (held d h)) (held d y ∷ (story_state v).hands) =
           ap (λ (l : List Held). num (same_held (held d h)) l) hands in
           let k = same_owns v w h new (λ j p q. ap (λ (f : ℕ → ℕ). f p.block.0) latest) in omega (arith, a, b, s, z, t, o, m, k);
       size =
-          (let a = bag_one d y (state v).hands in
-          let s = num_set has_object slots i (Full x) lt in
-          let z = num_none has_object (value slots i) (λ q. refl) e in
-          let m : bag_size (state w) d ≡ num (λ (q : Held). q.desk == d) (held d y ∷ (state v).hands) =
+          (let a = bag_one d y (story_state v).hands in
+          let s = num_set slot_has_object slots i (Full x) lt in
+          let z = num_none slot_has_object (slot_value slots i) (λ q. refl) e in
+          let m : bag_size (story_state w) d ≡ num (λ (q : Held). q.desk == d) (held d y ∷ (story_state v).hands) =
           ap (λ (l : List Held). num (λ (q : Held). q.desk == d) l) hands in
           let o = holds.size in omega (arith, a, s, z, o, m));
       formed = formed_set slots i (Full x) holds.formed lt fine;
     }
 
 -- a handle less, of a slot
-pub holds_less : (d : ℕ) (slots : Slots) (v w : Story) (i : ℕ) (x : Pointer) → Holds d slots v → slot slots i ≡ Some x
-    → (state w).hands ≡ without same_held (held d (handle_in v x.kind x.block x.place)) (state v).hands → (state w).latest ≡ (state v).latest
-    → Holds d (set slots i plain) w
+pub holds_less : (d : ℕ) (slots : Slots) (v w : Story) (i : ℕ) (x : Pointer) → HoldsBag d slots v → slot_pointer slots i ≡ Some x
+    → (story_state w).hands ≡ without same_held (held d (handle_in_block v x.kind x.block x.place)) (story_state v).hands
+    → (story_state w).latest ≡ (story_state v).latest → HoldsBag d (set slots i plain) w
 holds_less d slots v w i x holds e hands latest =
-    let y = handle_in v x.kind x.block x.place in
+    let y = handle_in_block v x.kind x.block x.place in
     let has = slot_held d slots v i x holds e in
     let lt = slot_inside slots i x e in
-    let less = without same_held (held d y) (state v).hands in
+    let less = without same_held (held d y) (story_state v).hands in
     record {
       owned = λ h.
-          let a = num_without same_held held_true held_self (same_held (held d h)) (held d y) (state v).hands has in
+          let a = num_without same_held held_true held_self (same_held (held d h)) (held d y) (story_state v).hands has in
           let b = one_held d h y in
           let s = num_set (is_it v h) slots i plain lt in
-          let z = num_some (is_it v h) (value slots i) x e in
+          let z = num_some (is_it v h) (slot_value slots i) x e in
           let t = one_slot (is_it v h) (Full x) in
           let o = holds.owned h in
-          let m : times (state w) d h ≡ num (same_held (held d h)) less = ap (λ (l : List Held). num (same_held (held d h)) l) hands in
+          let m : times_held (story_state w) d h ≡ num (same_held (held d h)) less = ap (λ (l : List Held). num (same_held (held d h)) l) hands in
           let k = same_owns v w h (set slots i plain) (λ j p q. ap (λ (f : ℕ → ℕ). f p.block.0) latest) in omega (arith, a, b, s, z, t, o, m, k);
       size =
-          (let a = num_without same_held held_true held_self (λ (w : Held). w.desk == d) (held d y) (state v).hands has in
+          (let a = num_without same_held held_true held_self (λ (w : Held). w.desk == d) (held d y) (story_state v).hands has in
           let b = bag_one d y [] in
-          let s = num_set has_object slots i plain lt in
-          let z = num_some has_object (value slots i) x e in
-          let m : bag_size (state w) d ≡ num (λ (q : Held). q.desk == d) less = ap (λ (l : List Held). num (λ (q : Held). q.desk == d) l) hands in
+          let s = num_set slot_has_object slots i plain lt in
+          let z = num_some slot_has_object (slot_value slots i) x e in
+          let m : bag_size (story_state w) d ≡ num (λ (q : Held). q.desk == d) less = ap (λ (l : List Held). num (λ (q : Held). q.desk == d) l) hands in
           let o = holds.size in omega (arith, a, b, s, z, o, m));
       formed = formed_set slots i plain holds.formed lt tt;
     }
 
 -- no handle comes or goes
-pub holds_look : (d : ℕ) (slots : Slots) (v w : Story) → (state w).hands ≡ (state v).hands → (state w).latest ≡ (state v).latest → Holds d slots v
-    → Holds d slots w
+pub holds_look : (d : ℕ) (slots : Slots) (v w : Story) → (story_state w).hands ≡ (story_state v).hands
+    → (story_state w).latest ≡ (story_state v).latest → HoldsBag d slots v
+    → HoldsBag d slots w
 holds_look d slots v w hands latest holds =
     record {
       owned = λ h.
@@ -143,11 +146,11 @@ holds_look d slots v w hands latest holds =
     }
 
 -- a weak pointer in a slot
-pub weak_held : (d : ℕ) (slots : Slots) (v : Story) (i : ℕ) (x : Pointer) → Holds d slots v → weak_slot (slot slots i) ≡ Some x
-    → Has (held d (weak_in v x.block x.place)) (state v).hands
+pub weak_held : (d : ℕ) (slots : Slots) (v : Story) (i : ℕ) (x : Pointer) → HoldsBag d slots v → weak_slot (slot_pointer slots i) ≡ Some x
+    → Has (held d (weak_in v x.block x.place)) (story_state v).hands
 weak_held d slots v i x holds e =
-    let w = weak_is (slot slots i) x e in
-    subst (λ (k : Kind). Has (held d (handle_in v k x.block x.place)) (state v).hands) w.1 (slot_held d slots v i x holds w.0)
+    let w = weak_is (slot_pointer slots i) x e in
+    subst (λ (k : Kind). Has (held d (handle_in_block v k x.block x.place)) (story_state v).hands) w.1 (slot_held d slots v i x holds w.0)
   where
     weak_is : (o : Option Pointer) (x : Pointer) → weak_slot o ≡ Some x → (o ≡ Some x) × (x.kind ≡ Weak)
     weak_is None x e = cc
@@ -158,9 +161,9 @@ weak_held d slots v i x holds e =
         go Weak is e = (e, ap (λ (p : Pointer). p.kind) (sym (same_Some y x e)) ∙ is)
 
 -- the place of a weak pointer in a slot is well formed
-pub weak_formed : (d : ℕ) (slots : Slots) (v : Story) (i : ℕ) (x : Pointer) → Holds d slots v
-    → weak_slot (slot slots i) ≡ Some x → IsPointer x.place
-weak_formed d slots v i x holds e = go (value slots i) (holds.formed i) e
+pub weak_formed : (d : ℕ) (slots : Slots) (v : Story) (i : ℕ) (x : Pointer) → HoldsBag d slots v
+    → weak_slot (slot_pointer slots i) ≡ Some x → IsPointer x.place
+weak_formed d slots v i x holds e = go (slot_value slots i) (holds.formed i) e
   where
     go : (o : Slot) → IsSlot o → weak_slot (pointer_of o) ≡ Some x → IsPointer x.place
     go (Empty p) f e = cc
@@ -171,89 +174,90 @@ weak_formed d slots v i x holds e = go (value slots i) (holds.formed i) e
         kinds Weak e = subst (λ (p : Pointer). IsPointer p.place) (same_Some y x e) f
 
 -- a copy of a pointer
-pub holds_share : (d : ℕ) (slots : Slots) (v : Story) (i : ℕ) (x : Pointer) → Holds d slots v → IsPointer x.place → i < length slots
-    → slot slots i ≡ None → Holds d (set slots i (Full x)) (after v d (share x))
+pub holds_share : (d : ℕ) (slots : Slots) (v : Story) (i : ℕ) (x : Pointer) → HoldsBag d slots v → IsPointer x.place → i < length slots
+    → slot_pointer slots i ≡ None → HoldsBag d (set slots i (Full x)) (story_after_deed v d (share x))
 holds_share d slots v i x holds fine lt e = go x.kind refl
   where
-    go : (k : Kind) → x.kind ≡ k → Holds d (set slots i (Full x)) (after v d (share_as k x))
-    go Owner is = holds_more d slots v (after v d (share_as Owner x)) i x holds
-        (ap (λ (k : Kind). held d (handle_in v k x.block x.place) ∷ (state v).hands) (sym is)) refl fine lt e
-    go Weak is = holds_more d slots v (after v d (share_as Weak x)) i x holds
-        (ap (λ (k : Kind). held d (handle_in v k x.block x.place) ∷ (state v).hands) (sym is)) refl fine lt e
+    go : (k : Kind) → x.kind ≡ k → HoldsBag d (set slots i (Full x)) (story_after_deed v d (share_as k x))
+    go Owner is = holds_more d slots v (story_after_deed v d (share_as Owner x)) i x holds
+        (ap (λ (k : Kind). held d (handle_in_block v k x.block x.place) ∷ (story_state v).hands) (sym is)) refl fine lt e
+    go Weak is = holds_more d slots v (story_after_deed v d (share_as Weak x)) i x holds
+        (ap (λ (k : Kind). held d (handle_in_block v k x.block x.place) ∷ (story_state v).hands) (sym is)) refl fine lt e
 
 -- a pointer leaves
-pub holds_leave : (d : ℕ) (slots : Slots) (v : Story) (i : ℕ) (x : Pointer) (last : Bool) → Holds d slots v → slot slots i ≡ Some x
-    → Holds d (set slots i plain) (after v d (leave_as x.kind x last))
+pub holds_leave : (d : ℕ) (slots : Slots) (v : Story) (i : ℕ) (x : Pointer) (last : Bool) → HoldsBag d slots v → slot_pointer slots i ≡ Some x
+    → HoldsBag d (set slots i plain) (story_after_deed v d (leave_as x.kind x last))
 holds_leave d slots v i x last holds e = go x.kind refl
   where
-    go : (k : Kind) → x.kind ≡ k → Holds d (set slots i plain) (after v d (leave_as k x last))
-    go Owner is = holds_less d slots v (after v d (leave_as Owner x last)) i x holds e
-        (ap (λ (k : Kind). without same_held (held d (handle_in v k x.block x.place)) (state v).hands) (sym is)) refl
-    go Weak is = holds_less d slots v (after v d (leave_as Weak x last)) i x holds e
-        (ap (λ (k : Kind). without same_held (held d (handle_in v k x.block x.place)) (state v).hands) (sym is)) refl
+    go : (k : Kind) → x.kind ≡ k → HoldsBag d (set slots i plain) (story_after_deed v d (leave_as k x last))
+    go Owner is = holds_less d slots v (story_after_deed v d (leave_as Owner x last)) i x holds e
+        (ap (λ (k : Kind). without same_held (held d (handle_in_block v k x.block x.place)) (story_state v).hands) (sym is)) refl
+    go Weak is = holds_less d slots v (story_after_deed v d (leave_as Weak x last)) i x holds e
+        (ap (λ (k : Kind). without same_held (held d (handle_in_block v k x.block x.place)) (story_state v).hands) (sym is)) refl
 
 -- a slot without an object gets a place
-pub holds_empty : (d : ℕ) (slots : Slots) (v : Story) (i : ℕ) (p : Option Place) → Holds d slots v → i < length slots
-    → slot slots i ≡ None → IsPointer p
-    → Holds d (set slots i (Empty p)) v
+pub holds_empty : (d : ℕ) (slots : Slots) (v : Story) (i : ℕ) (p : Option Place) → HoldsBag d slots v → i < length slots
+    → slot_pointer slots i ≡ None → IsPointer p
+    → HoldsBag d (set slots i (Empty p)) v
 holds_empty d slots v i p holds lt e fine =
     let same : (q : Slot → Bool) → ((r : Option Place) → q (Empty r) ≡ false) → num q (set slots i (Empty p)) ≡ num q slots =
     λ q none.
     let a = num_set q slots i (Empty p) lt in
-    let z = num_none q (value slots i) none e in
+    let z = num_none q (slot_value slots i) none e in
     let y = num_none q (Empty p) none refl in
     omega (arith, a, z, y) in
     record {
       owned = λ h. holds.owned h ∙ sym (same (is_it v h) (λ q. refl));
-      size = holds.size ∙ sym (same has_object (λ q. refl));
+      size = holds.size ∙ sym (same slot_has_object (λ q. refl));
       formed = formed_set slots i (Empty p) holds.formed lt fine;
     }
 
 -- a value goes from one slot to another
-pub holds_move : (d : ℕ) (slots : Slots) (v : Story) (i j : ℕ) → Holds d slots v → i < length slots → j < length slots → i ≢ j
-    → slot slots j ≡ None
-    → Holds d (set (set slots j (value slots i)) i plain) v
+pub holds_move : (d : ℕ) (slots : Slots) (v : Story) (i j : ℕ) → HoldsBag d slots v → i < length slots → j < length slots → i ≢ j
+    → slot_pointer slots j ≡ None
+    → HoldsBag d (set (set slots j (slot_value slots i)) i plain) v
 holds_move d slots v i j holds li lj n e =
-    let mid = set slots j (value slots i) in
-    let lm : i < length mid = let t = length-set slots j (value slots i) in omega (arith, t) in
-    let at : value mid i ≡ value slots i = get_or-set_other slots j i (value slots i) plain n in
+    let mid = set slots j (slot_value slots i) in
+    let lm : i < length mid = let t = length-set slots j (slot_value slots i) in omega (arith, t) in
+    let at : slot_value mid i ≡ slot_value slots i = get_or-set_other slots j i (slot_value slots i) plain n in
     let moved : (p : Slot → Bool) → ((q : Option Place) → p (Empty q) ≡ false) → num p (set mid i plain) ≡ num p slots =
     λ p none.
     let a = num_set p mid i plain lm in
-    let b = num_set p slots j (value slots i) lj in
+    let b = num_set p slots j (slot_value slots i) lj in
     let c = ap (λ (w : Slot). num p (w ∷ [])) at in
-    let z = num_none p (value slots j) none e in
+    let z = num_none p (slot_value slots j) none e in
     let y = num_none p plain none refl in
     omega (arith, a, b, c, z, y) in
     record {
       owned = λ h. holds.owned h ∙ sym (moved (is_it v h) (λ q. refl));
-      size = holds.size ∙ sym (moved has_object (λ q. refl));
-      formed = formed_set mid i plain (formed_set slots j (value slots i) holds.formed lj (holds.formed i)) lm tt;
+      size = holds.size ∙ sym (moved slot_has_object (λ q. refl));
+      formed = formed_set mid i plain (formed_set slots j (slot_value slots i) holds.formed lj (holds.formed i)) lm tt;
     }
 
 -- a block in a store is no block of a pointer
-apart : (d : ℕ) (slots : Slots) (v : Story) (b : Block) (i : ℕ) (x : Pointer) → Kept v → Holds d slots v → Has (stored d b.0) (state v).stores
-    → slot slots i ≡ Some x
+apart : (d : ℕ) (slots : Slots) (v : Story) (b : Block) (i : ℕ) (x : Pointer) → Kept v → HoldsBag d slots v
+    → Has (stored d b.0) (story_state v).stores
+    → slot_pointer slots i ≡ Some x
     → x.block.0 ≢ b.0
 apart d slots v b i x kept holds has e same =
     let busy = handle_busy v d x.kind x.block x.place kept (slot_held d slots v i x holds e) in
     let t = there v x.block kept busy in
     let vacant = ((sound (opening v.extent) v.history kept.stands.legal).stores d b.0 has).0 in
-    let z = vacant (object_in v x.block) (t.0 ∙ same) in omega (arith, busy, z)
+    let z = vacant (object_of_block v x.block) (t.0 ∙ same) in omega (arith, busy, z)
 
 claimed_is : (v : Story) (d : ℕ) (b : Block) (enabled null : Bool) (fields : List ℕ) (h : Handle) (y : Slot) → ((p : Pointer)
     → pointer_of y ≡ Some p → p.block.0 ≢ b.0)
-    → is_it (after v d (Claim b enabled null fields)) h y ≡ is_it v h y
+    → is_it (story_after_deed v d (Claim b enabled null fields)) h y ≡ is_it v h y
 claimed_is v d b enabled null fields h (Empty q) f = refl
 claimed_is v d b enabled null fields h (Full p) f =
-    ap (λ (o : ℕ). same_handle h (handle p.kind (Some o) p.place)) (put_other (state v).latest b.0 (suc (state v).made) p.block.0 (f p refl))
+    ap (λ (o : ℕ). same_handle h (handle p.kind (Some o) p.place)) (put_other (story_state v).latest b.0 (suc (story_state v).made) p.block.0 (f p refl))
 
 claimed_owns : (v : Story) (d : ℕ) (b : Block) (enabled null : Bool) (fields : List ℕ) (h : Handle) (slots : Slots)
-    → ((i : ℕ) (p : Pointer) → slot slots i ≡ Some p → p.block.0 ≢ b.0)
-    → owns (after v d (Claim b enabled null fields)) slots h ≡ owns v slots h
+    → ((i : ℕ) (p : Pointer) → slot_pointer slots i ≡ Some p → p.block.0 ≢ b.0)
+    → owns (story_after_deed v d (Claim b enabled null fields)) slots h ≡ owns v slots h
 claimed_owns v d b enabled null fields h [] f = refl
 claimed_owns v d b enabled null fields h (y ∷ ys) f =
-    let w = after v d (Claim b enabled null fields) in
+    let w = story_after_deed v d (Claim b enabled null fields) in
     let i = claimed_owns v d b enabled null fields h ys (λ j p e. f (suc j) p e) in
     let m = num_cons (is_it w h) y ys in
     let n = num_cons (is_it v h) y ys in
@@ -266,30 +270,31 @@ origin_formed : (z : Opening) (b : ℕ) (null : Bool) → InShape z b → z.bloc
 origin_formed z b true shape few = tt
 origin_formed z b false shape few = let low = shape.0 in let high = shape.1 in (low, omega (arith, high, few), omega arith)
 
-pub holds_claim : (d : ℕ) (slots : Slots) (v : Story) (i : ℕ) (b : Block) (form : Form) → Kept v → Holds d slots v
-    → Has (stored d b.0) (state v).stores
-    → InShape (opening v.extent) b.0 → v.extent.shape.blocks ≤ 65535 → i < length slots → slot slots i ≡ None
-    → Holds d (set slots i (Full (record { kind = Owner; block = b; place = origin b.0 form.null }))) (after v d (Claim b form.enabled form.null form.fields))
+pub holds_claim : (d : ℕ) (slots : Slots) (v : Story) (i : ℕ) (b : Block) (form : Form) → Kept v → HoldsBag d slots v
+    → Has (stored d b.0) (story_state v).stores
+    → InShape (opening v.extent) b.0 → v.extent.shape.blocks ≤ 65535 → i < length slots → slot_pointer slots i ≡ None
+    → HoldsBag d (set slots i (Full (record { kind = Owner; block = b; place = origin b.0 form.null })))
+    (story_after_deed v d (Claim b form.enabled form.null form.fields))
 holds_claim d slots v i b form kept holds has shape few lt e =
     let x : Pointer = record { kind = Owner; block = b; place = origin b.0 form.null } in
-    let w = after v d (Claim b form.enabled form.null form.fields) in
-    let y = owner (suc (state v).made) (origin b.0 form.null) in
+    let w = story_after_deed v d (Claim b form.enabled form.null form.fields) in
+    let y = owner (suc (story_state v).made) (origin b.0 form.null) in
     record {
       owned = λ h.
-          let a = num_cons (same_held (held d h)) (held d y) (state v).hands in
+          let a = num_cons (same_held (held d h)) (held d y) (story_state v).hands in
           let m = one_held d h y in
           let s = num_set (is_it w h) slots i (Full x) lt in
-          let z = num_none (is_it w h) (value slots i) (λ q. refl) e in
+          let z = num_none (is_it w h) (slot_value slots i) (λ q. refl) e in
           let t = one_slot (is_it w h) (Full x) in
           let u : is_it w h (Full x) ≡ same_handle h y = ap
-          (λ (o : ℕ). same_handle h (owner o (origin b.0 form.null))) (put_same (state v).latest b.0 (suc (state v).made) b.0 refl) in
+          (λ (o : ℕ). same_handle h (owner o (origin b.0 form.null))) (put_same (story_state v).latest b.0 (suc (story_state v).made) b.0 refl) in
           let k : ◌≡◌ {A = ℕ} (cond (is_it w h (Full x)) 1 0) (cond (same_handle h y) 1 0) = ap (λ (q : Bool). cond q 1 0) u in
           let c = claimed_owns v d b form.enabled form.null form.fields h slots (λ j p q. apart d slots v b j p kept holds has q) in
           let o = holds.owned h in omega (arith, a, m, s, z, t, k, c, o);
       size =
-          (let a = bag_one d y (state v).hands in
-          let s = num_set has_object slots i (Full x) lt in
-          let z = num_none has_object (value slots i) (λ q. refl) e in
+          (let a = bag_one d y (story_state v).hands in
+          let s = num_set slot_has_object slots i (Full x) lt in
+          let z = num_none slot_has_object (slot_value slots i) (λ q. refl) e in
           let o = holds.size in omega (arith, a, s, z, o));
       formed = formed_set slots i (Full x) holds.formed lt (origin_formed (opening v.extent) b.0 form.null shape few);
     }

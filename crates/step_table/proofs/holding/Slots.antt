@@ -13,11 +13,11 @@ use Rattle.control_word.specs.State.{Has, Held, held, same_held}
 use Rattle.step_table.specs.declared.holdings.Pointer.{Pointer}
 use Rattle.step_table.specs.declared.slot.Slot.{Slot}
 use Rattle.step_table.specs.declared.slot.Slot.TheVariants.{Empty, Full}
-use Rattle.step_table.specs.Holdings.{Slots, full, has_object, pointer_of, slot, value}
+use Rattle.step_table.specs.Holdings.{Slots, full, slot_has_object, pointer_of, slot_pointer, slot_value}
 
 -- one slot gets another value
 pub num_set : (p : Slot → Bool) (l : Slots) (i : ℕ) (x : Slot) → i < length l
-    → num p (set l i x) + num p (value l i ∷ []) ≡ num p l + num p (x ∷ [])
+    → num p (set l i x) + num p (slot_value l i ∷ []) ≡ num p l + num p (x ∷ [])
 num_set p [] i x lt = absurd (omega arith)
 num_set p (y ∷ ys) zero x lt = let a = num_cons p x ys in let b = num_cons p y ys in omega (arith, a, b)
 num_set p (y ∷ ys) (suc i) x lt =
@@ -29,12 +29,12 @@ pub full_is : (y : Slot) (x : Pointer) → pointer_of y ≡ Some x → y ≡ Ful
 full_is (Empty p) x e = cc
 full_is (Full z) x e = ap (λ (w : Pointer). Full w) (same_Some z x e)
 
-pub has_slot : (l : Slots) (i : ℕ) (x : Pointer) → slot l i ≡ Some x → Has (Full x) l
+pub has_slot : (l : Slots) (i : ℕ) (x : Pointer) → slot_pointer l i ≡ Some x → Has (Full x) l
 has_slot [] i x e = cc
 has_slot (y ∷ ys) zero x e = inl (sym (full_is y x e))
 has_slot (y ∷ ys) (suc i) x e = inr (has_slot ys i x e)
 
-pub slot_inside : (l : Slots) (i : ℕ) (x : Pointer) → slot l i ≡ Some x → i < length l
+pub slot_inside : (l : Slots) (i : ℕ) (x : Pointer) → slot_pointer l i ≡ Some x → i < length l
 slot_inside [] i x e = cc
 slot_inside (y ∷ ys) zero x e = omega arith
 slot_inside (y ∷ ys) (suc i) x e = let t = slot_inside ys i x e in omega (arith, t)
@@ -71,17 +71,18 @@ pub num_some : (p : Slot → Bool) (y : Slot) (x : Pointer) → pointer_of y ≡
 num_some p y x e = ap (λ (z : Slot). num p (z ∷ [])) (full_is y x e)
 
 -- a list with an empty slot has fewer full ones than slots
-pub full_less : (l : Slots) (i : ℕ) → i < length l → slot l i ≡ None → full l < length l
+pub full_less : (l : Slots) (i : ℕ) → i < length l → slot_pointer l i ≡ None → full l < length l
 full_less [] i lt e = absurd (omega arith)
 full_less (y ∷ ys) zero lt e =
-    let a = num_cons has_object y ys in let b = full_most ys in
-    let c = num_none has_object y (λ q. refl) e in omega (arith, a, b, c)
+    let a = num_cons slot_has_object y ys in let b = full_most ys in
+    let c = num_none slot_has_object y (λ q. refl) e in omega (arith, a, b, c)
   where
     full_most : (m : Slots) → full m ≤ length m
     full_most [] = omega arith
-    full_most (z ∷ zs) = let r = full_most zs in cond_both (has_object z) (z ∷ filter has_object zs) (filter has_object zs)
+    full_most (z ∷ zs) = let r = full_most zs in cond_both (slot_has_object z) (z ∷ filter slot_has_object zs) (filter slot_has_object zs)
         (λ (q : Slots). length q ≤ suc (length zs)) (λ t. omega (arith, r)) (λ t. omega (arith, r))
 full_less (y ∷ ys) (suc i) lt e =
     let r = full_less ys i (omega arith) e in
-    cond_both (has_object y) (y ∷ filter has_object ys) (filter has_object ys) (λ (q : Slots). length q < suc (length ys)) (λ t. omega (arith, r))
+    cond_both (slot_has_object y) (y ∷ filter slot_has_object ys) (filter slot_has_object ys) (λ (q : Slots). length q < suc (length ys))
+    (λ t. omega (arith, r))
     (λ t. omega (arith, r))

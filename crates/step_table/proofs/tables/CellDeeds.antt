@@ -15,10 +15,10 @@ use Rattle.control_word.specs.State.{Object, State, kind_of_member, put}
 use Rattle.step_table.specs.declared.cell_deed.CellDeed.{CellDeed}
 use Rattle.step_table.specs.declared.cell_deed.CellDeed.TheVariants.{Look, Bring, GiveBack, Take, Turn, Refill, Swap, CompareSwap, TakeOut}
 use Rattle.step_table.specs.declared.past.Deed.TheVariants.{OnCell}
-use Rattle.step_table.specs.CellDeeds.{cell_event, cell_in, cell_pending, handle_as, handle_told, kind_in, owing}
-use Rattle.step_table.specs.Stories.{AllWhole, Nothing, ShutsNoDoor, Story, after, object_in, state}
+use Rattle.step_table.specs.CellDeeds.{cell_event, cell_in, cell_pending, handle_as, handle_told, kind_in_state, owing_funds}
+use Rattle.step_table.specs.Stories.{AllWhole, Nothing, ShutsNoDoor, Story, story_after_deed, object_of_block, story_state}
 
-shuts_owing : (s : State) (k : Kind) (o : Option Block) (p : Option Place) (f l : ℕ) → ShutsNoDoor (owing s k o p f l)
+shuts_owing : (s : State) (k : Kind) (o : Option Block) (p : Option Place) (f l : ℕ) → ShutsNoDoor (owing_funds s k o p f l)
 shuts_owing s k None p f l = tt
 shuts_owing s k (Some b) p f l = tt
 
@@ -26,11 +26,11 @@ pub shuts_cell : (s : State) (x : CellDeed) → ShutsNoDoor (cell_pending s x)
 shuts_cell s (Look c x y) = tt
 shuts_cell s (Bring k b p f) = tt
 shuts_cell s (GiveBack k b f) = tt
-shuts_cell s (Take c x y) = shuts_owing s (kind_in s c) x.owned x.place 1 1
+shuts_cell s (Take c x y) = shuts_owing s (kind_in_state s c) x.owned x.place 1 1
 shuts_cell s (Turn k b) = tt
 shuts_cell s (Refill c t) = tt
-shuts_cell s (Swap c new x) = shuts_owing s (kind_in s c) x.owned x.place _ 0
-shuts_cell s (CompareSwap c x y) = shuts_owing s (kind_in s c) x.owned x.place _ 0
+shuts_cell s (Swap c new x) = shuts_owing s (kind_in_state s c) x.owned x.place _ 0
+shuts_cell s (CompareSwap c x y) = shuts_owing s (kind_in_state s c) x.owned x.place _ 0
 shuts_cell s (TakeOut b m x) = shuts_owing s (kind_of_member m) x.owned x.place _ 0
 
 -- nothing but hands, cells and members differs
@@ -77,45 +77,52 @@ swaps_framed d (Member o m) new old s =
 same_framed : (s : State) → IsFramed s s
 same_framed s = record { made = refl; allowance = refl; block = λ o. refl; phase = λ o. refl; fields = λ o. refl; enabled = λ o. refl }
 
-pub framed : (v : Story) (d : ℕ) (x : CellDeed) → IsFramed (state v) (state (after v d (OnCell x)))
-framed v d (Look c x None) = gets_framed d (handle_told (state v) c x) (state v)
-framed v d (Look c x (Some y)) = gets_framed d (handle_told (state v) c x) (state v)
-framed v d (Bring k b p f) = same_framed (state v)
-framed v d (GiveBack k b f) = same_framed (state v)
-framed v d (Take c x None) = gets_framed d (handle_told (state v) c x) (state v)
-framed v d (Take c x (Some y)) = gets_framed d (handle_told (state v) c x) (state v)
-framed v d (Turn k b) = same_framed (state v)
-framed v d (Refill c t) = same_framed (state v)
-framed v d (Swap c new x) = swaps_framed d (cell_in (state v) c) (handle_told (state v) c new) (handle_told (state v) c x) (state v)
-framed v d (CompareSwap c x y) = swaps_framed d (cell_in (state v) c) (handle_told (state v) c y.new) (handle_told (state v) c x) (state v)
-framed v d (TakeOut b m x) = clears_framed d (object_in v b) m (handle_as (state v) (kind_of_member m) x) (state v)
+pub framed : (v : Story) (d : ℕ) (x : CellDeed) → IsFramed (story_state v) (story_state (story_after_deed v d (OnCell x)))
+framed v d (Look c x None) = gets_framed d (handle_told (story_state v) c x) (story_state v)
+framed v d (Look c x (Some y)) = gets_framed d (handle_told (story_state v) c x) (story_state v)
+framed v d (Bring k b p f) = same_framed (story_state v)
+framed v d (GiveBack k b f) = same_framed (story_state v)
+framed v d (Take c x None) = gets_framed d (handle_told (story_state v) c x) (story_state v)
+framed v d (Take c x (Some y)) = gets_framed d (handle_told (story_state v) c x) (story_state v)
+framed v d (Turn k b) = same_framed (story_state v)
+framed v d (Refill c t) = same_framed (story_state v)
+framed v d (Swap c new x) = swaps_framed d (cell_in (story_state v) c) (handle_told (story_state v) c new) (handle_told (story_state v) c x) (story_state v)
+framed v d (CompareSwap c x y) =
+    swaps_framed d (cell_in (story_state v) c) (handle_told (story_state v) c y.new) (handle_told (story_state v) c x) (story_state v)
+framed v d (TakeOut b m x) = clears_framed d (object_of_block v b) m (handle_as (story_state v) (kind_of_member m) x) (story_state v)
 
-pub whole_framed : (v : Story) (d : ℕ) (x : CellDeed) → AllWhole (state v) → AllWhole (state (after v d (OnCell x)))
+pub whole_framed : (v : Story) (d : ℕ) (x : CellDeed) → AllWhole (story_state v) → AllWhole (story_state (story_after_deed v d (OnCell x)))
 whole_framed v d x whole o some le =
     let f = framed v d x in
     subst (λ (l : List ℕ). length l ≡ 4) (sym (f.fields o)) (whole o some (subst (λ (n : ℕ). o ≤ n) f.made le))
 
 -- another desk's hands and store stay
-pub same_cell : (v : Story) (e d : ℕ) (x : CellDeed) → e ≢ d → Same (state v) (state (after v e (OnCell x))) d
-same_cell v e d (Look c x None) n = same_after {V = Nothing} (state v) d e (event.Load (cell_in (state v) c) (handle_told (state v) c x)) n (λ z. z)
+pub same_cell : (v : Story) (e d : ℕ) (x : CellDeed) → e ≢ d → Same (story_state v) (story_state (story_after_deed v e (OnCell x))) d
+same_cell v e d (Look c x None) n =
+    same_after {V = Nothing} (story_state v) d e (event.Load (cell_in (story_state v) c) (handle_told (story_state v) c x)) n (λ z. z)
 same_cell v e d (Look c x (Some y)) n =
-    same_after {V = Nothing} (state v) d e (event.Compare (cell_in (state v) c) (handle_told (state v) c y.expected) (handle_told (state v) c y.new)
-    (handle_told (state v) c x) false y.weak) n (λ z. z)
-same_cell v e d (Bring k b p f) n = still (state v) d
-same_cell v e d (GiveBack k b f) n = still (state v) d
-same_cell v e d (Take c x None) n = same_after {V = Nothing} (state v) d e (event.Load (cell_in (state v) c) (handle_told (state v) c x)) n (λ z. z)
+    same_after {V = Nothing} (story_state v) d e (event.Compare (cell_in (story_state v) c) (handle_told (story_state v) c y.expected)
+    (handle_told (story_state v) c y.new)
+    (handle_told (story_state v) c x) false y.weak) n (λ z. z)
+same_cell v e d (Bring k b p f) n = still (story_state v) d
+same_cell v e d (GiveBack k b f) n = still (story_state v) d
+same_cell v e d (Take c x None) n =
+    same_after {V = Nothing} (story_state v) d e (event.Load (cell_in (story_state v) c) (handle_told (story_state v) c x)) n (λ z. z)
 same_cell v e d (Take c x (Some y)) n =
-    same_after {V = Nothing} (state v) d e (event.Compare (cell_in (state v) c) (handle_told (state v) c y.expected) (handle_told (state v) c y.new)
-    (handle_told (state v) c x) false y.weak) n (λ z. z)
-same_cell v e d (Turn k b) n = still (state v) d
-same_cell v e d (Refill c t) n = still (state v) d
+    same_after {V = Nothing} (story_state v) d e (event.Compare (cell_in (story_state v) c) (handle_told (story_state v) c y.expected)
+    (handle_told (story_state v) c y.new)
+    (handle_told (story_state v) c x) false y.weak) n (λ z. z)
+same_cell v e d (Turn k b) n = still (story_state v) d
+same_cell v e d (Refill c t) n = still (story_state v) d
 same_cell v e d (Swap c new x) n =
-    same_after {V = Nothing} (state v) d e (event.Swap (cell_in (state v) c) (handle_told (state v) c new) (handle_told (state v) c x)) n (λ z. z)
+    same_after {V = Nothing} (story_state v) d e (event.Swap (cell_in (story_state v) c) (handle_told (story_state v) c new)
+    (handle_told (story_state v) c x)) n (λ z. z)
 same_cell v e d (CompareSwap c x y) n =
-    same_after {V = Nothing} (state v) d e (event.Compare (cell_in (state v) c) (handle_told (state v) c y.expected) (handle_told (state v) c y.new)
-    (handle_told (state v) c x) true y.weak) n (λ z. z)
+    same_after {V = Nothing} (story_state v) d e (event.Compare (cell_in (story_state v) c) (handle_told (story_state v) c y.expected)
+    (handle_told (story_state v) c y.new)
+    (handle_told (story_state v) c x) true y.weak) n (λ z. z)
 same_cell v e d (TakeOut b m x) n =
-    same_after {V = Nothing} (state v) d e (event.ClearMember (object_in v b) m (handle_as (state v) (kind_of_member m) x)) n (λ z. z)
+    same_after {V = Nothing} (story_state v) d e (event.ClearMember (object_of_block v b) m (handle_as (story_state v) (kind_of_member m) x)) n (λ z. z)
 
 -- what is so of the events of such steps
 pub by_event : (P : Option (Event Nothing) → Type 0) → P None → ((c : Named) (h : Handle) → P (Some (event.Load c h)))

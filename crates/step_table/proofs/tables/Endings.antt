@@ -21,7 +21,7 @@ use Rattle.control_word.specs.Views.{Stands, sees_as}
 use Rattle.control_word.specs.Words.{blocks_of, packed}
 use Rattle.step_table.specs.declared.past.Deed.TheVariants.{Clear, Finish}
 use Rattle.step_table.specs.Openings.{opening}
-use Rattle.step_table.specs.Stories.{Nothing, Story, Kept, after, object_in, pending, state, view_in}
+use Rattle.step_table.specs.Stories.{Nothing, Story, Kept, story_after_deed, object_of_block, pending, story_state, view_in}
 use Rattle.step_table.proofs.tables.Cells.{decoded, zero_shows}
 use Rattle.step_table.proofs.tables.Standing.{point, ready, kept_after}
 use Rattle.step_table.proofs.tables.Places.{event_by, named, ending_busy, there}
@@ -31,43 +31,45 @@ packed_empty : (block : ℕ → ℕ) (m : ℕ) → packed block (empty (kind_of_
 unfolding packed
 packed_empty block m = refl
 
-ends : (v : Story) (d : ℕ) (b : Block) → Kept v → d < v.extent.actors → ((state v).object (object_in v b)).phase ≡ ending d
-    → ((state v).object (object_in v b)).phase ≡ ending (me (point v d))
+ends : (v : Story) (d : ℕ) (b : Block) → Kept v → d < v.extent.actors → ((story_state v).object (object_of_block v b)).phase ≡ ending d
+    → ((story_state v).object (object_of_block v b)).phase ≡ ending (me (point v d))
 ends v d b kept lt e = e ∙ ap ending (sym (named v d kept lt))
 
 -- a member of an ending object is empty just where its word is 0
 pub member_shows : (v : Story) (d : ℕ) (b : Block) (m : ℕ) → Kept v → d < v.extent.actors
-    → ((state v).object (object_in v b)).phase ≡ ending d → m < 3
-    → (get_or v.words (spot b.0 (7 + m)) 0 ≡ 0) ↔ (((state v).object (object_in v b)).member m ≡ empty (kind_of_member m))
+    → ((story_state v).object (object_of_block v b)).phase ≡ ending d → m < 3
+    → (get_or v.words (spot b.0 (7 + m)) 0 ≡ 0) ↔ (((story_state v).object (object_of_block v b)).member m ≡ empty (kind_of_member m))
 member_shows v d b m kept lt end few =
     let busy = ending_busy v d b end in
-    let c = Member (object_in v b) m in
-    subst (λ (i : ℕ). (get_or v.words (spot i (7 + m)) 0 ≡ 0) ↔ (((state v).object (object_in v b)).member m ≡ empty (kind_of_member m)))
+    let c = Member (object_of_block v b) m in
+    subst (λ (i : ℕ). (get_or v.words (spot i (7 + m)) 0 ≡ 0) ↔ (((story_state v).object (object_of_block v b)).member m ≡ empty (kind_of_member m)))
     (there v b kept busy).0 (zero_shows v c (decoded v d c kept lt (few, busy)))
 
 -- a member of an ending object is found empty
 pub member_zero : (v : Story) (d : ℕ) (b : Block) (m : ℕ) → Kept v → d < v.extent.actors → pending v d ≡ Idle
-    → ((state v).object (object_in v b)).phase ≡ ending d → m < 3 → ((state v).object (object_in v b)).member m ≡ empty (kind_of_member m)
+    → ((story_state v).object (object_of_block v b)).phase ≡ ending d → m < 3
+    → ((story_state v).object (object_of_block v b)).member m ≡ empty (kind_of_member m)
     → get_or v.words (spot b.0 (7 + m)) 0 ≡ 0
 member_zero v d b m kept lt idle end few bare =
-    let o = object_in v b in
+    let o = object_of_block v b in
     let busy = ending_busy v d b end in
     let h = there v b kept busy in
     let r = ready v d Idle kept lt idle in
     let read = cell_read (opening v.extent) v.words v.views v.history kept.stands d (view_in v.views d) r.seated r.awake (Member o m) (few, busy) in
     let none = kept.stands.bare.members b.0 m h.1 few (ap (λ (x : Handle). x.object) bare) in
-    let zero = ap (packed (blocks_of (state v))) bare ∙ packed_empty (blocks_of (state v)) m in
+    let zero = ap (packed (blocks_of (story_state v))) bare ∙ packed_empty (blocks_of (story_state v)) m in
     subst (λ (c : ℕ). get_or v.words (spot c (7 + m)) 0 ≡ 0) h.0
-    (let taken : kept.stands.taken (spot ((state v).object o).block (7 + m))
+    (let taken : kept.stands.taken (spot ((story_state v).object o).block (7 + m))
     ≡ 0 = subst (λ (c : ℕ). kept.stands.taken (spot c (7 + m)) ≡ 0) (sym h.0) none in
     omega arith)
 
 pub kept_clear : (v : Story) (d : ℕ) (b : Block) (m : ℕ) → Kept v → d < v.extent.actors → pending v d ≡ Idle
-    → ((state v).object (object_in v b)).phase ≡ ending d → m < 3 → ((state v).object (object_in v b)).member m ≡ empty (kind_of_member m)
-    → Kept (after v d (Clear b m))
+    → ((story_state v).object (object_of_block v b)).phase ≡ ending d → m < 3
+    → ((story_state v).object (object_of_block v b)).member m ≡ empty (kind_of_member m)
+    → Kept (story_after_deed v d (Clear b m))
 kept_clear v d b m kept lt idle end few bare =
-    let o = object_in v b in
-    let x = (state v).object o in
+    let o = object_of_block v b in
+    let x = (story_state v).object o in
     let h = there v b kept (ending_busy v d b end) in
     let zero = member_zero v d b m kept lt idle end few bare in
     let here = ap (λ (c : ℕ). spot c (7 + m)) h.0 in
@@ -80,11 +82,11 @@ kept_clear v d b m kept lt idle end few bare =
     (set v.views d (sees_as (view_in v.views d) Idle (entry (me (point v d)) (event.ClearMember o m (empty (kind_of_member m))) ∷ v.history)))
     (entry (me (point v d)) (event.ClearMember o m (empty (kind_of_member m))) ∷ v.history) =
     subst (λ (k : Handle). Stands (opening v.extent) (set v.words (spot x.block (7 + m)) 0)
-    (set v.views d (sees_as (view_in v.views d) (purse (blocks_of (state v)) k 256) (entry (me (point v d)) (event.ClearMember o m k) ∷ v.history)))
+    (set v.views d (sees_as (view_in v.views d) (purse (blocks_of (story_state v)) k 256) (entry (me (point v d)) (event.ClearMember o m k) ∷ v.history)))
     (entry (me (point v d)) (event.ClearMember o m k) ∷ v.history)) bare
     (clears' (point v d) o m r (ends v d b kept lt end) few
-    (subst (λ (k : Handle). HasRoom (cleared {V = Nothing} (state v) (me (point v d)) (event.ClearMember o m k)) (me (point v d))) (sym bare) room) 0
-    (let t = ap (packed (blocks_of (state v))) bare ∙ packed_empty (blocks_of (state v)) m in omega arith)) in
+    (subst (λ (k : Handle). HasRoom (cleared {V = Nothing} (story_state v) (me (point v d)) (event.ClearMember o m k)) (me (point v d))) (sym bare) room) 0
+    (let t = ap (packed (blocks_of (story_state v))) bare ∙ packed_empty (blocks_of (story_state v)) m in omega arith)) in
     kept_after v d (Clear b m) kept lt
     (event_by v d v.words Idle (event.ClearMember o m (empty (kind_of_member m))) kept lt
     (subst (λ (w : List ℕ). Stands (opening v.extent) w
@@ -92,32 +94,33 @@ kept_clear v d b m kept lt idle end few bare =
     (entry (me (point v d)) (event.ClearMember o m (empty (kind_of_member m))) ∷ v.history)) same law))
 
 finishing : (v : Story) (d : ℕ) (b : Block) → Kept v → d < v.extent.actors → pending v d ≡ Idle
-    → ((state v).object (object_in v b)).phase ≡ ending d
-    → ((m : ℕ) → m < 3 → ((state v).object (object_in v b)).member m ≡ empty (kind_of_member m))
+    → ((story_state v).object (object_of_block v b)).phase ≡ ending d
+    → ((m : ℕ) → m < 3 → ((story_state v).object (object_of_block v b)).member m ≡ empty (kind_of_member m))
     → (0 < get_or v.words (spot b.0 1) 0)
-    × (let e = event.Finish (object_in v b) (get_or v.words (spot b.0 1) 0 == 1) tt in
+    × (let e = event.Finish (object_of_block v b) (get_or v.words (spot b.0 1) 0 == 1) tt in
     Stands (opening v.extent) (set v.words (spot b.0 1) (get_or v.words (spot b.0 1) 0 - 1))
     (set v.views d (sees_as (view_in v.views d) Idle (entry (me (point v d)) e ∷ v.history))) (entry (me (point v d)) e ∷ v.history))
 finishing v d b kept lt idle end bare =
     subst (λ (c : ℕ). (0 < get_or v.words (spot c 1) 0)
-    × (let e = event.Finish (object_in v b) (get_or v.words (spot c 1) 0 == 1) tt in
+    × (let e = event.Finish (object_of_block v b) (get_or v.words (spot c 1) 0 == 1) tt in
     Stands (opening v.extent) (set v.words (spot c 1) (get_or v.words (spot c 1) 0 - 1))
     (set v.views d (sees_as (view_in v.views d) Idle (entry (me (point v d)) e ∷ v.history))) (entry (me (point v d)) e ∷ v.history)))
     (there v b kept (ending_busy v d b end)).0
-    (finishes' (point v d) (object_in v b) tt (ready v d Idle kept lt idle) (ending_value (opening v.extent) v.history kept.stands.legal (object_in v b) d end)
+    (finishes' (point v d) (object_of_block v b) tt (ready v d Idle kept lt idle) (ending_value (opening v.extent) v.history kept.stands.legal
+    (object_of_block v b) d end)
     (ends v d b kept lt end) bare)
 
 pub some_weak : (v : Story) (d : ℕ) (b : Block) → Kept v → d < v.extent.actors → pending v d ≡ Idle
-    → ((state v).object (object_in v b)).phase ≡ ending d
-    → ((m : ℕ) → m < 3 → ((state v).object (object_in v b)).member m ≡ empty (kind_of_member m)) → 0 < get_or v.words (spot b.0 1) 0
+    → ((story_state v).object (object_of_block v b)).phase ≡ ending d
+    → ((m : ℕ) → m < 3 → ((story_state v).object (object_of_block v b)).member m ≡ empty (kind_of_member m)) → 0 < get_or v.words (spot b.0 1) 0
 some_weak v d b kept lt idle end bare = (finishing v d b kept lt idle end bare).0
 
 pub kept_finish : (v : Story) (d : ℕ) (b : Block) (vacant : Bool) → Kept v → d < v.extent.actors → pending v d ≡ Idle
-    → ((state v).object (object_in v b)).phase ≡ ending d
-    → ((m : ℕ) → m < 3 → ((state v).object (object_in v b)).member m ≡ empty (kind_of_member m))
-    → vacant ≡ (get_or v.words (spot b.0 1) 0 == 1) → Kept (after v d (Finish b vacant))
+    → ((story_state v).object (object_of_block v b)).phase ≡ ending d
+    → ((m : ℕ) → m < 3 → ((story_state v).object (object_of_block v b)).member m ≡ empty (kind_of_member m))
+    → vacant ≡ (get_or v.words (spot b.0 1) 0 == 1) → Kept (story_after_deed v d (Finish b vacant))
 kept_finish v d b vacant kept lt idle end bare is =
-    let o = object_in v b in
+    let o = object_of_block v b in
     kept_after v d (Finish b vacant) kept lt
     (event_by v d (set v.words (spot b.0 1) (get_or v.words (spot b.0 1) 0 - 1)) Idle (event.Finish o vacant tt) kept lt
     (subst (λ (l : Bool). let e = event.Finish o l tt in
@@ -126,6 +129,6 @@ kept_finish v d b vacant kept lt idle end bare is =
     (finishing v d b kept lt idle end bare).1))
 
 -- the event of a finish says whether the block is vacant
-pub finished_vacant : (v : Story) (d : ℕ) (b : Block) (vacant : Bool) → Kept (after v d (Finish b vacant))
-    → vacant ≡ (weak (state v) (object_in v b) == 0)
+pub finished_vacant : (v : Story) (d : ℕ) (b : Block) (vacant : Bool) → Kept (story_after_deed v d (Finish b vacant))
+    → vacant ≡ (weak (story_state v) (object_of_block v b) == 0)
 finished_vacant v d b vacant kept = kept.stands.legal.1.asks.2

@@ -26,27 +26,29 @@ use Rattle.control_word.specs.declared.view.View.{View}
 use Rattle.step_table.specs.declared.extent.Extent.{Extent}
 use Rattle.step_table.specs.declared.past.Deed.{Deed}
 use Rattle.step_table.specs.declared.past.Deed.TheVariants.{OnCell}
-use Rattle.step_table.specs.CellDeeds.{cell_in, handle_told, kind_in, object_at, owing}
-use Rattle.step_table.specs.Cells.{HasInHand, IsOpenTo, Shows, word_at}
+use Rattle.step_table.specs.CellDeeds.{cell_in, handle_told, kind_in_state, object_at, owing_funds}
+use Rattle.step_table.specs.Cells.{HasInHand, IsOpenTo, ShowsCell, word_of_cell}
 use Rattle.step_table.specs.Openings.{opening}
-use Rattle.step_table.specs.Stories.{Kept, Nothing, Story, after, history_after, object_in, pending, state, view_in, views_after, words_after}
+use Rattle.step_table.specs.Stories.{Kept, Nothing, Story, story_after_deed, history_after, object_of_block, pending, story_state, view_in, views_after}
+use Rattle.step_table.specs.Stories.{words_after}
 use Rattle.step_table.proofs.tables.Places.{event_by, named as own}
 use Rattle.step_table.proofs.tables.Shown.{cell_there, found_in, kept_cell}
 use Rattle.step_table.proofs.tables.Standing.{kept_after, point, ready, story_as}
 
-pub kept_look : (v : Story) (d : ℕ) (c : Cell) (x : CellWord) → Kept v → d < v.extent.actors → pending v d ≡ Idle → IsOpenTo v d c → Shows v c x
-    → is_some x.owned ≡ false → Kept (after v d (OnCell (Look c x None)))
+pub kept_look : (v : Story) (d : ℕ) (c : Cell) (x : CellWord) → Kept v → d < v.extent.actors → pending v d ≡ Idle → IsOpenTo v d c
+    → ShowsCell v c x
+    → is_some x.owned ≡ false → Kept (story_after_deed v d (OnCell (Look c x None)))
 kept_look v d c x kept lt idle way shows none = go x.owned refl
   where
-    go : (o : Option Block) → x.owned ≡ o → Kept (after v d (OnCell (Look c x None)))
+    go : (o : Option Block) → x.owned ≡ o → Kept (story_after_deed v d (OnCell (Look c x None)))
     go (Some b) e = absurd (clash (sym (ap is_some e) ∙ none))
       where
         clash : true ≡ false → ⊥
         clash q = cc
     go None e =
-        let s = state v in
+        let s = story_state v in
         let n = cell_in s c in
-        let k = kind_in s c in
+        let k = kind_in_state s c in
         let m = own v d kept lt in
         let told : handle_told s c x ≡ handle k None x.place = ap (λ (q : Option Block). handle k (object_at s q) x.place) e in
         let law = loads_empty (point v d) n k x.place (ready v d Idle kept lt idle) (subst (λ (i : ℕ). IsOpen s i n) (sym m) way)
@@ -57,17 +59,18 @@ kept_look v d c x kept lt idle way shows none = go x.owned refl
         (event_by v d v.words Idle (event.Load n (handle k None x.place)) kept lt law))
 
 pub kept_refill : (v : Story) (d : ℕ) (c : Cell) (x : CellWord) (p : Option Place) → Kept v → d < v.extent.actors → IsOpenTo v d c
-    → x.owned ≢ None → IsCellWord x → word_at v c ≡ cell_bits x → pending v d ≡ owing (state v) (kind_in (state v) c) x.owned p x.taken 0
-    → Kept (after v d (OnCell (Refill c x.taken)))
+    → x.owned ≢ None → IsCellWord x → word_of_cell v c ≡ cell_bits x
+    → pending v d ≡ owing_funds (story_state v) (kind_in_state (story_state v) c) x.owned p x.taken 0
+    → Kept (story_after_deed v d (OnCell (Refill c x.taken)))
 kept_refill v d c x p kept lt way some valid bits owes = go x.owned refl
   where
-    go : (o : Option Block) → x.owned ≡ o → Kept (after v d (OnCell (Refill c x.taken)))
+    go : (o : Option Block) → x.owned ≡ o → Kept (story_after_deed v d (OnCell (Refill c x.taken)))
     go None e = absurd (some e)
     go (Some b) e =
-        let s = state v in
+        let s = story_state v in
         let n = cell_in s c in
-        let k = kind_in s c in
-        let o = object_in v b in
+        let k = kind_in_state s c in
+        let o = object_of_block v b in
         let is = kept_cell v d c kept way in
         let f = found_in v d c x kept lt is valid bits in
         let m = own v d kept lt in
@@ -75,7 +78,8 @@ kept_refill v d c x p kept lt way some valid bits owes = go x.owned refl
         let told : handle_told s c x ≡ handle k (Some o) x.place = ap (λ (q : Option Block). handle k (object_at s q) x.place) e in
         let same : handle k (Some o) x.place ≡ cell_of s n = sym told ∙ f.shows.holds in
         let owed : pending v d ≡ Paying k o p (counts_at (blocks_of s) k o) x.taken 0 =
-        owes ∙ ap (λ (q : Option Block). owing s k q p x.taken 0) e ∙ ap (λ (i : ℕ). Paying k o p (spot i (slot k)) x.taken 0) (sym (f.there b e)) in
+        owes ∙ ap (λ (q : Option Block). owing_funds s k q p x.taken 0) e ∙ ap (λ (i : ℕ). Paying k o p (spot i (slot k)) x.taken 0)
+        (sym (f.there b e)) in
         let law =
         refills (point v d) n k o x.taken p x.place (ready v d _ kept lt owed) (subst (λ (i : ℕ). IsOpen s i n) (sym m) way) same
         (f.bits ∙ ap (λ y. packed (blocks_of s) y + 17179869184 * x.taken) (sym same)) in
@@ -89,12 +93,13 @@ refilled x n w e f = omega (arith, e, f)
 
 pub kept_look_differing : (v : Story) (d : ℕ) (c : Cell) (x : CellWord) (y : Compared) → Kept v → d < v.extent.actors
     → pending v d ≡ Idle → IsOpenTo v d c
-    → HasInHand v d c y.expected → HasInHand v d c y.new → Shows v c x → x.owned ≡ None
-    → equivalent (handle_told (state v) c x) (handle_told (state v) c y.expected) ≡ false → Kept (after v d (OnCell (Look c x (Some y))))
+    → HasInHand v d c y.expected → HasInHand v d c y.new → ShowsCell v c x → x.owned ≡ None
+    → equivalent (handle_told (story_state v) c x) (handle_told (story_state v) c y.expected) ≡ false
+    → Kept (story_after_deed v d (OnCell (Look c x (Some y))))
 kept_look_differing v d c x y kept lt idle way wanted hand shows e other =
-    let s = state v in
+    let s = story_state v in
     let n = cell_in s c in
-    let k = kind_in s c in
+    let k = kind_in_state s c in
     let m = own v d kept lt in
     let w = handle_told s c y.expected in
     let h = handle_told s c y.new in
@@ -134,6 +139,6 @@ is_bare x e = no_owned x.owned e
 -- the table as the code leaves it, whole
 pub story_here : (v : Story) (d : ℕ) (x : Deed) (extent : Extent) (words : List ℕ) (history : List (Entry Nothing)) (views : List (View Nothing))
     → extent ≡ v.extent → words ≡ words_after v x → (history ≡ history_after v d x) × (views ≡ views_after v d x)
-    → ◌≡◌ {A = Story} (record { extent = extent; words = words; views = views; history = history }) (after v d x)
+    → ◌≡◌ {A = Story} (record { extent = extent; words = words; views = views; history = history }) (story_after_deed v d x)
 story_here v d x extent words history views at same past =
     ap (λ (e : Extent). record { extent = e; words = words; views = views; history = history }) at ∙ story_as v d x words history views same past

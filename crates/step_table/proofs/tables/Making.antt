@@ -12,43 +12,44 @@ use Rattle.control_word.specs.Views.{Stands, sees_as}
 use Rattle.control_word.specs.Words.{flags_of}
 use Rattle.step_table.specs.declared.past.Deed.TheVariants.{Prepare, Write, Claim}
 use Rattle.step_table.specs.Openings.{opening}
-use Rattle.step_table.specs.Stories.{Nothing, Story, Kept, IsMaking, after, known, pending, state, view_in}
+use Rattle.step_table.specs.Stories.{Nothing, Story, Kept, IsMaking, story_after_deed, known_words, pending, story_state, view_in}
 use Rattle.step_table.proofs.tables.Standing.{point, ready, kept_after}
 use Rattle.step_table.proofs.tables.Places.{event_by, named}
 
-pub kept_prepare : (v : Story) (d : ℕ) (b : Block) → Kept v → d < v.extent.actors → pending v d ≡ Idle → Has (stored d b.0) (state v).stores
-    → Kept (after v d (Prepare b))
+pub kept_prepare : (v : Story) (d : ℕ) (b : Block) → Kept v → d < v.extent.actors → pending v d ≡ Idle → Has (stored d b.0) (story_state v).stores
+    → Kept (story_after_deed v d (Prepare b))
 kept_prepare v d b kept lt idle has =
     kept_after v d (Prepare b) kept lt
-    (writes_weak_word (point v d) (ready v d Idle kept lt idle) b (subst (λ (n : ℕ). Has (stored n b.0) (state v).stores) (sym (named v d kept lt)) has))
+    (writes_weak_word (point v d) (ready v d Idle kept lt idle) b (subst (λ (n : ℕ). Has (stored n b.0) (story_state v).stores)
+    (sym (named v d kept lt)) has))
 
 -- what a make knows of a word is so
 pub known_word : (v : Story) (d : ℕ) (b : Block) (j : ℕ) → Kept v → d < v.extent.actors → IsMaking v d b → j < 5
-    → get_or v.words (spot b.0 (2 + j)) 0 ≡ get_or (known (pending v d)) j 0
+    → get_or v.words (spot b.0 (2 + j)) 0 ≡ get_or (known_words (pending v d)) j 0
 known_word v d b j kept lt making few =
-    subst (λ (p : Pending Nothing). get_or v.words (spot b.0 (2 + j)) 0 ≡ get_or (known p) j 0) (sym making.making)
+    subst (λ (p : Pending Nothing). get_or v.words (spot b.0 (2 + j)) 0 ≡ get_or (known_words p) j 0) (sym making.making)
     (writes_word (point v d) b making.words (ready v d _ kept lt making.making) making.size j 0 few).0
 
 pub kept_write : (v : Story) (d : ℕ) (b : Block) (j n : ℕ) → Kept v → d < v.extent.actors → IsMaking v d b → j < 5
-    → Kept (after v d (Write b j n))
+    → Kept (story_after_deed v d (Write b j n))
 kept_write v d b j n kept lt making few =
     kept_after v d (Write b j n) kept lt
     (subst (λ (p : Pending Nothing). Stands (opening v.extent) (set v.words (spot b.0 (2 + j)) n)
-    (set v.views d (sees_as (view_in v.views d) (Making b (set (known p) j n)) v.history)) v.history) (sym making.making)
+    (set v.views d (sees_as (view_in v.views d) (Making b (set (known_words p) j n)) v.history)) v.history) (sym making.making)
     (writes_word (point v d) b making.words (ready v d _ kept lt making.making) making.size j n few).1)
 
 -- what the desk knows of the block that it prepared
-known_now : (v : Story) (d : ℕ) (b : Block) (flags : ℕ) (fields : List ℕ) (making : IsMaking v d b) → known (pending v d) ≡ flags ∷ fields
+known_now : (v : Story) (d : ℕ) (b : Block) (flags : ℕ) (fields : List ℕ) (making : IsMaking v d b) → known_words (pending v d) ≡ flags ∷ fields
     → making.words ≡ flags ∷ fields
-known_now v d b flags fields making is = sym (ap known making.making) ∙ is
+known_now v d b flags fields making is = sym (ap known_words making.making) ∙ is
 
 pub kept_claim : (v : Story) (d : ℕ) (b : Block) (enabled null : Bool) (fields : List ℕ) → Kept v → d < v.extent.actors → IsMaking v d b
-    → known (pending v d) ≡ flags_of enabled null ∷ fields → bag_size (state v) d < (state v).allowance d
-    → Kept (after v d (Claim b enabled null fields))
+    → known_words (pending v d) ≡ flags_of enabled null ∷ fields → bag_size (story_state v) d < (story_state v).allowance d
+    → Kept (story_after_deed v d (Claim b enabled null fields))
 kept_claim v d b enabled null fields kept lt making is room =
     let words = known_now v d b (flags_of enabled null) fields making is in
     kept_after v d (Claim b enabled null fields) kept lt
     (event_by v d (set v.words (spot b.0 0) 1) Idle (event.Make b enabled null fields tt) kept lt
     (claims (point v d) b enabled null fields tt (ready v d _ kept lt (making.making ∙ ap (Making b) words))
     (let e = sym (ap (length {A = ℕ}) words) ∙ making.size in omega arith)
-    (subst (λ (n : ℕ). bag_size (state v) n < (state v).allowance n) (sym (named v d kept lt)) room)))
+    (subst (λ (n : ℕ). bag_size (story_state v) n < (story_state v).allowance n) (sym (named v d kept lt)) room)))

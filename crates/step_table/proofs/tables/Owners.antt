@@ -24,37 +24,38 @@ use Rattle.control_word.specs.Views.{Stands, owed, sees_as}
 use Rattle.step_table.specs.declared.past.Deed.TheVariants.{Share, Leave, Count}
 use Rattle.step_table.specs.Deeds.{told_number}
 use Rattle.step_table.specs.Openings.{opening}
-use Rattle.step_table.specs.Stories.{Story, Kept, after, handle_in, object_in, owner_in, pending, state, view_in}
+use Rattle.step_table.specs.Stories.{Story, Kept, story_after_deed, handle_in_block, object_of_block, owner_in, pending, story_state, view_in}
 use Rattle.step_table.proofs.tables.Standing.{point, ready, kept_after}
 use Rattle.step_table.proofs.tables.Places.{event_by, handle_busy, named, owner_busy, there}
 
 -- the owner word has room
 pub headroom : (v : Story) (d : ℕ) (b : Block) (p : Option Place) → Kept v → d < v.extent.actors → pending v d ≡ Idle
-    → Has (held d (owner_in v b p)) (state v).hands → get_or v.words (spot b.0 0) 0 + 1099511627776 < 18446744073709551616
+    → Has (held d (owner_in v b p)) (story_state v).hands → get_or v.words (spot b.0 0) 0 + 1099511627776 < 18446744073709551616
 headroom v d b p kept lt idle has =
     let busy = owner_busy v d b p kept has in
     subst (λ (c : ℕ). get_or v.words (spot c 0) 0 + 1099511627776 < 18446744073709551616) (there v b kept busy).0
-    (has_headroom (point v d) Idle (ready v d Idle kept lt idle) Owner (object_in v b) busy).0
+    (has_headroom (point v d) Idle (ready v d Idle kept lt idle) Owner (object_of_block v b) busy).0
 
-pub mine : (v : Story) (d : ℕ) (b : Block) (p : Option Place) → Kept v → d < v.extent.actors → Has (held d (owner_in v b p)) (state v).hands
-    → Has (held (me (point v d)) (owner_in v b p)) (state v).hands
-mine v d b p kept lt has = subst (λ (n : ℕ). Has (held n (owner_in v b p)) (state v).hands) (sym (named v d kept lt)) has
+pub mine : (v : Story) (d : ℕ) (b : Block) (p : Option Place) → Kept v → d < v.extent.actors → Has (held d (owner_in v b p)) (story_state v).hands
+    → Has (held (me (point v d)) (owner_in v b p)) (story_state v).hands
+mine v d b p kept lt has = subst (λ (n : ℕ). Has (held n (owner_in v b p)) (story_state v).hands) (sym (named v d kept lt)) has
 
 pub mine_as : (v : Story) (d : ℕ) (k : Kind) (b : Block) (p : Option Place) → Kept v → d < v.extent.actors
-    → Has (held d (handle_in v k b p)) (state v).hands
-    → Has (held (me (point v d)) (handle_in v k b p)) (state v).hands
-mine_as v d k b p kept lt has = subst (λ (n : ℕ). Has (held n (handle_in v k b p)) (state v).hands) (sym (named v d kept lt)) has
+    → Has (held d (handle_in_block v k b p)) (story_state v).hands
+    → Has (held (me (point v d)) (handle_in_block v k b p)) (story_state v).hands
+mine_as v d k b p kept lt has = subst (λ (n : ℕ). Has (held n (handle_in_block v k b p)) (story_state v).hands) (sym (named v d kept lt)) has
 
 -- either word has room
 pub room_above : (v : Story) (d : ℕ) (i k : Kind) (b : Block) (p : Option Place) → Kept v → d < v.extent.actors → pending v d ≡ Idle
-    → Has (held d (handle_in v k b p)) (state v).hands → get_or v.words (spot b.0 (slot i)) 0 + 1099511627776 < 18446744073709551616
+    → Has (held d (handle_in_block v k b p)) (story_state v).hands → get_or v.words (spot b.0 (slot i)) 0 + 1099511627776 < 18446744073709551616
 room_above v d i k b p kept lt idle has =
     let busy = handle_busy v d k b p kept has in
     subst (λ (c : ℕ). get_or v.words (spot c (slot i)) 0 + 1099511627776 < 18446744073709551616) (there v b kept busy).0
-    (has_headroom (point v d) Idle (ready v d Idle kept lt idle) i (object_in v b) busy).0
+    (has_headroom (point v d) Idle (ready v d Idle kept lt idle) i (object_of_block v b) busy).0
 
 pub kept_share : (v : Story) (d : ℕ) (b : Block) (p q : Option Place) → Kept v → d < v.extent.actors → pending v d ≡ Idle
-    → Has (held d (owner_in v b p)) (state v).hands → IsPointer q → bag_size (state v) d < (state v).allowance d → Kept (after v d (Share b p q))
+    → Has (held d (owner_in v b p)) (story_state v).hands → IsPointer q → bag_size (story_state v) d < (story_state v).allowance d
+    → Kept (story_after_deed v d (Share b p q))
 kept_share v d b p q kept lt idle has fine room =
     let e = event.Share (owner_in v b p) q in
     kept_after v d (Share b p q) kept lt
@@ -62,11 +63,11 @@ kept_share v d b p q kept lt idle has fine room =
     (subst (λ (c : ℕ). Stands (opening v.extent) (set v.words (spot c 0) (suc (get_or v.words (spot c 0) 0)))
     (set v.views d (sees_as (view_in v.views d) Idle (entry (me (point v d)) e ∷ v.history))) (entry (me (point v d)) e ∷ v.history))
     (there v b kept (owner_busy v d b p kept has)).0
-    (shares (point v d) (object_in v b) p q (ready v d Idle kept lt idle) (mine v d b p kept lt has) fine
-    (subst (λ (n : ℕ). bag_size (state v) n < (state v).allowance n) (sym (named v d kept lt)) room))))
+    (shares (point v d) (object_of_block v b) p q (ready v d Idle kept lt idle) (mine v d b p kept lt has) fine
+    (subst (λ (n : ℕ). bag_size (story_state v) n < (story_state v).allowance n) (sym (named v d kept lt)) room))))
 
 leaving : (v : Story) (d : ℕ) (b : Block) (p : Option Place) → Kept v → d < v.extent.actors → pending v d ≡ Idle
-    → Has (held d (owner_in v b p)) (state v).hands
+    → Has (held d (owner_in v b p)) (story_state v).hands
     → (0 < get_or v.words (spot b.0 0) 0)
     × (let e = event.Leave (owner_in v b p) (get_or v.words (spot b.0 0) 0 == 1) in
     Stands (opening v.extent) (set v.words (spot b.0 0) (get_or v.words (spot b.0 0) 0 - 1))
@@ -77,14 +78,14 @@ leaving v d b p kept lt idle has =
     Stands (opening v.extent) (set v.words (spot c 0) (get_or v.words (spot c 0) 0 - 1))
     (set v.views d (sees_as (view_in v.views d) Idle (entry (me (point v d)) e ∷ v.history))) (entry (me (point v d)) e ∷ v.history)))
     (there v b kept (owner_busy v d b p kept has)).0
-    (leaves' (point v d) (object_in v b) p (ready v d Idle kept lt idle) (mine v d b p kept lt has))
+    (leaves' (point v d) (object_of_block v b) p (ready v d Idle kept lt idle) (mine v d b p kept lt has))
 
 pub some_owner : (v : Story) (d : ℕ) (b : Block) (p : Option Place) → Kept v → d < v.extent.actors → pending v d ≡ Idle
-    → Has (held d (owner_in v b p)) (state v).hands → 0 < get_or v.words (spot b.0 0) 0
+    → Has (held d (owner_in v b p)) (story_state v).hands → 0 < get_or v.words (spot b.0 0) 0
 some_owner v d b p kept lt idle has = (leaving v d b p kept lt idle has).0
 
 pub kept_leave : (v : Story) (d : ℕ) (b : Block) (p : Option Place) (last : Bool) → Kept v → d < v.extent.actors → pending v d ≡ Idle
-    → Has (held d (owner_in v b p)) (state v).hands → last ≡ (get_or v.words (spot b.0 0) 0 == 1) → Kept (after v d (Leave b p last))
+    → Has (held d (owner_in v b p)) (story_state v).hands → last ≡ (get_or v.words (spot b.0 0) 0 == 1) → Kept (story_after_deed v d (Leave b p last))
 kept_leave v d b p last kept lt idle has is =
     kept_after v d (Leave b p last) kept lt
     (event_by v d (set v.words (spot b.0 0) (get_or v.words (spot b.0 0) 0 - 1)) Idle (event.Leave (owner_in v b p) last) kept lt
@@ -94,8 +95,8 @@ kept_leave v d b p last kept lt idle has is =
     (leaving v d b p kept lt idle has).1))
 
 -- the event of a leave says whether it was the last
-pub left_last : (v : Story) (d : ℕ) (b : Block) (p : Option Place) (last : Bool) → Kept (after v d (Leave b p last))
-    → last ≡ (count (state v) (object_in v b) == 1)
+pub left_last : (v : Story) (d : ℕ) (b : Block) (p : Option Place) (last : Bool) → Kept (story_after_deed v d (Leave b p last))
+    → last ≡ (count (story_state v) (object_of_block v b) == 1)
 left_last v d b p last kept = kept.stands.legal.1.asks.1
 
 -- a word is 1 just where its number is 1 and it has no funds
@@ -120,49 +121,50 @@ told_word w =
     (λ none bare. cond-true (number_of w == 0) _ _ (eq-eqb (number_of w) 0 none) ∙ cond-true (w == 0) 0 1 (eq-eqb w 0 (omega arith)))
 
 telling : (v : Story) (d : ℕ) (k : Kind) (b : Block) (p : Option Place) (n : ℕ) → Kept v → d < v.extent.actors → pending v d ≡ Idle
-    → Has (held d (handle_in v k b p)) (state v).hands
+    → Has (held d (handle_in_block v k b p)) (story_state v).hands
     → let w = get_or v.words (spot b.0 0) 0 in n ≡ cond (number_of w == 0) (cond (funds_of w == 0) 0 1) (number_of w)
-    → (let e = event.Count (handle_in v k b p) n in
+    → (let e = event.Count (handle_in_block v k b p) n in
     Stands (opening v.extent) v.words (set v.views d (sees_as (view_in v.views d) Idle (entry (me (point v d)) e ∷ v.history)))
     (entry (me (point v d)) e ∷ v.history))
-    × (owed v.views (spot b.0 0) ≡ 0 → n ≡ count (state v) (object_in v b))
+    × (owed v.views (spot b.0 0) ≡ 0 → n ≡ count (story_state v) (object_of_block v b))
 telling v d k b p n kept lt idle has is =
     let h = there v b kept (handle_busy v d k b p kept has) in
     let w = get_or v.words (spot b.0 0) 0 in
     let low = number_of w in
     let high = funds_of w in
-    subst (λ (m : ℕ). (let e = event.Count (handle_in v k b p) m in
+    subst (λ (m : ℕ). (let e = event.Count (handle_in_block v k b p) m in
     Stands (opening v.extent) v.words (set v.views d (sees_as (view_in v.views d) Idle (entry (me (point v d)) e ∷ v.history)))
     (entry (me (point v d)) e ∷ v.history))
-    × (owed v.views (spot b.0 0) ≡ 0 → m ≡ count (state v) (object_in v b))) (sym is)
+    × (owed v.views (spot b.0 0) ≡ 0 → m ≡ count (story_state v) (object_of_block v b))) (sym is)
     (subst (λ (c : ℕ). get_or v.words (spot c 0) 0 ≡ low + 4294967296 * high → low < 4294967296
-    → (let e = event.Count (handle_in v k b p) (cond (low == 0) (cond (high == 0) 0 1) low) in
+    → (let e = event.Count (handle_in_block v k b p) (cond (low == 0) (cond (high == 0) 0 1) low) in
     Stands (opening v.extent) v.words (set v.views d (sees_as (view_in v.views d) Idle (entry (me (point v d)) e ∷ v.history)))
     (entry (me (point v d)) e ∷ v.history))
-    × (owed v.views (spot c 0) ≡ 0 → cond (low == 0) (cond (high == 0) 0 1) low ≡ count (state v) (object_in v b))) h.0
-    (tells_count (point v d) k (object_in v b) p low high (ready v d Idle kept lt idle) (mine_as v d k b p kept lt has)) (omega arith) (omega arith))
+    × (owed v.views (spot c 0) ≡ 0 → cond (low == 0) (cond (high == 0) 0 1) low ≡ count (story_state v) (object_of_block v b))) h.0
+    (tells_count (point v d) k (object_of_block v b) p low high (ready v d Idle kept lt idle) (mine_as v d k b p kept lt has)) (omega arith) (omega arith))
 
 pub kept_count : (v : Story) (d : ℕ) (k : Kind) (b : Block) (p : Option Place) (n : ℕ) → Kept v → d < v.extent.actors → pending v d ≡ Idle
-    → Has (held d (handle_in v k b p)) (state v).hands
-    → (let w = get_or v.words (spot b.0 0) 0 in n ≡ cond (number_of w == 0) (cond (funds_of w == 0) 0 1) (number_of w)) → Kept (after v d (Count k b p n))
+    → Has (held d (handle_in_block v k b p)) (story_state v).hands
+    → (let w = get_or v.words (spot b.0 0) 0 in n ≡ cond (number_of w == 0) (cond (funds_of w == 0) 0 1) (number_of w))
+    → Kept (story_after_deed v d (Count k b p n))
 kept_count v d k b p n kept lt idle has is =
     kept_after v d (Count k b p n) kept lt
-    (event_by v d v.words Idle (event.Count (handle_in v k b p) n) kept lt (telling v d k b p n kept lt idle has is).0)
+    (event_by v d v.words Idle (event.Count (handle_in_block v k b p) n) kept lt (telling v d k b p n kept lt idle has is).0)
 
 pub told_none : (v : Story) (d : ℕ) (k : Kind) (b : Block) (p : Option Place) (n : ℕ) → Kept v → d < v.extent.actors → pending v d ≡ Idle
-    → Has (held d (handle_in v k b p)) (state v).hands
+    → Has (held d (handle_in_block v k b p)) (story_state v).hands
     → (let w = get_or v.words (spot b.0 0) 0 in n ≡ cond (number_of w == 0) (cond (funds_of w == 0) 0 1) (number_of w))
-    → (n == 0) ≡ (count (state v) (object_in v b) == 0)
+    → (n == 0) ≡ (count (story_state v) (object_of_block v b) == 0)
 told_none v d k b p n kept lt idle has is = (kept_count v d k b p n kept lt idle has is).stands.legal.1.asks.1
 
 pub told_most : (v : Story) (d : ℕ) (k : Kind) (b : Block) (p : Option Place) (n : ℕ) → Kept v → d < v.extent.actors → pending v d ≡ Idle
-    → Has (held d (handle_in v k b p)) (state v).hands
+    → Has (held d (handle_in_block v k b p)) (story_state v).hands
     → (let w = get_or v.words (spot b.0 0) 0 in n ≡ cond (number_of w == 0) (cond (funds_of w == 0) 0 1) (number_of w))
-    → n ≤ count (state v) (object_in v b)
+    → n ≤ count (story_state v) (object_of_block v b)
 told_most v d k b p n kept lt idle has is = (kept_count v d k b p n kept lt idle has is).stands.legal.1.asks.2
 
 pub exact_count : (v : Story) (d : ℕ) (k : Kind) (b : Block) (p : Option Place) (n : ℕ) → Kept v → d < v.extent.actors → pending v d ≡ Idle
-    → Has (held d (handle_in v k b p)) (state v).hands
+    → Has (held d (handle_in_block v k b p)) (story_state v).hands
     → (let w = get_or v.words (spot b.0 0) 0 in n ≡ cond (number_of w == 0) (cond (funds_of w == 0) 0 1) (number_of w))
-    → owed v.views (spot b.0 0) ≡ 0 → n ≡ count (state v) (object_in v b)
+    → owed v.views (spot b.0 0) ≡ 0 → n ≡ count (story_state v) (object_of_block v b)
 exact_count v d k b p n kept lt idle has is calm = (telling v d k b p n kept lt idle has is).1 calm

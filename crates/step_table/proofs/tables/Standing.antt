@@ -15,7 +15,7 @@ use Rattle.step_table.specs.declared.past.Deed.{Deed}
 use Rattle.step_table.specs.declared.past.Deed.TheVariants.{Prepare, Write, Claim, Share, WeakShare, Leave, WeakLeave, Lock, Count, Expired, Read, Clear}
 use Rattle.step_table.specs.declared.past.Deed.TheVariants.{Finish, OnCell, OnShelf}
 use Rattle.step_table.specs.Openings.{opening}
-use Rattle.step_table.specs.Stories.{Nothing, Story, Seats, Kept, after, history_after, pending, pending_after, state, view_in, views_after}
+use Rattle.step_table.specs.Stories.{Nothing, Story, Seats, Kept, story_after_deed, history_after, pending, pending_after, story_state, view_in, views_after}
 use Rattle.step_table.specs.Stories.{words_after}
 use Rattle.control_word.specs.State.{State}
 use Rattle.step_table.proofs.tables.CellDeeds.{framed}
@@ -58,7 +58,7 @@ seats_set views n d w seats lt name awake =
     }
 
 -- no deed changes an allowance
-same_allowance : (v : Story) (d : ℕ) (x : Deed) → (state (after v d x)).allowance ≡ (state v).allowance
+same_allowance : (v : Story) (d : ℕ) (x : Deed) → (story_state (story_after_deed v d x)).allowance ≡ (story_state v).allowance
 same_allowance v d (Prepare b) = refl
 same_allowance v d (Write b j n) = refl
 same_allowance v d (Claim b enabled null fields) = refl
@@ -77,7 +77,7 @@ same_allowance v d (OnCell x) = (framed v d x).allowance
 
 -- what a deed leaves
 pub kept_after : (v : Story) (d : ℕ) (x : Deed) → Kept v → d < v.extent.actors
-    → Stands (opening v.extent) (words_after v x) (views_after v d x) (history_after v d x) → Kept (after v d x)
+    → Stands (opening v.extent) (words_after v x) (views_after v d x) (history_after v d x) → Kept (story_after_deed v d x)
 kept_after v d x kept lt stands =
     record {
       stands = stands;
@@ -93,7 +93,7 @@ kept_after v d x kept lt stands =
 -- the table as the code leaves it
 pub story_as : (v : Story) (d : ℕ) (x : Deed) (words : List ℕ) (history : List (Entry Nothing)) (views : List (View Nothing))
     → words ≡ words_after v x → (history ≡ history_after v d x) × (views ≡ views_after v d x)
-    → ◌≡◌ {A = Story} (record { extent = v.extent; words = words; views = views; history = history }) (after v d x)
+    → ◌≡◌ {A = Story} (record { extent = v.extent; words = words; views = views; history = history }) (story_after_deed v d x)
 story_as v d x words history views same past =
     ap (λ (w : List ℕ). record { extent = v.extent; words = w; views = views; history = history }) same
     ∙ ap (λ (h : List (Entry Nothing)). record { extent = v.extent; words = words_after v x; views = views; history = h }) past.0
@@ -101,7 +101,8 @@ story_as v d x words history views same past =
 
 -- what the code leaves stands for the history
 pub kept_as : (v : Story) (d : ℕ) (x : Deed) (extent : Extent) (words : List ℕ) (history : List (Entry Nothing)) (views : List (View Nothing))
-    → Kept (after v d x) → extent ≡ v.extent → words ≡ words_after v x → (history ≡ history_after v d x) × (views ≡ views_after v d x)
+    → Kept (story_after_deed v d x) → extent ≡ v.extent → words ≡ words_after v x → (history ≡ history_after v d x)
+    × (views ≡ views_after v d x)
     → Kept (record { extent = extent; words = words; views = views; history = history })
 kept_as v d x extent words history views kept at same past =
     subst (λ (e : Extent). Kept (record { extent = e; words = words; views = views; history = history })) (sym at)

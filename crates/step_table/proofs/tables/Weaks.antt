@@ -19,39 +19,39 @@ use Rattle.control_word.specs.Steps.{me}
 use Rattle.control_word.specs.Views.{Stands, sees_as}
 use Rattle.step_table.specs.declared.past.Deed.TheVariants.{WeakShare, WeakLeave, Expired}
 use Rattle.step_table.specs.Openings.{opening}
-use Rattle.step_table.specs.Stories.{Nothing, Story, Kept, after, handle_in, object_in, pending, state, view_in, weak_in}
+use Rattle.step_table.specs.Stories.{Nothing, Story, Kept, story_after_deed, handle_in_block, object_of_block, pending, story_state, view_in, weak_in}
 use Rattle.step_table.proofs.tables.Owners.{mine_as, some_owner}
 use Rattle.step_table.proofs.tables.Places.{event_by, handle_busy, named, there}
 use Rattle.step_table.proofs.tables.Standing.{point, ready, kept_after}
 
 -- the place of a weak handle is that of the handle that it comes from, or the object's own
 module _ (v : Story) (d : ℕ) (k : Kind) (b : Block) (p q : Option Place) (kept : Kept v) (lt : d < v.extent.actors)
-    (has : Has (held d (handle_in v k b p)) (state v).hands) where
-  may_share : (q ≡ p) ⊎ (q ≡ place_at b.0) → Asks {V = Nothing} (state v) (me (point v d)) (event.WeakShare (object_in v b) q)
+    (has : Has (held d (handle_in_block v k b p)) (story_state v).hands) where
+  may_share : (q ≡ p) ⊎ (q ≡ place_at b.0) → Asks {V = Nothing} (story_state v) (me (point v d)) (event.WeakShare (object_of_block v b) q)
   may_share is =
       inl (
-        handle_in v k b p,
+        handle_in_block v k b p,
         (mine_as v d k b p kept lt has, refl, refl),
         refl,
         ⊎_elim (λ (e : q ≡ p). inl e)
             (λ (e : q ≡ place_at b.0). inr (e ∙ ap place_at (sym (there v b kept (handle_busy v d k b p kept has)).0))) is,
       )
 
-  pub kept_weak_share : pending v d ≡ Idle → (q ≡ p) ⊎ (q ≡ place_at b.0) → bag_size (state v) d < (state v).allowance d
-      → Kept (after v d (WeakShare b q))
+  pub kept_weak_share : pending v d ≡ Idle → (q ≡ p) ⊎ (q ≡ place_at b.0) → bag_size (story_state v) d < (story_state v).allowance d
+      → Kept (story_after_deed v d (WeakShare b q))
   kept_weak_share idle is room =
-      let e = event.WeakShare (object_in v b) q in
+      let e = event.WeakShare (object_of_block v b) q in
       let busy = handle_busy v d k b p kept has in
       kept_after v d (WeakShare b q) kept lt
       (event_by v d (set v.words (spot b.0 1) (suc (get_or v.words (spot b.0 1) 0))) Idle e kept lt
       (subst (λ (c : ℕ). Stands (opening v.extent) (set v.words (spot c 1) (suc (get_or v.words (spot c 1) 0)))
       (set v.views d (sees_as (view_in v.views d) Idle (entry (me (point v d)) e ∷ v.history))) (entry (me (point v d)) e ∷ v.history))
       (there v b kept busy).0
-      (weak_shares (point v d) (object_in v b) q (ready v d Idle kept lt idle) busy (may_share is)
-      (subst (λ (n : ℕ). bag_size (state v) n < (state v).allowance n) (sym (named v d kept lt)) room))))
+      (weak_shares (point v d) (object_of_block v b) q (ready v d Idle kept lt idle) busy (may_share is)
+      (subst (λ (n : ℕ). bag_size (story_state v) n < (story_state v).allowance n) (sym (named v d kept lt)) room))))
 
 leaving : (v : Story) (d : ℕ) (b : Block) (p : Option Place) → Kept v → d < v.extent.actors → pending v d ≡ Idle
-    → Has (held d (weak_in v b p)) (state v).hands
+    → Has (held d (weak_in v b p)) (story_state v).hands
     → (0 < get_or v.words (spot b.0 1) 0)
     × (let e = event.WeakLeave (weak_in v b p) (get_or v.words (spot b.0 1) 0 == 1) in
     Stands (opening v.extent) (set v.words (spot b.0 1) (get_or v.words (spot b.0 1) 0 - 1))
@@ -62,14 +62,15 @@ leaving v d b p kept lt idle has =
     Stands (opening v.extent) (set v.words (spot c 1) (get_or v.words (spot c 1) 0 - 1))
     (set v.views d (sees_as (view_in v.views d) Idle (entry (me (point v d)) e ∷ v.history))) (entry (me (point v d)) e ∷ v.history)))
     (there v b kept (handle_busy v d Weak b p kept has)).0
-    (weak_leaves' (point v d) (object_in v b) p (ready v d Idle kept lt idle) (mine_as v d Weak b p kept lt has))
+    (weak_leaves' (point v d) (object_of_block v b) p (ready v d Idle kept lt idle) (mine_as v d Weak b p kept lt has))
 
 pub some_handle : (v : Story) (d : ℕ) (b : Block) (p : Option Place) → Kept v → d < v.extent.actors → pending v d ≡ Idle
-    → Has (held d (weak_in v b p)) (state v).hands → 0 < get_or v.words (spot b.0 1) 0
+    → Has (held d (weak_in v b p)) (story_state v).hands → 0 < get_or v.words (spot b.0 1) 0
 some_handle v d b p kept lt idle has = (leaving v d b p kept lt idle has).0
 
 pub kept_weak_leave : (v : Story) (d : ℕ) (b : Block) (p : Option Place) (vacant : Bool) → Kept v → d < v.extent.actors → pending v d ≡ Idle
-    → Has (held d (weak_in v b p)) (state v).hands → vacant ≡ (get_or v.words (spot b.0 1) 0 == 1) → Kept (after v d (WeakLeave b p vacant))
+    → Has (held d (weak_in v b p)) (story_state v).hands → vacant ≡ (get_or v.words (spot b.0 1) 0 == 1)
+    → Kept (story_after_deed v d (WeakLeave b p vacant))
 kept_weak_leave v d b p vacant kept lt idle has is =
     kept_after v d (WeakLeave b p vacant) kept lt
     (event_by v d (set v.words (spot b.0 1) (get_or v.words (spot b.0 1) 0 - 1)) Idle (event.WeakLeave (weak_in v b p) vacant) kept lt
@@ -79,27 +80,30 @@ kept_weak_leave v d b p vacant kept lt idle has is =
     (leaving v d b p kept lt idle has).1))
 
 -- the event of a weak leave says whether the block is vacant
-pub left_vacant : (v : Story) (d : ℕ) (b : Block) (p : Option Place) (vacant : Bool) → Kept (after v d (WeakLeave b p vacant))
-    → vacant ≡ (weak (state v) (object_in v b) == 1 && is_gone ((state v).object (object_in v b)).phase)
+pub left_vacant : (v : Story) (d : ℕ) (b : Block) (p : Option Place) (vacant : Bool) → Kept (story_after_deed v d (WeakLeave b p vacant))
+    → vacant ≡ (weak (story_state v) (object_of_block v b) == 1 && is_gone ((story_state v).object (object_of_block v b)).phase)
 left_vacant v d b p vacant kept = kept.stands.legal.1.asks.1
 
 -- the owner word is 0 just where no owner is left
 pub none_left : (v : Story) (d : ℕ) (k : Kind) (b : Block) (p : Option Place) → Kept v → d < v.extent.actors → pending v d ≡ Idle
-    → Has (held d (handle_in v k b p)) (state v).hands → (get_or v.words (spot b.0 0) 0 == 0) ≡ (count (state v) (object_in v b) == 0)
+    → Has (held d (handle_in_block v k b p)) (story_state v).hands
+    → (get_or v.words (spot b.0 0) 0 == 0) ≡ (count (story_state v) (object_of_block v b) == 0)
 none_left v d Owner b p kept lt idle has =
     let w = get_or v.words (spot b.0 0) 0 in
     let some = some_owner v d b p kept lt idle has in
-    let one = owner_counted (state v) d (object_in v b) p has in
-    ne_eqb w 0 (λ e. omega (arith, e, some)) ∙ sym (ne_eqb (count (state v) (object_in v b)) 0 (λ e. omega (arith, e, one)))
+    let one = owner_counted (story_state v) d (object_of_block v b) p has in
+    ne_eqb w 0 (λ e. omega (arith, e, some)) ∙ sym (ne_eqb (count (story_state v) (object_of_block v b)) 0 (λ e. omega (arith, e, one)))
 none_left v d Weak b p kept lt idle has =
-    subst (λ (c : ℕ). (get_or v.words (spot c 0) 0 == 0) ≡ (count (state v) (object_in v b) == 0)) (there v b kept (handle_busy v d Weak b p kept has)).0
-    (tells_expired (point v d) (object_in v b) p (ready v d Idle kept lt idle) (mine_as v d Weak b p kept lt has)).legal.1.asks.1
+    subst (λ (c : ℕ). (get_or v.words (spot c 0) 0 == 0) ≡ (count (story_state v) (object_of_block v b) == 0))
+    (there v b kept (handle_busy v d Weak b p kept has)).0
+    (tells_expired (point v d) (object_of_block v b) p (ready v d Idle kept lt idle) (mine_as v d Weak b p kept lt has)).legal.1.asks.1
 
 pub kept_expired : (v : Story) (d : ℕ) (k : Kind) (b : Block) (p : Option Place) (expired : Bool) → Kept v → d < v.extent.actors → pending v d ≡ Idle
-    → Has (held d (handle_in v k b p)) (state v).hands → expired ≡ (count (state v) (object_in v b) == 0) → Kept (after v d (Expired k b p expired))
+    → Has (held d (handle_in_block v k b p)) (story_state v).hands → expired ≡ (count (story_state v) (object_of_block v b) == 0)
+    → Kept (story_after_deed v d (Expired k b p expired))
 kept_expired v d k b p expired kept lt idle has is =
     let r = ready v d Idle kept lt idle in
     kept_after v d (Expired k b p expired) kept lt
-    (event_by v d v.words Idle (event.Expired (handle_in v k b p) expired) kept lt
-    (look_event (opening v.extent) v.words v.views v.history kept.stands d (view_in v.views d) r.seated r.awake r.pending (object_in v b) p
-    (event.Expired (handle_in v k b p) expired) tt ((mine_as v d k b p kept lt has, refl, refl), is) tt refl refl))
+    (event_by v d v.words Idle (event.Expired (handle_in_block v k b p) expired) kept lt
+    (look_event (opening v.extent) v.words v.views v.history kept.stands d (view_in v.views d) r.seated r.awake r.pending (object_of_block v b) p
+    (event.Expired (handle_in_block v k b p) expired) tt ((mine_as v d k b p kept lt has, refl, refl), is) tt refl refl))

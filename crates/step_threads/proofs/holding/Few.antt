@@ -12,9 +12,9 @@ use Rattle.control_word.specs.Laws.{how_often}
 use Rattle.control_word.specs.State.{State, Stored as Kept_in, same_stored, stored}
 use Rattle.step_threads.specs.declared.ending.Ending.{Ending}
 use Rattle.step_threads.specs.Actors.{in_list, in_store}
-use Rattle.step_threads.specs.Endings.{EndsAll, IsEnding, endings_of}
+use Rattle.step_threads.specs.Endings.{EndsAll, IsEndingAtStage, endings_in_block}
 use Rattle.step_table.specs.Openings.{opening}
-use Rattle.step_table.specs.Stories.{Kept, Story, state}
+use Rattle.step_table.specs.Stories.{Kept, Story, story_state}
 use Rattle.step_threads.proofs.holding.Ends.{one_more}
 use Rattle.step_threads.proofs.holding.Storing.{counted_stored}
 use Rattle.step_table.proofs.tables.Places.{ending_busy, there}
@@ -78,13 +78,13 @@ most_once d b s =
     (λ x t. eq-eqb x.block b (sym (eqb-true _ _ (and_parts _ _ t).1)))
 
 -- the store of a desk has each block of the shape once at most
-pub store_few : (d : ℕ) (v : Story) (l : List ℕ) → Kept v → ((b : ℕ) → in_store (state v) d b ≡ in_list b l)
+pub store_few : (d : ℕ) (v : Story) (l : List ℕ) → Kept v → ((b : ℕ) → in_store (story_state v) d b ≡ in_list b l)
     → length l ≤ v.extent.shape.blocks
 store_few d v l kept same =
     let fine = sound (opening v.extent) v.history kept.stands.legal in
     few v.extent.shape.blocks l
-    (λ b. let m = most_once d b (state v) in let o = fine.once b in let s = same b in omega (arith, m, o, s))
-    (λ b lt. (fine.stores d b (counted_stored (stored d b) (state v).stores (let s = same b in omega (arith, s, lt)))).1)
+    (λ b. let m = most_once d b (story_state v) in let o = fine.once b in let s = same b in omega (arith, m, o, s))
+    (λ b lt. (fine.stores d b (counted_stored (stored d b) (story_state v).stores (let s = same b in omega (arith, s, lt)))).1)
 
 abbrev blocks : List Ending → List ℕ
 blocks [] = []
@@ -94,7 +94,7 @@ blocks_length : (es : List Ending) → length (blocks es) ≡ length es
 blocks_length [] = refl
 blocks_length (e ∷ es) = ap suc (blocks_length es)
 
-blocks_list : (b : ℕ) (es : List Ending) → in_list b (blocks es) ≡ endings_of b es
+blocks_list : (b : ℕ) (es : List Ending) → in_list b (blocks es) ≡ endings_in_block b es
 blocks_list b [] = refl
 blocks_list b (e ∷ es) =
     let i = blocks_list b es in
@@ -102,16 +102,16 @@ blocks_list b (e ∷ es) =
     let o = one_more b e es in omega (arith, i, a, o)
 
 -- an object that ends is in a block of the shape
-blocks_in : (d : ℕ) (v : Story) (es : List Ending) (b : ℕ) → Kept v → All (λ (e : Ending). IsEnding d e v) es → 0 < endings_of b es
+blocks_in : (d : ℕ) (v : Story) (es : List Ending) (b : ℕ) → Kept v → All (λ (e : Ending). IsEndingAtStage d e v) es → 0 < endings_in_block b es
     → (1 ≤ b) × (b ≤ v.extent.shape.blocks)
 blocks_in d v [] b kept all lt = absurd (omega arith)
 blocks_in d v (e ∷ es) b kept all lt =
     let o = one_more b e es in
-    let is = All-head (λ (x : Ending). IsEnding d x v) e es all in
+    let is = All-head (λ (x : Ending). IsEndingAtStage d x v) e es all in
     let shape : (1 ≤ e.block.0) × (e.block.0 ≤ v.extent.shape.blocks) = (there v e.block kept (ending_busy v d e.block is.ending)).1 in
     ⊎_elim (λ (q : e.block.0 ≡ b). subst (λ (c : ℕ). (1 ≤ c) × (c ≤ v.extent.shape.blocks)) q shape)
     (λ (q : e.block.0 ≢ b). let z = cond-false {A = ℕ} (e.block.0 == b) 1 0 (ne_eqb e.block.0 b q) in
-    blocks_in d v es b kept (All-tail (λ (x : Ending). IsEnding d x v) e es all) (omega (arith, o, z, lt))) (cases_eq e.block.0 b)
+    blocks_in d v es b kept (All-tail (λ (x : Ending). IsEndingAtStage d x v) e es all) (omega (arith, o, z, lt))) (cases_eq e.block.0 b)
 
 pub ends_few : (d : ℕ) (v : Story) (es : List Ending) → Kept v → EndsAll d es v → length es ≤ v.extent.shape.blocks
 ends_few d v es kept ends =

@@ -25,12 +25,12 @@ use Rattle.step_table.specs.declared.past.Deed.{Deed}
 use Rattle.step_table.specs.declared.slot.Slot.{Slot}
 use Rattle.step_table.specs.declared.slot.Slot.TheVariants.{Empty, Full}
 use Rattle.step_threads.specs.Actors.{HalfFits}
-use Rattle.step_table.specs.CellDeeds.{owing}
+use Rattle.step_table.specs.CellDeeds.{owing_funds}
 use Rattle.step_table.specs.Contents.{owing_for}
 use Rattle.step_threads.specs.Courses.{new_of}
 use Rattle.step_table.specs.Holdings.{Slots}
 use Rattle.step_table.specs.Openings.{opening, share_of}
-use Rattle.step_table.specs.Stories.{Kept, Nothing, Story, after, known, object_in, pending, state}
+use Rattle.step_table.specs.Stories.{Kept, Nothing, Story, story_after_deed, known_words, object_of_block, pending, story_state}
 use Rattle.step_table.proofs.contained.Others.{brought_others, funds_others, refill_others}
 use Rattle.step_threads.proofs.holding.Others.{least_others}
 use Rattle.step_table.proofs.holding.Keeping.{enabled_stays, kept_object, same_deed, same_pending}
@@ -42,60 +42,62 @@ there_or_idle d v kept = ⊎_elim inl (λ (le : v.extent.actors ≤ d). inr (ap 
     (get_or_past v.views d used_up (let s = kept.seats.size in omega (arith, s, le))))) (cases_lt d v.extent.actors)
 
 -- a desk that holds something is there: others have no allowance
-held_seat : (v : Story) (d : ℕ) (h : Handle) → Kept v → Has (held d h) (state v).hands → d < v.extent.actors
+held_seat : (v : Story) (d : ℕ) (h : Handle) → Kept v → Has (held d h) (story_state v).hands → d < v.extent.actors
 held_seat v d h kept has =
     ⊎_elim (λ (lt : d < v.extent.actors). lt)
     (λ (le : v.extent.actors ≤ d).
     let none : ◌≡◌ {A = ℕ} (share_of v.extent d) 0 = cond-false (nat_lt d v.extent.actors) _ 0 (le-ltb d v.extent.actors le) in
     let all = ap (λ (f : ℕ → ℕ). f d) kept.allowed in
     let room = (allowed (opening v.extent) v.history kept.stands.legal).rooms d in
-    let one = num_has (λ (y : Held). y.desk == d) (held d h) (state v).hands has (eq-eqb d d refl) in
+    let one = num_has (λ (y : Held). y.desk == d) (held d h) (story_state v).hands has (eq-eqb d d refl) in
     absurd (omega (arith, none, all, room, one))) (cases_lt d v.extent.actors)
 
-module _ (d e : ℕ) (v : Story) (x : Deed) (n : e ≢ d) (kept : Kept v) (kept' : Kept (after v e x)) where
-  brought_idle : (a : Slot) → pending v d ≡ Idle → pending v d ≡ owing_for (state v) a 256
-      → pending (after v e x) d ≡ owing_for (state (after v e x)) a 256
+module _ (d e : ℕ) (v : Story) (x : Deed) (n : e ≢ d) (kept : Kept v) (kept' : Kept (story_after_deed v e x)) where
+  brought_idle : (a : Slot) → pending v d ≡ Idle → pending v d ≡ owing_for (story_state v) a 256
+      → pending (story_after_deed v e x) d ≡ owing_for (story_state (story_after_deed v e x)) a 256
   brought_idle (Empty p) none is = same_pending v e d x n ∙ is
   brought_idle (Full y) none is =
-      absurd (let k : ◌≡◌ {A = Pending Nothing} Idle (owing (state v) y.kind (Some y.block) y.place 256 0) = sym none ∙ is in cc)
+      absurd (let k : ◌≡◌ {A = Pending Nothing} Idle (owing_funds (story_state v) y.kind (Some y.block) y.place 256 0) = sym none ∙ is in cc)
 
-  brought_stays : (a : Slot) → pending v d ≡ owing_for (state v) a 256 → pending (after v e x) d ≡ owing_for (state (after v e x)) a 256
+  brought_stays : (a : Slot) → pending v d ≡ owing_for (story_state v) a 256
+      → pending (story_after_deed v e x) d ≡ owing_for (story_state (story_after_deed v e x)) a 256
   brought_stays a is =
       ⊎_elim (λ (lt : d < v.extent.actors). brought_others d e v x n kept kept' a 256 lt is) (λ (none : pending v d ≡ Idle). brought_idle a none is)
       (there_or_idle d v kept)
 
-  funds_stay : (k : Kind) (b : Block) (p : Option Place) (funds : ℕ) → pending v d ≡ owing (state v) k (Some b) p funds 0
-      → pending (after v e x) d ≡ owing (state (after v e x)) k (Some b) p funds 0
+  funds_stay : (k : Kind) (b : Block) (p : Option Place) (funds : ℕ) → pending v d ≡ owing_funds (story_state v) k (Some b) p funds 0
+      → pending (story_after_deed v e x) d ≡ owing_funds (story_state (story_after_deed v e x)) k (Some b) p funds 0
   funds_stay k b p funds is =
       ⊎_elim (λ (lt : d < v.extent.actors). funds_others d e v x n kept kept' k (Some b) p funds 0 lt is)
-      (λ (none : pending v d ≡ Idle). absurd (let q : ◌≡◌ {A = Pending Nothing} Idle (owing (state v) k (Some b) p funds 0) = sym none ∙ is in cc))
+      (λ (none : pending v d ≡ Idle). absurd (let q : ◌≡◌ {A = Pending Nothing} Idle (owing_funds (story_state v) k (Some b) p funds 0) =
+      sym none ∙ is in cc))
       (there_or_idle d v kept)
 
   -- another desk's deed leaves a half-done act
-  pub half_others : (half : Half) (slots : Slots) (act : Act) → HalfFits d half slots act v → HalfFits d half slots act (after v e x)
+  pub half_others : (half : Half) (slots : Slots) (act : Act) → HalfFits d half slots act v → HalfFits d half slots act (story_after_deed v e x)
   half_others Rest slots act fits = same_pending v e d x n ∙ fits
   half_others (Making b at f) slots act fits =
       let same = same_pending v e d x n in
       record {
         making = record { words = fits.making.words; size = fits.making.size; making = same ∙ fits.making.making };
         within = fits.within;
-        least = least_others d (state v) (state (after v e x)) (same_deed v e d x n) ∙ fits.least;
-        done = λ j le. ap (λ (p : Pending Nothing). get_or (known p) j 0) same ∙ fits.done j le;
+        least = least_others d (story_state v) (story_state (story_after_deed v e x)) (same_deed v e d x n) ∙ fits.least;
+        done = λ j le. ap (λ (p : Pending Nothing). get_or (known_words p) j 0) same ∙ fits.done j le;
       }
   half_others (Locking word) slots act fits = (same_pending v e d x n ∙ fits.0, fits.1)
   half_others (Giving i kind y) slots act fits =
-      let has = has_same (state v) (state (after v e x)) d _ (same_deed v e d x n) fits.has in
+      let has = has_same (story_state v) (story_state (story_after_deed v e x)) d _ (same_deed v e d x n) fits.has in
       let busy = handle_busy v d y.kind y.block y.place kept fits.has in
-      let busy' = held_busy (opening v.extent) (state (after v e x)) d (object_in v y.block) y.kind y.place
-      (sound (opening v.extent) (after v e x).history kept'.stands.legal) has in
+      let busy' = held_busy (opening v.extent) (story_state (story_after_deed v e x)) d (object_of_block v y.block) y.kind y.place
+      (sound (opening v.extent) (story_after_deed v e x).history kept'.stands.legal) has in
       let o = kept_object v e y.block x kept kept' busy busy' in
       let fine = sound (opening v.extent) v.history kept.stands.legal in
       record {
         idle = same_pending v e d x n ∙ fits.idle;
-        has = subst (λ (k : ℕ). Has (held d (handle y.kind (Some k) y.place)) (state (after v e x)).hands) (sym o) has;
+        has = subst (λ (k : ℕ). Has (held d (handle y.kind (Some k) y.place)) (story_state (story_after_deed v e x)).hands) (sym o) has;
         enabled =
-            ap (λ (k : ℕ). ((state (after v e x)).object k).enabled) o
-            ∙ enabled_stays v e (object_in v y.block) x (fine.latest_made y.block.0)
+            ap (λ (k : ℕ). ((story_state (story_after_deed v e x)).object k).enabled) o
+            ∙ enabled_stays v e (object_of_block v y.block) x (fine.latest_made y.block.0)
             ∙ fits.enabled;
       }
   half_others Brought slots act fits = brought_stays (new_of slots act) fits

@@ -13,7 +13,7 @@ use Rattle.step_table.specs.declared.past.Deed.{Deed}
 use Rattle.step_table.specs.declared.past.Deed.TheVariants.{Prepare, Write, Claim, Share, WeakShare, Leave, WeakLeave, Lock, Count, Expired, Read, Clear}
 use Rattle.step_table.specs.declared.past.Deed.TheVariants.{Finish, OnShelf, OnCell}
 use Rattle.step_table.specs.Openings.{opening}
-use Rattle.step_table.specs.Stories.{Kept, Story, after, object_in, state}
+use Rattle.step_table.specs.Stories.{Kept, Story, story_after_deed, object_of_block, story_state}
 use Rattle.step_table.proofs.tables.ShelfDeeds.{shelf_framed}
 
 pub phase_differs : (d e : ℕ) (p : Phase) → p ≡ ending d → p ≡ ending e → e ≡ d
@@ -25,15 +25,17 @@ other_put : (s : State) (i o m : ℕ) (x : Object) → (o ≡ i → x.member m �
 other_put s i o m x here = put_cases (λ j (y : Object). y.member m ≡ (s.object j).member m) s.object i x o here (λ q. refl)
 
 -- the object that another desk has an owner of, or ends, is another one
-owned_else : (v : Story) (d o i : ℕ) → ((state v).object o).phase ≡ ending d → ((state v).object i).phase ≡ live → o ≡ i → ⊥
-owned_else v d o i end alive q = let k : ending d ≡ live = sym end ∙ ap (λ (j : ℕ). ((state v).object j).phase) q ∙ alive in cc
+owned_else : (v : Story) (d o i : ℕ) → ((story_state v).object o).phase ≡ ending d → ((story_state v).object i).phase ≡ live → o ≡ i → ⊥
+owned_else v d o i end alive q = let k : ending d ≡ live = sym end ∙ ap (λ (j : ℕ). ((story_state v).object j).phase) q ∙ alive in cc
 
-ended_else : (v : Story) (d e o i : ℕ) → e ≢ d → ((state v).object o).phase ≡ ending d → ((state v).object i).phase ≡ ending e → o ≡ i → ⊥
+ended_else : (v : Story) (d e o i : ℕ) → e ≢ d → ((story_state v).object o).phase ≡ ending d
+    → ((story_state v).object i).phase ≡ ending e → o ≡ i → ⊥
 ended_else v d e o i n end his q =
-    n (phase_differs d e ((state v).object o).phase end (ap (λ (j : ℕ). ((state v).object j).phase) q ∙ his))
+    n (phase_differs d e ((story_state v).object o).phase end (ap (λ (j : ℕ). ((story_state v).object j).phase) q ∙ his))
 
-cell_member : (v : Story) (e d o m : ℕ) (x : CellDeed) → e ≢ d → Kept v → Kept (after v e (OnCell x)) → ((state v).object o).phase ≡ ending d
-    → ((state (after v e (OnCell x))).object o).member m ≡ ((state v).object o).member m
+cell_member : (v : Story) (e d o m : ℕ) (x : CellDeed) → e ≢ d → Kept v → Kept (story_after_deed v e (OnCell x))
+    → ((story_state v).object o).phase ≡ ending d
+    → ((story_state (story_after_deed v e (OnCell x))).object o).member m ≡ ((story_state v).object o).member m
 cell_member v e d o m (Look c x None) n kept kept' end = refl
 cell_member v e d o m (Look c x (Some y)) n kept kept' end = refl
 cell_member v e d o m (Bring k b p f) n kept kept' end = refl
@@ -44,30 +46,33 @@ cell_member v e d o m (Turn k b) n kept kept' end = refl
 cell_member v e d o m (Refill c t) n kept kept' end = refl
 cell_member v e d o m (Swap (Free c) new x) n kept kept' end = refl
 cell_member v e d o m (Swap (Member b i) new x) n kept kept' end =
-    let alive = open_live (opening v.extent) (state v) e (object_in v b) i (sound (opening v.extent) v.history kept.stands.legal) kept'.stands.legal.1.asks.0 in
-    other_put (state v) (object_in v b) o m _ (λ q. absurd (owned_else v d o (object_in v b) end alive q))
+    let alive = open_live (opening v.extent) (story_state v) e (object_of_block v b) i (sound (opening v.extent) v.history kept.stands.legal)
+    kept'.stands.legal.1.asks.0 in
+    other_put (story_state v) (object_of_block v b) o m _ (λ q. absurd (owned_else v d o (object_of_block v b) end alive q))
 cell_member v e d o m (CompareSwap (Free c) x y) n kept kept' end = refl
 cell_member v e d o m (CompareSwap (Member b i) x y) n kept kept' end =
-    let alive = open_live (opening v.extent) (state v) e (object_in v b) i (sound (opening v.extent) v.history kept.stands.legal) kept'.stands.legal.1.asks.0 in
-    other_put (state v) (object_in v b) o m _ (λ q. absurd (owned_else v d o (object_in v b) end alive q))
+    let alive = open_live (opening v.extent) (story_state v) e (object_of_block v b) i (sound (opening v.extent) v.history kept.stands.legal)
+    kept'.stands.legal.1.asks.0 in
+    other_put (story_state v) (object_of_block v b) o m _ (λ q. absurd (owned_else v d o (object_of_block v b) end alive q))
 cell_member v e d o m (TakeOut b i x) n kept kept' end =
-    other_put (state v) (object_in v b) o m _ (λ q. absurd (ended_else v d e o (object_in v b) n end kept'.stands.legal.1.asks.0 q))
+    other_put (story_state v) (object_of_block v b) o m _ (λ q. absurd (ended_else v d e o (object_of_block v b) n end kept'.stands.legal.1.asks.0 q))
 
-pub member_kept : (v : Story) (e d o m : ℕ) (x : Deed) → e ≢ d → Kept v → Kept (after v e x) → ((state v).object o).phase ≡ ending d
-    → ((state (after v e x)).object o).member m ≡ ((state v).object o).member m
+pub member_kept : (v : Story) (e d o m : ℕ) (x : Deed) → e ≢ d → Kept v → Kept (story_after_deed v e x)
+    → ((story_state v).object o).phase ≡ ending d
+    → ((story_state (story_after_deed v e x)).object o).member m ≡ ((story_state v).object o).member m
 member_kept v e d o m (Prepare b) n kept kept' end = refl
 member_kept v e d o m (Write b j i) n kept kept' end = refl
 member_kept v e d o m (Claim b enabled null fields) n kept kept' end =
     let fine = sound (opening v.extent) v.history kept.stands.legal in
-    other_put (state v) (suc (state v).made) o m _
+    other_put (story_state v) (suc (story_state v).made) o m _
     (λ q. absurd (let f = fine.fresh o (omega arith) in let k : ending d ≡ unmade = sym end ∙ f in cc))
 member_kept v e d o m (Share b p q) n kept kept' end = refl
 member_kept v e d o m (Leave b p last) n kept kept' end =
-    let i = object_in v b in
-    let y = (state v).object i in
-    other_put (state v) i o m _
-    (λ q. cond_both last (moved_to (ending e) y) y (λ (z : Object). z.member m ≡ ((state v).object o).member m)
-    (λ t. ap (λ (j : ℕ). ((state v).object j).member m) (sym q)) (λ t. ap (λ (j : ℕ). ((state v).object j).member m) (sym q)))
+    let i = object_of_block v b in
+    let y = (story_state v).object i in
+    other_put (story_state v) i o m _
+    (λ q. cond_both last (moved_to (ending e) y) y (λ (z : Object). z.member m ≡ ((story_state v).object o).member m)
+    (λ t. ap (λ (j : ℕ). ((story_state v).object j).member m) (sym q)) (λ t. ap (λ (j : ℕ). ((story_state v).object j).member m) (sym q)))
 member_kept v e d o m (WeakShare b p) n kept kept' end = refl
 member_kept v e d o m (WeakLeave b p vacant) n kept kept' end = refl
 member_kept v e d o m (Lock b p got) n kept kept' end = refl
@@ -75,9 +80,9 @@ member_kept v e d o m (Count k b p i) n kept kept' end = refl
 member_kept v e d o m (Expired k b p x) n kept kept' end = refl
 member_kept v e d o m (Read b p i) n kept kept' end = refl
 member_kept v e d o m (Clear b i) n kept kept' end =
-    other_put (state v) (object_in v b) o m _ (λ q. absurd (ended_else v d e o (object_in v b) n end kept'.stands.legal.1.asks.0 q))
+    other_put (story_state v) (object_of_block v b) o m _ (λ q. absurd (ended_else v d e o (object_of_block v b) n end kept'.stands.legal.1.asks.0 q))
 member_kept v e d o m (Finish b vacant) n kept kept' end =
-    other_put (state v) (object_in v b) o m _ (λ q. ap (λ (j : ℕ). ((state v).object j).member m) (sym q))
+    other_put (story_state v) (object_of_block v b) o m _ (λ q. ap (λ (j : ℕ). ((story_state v).object j).member m) (sym q))
 member_kept v e d o m (OnShelf b x) n kept kept' end =
     ap (λ (s : State). (s.object o).member m) (shelf_framed v e b x).2
 member_kept v e d o m (OnCell x) n kept kept' end = cell_member v e d o m x n kept kept' end

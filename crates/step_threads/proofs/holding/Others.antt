@@ -15,7 +15,7 @@ use Rattle.step_threads.specs.Actors.{Stocks, in_store}
 use Rattle.step_threads.specs.Endings.{EndsAll}
 use Rattle.step_table.specs.Openings.{opening}
 use Rattle.step_threads.specs.Entries.{least}
-use Rattle.step_table.specs.Stories.{Kept, Story, after, object_in, state}
+use Rattle.step_table.specs.Stories.{Kept, Story, story_after_deed, object_of_block, story_state}
 use Rattle.step_threads.proofs.holding.Ends.{each_end}
 use Rattle.step_threads.proofs.holding.Least.{least_part}
 use Rattle.step_threads.proofs.holding.Members.{member_kept, phase_differs}
@@ -29,33 +29,33 @@ stores_stock s d b = num_part (λ (x : Stored). x.desk) d (same_stored (stored d
 
 -- another desk's deed leaves a store
 pub stocks_others : (d : ℕ) (blocks : List ℕ) (room : ℕ) (half : Half) (v : Story) (e : ℕ) (x : Deed) → e ≢ d → Stocks d blocks room half v
-    → Stocks d blocks room half (after v e x)
+    → Stocks d blocks room half (story_after_deed v e x)
 stocks_others d blocks room half v e x n stocks =
     let same = same_deed v e d x n in
     record {
       stocked = λ b.
-          stores_stock (state (after v e x)) d b ∙ ap (λ (l : List Stored). num (same_stored (stored d b)) l) same.in_stock
-          ∙ sym (stores_stock (state v) d b)
+          stores_stock (story_state (story_after_deed v e x)) d b ∙ ap (λ (l : List Stored). num (same_stored (stored d b)) l) same.in_stock
+          ∙ sym (stores_stock (story_state v) d b)
           ∙ stocks.stocked b;
       roomy = stocks.roomy;
     }
 
 -- an object that ends in a desk's hands goes on to end there
-ends_on : (v : Story) (e d o : ℕ) (x : Deed) → e ≢ d → Kept v → Kept (after v e x) → ((state v).object o).phase ≡ ending d
-    → ((state (after v e x)).object o).phase ≡ ending d
+ends_on : (v : Story) (e d o : ℕ) (x : Deed) → e ≢ d → Kept v → Kept (story_after_deed v e x) → ((story_state v).object o).phase ≡ ending d
+    → ((story_state (story_after_deed v e x)).object o).phase ≡ ending d
 ends_on v e d o (Prepare b) n kept kept' end = end
 ends_on v e d o (Write b j m) n kept kept' end = end
 ends_on v e d o (Claim b enabled null fields) n kept kept' end =
     let fine = sound (opening v.extent) v.history kept.stands.legal in
-    put_cases (λ i (y : Object). i ≡ o → y.phase ≡ ending d) (state v).object (suc (state v).made) _ o
+    put_cases (λ i (y : Object). i ≡ o → y.phase ≡ ending d) (story_state v).object (suc (story_state v).made) _ o
     (λ q t. absurd (let f = fine.fresh o (omega arith) in let k : ending d ≡ unmade = sym end ∙ f in cc)) (λ q t. end) refl
 ends_on v e d o (Share b p q) n kept kept' end = end
 ends_on v e d o (Leave b p last) n kept kept' end =
     let fine = sound (opening v.extent) v.history kept.stands.legal in
     let has = kept'.stands.legal.1.asks.0.0 in
-    let alive = counted_live (opening v.extent) (state v) (object_in v b) fine (owner_counted (state v) e (object_in v b) p has) in
-    put_cases (λ i (y : Object). i ≡ o → y.phase ≡ ending d) (state v).object (object_in v b) _ o
-    (λ q t. absurd (let k : ending d ≡ live = sym end ∙ ap (λ (j : ℕ). ((state v).object j).phase) q ∙ alive in cc)) (λ q t. end) refl
+    let alive = counted_live (opening v.extent) (story_state v) (object_of_block v b) fine (owner_counted (story_state v) e (object_of_block v b) p has) in
+    put_cases (λ i (y : Object). i ≡ o → y.phase ≡ ending d) (story_state v).object (object_of_block v b) _ o
+    (λ q t. absurd (let k : ending d ≡ live = sym end ∙ ap (λ (j : ℕ). ((story_state v).object j).phase) q ∙ alive in cc)) (λ q t. end) refl
 ends_on v e d o (WeakShare b p) n kept kept' end = end
 ends_on v e d o (WeakLeave b p vacant) n kept kept' end = end
 ends_on v e d o (Lock b p got) n kept kept' end = end
@@ -63,12 +63,13 @@ ends_on v e d o (Count k b p m) n kept kept' end = end
 ends_on v e d o (Expired k b p x) n kept kept' end = end
 ends_on v e d o (Read b p m) n kept kept' end = end
 ends_on v e d o (Clear b m) n kept kept' end =
-    put_cases (λ i (y : Object). i ≡ o → y.phase ≡ ending d) (state v).object (object_in v b) _ o
-    (λ q t. ap (λ (j : ℕ). ((state v).object j).phase) (sym q) ∙ end) (λ q t. end) refl
+    put_cases (λ i (y : Object). i ≡ o → y.phase ≡ ending d) (story_state v).object (object_of_block v b) _ o
+    (λ q t. ap (λ (j : ℕ). ((story_state v).object j).phase) (sym q) ∙ end) (λ q t. end) refl
 ends_on v e d o (Finish b vacant) n kept kept' end =
     let his = kept'.stands.legal.1.asks.0 in
-    put_cases (λ i (y : Object). i ≡ o → y.phase ≡ ending d) (state v).object (object_in v b) _ o
-    (λ q t. absurd (n (phase_differs d e ((state v).object o).phase end (ap (λ (j : ℕ). ((state v).object j).phase) q ∙ his)))) (λ q t. end) refl
+    put_cases (λ i (y : Object). i ≡ o → y.phase ≡ ending d) (story_state v).object (object_of_block v b) _ o
+    (λ q t. absurd (n (phase_differs d e ((story_state v).object o).phase end (ap (λ (j : ℕ). ((story_state v).object j).phase) q ∙ his))))
+    (λ q t. end) refl
 ends_on v e d o (OnShelf b x) n kept kept' end =
     ap (λ (s : State). (s.object o).phase) (shelf_framed v e b x).2 ∙ end
 ends_on v e d o (OnCell x) n kept kept' end = (framed v e x).phase o ∙ end
@@ -78,22 +79,23 @@ pub least_others : (d : ℕ) (s t : State) → Same s t d → least d t.stores �
 least_others d s t same = least_part d t.stores ∙ ap (least d) same.in_stock ∙ sym (least_part d s.stores)
 
 -- another desk's deed leaves the endings
-pub ends_others : (d : ℕ) (es : List Ending) (v : Story) (e : ℕ) (x : Deed) → e ≢ d → Kept v → Kept (after v e x) → EndsAll d es v
-    → EndsAll d es (after v e x)
+pub ends_others : (d : ℕ) (es : List Ending) (v : Story) (e : ℕ) (x : Deed) → e ≢ d → Kept v → Kept (story_after_deed v e x) → EndsAll d es v
+    → EndsAll d es (story_after_deed v e x)
 ends_others d es v e x n kept kept' ends =
     record {
-      each = each_end d v (after v e x) es
+      each = each_end d v (story_after_deed v e x) es
           (λ y is.
-          let end = ends_on v e d (object_in v y.block) x n kept kept' is.ending in
-          let busy : 0 < weak_number (state (after v e x)) (object_in v y.block) = let c : common ((state (after v e x)).object
-          (object_in v y.block)).phase ≡ 1 = ap common end in omega arith in
+          let end = ends_on v e d (object_of_block v y.block) x n kept kept' is.ending in
+          let busy : 0 < weak_number (story_state (story_after_deed v e x)) (object_of_block v y.block) =
+          let c : common ((story_state (story_after_deed v e x)).object
+          (object_of_block v y.block)).phase ≡ 1 = ap common end in omega arith in
           let o = kept_object v e y.block x kept kept' (ending_busy v d y.block is.ending) busy in
           record {
-            ending = subst (λ (k : ℕ). ((state (after v e x)).object k).phase ≡ ending d) (sym o) end;
+            ending = subst (λ (k : ℕ). ((story_state (story_after_deed v e x)).object k).phase ≡ ending d) (sym o) end;
             within = is.within;
             cleared = λ m lt.
-                ap (λ (k : ℕ). ((state (after v e x)).object k).member m) o
-                ∙ member_kept v e d (object_in v y.block) m x n kept kept' is.ending
+                ap (λ (k : ℕ). ((story_state (story_after_deed v e x)).object k).member m) o
+                ∙ member_kept v e d (object_of_block v y.block) m x n kept kept' is.ending
                 ∙ is.cleared m lt;
           }) ends.each;
       once = ends.once;

@@ -12,7 +12,7 @@ use Rattle.step_table.specs.declared.form.Form.{Form}
 use Rattle.step_threads.specs.declared.half.Half.TheVariants.{Rest, Making}
 use Rattle.step_table.specs.declared.past.Deed.TheVariants.{Claim}
 use Rattle.step_threads.specs.Actors.{Stocks}
-use Rattle.step_table.specs.Stories.{Story, after, state}
+use Rattle.step_table.specs.Stories.{Story, story_after_deed, story_state}
 
 -- what is counted of a store is there
 pub counted_stored : (x : Stored) (l : List Stored) → 0 < num (same_stored x) l → Has x l
@@ -41,20 +41,20 @@ stocks_take d old new room i f v b stocks p =
     }
 
 pub taken_stored : (d : ℕ) (old new : List ℕ) (room : ℕ) (v : Story) (b : Block) → Stocks d old room Rest v → IsPermutation old (b.0 ∷ new)
-    → Has (stored d b.0) (state v).stores
+    → Has (stored d b.0) (story_state v).stores
 taken_stored d old new room v b stocks p =
     let a = sum_by_popped (λ (x : ℕ). cond (x == b.0) 1 0) b.0 old new p in
     let s = stocks.stocked b.0 in
     let c = cond-true {A = ℕ} (b.0 == b.0) 1 0 (eq-eqb b.0 b.0 refl) in
-    counted_stored (stored d b.0) (state v).stores (omega (arith, a, s, c))
+    counted_stored (stored d b.0) (story_state v).stores (omega (arith, a, s, c))
 
 -- the block is made
 pub stocks_claim : (d : ℕ) (blocks : List ℕ) (room i : ℕ) (f : Bool) (v : Story) (b : Block) (form : Form) → Stocks d blocks room (Making b i f) v
-    → Has (stored d b.0) (state v).stores → Stocks d blocks room Rest (after v d (Claim b form.enabled form.null form.fields))
+    → Has (stored d b.0) (story_state v).stores → Stocks d blocks room Rest (story_after_deed v d (Claim b form.enabled form.null form.fields))
 stocks_claim d blocks room i f v b form stocks has =
     record {
       stocked = λ c.
-          let a = num_without same_stored stored_true stored_self (same_stored (stored d c)) (stored d b.0) (state v).stores has in
+          let a = num_without same_stored stored_true stored_self (same_stored (stored d c)) (stored d b.0) (story_state v).stores has in
           let o = one_stored d b.0 c in
           let s = stocks.stocked c in omega (arith, a, o, s);
       roomy = stocks.roomy;

@@ -2,7 +2,7 @@ use Rattle.std.proofs.Common.{◌≡◌, ◌∙◌, ◌++◌, ℕ, List, ap, sub
 use Rattle.std.specs.List.{flat_map}
 use Rattle.control_word.proofs.history.Kept.{cells_led}
 use Rattle.step_table.specs.Openings.{opening}
-use Rattle.step_table.specs.Stories.{state}
+use Rattle.step_table.specs.Stories.{story_state}
 use Rattle.step_threads.specs.Stocks.{from}
 use Rattle.owner_graph.specs.declared.holding.Holding.{Holding}
 use Rattle.holders.specs.Holdings.{AllCounted, all_held, held_by_block, held_by_free}
@@ -16,7 +16,7 @@ add_free-requires c =
 pub returns-clause-held : goal.returns-clause-held
 returns-clause-held c =
     let v = c.args.world.now.story in
-    let s = state v in
+    let s = story_state v in
     let cells : c.args.cells ≡ s.cells = c.requires.cells ∙ sym (cells_led (opening v.extent) v.history) in
     c.in_ok-add_blocks.ensures.held
     ∙ ap (λ (l : List Holding). l ++ flat_map (held_by_block s) (from 1 c.args.blocks))
@@ -27,6 +27,6 @@ returns-clause-held c =
 pub returns-clause-counted : goal.returns-clause-counted
 returns-clause-counted c =
     let v = c.args.world.now.story in
-    subst (AllCounted v.extent.shape.shared_cells c.args.blocks (state v)) (sym (returns-clause-held c))
-    (subst (λ (n : ℕ). AllCounted v.extent.shape.shared_cells n (state v) (all_held (state v) n)) (sym c.requires.blocks)
+    subst (AllCounted v.extent.shape.shared_cells c.args.blocks (story_state v)) (sym (returns-clause-held c))
+    (subst (λ (n : ℕ). AllCounted v.extent.shape.shared_cells n (story_state v) (all_held (story_state v) n)) (sym c.requires.blocks)
     (counted v c.known_at_end.ensures.kept c.known_at_end.ensures.hands))

@@ -1,7 +1,7 @@
 use Rattle.std.proofs.Common.{◌≡◌, ◌+◌}
 use Rattle.control_word.specs.declared.handle.Kind.TheVariants.{Owner}
 use Rattle.control_block.specs.Desks.{IsSameDesk, bag_of}
-use Rattle.shared_handle.specs.Calls.{with_handle}
+use Rattle.control_block.specs.CellCalls.{with_handle}
 use Rattle.measure.specs.Workers.{IsReal}
 use Rattle.measure.proofs.chain.build.Given as goal
 

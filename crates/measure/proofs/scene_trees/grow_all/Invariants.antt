@@ -1,13 +1,13 @@
 use Rattle.control_word.specs.declared.handle.Kind.TheVariants.{Owner}
 use Rattle.control_block.specs.Desks.{IsSameDesk}
-use Rattle.shared_handle.specs.Calls.{Holds}
-use Rattle.scene_structures.specs.Stacks.{Serves}
+use Rattle.control_block.specs.CellCalls.{HoldsHandle}
+use Rattle.scene_structures.specs.Stacks.{ServesDomain}
 use Rattle.measure.proofs.scene_trees.grow_all.Given as goal
 
 abbrev pub invariant-loop : goal.invariant-loop
 invariant-loop g l = record {
-  scene : Serves l.domain l.scene;
-  pile : Serves l.domain l.pile;
+  scene : ServesDomain l.domain l.scene;
+  pile : ServesDomain l.domain l.pile;
   same : IsSameDesk l.initial.desk l.desk;
-  holds : Holds l.desk Owner l.root.block l.root.place;
+  holds : HoldsHandle l.desk Owner l.root.block l.root.place;
 }

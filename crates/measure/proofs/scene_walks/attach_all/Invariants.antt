@@ -1,6 +1,6 @@
 use Rattle.control_word.specs.declared.handle.Kind.TheVariants.{Owner}
 use Rattle.control_block.specs.Desks.{IsSameDesk}
-use Rattle.shared_handle.specs.Calls.{Holds}
+use Rattle.control_block.specs.CellCalls.{HoldsHandle}
 use Rattle.scene_structures.specs.Stacks.{StandsIn}
 use Rattle.measure.proofs.scene_walks.attach_all.Given as goal
 
@@ -8,5 +8,5 @@ abbrev pub invariant-loop : goal.invariant-loop
 invariant-loop g l = record {
   stands : StandsIn l.observers l.domain;
   same : IsSameDesk l.initial.desk l.desk;
-  holds : Holds l.desk Owner l.subject.block l.subject.place;
+  holds : HoldsHandle l.desk Owner l.subject.block l.subject.place;
 }

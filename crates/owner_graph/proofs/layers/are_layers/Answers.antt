@@ -1,5 +1,5 @@
 use Rattle.std.proofs.Common.{Bool, List, subst}
-use Rattle.owner_graph.specs.Ends.{without}
+use Rattle.owner_graph.specs.Ends.{without_cell}
 use Rattle.owner_graph.specs.Fed.{IsFed}
 use Rattle.owner_graph.specs.Layers.{AllFed}
 use Rattle.owner_graph.proofs.Layering.{layers_end}
@@ -8,7 +8,7 @@ use Rattle.owner_graph.proofs.layers.are_layers.Goals as goal
 pub returns-clause-ends : goal.returns-clause-ends
 returns-clause-ends c = λ yes.
     let stays = c.args.layers.now.stays.items in
-    let hs = without c.args.emptied c.args.holdings.now in
+    let hs = without_cell c.args.emptied c.args.holdings.now in
     let marks = c.are_marks.ensures c.if-not-are_marks.false in
     let fed = subst (λ (s : List Bool). IsFed c.args.shared hs s c.in_ok-fed.fed.items) c.as_slice-stays.ensures.value c.in_ok-fed.ensures in
     let all = subst (λ (s : List Bool). AllFed s c.in_ok-fed.fed.items) c.as_slice-stays.ensures.value

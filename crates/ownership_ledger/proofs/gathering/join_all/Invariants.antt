@@ -1,5 +1,5 @@
 use Rattle.std.proofs.Common.{◌≡◌, ◌<◌, List, ◌++◌, All}
-use Rattle.ownership_ledger.specs.Now.{ShareNow, StandsFor}
+use Rattle.ownership_ledger.specs.Now.{ShareNow, StandsForShares}
 use Rattle.ownership_ledger.proofs.gathering.join_all.Given as goal
 
 abbrev pub invariant-loop-other : goal.invariant-loop-other
@@ -9,7 +9,7 @@ invariant-loop-other l = record {
   of_book : All (λ s. s.book ≡ l.book.id) l.shares.items;
   table : l.seat.table_id ≡ l.book.id;
   some_part : 0 < l.seat.me.0.parts;
-  stands : StandsFor joined l.seat.me.0;
+  stands : StandsForShares joined l.seat.me.0;
 }
 
 abbrev pub decreases-loop-other : goal.decreases-loop-other

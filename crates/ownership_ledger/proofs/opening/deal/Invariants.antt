@@ -1,6 +1,6 @@
 use Rattle.std.proofs.Common.{◌≡◌, ◌+◌, ◌-◌, [], replicate, vec_capacity}
 use Rattle.ownership_ledger.specs.Now.{new_share}
-use Rattle.ownership_ledger.specs.Rule.{fresh}
+use Rattle.ownership_ledger.specs.Rule.{fresh_seat}
 use Rattle.ownership_ledger.proofs.opening.deal.Given as goal
 
 abbrev pub invariant-loop : goal.invariant-loop
@@ -8,5 +8,5 @@ invariant-loop l = record {
   dealt : l.shares.items ≡ replicate (l.counter - 1) (new_share l.book.id l.workers);
   room : vec_capacity l.shares ≡ l.workers;
   table : l.seat.table_id ≡ l.book.id;
-  left : l.seat.me ≡ (fresh l.workers (l.workers + 1 - l.counter), []);
+  left : l.seat.me ≡ (fresh_seat l.workers (l.workers + 1 - l.counter), []);
 }

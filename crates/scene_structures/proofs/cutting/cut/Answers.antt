@@ -6,7 +6,7 @@ use Rattle.shared_handle.proofs.Piles.{same_both, same_desk}
 use Rattle.atomic_cells.specs.Sites.{shared_cell}
 use Rattle.scene_structures.specs.Detaches.{IsSought}
 use Rattle.scene_structures.specs.Hands.{node_in}
-use Rattle.scene_structures.specs.Puts.{PutsOnly, nowhere}
+use Rattle.scene_structures.specs.Puts.{PutsOnly, in_no_cell}
 use Rattle.scene_structures.proofs.Adopting.{these_node}
 use Rattle.scene_structures.proofs.Detached.{sought_later}
 use Rattle.scene_structures.proofs.Sites.{cell_these, open_same, these_both}
@@ -23,7 +23,7 @@ loop-init g c =
       same = same_desk c.args.desk.now;
       bag = λ base has. has;
       latest = λ base has k p b in'. refl;
-      tried = does_none (PutsOnly nowhere) c.args.desk.now;
+      tried = does_none (PutsOnly in_no_cell) c.args.desk.now;
     }
 
 pub try_cut-requires-clause-bag : goal.try_cut-requires-clause-bag
@@ -42,7 +42,7 @@ loop-preserved g c =
       same = same_both d l t i.same e.desk;
       bag = λ base has. e.bag base (i.bag base has);
       latest = λ base has. these_both d l t base (i.latest base has) (e.latest base (i.bag base has));
-      tried = does_both (PutsOnly nowhere) d l t i.tried e.own;
+      tried = does_both (PutsOnly in_no_cell) d l t i.tried e.own;
     }
 
 pub returns-in-Some-try_cut-clause-own : goal.returns-in-Some-try_cut-clause-own

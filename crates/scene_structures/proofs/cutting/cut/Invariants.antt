@@ -5,7 +5,7 @@ use Rattle.control_block.specs.Own.{Does}
 use Rattle.shared_handle.specs.Piles.{Carries}
 use Rattle.scene_structures.specs.Others.{KeepsOthers}
 use Rattle.scene_structures.specs.Hands.{HasHands, KeepsThese}
-use Rattle.scene_structures.specs.Puts.{PutsOnly, nowhere}
+use Rattle.scene_structures.specs.Puts.{PutsOnly, in_no_cell}
 use Rattle.scene_structures.proofs.cutting.cut.Given as goal
 
 abbrev pub invariant-loop : goal.invariant-loop
@@ -17,5 +17,5 @@ invariant-loop g l = record {
   same : IsSameDesk l.initial.desk l.desk;
   bag : (base : List Handle) → HasHands base [] l.initial.desk → HasHands base [] l.desk;
   latest : (base : List Handle) → HasHands base [] l.initial.desk → KeepsThese base l.initial.desk l.desk;
-  tried : Does (PutsOnly nowhere) l.initial.desk l.desk;
+  tried : Does (PutsOnly in_no_cell) l.initial.desk l.desk;
 }

@@ -6,7 +6,7 @@ use Rattle.control_block.specs.Desks.{DeskNow, IsSameDesk}
 use Rattle.shared_handle.specs.Endings.{IsWithin}
 use Rattle.shared_handle.specs.Piles.{Carries}
 use Rattle.scene_structures.specs.Others.{KeepsOthers}
-use Rattle.scene_structures.specs.Detaches.{Reaches}
+use Rattle.scene_structures.specs.Detaches.{ReachesNode}
 use Rattle.scene_structures.specs.Hands.{HasHands, KeepsThese, node_in}
 use Rattle.scene_structures.proofs.cutting.cut_below.Given as goal
 
@@ -21,6 +21,6 @@ invariant-loop g l = record {
   bag : (base : List Handle) → HasHands base (l.initial.before ∷ []) l.initial.desk → HasHands base (l.before ∷ []) l.desk;
   latest : (base : List Handle) → HasHands base (l.initial.before ∷ []) l.initial.desk → KeepsThese base l.initial.desk l.desk;
   own : (d : DeskNow g.row.V.Denot) (c : Cell) (bs : List ℕ)
-      → Reaches d c (object_of (node_in l.initial.desk l.node)) bs l.initial.before l.initial.desk
-      → (passed : List ℕ) × Reaches d c (object_of (node_in l.initial.desk l.node)) passed l.before l.desk;
+      → ReachesNode d c (object_of (node_in l.initial.desk l.node)) bs l.initial.before l.initial.desk
+      → (passed : List ℕ) × ReachesNode d c (object_of (node_in l.initial.desk l.node)) passed l.before l.desk;
 }

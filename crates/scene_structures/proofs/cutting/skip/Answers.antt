@@ -4,7 +4,7 @@ use Rattle.control_word.specs.declared.event.Event.TheVariants.{Compare}
 use Rattle.control_word.specs.declared.handle.Kind.TheVariants.{Owner}
 use Rattle.control_block.proofs.Latest.{calls_keep_latest}
 use Rattle.control_block.specs.CellCalls.{without_handle}
-use Rattle.control_block.specs.Desks.{Adds, bag_of}
+use Rattle.control_block.specs.Desks.{AddsEvent, bag_of}
 use Rattle.control_block.specs.declared.handles.Shared.{Shared}
 use Rattle.shared_handle.proofs.Goings.{does_both}
 use Rattle.shared_handle.specs.Piles.{IsParting}
@@ -58,7 +58,7 @@ returns-in-Ok-Swapped-clause-own g c =
     let at = swapped_event m u below x.field-0 (shared_cell m site) (node_in m node) (node_in m below) x.old x.field-0-is x.ensures.compared in
     skips d m u e (shared_cell d site) node below (node_in u x.old) c.in-Ok.member c.in-Ok.ensures t.event
     (same_node d m node (calls_keep_latest d _ m t.event) (first_lists d b.0 node [] b.1))
-    (subst (λ (k : Cell). Adds m (Compare k (node_in m node) (node_in m below) (node_in u x.old) true true) u) cell at)
+    (subst (λ (k : Cell). AddsEvent m (Compare k (node_in m node) (node_in m below) (node_in u x.old) true true) u) cell at)
     (does_both IsParting u f e c.let_go.ensures.own c.let_go-in-Ok-Swapped.ensures.own)
 
 pub let_go-requires-in-Ok-Differs-3-clause-holds : goal.let_go-requires-in-Ok-Differs-3-clause-holds

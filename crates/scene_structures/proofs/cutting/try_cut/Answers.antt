@@ -4,7 +4,7 @@ use Rattle.shared_handle.proofs.Goings.{does_both, does_one}
 use Rattle.atomic_cells.specs.Sites.{shared_cell}
 use Rattle.scene_structures.specs.Detaches.{MaySkip}
 use Rattle.scene_structures.specs.Hands.{Lists, node_in}
-use Rattle.scene_structures.specs.Puts.{PutsOnly, nowhere}
+use Rattle.scene_structures.specs.Puts.{PutsOnly, in_no_cell}
 use Rattle.scene_structures.proofs.Adopting.{these_node}
 use Rattle.scene_structures.proofs.Detached.{cuts_node, meets_other}
 use Rattle.scene_structures.proofs.Hands.{first_lists, lists_under}
@@ -37,7 +37,7 @@ pub returns-else-skip-clause-own : goal.returns-else-skip-clause-own
 returns-else-skip-clause-own g c =
     let d = c.args.desk.now in let m = c.find.new.desk in let e = c.skip.new.desk in let top = c.in-Some.top in
     let f = c.in-Some.ensures in
-    does_both (PutsOnly nowhere) d m e (does_one (PutsOnly nowhere) d m _ f.own.0 tt)
+    does_both (PutsOnly in_no_cell) d m e (does_one (PutsOnly in_no_cell) d m _ f.own.0 tt)
     (subst (λ (x : Bool). MaySkip m (shared_cell m c.args.at.now.site) (node_in m top) x e) c.if-skip.false c.skip.ensures.own)
 
 pub returns-then-skip-clause-others : goal.returns-then-skip-clause-others

@@ -2,7 +2,7 @@ use Rattle.std.proofs.Common.{[], ◌∷◌, ap, subst, sym}
 use Rattle.control_word.specs.Handles.{object_of}
 use Rattle.shared_handle.proofs.Goings.{does_none}
 use Rattle.scene_structures.specs.Hands.{Lists, node_in, stacked}
-use Rattle.scene_structures.specs.Puts.{PutsOnly, nowhere}
+use Rattle.scene_structures.specs.Puts.{PutsOnly, in_no_cell}
 use Rattle.scene_structures.proofs.Adopting.{these_node}
 use Rattle.scene_structures.proofs.Detached.{hands_above, these_fewer, within_holds}
 use Rattle.scene_structures.proofs.Unlinks.{unlinks_same}
@@ -61,7 +61,7 @@ returns-clause-own g c =
     let same = these_node d m.new.desk base node keeps (lists_under node.block parent.block node.place parent.place b.0 b.2) in
     record {
       at = d;
-      comes = does_none (PutsOnly nowhere) d;
+      comes = does_none (PutsOnly in_no_cell) d;
       passed = m.ensures.own.0;
       found = m.result;
       sought = m.new.desk;

@@ -6,7 +6,7 @@ use Rattle.control_word.specs.declared.handle.Handle.{Handle}
 use Rattle.control_word.specs.declared.handle.Kind.TheVariants.{Owner}
 use Rattle.control_block.proofs.Latest.{calls_keep_latest}
 use Rattle.control_block.specs.CellCalls.{handle_in, without_handle}
-use Rattle.control_block.specs.Desks.{Adds, bag_of, latest_of}
+use Rattle.control_block.specs.Desks.{AddsEvent, bag_of, latest_of}
 use Rattle.control_block.specs.declared.handles.Shared.{Shared}
 use Rattle.atomic_cells.specs.Sites.{shared_cell}
 use Rattle.scene_structures.specs.Hands.{node_in}
@@ -54,7 +54,7 @@ returns-in-Ok-Differs-clause-own g c z l =
     let h = hands_got d m base b (top ∷ []) c.requires.bag.1 c.in-Ok-load.ensures.bag c.in-Ok-load.ensures.held in
     let i = hands_got m u base x.held (b ∷ top ∷ []) h (differs_bag m u b x.field-0 x.held x.desired x.field-0-is x.ensures.bag)
     (differs_held m u b x.field-0 x.held x.desired x.field-0-is x.ensures.held) in
-    let at = subst (λ (k : Cell). Adds m (Compare k (node_in m top) (node_in m b) (node_in u x.held) false true) u) (ap (shared_cell m) c.free-at.ensures)
+    let at = subst (λ (k : Cell). AddsEvent m (Compare k (node_in m top) (node_in m b) (node_in u x.held) false true) u) (ap (shared_cell m) c.free-at.ensures)
     (differs_event m u b x.field-0 _ _ _ x.held x.desired x.field-0-is x.ensures.compared) in
     looks_again z d m u f.new.desk (Free c.args.cell) top x.held _ _ _ _ true l c.in-Ok-load.ensures.event at (first_lists u base x.held (b ∷ top ∷ []) i)
     (does_both IsParting u e.new.desk f.new.desk e.ensures.own f.ensures.own)
@@ -71,10 +71,10 @@ returns-in-Ok-Swapped-clause-own g c z l =
     let old = handle_in u Owner x.old.block x.old.place in
     let one = same_node d m top (calls_keep_latest d _ m c.in-Ok-load.ensures.event) (first_lists d base top [] c.requires.bag.1) in
     let here = one ∙ owner_within d top q k.1 k.2 in
-    let loads = subst (λ (y : Cell). Adds d (Load y (node_in m b)) m) (ap (shared_cell d) k.3) c.in-Ok-load.ensures.event in
-    let at = subst (λ (y : Cell). Adds m (Compare y (node_in m top) (node_in m b) old true true) u) (ap (shared_cell m) c.free-at.ensures)
+    let loads = subst (λ (y : Cell). AddsEvent d (Load y (node_in m b)) m) (ap (shared_cell d) k.3) c.in-Ok-load.ensures.event in
+    let at = subst (λ (y : Cell). AddsEvent m (Compare y (node_in m top) (node_in m b) old true true) u) (ap (shared_cell m) c.free-at.ensures)
     (swapped_event m u b x.field-0 _ _ _ x.old x.field-0-is x.ensures.compared) in
-    let swaps = subst (λ (y : Handle). Adds m (Compare (Free c.args.cell) y (node_in m b) old true true) u) here at in
+    let swaps = subst (λ (y : Handle). AddsEvent m (Compare (Free c.args.cell) y (node_in m b) old true true) u) here at in
     let two = same_node m u top (calls_keep_latest m _ u at) (second_lists m base b top [] h) in
     let three = same_left u f.new.desk top f.ensures.latest (first_lists f.new.desk base top [] j) in
     record {

@@ -3,7 +3,7 @@ use Rattle.control_word.specs.Handles.{object_of}
 use Rattle.control_word.specs.declared.event.Cell.{Cell}
 use Rattle.shared_handle.proofs.Piles.{same_both, same_desk}
 use Rattle.scene_structures.specs.Hands.{node_in}
-use Rattle.scene_structures.specs.Prunes.{Finds, Passes}
+use Rattle.scene_structures.specs.Prunes.{Finds, PassesNode}
 use Rattle.scene_structures.proofs.Sites.{cell_these, these_both}
 use Rattle.scene_structures.proofs.Others.{others_both, others_none}
 use Rattle.scene_structures.proofs.pruning.clear_front.Goals as goal
@@ -35,7 +35,7 @@ loop-preserved g c =
             found = f;
             finds = subst (λ (k : Cell). Finds l k node true f) same_l t.own.0;
             within = t.own.1;
-            passes = subst (λ (k : Cell). Passes f k (object_of (node_in f node)) e) same_f p.own;
+            passes = subst (λ (k : Cell). PassesNode f k (object_of (node_in f node)) e) same_f p.own;
           },
         ),
       );

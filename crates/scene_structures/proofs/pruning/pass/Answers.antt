@@ -2,7 +2,7 @@ use Rattle.std.proofs.Common.{[], ◌∷◌, subst}
 use Rattle.control_word.specs.declared.event.Cell.{Cell}
 use Rattle.control_word.specs.declared.event.Event.TheVariants.{Swap}
 use Rattle.control_block.proofs.Latest.{calls_keep_latest}
-use Rattle.control_block.specs.Desks.{Adds}
+use Rattle.control_block.specs.Desks.{AddsEvent}
 use Rattle.shared_handle.proofs.Goings.{does_both}
 use Rattle.shared_handle.specs.Piles.{IsParting}
 use Rattle.atomic_cells.specs.Sites.{shared_cell}
@@ -48,7 +48,7 @@ returns-clause-own g c =
     let x = c.exchange-old.ensures in let b = c.requires.bag in let site = c.args.at.now.site in
     let cell = cell_these d m d.shape b.0 site (these_over d m b.0 (node ∷ []) (calls_keep_latest d _ m t.event) b.1) b.2 in
     passes d m u e (shared_cell d site) node next old c.in-Ok.member c.in-Ok.ensures t.event
-    (subst (λ (k : Cell). Adds m (Swap k (node_in m next) (node_in u old)) u) cell x.event)
+    (subst (λ (k : Cell). AddsEvent m (Swap k (node_in m next) (node_in u old)) u) cell x.event)
     (does_both IsParting u f e c.let_go.ensures.own c.let_go-2.ensures.own)
 
 pub returns-clause-others : goal.returns-clause-others

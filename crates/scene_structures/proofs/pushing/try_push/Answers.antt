@@ -5,7 +5,7 @@ use Rattle.control_word.specs.declared.event.Event.TheVariants.{Compare}
 use Rattle.control_word.specs.declared.handle.Handle.{Handle}
 use Rattle.control_word.specs.declared.handle.Kind.TheVariants.{Owner}
 use Rattle.control_block.specs.CellCalls.{handle_in}
-use Rattle.control_block.specs.Desks.{Adds}
+use Rattle.control_block.specs.Desks.{AddsEvent}
 use Rattle.control_block.specs.declared.handles.Shared.{Shared}
 use Rattle.atomic_cells.specs.Sites.{shared_cell}
 use Rattle.shared_handle.proofs.Piles.{carries_kept}
@@ -107,9 +107,9 @@ returns-in-Ok-Swapped-clause-own g c =
     let h' = hands_first s t base copy (a.top ∷ a.node ∷ []) h c.store_next.ensures.bag c.store_next.ensures.held in
     let cell = cell_these d t z base site (these_both d s t base (these_over d s base (a.top ∷ a.node ∷ []) shared.1 c.requires.bag.1)
     (these_after s t base (a.top ∷ a.node ∷ []) c.store_next.ensures.latest h')) open' in
-    let at = subst (λ (k : Cell). Adds t (Compare k (node_in t a.top) (node_in t a.node) old true true) u) cell
+    let at = subst (λ (k : Cell). AddsEvent t (Compare k (node_in t a.top) (node_in t a.node) old true true) u) cell
     (swapped_event t u a.node x.field-0 _ _ _ x.old x.field-0-is x.ensures.compared) in
-    let here = subst (λ (n : Handle). Adds t (Compare (shared_cell d site) (node_in t a.top) n old true true) u) (two ∙ one) at in
+    let here = subst (λ (n : Handle). AddsEvent t (Compare (shared_cell d site) (node_in t a.top) n old true true) u) (two ∙ one) at in
     rises d s t u l.new.desk (shared_cell d site) node below (node_in t a.top) old true shared.0 fill here
     (top ∙ (λ i. handle_in s Owner (sym e.handle.0 i) (sym e.handle.1 i)))
     (does_both IsParting u c.let_go.new.desk l.new.desk c.let_go.ensures.own l.ensures.own)

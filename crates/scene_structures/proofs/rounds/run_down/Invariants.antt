@@ -2,7 +2,7 @@ use Rattle.std.proofs.Common.{◌≡◌, ◌≤◌, ◌+◌, ◌*◌, ◌-◌, l
 use Rattle.control_block.specs.Desks.{IsSameDesk, bag_of}
 use Rattle.shared_handle.specs.Piles.{Carries}
 use Rattle.scene_structures.specs.Others.{KeepsOthers}
-use Rattle.scene_structures.specs.Teardowns.{HasRoom, Runs, empty_slots}
+use Rattle.scene_structures.specs.Teardowns.{HasRoomForEnds, MakesRounds, empty_slots}
 use Rattle.scene_structures.proofs.rounds.run_down.Given as goal
 
 abbrev pub invariant-loop-pile : goal.invariant-loop-pile
@@ -13,11 +13,11 @@ invariant-loop-pile g l = record {
   held : l.desk.held ≡ l.initial.desk.held;
   same : IsSameDesk l.initial.desk l.desk;
   vacant : l.ended.vacant.items ≡ empty_slots 0 l.ended.slots.items;
-  room : HasRoom (l.domain.shape.blocks + 1) l.ended;
+  room : HasRoomForEnds (l.domain.shape.blocks + 1) l.ended;
   few : length l.ended.slots.items ≤ l.domain.shape.blocks + 1;
   most : l.rounds ≤ 4 * l.domain.shape.blocks;
   blocks : l.blocks ≡ l.domain.shape.blocks;
-  runs : Runs l.initial.desk l.initial.pile.endings.items l.initial.ended.slots.items l.rounds l.desk l.pile.endings.items l.ended.slots.items;
+  runs : MakesRounds l.initial.desk l.initial.pile.endings.items l.initial.ended.slots.items l.rounds l.desk l.pile.endings.items l.ended.slots.items;
 }
 
 abbrev pub decreases-loop-pile : goal.decreases-loop-pile

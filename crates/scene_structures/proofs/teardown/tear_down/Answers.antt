@@ -4,7 +4,7 @@ use Rattle.control_block.specs.Own.{IsSole}
 use Rattle.shared_handle.specs.Piles.{Drops}
 use Rattle.shared_handle.specs.declared.pile.Gone.{Gone}
 use Rattle.shared_handle.specs.declared.pile.Gone.TheVariants.{Empty, Others}
-use Rattle.scene_structures.specs.Teardowns.{HasRoom, TearsDown}
+use Rattle.scene_structures.specs.Teardowns.{HasRoomForEnds, TearsDown}
 use Rattle.scene_structures.specs.declared.ended.Ended.{Ended}
 use Rattle.scene_structures.proofs.RunsDown.{out_rest, out_root, tears_down}
 use Rattle.scene_structures.proofs.Settles.{none_left}
@@ -17,11 +17,11 @@ use Rattle.scene_structures.proofs.teardown.tear_down.Goals.{in-Last, in-Empty, 
 pub run_down-requires-clause-room : goal.run_down-requires-clause-room
 run_down-requires-clause-room g c κs within =
     let n = c.args.domain.now.shape.blocks + 1 in
-    let first : HasRoom n c.in-Ok.ended = subst (λ k. HasRoom (k + 1) c.in-Ok.ended) c.blocks-2.ensures c.in-Ok.ensures.room in
+    let first : HasRoomForEnds n c.in-Ok.ended = subst (λ k. HasRoomForEnds (k + 1) c.in-Ok.ended) c.blocks-2.ensures c.in-Ok.ensures.room in
     elim c.match-drop_shared.branch [
-      | in-Last w ↦ subst (HasRoom n) (sym w.ended-is) (w.begin.ensures.room n first)
-      | in-Empty w ↦ subst (HasRoom n) (sym w.ended-is) first
-      | in-Others w ↦ subst (HasRoom n) (sym w.ended-is) first
+      | in-Last w ↦ subst (HasRoomForEnds n) (sym w.ended-is) (w.begin.ensures.room n first)
+      | in-Empty w ↦ subst (HasRoomForEnds n) (sym w.ended-is) first
+      | in-Others w ↦ subst (HasRoomForEnds n) (sym w.ended-is) first
     ]
 
 pub returns-clause-ends : goal.returns-clause-ends

@@ -7,7 +7,7 @@ pub returns-in-Ok : goal.returns-in-Ok
 returns-in-Ok g c =
     law.read c.args.hand c.args.name c.args.taken c.args.table.now c.read.new.self c.requires
     (let a = c.if-from-hand.false in let b = c.from.ensures in omega (arith, a, b)) c.in-Ok.field
-    (subst (λ j. calls.Reads c.args.table.now j (Ok c.in-Ok.field) c.read.new.self) c.from-2.ensures c.in-Ok.ensures.read)
+    (subst (λ j. calls.ReadsSlot c.args.table.now j (Ok c.in-Ok.field) c.read.new.self) c.from-2.ensures c.in-Ok.ensures.read)
 
 pub returns-in-Err-Call : goal.returns-in-Err-Call
 returns-in-Err-Call g c =

@@ -24,5 +24,5 @@ returns-in-Some-seen g c =
     let lt : c.args.name < c.args.hand = let a = c.if-from-hand.false in let b = c.from.ensures in omega (arith, a, b) in
     let n = c.in-Some.ensures in
     law.exchanged c.args.hand t c.exchange.new.self c.args.cell n.1 n.2 c.args.name c.args.taken c.requires c.in-Some-seen.ensures.seated lt
-    (subst (λ k. cells.Exchanges t c.args.name k c.exchange.new.self) n.0
-    (subst (λ j. cells.Exchanges t j c.in-Some.to c.exchange.new.self) c.from-2.ensures c.in-Ok-exchange.ensures.exchanged))
+    (subst (λ k. cells.ExchangesSlot t c.args.name k c.exchange.new.self) n.0
+    (subst (λ j. cells.ExchangesSlot t j c.in-Some.to c.exchange.new.self) c.from-2.ensures c.in-Ok-exchange.ensures.exchanged))

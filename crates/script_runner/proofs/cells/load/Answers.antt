@@ -24,4 +24,4 @@ returns-in-Some-seen g c =
     let t = c.args.table.now in
     let n = c.in-Some.ensures in
     law.loaded c.args.hand t c.load.new.self c.args.cell n.1 n.2 c.requires c.in-Some-seen.ensures.seated
-    (subst (λ k. cells.Loads t k c.args.hand c.load.new.self) n.0 c.in-Ok-load.ensures.loaded)
+    (subst (λ k. cells.LoadsIntoSlot t k c.args.hand c.load.new.self) n.0 c.in-Ok-load.ensures.loaded)

@@ -1,6 +1,6 @@
 use Rattle.std.proofs.Common.{◌+◌, false, Some, sym, subst}
 use Rattle.handle_table.specs.Cells as cells
-use Rattle.handle_table.specs.Ends.{IsThere}
+use Rattle.handle_table.specs.Ends.{NamesCell}
 use Rattle.script_runner.specs.CellCalls.{as_cell}
 use Rattle.script_runner.specs.Deals.{IsActed}
 use Rattle.script_runner.proofs.Acting.{went}
@@ -11,7 +11,7 @@ use Rattle.step_threads.specs.declared.said.Answer.TheVariants as says
 use Rattle.script_runner.proofs.cells.offer.Goals as goal
 
 pub offer_to-requires-clause-there : goal.offer_to-requires-clause-there
-offer_to-requires-clause-there g c = subst (λ k. IsThere c.args.table.now k) c.in-Some.ensures.0 c.in-Ok.ensures.there
+offer_to-requires-clause-there g c = subst (λ k. NamesCell c.args.table.now k) c.in-Some.ensures.0 c.in-Ok.ensures.there
 
 pub offer_to-requires-clause-named : goal.offer_to-requires-clause-named
 offer_to-requires-clause-named g c = (c.in-Some.ensures.1, c.in-Some.ensures.2)

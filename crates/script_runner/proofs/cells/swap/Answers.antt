@@ -22,6 +22,6 @@ returns-in-Ok-move_to g c =
     let at : (c.args.hand - 1) + 1 ≡ c.args.hand = let a = c.if-hand-eq0.false in omega (arith, a) in
     subst (λ b. IsDealt c.args.hand t b (act.Swap c.args.cell) (went false None) c.move_to.new.self) (sym c.if-not-taken.false)
     (swapping.swaps c.args.hand (c.args.hand - 1) t v c.move_to.new.self c.args.cell n.1 n.2 at c.requires c.in-Some-seen.ensures.seated
-    (subst (λ k. cells.Exchanges t c.args.hand k v) n.0 c.in-Ok.ensures.exchanged)
+    (subst (λ k. cells.ExchangesSlot t c.args.hand k v) n.0 c.in-Ok.ensures.exchanged)
     (subst (λ f. calls.WhyNoHandle v.slots (c.args.hand - 1) f) e.field-0-is e.ensures.fault)
     c.in-Ok-move_to.ensures.moved)

@@ -1,6 +1,6 @@
 use Rattle.std.proofs.Common.{sym, subst}
 use Rattle.std.specs.Prelude.{IfSome}
-use Rattle.script_runner.specs.Deals.{IsDealt, IsSeen}
+use Rattle.script_runner.specs.Deals.{IsDealt, IsHandOfTable}
 use Rattle.script_runner.proofs.Stepping as steps
 use Rattle.script_runner.proofs.dealing.deal.Goals as goal
 
@@ -47,7 +47,7 @@ pub swap-requires : goal.swap-requires
 swap-requires g c = c.requires.seen.seated
 
 pub take_or_pass-requires : goal.take_or_pass-requires
-take_or_pass-requires g c = subst (λ b. IsSeen c.args.hand c.args.table.now b) c.in-false.is c.requires.seen
+take_or_pass-requires g c = subst (λ b. IsHandOfTable c.args.hand c.args.table.now b) c.in-false.is c.requires.seen
 
 pub returns-in-Put : goal.returns-in-Put
 returns-in-Put g c = steps.dealt_so c.args.hand c.args.table.now c.put.new.table c.args.taken c.args.act _ c.put.result c.in-Put.is c.put.ensures

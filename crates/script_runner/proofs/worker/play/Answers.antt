@@ -1,6 +1,6 @@
 use Rattle.std.proofs.Common.{◌≤◌, true, false, subst, inr, ◌∙◌}
 use Rattle.std.proofs.lemmas.List.{drop_all}
-use Rattle.script_runner.specs.Deals.{GoesOn}
+use Rattle.script_runner.specs.Deals.{GoesOnWith}
 use Rattle.script_runner.proofs.Stepping as steps
 use Rattle.script_runner.proofs.worker.play.Goals as goal
 
@@ -17,5 +17,5 @@ returns-then-at-len g c =
     let log = c.args.log.now in
     let le = subst (λ n. n ≤ c.loop.at) (c.len.ensures ∙ c.args.tasks.now.ok.0) c.if-at-len.true in
     steps.or_then c.loop.invariant (λ goes.
-    subst (λ l. GoesOn c.args.hand c.args.table.now log.taken xs log.said.items c.loop.table c.loop.log.taken l c.loop.log.said.items)
+    subst (λ l. GoesOnWith c.args.hand c.args.table.now log.taken xs log.said.items c.loop.table c.loop.log.taken l c.loop.log.said.items)
     (drop_all c.loop.at xs le) goes)

@@ -1,5 +1,5 @@
 use Rattle.std.proofs.Common.{◌≡◌, ℕ, Bor, List, [], Ok, get_or, rules}
-use Rattle.script_text.specs.Cells.{cell_at}
+use Rattle.script_text.specs.Cells.{cell_of_word}
 use Rattle.script_text.specs.Shapes.{cell_and_sources}
 use Rattle.script_text.proofs.ShapeLemmas.{three_of, fails_first}
 use Rattle.script_text.proofs.cell.cell_and_sources.Goals as goal
@@ -16,5 +16,5 @@ unfolding cell_and_sources
 returns-in_err-expected c =
     let none : Bor (List ℕ) = record { ref_ptr = (0, 0); now = [] } in
     let words = three_of c.args.words.now none c.in-len3.len_at_least c.in-len3.len_below in
-    let read : cell_at c.args.names.now (get_or c.args.words.now 0 none).now ≡ Ok c.in_ok-cell.cell = search rules in
+    let read : cell_of_word c.args.names.now (get_or c.args.words.now 0 none).now ≡ Ok c.in_ok-cell.cell = search rules in
     rw (words, read) (search (rules, fails_first))

@@ -1,6 +1,6 @@
 use Rattle.std.proofs.Common.{map, Ok, rules}
 use Rattle.script_text.specs.Drafts.{section_of, draft_of}
-use Rattle.script_text.specs.Grammar.{Answers, Reads}
+use Rattle.script_text.specs.Grammar.{Answers, ReadsAs}
 use Rattle.script_text.proofs.Bounds.{script_is}
 use Rattle.script_text.proofs.OneReading.{reads_answer, faulty_answer}
 use Rattle.script_text.proofs.text.parse.Goals as goal
@@ -23,13 +23,13 @@ returns-in_err-draft-clause-faulty c =
 
 pub returns-in-Ok-clause-reads : goal.returns-in-Ok-clause-reads
 returns-in-Ok-clause-reads c =
-    let holds : Reads c.args.bytes.now (record { version = c.in_ok-draft.draft.version; threads = map section_of c.in-Ok.threads.items }) = search rules in
+    let holds : ReadsAs c.args.bytes.now (record { version = c.in_ok-draft.draft.version; threads = map section_of c.in-Ok.threads.items }) = search rules in
     λ script h. reads_answer (Ok (record { version = c.in_ok-draft.draft.version; threads = map section_of c.in-Ok.threads.items }))
     c.args.bytes.now script holds h
 
 pub returns-in-Ok-clause-faulty : goal.returns-in-Ok-clause-faulty
 returns-in-Ok-clause-faulty c =
-    let holds : Reads c.args.bytes.now (record { version = c.in_ok-draft.draft.version; threads = map section_of c.in-Ok.threads.items }) = search rules in
+    let holds : ReadsAs c.args.bytes.now (record { version = c.in_ok-draft.draft.version; threads = map section_of c.in-Ok.threads.items }) = search rules in
     λ line cause h. faulty_answer (Ok (record { version = c.in_ok-draft.draft.version; threads = map section_of c.in-Ok.threads.items }))
     c.args.bytes.now line cause
     holds h

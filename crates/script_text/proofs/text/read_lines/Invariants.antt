@@ -1,10 +1,10 @@
 use Rattle.std.proofs.Common.{length}
 use Rattle.script_text.specs.Drafts.{draft_of}
-use Rattle.script_text.specs.Grammar.{Begins}
+use Rattle.script_text.specs.Grammar.{BeginsWithDraft}
 use Rattle.script_text.proofs.text.read_lines.Given as goal
 
 abbrev pub invariant-loop-text : goal.invariant-loop-text
-invariant-loop-text l = Begins l.bytes (draft_of l.draft) l.line l.rest
+invariant-loop-text l = BeginsWithDraft l.bytes (draft_of l.draft) l.line l.rest
 
 abbrev pub decreases-loop-text : goal.decreases-loop-text
 decreases-loop-text l = length l.rest

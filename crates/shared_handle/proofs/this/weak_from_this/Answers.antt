@@ -2,13 +2,13 @@ use Rattle.std.proofs.Common.{refl, sym, inl, inr, subst, Option}
 use Rattle.control_word.specs.declared.handle.Kind.TheVariants.{Owner}
 use Rattle.control_word.specs.declared.place.Block.{Block}
 use Rattle.control_block.specs.Desks.{DeskNow, HasHandle}
-use Rattle.shared_handle.specs.Calls.{Holds}
+use Rattle.control_block.specs.CellCalls.{HoldsHandle}
 use Rattle.shared_handle.proofs.this.weak_from_this.Goals as goal
 
 pub share_weak-requires-clause-may : goal.share_weak-requires-clause-may
 share_weak-requires-clause-may g c = λ _ _.
     let place = c.args.handle.now.place in
-    let there = subst (λ (b : Option Block). Holds c.args.desk.now Owner b place) c.in_ok-block.ensures.this.0 c.requires.holds in
+    let there = subst (λ (b : Option Block). HoldsHandle c.args.desk.now Owner b place) c.in_ok-block.ensures.this.0 c.requires.holds in
     inl (
       Owner,
       place,

@@ -2,7 +2,7 @@ use Rattle.std.proofs.Common.{◌<◌, List, [], length, get_or, refl, subst}
 use Rattle.step_threads.specs.declared.call.Call.{Call}
 use Rattle.step_threads.specs.declared.call.Call.TheVariants.{Make}
 use Rattle.control_word.specs.declared.handle.Kind.{Kind}
-use Rattle.step_threads.specs.Programs.{IsApart, IsWellNamed}
+use Rattle.step_threads.specs.Programs.{IsApartFromCell, IsWellNamed}
 use Rattle.step_core.specs.Starts.{HasFields}
 use Rattle.step_core.proofs.Programs.{held_by_more}
 use Rattle.step_core.proofs.limits.is_part.Goals as goal
@@ -15,7 +15,7 @@ loop-call-preserved c =
     let i = c.loop-call.call-index in
     let e = c.deref-call-items.ensures.value in
     let n : IsWellNamed c.as_slice.result.now (get_or c.deref-call-items.result.now i none) = c.if-not-is_well_named.ensures.named.0 refl in
-    let a : IsApart (get_or c.deref-call-items.result.now i none) = c.if-not-is_apart.ensures.0 refl in
+    let a : IsApartFromCell (get_or c.deref-call-items.result.now i none) = c.if-not-is_apart.ensures.0 refl in
     let f : HasFields (get_or c.deref-call-items.result.now i none) = c.if-not-is_well_named.ensures.fields in
     let lt : i < length calls = subst (λ (l : List Call). i < length l) e c.loop-call-test.true in
     record {
@@ -23,6 +23,6 @@ loop-call-preserved c =
           held_by_more (IsWellNamed kinds) calls i none c.loop-call.invariant.named lt
           (subst (λ (l : List Kind). IsWellNamed l (get_or calls i none)) c.as_slice.ensures.value
           (subst (λ (l : List Call). IsWellNamed c.as_slice.result.now (get_or l i none)) e n));
-      apart = held_by_more IsApart calls i none c.loop-call.invariant.apart lt (subst (λ (l : List Call). IsApart (get_or l i none)) e a);
+      apart = held_by_more IsApartFromCell calls i none c.loop-call.invariant.apart lt (subst (λ (l : List Call). IsApartFromCell (get_or l i none)) e a);
       fields = held_by_more HasFields calls i none c.loop-call.invariant.fields lt (subst (λ (l : List Call). HasFields (get_or l i none)) e f);
     }

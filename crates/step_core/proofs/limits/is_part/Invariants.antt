@@ -1,12 +1,12 @@
 use Rattle.std.proofs.Common.{ℕ, ◌<◌, get_or}
 use Rattle.step_threads.specs.declared.call.Call.{Call}
-use Rattle.step_threads.specs.Programs.{IsApart, IsWellNamed}
+use Rattle.step_threads.specs.Programs.{IsApartFromCell, IsWellNamed}
 use Rattle.step_core.specs.Starts.{HasFields}
 use Rattle.step_core.proofs.limits.is_part.Given as goal
 
 abbrev pub invariant-loop-call : goal.invariant-loop-call
 invariant-loop-call l = record {
   named : (k : ℕ) (d : Call) → k < l.call-index → IsWellNamed l.actor.kinds.items (get_or l.actor.calls.items k d);
-  apart : (k : ℕ) (d : Call) → k < l.call-index → IsApart (get_or l.actor.calls.items k d);
+  apart : (k : ℕ) (d : Call) → k < l.call-index → IsApartFromCell (get_or l.actor.calls.items k d);
   fields : (k : ℕ) (d : Call) → k < l.call-index → HasFields (get_or l.actor.calls.items k d);
 }

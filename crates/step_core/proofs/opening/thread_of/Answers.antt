@@ -5,7 +5,7 @@ use Rattle.std.specs.Prelude.{All}
 use Rattle.step_threads.specs.declared.act.Task.{Task}
 use Rattle.step_threads.specs.Courses.{HasCell}
 use Rattle.step_threads.specs.Endings.{Stack}
-use Rattle.step_table.specs.Holdings.{Holds, Slots}
+use Rattle.step_table.specs.Holdings.{HoldsBag, Slots}
 use Rattle.step_threads.specs.Programs.{part_of}
 use Rattle.step_core.specs.Starts.{first_story, no_slots}
 use Rattle.step_threads.proofs.holding.Ends.{ends_none}
@@ -25,7 +25,7 @@ returns-clause-fits c =
     record {
       seat = c.requires.desk;
       holds = c.settle.ensures.holds c.args.desk (first_story c.args.extent.now)
-          (subst (λ (s : Slots). Holds c.args.desk s (first_story c.args.extent.now)) (sym c.in_ok-holdings.ensures)
+          (subst (λ (s : Slots). HoldsBag c.args.desk s (first_story c.args.extent.now)) (sym c.in_ok-holdings.ensures)
           (holds_start c.args.desk (c.len-names.result + 2) c.args.extent.now));
       within = c.settle.ensures.within;
       ready = c.settle.ensures.ready;

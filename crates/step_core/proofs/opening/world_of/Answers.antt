@@ -4,7 +4,7 @@ use Rattle.step_table.specs.declared.extent.Extent.{Extent}
 use Rattle.step_threads.specs.Programs.{part_of}
 use Rattle.step_core.specs.Starts.{first_story}
 use Rattle.step_table.specs.Stories.{Story}
-use Rattle.step_core.specs.Told.{IsTold, sight}
+use Rattle.step_core.specs.Told.{TotalsAreTold, sight}
 use Rattle.step_core.specs.Worlds.{AllFit}
 use Rattle.step_core.proofs.telling.Starting.{told_start}
 use Rattle.step_core.proofs.opening.world_of.Goals as goal
@@ -15,6 +15,6 @@ invariant_of-result c =
     let threads = c.in_ok-threads.threads.items in
     let e : c.in_ok-table.table ≡ first_story x = c.in_ok-table.ensures in (
       subst (λ (v : Story). AllFit v threads) (sym e) c.in_ok-threads.ensures.fit,
-      subst (λ (v : Story). IsTold (sight v threads) 0 0) (sym e)
+      subst (λ (v : Story). TotalsAreTold (sight v threads) 0 0) (sym e)
           (told_start x _ threads (sym (length-map c.args.actors.now part_of)) c.requires.begin.program c.in_ok-threads.ensures.walks),
     )

@@ -1,6 +1,6 @@
 use Rattle.std.proofs.Common.{◌+◌, ap, subst, ◌∙◌}
 use Rattle.control_word.specs.declared.handle.Kind.TheVariants.{Owner}
-use Rattle.control_block.specs.CellCalls.{cell_at, handle_in}
+use Rattle.control_block.specs.CellCalls.{cell_of_site, handle_in}
 use Rattle.control_block.specs.Desks.{endings_of}
 use Rattle.control_block.specs.Storing.{Replaces}
 use Rattle.control_block.specs.declared.cell_calls.Site.{Site}
@@ -12,7 +12,7 @@ pub returns-clause-stored : goal.returns-clause-stored
 returns-clause-stored g c =
     let t = c.store_shared-value in let d = c.args.desk.now in let h = c.args.handle in let x = t.result.0 in
     stores d t.new.desk (shared_cell d c.args.self.now.site) h.block h.place x.block x.place t.result.1 c.of_parts.result
-    (subst (λ (y : Site). Replaces d (cell_at d y) (handle_in d Owner h.block h.place) x.block x.place t.result.1 t.new.desk) c.cell-site.ensures.0
+    (subst (λ (y : Site). Replaces d (cell_of_site d y) (handle_in d Owner h.block h.place) x.block x.place t.result.1 t.new.desk) c.cell-site.ensures.0
     t.ensures.stored) c.of_parts.ensures
 
 pub returns-clause-count : goal.returns-clause-count

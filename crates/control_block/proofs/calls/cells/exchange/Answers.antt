@@ -7,11 +7,11 @@ use Rattle.control_word.specs.State.{bag}
 use Rattle.control_word.specs.declared.event.Event.{Event}
 use Rattle.control_word.specs.declared.event.Event.TheVariants.{Swap}
 use Rattle.control_word.specs.declared.handle.Handle.{Handle}
-use Rattle.control_block.specs.CellCalls.{Holds, handle_in, with_handle, without_handle, word_at}
+use Rattle.control_block.specs.CellCalls.{HoldsHandle, handle_in, with_handle, without_handle, word_at}
 use Rattle.control_block.specs.CellPlays.{IsWordOf}
 use Rattle.control_block.specs.Desks.{DeskNow, bag_of}
 use Rattle.control_block.specs.Inside.{desk_now}
-use Rattle.control_block.specs.Plays.{Holding, known}
+use Rattle.control_block.specs.Plays.{HoldingInBlock, known}
 use Rattle.control_block.proofs.Bags.{seen_as}
 use Rattle.control_block.proofs.CellDesks.{bag_is, event_is, fits, formed_out, holds_after, in_seat, lost_counted, lost_hand, lost_holding}
 use Rattle.control_block.proofs.CellDesks.{lost_mine, lost_room, lost_shows, lost_word, one, one_few, size_is}
@@ -69,7 +69,7 @@ swap-old-requires-clause-holds g c =
     let r = c.requires in let d = c.desk.inside in let h = c.desk.invariant in let v = d.seat.me.0 in let k = c.args.new.kind in
     let b = c.args.new.block in let p = c.args.new.place in let y = c.args.desk.now in let lost = g.A.Aimed.new in
     let new_is : lost ≡ in_seat v k b p = r.new ∙ ap (λ (z : DeskNow g.row.V.Denot). handle_in z k b p) (sym c.desk.view_is) in
-    subst (λ (z : Handle). IfSome b (λ a. Holding v z.kind (object_of z) z.place a.0)) (sym new_is)
+    subst (λ (z : Handle). IfSome b (λ a. HoldingInBlock v z.kind (object_of z) z.place a.0)) (sym new_is)
     (lost_holding d y k p h c.desk.view_is b r.holds)
 
 pub swap-old-requires-clause-count : goal.swap-old-requires-clause-count
@@ -95,7 +95,7 @@ invariant_of-desk g c =
     let trades = subst (λ z. Trades e z) new_is (swap_trades g.row.V.Denot cl lost) in
     let mine = lost_mine v k p b (lost_holding d y k p h c.desk.view_is b r.holds) in
     let came = c.swap-old.ensures.swapped in
-    let has = subst (λ (z : DeskNow g.row.V.Denot). Holds z k b p) (sym c.desk.view_is) r.holds in
+    let has = subst (λ (z : DeskNow g.row.V.Denot). HoldsHandle z k b p) (sym c.desk.view_is) r.holds in
     let t = c.swap-old.ensures in let size = size_is d h w e k x b p trades came mine (inl has) in let few = one_few x.owned in
     let fit = fits d k p b h has in
     quiet_desk d _ (e (in_seat w k x.owned x.place)) h (event_is d h w e k x b p trades came mine) t.chair.0 t.chair.2.none
@@ -140,7 +140,7 @@ returns-clause-holds g c =
     let trades = subst (λ z. Trades e z) new_is (swap_trades g.row.V.Denot cl lost) in
     let mine = lost_mine v k p b (lost_holding d y k p h c.desk.view_is b r.holds) in
     let came = c.swap-old.ensures.swapped in
-    let has = subst (λ (z : DeskNow g.row.V.Denot). Holds z k b p) (sym c.desk.view_is) r.holds in
+    let has = subst (λ (z : DeskNow g.row.V.Denot). HoldsHandle z k b p) (sym c.desk.view_is) r.holds in
     let size = size_is d h w e k x b p trades came mine (inl has) in let fit = fits d k p b h has in
     let m = length-map (bag (known w) w.view.name) (seen_as (known w)) in
     holds_after (now_of c.swap-old.new.chair.table_id w d.held) k x.owned x.place (without_handle k b p (bag_of (desk_now d)))

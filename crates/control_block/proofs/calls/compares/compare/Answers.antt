@@ -8,12 +8,12 @@ use Rattle.control_word.specs.declared.event.Event.{Event}
 use Rattle.control_word.specs.declared.event.Event.TheVariants.{Compare}
 use Rattle.control_word.specs.declared.handle.Handle.{Handle}
 use Rattle.control_word.proofs.lists.Tallies.{same_kind_true}
-use Rattle.control_block.specs.CellCalls.{Holds, handle_in, with_handle, without_handle, word_at}
+use Rattle.control_block.specs.CellCalls.{HoldsHandle, handle_in, with_handle, without_handle, word_at}
 use Rattle.control_block.specs.CellPlays.{IsWordOf}
 use Rattle.control_block.specs.Desks.{DeskNow, bag_of}
 use Rattle.control_block.specs.Handles.{IsProper}
 use Rattle.control_block.specs.Inside.{desk_now}
-use Rattle.control_block.specs.Plays.{Holding, known}
+use Rattle.control_block.specs.Plays.{HoldingInBlock, known}
 use Rattle.control_block.proofs.Bags.{seen_as}
 use Rattle.control_block.proofs.CellChoices.{allowances_of, bag_of_choice, counted_of, few_of, fits_of, has_of, mine_of, stores_of, trades_of, within_of}
 use Rattle.control_block.proofs.CellDesks.{bag_is, event_is, fits, formed_out, holds_after, in_seat, lost_counted, lost_hand, lost_holding}
@@ -85,7 +85,7 @@ compare-swapped-requires-clause-holds g c =
     let r = c.requires in let d = c.desk.inside in let h = c.desk.invariant in let v = d.seat.me.0 in let k = c.args.offer.new.kind in
     let b = c.args.offer.new.block in let p = c.args.offer.new.place in let y = c.args.desk.now in let lost = g.A.Aimed.new in
     let new_is : lost ≡ in_seat v k b p = r.new ∙ ap (λ (z : DeskNow g.row.V.Denot). handle_in z k b p) (sym c.desk.view_is) in
-    subst (λ (z : Handle). IfSome b (λ a. Holding v z.kind (object_of z) z.place a.0)) (sym new_is)
+    subst (λ (z : Handle). IfSome b (λ a. HoldingInBlock v z.kind (object_of z) z.place a.0)) (sym new_is)
     (lost_holding d y k p h c.desk.view_is b r.holds.1)
 
 pub compare-swapped-requires-clause-count : goal.compare-swapped-requires-clause-count
@@ -108,7 +108,7 @@ invariant_of-desk g c =
     let trades = trades_of v k b p cl a.expected a.new a.weak new_is s in
     let mine = mine_of v k b p s (lost_mine v k p b (lost_holding d y k p h c.desk.view_is b r.holds.1)) in
     let came = c.compare-swapped.ensures.compared in
-    let has = subst (λ (z : DeskNow g.row.V.Denot). Holds z k b p) (sym c.desk.view_is) r.holds.1 in
+    let has = subst (λ (z : DeskNow g.row.V.Denot). HoldsHandle z k b p) (sym c.desk.view_is) r.holds.1 in
     let size = size_is d h w e k x (cond s b None) (cond s p None) trades came mine (has_of (desk_now d) k b p s has) in
     let fit = fits d k p b h has in let more = counted_of s c.from.result c.from.ensures in
     let t = c.compare-swapped.ensures in let few = one_few x.owned in let z = in_seat w k x.owned x.place in
@@ -159,7 +159,7 @@ returns-clause-holds g c =
     let trades = trades_of v k b p cl a.expected a.new a.weak new_is s in
     let mine = mine_of v k b p s (lost_mine v k p b (lost_holding d y k p h c.desk.view_is b r.holds.1)) in
     let came = c.compare-swapped.ensures.compared in
-    let has = subst (λ (z : DeskNow g.row.V.Denot). Holds z k b p) (sym c.desk.view_is) r.holds.1 in
+    let has = subst (λ (z : DeskNow g.row.V.Denot). HoldsHandle z k b p) (sym c.desk.view_is) r.holds.1 in
     let size = size_is d h w e k x (cond s b None) (cond s p None) trades came mine (has_of (desk_now d) k b p s has) in
     let fit = fits d k p b h has in let more = counted_of s c.from.result c.from.ensures in
     let m = length-map (bag (known w) w.view.name) (seen_as (known w)) in

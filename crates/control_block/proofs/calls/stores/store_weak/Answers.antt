@@ -9,12 +9,12 @@ use Rattle.control_word.specs.declared.handle.Handle.{Handle}
 use Rattle.control_word.specs.declared.handle.Kind.TheVariants.{Weak}
 use Rattle.control_word.specs.declared.place.Block.{Block}
 use Rattle.control_word.specs.declared.place.Place.{Place}
-use Rattle.control_block.specs.CellCalls.{Holds, handle_in, word_at}
+use Rattle.control_block.specs.CellCalls.{HoldsHandle, handle_in, word_at}
 use Rattle.control_block.specs.CellPlays.{IsWordOf}
 use Rattle.control_block.specs.Desks.{DeskNow}
 use Rattle.control_block.specs.Inside.{IsDeskWith, desk_now}
 use Rattle.control_block.specs.Leaving.{OutAndGoneWeakly}
-use Rattle.control_block.specs.Plays.{Holding, known}
+use Rattle.control_block.specs.Plays.{HoldingInBlock, known}
 use Rattle.control_block.specs.Storing.{ReplacesWeakly}
 use Rattle.control_block.specs.declared.desk.Desk.TheInside.{Inside}
 use Rattle.control_block.proofs.CellDesks.{in_seat, lost_counted, lost_hand, lost_holding, lost_room, lost_shows, lost_some, lost_word, one}
@@ -35,7 +35,7 @@ word_of-word-requires g c =
 pub overflow_sub-desk : goal.overflow_sub-desk
 overflow_sub-desk g c =
     let some' = lost_some c.desk.inside Weak c.args.new.place c.args.new.block c.desk.invariant
-    (subst (λ (z : DeskNow g.row.V.Denot). Holds z Weak c.args.new.block c.args.new.place) (sym c.desk.view_is) c.requires.holds) in omega arith
+    (subst (λ (z : DeskNow g.row.V.Denot). HoldsHandle z Weak c.args.new.block c.args.new.place) (sym c.desk.view_is) c.requires.holds) in omega arith
 
 pub store_weak-vacant-requires-clause-word : goal.store_weak-vacant-requires-clause-word
 store_weak-vacant-requires-clause-word g c =
@@ -75,7 +75,7 @@ store_weak-vacant-requires-clause-holds g c =
     let r = c.requires in let d = c.desk.inside in let h = c.desk.invariant in let v = d.seat.me.0 in
     let b = c.args.new.block in let p = c.args.new.place in let y = c.args.desk.now in let lost = g.A.Aimed.new in
     let new_is : lost ≡ in_seat v Weak b p = r.new ∙ ap (λ (z : DeskNow g.row.V.Denot). handle_in z Weak b p) (sym c.desk.view_is) in
-    subst (λ (z : Handle). IfSome b (λ a. Holding v z.kind (object_of z) z.place a.0)) (sym new_is)
+    subst (λ (z : Handle). IfSome b (λ a. HoldingInBlock v z.kind (object_of z) z.place a.0)) (sym new_is)
     (lost_holding d y Weak p h c.desk.view_is b r.holds)
 
 pub store_weak-vacant-requires-clause-count : goal.store_weak-vacant-requires-clause-count
@@ -95,7 +95,8 @@ pub put_by_out-requires : goal.put_by_out-requires
 put_by_out-requires g c =
     let d = c.desk.inside in let h = c.desk.invariant in let b = c.args.new.block in let p = c.args.new.place in
     let is' = c.requires.new ∙ ap (λ (z : DeskNow g.row.V.Denot). handle_in z Weak b p) (sym c.desk.view_is) in
-    let has' = subst (λ (z : DeskNow g.row.V.Denot). Holds z Weak b p) (sym c.desk.view_is) c.requires.holds in let some' = lost_some d Weak p b h has' in
+    let has' = subst (λ (z : DeskNow g.row.V.Denot). HoldsHandle z Weak b p) (sym c.desk.view_is) c.requires.holds in
+    let some' = lost_some d Weak p b h has' in
     let u = c.store_weak-vacant.ensures.stored in let x = c.store_weak-vacant.result.0 in let same = c.store_weak-vacant.ensures.chair.0 in
     let f : Inside g.row.V.Denot =
     record {
@@ -141,8 +142,8 @@ module _ (g : _) (c : goal.After-content-1 g) where
   is : g.A.Aimed.new ≡ in_seat d.seat.me.0 Weak b p
   is = c.requires.new ∙ ap (λ (z : DeskNow g.row.V.Denot). handle_in z Weak b p) (sym c.desk.view_is)
 
-  has : Holds (desk_now d) Weak b p
-  has = subst (λ (z : DeskNow g.row.V.Denot). Holds z Weak b p) (sym c.desk.view_is) c.requires.holds
+  has : HoldsHandle (desk_now d) Weak b p
+  has = subst (λ (z : DeskNow g.row.V.Denot). HoldsHandle z Weak b p) (sym c.desk.view_is) c.requires.holds
 
   table : f.seat.table_id ≡ d.seat.table_id
   table = c.store_weak-vacant.ensures.chair.0
@@ -160,7 +161,7 @@ module _ (g : _) (c : goal.After-content-1 g) where
   mid : IsDeskWith 1 t
   mid = store.mid Weak d f c.desk.invariant g.A.Aimed.cell g.A.Aimed.new b p x is has o.between o.out table
 
-  holds : IfSome x.owned (λ a. Holding o.between Weak ((known o.between).latest a.0) x.place a.0)
+  holds : IfSome x.owned (λ a. HoldingInBlock o.between Weak ((known o.between).latest a.0) x.place a.0)
   holds = store.holds Weak d f c.desk.invariant g.A.Aimed.cell g.A.Aimed.new b p x is has o.between o.out table
 
   stored : IsStored Weak b p c.args.desk.now (cond q 1 0) 0 (desk_now f)
@@ -211,7 +212,8 @@ pub invariant_of-content : goal.invariant_of-content
 invariant_of-content g c =
     let d = c.desk.inside in let h = c.desk.invariant in let b = c.args.new.block in let p = c.args.new.place in
     let is' = c.requires.new ∙ ap (λ (z : DeskNow g.row.V.Denot). handle_in z Weak b p) (sym c.desk.view_is) in
-    let has' = subst (λ (z : DeskNow g.row.V.Denot). Holds z Weak b p) (sym c.desk.view_is) c.requires.holds in let some' = lost_some d Weak p b h has' in
+    let has' = subst (λ (z : DeskNow g.row.V.Denot). HoldsHandle z Weak b p) (sym c.desk.view_is) c.requires.holds in
+    let some' = lost_some d Weak p b h has' in
     let u = c.store_weak-vacant.ensures.stored in let x = c.store_weak-vacant.result.0 in let same = c.store_weak-vacant.ensures.chair.0 in
     let f : Inside g.row.V.Denot =
     record {

@@ -5,7 +5,7 @@ use Rattle.control_word.proofs.history.Legal.{sound}
 use Rattle.control_word.specs.Layout.{spot}
 use Rattle.control_word.specs.Packing.{number_of}
 use Rattle.control_word.specs.State.{InShape}
-use Rattle.control_block.specs.Census.{EndsNot, Tells}
+use Rattle.control_block.specs.Census.{EndsNot, TellsBlock}
 use Rattle.control_block.specs.Desks.{DeskNow, allowance_of, endings_of, state_of}
 use Rattle.control_block.specs.Holders.{TellsCells, TellsHolders}
 use Rattle.control_block.specs.Plays.{known}
@@ -30,7 +30,7 @@ returns-clause-census g c =
           let inside : InShape (opening_of k) b = (lo, subst (λ y. b ≤ y.blocks) (sym told) hi) in
           let still' : EndsNot (known v) b = subst (λ (y : DeskNow g.row.V.Denot). EndsNot (state_of y) b) (sym c.desk.view_is) still in
           let e = exact_counts k s r d.seat.id v f.1.1 h.rests.awake h.rests.idle whole b inside still' in
-          subst (λ (y : DeskNow g.row.V.Denot). Tells (state_of y) b n) c.desk.view_is
+          subst (λ (y : DeskNow g.row.V.Denot). TellsBlock (state_of y) b n) c.desk.view_is
           (tells_of (opening_of v.shape) (known v) b n (sound (opening_of v.shape) v.view.seen h.legal) still'
           (ap (λ l. number_of (slice_index l (spot b 0))) (sym f.2) ∙ e.0) (ap (λ l. number_of (slice_index l (spot b 1))) (sym f.2) ∙ e.1));
     }

@@ -1,5 +1,5 @@
 use Rattle.std.proofs.Common.{List, None, refl, set, subst, sym}
-use Rattle.handle_table.specs.Tables.{Fits, Slot}
+use Rattle.handle_table.specs.Tables.{FitsSlots, Slot}
 use Rattle.handle_table.proofs.Filling.{fits_at, fits_less}
 use Rattle.handle_table.proofs.cells.compares.follow.Goals as goal
 
@@ -9,6 +9,6 @@ let_go-requires-clause-held g c κs within =
 
 pub returns-then-swapped-clause-fits : goal.returns-then-swapped-clause-fits
 returns-then-swapped-clause-fits g c =
-    subst (λ (l : List Slot). Fits c.let_go.new.desk l) (sym c.vacate.ensures)
+    subst (λ (l : List Slot). FitsSlots c.let_go.new.desk l) (sym c.vacate.ensures)
     (fits_less c.args.desk.now c.let_go.new.desk (set c.args.slots.now.items c.args.desired None) c.args.found (c.requires.swapped c.if-swapped.true)
     c.let_go.ensures.bag c.let_go.ensures.held)

@@ -1,5 +1,5 @@
 use Rattle.std.proofs.Common.{◌≡◌, ◌∙◌, cond, refl, subst, sym}
-use Rattle.control_block.specs.CellCalls.{cell_at, with_handle, without_handle}
+use Rattle.control_block.specs.CellCalls.{cell_of_site, with_handle, without_handle}
 use Rattle.control_block.specs.Desks.{bag_of}
 use Rattle.atomic_cells.specs.Compares as cells
 use Rattle.handle_table.proofs.Celled.{by_parts, with_named}
@@ -11,9 +11,10 @@ returns-in-Ok-clause-kind g c = c.held_of.ensures.0 ∙ (c.in-Ok.ensures.kind �
 pub returns-in-Ok-clause-event : goal.returns-in-Ok-clause-event
 returns-in-Ok-clause-event g c =
     let a = c.args in let d = a.desk.now in let x = c.in-Ok.found in let k = a.cell.kind in
-    by_parts (λ _ b p. cells.Compares d (cell_at d a.cell.site) k a.expected.block a.expected.place a.new.block a.new.place c.in-Ok.swapped b p g.F.Form.weak
+    by_parts (λ _ b p. cells.Compares d (cell_of_site d a.cell.site) k a.expected.block a.expected.place a.new.block a.new.place c.in-Ok.swapped b
+    p g.F.Form.weak
     c.compare.new.desk) k k _ x.block _ x.place refl c.held_of.ensures.1 c.held_of.ensures.2
-    (subst (λ z. cells.Compares d (cell_at d a.cell.site) z a.expected.block a.expected.place a.new.block a.new.place c.in-Ok.swapped x.block x.place
+    (subst (λ z. cells.Compares d (cell_of_site d a.cell.site) z a.expected.block a.expected.place a.new.block a.new.place c.in-Ok.swapped x.block x.place
     g.F.Form.weak c.compare.new.desk) c.requires.kinds.1 c.in-Ok.ensures.event)
 
 pub returns-in-Ok-clause-bag : goal.returns-in-Ok-clause-bag

@@ -1,10 +1,10 @@
-use Rattle.control_block.specs.CellCalls.{cell_at, handle_in}
+use Rattle.control_block.specs.CellCalls.{cell_of_site, handle_in}
 use Rattle.handle_table.proofs.cells.held.compare_held.Given as goal
 
 abbrev pub ghosts-compare : goal.ghosts-compare
 ghosts-compare g a =
     record {
-      cell = cell_at a.desk.now a.site;
+      cell = cell_of_site a.desk.now a.site;
       new = handle_in a.desk.now a.offer.new.kind a.offer.new.block a.offer.new.place;
       expected = handle_in a.desk.now a.offer.new.kind a.offer.expected.block a.offer.expected.place;
       weak = g.F.Form.weak;

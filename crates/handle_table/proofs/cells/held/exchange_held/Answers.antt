@@ -1,11 +1,11 @@
 use Rattle.std.proofs.Common.{◌∙◌, List, ap, refl, subst, sym}
 use Rattle.control_word.specs.declared.handle.Handle.{Handle}
 use Rattle.control_word.specs.declared.handle.Kind.{Kind}
-use Rattle.control_block.specs.CellCalls.{Holds, IsOpenAt, cell_at, with_handle}
+use Rattle.control_block.specs.CellCalls.{HoldsHandle, IsOpenAt, cell_of_site, with_handle}
 use Rattle.control_block.specs.Desks.{bag_of}
 use Rattle.control_block.specs.HandleLists.{without_held}
 use Rattle.atomic_cells.specs.Cells as cells
-use Rattle.handle_table.specs.Parts.{owned_by, place_of}
+use Rattle.handle_table.specs.Parts.{block_of_held, place_of_held}
 use Rattle.handle_table.proofs.Celled.{by_parts, held_parts, with_named, without_named}
 use Rattle.handle_table.proofs.cells.held.exchange_held.Goals as goal
 
@@ -19,7 +19,7 @@ exchange-old-requires-clause-cell g c κs within =
 pub exchange-old-requires-clause-holds : goal.exchange-old-requires-clause-holds
 exchange-old-requires-clause-holds g c κs within =
     let h = c.args.handle in let x = c.into_content-new in
-    by_parts (Holds c.args.desk.now) x.result.kind _ x.result.block _ x.result.place _ (sym x.ensures.0) (sym x.ensures.1) (sym x.ensures.2)
+    by_parts (HoldsHandle c.args.desk.now) x.result.kind _ x.result.block _ x.result.place _ (sym x.ensures.0) (sym x.ensures.1) (sym x.ensures.2)
     (held_parts c.args.desk.now h c.requires.held.0)
 
 pub returns-clause-kind : goal.returns-clause-kind
@@ -29,8 +29,9 @@ returns-clause-kind g c =
 pub returns-clause-event : goal.returns-clause-event
 returns-clause-event g c =
     let d = c.args.desk.now in let x = c.into_content-new in let y = c.exchange-old in let e = c.exchange-old.new.desk in let k = c.args.cell.kind in
-    let at = cell_at d c.args.cell.site in
-    by_parts (λ _ b p. cells.Exchanges d at k b p (owned_by c.held_of.result) (place_of c.held_of.result) e) k k _ x.result.block _ x.result.place refl
+    let at = cell_of_site d c.args.cell.site in
+    by_parts (λ _ b p. cells.Exchanges d at k b p (block_of_held c.held_of.result) (place_of_held c.held_of.result) e) k k _ x.result.block _
+    x.result.place refl
     x.ensures.1 x.ensures.2
     (by_parts (λ _ b p. cells.Exchanges d at k x.result.block x.result.place b p e) k k _ y.result.block _ y.result.place refl
     c.held_of.ensures.1 c.held_of.ensures.2

@@ -1,12 +1,12 @@
 use Rattle.std.proofs.Common.{false}
 use Rattle.control_word.specs.Handles.{empty}
-use Rattle.control_block.specs.CellCalls.{cell_at, handle_in}
+use Rattle.control_block.specs.CellCalls.{cell_of_site, handle_in}
 use Rattle.handle_table.proofs.cells.held.exchange_held.Given as goal
 
 abbrev pub ghosts-exchange : goal.ghosts-exchange
 ghosts-exchange g a =
     record {
-      cell = cell_at a.desk.now a.site;
+      cell = cell_of_site a.desk.now a.site;
       new = handle_in a.desk.now a.new.kind a.new.block a.new.place;
       expected = empty a.new.kind;
       weak = false;

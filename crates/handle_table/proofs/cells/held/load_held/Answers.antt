@@ -1,5 +1,5 @@
 use Rattle.std.proofs.Common.{◌∙◌, refl, sym}
-use Rattle.control_block.specs.CellCalls.{cell_at}
+use Rattle.control_block.specs.CellCalls.{cell_of_site}
 use Rattle.control_block.specs.Desks.{bag_of}
 use Rattle.atomic_cells.specs.Cells as cells
 use Rattle.handle_table.proofs.Celled.{by_parts, with_named}
@@ -11,7 +11,7 @@ returns-in-Ok-clause-kind g c = c.held_of.ensures.0 ∙ c.in-Ok.ensures.kind
 pub returns-in-Ok-clause-event : goal.returns-in-Ok-clause-event
 returns-in-Ok-clause-event g c =
     let d = c.args.desk.now in let x = c.in-Ok.found in
-    by_parts (λ k b p. cells.Loads d (cell_at d c.args.cell.site) k b p c.load.new.desk) c.args.cell.kind c.args.cell.kind _ x.block _ x.place refl
+    by_parts (λ k b p. cells.Loads d (cell_of_site d c.args.cell.site) k b p c.load.new.desk) c.args.cell.kind c.args.cell.kind _ x.block _ x.place refl
     c.held_of.ensures.1 c.held_of.ensures.2 c.in-Ok.ensures.event
 
 pub returns-in-Ok-clause-bag : goal.returns-in-Ok-clause-bag

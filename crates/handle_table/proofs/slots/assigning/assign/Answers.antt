@@ -1,5 +1,5 @@
 use Rattle.std.proofs.Common.{Some, None, refl, subst, sym}
-use Rattle.handle_table.specs.Tables.{Fits}
+use Rattle.handle_table.specs.Tables.{FitsSlots}
 use Rattle.handle_table.proofs.Filling.{fits_at, fits_less, fits_none, fits_swap}
 use Rattle.handle_table.proofs.slots.assigning.assign.Goals as goal
 
@@ -10,7 +10,7 @@ let_go-requires-clause-held g c κs within =
 
 pub returns-in-None-clause-fits : goal.returns-in-None-clause-fits
 returns-in-None-clause-fits g c =
-    subst (Fits c.args.desk.now) (sym c.put.ensures.1)
+    subst (FitsSlots c.args.desk.now) (sym c.put.ensures.1)
     (fits_none c.args.desk.now _
     (fits_swap c.args.desk.now c.args.slots.now.items c.args.to (Some c.args.handle) None c.requires.fits c.in-None.ensures.0))
 
@@ -20,7 +20,7 @@ returns-in-None-clause-assigns g c =
 
 pub returns-in-Some-clause-fits : goal.returns-in-Some-clause-fits
 returns-in-Some-clause-fits g c =
-    subst (Fits c.let_go.new.desk) (sym c.put.ensures.1)
+    subst (FitsSlots c.let_go.new.desk) (sym c.put.ensures.1)
     (fits_less c.args.desk.now c.let_go.new.desk _ c.in-Some.old
     (fits_swap c.args.desk.now c.args.slots.now.items c.args.to (Some c.args.handle) (Some c.in-Some.old) c.requires.fits c.in-Some.ensures.0)
     c.let_go.ensures.bag c.let_go.ensures.held)

@@ -1,7 +1,7 @@
 use Rattle.std.proofs.Common.{◌≡◌, ◌∙◌, Option, subst, refl, inl, inr}
 use Rattle.control_word.specs.declared.place.Place.{Place}
 use Rattle.control_block.specs.declared.handles.Held.TheVariants.{Owner}
-use Rattle.shared_handle.specs.Calls.{Shares, pointed}
+use Rattle.shared_handle.specs.Calls.{SharesOwner, pointed}
 use Rattle.handle_table.specs.This.{Aliases, WhyNoAlias}
 use Rattle.handle_table.specs.Tables.{TableNow}
 use Rattle.handle_table.proofs.Filling.{fits_at}
@@ -24,7 +24,8 @@ pub returns-in-Ok-copy-clause-aliased : goal.returns-in-Ok-copy-clause-aliased
 returns-in-Ok-copy-clause-aliased g c =
     let e = c.in-Ok-copy.ensures in let h = c.in-Ok-copy.copy in
     let same : pointed c.args.place ≡ c.args.place = e.given (inr (inr (c.if-not-is_pointer.ensures refl))) in
-    let event = subst (λ (p : Option Place). Shares c.self.inside.desk c.in-Ok.owner.now.block c.in-Ok.owner.now.place p c.alias-copy.new.desk) same e.event in
+    let event = subst (λ (p : Option Place). SharesOwner c.self.inside.desk c.in-Ok.owner.now.block c.in-Ok.owner.now.place p c.alias-copy.new.desk)
+    same e.event in
     subst (λ (t : TableNow g.row.V.Denot). Aliases t c.args.of c.args.place c.args.to (seen c.assign.new.desk c.assign.new.slots.items c.assign.new.pile))
     c.self.view_is
     record {

@@ -1,10 +1,10 @@
 use Rattle.std.proofs.Common.{◌∙◌, inl, inr, refl, subst, sym}
 use Rattle.control_word.specs.declared.handle.Kind.{Kind}
-use Rattle.control_block.specs.CellCalls.{cell_at}
+use Rattle.control_block.specs.CellCalls.{cell_of_site}
 use Rattle.atomic_cells.specs.Compares as cells
-use Rattle.handle_table.specs.Cells.{WhyNoneOf, kind_in}
-use Rattle.handle_table.specs.Compares.{Compares, WhyNotCompared}
-use Rattle.handle_table.specs.Parts.{owned_by, place_of}
+use Rattle.handle_table.specs.Cells.{WhyNoneOf, kind_of_cell}
+use Rattle.handle_table.specs.Compares.{ComparesSlots, WhyNotCompared}
+use Rattle.handle_table.specs.Parts.{block_of_held, place_of_held}
 use Rattle.handle_table.specs.Tables.{TableNow}
 use Rattle.handle_table.proofs.Celled.{by_parts}
 use Rattle.handle_table.proofs.Compared.{content_held, fits_differs, fits_swapped, found_below}
@@ -62,8 +62,8 @@ returns-in-Ok-compare_held-clause-compared g c =
     let at = c.in-Ok.at in let k = c.in-Ok.ensures.found.1 in let d = c.self.inside.desk in let m = c.compare_held.new.desk in
     let x = c.in-Ok-content_at.ensures.found in let y = c.in-Ok-content_at-2.ensures.found in
     let r = c.in-Ok-compare_held.compared in let e = c.in-Ok-compare_held.ensures in
-    let there = c.in-Ok-content_at.there in let new = c.in-Ok-content_at-2.new in let site = cell_at d at.site in
-    subst (λ (t : TableNow g.row.V.Denot). Compares g.F.Form.weak t c.args.cell c.args.expected c.args.desired r.0
+    let there = c.in-Ok-content_at.there in let new = c.in-Ok-content_at-2.new in let site = cell_of_site d at.site in
+    subst (λ (t : TableNow g.row.V.Denot). ComparesSlots g.F.Form.weak t c.args.cell c.args.expected c.args.desired r.0
     (seen c.follow.new.desk c.follow.new.slots.items c.follow.new.pile)) c.self.view_is
     record {
       site = at.site;
@@ -74,9 +74,10 @@ returns-in-Ok-compare_held-clause-compared g c =
       found = r.1;
       kinds = (x.2.0 ∙ (x.3 ∙ k), y.2.0 ∙ (y.3 ∙ k), e.kind ∙ k);
       between = m;
-      compares = by_parts (λ z b p. cells.Compares d site z b p (owned_by y.0) (place_of y.0) r.0 (owned_by r.1) (place_of r.1) g.F.Form.weak m)
-          (kind_in c.args.cell) at.kind (owned_by x.0) there.block (place_of x.0) there.place (sym k) x.2.1 x.2.2
-          (by_parts (λ _ b p. cells.Compares d site at.kind there.block there.place b p r.0 (owned_by r.1) (place_of r.1) g.F.Form.weak m)
-          at.kind at.kind (owned_by y.0) new.block (place_of y.0) new.place refl y.2.1 y.2.2 e.event);
+      compares = by_parts (λ z b p. cells.Compares d site z b p (block_of_held y.0) (place_of_held y.0) r.0 (block_of_held r.1) (place_of_held r.1)
+          g.F.Form.weak m)
+          (kind_of_cell c.args.cell) at.kind (block_of_held x.0) there.block (place_of_held x.0) there.place (sym k) x.2.1 x.2.2
+          (by_parts (λ _ b p. cells.Compares d site at.kind there.block there.place b p r.0 (block_of_held r.1) (place_of_held r.1) g.F.Form.weak m)
+          at.kind at.kind (block_of_held y.0) new.block (place_of_held y.0) new.place refl y.2.1 y.2.2 e.event);
       follows = c.follow.ensures.follows;
     }

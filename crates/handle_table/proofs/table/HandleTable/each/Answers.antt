@@ -1,7 +1,7 @@
 use Rattle.std.proofs.Common.{refl}
 use Rattle.control_word.specs.declared.event.Cell.TheVariants.{Free}
 use Rattle.control_block.specs.Own.{IsSole}
-use Rattle.scene_structures.specs.Walks.{IsTold, WalksOver}
+use Rattle.scene_structures.specs.Walks.{IsToldList, WalksOver}
 use Rattle.handle_table.proofs.Structured.{desk_does, whole_still}
 use Rattle.handle_table.proofs.Wholes.{seen}
 use Rattle.handle_table.proofs.table.HandleTable.each.Goals as goal
@@ -16,7 +16,7 @@ pub returns-in-Ok-clause-told : goal.returns-in-Ok-clause-told
 returns-in-Ok-clause-told g c =
     let e = c.in-Ok.ensures in let w = e.own in let ss = c.self.inside.slots.items in (
       w.0,
-      desk_does (λ n d f. WalksOver d (Free n) w.0 f × (IsSole d → IsTold d (Free n) w.0 f))
+      desk_does (λ n d f. WalksOver d (Free n) w.0 f × (IsSole d → IsToldList d (Free n) w.0 f))
           (seen c.self.inside.desk ss c.self.inside.pile) c.args.self.now (seen c.each.new.desk ss c.self.inside.pile)
           c.observers.inside.observers c.args.observers.now (λ near. absurd (cc (e.limit.1 near))) (w.1, w.3) refl refl c.self.view_is c.observers.view_is,
       w.2,

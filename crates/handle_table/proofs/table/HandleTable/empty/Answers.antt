@@ -1,6 +1,6 @@
 use Rattle.std.proofs.Common.{refl, subst}
 use Rattle.control_block.specs.declared.handles.Held.TheVariants.{Owner}
-use Rattle.handle_table.specs.Handles.{Empties}
+use Rattle.handle_table.specs.Handles.{EmptiesSlot}
 use Rattle.handle_table.specs.Tables.{TableNow}
 use Rattle.handle_table.proofs.Emptied.{bears_counted, fits_empty}
 use Rattle.handle_table.proofs.Wholes.{seen}
@@ -18,7 +18,7 @@ assign-requires-clause-fits g c κs within =
 pub returns-in-Ok-clause-emptied : goal.returns-in-Ok-clause-emptied
 returns-in-Ok-clause-emptied g c =
     let e = c.in-Ok.ensures in
-    subst (λ (t : TableNow g.row.V.Denot). Empties t c.args.to (seen c.assign.new.desk c.assign.new.slots.items c.assign.new.pile)) c.self.view_is
+    subst (λ (t : TableNow g.row.V.Denot). EmptiesSlot t c.args.to (seen c.assign.new.desk c.assign.new.slots.items c.assign.new.pile)) c.self.view_is
     record {
       handle = Owner c.in-Ok.owner;
       between = c.empty.new.desk;

@@ -1,6 +1,6 @@
 use Rattle.std.proofs.Common.{refl, subst}
 use Rattle.control_block.specs.declared.handles.Held.TheVariants.{Weak}
-use Rattle.handle_table.specs.Handles.{EmptiesWeakly}
+use Rattle.handle_table.specs.Handles.{EmptiesSlotWeakly}
 use Rattle.handle_table.specs.Tables.{TableNow}
 use Rattle.handle_table.proofs.Emptied.{bears_counted, fits_empty_weak}
 use Rattle.handle_table.proofs.Wholes.{seen}
@@ -18,7 +18,7 @@ assign-requires-clause-fits g c κs within =
 pub returns-in-Ok-clause-emptied : goal.returns-in-Ok-clause-emptied
 returns-in-Ok-clause-emptied g c =
     let e = c.in-Ok.ensures in
-    subst (λ (t : TableNow g.row.V.Denot). EmptiesWeakly t c.args.to (seen c.assign.new.desk c.assign.new.slots.items c.assign.new.pile)) c.self.view_is
+    subst (λ (t : TableNow g.row.V.Denot). EmptiesSlotWeakly t c.args.to (seen c.assign.new.desk c.assign.new.slots.items c.assign.new.pile)) c.self.view_is
     record {
       handle = Weak c.in-Ok.weak;
       between = c.empty_weak.new.desk;

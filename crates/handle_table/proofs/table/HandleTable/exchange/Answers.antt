@@ -1,11 +1,11 @@
 use Rattle.std.proofs.Common.{◌∷◌, ◌∙◌, List, Some, ap, inl, inr, refl, subst, sym}
 use Rattle.control_word.specs.declared.handle.Kind.{Kind}
-use Rattle.control_block.specs.CellCalls.{cell_at}
+use Rattle.control_block.specs.CellCalls.{cell_of_site}
 use Rattle.atomic_cells.specs.Cells as cells
 use Rattle.handle_table.specs.Calls.{Assigns}
-use Rattle.handle_table.specs.Cells.{Exchanges, WhyNoneOf, WhyNotSwapped}
-use Rattle.handle_table.specs.Parts.{owned_by, place_of}
-use Rattle.handle_table.specs.Tables.{Fits, Slot, TableNow, on_pile}
+use Rattle.handle_table.specs.Cells.{ExchangesSlot, WhyNoneOf, WhyNotSwapped}
+use Rattle.handle_table.specs.Parts.{block_of_held, place_of_held}
+use Rattle.handle_table.specs.Tables.{FitsSlots, Slot, TableNow, on_pile}
 use Rattle.handle_table.proofs.Filling.{fits_at, fits_exchange, fits_out}
 use Rattle.handle_table.proofs.Wholes.{kept, seen}
 use Rattle.handle_table.proofs.table.HandleTable.exchange.Goals as goal
@@ -34,7 +34,7 @@ assign-requires-clause-bears g c κs within =
 pub assign-requires-clause-fits : goal.assign-requires-clause-fits
 assign-requires-clause-fits g c κs within =
     let t = c.in-Ok-take_kind.ensures.taken in let m = c.exchange_held-old in let x = c.in-Ok-take_kind.new in
-    subst (λ (l : List Slot). Fits m.new.desk (Some m.result ∷ l)) (sym t.2)
+    subst (λ (l : List Slot). FitsSlots m.new.desk (Some m.result ∷ l)) (sym t.2)
     (fits_exchange c.self.inside.desk m.new.desk _ x m.result
     (fits_out c.self.inside.desk c.self.inside.slots.items c.args.at x c.self.invariant.fits t.0) m.ensures.bag m.ensures.held)
 
@@ -42,7 +42,7 @@ pub returns-clause-exchanged : goal.returns-clause-exchanged
 returns-clause-exchanged g c =
     let at = c.in-Ok.there in let k = c.in-Ok.ensures.found.1 in let t = c.in-Ok-take_kind.ensures.taken in let x = c.in-Ok-take_kind.new in
     let m = c.exchange_held-old in let d = c.self.inside.desk in
-    subst (λ (u : TableNow g.row.V.Denot). Exchanges u c.args.at c.args.cell (seen c.assign.new.desk c.assign.new.slots.items c.assign.new.pile))
+    subst (λ (u : TableNow g.row.V.Denot). ExchangesSlot u c.args.at c.args.cell (seen c.assign.new.desk c.assign.new.slots.items c.assign.new.pile))
     c.self.view_is
     record {
       old = m.result;
@@ -53,7 +53,8 @@ returns-clause-exchanged g c =
         of = x;
         at = t.0;
         kinds = (t.1 ∙ k, m.ensures.kind ∙ k);
-        exchanges = subst (λ (z : Kind). cells.Exchanges d (cell_at d at.site) z (owned_by x) (place_of x) (owned_by m.result) (place_of m.result) m.new.desk)
+        exchanges = subst (λ (z : Kind). cells.Exchanges d (cell_of_site d at.site) z (block_of_held x) (place_of_held x) (block_of_held m.result)
+            (place_of_held m.result) m.new.desk)
             k m.ensures.event;
       };
       assigns = subst (λ (l : List Slot). Assigns m.new.desk l (on_pile c.self.inside.pile) c.args.at m.result c.assign.new.desk

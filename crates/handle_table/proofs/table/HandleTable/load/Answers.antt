@@ -1,10 +1,10 @@
 use Rattle.std.proofs.Common.{◌∙◌, ap, inl, inr, refl, subst}
 use Rattle.control_word.specs.declared.handle.Kind.{Kind}
-use Rattle.control_block.specs.CellCalls.{cell_at}
+use Rattle.control_block.specs.CellCalls.{cell_of_site}
 use Rattle.control_block.specs.Desks.{DeskNow}
 use Rattle.atomic_cells.specs.Cells as cells
-use Rattle.handle_table.specs.Cells.{Loads, WhyNotLoaded}
-use Rattle.handle_table.specs.Parts.{owned_by, place_of}
+use Rattle.handle_table.specs.Cells.{LoadsIntoSlot, WhyNotLoaded}
+use Rattle.handle_table.specs.Parts.{block_of_held, place_of_held}
 use Rattle.handle_table.specs.Tables.{TableNow}
 use Rattle.handle_table.specs.declared.fault.Fault.TheVariants as fault
 use Rattle.handle_table.proofs.Filling.{fits_more}
@@ -28,14 +28,19 @@ pub returns-in-Ok-load_held-clause-loaded : goal.returns-in-Ok-load_held-clause-
 returns-in-Ok-load_held-clause-loaded g c =
     let at = c.in-Ok.at in let k = c.in-Ok.ensures.found.1 in let h = c.in-Ok-load_held.found in let e = c.in-Ok-load_held.ensures in
     let d = c.self.inside.desk in
-    subst (λ (t : TableNow g.row.V.Denot). Loads t c.args.cell c.args.to (seen c.assign.new.desk c.assign.new.slots.items c.assign.new.pile)) c.self.view_is
+    subst (λ (t : TableNow g.row.V.Denot). LoadsIntoSlot t c.args.cell c.args.to (seen c.assign.new.desk c.assign.new.slots.items c.assign.new.pile))
+    c.self.view_is
     record {
       site = at.site;
       is = c.in-Ok.ensures.found.0;
       loads = record {
         handle = h;
         between = c.load_held.new.desk;
-        comes = (e.kind ∙ k, subst (λ (z : Kind). cells.Loads d (cell_at d at.site) z (owned_by h) (place_of h) c.load_held.new.desk) k e.event);
+        comes = (
+          e.kind ∙ k,
+          subst (λ (z : Kind). cells.Loads d (cell_of_site d at.site) z (block_of_held h) (place_of_held h)
+              c.load_held.new.desk) k e.event,
+        );
         assigns = c.assign.ensures.assigns;
       };
     }

@@ -1,7 +1,7 @@
 use Rattle.std.proofs.Common.{◌≡◌, ◌∙◌, Bool, is_some, ap, inl, inr, refl, subst, sym}
 use Rattle.control_block.specs.declared.handles.Held.TheVariants.{Owner, Weak}
 use Rattle.shared_handle.specs.Locks as locks
-use Rattle.handle_table.specs.Calls.{Locks, WhyNotLocked}
+use Rattle.handle_table.specs.Calls.{LocksSlot, WhyNotLocked}
 use Rattle.handle_table.specs.Tables.{TableNow}
 use Rattle.handle_table.proofs.Filling.{fits_at}
 use Rattle.handle_table.proofs.Wholes.{kept, seen}
@@ -23,7 +23,7 @@ pub returns-in-Ok-owner-clause-locked : goal.returns-in-Ok-owner-clause-locked
 returns-in-Ok-owner-clause-locked g c =
     let e = c.in-Ok-owner.ensures in let h = c.in-Ok-owner.owner in let of = c.in-Ok.weak.now in
     let told : c.is_some-got.result ≡ is_some h.block = c.is_some-got.ensures ∙ ap is_some c.block.ensures in
-    subst (λ (t : TableNow g.row.V.Denot). Locks t c.args.from c.args.to c.is_some-got.result
+    subst (λ (t : TableNow g.row.V.Denot). LocksSlot t c.args.from c.args.to c.is_some-got.result
     (seen c.assign.new.desk c.assign.new.slots.items c.assign.new.pile)) c.self.view_is
     record {
       of = of;
@@ -37,7 +37,7 @@ returns-in-Ok-owner-clause-locked g c =
           event = (
             told,
             subst (λ (got : Bool). locks.IsOwnerOf of.block of.place got h) (sym told) e.handle,
-            subst (λ (got : Bool). locks.Locks c.self.inside.desk of.block of.place got c.lock-owner.new.desk) (sym told) e.lock,
+            subst (λ (got : Bool). locks.LocksHandle c.self.inside.desk of.block of.place got c.lock-owner.new.desk) (sym told) e.lock,
           );
         };
         assigns = c.assign.ensures.assigns;

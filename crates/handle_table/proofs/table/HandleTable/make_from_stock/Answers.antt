@@ -1,7 +1,7 @@
 use Rattle.std.proofs.Common.{refl, subst}
 use Rattle.control_block.specs.declared.handles.Held.TheVariants.{Owner}
 use Rattle.shared_handle.proofs.Piles.{bears_kept}
-use Rattle.handle_table.specs.Calls.{Makes}
+use Rattle.handle_table.specs.Calls.{MakesIntoSlot}
 use Rattle.handle_table.specs.Tables.{TableNow}
 use Rattle.handle_table.proofs.Wholes.{seen}
 use Rattle.handle_table.proofs.table.HandleTable.make_from_stock.Goals as goal
@@ -14,7 +14,7 @@ assign-requires-clause-bears g c κs within =
 
 pub returns-in-Ok-clause-made : goal.returns-in-Ok-clause-made
 returns-in-Ok-clause-made g c =
-    subst (λ (t : TableNow g.row.V.Denot). Makes t c.args.to c.args.enabled c.args.fields c.args.value
+    subst (λ (t : TableNow g.row.V.Denot). MakesIntoSlot t c.args.to c.args.enabled c.args.fields c.args.value
     (seen c.assign.new.desk c.assign.new.slots.items c.assign.new.pile))
     c.self.view_is
     record {

@@ -6,10 +6,10 @@ use Rattle.control_block.specs.Own.{IsSole}
 use Rattle.control_block.specs.declared.handles.Held.TheVariants.{Owner}
 use Rattle.control_block.specs.declared.handles.Shared.{Shared}
 use Rattle.shared_handle.proofs.Piles.{bears_kept}
-use Rattle.shared_handle.specs.Calls.{with_handle}
+use Rattle.control_block.specs.CellCalls.{with_handle}
 use Rattle.scene_structures.specs.Pops.{TakesNode}
-use Rattle.scene_structures.specs.Stacks.{FindsNone, IsBare, IsPopped, StackNow}
-use Rattle.handle_table.specs.Structures.{PopsNode}
+use Rattle.scene_structures.specs.Stacks.{FindsNone, IsEmptyList, IsPopped, StackNow}
+use Rattle.handle_table.specs.Structures.{PopsIntoSlot}
 use Rattle.handle_table.specs.Tables.{TableNow}
 use Rattle.handle_table.proofs.Filling.{fits_more}
 use Rattle.handle_table.proofs.Structured.{at_none, at_some, desk_does, whole_still}
@@ -41,10 +41,10 @@ pub returns-in-None-clause-popped : goal.returns-in-None-clause-popped
 returns-in-None-clause-popped g c =
     let d = c.self.inside.desk in let m = c.pop.new.desk in let e = c.in-Ok.ensures in let ss = c.self.inside.slots.items in
     let at = Free c.stack.inside.stack.cell in
-    desk_does (λ n x y. FindsNone x (Free n) y × (IsSole x → IsBare x (Free n) y)) (seen d ss c.self.inside.pile) c.args.self.now
+    desk_does (λ n x y. FindsNone x (Free n) y × (IsSole x → IsEmptyList x (Free n) y)) (seen d ss c.self.inside.pile) c.args.self.now
     (seen m ss c.self.inside.pile) c.stack.inside.stack c.args.stack.now (λ near. absurd (cc (e.limit.1 near))) (
       at_none (FindsNone d at m) (λ (h : Shared). TakesNode d at h m) c.in-Ok.top c.in-None.is e.own,
-      λ sole. at_none (IsBare d at m) (λ (h : Shared). IsPopped d at h m) c.in-Ok.top c.in-None.is (e.list sole),
+      λ sole. at_none (IsEmptyList d at m) (λ (h : Shared). IsPopped d at h m) c.in-Ok.top c.in-None.is (e.list sole),
     )
     refl refl c.self.view_is c.stack.view_is
 
@@ -52,8 +52,8 @@ pub returns-clause-popped : goal.returns-clause-popped
 returns-clause-popped g c =
     let d = c.self.inside.desk in let m = c.pop.new.desk in let e = c.in-Ok.ensures in let h = c.in-Some.node in
     let at = Free c.stack.inside.stack.cell in let u = seen c.assign.new.desk c.assign.new.slots.items c.assign.new.pile in
-    subst (λ (k : StackNow). PopsNode c.args.self.now k.cell c.args.to true u) c.stack.view_is
-    (subst (λ (t : TableNow g.row.V.Denot). PopsNode t c.stack.inside.stack.cell c.args.to true u) c.self.view_is (
+    subst (λ (k : StackNow). PopsIntoSlot c.args.self.now k.cell c.args.to true u) c.stack.view_is
+    (subst (λ (t : TableNow g.row.V.Denot). PopsIntoSlot t c.stack.inside.stack.cell c.args.to true u) c.self.view_is (
       λ near. absurd (cc (e.limit.1 near)),
       record {
         handle = Owner h;
@@ -63,7 +63,7 @@ returns-clause-popped g c =
           is = refl;
           event = (
             at_some (FindsNone d at m) (λ (k : Shared). TakesNode d at k m) c.in-Ok.top h c.in-Some.is e.own,
-            λ sole. at_some (IsBare d at m) (λ (k : Shared). IsPopped d at k m) c.in-Ok.top h c.in-Some.is (e.list sole),
+            λ sole. at_some (IsEmptyList d at m) (λ (k : Shared). IsPopped d at k m) c.in-Ok.top h c.in-Some.is (e.list sole),
           );
         };
         assigns = c.assign.ensures.assigns;

@@ -1,7 +1,7 @@
 use Rattle.std.proofs.Common.{◌∙◌, ap, inl, inr, refl, subst, Ok}
 use Rattle.control_block.specs.Desks.{DeskNow}
 use Rattle.control_block.specs.declared.handles.Held.TheVariants.{Owner}
-use Rattle.handle_table.specs.Calls.{IsNotRead, Reads, WhyNoOwner}
+use Rattle.handle_table.specs.Calls.{IsNotRead, ReadsSlot, WhyNoOwner}
 use Rattle.handle_table.specs.Tables.{TableNow}
 use Rattle.handle_table.specs.declared.fault.Fault.TheVariants as fault
 use Rattle.handle_table.proofs.Filling.{fits_at}
@@ -23,7 +23,7 @@ returns-in-Err-clause-refused g c =
 
 pub returns-in-Ok-field-clause-read : goal.returns-in-Ok-field-clause-read
 returns-in-Ok-field-clause-read g c =
-    subst (λ (t : TableNow g.row.V.Denot). Reads t c.args.at (Ok c.in-Ok-field.field)
+    subst (λ (t : TableNow g.row.V.Denot). ReadsSlot t c.args.at (Ok c.in-Ok-field.field)
     (seen c.read-field.new.desk c.self.inside.slots.items c.self.inside.pile)) c.self.view_is
     record { of = c.in-Ok.owner.now; was = c.in-Ok.ensures.found; event = c.in-Ok-field.ensures.read; rest = (refl, refl) }
 

@@ -1,6 +1,6 @@
 use Rattle.std.proofs.Common.{◌≡◌, ℕ, ◌<◌, subst, sym}
 use Rattle.std.specs.Prelude.{slice_index}
-use Rattle.shared_handle.specs.Endings.{Ends}
+use Rattle.shared_handle.specs.Endings.{EndsInHand}
 use Rattle.control_block.specs.Desks.{DeskNow, object_in}
 use Rattle.handle_table.specs.Ends.{IsToEnd}
 use Rattle.handle_table.specs.declared.ends.Remains.TheVariants.{Fields, Null}
@@ -12,7 +12,7 @@ is_null-requires-clause-ends g c κs within =
 
 pub fields-fields-requires-clause-ends : goal.fields-fields-requires-clause-ends
 fields-fields-requires-clause-ends g c κs within =
-    subst (λ d. Ends d c.in_ok-top.top.now) (sym c.is_null.ensures.same)
+    subst (λ d. EndsInHand d c.in_ok-top.top.now) (sym c.is_null.ensures.same)
     (c.in_ok-top.ensures.ends c.self.inside.domain.now c.self.inside.desk c.self.invariant.bears.carries)
 
 pub returns-then-is_null-clause-told : goal.returns-then-is_null-clause-told

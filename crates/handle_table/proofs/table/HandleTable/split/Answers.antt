@@ -1,7 +1,7 @@
 use Rattle.std.proofs.Common.{List, length, refl, subst, sym}
 use Rattle.control_block.specs.Parting.{HoldsAll, IsTooMuch, SplitsOff}
 use Rattle.control_block.specs.SlotLists.{handles_in}
-use Rattle.handle_table.specs.Parting.{Splits, handles_from}
+use Rattle.handle_table.specs.Parting.{SplitsTable, handles_from}
 use Rattle.handle_table.specs.Tables.{Slot, TableNow}
 use Rattle.handle_table.proofs.Handing.{handed_from, holds_from, new_whole, old_whole}
 use Rattle.handle_table.proofs.Wholes.{seen}
@@ -32,7 +32,7 @@ invariant_of-self g c =
 
 pub returns-in-Ok-clause-split : goal.returns-in-Ok-clause-split
 returns-in-Ok-clause-split g c =
-    subst (λ (t : TableNow g.row.V.Denot). Splits t c.args.from c.args.allowance c.args.blocks
+    subst (λ (t : TableNow g.row.V.Denot). SplitsTable t c.args.from c.args.allowance c.args.blocks
     (seen c.part_of.new.desk c.hand_over.new.slots.items c.self.inside.pile) (seen c.in-Ok.part.desk c.hand_over.new.to.items c.in-Ok.part.pile)) c.self.view_is
     record { desks = parts g c; slots = c.hand_over.ensures; endings = (refl, c.in-Ok.ensures.empty) }
 

@@ -1,9 +1,9 @@
 use Rattle.std.proofs.Common.{◌∙◌, List, ap, inl, inr, refl, subst}
 use Rattle.control_word.specs.declared.handle.Kind.{Kind}
-use Rattle.control_block.specs.CellCalls.{cell_at}
+use Rattle.control_block.specs.CellCalls.{cell_of_site}
 use Rattle.atomic_cells.specs.Cells as cells
-use Rattle.handle_table.specs.Cells.{Stores, WhyNoneOf, WhyNotSwapped}
-use Rattle.handle_table.specs.Parts.{owned_by, place_of}
+use Rattle.handle_table.specs.Cells.{StoresFromSlot, WhyNoneOf, WhyNotSwapped}
+use Rattle.handle_table.specs.Parts.{block_of_held, place_of_held}
 use Rattle.handle_table.specs.Tables.{Slot, TableNow}
 use Rattle.handle_table.proofs.Filling.{fits_at, fits_exchange, fits_out}
 use Rattle.handle_table.proofs.Wholes.{fits_stored, kept, seen}
@@ -52,7 +52,7 @@ pub returns-clause-stored : goal.returns-clause-stored
 returns-clause-stored g c =
     let at = c.in-Ok.at in let k = c.in-Ok.ensures.found.1 in let t = c.in-Ok-take_kind.ensures.taken in let x = c.in-Ok-take_kind.new in
     let m = c.exchange_held-old in let d = c.self.inside.desk in
-    subst (λ (u : TableNow g.row.V.Denot). Stores u c.args.from c.args.cell c.let_go.result
+    subst (λ (u : TableNow g.row.V.Denot). StoresFromSlot u c.args.from c.args.cell c.let_go.result
     (seen c.let_go.new.desk c.take_kind.new.slots.items c.let_go.new.pile)) c.self.view_is
     record {
       old = m.result;
@@ -63,7 +63,8 @@ returns-clause-stored g c =
         of = x;
         at = t.0;
         kinds = (t.1 ∙ k, m.ensures.kind ∙ k);
-        exchanges = subst (λ (z : Kind). cells.Exchanges d (cell_at d at.site) z (owned_by x) (place_of x) (owned_by m.result) (place_of m.result) m.new.desk)
+        exchanges = subst (λ (z : Kind). cells.Exchanges d (cell_of_site d at.site) z (block_of_held x) (place_of_held x) (block_of_held m.result)
+            (place_of_held m.result) m.new.desk)
             k m.ensures.event;
       };
       leaves = c.let_go.ensures.left;

@@ -1,5 +1,5 @@
 use Rattle.std.proofs.Common.{refl, subst}
-use Rattle.handle_table.specs.Calls.{Counts}
+use Rattle.handle_table.specs.Calls.{CountsSlot}
 use Rattle.handle_table.specs.Tables.{TableNow}
 use Rattle.handle_table.proofs.Filling.{fits_at}
 use Rattle.handle_table.proofs.Wholes.{seen, still}
@@ -16,6 +16,6 @@ invariant_of-self g c =
 
 pub returns-in-Ok-clause-count : goal.returns-in-Ok-clause-count
 returns-in-Ok-clause-count g c =
-    subst (λ (t : TableNow g.row.V.Denot). Counts t c.args.at c.count_of.result (seen c.count_of.new.desk c.self.inside.slots.items c.self.inside.pile))
+    subst (λ (t : TableNow g.row.V.Denot). CountsSlot t c.args.at c.count_of.result (seen c.count_of.new.desk c.self.inside.slots.items c.self.inside.pile))
     c.self.view_is
     record { of = c.in-Ok.handle.now; was = c.in-Ok.ensures.found; event = c.count_of.ensures.count; rest = (refl, refl) }

@@ -3,7 +3,7 @@ use Rattle.control_word.specs.declared.event.Cell.{Cell}
 use Rattle.control_word.specs.declared.event.Cell.TheVariants.{Free}
 use Rattle.control_word.specs.declared.event.Event.TheVariants.{Load}
 use Rattle.control_word.specs.declared.shape.Shape.{Shape}
-use Rattle.control_block.specs.Desks.{Adds, bag_of}
+use Rattle.control_block.specs.Desks.{AddsEvent, bag_of}
 use Rattle.control_block.specs.Rule.{opening_of}
 use Rattle.atomic_cells.specs.Sites.{shared_cell}
 use Rattle.scene_structures.specs.Hands.{node_in}
@@ -30,7 +30,7 @@ pub returns-clause-own : goal.returns-clause-own
 returns-clause-own g c =
     let d = c.args.desk.now in let m = c.load.new.desk in let top = c.in-Ok.top in let e = c.in-Ok.ensures in let w = c.walk.ensures in
     let same : c.self.inside.cell ≡ c.args.self.now.cell = ap (λ (s : StackNow). s.cell) c.self.view_is in
-    let loads = subst (λ (k : Cell). Adds d (Load k (node_in m top)) m) (ap (shared_cell d) c.free.ensures ∙ ap Free same) e.event in
+    let loads = subst (λ (k : Cell). AddsEvent d (Load k (node_in m top)) m) (ap (shared_cell d) c.free.ensures ∙ ap Free same) e.event in
     let over : WalksOver d (Free c.args.self.now.cell) w.own.0 c.walk.new.desk = record { first = node_in m top; loaded = m; loads = loads; walks = w.own.1 } in
     let shape : d.shape.shared_cells ≡ c.args.domain.now.shape.shared_cells = ap (λ (k : Shape). k.shared_cells) c.requires.domain.shape in
     let cell = c.requires.stands.cell in

@@ -9,13 +9,14 @@ use Rattle.control_block.specs.Own.{IsSole}
 use Rattle.shared_handle.proofs.Callers.{first_out}
 use Rattle.shared_handle.proofs.Goings.{does_both}
 use Rattle.shared_handle.proofs.Piles.{carries_kept}
-use Rattle.shared_handle.specs.Calls.{IsOfThis, without_handle}
+use Rattle.shared_handle.specs.Calls.{IsOfThis}
+use Rattle.control_block.specs.CellCalls.{without_handle}
 use Rattle.shared_handle.specs.Piles.{Carries}
 use Rattle.shared_handle.specs.declared.pile.Pile.{Pile}
 use Rattle.scene_structures.specs.Detaches.{Detaches, LeavesParent}
 use Rattle.scene_structures.specs.Hands.{HasHands, Lists, node_in}
 use Rattle.scene_structures.specs.Parents.{IsParent}
-use Rattle.scene_structures.specs.Puts.{PutsOnly, nowhere}
+use Rattle.scene_structures.specs.Puts.{PutsOnly, in_no_cell}
 use Rattle.scene_structures.proofs.Adopting.{these_node}
 use Rattle.scene_structures.proofs.Detached.{puts_none}
 use Rattle.scene_structures.proofs.Unlinks.{detaches_none, detaches_some, leaves_later, parent_in_hand, same_parent}
@@ -94,7 +95,7 @@ node_same g c =
     let lists_m = subst (Lists node.block node.place) (sym p.bag) (lists_under node.block owner.block node.place owner.place (bag_of d) lists_d) in
     let lists_f = subst (Lists node.block node.place) (sym (hands g c).bag)
     (lists_under node.block parent.block node.place parent.place (bag_of d) lists_d) in
-    let shared = shares_does nowhere m s owner.block owner.place _ a.event in
+    let shared = shares_does in_no_cell m s owner.block owner.place _ a.event in
     same_left s f.new.desk node f.ensures.latest lists_f ∙ (same_node m s node shared.1 lists_m ∙ same_node d m node p.latest lists_d)
 
 some_both : (g : Over) (c : goal.After-leave g)
@@ -105,10 +106,10 @@ some_both g c =
     let node = c.args.node.now in let p = c.in_ok-owner.ensures in let owner = c.in_ok-owner.owner in let a = c.in-Ok.ensures in
     let parent = c.in-Ok.parent in
     let o = object_of (node_in d node) in let at = f.new.desk in
-    let shared = shares_does nowhere m s owner.block owner.place _ a.event in
+    let shared = shares_does in_no_cell m s owner.block owner.place _ a.event in
     let lists = subst (Lists owner.block owner.place) (sym p.bag) (lists_first owner.block owner.place (bag_of d)) in
     let number = same_parent m s at owner parent _ a.event a.handle.0 f.ensures.latest lists (first_lists at (bag_of d) parent [] (hands g c)) in
-    let comes = does_both (PutsOnly nowhere) m s at shared.0 (puts_none s at f.ensures.own) in
+    let comes = does_both (PutsOnly in_no_cell) m s at shared.0 (puts_none s at f.ensures.own) in
     let leaves = subst (λ j. LeavesParent at j o e) number
     (subst (λ j. LeavesParent at (object_of (node_in at parent)) j e) (ap object_of (node_same g c)) c.leave.ensures.own) in
     detaches_some d m e o owner c.in-Some.block p.own (sym c.block.ensures ∙ c.in-Some.is)

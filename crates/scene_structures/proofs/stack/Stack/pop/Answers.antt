@@ -3,7 +3,7 @@ use Rattle.control_word.specs.declared.event.Cell.{Cell}
 use Rattle.control_word.specs.declared.event.Cell.TheVariants.{Free}
 use Rattle.control_word.specs.declared.event.Event.TheVariants.{Load}
 use Rattle.control_word.specs.declared.shape.Shape.{Shape}
-use Rattle.control_block.specs.Desks.{Adds, bag_of}
+use Rattle.control_block.specs.Desks.{AddsEvent, bag_of}
 use Rattle.control_block.specs.Rule.{opening_of}
 use Rattle.atomic_cells.specs.Sites.{shared_cell}
 use Rattle.scene_structures.specs.Hands.{node_in}
@@ -21,7 +21,7 @@ pub returns-clause-own : goal.returns-clause-own
 returns-clause-own g c =
     let d = c.args.desk.now in let m = c.load.new.desk in let top = c.in-Ok.top in
     let same : c.self.inside.cell ≡ c.args.self.now.cell = ap (λ (s : StackNow). s.cell) c.self.view_is in
-    let loads = subst (λ (k : Cell). Adds d (Load k (node_in m top)) m) (ap (shared_cell d) c.free.ensures ∙ ap Free same) c.in-Ok.ensures.event in
+    let loads = subst (λ (k : Cell). AddsEvent d (Load k (node_in m top)) m) (ap (shared_cell d) c.free.ensures ∙ ap Free same) c.in-Ok.ensures.event in
     subst (λ n. MatchOption c.take.result (FindsNone d (Free n) c.take.new.desk) (λ h. TakesNode d (Free n) h c.take.new.desk)) same
     (c.take.ensures.own d (subst (λ n. Looks d (Free n) top m) (sym same)
     (looks_first d m (Free c.args.self.now.cell) top loads (got_lists d m top c.in-Ok.ensures.bag))))

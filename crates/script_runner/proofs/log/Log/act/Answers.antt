@@ -1,12 +1,12 @@
 use Rattle.std.proofs.Common.{ℕ, false, refl, sym, ap, subst, ◌∙◌}
 use Rattle.handle_table.specs.Tables.{TableNow}
-use Rattle.script_runner.specs.Deals.{IsSeen}
+use Rattle.script_runner.specs.Deals.{IsHandOfTable}
 use Rattle.script_runner.proofs.Acting.{went}
 use Rattle.script_runner.proofs.Stepping as steps
 use Rattle.script_runner.proofs.log.Log.act.Goals as goal
 
 pub deal-requires-clause-seen : goal.deal-requires-clause-seen
-deal-requires-clause-seen g c = subst (λ t. IsSeen c.args.hand t c.args.self.now.taken) (sym c.if-not-is_ready.ensures.same)
+deal-requires-clause-seen g c = subst (λ t. IsHandOfTable c.args.hand t c.args.self.now.taken) (sym c.if-not-is_ready.ensures.same)
     (c.if-not-is_ready.ensures.ready refl).0
 
 pub deal-requires-clause-settled : goal.deal-requires-clause-settled

@@ -1,7 +1,7 @@
 use Rattle.std.proofs.Common.{◌≡◌, ◌+◌, length, Some, refl, sym, subst, inr}
 use Rattle.std.proofs.lemmas.Option.{slice_get_read}
 use Rattle.std.specs.Prelude.{drop, slice_get}
-use Rattle.script_runner.specs.Deals.{GoesOn}
+use Rattle.script_runner.specs.Deals.{GoesOnWith}
 use Rattle.script_runner.proofs.Stepping as steps
 use Rattle.script_runner.proofs.log.Log.act_at.Goals as goal
 
@@ -15,6 +15,6 @@ returns-in-Some g c =
     subst (λ xs. slice_get xs c.args.at ≡ Some c.in-Some.task.now) c.deref.ensures.value
     (slice_get_read c.deref.result.now (length c.deref.result.now) c.args.at c.in-Some.task.now refl l.3.0 l.1) in
     steps.or_then c.act.ensures (λ f.
-    subst (λ l. GoesOn c.args.hand c.args.table.now c.args.self.now.taken l c.args.self.now.said.items c.act.new.table c.act.new.self.taken
+    subst (λ l. GoesOnWith c.args.hand c.args.table.now c.args.self.now.taken l c.args.self.now.said.items c.act.new.table c.act.new.self.taken
     (drop (c.args.at + 1) c.args.tasks.now.items) c.act.new.self.said.items)
     (sym (steps.drop_at c.args.tasks.now.items c.args.at c.in-Some.task.now is)) (f (drop (c.args.at + 1) c.args.tasks.now.items)))

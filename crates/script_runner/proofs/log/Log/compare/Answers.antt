@@ -1,12 +1,12 @@
 use Rattle.std.proofs.Common.{ℕ, true, false, refl, sym, ap, subst, ◌∙◌}
 use Rattle.handle_table.specs.Tables.{TableNow}
-use Rattle.script_runner.specs.Deals.{IsSeen}
+use Rattle.script_runner.specs.Deals.{IsHandOfTable}
 use Rattle.script_runner.proofs.Stepping as steps
 use Rattle.script_runner.proofs.log.Log.compare.Goals as goal
 
 pub compare-requires : goal.compare-requires
 compare-requires g c =
-    (subst (λ t. IsSeen c.args.hand t true) (sym c.if-not-is_ready.ensures.same) (c.if-not-is_ready.ensures.ready refl).0).seated
+    (subst (λ t. IsHandOfTable c.args.hand t true) (sym c.if-not-is_ready.ensures.same) (c.if-not-is_ready.ensures.ready refl).0).seated
 
 pub returns-clause-swapped : goal.returns-clause-swapped
 returns-clause-swapped g c =

@@ -1,6 +1,6 @@
 use Rattle.std.proofs.Common.{ℕ, refl, sym, ap, subst, ◌∙◌, inr}
 use Rattle.handle_table.specs.Tables.{TableNow}
-use Rattle.script_runner.specs.Deals.{IsUnderWay}
+use Rattle.script_runner.specs.Deals.{IsPartlySettled}
 use Rattle.script_runner.proofs.Settles as settles
 use Rattle.script_runner.proofs.Stepping as steps
 use Rattle.script_runner.proofs.log.Log.round.Goals as goal
@@ -8,7 +8,7 @@ use Rattle.script_runner.proofs.log.Log.round.Goals as goal
 pub returns-in-None-clause-goes : goal.returns-in-None-clause-goes
 returns-in-None-clause-goes g c =
     let s = c.args.self.now in
-    inr (subst (λ u. IsUnderWay c.args.hand c.args.statement s.taken c.args.table.now s.said.items u s.said.items) (sym c.in-None.ensures.same)
+    inr (subst (λ u. IsPartlySettled c.args.hand c.args.statement s.taken c.args.table.now s.said.items u s.said.items) (sym c.in-None.ensures.same)
     (settles.no_round c.args.hand c.args.statement c.args.table.now s.taken s.said.items))
 
 pub returns-in-None-clause-over : goal.returns-in-None-clause-over
@@ -20,8 +20,9 @@ returns-clause-goes g c =
     let t = c.top_of.new.table in
     let u = c.round-round.new.self in
     steps.or_then c.note.ensures.said (λ m.
-    subst (λ q. IsUnderWay c.args.hand c.args.statement s.taken q s.said.items c.told_of-ended.new.table c.note.new.self.said.items) c.in-Some.ensures.same
-    (subst (λ q. IsUnderWay c.args.hand c.args.statement s.taken t s.said.items q c.note.new.self.said.items) (sym c.told_of-ended.ensures.same)
+    subst (λ q. IsPartlySettled c.args.hand c.args.statement s.taken q s.said.items c.told_of-ended.new.table c.note.new.self.said.items)
+    c.in-Some.ensures.same
+    (subst (λ q. IsPartlySettled c.args.hand c.args.statement s.taken t s.said.items q c.note.new.self.said.items) (sym c.told_of-ended.ensures.same)
     (settles.round_on c.args.hand c.args.statement t u s.taken (c.if-not-is_vacant.ensures refl) c.round-round.ensures.slots
     c.round-round.result c.round-round.ensures.round c.told_of-ended.result c.told_of-ended.ensures.told s.said.items c.note.new.self.said.items m)))
 

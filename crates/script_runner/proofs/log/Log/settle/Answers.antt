@@ -1,5 +1,5 @@
 use Rattle.std.proofs.Common.{refl, subst, ◌∙◌}
-use Rattle.script_runner.specs.Deals.{IsUnderWay}
+use Rattle.script_runner.specs.Deals.{IsPartlySettled}
 use Rattle.script_runner.proofs.Settles as settles
 use Rattle.script_runner.proofs.Stepping as steps
 use Rattle.script_runner.proofs.log.Log.settle.Goals as goal
@@ -14,7 +14,7 @@ loop-preserved g c =
       r.taken ∙ c.loop.invariant.0,
       settles.rounds_then c.args.hand c.args.statement c.args.table.now c.loop.table c.round.new.table s.taken s.said.items
           c.loop.self.said.items c.round.new.self.said.items c.loop.invariant.1
-          (subst (λ b. IsUnderWay c.args.hand c.args.statement b c.loop.table c.loop.self.said.items c.round.new.table c.round.new.self.said.items)
+          (subst (λ b. IsPartlySettled c.args.hand c.args.statement b c.loop.table c.loop.self.said.items c.round.new.table c.round.new.self.said.items)
           c.loop.invariant.0 (steps.not_lost c.round.new.self.lost r.goes (r.on refl))),
     )
 
@@ -26,7 +26,7 @@ returns-then-not-round-clause-settled g c =
     settles.all_ended c.args.hand c.args.statement c.args.table.now c.round.new.table s.taken s.said.items c.round.new.self.said.items
     (settles.rounds_then c.args.hand c.args.statement c.args.table.now c.loop.table c.round.new.table s.taken s.said.items
     c.loop.self.said.items c.round.new.self.said.items c.loop.invariant.1
-    (subst (λ b. IsUnderWay c.args.hand c.args.statement b c.loop.table c.loop.self.said.items c.round.new.table c.round.new.self.said.items)
+    (subst (λ b. IsPartlySettled c.args.hand c.args.statement b c.loop.table c.loop.self.said.items c.round.new.table c.round.new.self.said.items)
     c.loop.invariant.0 goes)) (over refl))
 
 pub returns-then-not-round-clause-taken : goal.returns-then-not-round-clause-taken

@@ -1,11 +1,11 @@
 use Rattle.std.proofs.Common.{◌≡◌, ◌+◌, ◌*◌, ◌≤◌, length, vec_capacity, vec_len}
 use Rattle.step_core.specs.Bounds.{most_steps}
-use Rattle.step_core.specs.Runs.{Adds, RunInOrder}
+use Rattle.step_core.specs.Runs.{AddsRun, RunInOrder}
 use Rattle.step_core.proofs.world.World.finish.Given as goal
 
 abbrev pub invariant-loop-number : goal.invariant-loop-number
 invariant-loop-number l = record {
-  adds : Adds (RunInOrder l.number) l.initial.self l.initial.steps.items l.self l.steps.items;
+  adds : AddsRun (RunInOrder l.number) l.initial.self l.initial.steps.items l.self l.steps.items;
   room : vec_len l.steps + most_steps l.self + 3 * length l.initial.self.walks ≤ vec_capacity l.steps + 3 * l.number;
   actors : length l.self.walks ≡ length l.initial.self.walks;
 }

@@ -1,6 +1,6 @@
 use Rattle.std.proofs.Common.{◌-◌, ℕ, subst}
 use Rattle.step_core.specs.Following.{Performs}
-use Rattle.step_core.specs.Sights.{Takes}
+use Rattle.step_core.specs.Sights.{TakesStep}
 use Rattle.step_core.proofs.runs.Extents.{extent_step}
 use Rattle.step_core.proofs.world.World.step.Goals as goal
 
@@ -9,7 +9,7 @@ returns-clause-extent c = extent_step (c.from.result - 1) c.args.self.now c.adva
 
 pub returns-clause-takes : goal.returns-clause-takes
 returns-clause-takes c =
-    subst (λ (n : ℕ). Takes (n - 1) c.args.self.now c.advance.result c.advance.new.self) c.from.ensures c.advance.ensures.advances.takes
+    subst (λ (n : ℕ). TakesStep (n - 1) c.args.self.now c.advance.result c.advance.new.self) c.from.ensures c.advance.ensures.advances.takes
 
 pub returns-clause-performs : goal.returns-clause-performs
 returns-clause-performs c =

@@ -1,6 +1,6 @@
 use Rattle.std.proofs.Common.{◌-◌, ℕ, subst}
 use Rattle.step_core.specs.Sights.{AllHold}
-use Rattle.step_core.specs.Worlds.{GoesTo, Turns}
+use Rattle.step_core.specs.Worlds.{GoesTo, TakesWholeTurn}
 use Rattle.step_core.proofs.runs.Extents.{extent_goes}
 use Rattle.step_core.proofs.runs.Taking.{all_hold}
 use Rattle.step_core.proofs.turning.Chains.{more_steps}
@@ -9,7 +9,7 @@ use Rattle.step_core.proofs.world.World.turn.Goals as goal
 
 pub returns-clause-turns : goal.returns-clause-turns
 returns-clause-turns c =
-    subst (λ (n : ℕ). Turns (n - 1) c.args.self.now c.act-turned.result c.rest-2.new.self) c.from-number.ensures
+    subst (λ (n : ℕ). TakesWholeTurn (n - 1) c.args.self.now c.act-turned.result c.rest-2.new.self) c.from-number.ensures
     (turns _ c.args.self.now c.rest.new.self c.act-turned.new.self c.rest-2.new.self c.act-turned.result
     c.rest.ensures.goes c.rest.ensures.rests c.act-turned.ensures.plays
     c.rest-2.ensures.rests)

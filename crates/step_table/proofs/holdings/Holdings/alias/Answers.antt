@@ -1,7 +1,7 @@
 use Rattle.std.proofs.Common.{refl, set, sym, subst}
 use Rattle.step_table.specs.declared.slot.Slot.TheVariants.{Full}
 use Rattle.step_table.specs.Deeds.{at_place}
-use Rattle.step_table.specs.Holdings.{Holds}
+use Rattle.step_table.specs.Holdings.{HoldsBag}
 use Rattle.step_table.specs.Stories.{Story}
 use Rattle.step_table.proofs.holding.Owning.{has_room, holds_more}
 use Rattle.step_table.proofs.holding.Values.{owner_held}
@@ -17,6 +17,7 @@ share-requires-clause-room c =
 
 pub returns-clause-holds : goal.returns-clause-holds
 returns-clause-holds c =
-    subst (λ (v : Story). Holds c.args.desk (set c.args.self.now.slots.items c.args.to (Full (at_place c.args.place c.args.pointer))) v) (sym c.share.ensures)
+    subst (λ (v : Story). HoldsBag c.args.desk (set c.args.self.now.slots.items c.args.to (Full (at_place c.args.place c.args.pointer))) v)
+    (sym c.share.ensures)
     (holds_more c.args.desk c.args.self.now.slots.items c.args.table.now _ c.args.to (at_place c.args.place c.args.pointer) c.requires.holds refl refl
     c.requires.place c.requires.inside c.requires.empty)

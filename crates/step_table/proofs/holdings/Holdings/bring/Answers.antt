@@ -1,8 +1,8 @@
 use Rattle.std.proofs.Common.{refl, sym, subst}
 use Rattle.step_table.specs.declared.cell_deed.CellDeed.TheVariants.{Bring}
 use Rattle.step_table.specs.declared.past.Deed.TheVariants.{OnCell}
-use Rattle.step_table.specs.Holdings.{Holds}
-use Rattle.step_table.specs.Stories.{Story, after}
+use Rattle.step_table.specs.Holdings.{HoldsBag}
+use Rattle.step_table.specs.Stories.{Story, story_after_deed}
 use Rattle.step_table.proofs.holding.Owning.{holds_look, slot_held}
 use Rattle.step_table.proofs.holdings.Holdings.bring.Goals as goal
 
@@ -13,5 +13,6 @@ pub returns-clause-holds : goal.returns-clause-holds
 returns-clause-holds c =
     let v = c.args.table.now in
     let x = c.args.pointer in
-    subst (λ (u : Story). Holds c.args.desk c.args.self.now.slots.items u) (sym c.bring.ensures)
-    (holds_look c.args.desk c.args.self.now.slots.items v (after v c.args.desk (OnCell (Bring x.kind x.block x.place 256))) refl refl c.requires.holds)
+    subst (λ (u : Story). HoldsBag c.args.desk c.args.self.now.slots.items u) (sym c.bring.ensures)
+    (holds_look c.args.desk c.args.self.now.slots.items v (story_after_deed v c.args.desk (OnCell (Bring x.kind x.block x.place 256))) refl refl
+    c.requires.holds)

@@ -5,8 +5,8 @@ use Rattle.control_word.specs.declared.place.Place.{Place}
 use Rattle.control_word.specs.Events.{origin}
 use Rattle.control_word.specs.State.{Has, stored}
 use Rattle.step_table.specs.declared.slot.Slot.TheVariants.{Full}
-use Rattle.step_table.specs.Holdings.{Holds}
-use Rattle.step_table.specs.Stories.{Story, state}
+use Rattle.step_table.specs.Holdings.{HoldsBag}
+use Rattle.step_table.specs.Stories.{Story, story_state}
 use Rattle.step_table.proofs.holding.Owning.{has_room, holds_claim}
 use Rattle.step_table.proofs.tables.Places.{making_place, making_stored, named}
 use Rattle.step_table.proofs.holdings.Holdings.claim.Goals as goal
@@ -22,11 +22,11 @@ returns-clause-holds c =
     let m = c.requires.making in
     let slots = c.args.self.now.slots.items in
     let b = c.args.block in
-    subst (λ (p : Option Place). Holds c.args.desk (set slots c.args.to (Full (record { kind = Owner; block = b; place = p }))) c.claim.new.self)
+    subst (λ (p : Option Place). HoldsBag c.args.desk (set slots c.args.to (Full (record { kind = Owner; block = b; place = p }))) c.claim.new.self)
     (sym c.origin-place.ensures)
-    (subst (λ (v : Story). Holds c.args.desk (set slots c.args.to (Full (record { kind = Owner; block = b; place = origin b.0 c.args.form.null }))) v)
+    (subst (λ (v : Story). HoldsBag c.args.desk (set slots c.args.to (Full (record { kind = Owner; block = b; place = origin b.0 c.args.form.null }))) v)
     (sym c.claim.ensures)
     (holds_claim c.args.desk slots c.args.table.now c.args.to b c.args.form k c.requires.holds
-    (subst (λ (n : ℕ). Has (stored n b.0) (state c.args.table.now).stores) (named c.args.table.now c.args.desk k c.requires.seat)
+    (subst (λ (n : ℕ). Has (stored n b.0) (story_state c.args.table.now).stores) (named c.args.table.now c.args.desk k c.requires.seat)
     (making_stored c.args.table.now c.args.desk b m.words k c.requires.seat m.making))
     (making_place c.args.table.now c.args.desk b m.words k c.requires.seat m.making) k.proper.blocks c.requires.inside c.requires.empty))

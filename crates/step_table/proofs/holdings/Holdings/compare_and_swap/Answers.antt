@@ -4,9 +4,9 @@ use Rattle.step_table.specs.declared.cell_deed.CellDeed.TheVariants.{CompareSwap
 use Rattle.step_table.specs.declared.cell_deed.Compared.{Compared}
 use Rattle.step_table.specs.declared.past.Deed.TheVariants.{OnCell}
 use Rattle.step_table.specs.declared.slot.Slot.{Slot}
-use Rattle.step_table.specs.Contents.{held_in, slot_of, swapped}
-use Rattle.step_table.specs.Holdings.{Holds}
-use Rattle.step_table.specs.Stories.{Story, after, state}
+use Rattle.step_table.specs.Contents.{held_in, slot_of, slots_swapped}
+use Rattle.step_table.specs.Holdings.{HoldsBag}
+use Rattle.step_table.specs.Stories.{Story, story_after_deed, story_state}
 use Rattle.step_table.proofs.contained.Coming.{comes, open_found}
 use Rattle.step_table.proofs.contained.Comparing.{alike_in}
 use Rattle.step_table.proofs.contained.Going.{holds_compared}
@@ -55,7 +55,7 @@ returns-clause-slots c =
     let m = c.args.comparing in
     let bits = eqb-true _ _ (sym c.compare_and_swap.ensures.same ∙ c.if-not-compare_and_swap.false) in
     let found = open_found v c.args.desk c.args.cell c.args.seen c.known.ensures c.requires.seat c.requires.open c.requires.seen bits in
-    ap (λ (y : Slot). swapped m.new m.other c.args.self.now.slots.items y)
+    ap (λ (y : Slot). slots_swapped m.new m.other c.args.self.now.slots.items y)
     (comes v c.args.desk c.args.cell c.args.seen c.kind_in-kind.result c.slot_in.result found c.kind_in-kind.ensures c.slot_in.ensures)
 
 pub returns-clause-holds : goal.returns-clause-holds
@@ -67,10 +67,10 @@ returns-clause-holds c =
     let bits = eqb-true _ _ (sym c.compare_and_swap.ensures.same ∙ c.if-not-compare_and_swap.false) in
     let found = open_found v d c.args.cell c.args.seen c.known.ensures c.requires.seat c.requires.open c.requires.seen bits in
     let y = comes v d c.args.cell c.args.seen c.kind_in-kind.result c.slot_in.result found c.kind_in-kind.ensures c.slot_in.ensures in
-    let w = after v d (OnCell (CompareSwap c.args.cell c.args.seen c.compared-compared.result)) in
+    let w = story_after_deed v d (OnCell (CompareSwap c.args.cell c.args.seen c.compared-compared.result)) in
     let t = c.compare_and_swap.ensures.after ∙ ap (λ (b : Bool). cond b w v) c.if-not-compare_and_swap.false in
-    subst (λ (z : Slot). Holds d (swapped m.new m.other l z) c.compare_and_swap.new.self) (sym y)
-    (subst (λ (u : Story). Holds d (swapped m.new m.other l (slot_of (state v) (held_in (state v) c.args.cell))) u) (sym t)
+    subst (λ (z : Slot). HoldsBag d (slots_swapped m.new m.other l z) c.compare_and_swap.new.self) (sym y)
+    (subst (λ (u : Story). HoldsBag d (slots_swapped m.new m.other l (slot_of (story_state v) (held_in (story_state v) c.args.cell))) u) (sym t)
     (holds_compared d l v m.new c.args.cell c.args.seen c.requires.holds found c.requires.compare.kinds.1 c.requires.compare.new m.other
     c.requires.compare.other
     c.requires.compare.apart c.requires.compare.empty c.compared-compared.result (ap (λ (q : Compared). q.new) c.compared-compared.ensures)))

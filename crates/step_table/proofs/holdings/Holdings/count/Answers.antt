@@ -1,6 +1,6 @@
 use Rattle.std.proofs.Common.{ℕ, ap, refl, sym, subst, ◌∙◌}
-use Rattle.step_table.specs.Holdings.{Holds}
-use Rattle.step_table.specs.Stories.{Story, after}
+use Rattle.step_table.specs.Holdings.{HoldsBag}
+use Rattle.step_table.specs.Stories.{Story, story_after_deed}
 use Rattle.step_table.specs.declared.past.Deed.TheVariants as deed
 use Rattle.step_table.proofs.holding.Owning.{holds_look, slot_held}
 use Rattle.step_table.proofs.holdings.Holdings.count.Goals as goal
@@ -10,8 +10,8 @@ count-requires-clause-held c = slot_held c.args.desk c.args.self.now.slots.items
 
 pub returns-clause-holds : goal.returns-clause-holds
 returns-clause-holds c =
-    subst (λ (v : Story). Holds c.args.desk c.args.self.now.slots.items v) (sym c.count.ensures.after)
-    (holds_look c.args.desk c.args.self.now.slots.items c.args.table.now (after c.args.table.now c.args.desk
+    subst (λ (v : Story). HoldsBag c.args.desk c.args.self.now.slots.items v) (sym c.count.ensures.after)
+    (holds_look c.args.desk c.args.self.now.slots.items c.args.table.now (story_after_deed c.args.table.now c.args.desk
     (deed.Count c.args.pointer.kind c.args.pointer.block c.args.pointer.place c.count.result)) refl refl c.requires.holds)
 
 pub returns-clause-told : goal.returns-clause-told
@@ -20,4 +20,5 @@ returns-clause-told c = c.count.ensures.told
 pub returns-clause-table : goal.returns-clause-table
 returns-clause-table c =
     c.count.ensures.after
-    ∙ ap (λ (n : ℕ). after c.args.table.now c.args.desk (deed.Count c.args.pointer.kind c.args.pointer.block c.args.pointer.place n)) c.count.ensures.told
+    ∙ ap (λ (n : ℕ). story_after_deed c.args.table.now c.args.desk (deed.Count c.args.pointer.kind c.args.pointer.block c.args.pointer.place n))
+    c.count.ensures.told

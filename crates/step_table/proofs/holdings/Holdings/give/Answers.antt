@@ -2,7 +2,7 @@ use Rattle.std.proofs.Common.{set, ap, sym, subst, ◌∙◌}
 use Rattle.step_table.specs.declared.holdings.Pointer.{Pointer}
 use Rattle.step_table.specs.declared.slot.Slot.TheVariants.{Full}
 use Rattle.step_table.specs.Deeds.{this_as}
-use Rattle.step_table.specs.Holdings.{Holds, Slots}
+use Rattle.step_table.specs.Holdings.{HoldsBag, Slots}
 use Rattle.step_table.specs.Stories.{Story}
 use Rattle.step_table.proofs.holding.Inside.{holds_give, inside_held}
 use Rattle.step_table.proofs.holding.Owning.{has_room}
@@ -19,7 +19,8 @@ give-requires-clause-room c =
 pub returns-clause-holds : goal.returns-clause-holds
 returns-clause-holds c =
     let slots = c.args.self.now.slots.items in
-    subst (λ (s : Slots). Holds c.args.desk s c.give.new.self) (sym (c.fill.ensures ∙ ap (λ (x : Pointer). set slots c.args.to (Full x)) c.this_of.ensures))
-    (subst (λ (v : Story). Holds c.args.desk (set slots c.args.to (Full (this_as c.args.kind c.args.pointer))) v) (sym c.give.ensures)
+    subst (λ (s : Slots). HoldsBag c.args.desk s c.give.new.self)
+    (sym (c.fill.ensures ∙ ap (λ (x : Pointer). set slots c.args.to (Full x)) c.this_of.ensures))
+    (subst (λ (v : Story). HoldsBag c.args.desk (set slots c.args.to (Full (this_as c.args.kind c.args.pointer))) v) (sym c.give.ensures)
     (holds_give c.args.desk slots c.args.table.now c.args.to c.args.kind c.args.pointer c.known.ensures c.requires.holds
     (inside_held c.args.desk slots c.args.table.now c.args.from c.args.pointer c.requires.holds c.requires.from) c.requires.inside c.requires.empty))

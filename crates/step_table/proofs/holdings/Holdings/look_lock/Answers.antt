@@ -1,7 +1,7 @@
 use Rattle.std.proofs.Common.{◌∙◌, ◌==◌, sym, subst}
 use Rattle.step_table.specs.Deeds.{is_expired}
-use Rattle.step_table.specs.Holdings.{Holds}
-use Rattle.step_table.specs.Stories.{Story, state}
+use Rattle.step_table.specs.Holdings.{HoldsBag}
+use Rattle.step_table.specs.Stories.{Story, story_state}
 use Rattle.step_table.proofs.holding.Locking.{holds_looked, looked}
 use Rattle.step_table.proofs.holding.Owning.{weak_held}
 use Rattle.step_table.proofs.holdings.Holdings.look_lock.Goals as goal
@@ -14,9 +14,9 @@ pub returns-clause-table : goal.returns-clause-table
 returns-clause-table c =
     c.look_lock.ensures.after
     ∙ looked c.args.table.now c.args.desk c.args.pointer (c.look_lock.result == 0)
-    (is_expired (state c.args.table.now) c.args.pointer) c.look_lock.ensures.left
+    (is_expired (story_state c.args.table.now) c.args.pointer) c.look_lock.ensures.left
 
 pub returns-clause-holds : goal.returns-clause-holds
 returns-clause-holds c =
-    subst (λ (v : Story). Holds c.args.desk c.args.self.now.slots.items v) (sym c.look_lock.ensures.after)
+    subst (λ (v : Story). HoldsBag c.args.desk c.args.self.now.slots.items v) (sym c.look_lock.ensures.after)
     (holds_looked c.args.desk c.args.self.now.slots.items c.args.table.now c.args.pointer (c.look_lock.result == 0) c.requires.holds)

@@ -5,8 +5,8 @@ use Rattle.step_table.specs.declared.cell_deed.Compared.{Compared}
 use Rattle.step_table.specs.declared.past.Deed.TheVariants.{OnCell}
 use Rattle.step_table.specs.declared.slot.Slot.{Slot}
 use Rattle.step_table.specs.Contents.{as_word, compared_in, differed, held_in, same_value, slot_of}
-use Rattle.step_table.specs.Holdings.{Holds, Slots, value}
-use Rattle.step_table.specs.Stories.{Story, after, state}
+use Rattle.step_table.specs.Holdings.{HoldsBag, Slots, slot_value}
+use Rattle.step_table.specs.Stories.{Story, story_after_deed, story_state}
 use Rattle.step_table.proofs.contained.Coming.{comes, open_shown}
 use Rattle.step_table.proofs.contained.Comparing.{done_if, holds_unlike, left_first, left_next, looked_in}
 use Rattle.step_table.proofs.contained.Offered.{goes_in_hand}
@@ -39,7 +39,8 @@ returns-then-is_some-clause-slots c =
     let l = c.args.self.now.slots.items in
     let m = c.args.comparing in
     let x = c.look_to_compare-found.result in
-    left_first (is_some x.owned) (same_value x (as_word (value l m.expected))) l (differed m.new m.other l (slot_of (state v) (held_in (state v) c.args.cell)))
+    left_first (is_some x.owned) (same_value x (as_word (slot_value l m.expected))) l
+    (differed m.new m.other l (slot_of (story_state v) (held_in (story_state v) c.args.cell)))
     (sym c.is_some.ensures ∙ c.if-is_some.true)
 
 pub returns-then-is_some-clause-table : goal.returns-then-is_some-clause-table
@@ -59,11 +60,11 @@ returns-then-is_some-clause-holds c =
     let l = c.args.self.now.slots.items in
     let m = c.args.comparing in
     let x = c.look_to_compare-found.result in
-    let same = same_value x (as_word (value l m.expected)) in
-    let w = after v d (OnCell (Look c.args.cell x (Some (compared_in l m)))) in
+    let same = same_value x (as_word (slot_value l m.expected)) in
+    let w = story_after_deed v d (OnCell (Look c.args.cell x (Some (compared_in l m)))) in
     let t = c.look_to_compare-found.ensures.after ∙ looked_in d l v c.args.cell x m c.compared-compared.result c.known.ensures c.requires.holds
     c.compared-compared.ensures in
-    subst (λ (u : Story). Holds d l u) (left_first (is_some x.owned) same v w (sym c.is_some.ensures ∙ c.if-is_some.true) ∙ sym t) c.requires.holds
+    subst (λ (u : Story). HoldsBag d l u) (left_first (is_some x.owned) same v w (sym c.is_some.ensures ∙ c.if-is_some.true) ∙ sym t) c.requires.holds
 
 pub returns-then-is_same_value-clause-found : goal.returns-then-is_same_value-clause-found
 returns-then-is_same_value-clause-found c =
@@ -79,7 +80,8 @@ returns-then-is_same_value-clause-slots c =
     let l = c.args.self.now.slots.items in
     let m = c.args.comparing in
     let x = c.look_to_compare-found.result in
-    left_next (is_some x.owned) (same_value x (as_word (value l m.expected))) l (differed m.new m.other l (slot_of (state v) (held_in (state v) c.args.cell)))
+    left_next (is_some x.owned) (same_value x (as_word (slot_value l m.expected))) l
+    (differed m.new m.other l (slot_of (story_state v) (held_in (story_state v) c.args.cell)))
     (sym (c.is_same_value.ensures ∙ ap (λ (q : Compared). same_value x q.expected) c.compared-compared.ensures) ∙ c.if-is_same_value.true)
 
 pub returns-then-is_same_value-clause-table : goal.returns-then-is_same_value-clause-table
@@ -99,12 +101,12 @@ returns-then-is_same_value-clause-holds c =
     let l = c.args.self.now.slots.items in
     let m = c.args.comparing in
     let x = c.look_to_compare-found.result in
-    let same = same_value x (as_word (value l m.expected)) in
-    let w = after v d (OnCell (Look c.args.cell x (Some (compared_in l m)))) in
+    let same = same_value x (as_word (slot_value l m.expected)) in
+    let w = story_after_deed v d (OnCell (Look c.args.cell x (Some (compared_in l m)))) in
     let t = c.look_to_compare-found.ensures.after ∙ looked_in d l v c.args.cell x m c.compared-compared.result c.known.ensures c.requires.holds
     c.compared-compared.ensures in
     let alike = sym (c.is_same_value.ensures ∙ ap (λ (q : Compared). same_value x q.expected) c.compared-compared.ensures) ∙ c.if-is_same_value.true in
-    subst (λ (u : Story). Holds d l u) (left_next (is_some x.owned) same v w alike ∙ sym t) c.requires.holds
+    subst (λ (u : Story). HoldsBag d l u) (left_next (is_some x.owned) same v w alike ∙ sym t) c.requires.holds
 
 pub returns-clause-found : goal.returns-clause-found
 returns-clause-found c =
@@ -125,8 +127,8 @@ returns-clause-slots c =
     let s = c.differ.ensures ∙ ap (λ (z : Slot). differed m.new m.other l z) y in
     let some = sym c.is_some.ensures ∙ c.if-is_some.false in
     let unlike = sym (c.is_same_value.ensures ∙ ap (λ (q : Compared). same_value x q.expected) c.compared-compared.ensures) ∙ c.if-is_same_value.false in
-    s ∙ done_if (is_some x.owned) (same_value x (as_word (value l m.expected))) l
-    (differed m.new m.other l (slot_of (state v) (held_in (state v) c.args.cell))) some unlike
+    s ∙ done_if (is_some x.owned) (same_value x (as_word (slot_value l m.expected))) l
+    (differed m.new m.other l (slot_of (story_state v) (held_in (story_state v) c.args.cell))) some unlike
 
 pub returns-clause-table : goal.returns-clause-table
 returns-clause-table c =
@@ -150,12 +152,12 @@ returns-clause-holds c =
     let s = c.differ.ensures ∙ ap (λ (z : Slot). differed m.new m.other l z) y in
     let some = sym c.is_some.ensures ∙ c.if-is_some.false in
     let unlike = sym (c.is_same_value.ensures ∙ ap (λ (q : Compared). same_value x q.expected) c.compared-compared.ensures) ∙ c.if-is_same_value.false in
-    let same = same_value x (as_word (value l m.expected)) in
-    let w = after v d (OnCell (Look c.args.cell x (Some (compared_in l m)))) in
+    let same = same_value x (as_word (slot_value l m.expected)) in
+    let w = story_after_deed v d (OnCell (Look c.args.cell x (Some (compared_in l m)))) in
     let t = c.look_to_compare-found.ensures.after ∙ looked_in d l v c.args.cell x m c.compared-compared.result c.known.ensures c.requires.holds
     c.compared-compared.ensures in
-    subst (λ (k : Slots). Holds d k c.look_to_compare-found.new.self) (sym s)
-    (subst (λ (u : Story). Holds d (differed m.new m.other l (slot_of (state v) (held_in (state v) c.args.cell))) u)
+    subst (λ (k : Slots). HoldsBag d k c.look_to_compare-found.new.self) (sym s)
+    (subst (λ (u : Story). HoldsBag d (differed m.new m.other l (slot_of (story_state v) (held_in (story_state v) c.args.cell))) u)
     (done_if (is_some x.owned) same v w some unlike ∙ sym t)
     (holds_unlike d l v m.new m.other c.args.cell x (compared_in l m) c.requires.holds found c.requires.compare.new c.requires.compare.other
     c.requires.compare.apart

@@ -5,8 +5,8 @@ use Rattle.step_table.specs.declared.cell_deed.CellDeed.TheVariants.{Look}
 use Rattle.step_table.specs.declared.past.Deed.TheVariants.{OnCell}
 use Rattle.step_table.specs.declared.slot.Slot.{Slot}
 use Rattle.step_table.specs.Contents.{held_in, slot_of}
-use Rattle.step_table.specs.Holdings.{Holds}
-use Rattle.step_table.specs.Stories.{Story, after, state}
+use Rattle.step_table.specs.Holdings.{HoldsBag}
+use Rattle.step_table.specs.Stories.{Story, story_after_deed, story_state}
 use Rattle.step_table.proofs.contained.Coming.{comes, holds_seen, open_shown}
 use Rattle.step_table.proofs.contained.Told.{shows_seen}
 use Rattle.step_table.proofs.holdings.Holdings.look_to_load.Goals as goal
@@ -33,7 +33,7 @@ returns-clause-slots c =
     let found = open_shown v c.args.desk c.args.cell x c.known.ensures c.requires.seat c.requires.open c.look_cell-found.ensures.found in
     ap (λ (z : Slot). set slots c.args.to z)
     (comes v c.args.desk c.args.cell x c.kind_in-kind.result c.slot_in.result found c.kind_in-kind.ensures c.slot_in.ensures)
-    ∙ sym (cond-false (is_some x.owned) slots (set slots c.args.to (slot_of (state v) (held_in (state v) c.args.cell)))
+    ∙ sym (cond-false (is_some x.owned) slots (set slots c.args.to (slot_of (story_state v) (held_in (story_state v) c.args.cell)))
     (sym c.is_some.ensures ∙ c.if-is_some.false))
 
 pub returns-clause-holds : goal.returns-clause-holds
@@ -44,8 +44,8 @@ returns-clause-holds c =
     let x = c.look_cell-found.result in
     let found = open_shown v c.args.desk c.args.cell x c.known.ensures c.requires.seat c.requires.open c.look_cell-found.ensures.found in
     let y = comes v d c.args.cell x c.kind_in-kind.result c.slot_in.result found c.kind_in-kind.ensures c.slot_in.ensures in
-    let w = after v d (OnCell (Look c.args.cell x None)) in
+    let w = story_after_deed v d (OnCell (Look c.args.cell x None)) in
     let t = c.look_cell-found.ensures.after ∙ ap (λ (b : Bool). cond b v w) (sym c.is_some.ensures ∙ c.if-is_some.false) in
-    subst (λ (z : Slot). Holds d (set slots c.args.to z) c.look_cell-found.new.self) (sym y)
-    (subst (λ (u : Story). Holds d (set slots c.args.to (slot_of (state v) (held_in (state v) c.args.cell))) u) (sym t)
+    subst (λ (z : Slot). HoldsBag d (set slots c.args.to z) c.look_cell-found.new.self) (sym y)
+    (subst (λ (u : Story). HoldsBag d (set slots c.args.to (slot_of (story_state v) (held_in (story_state v) c.args.cell))) u) (sym t)
     (holds_seen d slots v c.args.to c.args.cell x c.requires.holds found c.requires.inside c.requires.empty None))

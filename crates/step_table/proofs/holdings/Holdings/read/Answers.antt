@@ -1,5 +1,5 @@
 use Rattle.std.proofs.Common.{refl, sym, subst}
-use Rattle.step_table.specs.Holdings.{Holds}
+use Rattle.step_table.specs.Holdings.{HoldsBag}
 use Rattle.step_table.specs.Stories.{Story}
 use Rattle.step_table.proofs.holding.Inside.{inside_owned}
 use Rattle.step_table.proofs.holding.Owning.{holds_look}
@@ -12,5 +12,5 @@ read-requires-clause-held c =
 
 pub returns-clause-holds : goal.returns-clause-holds
 returns-clause-holds c =
-    subst (λ (v : Story). Holds c.args.desk c.args.self.now.slots.items v) (sym c.read.ensures.after)
+    subst (λ (v : Story). HoldsBag c.args.desk c.args.self.now.slots.items v) (sym c.read.ensures.after)
     (holds_look c.args.desk c.args.self.now.slots.items c.args.table.now _ refl refl c.requires.holds)

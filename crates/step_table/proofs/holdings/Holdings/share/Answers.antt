@@ -1,6 +1,6 @@
 use Rattle.std.proofs.Common.{sym, subst}
 use Rattle.step_table.specs.declared.slot.Slot.TheVariants.{Full}
-use Rattle.step_table.specs.Holdings.{Holds}
+use Rattle.step_table.specs.Holdings.{HoldsBag}
 use Rattle.step_table.specs.Stories.{Story}
 use Rattle.std.proofs.Common.{set}
 use Rattle.step_table.proofs.holding.Owning.{has_room, holds_share, slot_formed, slot_held}
@@ -21,7 +21,7 @@ copy_pointer-requires-clause-room c =
 
 pub returns-clause-holds : goal.returns-clause-holds
 returns-clause-holds c =
-    subst (λ (v : Story). Holds c.args.desk (set c.args.self.now.slots.items c.args.to (Full c.args.pointer)) v) (sym c.copy_pointer.ensures)
+    subst (λ (v : Story). HoldsBag c.args.desk (set c.args.self.now.slots.items c.args.to (Full c.args.pointer)) v) (sym c.copy_pointer.ensures)
     (holds_share c.args.desk c.args.self.now.slots.items c.args.table.now c.args.to c.args.pointer c.requires.holds
     (slot_formed c.args.desk c.args.self.now.slots.items c.args.table.now c.args.from c.args.pointer c.requires.holds c.requires.from)
     c.requires.inside c.requires.empty)

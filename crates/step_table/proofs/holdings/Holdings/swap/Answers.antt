@@ -4,9 +4,9 @@ use Rattle.control_word.specs.declared.cell.CellWord.{CellWord}
 use Rattle.step_table.specs.declared.cell_deed.CellDeed.TheVariants.{Swap}
 use Rattle.step_table.specs.declared.past.Deed.TheVariants.{OnCell}
 use Rattle.step_table.specs.declared.slot.Slot.{Slot}
-use Rattle.step_table.specs.Contents.{as_word, held_in, slot_of, swapped}
-use Rattle.step_table.specs.Holdings.{Holds, plain}
-use Rattle.step_table.specs.Stories.{Story, after, state}
+use Rattle.step_table.specs.Contents.{as_word, held_in, slot_of, slots_swapped}
+use Rattle.step_table.specs.Holdings.{HoldsBag, plain}
+use Rattle.step_table.specs.Stories.{Story, story_after_deed, story_state}
 use Rattle.step_table.proofs.contained.Coming.{comes, open_shown}
 use Rattle.step_table.proofs.contained.Going.{holds_swapped}
 use Rattle.step_table.proofs.contained.Offered.{goes_in_hand, goes_paid, goes_roomy, goes_valid}
@@ -69,8 +69,8 @@ returns-clause-holds c =
     let found = open_shown v d c.args.cell x c.known.ensures c.requires.seat c.requires.open c.swap_cell-found.ensures.found in
     let y = comes v d c.args.cell x c.kind_in-kind.result c.slot_in.result found c.kind_in-kind.ensures c.slot_in.ensures in
     let e = c.word-new.ensures ∙ ap as_word (get_or_read l c.args.from c.index.result.now c.requires.from c.index.ensures plain) in
-    let t = c.swap_cell-found.ensures.after ∙ ap (λ (w : CellWord). after v d (OnCell (Swap c.args.cell w x))) e in
-    subst (λ (z : Slot). Holds d (set (set l c.args.to z) c.args.from plain) c.swap_cell-found.new.self) (sym y)
-    (subst (λ (u : Story). Holds d (swapped c.args.from c.args.to l (slot_of (state v) (held_in (state v) c.args.cell))) u) (sym t)
+    let t = c.swap_cell-found.ensures.after ∙ ap (λ (w : CellWord). story_after_deed v d (OnCell (Swap c.args.cell w x))) e in
+    subst (λ (z : Slot). HoldsBag d (set (set l c.args.to z) c.args.from plain) c.swap_cell-found.new.self) (sym y)
+    (subst (λ (u : Story). HoldsBag d (slots_swapped c.args.from c.args.to l (slot_of (story_state v) (held_in (story_state v) c.args.cell))) u) (sym t)
     (holds_swapped d l v c.args.from c.args.cell x c.requires.holds found c.requires.kind c.requires.from c.args.to c.requires.inside
     c.requires.apart c.requires.empty))

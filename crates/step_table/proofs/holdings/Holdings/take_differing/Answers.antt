@@ -6,8 +6,8 @@ use Rattle.step_table.specs.declared.cell_deed.Compared.{Compared}
 use Rattle.step_table.specs.declared.past.Deed.TheVariants.{OnCell}
 use Rattle.step_table.specs.declared.slot.Slot.{Slot}
 use Rattle.step_table.specs.Contents.{differed, held_in, slot_of}
-use Rattle.step_table.specs.Holdings.{Holds, Slots}
-use Rattle.step_table.specs.Stories.{Story, after, state}
+use Rattle.step_table.specs.Holdings.{HoldsBag, Slots}
+use Rattle.step_table.specs.Stories.{Story, story_after_deed, story_state}
 use Rattle.step_table.proofs.contained.Coming.{comes, open_found}
 use Rattle.step_table.proofs.contained.Comparing.{alike_in, holds_differed}
 use Rattle.step_table.proofs.contained.Offered.{goes_in_hand}
@@ -55,11 +55,11 @@ returns-clause-holds c =
     let bits = eqb-true _ _ (sym c.take_differing.ensures.same ∙ c.if-not-take_differing.false) in
     let found = open_found v d c.args.cell c.args.seen c.known.ensures c.requires.seat c.requires.open c.requires.seen.0 bits in
     let y = comes v d c.args.cell c.args.seen c.kind_in-kind.result c.slot_in.result found c.kind_in-kind.ensures c.slot_in.ensures in
-    let w = after v d (OnCell (Take c.args.cell c.args.seen (Some c.compared-compared.result))) in
+    let w = story_after_deed v d (OnCell (Take c.args.cell c.args.seen (Some c.compared-compared.result))) in
     let t = c.take_differing.ensures.after ∙ ap (λ (b : Bool). cond b w v) c.if-not-take_differing.false in
     let s = c.differ.ensures ∙ ap (λ (z : Slot). differed m.new m.other l z) y in
-    subst (λ (k : Slots). Holds d k c.take_differing.new.self) (sym s)
-    (subst (λ (u : Story). Holds d (differed m.new m.other l (slot_of (state v) (held_in (state v) c.args.cell))) u) (sym t)
+    subst (λ (k : Slots). HoldsBag d k c.take_differing.new.self) (sym s)
+    (subst (λ (u : Story). HoldsBag d (differed m.new m.other l (slot_of (story_state v) (held_in (story_state v) c.args.cell))) u) (sym t)
     (holds_differed d l v m.new m.other c.args.cell c.args.seen c.compared-compared.result c.requires.holds found c.requires.compare.new
     c.requires.compare.other c.requires.compare.apart
     c.requires.compare.empty))

@@ -5,8 +5,8 @@ use Rattle.step_table.specs.declared.cell_deed.CellDeed.TheVariants.{Take}
 use Rattle.step_table.specs.declared.past.Deed.TheVariants.{OnCell}
 use Rattle.step_table.specs.declared.slot.Slot.{Slot}
 use Rattle.step_table.specs.Contents.{held_in, slot_of}
-use Rattle.step_table.specs.Holdings.{Holds}
-use Rattle.step_table.specs.Stories.{Story, after, state}
+use Rattle.step_table.specs.Holdings.{HoldsBag}
+use Rattle.step_table.specs.Stories.{Story, story_after_deed, story_state}
 use Rattle.step_table.proofs.contained.Coming.{comes, holds_taken, open_found}
 use Rattle.step_table.proofs.holding.Owning.{has_room}
 use Rattle.step_table.proofs.holdings.Holdings.take_fund.Goals as goal
@@ -32,8 +32,8 @@ returns-clause-holds c =
     let bits = eqb-true _ _ (sym c.take_fund.ensures.same ∙ c.if-not-take_fund.false) in
     let found = open_found v d c.args.cell c.args.seen c.known.ensures c.requires.seat c.requires.open c.requires.seen.0 bits in
     let y = comes v d c.args.cell c.args.seen c.kind_in-kind.result c.slot_in.result found c.kind_in-kind.ensures c.slot_in.ensures in
-    let w = after v d (OnCell (Take c.args.cell c.args.seen None)) in
+    let w = story_after_deed v d (OnCell (Take c.args.cell c.args.seen None)) in
     let t = c.take_fund.ensures.after ∙ ap (λ (b : Bool). cond b w v) c.if-not-take_fund.false in
-    subst (λ (x : Slot). Holds d (set slots c.args.to x) c.take_fund.new.self) (sym y)
-    (subst (λ (u : Story). Holds d (set slots c.args.to (slot_of (state v) (held_in (state v) c.args.cell))) u) (sym t)
+    subst (λ (x : Slot). HoldsBag d (set slots c.args.to x) c.take_fund.new.self) (sym y)
+    (subst (λ (u : Story). HoldsBag d (set slots c.args.to (slot_of (story_state v) (held_in (story_state v) c.args.cell))) u) (sym t)
     (holds_taken d slots v c.args.to c.args.cell c.args.seen c.requires.holds found c.requires.inside c.requires.empty None))

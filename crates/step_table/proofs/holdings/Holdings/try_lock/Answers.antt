@@ -2,8 +2,8 @@ use Rattle.std.proofs.Common.{◌≡◌, ◌∙◌, ◌==◌, cond, set, true, a
 use Rattle.step_table.specs.declared.past.Deed.TheVariants as deed
 use Rattle.step_table.specs.Deeds.{as_owner}
 use Rattle.step_table.specs.declared.slot.Slot.TheVariants.{Full}
-use Rattle.step_table.specs.Holdings.{Holds}
-use Rattle.step_table.specs.Stories.{Story, after}
+use Rattle.step_table.specs.Holdings.{HoldsBag}
+use Rattle.step_table.specs.Stories.{Story, story_after_deed}
 use Rattle.step_table.proofs.holding.Locking.{holds_tried}
 use Rattle.step_table.proofs.holding.Owning.{has_room, weak_formed, weak_held}
 use Rattle.step_table.proofs.holdings.Holdings.try_lock.Goals as goal
@@ -23,8 +23,8 @@ returns-clause-holds c =
     let x = c.args.pointer in
     let z = c.if-now-found.false in
     let e : (c.try_lock-now.result == c.args.found) ≡ true = eq-eqb c.try_lock-now.result c.args.found (omega (arith, z)) in
-    let w = after v c.args.desk (deed.Lock x.block x.place true) in
+    let w = story_after_deed v c.args.desk (deed.Lock x.block x.place true) in
     let t = c.try_lock-now.ensures.after ∙ ap (λ (b : Bool). cond b w v) e in
-    subst (λ (u : Story). Holds c.args.desk (set c.args.self.now.slots.items c.args.to (Full (as_owner x))) u) (sym t)
+    subst (λ (u : Story). HoldsBag c.args.desk (set c.args.self.now.slots.items c.args.to (Full (as_owner x))) u) (sym t)
     (holds_tried c.args.desk c.args.self.now.slots.items v c.args.to x c.requires.holds
     (weak_formed c.args.desk c.args.self.now.slots.items v c.args.from x c.requires.holds c.requires.from) c.requires.inside c.requires.empty)

@@ -4,7 +4,7 @@ use Rattle.step_table.specs.declared.past.Deed.TheVariants.{OnShelf}
 use Rattle.step_table.specs.declared.shelf.ShelfDeed.TheVariants.{Unshelve, Miss}
 use Rattle.step_table.specs.Openings.{opening}
 use Rattle.step_table.specs.declared.shelf.ShelfDeed.{ShelfDeed}
-use Rattle.step_table.specs.Stories.{Story, Kept, history_after, state, views_after}
+use Rattle.step_table.specs.Stories.{Story, Kept, history_after, story_state, views_after}
 use Rattle.control_word.proofs.packing.Bits.{bit_tells}
 use Rattle.step_table.proofs.tables.Shelf.{cleared_words, found_on, kept_unshelve, shown_bit}
 use Rattle.step_table.proofs.tables.Standing.{found, kept_as, kept_now}
@@ -18,7 +18,7 @@ returns-clause-got c =
     let w : c.self.inside.words ≡ v.words = ap (λ (s : Story). s.words) c.self.view_is in
     let f : c.get-found.result ≡ found_on v b = found c.self.inside.words v.words c.place_on_shelf-word.result _ _ w
     c.place_on_shelf-word.ensures c.get-found.ensures in
-    let t = bit_tells (found_on v b) (b.0 % 64) ((state v).shelved b.0) (shown_bit v b.0 k (omega arith)) in
+    let t = bit_tells (found_on v b) (b.0 % 64) ((story_state v).shelved b.0) (shown_bit v b.0 k (omega arith)) in
     let m = c.shelf_bit.ensures in
     (λ i. not (bit_and (f i) (m i) == 0)) ∙ t
 

@@ -3,12 +3,12 @@ use Rattle.std.specs.Prelude.{◌||◌, is_some}
 use Rattle.step_table.specs.declared.cell_deed.Cell.{Cell}
 use Rattle.step_table.specs.declared.comparing.Comparing.{Comparing}
 use Rattle.step_table.specs.declared.holdings.Holdings.{Holdings}
-use Rattle.step_table.specs.CellDeeds.{kind_in}
+use Rattle.step_table.specs.CellDeeds.{kind_in_state}
 use Rattle.step_table.specs.Cells.{IsOpenTo}
 use Rattle.step_table.specs.Contents.{CanCompare, as_word, same_value}
-use Rattle.step_table.specs.Holdings.{value}
-use Rattle.step_table.specs.Stories.{state}
-use Rattle.step_threads.specs.Courses.{HasCell, cell_at}
+use Rattle.step_table.specs.Holdings.{slot_value}
+use Rattle.step_table.specs.Stories.{story_state}
+use Rattle.step_threads.specs.Courses.{HasCell, cell_of_name}
 use Rattle.step_threads.specs.Programs.{IsIn}
 use Rattle.step_threads.proofs.CellNames.{cell_open}
 use Rattle.step_threads.proofs.Compares.{can_compare, may_compare}
@@ -29,8 +29,9 @@ look_to_compare-found-requires-clause-compare c =
     let t = c.args.self.now in
     let slots = t.holdings.slots.items in
     let can = c.requires.can in
-    subst (λ (x : Cell). CanCompare (kind_in (state v) x) slots c.comparing-comparing.result) (sym c.cell-cell.ensures)
-    (subst (λ (y : Comparing). CanCompare (kind_in (state v) (cell_at (state v) slots c.args.cell)) slots y) (sym c.comparing-comparing.ensures)
+    subst (λ (x : Cell). CanCompare (kind_in_state (story_state v) x) slots c.comparing-comparing.result) (sym c.cell-cell.ensures)
+    (subst (λ (y : Comparing). CanCompare (kind_in_state (story_state v) (cell_of_name (story_state v) slots c.args.cell)) slots y)
+    (sym c.comparing-comparing.ensures)
     (can_compare t c.args.name c.args.cell c.args.weak can.within can.ready c.requires.act v can.still can.cell))
 
 pub returns-else-is_none-clause-stays : goal.returns-else-is_none-clause-stays
@@ -39,5 +40,5 @@ returns-else-is_none-clause-stays c = λ e.
     let x = c.look_to_compare-found.result in
     let l = t.holdings.slots.items in
     ap (λ (h : Holdings). record { tasks = t.tasks; at = t.at; holdings = h; taken = t.taken; endings = t.endings })
-    (c.look_to_compare-found.ensures.stays (ap (λ (y : Comparing). is_some x.owned || same_value x (as_word (value l y.expected)))
+    (c.look_to_compare-found.ensures.stays (ap (λ (y : Comparing). is_some x.owned || same_value x (as_word (slot_value l y.expected)))
     c.comparing-comparing.ensures ∙ e))

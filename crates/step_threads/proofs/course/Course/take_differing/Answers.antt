@@ -2,11 +2,11 @@ use Rattle.std.proofs.Common.{sym, ap, subst}
 use Rattle.step_table.specs.declared.cell_deed.Cell.{Cell}
 use Rattle.step_table.specs.declared.comparing.Comparing.{Comparing}
 use Rattle.step_table.specs.declared.holdings.Holdings.{Holdings}
-use Rattle.step_table.specs.CellDeeds.{kind_in}
+use Rattle.step_table.specs.CellDeeds.{kind_in_state}
 use Rattle.step_table.specs.Cells.{IsOpenTo}
 use Rattle.step_table.specs.Contents.{CanCompare}
-use Rattle.step_table.specs.Stories.{state}
-use Rattle.step_threads.specs.Courses.{HasCell, cell_at}
+use Rattle.step_table.specs.Stories.{story_state}
+use Rattle.step_threads.specs.Courses.{HasCell, cell_of_name}
 use Rattle.step_threads.specs.Programs.{IsIn}
 use Rattle.step_threads.proofs.CellNames.{cell_open}
 use Rattle.step_threads.proofs.Compares.{can_compare, may_compare}
@@ -27,8 +27,9 @@ take_differing-took-requires-clause-compare c =
     let t = c.args.self.now in
     let slots = t.holdings.slots.items in
     let can = c.requires.can in
-    subst (λ (x : Cell). CanCompare (kind_in (state v) x) slots c.comparing-comparing.result) (sym c.cell-cell.ensures)
-    (subst (λ (y : Comparing). CanCompare (kind_in (state v) (cell_at (state v) slots c.args.cell)) slots y) (sym c.comparing-comparing.ensures)
+    subst (λ (x : Cell). CanCompare (kind_in_state (story_state v) x) slots c.comparing-comparing.result) (sym c.cell-cell.ensures)
+    (subst (λ (y : Comparing). CanCompare (kind_in_state (story_state v) (cell_of_name (story_state v) slots c.args.cell)) slots y)
+    (sym c.comparing-comparing.ensures)
     (can_compare t c.args.name c.args.cell c.args.weak can.within can.ready c.requires.act v can.still can.cell))
 
 pub returns-else-took-clause-stays : goal.returns-else-took-clause-stays

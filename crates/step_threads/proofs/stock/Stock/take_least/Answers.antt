@@ -4,7 +4,7 @@ use Rattle.std.specs.List.Sorted.{IsPermutation}
 use Rattle.std.specs.Prelude.{MatchOption, Option}
 use Rattle.std.specs.BinaryHeap.{heap_items}
 use Rattle.control_word.specs.declared.place.Block.{Block}
-use Rattle.step_threads.specs.Stocks.{Stored, from, numbers}
+use Rattle.step_threads.specs.Stocks.{StoreView, from, numbers}
 use Rattle.step_threads.proofs.Stocks.{next_out, none_out, returned_out, went_out}
 use Rattle.step_threads.proofs.stock.Stock.take_least.Goals as goal
 use Rattle.step_threads.proofs.stock.Stock.take_least.Goals.{in-None, in-Some}
@@ -16,7 +16,7 @@ pub returns-then-takes_next-clause-least : goal.returns-then-takes_next-clause-l
 returns-then-takes_next-clause-least c =
     let n = c.takes_next.ensures.next c.if-takes_next.true in
     let new = numbers (heap_items c.self.inside.returned) ++ from (c.self.inside.next + 1) (c.self.inside.end - (c.self.inside.next + 1)) in
-    subst (λ (s : Stored). IsPermutation s.blocks (c.self.inside.next ∷ new) × All (λ c'. c.self.inside.next ≤ c') s.blocks) c.self.view_is
+    subst (λ (s : StoreView). IsPermutation s.blocks (c.self.inside.next ∷ new) × All (λ c'. c.self.inside.next ≤ c') s.blocks) c.self.view_is
     (let o = next_out (heap_items c.self.inside.returned) c.self.inside.next c.self.inside.end n.0 n.1 in (o.rest, o.least))
 
 pub returns-clause-least : goal.returns-clause-least
@@ -26,12 +26,12 @@ returns-clause-least c =
     elim c.match-pop.branch [
       | in-None w ↦
           subst (IsLeast c.args.self.now.blocks new) (sym w.result-is)
-          (subst (λ (s : Stored). s.blocks ≡ []) c.self.view_is
+          (subst (λ (s : StoreView). s.blocks ≡ []) c.self.view_is
           (none_out (heap_items c.self.inside.returned) c.self.inside.next c.self.inside.end (let n = w.in-None.ensures.none in
           let o = c.self.inside.returned.data.ok in omega (arith, n, o.0)) few))
       | in-Some w ↦
           subst (IsLeast c.args.self.now.blocks new) (sym w.result-is)
-          (subst (λ (s : Stored). IsPermutation s.blocks (w.in-Some.field-0.0 ∷ new) × All (λ c. w.in-Some.field-0.0 ≤ c) s.blocks) c.self.view_is
+          (subst (λ (s : StoreView). IsPermutation s.blocks (w.in-Some.field-0.0 ∷ new) × All (λ c. w.in-Some.field-0.0 ≤ c) s.blocks) c.self.view_is
           (let o = returned_out w.in-Some.field-0.0 (heap_items c.self.inside.returned) (heap_items c.pop.new.self) c.self.inside.next c.self.inside.end
           (went_out w.in-Some.field-0.0 (heap_items c.self.inside.returned)
           (heap_items c.pop.new.self) c.self.invariant.ordered w.in-Some.ensures.permutation w.in-Some.ensures.heap_order) few in (o.rest, o.least)))

@@ -7,10 +7,10 @@ use Rattle.control_word.specs.declared.refusal.Refusal.TheVariants.{Full}
 use Rattle.step_threads.specs.declared.said.Answer.TheVariants.{Refused}
 use Rattle.step_threads.specs.declared.said.Said.{Said}
 use Rattle.step_threads.specs.declared.said.Stepped.TheVariants.{Quiet}
-use Rattle.step_threads.specs.Courses.{rest, settled, task_at, walk}
+use Rattle.step_threads.specs.Courses.{rest, walk_settled, task_at, walk}
 use Rattle.step_threads.specs.Steps.{begins, silent}
 use Rattle.step_table.specs.Stories.{Story}
-use Rattle.step_threads.specs.Threads.{Fits}
+use Rattle.step_threads.specs.Threads.{FitsThread}
 use Rattle.step_threads.proofs.holding.Storing.{taken_stored}
 use Rattle.step_threads.proofs.Steps.{at_act, stepped_as, waits_act}
 use Rattle.step_threads.proofs.Threads.{fits_prepare, least_here, least_nowhere, make_empty, refused_ready, resting}
@@ -26,7 +26,7 @@ prepare-requires-clause-stored c =
 
 pub returns-in-Some-clause-fits : goal.returns-in-Some-clause-fits
 returns-in-Some-clause-fits c =
-    subst (λ (v : Story). Fits c.args.desk
+    subst (λ (v : Story). FitsThread c.args.desk
     (record { course = c.args.self.now.course; stock = c.take_least.new.self; half = Making c.in-Some.block 0 false }) v) (sym c.prepare.ensures)
     (fits_prepare c.args.desk c.args.self.now c.args.table.now c.in-Some.block c.take_least.new.self c.args.form c.known.ensures c.requires.fits c.requires.rest
     c.requires.none c.requires.within c.requires.act c.in-Some.ensures.least.0 c.in-Some.ensures.least.1 c.take_least.ensures.room)
@@ -43,7 +43,7 @@ returns-in-None-clause-stepped c =
     stepped_as c.args.desk t v (begins (walk t.course) k (rest t.course) None) _ _ _
     (waits_act t v (Make c.args.form) c.requires.rest c.requires.none c.requires.within c.requires.act) is
     (ap (λ (n : ℕ). Quiet (record { statement = n; answer = Some (Refused Full); ended = None })) c.statement-statement.ensures) refl
-    (c.go_on.ensures.walk ∙ ap (λ (b : Bool). settled t.course.holdings.slots.items b t.course.endings.list (rest t.course)) empty) c.requires.rest
+    (c.go_on.ensures.walk ∙ ap (λ (b : Bool). walk_settled t.course.holdings.slots.items b t.course.endings.list (rest t.course)) empty) c.requires.rest
 
 pub returns-in-Some-clause-stepped : goal.returns-in-Some-clause-stepped
 returns-in-Some-clause-stepped c =

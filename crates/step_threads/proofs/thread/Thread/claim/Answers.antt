@@ -3,7 +3,7 @@ use Rattle.std.proofs.Common.{sym, subst}
 use Rattle.step_threads.specs.Courses.{HasGoneOn}
 use Rattle.step_table.specs.Stories.{Story}
 use Rattle.step_threads.specs.declared.half.Half.{Half}
-use Rattle.step_threads.specs.Threads.{Fits, IsNext}
+use Rattle.step_threads.specs.Threads.{FitsThread, IsNext}
 use Rattle.step_threads.proofs.Threads.{fits_claim}
 use Rattle.step_threads.proofs.thread.Thread.claim.Goals as goal
 
@@ -14,7 +14,7 @@ claim-requires-clause-none c =
 
 pub returns-clause-fits : goal.returns-clause-fits
 returns-clause-fits c =
-    subst (λ (v : Story). Fits c.args.desk (record { course = c.claim.new.self; stock = c.args.self.now.stock; half = Rest }) v)
+    subst (λ (v : Story). FitsThread c.args.desk (record { course = c.claim.new.self; stock = c.args.self.now.stock; half = Rest }) v)
     (sym c.claim.ensures.table)
     (fits_claim c.args.desk c.args.self.now c.args.table.now c.args.block c.args.differs c.args.form c.claim.new.self c.known.ensures
     c.requires.fits c.requires.half

@@ -5,14 +5,14 @@ use Rattle.std.proofs.lemmas.Bool.{cond-true}
 use Rattle.step_table.specs.declared.cell_deed.Cell.{Cell}
 use Rattle.step_table.specs.Contents.{compared_in}
 use Rattle.step_table.specs.Refills.{more_taken}
-use Rattle.step_table.specs.Stories.{Story, state}
+use Rattle.step_table.specs.Stories.{Story, story_state}
 use Rattle.step_table.specs.declared.refill.Stage.TheVariants.{Turning}
 use Rattle.step_threads.specs.declared.half.Half.{Half}
 use Rattle.step_threads.specs.declared.half.Half.TheVariants.{Refill}
 use Rattle.step_threads.specs.declared.said.Said.{Said}
 use Rattle.step_threads.specs.declared.said.Stepped.TheVariants.{Event}
-use Rattle.step_threads.specs.Courses.{HasGoneOn, cell_at, comparing, task_at}
-use Rattle.step_threads.specs.Threads.{Fits}
+use Rattle.step_threads.specs.Courses.{HasGoneOn, cell_of_name, comparing, task_at}
+use Rattle.step_threads.specs.Threads.{FitsThread}
 use Rattle.step_threads.proofs.CompareFits.{compare_taken, saw_other}
 use Rattle.step_threads.proofs.CompareSteps.{answers, differs_taken}
 use Rattle.step_threads.proofs.CompareTells.{tells_still}
@@ -39,7 +39,8 @@ returns-clause-stepped c =
     (ap (λ (s : Said). Event s) (c.compared.ensures ∙ ap (λ (m : ℕ). answers m false) c.statement-statement.ensures))
     (took.ensures.table ∙ cond-true took.result _ _ yes) (took.ensures.walk yes)
     (c.turning-self.ensures ∙ ap (λ (y : Cell). Refill Turning y (more_taken x) c.statement-statement.result) c.cell-at.ensures
-    ∙ ap (λ (m : ℕ). Refill Turning (cell_at (state v) t.course.holdings.slots.items c.args.cell) (more_taken x) m) c.statement-statement.ensures)
+    ∙ ap (λ (m : ℕ). Refill Turning (cell_of_name (story_state v) t.course.holdings.slots.items c.args.cell) (more_taken x) m)
+    c.statement-statement.ensures)
 
 pub returns-clause-fits : goal.returns-clause-fits
 returns-clause-fits c =
@@ -54,11 +55,11 @@ returns-clause-fits c =
     let m = c.statement-statement.result in
     let table = took.ensures.table ∙ cond-true took.result _ _ yes in
     let half = c.turning-self.ensures ∙ ap (λ (y : Cell). Refill Turning y (more_taken x) m) c.cell-at.ensures in
-    subst (λ (h : Half). Fits d (record { course = took.new.self; stock = t.stock; half = h }) took.new.table) (sym half)
-    (subst (λ (u : Story). Fits d (record {
+    subst (λ (h : Half). FitsThread d (record { course = took.new.self; stock = t.stock; half = h }) took.new.table) (sym half)
+    (subst (λ (u : Story). FitsThread d (record {
       course = took.new.self;
       stock = t.stock;
-      half = Refill Turning (cell_at (state v) t.course.holdings.slots.items c.args.cell) (more_taken x) m;
+      half = Refill Turning (cell_of_name (story_state v) t.course.holdings.slots.items c.args.cell) (more_taken x) m;
     }) u) (sym table)
     (compare_taken d t v c.args.name c.args.cell c.args.weak x r.fits r.act took.new.self
     (compared_in slots (comparing slots c.args.name c.args.weak)) c.known.ensures m r.half

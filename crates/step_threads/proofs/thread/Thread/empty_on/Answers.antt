@@ -3,12 +3,12 @@ use Rattle.std.specs.Prelude.{is_some}
 use Rattle.control_word.specs.declared.handle.Kind.{Kind}
 use Rattle.step_table.specs.declared.cell_deed.Cell.TheVariants.{Member}
 use Rattle.step_table.specs.Contents.{held_in, slot_of}
-use Rattle.step_table.specs.Holdings.{Holds, slot}
-use Rattle.step_table.specs.Stories.{Story, state}
+use Rattle.step_table.specs.Holdings.{HoldsBag, slot_pointer}
+use Rattle.step_table.specs.Stories.{Story, story_state}
 use Rattle.step_threads.specs.declared.said.Said.{Said}
 use Rattle.step_threads.specs.declared.said.Stepped.TheVariants.{Event}
 use Rattle.step_threads.specs.Steps.{gives_back}
-use Rattle.step_threads.specs.Threads.{Fits, HasStepped}
+use Rattle.step_threads.specs.Threads.{FitsThread, HasStepped}
 use Rattle.step_threads.proofs.Emptying.{clearing_here, fits_emptied, idle_clearing, is_clearing, none_full, stepped_emptied}
 use Rattle.step_threads.proofs.holding.Ends.{ending_here, first_is}
 use Rattle.step_threads.proofs.thread.Thread.empty_on.Goals as goal
@@ -35,7 +35,7 @@ pub take_out-found-requires-clause-empty : goal.take_out-found-requires-clause-e
 take_out-found-requires-clause-empty c =
     let t = c.args.self.now in
     let slots = t.course.holdings.slots.items in
-    ap (slot slots) c.hand-hand.ensures
+    ap (slot_pointer slots) c.hand-hand.ensures
     ∙ none_full _ (clearing_here slots t.course.endings.list c.in-Some.ending
     (is_clearing c.args.desk t c.args.table.now c.requires.fits c.requires.half) (sym c.first.ensures ∙ c.in-Some.is)).1
 
@@ -58,7 +58,7 @@ returns-clause-fits c =
     let first = sym c.first.ensures ∙ c.in-Some.is in
     let x = c.take_out-found.result in
     let h = c.take_out-found.new.self in
-    subst (λ (u : Story). Fits d
+    subst (λ (u : Story). FitsThread d
     (record { course = record t.course { holdings = h; endings = c.advance.new.self }; stock = t.stock; half = c.returning-self.result }) u)
     (sym c.take_out-found.ensures.table)
     (fits_emptied d t v e (drop 1 t.course.endings.list) h c.advance.new.self c.returning-self.result e.statement x c.known.ensures
@@ -66,8 +66,9 @@ returns-clause-fits c =
     (first_is t.course.endings.list e first) (ending_here d v t.course.endings.list e c.requires.fits.endings.all first)
     c.take_out-found.ensures.found
     (c.take_out-found.ensures.slots
-    ∙ ap (λ (i : ℕ). cond (is_some x.owned) (set slots i (slot_of (state v) (held_in (state v) (Member e.block e.stage)))) slots) c.hand-hand.ensures)
-    (subst (λ (u : Story). Holds d h.slots.items u) c.take_out-found.ensures.table c.take_out-found.ensures.holds)
+    ∙ ap (λ (i : ℕ). cond (is_some x.owned) (set slots i (slot_of (story_state v) (held_in (story_state v) (Member e.block e.stage)))) slots)
+    c.hand-hand.ensures)
+    (subst (λ (u : Story). HoldsBag d h.slots.items u) c.take_out-found.ensures.table c.take_out-found.ensures.holds)
     c.advance.ensures.list c.advance.ensures.room
     (c.returning-self.ensures ∙ ap (λ (k : Kind). gives_back k e.statement x x.owned) c.kind_in-kind.ensures))
 
@@ -87,6 +88,7 @@ returns-clause-stepped c =
     (stepped_emptied d t v c.take_out-found.new.table e (drop 1 t.course.endings.list) h c.advance.new.self c.returning-self.result x c.requires.half
     (first_is t.course.endings.list e first) c.take_out-found.ensures.found
     (c.take_out-found.ensures.slots
-    ∙ ap (λ (i : ℕ). cond (is_some x.owned) (set slots i (slot_of (state v) (held_in (state v) (Member e.block e.stage)))) slots) c.hand-hand.ensures)
+    ∙ ap (λ (i : ℕ). cond (is_some x.owned) (set slots i (slot_of (story_state v) (held_in (story_state v) (Member e.block e.stage)))) slots)
+    c.hand-hand.ensures)
     c.take_out-found.ensures.table c.advance.ensures.list
     (c.returning-self.ensures ∙ ap (λ (k : Kind). gives_back k e.statement x x.owned) c.kind_in-kind.ensures))

@@ -4,8 +4,8 @@ use Rattle.step_table.specs.declared.cell_deed.CellDeed.TheVariants.{GiveBack}
 use Rattle.step_threads.specs.declared.half.Half.TheVariants.{Refill}
 use Rattle.step_table.specs.declared.past.Deed.TheVariants.{OnCell}
 use Rattle.step_table.specs.declared.refill.Stage.TheVariants.{Checking}
-use Rattle.step_table.specs.CellDeeds.{kind_in}
-use Rattle.step_table.specs.Stories.{after, state}
+use Rattle.step_table.specs.CellDeeds.{kind_in_state}
+use Rattle.step_table.specs.Stories.{story_after_deed, story_state}
 use Rattle.step_threads.proofs.RefillFits.{fits_as, fits_failed}
 use Rattle.step_threads.proofs.thread.Thread.fail.Goals as goal
 
@@ -17,6 +17,6 @@ returns-clause-fits c =
     let x = c.args.found in
     let b = c.args.block in
     fits_as d t (Refill Checking c.args.cell x c.args.statement) c.at_stage-self.result _ c.give_back.new.self c.at_stage-self.ensures
-    (c.give_back.ensures ∙ ap (λ (k : Kind). after v d (OnCell (GiveBack k b c.from.result))) c.kind_in-kind.ensures
-    ∙ ap (λ (n : ℕ). after v d (OnCell (GiveBack (kind_in (state v) c.args.cell) b n))) c.from.ensures)
+    (c.give_back.ensures ∙ ap (λ (k : Kind). story_after_deed v d (OnCell (GiveBack k b c.from.result))) c.kind_in-kind.ensures
+    ∙ ap (λ (n : ℕ). story_after_deed v d (OnCell (GiveBack (kind_in_state (story_state v) c.args.cell) b n))) c.from.ensures)
     (fits_failed d t v c.args.cell x c.args.statement c.requires.fits b c.known.ensures c.requires.half)

@@ -1,7 +1,7 @@
 use Rattle.std.proofs.Common.{◌≡◌, ℕ, refl, sym, ap, subst, ◌∙◌}
 use Rattle.step_table.specs.Contents.{owing_for}
-use Rattle.step_table.specs.Holdings.{slot, value}
-use Rattle.step_table.specs.Stories.{Story, pending, state}
+use Rattle.step_table.specs.Holdings.{slot_pointer, slot_value}
+use Rattle.step_table.specs.Stories.{Story, pending, story_state}
 use Rattle.step_threads.specs.declared.half.Half.{Half}
 use Rattle.step_threads.specs.declared.half.Half.TheVariants.{Matched}
 use Rattle.step_threads.specs.declared.said.Said.{Said}
@@ -9,7 +9,7 @@ use Rattle.step_threads.specs.declared.said.Stepped.TheVariants.{Quiet}
 use Rattle.step_threads.specs.Courses.{hand, task_at, walk}
 use Rattle.step_threads.specs.NextSteps.{waits}
 use Rattle.step_threads.specs.Steps.{fetches, silent}
-use Rattle.step_threads.specs.Threads.{Fits}
+use Rattle.step_threads.specs.Threads.{FitsThread}
 use Rattle.step_threads.proofs.CompareFits.{compare_brought}
 use Rattle.step_threads.proofs.CompareSteps.{fetches_funds}
 use Rattle.step_threads.proofs.LoadFits.{saw_next}
@@ -27,7 +27,7 @@ returns-clause-stepped c =
     let x = c.args.found in
     let p = c.in-Some.pointer in
     let r = c.requires in
-    let at = sym (c.get.ensures ∙ ap (slot t.course.holdings.slots.items) c.hand-hand.ensures) ∙ c.in-Some.is in
+    let at = sym (c.get.ensures ∙ ap (slot_pointer t.course.holdings.slots.items) c.hand-hand.ensures) ∙ c.in-Some.is in
     stepped_as d t v (fetches w n x p) _ _ _ (ap (λ (h : Half). waits v h w) r.half)
     (fetches_funds d t v c.args.name c.args.cell c.args.weak x (saw_next d t v x r.fits r.half).0 r.act r.half r.alike p at)
     (ap (λ (s : Said). Quiet s) (c.silent.ensures ∙ ap silent c.statement-statement.ensures)) c.bring.ensures.table refl refl
@@ -41,7 +41,8 @@ returns-clause-fits c =
     let slots = t.course.holdings.slots.items in
     let r = c.requires in
     let owes =
-    subst (λ (i : ℕ). pending c.bring.new.table d ≡ owing_for (state c.bring.new.table) (value slots i) 256) c.hand-hand.ensures c.bring.ensures.owes in
-    subst (λ (u : Story). Fits d (At t (Matched c.args.found)) u) (sym c.bring.ensures.table)
+    subst (λ (i : ℕ). pending c.bring.new.table d ≡ owing_for (story_state c.bring.new.table) (slot_value slots i) 256) c.hand-hand.ensures
+    c.bring.ensures.owes in
+    subst (λ (u : Story). FitsThread d (At t (Matched c.args.found)) u) (sym c.bring.ensures.table)
     (compare_brought d t v c.args.name c.args.cell c.args.weak c.args.found r.fits r.act p r.half r.alike
-    (subst (λ (u : Story). pending u d ≡ owing_for (state u) (value slots (hand slots)) 256) c.bring.ensures.table owes))
+    (subst (λ (u : Story). pending u d ≡ owing_for (story_state u) (slot_value slots (hand slots)) 256) c.bring.ensures.table owes))

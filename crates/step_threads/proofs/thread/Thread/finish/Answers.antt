@@ -1,7 +1,7 @@
 use Rattle.std.proofs.Common.{◌∙◌, ℕ, ◌<◌, Bool, sym, ap, subst}
 use Rattle.step_table.specs.declared.past.Deed.TheVariants as deed
-use Rattle.step_table.specs.Stories.{Kept, Story, after}
-use Rattle.step_threads.specs.Threads.{Fits}
+use Rattle.step_table.specs.Stories.{Kept, Story, story_after_deed}
+use Rattle.step_threads.specs.Threads.{FitsThread}
 use Rattle.step_threads.proofs.Endings.{room_left}
 use Rattle.step_threads.proofs.EndSteps.{fits_finish, fits_finish_not, idle_here}
 use Rattle.step_threads.proofs.holding.Ends.{ending_here}
@@ -21,7 +21,7 @@ finish-vacant-requires-clause-cleared c = λ m few.
 pub put-requires : goal.put-requires
 put-requires c =
     let v = c.args.table.now in
-    let e = c.finish-vacant.ensures.after ∙ ap (λ (r : Bool). after v c.args.desk (deed.Finish c.args.ending.block r)) c.if-not-vacant.false in
+    let e = c.finish-vacant.ensures.after ∙ ap (λ (r : Bool). story_after_deed v c.args.desk (deed.Finish c.args.ending.block r)) c.if-not-vacant.false in
     let is = ending_here c.args.desk v c.args.self.now.course.endings.list c.args.ending c.requires.fits.endings.all c.requires.first in
     room_left c.args.desk c.args.self.now v c.args.ending c.known.ensures
     (subst (λ (u : Story). Kept u) e c.known-2.ensures) c.requires.fits c.requires.rest is
@@ -30,9 +30,14 @@ pub returns-clause-fits : goal.returns-clause-fits
 returns-clause-fits c =
     let t = c.args.self.now in
     let v = c.args.table.now in
-    let e = c.finish-vacant.ensures.after ∙ ap (λ (r : Bool). after v c.args.desk (deed.Finish c.args.ending.block r)) c.if-not-vacant.false in
+    let e = c.finish-vacant.ensures.after ∙ ap (λ (r : Bool). story_after_deed v c.args.desk (deed.Finish c.args.ending.block r)) c.if-not-vacant.false in
     let is = ending_here c.args.desk v t.course.endings.list c.args.ending c.requires.fits.endings.all c.requires.first in
-    subst (λ (u : Story). Fits c.args.desk (record { course = record t.course { endings = c.finish.new.self }; stock = c.put.new.self; half = t.half }) u)
+    subst (λ (u : Story). FitsThread c.args.desk (record {
+      course = record t.course { endings = c.finish.new.self };
+      stock =
+          c.put.new.self;
+      half = t.half;
+    }) u)
     (sym e)
     (fits_finish c.args.desk t v c.args.ending c.finish.new.self c.put.new.self c.known.ensures c.requires.fits c.requires.rest c.finish.ensures.list
     c.finish.ensures.room is c.requires.empty c.put.ensures.blocks c.put.ensures.room)
@@ -41,8 +46,13 @@ pub returns-then-not-vacant-clause-fits : goal.returns-then-not-vacant-clause-fi
 returns-then-not-vacant-clause-fits c =
     let t = c.args.self.now in
     let v = c.args.table.now in
-    let e = c.finish-vacant.ensures.after ∙ ap (λ (r : Bool). after v c.args.desk (deed.Finish c.args.ending.block r)) c.if-not-vacant.true in
+    let e = c.finish-vacant.ensures.after ∙ ap (λ (r : Bool). story_after_deed v c.args.desk (deed.Finish c.args.ending.block r)) c.if-not-vacant.true in
     let is = ending_here c.args.desk v t.course.endings.list c.args.ending c.requires.fits.endings.all c.requires.first in
-    subst (λ (u : Story). Fits c.args.desk (record { course = record t.course { endings = c.finish.new.self }; stock = t.stock; half = t.half }) u) (sym e)
+    subst (λ (u : Story). FitsThread c.args.desk (record {
+      course = record t.course { endings = c.finish.new.self };
+      stock = t.stock;
+      half =
+          t.half;
+    }) u) (sym e)
     (fits_finish_not c.args.desk t v c.args.ending c.finish.new.self c.known.ensures c.requires.fits c.requires.rest c.finish.ensures.list
     c.finish.ensures.room is c.requires.empty)

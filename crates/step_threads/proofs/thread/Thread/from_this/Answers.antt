@@ -1,5 +1,5 @@
 use Rattle.std.proofs.Common.{ℕ, ap, sym, ◌∙◌}
-use Rattle.step_table.specs.Holdings.{inside, slot}
+use Rattle.step_table.specs.Holdings.{inside, slot_pointer}
 use Rattle.step_threads.proofs.Giving.{fits_asked, refused_this}
 use Rattle.step_threads.proofs.thread.Thread.from_this.Goals as goal
 
@@ -15,5 +15,5 @@ returns-clause-fits c =
     let slots = c.args.self.now.course.holdings.slots.items in
     fits_asked c.args.desk c.args.self.now c.args.table.now c.args.name c.args.kind c.in-Some.pointer c.requires.fits c.requires.rest
     c.requires.none c.requires.within
-    c.requires.act (sym (c.inside.ensures ∙ ap (λ (k : ℕ). inside (slot slots k)) c.from-from.ensures) ∙ c.in-Some.is)
+    c.requires.act (sym (c.inside.ensures ∙ ap (λ (k : ℕ). inside (slot_pointer slots k)) c.from-from.ensures) ∙ c.in-Some.is)
     (sym c.is_enabled.ensures ∙ c.if-not-is_enabled.false)

@@ -1,12 +1,12 @@
 use Rattle.std.proofs.Common.{sym, subst}
 use Rattle.step_threads.specs.declared.half.Half.TheVariants.{Rest}
 use Rattle.step_table.specs.Stories.{Story}
-use Rattle.step_threads.specs.Threads.{Fits}
+use Rattle.step_threads.specs.Threads.{FitsThread}
 use Rattle.step_threads.proofs.StoreFits.{fits_returned}
 use Rattle.step_threads.proofs.thread.Thread.give_back.Goals as goal
 
 pub returns-clause-fits : goal.returns-clause-fits
 returns-clause-fits c =
     let t = c.args.self.now in
-    subst (λ (v : Story). Fits c.args.desk (record { course = t.course; stock = t.stock; half = Rest }) v) (sym c.give_back.ensures)
+    subst (λ (v : Story). FitsThread c.args.desk (record { course = t.course; stock = t.stock; half = Rest }) v) (sym c.give_back.ensures)
     (fits_returned c.args.desk t c.args.table.now c.args.kind c.args.block c.args.funds c.args.statement c.known.ensures c.requires.fits c.requires.half)

@@ -2,8 +2,8 @@ use Rattle.std.proofs.Common.{◌≡◌, ◌∙◌, ℕ, Some, None, drop, set, 
 use Rattle.std.proofs.lemmas.Option.{same_Some}
 use Rattle.step_table.specs.declared.holdings.Pointer.{Pointer}
 use Rattle.step_table.specs.Deeds.{is_last, leave}
-use Rattle.step_table.specs.Holdings.{plain, slot}
-use Rattle.step_table.specs.Stories.{after, state}
+use Rattle.step_table.specs.Holdings.{plain, slot_pointer}
+use Rattle.step_table.specs.Stories.{story_after_deed, story_state}
 use Rattle.step_threads.specs.Courses.{hand}
 use Rattle.step_threads.specs.declared.said.Stepped.TheVariants.{Event}
 use Rattle.step_threads.proofs.Carrying.{carried_room, fits_carried}
@@ -17,8 +17,8 @@ left-ended-requires-clause-begins c = λ x at.
     let v = c.args.table.now in
     let same = same_Some c.in-Some.pointer x at in
     carried_room c.args.desk c.args.self.now.course v c.leave-last.new.table x c.leave-last.result c.known.ensures c.known-2.ensures
-    c.requires.fits.endings (c.leave-last.ensures.table ∙ ap (λ (p : Pointer). after v c.args.desk (leave (state v) p)) same)
-    (c.leave-last.ensures.last ∙ ap (λ (p : Pointer). is_last (state v) p) same)
+    c.requires.fits.endings (c.leave-last.ensures.table ∙ ap (λ (p : Pointer). story_after_deed v c.args.desk (leave (story_state v) p)) same)
+    (c.leave-last.ensures.last ∙ ap (λ (p : Pointer). is_last (story_state v) p) same)
 
 pub left-ended-requires-clause-room : goal.left-ended-requires-clause-room
 left-ended-requires-clause-room c = λ x.
@@ -39,7 +39,8 @@ pub returns-clause-stepped : goal.returns-clause-stepped
 returns-clause-stepped c =
     let t = c.args.self.now in
     let slots = t.course.holdings.slots.items in
-    let at : slot slots (hand slots) ≡ Some c.in-Some.pointer = ap (slot slots) (sym c.hand-hand.ensures) ∙ sym c.get.ensures ∙ c.in-Some.is in
+    let at : slot_pointer slots (hand slots) ≡ Some c.in-Some.pointer =
+    ap (slot_pointer slots) (sym c.hand-hand.ensures) ∙ sym c.get.ensures ∙ c.in-Some.is in
     stepped_carried c.args.desk t c.left-ended.new.self c.args.table.now c.leave-last.new.table c.leave-last.new.self c.in-Some.pointer
     c.leave-last.result c.args.ending (drop 1 t.course.endings.list) c.requires.fits
     (first_is t.course.endings.list c.args.ending c.requires.first) at c.leave-last.ensures.last c.left-ended.ensures.course

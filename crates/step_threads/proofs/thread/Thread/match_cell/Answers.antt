@@ -1,17 +1,17 @@
 use Rattle.std.proofs.Common.{ℕ, true, sym, ap, subst, ◌∙◌}
 use Rattle.std.proofs.lemmas.Bool.{cond-false, cond-true}
 use Rattle.control_word.specs.declared.handle.Kind.{Kind}
-use Rattle.step_table.specs.CellDeeds.{kind_in}
+use Rattle.step_table.specs.CellDeeds.{kind_in_state}
 use Rattle.step_table.specs.Contents.{compared_in}
-use Rattle.step_table.specs.Holdings.{slot}
-use Rattle.step_table.specs.Stories.{Story, state}
+use Rattle.step_table.specs.Holdings.{slot_pointer}
+use Rattle.step_table.specs.Stories.{Story, story_state}
 use Rattle.step_threads.specs.declared.course.Course.{Course}
 use Rattle.step_threads.specs.declared.half.Half.{Half}
 use Rattle.step_threads.specs.declared.said.Said.{Said}
 use Rattle.step_threads.specs.declared.said.Stepped.TheVariants.{Event, Quiet}
-use Rattle.step_threads.specs.Courses.{HasGoneOn, cell_at, comparing, hand, walk}
+use Rattle.step_threads.specs.Courses.{HasGoneOn, cell_of_name, comparing, hand, walk}
 use Rattle.step_threads.specs.Steps.{gives_back, missed, silent}
-use Rattle.step_threads.specs.Threads.{Fits}
+use Rattle.step_threads.specs.Threads.{FitsThread}
 use Rattle.step_threads.proofs.CompareFits.{compare_missed, compare_swapped, looking_claims}
 use Rattle.step_threads.proofs.CompareSteps.{answers, swaps_it, swaps_none}
 use Rattle.step_threads.proofs.CompareTells.{match_at, match_goes, match_none, match_valid, match_within, tells_still}
@@ -36,8 +36,8 @@ returns-then-not-compare_and_swap-clause-stepped c =
     (sym swap.ensures.same ∙ miss)
     (ap (λ (s : Said). Quiet s) (c.silent.ensures ∙ ap silent c.statement-statement.ensures)) (swap.ensures.table ∙ cond-false swap.result _ _ miss)
     (ap walk (swap.ensures.stays miss))
-    (c.missed-self.ensures ∙ ap (missed c.statement-statement.result) (c.get-brought.ensures ∙ ap (slot slots) c.hand.ensures)
-    ∙ ap (λ (m : ℕ). missed m (slot slots (hand slots))) c.statement-statement.ensures)
+    (c.missed-self.ensures ∙ ap (missed c.statement-statement.result) (c.get-brought.ensures ∙ ap (slot_pointer slots) c.hand.ensures)
+    ∙ ap (λ (m : ℕ). missed m (slot_pointer slots (hand slots))) c.statement-statement.ensures)
 
 pub returns-then-not-compare_and_swap-clause-fits : goal.returns-then-not-compare_and_swap-clause-fits
 returns-then-not-compare_and_swap-clause-fits c =
@@ -49,11 +49,12 @@ returns-then-not-compare_and_swap-clause-fits c =
     let miss = c.if-not-compare_and_swap.true in
     let slots = t.course.holdings.slots.items in
     let m = c.statement-statement.result in
-    let half = c.missed-self.ensures ∙ ap (missed m) (c.get-brought.ensures ∙ ap (slot slots) c.hand.ensures) in
-    subst (λ (h : Half). Fits d (record { course = swap.new.self; stock = t.stock; half = h }) swap.new.table) (sym half)
-    (subst (λ (u : Story). Fits d (record { course = swap.new.self; stock = t.stock; half = missed m (slot slots (hand slots)) }) u)
+    let half = c.missed-self.ensures ∙ ap (missed m) (c.get-brought.ensures ∙ ap (slot_pointer slots) c.hand.ensures) in
+    subst (λ (h : Half). FitsThread d (record { course = swap.new.self; stock = t.stock; half = h }) swap.new.table) (sym half)
+    (subst (λ (u : Story). FitsThread d (record { course = swap.new.self; stock = t.stock; half = missed m (slot_pointer slots (hand slots)) }) u)
     (sym (swap.ensures.table ∙ cond-false swap.result _ _ miss))
-    (subst (λ (q : Course). Fits d (record { course = q; stock = t.stock; half = missed m (slot slots (hand slots)) }) v) (sym (swap.ensures.stays miss))
+    (subst (λ (q : Course). FitsThread d (record { course = q; stock = t.stock; half = missed m (slot_pointer slots (hand slots)) }) v)
+    (sym (swap.ensures.stays miss))
     (compare_missed d t v c.args.name c.args.cell c.args.weak c.args.found r.fits r.act m (looking_claims t c.args.found r.half) r.owes)))
 
 pub returns-clause-stepped : goal.returns-clause-stepped
@@ -69,14 +70,15 @@ returns-clause-stepped c =
     let hit = c.if-not-compare_and_swap.false in
     let same = sym swap.ensures.same ∙ hit in
     let within = match_within d t v k n c.args.weak x r.fits r.act r.half in
-    let kind = c.kind_in-kind.ensures ∙ ap (kind_in (state v)) c.cell-at.ensures in
+    let kind = c.kind_in-kind.ensures ∙ ap (kind_in_state (story_state v)) c.cell-at.ensures in
     swaps_it d t v k n c.args.weak x within r.act (match_at d t v k n c.args.weak x r.fits r.act r.half r.alike r.owes)
     (match_goes d t v k n c.args.weak x r.fits r.act r.half) _ _ _ same
     (tells_still d t v k n c.args.weak x r.fits r.act true c.known.ensures within (match_valid d t v k n c.args.weak x r.fits r.act r.half) same r.alike)
     (ap (λ (s : Said). Event s) (c.compared.ensures ∙ ap (λ (m : ℕ). answers m true) c.statement-statement.ensures))
     (swap.ensures.table ∙ cond-true swap.result _ _ hit) (swap.ensures.walk hit)
     (c.returning-self.ensures ∙ ap (λ (q : Kind). gives_back q c.statement-statement.result x x.owned) kind
-    ∙ ap (λ (m : ℕ). gives_back (kind_in (state v) (cell_at (state v) t.course.holdings.slots.items n)) m x x.owned) c.statement-statement.ensures)
+    ∙ ap (λ (m : ℕ). gives_back (kind_in_state (story_state v) (cell_of_name (story_state v) t.course.holdings.slots.items n)) m x x.owned)
+    c.statement-statement.ensures)
 
 pub returns-clause-fits : goal.returns-clause-fits
 returns-clause-fits c =
@@ -92,13 +94,13 @@ returns-clause-fits c =
     let slots = t.course.holdings.slots.items in
     let m = c.statement-statement.result in
     let table = swap.ensures.table ∙ cond-true swap.result _ _ hit in
-    let kind = c.kind_in-kind.ensures ∙ ap (kind_in (state v)) c.cell-at.ensures in
-    subst (λ (h : Half). Fits d (record { course = swap.new.self; stock = t.stock; half = h }) swap.new.table)
+    let kind = c.kind_in-kind.ensures ∙ ap (kind_in_state (story_state v)) c.cell-at.ensures in
+    subst (λ (h : Half). FitsThread d (record { course = swap.new.self; stock = t.stock; half = h }) swap.new.table)
     (sym (c.returning-self.ensures ∙ ap (λ (q : Kind). gives_back q m x x.owned) kind))
-    (subst (λ (u : Story). Fits d (record {
+    (subst (λ (u : Story). FitsThread d (record {
       course = swap.new.self;
       stock = t.stock;
-      half = gives_back (kind_in (state v) (cell_at (state v) t.course.holdings.slots.items n)) m x x.owned;
+      half = gives_back (kind_in_state (story_state v) (cell_of_name (story_state v) t.course.holdings.slots.items n)) m x x.owned;
     }) u) (sym table)
     (compare_swapped d t v k n c.args.weak x r.fits r.act swap.new.self (compared_in slots (comparing slots k c.args.weak)) c.known.ensures m
     (looking_claims t x r.half) (match_none d t v k n c.args.weak x r.fits r.act r.half)

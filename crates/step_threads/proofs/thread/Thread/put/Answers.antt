@@ -4,12 +4,12 @@ use Rattle.step_threads.specs.declared.act.Act.TheVariants as act
 use Rattle.step_table.specs.declared.holdings.Pointer.{Pointer}
 use Rattle.step_threads.specs.Courses.{Walk, done_on, placed, rest, task_at, walk}
 use Rattle.step_threads.specs.declared.half.Half.TheVariants.{Rest}
-use Rattle.step_threads.specs.Steps.{acts}
+use Rattle.step_threads.specs.Steps.{step_of_act}
 use Rattle.step_threads.specs.declared.said.Stepped.TheVariants.{Event, Quiet}
 use Rattle.step_table.specs.Deeds.{is_last, leave, on}
-use Rattle.step_table.specs.Holdings.{plain, slot}
+use Rattle.step_table.specs.Holdings.{plain, slot_pointer}
 use Rattle.step_threads.specs.Scenes.{ended_by}
-use Rattle.step_table.specs.Stories.{state}
+use Rattle.step_table.specs.Stories.{story_state}
 use Rattle.step_threads.proofs.Courses.{settled_taken}
 use Rattle.step_threads.proofs.Endings.{HasLeft, begins_room, ending_left, fits_left, room_weak}
 use Rattle.step_threads.proofs.LeaveSteps.{stepped_left, went_left}
@@ -19,20 +19,22 @@ pub left-ended-requires-clause-ending : goal.left-ended-requires-clause-ending
 left-ended-requires-clause-ending c = λ x.
     let v = c.args.table.now in
     let slots = c.args.self.now.course.holdings.slots.items in
-    let h : c.get-held.result ≡ slot slots c.args.name = c.get-held.ensures ∙ ap (slot slots) c.from.ensures in
-    let is : c.put-last.new.table ≡ done_on (leave (state v)) v c.args.desk c.get-held.result =
-    c.put-last.ensures.table ∙ ap (done_on (leave (state v)) v c.args.desk) (sym h) in
-    let said : c.put-last.result ≡ on (is_last (state v)) false c.get-held.result = c.put-last.ensures.last ∙ ap (on (is_last (state v)) false) (sym h) in
+    let h : c.get-held.result ≡ slot_pointer slots c.args.name = c.get-held.ensures ∙ ap (slot_pointer slots) c.from.ensures in
+    let is : c.put-last.new.table ≡ done_on (leave (story_state v)) v c.args.desk c.get-held.result =
+    c.put-last.ensures.table ∙ ap (done_on (leave (story_state v)) v c.args.desk) (sym h) in
+    let said : c.put-last.result ≡ on (is_last (story_state v)) false c.get-held.result =
+    c.put-last.ensures.last ∙ ap (on (is_last (story_state v)) false) (sym h) in
     ending_left v c.put-last.new.table c.args.desk c.get-held.result c.put-last.result x is said
 
 pub left-ended-requires-clause-begins : goal.left-ended-requires-clause-begins
 left-ended-requires-clause-begins c = λ x.
     let v = c.args.table.now in
     let slots = c.args.self.now.course.holdings.slots.items in
-    let h : c.get-held.result ≡ slot slots c.args.name = c.get-held.ensures ∙ ap (slot slots) c.from.ensures in
-    let is : c.put-last.new.table ≡ done_on (leave (state v)) v c.args.desk c.get-held.result =
-    c.put-last.ensures.table ∙ ap (done_on (leave (state v)) v c.args.desk) (sym h) in
-    let said : c.put-last.result ≡ on (is_last (state v)) false c.get-held.result = c.put-last.ensures.last ∙ ap (on (is_last (state v)) false) (sym h) in
+    let h : c.get-held.result ≡ slot_pointer slots c.args.name = c.get-held.ensures ∙ ap (slot_pointer slots) c.from.ensures in
+    let is : c.put-last.new.table ≡ done_on (leave (story_state v)) v c.args.desk c.get-held.result =
+    c.put-last.ensures.table ∙ ap (done_on (leave (story_state v)) v c.args.desk) (sym h) in
+    let said : c.put-last.result ≡ on (is_last (story_state v)) false c.get-held.result =
+    c.put-last.ensures.last ∙ ap (on (is_last (story_state v)) false) (sym h) in
     begins_room v c.put-last.new.table c.args.desk c.args.self.now c.put-last.new.self
     c.get-held.result c.put-last.result x c.known-2.ensures c.requires.fits c.requires.none c.put-last.ensures.on.endings is said
 
@@ -40,10 +42,11 @@ pub left-ended-requires-clause-room : goal.left-ended-requires-clause-room
 left-ended-requires-clause-room c = λ x.
     let v = c.args.table.now in
     let slots = c.args.self.now.course.holdings.slots.items in
-    let h : c.get-held.result ≡ slot slots c.args.name = c.get-held.ensures ∙ ap (slot slots) c.from.ensures in
-    let is : c.put-last.new.table ≡ done_on (leave (state v)) v c.args.desk c.get-held.result =
-    c.put-last.ensures.table ∙ ap (done_on (leave (state v)) v c.args.desk) (sym h) in
-    let said : c.put-last.result ≡ on (is_last (state v)) false c.get-held.result = c.put-last.ensures.last ∙ ap (on (is_last (state v)) false) (sym h) in
+    let h : c.get-held.result ≡ slot_pointer slots c.args.name = c.get-held.ensures ∙ ap (slot_pointer slots) c.from.ensures in
+    let is : c.put-last.new.table ≡ done_on (leave (story_state v)) v c.args.desk c.get-held.result =
+    c.put-last.ensures.table ∙ ap (done_on (leave (story_state v)) v c.args.desk) (sym h) in
+    let said : c.put-last.result ≡ on (is_last (story_state v)) false c.get-held.result =
+    c.put-last.ensures.last ∙ ap (on (is_last (story_state v)) false) (sym h) in
     room_weak v c.put-last.new.table c.args.desk c.args.self.now c.get-held.result c.put-last.result x c.known.ensures c.known-2.ensures
     c.requires.fits c.requires.rest is said
 
@@ -51,10 +54,11 @@ pub returns-clause-fits : goal.returns-clause-fits
 returns-clause-fits c =
     let v = c.args.table.now in
     let slots = c.args.self.now.course.holdings.slots.items in
-    let h : c.get-held.result ≡ slot slots c.args.name = c.get-held.ensures ∙ ap (slot slots) c.from.ensures in
-    let is : c.put-last.new.table ≡ done_on (leave (state v)) v c.args.desk c.get-held.result =
-    c.put-last.ensures.table ∙ ap (done_on (leave (state v)) v c.args.desk) (sym h) in
-    let said : c.put-last.result ≡ on (is_last (state v)) false c.get-held.result = c.put-last.ensures.last ∙ ap (on (is_last (state v)) false) (sym h) in
+    let h : c.get-held.result ≡ slot_pointer slots c.args.name = c.get-held.ensures ∙ ap (slot_pointer slots) c.from.ensures in
+    let is : c.put-last.new.table ≡ done_on (leave (story_state v)) v c.args.desk c.get-held.result =
+    c.put-last.ensures.table ∙ ap (done_on (leave (story_state v)) v c.args.desk) (sym h) in
+    let said : c.put-last.result ≡ on (is_last (story_state v)) false c.get-held.result =
+    c.put-last.ensures.last ∙ ap (on (is_last (story_state v)) false) (sym h) in
     let has : HasLeft c.args.desk c.args.self.now.course c.put-last.new.self c.left-ended.new.self.course c.put-last.new.table c.statement-statement.result
     c.get-held.result c.put-last.result =
     record {
@@ -73,10 +77,11 @@ pub returns-clause-stepped : goal.returns-clause-stepped
 returns-clause-stepped c =
     let v = c.args.table.now in
     let slots = c.args.self.now.course.holdings.slots.items in
-    let h : c.get-held.result ≡ slot slots c.args.name = c.get-held.ensures ∙ ap (slot slots) c.from.ensures in
-    let is : c.put-last.new.table ≡ done_on (leave (state v)) v c.args.desk c.get-held.result =
-    c.put-last.ensures.table ∙ ap (done_on (leave (state v)) v c.args.desk) (sym h) in
-    let said : c.put-last.result ≡ on (is_last (state v)) false c.get-held.result = c.put-last.ensures.last ∙ ap (on (is_last (state v)) false) (sym h) in
+    let h : c.get-held.result ≡ slot_pointer slots c.args.name = c.get-held.ensures ∙ ap (slot_pointer slots) c.from.ensures in
+    let is : c.put-last.new.table ≡ done_on (leave (story_state v)) v c.args.desk c.get-held.result =
+    c.put-last.ensures.table ∙ ap (done_on (leave (story_state v)) v c.args.desk) (sym h) in
+    let said : c.put-last.result ≡ on (is_last (story_state v)) false c.get-held.result =
+    c.put-last.ensures.last ∙ ap (on (is_last (story_state v)) false) (sym h) in
     let has : HasLeft c.args.desk c.args.self.now.course c.put-last.new.self c.left-ended.new.self.course c.put-last.new.table c.statement-statement.result
     c.get-held.result c.put-last.result =
     record {
@@ -90,9 +95,10 @@ returns-clause-stepped c =
     stepped_left c.args.desk c.args.self.now c.left-ended.new.self v c.put-last.new.table c.says.result
     (act.Put c.args.name) c.get-held.result c.put-last.result
     c.left-ended.result c.statement-statement.result c.statement-statement.ensures c.requires.rest c.requires.none c.requires.within c.requires.act refl
-    (ap (λ (o : Option Pointer). acts v c.args.desk (walk c.args.self.now.course) (task_at c.args.self.now.course).statement (rest c.args.self.now.course)
-    (act.Put c.args.name) (option_map (leave (state v)) o) Rest) (sym h))
-    refl (ap (λ (o : Option Pointer). ended_by (state v) o) (sym h)) is said
+    (ap (λ (o : Option Pointer). step_of_act v c.args.desk (walk c.args.self.now.course) (task_at c.args.self.now.course).statement
+    (rest c.args.self.now.course)
+    (act.Put c.args.name) (option_map (leave (story_state v)) o) Rest) (sym h))
+    refl (ap (λ (o : Option Pointer). ended_by (story_state v) o) (sym h)) is said
     c.left-ended.ensures.ended c.left-ended.ensures.half
     (went_left c.args.desk c.args.self.now.course c.put-last.new.self c.left-ended.new.self.course v c.put-last.new.table
     (act.Put c.args.name) c.get-held.result c.put-last.result c.statement-statement.result has (sym h) said c.put-last.ensures.walk)

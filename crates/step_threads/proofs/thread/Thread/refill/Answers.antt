@@ -5,8 +5,8 @@ use Rattle.step_table.specs.declared.cell_deed.CellDeed.TheVariants.{Refill as R
 use Rattle.step_threads.specs.declared.half.Half.TheVariants.{Rest, Refill}
 use Rattle.step_table.specs.declared.past.Deed.TheVariants.{OnCell}
 use Rattle.step_table.specs.declared.refill.Stage.TheVariants.{Refilling, Failing}
-use Rattle.step_table.specs.CellDeeds.{kind_in, owing}
-use Rattle.step_table.specs.Stories.{after, state}
+use Rattle.step_table.specs.CellDeeds.{kind_in_state, owing_funds}
+use Rattle.step_table.specs.Stories.{story_after_deed, story_state}
 use Rattle.step_threads.proofs.RefillFits.{fits_as, fits_missed, fits_refilled, refill_here}
 use Rattle.step_threads.proofs.thread.Thread.refill.Goals as goal
 use Rattle.step_threads.proofs.thread.Thread.refill.Goals.{then-refill_cell, else-refill_cell}
@@ -16,7 +16,7 @@ refill_cell-requires-clause-owes c =
     let v = c.args.table.now in
     let x = c.args.found in
     let r = refill_here c.args.desk c.args.self.now v Refilling c.args.cell x c.args.statement c.requires.fits c.requires.half in
-    (x.place, r.pays ∙ ap (λ (o : Option Block). owing (state v) (kind_in (state v) c.args.cell) o x.place x.taken 0) (sym r.owned))
+    (x.place, r.pays ∙ ap (λ (o : Option Block). owing_funds (story_state v) (kind_in_state (story_state v) c.args.cell) o x.place x.taken 0) (sym r.owned))
 
 pub returns-clause-fits : goal.returns-clause-fits
 returns-clause-fits c =
@@ -26,7 +26,7 @@ returns-clause-fits c =
     let cell = c.args.cell in
     let x = c.args.found in
     let k = c.args.statement in
-    let w = after v d (OnCell (Refills cell x.taken)) in
+    let w = story_after_deed v d (OnCell (Refills cell x.taken)) in
     elim c.if-refill_cell.branch [
       | then-refill_cell p ↦
           fits_as d t Rest c.if-refill_cell.self w c.refill_cell.new.self p.self-is

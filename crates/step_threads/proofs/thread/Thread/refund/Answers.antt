@@ -4,8 +4,8 @@ use Rattle.step_table.specs.declared.cell_deed.CellDeed.TheVariants.{Bring}
 use Rattle.step_threads.specs.declared.half.Half.TheVariants.{Refill}
 use Rattle.step_table.specs.declared.past.Deed.TheVariants.{OnCell}
 use Rattle.step_table.specs.declared.refill.Stage.TheVariants.{Refilling}
-use Rattle.step_table.specs.CellDeeds.{kind_in}
-use Rattle.step_table.specs.Stories.{after, state}
+use Rattle.step_table.specs.CellDeeds.{kind_in_state}
+use Rattle.step_table.specs.Stories.{story_after_deed, story_state}
 use Rattle.step_threads.proofs.RefillFits.{fits_as, fits_refunded}
 use Rattle.step_threads.proofs.thread.Thread.refund.Goals as goal
 
@@ -17,6 +17,6 @@ returns-clause-fits c =
     let x = c.args.found in
     let b = c.args.block in
     fits_as d t (Refill Refilling c.args.cell x c.args.statement) c.at_stage-self.result _ c.bring.new.self c.at_stage-self.ensures
-    (c.bring.ensures ∙ ap (λ (k : Kind). after v d (OnCell (Bring k b x.place c.from.result))) c.kind_in.ensures
-    ∙ ap (λ (n : ℕ). after v d (OnCell (Bring (kind_in (state v) c.args.cell) b x.place n))) c.from.ensures)
+    (c.bring.ensures ∙ ap (λ (k : Kind). story_after_deed v d (OnCell (Bring k b x.place c.from.result))) c.kind_in.ensures
+    ∙ ap (λ (n : ℕ). story_after_deed v d (OnCell (Bring (kind_in_state (story_state v) c.args.cell) b x.place n))) c.from.ensures)
     (fits_refunded d t v c.args.cell x c.args.statement c.requires.fits b c.known.ensures c.requires.half c.requires.owned)

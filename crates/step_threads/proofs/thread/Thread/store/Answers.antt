@@ -3,7 +3,7 @@ use Rattle.step_threads.specs.declared.act.Act.TheVariants.{Swap}
 use Rattle.step_threads.specs.declared.said.Said.{Said}
 use Rattle.step_threads.specs.declared.said.Stepped.TheVariants.{Quiet}
 use Rattle.step_threads.specs.Courses.{hand, task_at, walk}
-use Rattle.step_table.specs.Holdings.{slot}
+use Rattle.step_table.specs.Holdings.{slot_pointer}
 use Rattle.step_threads.specs.Steps.{brings, silent}
 use Rattle.step_threads.proofs.Steps.{stepped_as, waits_act}
 use Rattle.step_threads.proofs.StoreFits.{going_is, swap_goes}
@@ -20,7 +20,7 @@ returns-clause-stepped c =
     let x = c.in-Some.pointer in
     let may = swap_goes t.course c.args.cell c.requires.within c.requires.fits.still c.requires.act in
     let goes = going_is slots c.args.cell (hand slots) may.0 may.1 in
-    let at = sym (c.get.ensures ∙ ap (slot slots) c.hand-hand.ensures) ∙ c.in-Some.is in
+    let at = sym (c.get.ensures ∙ ap (slot_pointer slots) c.hand-hand.ensures) ∙ c.in-Some.is in
     stepped_as d t v (brings (walk t.course) n x) _ _ _
     (waits_act t v (Swap c.args.cell) c.requires.rest c.requires.none c.requires.within c.requires.act)
     (step_brings d t v (Swap c.args.cell) c.args.cell (hand slots) c.requires.none c.requires.within c.requires.act refl x c.requires.rest goes at)

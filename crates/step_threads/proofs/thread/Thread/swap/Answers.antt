@@ -4,10 +4,10 @@ use Rattle.std.proofs.Common.{sym, subst, ap, ◌∙◌}
 use Rattle.control_word.specs.declared.handle.Kind.{Kind}
 use Rattle.step_table.specs.Contents.{as_word}
 use Rattle.step_threads.specs.Courses.{HasGoneOn, hand}
-use Rattle.step_table.specs.Holdings.{value}
+use Rattle.step_table.specs.Holdings.{slot_value}
 use Rattle.step_threads.specs.Steps.{gives_back}
 use Rattle.step_table.specs.Stories.{Story}
-use Rattle.step_threads.specs.Threads.{Fits}
+use Rattle.step_threads.specs.Threads.{FitsThread}
 use Rattle.step_threads.proofs.StoreFits.{cell_of_swap, fits_swapped}
 use Rattle.step_threads.proofs.thread.Thread.swap.Goals as goal
 
@@ -20,8 +20,8 @@ returns-clause-fits c =
     let n = c.statement-statement.result in
     let found = c.swap-found.result in
     let after = c.swap-found.new.self in
-    subst (λ (u : Story). Fits d (record { course = after; stock = t.stock; half = c.returning-self.result }) u) (sym c.swap-found.ensures.table)
-    (fits_swapped d t v c.args.cell (as_word (value slots (hand slots))) found n c.returning-self.result after c.known.ensures c.requires.fits
+    subst (λ (u : Story). FitsThread d (record { course = after; stock = t.stock; half = c.returning-self.result }) u) (sym c.swap-found.ensures.table)
+    (fits_swapped d t v c.args.cell (as_word (slot_value slots (hand slots))) found n c.returning-self.result after c.known.ensures c.requires.fits
     c.requires.half c.requires.none
     (cell_of_swap d t v c.args.cell c.requires.fits c.requires.within c.requires.act)
     (subst (λ (u : Story). HasGoneOn d t.course after u) c.swap-found.ensures.table c.swap-found.ensures.on)

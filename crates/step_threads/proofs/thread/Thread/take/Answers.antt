@@ -9,9 +9,9 @@ use Rattle.std.specs.Prelude.{None}
 use Rattle.step_table.specs.declared.past.Deed.TheVariants.{OnCell}
 use Rattle.step_table.specs.declared.refill.Stage.TheVariants.{Turning}
 use Rattle.step_table.specs.Refills.{more_taken}
-use Rattle.step_threads.specs.Courses.{HasGoneOn, cell_at}
-use Rattle.step_table.specs.Stories.{Story, after, state}
-use Rattle.step_threads.specs.Threads.{Fits}
+use Rattle.step_threads.specs.Courses.{HasGoneOn, cell_of_name}
+use Rattle.step_table.specs.Stories.{Story, story_after_deed, story_state}
+use Rattle.step_threads.specs.Threads.{FitsThread}
 use Rattle.step_threads.proofs.LoadFits.{fits_taken, saw_next, saw_there}
 use Rattle.step_threads.proofs.thread.Thread.take.Goals as goal
 use Rattle.step_threads.proofs.Named.{named_load}
@@ -24,15 +24,15 @@ returns-clause-fits c =
     let x = c.args.found in
     let n = c.statement-statement.result in
     let c' = c.take_fund.new.self in
-    let w = after v d (OnCell (Take (cell_at (state v) t.course.holdings.slots.items c.args.cell) x None)) in
+    let w = story_after_deed v d (OnCell (Take (cell_of_name (story_state v) t.course.holdings.slots.items c.args.cell) x None)) in
     let is : c.take_fund.new.table ≡ w = c.take_fund.ensures.table ∙ ap (λ (b : Bool). cond b w v) c.if-not-take_fund.false in
-    let half : c.turning-self.result ≡ Refill Turning (cell_at (state v) t.course.holdings.slots.items c.args.cell) (more_taken x) n =
+    let half : c.turning-self.result ≡ Refill Turning (cell_of_name (story_state v) t.course.holdings.slots.items c.args.cell) (more_taken x) n =
     c.turning-self.ensures ∙ ap (λ (y : Cell). Refill Turning y (more_taken x) n) c.cell-at.ensures in
-    subst (λ (h : Half). Fits d (record { course = c'; stock = t.stock; half = h }) c.take_fund.new.table) (sym half)
-    (subst (λ (u : Story). Fits d (record {
+    subst (λ (h : Half). FitsThread d (record { course = c'; stock = t.stock; half = h }) c.take_fund.new.table) (sym half)
+    (subst (λ (u : Story). FitsThread d (record {
       course = c';
       stock = t.stock;
-      half = Refill Turning (cell_at (state v) t.course.holdings.slots.items c.args.cell)
+      half = Refill Turning (cell_of_name (story_state v) t.course.holdings.slots.items c.args.cell)
           (more_taken x) n;
     }) u) (sym is)
     (fits_taken d t v c.args.cell x c.requires.fits c' n c.known.ensures c.requires.half c.requires.act

@@ -6,7 +6,7 @@ use Rattle.step_threads.specs.declared.half.Half.TheVariants.{Rest, Refill}
 use Rattle.step_table.specs.declared.past.Deed.TheVariants.{OnCell}
 use Rattle.step_table.specs.declared.refill.Stage.TheVariants.{Checking}
 use Rattle.step_table.specs.Refills.{is_low}
-use Rattle.step_table.specs.Stories.{after}
+use Rattle.step_table.specs.Stories.{story_after_deed}
 use Rattle.step_threads.proofs.RefillFits.{fits_as, fits_turned}
 use Rattle.step_threads.proofs.thread.Thread.turn.Goals as goal
 use Rattle.step_threads.proofs.thread.Thread.turn.Goals.{then-is_low, else-is_low}
@@ -25,5 +25,5 @@ returns-clause-fits c =
       | else-is_low w ↦ w.self-is ∙ sym (cond-false (is_low x) next Rest (sym c.is_low.ensures ∙ w.if-is_low.false))
     ] in
     fits_as d t (cond (is_low x) next Rest) c.if-is_low.self _ c.turn_fund.new.self half
-    (c.turn_fund.ensures ∙ ap (λ (k : Kind). after v d (OnCell (Turn k b))) c.kind_in.ensures)
+    (c.turn_fund.ensures ∙ ap (λ (k : Kind). story_after_deed v d (OnCell (Turn k b))) c.kind_in.ensures)
     (fits_turned d t v c.args.cell x c.args.statement c.requires.fits b c.known.ensures c.requires.half)
