@@ -56,3 +56,11 @@ fn two_blocks_are_opened_and_closed(rt: HostRuntime) -> Result<(), Fail> {
     assert_eq!(rt; stock, 2);
     Ok(())
 }
+
+#[test]
+fn four_blocks_are_opened_and_closed(rt: HostRuntime) -> Result<(), Fail> {
+    let (domain, desk) = open::<u64>(rt.alloc(), shape(4, 8))?;
+    let stock = shut(domain, desk);
+    assert_eq!(rt; stock, 4);
+    Ok(())
+}
