@@ -16,8 +16,6 @@ mod running;
 mod seats;
 mod taking;
 mod telling;
-#[cfg(test)]
-mod tests;
 mod totals;
 mod went;
 mod worker;

@@ -14,6 +14,8 @@ mod opening;
 #[cfg(test)]
 mod steps;
 #[cfg(test)]
+mod workers;
+#[cfg(test)]
 mod worlds;
 #[cfg(test)]
 mod writing;

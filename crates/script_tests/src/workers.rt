@@ -1,8 +1,8 @@
 //! Scripts on real workers.
 
-use crate::{Gate, Open, run_script, run_text};
 use control_word::Refusal;
 use ownership_ledger::Totals;
+use script_runner::{Gate, Open, run_script, run_text};
 use script_stepper::Output;
 use script_text::parse;
 use std::alloc::Global;
