@@ -86,16 +86,3 @@ pub fn team_laws<V>()
     ensures plays { TeamsPlay V }
     ensures interleaves { TeamsInterleave V }
 {}
-
-#[cfg(test)]
-mod tests {
-    use super::{desk_calls, table_calls, team_laws, worker_logs};
-
-    #[test]
-    fn laws_cost_nothing(_rt: HostRuntime) {
-        worker_logs::<u64>();
-        desk_calls::<u64>();
-        table_calls::<u64>();
-        team_laws::<u64>();
-    }
-}

@@ -2,7 +2,9 @@
 
 use control_word::Refusal;
 use ownership_ledger::Totals;
-use script_runner::{Gate, Open, run_script, run_text};
+use script_runner::{
+    Gate, Open, desk_calls, run_script, run_text, table_calls, team_laws, worker_logs,
+};
 use script_stepper::Output;
 use script_text::parse;
 use std::alloc::Global;
@@ -169,4 +171,12 @@ fn a_refused_run_leaves_nothing(rt: HostRuntime) -> Result<(), Fail> {
     };
     assert_eq!(rt; report.totals, Totals { made: 2, ended: 2 });
     Ok(())
+}
+
+#[test]
+fn laws_cost_nothing(_rt: HostRuntime) {
+    worker_logs::<u64>();
+    desk_calls::<u64>();
+    table_calls::<u64>();
+    team_laws::<u64>();
 }
