@@ -4,7 +4,5 @@
 mod graph;
 mod reached;
 mod search;
-#[cfg(test)]
-mod tests;
 
 pub use graph::{Edge, Graph, GraphError};

@@ -2,6 +2,8 @@
 #![tactic(auto)]
 
 #[cfg(test)]
+mod arena;
+#[cfg(test)]
 mod cascade;
 #[cfg(test)]
 mod drops;
@@ -11,6 +13,8 @@ mod example;
 mod forgotten;
 #[cfg(test)]
 mod laws;
+#[cfg(test)]
+mod ledger;
 #[cfg(test)]
 mod limits;
 #[cfg(test)]

@@ -14,6 +14,3 @@ mod steps;
 
 pub use book::Book;
 pub use share::{Share, Totals};
-
-#[cfg(test)]
-mod tests;

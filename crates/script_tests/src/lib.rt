@@ -4,6 +4,8 @@
 
 pub mod calls;
 #[cfg(test)]
+mod graphs;
+#[cfg(test)]
 mod holding;
 #[cfg(test)]
 mod memory;

@@ -5,8 +5,6 @@
 mod arena;
 mod cell;
 mod lends;
-#[cfg(test)]
-mod tests;
 mod tokens;
 
 pub use arena::Arena;

@@ -1,5 +1,5 @@
 //! What is reached in a small graph.
-use crate::{Edge, Graph, GraphError};
+use directed_graph::{Edge, Graph, GraphError};
 use std::test::Fail;
 
 /// Of four vertices, 1 and 2 lead to each other, and 0 to 3: from 0 only 3 is reached, and from 1 only 2. There is no

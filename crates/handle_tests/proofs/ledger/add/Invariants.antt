@@ -1,5 +1,5 @@
 use Rattle.std.proofs.Common.{◌≡◌, ◌+◌}
-use Rattle.ownership_ledger.proofs.tests.add.Given as goal
+use Rattle.handle_tests.proofs.ledger.add.Given as goal
 
 abbrev pub invariant-loop : goal.invariant-loop
 invariant-loop l = record {

@@ -1,6 +1,6 @@
 //! What tokens give, and how often a value is dropped.
-use super::*;
 use control_word::Refusal;
+use slot_arena::Arena;
 use std::sync::atomic::AtomicU64;
 use std::sync::atomic::Ordering::SeqCst;
 use std::test::Fail;

@@ -1,8 +1,8 @@
 //! What threads added, and an opening that is refused.
 ghost use Rattle.std.specs.Prelude.{◌≡◌, ◌+◌, ◌≤◌, All};
 
-use super::*;
 use control_word::Refusal;
+use ownership_ledger::{Book, Share, Totals};
 use std::test::Fail;
 use std::thread::{Threads, for_each_mut, join_mut};
 
