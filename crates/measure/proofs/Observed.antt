@@ -12,7 +12,7 @@ use Rattle.control_word.specs.declared.place.Place.{Place}
 use Rattle.control_block.specs.declared.handles.Shared.{Shared}
 use Rattle.control_block.specs.CellCalls.{with_handle}
 use Rattle.measure.specs.Observers.{IsOfObject, IsWatchedBy, with_observer, with_observers, with_owner}
-use Rattle.measure.specs.declared.observers.Observer.{Observer}
+use Rattle.measure.specs.declared.handles.observers.Observer.{Observer}
 
 -- the last observer's handles are the first in the bag
 pub last_first : (xs : List Observer) (o : Observer) (l : List Handle) → with_observers (xs ++ o ∷ []) l ≡ with_observer (with_observers xs l) o

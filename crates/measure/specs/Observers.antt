@@ -9,7 +9,7 @@ use Rattle.control_word.specs.declared.place.Block.{Block}
 use Rattle.control_block.specs.declared.handles.Shared.{Shared}
 use Rattle.control_block.specs.CellCalls.{with_handle}
 use Rattle.measure.specs.Workers.{IsReal}
-use Rattle.measure.specs.declared.observers.Observer.{Observer}
+use Rattle.measure.specs.declared.handles.observers.Observer.{Observer}
 
 abbrev pub with_owner : Option Shared → List Handle → List Handle
 with_owner None l = l

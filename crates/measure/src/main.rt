@@ -1,27 +1,19 @@
 //! `measure PASSES`: what a caller waits for each call on handles and cells, with 1, 2 and 4 threads. It prints lines
-//! "test|peer|threads|nanoseconds|share", as the peers' programs do, and nothing without an argument. Where a call was
-//! refused, the share is 0: then the time is no measure of the work. `measure PASSES SECONDS` then tells how many makes
-//! are refused beside threads that end what is made, without the shelf and with it, in so many seconds each.
+//! "test|peer|threads|nanoseconds|share", as the peers' programs do, and nothing without an argument. Where a call
+//! was refused, the share is 0: then the time is no measure of the work. `measure PASSES SECONDS` then tells how many
+//! makes are refused beside threads that end what is made, without the shelf and with it, in so many seconds each.
+//! `measure soak SECONDS [SEED]` makes random calls for so long.
 #![tactic(auto)]
 
 ghost use Rattle.std.specs.Prelude.{◌≡◌, ◌+◌, ◌<◌};
 ghost use Rattle.control_block.specs.Desks.{Belongs, allowance_of};
 ghost use Rattle.measure.specs.Workers.{IsManaged, IsTeamReady};
 
-mod alone;
-mod cell_rounds;
-mod chain;
-mod observers;
-mod pages;
-mod piles;
-mod rounds;
+mod handles;
 mod rows;
-mod scene_stack;
-mod scene_trees;
-mod scene_walks;
-mod scenes;
 mod shelf;
-mod stack;
+mod soak;
+mod structures;
 mod tables;
 mod timing;
 mod workers;
@@ -30,10 +22,11 @@ use control_block::census::close;
 use control_block::desk::Desk;
 use control_block::domain::{Domain, open};
 use control_word::Shape;
-use rounds::FIELDS;
+use handles::rounds::FIELDS;
 use rows::Row;
 use shared_handle::make;
 use std::alloc::Global;
+use std::process::ExitCode;
 use std::rt::Clock;
 use std::sync::Wait;
 use std::thread::Threads;
@@ -99,7 +92,7 @@ fn with_team<R: Clock + CpuClock + Threads + Wait + Sync + Print>(
         }
         None => Err(io::Error::from(io::ErrorKind::OutOfMemory)),
     };
-    rounds::end(domain, desk, common);
+    handles::rounds::end(domain, desk, common);
     told
 }
 
@@ -128,7 +121,7 @@ fn passes_alone<R: Clock + CpuClock + Wait + Print>(
     let Ok((domain, mut desk)) = open::<()>(alloc, SMALL) else {
         return Err(io::Error::from(io::ErrorKind::OutOfMemory));
     };
-    let told = alone::measure(rt, alloc, &domain, &mut desk, passes);
+    let told = handles::alone::measure(rt, alloc, &domain, &mut desk, passes);
     match close(domain, desk) {
         Ok(census) => drop(census),
         Err(_) => unreachable!(),
@@ -146,26 +139,44 @@ fn all_passes<R: Clock + CpuClock + Threads + Wait + Sync + Print>(
         pass(rt, alloc)?;
     }
     passes_alone(rt, alloc, passes)?;
-    piles::measure(rt, alloc, passes)?;
+    handles::piles::measure(rt, alloc, passes)?;
     tables::measure(rt, alloc, passes)?;
-    scenes::measure(rt, alloc, passes)?;
-    pages::measure(rt, alloc, passes)
+    structures::scenes::measure(rt, alloc, passes)?;
+    handles::pages::measure(rt, alloc, passes)
 }
 
-fn main(rt: HostRuntime) -> io::Result<()> {
+/// The rows, so many times, and then who runs dry, where seconds are given for it.
+fn rows_of<R: Clock + CpuClock + Threads + Wait + Sync + Print>(
+    rt: &R,
+    alloc: Global,
+    passes: u32,
+    seconds: Option<u64>,
+) -> io::Result<()> {
+    all_passes(rt, alloc, passes)?;
+    match seconds {
+        Some(seconds) => shelf::measure(rt, alloc, seconds),
+        None => Ok(()),
+    }
+}
+
+fn main(rt: HostRuntime) -> io::Result<ExitCode> {
     let mut words = env::args(&rt)?;
     let Some(passes) = words.nth(1) else {
-        return Ok(());
+        return Ok(ExitCode::from(0));
     };
+    if passes.as_str() == "soak" {
+        return soak::rounds(&rt, rt.alloc(), words);
+    }
     let Ok(passes) = passes.parse::<u32>() else {
         return Err(io::Error::from(io::ErrorKind::InvalidInput));
     };
-    all_passes(&rt, rt.alloc(), passes)?;
-    let Some(seconds) = words.next() else {
-        return Ok(());
+    let seconds = match words.next() {
+        None => None,
+        Some(seconds) => match seconds.parse::<u64>() {
+            Ok(seconds) => Some(seconds),
+            Err(_) => return Err(io::Error::from(io::ErrorKind::InvalidInput)),
+        },
     };
-    let Ok(seconds) = seconds.parse::<u64>() else {
-        return Err(io::Error::from(io::ErrorKind::InvalidInput));
-    };
-    shelf::measure(&rt, rt.alloc(), seconds)
+    rows_of(&rt, rt.alloc(), passes, seconds)?;
+    Ok(ExitCode::from(0))
 }

@@ -2,7 +2,7 @@
 use crate::timing::Spent;
 use std::io;
 
-/// The peers of the rows by handles and of those of scene_structures.
+/// The ways to call this runtime: by handles, and by scene_structures.
 const RUNTIME: &str = "this runtime";
 
 pub(crate) const STRUCTURES: &str = "this runtime, scene_structures";
@@ -21,9 +21,8 @@ pub(crate) enum Row {
     StoreOwn,
     ExchangeOwn,
     CompareOwn,
-    Stack,
     /// The stack of scene_structures.
-    Structures,
+    Stack,
     /// The first thread's part of a row that has one writer.
     StoreCommon,
     /// The other threads' part of it.
@@ -32,7 +31,7 @@ pub(crate) enum Row {
 
 impl Row {
     /// Those of one, two and four threads, of which the first does this.
-    pub(crate) const ALL: [Row; 14] = [
+    pub(crate) const ALL: [Row; 13] = [
         Row::MakeEnd,
         Row::ShareOwn,
         Row::ShareCommon,
@@ -46,7 +45,6 @@ impl Row {
         Row::CompareOwn,
         Row::StoreCommon,
         Row::Stack,
-        Row::Structures,
     ];
 
     /// What the threads after the first do.
@@ -61,12 +59,8 @@ impl Row {
     /// together.
     pub(crate) fn chunk(self) -> u32 {
         match self {
-            Row::ShareCommon
-            | Row::LoadCommon
-            | Row::StoreCommon
-            | Row::LoadBeside
-            | Row::Stack
-            | Row::Structures => 100,
+            Row::ShareCommon | Row::LoadCommon | Row::StoreCommon | Row::LoadBeside | Row::Stack =>
+                100,
             _ => 2_000,
         }
     }
@@ -75,7 +69,7 @@ impl Row {
     /// leaves it last, so that in the end one would have none left.
     pub(crate) fn settling(self) -> Row {
         match self {
-            Row::Stack | Row::Structures => Row::ShareCommon,
+            Row::Stack => Row::ShareCommon,
             row => row,
         }
     }
@@ -94,7 +88,7 @@ impl Row {
             Row::StoreOwn => "cell store of a copy, own cell",
             Row::ExchangeOwn => "cell exchange, own cell",
             Row::CompareOwn => "cell compare_exchange of a copy, own cell",
-            Row::Stack | Row::Structures => "stack push + pop",
+            Row::Stack => "stack push + pop",
             Row::StoreCommon => "cell store of a copy, others load",
             Row::LoadBeside => "cell load + release, the first stores",
         }
@@ -103,7 +97,7 @@ impl Row {
     /// The way to call this runtime.
     fn peer(self) -> &'static str {
         match self {
-            Row::Structures => STRUCTURES,
+            Row::Stack => STRUCTURES,
             _ => RUNTIME,
         }
     }

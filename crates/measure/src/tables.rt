@@ -1,5 +1,5 @@
 //! The rows of a handle table, by one thread: what its calls cost beside the same calls on handles.
-use crate::rounds::FIELDS;
+use crate::handles::rounds::FIELDS;
 use crate::rows::line_of;
 use crate::timing::{CHUNKS, SPAN, Spent, nanos};
 use control_word::Shape;

@@ -2,9 +2,10 @@
 ghost use denote.Param.Send.{IsSync};
 ghost use Rattle.measure.specs.Workers.{IsPairReady, IsReadyWorker, IsTeamReady};
 
+use crate::handles::{cell_rounds, rounds};
 use crate::rows::Row;
+use crate::structures::scene_stack;
 use crate::workers::{Pair, Team, Worker};
-use crate::{cell_rounds, rounds, scene_stack, stack};
 use control_block::domain::Domain;
 use std::rt::Clock;
 use std::sync::Wait;
@@ -104,7 +105,7 @@ fn work<R: Wait>(rt: &R, domain: &Domain<()>, worker: &mut Worker, row: Row) -> 
         desk,
         own,
         common,
-        stack: nodes,
+        stack,
         pile,
         cell,
         apart: _,
@@ -127,8 +128,7 @@ fn work<R: Wait>(rt: &R, domain: &Domain<()>, worker: &mut Worker, row: Row) -> 
         ),
         Row::StoreOwn => cell_rounds::store_copies(domain, desk, own, *cell, count),
         Row::StoreCommon => cell_rounds::store_copies(domain, desk, own, COMMON_CELL, count),
-        Row::Stack => stack::push_and_pop(rt, domain, desk, COMMON_CELL, count),
-        Row::Structures => scene_stack::push_and_pop(rt, domain, desk, nodes, pile, count),
+        Row::Stack => scene_stack::push_and_pop(rt, domain, desk, stack, pile, count),
         Row::ExchangeOwn => cell_rounds::exchange(domain, desk, own, *cell, count),
         Row::CompareOwn => {
             cell_rounds::compare_and_exchange(rt, domain, desk, own, *cell, count)

@@ -8,8 +8,8 @@ ghost use Rattle.control_block.specs.CellCalls.{HoldsHandle, with_handle, withou
 ghost use Rattle.scene_structures.specs.Stacks.{ServesDomain, StandsIn};
 ghost use Rattle.measure.specs.Workers.{IsManaged, IsPairReady, IsReadyWorker, IsTeamReady};
 
-use crate::rounds::{FIELDS, end};
-use crate::scene_stack::stack_in;
+use crate::handles::rounds::{FIELDS, end};
+use crate::structures::scene_stack::stack_in;
 use control_block::desk::Desk;
 use control_block::domain::Domain;
 use control_word::Refused;

@@ -1,0 +1,8 @@
+//! The rows of calls on bare handles and cells.
+pub(crate) mod alone;
+pub(crate) mod cell_rounds;
+pub(crate) mod chain;
+pub(crate) mod observers;
+pub(crate) mod pages;
+pub(crate) mod piles;
+pub(crate) mod rounds;
