@@ -1,9 +1,9 @@
 //! Accesses whose memory is refused and which are sought once more, and what a domain with a kit takes of memory.
 //! `tests/refuse_allocations` runs the first with each allocation refused in turn, and compares how many allocations
 //! other tests ask for, whose calls take no memory, with those that make no call.
-use crate::kits::{kit_in, opened, put_away, shut};
-use crate::listed::{Answer, Call, Seat};
-use crate::running::{all, alone};
+use crate::calls::kits::{kit_in, opened, put_away, shut};
+use crate::calls::listed::{Answer, Call, Seat};
+use crate::calls::running::{all, alone};
 use control_word::Refusal;
 use std::test::Fail;
 

@@ -4,9 +4,9 @@ ghost use denote.Param.Send.{IsSync};
 ghost use Rattle.control_block.specs.Desks.{Belongs, IsSameDesk, allowance_of, stock_of};
 ghost use Rattle.scene_structures.specs.Stacks.{ServesDomain, StandsIn};
 
-use crate::kits::{Kit, kit_in, opened, put_away, shut};
-use crate::listed::{Answer, Call, Seat};
-use crate::running::{answer_of, ask};
+use crate::calls::kits::{Kit, kit_in, opened, put_away, shut};
+use crate::calls::listed::{Answer, Call, Seat};
+use crate::calls::running::{answer_of, ask};
 use control_block::desk::Desk;
 use control_block::domain::Domain;
 use control_word::Refused;

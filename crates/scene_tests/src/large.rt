@@ -3,10 +3,10 @@ ghost use Rattle.std.specs.Prelude.{◌≡◌};
 ghost use Rattle.control_block.specs.Desks.{Belongs, IsSameDesk};
 ghost use Rattle.scene_structures.specs.Stacks.{ServesDomain, StandsIn};
 
-use crate::kits::{Kit, kit_in, opened, put_away, shut};
-use crate::listed::{Answer, Call, Seat};
-use crate::running::all;
-use crate::scenes::tear_down;
+use crate::calls::kits::{Kit, kit_in, opened, put_away, shut};
+use crate::calls::listed::{Answer, Call, Seat};
+use crate::calls::running::all;
+use crate::calls::scenes::tear_down;
 use control_block::desk::Desk;
 use control_block::domain::Domain;
 use control_word::Refusal;

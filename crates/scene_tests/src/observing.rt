@@ -1,6 +1,6 @@
 //! Observers that are attached and told of, refused, and pruned.
-use crate::listed::{Answer, Call, Seat};
-use crate::running::alone;
+use crate::calls::listed::{Answer, Call, Seat};
+use crate::calls::running::alone;
 use control_word::Refusal;
 use std::test::Fail;
 

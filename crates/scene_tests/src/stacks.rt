@@ -1,6 +1,6 @@
 //! A stack in one thread.
-use crate::listed::{Answer, Call, Seat};
-use crate::running::alone;
+use crate::calls::listed::{Answer, Call, Seat};
+use crate::calls::running::alone;
 use control_word::Refusal;
 use std::test::Fail;
 

@@ -1,6 +1,6 @@
 //! A scene tree in one thread: children, their parents, what goes out and what ends.
-use crate::listed::{Answer, Call, Seat, Spot};
-use crate::running::alone;
+use crate::calls::listed::{Answer, Call, Seat, Spot};
+use crate::calls::running::alone;
 use control_word::Refusal;
 use std::test::Fail;
 

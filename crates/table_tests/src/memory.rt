@@ -1,8 +1,8 @@
 //! Growths that are refused. `tests/refuse_allocations` runs these with each allocation refused in turn.
 use crate::alone::ends;
-use crate::handles::hold;
-use crate::joins::come_together;
+use crate::handles::telling::hold;
 use crate::listed::{Answer, Call, all};
+use crate::parting::joins::come_together;
 use crate::shapes::{alone, shape};
 use control_word::Refusal;
 use handle_table::{Fault, HandleTable, Home, Leader, Manned, Program, Team, run, run_leader};

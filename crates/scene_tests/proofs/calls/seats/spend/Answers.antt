@@ -1,5 +1,5 @@
 use Rattle.scene_structures.proofs.Calls.{served, serves_empty}
-use Rattle.scene_tests.proofs.seats.spend.Goals as goal
+use Rattle.scene_tests.proofs.calls.seats.spend.Goals as goal
 
 pub drop_shared-gone-requires-clause-carries : goal.drop_shared-gone-requires-clause-carries
 drop_shared-gone-requires-clause-carries g c κs = served c.args.domain.now c.args.desk.now c.args.pile.now c.requires.serves c.requires.domain

@@ -3,11 +3,11 @@ ghost use Rattle.std.specs.Prelude.{◌≡◌};
 ghost use Rattle.control_block.specs.Desks.{Belongs, IsSameDesk};
 ghost use Rattle.scene_structures.specs.Stacks.{ServesDomain, StandsIn};
 
-use crate::handles::on_handles;
-use crate::kits::{Kit, kit_in, opened, put_away, shut};
-use crate::listed::{Answer, Call};
-use crate::lists::{attach, below, each, pop, prune, push};
-use crate::scenes::on_scene;
+use crate::calls::handles::on_handles;
+use crate::calls::kits::{Kit, kit_in, opened, put_away, shut};
+use crate::calls::listed::{Answer, Call};
+use crate::calls::lists::{attach, below, each, pop, prune, push};
+use crate::calls::scenes::on_scene;
 use control_block::desk::Desk;
 use control_block::domain::Domain;
 use control_word::Refusal;

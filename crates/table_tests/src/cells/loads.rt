@@ -1,6 +1,6 @@
 //! Cells of a desk that is alone: an owner's, which is loaded again and again, and a weak one's.
 use crate::alone::ends;
-use crate::handles::hold;
+use crate::handles::telling::hold;
 use crate::listed::{Answer, Call, all};
 use crate::shapes::{alone, shape};
 use handle_table::{Cell, HandleTable, Home, Program};

@@ -1,6 +1,6 @@
 use Rattle.control_block.specs.Desks.{IsSameDesk}
 use Rattle.scene_structures.specs.Stacks.{ServesDomain, StandsIn}
-use Rattle.scene_tests.proofs.running.all.Given as goal
+use Rattle.scene_tests.proofs.calls.running.all.Given as goal
 
 abbrev pub invariant-loop-number : goal.invariant-loop-number
 invariant-loop-number g l = record {

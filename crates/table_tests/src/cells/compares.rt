@@ -1,6 +1,6 @@
 //! Compare-and-swap of cells of both kinds: what it does to the slots, and each fault.
 use crate::alone::{Listed, ends};
-use crate::handles::hold;
+use crate::handles::telling::hold;
 use crate::listed::{Answer, Call};
 use crate::shapes::{alone, shape};
 use control_word::{Block, Place, Refusal};

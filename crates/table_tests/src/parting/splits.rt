@@ -1,7 +1,7 @@
 //! A split by itself: what each number may be, what goes over, and what the next number is refused with.
 use crate::alone::ends;
-use crate::joins::come_together;
 use crate::listed::{Answer, Call, all};
+use crate::parting::joins::come_together;
 use crate::shapes::{alone, shape};
 use control_word::Refusal;
 use handle_table::{Fault, HandleTable, Home, Program};

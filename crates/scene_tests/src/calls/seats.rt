@@ -5,7 +5,7 @@ ghost use Rattle.control_block.specs.Desks.{Belongs, IsSameDesk, bag_of};
 ghost use Rattle.control_block.specs.CellCalls.{HoldsHandle, with_handle, without_handle};
 ghost use Rattle.scene_structures.specs.Stacks.{ServesDomain};
 
-use crate::listed::Seat;
+use crate::calls::listed::Seat;
 use atomic_cells::SharedAt;
 use control_block::desk::Desk;
 use control_block::domain::Domain;

@@ -5,9 +5,9 @@ ghost use Rattle.control_block.specs.Desks.{Belongs, IsSameDesk, bag_of};
 ghost use Rattle.control_block.specs.CellCalls.{HoldsHandle};
 ghost use Rattle.scene_structures.specs.Stacks.{ServesDomain};
 
-use crate::handles::take;
-use crate::listed::{Answer, Call, Seat};
-use crate::seats::{keep, load, spend};
+use crate::calls::handles::take;
+use crate::calls::listed::{Answer, Call, Seat};
+use crate::calls::seats::{keep, load, spend};
 use control_block::desk::Desk;
 use control_block::domain::Domain;
 use control_word::Refused;

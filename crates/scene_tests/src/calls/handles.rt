@@ -6,8 +6,8 @@ ghost use Rattle.control_block.specs.Desks.{Belongs, IsSameDesk, bag_of};
 ghost use Rattle.control_block.specs.CellCalls.{HoldsHandle, without_handle};
 ghost use Rattle.scene_structures.specs.Stacks.{ServesDomain};
 
-use crate::listed::{Answer, Call, Seat, Spot};
-use crate::seats::{exchange, keep, load, spend};
+use crate::calls::listed::{Answer, Call, Seat, Spot};
+use crate::calls::seats::{exchange, keep, load, spend};
 use control_block::desk::Desk;
 use control_block::domain::Domain;
 use control_word::{Block, Place, Refusal};

@@ -5,9 +5,9 @@ ghost use Rattle.control_block.specs.Desks.{Belongs, IsSameDesk, bag_of};
 ghost use Rattle.control_block.specs.CellCalls.{HoldsHandle};
 ghost use Rattle.scene_structures.specs.Stacks.{ServesDomain, StandsIn};
 
-use crate::handles::owned;
-use crate::listed::{Answer, Seat};
-use crate::seats::{keep, load, spend};
+use crate::calls::handles::owned;
+use crate::calls::listed::{Answer, Seat};
+use crate::calls::seats::{keep, load, spend};
 use atomic_cells::{SharedAt, SharedMember};
 use control_block::desk::Desk;
 use control_block::domain::Domain;

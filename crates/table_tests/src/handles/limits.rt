@@ -1,9 +1,9 @@
 //! Numbers that may be no greater: of cells, of a place's block and field, of handles, and of objects; and how large a
 //! program's domain may be.
 use crate::alone::{Listed, ends};
+use crate::handles::slots::{OWNER, TO, WEAK, cell_calls};
 use crate::listed::{Answer, Call, all, refused};
 use crate::shapes::{alone, shape};
-use crate::slots::{OWNER, TO, WEAK, cell_calls};
 use control_word::{Block, Place, Refusal};
 use handle_table::{Cell, Fault, HandleTable, Home, Program, run};
 use std::process::Abort;

@@ -1,7 +1,7 @@
 //! Teams: how many workers have a table, why they are fewer, and a team within a worker's table.
 use crate::alone::ends;
-use crate::joins::come_together;
 use crate::listed::{Answer, Call, all};
+use crate::parting::joins::come_together;
 use crate::shapes::{alone, shape};
 use control_word::Refusal;
 use handle_table::{Crew, Fault, HandleTable, Home, Program, Returned, Team, run};

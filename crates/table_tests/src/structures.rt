@@ -1,0 +1,4 @@
+//! Structures by slots: each call, and each fault.
+pub(crate) mod observers;
+pub(crate) mod stacks;
+pub(crate) mod trees;
