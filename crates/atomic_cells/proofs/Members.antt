@@ -1,6 +1,6 @@
 -- A member of an object that the desk has an owner of is open to it.
 use Rattle.std.proofs.Common.{◌≡◌, Option, None, Some, subst, sym}
-use Rattle.control_word.specs.declared.handle.Kind.TheVariants.{Owner}
+use Rattle.control_word.specs.declared.model.handle.Kind.TheVariants.{Owner}
 use Rattle.control_word.specs.declared.place.Block.{Block}
 use Rattle.control_word.specs.declared.place.Place.{Place}
 use Rattle.control_block.specs.Desks.{DeskNow, HasHandle}

@@ -1,9 +1,9 @@
 -- What a store says of what came out of the cell.
 use Rattle.std.proofs.Common.{◌≡◌, ℕ, ◌+◌, cond, Bool, true≢false, length, Option, Some, None, sym, ap, subst, ◌∙◌}
 use Rattle.std.specs.Prelude.{is_some}
-use Rattle.control_word.specs.declared.event.Cell.{Cell}
-use Rattle.control_word.specs.declared.event.Event.TheVariants.{Leave}
-use Rattle.control_word.specs.declared.handle.Kind.TheVariants.{Owner, Weak}
+use Rattle.control_word.specs.declared.model.event.Cell.{Cell}
+use Rattle.control_word.specs.declared.model.event.Event.TheVariants.{Leave}
+use Rattle.control_word.specs.declared.model.handle.Kind.TheVariants.{Owner, Weak}
 use Rattle.control_word.specs.declared.place.Block.{Block}
 use Rattle.control_word.specs.declared.place.Place.{Place}
 use Rattle.control_block.specs.CellCalls.{handle_in}

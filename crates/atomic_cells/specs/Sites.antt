@@ -1,6 +1,6 @@
 -- Which cell a call is on ([util.smartptr.atomic.shared], [util.smartptr.atomic.weak]; members of objects: own).
 use Rattle.std.specs.Prelude.{◌≡◌, ℕ, ◌+◌, ◌<◌, Option, None, Some, Result, Ok, Err}
-use Rattle.control_word.specs.declared.event.Cell.{Cell}
+use Rattle.control_word.specs.declared.model.event.Cell.{Cell}
 use Rattle.control_word.specs.declared.place.Block.{Block}
 use Rattle.control_word.specs.declared.place.Place.{Place}
 use Rattle.control_word.specs.declared.refusal.Refusal.{Refusal}

@@ -1,6 +1,6 @@
 //! Compare-and-swap of cells of shared pointers ([util.smartptr.atomic.shared]).
 ghost use Rattle.std.specs.Prelude.{◌≡◌, ◌↔◌, ◌+◌, cond, true, false, IfErr, IfOk, IsErr, OnOk};
-ghost use Rattle.control_word.specs.declared.handle.Kind.TheVariants.{Owner};
+ghost use Rattle.control_word.specs.declared.model.handle.Kind.TheVariants.{Owner};
 ghost use Rattle.control_block.specs.Desks.{Belongs};
 ghost use Rattle.control_block.specs.CellCalls.{handle_in};
 ghost use Rattle.control_block.specs.Desks.{Keeps, allowance_of, bag_of, held_of};
@@ -15,7 +15,7 @@ use control_block::cell_compare_calls;
 use control_block::cell_plays::Aimed;
 use control_block::desk::Desk;
 use control_block::domain::Domain;
-use control_word::handle::Kind;
+use control_word::model::handle::Kind;
 use control_word::{Refusal, Refused};
 use shared_handle::Shared;
 use std::marker::Brand;

@@ -1,11 +1,11 @@
 //! Which cells there are: free ones, and the members of objects.
 ghost use Rattle.std.specs.Prelude.{◌≡◌};
-ghost use Rattle.control_word.specs.declared.handle.Kind.TheVariants.{Owner};
+ghost use Rattle.control_word.specs.declared.model.handle.Kind.TheVariants.{Owner};
 ghost use Rattle.control_word.specs.declared.place.Block.{Block};
 ghost use Rattle.atomic_cells.specs.Sites.{IsMember, shared_site};
 
 use control_block::cell_calls::{CellAt, Site};
-use control_word::handle::Kind;
+use control_word::model::handle::Kind;
 use control_word::{Block, Refusal};
 use shared_handle::Shared;
 

@@ -1,6 +1,6 @@
 //! Cells of weak pointers ([util.smartptr.atomic.weak]).
 ghost use Rattle.std.specs.Prelude.{◌≡◌, ◌↔◌, ◌+◌, IfErr, IfOk, IsErr, OnOk};
-ghost use Rattle.control_word.specs.declared.handle.Kind.TheVariants.{Weak};
+ghost use Rattle.control_word.specs.declared.model.handle.Kind.TheVariants.{Weak};
 ghost use Rattle.control_block.specs.Desks.{Belongs};
 ghost use Rattle.control_block.specs.Desks.{IsSameDesk, Keeps, KeepsEndings, allowance_of, bag_of, endings_of, held_of};
 ghost use Rattle.control_block.specs.CellCalls.{HoldsHandle, with_handle, without_handle};
@@ -15,7 +15,7 @@ use control_block::desk::Desk;
 use control_block::domain::Domain;
 use control_block::{handles, store_calls};
 use control_word::Refusal;
-use control_word::handle::Kind;
+use control_word::model::handle::Kind;
 use shared_handle::{Left, Shared};
 use std::marker::{Brand, PhantomData};
 use std::sync::Wait;

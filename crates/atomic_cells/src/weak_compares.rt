@@ -1,6 +1,6 @@
 //! Compare-and-swap of cells of weak pointers ([util.smartptr.atomic.weak]).
 ghost use Rattle.std.specs.Prelude.{◌≡◌, ◌↔◌, ◌+◌, cond, true, false, IfErr, IfOk, IsErr, OnOk};
-ghost use Rattle.control_word.specs.declared.handle.Kind.TheVariants.{Weak};
+ghost use Rattle.control_word.specs.declared.model.handle.Kind.TheVariants.{Weak};
 ghost use Rattle.control_block.specs.Desks.{Belongs};
 ghost use Rattle.control_block.specs.CellCalls.{handle_in};
 ghost use Rattle.control_block.specs.Desks.{Keeps, allowance_of, bag_of, held_of};
@@ -15,7 +15,7 @@ use control_block::cell_plays::Aimed;
 use control_block::desk::Desk;
 use control_block::domain::Domain;
 use control_block::{cell_compare_calls, handles};
-use control_word::handle::Kind;
+use control_word::model::handle::Kind;
 use control_word::{Refusal, Refused};
 use std::marker::Brand;
 use std::sync::Wait;

@@ -5,10 +5,10 @@ use Rattle.std.specs.Prelude.{IfSome}
 use mir.Val.{bool_byte}
 use Rattle.control_word.specs.Events.{after, loses}
 use Rattle.control_word.specs.State.{State}
-use Rattle.control_word.specs.declared.event.Cell.{Cell}
-use Rattle.control_word.specs.declared.event.Event.TheVariants.{Compare, Swap}
-use Rattle.control_word.specs.declared.handle.Handle.{Handle}
-use Rattle.control_word.specs.declared.handle.Kind.{Kind}
+use Rattle.control_word.specs.declared.model.event.Cell.{Cell}
+use Rattle.control_word.specs.declared.model.event.Event.TheVariants.{Compare, Swap}
+use Rattle.control_word.specs.declared.model.handle.Handle.{Handle}
+use Rattle.control_word.specs.declared.model.handle.Kind.{Kind}
 use Rattle.control_word.specs.declared.place.Block.{Block}
 use Rattle.control_word.specs.declared.place.Place.{Place}
 use Rattle.control_block.specs.CellCalls.{HoldsHandle, without_handle}

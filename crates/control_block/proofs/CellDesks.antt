@@ -18,16 +18,16 @@ use Rattle.control_word.specs.Histories.{IsLegal, entry, leads}
 use Rattle.control_word.specs.Packing.{IsCellWord, IsPlace}
 use Rattle.control_word.specs.State.{Has, Held, InShape, bag, bag_size, held, same_held, without}
 use Rattle.control_word.specs.Words.{blocks_of}
-use Rattle.control_word.specs.declared.cell.CellWord.{CellWord}
-use Rattle.control_word.specs.declared.event.Event.{Event}
-use Rattle.control_word.specs.declared.handle.Handle.{Handle}
-use Rattle.control_word.specs.declared.handle.Kind.{Kind}
+use Rattle.control_word.specs.declared.packed.cell.CellWord.{CellWord}
+use Rattle.control_word.specs.declared.model.event.Event.{Event}
+use Rattle.control_word.specs.declared.model.handle.Handle.{Handle}
+use Rattle.control_word.specs.declared.model.handle.Kind.{Kind}
 use Rattle.control_word.specs.declared.place.Block.{Block}
 use Rattle.control_word.specs.declared.place.Place.{Place}
-use Rattle.control_word.specs.declared.view.Pending.TheVariants.{Idle}
+use Rattle.control_word.specs.declared.model.view.Pending.TheVariants.{Idle}
 use Rattle.control_word.specs.Laws.{IsCell}
-use Rattle.control_word.specs.declared.event.Cell.{Cell}
-use Rattle.control_word.specs.declared.event.Cell.TheVariants.{Free, Member}
+use Rattle.control_word.specs.declared.model.event.Cell.{Cell}
+use Rattle.control_word.specs.declared.model.event.Cell.TheVariants.{Free, Member}
 use Rattle.control_block.specs.CellCalls.{HoldsHandle, object_by, with_handle, without_handle}
 use Rattle.control_block.specs.CellPlays.{IsWordOf}
 use Rattle.control_block.specs.CellRounds.{CameOut, IsCounted}
@@ -134,7 +134,7 @@ module _ {V : Type 0} where
   lost_some d k p (Some b) h has = holds_some d k _ p b.0 h (holding_in d (desk_now d) k p b.0 h refl has)
 
   -- the bag after an event that takes a handle in and hands one out
-  module _ (d : Inside V) (h : IsDesk d) (e : Event V) (between : List (Rattle.control_word.specs.declared.event.Entry.Entry V))
+  module _ (d : Inside V) (h : IsDesk d) (e : Event V) (between : List (Rattle.control_word.specs.declared.model.event.Entry.Entry V))
       (quiet : Rattle.control_word.specs.Views.NoneBy d.seat.me.0.view.name between) (k : Kind) where
     abbrev then' : Sight V
     then' = let v = d.seat.me.0 in seeing v Idle None (entry v.view.name e ∷ (between ++ v.view.seen))

@@ -10,12 +10,12 @@ use Rattle.control_word.specs.State.{bag_size}
 use Rattle.control_word.proofs.history.Kept.{same_kept}
 use Rattle.control_word.specs.Views.{Knows, NoneBy, longer}
 use Rattle.control_word.specs.Words.{flags_of}
-use Rattle.control_word.specs.declared.event.Entry.{Entry}
-use Rattle.control_word.specs.declared.event.Event.{Event}
-use Rattle.control_word.specs.declared.event.Event.TheVariants.{Join}
+use Rattle.control_word.specs.declared.model.event.Entry.{Entry}
+use Rattle.control_word.specs.declared.model.event.Event.{Event}
+use Rattle.control_word.specs.declared.model.event.Event.TheVariants.{Join}
 use Rattle.control_word.specs.declared.place.Block.{Block}
-use Rattle.control_word.specs.declared.view.Pending.{Pending}
-use Rattle.control_word.specs.declared.view.Pending.TheVariants.{Idle, Making, Merging}
+use Rattle.control_word.specs.declared.model.view.Pending.{Pending}
+use Rattle.control_word.specs.declared.model.view.Pending.TheVariants.{Idle, Making, Merging}
 use Rattle.control_block.specs.Rule.{opening_of, seeing}
 use Rattle.control_block.specs.Plays.{Added, At, HasRoomFor, IsPrepared, JoinsUp, Moved, grown, joined, known, prepared, wrote}
 use Rattle.control_block.specs.declared.board.Sight.{Sight}

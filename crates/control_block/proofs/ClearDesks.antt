@@ -7,13 +7,13 @@ use Rattle.control_word.proofs.lists.Tallies.{put_same}
 use Rattle.control_word.specs.Handles.{empty}
 use Rattle.control_word.specs.Histories.{entry, leads, value}
 use Rattle.control_word.specs.State.{Object, State, bag_size, ending, kind_of_member, put}
-use Rattle.control_word.specs.declared.cell.CellWord.{CellWord}
-use Rattle.control_word.specs.declared.event.Cell.TheVariants.{Member}
-use Rattle.control_word.specs.declared.event.Event.{Event}
-use Rattle.control_word.specs.declared.event.Event.TheVariants.{ClearMember}
-use Rattle.control_word.specs.declared.handle.Handle.{Handle}
-use Rattle.control_word.specs.declared.handle.Kind.{Kind}
-use Rattle.control_word.specs.declared.view.Pending.TheVariants.{Idle}
+use Rattle.control_word.specs.declared.packed.cell.CellWord.{CellWord}
+use Rattle.control_word.specs.declared.model.event.Cell.TheVariants.{Member}
+use Rattle.control_word.specs.declared.model.event.Event.{Event}
+use Rattle.control_word.specs.declared.model.event.Event.TheVariants.{ClearMember}
+use Rattle.control_word.specs.declared.model.handle.Handle.{Handle}
+use Rattle.control_word.specs.declared.model.handle.Kind.{Kind}
+use Rattle.control_word.specs.declared.model.view.Pending.TheVariants.{Idle}
 use Rattle.control_block.specs.CellCalls.{handle_in, with_handle}
 use Rattle.control_block.specs.CellRounds.{CameOut}
 use Rattle.control_block.specs.Desks.{AddsEvent, StaysEnding, IsEnding, IsSameDesk, bag_of, many_ending, member_in, stock_of}
@@ -101,7 +101,7 @@ module _ {V : Type 0} (d : Inside V) (h : IsDesk d) (b m : ℕ) (ends : Ends d.s
 
   -- the object itself: it ends with the desk still, with this member empty
   module _ (y : V) (was : IsEnding (desk_now d) b y) where
-    abbrev hist : List (Rattle.control_word.specs.declared.event.Entry.Entry V)
+    abbrev hist : List (Rattle.control_word.specs.declared.model.event.Entry.Entry V)
     hist = before d w (e got) h event
 
     abbrev s : State

@@ -3,9 +3,9 @@ use Rattle.std.proofs.Common.{◌≡◌, ◌≢◌, ℕ, ◌+◌, ◌≤◌, min
 use Rattle.std.specs.Prelude.{IfSome}
 use Rattle.control_word.specs.Handles.{empty}
 use Rattle.control_word.specs.State.{bag_size}
-use Rattle.control_word.specs.declared.cell.CellWord.{CellWord}
-use Rattle.control_word.specs.declared.event.Event.TheVariants.{ClearMember}
-use Rattle.control_word.specs.declared.handle.Kind.{Kind}
+use Rattle.control_word.specs.declared.packed.cell.CellWord.{CellWord}
+use Rattle.control_word.specs.declared.model.event.Event.TheVariants.{ClearMember}
+use Rattle.control_word.specs.declared.model.handle.Kind.{Kind}
 use Rattle.control_block.specs.CellRounds.{CameOut}
 use Rattle.control_block.specs.Clearing.{TakesOut}
 use Rattle.control_block.specs.Desks.{DeskNow, StaysEnding, IsCleared, IsEnding, IsSameDesk, KeepsOtherEndings, bag_of, endings_of, member_in, stock_of}

@@ -8,13 +8,13 @@ use Rattle.control_word.proofs.lists.Tallies.{handle_self}
 use Rattle.control_word.specs.Handles.{handle, same_handle, weak_of}
 use Rattle.control_word.specs.Histories.{leads}
 use Rattle.control_word.specs.State.{stored, without}
-use Rattle.control_word.specs.declared.event.Event.{Event}
-use Rattle.control_word.specs.declared.event.Event.TheVariants.{WeakLeave}
-use Rattle.control_word.specs.declared.handle.Handle.{Handle}
-use Rattle.control_word.specs.declared.handle.Kind.TheVariants.{Weak}
+use Rattle.control_word.specs.declared.model.event.Event.{Event}
+use Rattle.control_word.specs.declared.model.event.Event.TheVariants.{WeakLeave}
+use Rattle.control_word.specs.declared.model.handle.Handle.{Handle}
+use Rattle.control_word.specs.declared.model.handle.Kind.TheVariants.{Weak}
 use Rattle.control_word.specs.declared.place.Block.{Block}
 use Rattle.control_word.specs.declared.place.Place.{Place}
-use Rattle.control_word.specs.declared.view.Pending.TheVariants.{Idle}
+use Rattle.control_word.specs.declared.model.view.Pending.TheVariants.{Idle}
 use Rattle.control_block.specs.CellCalls.{with_handle}
 use Rattle.control_block.specs.Desks.{AddsEvent, StaysEnding, IsEnding, IsSameDesk, bag_of, endings_of, on_latest, stock_of}
 use Rattle.control_block.specs.Inside.{IsDesk, IsDeskWith, desk_now}

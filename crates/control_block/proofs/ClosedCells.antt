@@ -18,11 +18,11 @@ use Rattle.control_word.specs.Layout.{spot}
 use Rattle.control_word.specs.State.{InShape, Opening}
 use Rattle.control_word.specs.Views.{Stands, added, adds, owed, owes, paid, pays}
 use Rattle.control_word.specs.Words.{blocks_of, cell_spot, owned_bits, packed, place_bits, slot}
-use Rattle.control_word.specs.declared.event.Entry.{Entry}
-use Rattle.control_word.specs.declared.handle.Handle.{Handle}
+use Rattle.control_word.specs.declared.model.event.Entry.{Entry}
+use Rattle.control_word.specs.declared.model.handle.Handle.{Handle}
 use Rattle.control_word.specs.declared.place.Place.{Place}
-use Rattle.control_word.specs.declared.view.Pending.TheVariants.{Idle}
-use Rattle.control_word.specs.declared.view.View.{View}
+use Rattle.control_word.specs.declared.model.view.Pending.TheVariants.{Idle}
+use Rattle.control_word.specs.declared.model.view.View.{View}
 use Rattle.control_word.specs.declared.shape.Shape.{Shape}
 use Rattle.control_block.specs.Census.{CensusNow}
 use Rattle.control_block.specs.Holders.{TellsCells, owned_by}

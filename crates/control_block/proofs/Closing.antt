@@ -17,10 +17,10 @@ use Rattle.control_word.specs.Layout.{spot}
 use Rattle.control_word.specs.Packing.{number_of}
 use Rattle.control_word.specs.State.{InShape, IsVacant, Opening, Phase, State, common, count, ending, gone, live, unmade, weak, weak_number}
 use Rattle.control_word.specs.Views.{NamesBlock}
-use Rattle.control_word.specs.declared.event.Entry.{Entry}
+use Rattle.control_word.specs.declared.model.event.Entry.{Entry}
 use Rattle.control_word.specs.declared.shape.Shape.{Shape}
-use Rattle.control_word.specs.declared.view.Pending.TheVariants.{Idle}
-use Rattle.control_word.specs.declared.view.View.{View}
+use Rattle.control_word.specs.declared.model.view.Pending.TheVariants.{Idle}
+use Rattle.control_word.specs.declared.model.view.View.{View}
 use Rattle.control_block.specs.Census.{CensusNow, EndsNot, TellsBlock, owners_in}
 use Rattle.control_block.specs.Desks.{many_ending}
 use Rattle.control_block.specs.Plays.{known}

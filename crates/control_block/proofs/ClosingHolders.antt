@@ -15,9 +15,9 @@ use Rattle.control_word.specs.Histories.{IsLegal, leads}
 use Rattle.control_word.specs.State.{Has, Held, Opening, bag, count, handles, held, in_cells}
 use Rattle.control_word.specs.State.{tally, weak}
 use Rattle.control_word.specs.Words.{blocks_of}
-use Rattle.control_word.specs.declared.event.Entry.{Entry}
-use Rattle.control_word.specs.declared.handle.Kind.{Kind}
-use Rattle.control_word.specs.declared.handle.Kind.TheVariants.{Owner, Weak}
+use Rattle.control_word.specs.declared.model.event.Entry.{Entry}
+use Rattle.control_word.specs.declared.model.handle.Kind.{Kind}
+use Rattle.control_word.specs.declared.model.handle.Kind.TheVariants.{Owner, Weak}
 use Rattle.control_block.specs.Census.{CensusNow}
 use Rattle.control_block.specs.Desks.{by_block}
 use Rattle.control_block.specs.Holders.{TellsCells, TellsHolders, frees_in, holders_of}

@@ -16,16 +16,16 @@ use Rattle.control_word.specs.Handles.{IsPointer, handle, same_handle}
 use Rattle.control_word.specs.Histories.{IsLegal, entry, leads, value, valued}
 use Rattle.control_word.specs.State.{Held, InShape, Object, Opening, State, bag, ending, held, same_held, without}
 use Rattle.control_word.specs.Words.{blocks_of}
-use Rattle.control_word.specs.declared.event.Entry.{Entry}
-use Rattle.control_word.specs.declared.event.Cell.{Cell}
-use Rattle.control_word.specs.declared.event.Cell.TheVariants.{Free, Member}
-use Rattle.control_word.specs.declared.event.Event.{Event}
-use Rattle.control_word.specs.declared.event.Event.TheVariants.{Compare, Swap}
-use Rattle.control_word.specs.declared.handle.Handle.{Handle}
-use Rattle.control_word.specs.declared.handle.Kind.{Kind}
-use Rattle.control_word.specs.declared.handle.Kind.TheVariants.{Owner}
+use Rattle.control_word.specs.declared.model.event.Entry.{Entry}
+use Rattle.control_word.specs.declared.model.event.Cell.{Cell}
+use Rattle.control_word.specs.declared.model.event.Cell.TheVariants.{Free, Member}
+use Rattle.control_word.specs.declared.model.event.Event.{Event}
+use Rattle.control_word.specs.declared.model.event.Event.TheVariants.{Compare, Swap}
+use Rattle.control_word.specs.declared.model.handle.Handle.{Handle}
+use Rattle.control_word.specs.declared.model.handle.Kind.{Kind}
+use Rattle.control_word.specs.declared.model.handle.Kind.TheVariants.{Owner}
 use Rattle.control_word.specs.declared.place.Place.{Place}
-use Rattle.control_word.specs.declared.view.Pending.TheVariants.{Idle}
+use Rattle.control_word.specs.declared.model.view.Pending.TheVariants.{Idle}
 use Rattle.control_block.specs.Desks.{AddsEvent, DeskNow, StaysEnding, HasHandle, IsEnding, IsSameDesk, Keeps, MayPoint, allowance_of, bag_of, by_block}
 use Rattle.control_block.specs.Desks.{held_of}
 use Rattle.control_block.specs.Inside.{IsDesk, IsDeskWith, desk_now}

@@ -14,8 +14,8 @@ use Rattle.control_word.proofs.words.Counting.{bag_one}
 use Rattle.control_word.proofs.lists.Tallies.{held_self, held_true, num_has, num_without}
 use Rattle.control_word.specs.Handles.{handle}
 use Rattle.control_word.specs.Layout.{spot}
-use Rattle.control_word.specs.declared.handle.Handle.{Handle}
-use Rattle.control_word.specs.declared.handle.Kind.{Kind}
+use Rattle.control_word.specs.declared.model.handle.Handle.{Handle}
+use Rattle.control_word.specs.declared.model.handle.Kind.{Kind}
 use Rattle.control_word.specs.declared.place.Place.{Place}
 use Rattle.control_word.proofs.history.Kept.{Same, block_kept, same_kept}
 use Rattle.control_word.proofs.history.Legal.{sound}
@@ -23,10 +23,10 @@ use Rattle.control_word.proofs.history.Soundness.{Sound}
 use Rattle.control_word.specs.Events.{Asks, after}
 use Rattle.control_word.specs.Histories.{IsLegal, entry, leads}
 use Rattle.control_word.specs.State.{Has, Held, InShape, State, Stored, bag_size, held, same_held, same_stored, stock, stored, without}
-use Rattle.control_word.specs.declared.event.Event.{Event}
+use Rattle.control_word.specs.declared.model.event.Event.{Event}
 use Rattle.control_word.specs.declared.place.Block.{Block}
-use Rattle.control_word.specs.declared.view.Pending.{Pending}
-use Rattle.control_word.specs.declared.view.Pending.TheVariants.{Idle}
+use Rattle.control_word.specs.declared.model.view.Pending.{Pending}
+use Rattle.control_word.specs.declared.model.view.Pending.TheVariants.{Idle}
 use Rattle.control_block.specs.Desks.{many_ending}
 use Rattle.control_block.specs.Inside.{IsDeskWith, IsSized}
 use Rattle.control_block.specs.Plays.{Added, HoldingInBlock, known}

@@ -14,7 +14,7 @@ use Rattle.control_word.specs.Events.{after}
 use Rattle.control_word.specs.Layout.{spot}
 use Rattle.control_word.specs.State.{Has, State, Stored, same_stored, stock, stored, without}
 use Rattle.control_word.specs.declared.place.Block.{Block}
-use Rattle.control_word.specs.declared.event.Event.{Event}
+use Rattle.control_word.specs.declared.model.event.Event.{Event}
 use Rattle.control_block.specs.Inside.{IsDeskWith}
 use Rattle.control_block.specs.Plays.{known}
 use Rattle.control_block.specs.Rule.{opening_of}

@@ -8,9 +8,9 @@ use mir.Val.{bool_byte}
 use Rattle.control_word.specs.Histories.{IsLegal, value}
 use Rattle.control_word.specs.Layout.{IsWithinLimits}
 use Rattle.control_word.specs.State.{bag_size, ending, same_stored, stock, stored}
-use Rattle.control_word.specs.declared.handle.Handle.{Handle}
-use Rattle.control_word.specs.declared.handle.Kind.{Kind}
-use Rattle.control_word.specs.declared.handle.Kind.TheVariants.{Owner}
+use Rattle.control_word.specs.declared.model.handle.Handle.{Handle}
+use Rattle.control_word.specs.declared.model.handle.Kind.{Kind}
+use Rattle.control_word.specs.declared.model.handle.Kind.TheVariants.{Owner}
 use Rattle.control_word.specs.declared.place.Block.{Block}
 use Rattle.control_word.specs.declared.place.Place.{Place}
 use Rattle.control_block.specs.CellCalls.{with_handle}

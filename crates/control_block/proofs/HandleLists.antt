@@ -11,9 +11,9 @@ use Rattle.std.specs.List.{filter, sum_by}
 use Rattle.control_word.proofs.lists.Tallies.{handle_self, num, num_cons, same_handle_true}
 use Rattle.control_word.specs.Handles.{handle, has_object, same_handle}
 use Rattle.control_word.specs.State.{Has, without}
-use Rattle.control_word.specs.declared.handle.Handle.{Handle}
-use Rattle.control_word.specs.declared.handle.Kind.{Kind}
-use Rattle.control_word.specs.declared.handle.Kind.TheVariants.{Owner, Weak}
+use Rattle.control_word.specs.declared.model.handle.Handle.{Handle}
+use Rattle.control_word.specs.declared.model.handle.Kind.{Kind}
+use Rattle.control_word.specs.declared.model.handle.Kind.TheVariants.{Owner, Weak}
 use Rattle.control_word.specs.declared.place.Block.{Block}
 use Rattle.control_word.specs.declared.place.Place.{Place}
 use Rattle.control_block.specs.CellCalls.{with_handle, without_handle}

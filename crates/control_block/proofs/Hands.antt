@@ -19,10 +19,10 @@ use Rattle.control_word.specs.Layout.{spot}
 use Rattle.control_word.specs.State.{HasRoom, Held, State, bag_size, held, same_held, without}
 use Rattle.control_word.specs.Steps.{purse}
 use Rattle.control_word.specs.Words.{block_of, blocks_of, slot}
-use Rattle.control_word.specs.declared.event.Cell.{Cell}
-use Rattle.control_word.specs.declared.event.Cell.TheVariants.{Free, Member}
-use Rattle.control_word.specs.declared.handle.Handle.{Handle}
-use Rattle.control_word.specs.declared.handle.Kind.{Kind}
+use Rattle.control_word.specs.declared.model.event.Cell.{Cell}
+use Rattle.control_word.specs.declared.model.event.Cell.TheVariants.{Free, Member}
+use Rattle.control_word.specs.declared.model.handle.Handle.{Handle}
+use Rattle.control_word.specs.declared.model.handle.Kind.{Kind}
 use Rattle.control_word.specs.declared.place.Block.{Block}
 use Rattle.control_word.specs.declared.shape.Shape.{Shape}
 use Rattle.control_block.specs.Rule.{Ruled, opening_of}

@@ -14,9 +14,9 @@ use Rattle.control_word.specs.Handles.{empty, handle, same_kind}
 use Rattle.control_word.specs.State.{Has, Held, InShape, Object, Opening, State, bag, common, handles, in_cells}
 use Rattle.control_word.specs.State.{kind_of_free, kind_of_member, members, sum_below, tally, upto, weak_number}
 use Rattle.control_word.specs.Words.{blocks_of, owned_bits}
-use Rattle.control_word.specs.declared.handle.Handle.{Handle}
-use Rattle.control_word.specs.declared.handle.Kind.{Kind}
-use Rattle.control_word.specs.declared.handle.Kind.TheVariants.{Owner, Weak}
+use Rattle.control_word.specs.declared.model.handle.Handle.{Handle}
+use Rattle.control_word.specs.declared.model.handle.Kind.{Kind}
+use Rattle.control_word.specs.declared.model.handle.Kind.TheVariants.{Owner, Weak}
 use Rattle.control_word.specs.declared.place.Place.{Place}
 use Rattle.control_block.specs.Census.{CensusNow}
 use Rattle.control_block.specs.Desks.{by_block}

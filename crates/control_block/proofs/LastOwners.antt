@@ -10,7 +10,7 @@ use Rattle.control_word.proofs.lists.Tallies.{has_without, held_self, held_true,
 use Rattle.control_word.specs.Handles.{handle}
 use Rattle.control_word.specs.Histories.{leads}
 use Rattle.control_word.specs.State.{Has, Held, State, count, held, in_cells, same_held, without}
-use Rattle.control_word.specs.declared.handle.Kind.TheVariants.{Owner}
+use Rattle.control_word.specs.declared.model.handle.Kind.TheVariants.{Owner}
 use Rattle.control_word.specs.declared.place.Place.{Place}
 use Rattle.control_word.specs.declared.shape.Shape.{Shape}
 use Rattle.control_block.specs.Rule.{IsSlotOf, Ruled, opening_of, view_of}

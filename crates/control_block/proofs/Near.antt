@@ -2,7 +2,7 @@
 use Rattle.std.proofs.Common.{◌≡◌, ℕ, ◌<◌, Option, inl, inr, ⊎_elim}
 use Rattle.atomic_table.specs.Seated.{TableId}
 use Rattle.control_word.specs.Layout.{spot}
-use Rattle.control_word.specs.declared.handle.Kind.{Kind}
+use Rattle.control_word.specs.declared.model.handle.Kind.{Kind}
 use Rattle.control_word.specs.declared.place.Place.{Place}
 use Rattle.control_block.specs.Desks as Desks
 use Rattle.control_block.specs.Desks.{DeskNow, HasHandle, IsEnding}

@@ -6,9 +6,9 @@ use Rattle.control_word.proofs.history.Kept.{same_kept}
 use Rattle.control_word.proofs.history.Names.{joined_is_quiet, unnamed_is_quiet}
 use Rattle.control_word.specs.Histories.{IsLegal, entry, leads}
 use Rattle.control_word.specs.Views.{Knows, NoneBy}
-use Rattle.control_word.specs.declared.event.Entry.{Entry}
-use Rattle.control_word.specs.declared.event.Event.{Event}
-use Rattle.control_word.specs.declared.event.Event.TheVariants.{Join, Split}
+use Rattle.control_word.specs.declared.model.event.Entry.{Entry}
+use Rattle.control_word.specs.declared.model.event.Event.{Event}
+use Rattle.control_word.specs.declared.model.event.Event.TheVariants.{Join, Split}
 use Rattle.control_word.specs.declared.shape.Shape.{Shape}
 use Rattle.control_block.specs.Desks.{state_of}
 use Rattle.control_block.specs.Laws.{CallsAdd, GoesAdd, GoesByCall, GoesByJoin, GoesByNone, GoesInTurn, JoinedRest, JoinsAdd, SplitsAdd}

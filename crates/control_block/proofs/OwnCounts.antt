@@ -2,10 +2,10 @@
 use Rattle.std.proofs.Common.{◌≡◌, ℕ, ◌+◌, ◌≤◌, ◌==◌, Bool, true, false, cond, List, refl, ap, ◌∙◌, None, eq-eqb, arith}
 use Rattle.std.proofs.lemmas.Bool.{cond-true}
 use mir.Val.{bool_byte}
-use Rattle.control_word.specs.declared.event.Event.TheVariants.{Finish, Leave, Make}
-use Rattle.control_word.specs.declared.handle.Handle.{Handle}
+use Rattle.control_word.specs.declared.model.event.Event.TheVariants.{Finish, Leave, Make}
+use Rattle.control_word.specs.declared.model.handle.Handle.{Handle}
 use Rattle.control_word.specs.declared.place.Block.{Block}
-use Rattle.control_word.specs.declared.view.Pending.TheVariants.{Idle}
+use Rattle.control_word.specs.declared.model.view.Pending.TheVariants.{Idle}
 use Rattle.control_block.specs.Desks.{many_ending}
 use Rattle.control_block.specs.Inside.{IsDeskWith}
 use Rattle.control_block.specs.Plays.{Added, known}

@@ -15,14 +15,14 @@ use Rattle.control_word.specs.Handles.{empty, object_of, owner}
 use Rattle.control_word.specs.Histories.{entry, leads, value}
 use Rattle.control_word.specs.State.{InShape, Object, Opening, State, ending, gone, kind_of_member, put}
 use Rattle.control_word.specs.Words.{blocks_of}
-use Rattle.control_word.specs.declared.event.Event.{Event}
-use Rattle.control_word.specs.declared.event.Event.TheVariants.{ClearMember, Finish, Leave, Make, Visit}
-use Rattle.control_word.specs.declared.handle.Handle.{Handle}
-use Rattle.control_word.specs.declared.handle.Kind.{Kind}
-use Rattle.control_word.specs.declared.handle.Kind.TheVariants.{Owner}
+use Rattle.control_word.specs.declared.model.event.Event.{Event}
+use Rattle.control_word.specs.declared.model.event.Event.TheVariants.{ClearMember, Finish, Leave, Make, Visit}
+use Rattle.control_word.specs.declared.model.handle.Handle.{Handle}
+use Rattle.control_word.specs.declared.model.handle.Kind.{Kind}
+use Rattle.control_word.specs.declared.model.handle.Kind.TheVariants.{Owner}
 use Rattle.control_word.specs.declared.place.Block.{Block}
 use Rattle.control_word.specs.declared.place.Place.{Place}
-use Rattle.control_word.specs.declared.view.Pending.TheVariants.{Idle}
+use Rattle.control_word.specs.declared.model.view.Pending.TheVariants.{Idle}
 use Rattle.control_block.specs.Desks.{DeskNow, IsCleared, IsEnding}
 use Rattle.control_block.specs.Inside.{IsDeskWith, desk_now}
 use Rattle.control_block.specs.Plays.{Added, Ends, HoldingInBlock, IsClear, known}

@@ -10,7 +10,7 @@ use Rattle.std.specs.List.Sorted.{IsPermutation}
 use Rattle.control_word.proofs.lists.Tallies.{handle_self, num, num_cons, num_without, same_handle_true}
 use Rattle.control_word.specs.Handles.{same_handle}
 use Rattle.control_word.specs.State.{Has, without}
-use Rattle.control_word.specs.declared.handle.Handle.{Handle}
+use Rattle.control_word.specs.declared.model.handle.Handle.{Handle}
 use Rattle.control_block.specs.Parting.{AreIn}
 
 pub counted : (hs l : List Handle) → AreIn hs l → (h : Handle) → num (same_handle h) hs ≤ num (same_handle h) l

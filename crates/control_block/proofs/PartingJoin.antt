@@ -16,9 +16,9 @@ use Rattle.control_word.specs.Histories.{IsLegal, entry, leads, value}
 use Rattle.control_word.specs.State.{Held, State, Stored, bag, bag_size, ending, held, put, same_stored, stock, stored, sum_below}
 use Rattle.control_word.specs.Views.{Knows}
 use Rattle.control_word.specs.Words.{blocks_of}
-use Rattle.control_word.specs.declared.event.Entry.{Entry}
-use Rattle.control_word.specs.declared.event.Event.TheVariants.{Join}
-use Rattle.control_word.specs.declared.handle.Handle.{Handle}
+use Rattle.control_word.specs.declared.model.event.Entry.{Entry}
+use Rattle.control_word.specs.declared.model.event.Event.TheVariants.{Join}
+use Rattle.control_word.specs.declared.model.handle.Handle.{Handle}
 use Rattle.control_word.specs.declared.shape.Shape.{Shape}
 use Rattle.control_block.specs.Desks.{Belongs, DeskNow, DomainNow, bag_of, by_block, ends_with, many_ending}
 use Rattle.control_block.specs.Inside.{IsDesk, desk_now}

@@ -4,7 +4,7 @@ use Rattle.std.proofs.Common.{inl, inr, ⊎_elim, arith}
 use Rattle.std.proofs.lemmas.Bool.{cond_both, cond-true}
 use Rattle.control_word.proofs.lists.Parts.{part, part_mine, part_other, part_without}
 use Rattle.control_word.proofs.lists.Tallies.{handle_self, has_before, same_handle_true}
-use Rattle.control_word.specs.declared.handle.Handle.{Handle}
+use Rattle.control_word.specs.declared.model.handle.Handle.{Handle}
 use Rattle.control_word.specs.Handles.{same_handle}
 use Rattle.control_word.specs.State.{Has, HasAll, passed, without}
 use Rattle.control_block.specs.Parting.{AreIn, without_all}

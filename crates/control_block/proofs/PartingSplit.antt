@@ -11,9 +11,9 @@ use Rattle.control_word.specs.Handles.{has_object}
 use Rattle.control_word.specs.Histories.{IsLegal, entry, leads}
 use Rattle.control_word.specs.State.{Has, HasAll, Held, State, Stored, bag, bag_size, held, passed, same_held, same_stored, stock, stored}
 use Rattle.control_word.specs.Words.{blocks_of}
-use Rattle.control_word.specs.declared.event.Entry.{Entry}
-use Rattle.control_word.specs.declared.event.Event.TheVariants.{Split}
-use Rattle.control_word.specs.declared.handle.Handle.{Handle}
+use Rattle.control_word.specs.declared.model.event.Entry.{Entry}
+use Rattle.control_word.specs.declared.model.event.Event.TheVariants.{Split}
+use Rattle.control_word.specs.declared.model.handle.Handle.{Handle}
 use Rattle.control_word.specs.declared.place.Block.{Block}
 use Rattle.control_block.specs.Desks.{bag_of, by_block, held_of, many_ending}
 use Rattle.control_block.specs.Inside.{IsDesk, desk_now}

@@ -11,8 +11,8 @@ use Rattle.control_word.specs.Layout.{IsWithinLimits}
 use Rattle.control_word.specs.State.{Has, Held, State, Stored, bag, bag_size, ending, held, same_held, same_stored, stock, stored}
 use Rattle.control_word.specs.Views.{comes}
 use Rattle.control_word.specs.Words.{blocks_of}
-use Rattle.control_word.specs.declared.event.Event.TheVariants.{Split}
-use Rattle.control_word.specs.declared.handle.Handle.{Handle}
+use Rattle.control_word.specs.declared.model.event.Event.TheVariants.{Split}
+use Rattle.control_word.specs.declared.model.handle.Handle.{Handle}
 use Rattle.control_word.specs.declared.place.Block.{Block}
 use Rattle.control_word.specs.declared.shape.Shape.{Shape}
 use Rattle.atomic_table.specs.Seated.{TableId}

@@ -21,17 +21,17 @@ use Rattle.control_word.specs.Histories.{IsLegal, entry, leads, value, valued}
 use Rattle.control_word.specs.State.{Has, Held, InShape, Object, Opening, State, Stored, bag_size, ending, held, kind_of_member}
 use Rattle.control_word.specs.Steps.{Point, Ready}
 use Rattle.control_word.specs.Views.{Knows, Stands, sees_as}
-use Rattle.control_word.specs.declared.event.Entry.{Entry}
-use Rattle.control_word.specs.declared.event.Cell.{Cell}
-use Rattle.control_word.specs.declared.event.Cell.TheVariants.{Member}
-use Rattle.control_word.specs.declared.event.Event.{Event}
-use Rattle.control_word.specs.declared.event.Event.TheVariants.{ClearMember, Compare, Swap}
-use Rattle.control_word.specs.declared.handle.Handle.{Handle}
-use Rattle.control_word.specs.declared.handle.Kind.{Kind}
+use Rattle.control_word.specs.declared.model.event.Entry.{Entry}
+use Rattle.control_word.specs.declared.model.event.Cell.{Cell}
+use Rattle.control_word.specs.declared.model.event.Cell.TheVariants.{Member}
+use Rattle.control_word.specs.declared.model.event.Event.{Event}
+use Rattle.control_word.specs.declared.model.event.Event.TheVariants.{ClearMember, Compare, Swap}
+use Rattle.control_word.specs.declared.model.handle.Handle.{Handle}
+use Rattle.control_word.specs.declared.model.handle.Kind.{Kind}
 use Rattle.control_word.specs.declared.place.Block.{Block}
 use Rattle.control_word.specs.declared.place.Place.{Place}
 use Rattle.control_word.specs.declared.shape.Shape.{Shape}
-use Rattle.control_word.specs.declared.view.Pending.{Pending}
+use Rattle.control_word.specs.declared.model.view.Pending.{Pending}
 use Rattle.control_block.specs.Rule.{opening_of, view_of, kept, until_gone, IsSlotOf, IsBacked, IsOut, Ruled, seeing}
 use Rattle.control_block.specs.Plays.{Added, At, Ends, HoldingInBlock, HasRoomFor, Moved, known}
 use Rattle.control_block.specs.declared.board.Sight.{Sight}

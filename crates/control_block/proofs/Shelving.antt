@@ -19,11 +19,11 @@ use Rattle.control_word.specs.Events.{after, unshelves}
 use Rattle.control_word.specs.Histories.{IsLegal, leads, value}
 use Rattle.control_word.specs.Layout.{bit_of}
 use Rattle.control_word.specs.State.{State, on_shelf, put, sum_below}
-use Rattle.control_word.specs.declared.event.Event.{Event}
-use Rattle.control_word.specs.declared.event.Event.TheVariants.{Shelve, Unshelve}
+use Rattle.control_word.specs.declared.model.event.Event.{Event}
+use Rattle.control_word.specs.declared.model.event.Event.TheVariants.{Shelve, Unshelve}
 use Rattle.control_word.specs.declared.place.Block.{Block}
 use Rattle.control_word.specs.declared.shape.Shape.{Shape}
-use Rattle.control_word.specs.declared.view.Pending.TheVariants.{Idle}
+use Rattle.control_word.specs.declared.model.view.Pending.TheVariants.{Idle}
 use Rattle.control_block.specs.Desks.{AddsEvent, Belongs, DeskNow, DomainNow, IsSameDesk, KeepsEndings, allowance_of, state_of, stock_of}
 use Rattle.control_block.specs.Inside.{IsDeskWith, desk_now}
 use Rattle.control_block.specs.Own.{IsSole}

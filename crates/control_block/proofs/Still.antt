@@ -11,7 +11,7 @@ use Rattle.atomic_table.proofs.Lists.{at_map, set_again}
 use Rattle.control_word.proofs.steps.Look.{load_is_write}
 use Rattle.control_word.specs.Views.{Stands, sees_as}
 use Rattle.control_word.specs.declared.shape.Shape.{Shape}
-use Rattle.control_word.specs.declared.view.Pending.{Pending}
+use Rattle.control_word.specs.declared.model.view.Pending.{Pending}
 use Rattle.control_block.specs.Rule.{IsSlotOf, Ruled, opening_of, view_of}
 use Rattle.control_block.specs.Plays.{At, in_call}
 use Rattle.control_block.specs.declared.board.Sight.{Sight}

@@ -4,8 +4,8 @@ use Rattle.atomic_table.specs.Seated.{TableId}
 use Rattle.control_word.proofs.history.Legal.{sound}
 use Rattle.control_word.proofs.history.Others.{held_made}
 use Rattle.control_word.specs.Layout.{spot}
-use Rattle.control_word.specs.declared.event.Event.{Event}
-use Rattle.control_word.specs.declared.handle.Kind.TheVariants.{Weak}
+use Rattle.control_word.specs.declared.model.event.Event.{Event}
+use Rattle.control_word.specs.declared.model.handle.Kind.TheVariants.{Weak}
 use Rattle.control_word.specs.declared.place.Place.{Place}
 use Rattle.control_block.specs.Inside.{IsDesk, IsDeskWith}
 use Rattle.control_block.specs.Plays.{Ends, HoldingInBlock, known}

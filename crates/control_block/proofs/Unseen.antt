@@ -11,9 +11,9 @@ use Rattle.control_word.specs.Layout.{spot}
 use Rattle.control_word.specs.State.{Opening}
 use Rattle.control_word.specs.Views.{HasBoth, IsSecond, Seated, Stands, StandsFor, added, adds, more, owed, owes, paid, pays, sees_as}
 use Rattle.control_word.specs.Words.{Shows}
-use Rattle.control_word.specs.declared.event.Entry.{Entry}
-use Rattle.control_word.specs.declared.view.Pending.{Pending}
-use Rattle.control_word.specs.declared.view.View.{View}
+use Rattle.control_word.specs.declared.model.event.Entry.{Entry}
+use Rattle.control_word.specs.declared.model.view.Pending.{Pending}
+use Rattle.control_word.specs.declared.model.view.View.{View}
 
 module _ {V : Type 0} where
   -- the call is no half-done split or join

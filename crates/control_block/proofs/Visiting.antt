@@ -3,11 +3,11 @@ use Rattle.std.proofs.Common.{◌≡◌, ℕ, ◌-◌, List, [], ◌∷◌, Opti
 use Rattle.control_word.specs.Handles.{owner}
 use Rattle.control_word.specs.Histories.{value}
 use Rattle.control_word.specs.Layout.{spot}
-use Rattle.control_word.specs.declared.event.Event.TheVariants.{Visit}
+use Rattle.control_word.specs.declared.model.event.Event.TheVariants.{Visit}
 use Rattle.control_word.specs.declared.place.Block.{Block}
 use Rattle.control_word.specs.declared.place.Place.{Place}
-use Rattle.control_word.specs.declared.view.Pending.{Pending}
-use Rattle.control_word.specs.declared.view.Pending.TheVariants.{Idle, Making, Merging, Parting, Paying, Visiting}
+use Rattle.control_word.specs.declared.model.view.Pending.{Pending}
+use Rattle.control_word.specs.declared.model.view.Pending.TheVariants.{Idle, Making, Merging, Parting, Paying, Visiting}
 use Rattle.control_block.specs.DoorPlays.{IsVisiting}
 use Rattle.control_block.specs.Plays.{At, Moved, tells}
 use Rattle.control_block.specs.Rule.{opening_of}

@@ -5,10 +5,10 @@ use Rattle.control_word.specs.Events.{place_at}
 use Rattle.control_word.specs.Histories.{entry, leads}
 use Rattle.control_word.specs.Layout.{spot}
 use Rattle.control_word.specs.Words.{blocks_of}
-use Rattle.control_word.specs.declared.event.Event.{Event}
-use Rattle.control_word.specs.declared.handle.Kind.{Kind}
+use Rattle.control_word.specs.declared.model.event.Event.{Event}
+use Rattle.control_word.specs.declared.model.handle.Kind.{Kind}
 use Rattle.control_word.specs.declared.place.Place.{Place}
-use Rattle.control_word.specs.declared.view.Pending.TheVariants.{Idle}
+use Rattle.control_word.specs.declared.model.view.Pending.TheVariants.{Idle}
 use Rattle.control_block.specs.Desks.{DeskNow, HasHandle, IsEnding, MayGiveWeak, latest_of, state_of}
 use Rattle.control_block.specs.Inside.{IsDesk, desk_now}
 use Rattle.control_block.specs.Plays.{Added, Ends, HoldingInBlock, MayShareWeakly, known}

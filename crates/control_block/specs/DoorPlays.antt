@@ -1,10 +1,10 @@
 -- What the steps on an object's door tell.
 use Rattle.std.specs.Prelude.{◌≡◌, ◌≢◌, ℕ, ◌-◌, [], ◌∷◌, Option, Some, None}
 use Rattle.atomic_table.specs.Table.{Step}
-use Rattle.control_word.specs.declared.event.Event.TheVariants.{Visit}
+use Rattle.control_word.specs.declared.model.event.Event.TheVariants.{Visit}
 use Rattle.control_word.specs.declared.place.Block.{Block}
 use Rattle.control_word.specs.declared.place.Place.{Place}
-use Rattle.control_word.specs.declared.view.Pending.TheVariants.{Idle, Visiting}
+use Rattle.control_word.specs.declared.model.view.Pending.TheVariants.{Idle, Visiting}
 use Rattle.control_word.specs.Handles.{owner}
 use Rattle.control_word.specs.Histories.{value}
 use Rattle.control_block.specs.Plays.{Added, At, Moved}

@@ -1,10 +1,10 @@
 -- What the steps on funds tell, and what a half-done cell call owes.
 use Rattle.std.specs.Prelude.{◌≡◌, ℕ, ◌/◌, false, [], Option, None}
 use Rattle.atomic_table.specs.Table.{Step}
-use Rattle.control_word.specs.declared.handle.Kind.{Kind}
+use Rattle.control_word.specs.declared.model.handle.Kind.{Kind}
 use Rattle.control_word.specs.declared.place.Place.{Place}
-use Rattle.control_word.specs.declared.view.Pending.{Pending}
-use Rattle.control_word.specs.declared.view.Pending.TheVariants.{Paying}
+use Rattle.control_word.specs.declared.model.view.Pending.{Pending}
+use Rattle.control_word.specs.declared.model.view.Pending.TheVariants.{Paying}
 use Rattle.control_word.specs.Layout.{spot}
 use Rattle.control_word.specs.Words.{slot}
 use Rattle.control_block.specs.Plays.{At, goes_on, in_call}

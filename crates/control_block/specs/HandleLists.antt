@@ -1,8 +1,8 @@
 -- Handles of a desk in a list: all are held, as handles come into the list and go out of it.
 use Rattle.std.specs.Prelude.{◌≡◌, ℕ, ◌+◌, List, [], ◌∷◌, ◌++◌}
 use Rattle.std.specs.List.Sorted.{IsPermutation}
-use Rattle.control_word.specs.declared.handle.Handle.{Handle}
-use Rattle.control_word.specs.declared.handle.Kind.TheVariants.{Owner, Weak}
+use Rattle.control_word.specs.declared.model.handle.Handle.{Handle}
+use Rattle.control_word.specs.declared.model.handle.Kind.TheVariants.{Owner, Weak}
 use Rattle.control_word.specs.State.{Has}
 use Rattle.control_block.specs.CellCalls.{HoldsHandle, with_handle, without_handle}
 use Rattle.control_block.specs.Desks.{DeskNow, bag_of}

@@ -2,8 +2,8 @@
 use Rattle.std.specs.Prelude.{Option, None, Some}
 use Rattle.std.specs.Coded.{×_prop, Unit-prop, le_prop}
 use Rattle.control_word.specs.Handles.{IsBare, IsFormed, IsPointer, handle}
-use Rattle.control_word.specs.declared.handle.Kind.{Kind}
-use Rattle.control_word.specs.declared.handle.Kind.TheVariants.{Owner, Weak}
+use Rattle.control_word.specs.declared.model.handle.Kind.{Kind}
+use Rattle.control_word.specs.declared.model.handle.Kind.TheVariants.{Owner, Weak}
 use Rattle.control_word.specs.declared.place.Block.{Block}
 use Rattle.control_word.specs.declared.place.Place.{Place}
 

@@ -6,9 +6,9 @@ use Rattle.std.specs.List.{filter}
 use Rattle.control_word.specs.Handles.{same_kind}
 use Rattle.control_word.specs.State.{State, count, kind_of_free, kind_of_member, tally, weak}
 use Rattle.control_word.specs.Words.{blocks_of, owned_bits}
-use Rattle.control_word.specs.declared.handle.Handle.{Handle}
-use Rattle.control_word.specs.declared.handle.Kind.{Kind}
-use Rattle.control_word.specs.declared.handle.Kind.TheVariants.{Owner, Weak}
+use Rattle.control_word.specs.declared.model.handle.Handle.{Handle}
+use Rattle.control_word.specs.declared.model.handle.Kind.{Kind}
+use Rattle.control_word.specs.declared.model.handle.Kind.TheVariants.{Owner, Weak}
 use Rattle.control_block.specs.CellCalls.{word_at}
 use Rattle.control_block.specs.Census.{CensusNow, HasBlock}
 use Rattle.control_block.specs.Desks.{DeskNow, bag_of, latest_of, state_of}

@@ -1,7 +1,7 @@
 -- What the records of calls say of a desk's own events, each law by itself.
 use Rattle.std.specs.Prelude.{◌≡◌, ℕ, true, All, List, [], ◌∷◌, ◌++◌, map}
-use Rattle.control_word.specs.declared.event.Event.{Event}
-use Rattle.control_word.specs.declared.event.Event.TheVariants.{Join, Split}
+use Rattle.control_word.specs.declared.model.event.Event.{Event}
+use Rattle.control_word.specs.declared.model.event.Event.TheVariants.{Join, Split}
 use Rattle.control_word.specs.Histories.{IsLegal, entry}
 use Rattle.control_block.specs.Desks.{AddsEvent, DeskNow, state_of}
 use Rattle.control_block.specs.Own.{Goes, IsSole, KeepsDesks, KeepsLatest, events_of, own_of}

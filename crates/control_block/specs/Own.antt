@@ -1,9 +1,9 @@
 -- Which events of a history are a desk's own, and how its history goes on by them. Newest first.
 use Rattle.std.specs.Prelude.{◌≡◌, ℕ, ◌==◌, cond, All, List, [], ◌∷◌, ◌++◌, Option}
-use Rattle.control_word.specs.declared.event.Entry.{Entry}
-use Rattle.control_word.specs.declared.event.Event.{Event}
-use Rattle.control_word.specs.declared.event.Event.TheVariants.{Join, Split}
-use Rattle.control_word.specs.declared.handle.Kind.{Kind}
+use Rattle.control_word.specs.declared.model.event.Entry.{Entry}
+use Rattle.control_word.specs.declared.model.event.Event.{Event}
+use Rattle.control_word.specs.declared.model.event.Event.TheVariants.{Join, Split}
+use Rattle.control_word.specs.declared.model.handle.Kind.{Kind}
 use Rattle.control_word.specs.declared.place.Place.{Place}
 use Rattle.control_word.specs.Histories.{IsLegal}
 use Rattle.control_block.specs.Desks.{DeskNow, HasHandle, allowance_of, latest_of}

@@ -1,7 +1,7 @@
 -- What goes between a desk's store and the shelf.
 use Rattle.std.specs.Prelude.{◌≡◌, ℕ, suc, ◌+◌, ◌≤◌, List, map, length}
-use Rattle.control_word.specs.declared.event.Event.{Event}
-use Rattle.control_word.specs.declared.event.Event.TheVariants.{Shelve, Unshelve}
+use Rattle.control_word.specs.declared.model.event.Event.{Event}
+use Rattle.control_word.specs.declared.model.event.Event.TheVariants.{Shelve, Unshelve}
 use Rattle.control_word.specs.declared.place.Block.{Block}
 use Rattle.control_word.specs.State.{on_shelf, sum_below}
 use Rattle.control_block.specs.Desks.{DeskNow, IsSameDesk, KeepsEndings, bag_of, endings_of, state_of, stock_of}

@@ -1,9 +1,9 @@
 -- What it says that a handle was stored into a cell.
 use Rattle.std.specs.Prelude.{Bool, Option}
-use Rattle.control_word.specs.declared.event.Cell.{Cell}
-use Rattle.control_word.specs.declared.event.Event.TheVariants.{Swap}
-use Rattle.control_word.specs.declared.handle.Handle.{Handle}
-use Rattle.control_word.specs.declared.handle.Kind.TheVariants.{Owner, Weak}
+use Rattle.control_word.specs.declared.model.event.Cell.{Cell}
+use Rattle.control_word.specs.declared.model.event.Event.TheVariants.{Swap}
+use Rattle.control_word.specs.declared.model.handle.Handle.{Handle}
+use Rattle.control_word.specs.declared.model.handle.Kind.TheVariants.{Owner, Weak}
 use Rattle.control_word.specs.declared.place.Block.{Block}
 use Rattle.control_word.specs.declared.place.Place.{Place}
 use Rattle.control_block.specs.CellCalls.{handle_in}

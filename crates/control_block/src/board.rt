@@ -1,11 +1,11 @@
 //! The table that the desks share: its words, its slots, what a seat sees, and the rule.
 //!
-//! The words are those of `control_word::layout`. Slot `b - 1` has the token of the cell in which the value of the
-//! object in block `b` lies: it is at home but while a make fills the cell, while a visit works on the value, and while
-//! the last owner's leave takes it out.
+//! The words are those of `control_word::packed::layout`. Slot `b - 1` has the token of the cell in which the value of
+//! the object in block `b` lies: it is at home but while a make fills the cell, while a visit works on the value, and
+//! while the last owner's leave takes it out.
 use crate::slot::Slot;
 use atomic_table::{Seat, Shared, TableRule};
-use control_word::view::View;
+use control_word::model::view::View;
 use control_word::{Block, Shape};
 
 /// What a seat sees: the shape of its domain, what its desk knows, and the block whose slot it has. No value of it

@@ -2,7 +2,7 @@
 //! know handles by their blocks. Empty handles touch no word: they are only counted.
 ghost use Rattle.std.specs.Prelude.{Option, None};
 ghost use Rattle.control_word.specs.Handles.{handle};
-ghost use Rattle.control_word.specs.declared.handle.Kind.TheVariants.{Owner};
+ghost use Rattle.control_word.specs.declared.model.handle.Kind.TheVariants.{Owner};
 ghost use Rattle.control_word.specs.declared.place.Place.{Place};
 
 pub mod cells;
@@ -30,7 +30,7 @@ use std::marker::Brand;
 /// Which of the desk's handles in a block a call is about, and which place a new one gets. The proof of each call
 /// picks them.
 pub trait About {
-    ghost use Rattle.control_word.specs.declared.handle.Kind.{Kind};
+    ghost use Rattle.control_word.specs.declared.model.handle.Kind.{Kind};
 
     ghost kind: { Kind };
 

@@ -6,8 +6,8 @@ ghost use Rattle.control_block.specs.CellCalls.{IsSite, word_at};
 ghost use Rattle.control_block.specs.Handles.{IsProper, IsProper-prop};
 
 pub use crate::calls::cells::{exchange, load};
-use control_word::handle::Kind;
-use control_word::layout::{MEMBERS, block_word, cell_word};
+use control_word::model::handle::Kind;
+use control_word::packed::layout::{MEMBERS, block_word, cell_word};
 use control_word::{Block, Place};
 
 /// Where a cell is: a free one by its number among all free cells, the shared ones first, or a member (0 first, 1 next,

@@ -8,7 +8,7 @@ use crate::board::{Ruling, Sight};
 use crate::desk::Desk;
 use crate::slot::Slot;
 use atomic_table::Table;
-use control_word::layout::table_words;
+use control_word::packed::layout::table_words;
 use control_word::{Block, Refusal, Shape};
 use slot_arena::{Arena, Vacant};
 use std::alloc::{AllocError, Global};

@@ -1,13 +1,13 @@
 //! Handles as values. Where they lie a desk's history knows them by their blocks: in a desk's bag what is held in a
 //! block is on the object last made in it.
 ghost use Rattle.std.specs.Coded.{Coded-set};
-ghost use Rattle.control_word.specs.declared.handle.Kind.TheVariants.{Owner, Weak};
+ghost use Rattle.control_word.specs.declared.model.handle.Kind.TheVariants.{Owner, Weak};
 ghost use Rattle.control_block.specs.Handles.{IsProper, IsProper-prop};
 
 mod shared_parts;
 mod weak_parts;
 
-use control_word::handle::Kind;
+use control_word::model::handle::Kind;
 use control_word::{Block, Place};
 
 /// A shared pointer: what it owns, by its block, and its place ([util.smartptr.shared]). It must be spent by a call on

@@ -1,8 +1,8 @@
 //! What each kind of step tells the seat that makes it.
 ghost use Rattle.std.specs.Prelude.{ℕ, Bool, false, List, [], Option, None};
-ghost use Rattle.control_word.specs.declared.handle.Handle.{Handle};
-ghost use Rattle.control_word.specs.declared.handle.Kind.{Kind};
-ghost use Rattle.control_word.specs.declared.handle.Kind.TheVariants.{Owner};
+ghost use Rattle.control_word.specs.declared.model.handle.Handle.{Handle};
+ghost use Rattle.control_word.specs.declared.model.handle.Kind.{Kind};
+ghost use Rattle.control_word.specs.declared.model.handle.Kind.TheVariants.{Owner};
 ghost use Rattle.control_word.specs.declared.place.Block.{Block};
 ghost use Rattle.control_word.specs.declared.place.Place.{Place};
 ghost use Rattle.control_block.specs.Plays.{shared, weakly_shared, weakly_left, counted, found_expired, peeked, read};

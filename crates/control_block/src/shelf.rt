@@ -10,7 +10,7 @@ use crate::desk::Desk;
 use crate::domain::Domain;
 use crate::steps::shelf;
 use control_word::Block;
-use control_word::layout::{shelf_bit, shelf_word};
+use control_word::packed::layout::{shelf_bit, shelf_word};
 use std::marker::Brand;
 
 impl<V: Drop + Send> Domain<V> {

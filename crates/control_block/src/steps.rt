@@ -6,9 +6,9 @@ ghost use Rattle.control_block.specs.Rule.{opening_of};
 ghost use Rattle.control_word.specs.Handles.{IsPointer, handle, owner, weak_of};
 ghost use Rattle.control_word.specs.Layout.{spot};
 ghost use Rattle.control_word.specs.State.{count};
-ghost use Rattle.control_word.specs.declared.event.Event.TheVariants.{Count, Expired, Finish, Leave, Read, Share};
-ghost use Rattle.control_word.specs.declared.event.Event.TheVariants.{WeakLeave, WeakShare};
-ghost use Rattle.control_word.specs.declared.handle.Kind.TheVariants.{Owner, Weak};
+ghost use Rattle.control_word.specs.declared.model.event.Event.TheVariants.{Count, Expired, Finish, Leave, Read, Share};
+ghost use Rattle.control_word.specs.declared.model.event.Event.TheVariants.{WeakLeave, WeakShare};
+ghost use Rattle.control_word.specs.declared.model.handle.Kind.TheVariants.{Owner, Weak};
 ghost use Rattle.control_block.specs.Plays.{tells, known, Ends, Rests, HoldingInBlock, HasRoomFor, IsClear};
 ghost use Rattle.control_block.specs.Plays.{IsNearObject, IsTold};
 ghost use Rattle.control_block.specs.Plays.{MayShareWeakly};
@@ -29,8 +29,8 @@ use crate::in_place::InPlace;
 use crate::plays::{
     Counts, Fetches, FindsExpired, Finishes, Peeks, Reads, Shares, StepArgs, WeakShares,
 };
-use control_word::counts::told_count;
-use control_word::layout::{FIELDS, FLAGS, OWNERS, WEAKS, block_word};
+use control_word::packed::counts::told_count;
+use control_word::packed::layout::{FIELDS, FLAGS, OWNERS, WEAKS, block_word};
 use control_word::{Block, Place};
 pub use making::make;
 

@@ -3,16 +3,16 @@
 use Rattle.std.specs.Prelude.{◌≡◌, ℕ, ◌+◌, ◌-◌, ◌*◌, ◌<◌, ◌≤◌, ◌==◌, Bool, true}
 use Rattle.std.specs.Prelude.{false}
 use Rattle.std.specs.Prelude.{Option, Some, None}
-use Rattle.control_word.specs.declared.event.Cell.{Cell}
-use Rattle.control_word.specs.declared.event.Cell.TheVariants.{Member}
-use Rattle.control_word.specs.declared.event.Event.TheVariants.{Leave, WeakLeave, Load, Swap}
-use Rattle.control_word.specs.declared.event.Event.TheVariants.{Compare, ClearMember}
-use Rattle.control_word.specs.declared.handle.Handle.{Handle}
-use Rattle.control_word.specs.declared.handle.Kind.{Kind}
-use Rattle.control_word.specs.declared.handle.Kind.TheVariants.{Owner, Weak}
+use Rattle.control_word.specs.declared.model.event.Cell.{Cell}
+use Rattle.control_word.specs.declared.model.event.Cell.TheVariants.{Member}
+use Rattle.control_word.specs.declared.model.event.Event.TheVariants.{Leave, WeakLeave, Load, Swap}
+use Rattle.control_word.specs.declared.model.event.Event.TheVariants.{Compare, ClearMember}
+use Rattle.control_word.specs.declared.model.handle.Handle.{Handle}
+use Rattle.control_word.specs.declared.model.handle.Kind.{Kind}
+use Rattle.control_word.specs.declared.model.handle.Kind.TheVariants.{Owner, Weak}
 use Rattle.control_word.specs.declared.place.Place.{Place}
-use Rattle.control_word.specs.declared.view.Pending.{Pending}
-use Rattle.control_word.specs.declared.view.Pending.TheVariants.{Idle, Paying}
+use Rattle.control_word.specs.declared.model.view.Pending.{Pending}
+use Rattle.control_word.specs.declared.model.view.Pending.TheVariants.{Idle, Paying}
 use Rattle.control_word.specs.Handles.{handle, owner, weak_of, equivalent}
 use Rattle.control_word.specs.Packing.{cell_bits, IsCellWord}
 use Rattle.control_word.specs.State.{ending, HasRoom}

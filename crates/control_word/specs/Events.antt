@@ -3,18 +3,19 @@ use Rattle.std.specs.Prelude.{◌≡◌, ℕ, suc, ◌+◌, ◌-◌, ◌<◌, �
 use Rattle.std.specs.Prelude.{cond, ◌&&◌, not, ◌==◌, ◌⊎◌}
 use Rattle.std.specs.Prelude.{List, ◌∷◌, map, length, slice_index}
 use Rattle.std.specs.Prelude.{Option, Some, None}
-use Rattle.control_word.specs.declared.handle.Handle.{Handle}
+use Rattle.control_word.specs.declared.model.handle.Handle.{Handle}
 use Rattle.control_word.specs.declared.place.Place.{Place}
 use Rattle.control_word.specs.declared.place.Block.{Block}
-use Rattle.control_word.specs.declared.handle.Kind.{Kind}
-use Rattle.control_word.specs.declared.handle.Kind.TheVariants.{Owner, Weak}
-use Rattle.control_word.specs.declared.event.Event.{Event}
-use Rattle.control_word.specs.declared.event.Event.TheVariants.{Make, Share, Leave, Count, Expired, Read, WeakShare}
-use Rattle.control_word.specs.declared.event.Event.TheVariants.{WeakLeave, Lock, Load, Swap}
-use Rattle.control_word.specs.declared.event.Event.TheVariants.{Compare, ClearMember, Finish, Visit, Split, Join}
-use Rattle.control_word.specs.declared.event.Event.TheVariants.{Shelve, Unshelve}
-use Rattle.control_word.specs.declared.event.Cell.{Cell}
-use Rattle.control_word.specs.declared.event.Cell.TheVariants.{Free, Member}
+use Rattle.control_word.specs.declared.model.handle.Kind.{Kind}
+use Rattle.control_word.specs.declared.model.handle.Kind.TheVariants.{Owner, Weak}
+use Rattle.control_word.specs.declared.model.event.Event.{Event}
+use Rattle.control_word.specs.declared.model.event.Event.TheVariants.{Make, Share, Leave, Count, Expired, Read}
+use Rattle.control_word.specs.declared.model.event.Event.TheVariants.{WeakShare}
+use Rattle.control_word.specs.declared.model.event.Event.TheVariants.{WeakLeave, Lock, Load, Swap}
+use Rattle.control_word.specs.declared.model.event.Event.TheVariants.{Compare, ClearMember, Finish, Visit, Split, Join}
+use Rattle.control_word.specs.declared.model.event.Event.TheVariants.{Shelve, Unshelve}
+use Rattle.control_word.specs.declared.model.event.Cell.{Cell}
+use Rattle.control_word.specs.declared.model.event.Cell.TheVariants.{Free, Member}
 use Rattle.control_word.specs.Handles.{handle, empty, object_of, has_object, equivalent, IsPointer, IsFormed}
 use Rattle.control_word.specs.State.{put, Phase, unmade, live, ending, gone, Object, Held, Stored, State, held, stored}
 use Rattle.control_word.specs.State.{kind_of_free, kind_of_member}

@@ -1,9 +1,9 @@
 -- Histories have the newest event first. The state and the values are what a history leads to.
 use Rattle.std.specs.Prelude.{◌≡◌, ℕ, suc, ◌+◌, cond, ◌&&◌, ◌==◌, List, [], ◌∷◌, Option, Some}
 use Rattle.std.specs.Prelude.{None}
-use Rattle.control_word.specs.declared.event.Event.{Event}
-use Rattle.control_word.specs.declared.event.Event.TheVariants.{Make, Leave, Finish, Visit}
-use Rattle.control_word.specs.declared.event.Entry.{Entry}
+use Rattle.control_word.specs.declared.model.event.Event.{Event}
+use Rattle.control_word.specs.declared.model.event.Event.TheVariants.{Make, Leave, Finish, Visit}
+use Rattle.control_word.specs.declared.model.event.Entry.{Entry}
 use Rattle.control_word.specs.Handles.{object_of}
 use Rattle.control_word.specs.State.{Opening, IsOpening, State, IsActing, HasRoom, start}
 use Rattle.control_word.specs.Events.{Asks, after}

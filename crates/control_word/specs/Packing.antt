@@ -3,8 +3,8 @@ use Rattle.std.specs.Prelude.{◌≡◌, ◌==◌, cond, ℕ, ◌+◌, ◌*◌, 
 use Rattle.std.specs.Prelude.{Option, Some, None, IfSome}
 use Rattle.control_word.specs.declared.place.Block.{Block}
 use Rattle.control_word.specs.declared.place.Place.{Place}
-use Rattle.control_word.specs.declared.cell.CellWord.{CellWord}
-use Rattle.control_word.specs.declared.counts.Count.{Count}
+use Rattle.control_word.specs.declared.packed.cell.CellWord.{CellWord}
+use Rattle.control_word.specs.declared.packed.counts.Count.{Count}
 
 -- A block's number
 abbrev pub IsBlock : Block → Type 0

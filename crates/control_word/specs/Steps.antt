@@ -7,20 +7,21 @@ use Rattle.std.specs.Prelude.{slice_set, replicate, bit_and, bit_or, Option, Som
 use Rattle.std.specs.Int.{bit_at, bit_not, w64}
 use mathlib.Core.Option.{some}
 use lib.ListN.{get_elem?}
-use Rattle.control_word.specs.declared.event.Cell.{Cell}
-use Rattle.control_word.specs.declared.event.Event.{Event}
-use Rattle.control_word.specs.declared.event.Event.TheVariants.{Make, Share, Leave, Count, Expired, Read, WeakShare}
-use Rattle.control_word.specs.declared.event.Event.TheVariants.{WeakLeave, Lock}
-use Rattle.control_word.specs.declared.event.Event.TheVariants.{Finish, Visit, Split, Join, Shelve, Unshelve}
-use Rattle.control_word.specs.declared.event.Entry.{Entry}
-use Rattle.control_word.specs.declared.handle.Handle.{Handle}
-use Rattle.control_word.specs.declared.handle.Kind.{Kind}
-use Rattle.control_word.specs.declared.handle.Kind.TheVariants.{Owner, Weak}
+use Rattle.control_word.specs.declared.model.event.Cell.{Cell}
+use Rattle.control_word.specs.declared.model.event.Event.{Event}
+use Rattle.control_word.specs.declared.model.event.Event.TheVariants.{Make, Share, Leave, Count, Expired, Read}
+use Rattle.control_word.specs.declared.model.event.Event.TheVariants.{WeakShare}
+use Rattle.control_word.specs.declared.model.event.Event.TheVariants.{WeakLeave, Lock}
+use Rattle.control_word.specs.declared.model.event.Event.TheVariants.{Finish, Visit, Split, Join, Shelve, Unshelve}
+use Rattle.control_word.specs.declared.model.event.Entry.{Entry}
+use Rattle.control_word.specs.declared.model.handle.Handle.{Handle}
+use Rattle.control_word.specs.declared.model.handle.Kind.{Kind}
+use Rattle.control_word.specs.declared.model.handle.Kind.TheVariants.{Owner, Weak}
 use Rattle.control_word.specs.declared.place.Place.{Place}
 use Rattle.control_word.specs.declared.place.Block.{Block}
-use Rattle.control_word.specs.declared.view.View.{View}
-use Rattle.control_word.specs.declared.view.Pending.{Pending}
-use Rattle.control_word.specs.declared.view.Pending.TheVariants.{Idle, Making, Paying, Visiting, Parting, Merging}
+use Rattle.control_word.specs.declared.model.view.View.{View}
+use Rattle.control_word.specs.declared.model.view.Pending.{Pending}
+use Rattle.control_word.specs.declared.model.view.Pending.TheVariants.{Idle, Making, Paying, Visiting, Parting, Merging}
 use Rattle.control_word.specs.Handles.{handle, owner, weak_of, empty, IsPointer}
 use Rattle.control_word.specs.Layout.{spot, shelf_place, bit_of}
 use Rattle.control_word.specs.State.{Opening, IsOpening, State, Has, held, stored, ending, kind_of_member, count}

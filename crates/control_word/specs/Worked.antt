@@ -1,12 +1,12 @@
 -- Five short histories of one desk, worked out. A member that is empty needs no event at its object's end.
 use Rattle.std.specs.Prelude.{◌≡◌, ℕ, Bool, true, false, cond, ◌==◌, List, [], ◌∷◌, Some, None}
-use Rattle.control_word.specs.declared.event.Cell.TheVariants.{Free, Member}
-use Rattle.control_word.specs.declared.event.Entry.{Entry}
-use Rattle.control_word.specs.declared.event.Event.{Event}
-use Rattle.control_word.specs.declared.event.Event.TheVariants.{Make, Share, Leave, Count, Expired, Read}
-use Rattle.control_word.specs.declared.event.Event.TheVariants.{WeakShare, WeakLeave, Lock, Swap, Compare, Finish}
-use Rattle.control_word.specs.declared.handle.Handle.{Handle}
-use Rattle.control_word.specs.declared.handle.Kind.TheVariants.{Owner, Weak}
+use Rattle.control_word.specs.declared.model.event.Cell.TheVariants.{Free, Member}
+use Rattle.control_word.specs.declared.model.event.Entry.{Entry}
+use Rattle.control_word.specs.declared.model.event.Event.{Event}
+use Rattle.control_word.specs.declared.model.event.Event.TheVariants.{Make, Share, Leave, Count, Expired, Read}
+use Rattle.control_word.specs.declared.model.event.Event.TheVariants.{WeakShare, WeakLeave, Lock, Swap, Compare, Finish}
+use Rattle.control_word.specs.declared.model.handle.Handle.{Handle}
+use Rattle.control_word.specs.declared.model.handle.Kind.TheVariants.{Owner, Weak}
 use Rattle.control_word.specs.Handles.{handle, empty, same_place}
 use Rattle.control_word.specs.State.{Opening, State, live, gone, count, weak, IsVacant}
 use Rattle.control_word.specs.Events.{place_at}

@@ -1,6 +1,6 @@
 -- An empty handle came: it is only counted.
 use Rattle.std.proofs.Common.{◌≡◌, ◌+◌, List, ◌∷◌, Option, Some, None, refl, sym, ap, subst}
-use Rattle.control_word.specs.declared.handle.Kind.TheVariants as kind
+use Rattle.control_word.specs.declared.model.handle.Kind.TheVariants as kind
 use Rattle.control_word.specs.declared.place.Block.{Block}
 use Rattle.control_block.specs.CellCalls.{with_handle}
 use Rattle.control_block.specs.Desks.{DeskNow, DomainNow, KeepsEndings, bag_of}

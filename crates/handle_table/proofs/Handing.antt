@@ -9,7 +9,7 @@ use Rattle.control_word.proofs.lists.Tallies.{handle_self}
 use Rattle.control_word.specs.Handles.{has_object, same_handle}
 use Rattle.control_word.specs.State.{Has, without}
 use Rattle.control_word.specs.Views.{total}
-use Rattle.control_word.specs.declared.handle.Handle.{Handle}
+use Rattle.control_word.specs.declared.model.handle.Handle.{Handle}
 use Rattle.control_block.specs.Desks.{Belongs, DeskNow, DomainNow, bag_of, endings_of}
 use Rattle.control_block.specs.Parting.{AreIn, HoldsAll, SplitsOff, as_listed, listed, without_all}
 use Rattle.control_block.specs.SlotLists.{handles_in}

@@ -6,7 +6,7 @@ use Rattle.std.specs.List.Sorted.{IsPermutation}
 use Rattle.control_word.specs.Histories.{IsLegal, leads}
 use Rattle.control_word.specs.State.{ending}
 use Rattle.control_word.specs.Views.{total}
-use Rattle.control_word.specs.declared.event.Entry.{Entry}
+use Rattle.control_word.specs.declared.model.event.Entry.{Entry}
 use Rattle.control_block.proofs.EndingCounts.{few_ending}
 use Rattle.control_block.proofs.Endings.{still_ends}
 use Rattle.control_block.specs.Desks.{DeskNow, DomainNow, KeepsEndings, bag_of, endings_of, object_in, state_of}

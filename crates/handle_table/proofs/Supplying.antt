@@ -6,7 +6,7 @@ use Rattle.control_block.specs.Desks.{DeskNow, DomainNow, allowance_of, endings_
 use Rattle.control_block.specs.Own.{IsSole}
 use Rattle.control_block.specs.Shelf.{Passes, Unshelved, shelved_of}
 use Rattle.control_word.specs.State.{Stored}
-use Rattle.control_word.specs.declared.event.Event.{Event}
+use Rattle.control_word.specs.declared.model.event.Event.{Event}
 use Rattle.control_word.specs.declared.place.Block.{Block}
 use Rattle.handle_table.specs.Calls.{IsBelow, WhyNotMade}
 use Rattle.handle_table.specs.Shelving.{Supplies, TakesFromShelf, WhyNotSupplied}

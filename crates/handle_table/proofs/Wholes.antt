@@ -12,7 +12,7 @@ use Rattle.control_block.specs.HandleLists.{with_held, without_held}
 use Rattle.control_block.specs.Parting.{JoinsWith, SplitsOff, listed, without_all}
 use Rattle.control_block.specs.declared.handles.Held.{Held}
 use Rattle.shared_handle.specs.Endings.{IsRead}
-use Rattle.control_word.specs.declared.event.Entry.{Entry}
+use Rattle.control_word.specs.declared.model.event.Entry.{Entry}
 use Rattle.control_block.specs.Desks.{IsFirstDesk, Belongs, DeskNow, DomainNow, Keeps, KeepsEndings, bag_of, endings_of, ends_with, many_ending, state_of}
 use Rattle.control_block.specs.Rule.{opening_of}
 use Rattle.shared_handle.proofs.Piles.{bears_kept}

@@ -1,7 +1,7 @@
 -- What the calls of a handle table say.
 use Rattle.std.specs.Prelude.{◌≡◌, ◌≢◌, ◌⊎◌, ℕ, ◌≤◌, Bool, false, true, List, [], ◌∷◌}
 use Rattle.std.specs.Prelude.{is_some, length, slice_get, slice_set, Option, None, Some, Result, Err}
-use Rattle.control_word.specs.declared.handle.Kind.TheVariants as kind
+use Rattle.control_word.specs.declared.model.handle.Kind.TheVariants as kind
 use Rattle.control_word.specs.declared.place.Block.{Block}
 use Rattle.control_word.specs.declared.place.Place.{Place}
 use Rattle.control_word.specs.declared.refusal.Refusal.{Refusal}

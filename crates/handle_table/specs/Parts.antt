@@ -1,7 +1,7 @@
 -- A handle by its parts.
 use Rattle.std.specs.Prelude.{◌≡◌, Option}
-use Rattle.control_word.specs.declared.handle.Kind.{Kind}
-use Rattle.control_word.specs.declared.handle.Kind.TheVariants as kind
+use Rattle.control_word.specs.declared.model.handle.Kind.{Kind}
+use Rattle.control_word.specs.declared.model.handle.Kind.TheVariants as kind
 use Rattle.control_word.specs.declared.place.Block.{Block}
 use Rattle.control_word.specs.declared.place.Place.{Place}
 use Rattle.control_block.specs.declared.cell_calls.Content.{Content}

@@ -3,7 +3,7 @@
 use Rattle.std.specs.Prelude.{◌≡◌, ◌⊎◌, ℕ, ◌%◌, ◌^◌, Bool, true, false, is_some, List, []}
 use Rattle.std.specs.Prelude.{slice_set, None}
 use Rattle.control_word.specs.Handles.{object_of}
-use Rattle.control_word.specs.declared.event.Cell.TheVariants.{Free}
+use Rattle.control_word.specs.declared.model.event.Cell.TheVariants.{Free}
 use Rattle.control_word.specs.declared.refusal.Refusal.{Refusal}
 use Rattle.control_word.specs.declared.refusal.Refusal.TheVariants.{Full, Limit, Memory, NotSole}
 use Rattle.control_block.specs.Desks.{DeskNow, stock_of}

@@ -2,7 +2,7 @@
 use Rattle.std.specs.Prelude.{◌≡◌, ℕ, cond, List, [], ◌∷◌, slice_get, Option, None, Some}
 use Rattle.control_word.specs.Handles.{has_object}
 use Rattle.control_word.specs.Views.{total}
-use Rattle.control_word.specs.declared.handle.Handle.{Handle}
+use Rattle.control_word.specs.declared.model.handle.Handle.{Handle}
 use Rattle.control_block.specs.Desks.{DeskNow, DomainNow, bag_of}
 use Rattle.control_block.specs.Parting.{as_listed}
 use Rattle.control_block.specs.declared.handles.Held.{Held}

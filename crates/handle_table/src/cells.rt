@@ -15,7 +15,7 @@ use atomic_cells::SharedMember;
 use control_block::cell_calls::{CellAt, Site};
 use control_block::desk::Desk;
 use control_block::domain::Domain;
-use control_word::handle::Kind;
+use control_word::model::handle::Kind;
 use control_word::{Block, Refusal};
 use shared_handle::{Held, Shared};
 

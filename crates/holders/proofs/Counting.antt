@@ -11,16 +11,16 @@ use Rattle.control_word.proofs.history.Making.{empty_counts}
 use Rattle.control_word.proofs.history.Soundness.{Formed, IsBusy, Sound}
 use Rattle.control_word.proofs.lists.Tallies.{tally_append, tally_cons}
 use Rattle.control_word.proofs.words.Funds.{cell_busy, counted_busy, member_busy}
-use Rattle.control_word.specs.declared.counts.Counts.{Counts}
-use Rattle.control_word.specs.declared.handle.Handle.{Handle}
-use Rattle.control_word.specs.declared.handle.Kind.{Kind}
-use Rattle.control_word.specs.declared.handle.Kind.TheVariants.{Owner, Weak}
+use Rattle.control_word.specs.declared.packed.counts.Counts.{Counts}
+use Rattle.control_word.specs.declared.model.handle.Handle.{Handle}
+use Rattle.control_word.specs.declared.model.handle.Kind.{Kind}
+use Rattle.control_word.specs.declared.model.handle.Kind.TheVariants.{Owner, Weak}
 use Rattle.control_word.specs.Handles.{same_kind, same_number}
 use Rattle.control_word.specs.State.{Held, Opening, State, common, count, handles, in_cells, kind_of_free, kind_of_member, members, tally, upto, weak}
 use Rattle.control_word.specs.State.{weak_number}
 use Rattle.control_word.specs.Words.{block_of, blocks_of}
-use Rattle.step_table.specs.declared.cell_deed.Cell.{Cell}
-use Rattle.step_table.specs.declared.cell_deed.Cell.TheVariants.{Free}
+use Rattle.step_table.specs.declared.cell_steps.cell_deed.Cell.{Cell}
+use Rattle.step_table.specs.declared.cell_steps.cell_deed.Cell.TheVariants.{Free}
 use Rattle.step_table.specs.Openings.{opening}
 use Rattle.step_table.specs.Stories.{Kept, Story, story_state}
 use Rattle.step_table.proofs.contained.Told.{shared_is}

@@ -4,7 +4,7 @@ use Rattle.std.proofs.Common.{Some, refl, ap}
 use Rattle.std.proofs.Common.{subst, ◌∙◌, arith}
 use Rattle.std.specs.List.{flat_map}
 use Rattle.std.specs.Prelude.{slice_index_or}
-use Rattle.control_word.specs.declared.counts.Counts.{Counts}
+use Rattle.control_word.specs.declared.packed.counts.Counts.{Counts}
 use Rattle.control_word.specs.State.{State}
 use Rattle.script_text.specs.Grammar.{ended}
 use Rattle.script_text.specs.declared.fault.Fault.{Fault}

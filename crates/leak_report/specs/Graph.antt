@@ -4,8 +4,8 @@ use Rattle.std.specs.Prelude.{slice_index}
 use Rattle.std.specs.Prelude.{Option, Some, None, slice_index_or}
 use Rattle.std.specs.List.{flat_map, list_any}
 use Rattle.control_word.specs.State.{State}
-use Rattle.step_table.specs.declared.cell_deed.Cell.{Cell}
-use Rattle.step_table.specs.declared.cell_deed.Cell.TheVariants.{Free, Member}
+use Rattle.step_table.specs.declared.cell_steps.cell_deed.Cell.{Cell}
+use Rattle.step_table.specs.declared.cell_steps.cell_deed.Cell.TheVariants.{Free, Member}
 use Rattle.step_threads.specs.Scenes.{Scene, state_in}
 use Rattle.step_threads.specs.Stocks.{from}
 use Rattle.step_core.specs.Totals.{fields_of}

@@ -2,7 +2,7 @@
 use Rattle.std.specs.Prelude.{ℕ, ◌++◌, Bool, cond, List, [], ◌∷◌, codes}
 use Rattle.std.specs.Prelude.{Option, Some, None, slice_index_or, false}
 use Rattle.std.specs.List.{flat_map}
-use Rattle.control_word.specs.declared.counts.Counts.{Counts}
+use Rattle.control_word.specs.declared.packed.counts.Counts.{Counts}
 use Rattle.control_word.specs.State.{State}
 use Rattle.step_threads.specs.Scenes.{Scene, state_in}
 use Rattle.step_threads.specs.Stocks.{from}

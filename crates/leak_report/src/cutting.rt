@@ -2,7 +2,7 @@
 ghost use Rattle.std.specs.Prelude.{◌≡◌, All, IfOk, map};
 ghost use Rattle.owner_graph.specs.Owners.{IsAmong, source};
 ghost use Rattle.owner_graph.specs.Rows.{row_at};
-ghost use Rattle.step_table.specs.declared.cell_deed.Cell.{Cell};
+ghost use Rattle.step_table.specs.declared.cell_steps.cell_deed.Cell.{Cell};
 ghost use Rattle.leak_report.specs.Graph.{at_source, is_listed};
 
 use control_word::Block;

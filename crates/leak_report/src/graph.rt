@@ -6,7 +6,7 @@ ghost use Rattle.std.specs.List.{flat_map};
 ghost use Rattle.script_text.specs.Canonical.{AddsLines};
 ghost use Rattle.step_core.specs.Totals.{IsAtEnd};
 ghost use Rattle.step_core.specs.Worlds.{scene};
-ghost use Rattle.step_table.specs.declared.cell_deed.Cell.{Cell};
+ghost use Rattle.step_table.specs.declared.cell_steps.cell_deed.Cell.{Cell};
 ghost use Rattle.step_threads.specs.Scenes.{state_in};
 ghost use Rattle.owner_graph.specs.Labels.{at};
 ghost use Rattle.owner_graph.specs.Owners.{source};

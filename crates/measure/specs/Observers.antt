@@ -3,8 +3,8 @@ use Rattle.std.specs.Prelude.{◌≡◌, List, IfSome, Option, None, Some}
 use Rattle.std.specs.List.{fold}
 use Rattle.control_word.specs.Handles.{handle}
 use Rattle.control_word.specs.State.{Has}
-use Rattle.control_word.specs.declared.handle.Handle.{Handle}
-use Rattle.control_word.specs.declared.handle.Kind.TheVariants.{Owner, Weak}
+use Rattle.control_word.specs.declared.model.handle.Handle.{Handle}
+use Rattle.control_word.specs.declared.model.handle.Kind.TheVariants.{Owner, Weak}
 use Rattle.control_word.specs.declared.place.Block.{Block}
 use Rattle.control_block.specs.declared.handles.Shared.{Shared}
 use Rattle.control_block.specs.CellCalls.{with_handle}

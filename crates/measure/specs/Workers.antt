@@ -1,6 +1,6 @@
 -- What the threads of a row are lent, between two rows.
 use Rattle.std.specs.Prelude.{◌≡◌, ◌<◌, [], Some}
-use Rattle.control_word.specs.declared.handle.Kind.TheVariants.{Owner}
+use Rattle.control_word.specs.declared.model.handle.Kind.TheVariants.{Owner}
 use Rattle.control_word.specs.declared.place.Block.{Block}
 use Rattle.control_block.specs.Desks.{Belongs, DeskNow, DomainNow, allowance_of, bag_of}
 use Rattle.control_block.specs.declared.handles.Shared.{Shared}

@@ -1,7 +1,7 @@
 //! Workers: desks that are cut from one desk, each with an object of its own and an owner of a common one.
 ghost use Rattle.std.specs.Prelude.{◌≡◌, ◌+◌, ◌∷◌, ◌≤◌, ◌<◌, [], IfErr, IfOk, IfSome};
 ghost use Rattle.std.specs.Prelude.{MatchOption, Some, length};
-ghost use Rattle.control_word.specs.declared.handle.Kind.TheVariants.{Owner};
+ghost use Rattle.control_word.specs.declared.model.handle.Kind.TheVariants.{Owner};
 ghost use Rattle.control_word.specs.declared.place.Block.{Block};
 ghost use Rattle.control_block.specs.Desks.{Belongs, allowance_of, bag_of, stock_of};
 ghost use Rattle.control_block.specs.CellCalls.{HoldsHandle, with_handle, without_handle};

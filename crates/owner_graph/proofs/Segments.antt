@@ -3,8 +3,8 @@ use Rattle.std.proofs.Common.{◌≡◌, ◌≢◌, inl, inr, ◌⊎◌, ℕ, ze
 use Rattle.std.proofs.Common.{cond, List, refl, sym, ap, subst, ◌∙◌, arith, nat_lt}
 use Rattle.std.specs.Prelude.{◌≤◌, All}
 use Rattle.std.proofs.lemmas.Bool.{and_from, cases_lt, cond-false, cond-true, eq-eqb, le-ltb, lt-ltb, ltb-true}
-use Rattle.step_table.specs.declared.cell_deed.Cell.{Cell}
-use Rattle.step_table.specs.declared.cell_deed.Cell.TheVariants.{Free, Member}
+use Rattle.step_table.specs.declared.cell_steps.cell_deed.Cell.{Cell}
+use Rattle.step_table.specs.declared.cell_steps.cell_deed.Cell.TheVariants.{Free, Member}
 use Rattle.owner_graph.specs.declared.holding.Holding.{Holding}
 use Rattle.owner_graph.specs.Ends.{EndsWithOwners, EndsWhenCut, same_cell, without_cell}
 use Rattle.owner_graph.specs.Ends.EndsWithOwners.{Ended}
@@ -12,7 +12,7 @@ use Rattle.owner_graph.specs.Fed.{marked}
 use Rattle.owner_graph.specs.Knots.{KnotsAre}
 use Rattle.owner_graph.specs.Labels.{at}
 use Rattle.owner_graph.specs.Owners.{IsAmong, is_owner, source}
-use Rattle.owner_graph.specs.declared.planning.Plan.{Plan}
+use Rattle.owner_graph.specs.declared.guesses.planning.Plan.{Plan}
 use Rattle.owner_graph.specs.Plans.{StaysOrLeadsOn, IsBounded, IsPlanned, IsSure, number}
 use Rattle.owner_graph.proofs.Cutting.{knot_label}
 use Rattle.owner_graph.proofs.Feeding.{owner_among, still_owned}

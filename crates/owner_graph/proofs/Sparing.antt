@@ -3,8 +3,8 @@ use Rattle.std.proofs.Common.{◌≡◌, ◌≢◌, inl, inr, ℕ, zero, suc, �
 use Rattle.std.proofs.Common.{List, [], ◌∷◌, length, refl, sym, ap, subst, ◌∙◌, ⊎_elim, arith}
 use Rattle.std.specs.Prelude.{◌≤◌, All}
 use Rattle.std.proofs.lemmas.Bool.{and_parts, cases_eq, eqb-true}
-use Rattle.step_table.specs.declared.cell_deed.Cell.{Cell}
-use Rattle.step_table.specs.declared.cell_deed.Cell.TheVariants.{Free, Member}
+use Rattle.step_table.specs.declared.cell_steps.cell_deed.Cell.{Cell}
+use Rattle.step_table.specs.declared.cell_steps.cell_deed.Cell.TheVariants.{Free, Member}
 use Rattle.owner_graph.specs.declared.holding.Holding.{Holding}
 use Rattle.owner_graph.specs.Ends.{EndsWithOwners, EndsWhenCut, same_cell, without_cell}
 use Rattle.owner_graph.specs.Ends.EndsWithOwners.{Ended}
@@ -12,7 +12,7 @@ use Rattle.owner_graph.specs.Fed.{marked}
 use Rattle.owner_graph.specs.Knots.{IsLeast, KnotsAre}
 use Rattle.owner_graph.specs.Labels.{at}
 use Rattle.owner_graph.specs.Owners.{IsAmong, Owns, is_owner, source}
-use Rattle.owner_graph.specs.declared.ringing.Ring.{Ring}
+use Rattle.owner_graph.specs.declared.guesses.ringing.Ring.{Ring}
 use Rattle.owner_graph.specs.Plans.{IsLinked, IsSpared, holding_listed, number}
 use Rattle.owner_graph.proofs.Cutting.{knot_label, same_knot}
 use Rattle.owner_graph.proofs.Feeding.{owner_among, still_owned}

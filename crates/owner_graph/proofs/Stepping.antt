@@ -5,7 +5,7 @@ use Rattle.std.proofs.Common.{refl, sym, ap, subst, ◌∙◌, ⊎_elim, arith, 
 use Rattle.std.specs.Prelude.{◌≤◌, All, slice_index_or}
 use Rattle.std.proofs.lemmas.Bool.{cases_eq, cases_lt}
 use Rattle.std.proofs.lemmas.List.Elements.{All-head, All-tail}
-use Rattle.step_table.specs.declared.cell_deed.Cell.TheVariants.{Free, Member}
+use Rattle.step_table.specs.declared.cell_steps.cell_deed.Cell.TheVariants.{Free, Member}
 use Rattle.owner_graph.specs.declared.holding.Holding.{Holding}
 use Rattle.owner_graph.specs.Owners.{IsAmong, OwnersLead, Owns, is_owner, source}
 use Rattle.owner_graph.specs.Knots.{IsLeast, KeepEachOther, KnotsAre}

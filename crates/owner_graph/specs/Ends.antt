@@ -1,8 +1,8 @@
 -- What ends once a cell is emptied. All of it is own.
 use Rattle.std.specs.Prelude.{◌≢◌, ℕ, ◌≤◌, ◌==◌, ◌&&◌, Bool, false, cond, List, []}
 use Rattle.std.specs.Prelude.{◌∷◌}
-use Rattle.step_table.specs.declared.cell_deed.Cell.{Cell}
-use Rattle.step_table.specs.declared.cell_deed.Cell.TheVariants.{Free, Member}
+use Rattle.step_table.specs.declared.cell_steps.cell_deed.Cell.{Cell}
+use Rattle.step_table.specs.declared.cell_steps.cell_deed.Cell.TheVariants.{Free, Member}
 use Rattle.owner_graph.specs.declared.holding.Holding.{Holding}
 use Rattle.owner_graph.specs.Owners.{Owns}
 use Rattle.owner_graph.specs.Knots.{KeepEachOther}

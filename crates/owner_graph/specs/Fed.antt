@@ -1,7 +1,7 @@
 -- Which blocks an owner in a staying block is on. All of it is own.
 use Rattle.std.specs.Prelude.{◌≡◌, ◌≢◌, ◌⊎◌, ◌↔◌, ℕ, suc, ◌<◌, ◌≤◌, Bool, true}
 use Rattle.std.specs.Prelude.{false, cond, List, [], ◌∷◌, length, slice_index_or}
-use Rattle.step_table.specs.declared.cell_deed.Cell.{Cell}
+use Rattle.step_table.specs.declared.cell_steps.cell_deed.Cell.{Cell}
 use Rattle.owner_graph.specs.declared.holding.Holding.{Holding}
 use Rattle.owner_graph.specs.Ends.{EndsWithOwners, same_cell}
 use Rattle.owner_graph.specs.Owners.{Owns, is_owner, source}

@@ -1,11 +1,11 @@
 -- Knots in segments, from one cut to the next, and rings, for which no other cell is needed. All of it is own.
 use Rattle.std.specs.Prelude.{◌≡◌, ◌≢◌, ◌⊎◌, ℕ, ◌+◌, ◌*◌, ◌<◌, ◌≤◌, true, false}
 use Rattle.std.specs.Prelude.{All, Bool, List, length, get_or}
-use Rattle.step_table.specs.declared.cell_deed.Cell.{Cell}
-use Rattle.step_table.specs.declared.cell_deed.Cell.TheVariants.{Free, Member}
+use Rattle.step_table.specs.declared.cell_steps.cell_deed.Cell.{Cell}
+use Rattle.step_table.specs.declared.cell_steps.cell_deed.Cell.TheVariants.{Free, Member}
 use Rattle.owner_graph.specs.declared.holding.Holding.{Holding}
-use Rattle.owner_graph.specs.declared.planning.Plan.{Plan}
-use Rattle.owner_graph.specs.declared.ringing.Ring.{Ring}
+use Rattle.owner_graph.specs.declared.guesses.planning.Plan.{Plan}
+use Rattle.owner_graph.specs.declared.guesses.ringing.Ring.{Ring}
 use Rattle.owner_graph.specs.Fed.{marked}
 use Rattle.owner_graph.specs.Labels.{at}
 use Rattle.owner_graph.specs.Owners.{is_owner, source}

@@ -6,7 +6,7 @@ ghost use Rattle.owner_graph.specs.Owners.{is_owner, source};
 use crate::holding::Holding;
 use directed_graph::Edge;
 use std::alloc::{AllocError, Global};
-use step_table::cell_deed::Cell;
+use step_table::cell_steps::cell_deed::Cell;
 
 /// Whether a cell holds an owner (own): one of the first free cells, of which so many are shared, or `first` or `next`
 /// of an object.

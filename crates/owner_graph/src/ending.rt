@@ -7,11 +7,11 @@ ghost use Rattle.owner_graph.specs.Knots.{KnotsAre};
 ghost use Rattle.owner_graph.specs.Owners.{IsAmong};
 
 use crate::edges::{is_owner, source};
+use crate::guesses::layers::{are_layers, guessed_layers};
+use crate::guesses::search::at;
 use crate::holding::Holding;
-use crate::layers::{are_layers, guessed_layers};
-use crate::search::at;
 use std::alloc::{AllocError, Global};
-use step_table::cell_deed::Cell;
+use step_table::cell_steps::cell_deed::Cell;
 
 /// Whether two cells are one (own).
 pub fn same_cell(one: Cell, other: Cell) -> bool

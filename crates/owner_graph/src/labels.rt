@@ -5,10 +5,10 @@ ghost use Rattle.owner_graph.specs.Labels.{at};
 ghost use Rattle.owner_graph.specs.Owners.{IsAmong};
 
 use crate::grouping::by_block;
+use crate::guesses::search::{Guess, at, guessed};
 use crate::holding::Holding;
 use crate::keeping::knot;
-use crate::looking::are_knots;
-use crate::search::{Guess, at, guessed};
+use crate::looks::looking::are_knots;
 use directed_graph::GraphError;
 use std::alloc::{AllocError, Global};
 

@@ -1,22 +1,15 @@
 //! Which blocks owners keep, and which keep each other, by the cells that hold handles on them.
 #![tactic(auto)]
 
-mod checking;
 mod edges;
 mod ending;
 mod grouping;
+mod guesses;
 mod holding;
 mod keeping;
 mod labels;
-mod layers;
-mod looking;
-mod ordering;
-mod planning;
-mod ringing;
-mod rings;
-mod search;
+mod looks;
 mod tying;
-mod web;
 
 pub use directed_graph::GraphError;
 pub use edges::{is_owner, source};

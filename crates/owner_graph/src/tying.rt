@@ -8,14 +8,14 @@ ghost use Rattle.owner_graph.specs.Owners.{IsAmong, source};
 ghost use Rattle.owner_graph.specs.Plans.{IsRight, IsRing, IsSpared, IsSure};
 ghost use Rattle.owner_graph.specs.Ties.{AreCuts, is_tie, ties, ties_by};
 
-use crate::checking::{is_right, is_sure};
 use crate::edges::{is_owner, source};
 use crate::ending::is_cut;
+use crate::guesses::planning::{CutGuess, Plan, guessed_cuts};
+use crate::guesses::ringing::{Ring, Rings};
+use crate::guesses::search::at;
 use crate::holding::Holding;
-use crate::planning::{CutGuess, Plan, guessed_cuts};
-use crate::ringing::{Ring, Rings};
-use crate::rings::{is_ring, is_spared};
-use crate::search::at;
+use crate::looks::checking::{is_right, is_sure};
+use crate::looks::rings::{is_ring, is_spared};
 use control_word::Block;
 use std::alloc::{AllocError, Global};
 

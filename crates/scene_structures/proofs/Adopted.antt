@@ -8,9 +8,9 @@ use Rattle.control_word.specs.Events.{place_at}
 use Rattle.control_word.specs.Handles.{object_of, owner}
 use Rattle.control_word.specs.Histories.{IsLegal}
 use Rattle.control_word.specs.State.{Object, State}
-use Rattle.control_word.specs.declared.event.Cell.{Cell}
-use Rattle.control_word.specs.declared.event.Cell.TheVariants.{Member}
-use Rattle.control_word.specs.declared.event.Event.TheVariants.{Make}
+use Rattle.control_word.specs.declared.model.event.Cell.{Cell}
+use Rattle.control_word.specs.declared.model.event.Cell.TheVariants.{Member}
+use Rattle.control_word.specs.declared.model.event.Event.TheVariants.{Make}
 use Rattle.control_word.specs.declared.place.Place.{Place}
 use Rattle.control_block.specs.CellCalls.{handle_in}
 use Rattle.control_block.specs.Desks.{DeskNow, latest_of, state_of}
@@ -20,7 +20,7 @@ use Rattle.control_block.proofs.Own.{goes_by_call}
 use Rattle.control_block.specs.declared.handles.Shared.{Shared}
 use Rattle.shared_handle.proofs.Goings.{does_one}
 use Rattle.control_word.proofs.history.Clearing.{was_made}
-use Rattle.control_word.specs.declared.handle.Kind.TheVariants.{Owner}
+use Rattle.control_word.specs.declared.model.handle.Kind.TheVariants.{Owner}
 use Rattle.control_block.specs.Desks.{bag_of}
 use Rattle.shared_handle.specs.Endings.{IsWithin}
 use Rattle.scene_structures.specs.Hands.{Lists, node_in}

@@ -9,10 +9,10 @@ use Rattle.control_word.proofs.lists.Tallies.{put_same}
 use Rattle.control_word.specs.Handles.{owner}
 use Rattle.control_word.specs.Histories.{IsLegal, entry, leads}
 use Rattle.control_word.specs.State.{Object, State, live}
-use Rattle.control_word.specs.declared.event.Cell.{Cell}
-use Rattle.control_word.specs.declared.event.Cell.TheVariants.{Free, Member}
-use Rattle.control_word.specs.declared.event.Event.TheVariants.{Compare, Make}
-use Rattle.control_word.specs.declared.event.Event.TheVariants.{Swap}
+use Rattle.control_word.specs.declared.model.event.Cell.{Cell}
+use Rattle.control_word.specs.declared.model.event.Cell.TheVariants.{Free, Member}
+use Rattle.control_word.specs.declared.model.event.Event.TheVariants.{Compare, Make}
+use Rattle.control_word.specs.declared.model.event.Event.TheVariants.{Swap}
 use Rattle.control_word.specs.declared.place.Place.{Place}
 use Rattle.control_block.proofs.Own.{goes_by_call, goes_in_turn}
 use Rattle.control_block.specs.Desks.{DeskNow, latest_of, state_of}

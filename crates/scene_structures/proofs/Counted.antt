@@ -4,7 +4,7 @@ use Rattle.std.proofs.lemmas.Bool.{cond-false}
 use Rattle.control_word.proofs.lists.Tallies.{tally_append}
 use Rattle.control_word.specs.Handles.{is_on}
 use Rattle.control_word.specs.State.{Has, Held, State, count, in_cells, tally}
-use Rattle.control_word.specs.declared.handle.Kind.TheVariants.{Owner}
+use Rattle.control_word.specs.declared.model.handle.Kind.TheVariants.{Owner}
 
 abbrev pub IsHandOf : ℕ → List Held → Held → Type 0
 IsHandOf o l x = Has x l × (is_on Owner o x.handle ≡ true)

@@ -6,9 +6,9 @@ use Rattle.std.proofs.lemmas.Option.{same_Some}
 use Rattle.control_word.proofs.lists.Tallies.{put_cases, put_other, put_same}
 use Rattle.control_word.specs.Events.{cell_of, swaps}
 use Rattle.control_word.specs.State.{Has, Object, State, put}
-use Rattle.control_word.specs.declared.event.Cell.{Cell}
-use Rattle.control_word.specs.declared.event.Cell.TheVariants.{Free, Member}
-use Rattle.control_word.specs.declared.handle.Handle.{Handle}
+use Rattle.control_word.specs.declared.model.event.Cell.{Cell}
+use Rattle.control_word.specs.declared.model.event.Cell.TheVariants.{Free, Member}
+use Rattle.control_word.specs.declared.model.handle.Handle.{Handle}
 use Rattle.scene_structures.specs.Chains.{Chain, IsList}
 use Rattle.scene_structures.proofs.Frames.{AllKept, Keeps, chain_kept}
 use Rattle.scene_structures.proofs.Heads.{IsHead, cell_put}

@@ -4,12 +4,12 @@ use Rattle.std.proofs.Common.{sym, ap, subst, ◌∙◌, arith}
 use Rattle.std.proofs.lemmas.List.Elements.{All-append}
 use Rattle.control_word.specs.Handles.{handle, object_of}
 use Rattle.control_word.specs.Histories.{IsLegal}
-use Rattle.control_word.specs.declared.event.Cell.{Cell}
-use Rattle.control_word.specs.declared.event.Cell.TheVariants.{Member}
-use Rattle.control_word.specs.declared.event.Event.TheVariants.{Compare, Load}
-use Rattle.control_word.specs.declared.handle.Handle.{Handle}
+use Rattle.control_word.specs.declared.model.event.Cell.{Cell}
+use Rattle.control_word.specs.declared.model.event.Cell.TheVariants.{Member}
+use Rattle.control_word.specs.declared.model.event.Event.TheVariants.{Compare, Load}
+use Rattle.control_word.specs.declared.model.handle.Handle.{Handle}
 use Rattle.control_word.specs.State.{Has}
-use Rattle.control_word.specs.declared.handle.Kind.TheVariants.{Owner}
+use Rattle.control_word.specs.declared.model.handle.Kind.TheVariants.{Owner}
 use Rattle.control_word.specs.declared.place.Block.{Block}
 use Rattle.control_word.specs.declared.place.Place.{Place}
 use Rattle.control_block.proofs.Bags.{shown_held}
@@ -31,8 +31,8 @@ use Rattle.scene_structures.specs.Detaches.{CutsOut, HandsSought, HeldSought, Is
 use Rattle.scene_structures.specs.Hands.{HasHands, KeepsHeld, KeepsThese, Lists, SameNode, node_in, stacked}
 use Rattle.scene_structures.specs.Puts.{PutsOnly, in_no_cell}
 use Rattle.scene_structures.specs.Stacks.{FindsNone}
-use Rattle.scene_structures.specs.declared.cutting.Sought.{Sought}
-use Rattle.scene_structures.specs.declared.cutting.Sought.TheVariants.{Cut, End, Other}
+use Rattle.scene_structures.specs.declared.lists.cutting.Sought.{Sought}
+use Rattle.scene_structures.specs.declared.lists.cutting.Sought.TheVariants.{Cut, End, Other}
 use Rattle.scene_structures.proofs.Hands.{hands_first}
 use Rattle.scene_structures.proofs.Pruned.{Left}
 use Rattle.scene_structures.proofs.Rows.{does_wider, parting_puts}

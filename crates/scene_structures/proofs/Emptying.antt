@@ -7,9 +7,9 @@ use Rattle.control_word.proofs.lists.Tallies.{put_other, put_same}
 use Rattle.control_word.specs.Events.{clears, finishes, moved_to, weak_leaves}
 use Rattle.control_word.specs.Handles.{empty}
 use Rattle.control_word.specs.State.{Has, Object, Opening, State, ending, gone, held, kind_of_member, live, put}
-use Rattle.control_word.specs.declared.event.Event.TheVariants.{ClearMember, Finish, WeakLeave}
-use Rattle.control_word.specs.declared.handle.Handle.{Handle}
-use Rattle.control_word.specs.declared.handle.Kind.TheVariants.{Weak}
+use Rattle.control_word.specs.declared.model.event.Event.TheVariants.{ClearMember, Finish, WeakLeave}
+use Rattle.control_word.specs.declared.model.handle.Handle.{Handle}
+use Rattle.control_word.specs.declared.model.handle.Kind.TheVariants.{Weak}
 use Rattle.control_word.specs.declared.place.Block.{Block}
 use Rattle.control_word.specs.declared.place.Place.{Place}
 use Rattle.control_block.specs.Desks.{AddsEvent, DeskNow, latest_of, on_latest, state_of}

@@ -10,8 +10,8 @@ use Rattle.control_word.proofs.lists.Sums.{sum_ones, sum_put, sum_zero}
 use Rattle.control_word.proofs.lists.Tallies.{put_cases, put_other}
 use Rattle.control_word.specs.Histories.{IsLegal}
 use Rattle.control_word.specs.State.{Has, Opening, State, common, live, put, sum_below}
-use Rattle.control_word.specs.declared.event.Cell.TheVariants.{Free}
-use Rattle.control_word.specs.declared.handle.Handle.{Handle}
+use Rattle.control_word.specs.declared.model.event.Cell.TheVariants.{Free}
+use Rattle.control_word.specs.declared.model.handle.Handle.{Handle}
 use Rattle.control_block.specs.Desks.{DeskNow, state_of}
 use Rattle.control_block.specs.Rule.{opening_of}
 use Rattle.scene_structures.specs.Chains.{Chain}

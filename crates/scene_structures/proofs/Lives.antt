@@ -9,9 +9,9 @@ use Rattle.control_word.specs.Events.{after, moved_to}
 use Rattle.control_word.specs.Handles.{empty, object_of}
 use Rattle.control_word.specs.Histories.{IsLegal, entry, leads}
 use Rattle.control_word.specs.State.{Object, Opening, State, ending, gone, kind_of_member, live, put}
-use Rattle.control_word.specs.declared.event.Event.{Event}
-use Rattle.control_word.specs.declared.event.Entry.{Entry}
-use Rattle.control_word.specs.declared.event.Event.TheVariants.{ClearMember, Finish, Leave, WeakLeave}
+use Rattle.control_word.specs.declared.model.event.Event.{Event}
+use Rattle.control_word.specs.declared.model.event.Entry.{Entry}
+use Rattle.control_word.specs.declared.model.event.Event.TheVariants.{ClearMember, Finish, Leave, WeakLeave}
 use Rattle.shared_handle.specs.Piles.{IsParting}
 use Rattle.scene_structures.specs.Puts.{in_no_cell}
 use Rattle.std.specs.Prelude.{All}

@@ -8,9 +8,9 @@ use Rattle.control_word.specs.Events.{after, moved_to}
 use Rattle.control_word.specs.Handles.{empty, object_of}
 use Rattle.control_word.specs.Histories.{IsLegal, leads}
 use Rattle.control_word.specs.State.{Object, State, ending, gone, kind_of_member, put}
-use Rattle.control_word.specs.declared.event.Event.{Event}
-use Rattle.control_word.specs.declared.event.Event.TheVariants.{ClearMember, Finish, Leave, WeakLeave}
-use Rattle.control_word.specs.declared.handle.Handle.{Handle}
+use Rattle.control_word.specs.declared.model.event.Event.{Event}
+use Rattle.control_word.specs.declared.model.event.Event.TheVariants.{ClearMember, Finish, Leave, WeakLeave}
+use Rattle.control_word.specs.declared.model.handle.Handle.{Handle}
 use Rattle.control_block.proofs.Endings.{ends_here, still_ends}
 use Rattle.control_block.specs.Desks.{AddsEvent, DeskNow, IsEnding, Keeps, KeepsEndings, endings_of, latest_of, member_in, object_in, state_of}
 use Rattle.control_block.specs.Rule.{opening_of}

@@ -9,9 +9,9 @@ use Rattle.control_word.specs.Events.{Asks, after, leaves, moved_to}
 use Rattle.control_word.specs.Handles.{owner}
 use Rattle.control_word.specs.Histories.{IsLegal, leads, value, valued}
 use Rattle.control_word.specs.State.{Has, Object, State, count, ending, held, live}
-use Rattle.control_word.specs.declared.event.Event.{Event}
-use Rattle.control_word.specs.declared.event.Event.TheVariants.{Leave}
-use Rattle.control_word.specs.declared.handle.Kind.TheVariants.{Owner}
+use Rattle.control_word.specs.declared.model.event.Event.{Event}
+use Rattle.control_word.specs.declared.model.event.Event.TheVariants.{Leave}
+use Rattle.control_word.specs.declared.model.handle.Kind.TheVariants.{Owner}
 use Rattle.control_word.specs.declared.place.Block.{Block}
 use Rattle.control_word.specs.declared.place.Place.{Place}
 use Rattle.control_block.specs.CellCalls.{handle_in}

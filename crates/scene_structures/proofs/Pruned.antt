@@ -2,12 +2,12 @@
 use Rattle.std.proofs.Common.{◌≡◌, ◌+◌, ℕ, Bool, List, [], ◌∷◌, MatchOption, Option, None, Some, Ok, arith, refl, sym, ap, subst, ◌∙◌}
 use Rattle.control_word.specs.Handles.{handle, object_of}
 use Rattle.control_word.specs.State.{Has}
-use Rattle.control_word.specs.declared.event.Cell.{Cell}
-use Rattle.control_word.specs.declared.event.Cell.TheVariants.{Member}
-use Rattle.control_word.specs.declared.event.Event.{Event}
-use Rattle.control_word.specs.declared.event.Event.TheVariants.{Load, Swap}
-use Rattle.control_word.specs.declared.handle.Handle.{Handle}
-use Rattle.control_word.specs.declared.handle.Kind.TheVariants.{Owner, Weak}
+use Rattle.control_word.specs.declared.model.event.Cell.{Cell}
+use Rattle.control_word.specs.declared.model.event.Cell.TheVariants.{Member}
+use Rattle.control_word.specs.declared.model.event.Event.{Event}
+use Rattle.control_word.specs.declared.model.event.Event.TheVariants.{Load, Swap}
+use Rattle.control_word.specs.declared.model.handle.Handle.{Handle}
+use Rattle.control_word.specs.declared.model.handle.Kind.TheVariants.{Owner, Weak}
 use Rattle.control_word.specs.declared.place.Block.{Block}
 use Rattle.control_word.specs.declared.place.Place.{Place}
 use Rattle.control_word.specs.declared.shape.Shape.{Shape}

@@ -9,9 +9,9 @@ use Rattle.control_word.specs.Events.{cell_of}
 use Rattle.control_word.specs.Handles.{object_of}
 use Rattle.control_word.specs.Histories.{IsLegal, entry, leads}
 use Rattle.control_word.specs.State.{Has, State}
-use Rattle.control_word.specs.declared.event.Cell.{Cell}
-use Rattle.control_word.specs.declared.event.Cell.TheVariants.{Member}
-use Rattle.control_word.specs.declared.handle.Handle.{Handle}
+use Rattle.control_word.specs.declared.model.event.Cell.{Cell}
+use Rattle.control_word.specs.declared.model.event.Cell.TheVariants.{Member}
+use Rattle.control_word.specs.declared.model.handle.Handle.{Handle}
 use Rattle.control_block.specs.Desks.{DeskNow, state_of}
 use Rattle.control_block.specs.Own.{Does, IsSole}
 use Rattle.control_block.specs.Rule.{opening_of}

@@ -12,10 +12,10 @@ use Rattle.control_word.specs.Events.{Asks, Holds, after, leaves, moved_to}
 use Rattle.control_word.specs.Handles.{object_of}
 use Rattle.control_word.specs.Histories.{IsLegal, leads}
 use Rattle.control_word.specs.State.{Object, Opening, Phase, State, common, ending, gone, live, put, sum_below, unmade}
-use Rattle.control_word.specs.declared.event.Event.{Event}
-use Rattle.control_word.specs.declared.event.Event.TheVariants.{ClearMember, Finish, Leave, WeakLeave}
-use Rattle.control_word.specs.declared.handle.Handle.{Handle}
-use Rattle.control_word.specs.declared.handle.Kind.TheVariants.{Owner}
+use Rattle.control_word.specs.declared.model.event.Event.{Event}
+use Rattle.control_word.specs.declared.model.event.Event.TheVariants.{ClearMember, Finish, Leave, WeakLeave}
+use Rattle.control_word.specs.declared.model.handle.Handle.{Handle}
+use Rattle.control_word.specs.declared.model.handle.Kind.TheVariants.{Owner}
 use Rattle.control_word.specs.declared.place.Block.{Block}
 use Rattle.control_word.specs.declared.place.Place.{Place}
 use Rattle.control_word.specs.declared.shape.Shape.{Shape}

@@ -13,10 +13,10 @@ use Rattle.control_word.specs.Handles.{IsFormed, empty, handle, owner}
 use Rattle.control_word.specs.State.{Has, Held, Object, Opening, State, common, count, ending, gone, handles, held, in_cells, kind_of_member, live}
 use Rattle.control_word.specs.State.{members}
 use Rattle.control_word.specs.State.{put, same_held, tally, upto, without}
-use Rattle.control_word.specs.declared.event.Cell.TheVariants.{Member}
-use Rattle.control_word.specs.declared.handle.Handle.{Handle}
-use Rattle.control_word.specs.declared.handle.Kind.{Kind}
-use Rattle.control_word.specs.declared.handle.Kind.TheVariants.{Owner, Weak}
+use Rattle.control_word.specs.declared.model.event.Cell.TheVariants.{Member}
+use Rattle.control_word.specs.declared.model.handle.Handle.{Handle}
+use Rattle.control_word.specs.declared.model.handle.Kind.{Kind}
+use Rattle.control_word.specs.declared.model.handle.Kind.TheVariants.{Owner, Weak}
 use Rattle.control_word.specs.declared.place.Place.{Place}
 use Rattle.scene_structures.specs.Trees.{IsTree, Tree, bare, node}
 

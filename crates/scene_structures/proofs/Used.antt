@@ -7,9 +7,9 @@ use Rattle.control_word.proofs.lists.Tallies.{handle_self, put_again, put_cases,
 use Rattle.control_word.specs.Events.{Asks, after, moved_to}
 use Rattle.control_word.specs.Handles.{empty, object_of, same_handle}
 use Rattle.control_word.specs.State.{Object, Opening, State, count, ending, gone, kind_of_member, live, put}
-use Rattle.control_word.specs.declared.event.Event.{Event}
-use Rattle.control_word.specs.declared.event.Event.TheVariants.{ClearMember, Finish, Leave, Load, Lock, Read, Share, WeakLeave}
-use Rattle.control_word.specs.declared.handle.Handle.{Handle}
+use Rattle.control_word.specs.declared.model.event.Event.{Event}
+use Rattle.control_word.specs.declared.model.event.Event.TheVariants.{ClearMember, Finish, Leave, Load, Lock, Read, Share, WeakLeave}
+use Rattle.control_word.specs.declared.model.handle.Handle.{Handle}
 use Rattle.scene_structures.specs.Puts.{PutsOnly, in_no_cell}
 use Rattle.scene_structures.specs.Walks.{IsLooking}
 use Rattle.scene_structures.proofs.Heads.{live_before}

@@ -2,11 +2,11 @@
 use Rattle.std.specs.Prelude.{◌≡◌, ◌≢◌, ℕ, ◌+◌, Bool, true, false, List, []}
 use Rattle.std.specs.Prelude.{◌∷◌, MatchOption, Option, None, Some}
 use Rattle.control_word.specs.Handles.{empty, object_of}
-use Rattle.control_word.specs.declared.event.Cell.{Cell}
-use Rattle.control_word.specs.declared.event.Cell.TheVariants.{Member}
-use Rattle.control_word.specs.declared.event.Event.TheVariants.{Compare, Load}
-use Rattle.control_word.specs.declared.handle.Handle.{Handle}
-use Rattle.control_word.specs.declared.handle.Kind.TheVariants.{Owner, Weak}
+use Rattle.control_word.specs.declared.model.event.Cell.{Cell}
+use Rattle.control_word.specs.declared.model.event.Cell.TheVariants.{Member}
+use Rattle.control_word.specs.declared.model.event.Event.TheVariants.{Compare, Load}
+use Rattle.control_word.specs.declared.model.handle.Handle.{Handle}
+use Rattle.control_word.specs.declared.model.handle.Kind.TheVariants.{Owner, Weak}
 use Rattle.control_block.specs.Desks.{AddsEvent, DeskNow}
 use Rattle.control_block.specs.Own.{Does}
 use Rattle.control_block.specs.declared.handles.Shared.{Shared}
@@ -17,8 +17,8 @@ use Rattle.scene_structures.specs.Parents.{LocksUp}
 use Rattle.scene_structures.specs.Puts.{PutsOnly, in_no_cell}
 use Rattle.scene_structures.specs.Stacks.{Fills, FindsNone}
 use Rattle.scene_structures.specs.Watches.{Watches}
-use Rattle.scene_structures.specs.declared.cutting.Sought.{Sought}
-use Rattle.scene_structures.specs.declared.cutting.Sought.TheVariants.{Cut, End, Other}
+use Rattle.scene_structures.specs.declared.lists.cutting.Sought.{Sought}
+use Rattle.scene_structures.specs.declared.lists.cutting.Sought.TheVariants.{Cut, End, Other}
 
 module _ {V : Type 0} where
   -- what was found in a cell: no node, or this

@@ -3,9 +3,9 @@ use Rattle.std.specs.Prelude.{◌≡◌, ℕ, ◌<◌, ◌⊎◌, true, false, L
 use Rattle.control_word.specs.Events.{cell_of}
 use Rattle.control_word.specs.Handles.{empty}
 use Rattle.control_word.specs.State.{Has, State, live}
-use Rattle.control_word.specs.declared.event.Cell.{Cell}
-use Rattle.control_word.specs.declared.event.Cell.TheVariants.{Free, Member}
-use Rattle.control_word.specs.declared.handle.Kind.TheVariants.{Owner, Weak}
+use Rattle.control_word.specs.declared.model.event.Cell.{Cell}
+use Rattle.control_word.specs.declared.model.event.Cell.TheVariants.{Free, Member}
+use Rattle.control_word.specs.declared.model.handle.Kind.TheVariants.{Owner, Weak}
 use Rattle.control_block.specs.Desks.{DeskNow, state_of}
 use Rattle.scene_structures.specs.Prunes.{is_owned}
 use Rattle.scene_structures.specs.Puts.{in_no_cell}

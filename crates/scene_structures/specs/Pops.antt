@@ -1,15 +1,15 @@
 -- What came of tries to take the top node (own).
 use Rattle.std.specs.Prelude.{◌≡◌, ℕ, ◌+◌, List, [], ◌∷◌, Some}
-use Rattle.control_word.specs.declared.event.Cell.{Cell}
-use Rattle.control_word.specs.declared.handle.Handle.{Handle}
+use Rattle.control_word.specs.declared.model.event.Cell.{Cell}
+use Rattle.control_word.specs.declared.model.handle.Handle.{Handle}
 use Rattle.control_word.specs.Handles.{owner}
 use Rattle.control_word.specs.declared.place.Place.{Place}
 use Rattle.control_block.specs.Desks.{DeskNow}
 use Rattle.control_block.specs.declared.handles.Shared.{Shared}
 use Rattle.scene_structures.specs.Hands.{HasHands, node_in}
 use Rattle.scene_structures.specs.Stacks.{FindsNone, Looks, PopsNode}
-use Rattle.scene_structures.specs.declared.popping.Tried.{Tried}
-use Rattle.scene_structures.specs.declared.popping.Tried.TheVariants.{Again, Found, Took}
+use Rattle.scene_structures.specs.declared.lists.popping.Tried.{Tried}
+use Rattle.scene_structures.specs.declared.lists.popping.Tried.TheVariants.{Again, Found, Took}
 
 module _ {V : Type 0} where
   -- the handle that came out is the node that went out of the cell

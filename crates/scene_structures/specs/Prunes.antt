@@ -4,12 +4,12 @@ use Rattle.std.specs.Prelude.{◌∷◌}
 use Rattle.std.specs.Prelude.{Option, MatchOption, None, Some, filter, length}
 use Rattle.control_word.specs.Handles.{object_of}
 use Rattle.control_word.specs.State.{State, count}
-use Rattle.control_word.specs.declared.event.Cell.{Cell}
-use Rattle.control_word.specs.declared.event.Cell.TheVariants.{Member}
-use Rattle.control_word.specs.declared.event.Event.{Event}
-use Rattle.control_word.specs.declared.event.Event.TheVariants.{Load, Swap}
-use Rattle.control_word.specs.declared.handle.Handle.{Handle}
-use Rattle.control_word.specs.declared.handle.Kind.TheVariants.{Weak}
+use Rattle.control_word.specs.declared.model.event.Cell.{Cell}
+use Rattle.control_word.specs.declared.model.event.Cell.TheVariants.{Member}
+use Rattle.control_word.specs.declared.model.event.Event.{Event}
+use Rattle.control_word.specs.declared.model.event.Event.TheVariants.{Load, Swap}
+use Rattle.control_word.specs.declared.model.handle.Handle.{Handle}
+use Rattle.control_word.specs.declared.model.handle.Kind.TheVariants.{Weak}
 use Rattle.control_word.specs.declared.place.Block.{Block}
 use Rattle.control_word.specs.declared.place.Place.{Place}
 use Rattle.control_block.specs.Desks.{AddsEvent, DeskNow, state_of}
@@ -22,8 +22,8 @@ use Rattle.atomic_cells.specs.Cells.{Loads}
 use Rattle.scene_structures.specs.Chains.{IsList}
 use Rattle.scene_structures.specs.Hands.{HasHands, SameNode, node_in}
 use Rattle.scene_structures.specs.Stacks.{FindsNone}
-use Rattle.scene_structures.specs.declared.pruning.Front.{Front}
-use Rattle.scene_structures.specs.declared.pruning.Front.TheVariants.{End, Gone, Stays}
+use Rattle.scene_structures.specs.declared.lists.pruning.Front.{Front}
+use Rattle.scene_structures.specs.declared.lists.pruning.Front.TheVariants.{End, Gone, Stays}
 
 -- what the handle is on has an owner
 abbrev pub is_owned : State → Handle → Bool

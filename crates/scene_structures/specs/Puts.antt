@@ -1,8 +1,8 @@
 -- Where an event puts something.
 use Rattle.std.specs.Prelude.{true}
-use Rattle.control_word.specs.declared.event.Cell.{Cell}
-use Rattle.control_word.specs.declared.event.Event.{Event}
-use Rattle.control_word.specs.declared.event.Event.TheVariants.{Compare, Join, Split, Swap}
+use Rattle.control_word.specs.declared.model.event.Cell.{Cell}
+use Rattle.control_word.specs.declared.model.event.Event.{Event}
+use Rattle.control_word.specs.declared.model.event.Event.TheVariants.{Compare, Join, Split, Swap}
 
 -- no cell
 abbrev pub in_no_cell : Cell → Type 0

@@ -9,7 +9,7 @@ use Rattle.shared_handle.specs.declared.pile.Gone.{Gone}
 use Rattle.shared_handle.specs.declared.pile.Gone.TheVariants as gone
 use Rattle.shared_handle.specs.declared.pile.Round.{Round}
 use Rattle.shared_handle.specs.declared.pile.Round.TheVariants as round
-use Rattle.scene_structures.specs.declared.ended.Ended.{Ended}
+use Rattle.scene_structures.specs.declared.tree.ended.Ended.{Ended}
 
 -- which slots are empty, counted from a number on
 abbrev pub empty_slots : {A : Type 0} → ℕ → List (Option A) → List ℕ

@@ -2,7 +2,7 @@
 use Rattle.std.specs.Prelude.{◌≡◌, ℕ, List, [], ◌∷◌, ◌++◌, map, Some, None}
 use Rattle.control_word.specs.Histories.{value}
 use Rattle.control_word.specs.State.{State, count}
-use Rattle.control_word.specs.declared.handle.Handle.{Handle}
+use Rattle.control_word.specs.declared.model.handle.Handle.{Handle}
 use Rattle.control_block.specs.Desks.{DeskNow, state_of}
 use Rattle.control_block.specs.Rule.{opening_of}
 use Rattle.control_block.specs.declared.handles.Shared.{Shared}

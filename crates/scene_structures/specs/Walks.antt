@@ -4,12 +4,13 @@ use Rattle.std.specs.Prelude.{List, [], ◌∷◌, ◌++◌, Option, None, Some}
 use Rattle.control_word.specs.Events.{place_at}
 use Rattle.control_word.specs.Handles.{has_object, object_of, owner}
 use Rattle.control_word.specs.State.{State, count}
-use Rattle.control_word.specs.declared.event.Cell.{Cell}
-use Rattle.control_word.specs.declared.event.Cell.TheVariants.{Member}
-use Rattle.control_word.specs.declared.event.Event.{Event}
-use Rattle.control_word.specs.declared.event.Event.TheVariants.{ClearMember, Finish, Leave, Load, Lock, Read, Share}
-use Rattle.control_word.specs.declared.event.Event.TheVariants.{WeakLeave}
-use Rattle.control_word.specs.declared.handle.Handle.{Handle}
+use Rattle.control_word.specs.declared.model.event.Cell.{Cell}
+use Rattle.control_word.specs.declared.model.event.Cell.TheVariants.{Member}
+use Rattle.control_word.specs.declared.model.event.Event.{Event}
+use Rattle.control_word.specs.declared.model.event.Event.TheVariants.{ClearMember, Finish, Leave, Load, Lock, Read}
+use Rattle.control_word.specs.declared.model.event.Event.TheVariants.{Share}
+use Rattle.control_word.specs.declared.model.event.Event.TheVariants.{WeakLeave}
+use Rattle.control_word.specs.declared.model.handle.Handle.{Handle}
 use Rattle.control_word.specs.declared.place.Block.{Block}
 use Rattle.control_block.specs.Desks.{AddsEvent, DeskNow, latest_of, state_of}
 use Rattle.control_block.specs.Own.{Does, Goes}
@@ -17,8 +18,8 @@ use Rattle.control_block.specs.declared.handles.Shared.{Shared}
 use Rattle.shared_handle.specs.Piles.{IsParting}
 use Rattle.scene_structures.specs.Chains.{IsList, OwnsObject}
 use Rattle.scene_structures.specs.Hands.{HasHands, node_in}
-use Rattle.scene_structures.specs.declared.walking.Visited.{Visited}
-use Rattle.scene_structures.specs.declared.walking.Visited.TheVariants.{End, Passed, Told}
+use Rattle.scene_structures.specs.declared.lists.walking.Visited.{Visited}
+use Rattle.scene_structures.specs.declared.lists.walking.Visited.TheVariants.{End, Passed, Told}
 
 -- what a visit to a node saw: what its `up` held, field 0 of the subject, if that has an owner, and what its `next`
 -- held

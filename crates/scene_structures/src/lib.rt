@@ -2,24 +2,14 @@
 //! scene tree.
 #![tactic(auto)]
 
-mod attaching;
-mod climbing;
-mod cutting;
-mod detaching;
-mod ended;
-mod endings;
+mod lists;
 mod observers;
 mod pause;
-mod popping;
-mod pruning;
-mod pushing;
-mod rounds;
 mod scene;
 mod stack;
-mod teardown;
-mod walking;
+mod tree;
 
 pub use observers::Observers;
 pub use scene::Scene;
 pub use stack::Stack;
-pub use teardown::tear_down;
+pub use tree::teardown::tear_down;

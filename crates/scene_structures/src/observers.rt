@@ -1,8 +1,8 @@
 //! Observers in a free shared cell: a list of nodes, each of which watches a subject by a weak pointer (own).
 ghost use Rattle.std.specs.Prelude.{◌≡◌, ◌↔◌, ◌+◌, ◌<◌, ◌%◌, ◌^◌, ℕ, List, [], None};
 ghost use Rattle.std.specs.Prelude.{IfErr, IfOk, IsErr, OnOk};
-ghost use Rattle.control_word.specs.declared.event.Cell.TheVariants.{Free};
-ghost use Rattle.control_word.specs.declared.handle.Kind.TheVariants.{Owner};
+ghost use Rattle.control_word.specs.declared.model.event.Cell.TheVariants.{Free};
+ghost use Rattle.control_word.specs.declared.model.handle.Kind.TheVariants.{Owner};
 ghost use Rattle.control_block.specs.Desks.{Belongs, IsSameDesk, KeepsEndings, allowance_of, bag_of, endings_of};
 ghost use Rattle.control_block.specs.Desks.{held_of, stock_of};
 ghost use Rattle.control_block.specs.Own.{IsSole};
@@ -14,11 +14,11 @@ ghost use Rattle.scene_structures.specs.Prunes.{IsPruned, Prunes};
 ghost use Rattle.scene_structures.specs.Stacks.{StandsIn};
 ghost use Rattle.scene_structures.specs.Walks.{IsToldList, WalksOver};
 
-use crate::attaching::watch;
-use crate::pruning::clear_list;
-use crate::pushing::{Attempt, raise};
+use crate::lists::attaching::watch;
+use crate::lists::pruning::clear_list;
+use crate::lists::pushing::{Attempt, raise};
+use crate::lists::walking::walk;
 use crate::stack::is_near_limit;
-use crate::walking::walk;
 use atomic_cells::SharedAt;
 use control_block::desk::Desk;
 use control_block::domain::Domain;

@@ -1,6 +1,6 @@
 //! A scene tree: each node owns its first child and its next sibling, and points back at its parent (own).
 ghost use Rattle.std.specs.Prelude.{◌≡◌, ◌+◌, [], ◌↔◌, length, IfErr, IfOk, IsTrue, OnOk};
-ghost use Rattle.control_word.specs.declared.handle.Kind.TheVariants.{Owner};
+ghost use Rattle.control_word.specs.declared.model.handle.Kind.TheVariants.{Owner};
 ghost use Rattle.control_block.specs.Desks.{IsSameDesk, bag_of};
 ghost use Rattle.control_block.specs.Own.{IsSole};
 ghost use Rattle.control_block.specs.CellCalls.{HoldsHandle, with_handle};
@@ -10,8 +10,8 @@ ghost use Rattle.scene_structures.specs.Scenes.{Adopts, IsAdopted, MayHaveChild,
 ghost use Rattle.scene_structures.specs.Stacks.{ServesDomain};
 ghost use Rattle.scene_structures.specs.Others.{KeepsOthers};
 
-use crate::attaching::watch;
-use crate::pushing::{Attempt, raise};
+use crate::lists::attaching::watch;
+use crate::lists::pushing::{Attempt, raise};
 use crate::stack::is_near_limit;
 use atomic_cells::{SharedAt, SharedMember};
 use control_block::desk::Desk;

@@ -1,8 +1,8 @@
 //! A stack in a free shared cell, which threads push on and pop from without a lock (own).
 ghost use Rattle.std.specs.Prelude.{◌≡◌, ◌↔◌, ◌+◌, ◌<◌, [], MatchOption, IfErr, IfOk, IfSome};
 ghost use Rattle.std.specs.Prelude.{IsErr, IsTrue, OnOk};
-ghost use Rattle.control_word.specs.declared.event.Cell.TheVariants.{Free};
-ghost use Rattle.control_word.specs.declared.handle.Kind.TheVariants.{Owner};
+ghost use Rattle.control_word.specs.declared.model.event.Cell.TheVariants.{Free};
+ghost use Rattle.control_word.specs.declared.model.handle.Kind.TheVariants.{Owner};
 ghost use Rattle.control_block.specs.Desks.{Belongs, IsSameDesk, KeepsEndings, allowance_of, bag_of, endings_of};
 ghost use Rattle.control_block.specs.Desks.{held_of, stock_of};
 ghost use Rattle.control_block.specs.Own.{IsSole};
@@ -11,8 +11,8 @@ ghost use Rattle.control_block.specs.CellCalls.{HoldsHandle, with_handle};
 ghost use Rattle.scene_structures.specs.Pops.{TakesNode};
 ghost use Rattle.scene_structures.specs.Stacks.{FindsNone, IsEmptyList, IsPopped, IsPushed, Pushes, StandsIn};
 
-use crate::popping::take;
-use crate::pushing::{Attempt, raise};
+use crate::lists::popping::take;
+use crate::lists::pushing::{Attempt, raise};
 use atomic_cells::SharedAt;
 use control_block::desk::Desk;
 use control_block::domain::Domain;

@@ -1,8 +1,8 @@
 -- Acts that take something into the hand, as a worker does them.
 use Rattle.std.proofs.Common.{◌≡◌, ℕ, ◌<◌, ◌+◌, Bool, true, false, Option, Some, None, refl, sym, subst, ◌∙◌, inl, inr, arith}
 use Rattle.std.specs.Prelude.{IfSome, option_map}
-use Rattle.control_word.specs.declared.handle.Kind.TheVariants as kind
-use Rattle.control_word.specs.declared.handle.Kind.{Kind}
+use Rattle.control_word.specs.declared.model.handle.Kind.TheVariants as kind
+use Rattle.control_word.specs.declared.model.handle.Kind.{Kind}
 use Rattle.control_word.specs.declared.refusal.Refusal.TheVariants.{BadWeak, Full}
 use Rattle.handle_table.specs.Calls as calls
 use Rattle.handle_table.specs.Handles as handles
@@ -19,18 +19,18 @@ use Rattle.script_runner.proofs.Takings as taking
 use Rattle.script_runner.specs.Deals.{IsActed, IsEmptied, field_0, thread_slots}
 use Rattle.script_runner.specs.Seats.{Acts, Done, IsHand}
 use Rattle.script_runner.specs.TableCalls.{null_form}
-use Rattle.script_runner.specs.declared.went.Went.{Went}
+use Rattle.script_runner.specs.declared.acts.went.Went.{Went}
 use Rattle.step_table.specs.Deeds.{aliased, as_owner, this_as}
 use Rattle.step_table.specs.Holdings.{Slots, inside, place_in, slot_pointer, weak_slot}
-use Rattle.step_table.specs.declared.field.Field.{Field}
-use Rattle.step_table.specs.declared.form.Form.{Form}
-use Rattle.step_table.specs.declared.holdings.Pointer.{Pointer}
+use Rattle.step_table.specs.declared.memory.field.Field.{Field}
+use Rattle.step_table.specs.declared.memory.form.Form.{Form}
+use Rattle.step_table.specs.declared.slots.holdings.Pointer.{Pointer}
 use Rattle.step_threads.specs.Courses.{idle}
 use Rattle.step_threads.specs.Doings.{IsMakeEvent, On}
 use Rattle.step_threads.specs.Rows.{Found, Got, Plain, Reply, row}
 use Rattle.step_threads.specs.Scenes as scenes
-use Rattle.step_threads.specs.declared.act.Act.TheVariants as act
-use Rattle.step_threads.specs.declared.act.Act.{Act}
+use Rattle.step_threads.specs.declared.programs.act.Act.TheVariants as act
+use Rattle.step_threads.specs.declared.programs.act.Act.{Act}
 use Rattle.step_threads.specs.declared.said.Answer.TheVariants as answer
 use Rattle.step_threads.specs.declared.said.Answer.{Answer}
 

@@ -10,21 +10,21 @@ use Rattle.control_word.specs.Events.{place_at}
 use Rattle.control_word.specs.Handles.{handle, owner, weak_of}
 use Rattle.control_word.specs.Histories.{IsLegal}
 use Rattle.control_word.specs.State.{Object, State}
-use Rattle.control_word.specs.declared.event.Event.{Event}
-use Rattle.control_word.specs.declared.event.Event.TheVariants as event
-use Rattle.control_word.specs.declared.handle.Kind.{Kind}
-use Rattle.control_word.specs.declared.handle.Kind.TheVariants.{Owner, Weak}
+use Rattle.control_word.specs.declared.model.event.Event.{Event}
+use Rattle.control_word.specs.declared.model.event.Event.TheVariants as event
+use Rattle.control_word.specs.declared.model.handle.Kind.{Kind}
+use Rattle.control_word.specs.declared.model.handle.Kind.TheVariants.{Owner, Weak}
 use Rattle.control_word.specs.declared.place.Place.{Place}
 use Rattle.control_block.specs.Desks.{AddsEvent, DeskNow, HasHandle, latest_of, object_in, on_latest}
 use Rattle.control_block.specs.Rule.{opening_of}
-use Rattle.step_table.specs.declared.form.Form.{Form}
-use Rattle.step_table.specs.declared.holdings.Pointer.{Pointer}
-use Rattle.step_table.specs.declared.ended.Ended.{Ended}
-use Rattle.step_table.specs.declared.ended.Ended.TheVariants as ended
+use Rattle.step_table.specs.declared.memory.form.Form.{Form}
+use Rattle.step_table.specs.declared.slots.holdings.Pointer.{Pointer}
+use Rattle.step_table.specs.declared.memory.ended.Ended.{Ended}
+use Rattle.step_table.specs.declared.memory.ended.Ended.TheVariants as ended
 use Rattle.step_table.specs.Deeds.{aliased, handle_of, is_enabled, owned, remains}
 use Rattle.step_table.specs.Holdings.{Slots, inside, owner_slot, place_in, slot_pointer, weak_slot}
-use Rattle.step_threads.specs.declared.act.Act.{Act}
-use Rattle.step_threads.specs.declared.act.Act.TheVariants as act
+use Rattle.step_threads.specs.declared.programs.act.Act.{Act}
+use Rattle.step_threads.specs.declared.programs.act.Act.TheVariants as act
 use Rattle.step_threads.specs.Doings.{IsLeaveEvent, IsMakeEvent, On, copies, copy}
 use Rattle.step_threads.specs.Rows.{Left}
 use Rattle.script_runner.specs.Calls as calls

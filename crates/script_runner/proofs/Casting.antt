@@ -6,7 +6,7 @@ use Rattle.std.proofs.lemmas.List.{length-append, map_more, reverse-append}
 use Rattle.std.specs.Global.{Vec}
 use Rattle.std.specs.List.{AllByRecursion, AllZip}
 use Rattle.control_word.specs.State.{Opening}
-use Rattle.control_word.specs.declared.event.Entry.{Entry}
+use Rattle.control_word.specs.declared.model.event.Entry.{Entry}
 use Rattle.handle_table.specs.Parting.{IsNew}
 use Rattle.handle_table.specs.Staffs.{EachDoes}
 use Rattle.handle_table.specs.Tables.{TableNow}
@@ -20,9 +20,9 @@ use Rattle.script_runner.specs.declared.worker.Worker.{Worker}
 use Rattle.step_core.proofs.Programs.{all_mapped}
 use Rattle.step_threads.specs.Acts.{tasks_from}
 use Rattle.step_threads.specs.Programs.{IsPart, IsProgram, Part, part_of}
-use Rattle.step_threads.specs.declared.act.Task.{Task}
-use Rattle.step_threads.specs.declared.call.Actor.{Actor}
-use Rattle.step_threads.specs.declared.call.Call.{Call}
+use Rattle.step_threads.specs.declared.programs.act.Task.{Task}
+use Rattle.step_threads.specs.declared.programs.call.Actor.{Actor}
+use Rattle.step_threads.specs.declared.programs.call.Call.{Call}
 use Rattle.step_threads.specs.declared.said.Said.{Said}
 
 clash : (b : Bool) → b ≡ true → b ≡ false → ⊥

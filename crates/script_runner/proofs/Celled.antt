@@ -16,11 +16,11 @@ use Rattle.control_word.proofs.history.Legal.{sound}
 use Rattle.control_word.specs.Events.{after}
 use Rattle.control_word.specs.Histories.{leads, IsLegal, entry}
 use Rattle.control_word.specs.State.{kind_of_free, State}
-use Rattle.control_word.specs.declared.event.Cell.TheVariants as named
-use Rattle.control_word.specs.declared.event.Event.TheVariants as event
-use Rattle.control_word.specs.declared.event.Event.{Event}
-use Rattle.control_word.specs.declared.handle.Kind.TheVariants as kind
-use Rattle.control_word.specs.declared.handle.Kind.{Kind}
+use Rattle.control_word.specs.declared.model.event.Cell.TheVariants as named
+use Rattle.control_word.specs.declared.model.event.Event.TheVariants as event
+use Rattle.control_word.specs.declared.model.event.Event.{Event}
+use Rattle.control_word.specs.declared.model.handle.Kind.TheVariants as kind
+use Rattle.control_word.specs.declared.model.handle.Kind.{Kind}
 use Rattle.control_word.specs.declared.place.Block.{Block}
 use Rattle.control_word.specs.declared.place.Place.{Place}
 use Rattle.handle_table.specs.Cells.{IsCellAtSite, OwnsInto, kind_of_cell}
@@ -36,19 +36,19 @@ use Rattle.step_table.specs.CellDeeds.{cell_in, kind_in_state as kind_there}
 use Rattle.step_table.specs.Contents.{slot_by, slot_of}
 use Rattle.step_table.specs.Deeds.{on}
 use Rattle.step_table.specs.Holdings.{inside, into, Slots, is_full, slot_pointer}
-use Rattle.step_table.specs.declared.form.Form.{Form}
-use Rattle.step_table.specs.declared.holdings.Pointer.{Pointer}
-use Rattle.step_table.specs.declared.slot.Slot.TheVariants.{Full}
-use Rattle.step_table.specs.declared.slot.Slot.{Slot}
+use Rattle.step_table.specs.declared.memory.form.Form.{Form}
+use Rattle.step_table.specs.declared.slots.holdings.Pointer.{Pointer}
+use Rattle.step_table.specs.declared.slots.slot.Slot.TheVariants.{Full}
+use Rattle.step_table.specs.declared.slots.slot.Slot.{Slot}
 use Rattle.step_threads.specs.Courses.{block_at, cell_of_name, hand as hand_of, is_there}
 use Rattle.step_threads.specs.Doings.{IsLoadEvent, Where}
 use Rattle.step_threads.specs.Programs.{IsIn, kind_at}
 use Rattle.step_threads.specs.Rows.{Came}
 use Rattle.step_threads.specs.Scenes.{Hands}
-use Rattle.step_threads.specs.declared.act.Act.TheVariants as act
-use Rattle.step_threads.specs.declared.call.CellName.TheVariants as cell
-use Rattle.step_threads.specs.declared.call.CellName.{CellName}
-use Rattle.step_threads.specs.declared.call.Name.{Name}
+use Rattle.step_threads.specs.declared.programs.act.Act.TheVariants as act
+use Rattle.step_threads.specs.declared.programs.call.CellName.TheVariants as cell
+use Rattle.step_threads.specs.declared.programs.call.CellName.{CellName}
+use Rattle.step_threads.specs.declared.programs.call.Name.{Name}
 
 few_kind : (m n : ℕ) → n < m → kind.Owner ≡ kind_of_free m n
 few_kind m n lt = sym (cond-true (nat_lt n m) kind.Owner kind.Weak (lt-ltb n m lt))

@@ -5,9 +5,9 @@ use Rattle.std.proofs.lemmas.List.{length-take, take_more}
 use Rattle.control_word.specs.declared.refusal.Refusal.TheVariants as refusal
 use Rattle.script_runner.proofs.Summing.{refused_append, told_append}
 use Rattle.script_runner.specs.Totals.{asked_in, objects_asked, refused_in, refuses, told_in}
-use Rattle.step_threads.specs.declared.act.Act.TheVariants as act
-use Rattle.step_threads.specs.declared.act.Act.{Act}
-use Rattle.step_threads.specs.declared.act.Task.{Task}
+use Rattle.step_threads.specs.declared.programs.act.Act.TheVariants as act
+use Rattle.step_threads.specs.declared.programs.act.Act.{Act}
+use Rattle.step_threads.specs.declared.programs.act.Task.{Task}
 use Rattle.step_threads.specs.declared.said.Answer.TheVariants as answer
 use Rattle.step_threads.specs.declared.said.Answer.{Answer}
 use Rattle.step_threads.specs.declared.said.Said.{Said}

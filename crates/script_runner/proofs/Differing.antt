@@ -14,11 +14,11 @@ use Rattle.control_word.specs.Events.{after}
 use Rattle.control_word.specs.Handles.{handle, has_object}
 use Rattle.control_word.specs.Histories.{IsLegal, entry, leads}
 use Rattle.control_word.specs.State.{Has, State, held, Held}
-use Rattle.control_word.specs.declared.event.Cell.{Cell as Named}
-use Rattle.control_word.specs.declared.event.Event.TheVariants as event
-use Rattle.control_word.specs.declared.event.Event.{Event}
-use Rattle.control_word.specs.declared.handle.Handle.{Handle}
-use Rattle.control_word.specs.declared.handle.Kind.{Kind}
+use Rattle.control_word.specs.declared.model.event.Cell.{Cell as Named}
+use Rattle.control_word.specs.declared.model.event.Event.TheVariants as event
+use Rattle.control_word.specs.declared.model.event.Event.{Event}
+use Rattle.control_word.specs.declared.model.handle.Handle.{Handle}
+use Rattle.control_word.specs.declared.model.handle.Kind.{Kind}
 use Rattle.control_word.specs.declared.place.Block.{Block}
 use Rattle.control_word.specs.declared.place.Place.{Place}
 use Rattle.handle_table.specs.Calls.{LeavesSlot, MovesSlot}
@@ -40,14 +40,14 @@ use Rattle.step_table.specs.CellDeeds.{kind_in_state as kind_there}
 use Rattle.step_table.specs.Contents as contents
 use Rattle.step_table.specs.Contents.{slot_of, is_of, slot_by}
 use Rattle.step_table.specs.Holdings.{Slots, is_full, pointer_of, slot_pointer, plain, slot_value}
-use Rattle.step_table.specs.declared.form.Form.{Form}
-use Rattle.step_table.specs.declared.slot.Slot.{Slot}
+use Rattle.step_table.specs.declared.memory.form.Form.{Form}
+use Rattle.step_table.specs.declared.slots.slot.Slot.{Slot}
 use Rattle.step_threads.specs.Courses.{cell_of_name, hand as hand_of, idle, other as other_of, slots_idle}
 use Rattle.step_threads.specs.Doings.{IsCompareEvent}
 use Rattle.step_threads.specs.Programs.{kind_at}
 use Rattle.step_threads.specs.Rows.{Compared}
-use Rattle.step_threads.specs.declared.act.Act.TheVariants as act
-use Rattle.step_threads.specs.declared.call.CellName.{CellName}
+use Rattle.step_threads.specs.declared.programs.act.Act.TheVariants as act
+use Rattle.step_threads.specs.declared.programs.call.CellName.{CellName}
 
 keeps_by : {A : Type 0} (b : Bool) (x y : A) (l : List A) → Has x l → Has x (cond b (y ∷ l) l)
 keeps_by true x y l has = inr has

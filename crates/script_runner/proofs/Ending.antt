@@ -17,10 +17,10 @@ use Rattle.control_word.specs.Handles.{handle, has_object}
 use Rattle.control_word.specs.Histories.{IsLegal, leads, entry}
 use Rattle.control_word.specs.State.{ending, unmade, Has, Held, State, bag, held}
 use Rattle.control_word.specs.Words.{blocks_of}
-use Rattle.control_word.specs.declared.event.Event.TheVariants as event
-use Rattle.control_word.specs.declared.event.Event.{Event}
-use Rattle.control_word.specs.declared.handle.Handle.{Handle}
-use Rattle.control_word.specs.declared.handle.Kind.{Kind}
+use Rattle.control_word.specs.declared.model.event.Event.TheVariants as event
+use Rattle.control_word.specs.declared.model.event.Event.{Event}
+use Rattle.control_word.specs.declared.model.handle.Handle.{Handle}
+use Rattle.control_word.specs.declared.model.handle.Kind.{Kind}
 use Rattle.control_word.specs.declared.place.Block.{Block}
 use Rattle.control_word.specs.declared.place.Place.{Place}
 use Rattle.script_runner.proofs.Logging.{goes_on_by_call, goes_on_by_mark}
@@ -31,17 +31,17 @@ use Rattle.script_runner.specs.Logs.{TellsThread, doing, told_line}
 use Rattle.script_runner.specs.Seats.{IsQuiet}
 use Rattle.step_table.specs.Contents.{slot_of}
 use Rattle.step_table.specs.Holdings.{Slots, is_full, plain, slot_pointer, slot_value, pointer_of}
-use Rattle.step_table.specs.declared.ended.Ended.{Ended}
-use Rattle.step_table.specs.declared.form.Form.{Form}
-use Rattle.step_table.specs.declared.slot.Slot.TheVariants.{Full}
+use Rattle.step_table.specs.declared.memory.ended.Ended.{Ended}
+use Rattle.step_table.specs.declared.memory.form.Form.{Form}
+use Rattle.step_table.specs.declared.slots.slot.Slot.TheVariants.{Full}
 use Rattle.step_threads.specs.Courses.{Walk, hand, walk_settled}
 use Rattle.step_threads.specs.Doings.{Ahead, AnAct, AnEnd, ClearsNext, FinishesEnding, DoesNext, DoesAhead, GoesThrough, IsMakeEvent, MakesAct}
 use Rattle.step_threads.specs.Endings.{staged}
 use Rattle.step_threads.specs.Interleavings.{first_walk}
 use Rattle.step_threads.specs.Rows.{Left, ending_by, walk_after_act, row, said_by_row, with_end}
 use Rattle.step_threads.specs.Steps.{silent}
-use Rattle.step_threads.specs.declared.act.Act.TheVariants.{Leave}
-use Rattle.step_threads.specs.declared.act.Task.{Task}
+use Rattle.step_threads.specs.declared.programs.act.Act.TheVariants.{Leave}
+use Rattle.step_threads.specs.declared.programs.act.Task.{Task}
 use Rattle.step_threads.specs.declared.ending.Ending.{Ending}
 use Rattle.step_threads.specs.declared.said.Said.{Said}
 

@@ -11,13 +11,13 @@ use Rattle.control_block.specs.declared.handles.Held.{Held}
 use Rattle.control_word.specs.Events.{after}
 use Rattle.control_word.specs.Handles.{handle}
 use Rattle.control_word.specs.State.{State}
-use Rattle.control_word.specs.declared.event.Cell.TheVariants as named
-use Rattle.control_word.specs.declared.event.Cell.{Cell as Named}
-use Rattle.control_word.specs.declared.event.Event.TheVariants as event
-use Rattle.control_word.specs.declared.event.Event.{Event}
-use Rattle.control_word.specs.declared.handle.Handle.{Handle}
-use Rattle.control_word.specs.declared.handle.Kind.TheVariants as kind
-use Rattle.control_word.specs.declared.handle.Kind.{Kind}
+use Rattle.control_word.specs.declared.model.event.Cell.TheVariants as named
+use Rattle.control_word.specs.declared.model.event.Cell.{Cell as Named}
+use Rattle.control_word.specs.declared.model.event.Event.TheVariants as event
+use Rattle.control_word.specs.declared.model.event.Event.{Event}
+use Rattle.control_word.specs.declared.model.handle.Handle.{Handle}
+use Rattle.control_word.specs.declared.model.handle.Kind.TheVariants as kind
+use Rattle.control_word.specs.declared.model.handle.Kind.{Kind}
 use Rattle.control_word.specs.declared.place.Block.{Block}
 use Rattle.handle_table.specs.Calls.{LeavesSlot}
 use Rattle.handle_table.specs.Cells.{ExchangesSlot, kind_of_cell}
@@ -35,15 +35,15 @@ use Rattle.step_table.specs.CellDeeds.{kind_in_state as kind_there}
 use Rattle.step_table.specs.Contents as contents
 use Rattle.step_table.specs.Contents.{is_of, slot_by, slot_of}
 use Rattle.step_table.specs.Holdings.{plain, pointer_of, slot_pointer, slot_value}
-use Rattle.step_table.specs.declared.form.Form.{Form}
-use Rattle.step_table.specs.declared.slot.Slot.{Slot}
+use Rattle.step_table.specs.declared.memory.form.Form.{Form}
+use Rattle.step_table.specs.declared.slots.slot.Slot.{Slot}
 use Rattle.step_threads.specs.Courses.{cell_of_name, fitting, hand as hand_of, offered}
 use Rattle.step_threads.specs.Doings.{IsSwapEvent, Where, copy}
 use Rattle.step_threads.specs.Programs.{kind_at}
 use Rattle.step_threads.specs.Rows.{Came, Plain, may_go}
 use Rattle.step_threads.specs.Scenes.{Hands}
-use Rattle.step_threads.specs.declared.act.Act.TheVariants as act
-use Rattle.step_threads.specs.declared.call.CellName.{CellName}
+use Rattle.step_threads.specs.declared.programs.act.Act.TheVariants as act
+use Rattle.step_threads.specs.declared.programs.call.CellName.{CellName}
 
 -- a handle's own kind
 pub is_of_own : (h : Held) (k : Kind) → kind_of_held h ≡ k → is_of k (as_slot (Some h)) ≡ true

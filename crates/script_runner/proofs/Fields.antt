@@ -10,19 +10,19 @@ use Rattle.control_word.proofs.lists.Tallies.{put_same}
 use Rattle.control_word.specs.Events.{Asks, after}
 use Rattle.control_word.specs.Histories.{IsLegal, leads}
 use Rattle.control_word.specs.State.{Object, Opening, State}
-use Rattle.control_word.specs.declared.event.Cell.TheVariants.{Free, Member}
-use Rattle.control_word.specs.declared.event.Entry.{Entry}
-use Rattle.control_word.specs.declared.event.Event.TheVariants.{ClearMember, Compare, Count, Expired, Finish, Join, Leave, Load, Lock, Make, Read}
-use Rattle.control_word.specs.declared.event.Event.TheVariants.{Share, Split, Swap, Visit, WeakLeave, WeakShare}
-use Rattle.control_word.specs.declared.event.Event.TheVariants.{Shelve, Unshelve}
-use Rattle.control_word.specs.declared.event.Event.{Event}
+use Rattle.control_word.specs.declared.model.event.Cell.TheVariants.{Free, Member}
+use Rattle.control_word.specs.declared.model.event.Entry.{Entry}
+use Rattle.control_word.specs.declared.model.event.Event.TheVariants.{ClearMember, Compare, Count, Expired, Finish, Join, Leave, Load, Lock, Make, Read}
+use Rattle.control_word.specs.declared.model.event.Event.TheVariants.{Share, Split, Swap, Visit, WeakLeave, WeakShare}
+use Rattle.control_word.specs.declared.model.event.Event.TheVariants.{Shelve, Unshelve}
+use Rattle.control_word.specs.declared.model.event.Event.{Event}
 use Rattle.handle_table.specs.Ends.{IsMadeAs}
 use Rattle.handle_table.specs.declared.ends.Remains.TheVariants as table
 use Rattle.handle_table.specs.declared.ends.Remains.{Remains}
 use Rattle.script_runner.proofs.Ending.{not_none}
 use Rattle.script_runner.specs.EndCalls.{IsFour, RemainsIn, remains_ended}
 use Rattle.step_table.specs.Deeds.{remains}
-use Rattle.step_table.specs.declared.ended.Ended.TheVariants as ended
+use Rattle.step_table.specs.declared.memory.ended.Ended.TheVariants as ended
 
 le_or_lt : (a b : ℕ) → (a ≤ b) ⊎ (b < a)
 le_or_lt zero b = inl (omega arith)

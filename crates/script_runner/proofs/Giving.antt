@@ -11,9 +11,9 @@ use Rattle.control_block.specs.declared.handles.Weak as weak_handle
 use Rattle.control_word.specs.Events.{place_at}
 use Rattle.control_word.specs.Handles.{owner, empty, handle, rank, same_place}
 use Rattle.control_word.specs.Words.{blocks_of}
-use Rattle.control_word.specs.declared.event.Event.TheVariants as event
-use Rattle.control_word.specs.declared.handle.Kind.TheVariants as kind
-use Rattle.control_word.specs.declared.handle.Kind.{Kind}
+use Rattle.control_word.specs.declared.model.event.Event.TheVariants as event
+use Rattle.control_word.specs.declared.model.handle.Kind.TheVariants as kind
+use Rattle.control_word.specs.declared.model.handle.Kind.{Kind}
 use Rattle.control_word.specs.declared.place.Block.{Block}
 use Rattle.control_word.specs.declared.place.Place.{Place}
 use Rattle.handle_table.specs.Calls.{PointsTo}
@@ -32,14 +32,14 @@ use Rattle.shared_handle.specs.Endings.{MayGiveThis}
 use Rattle.step_table.specs.Contents.{slot_by}
 use Rattle.step_table.specs.Deeds.{handle_of, on, this_as}
 use Rattle.step_table.specs.Holdings.{slot_pointer}
-use Rattle.step_table.specs.declared.form.Form.{Form}
+use Rattle.step_table.specs.declared.memory.form.Form.{Form}
 use Rattle.step_threads.specs.Courses.{hand as hand_of}
 use Rattle.step_threads.specs.Doings.{answers_order}
 use Rattle.step_threads.specs.Rows.{Got, row}
 use Rattle.step_threads.specs.Scenes.{taking}
-use Rattle.step_threads.specs.declared.act.Act.TheVariants as act
-use Rattle.step_threads.specs.declared.act.Question.TheVariants as question
-use Rattle.step_threads.specs.declared.act.Question.{Question}
+use Rattle.step_threads.specs.declared.programs.act.Act.TheVariants as act
+use Rattle.step_threads.specs.declared.programs.act.Question.TheVariants as question
+use Rattle.step_threads.specs.declared.programs.act.Question.{Question}
 use Rattle.step_threads.specs.declared.said.Answer.TheVariants as answer
 
 -- an object that gives one, as an owner that points into it

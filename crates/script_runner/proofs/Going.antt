@@ -11,7 +11,7 @@ use Rattle.shared_handle.specs.declared.endings.Ending as pile
 use Rattle.step_threads.proofs.Courses.{settled_still}
 use Rattle.step_threads.specs.Courses.{idle, walk_settled, slots_idle, taken_idle}
 use Rattle.step_threads.specs.Rows.{walk_after_act, row, said_by_row, with_end}
-use Rattle.step_threads.specs.declared.act.Task.{Task}
+use Rattle.step_threads.specs.declared.programs.act.Task.{Task}
 use Rattle.step_threads.specs.declared.said.Said.{Said}
 
 module _ {V : Type 0} where

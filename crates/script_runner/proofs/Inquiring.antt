@@ -2,7 +2,7 @@
 use Rattle.std.proofs.Common.{◌≡◌, ℕ, ◌<◌, ◌+◌, Bool, true, false, Option, Some, None, refl, sym, ap, subst, ◌∙◌, ◌⊎◌, inl, inr}
 use Rattle.std.proofs.Common.{Ok, Err}
 use Rattle.std.proofs.lemmas.Bool.{cond-true}
-use Rattle.control_word.specs.declared.handle.Kind.{Kind}
+use Rattle.control_word.specs.declared.model.handle.Kind.{Kind}
 use Rattle.control_word.specs.declared.place.Place.{Place}
 use Rattle.control_word.specs.declared.refusal.Refusal.TheVariants as refusal
 use Rattle.control_word.specs.declared.refusal.Refusal.{Refusal}
@@ -22,15 +22,15 @@ use Rattle.handle_table.specs.declared.fault.Fault.{Fault}
 use Rattle.script_runner.specs.Deals.{IsActed, NotGiven, field_0, thread_slots}
 use Rattle.script_runner.specs.Seats.{IsSeated}
 use Rattle.script_runner.specs.TableCalls.{IsAway, MarksAct}
-use Rattle.script_runner.specs.declared.went.Went.{Went}
+use Rattle.script_runner.specs.declared.acts.went.Went.{Went}
 use Rattle.shared_handle.specs.Endings.{IsRead}
 use Rattle.step_table.specs.Holdings.{inside, is_full, place_in, slot_pointer}
 use Rattle.step_threads.specs.Courses.{idle}
 use Rattle.step_threads.specs.Rows.{Got, Reply, Told, row}
 use Rattle.step_threads.specs.Scenes.{outside}
-use Rattle.step_threads.specs.declared.act.Act.TheVariants as act
-use Rattle.step_threads.specs.declared.act.Act.{Act}
-use Rattle.step_threads.specs.declared.act.Question.TheVariants as question
+use Rattle.step_threads.specs.declared.programs.act.Act.TheVariants as act
+use Rattle.step_threads.specs.declared.programs.act.Act.{Act}
+use Rattle.step_threads.specs.declared.programs.act.Question.TheVariants as question
 use Rattle.step_threads.specs.declared.said.Answer.TheVariants as answer
 use Rattle.step_threads.specs.declared.said.Answer.{Answer}
 

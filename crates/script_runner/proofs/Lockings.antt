@@ -8,9 +8,9 @@ use Rattle.control_block.specs.declared.handles.Held.TheVariants.{Owner, Weak}
 use Rattle.control_block.specs.declared.handles.Shared.{Shared}
 use Rattle.control_block.specs.declared.handles.Weak as weak_handle
 use Rattle.control_word.specs.Handles.{weak_of, handle}
-use Rattle.control_word.specs.declared.event.Event.TheVariants as event
-use Rattle.control_word.specs.declared.event.Event.{Event}
-use Rattle.control_word.specs.declared.handle.Kind.TheVariants as kind
+use Rattle.control_word.specs.declared.model.event.Event.TheVariants as event
+use Rattle.control_word.specs.declared.model.event.Event.{Event}
+use Rattle.control_word.specs.declared.model.handle.Kind.TheVariants as kind
 use Rattle.control_word.specs.declared.place.Block.{Block}
 use Rattle.control_word.specs.declared.refusal.Refusal.TheVariants.{BadWeak}
 use Rattle.handle_table.specs.Calls.{Comes, IsNoSlot, IsOwner, WhyNoWeak}
@@ -27,13 +27,13 @@ use Rattle.shared_handle.specs.Locks as locks
 use Rattle.step_table.specs.Contents.{slot_by}
 use Rattle.step_table.specs.Deeds.{as_owner, owned}
 use Rattle.step_table.specs.Holdings.{plain, slot_pointer, slot_value, weak_slot}
-use Rattle.step_table.specs.declared.form.Form.{Form}
-use Rattle.step_table.specs.declared.holdings.Pointer.{Pointer}
+use Rattle.step_table.specs.declared.memory.form.Form.{Form}
+use Rattle.step_table.specs.declared.slots.holdings.Pointer.{Pointer}
 use Rattle.step_threads.specs.Courses.{hand as hand_of}
 use Rattle.step_threads.specs.Doings.{IsMakeEvent, On}
 use Rattle.step_threads.specs.Rows.{Found, Got}
 use Rattle.step_threads.specs.Scenes.{taking}
-use Rattle.step_threads.specs.declared.act.Act.TheVariants as act
+use Rattle.step_threads.specs.declared.programs.act.Act.TheVariants as act
 
 module _ {V : Type 0} (worth : Form → V) (m i hand : ℕ) (taken : Bool) (t u : TableNow V) (is : IsHand m hand t) (lt : i < m) where
   -- a lock

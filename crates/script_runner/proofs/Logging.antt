@@ -7,10 +7,10 @@ use Rattle.control_word.proofs.history.Names.{joined_is_quiet, unnamed_is_quiet}
 use Rattle.control_word.specs.Histories.{IsLegal, entry, leads}
 use Rattle.control_word.specs.State.{Opening}
 use Rattle.control_word.specs.Views.{NoneBy}
-use Rattle.control_word.specs.declared.event.Entry.{Entry}
-use Rattle.control_word.specs.declared.event.Event.TheVariants.{Join}
+use Rattle.control_word.specs.declared.model.event.Entry.{Entry}
+use Rattle.control_word.specs.declared.model.event.Event.TheVariants.{Join}
 use Rattle.control_block.specs.Rule.{opening_of}
-use Rattle.step_table.specs.declared.form.Form.{Form}
+use Rattle.step_table.specs.declared.memory.form.Form.{Form}
 use Rattle.step_threads.specs.declared.said.Said.{Said}
 use Rattle.step_threads.specs.Courses.{Walk}
 use Rattle.step_threads.specs.Doings.{DoesNext, Doing, GoesThrough, lines, onto, spoken}

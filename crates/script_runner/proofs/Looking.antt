@@ -10,10 +10,10 @@ use Rattle.control_block.specs.declared.handles.Shared.{Shared}
 use Rattle.control_block.specs.declared.handles.Weak as weak_handle
 use Rattle.control_word.specs.Events.{place_at}
 use Rattle.control_word.specs.Handles.{owner}
-use Rattle.control_word.specs.declared.event.Event.TheVariants as event
-use Rattle.control_word.specs.declared.event.Event.{Event}
-use Rattle.control_word.specs.declared.handle.Kind.TheVariants as kind
-use Rattle.control_word.specs.declared.handle.Kind.{Kind}
+use Rattle.control_word.specs.declared.model.event.Event.TheVariants as event
+use Rattle.control_word.specs.declared.model.event.Event.{Event}
+use Rattle.control_word.specs.declared.model.handle.Kind.TheVariants as kind
+use Rattle.control_word.specs.declared.model.handle.Kind.{Kind}
 use Rattle.control_word.specs.declared.place.Block.{Block}
 use Rattle.control_word.specs.declared.place.Place.{Place}
 use Rattle.control_word.specs.declared.refusal.Refusal.TheVariants as refusal
@@ -33,12 +33,12 @@ use Rattle.step_table.specs.Contents.{slot_by}
 use Rattle.step_table.specs.Deeds.{handle_of, is_enabled, owned}
 use Rattle.step_table.specs.Holdings as slots
 use Rattle.step_table.specs.Holdings.{inside, place_in, slot_pointer, is_full}
-use Rattle.step_table.specs.declared.form.Form.{Form}
-use Rattle.step_table.specs.declared.holdings.Pointer.{Pointer}
+use Rattle.step_table.specs.declared.memory.form.Form.{Form}
+use Rattle.step_table.specs.declared.slots.holdings.Pointer.{Pointer}
 use Rattle.step_threads.specs.Doings.{On, copies}
 use Rattle.step_threads.specs.Rows.{Got, Told}
 use Rattle.step_threads.specs.Scenes.{outside}
-use Rattle.step_threads.specs.declared.act.Act.TheVariants as act
+use Rattle.step_threads.specs.declared.programs.act.Act.TheVariants as act
 use Rattle.step_threads.specs.declared.said.Answer.TheVariants as answer
 
 -- where a slot points

@@ -14,16 +14,16 @@ use Rattle.script_runner.specs.EndCalls.{Piled, TakesThread}
 use Rattle.script_runner.specs.Goings.{task}
 use Rattle.script_runner.specs.Logs.{TellsThread, told_line}
 use Rattle.script_runner.specs.Seats.{Acts, IsQuiet, IsToldEnding}
-use Rattle.script_runner.specs.declared.went.Went.{Went}
+use Rattle.script_runner.specs.declared.acts.went.Went.{Went}
 use Rattle.shared_handle.specs.declared.endings.Ending as pile
 use Rattle.shared_handle.specs.declared.pile.Round.TheVariants.{Ended}
-use Rattle.step_table.specs.declared.ended.Ended as ended
+use Rattle.step_table.specs.declared.memory.ended.Ended as ended
 use Rattle.step_threads.specs.Courses.{idle, walk_settled}
 use Rattle.step_threads.specs.Rows.{Reply, row, said_by_row}
-use Rattle.step_threads.specs.declared.act.Act.TheVariants as act
-use Rattle.step_threads.specs.declared.act.Act.{Act}
-use Rattle.step_threads.specs.declared.act.Task.{Task}
-use Rattle.step_threads.specs.declared.call.CellName.{CellName}
+use Rattle.step_threads.specs.declared.programs.act.Act.TheVariants as act
+use Rattle.step_threads.specs.declared.programs.act.Act.{Act}
+use Rattle.step_threads.specs.declared.programs.act.Task.{Task}
+use Rattle.step_threads.specs.declared.programs.call.CellName.{CellName}
 use Rattle.step_threads.specs.declared.ending.Ending.{Ending}
 use Rattle.step_threads.specs.declared.said.Answer.TheVariants as answer
 use Rattle.step_threads.specs.declared.said.Answer.{Answer}

@@ -12,19 +12,19 @@ use Rattle.script_runner.proofs.Stages.{last_same, some_last}
 use Rattle.script_runner.proofs.TableLaws as law
 use Rattle.script_runner.specs.Deals.{IsActed, IsDealt, IsEmptied, IsTop, field_0, thread_slots}
 use Rattle.script_runner.specs.Seats.{IsQuiet, IsSeated, IsToldEnding, Leaving, shown_slots}
-use Rattle.script_runner.specs.declared.went.Went.{Went}
+use Rattle.script_runner.specs.declared.acts.went.Went.{Went}
 use Rattle.shared_handle.specs.declared.endings.Ending as pile
 use Rattle.shared_handle.specs.declared.pile.Gone.{Gone}
 use Rattle.step_table.specs.Contents.{slot_by}
 use Rattle.step_table.specs.Deeds.{remains}
 use Rattle.step_table.specs.Holdings.{Slots, is_full, plain, pointer_of, slot_pointer, slot_value}
-use Rattle.step_table.specs.declared.ended.Ended.{Ended}
+use Rattle.step_table.specs.declared.memory.ended.Ended.{Ended}
 use Rattle.step_threads.specs.Courses.{idle, other}
 use Rattle.step_threads.specs.Rows.{Left, row}
-use Rattle.step_threads.specs.declared.act.Act.TheVariants as act
-use Rattle.step_threads.specs.declared.act.Act.{Act}
+use Rattle.step_threads.specs.declared.programs.act.Act.TheVariants as act
+use Rattle.step_threads.specs.declared.programs.act.Act.{Act}
 use Rattle.control_block.specs.Desks.{object_in}
-use Rattle.control_word.specs.declared.handle.Kind.{Kind}
+use Rattle.control_word.specs.declared.model.handle.Kind.{Kind}
 use Rattle.control_word.specs.declared.place.Block.{Block}
 use Rattle.control_word.specs.declared.place.Place.{Place}
 

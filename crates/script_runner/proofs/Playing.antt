@@ -6,7 +6,7 @@ use Rattle.std.proofs.lemmas.Option.{slice_get_past}
 use Rattle.std.specs.Prelude.{replicate, slice_get, slice_set, take}
 use Rattle.control_block.specs.Desks.{Belongs, DeskNow, DomainNow}
 use Rattle.control_block.specs.declared.handles.Held.{Held}
-use Rattle.control_word.specs.declared.handle.Kind.{Kind}
+use Rattle.control_word.specs.declared.model.handle.Kind.{Kind}
 use Rattle.control_word.specs.declared.place.Block.{Block}
 use Rattle.handle_table.specs.Calls.{WhyNoHandle}
 use Rattle.handle_table.specs.Parting.{IsNew}
@@ -26,12 +26,12 @@ use Rattle.script_runner.specs.Teams.{AllBare, HasNoObject, PlaysThread}
 use Rattle.script_runner.specs.Works.{IsBegun, IsWorked}
 use Rattle.script_runner.specs.declared.log.Log.{Log}
 use Rattle.step_table.specs.Holdings.{Slots, plain, pointer_of, slot_pointer, slot_value}
-use Rattle.step_table.specs.declared.ended.Ended.{Ended}
+use Rattle.step_table.specs.declared.memory.ended.Ended.{Ended}
 use Rattle.step_threads.specs.Doings.{IsLeaveEvent}
 use Rattle.step_threads.specs.Interleavings.{no_slots}
 use Rattle.step_threads.specs.Rows.{Left}
-use Rattle.step_threads.specs.declared.act.Act.TheVariants as act
-use Rattle.step_threads.specs.declared.act.Task.{Task}
+use Rattle.step_threads.specs.declared.programs.act.Act.TheVariants as act
+use Rattle.step_threads.specs.declared.programs.act.Task.{Task}
 
 some_none : {A : Type 0} (x : A) → Some x ≡ None → ⊥
 some_none x e = cc

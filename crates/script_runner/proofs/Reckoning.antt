@@ -7,13 +7,13 @@ use Rattle.control_word.specs.State.{State}
 use Rattle.script_runner.proofs.Tallying.{act_counts, ends_of, makes_of, mild_some, tells}
 use Rattle.script_runner.specs.Totals.{asked_in, objects_asked, ends, makes, refuses}
 use Rattle.step_table.specs.Holdings.{Slots, is_full, slot_pointer}
-use Rattle.step_table.specs.declared.form.Form.{Form}
+use Rattle.step_table.specs.declared.memory.form.Form.{Form}
 use Rattle.step_threads.specs.Courses.{Walk, hand, idle, walk_settled, slots_idle, taken_idle}
 use Rattle.step_threads.specs.Doings.{Ahead, AnAct, AnEnd, Doing, DoesAhead, Over, ahead, ahead_of}
 use Rattle.step_threads.specs.Rows.{row}
-use Rattle.step_threads.specs.declared.act.Act.{Act}
-use Rattle.step_threads.specs.declared.act.Act.TheVariants as act
-use Rattle.step_threads.specs.declared.act.Task.{Task}
+use Rattle.step_threads.specs.declared.programs.act.Act.{Act}
+use Rattle.step_threads.specs.declared.programs.act.Act.TheVariants as act
+use Rattle.step_threads.specs.declared.programs.act.Task.{Task}
 use Rattle.step_threads.specs.declared.ending.Ending.{Ending}
 use Rattle.step_threads.specs.declared.said.Said.{Said}
 

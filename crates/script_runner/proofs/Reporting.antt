@@ -10,7 +10,7 @@ use Rattle.control_block.specs.Rule.{opening_of}
 use Rattle.control_word.specs.Histories.{IsLegal}
 use Rattle.control_word.specs.Layout.{IsWithinLimits}
 use Rattle.control_word.specs.State.{Has}
-use Rattle.control_word.specs.declared.event.Entry.{Entry}
+use Rattle.control_word.specs.declared.model.event.Entry.{Entry}
 use Rattle.control_word.specs.declared.shape.Shape.{Shape}
 use Rattle.handle_table.specs.Parting.{IsNew}
 use Rattle.handle_table.specs.Staffs.{Shifts}
@@ -22,7 +22,7 @@ use Rattle.script_runner.specs.Casts.{AreTotals, HasSaid, IsReadyFor}
 use Rattle.script_runner.specs.Deals.{field_0}
 use Rattle.script_runner.specs.Reports.{IsReport, domain_shape}
 use Rattle.script_runner.specs.Teams.{IsInterleaved}
-use Rattle.script_runner.specs.declared.report.Report.{Report}
+use Rattle.script_runner.specs.declared.reports.report.Report.{Report}
 use Rattle.script_runner.specs.declared.worker.Worker.{Worker}
 use Rattle.script_text.specs.Beginnings.{shape_for}
 use Rattle.script_text.specs.Drafts.{ScriptView}

@@ -6,8 +6,8 @@ use Rattle.control_block.specs.CellCalls.{HoldsHandle}
 use Rattle.control_block.specs.Desks.{DeskNow, HasHandle}
 use Rattle.control_block.specs.declared.handles.Held.TheVariants.{Owner, Weak}
 use Rattle.control_block.specs.declared.handles.Held.{Held}
-use Rattle.control_word.specs.declared.handle.Kind.TheVariants as kind
-use Rattle.control_word.specs.declared.handle.Kind.{Kind}
+use Rattle.control_word.specs.declared.model.handle.Kind.TheVariants as kind
+use Rattle.control_word.specs.declared.model.handle.Kind.{Kind}
 use Rattle.control_word.specs.declared.place.Block.{Block}
 use Rattle.control_word.specs.declared.place.Place.{Place}
 use Rattle.handle_table.proofs.Filling.{fits_at}
@@ -20,7 +20,7 @@ use Rattle.script_runner.specs.Seats.{IsHand, IsQuiet, as_slot, shown_slots}
 use Rattle.shared_handle.specs.Calls.{counting}
 use Rattle.step_table.specs.Contents.{slot_by}
 use Rattle.step_table.specs.Holdings.{pointer_of, slot_pointer, slot_value}
-use Rattle.step_table.specs.declared.slot.Slot.{Slot}
+use Rattle.step_table.specs.declared.slots.slot.Slot.{Slot}
 use Rattle.step_threads.specs.Courses.{hand}
 
 abbrev or_else : {A : Type 0} → A → Option A → A

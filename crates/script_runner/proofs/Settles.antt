@@ -20,12 +20,12 @@ use Rattle.shared_handle.specs.declared.pile.Round.TheVariants.{Settled, Cleared
 use Rattle.shared_handle.specs.declared.pile.Round.{Round}
 use Rattle.step_table.specs.Deeds.{remains}
 use Rattle.step_table.specs.Holdings.{plain}
-use Rattle.step_table.specs.declared.ended.Ended as ended
+use Rattle.step_table.specs.declared.memory.ended.Ended as ended
 use Rattle.step_threads.specs.Acts.{tasks_from}
 use Rattle.step_threads.specs.Courses.{walk_settled}
 use Rattle.step_threads.specs.Interleavings.{first_walk, no_slots}
 use Rattle.step_threads.specs.Programs.{Part}
-use Rattle.step_threads.specs.declared.act.Task.{Task}
+use Rattle.step_threads.specs.declared.programs.act.Task.{Task}
 use Rattle.step_threads.specs.declared.ending.Ending.{Ending}
 use Rattle.step_threads.specs.declared.said.Said.{Said}
 use Rattle.control_block.specs.Desks.{object_in}

@@ -4,7 +4,7 @@ use Rattle.std.proofs.Common.{is_some, refl, ap, subst, ◌∙◌, arith}
 use Rattle.std.specs.Prelude.{slice_get}
 use Rattle.control_block.specs.Standing.{Standing}
 use Rattle.control_block.specs.declared.handles.Held.{Held}
-use Rattle.control_word.specs.declared.handle.Kind.{Kind}
+use Rattle.control_word.specs.declared.model.handle.Kind.{Kind}
 use Rattle.control_word.specs.declared.place.Block.{Block}
 use Rattle.control_word.specs.declared.place.Place.{Place}
 use Rattle.handle_table.specs.Calls.{WhyNoHandle}

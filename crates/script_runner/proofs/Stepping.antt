@@ -8,12 +8,12 @@ use Rattle.script_runner.proofs.Settles.{then_settled}
 use Rattle.script_runner.specs.Deals.{GoesOnWith, IsActed, IsCompared, IsDealt, IsSettledBy, IsTop, statement_says}
 use Rattle.script_runner.specs.Goings.{task}
 use Rattle.script_runner.specs.Logs.{told_line}
-use Rattle.script_runner.specs.declared.went.Went.{Went}
-use Rattle.step_table.specs.declared.ended.Ended.{Ended}
-use Rattle.step_threads.specs.declared.act.Act.TheVariants as act
-use Rattle.step_threads.specs.declared.act.Act.{Act}
-use Rattle.step_threads.specs.declared.act.Task.{Task}
-use Rattle.step_threads.specs.declared.call.CellName.{CellName}
+use Rattle.script_runner.specs.declared.acts.went.Went.{Went}
+use Rattle.step_table.specs.declared.memory.ended.Ended.{Ended}
+use Rattle.step_threads.specs.declared.programs.act.Act.TheVariants as act
+use Rattle.step_threads.specs.declared.programs.act.Act.{Act}
+use Rattle.step_threads.specs.declared.programs.act.Task.{Task}
+use Rattle.step_threads.specs.declared.programs.call.CellName.{CellName}
 use Rattle.step_threads.specs.declared.said.Answer.TheVariants as answer
 use Rattle.step_threads.specs.declared.said.Said.{Said}
 

@@ -19,12 +19,12 @@ use Rattle.script_runner.specs.Seats.{Acts, Done, IsQuiet, IsSeated, as_slot, sh
 use Rattle.step_table.specs.Contents as contents
 use Rattle.step_table.specs.Contents.{is_of}
 use Rattle.step_table.specs.Holdings.{Slots, plain, slot_value}
-use Rattle.step_table.specs.declared.slot.Slot.{Slot}
+use Rattle.step_table.specs.declared.slots.slot.Slot.{Slot}
 use Rattle.step_threads.specs.Courses.{hand as hand_of, idle, other as other_of}
 use Rattle.step_threads.specs.Programs.{kind_at}
 use Rattle.step_threads.specs.Rows.{Came, may_go}
-use Rattle.step_threads.specs.declared.act.Act.TheVariants as act
-use Rattle.step_threads.specs.declared.call.CellName.{CellName}
+use Rattle.step_threads.specs.declared.programs.act.Act.TheVariants as act
+use Rattle.step_threads.specs.declared.programs.call.CellName.{CellName}
 
 stays : (t : TableNow ℕ) → IsQuiet t.desk t.desk
 stays t = record { shape = refl; name = refl; seen = refl }

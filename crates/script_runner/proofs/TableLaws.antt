@@ -14,7 +14,7 @@ use Rattle.shared_handle.specs.Endings.{WhyNotThis}
 use Rattle.step_table.specs.Holdings.{plain, slot_pointer}
 use Rattle.step_threads.specs.Courses.{other}
 use Rattle.step_threads.specs.Rows as rows
-use Rattle.step_threads.specs.declared.act.Act.TheVariants as act
+use Rattle.step_threads.specs.declared.programs.act.Act.TheVariants as act
 
 module _ {V : Type 0} where
   pub as_seated : (m hand : ℕ) (t : TableNow V) → IsHand m hand t → IsSeated m hand t

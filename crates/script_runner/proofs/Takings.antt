@@ -8,8 +8,8 @@ use Rattle.control_block.specs.declared.handles.Held.{Held}
 use Rattle.control_block.specs.declared.handles.Shared.{Shared}
 use Rattle.control_block.specs.declared.handles.Weak as weak_handle
 use Rattle.control_word.specs.Handles.{handle}
-use Rattle.control_word.specs.declared.event.Event.TheVariants as event
-use Rattle.control_word.specs.declared.handle.Kind.TheVariants as kind
+use Rattle.control_word.specs.declared.model.event.Event.TheVariants as event
+use Rattle.control_word.specs.declared.model.handle.Kind.TheVariants as kind
 use Rattle.control_word.specs.declared.place.Block.{Block}
 use Rattle.control_word.specs.declared.place.Place.{Place}
 use Rattle.control_word.specs.declared.refusal.Refusal.TheVariants.{Memory}
@@ -26,13 +26,13 @@ use Rattle.shared_handle.specs.Calls as inner
 use Rattle.step_table.specs.Contents.{slot_by}
 use Rattle.step_table.specs.Deeds.{aliased, as_weak}
 use Rattle.step_table.specs.Holdings.{filled, owner_slot, place_in, slot_pointer, slot_value}
-use Rattle.step_table.specs.declared.field.Field.{Field}
-use Rattle.step_table.specs.declared.form.Form.{Form}
-use Rattle.step_table.specs.declared.holdings.Pointer.{Pointer}
+use Rattle.step_table.specs.declared.memory.field.Field.{Field}
+use Rattle.step_table.specs.declared.memory.form.Form.{Form}
+use Rattle.step_table.specs.declared.slots.holdings.Pointer.{Pointer}
 use Rattle.step_threads.specs.Doings.{copy, copies}
 use Rattle.step_threads.specs.Rows.{Plain}
 use Rattle.step_threads.specs.Scenes.{alias_of}
-use Rattle.step_threads.specs.declared.act.Act.TheVariants as act
+use Rattle.step_threads.specs.declared.programs.act.Act.TheVariants as act
 
 -- an empty weak handle points nowhere
 pub weak_nowhere : (w : weak_handle.Weak) → w.block ≡ None → w.place ≡ None

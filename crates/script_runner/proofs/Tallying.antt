@@ -4,27 +4,27 @@ use Rattle.std.specs.Prelude.{IfSome, is_some, option_map}
 use Rattle.control_block.specs.Own.{KeepsDesks}
 use Rattle.control_word.specs.Events.{place_at}
 use Rattle.control_word.specs.State.{State}
-use Rattle.control_word.specs.declared.event.Event.{Event}
-use Rattle.control_word.specs.declared.handle.Kind.{Kind}
-use Rattle.control_word.specs.declared.handle.Kind.TheVariants.{Owner, Weak}
+use Rattle.control_word.specs.declared.model.event.Event.{Event}
+use Rattle.control_word.specs.declared.model.handle.Kind.{Kind}
+use Rattle.control_word.specs.declared.model.handle.Kind.TheVariants.{Owner, Weak}
 use Rattle.control_word.specs.declared.place.Place.{Place}
 use Rattle.control_word.specs.declared.refusal.Refusal.TheVariants.{Full, NotEnabled}
 use Rattle.script_runner.specs.Totals.{objects_asked, ends, makes, refuses}
 use Rattle.step_table.specs.Deeds.{aliased, is_enabled, owned}
 use Rattle.step_table.specs.Holdings.{Slots, inside, is_full, owner_slot, place_in, slot_pointer, weak_slot}
-use Rattle.step_table.specs.declared.ended.Ended.{Ended}
-use Rattle.step_table.specs.declared.form.Form.{Form}
-use Rattle.step_table.specs.declared.holdings.Pointer.{Pointer}
+use Rattle.step_table.specs.declared.memory.ended.Ended.{Ended}
+use Rattle.step_table.specs.declared.memory.form.Form.{Form}
+use Rattle.step_table.specs.declared.slots.holdings.Pointer.{Pointer}
 use Rattle.step_threads.specs.Courses.{hand, is_there, offered, other}
 use Rattle.step_threads.specs.Doings.{IsLeaveEvent, IsMakeEvent, IsLoadEvent, On, IsSwapEvent, Where, copies, copy, leaves_as}
 use Rattle.step_threads.specs.Rows.{Came, Compared, Found, Got, Left, Plain, Reply, Told, asked, may_go, not_given, row}
 use Rattle.step_threads.specs.Scenes.{lock_answer, outside, refusal, remains_as}
-use Rattle.step_threads.specs.declared.act.Act.{Act}
-use Rattle.step_threads.specs.declared.act.Act.TheVariants as act
-use Rattle.step_threads.specs.declared.act.Question.{Question}
-use Rattle.step_threads.specs.declared.act.Question.TheVariants as question
-use Rattle.step_threads.specs.declared.call.CellName.{CellName}
-use Rattle.step_threads.specs.declared.call.CellName.TheVariants as cell
+use Rattle.step_threads.specs.declared.programs.act.Act.{Act}
+use Rattle.step_threads.specs.declared.programs.act.Act.TheVariants as act
+use Rattle.step_threads.specs.declared.programs.act.Question.{Question}
+use Rattle.step_threads.specs.declared.programs.act.Question.TheVariants as question
+use Rattle.step_threads.specs.declared.programs.call.CellName.{CellName}
+use Rattle.step_threads.specs.declared.programs.call.CellName.TheVariants as cell
 use Rattle.step_threads.specs.declared.said.Answer.{Answer}
 use Rattle.step_threads.specs.declared.said.Answer.TheVariants as answer
 

@@ -9,8 +9,8 @@ use Rattle.control_block.specs.declared.handles.Held.TheVariants.{Owner, Weak}
 use Rattle.control_block.specs.declared.handles.Held.{Held}
 use Rattle.control_word.proofs.lists.Tallies.{put_same}
 use Rattle.control_word.specs.Histories.{IsLegal, leads}
-use Rattle.control_word.specs.declared.event.Event.TheVariants as event
-use Rattle.control_word.specs.declared.event.Event.{Event}
+use Rattle.control_word.specs.declared.model.event.Event.TheVariants as event
+use Rattle.control_word.specs.declared.model.event.Event.{Event}
 use Rattle.control_word.specs.declared.place.Block.{Block}
 use Rattle.control_word.specs.declared.place.Place.{Place}
 use Rattle.control_word.specs.declared.shape.Shape.{Shape}
@@ -37,7 +37,7 @@ use Rattle.shared_handle.specs.declared.endings.Member.{Member}
 use Rattle.shared_handle.specs.declared.pile.Gone.{Gone}
 use Rattle.shared_handle.specs.declared.pile.Round.TheVariants.{Settled, Cleared, Ended}
 use Rattle.shared_handle.specs.declared.pile.Round.{Round}
-use Rattle.step_table.specs.declared.form.Form.{Form}
+use Rattle.step_table.specs.declared.memory.form.Form.{Form}
 use Rattle.step_threads.specs.Courses.{Walk}
 use Rattle.step_threads.specs.Doings.{Over, ahead}
 use Rattle.step_threads.specs.Interleavings.{Marked}

@@ -9,7 +9,7 @@ use Rattle.script_text.specs.Grammar.{ended}
 use Rattle.script_stepper.specs.Lines.{said_lines, totals_text}
 use Rattle.script_stepper.proofs.LineLemmas.{lines_then}
 use Rattle.script_runner.specs.Telling.{closed_census_lines, report_lines, threads_lines}
-use Rattle.script_runner.specs.declared.report.Report.{Report}
+use Rattle.script_runner.specs.declared.reports.report.Report.{Report}
 
 -- one thread more
 threads_last : (k : ℕ) (xs : List (Vec Said)) (x : Vec Said)

@@ -4,7 +4,7 @@ use Rattle.std.proofs.Common.{◌∙◌, inl, inr, ◌≡◌, ℕ, zero, suc, �
 use Rattle.std.specs.Prelude.{option_map, slice_set}
 use Rattle.control_block.specs.Desks.{state_of}
 use Rattle.control_block.specs.declared.handles.Shared.{Shared}
-use Rattle.control_word.specs.declared.event.Event.{Event}
+use Rattle.control_word.specs.declared.model.event.Event.{Event}
 use Rattle.control_word.specs.declared.refusal.Refusal.TheVariants as refusal_of
 use Rattle.control_word.specs.declared.refusal.Refusal.{Refusal}
 use Rattle.handle_table.specs.Calls.{WhyNoOwner}
@@ -19,15 +19,15 @@ use Rattle.script_runner.specs.Seats.{IsSeated, shown_slots}
 use Rattle.script_runner.specs.TableCalls.{IsAway}
 use Rattle.step_table.specs.Contents.{is_of}
 use Rattle.step_table.specs.Holdings.{Slots, is_full, place_in, plain, pointer_of, slot_value}
-use Rattle.step_table.specs.declared.form.Form.{Form}
+use Rattle.step_table.specs.declared.memory.form.Form.{Form}
 use Rattle.step_threads.specs.Courses.{is_there, fitting, hand as hand_of}
 use Rattle.step_threads.specs.Doings.{copy, IsLoadEvent, IsSwapEvent, Where}
 use Rattle.step_threads.specs.Programs.{kind_at}
 use Rattle.step_threads.specs.Rows.{may_go}
 use Rattle.step_threads.specs.Scenes.{Hands, outside, refusal}
-use Rattle.step_threads.specs.declared.call.CellName.TheVariants as cell
-use Rattle.step_threads.specs.declared.call.CellName.{CellName}
-use Rattle.step_threads.specs.declared.call.Name.{Name}
+use Rattle.step_threads.specs.declared.programs.call.CellName.TheVariants as cell
+use Rattle.step_threads.specs.declared.programs.call.CellName.{CellName}
+use Rattle.step_threads.specs.declared.programs.call.Name.{Name}
 use Rattle.step_threads.specs.declared.said.Answer.TheVariants as answer
 
 module _ {V : Type 0} (worth : Form → V) (m hand : ℕ) (taken : Bool) (t : TableNow V) (is : IsSeated m hand t) where

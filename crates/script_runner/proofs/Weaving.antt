@@ -13,17 +13,17 @@ use Rattle.control_block.specs.Rule.{opening_of}
 use Rattle.control_word.specs.Events.{Asks, after}
 use Rattle.control_word.specs.Histories.{IsLegal, leads}
 use Rattle.control_word.specs.State.{Has, Opening, State}
-use Rattle.control_word.specs.declared.event.Cell.TheVariants.{Free, Member}
-use Rattle.control_word.specs.declared.event.Entry.{Entry}
-use Rattle.control_word.specs.declared.event.Event.{Event}
-use Rattle.control_word.specs.declared.event.Event.TheVariants as event
+use Rattle.control_word.specs.declared.model.event.Cell.TheVariants.{Free, Member}
+use Rattle.control_word.specs.declared.model.event.Entry.{Entry}
+use Rattle.control_word.specs.declared.model.event.Event.{Event}
+use Rattle.control_word.specs.declared.model.event.Event.TheVariants as event
 use Rattle.handle_table.specs.Parting.{AbsorbsAll, IsNew, IsPartedInto, WindsUp}
 use Rattle.handle_table.specs.Tables as table
 use Rattle.handle_table.specs.Tables.{AllVacant, TableNow}
 use Rattle.script_runner.proofs.Summing.{KeepsAt, marked_keeps}
 use Rattle.script_runner.proofs.Teams.{quiet_wound, teams_play}
 use Rattle.script_runner.specs.Teams.{AllBare, AllMarked, AllPlay, HasNoObject, IsInterleaved, TeamsInterleave, desk_names}
-use Rattle.step_table.specs.declared.form.Form.{Form}
+use Rattle.step_table.specs.declared.memory.form.Form.{Form}
 use Rattle.step_threads.specs.Interleavings.{IsSplitOrJoin, Marked}
 use Rattle.step_threads.specs.Programs.{Part}
 use Rattle.step_threads.specs.declared.said.Said.{Said}

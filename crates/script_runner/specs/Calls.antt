@@ -1,10 +1,10 @@
 -- Which calls of a desk are which acts of a thread, by what the thread has in its slots: each law by itself. The call
 -- is the act by the state in which its event stands. Events name their sections in the model; the rest is own.
 use Rattle.std.specs.Prelude.{◌≡◌, ℕ, ◌++◌, Bool, true, cond, Option, None, Some}
-use Rattle.control_word.specs.declared.event.Event.{Event}
-use Rattle.control_word.specs.declared.event.Event.TheVariants as event
-use Rattle.control_word.specs.declared.handle.Kind.{Kind}
-use Rattle.control_word.specs.declared.handle.Kind.TheVariants.{Owner, Weak}
+use Rattle.control_word.specs.declared.model.event.Event.{Event}
+use Rattle.control_word.specs.declared.model.event.Event.TheVariants as event
+use Rattle.control_word.specs.declared.model.handle.Kind.{Kind}
+use Rattle.control_word.specs.declared.model.handle.Kind.TheVariants.{Owner, Weak}
 use Rattle.control_word.specs.declared.place.Block.{Block}
 use Rattle.control_word.specs.declared.place.Place.{Place}
 use Rattle.control_word.specs.Events.{place_at}
@@ -12,13 +12,13 @@ use Rattle.control_word.specs.Histories.{leads}
 use Rattle.control_word.specs.State.{State}
 use Rattle.control_block.specs.Desks.{AddsEvent, DeskNow, HasHandle, latest_of, object_in, on_latest}
 use Rattle.control_block.specs.Rule.{opening_of}
-use Rattle.step_table.specs.declared.field.Field.{Field}
-use Rattle.step_table.specs.declared.form.Form.{Form}
-use Rattle.step_table.specs.declared.holdings.Pointer.{Pointer}
+use Rattle.step_table.specs.declared.memory.field.Field.{Field}
+use Rattle.step_table.specs.declared.memory.form.Form.{Form}
+use Rattle.step_table.specs.declared.slots.holdings.Pointer.{Pointer}
 use Rattle.step_table.specs.Deeds.{aliased, remains}
 use Rattle.step_table.specs.Holdings.{Slots, place_in, slot_pointer}
-use Rattle.step_threads.specs.declared.act.Act.{Act}
-use Rattle.step_threads.specs.declared.act.Act.TheVariants as act
+use Rattle.step_threads.specs.declared.programs.act.Act.{Act}
+use Rattle.step_threads.specs.declared.programs.act.Act.TheVariants as act
 use Rattle.step_threads.specs.Courses.{other}
 use Rattle.step_threads.specs.Doings.{IsMakeEvent}
 use Rattle.step_threads.specs.Rows.{Reply, Plain, Found, Got, Told, Left}

@@ -15,7 +15,7 @@ use Rattle.script_runner.specs.EndCalls.{Piled, TakesThread}
 use Rattle.script_runner.specs.Goings.{task}
 use Rattle.script_runner.specs.Logs.{told_line}
 use Rattle.script_runner.specs.Seats.{Acts, IsQuiet, IsSeated, shown_slots}
-use Rattle.script_runner.specs.declared.went.Went.{Went}
+use Rattle.script_runner.specs.declared.acts.went.Went.{Went}
 use Rattle.shared_handle.specs.Piles.{AllEnd}
 use Rattle.shared_handle.specs.declared.endings.Ending as pile
 use Rattle.shared_handle.specs.declared.pile.Gone.TheVariants as gone
@@ -23,15 +23,15 @@ use Rattle.shared_handle.specs.declared.pile.Round.TheVariants.{Cleared}
 use Rattle.shared_handle.specs.declared.pile.Round.{Round}
 use Rattle.step_table.specs.Deeds.{remains}
 use Rattle.step_table.specs.Holdings.{Slots}
-use Rattle.step_table.specs.declared.ended.Ended.{Ended}
-use Rattle.step_table.specs.declared.form.Form.{Form}
+use Rattle.step_table.specs.declared.memory.ended.Ended.{Ended}
+use Rattle.step_table.specs.declared.memory.form.Form.{Form}
 use Rattle.step_threads.specs.Courses.{idle, walk_settled, slots_idle, taken_idle}
 use Rattle.step_threads.specs.Rows.{Reply, row}
-use Rattle.step_threads.specs.declared.act.Act.{Act}
-use Rattle.step_threads.specs.declared.act.Act.TheVariants as act
-use Rattle.step_threads.specs.declared.act.Task.{Task}
-use Rattle.step_threads.specs.declared.call.CellName.{CellName}
-use Rattle.step_threads.specs.declared.call.CellName.TheVariants as cell
+use Rattle.step_threads.specs.declared.programs.act.Act.{Act}
+use Rattle.step_threads.specs.declared.programs.act.Act.TheVariants as act
+use Rattle.step_threads.specs.declared.programs.act.Task.{Task}
+use Rattle.step_threads.specs.declared.programs.call.CellName.{CellName}
+use Rattle.step_threads.specs.declared.programs.call.CellName.TheVariants as cell
 use Rattle.step_threads.specs.declared.ending.Ending.{Ending}
 use Rattle.step_threads.specs.declared.said.Said.{Said}
 

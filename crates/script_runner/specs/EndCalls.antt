@@ -16,12 +16,12 @@ use Rattle.shared_handle.specs.declared.pile.Gone.TheVariants as gone
 use Rattle.shared_handle.specs.declared.pile.Round.TheVariants.{Cleared}
 use Rattle.shared_handle.specs.declared.pile.Round.{Round}
 use Rattle.step_table.specs.Deeds.{remains}
-use Rattle.step_table.specs.declared.ended.Ended.TheVariants as ended
-use Rattle.step_table.specs.declared.ended.Ended.{Ended as EndedAs}
-use Rattle.step_table.specs.declared.form.Form.{Form}
+use Rattle.step_table.specs.declared.memory.ended.Ended.TheVariants as ended
+use Rattle.step_table.specs.declared.memory.ended.Ended.{Ended as EndedAs}
+use Rattle.step_table.specs.declared.memory.form.Form.{Form}
 use Rattle.step_threads.specs.Courses.{Walk, walk_settled}
 use Rattle.step_threads.specs.Programs.{Part}
-use Rattle.step_threads.specs.declared.act.Task.{Task}
+use Rattle.step_threads.specs.declared.programs.act.Task.{Task}
 use Rattle.step_threads.specs.declared.ending.Ending.{Ending}
 use Rattle.step_threads.specs.declared.said.Said.{Said}
 

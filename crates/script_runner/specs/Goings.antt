@@ -4,11 +4,11 @@ use Rattle.handle_table.specs.Tables.{TableNow}
 use Rattle.script_runner.specs.EndCalls.{Piled, TakesThread}
 use Rattle.script_runner.specs.Logs.{told_line}
 use Rattle.script_runner.specs.Seats.{Acts, IsQuiet, shown_slots}
-use Rattle.step_table.specs.declared.form.Form.{Form}
+use Rattle.step_table.specs.declared.memory.form.Form.{Form}
 use Rattle.step_threads.specs.Courses.{idle, walk_settled, slots_idle, taken_idle}
 use Rattle.step_threads.specs.Rows.{Reply, row, said_by_row}
-use Rattle.step_threads.specs.declared.act.Act.{Act}
-use Rattle.step_threads.specs.declared.act.Task.{Task}
+use Rattle.step_threads.specs.declared.programs.act.Act.{Act}
+use Rattle.step_threads.specs.declared.programs.act.Task.{Task}
 use Rattle.step_threads.specs.declared.ending.Ending.{Ending}
 use Rattle.step_threads.specs.declared.said.Said.{Said}
 

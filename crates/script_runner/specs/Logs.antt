@@ -1,10 +1,10 @@
 -- What a worker keeps of its thread while it runs: its lines, beside the history that its desk has seen. All of it is
 -- own.
 use Rattle.std.specs.Prelude.{◌≡◌, ℕ, cond, ◌||◌, is_some, List, [], ◌∷◌, Option}
-use Rattle.control_word.specs.declared.event.Event.{Event}
+use Rattle.control_word.specs.declared.model.event.Event.{Event}
 use Rattle.control_block.specs.Desks.{DeskNow}
 use Rattle.control_block.specs.Rule.{opening_of}
-use Rattle.step_table.specs.declared.form.Form.{Form}
+use Rattle.step_table.specs.declared.memory.form.Form.{Form}
 use Rattle.step_threads.specs.declared.said.Said.{Said}
 use Rattle.step_threads.specs.Courses.{Walk}
 use Rattle.step_threads.specs.Doings.{Doing, GoesThrough, lines, onto}

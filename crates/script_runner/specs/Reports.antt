@@ -11,7 +11,7 @@ use Rattle.script_text.specs.Scripts.{program_in}
 use Rattle.script_runner.specs.Deals.{field_0}
 use Rattle.script_runner.specs.Teams.{IsInterleaved}
 use Rattle.script_runner.specs.Totals.{count_ended_in, count_made_in}
-use Rattle.script_runner.specs.declared.report.Report.{Report}
+use Rattle.script_runner.specs.declared.reports.report.Report.{Report}
 
 -- the domain of a script's workers has as many blocks and cells as its world, and room for each worker's allowance
 abbrev pub domain_shape : ScriptView → Shape

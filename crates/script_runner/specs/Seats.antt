@@ -5,7 +5,7 @@ use Rattle.std.specs.Prelude.{length, ◌+◌, Option, None, Some}
 use Rattle.std.specs.Prelude.{◌≤◌, slice_get}
 use Rattle.control_block.specs.Desks.{AddsEvent, DeskNow, state_of, object_in}
 use Rattle.control_block.specs.Standing.{Standing}
-use Rattle.control_word.specs.declared.event.Event.{Event}
+use Rattle.control_word.specs.declared.model.event.Event.{Event}
 use Rattle.control_word.specs.declared.place.Block.{Block}
 use Rattle.handle_table.specs.Parts.{kind_of_held, block_of_held, place_of_held}
 use Rattle.handle_table.specs.Tables as table
@@ -16,12 +16,12 @@ use Rattle.shared_handle.specs.declared.endings.Ending.{Ending}
 use Rattle.step_table.specs.Contents.{slot_by}
 use Rattle.step_table.specs.Deeds.{remains}
 use Rattle.step_table.specs.Holdings.{Slots, plain}
-use Rattle.step_table.specs.declared.ended.Ended.{Ended}
-use Rattle.step_table.specs.declared.form.Form.{Form}
-use Rattle.step_table.specs.declared.slot.Slot.{Slot}
+use Rattle.step_table.specs.declared.memory.ended.Ended.{Ended}
+use Rattle.step_table.specs.declared.memory.form.Form.{Form}
+use Rattle.step_table.specs.declared.slots.slot.Slot.{Slot}
 use Rattle.step_threads.specs.Doings.{IsMakeEvent}
 use Rattle.step_threads.specs.Rows.{Left, Reply, row}
-use Rattle.step_threads.specs.declared.act.Act.{Act}
+use Rattle.step_threads.specs.declared.programs.act.Act.{Act}
 
 -- a table's slot as a thread has it: a vacant one is empty
 abbrev pub as_slot : table.Slot → Slot

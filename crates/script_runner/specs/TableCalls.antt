@@ -4,8 +4,8 @@ use Rattle.std.specs.Prelude.{◌≡◌, ℕ, ◌+◌, ◌<◌, Bool, true, fals
 use Rattle.std.specs.Prelude.{Option, None, Some, Ok}
 use Rattle.control_block.specs.declared.handles.Held.TheVariants.{Owner}
 use Rattle.control_block.specs.declared.handles.Shared.{Shared}
-use Rattle.control_word.specs.declared.handle.Kind.TheVariants as kind
-use Rattle.control_word.specs.declared.handle.Kind.{Kind}
+use Rattle.control_word.specs.declared.model.handle.Kind.TheVariants as kind
+use Rattle.control_word.specs.declared.model.handle.Kind.{Kind}
 use Rattle.control_word.specs.declared.place.Block.{Block}
 use Rattle.control_word.specs.declared.place.Place.{Place}
 use Rattle.control_word.specs.declared.refusal.Refusal.TheVariants.{BadWeak, Full, Null, Outside, Limit}
@@ -21,13 +21,13 @@ use Rattle.shared_handle.specs.Endings.{IsOutside}
 use Rattle.shared_handle.specs.declared.pile.Gone.{Gone}
 use Rattle.step_table.specs.Deeds.{aliased}
 use Rattle.step_table.specs.Holdings.{place_in, is_full, slot_pointer}
-use Rattle.step_table.specs.declared.field.Field.{Field}
-use Rattle.step_table.specs.declared.form.Form.{Form}
+use Rattle.step_table.specs.declared.memory.field.Field.{Field}
+use Rattle.step_table.specs.declared.memory.form.Form.{Form}
 use Rattle.step_threads.specs.Courses.{placed}
 use Rattle.step_threads.specs.Rows.{Found, Got, Plain, Told, Reply, row}
-use Rattle.step_threads.specs.declared.act.Act.TheVariants as act
-use Rattle.step_threads.specs.declared.act.Act.{Act}
-use Rattle.step_threads.specs.declared.act.Question.TheVariants as question
+use Rattle.step_threads.specs.declared.programs.act.Act.TheVariants as act
+use Rattle.step_threads.specs.declared.programs.act.Act.{Act}
+use Rattle.step_threads.specs.declared.programs.act.Question.TheVariants as question
 use Rattle.step_threads.specs.declared.said.Answer.TheVariants as answer
 use Rattle.step_threads.specs.declared.said.Answer.{Answer}
 

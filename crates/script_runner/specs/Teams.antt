@@ -5,13 +5,13 @@ use Rattle.control_block.specs.Desks.{IsFirstDesk, DeskNow, DomainNow}
 use Rattle.control_block.specs.Rule.{opening_of}
 use Rattle.control_word.specs.Histories.{IsLegal}
 use Rattle.control_word.specs.State.{Has, Opening}
-use Rattle.control_word.specs.declared.event.Entry.{Entry}
+use Rattle.control_word.specs.declared.model.event.Entry.{Entry}
 use Rattle.handle_table.specs.Parting.{AbsorbsAll, IsNew, IsPartedInto, WindsUp}
 use Rattle.handle_table.specs.Parts.{block_of_held}
 use Rattle.handle_table.specs.Tables as table
 use Rattle.handle_table.specs.Tables.{TableNow}
 use Rattle.script_runner.specs.EndCalls.{TakesThread}
-use Rattle.step_table.specs.declared.form.Form.{Form}
+use Rattle.step_table.specs.declared.memory.form.Form.{Form}
 use Rattle.step_threads.specs.Courses.{Walk}
 use Rattle.step_threads.specs.Doings.{Over, ahead}
 use Rattle.step_threads.specs.Interleavings.{IsSplitOrJoin, Marked, first_walk}

@@ -11,7 +11,7 @@ use Rattle.script_text.specs.Grammar.{ReadsAs, Refuses, ended}
 use Rattle.script_text.specs.declared.fault.Fault.{Fault}
 use Rattle.script_stepper.specs.Lines.{block_text, said_lines, totals_text}
 use Rattle.script_runner.specs.Reports.{IsReport}
-use Rattle.script_runner.specs.declared.report.Report.{Report}
+use Rattle.script_runner.specs.declared.reports.report.Report.{Report}
 
 -- the lines of threads, of which the first has this number
 abbrev pub threads_lines : ℕ → List (Vec Said) → List (List ℕ)

@@ -9,9 +9,9 @@ use Rattle.script_runner.specs.declared.log.Log.{Log}
 use Rattle.step_threads.specs.Acts.{tasks_from}
 use Rattle.step_threads.specs.Interleavings.{no_slots}
 use Rattle.step_threads.specs.Programs.{Part}
-use Rattle.step_threads.specs.declared.act.Task.{Task}
-use Rattle.step_threads.specs.declared.call.Actor.{Actor}
-use Rattle.control_word.specs.declared.handle.Kind.{Kind}
+use Rattle.step_threads.specs.declared.programs.act.Task.{Task}
+use Rattle.step_threads.specs.declared.programs.call.Actor.{Actor}
+use Rattle.control_word.specs.declared.model.handle.Kind.{Kind}
 
 -- a new table's first slots are so many empty names
 abbrev pub IsBegun : ℕ → ℕ → TableNow ℕ → TableNow ℕ → Type 0

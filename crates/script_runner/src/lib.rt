@@ -1,27 +1,17 @@
 //! Scripts on real workers.
 #![tactic(auto)]
 
-mod asking;
-mod cells;
-mod comparison;
-mod dealing;
-mod delivering;
+mod acts;
 mod gate;
 mod laws;
-mod leaving;
 mod log;
-mod making;
-mod report;
+mod reports;
 mod running;
 mod seats;
-mod taking;
-mod telling;
-mod totals;
-mod went;
 mod worker;
 
-pub use delivering::run_text;
 pub use gate::{Gate, Open};
 pub use laws::{desk_calls, table_calls, team_laws, worker_logs};
-pub use report::Report;
+pub use reports::delivering::run_text;
+pub use reports::report::Report;
 pub use running::run_script;

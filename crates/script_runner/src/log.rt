@@ -1,21 +1,21 @@
 //! What a worker says while it runs, act by act.
 ghost use Rattle.std.specs.Prelude.{◌≡◌, ◌⊎◌, ◌∷◌, ◌++◌, [], true, false, List, drop, slice_get};
 ghost use Rattle.std.specs.Prelude.{None, Some};
-ghost use Rattle.step_threads.specs.declared.act.Act.TheVariants as act;
-ghost use Rattle.step_threads.specs.declared.act.Task.{Task as Todo};
+ghost use Rattle.step_threads.specs.declared.programs.act.Act.TheVariants as act;
+ghost use Rattle.step_threads.specs.declared.programs.act.Task.{Task as Todo};
 ghost use Rattle.step_threads.specs.declared.said.Answer.TheVariants as says;
 ghost use Rattle.script_runner.specs.Deals.{GoesOnWith, IsSettledBy, IsPartlySettled};
 ghost use Rattle.script_runner.specs.Goings.{task as as_task};
 ghost use Rattle.script_runner.specs.Logs.{told_line};
 
-use crate::comparison::compare;
-use crate::dealing::deal;
+use crate::acts::comparison::compare;
+use crate::acts::dealing::deal;
+use crate::acts::went::Went;
 use crate::seats::{is_ready, is_vacant, told_of, top_of};
-use crate::went::Went;
 use handle_table::{HandleTable, Home};
 use std::sync::Wait;
 use step_core::{Answer, CellName, Ended, Kind, Said};
-use step_threads::act::{Act, Task};
+use step_threads::programs::act::{Act, Task};
 
 /// Whether an act of a thread took something into the hand; and what the thread said, and whether it couldn't go on.
 #[derive(Drop)]

@@ -11,8 +11,8 @@ ghost use Rattle.script_runner.specs.Reports.{IsReport};
 
 use crate::gate::Gate;
 use crate::log::Log;
-use crate::report::Report;
-use crate::totals::with;
+use crate::reports::report::Report;
+use crate::reports::totals::with;
 use crate::worker::{SLOTS, Worker};
 use control_word::limits::{SCRIPT_SHARED_CELLS, SCRIPT_WEAK_CELLS};
 use control_word::{Refusal, Shape};
@@ -23,7 +23,7 @@ use std::alloc::{AllocError, Global};
 use std::sync::Wait;
 use std::thread::Threads;
 use step_core::{Actor, Call, Said};
-use step_threads::statement::tasks;
+use step_threads::programs::statement::tasks;
 
 /// How many objects the calls ask for.
 fn makes(calls: &[Call]) -> usize {

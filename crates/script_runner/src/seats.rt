@@ -1,6 +1,6 @@
 //! What a worker sees of its table.
 ghost use Rattle.std.specs.Prelude.{◌≡◌, ◌<◌, ◌+◌, ℕ, [], true, false, length, IfNone, IfSome};
-ghost use Rattle.step_table.specs.declared.ended.Ended.TheVariants as ended;
+ghost use Rattle.step_table.specs.declared.memory.ended.Ended.TheVariants as ended;
 ghost use Rattle.step_table.specs.Holdings.{is_full as has, slot_pointer};
 ghost use Rattle.script_runner.specs.Deals.{IsEmptied, IsRoundTold, IsHandOfTable, IsTop};
 ghost use Rattle.script_runner.specs.Seats.{IsSeated, shown_slots};

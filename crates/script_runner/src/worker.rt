@@ -12,7 +12,7 @@ use handle_table::{Fault, HandleTable, Home, Work};
 use std::sync::Wait;
 use std::thread::Threads;
 use step_core::Kind;
-use step_threads::act::Task;
+use step_threads::programs::act::Task;
 
 /// Most names of a thread: the first slots of its worker's table.
 pub(crate) const NAMES: usize = 32;

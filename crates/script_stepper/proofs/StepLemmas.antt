@@ -14,12 +14,12 @@ use Rattle.step_threads.specs.Acts.{tasks_from}
 use Rattle.step_table.specs.Holdings.{plain}
 use Rattle.step_threads.specs.Programs.{Part}
 use Rattle.step_core.specs.Starts.{first_sight, first_walk, no_slots}
-use Rattle.step_table.specs.declared.extent.Extent.{Extent}
+use Rattle.step_table.specs.declared.memory.extent.Extent.{Extent}
 use Rattle.step_threads.specs.Scenes.{Scene, nowhere}
 use Rattle.step_core.specs.Worlds.{Sight, scene}
 use Rattle.script_text.specs.Beginnings.{script_shape, script_sight, shape_for}
 use Rattle.script_text.specs.Versions.{blocks_in}
-use Rattle.script_stepper.specs.declared.stepping.Pace.{Pace}
+use Rattle.script_stepper.specs.declared.runs.stepping.Pace.{Pace}
 use Rattle.script_stepper.specs.Runs.{IsShown, IsTextBy, IsTurnText}
 use Rattle.script_stepper.specs.Lines.{closing_lines, item_lines}
 use Rattle.script_stepper.specs.Running.{AllOver, AllRest, HasRun, RunsOut, Waits}

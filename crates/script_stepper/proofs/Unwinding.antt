@@ -4,12 +4,12 @@ use Rattle.std.proofs.Common.{ap, subst, arith, get_or-set_same}
 use Rattle.std.specs.Prelude.{◌⊎◌, Option, Some, None, slice_set}
 use Rattle.std.proofs.lemmas.Bool.{cond_both}
 use Rattle.std.proofs.lemmas.List.{length-set}
-use Rattle.control_word.specs.declared.handle.Handle.{Handle}
+use Rattle.control_word.specs.declared.model.handle.Handle.{Handle}
 use Rattle.control_word.specs.Handles.{has_object}
 use Rattle.control_word.specs.Histories.{leads}
 use Rattle.control_word.specs.State.{Opening, State}
 use Rattle.step_threads.specs.declared.ending.Ending.{Ending}
-use Rattle.step_table.specs.declared.slot.Slot.{Slot}
+use Rattle.step_table.specs.declared.slots.slot.Slot.{Slot}
 use Rattle.step_threads.specs.Courses.{Walk, hand}
 use Rattle.step_table.specs.Holdings.{Slots, is_full, plain, pointer_of, slot_pointer}
 use Rattle.step_threads.specs.Entries.{History}

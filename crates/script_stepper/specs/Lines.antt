@@ -2,7 +2,7 @@
 use Rattle.std.specs.Prelude.{ℕ, ◌-◌, ◌==◌, ◌++◌, Bool, true, cond, List, [], ◌∷◌, codes, decimal}
 use Rattle.std.specs.Prelude.{Option, Some, None}
 use Rattle.std.specs.List.{flat_map}
-use Rattle.control_word.specs.declared.counts.Counts.{Counts}
+use Rattle.control_word.specs.declared.packed.counts.Counts.{Counts}
 use Rattle.control_word.specs.declared.place.Place.{Place}
 use Rattle.control_word.specs.Refusal.{refusal_number}
 use Rattle.control_word.specs.State.{State}
@@ -10,8 +10,8 @@ use Rattle.step_threads.specs.declared.said.Answer.{Answer}
 use Rattle.step_threads.specs.declared.said.Answer.TheVariants.{Count, Expired, Locked, Upgraded, Read, Same, Before}
 use Rattle.step_threads.specs.declared.said.Answer.TheVariants.{Compared, Refused}
 use Rattle.step_threads.specs.declared.said.Answer.TheVariants as answer
-use Rattle.step_table.specs.declared.ended.Ended.{Ended}
-use Rattle.step_table.specs.declared.ended.Ended.TheVariants.{Fields, Null}
+use Rattle.step_table.specs.declared.memory.ended.Ended.{Ended}
+use Rattle.step_table.specs.declared.memory.ended.Ended.TheVariants.{Fields, Null}
 use Rattle.step_threads.specs.declared.said.Said.{Said}
 use Rattle.step_threads.specs.Scenes.{Scene, state_in}
 use Rattle.step_threads.specs.Stocks.{from}

@@ -1,10 +1,10 @@
 //! The calls on cells that tests' actors make.
 ghost use Rattle.std.specs.Prelude.{◌≡◌};
-ghost use Rattle.step_threads.specs.declared.call.Call.TheVariants.{Alias, Compare, Exchange, Load, Store};
-ghost use Rattle.step_threads.specs.declared.call.CellName.TheVariants.{Member};
+ghost use Rattle.step_threads.specs.declared.programs.call.Call.TheVariants.{Alias, Compare, Exchange, Load, Store};
+ghost use Rattle.step_threads.specs.declared.programs.call.CellName.TheVariants.{Member};
 
-use step_table::field::Field;
-use step_threads::call::{Call, CellName, Name};
+use step_table::memory::field::Field;
+use step_threads::programs::call::{Call, CellName, Name};
 
 /// A member of what a name owns: 0 is `first`, 1 is `next`, 2 is `up`.
 pub fn member(name: Name, member: u8) -> CellName

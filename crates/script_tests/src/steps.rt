@@ -3,8 +3,8 @@ use crate::worlds::TestWorld;
 use control_word::{Block, Shape};
 use std::test::Fail;
 use step_core::{Answer, Call, Ended, Name, Said, Stepped, Turned};
-use step_table::extent::Extent;
-use step_table::table::Table;
+use step_table::memory::extent::Extent;
+use step_table::memory::table::Table;
 
 const A: Name = Name(0);
 

@@ -4,10 +4,10 @@ use Rattle.std.proofs.Common.{subst, lit<}
 use Rattle.std.specs.Prelude.{codes, decimal}
 use Rattle.std.specs.List.{AllByRecursion}
 use Rattle.std.specs.Str.{bytes_eq}
-use Rattle.step_table.specs.declared.field.Field.{Field}
-use Rattle.step_table.specs.declared.field.Field.TheVariants.{Zero, One, Two, Three}
-use Rattle.control_word.specs.declared.handle.Kind.TheVariants.{Owner}
-use Rattle.step_threads.specs.declared.call.Name.{Name}
+use Rattle.step_table.specs.declared.memory.field.Field.{Field}
+use Rattle.step_table.specs.declared.memory.field.Field.TheVariants.{Zero, One, Two, Three}
+use Rattle.control_word.specs.declared.model.handle.Kind.TheVariants.{Owner}
+use Rattle.step_threads.specs.declared.programs.call.Name.{Name}
 use Rattle.step_threads.specs.Programs.{Asked, IsDeclared, owner_asked}
 use Rattle.step_table.specs.Deeds.{field_number}
 use Rattle.script_text.specs.Reading.{◌>>=◌}

@@ -6,10 +6,10 @@ use Rattle.std.specs.List.{AllByRecursion}
 use Rattle.std.proofs.lemmas.List.{map-append, length-map}
 use Rattle.std.proofs.lemmas.List.Elements.{All-from_recursion}
 use Rattle.std.proofs.lemmas.List.Sums.{sum_by-append, sum_by-cons}
-use Rattle.step_threads.specs.declared.call.Call.{Call}
-use Rattle.control_word.specs.declared.handle.Kind.{Kind}
+use Rattle.step_threads.specs.declared.programs.call.Call.{Call}
+use Rattle.control_word.specs.declared.model.handle.Kind.{Kind}
 use Rattle.control_word.specs.declared.shape.Shape.{Shape}
-use Rattle.step_threads.specs.declared.call.CellName.{CellName}
+use Rattle.step_threads.specs.declared.programs.call.CellName.{CellName}
 use Rattle.step_threads.specs.Programs.{AllHaveCells, Asked, HasCells, IsApartFromCell, IsNameFound, IsIn, Part, names_of, IsDeclared, IsWellNamed, IsPart}
 use Rattle.step_threads.specs.Programs.{cells_of}
 use Rattle.script_text.specs.Names.{NameList}
@@ -17,8 +17,8 @@ use Rattle.script_text.specs.Drafts.{Section, ScriptView, Draft, draft_in, new_d
 use Rattle.script_text.specs.Grammar.{Leads, BeginsWithDraft}
 use Rattle.script_text.specs.Scripts.{HasTextCells, converted, kinds_in, part_in, program_in, statement_count, IsScript}
 use Rattle.script_text.proofs.ReadNames.{slice_get-more, Grows}
-use Rattle.script_text.specs.declared.version.Version.{Version}
-use Rattle.script_text.specs.declared.version.Version.TheVariants.{One, Two}
+use Rattle.script_text.specs.declared.parts.version.Version.{Version}
+use Rattle.script_text.specs.declared.parts.version.Version.TheVariants.{One, Two}
 use Rattle.script_text.specs.Versions.{blocks_in, most_threads}
 use Rattle.script_text.proofs.Headers.{IsHeader, most_allow}
 use Rattle.script_text.proofs.Changes.{with_thread, IsAdded, Change, skipped, headed, began, added, line_change}

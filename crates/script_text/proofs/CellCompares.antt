@@ -1,8 +1,8 @@
 -- What was read of a compare is read again from its canonical words.
 use Rattle.std.proofs.Common.{◌≡◌, ℕ, Bool, List, [], ◌∷◌, Ok, refl, sym, subst}
-use Rattle.step_threads.specs.declared.call.Call.TheVariants as call
-use Rattle.step_threads.specs.declared.call.CellName.{CellName}
-use Rattle.step_threads.specs.declared.call.Name.{Name}
+use Rattle.step_threads.specs.declared.programs.call.Call.TheVariants as call
+use Rattle.step_threads.specs.declared.programs.call.CellName.{CellName}
+use Rattle.step_threads.specs.declared.programs.call.Name.{Name}
 use Rattle.step_threads.specs.Programs.{as_in, kind_at, through}
 use Rattle.script_text.specs.Reading.{◌>>=◌}
 use Rattle.script_text.specs.Names.{NameList, name_text, source_at}

@@ -6,9 +6,9 @@ use Rattle.std.specs.List.{list_all, starts_with, AllByRecursion}
 use Rattle.std.specs.Str.{bytes_eq}
 use Rattle.std.proofs.lemmas.Bool.{ltb-true}
 use Rattle.std.proofs.lemmas.Slice.Eq.{bytes_eq-Decides}
-use Rattle.step_threads.specs.declared.call.Call.{Call}
+use Rattle.step_threads.specs.declared.programs.call.Call.{Call}
 use Rattle.script_text.specs.declared.fault.Cause.TheVariants.{BadByte, UnknownStatement, WrongNumberOfWords, TooManyThreads, TooManyStatements}
-use Rattle.script_text.specs.declared.keyword.Keyword.{Keyword}
+use Rattle.script_text.specs.declared.words.keyword.Keyword.{Keyword}
 use Rattle.script_text.specs.Reading.{◌>>=◌}
 use Rattle.script_text.specs.Words.{is_clean_byte, line_content, words_of}
 use Rattle.script_text.specs.Names.{NameList}

@@ -5,7 +5,7 @@ use Rattle.std.specs.Prelude.{decimal}
 use Rattle.std.specs.List.{flat_map}
 use Rattle.std.proofs.lemmas.List.{append-nil, take_all, take_rest}
 use Rattle.std.proofs.lemmas.List.Concat.{flat_map-cons}
-use Rattle.script_text.specs.declared.thread.Thread.{Thread}
+use Rattle.script_text.specs.declared.parts.thread.Thread.{Thread}
 use Rattle.script_text.specs.Drafts.{section_of}
 use Rattle.script_text.specs.Grammar.{ended}
 use Rattle.script_text.specs.Canonical.{number_after, spaced, section_lines, begun_lines, thread_lines}

@@ -2,18 +2,18 @@
 use Rattle.std.proofs.Common.{◌≡◌, ℕ, true, false, List, ◌∷◌, ◌++◌, length, Some, None, Ok, refl, sym, ap, subst, ◌∙◌}
 use Rattle.std.specs.Prelude.{codes}
 use Rattle.std.specs.List.{AllByRecursion}
-use Rattle.step_threads.specs.declared.call.Call.{Call}
-use Rattle.step_threads.specs.declared.call.Call.TheVariants as call
-use Rattle.control_word.specs.declared.handle.Kind.TheVariants.{Owner, Weak}
+use Rattle.step_threads.specs.declared.programs.call.Call.{Call}
+use Rattle.step_threads.specs.declared.programs.call.Call.TheVariants as call
+use Rattle.control_word.specs.declared.model.handle.Kind.TheVariants.{Owner, Weak}
 use Rattle.step_threads.specs.Programs.{IsDeclared, names_of}
-use Rattle.script_text.specs.declared.keyword.Keyword.{Keyword}
-use Rattle.script_text.specs.declared.keyword.Keyword.TheVariants as key
-use Rattle.script_text.specs.declared.keyword.PlaceKeyword.{PlaceKeyword}
-use Rattle.script_text.specs.declared.keyword.PlaceKeyword.TheVariants as place
-use Rattle.script_text.specs.declared.keyword.CellKeyword.{CellKeyword}
-use Rattle.script_text.specs.declared.keyword.CellKeyword.TheVariants as cell
-use Rattle.script_text.specs.declared.keyword.WeakKeyword.{WeakKeyword}
-use Rattle.script_text.specs.declared.keyword.WeakKeyword.TheVariants as weak
+use Rattle.script_text.specs.declared.words.keyword.Keyword.{Keyword}
+use Rattle.script_text.specs.declared.words.keyword.Keyword.TheVariants as key
+use Rattle.script_text.specs.declared.words.keyword.PlaceKeyword.{PlaceKeyword}
+use Rattle.script_text.specs.declared.words.keyword.PlaceKeyword.TheVariants as place
+use Rattle.script_text.specs.declared.words.keyword.CellKeyword.{CellKeyword}
+use Rattle.script_text.specs.declared.words.keyword.CellKeyword.TheVariants as cell
+use Rattle.script_text.specs.declared.words.keyword.WeakKeyword.{WeakKeyword}
+use Rattle.script_text.specs.declared.words.keyword.WeakKeyword.TheVariants as weak
 use Rattle.script_text.specs.Names.{NameList}
 use Rattle.script_text.specs.Keywords.{spelling_of, takes_words}
 use Rattle.script_text.specs.Shapes.{alias_at, cell_and_other, cell_and_source, cell_and_sources, target_and_cell, one_target, one_source, target_and_source}

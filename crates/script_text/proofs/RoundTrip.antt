@@ -5,8 +5,8 @@ use Rattle.std.specs.Prelude.{codes, ltb}
 use Rattle.std.specs.List.{flat_map, AllByRecursion}
 use Rattle.std.proofs.lemmas.List.{append-nil}
 use Rattle.std.proofs.lemmas.List.Concat.{flat_map-cons, flat_map-append}
-use Rattle.step_threads.specs.declared.call.Call.{Call}
-use Rattle.script_text.specs.declared.keyword.Keyword.{Keyword}
+use Rattle.step_threads.specs.declared.programs.call.Call.{Call}
+use Rattle.script_text.specs.declared.words.keyword.Keyword.{Keyword}
 use Rattle.script_text.specs.Names.{NameList}
 use Rattle.script_text.specs.Keywords.{takes_words}
 use Rattle.script_text.specs.Calls.{call_at}
@@ -17,8 +17,8 @@ use Rattle.script_text.specs.Canonical.{canonical}
 use Rattle.script_text.proofs.TidyWords.{IsTidy, after_tidy_line, no_feed_in}
 use Rattle.script_text.proofs.GrammarLemmas.{clean-last, Leads-last}
 use Rattle.script_text.proofs.Rewrites.{IsSettled, Rewrites}
-use Rattle.script_text.specs.declared.version.Version.{Version}
-use Rattle.script_text.specs.declared.version.Version.TheVariants.{One, Two}
+use Rattle.script_text.specs.declared.parts.version.Version.{Version}
+use Rattle.script_text.specs.declared.parts.version.Version.TheVariants.{One, Two}
 use Rattle.script_text.specs.Versions.{as_two, most_threads}
 use Rattle.script_text.specs.Scripts.{converted}
 use Rattle.script_text.proofs.Headers.{IsHeader, header_again, header_tidy}

@@ -7,7 +7,7 @@ use Rattle.script_text.specs.Versions.{blocks_in}
 use Rattle.step_threads.specs.Scenes.{Scene}
 use Rattle.step_core.specs.Worlds.{Sight, scene}
 use Rattle.step_core.specs.Starts.{first_sight}
-use Rattle.control_word.specs.declared.event.Entry.{Entry}
+use Rattle.control_word.specs.declared.model.event.Entry.{Entry}
 use Rattle.control_word.specs.State.{Opening}
 use Rattle.step_core.specs.Following.{no_worth}
 use Rattle.step_table.specs.Stories.{Nothing}

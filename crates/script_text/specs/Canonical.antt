@@ -2,13 +2,13 @@
 use Rattle.std.specs.Prelude.{◌≡◌, ℕ, ◌++◌, true, false, String, List, [], ◌∷◌, map, codes, decimal}
 use Rattle.std.specs.Prelude.{string_bytes}
 use Rattle.std.specs.List.{flat_map, join_with_byte}
-use Rattle.step_threads.specs.declared.call.Call.{Call}
-use Rattle.step_threads.specs.declared.call.Call.TheVariants as call
+use Rattle.step_threads.specs.declared.programs.call.Call.{Call}
+use Rattle.step_threads.specs.declared.programs.call.Call.TheVariants as call
 use Rattle.step_table.specs.Deeds.{field_number}
 use Rattle.script_text.specs.declared.line.Line.{Line}
 use Rattle.script_text.specs.declared.line.Line.TheVariants as line
-use Rattle.script_text.specs.declared.version.Version.{Version}
-use Rattle.script_text.specs.declared.version.Version.TheVariants.{One, Two}
+use Rattle.script_text.specs.declared.parts.version.Version.{Version}
+use Rattle.script_text.specs.declared.parts.version.Version.TheVariants.{One, Two}
 use Rattle.script_text.specs.Names.{NameList, name_text}
 use Rattle.script_text.specs.Cells.{cell_text}
 use Rattle.script_text.specs.Drafts.{ScriptView, Section}

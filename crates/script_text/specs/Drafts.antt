@@ -3,15 +3,15 @@ use Rattle.std.specs.Prelude.{ℕ, ◌+◌, ◌++◌, ◌==◌, ◌&&◌, Bool, 
 use Rattle.std.specs.Prelude.{length, map, Result, Ok, Err, nat_eq, nat_lt, if◌then◌else◌, codes}
 use Rattle.std.specs.List.{list_all, starts_with}
 use Rattle.std.specs.Str.{bytes_eq}
-use Rattle.step_threads.specs.declared.call.Call.{Call}
-use Rattle.script_text.specs.declared.draft.Draft as rust
+use Rattle.step_threads.specs.declared.programs.call.Call.{Call}
+use Rattle.script_text.specs.declared.parts.draft.Draft as rust
 use Rattle.script_text.specs.declared.fault.Cause.{Cause}
 use Rattle.script_text.specs.declared.fault.Cause.TheVariants.{BadByte, WrongNumberOfWords, TooManyThreads}
 use Rattle.script_text.specs.declared.fault.Cause.TheVariants.{TooManyStatements}
-use Rattle.script_text.specs.declared.keyword.Keyword.{Keyword}
-use Rattle.script_text.specs.declared.thread.Thread.{Thread}
-use Rattle.script_text.specs.declared.version.Version.{Version}
-use Rattle.script_text.specs.declared.version.Version.TheVariants.{One, Two}
+use Rattle.script_text.specs.declared.words.keyword.Keyword.{Keyword}
+use Rattle.script_text.specs.declared.parts.thread.Thread.{Thread}
+use Rattle.script_text.specs.declared.parts.version.Version.{Version}
+use Rattle.script_text.specs.declared.parts.version.Version.TheVariants.{One, Two}
 use Rattle.script_text.specs.Reading.{◌>>=◌}
 use Rattle.script_text.specs.Words.{is_clean_byte, line_content, words_of}
 use Rattle.script_text.specs.Names.{NameList}

@@ -4,12 +4,13 @@ use Rattle.std.specs.Prelude.{codes, nat_le}
 use Rattle.std.specs.Str.{bytes_eq}
 use Rattle.script_text.specs.declared.fault.Cause.{Cause}
 use Rattle.script_text.specs.declared.fault.Cause.TheVariants.{UnknownStatement}
-use Rattle.script_text.specs.declared.keyword.Keyword.{Keyword}
-use Rattle.script_text.specs.declared.keyword.Keyword.TheVariants.{Make, MakeThis, Null, Empty, Reset, Copy, Count}
-use Rattle.script_text.specs.declared.keyword.Keyword.TheVariants.{Place, Cell, Weak}
-use Rattle.script_text.specs.declared.keyword.PlaceKeyword.TheVariants as place
-use Rattle.script_text.specs.declared.keyword.CellKeyword.TheVariants as cell
-use Rattle.script_text.specs.declared.keyword.WeakKeyword.TheVariants as weak
+use Rattle.script_text.specs.declared.words.keyword.Keyword.{Keyword}
+use Rattle.script_text.specs.declared.words.keyword.Keyword.TheVariants.{Make, MakeThis, Null, Empty, Reset, Copy}
+use Rattle.script_text.specs.declared.words.keyword.Keyword.TheVariants.{Count}
+use Rattle.script_text.specs.declared.words.keyword.Keyword.TheVariants.{Place, Cell, Weak}
+use Rattle.script_text.specs.declared.words.keyword.PlaceKeyword.TheVariants as place
+use Rattle.script_text.specs.declared.words.keyword.CellKeyword.TheVariants as cell
+use Rattle.script_text.specs.declared.words.keyword.WeakKeyword.TheVariants as weak
 
 -- a first word, and the least and the greatest number of words that may follow it
 pub record Spelling : Type 0 where

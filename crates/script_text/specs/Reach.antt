@@ -1,6 +1,6 @@
 -- The draft that a text leads to.
 use Rattle.std.specs.Prelude.{ℕ, List, [], Result, Ok, Err}
-use Rattle.script_text.specs.declared.draft.Draft as rust
+use Rattle.script_text.specs.declared.parts.draft.Draft as rust
 use Rattle.script_text.specs.declared.fault.Fault.{Fault}
 use Rattle.script_text.specs.Drafts.{draft_of}
 use Rattle.script_text.specs.Grammar.{BeginsWithDraft, Refuses}

@@ -1,7 +1,7 @@
 -- Scripts, and the programs that they are.
 use Rattle.std.specs.Prelude.{◌≡◌, ℕ, ◌≤◌, List, All, length, map}
 use Rattle.control_word.specs.declared.shape.Shape.{Shape}
-use Rattle.control_word.specs.declared.handle.Kind.{Kind}
+use Rattle.control_word.specs.declared.model.handle.Kind.{Kind}
 use Rattle.step_threads.specs.Programs.{AllHaveCells, Part, IsProgram, call_count}
 use Rattle.script_text.specs.Names.{NameList}
 use Rattle.script_text.specs.Versions.{as_two, blocks_in, most_threads}

@@ -6,11 +6,11 @@ use Rattle.std.specs.Prelude.{ℕ, List, [], ◌∷◌, map, Option, Some, None,
 use Rattle.std.specs.Prelude.{if◌then◌else◌, slice_get}
 use Rattle.std.specs.Str.{bytes_eq}
 use Rattle.std.specs.Borrow.{Bor}
-use Rattle.step_threads.specs.declared.call.CellName.{CellName}
-use Rattle.step_table.specs.declared.field.Field.{Field}
-use Rattle.control_word.specs.declared.handle.Kind.{Kind}
-use Rattle.control_word.specs.declared.handle.Kind.TheVariants.{Owner}
-use Rattle.step_threads.specs.declared.call.Name.{Name}
+use Rattle.step_threads.specs.declared.programs.call.CellName.{CellName}
+use Rattle.step_table.specs.declared.memory.field.Field.{Field}
+use Rattle.control_word.specs.declared.model.handle.Kind.{Kind}
+use Rattle.control_word.specs.declared.model.handle.Kind.TheVariants.{Owner}
+use Rattle.step_threads.specs.declared.programs.call.Name.{Name}
 use Rattle.script_text.specs.declared.fault.Cause.{Cause}
 use Rattle.script_text.specs.declared.fault.Cause.TheVariants.{WrongNumberOfWords}
 use Rattle.script_text.specs.Reading.{◌>>=◌}

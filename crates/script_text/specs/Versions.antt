@@ -4,8 +4,8 @@ use Rattle.std.specs.Prelude.{ℕ, List, [], ◌∷◌, Result, Ok, Err, codes, 
 use Rattle.std.specs.Str.{bytes_eq}
 use Rattle.script_text.specs.declared.fault.Cause.{Cause}
 use Rattle.script_text.specs.declared.fault.Cause.TheVariants.{BadNumber, BadVersion, WrongNumberOfWords}
-use Rattle.script_text.specs.declared.version.Version.{Version}
-use Rattle.script_text.specs.declared.version.Version.TheVariants.{One, Two}
+use Rattle.script_text.specs.declared.parts.version.Version.{Version}
+use Rattle.script_text.specs.declared.parts.version.Version.TheVariants.{One, Two}
 use Rattle.script_text.specs.Reading.{◌>>=◌}
 use Rattle.script_text.specs.Words.{number_at}
 

@@ -6,10 +6,10 @@ use Rattle.std.specs.Str.Parse.{digits_value}
 use Rattle.script_text.specs.declared.fault.Cause.{Cause}
 use Rattle.script_text.specs.Reading.{◌>>=◌}
 use Rattle.script_text.specs.declared.fault.Cause.TheVariants.{BadCell, BadField, BadName, BadNumber}
-use Rattle.step_threads.specs.declared.call.CellName.{CellName}
-use Rattle.step_threads.specs.declared.call.CellName.TheVariants as free
-use Rattle.step_table.specs.declared.field.Field.{Field}
-use Rattle.step_table.specs.declared.field.Field.TheVariants.{Zero, One, Two, Three}
+use Rattle.step_threads.specs.declared.programs.call.CellName.{CellName}
+use Rattle.step_threads.specs.declared.programs.call.CellName.TheVariants as free
+use Rattle.step_table.specs.declared.memory.field.Field.{Field}
+use Rattle.step_table.specs.declared.memory.field.Field.TheVariants.{Zero, One, Two, Three}
 
 -- a space or a tab
 abbrev pub is_space : ℕ → Bool

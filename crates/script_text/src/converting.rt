@@ -1,7 +1,7 @@
 //! Scripts carried over to version 2.
 
 ghost use Rattle.std.specs.Prelude.{◌≡◌, ◌↔◌, ℕ, List, map, IfOk, IsOkUnless};
-ghost use Rattle.control_word.specs.declared.event.Entry.{Entry};
+ghost use Rattle.control_word.specs.declared.model.event.Entry.{Entry};
 ghost use Rattle.control_word.specs.State.{Opening};
 ghost use Rattle.step_table.specs.Stories.{Nothing};
 ghost use Rattle.step_threads.specs.Scenes.{Scene};
@@ -12,9 +12,9 @@ ghost use Rattle.script_text.specs.Scripts.{converted};
 ghost use Rattle.script_text.specs.Beginnings.{IsRunOf, script_scene, script_sight};
 ghost use Rattle.script_text.specs.Traces.{IsTrace, Item};
 
+use crate::parts::thread::{Thread, copy_of};
+use crate::parts::version::Version;
 use crate::script::Script;
-use crate::thread::{Thread, copy_of};
-use crate::version::Version;
 use control_word::Refusal;
 use std::alloc::{AllocError, Global};
 

@@ -58,23 +58,15 @@
 //! `proofs/Reversible`.
 #![tactic(auto)]
 
-mod alias;
-mod cell;
 mod converting;
-mod draft;
 mod fault;
-mod keyword;
 mod line;
-mod names;
+mod parts;
 mod printing;
 mod program;
 mod script;
-mod shape;
-mod statement;
 mod text;
-mod thread;
-mod version;
-mod word;
+mod words;
 
 pub use converting::convert;
 pub use fault::{Cause, Fault};

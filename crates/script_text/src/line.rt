@@ -6,7 +6,7 @@ ghost use Rattle.script_text.specs.Names.{NameList};
 ghost use Rattle.script_text.specs.Cells.{cell_text, member_text};
 ghost use Rattle.script_text.specs.Canonical.{AddsLines, spaced, number_after, call_words, line_words, call_line};
 
-use crate::names::Names;
+use crate::parts::names::Names;
 use std::alloc::AllocError;
 use std::fmt::Write;
 use step_core::{Call, CellName, Field, Name};

@@ -9,9 +9,9 @@ ghost use Rattle.script_text.specs.Canonical.{AddsLines, section_lines, begun_li
 ghost use Rattle.script_text.specs.Canonical.{canonical};
 
 use crate::line::put_call;
+use crate::parts::thread::Thread;
+use crate::parts::version::Version;
 use crate::script::Script;
-use crate::thread::Thread;
-use crate::version::Version;
 use control_word::Refusal;
 use std::alloc::{AllocError, Global};
 use std::fmt::Write;

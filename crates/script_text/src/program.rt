@@ -5,7 +5,7 @@ ghost use Rattle.step_threads.specs.Programs.{part_of, parts_of};
 ghost use Rattle.script_text.specs.Drafts.{section_of};
 ghost use Rattle.script_text.specs.Scripts.{part_in, program_in};
 
-use crate::thread::Thread;
+use crate::parts::thread::Thread;
 use std::alloc::{AllocError, Global};
 use step_core::{Actor, Program};
 

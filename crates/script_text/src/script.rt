@@ -1,8 +1,8 @@
 //! Scripts.
 
+use crate::parts::thread::Thread;
+use crate::parts::version::Version;
 use crate::program::program_of;
-use crate::thread::Thread;
-use crate::version::Version;
 use control_word::Refusal;
 use std::alloc::Global;
 use std::marker::Model;

@@ -7,11 +7,11 @@ ghost use Rattle.script_text.specs.Drafts.{ScriptView, section_of, draft_of, sec
 ghost use Rattle.script_text.specs.Grammar.{is_feed, HasNoFeed, IsLineCut, ReadsAs, Faulty, Answers, IsUnlessMemory};
 ghost use Rattle.script_text.specs.Reach.{ReachesDraft};
 
-use crate::draft::{Draft, add_line, empty_draft};
 use crate::fault::{Cause, Fault, Stop};
+use crate::parts::draft::{Draft, add_line, empty_draft};
+use crate::parts::thread::Thread;
+use crate::parts::version::Version;
 use crate::script::Script;
-use crate::thread::Thread;
-use crate::version::Version;
 use std::alloc::{AllocError, Global};
 
 fn line_end(bytes: &[u8]) -> Option<usize>

@@ -10,8 +10,8 @@ use Rattle.control_word.specs.Events.{place_at}
 use Rattle.control_word.specs.Handles.{IsPointer, handle}
 use Rattle.control_word.specs.Histories.{IsLegal, leads}
 use Rattle.control_word.specs.State.{InShape, count}
-use Rattle.control_word.specs.declared.event.Event.TheVariants.{Lock}
-use Rattle.control_word.specs.declared.handle.Kind.TheVariants.{Owner, Weak}
+use Rattle.control_word.specs.declared.model.event.Event.TheVariants.{Lock}
+use Rattle.control_word.specs.declared.model.handle.Kind.TheVariants.{Owner, Weak}
 use Rattle.control_word.specs.declared.place.Block.{Block}
 use Rattle.control_word.specs.declared.place.Place.{Place}
 use Rattle.control_block.proofs.Bags.{shown_held}

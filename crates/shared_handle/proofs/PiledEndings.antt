@@ -7,9 +7,9 @@ use Rattle.control_word.proofs.lists.Tallies.{put_cases}
 use Rattle.control_word.specs.Handles.{empty}
 use Rattle.control_word.specs.Histories.{IsLegal, entry, leads}
 use Rattle.control_word.specs.State.{Object, State, ending, kind_of_member, put}
-use Rattle.control_word.specs.declared.event.Event.TheVariants.{ClearMember, Leave}
-use Rattle.control_word.specs.declared.handle.Handle.{Handle}
-use Rattle.control_word.specs.declared.handle.Kind.TheVariants.{Owner}
+use Rattle.control_word.specs.declared.model.event.Event.TheVariants.{ClearMember, Leave}
+use Rattle.control_word.specs.declared.model.handle.Handle.{Handle}
+use Rattle.control_word.specs.declared.model.handle.Kind.TheVariants.{Owner}
 use Rattle.control_word.specs.declared.place.Block.{Block}
 use Rattle.control_word.specs.declared.place.Place.{Place}
 use Rattle.control_block.proofs.Endings.{still_ends}

@@ -5,10 +5,10 @@ use Rattle.std.specs.Prelude.{List, Option, None, Some}
 use Rattle.control_word.specs.Events.{origin, place_at}
 use Rattle.control_word.specs.Handles.{IsPointer, handle, owner_before}
 use Rattle.control_word.specs.State.{count}
-use Rattle.control_word.specs.declared.event.Event.TheVariants.{Count, Expired, Make, Share, WeakLeave, WeakShare}
-use Rattle.control_word.specs.declared.handle.Handle.{Handle}
-use Rattle.control_word.specs.declared.handle.Kind.{Kind}
-use Rattle.control_word.specs.declared.handle.Kind.TheVariants.{Owner, Weak}
+use Rattle.control_word.specs.declared.model.event.Event.TheVariants.{Count, Expired, Make, Share, WeakLeave, WeakShare}
+use Rattle.control_word.specs.declared.model.handle.Handle.{Handle}
+use Rattle.control_word.specs.declared.model.handle.Kind.{Kind}
+use Rattle.control_word.specs.declared.model.handle.Kind.TheVariants.{Owner, Weak}
 use Rattle.control_word.specs.declared.place.Block.{Block}
 use Rattle.control_word.specs.declared.place.Place.{Place}
 use Rattle.control_block.specs.CellCalls as inner

@@ -1,8 +1,8 @@
 -- A desk's pile of objects that end: the last of the list is the top, and what ends for it lies above it (own).
 use Rattle.std.specs.Prelude.{◌≡◌, ◌≢◌, ℕ, ◌+◌, ◌≤◌, Bool, cond, length, List, [], ◌∷◌}
 use Rattle.std.specs.Prelude.{◌++◌, Option, None, Some, vec_capacity}
-use Rattle.control_word.specs.declared.event.Event.{Event}
-use Rattle.control_word.specs.declared.event.Event.TheVariants.{ClearMember, Finish, Leave, WeakLeave}
+use Rattle.control_word.specs.declared.model.event.Event.{Event}
+use Rattle.control_word.specs.declared.model.event.Event.TheVariants.{ClearMember, Finish, Leave, WeakLeave}
 use Rattle.control_word.specs.declared.place.Block.{Block}
 use Rattle.control_word.specs.declared.place.Place.{Place}
 use Rattle.control_block.specs.Desks.{AddsEvent, Belongs, DeskNow, DomainNow, endings_of, latest_of, stock_of}

@@ -1,7 +1,7 @@
 -- What a visit of a value says.
 use Rattle.std.specs.Prelude.{◌≡◌, Option, None, Some, Result, Ok, Err}
-use Rattle.control_word.specs.declared.event.Event.TheVariants.{Visit}
-use Rattle.control_word.specs.declared.handle.Kind.TheVariants.{Owner}
+use Rattle.control_word.specs.declared.model.event.Event.TheVariants.{Visit}
+use Rattle.control_word.specs.declared.model.handle.Kind.TheVariants.{Owner}
 use Rattle.control_word.specs.declared.place.Block.{Block}
 use Rattle.control_word.specs.declared.place.Place.{Place}
 use Rattle.control_word.specs.declared.refusal.Refusal.TheVariants.{Null}

@@ -1,6 +1,6 @@
 //! Weak pointers from shared ones ([util.smartptr.weak.const]).
 ghost use Rattle.std.specs.Prelude.{◌≡◌, ◌↔◌, ◌+◌, IfErr, IfOk, IsErr, OnOk};
-ghost use Rattle.control_word.specs.declared.handle.Kind.TheVariants.{Owner, Weak};
+ghost use Rattle.control_word.specs.declared.model.handle.Kind.TheVariants.{Owner, Weak};
 ghost use Rattle.control_block.specs.Desks.{Belongs, Keeps, allowance_of, bag_of, held_of};
 ghost use Rattle.shared_handle.specs.Calls.{SharesWeakly, weak_place};
 ghost use Rattle.control_block.specs.CellCalls.{HoldsHandle, with_handle};

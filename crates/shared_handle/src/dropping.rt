@@ -1,6 +1,6 @@
 //! Owners that leave for good, in one call.
 ghost use Rattle.std.specs.Prelude.{◌≡◌, ◌+◌, IfSome, MatchOption, None};
-ghost use Rattle.control_word.specs.declared.handle.Kind.TheVariants.{Owner};
+ghost use Rattle.control_word.specs.declared.model.handle.Kind.TheVariants.{Owner};
 ghost use Rattle.control_block.specs.Desks.{KeepsStock, bag_of};
 ghost use Rattle.control_block.specs.Own.{Does};
 ghost use Rattle.control_block.specs.CellCalls.{HoldsHandle, without_handle};

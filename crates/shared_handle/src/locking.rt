@@ -1,6 +1,6 @@
 //! Owners from weak pointers.
 ghost use Rattle.std.specs.Prelude.{◌≡◌, ◌↔◌, ◌+◌, is_some, IfErr, IfOk, IsErr, OnOk, None};
-ghost use Rattle.control_word.specs.declared.handle.Kind.TheVariants.{Owner, Weak};
+ghost use Rattle.control_word.specs.declared.model.handle.Kind.TheVariants.{Owner, Weak};
 ghost use Rattle.control_block.specs.Desks.{Belongs, Keeps, allowance_of, bag_of, held_of};
 ghost use Rattle.control_block.specs.CellCalls.{HoldsHandle, with_handle};
 ghost use Rattle.shared_handle.specs.Locks.{HasOwner, IsOwnerOf, IsUpgrade, LocksHandle, SawNoOwner};

@@ -2,7 +2,7 @@
 ghost use Rattle.std.specs.Prelude.{◌≡◌};
 ghost use Rattle.control_word.specs.Handles as Handles;
 ghost use Rattle.control_word.specs.Handles.{IsPointer};
-ghost use Rattle.control_word.specs.declared.handle.Kind.TheVariants.{Owner};
+ghost use Rattle.control_word.specs.declared.model.handle.Kind.TheVariants.{Owner};
 ghost use Rattle.control_block.specs.Desks.{Belongs, Keeps, bag_of};
 ghost use Rattle.shared_handle.specs.Calls.{IsUseCount};
 ghost use Rattle.control_block.specs.CellCalls.{HoldsHandle};

@@ -1,12 +1,12 @@
 //! What a handle that isn't empty is on: the calls of control blocks go by it. Where one points.
 ghost use Rattle.std.specs.Prelude.{◌≡◌};
 ghost use Rattle.control_word.specs.Handles.{IsPointer};
-ghost use Rattle.control_word.specs.declared.handle.Kind.TheVariants.{Owner, Weak};
+ghost use Rattle.control_word.specs.declared.model.handle.Kind.TheVariants.{Owner, Weak};
 ghost use Rattle.shared_handle.specs.Calls.{IsOn, pointed};
 
 use control_block::handles::{self, Pointer, Shared};
 use control_word::Place;
-use control_word::handle::Kind;
+use control_word::model::handle::Kind;
 
 /// What an owner is on, none where it is empty.
 pub(crate) fn owner_pointer(handle: &Shared) -> Option<Pointer>

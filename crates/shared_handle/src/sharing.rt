@@ -1,6 +1,6 @@
 //! Further owners, and owners that leave.
 ghost use Rattle.std.specs.Prelude.{◌≡◌, ◌↔◌, ◌+◌, IfErr, IfOk, IsErr, OnOk};
-ghost use Rattle.control_word.specs.declared.handle.Kind.TheVariants.{Owner};
+ghost use Rattle.control_word.specs.declared.model.handle.Kind.TheVariants.{Owner};
 ghost use Rattle.control_block.specs.Desks.{Belongs, Keeps, KeepsStock, allowance_of, bag_of, endings_of, held_of};
 ghost use Rattle.shared_handle.specs.Calls.{MayGive, SharesOwner, pointed};
 ghost use Rattle.control_block.specs.CellCalls.{HoldsHandle, with_handle, without_handle};
@@ -12,7 +12,7 @@ use control_block::calls;
 use control_block::desk::Desk;
 use control_block::domain::Domain;
 use control_block::handles::{Pointer, Shared};
-use control_word::handle::Kind;
+use control_word::model::handle::Kind;
 use control_word::{Place, Refusal};
 use std::marker::Brand;
 

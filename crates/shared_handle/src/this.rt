@@ -1,6 +1,6 @@
 //! Pointers that an object gives to itself ([util.smartptr.enab]).
 ghost use Rattle.std.specs.Prelude.{◌≡◌, ◌+◌, IfErr, IfOk, OnOk};
-ghost use Rattle.control_word.specs.declared.handle.Kind.TheVariants.{Owner, Weak};
+ghost use Rattle.control_word.specs.declared.model.handle.Kind.TheVariants.{Owner, Weak};
 ghost use Rattle.control_block.specs.Desks.{Belongs, Keeps, bag_of};
 ghost use Rattle.shared_handle.specs.Calls.{IsOfThis, SharesOwner, SharesWeakly};
 ghost use Rattle.control_block.specs.CellCalls.{HoldsHandle, with_handle};

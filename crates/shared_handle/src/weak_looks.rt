@@ -1,6 +1,6 @@
 //! What a weak handle tells.
 ghost use Rattle.std.specs.Prelude.{◌≡◌};
-ghost use Rattle.control_word.specs.declared.handle.Kind.TheVariants.{Weak};
+ghost use Rattle.control_word.specs.declared.model.handle.Kind.TheVariants.{Weak};
 ghost use Rattle.control_block.specs.Desks.{Belongs, Keeps, bag_of};
 ghost use Rattle.shared_handle.specs.Calls.{IsUseCount, IsExpiry};
 ghost use Rattle.control_block.specs.CellCalls.{HoldsHandle};

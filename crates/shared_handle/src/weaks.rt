@@ -1,6 +1,6 @@
 //! Weak pointers ([util.smartptr.weak]).
 ghost use Rattle.std.specs.Prelude.{◌≡◌, ◌↔◌, ◌+◌, Bool, cond, length, IfErr, IfOk, IsErr, OnOk};
-ghost use Rattle.control_word.specs.declared.handle.Kind.TheVariants.{Weak};
+ghost use Rattle.control_word.specs.declared.model.handle.Kind.TheVariants.{Weak};
 ghost use Rattle.control_block.specs.Desks.{Belongs, IsSameDesk, Keeps, KeepsEndings, allowance_of, bag_of, endings_of};
 ghost use Rattle.control_block.specs.Desks.{held_of, stock_of};
 ghost use Rattle.shared_handle.specs.Calls.{LeavesWeakly, SharesWeakly, weak_place};
@@ -11,7 +11,7 @@ use control_block::domain::Domain;
 use control_block::handles::Pointer;
 use control_block::{calls, handles};
 use control_word::Refusal;
-use control_word::handle::Kind;
+use control_word::model::handle::Kind;
 use std::marker::Brand;
 
 /// A copy of a weak pointer ([util.smartptr.weak.const]): one weak handle more, which points where the handle does. Of

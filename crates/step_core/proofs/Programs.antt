@@ -6,9 +6,9 @@ use Rattle.std.specs.Prelude.{All, IsTrue, Option, Some, sum_by}
 use Rattle.std.proofs.lemmas.List.{get_or-map, length-map, map_push, take-map, take_more}
 use Rattle.std.proofs.lemmas.List.Sums.{sum_by-take-le, sum_by_push}
 use Rattle.std.proofs.lemmas.List.Elements.{All-append, All-cons, All-head, All-nil, All-tail}
-use Rattle.step_threads.specs.declared.call.Actor.{Actor}
-use Rattle.step_threads.specs.declared.call.Call.{Call}
-use Rattle.control_word.specs.declared.handle.Kind.{Kind}
+use Rattle.step_threads.specs.declared.programs.call.Actor.{Actor}
+use Rattle.step_threads.specs.declared.programs.call.Call.{Call}
+use Rattle.control_word.specs.declared.model.handle.Kind.{Kind}
 use Rattle.step_threads.specs.Programs.{Asked, IsDeclared, IsWellNamed, Part, call_count, asked_list, names_of, part_of}
 
 not_true : IsTrue false → ⊥

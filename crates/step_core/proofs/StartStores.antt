@@ -11,7 +11,7 @@ use Rattle.std.proofs.Math.Nat.{div-lt_iff_lt-mul, div-mul-le_self, mul-le-mul_l
 use Rattle.std.specs.List.Sorted.{IsPermutation}
 use Rattle.control_word.proofs.lists.Tallies.{num, num_cons}
 use Rattle.control_word.specs.State.{Stored, all_stored, same_stored, stored}
-use Rattle.step_table.specs.declared.extent.Extent.{Extent}
+use Rattle.step_table.specs.declared.memory.extent.Extent.{Extent}
 use Rattle.step_threads.specs.declared.half.Half.TheVariants.{Rest}
 use Rattle.step_threads.specs.Actors.{Stocks, in_list}
 use Rattle.step_table.specs.Openings.{each_stock}

@@ -1,6 +1,6 @@
 -- What a world's steps are of its threads' statements, act by act. All of it is own.
 use Rattle.std.specs.Prelude.{◌≡◌, ◌⊎◌, ℕ, ◌-◌, ◌++◌, List, [], ◌∷◌, Option, Some, None}
-use Rattle.step_table.specs.declared.form.Form.{Form}
+use Rattle.step_table.specs.declared.memory.form.Form.{Form}
 use Rattle.step_table.specs.Openings.{opening}
 use Rattle.step_table.specs.Stories.{Nothing, story_state}
 use Rattle.step_threads.specs.declared.said.Said.{Said}

@@ -1,9 +1,9 @@
 -- What holds after each step of a run, and of each of its steps.
 use Rattle.std.specs.Prelude.{◌≡◌, ◌≢◌, ◌↔◌, ◌⊎◌, ℕ, ◌+◌, ◌-◌, ◌<◌, ◌≤◌}
 use Rattle.std.specs.Prelude.{Bool, true, List, [], ◌∷◌, slice_index, Option, Some, None, MatchOption}
-use Rattle.control_word.specs.declared.event.Event.{Event}
-use Rattle.control_word.specs.declared.event.Event.TheVariants.{Leave, Lock}
-use Rattle.control_word.specs.declared.handle.Handle.{Handle}
+use Rattle.control_word.specs.declared.model.event.Event.{Event}
+use Rattle.control_word.specs.declared.model.event.Event.TheVariants.{Leave, Lock}
+use Rattle.control_word.specs.declared.model.handle.Handle.{Handle}
 use Rattle.control_word.specs.Handles.{object_of}
 use Rattle.control_word.specs.Histories.{entry, given}
 use Rattle.control_word.specs.Layout.{spot}
@@ -11,13 +11,13 @@ use Rattle.control_word.specs.Packing.{number_of}
 use Rattle.control_word.specs.State.{InShape, State, common, count, live, weak}
 use Rattle.control_word.specs.Views.{IsAtRest}
 use Rattle.step_threads.specs.declared.said.Answer.{Answer}
-use Rattle.step_table.specs.declared.ended.Ended.{Ended}
+use Rattle.step_table.specs.declared.memory.ended.Ended.{Ended}
 use Rattle.step_threads.specs.declared.said.Stepped.{Stepped}
 use Rattle.step_threads.specs.declared.said.Stepped.TheVariants.{Event as Step, Quiet, Waited, Done}
 use Rattle.step_core.specs.declared.trace.TraceStep.{TraceStep}
 use Rattle.step_table.specs.Openings.{opening}
-use Rattle.step_threads.specs.declared.act.Act.TheVariants as act
-use Rattle.step_threads.specs.declared.act.Task.{Task}
+use Rattle.step_threads.specs.declared.programs.act.Act.TheVariants as act
+use Rattle.step_threads.specs.declared.programs.act.Task.{Task}
 use Rattle.step_threads.specs.Scenes.{lock_answer, walk_of}
 use Rattle.step_table.specs.Deeds.{remains}
 use Rattle.step_table.specs.Stories.{Nothing, story_state}

@@ -1,7 +1,7 @@
 -- What is seen of a world, and what any step does to it. All of it is own.
 use Rattle.std.specs.Prelude.{◌≡◌, ◌≢◌, ◌↔◌, ℕ, ◌<◌, Bool, true, false, List, [], ◌∷◌}
 use Rattle.std.specs.Prelude.{length, get_or, None}
-use Rattle.control_word.specs.declared.event.Event.{Event}
+use Rattle.control_word.specs.declared.model.event.Event.{Event}
 use Rattle.control_word.specs.Histories.{entry}
 use Rattle.step_table.specs.Holdings.{HoldsBag, slot_pointer}
 use Rattle.step_table.specs.Stories.{Nothing, Story}

@@ -4,8 +4,8 @@ use Rattle.std.specs.Prelude.{length}
 use Rattle.std.specs.List.{filter}
 use Rattle.control_word.specs.Packing.{cell_bits}
 use Rattle.control_word.specs.declared.shape.Shape.{Shape}
-use Rattle.step_table.specs.declared.cell_deed.Cell.{Cell}
-use Rattle.step_table.specs.declared.cell_deed.Cell.TheVariants.{Free, Member}
+use Rattle.step_table.specs.declared.cell_steps.cell_deed.Cell.{Cell}
+use Rattle.step_table.specs.declared.cell_steps.cell_deed.Cell.TheVariants.{Free, Member}
 use Rattle.step_threads.specs.declared.half.Half.{Half}
 use Rattle.step_threads.specs.declared.half.Half.TheVariants.{Refill}
 use Rattle.step_table.specs.CellDeeds.{word_of}

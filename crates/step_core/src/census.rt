@@ -7,10 +7,10 @@ ghost use Rattle.step_table.specs.Stories.{Kept, story_state};
 ghost use Rattle.step_core.specs.Totals.{IsAtEnd, census_of, counts_in, ended_in, fields_of, made_in};
 
 use crate::world::World;
-use control_word::counts::unpack_count;
-use control_word::layout::{FIELDS, OWNERS, WEAKS};
+use control_word::packed::counts::unpack_count;
+use control_word::packed::layout::{FIELDS, OWNERS, WEAKS};
 use control_word::{Block, Counts};
-use step_table::cell_deed::Cell;
+use step_table::cell_steps::cell_deed::Cell;
 
 impl World {
     /// How many owners and weak handles the object in a block has ([util.smartptr.shared.obs], and own); none where the

@@ -9,10 +9,10 @@ mod told;
 mod trace;
 mod world;
 
-pub use step_table::cell_deed::Cell;
-pub use step_table::ended::Ended;
-pub use step_table::field::Field;
-pub use step_threads::call::{Actor, Call, CellName, Kind, Name, Program};
+pub use step_table::cell_steps::cell_deed::Cell;
+pub use step_table::memory::ended::Ended;
+pub use step_table::memory::field::Field;
+pub use step_threads::programs::call::{Actor, Call, CellName, Kind, Name, Program};
 pub use step_threads::said::{Answer, Said, Stepped, Turned};
 pub use trace::{RunRefusal, Trace, TraceStep};
 pub use world::World;

@@ -9,7 +9,7 @@ ghost use Rattle.step_threads.specs.Programs.{through, weak_asked};
 ghost use Rattle.step_core.specs.Starts.{AllHaveFields, CanBegin, HasFields};
 
 use control_word::Shape;
-use step_threads::call::{Actor, Call, CellName, Kind, Name};
+use step_threads::programs::call::{Actor, Call, CellName, Kind, Name};
 
 /// Most actors of a program.
 const MOST_ACTORS: usize = 64;

@@ -20,9 +20,9 @@ ghost use Rattle.step_threads.specs.Courses.{todo};
 use crate::trace::{RunRefusal, Trace, TraceStep};
 use crate::world::World;
 use std::alloc::Global;
-use step_table::refill::Stage;
-use step_threads::act::{Act, Task};
+use step_table::cell_steps::refill::Stage;
 use step_threads::half::Half;
+use step_threads::programs::act::{Act, Task};
 use step_threads::said::Stepped;
 use step_threads::thread::Thread;
 

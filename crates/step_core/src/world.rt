@@ -9,7 +9,7 @@ ghost use Rattle.step_core.specs.Worlds.{Advances, GoesTo, Steps, TakesWholeTurn
 
 use crate::told::{ends, makes};
 use std::marker::Model;
-use step_table::table::Table;
+use step_table::memory::table::Table;
 use step_threads::half::Half;
 use step_threads::said::{Stepped, Turned};
 use step_threads::thread::Thread;

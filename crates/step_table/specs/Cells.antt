@@ -1,13 +1,13 @@
 -- What a step finds in a cell. All of it is own.
 use Rattle.std.specs.Prelude.{◌≡◌, ℕ, ◌<◌, slice_index, Option}
-use Rattle.control_word.specs.declared.cell.CellWord.{CellWord}
+use Rattle.control_word.specs.declared.packed.cell.CellWord.{CellWord}
 use Rattle.control_word.specs.Events.{InHand, IsOpen, cell_of}
 use Rattle.control_word.specs.declared.place.Block.{Block}
 use Rattle.control_word.specs.Packing.{IsCellWord, cell_bits}
 use Rattle.control_word.specs.State.{State, weak_number}
 use Rattle.control_word.specs.Words.{block_of, blocks_of}
-use Rattle.step_table.specs.declared.cell_deed.Cell.{Cell}
-use Rattle.step_table.specs.declared.cell_deed.Cell.TheVariants.{Free, Member}
+use Rattle.step_table.specs.declared.cell_steps.cell_deed.Cell.{Cell}
+use Rattle.step_table.specs.declared.cell_steps.cell_deed.Cell.TheVariants.{Free, Member}
 use Rattle.step_table.specs.CellDeeds.{cell_in, handle_told, kind_in_state, word_of}
 use Rattle.step_table.specs.Stories.{Story, story_state}
 

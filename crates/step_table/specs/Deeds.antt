@@ -1,24 +1,24 @@
 -- What acts do to the object of a pointer. All of it is own but the events, which name their sections.
 use Rattle.std.specs.Prelude.{◌≡◌, ◌≢◌, ℕ, ◌≤◌, ◌==◌, Bool, cond, ◌&&◌, not, Option, Some}
 use Rattle.std.specs.Prelude.{None, slice_index}
-use Rattle.control_word.specs.declared.handle.Kind.{Kind}
-use Rattle.control_word.specs.declared.handle.Kind.TheVariants.{Owner, Weak}
+use Rattle.control_word.specs.declared.model.handle.Kind.{Kind}
+use Rattle.control_word.specs.declared.model.handle.Kind.TheVariants.{Owner, Weak}
 use Rattle.control_word.specs.declared.place.Place.{Place}
 use Rattle.control_word.specs.Events.{is_gone, place_at}
 use Rattle.control_word.specs.Layout.{spot}
 use Rattle.control_word.specs.Packing.{number_of}
 use Rattle.control_word.specs.State.{Object, State, count, weak}
 use Rattle.control_word.specs.Views.{owes}
-use Rattle.step_table.specs.declared.field.Field.{Field}
-use Rattle.step_table.specs.declared.holdings.Pointer.{Pointer}
-use Rattle.step_table.specs.declared.past.Deed.{Deed}
-use Rattle.step_table.specs.declared.past.Deed.TheVariants as deed
+use Rattle.step_table.specs.declared.memory.field.Field.{Field}
+use Rattle.step_table.specs.declared.slots.holdings.Pointer.{Pointer}
+use Rattle.step_table.specs.declared.memory.past.Deed.{Deed}
+use Rattle.step_table.specs.declared.memory.past.Deed.TheVariants as deed
 use Rattle.step_table.specs.Stories.{Story, pending, story_state}
-use Rattle.step_table.specs.declared.field.Field.TheVariants.{Zero, One, Two, Three}
-use Rattle.control_word.specs.declared.handle.Handle.{Handle}
+use Rattle.step_table.specs.declared.memory.field.Field.TheVariants.{Zero, One, Two, Three}
+use Rattle.control_word.specs.declared.model.handle.Handle.{Handle}
 use Rattle.control_word.specs.Handles.{handle, empty, owner_before}
-use Rattle.step_table.specs.declared.ended.Ended.{Ended}
-use Rattle.step_table.specs.declared.ended.Ended.TheVariants as ended
+use Rattle.step_table.specs.declared.memory.ended.Ended.{Ended}
+use Rattle.step_table.specs.declared.memory.ended.Ended.TheVariants as ended
 use Rattle.control_word.specs.Words.{blocks_of}
 
 -- the number of a field

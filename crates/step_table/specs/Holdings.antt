@@ -2,16 +2,16 @@
 use Rattle.std.specs.Prelude.{◌≡◌, ℕ, ◌==◌, Bool, true, false, cond, List, length, get_or, Option, Some}
 use Rattle.std.specs.Prelude.{None}
 use Rattle.std.specs.List.{filter}
-use Rattle.control_word.specs.declared.handle.Handle.{Handle}
-use Rattle.control_word.specs.declared.handle.Kind.{Kind}
-use Rattle.control_word.specs.declared.handle.Kind.TheVariants.{Owner, Weak}
+use Rattle.control_word.specs.declared.model.handle.Handle.{Handle}
+use Rattle.control_word.specs.declared.model.handle.Kind.{Kind}
+use Rattle.control_word.specs.declared.model.handle.Kind.TheVariants.{Owner, Weak}
 use Rattle.control_word.specs.declared.place.Place.{Place}
 use Rattle.control_word.specs.Handles.{same_handle, IsPointer}
 use Rattle.control_word.specs.declared.place.Place.{Place}
 use Rattle.control_word.specs.State.{State, bag_size, held, same_held}
-use Rattle.step_table.specs.declared.holdings.Pointer.{Pointer}
-use Rattle.step_table.specs.declared.slot.Slot.{Slot}
-use Rattle.step_table.specs.declared.slot.Slot.TheVariants.{Empty, Full}
+use Rattle.step_table.specs.declared.slots.holdings.Pointer.{Pointer}
+use Rattle.step_table.specs.declared.slots.slot.Slot.{Slot}
+use Rattle.step_table.specs.declared.slots.slot.Slot.TheVariants.{Empty, Full}
 use Rattle.step_table.specs.Stories.{Story, handle_in_block, story_state}
 
 abbrev pub Slots : Type 0

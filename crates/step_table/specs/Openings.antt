@@ -1,7 +1,7 @@
 -- How a world begins: each actor has a store of blocks and a share of the allowance. All of it is own.
 use Rattle.std.specs.Prelude.{ℕ, ◌+◌, ◌-◌, ◌*◌, ◌/◌, ◌%◌, ◌≤◌, ◌==◌, cond, nat_lt}
 use Rattle.control_word.specs.State.{Opening}
-use Rattle.step_table.specs.declared.extent.Extent.{Extent}
+use Rattle.step_table.specs.declared.memory.extent.Extent.{Extent}
 
 -- each actor has the same number of blocks, in order; the rest goes to the last
 abbrev pub each_stock : Extent → ℕ

@@ -1,14 +1,14 @@
 -- What a step on a shelf word is an event of, and what it makes of the word. All of it is own.
 use Rattle.std.specs.Prelude.{ℕ, List, Option, Some, None, slice_index, slice_set, bit_and, bit_or}
 use Rattle.std.specs.Int.{bit_not, w64}
-use Rattle.control_word.specs.declared.event.Event.{Event}
-use Rattle.control_word.specs.declared.event.Event.TheVariants as event
+use Rattle.control_word.specs.declared.model.event.Event.{Event}
+use Rattle.control_word.specs.declared.model.event.Event.TheVariants as event
 use Rattle.control_word.specs.declared.place.Block.{Block}
 use Rattle.control_word.specs.Layout.{bit_of}
 use Rattle.control_word.specs.State.{Opening}
 use Rattle.control_word.specs.Words.{shelf_spot}
-use Rattle.step_table.specs.declared.shelf.ShelfDeed.{ShelfDeed}
-use Rattle.step_table.specs.declared.shelf.ShelfDeed.TheVariants.{Shelve, Unshelve, Miss}
+use Rattle.step_table.specs.declared.memory.shelf.ShelfDeed.{ShelfDeed}
+use Rattle.step_table.specs.declared.memory.shelf.ShelfDeed.TheVariants.{Shelve, Unshelve, Miss}
 
 -- a bit that was clear before it was cleared is no event
 abbrev pub shelf_event : Block → ShelfDeed → Option (Event (Unit {0}))

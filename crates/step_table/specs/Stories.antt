@@ -1,26 +1,28 @@
 -- What clauses see of a table: its words, what has happened, and what each desk knows of it. All of it is own.
 use Rattle.std.specs.Prelude.{◌≡◌, ℕ, suc, ◌+◌, ◌-◌, ◌<◌, ◌≤◌, false, cond, List, []}
 use Rattle.std.specs.Prelude.{◌∷◌, length, get_or, slice_index, slice_set, Option, Some, None}
-use Rattle.control_word.specs.declared.event.Entry.{Entry}
-use Rattle.control_word.specs.declared.event.Event.{Event}
-use Rattle.control_word.specs.declared.event.Event.TheVariants as event
-use Rattle.control_word.specs.declared.handle.Handle.{Handle}
-use Rattle.control_word.specs.declared.handle.Kind.{Kind}
+use Rattle.control_word.specs.declared.model.event.Entry.{Entry}
+use Rattle.control_word.specs.declared.model.event.Event.{Event}
+use Rattle.control_word.specs.declared.model.event.Event.TheVariants as event
+use Rattle.control_word.specs.declared.model.handle.Handle.{Handle}
+use Rattle.control_word.specs.declared.model.handle.Kind.{Kind}
 use Rattle.control_word.specs.declared.place.Block.{Block}
 use Rattle.control_word.specs.declared.place.Place.{Place}
-use Rattle.control_word.specs.declared.view.Pending.{Pending}
-use Rattle.control_word.specs.declared.view.Pending.TheVariants.{Idle, Making, Paying}
-use Rattle.control_word.specs.declared.view.View.{View}
+use Rattle.control_word.specs.declared.model.view.Pending.{Pending}
+use Rattle.control_word.specs.declared.model.view.Pending.TheVariants.{Idle, Making, Paying}
+use Rattle.control_word.specs.declared.model.view.View.{View}
 use Rattle.control_word.specs.Handles.{empty, handle, owner, weak_of}
 use Rattle.control_word.specs.Histories.{entry, leads}
 use Rattle.control_word.specs.Layout.{spot}
 use Rattle.control_word.specs.State.{State, kind_of_member}
 use Rattle.control_word.specs.Steps.{known_of}
 use Rattle.control_word.specs.Views.{Stands, sees_as, used_up}
-use Rattle.step_table.specs.declared.extent.Extent.{Extent}
-use Rattle.step_table.specs.declared.past.Deed.{Deed}
-use Rattle.step_table.specs.declared.past.Deed.TheVariants.{Prepare, Write, Claim, Share, WeakShare, Leave, WeakLeave}
-use Rattle.step_table.specs.declared.past.Deed.TheVariants.{Lock, Count, Expired, Read, Clear, Finish, OnShelf, OnCell}
+use Rattle.step_table.specs.declared.memory.extent.Extent.{Extent}
+use Rattle.step_table.specs.declared.memory.past.Deed.{Deed}
+use Rattle.step_table.specs.declared.memory.past.Deed.TheVariants.{Prepare, Write, Claim, Share, WeakShare, Leave}
+use Rattle.step_table.specs.declared.memory.past.Deed.TheVariants.{WeakLeave}
+use Rattle.step_table.specs.declared.memory.past.Deed.TheVariants.{Lock, Count, Expired, Read, Clear, Finish, OnShelf}
+use Rattle.step_table.specs.declared.memory.past.Deed.TheVariants.{OnCell}
 use Rattle.step_table.specs.CellDeeds.{cell_event, cell_pending, cell_words}
 use Rattle.step_table.specs.ShelfDeeds.{shelf_event, shelf_words}
 use Rattle.step_table.specs.Openings.{IsExtent, opening, share_of}

@@ -1,22 +1,22 @@
 -- A thread that compares a cell fits the table.
 use Rattle.std.proofs.Common.{◌≡◌, ◌⊎◌, ℕ, ◌-◌, ◌<◌, Bool, true, false, [], length, refl, sym, ap, subst, ◌∙◌, ⊎_elim}
 use Rattle.std.specs.Prelude.{Some}
-use Rattle.control_word.specs.declared.cell.CellWord.{CellWord}
-use Rattle.control_word.specs.declared.handle.Kind.{Kind}
-use Rattle.step_threads.specs.declared.act.Act.{Act}
-use Rattle.step_threads.specs.declared.act.Act.TheVariants.{Compare}
-use Rattle.step_threads.specs.declared.call.CellName.{CellName}
-use Rattle.step_threads.specs.declared.call.CellName.TheVariants as name
-use Rattle.step_table.specs.declared.cell_deed.CellDeed.TheVariants.{Bring, CompareSwap, Take}
-use Rattle.step_table.specs.declared.cell_deed.Compared.{Compared}
+use Rattle.control_word.specs.declared.packed.cell.CellWord.{CellWord}
+use Rattle.control_word.specs.declared.model.handle.Kind.{Kind}
+use Rattle.step_threads.specs.declared.programs.act.Act.{Act}
+use Rattle.step_threads.specs.declared.programs.act.Act.TheVariants.{Compare}
+use Rattle.step_threads.specs.declared.programs.call.CellName.{CellName}
+use Rattle.step_threads.specs.declared.programs.call.CellName.TheVariants as name
+use Rattle.step_table.specs.declared.cell_steps.cell_deed.CellDeed.TheVariants.{Bring, CompareSwap, Take}
+use Rattle.step_table.specs.declared.cell_steps.cell_deed.Compared.{Compared}
 use Rattle.step_threads.specs.declared.course.Course.{Course}
 use Rattle.step_threads.specs.declared.half.Half.{Half}
 use Rattle.step_threads.specs.declared.half.Half.TheVariants.{Rest, Saw, Matched, Refill}
-use Rattle.step_table.specs.declared.holdings.Pointer.{Pointer}
-use Rattle.step_table.specs.declared.past.Deed.TheVariants.{OnCell}
-use Rattle.step_table.specs.declared.refill.Stage.TheVariants.{Turning}
-use Rattle.step_table.specs.declared.slot.Slot.{Slot}
-use Rattle.step_table.specs.declared.slot.Slot.TheVariants.{Empty, Full}
+use Rattle.step_table.specs.declared.slots.holdings.Pointer.{Pointer}
+use Rattle.step_table.specs.declared.memory.past.Deed.TheVariants.{OnCell}
+use Rattle.step_table.specs.declared.cell_steps.refill.Stage.TheVariants.{Turning}
+use Rattle.step_table.specs.declared.slots.slot.Slot.{Slot}
+use Rattle.step_table.specs.declared.slots.slot.Slot.TheVariants.{Empty, Full}
 use Rattle.step_threads.specs.declared.thread.Thread.{Thread}
 use Rattle.step_table.specs.CellDeeds.{kind_in_state, owing_funds}
 use Rattle.step_table.specs.Contents.{as_word, owing_for, same_value}

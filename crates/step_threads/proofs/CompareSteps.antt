@@ -2,21 +2,21 @@
 use Rattle.std.proofs.Common.{◌≡◌, ℕ, ◌<◌, ◌==◌, Bool, true, false, List, length, refl, sym, ap, ◌∙◌}
 use Rattle.std.proofs.lemmas.Bool.{cond-false, cond-true}
 use Rattle.std.specs.Prelude.{Option, Some, None, is_some}
-use Rattle.control_word.specs.declared.cell.CellWord.{CellWord}
+use Rattle.control_word.specs.declared.packed.cell.CellWord.{CellWord}
 use Rattle.control_word.specs.Packing.{IsCellWord, cell_bits}
-use Rattle.step_threads.specs.declared.act.Act.{Act}
-use Rattle.step_threads.specs.declared.act.Act.TheVariants.{Compare}
-use Rattle.step_threads.specs.declared.act.Task.{Task}
-use Rattle.step_threads.specs.declared.call.CellName.{CellName}
-use Rattle.step_table.specs.declared.cell_deed.Cell.{Cell}
-use Rattle.step_table.specs.declared.cell_deed.CellDeed.TheVariants.{CompareSwap, Take}
-use Rattle.step_table.specs.declared.cell_deed.Compared.{Compared}
+use Rattle.step_threads.specs.declared.programs.act.Act.{Act}
+use Rattle.step_threads.specs.declared.programs.act.Act.TheVariants.{Compare}
+use Rattle.step_threads.specs.declared.programs.act.Task.{Task}
+use Rattle.step_threads.specs.declared.programs.call.CellName.{CellName}
+use Rattle.step_table.specs.declared.cell_steps.cell_deed.Cell.{Cell}
+use Rattle.step_table.specs.declared.cell_steps.cell_deed.CellDeed.TheVariants.{CompareSwap, Take}
+use Rattle.step_table.specs.declared.cell_steps.cell_deed.Compared.{Compared}
 use Rattle.step_threads.specs.declared.half.Half.{Half}
 use Rattle.step_threads.specs.declared.half.Half.TheVariants.{Saw, Matched, Refill}
-use Rattle.step_table.specs.declared.holdings.Pointer.{Pointer}
-use Rattle.step_table.specs.declared.past.Deed.{Deed}
-use Rattle.step_table.specs.declared.past.Deed.TheVariants.{OnCell}
-use Rattle.step_table.specs.declared.refill.Stage.TheVariants.{Turning}
+use Rattle.step_table.specs.declared.slots.holdings.Pointer.{Pointer}
+use Rattle.step_table.specs.declared.memory.past.Deed.{Deed}
+use Rattle.step_table.specs.declared.memory.past.Deed.TheVariants.{OnCell}
+use Rattle.step_table.specs.declared.cell_steps.refill.Stage.TheVariants.{Turning}
 use Rattle.step_threads.specs.declared.said.Answer.TheVariants.{Compared as Answered}
 use Rattle.step_threads.specs.declared.said.Said.{Said}
 use Rattle.step_threads.specs.declared.said.Stepped.{Stepped}

@@ -4,10 +4,11 @@ use Rattle.std.proofs.Common.{ap, subst, ◌∙◌, arith, length-set}
 use Rattle.std.proofs.Common.{◌⊎◌, ⊎_elim, inl, inr, get_or-set_same, get_or-set_other}
 use Rattle.std.proofs.lemmas.Bool.{cond-true, cond-false, false≢true}
 use Rattle.std.proofs.lemmas.List.{drop_more}
-use Rattle.step_threads.specs.declared.act.Act.{Act}
-use Rattle.step_threads.specs.declared.act.Act.TheVariants.{Make, Share, Downgrade, Lock, Put, Leave, Clear, Count, Expired, Read, FromThis, Alias, Move, Ask}
-use Rattle.step_threads.specs.declared.act.Act.TheVariants.{Offer, Swap, Exchange, Load, Compare, Drop}
-use Rattle.step_threads.specs.declared.act.Task.{Task}
+use Rattle.step_threads.specs.declared.programs.act.Act.{Act}
+use Rattle.step_threads.specs.declared.programs.act.Act.TheVariants.{Make, Share, Downgrade, Lock, Put, Leave, Clear, Count, Expired, Read, FromThis, Alias}
+use Rattle.step_threads.specs.declared.programs.act.Act.TheVariants.{Move, Ask}
+use Rattle.step_threads.specs.declared.programs.act.Act.TheVariants.{Offer, Swap, Exchange, Load, Compare, Drop}
+use Rattle.step_threads.specs.declared.programs.act.Task.{Task}
 use Rattle.step_threads.specs.declared.course.Course.{Course}
 use Rattle.step_threads.specs.declared.ending.Ending.{Ending}
 use Rattle.step_threads.specs.Courses.{MayComeNext, CourseReady, DropsInTime, MayFollow, IsCarried, IsReady, TasksMayCome, Walk, dropping, hand, idle, no_task}
@@ -16,7 +17,7 @@ use Rattle.step_threads.specs.Courses.{walk_settled, slots_idle, taken_after}
 use Rattle.step_threads.specs.Passing.{IsPassed}
 use Rattle.step_threads.specs.Courses.{taken_idle, task_at, todo}
 use Rattle.step_threads.specs.Endings.{Stack}
-use Rattle.step_table.specs.declared.slot.Slot.{Slot}
+use Rattle.step_table.specs.declared.slots.slot.Slot.{Slot}
 use Rattle.step_table.specs.Holdings.{Slots, is_full, plain, pointer_of, slot_value}
 use Rattle.step_threads.specs.Steps.{with_endings}
 

@@ -7,11 +7,11 @@ use Rattle.std.proofs.lemmas.List.Elements.{All-tail, All-cons}
 use Rattle.std.proofs.lemmas.List.Sorted.{sum_by_pushed}
 use Rattle.std.specs.List.Sorted.{IsPermutation}
 use Rattle.control_word.proofs.lists.Tallies.{put_cases}
-use Rattle.control_word.specs.declared.event.Event.TheVariants.{ClearMember}
-use Rattle.control_word.specs.declared.handle.Handle.{Handle}
+use Rattle.control_word.specs.declared.model.event.Event.TheVariants.{ClearMember}
+use Rattle.control_word.specs.declared.model.handle.Handle.{Handle}
 use Rattle.control_word.specs.declared.place.Block.{Block}
-use Rattle.control_word.specs.declared.view.Pending.TheVariants.{Idle}
-use Rattle.control_word.specs.declared.view.View.{View}
+use Rattle.control_word.specs.declared.model.view.Pending.TheVariants.{Idle}
+use Rattle.control_word.specs.declared.model.view.View.{View}
 use Rattle.control_word.specs.Handles.{empty}
 use Rattle.control_word.specs.Histories.{entry}
 use Rattle.control_word.specs.State.{Object, ending, kind_of_member}
@@ -19,7 +19,7 @@ use Rattle.step_threads.specs.declared.course.Course.{Course}
 use Rattle.step_threads.specs.declared.ending.Ending.{Ending}
 use Rattle.step_threads.specs.declared.half.Half.{Half}
 use Rattle.step_threads.specs.declared.half.Half.TheVariants.{Rest}
-use Rattle.step_table.specs.declared.past.Deed.TheVariants.{Clear, Finish}
+use Rattle.step_table.specs.declared.memory.past.Deed.TheVariants.{Clear, Finish}
 use Rattle.step_threads.specs.declared.thread.Thread.{Thread}
 use Rattle.step_threads.specs.Actors.{HalfFits}
 use Rattle.step_threads.specs.Courses.{CourseReady, IsCarried, IsReady, hand, task_at, todo}

@@ -7,18 +7,18 @@ use Rattle.std.proofs.lemmas.List.Sums.{sum_by-cons}
 use Rattle.control_word.proofs.lists.Tallies.{num_cons, put_cases}
 use Rattle.control_word.specs.Events.{moved_to}
 use Rattle.control_word.specs.declared.place.Block.{Block}
-use Rattle.control_word.specs.declared.view.Pending.TheVariants.{Idle}
+use Rattle.control_word.specs.declared.model.view.Pending.TheVariants.{Idle}
 use Rattle.control_word.specs.State.{Object, ending, same_stored, stored}
 use Rattle.step_threads.specs.declared.course.Course.{Course}
 use Rattle.step_threads.specs.declared.ending.Ending.{Ending}
 use Rattle.step_threads.specs.declared.half.Half.{Half}
 use Rattle.step_threads.specs.declared.half.Half.TheVariants.{Rest}
-use Rattle.step_table.specs.declared.holdings.Pointer.{Pointer}
+use Rattle.step_table.specs.declared.slots.holdings.Pointer.{Pointer}
 use Rattle.std.specs.Prelude.{Option, Some, None}
-use Rattle.control_word.specs.declared.handle.Kind.{Kind}
-use Rattle.control_word.specs.declared.handle.Kind.TheVariants.{Owner, Weak}
+use Rattle.control_word.specs.declared.model.handle.Kind.{Kind}
+use Rattle.control_word.specs.declared.model.handle.Kind.TheVariants.{Owner, Weak}
 use Rattle.control_word.specs.declared.place.Place.{Place}
-use Rattle.step_table.specs.declared.past.Deed.TheVariants.{Finish, Leave, WeakLeave}
+use Rattle.step_table.specs.declared.memory.past.Deed.TheVariants.{Finish, Leave, WeakLeave}
 use Rattle.step_table.specs.Deeds.{is_last, leave, leave_as, on}
 use Rattle.step_threads.specs.Scenes.{begins_end_as}
 use Rattle.step_threads.specs.declared.thread.Thread.{Thread}

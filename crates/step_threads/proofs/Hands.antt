@@ -5,13 +5,14 @@ use Rattle.std.proofs.Common.{◌∙◌, arith}
 use Rattle.std.proofs.Common.{⊎_elim, inl, inr, get_or-set_same, get_or-set_other, length-set}
 use Rattle.std.proofs.lemmas.Bool.{cases_lt}
 use Rattle.std.proofs.lemmas.List.{drop_all}
-use Rattle.step_threads.specs.declared.act.Act.{Act}
-use Rattle.step_threads.specs.declared.act.Act.TheVariants.{Make, Share, Downgrade, Lock, Put, Leave, Clear, Count, Expired, Read, FromThis, Alias, Move, Ask}
-use Rattle.step_threads.specs.declared.act.Act.TheVariants.{Offer, Swap, Exchange, Load, Compare, Drop}
-use Rattle.step_threads.specs.declared.act.Task.{Task}
+use Rattle.step_threads.specs.declared.programs.act.Act.{Act}
+use Rattle.step_threads.specs.declared.programs.act.Act.TheVariants.{Make, Share, Downgrade, Lock, Put, Leave, Clear, Count, Expired, Read, FromThis, Alias}
+use Rattle.step_threads.specs.declared.programs.act.Act.TheVariants.{Move, Ask}
+use Rattle.step_threads.specs.declared.programs.act.Act.TheVariants.{Offer, Swap, Exchange, Load, Compare, Drop}
+use Rattle.step_threads.specs.declared.programs.act.Task.{Task}
 use Rattle.step_threads.specs.declared.course.Course.{Course}
 use Rattle.step_threads.specs.declared.ending.Ending.{Ending}
-use Rattle.step_table.specs.declared.slot.Slot.{Slot}
+use Rattle.step_table.specs.declared.slots.slot.Slot.{Slot}
 use Rattle.step_table.specs.Holdings.{Slots, is_full, plain, pointer_of, slot_pointer, slot_value}
 use Rattle.step_threads.specs.Courses.{MayComeNext, CourseReady, CourseStill, IsCarried, IsReady, TasksMayCome, hand, idle, other, rest, walk_settled}
 use Rattle.step_threads.specs.Courses.{taken_after, task_at}

@@ -1,16 +1,16 @@
 -- A thread that loads what a cell holds fits the table.
 use Rattle.std.proofs.Common.{◌≡◌, ◌≢◌, ◌<◌, ℕ, true, length, refl, subst}
 use Rattle.std.specs.Prelude.{Option, Some, None}
-use Rattle.control_word.specs.declared.cell.CellWord.{CellWord}
+use Rattle.control_word.specs.declared.packed.cell.CellWord.{CellWord}
 use Rattle.control_word.specs.declared.place.Block.{Block}
-use Rattle.step_threads.specs.declared.act.Act.{Act}
-use Rattle.step_threads.specs.declared.act.Act.TheVariants.{Load}
-use Rattle.step_threads.specs.declared.call.CellName.{CellName}
-use Rattle.step_table.specs.declared.cell_deed.CellDeed.TheVariants.{Take}
+use Rattle.step_threads.specs.declared.programs.act.Act.{Act}
+use Rattle.step_threads.specs.declared.programs.act.Act.TheVariants.{Load}
+use Rattle.step_threads.specs.declared.programs.call.CellName.{CellName}
+use Rattle.step_table.specs.declared.cell_steps.cell_deed.CellDeed.TheVariants.{Take}
 use Rattle.step_threads.specs.declared.course.Course.{Course}
 use Rattle.step_threads.specs.declared.half.Half.TheVariants.{Saw, Refill}
-use Rattle.step_table.specs.declared.past.Deed.TheVariants.{OnCell}
-use Rattle.step_table.specs.declared.refill.Stage.TheVariants.{Turning}
+use Rattle.step_table.specs.declared.memory.past.Deed.TheVariants.{OnCell}
+use Rattle.step_table.specs.declared.cell_steps.refill.Stage.TheVariants.{Turning}
 use Rattle.step_threads.specs.declared.thread.Thread.{Thread}
 use Rattle.step_table.specs.Refills.{more_taken}
 use Rattle.step_threads.specs.Courses.{HasCell, HasGoneOn, cell_of_name, is_there, task_at}

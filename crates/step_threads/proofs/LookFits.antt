@@ -2,13 +2,13 @@
 use Rattle.std.proofs.Common.{◌≡◌, ℕ, [], length, refl, sym, ap, subst, ◌∙◌, arith}
 use Rattle.std.specs.List.{filter}
 use Rattle.std.specs.Prelude.{Option, None}
-use Rattle.control_word.specs.declared.event.Event.{Event}
+use Rattle.control_word.specs.declared.model.event.Event.{Event}
 use Rattle.control_word.specs.Histories.{leads}
 use Rattle.control_word.specs.Handles.{empty}
 use Rattle.control_word.specs.State.{State, ending, kind_of_member, same_stored, stored}
 use Rattle.step_threads.specs.declared.course.Course.{Course}
 use Rattle.step_threads.specs.declared.half.Half.{Half}
-use Rattle.step_table.specs.declared.past.Deed.{Deed}
+use Rattle.step_table.specs.declared.memory.past.Deed.{Deed}
 use Rattle.step_threads.specs.declared.thread.Thread.{Thread}
 use Rattle.step_threads.specs.Actors.{HalfFits, Stocks, claimed}
 use Rattle.step_threads.specs.Courses.{HasGoneOn, task_at}

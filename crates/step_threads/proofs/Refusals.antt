@@ -1,8 +1,8 @@
 -- A thread whose act is on a member of no object.
 use Rattle.std.proofs.Common.{◌≡◌, ◌⊎◌, ◌<◌, ℕ, Bool, true, false, length, refl, sym, subst, ⊎_elim, inl}
-use Rattle.step_threads.specs.declared.act.Act.{Act}
-use Rattle.step_threads.specs.declared.act.Act.TheVariants.{Offer, Exchange, Load}
-use Rattle.step_threads.specs.declared.call.CellName.{CellName}
+use Rattle.step_threads.specs.declared.programs.act.Act.{Act}
+use Rattle.step_threads.specs.declared.programs.act.Act.TheVariants.{Offer, Exchange, Load}
+use Rattle.step_threads.specs.declared.programs.call.CellName.{CellName}
 use Rattle.step_threads.specs.declared.course.Course.{Course}
 use Rattle.step_threads.specs.Courses.{MayComeNext, CourseReady, DropsInTime, IsReady, TasksMayCome, dropping, other, rest, taken_after, task_at}
 use Rattle.step_threads.proofs.Courses.{owed_by, ready_any, ready_head}

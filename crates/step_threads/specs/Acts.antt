@@ -1,18 +1,20 @@
 -- What statements do, act by act. All of it is own.
 use Rattle.std.specs.Prelude.{ℕ, zero, suc, ◌+◌, true, false, List, [], ◌∷◌, ◌++◌, Some, None}
-use Rattle.control_word.specs.declared.handle.Kind.TheVariants as handle
-use Rattle.step_threads.specs.declared.act.Act.{Act}
-use Rattle.step_threads.specs.declared.act.Act.TheVariants as act
-use Rattle.step_threads.specs.declared.act.Question.TheVariants as question
-use Rattle.step_threads.specs.declared.statement.Tail.{Tail}
-use Rattle.step_threads.specs.declared.statement.Tail.TheVariants.{Nothing, Named, Into, IntoAs}
-use Rattle.step_threads.specs.declared.act.Task.{Task}
-use Rattle.step_threads.specs.declared.call.Call.{Call}
-use Rattle.step_threads.specs.declared.call.Call.TheVariants.{Make, Empty, Reset, Copy, Count}
-use Rattle.step_threads.specs.declared.call.Call.TheVariants.{MakeThis, Null, Move, Alias, AliasNull, This, WeakThis}
-use Rattle.step_threads.specs.declared.call.Call.TheVariants.{Read, Place, Same, Before}
-use Rattle.step_threads.specs.declared.call.Call.TheVariants.{Store, Exchange, Load, Compare, Weak, WeakCopy, WeakEmpty}
-use Rattle.step_threads.specs.declared.call.Call.TheVariants.{WeakReset, Lock, Upgrade, WeakCount, Expired}
+use Rattle.control_word.specs.declared.model.handle.Kind.TheVariants as handle
+use Rattle.step_threads.specs.declared.programs.act.Act.{Act}
+use Rattle.step_threads.specs.declared.programs.act.Act.TheVariants as act
+use Rattle.step_threads.specs.declared.programs.act.Question.TheVariants as question
+use Rattle.step_threads.specs.declared.programs.statement.Tail.{Tail}
+use Rattle.step_threads.specs.declared.programs.statement.Tail.TheVariants.{Nothing, Named, Into, IntoAs}
+use Rattle.step_threads.specs.declared.programs.act.Task.{Task}
+use Rattle.step_threads.specs.declared.programs.call.Call.{Call}
+use Rattle.step_threads.specs.declared.programs.call.Call.TheVariants.{Make, Empty, Reset, Copy, Count}
+use Rattle.step_threads.specs.declared.programs.call.Call.TheVariants.{MakeThis, Null, Move, Alias, AliasNull, This}
+use Rattle.step_threads.specs.declared.programs.call.Call.TheVariants.{WeakThis}
+use Rattle.step_threads.specs.declared.programs.call.Call.TheVariants.{Read, Place, Same, Before}
+use Rattle.step_threads.specs.declared.programs.call.Call.TheVariants.{Store, Exchange, Load, Compare, Weak, WeakCopy}
+use Rattle.step_threads.specs.declared.programs.call.Call.TheVariants.{WeakEmpty}
+use Rattle.step_threads.specs.declared.programs.call.Call.TheVariants.{WeakReset, Lock, Upgrade, WeakCount, Expired}
 
 -- the acts of a statement, in order
 abbrev pub acts : Call → List Act

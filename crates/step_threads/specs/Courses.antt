@@ -1,33 +1,35 @@
 -- How a thread goes on from act to act. All of it is own.
 use Rattle.std.specs.Prelude.{◌≡◌, ℕ, ◌+◌, ◌-◌, ◌<◌, ◌≤◌, ◌⊎◌, Bool, true, false, cond}
 use Rattle.std.specs.Prelude.{not, ◌&&◌, List, [], ◌∷◌, length, drop, get_or, slice_set, Option, Some, None}
-use Rattle.control_word.specs.declared.handle.Kind.{Kind}
+use Rattle.control_word.specs.declared.model.handle.Kind.{Kind}
 use Rattle.control_word.specs.declared.shape.Shape.{Shape}
 use Rattle.control_word.specs.declared.place.Block.{Block}
 use Rattle.control_word.specs.State.{State}
-use Rattle.step_threads.specs.declared.act.Act.{Act}
-use Rattle.step_table.specs.declared.form.Form.{Form}
-use Rattle.step_threads.specs.declared.act.Act.TheVariants.{Make, Share, Downgrade, Lock, Put, Leave, Clear, Count}
-use Rattle.step_threads.specs.declared.act.Act.TheVariants.{Expired, Read, FromThis, Alias, Move, Ask, Offer, Swap}
-use Rattle.step_threads.specs.declared.act.Act.TheVariants.{Exchange, Load, Compare, Drop}
-use Rattle.step_threads.specs.declared.act.Question.{Question}
-use Rattle.step_threads.specs.declared.act.Question.TheVariants as question
-use Rattle.step_threads.specs.declared.act.Task.{Task}
-use Rattle.step_threads.specs.declared.call.CellName.{CellName}
-use Rattle.step_threads.specs.declared.call.CellName.TheVariants as cell
-use Rattle.step_table.specs.declared.cell_deed.Cell.{Cell}
-use Rattle.step_table.specs.declared.cell_deed.Cell.TheVariants.{Free, Member}
+use Rattle.step_threads.specs.declared.programs.act.Act.{Act}
+use Rattle.step_table.specs.declared.memory.form.Form.{Form}
+use Rattle.step_threads.specs.declared.programs.act.Act.TheVariants.{Make, Share, Downgrade, Lock, Put, Leave, Clear}
+use Rattle.step_threads.specs.declared.programs.act.Act.TheVariants.{Count}
+use Rattle.step_threads.specs.declared.programs.act.Act.TheVariants.{Expired, Read, FromThis, Alias, Move, Ask, Offer}
+use Rattle.step_threads.specs.declared.programs.act.Act.TheVariants.{Swap}
+use Rattle.step_threads.specs.declared.programs.act.Act.TheVariants.{Exchange, Load, Compare, Drop}
+use Rattle.step_threads.specs.declared.programs.act.Question.{Question}
+use Rattle.step_threads.specs.declared.programs.act.Question.TheVariants as question
+use Rattle.step_threads.specs.declared.programs.act.Task.{Task}
+use Rattle.step_threads.specs.declared.programs.call.CellName.{CellName}
+use Rattle.step_threads.specs.declared.programs.call.CellName.TheVariants as cell
+use Rattle.step_table.specs.declared.cell_steps.cell_deed.Cell.{Cell}
+use Rattle.step_table.specs.declared.cell_steps.cell_deed.Cell.TheVariants.{Free, Member}
 use Rattle.step_threads.specs.declared.course.Course.{Course}
-use Rattle.step_table.specs.declared.comparing.Comparing.{Comparing}
+use Rattle.step_table.specs.declared.cell_steps.comparing.Comparing.{Comparing}
 use Rattle.step_table.specs.Contents.{is_of}
 use Rattle.step_threads.specs.declared.ending.Ending.{Ending}
 use Rattle.step_table.specs.Deeds.{on}
 use Rattle.step_table.specs.Holdings.{HoldsBag, Slots, inside, is_full, plain, pointer_of, slot_pointer, slot_value}
 use Rattle.step_table.specs.Holdings.{weak_slot}
-use Rattle.control_word.specs.declared.view.Pending.TheVariants.{Idle}
-use Rattle.step_table.specs.declared.holdings.Pointer.{Pointer}
-use Rattle.step_table.specs.declared.past.Deed.{Deed}
-use Rattle.step_table.specs.declared.slot.Slot.{Slot}
+use Rattle.control_word.specs.declared.model.view.Pending.TheVariants.{Idle}
+use Rattle.step_table.specs.declared.slots.holdings.Pointer.{Pointer}
+use Rattle.step_table.specs.declared.memory.past.Deed.{Deed}
+use Rattle.step_table.specs.declared.slots.slot.Slot.{Slot}
 use Rattle.step_threads.specs.Programs.{IsIn, kind_at}
 use Rattle.step_table.specs.Stories.{Story, story_after_deed, pending}
 

@@ -1,18 +1,20 @@
 -- What the acts of threads add to the history. All of it is own but the events, which name their sections.
 use Rattle.std.specs.Prelude.{ℕ, ◌==◌, min, Bool, cond, List, [], ◌∷◌, Option, Some, None, option_map}
-use Rattle.control_word.specs.declared.event.Entry.{Entry}
+use Rattle.control_word.specs.declared.model.event.Entry.{Entry}
 use Rattle.control_word.specs.Handles.{equivalent}
 use Rattle.control_word.specs.Histories.{entry, leads}
 use Rattle.control_word.specs.State.{Opening, State, Stored}
-use Rattle.step_threads.specs.declared.act.Act.{Act}
-use Rattle.step_threads.specs.declared.act.Act.TheVariants.{Make, Share, Downgrade, Lock, Put, Leave, Clear, Count}
-use Rattle.step_threads.specs.declared.act.Act.TheVariants.{Expired, Read, FromThis, Alias, Move, Ask, Offer, Swap}
-use Rattle.step_threads.specs.declared.act.Act.TheVariants.{Exchange, Load, Compare, Drop}
-use Rattle.step_table.specs.declared.form.Form.{Form}
-use Rattle.step_threads.specs.declared.call.CellName.{CellName}
-use Rattle.step_table.specs.declared.holdings.Pointer.{Pointer}
-use Rattle.step_table.specs.declared.past.Deed.{Deed}
-use Rattle.step_table.specs.declared.past.Deed.TheVariants as deed
+use Rattle.step_threads.specs.declared.programs.act.Act.{Act}
+use Rattle.step_threads.specs.declared.programs.act.Act.TheVariants.{Make, Share, Downgrade, Lock, Put, Leave, Clear}
+use Rattle.step_threads.specs.declared.programs.act.Act.TheVariants.{Count}
+use Rattle.step_threads.specs.declared.programs.act.Act.TheVariants.{Expired, Read, FromThis, Alias, Move, Ask, Offer}
+use Rattle.step_threads.specs.declared.programs.act.Act.TheVariants.{Swap}
+use Rattle.step_threads.specs.declared.programs.act.Act.TheVariants.{Exchange, Load, Compare, Drop}
+use Rattle.step_table.specs.declared.memory.form.Form.{Form}
+use Rattle.step_threads.specs.declared.programs.call.CellName.{CellName}
+use Rattle.step_table.specs.declared.slots.holdings.Pointer.{Pointer}
+use Rattle.step_table.specs.declared.memory.past.Deed.{Deed}
+use Rattle.step_table.specs.declared.memory.past.Deed.TheVariants as deed
 use Rattle.step_table.specs.CellDeeds.{kind_in_state}
 use Rattle.step_table.specs.Contents.{compare_of, held_in, load_of, swap_of, named_handle}
 use Rattle.step_table.specs.Deeds.{Telling, alias, aliased, downgrade, give, is_enabled, leave, lock, read_deed, share}

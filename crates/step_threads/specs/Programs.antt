@@ -3,21 +3,23 @@ use Rattle.std.specs.Prelude.{◌≡◌, ℕ, ◌<◌, ◌≤◌, ◌==◌, Bool
 use Rattle.std.specs.Prelude.{Some, None, All, IsTrue, is_some, length, map, sum_by, slice_get}
 use Rattle.control_word.specs.declared.shape.Shape.{Shape}
 use Rattle.control_word.specs.State.{kind_of_member}
-use Rattle.step_threads.specs.declared.call.Actor.{Actor}
-use Rattle.step_threads.specs.declared.call.Call.{Call}
-use Rattle.step_threads.specs.declared.call.Call.TheVariants.{Make, Empty, Reset, Copy, Count}
-use Rattle.step_threads.specs.declared.call.Call.TheVariants.{MakeThis, Null, Move, Alias, AliasNull, This, WeakThis}
-use Rattle.step_threads.specs.declared.call.Call.TheVariants.{Read, Place, Same, Before}
-use Rattle.step_threads.specs.declared.call.Call.TheVariants.{Store, Exchange, Load, Compare, WeakCopy, WeakEmpty}
-use Rattle.step_threads.specs.declared.call.Call.TheVariants.{WeakReset, Lock, Upgrade, WeakCount, Expired}
-use Rattle.step_threads.specs.declared.call.Call.TheVariants as call
-use Rattle.step_threads.specs.declared.call.CellName.{CellName}
-use Rattle.step_threads.specs.declared.call.CellName.TheVariants as cell
-use Rattle.control_word.specs.declared.handle.Kind.{Kind}
-use Rattle.control_word.specs.declared.handle.Kind.TheVariants.{Owner}
-use Rattle.control_word.specs.declared.handle.Kind.TheVariants as kind
-use Rattle.step_threads.specs.declared.call.Name.{Name}
-use Rattle.step_threads.specs.declared.call.Program.{Program}
+use Rattle.step_threads.specs.declared.programs.call.Actor.{Actor}
+use Rattle.step_threads.specs.declared.programs.call.Call.{Call}
+use Rattle.step_threads.specs.declared.programs.call.Call.TheVariants.{Make, Empty, Reset, Copy, Count}
+use Rattle.step_threads.specs.declared.programs.call.Call.TheVariants.{MakeThis, Null, Move, Alias, AliasNull, This}
+use Rattle.step_threads.specs.declared.programs.call.Call.TheVariants.{WeakThis}
+use Rattle.step_threads.specs.declared.programs.call.Call.TheVariants.{Read, Place, Same, Before}
+use Rattle.step_threads.specs.declared.programs.call.Call.TheVariants.{Store, Exchange, Load, Compare, WeakCopy}
+use Rattle.step_threads.specs.declared.programs.call.Call.TheVariants.{WeakEmpty}
+use Rattle.step_threads.specs.declared.programs.call.Call.TheVariants.{WeakReset, Lock, Upgrade, WeakCount, Expired}
+use Rattle.step_threads.specs.declared.programs.call.Call.TheVariants as call
+use Rattle.step_threads.specs.declared.programs.call.CellName.{CellName}
+use Rattle.step_threads.specs.declared.programs.call.CellName.TheVariants as cell
+use Rattle.control_word.specs.declared.model.handle.Kind.{Kind}
+use Rattle.control_word.specs.declared.model.handle.Kind.TheVariants.{Owner}
+use Rattle.control_word.specs.declared.model.handle.Kind.TheVariants as kind
+use Rattle.step_threads.specs.declared.programs.call.Name.{Name}
+use Rattle.step_threads.specs.declared.programs.call.Program.{Program}
 
 -- an actor's part of a program: the kinds of its names, and its calls in order
 pub record Part : Type 0 where

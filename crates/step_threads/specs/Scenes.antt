@@ -1,33 +1,35 @@
 -- What the acts of threads make of the history, act by act. All of it is own but the events, which name their sections.
 use Rattle.std.specs.Prelude.{ℕ, Bool, true, false, not, cond, List, [], ◌∷◌, get_or, slice_set, Option, Some}
 use Rattle.std.specs.Prelude.{None, option_map}
-use Rattle.control_word.specs.declared.handle.Kind.{Kind}
-use Rattle.control_word.specs.declared.handle.Kind.TheVariants.{Owner, Weak}
+use Rattle.control_word.specs.declared.model.handle.Kind.{Kind}
+use Rattle.control_word.specs.declared.model.handle.Kind.TheVariants.{Owner, Weak}
 use Rattle.control_word.specs.declared.place.Place.{Place}
 use Rattle.control_word.specs.declared.refusal.Refusal.TheVariants.{BadWeak, Full, NotEnabled, Null, Outside}
 use Rattle.control_word.specs.Events.{origin}
 use Rattle.control_word.specs.Handles.{same_place}
 use Rattle.control_word.specs.Histories.{leads}
 use Rattle.control_word.specs.State.{Object, Opening, State, weak}
-use Rattle.step_threads.specs.declared.act.Act.{Act}
-use Rattle.step_threads.specs.declared.act.Act.TheVariants.{Make, Share, Downgrade, Lock, Put, Leave, Clear, Count}
-use Rattle.step_threads.specs.declared.act.Act.TheVariants.{Expired, Read, FromThis, Alias, Move, Ask, Offer, Swap}
-use Rattle.step_threads.specs.declared.act.Act.TheVariants.{Exchange, Load, Compare, Drop}
-use Rattle.step_threads.specs.declared.act.Question.{Question}
-use Rattle.step_threads.specs.declared.act.Question.TheVariants as question
-use Rattle.step_threads.specs.declared.act.Task.{Task}
-use Rattle.step_threads.specs.declared.call.CellName.{CellName}
-use Rattle.step_threads.specs.declared.call.CellName.TheVariants.{Member}
-use Rattle.step_table.specs.declared.field.Field.{Field}
+use Rattle.step_threads.specs.declared.programs.act.Act.{Act}
+use Rattle.step_threads.specs.declared.programs.act.Act.TheVariants.{Make, Share, Downgrade, Lock, Put, Leave, Clear}
+use Rattle.step_threads.specs.declared.programs.act.Act.TheVariants.{Count}
+use Rattle.step_threads.specs.declared.programs.act.Act.TheVariants.{Expired, Read, FromThis, Alias, Move, Ask, Offer}
+use Rattle.step_threads.specs.declared.programs.act.Act.TheVariants.{Swap}
+use Rattle.step_threads.specs.declared.programs.act.Act.TheVariants.{Exchange, Load, Compare, Drop}
+use Rattle.step_threads.specs.declared.programs.act.Question.{Question}
+use Rattle.step_threads.specs.declared.programs.act.Question.TheVariants as question
+use Rattle.step_threads.specs.declared.programs.act.Task.{Task}
+use Rattle.step_threads.specs.declared.programs.call.CellName.{CellName}
+use Rattle.step_threads.specs.declared.programs.call.CellName.TheVariants.{Member}
+use Rattle.step_table.specs.declared.memory.field.Field.{Field}
 use Rattle.step_table.specs.Contents.{differed, held_in, slot_of, slots_swapped}
 use Rattle.step_threads.specs.declared.ending.Ending.{Ending}
-use Rattle.step_table.specs.declared.extent.Extent.{Extent}
-use Rattle.step_table.specs.declared.holdings.Pointer.{Pointer}
+use Rattle.step_table.specs.declared.memory.extent.Extent.{Extent}
+use Rattle.step_table.specs.declared.slots.holdings.Pointer.{Pointer}
 use Rattle.step_threads.specs.declared.said.Answer.{Answer}
 use Rattle.step_threads.specs.declared.said.Answer.TheVariants as answer
-use Rattle.step_table.specs.declared.ended.Ended.{Ended}
+use Rattle.step_table.specs.declared.memory.ended.Ended.{Ended}
 use Rattle.step_threads.specs.declared.said.Said.{Said}
-use Rattle.step_table.specs.declared.slot.Slot.TheVariants.{Full, Empty}
+use Rattle.step_table.specs.declared.slots.slot.Slot.TheVariants.{Full, Empty}
 use Rattle.step_threads.specs.Programs.{kind_at}
 use Rattle.step_threads.specs.Courses.{Walk, cell_of_name, fitting, going, hand, is_there, locked_pointer, on_going}
 use Rattle.step_threads.specs.Courses.{other, placed}
@@ -36,7 +38,7 @@ use Rattle.step_table.specs.Deeds.{Telling, exact, as_weak, field_of, is_enabled
 use Rattle.step_table.specs.Deeds.{owner_left, this_as, aliased, at_place, on, remains, pointer_before}
 use Rattle.step_table.specs.Holdings.{Slots, filled, inside, is_full, place_in, plain, slot_pointer, slot_value}
 use Rattle.step_table.specs.Holdings.{owner_slot}
-use Rattle.step_table.specs.declared.slot.Slot.{Slot}
+use Rattle.step_table.specs.declared.slots.slot.Slot.{Slot}
 use Rattle.step_table.specs.Openings.{opening}
 use Rattle.step_threads.specs.Entries.{History, least, is_expected, giving, acted}
 use Rattle.step_threads.specs.Unwinding.{Wound, unwound}

@@ -1,32 +1,33 @@
 -- The steps that acts are made of, each by itself. All of it is own.
 use Rattle.std.specs.Prelude.{ℕ, ◌+◌, ◌-◌, ◌==◌, Bool, true, false, cond, List, ◌∷◌, slice_set}
 use Rattle.std.specs.Prelude.{is_some, Option, Some, None}
-use Rattle.control_word.specs.declared.cell.CellWord.{CellWord}
+use Rattle.control_word.specs.declared.packed.cell.CellWord.{CellWord}
 use Rattle.control_word.specs.declared.place.Block.{Block}
 use Rattle.control_word.specs.State.{kind_of_member, weak}
-use Rattle.control_word.specs.declared.handle.Kind.{Kind}
-use Rattle.step_threads.specs.declared.act.Act.{Act}
-use Rattle.step_table.specs.declared.form.Form.{Form}
-use Rattle.step_threads.specs.declared.act.Act.TheVariants.{FromThis}
-use Rattle.step_threads.specs.declared.act.Task.{Task}
-use Rattle.step_threads.specs.declared.call.CellName.{CellName}
-use Rattle.step_table.specs.declared.cell_deed.CellDeed.TheVariants as cell_deed
+use Rattle.control_word.specs.declared.model.handle.Kind.{Kind}
+use Rattle.step_threads.specs.declared.programs.act.Act.{Act}
+use Rattle.step_table.specs.declared.memory.form.Form.{Form}
+use Rattle.step_threads.specs.declared.programs.act.Act.TheVariants.{FromThis}
+use Rattle.step_threads.specs.declared.programs.act.Task.{Task}
+use Rattle.step_threads.specs.declared.programs.call.CellName.{CellName}
+use Rattle.step_table.specs.declared.cell_steps.cell_deed.CellDeed.TheVariants as cell_deed
 use Rattle.step_threads.specs.declared.ending.Ending.{Ending}
 use Rattle.step_threads.specs.declared.half.Half.{Half}
 use Rattle.step_threads.specs.declared.half.Half.TheVariants.{Rest, Making, Locking, Giving, Brought, Saw, Matched}
 use Rattle.step_threads.specs.declared.half.Half.TheVariants.{Refill, Returning, Clearing}
-use Rattle.step_table.specs.declared.holdings.Pointer.{Pointer}
-use Rattle.step_table.specs.declared.past.Deed.{Deed}
-use Rattle.step_table.specs.declared.past.Deed.TheVariants as deed
+use Rattle.step_table.specs.declared.slots.holdings.Pointer.{Pointer}
+use Rattle.step_table.specs.declared.memory.past.Deed.{Deed}
+use Rattle.step_table.specs.declared.memory.past.Deed.TheVariants as deed
 use Rattle.step_threads.specs.declared.said.Said.{Said}
 use Rattle.step_threads.specs.Programs.{kind_at}
 use Rattle.step_threads.specs.Courses.{Walk, cell_of_name, hand, walk_settled}
 use Rattle.control_word.specs.Packing.{cell_bits}
-use Rattle.step_table.specs.declared.cell_deed.Cell.{Cell}
-use Rattle.step_table.specs.declared.cell_deed.Cell.TheVariants.{Member}
-use Rattle.step_table.specs.declared.cell_deed.Compared.{Compared}
-use Rattle.step_table.specs.declared.refill.Stage.{Stage}
-use Rattle.step_table.specs.declared.refill.Stage.TheVariants.{Turning, Checking, Lacking, Refilling, Failing}
+use Rattle.step_table.specs.declared.cell_steps.cell_deed.Cell.{Cell}
+use Rattle.step_table.specs.declared.cell_steps.cell_deed.Cell.TheVariants.{Member}
+use Rattle.step_table.specs.declared.cell_steps.cell_deed.Compared.{Compared}
+use Rattle.step_table.specs.declared.cell_steps.refill.Stage.{Stage}
+use Rattle.step_table.specs.declared.cell_steps.refill.Stage.TheVariants.{Turning, Checking, Lacking, Refilling}
+use Rattle.step_table.specs.declared.cell_steps.refill.Stage.TheVariants.{Failing}
 use Rattle.step_table.specs.CellDeeds.{kind_in_state}
 use Rattle.step_table.specs.Cells.{word_of_cell}
 use Rattle.step_table.specs.Contents.{as_word, held_in, is_spent, same_value, seen, slot_of}

@@ -2,13 +2,13 @@
 use Rattle.std.specs.Prelude.{◌≡◌, ◌≢◌, ℕ, ◌<◌, ◌≤◌, ◌⊎◌, List, [], ◌∷◌, Bool, true}
 use Rattle.std.specs.Prelude.{false, length, is_some, All, Option, Some, None}
 use Rattle.std.specs.List.Sorted.{IsPermutation}
-use Rattle.control_word.specs.declared.handle.Kind.{Kind}
-use Rattle.control_word.specs.declared.handle.Kind.TheVariants.{Weak}
-use Rattle.control_word.specs.declared.cell.CellWord.{CellWord}
-use Rattle.step_threads.specs.declared.act.Act.{Act}
-use Rattle.step_table.specs.declared.form.Form.{Form}
-use Rattle.step_threads.specs.declared.act.Act.TheVariants.{Make, FromThis, Load, Compare}
-use Rattle.step_threads.specs.declared.act.Task.{Task}
+use Rattle.control_word.specs.declared.model.handle.Kind.{Kind}
+use Rattle.control_word.specs.declared.model.handle.Kind.TheVariants.{Weak}
+use Rattle.control_word.specs.declared.packed.cell.CellWord.{CellWord}
+use Rattle.step_threads.specs.declared.programs.act.Act.{Act}
+use Rattle.step_table.specs.declared.memory.form.Form.{Form}
+use Rattle.step_threads.specs.declared.programs.act.Act.TheVariants.{Make, FromThis, Load, Compare}
+use Rattle.step_threads.specs.declared.programs.act.Task.{Task}
 use Rattle.step_threads.specs.declared.course.Course.{Course}
 use Rattle.step_threads.specs.declared.half.Half.{Half}
 use Rattle.step_threads.specs.declared.half.Half.TheVariants.{Rest, Making, Locking, Giving, Brought, Saw, Matched}
@@ -19,7 +19,7 @@ use Rattle.step_threads.specs.Actors.{HalfFits, Stocks}
 use Rattle.step_threads.specs.Courses.{CourseReady, CourseStill, HasCell, form_of, going, hand, is_there}
 use Rattle.step_threads.specs.Courses.{locked_pointer}
 use Rattle.step_threads.specs.Courses.{task_at, walk}
-use Rattle.step_table.specs.declared.holdings.Pointer.{Pointer}
+use Rattle.step_table.specs.declared.slots.holdings.Pointer.{Pointer}
 use Rattle.step_threads.specs.declared.ending.Ending.{Ending}
 use Rattle.step_threads.specs.Endings.{EndsAll}
 use Rattle.step_table.specs.Contents.{as_word, same_value}

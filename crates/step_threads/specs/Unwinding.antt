@@ -1,7 +1,7 @@
 -- How far the ends of objects come by themselves. All of it is own but the events.
 use Rattle.std.specs.Prelude.{ℕ, zero, suc, ◌-◌, ◌==◌, cond, List, [], ◌∷◌, slice_set, Option, Some}
 use Rattle.std.specs.Prelude.{None}
-use Rattle.control_word.specs.declared.event.Event.TheVariants as event
+use Rattle.control_word.specs.declared.model.event.Event.TheVariants as event
 use Rattle.control_word.specs.Handles.{has_object}
 use Rattle.control_word.specs.Histories.{entry, leads}
 use Rattle.control_word.specs.State.{Opening, weak}
@@ -9,7 +9,7 @@ use Rattle.step_table.specs.Contents.{slot_of}
 use Rattle.step_threads.specs.declared.ending.Ending.{Ending}
 use Rattle.step_threads.specs.Courses.{hand}
 use Rattle.step_table.specs.Holdings.{Slots}
-use Rattle.step_table.specs.declared.slot.Slot.{Slot}
+use Rattle.step_table.specs.declared.slots.slot.Slot.{Slot}
 use Rattle.step_threads.specs.Entries.{History}
 
 -- how far the end of an object comes by itself: to a member that held an object, with so many members behind it, or to

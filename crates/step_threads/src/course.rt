@@ -1,26 +1,26 @@
 //! How a thread goes on from act to act.
 ghost use Rattle.std.specs.Prelude.{◌≡◌, ◌⊎◌, ◌+◌, ◌<◌, ◌≤◌, ◌==◌, ◌∷◌, [], ℕ};
 ghost use Rattle.std.specs.Prelude.{length, drop, true, false, cond, slice_set, Option, Some, None, option_map};
-ghost use Rattle.control_word.specs.declared.handle.Kind.TheVariants.{Owner};
+ghost use Rattle.control_word.specs.declared.model.handle.Kind.TheVariants.{Owner};
 ghost use Rattle.control_word.specs.Words.{flags_of};
 ghost use Rattle.step_table.specs.Deeds.{as_weak, by_word, downgrade, is_expired, is_last, leave, share, tell};
 ghost use Rattle.step_table.specs.Deeds.{tell_expired};
 ghost use Rattle.step_table.specs.Holdings.{HoldsBag, filled, is_full, plain, slot_pointer, slot_value};
 ghost use Rattle.step_table.specs.Stories.{IsMaking, Story, story_after_deed, known_words, object_of_block, pending};
 ghost use Rattle.step_table.specs.Stories.{story_state};
-ghost use Rattle.step_table.specs.declared.holdings.Pointer.{Pointer};
-ghost use Rattle.step_table.specs.declared.slot.Slot.TheVariants.{Full};
+ghost use Rattle.step_table.specs.declared.slots.holdings.Pointer.{Pointer};
+ghost use Rattle.step_table.specs.declared.slots.slot.Slot.TheVariants.{Full};
 ghost use Rattle.control_word.specs.Events.{origin};
 ghost use Rattle.control_word.specs.Layout.{spot};
 ghost use Rattle.control_word.specs.Views.{owed};
 
-use crate::act::{Act, Task};
 use crate::ending::Endings;
+use crate::programs::act::{Act, Task};
 use control_word::place::Block;
-use step_table::form::Form;
-use step_table::holdings::Holdings;
-use step_table::past::Deed;
-use step_table::table::Table;
+use step_table::memory::form::Form;
+use step_table::memory::past::Deed;
+use step_table::memory::table::Table;
+use step_table::slots::holdings::Holdings;
 
 /// The tasks of a thread, of which those before `at` are done, what it holds, and the objects that end in its hands.
 /// Where `taken`, an act has taken a value into the hand, an empty one perhaps.

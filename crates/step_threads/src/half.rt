@@ -1,11 +1,11 @@
 //! Where a thread is within an act.
 
 use control_word::CellWord;
-use control_word::handle::Kind;
+use control_word::model::handle::Kind;
 use control_word::place::Block;
-use step_table::cell_deed::Cell;
-use step_table::holdings::Pointer;
-use step_table::refill::Stage;
+use step_table::cell_steps::cell_deed::Cell;
+use step_table::cell_steps::refill::Stage;
+use step_table::slots::holdings::Pointer;
 
 /// What a thread has begun and not ended.
 #[derive(Clone, Copy)]

@@ -1,7 +1,7 @@
 //! What steps and turns answer.
 
 use control_word::{Place, Refusal};
-use step_table::ended::Ended;
+use step_table::memory::ended::Ended;
 
 /// What an act answers, where it answers something.
 #[derive(Clone, Copy, Debug, PartialEq, Eq)]

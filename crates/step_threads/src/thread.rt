@@ -2,12 +2,12 @@
 ghost use Rattle.std.specs.Prelude.{◌≡◌, ◌<◌, [], length, cond};
 ghost use Rattle.step_threads.specs.Steps.{silent};
 
-use crate::act::Act;
 use crate::course::Course;
 use crate::half::Half;
+use crate::programs::act::Act;
 use crate::said::{Answer, Said, Stepped};
 use crate::stock::Stock;
-use step_table::table::Table;
+use step_table::memory::table::Table;
 
 /// A thread. What it holds is its desk's bag, and its store has its desk's vacant blocks.
 #[derive(Drop)]

@@ -10,11 +10,11 @@ use Rattle.control_word.specs.Histories.{leads}
 use Rattle.control_word.specs.Layout.{spot}
 use Rattle.control_word.specs.Views.{Stands, sees_as}
 use Rattle.control_word.specs.Words.{slot}
-use Rattle.control_word.specs.declared.handle.Kind.{Kind}
+use Rattle.control_word.specs.declared.model.handle.Kind.{Kind}
 use Rattle.control_word.specs.declared.place.Place.{Place}
 use Rattle.control_word.specs.declared.shape.Shape.{Shape}
-use Rattle.control_word.specs.declared.view.Pending.{Pending}
-use Rattle.control_word.specs.declared.view.Pending.TheVariants.{Idle, Paying}
+use Rattle.control_word.specs.declared.model.view.Pending.{Pending}
+use Rattle.control_word.specs.declared.model.view.Pending.TheVariants.{Idle, Paying}
 use Rattle.control_block.specs.Rule.{Ruled, opening_of, view_of}
 use Rattle.control_block.specs.Plays.{At, HoldingInBlock, Rests}
 use Rattle.control_block.specs.FundPlays.{brought}

@@ -12,8 +12,8 @@ use Rattle.control_word.specs.State.{InShape}
 use Rattle.control_word.specs.Views.{Stands, sees_as}
 use Rattle.control_word.specs.declared.place.Block.{Block}
 use Rattle.control_word.specs.declared.shape.Shape.{Shape}
-use Rattle.control_word.specs.declared.view.Pending.{Pending}
-use Rattle.control_word.specs.declared.view.Pending.TheVariants.{Idle}
+use Rattle.control_word.specs.declared.model.view.Pending.{Pending}
+use Rattle.control_word.specs.declared.model.view.Pending.TheVariants.{Idle}
 use Rattle.control_block.specs.Rule.{IsSlotOf, Ruled, opening_of, seeing, view_of}
 use Rattle.control_block.specs.Plays.{At, Ends, Rests, fetched}
 use Rattle.control_block.specs.declared.board.Sight.{Sight}

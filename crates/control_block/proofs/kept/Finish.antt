@@ -13,14 +13,14 @@ use Rattle.control_word.proofs.steps.WeakLeave as law
 use Rattle.control_word.specs.Events.{moved_to}
 use Rattle.control_word.specs.State.{gone, put}
 use Rattle.control_word.specs.declared.place.Block.{Block}
-use Rattle.control_word.specs.declared.event.Entry.{Entry}
-use Rattle.control_word.specs.declared.event.Event.{Event}
-use Rattle.control_word.specs.declared.event.Event.TheVariants.{Finish}
+use Rattle.control_word.specs.declared.model.event.Entry.{Entry}
+use Rattle.control_word.specs.declared.model.event.Event.{Event}
+use Rattle.control_word.specs.declared.model.event.Event.TheVariants.{Finish}
 use Rattle.control_word.specs.Histories.{entry, leads, value}
 use Rattle.control_word.specs.Layout.{spot}
 use Rattle.control_word.specs.Views.{Stands, sees_as}
 use Rattle.control_word.specs.declared.shape.Shape.{Shape}
-use Rattle.control_word.specs.declared.view.Pending.TheVariants.{Idle}
+use Rattle.control_word.specs.declared.model.view.Pending.TheVariants.{Idle}
 use Rattle.control_block.specs.Rule.{IsSlotOf, Ruled, kept, opening_of, seeing, view_of, until_gone}
 use Rattle.control_block.specs.Plays.{At, Ends, IsClear, finished}
 use Rattle.control_block.proofs.Endings.{ends_here, ends_unmade}

@@ -14,10 +14,10 @@ use Rattle.control_word.specs.Steps.{Ready}
 use Rattle.control_word.specs.Handles.{handle}
 use Rattle.control_word.specs.Views.{Fits, Stands, sees_as}
 use Rattle.control_word.specs.Words.{blocks_of, counts_at, slot}
-use Rattle.control_word.specs.declared.handle.Kind.{Kind}
+use Rattle.control_word.specs.declared.model.handle.Kind.{Kind}
 use Rattle.control_word.specs.declared.place.Place.{Place}
 use Rattle.control_word.specs.declared.shape.Shape.{Shape}
-use Rattle.control_word.specs.declared.view.Pending.TheVariants.{Idle, Paying}
+use Rattle.control_word.specs.declared.model.view.Pending.TheVariants.{Idle, Paying}
 use Rattle.control_block.specs.Rule.{Ruled, opening_of, view_of}
 use Rattle.control_block.specs.Plays.{At}
 use Rattle.control_block.specs.FundPlays.{Owes, owing, settled}

@@ -12,11 +12,11 @@ use Rattle.control_word.specs.Events.{handed}
 use Rattle.control_word.specs.Histories.{entry, leads, value}
 use Rattle.control_word.specs.State.{Phase, ending, gone, live, unmade}
 use Rattle.control_word.specs.Views.{HasBoth, IsSecond, NoneBy, Stands, together, used_up}
-use Rattle.control_word.specs.declared.event.Entry.{Entry}
-use Rattle.control_word.specs.declared.event.Event.{Event}
-use Rattle.control_word.specs.declared.event.Event.TheVariants.{Join}
+use Rattle.control_word.specs.declared.model.event.Entry.{Entry}
+use Rattle.control_word.specs.declared.model.event.Event.{Event}
+use Rattle.control_word.specs.declared.model.event.Event.TheVariants.{Join}
 use Rattle.control_word.specs.declared.shape.Shape.{Shape}
-use Rattle.control_word.specs.declared.view.Pending.TheVariants.{Idle, Merging}
+use Rattle.control_word.specs.declared.model.view.Pending.TheVariants.{Idle, Merging}
 use Rattle.control_block.specs.Rule.{IsBacked, IsOut, IsSlotOf, Ruled, opening_of, seeing, view_of, until_gone}
 use Rattle.control_block.specs.Plays.{At, grown, joined, over}
 use Rattle.control_block.specs.declared.board.Sight.{Sight}

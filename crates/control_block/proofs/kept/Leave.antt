@@ -16,17 +16,17 @@ use Rattle.control_word.proofs.lists.Tallies.{put_again, put_same}
 use Rattle.control_word.specs.Events.{moved_to}
 use Rattle.control_word.specs.Handles.{owner}
 use Rattle.control_word.specs.State.{Has, InShape, held, ending, kind_of_member, live, unmade}
-use Rattle.control_word.specs.declared.event.Event.{Event}
-use Rattle.control_word.specs.declared.event.Event.TheVariants.{Leave}
-use Rattle.control_word.specs.declared.handle.Kind.TheVariants.{Owner}
+use Rattle.control_word.specs.declared.model.event.Event.{Event}
+use Rattle.control_word.specs.declared.model.event.Event.TheVariants.{Leave}
+use Rattle.control_word.specs.declared.model.handle.Kind.TheVariants.{Owner}
 use Rattle.control_word.specs.declared.place.Block.{Block}
 use Rattle.control_word.specs.Histories.{entry, leads, value}
 use Rattle.control_word.specs.Layout.{spot}
 use Rattle.control_word.specs.Views.{Stands, sees_as}
 use Rattle.control_word.specs.declared.place.Place.{Place}
 use Rattle.control_word.specs.declared.shape.Shape.{Shape}
-use Rattle.control_word.specs.declared.view.Pending.{Pending}
-use Rattle.control_word.specs.declared.view.Pending.TheVariants.{Idle}
+use Rattle.control_word.specs.declared.model.view.Pending.{Pending}
+use Rattle.control_word.specs.declared.model.view.Pending.TheVariants.{Idle}
 use Rattle.control_block.specs.Rule.{IsSlotOf, Ruled, kept, opening_of, seeing, view_of, until_gone}
 use Rattle.control_block.specs.Plays.{At, Ends, gave_back, left}
 use Rattle.control_block.specs.Leaving.{MayLeave}

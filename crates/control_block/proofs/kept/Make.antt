@@ -16,16 +16,16 @@ use Rattle.control_word.specs.Events.{new_object}
 use Rattle.control_word.specs.State.{Has, InShape, kind_of_member, put, stored}
 use Rattle.control_word.specs.Steps.{known_of}
 use Rattle.control_word.specs.Words.{flags_of}
-use Rattle.control_word.specs.declared.event.Entry.{Entry}
-use Rattle.control_word.specs.declared.event.Event.{Event}
-use Rattle.control_word.specs.declared.event.Event.TheVariants.{Make}
+use Rattle.control_word.specs.declared.model.event.Entry.{Entry}
+use Rattle.control_word.specs.declared.model.event.Event.{Event}
+use Rattle.control_word.specs.declared.model.event.Event.TheVariants.{Make}
 use Rattle.control_word.specs.declared.place.Block.{Block}
 use Rattle.control_word.specs.Histories.{entry, leads, value, valued}
 use Rattle.control_word.specs.Layout.{spot}
 use Rattle.control_word.specs.Views.{Stands}
 use Rattle.control_word.specs.declared.shape.Shape.{Shape}
-use Rattle.control_word.specs.declared.view.Pending.{Pending}
-use Rattle.control_word.specs.declared.view.Pending.TheVariants.{Idle, Making}
+use Rattle.control_word.specs.declared.model.view.Pending.{Pending}
+use Rattle.control_word.specs.declared.model.view.Pending.TheVariants.{Idle, Making}
 use Rattle.control_block.specs.Rule.{IsSlotOf, Ruled, kept, opening_of, seeing, view_of, until_gone}
 use Rattle.control_block.specs.Plays.{At, HasRoomFor, Rests, began, known, made, prepared, wrote}
 use Rattle.control_block.specs.declared.board.Sight.{Sight}

@@ -18,13 +18,13 @@ use Rattle.control_word.specs.Layout.{spot}
 use Rattle.control_word.specs.State.{InShape, Object, Opening, ending}
 use Rattle.control_word.specs.Views.{Fits, Stands, added, adds, total}
 use Rattle.control_word.specs.Words.{blocks_of, flags_of, object_words}
-use Rattle.control_word.specs.declared.event.Entry.{Entry}
-use Rattle.control_word.specs.declared.handle.Kind.{Kind}
+use Rattle.control_word.specs.declared.model.event.Entry.{Entry}
+use Rattle.control_word.specs.declared.model.handle.Kind.{Kind}
 use Rattle.control_word.specs.declared.place.Place.{Place}
 use Rattle.control_word.specs.declared.shape.Shape.{Shape}
-use Rattle.control_word.specs.declared.view.Pending.{Pending}
-use Rattle.control_word.specs.declared.view.Pending.TheVariants.{Idle, Making, Merging, Parting, Paying, Visiting}
-use Rattle.control_word.specs.declared.view.View.{View}
+use Rattle.control_word.specs.declared.model.view.Pending.{Pending}
+use Rattle.control_word.specs.declared.model.view.Pending.TheVariants.{Idle, Making, Merging, Parting, Paying, Visiting}
+use Rattle.control_word.specs.declared.model.view.View.{View}
 use Rattle.control_block.specs.Rule.{Ruled, opening_of, view_of}
 use Rattle.control_block.specs.Plays.{At, Ends, HoldingInBlock, IsNearObject, IsTold, known, peeked}
 use Rattle.control_block.specs.declared.board.Sight.{Sight}

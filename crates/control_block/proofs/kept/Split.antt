@@ -15,12 +15,12 @@ use Rattle.control_word.specs.Events.{splits_off}
 use Rattle.control_word.specs.Histories.{entry, leads}
 use Rattle.control_word.specs.State.{HasAll, HasRoom, Held, State, Stored, bag_size, held, passed, put, same_held, same_stored, stored}
 use Rattle.control_word.specs.Views.{Stands, comes, stays}
-use Rattle.control_word.specs.declared.event.Event.{Event}
-use Rattle.control_word.specs.declared.event.Event.TheVariants.{Split}
-use Rattle.control_word.specs.declared.handle.Handle.{Handle}
+use Rattle.control_word.specs.declared.model.event.Event.{Event}
+use Rattle.control_word.specs.declared.model.event.Event.TheVariants.{Split}
+use Rattle.control_word.specs.declared.model.handle.Handle.{Handle}
 use Rattle.control_word.specs.declared.place.Block.{Block}
 use Rattle.control_word.specs.declared.shape.Shape.{Shape}
-use Rattle.control_word.specs.declared.view.Pending.TheVariants.{Idle, Parting}
+use Rattle.control_word.specs.declared.model.view.Pending.TheVariants.{Idle, Parting}
 use Rattle.control_block.specs.Rule.{IsBacked, IsOut, IsSlotOf, Ruled, opening_of, seeing, view_of}
 use Rattle.control_block.specs.Plays.{At, MaySplit, Rests, comes_off, goes_on, known, parted, second_name}
 use Rattle.control_block.specs.declared.board.Sight.{Sight}

@@ -14,11 +14,11 @@ use Rattle.control_word.specs.Packing.{cell_bits}
 use Rattle.control_word.specs.Steps.{Adds, Ready, cell_word, purse}
 use Rattle.control_word.specs.Views.{Stands, sees_as}
 use Rattle.control_word.specs.Words.{blocks_of, packed, shown}
-use Rattle.control_word.specs.declared.cell.CellWord.{CellWord}
-use Rattle.control_word.specs.declared.event.Cell.{Cell}
-use Rattle.control_word.specs.declared.event.Event.{Event}
-use Rattle.control_word.specs.declared.event.Event.TheVariants.{Swap}
-use Rattle.control_word.specs.declared.handle.Handle.{Handle}
+use Rattle.control_word.specs.declared.packed.cell.CellWord.{CellWord}
+use Rattle.control_word.specs.declared.model.event.Cell.{Cell}
+use Rattle.control_word.specs.declared.model.event.Event.{Event}
+use Rattle.control_word.specs.declared.model.event.Event.TheVariants.{Swap}
+use Rattle.control_word.specs.declared.model.handle.Handle.{Handle}
 use Rattle.control_word.specs.declared.shape.Shape.{Shape}
 use Rattle.control_block.specs.Rule.{Ruled, opening_of, seeing, view_of}
 use Rattle.control_block.specs.Plays.{At, HasRoomFor, known}

@@ -4,11 +4,11 @@ use Rattle.atomic_table.specs.Table.{Allows, step}
 use mathlib.Core.Option.{none}
 use Rattle.control_word.specs.Handles.{weak_of}
 use Rattle.control_word.specs.Layout.{spot}
-use Rattle.control_word.specs.declared.event.Event.TheVariants.{WeakLeave}
-use Rattle.control_word.specs.declared.handle.Kind.TheVariants.{Weak}
+use Rattle.control_word.specs.declared.model.event.Event.TheVariants.{WeakLeave}
+use Rattle.control_word.specs.declared.model.handle.Kind.TheVariants.{Weak}
 use Rattle.control_word.specs.declared.place.Place.{Place}
 use Rattle.control_word.specs.declared.shape.Shape.{Shape}
-use Rattle.control_word.specs.declared.view.Pending.TheVariants.{Idle}
+use Rattle.control_word.specs.declared.model.view.Pending.TheVariants.{Idle}
 use Rattle.control_block.specs.Leaving.{MayLeave}
 use Rattle.control_block.specs.Plays.{At, weakly_left}
 use Rattle.control_block.specs.Rule.{Ruled}

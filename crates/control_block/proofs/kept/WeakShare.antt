@@ -11,15 +11,15 @@ use Rattle.control_word.proofs.steps.Standing.{has_headroom}
 use Rattle.control_word.specs.Events.{Asks, place_at}
 use Rattle.control_word.specs.Handles.{handle}
 use Rattle.control_word.specs.State.{weak_number}
-use Rattle.control_word.specs.declared.event.Event.TheVariants.{WeakShare}
-use Rattle.control_word.specs.declared.handle.Kind.{Kind}
-use Rattle.control_word.specs.declared.handle.Kind.TheVariants.{Weak}
+use Rattle.control_word.specs.declared.model.event.Event.TheVariants.{WeakShare}
+use Rattle.control_word.specs.declared.model.handle.Kind.{Kind}
+use Rattle.control_word.specs.declared.model.handle.Kind.TheVariants.{Weak}
 use Rattle.control_word.specs.Histories.{entry, leads}
 use Rattle.control_word.specs.Layout.{spot}
 use Rattle.control_word.specs.Views.{Stands, sees_as}
 use Rattle.control_word.specs.declared.place.Place.{Place}
 use Rattle.control_word.specs.declared.shape.Shape.{Shape}
-use Rattle.control_word.specs.declared.view.Pending.TheVariants.{Idle}
+use Rattle.control_word.specs.declared.model.view.Pending.TheVariants.{Idle}
 use Rattle.control_block.specs.Rule.{Ruled, opening_of, view_of}
 use Rattle.control_block.specs.Plays.{At, Ends, HasRoomFor, HoldingInBlock, MayShareWeakly, Rests, known, weakly_shared}
 use Rattle.control_block.specs.declared.board.Sight.{Sight}

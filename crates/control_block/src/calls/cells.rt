@@ -1,6 +1,6 @@
 //! Calls on cells. Each makes its events, and when it returns nothing is under way: no fund is out, and no load.
 ghost use Rattle.std.specs.Prelude.{◌≡◌, ◌↔◌, ◌+◌, IfErr, IfOk, IsErr, OnOk};
-ghost use Rattle.control_word.specs.declared.event.Event.TheVariants.{Load, Swap};
+ghost use Rattle.control_word.specs.declared.model.event.Event.TheVariants.{Load, Swap};
 ghost use Rattle.control_block.specs.Desks.{Belongs, AddsEvent, Keeps, allowance_of, bag_of, held_of};
 ghost use Rattle.control_block.specs.CellCalls.{HoldsHandle, IsOpenAt, cell_of_site, handle_in, with_handle};
 ghost use Rattle.control_block.specs.CellCalls.{without_handle};

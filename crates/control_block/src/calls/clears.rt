@@ -12,7 +12,7 @@ use crate::domain::Domain;
 use crate::in_place::InPlace;
 use crate::steps::clears;
 use control_word::Block;
-use control_word::handle::Kind;
+use control_word::model::handle::Kind;
 use std::marker::Brand;
 
 /// A shared member (0 first, 1 next) of an object that ends in the desk's hands is emptied: what it held comes out and

@@ -1,6 +1,6 @@
 //! The compare-and-swap of a cell as a call of a desk.
 ghost use Rattle.std.specs.Prelude.{◌≡◌, ◌↔◌, ◌+◌, cond, IfErr, IfOk, IsErr, OnOk};
-ghost use Rattle.control_word.specs.declared.event.Event.TheVariants.{Compare};
+ghost use Rattle.control_word.specs.declared.model.event.Event.TheVariants.{Compare};
 ghost use Rattle.control_block.specs.Desks.{Belongs};
 ghost use Rattle.control_block.specs.CellCalls.{HoldsHandle, IsOpenAt, cell_of_site, handle_in, with_handle};
 ghost use Rattle.control_block.specs.CellCalls.{without_handle};

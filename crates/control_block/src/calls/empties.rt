@@ -1,6 +1,6 @@
 //! Calls that count empty handles.
 ghost use Rattle.std.specs.Prelude.{◌≡◌, ◌↔◌, ◌+◌, ◌-◌, None, IfErr, IsErr, OnOk};
-ghost use Rattle.control_word.specs.declared.handle.Kind.TheVariants.{Owner};
+ghost use Rattle.control_word.specs.declared.model.handle.Kind.TheVariants.{Owner};
 ghost use Rattle.control_block.specs.CellCalls.{HoldsHandle};
 ghost use Rattle.control_block.specs.Desks.{allowance_of, held_of};
 

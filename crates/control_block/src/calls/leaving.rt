@@ -3,8 +3,8 @@ ghost use Rattle.std.specs.Prelude.{◌≡◌, ℕ, ◌+◌, ◌<◌, true, [], 
 ghost use Rattle.std.specs.Prelude.{vec_capacity, vec_len};
 ghost use Rattle.std.specs.Prelude.{Option, Some, is_some, IfSome};
 ghost use Rattle.control_word.specs.Handles.{handle, same_handle};
-ghost use Rattle.control_word.specs.declared.event.Event.TheVariants.{Finish, Leave, WeakLeave};
-ghost use Rattle.control_word.specs.declared.handle.Kind.TheVariants.{Owner, Weak};
+ghost use Rattle.control_word.specs.declared.model.event.Event.TheVariants.{Finish, Leave, WeakLeave};
+ghost use Rattle.control_word.specs.declared.model.handle.Kind.TheVariants.{Owner, Weak};
 ghost use Rattle.control_word.specs.State.{count, without};
 ghost use Rattle.control_block.specs.Desks.{Belongs, AddsEvent, HasHandle, IsCleared, IsEnding, IsSameDesk};
 ghost use Rattle.control_block.specs.Desks.{KeepsEndings};

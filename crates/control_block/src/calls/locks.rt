@@ -3,8 +3,8 @@ ghost use Rattle.std.specs.Prelude.{◌≡◌, ◌↔◌, ◌+◌, ◌==◌, ◌
 ghost use Rattle.std.specs.Prelude.{is_some, Option, None, Some, IfErr, IfOk, IfSome, IsErr, OnOk};
 ghost use Rattle.control_word.specs.Handles.{handle};
 ghost use Rattle.control_word.specs.State.{count};
-ghost use Rattle.control_word.specs.declared.event.Event.TheVariants.{Lock};
-ghost use Rattle.control_word.specs.declared.handle.Kind.TheVariants.{Owner, Weak};
+ghost use Rattle.control_word.specs.declared.model.event.Event.TheVariants.{Lock};
+ghost use Rattle.control_word.specs.declared.model.handle.Kind.TheVariants.{Owner, Weak};
 ghost use Rattle.control_block.specs.Desks.{Belongs, AddsEvent, HasHandle, Keeps, allowance_of, bag_of, held_of};
 ghost use Rattle.control_block.specs.Desks.{latest_of};
 ghost use Rattle.control_block.specs.Desks.{on_latest, state_of};

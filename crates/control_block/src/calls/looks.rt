@@ -7,7 +7,7 @@ use crate::desk::Desk;
 use crate::domain::Domain;
 use crate::steps;
 use control_word::Block;
-use control_word::layout::{ENABLED, NULL};
+use control_word::packed::layout::{ENABLED, NULL};
 use std::marker::Brand;
 
 /// A word of the flags and fields of the object in the block: the flags are word 0, the fields words 1 to 4.

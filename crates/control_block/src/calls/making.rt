@@ -2,8 +2,8 @@
 ghost use Rattle.std.specs.Prelude.{◌≡◌, ◌+◌, [], ◌∷◌, length, Some, IfOk, IfErr, OnOk};
 ghost use Rattle.control_word.specs.Events.{origin};
 ghost use Rattle.control_word.specs.Handles.{handle};
-ghost use Rattle.control_word.specs.declared.event.Event.TheVariants.{Make};
-ghost use Rattle.control_word.specs.declared.handle.Kind.TheVariants.{Owner};
+ghost use Rattle.control_word.specs.declared.model.event.Event.TheVariants.{Make};
+ghost use Rattle.control_word.specs.declared.model.handle.Kind.TheVariants.{Owner};
 ghost use Rattle.control_block.specs.Refusals.{IsFullOrLimit};
 ghost use Rattle.control_block.specs.Desks.{Belongs, AddsEvent, IsSameDesk, KeepsEndings, allowance_of, bag_of};
 ghost use Rattle.control_block.specs.Desks.{endings_of};
@@ -13,7 +13,7 @@ use crate::desk::Desk;
 use crate::domain::Domain;
 use crate::handles::Pointer;
 use crate::steps;
-use control_word::handle::Kind;
+use control_word::model::handle::Kind;
 use control_word::{Block, Place, Refusal, Refused};
 use std::marker::Brand;
 

@@ -1,7 +1,7 @@
 //! Calls that look at what may change of an object.
 ghost use Rattle.std.specs.Prelude.{◌≡◌, ◌+◌, ◌<◌, Some};
-ghost use Rattle.control_word.specs.declared.event.Event.TheVariants.{Count, Expired, Read};
-ghost use Rattle.control_word.specs.declared.handle.Kind.TheVariants.{Owner, Weak};
+ghost use Rattle.control_word.specs.declared.model.event.Event.TheVariants.{Count, Expired, Read};
+ghost use Rattle.control_word.specs.declared.model.handle.Kind.TheVariants.{Owner, Weak};
 ghost use Rattle.control_word.specs.declared.place.Place.{Place};
 ghost use Rattle.control_word.specs.State.{count};
 ghost use Rattle.control_block.specs.Desks.{Belongs, AddsEvent, HasHandle, Keeps, allowance_of, bag_of, latest_of};

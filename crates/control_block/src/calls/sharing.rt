@@ -2,8 +2,8 @@
 ghost use Rattle.std.specs.Prelude.{◌≡◌, ◌↔◌, ◌+◌, ◌<◌, ◌∷◌, Option, Some, IfOk, IfErr, OnOk};
 ghost use Rattle.std.specs.Prelude.{IsErr};
 ghost use Rattle.control_word.specs.Handles.{handle};
-ghost use Rattle.control_word.specs.declared.event.Event.TheVariants.{Share, WeakShare};
-ghost use Rattle.control_word.specs.declared.handle.Kind.TheVariants.{Owner, Weak};
+ghost use Rattle.control_word.specs.declared.model.event.Event.TheVariants.{Share, WeakShare};
+ghost use Rattle.control_word.specs.declared.model.handle.Kind.TheVariants.{Owner, Weak};
 ghost use Rattle.control_word.specs.declared.place.Place.{Place};
 ghost use Rattle.control_block.specs.Desks.{Belongs, AddsEvent, HasHandle, Keeps, MayGiveWeak, MayPoint, allowance_of};
 ghost use Rattle.control_block.specs.Desks.{bag_of, held_of, latest_of, on_latest};

@@ -1,7 +1,7 @@
 //! Calls of a desk that store into a cell, for the crates above: a handle goes in, and what the cell held leaves. It
 //! leaves by the step that gives its funds back.
 ghost use Rattle.std.specs.Prelude.{◌≡◌, ◌+◌, cond, is_some, length};
-ghost use Rattle.control_word.specs.declared.handle.Kind.TheVariants.{Owner, Weak};
+ghost use Rattle.control_word.specs.declared.model.handle.Kind.TheVariants.{Owner, Weak};
 ghost use Rattle.control_block.specs.Desks.{Belongs};
 ghost use Rattle.control_block.specs.CellCalls.{HoldsHandle, IsOpenAt, cell_of_site, handle_in, without_handle};
 ghost use Rattle.control_block.specs.Desks.{IsSameDesk, KeepsEndings, KeepsStock, bag_of, endings_of, stock_of};
@@ -16,7 +16,7 @@ use crate::in_place::InPlace;
 use crate::plays::cells::Aimed;
 use crate::rounds;
 use control_word::CellWord;
-use control_word::handle::Kind;
+use control_word::model::handle::Kind;
 
 /// An owner that the desk has goes into a shared cell, and what the cell held leaves ([util.smartptr.atomic.shared]).
 /// Where that was an object's last owner, its value comes out, and it ends in the desk's hands. It waits for nobody.

@@ -1,8 +1,8 @@
 //! Visits: work on the value of an object, through an owner of it.
 ghost use Rattle.std.specs.Prelude.{◌≡◌};
 ghost use Rattle.std.specs.Fn.{FnOnceReturnsAtMut};
-ghost use Rattle.control_word.specs.declared.event.Event.TheVariants.{Visit};
-ghost use Rattle.control_word.specs.declared.handle.Kind.TheVariants.{Owner};
+ghost use Rattle.control_word.specs.declared.model.event.Event.TheVariants.{Visit};
+ghost use Rattle.control_word.specs.declared.model.handle.Kind.TheVariants.{Owner};
 ghost use Rattle.control_block.specs.Desks.{Belongs, AddsEvent, HasHandle, Keeps, bag_of, on_latest};
 
 use crate::calls::About;

@@ -1,7 +1,7 @@
 //! Who holds the objects that are left.
 ghost use Rattle.std.specs.Prelude.{◌≡◌, ◌+◌, ◌-◌, ◌<◌, ◌++◌, [], IfErr, IfOk, OnOk};
 ghost use Rattle.control_word.specs.State.{kind_of_free};
-ghost use Rattle.control_word.specs.declared.handle.Kind.TheVariants.{Owner, Weak};
+ghost use Rattle.control_word.specs.declared.model.handle.Kind.TheVariants.{Owner, Weak};
 ghost use Rattle.control_block.specs.Census.{HasBlock, owners_in, weaks_in};
 ghost use Rattle.control_block.specs.Holders.{IsCellOf, block_holders, free_cell, free_holders, frees_in, holders_of};
 ghost use Rattle.control_block.specs.Holders.{if_holds};
@@ -9,8 +9,8 @@ ghost use Rattle.control_block.specs.Holders.{many_of, member_holders};
 
 use crate::cell_calls::{CellAt, Site, word_of};
 use crate::census::Census;
-use control_word::cell::OWNED_MASK;
-use control_word::handle::Kind;
+use control_word::model::handle::Kind;
+use control_word::packed::cell::OWNED_MASK;
 use control_word::{Block, Counts, Refusal};
 use std::alloc::{AllocError, Global};
 

@@ -4,8 +4,8 @@ ghost use Rattle.control_block.specs.Census.{is_free, vacant_in, HasBlock, IsFre
 
 use crate::census::Census;
 use control_word::Block;
-use control_word::counts::unpack_count;
-use control_word::layout::{WEAKS, block_word};
+use control_word::packed::counts::unpack_count;
+use control_word::packed::layout::{WEAKS, block_word};
 
 impl<V: Drop + Send> Census<V> {
     /// Whether the domain had this block, and it is vacant (own).

@@ -1,6 +1,6 @@
 //! Shared pointers put together and taken apart, for the crates of calls.
 ghost use Rattle.std.specs.Prelude.{◌≡◌};
-ghost use Rattle.control_word.specs.declared.handle.Kind.TheVariants.{Owner};
+ghost use Rattle.control_word.specs.declared.model.handle.Kind.TheVariants.{Owner};
 ghost use Rattle.control_block.specs.Handles.{IsProper};
 
 use crate::handles::Shared;

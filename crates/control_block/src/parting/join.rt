@@ -1,7 +1,7 @@
 //! Two desks become one.
 ghost use Rattle.std.specs.Prelude.{◌≡◌, ◌+◌, List, ◌++◌, length};
 ghost use Rattle.std.specs.List.Sorted.{IsPermutation};
-ghost use Rattle.control_word.specs.declared.handle.Handle.{Handle};
+ghost use Rattle.control_word.specs.declared.model.handle.Handle.{Handle};
 ghost use Rattle.control_block.specs.Desks.{Belongs, KeepsEndings, allowance_of, bag_of, endings_of, stock_of};
 ghost use Rattle.control_block.specs.Parting.{AreIn, JoinsWith};
 

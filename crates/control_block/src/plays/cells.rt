@@ -1,10 +1,10 @@
 //! What the steps on a cell tell the seat that makes them.
 ghost use Rattle.std.specs.Prelude.{Bool, true, false, None};
-ghost use Rattle.control_word.specs.declared.event.Cell.{Cell};
-ghost use Rattle.control_word.specs.declared.event.Cell.TheVariants.{Free};
-ghost use Rattle.control_word.specs.declared.event.Event.TheVariants.{Compare, Load, Swap};
-ghost use Rattle.control_word.specs.declared.handle.Handle.{Handle};
-ghost use Rattle.control_word.specs.declared.handle.Kind.TheVariants.{Owner};
+ghost use Rattle.control_word.specs.declared.model.event.Cell.{Cell};
+ghost use Rattle.control_word.specs.declared.model.event.Cell.TheVariants.{Free};
+ghost use Rattle.control_word.specs.declared.model.event.Event.TheVariants.{Compare, Load, Swap};
+ghost use Rattle.control_word.specs.declared.model.handle.Handle.{Handle};
+ghost use Rattle.control_word.specs.declared.model.handle.Kind.TheVariants.{Owner};
 ghost use Rattle.control_word.specs.Handles.{empty};
 ghost use Rattle.control_block.specs.CellPlays.{compare_swapped, differed_empty, loaded_empty, cell_peeked, refilled};
 ghost use Rattle.control_block.specs.CellPlays.{swapped, took};

@@ -5,7 +5,7 @@ ghost use Rattle.std.specs.Prelude.{IfSome};
 ghost use Rattle.control_word.specs.Events.{InHand};
 ghost use Rattle.control_word.specs.Handles.{object_of};
 ghost use Rattle.control_word.specs.Packing.{IsCellWord};
-ghost use Rattle.control_word.specs.declared.event.Event.TheVariants.{Compare};
+ghost use Rattle.control_word.specs.declared.model.event.Event.TheVariants.{Compare};
 ghost use Rattle.control_block.specs.CellPlays.{IsCellAt, IsWordOf, kind_in};
 ghost use Rattle.control_block.specs.CellRounds.{CameOut, IsCounted};
 ghost use Rattle.control_block.specs.Inside.{IsSized};
@@ -17,7 +17,7 @@ use crate::plays::cells::Aimed;
 use crate::rounds::cells::{bring_for, settle, top_up};
 use crate::steps::{cells, funds};
 use control_word::CellWord;
-use control_word::handle::Kind;
+use control_word::model::handle::Kind;
 use control_word::shape::CELL_FUNDS;
 use std::sync::Wait;
 

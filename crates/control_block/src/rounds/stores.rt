@@ -3,8 +3,8 @@ ghost use Rattle.std.specs.Prelude.{◌≡◌, ◌<◌, None, IfSome};
 ghost use Rattle.control_word.specs.Events.{InHand};
 ghost use Rattle.control_word.specs.Handles.{object_of};
 ghost use Rattle.control_word.specs.Packing.{IsCellWord};
-ghost use Rattle.control_word.specs.declared.event.Event.TheVariants.{Swap};
-ghost use Rattle.control_word.specs.declared.handle.Kind.TheVariants.{Owner, Weak};
+ghost use Rattle.control_word.specs.declared.model.event.Event.TheVariants.{Swap};
+ghost use Rattle.control_word.specs.declared.model.handle.Kind.TheVariants.{Owner, Weak};
 ghost use Rattle.control_block.specs.CellPlays.{IsCellAt, IsWordOf, kind_in};
 ghost use Rattle.control_block.specs.CellRounds.{IsCounted};
 ghost use Rattle.control_block.specs.Inside.{IsSized};
@@ -17,7 +17,7 @@ use crate::plays::cells::Aimed;
 use crate::rounds::cells::swap_in;
 use crate::steps::leaving;
 use control_word::CellWord;
-use control_word::handle::Kind;
+use control_word::model::handle::Kind;
 use std::marker::Brand;
 
 /// Store: an owner that the desk holds goes into a shared cell, and what the cell held leaves

@@ -4,7 +4,7 @@ ghost use Rattle.std.specs.Prelude.{◌≡◌, ◌≢◌, ◌⊎◌, ℕ, ◌<�
 ghost use Rattle.control_word.specs.Events.{InHand};
 ghost use Rattle.control_word.specs.Handles.{equivalent, handle};
 ghost use Rattle.control_word.specs.Packing.{IsCellWord};
-ghost use Rattle.control_word.specs.declared.event.Event.TheVariants.{Compare, Load, Swap};
+ghost use Rattle.control_word.specs.declared.model.event.Event.TheVariants.{Compare, Load, Swap};
 ghost use Rattle.control_block.specs.Plays.{HasRoomFor, Rests, goes_on, known, tells};
 ghost use Rattle.control_word.specs.declared.place.Block.{Block};
 ghost use Rattle.control_word.specs.declared.place.Place.{Place};
@@ -17,7 +17,7 @@ use crate::plays::cells::{
     TakesToLoad,
 };
 use control_word::CellWord;
-use control_word::cell::{ONE_TAKEN, pack, unpack};
+use control_word::packed::cell::{ONE_TAKEN, pack, unpack};
 
 /// Look: what a cell holds at this step, and no event (own).
 pub fn peek<V, A: Aimed>(board: &Board<V>, chair: &mut Chair<V>, word: usize) -> CellWord

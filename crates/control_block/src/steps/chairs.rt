@@ -1,7 +1,7 @@
 //! The chairs of desks: a chair is cut in two, and two become one.
 ghost use Rattle.std.specs.Prelude.{◌≡◌, ℕ, ◌<◌, false, [], None};
-ghost use Rattle.control_word.specs.declared.event.Event.TheVariants.{Split};
-ghost use Rattle.control_word.specs.declared.view.Pending.TheVariants.{Parting};
+ghost use Rattle.control_word.specs.declared.model.event.Event.TheVariants.{Split};
+ghost use Rattle.control_word.specs.declared.model.view.Pending.TheVariants.{Parting};
 ghost use Rattle.control_block.specs.Plays.{goes_on, comes_off, Added, JoinsUp, MaySplit, Rests};
 ghost use Rattle.control_block.specs.declared.board.Sight.{Sight};
 

@@ -2,8 +2,8 @@
 ghost use Rattle.std.specs.Prelude.{◌≡◌, ◌<◌, [], false, Some};
 ghost use Rattle.control_word.specs.Handles.{owner};
 ghost use Rattle.control_word.specs.Layout.{spot};
-ghost use Rattle.control_word.specs.declared.event.Event.TheVariants.{Visit};
-ghost use Rattle.control_word.specs.declared.handle.Kind.TheVariants.{Owner};
+ghost use Rattle.control_word.specs.declared.model.event.Event.TheVariants.{Visit};
+ghost use Rattle.control_word.specs.declared.model.handle.Kind.TheVariants.{Owner};
 ghost use Rattle.control_block.specs.Plays.{HoldingInBlock, Rests, tells};
 ghost use Rattle.control_block.specs.DoorPlays.{IsVisiting};
 ghost use Rattle.control_block.specs.declared.board.Sight.{Sight};
@@ -13,7 +13,7 @@ use crate::pause::Pause;
 use crate::plays::doors::{Opens, Shuts};
 use crate::plays::{Peeks, StepArgs};
 use control_word::Block;
-use control_word::layout::{DOOR, FLAGS, block_word};
+use control_word::packed::layout::{DOOR, FLAGS, block_word};
 use std::sync::Wait;
 
 /// Shut: the door of an object that the desk has an owner of is shut, and the slot with its value is in hand (own). It

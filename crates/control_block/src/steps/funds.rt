@@ -10,9 +10,9 @@ use crate::board::{Board, Chair};
 use crate::plays::StepArgs;
 use crate::plays::funds::{Brings, Settles};
 use control_word::Block;
-use control_word::counts::{FUND_TURNED, ONE_FUND};
-use control_word::handle::Kind;
-use control_word::layout::{OWNERS, WEAKS, block_word};
+use control_word::model::handle::Kind;
+use control_word::packed::counts::{FUND_TURNED, ONE_FUND};
+use control_word::packed::layout::{OWNERS, WEAKS, block_word};
 
 /// Where handles of this kind on the block's object are counted.
 #[inline]

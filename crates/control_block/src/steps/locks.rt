@@ -2,8 +2,8 @@
 ghost use Rattle.std.specs.Prelude.{◌≡◌, ◌<◌};
 ghost use Rattle.control_word.specs.Handles.{weak_of};
 ghost use Rattle.control_word.specs.Layout.{spot};
-ghost use Rattle.control_word.specs.declared.event.Event.TheVariants.{Lock};
-ghost use Rattle.control_word.specs.declared.handle.Kind.TheVariants.{Weak};
+ghost use Rattle.control_word.specs.declared.model.event.Event.TheVariants.{Lock};
+ghost use Rattle.control_word.specs.declared.model.handle.Kind.TheVariants.{Weak};
 ghost use Rattle.control_block.specs.Plays.{HasRoomFor, HoldingInBlock, Rests, tells};
 ghost use Rattle.control_block.specs.LockPlays.{GotOwner};
 
@@ -12,8 +12,8 @@ use crate::pause::Pause;
 use crate::plays::StepArgs;
 use crate::plays::locks::{Locks, SeeksOwner};
 use control_word::Block;
-use control_word::counts::with_handle;
-use control_word::layout::{OWNERS, block_word};
+use control_word::packed::counts::with_handle;
+use control_word::packed::layout::{OWNERS, block_word};
 use std::sync::Wait;
 
 /// Lock: an owner from a weak handle that the desk holds, just where one remains at its step

@@ -5,7 +5,7 @@ ghost use Rattle.control_word.specs.Histories.{value};
 ghost use Rattle.control_word.specs.Layout.{spot};
 ghost use Rattle.control_word.specs.State.{Has, stored};
 ghost use Rattle.control_word.specs.Words.{flags_of};
-ghost use Rattle.control_word.specs.declared.event.Event.TheVariants.{Make};
+ghost use Rattle.control_word.specs.declared.model.event.Event.TheVariants.{Make};
 ghost use Rattle.control_block.specs.Plays.{tells, known, Rests, HasRoomFor, IsPrepared};
 ghost use Rattle.control_block.specs.declared.board.Sight.{Sight};
 
@@ -13,7 +13,7 @@ use crate::board::{Board, Chair};
 use crate::plays::{Begins, Claims, MakeArgs, StepArgs, Writes};
 use crate::steps::in_hand;
 use control_word::Block;
-use control_word::layout::{ENABLED, FLAGS, NULL, OWNERS, WEAKS, block_word};
+use control_word::packed::layout::{ENABLED, FLAGS, NULL, OWNERS, WEAKS, block_word};
 use std::marker::Brand;
 
 /// The first write of a make: the weak word of an own vacant block becomes 1, and its empty slot is in hand.

@@ -1,7 +1,7 @@
 //! The shelf: vacant blocks that any desk may take. Each block has a bit of a word, which is 1 while it is there.
 ghost use Rattle.std.specs.Prelude.{◌≡◌, ◌<◌, ◌/◌, true, false};
 ghost use Rattle.control_word.specs.State.{Has, stored};
-ghost use Rattle.control_word.specs.declared.event.Event.TheVariants.{Shelve, Unshelve};
+ghost use Rattle.control_word.specs.declared.model.event.Event.TheVariants.{Shelve, Unshelve};
 ghost use Rattle.control_block.specs.Plays.{Rests, known, tells};
 ghost use Rattle.control_block.specs.ShelfPlays.{IsOff, IsShelfWord, IsSo, shelf_at};
 
@@ -9,7 +9,7 @@ use crate::board::{Board, Chair};
 use crate::plays::StepArgs;
 use crate::plays::shelf::{LooksOnShelf, Shelves, Unshelves};
 use control_word::Block;
-use control_word::layout::shelf_bit;
+use control_word::packed::layout::shelf_bit;
 
 /// Look, which is no event (own): a word of the shelf.
 pub fn look<V, M: StepArgs>(board: &Board<V>, chair: &mut Chair<V>, place: usize) -> u64

@@ -8,9 +8,9 @@ use Rattle.control_word.proofs.lists.Tallies.{held_self, held_true, num, num_con
 use Rattle.control_word.specs.Events.{gets, loses, renamed, swaps}
 use Rattle.control_word.specs.Handles.{has_object}
 use Rattle.control_word.specs.State.{Has, HasAll, Held, State, bag_size, held, passed, same_held, sum_below, without}
-use Rattle.control_word.specs.declared.event.Cell.{Cell}
-use Rattle.control_word.specs.declared.event.Cell.TheVariants.{Free, Member}
-use Rattle.control_word.specs.declared.handle.Handle.{Handle}
+use Rattle.control_word.specs.declared.model.event.Cell.{Cell}
+use Rattle.control_word.specs.declared.model.event.Cell.TheVariants.{Free, Member}
+use Rattle.control_word.specs.declared.model.handle.Handle.{Handle}
 
 pub bag_others : (q d : ℕ) (h : Handle) (l : List Held) → q ≢ d
     → num (λ x. x.desk == q) (held d h ∷ l) ≡ num (λ x. x.desk == q) l

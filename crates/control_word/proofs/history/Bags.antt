@@ -6,7 +6,7 @@ use Rattle.control_word.proofs.lists.Tallies.{held_true}
 use Rattle.control_word.specs.Events.{gets, loses, renamed, vacates}
 use Rattle.control_word.specs.Handles.{has_object}
 use Rattle.control_word.specs.State.{Held, State, Stored, bag, held, same_held, stock, stored, without}
-use Rattle.control_word.specs.declared.handle.Handle.{Handle}
+use Rattle.control_word.specs.declared.model.handle.Handle.{Handle}
 
 abbrev pub desk_of : Held → ℕ
 desk_of x = x.desk

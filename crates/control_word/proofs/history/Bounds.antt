@@ -10,9 +10,9 @@ use Rattle.control_word.specs.Handles.{empty, handle, is_on}
 use Rattle.control_word.specs.State.{Object, Opening, Phase, State, common, ending, gone, in_cells, kind_of_member, live, members, sum_below, tally}
 use Rattle.control_word.specs.State.{unmade, upto}
 use Rattle.control_word.specs.Views.{more}
-use Rattle.control_word.specs.declared.handle.Handle.{Handle}
-use Rattle.control_word.specs.declared.handle.Kind.{Kind}
-use Rattle.control_word.specs.declared.handle.Kind.TheVariants.{Owner, Weak}
+use Rattle.control_word.specs.declared.model.handle.Handle.{Handle}
+use Rattle.control_word.specs.declared.model.handle.Kind.{Kind}
+use Rattle.control_word.specs.declared.model.handle.Kind.TheVariants.{Owner, Weak}
 
 -- where g is f, and at most one more at a single place
 sum_one_more : (n p : ℕ) (f g : ℕ → ℕ) → ((i : ℕ) → i ≢ p → g i ≤ f i) → ((i : ℕ) → g i ≤ f i + 1)

@@ -11,11 +11,11 @@ use Rattle.control_word.specs.Events.{InHand, IsOpen, cell_of, fills, gets, kind
 use Rattle.control_word.specs.Handles.{empty, handle, has_object, object_of}
 use Rattle.control_word.specs.State.{Has, Held, Object, Opening, State, common, count, handles, held, in_cells, kind_of_member, live, members, put}
 use Rattle.control_word.specs.State.{same_held, tally, unmade, upto, weak, without}
-use Rattle.control_word.specs.declared.event.Cell.{Cell}
-use Rattle.control_word.specs.declared.event.Cell.TheVariants.{Free, Member}
-use Rattle.control_word.specs.declared.handle.Handle.{Handle}
-use Rattle.control_word.specs.declared.handle.Kind.{Kind}
-use Rattle.control_word.specs.declared.handle.Kind.TheVariants.{Owner, Weak}
+use Rattle.control_word.specs.declared.model.event.Cell.{Cell}
+use Rattle.control_word.specs.declared.model.event.Cell.TheVariants.{Free, Member}
+use Rattle.control_word.specs.declared.model.handle.Handle.{Handle}
+use Rattle.control_word.specs.declared.model.handle.Kind.{Kind}
+use Rattle.control_word.specs.declared.model.handle.Kind.TheVariants.{Owner, Weak}
 use Rattle.control_word.specs.declared.place.Place.{Place}
 
 -- the handles in cells are counted, so their objects were made

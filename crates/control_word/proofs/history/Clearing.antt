@@ -11,9 +11,9 @@ use Rattle.control_word.specs.Events.{changes, clears, gets}
 use Rattle.control_word.specs.Handles.{empty, handle, has_object}
 use Rattle.control_word.specs.State.{Held, Object, Opening, State, common, count, ending, handles, held, kind_of_member, members, put, tally, unmade}
 use Rattle.control_word.specs.State.{upto, weak}
-use Rattle.control_word.specs.declared.handle.Handle.{Handle}
-use Rattle.control_word.specs.declared.handle.Kind.{Kind}
-use Rattle.control_word.specs.declared.handle.Kind.TheVariants.{Owner, Weak}
+use Rattle.control_word.specs.declared.model.handle.Handle.{Handle}
+use Rattle.control_word.specs.declared.model.handle.Kind.{Kind}
+use Rattle.control_word.specs.declared.model.handle.Kind.TheVariants.{Owner, Weak}
 use Rattle.control_word.specs.declared.place.Place.{Place}
 
 -- counting over all objects after one of them changed

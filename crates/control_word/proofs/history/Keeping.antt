@@ -20,11 +20,11 @@ use Rattle.control_word.specs.Laws.{how_often, times_kept}
 use Rattle.control_word.specs.State.{Has, HasAll, Held, InShape, IsVacant, Object, Opening, Phase, State, Stored, common, ending, gone, held, in_cells}
 use Rattle.control_word.specs.State.{kind_of_member, live, members, put, same_held, same_stored, stored, tally, unmade, weak, weak_number, without}
 use Rattle.control_word.specs.Views.{more}
-use Rattle.control_word.specs.declared.event.Cell.{Cell}
-use Rattle.control_word.specs.declared.event.Cell.TheVariants.{Free, Member}
-use Rattle.control_word.specs.declared.handle.Handle.{Handle}
-use Rattle.control_word.specs.declared.handle.Kind.{Kind}
-use Rattle.control_word.specs.declared.handle.Kind.TheVariants.{Owner, Weak}
+use Rattle.control_word.specs.declared.model.event.Cell.{Cell}
+use Rattle.control_word.specs.declared.model.event.Cell.TheVariants.{Free, Member}
+use Rattle.control_word.specs.declared.model.handle.Handle.{Handle}
+use Rattle.control_word.specs.declared.model.handle.Kind.{Kind}
+use Rattle.control_word.specs.declared.model.handle.Kind.TheVariants.{Owner, Weak}
 use Rattle.control_word.specs.declared.place.Block.{Block}
 use Rattle.control_word.specs.declared.place.Place.{Place}
 use Rattle.control_word.specs.State.{on_shelf}

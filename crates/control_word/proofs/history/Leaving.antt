@@ -11,7 +11,7 @@ use Rattle.control_word.specs.Handles.{empty, handle}
 use Rattle.control_word.specs.Laws.{times_kept}
 use Rattle.control_word.specs.State.{Has, Held, IsVacant, Object, Opening, Phase, State, common, count, ending, gone, held, kind_of_member, live}
 use Rattle.control_word.specs.State.{members, put, same_held, unmade, weak, weak_number, without}
-use Rattle.control_word.specs.declared.handle.Kind.TheVariants.{Owner, Weak}
+use Rattle.control_word.specs.declared.model.handle.Kind.TheVariants.{Owner, Weak}
 use Rattle.control_word.specs.declared.place.Place.{Place}
 
 -- o was busy and is not, and so its block is vacant

@@ -10,8 +10,8 @@ use Rattle.control_word.specs.Handles.{empty, handle}
 use Rattle.control_word.specs.Laws.{times_kept}
 use Rattle.control_word.specs.State.{Has, Held, InShape, IsVacant, Object, Opening, Phase, State, Stored, common, count, ending, gone, handles, held}
 use Rattle.control_word.specs.State.{in_cells, kind_of_member, live, members, same_held, stored, tally, unmade, upto, weak, weak_number, without}
-use Rattle.control_word.specs.declared.handle.Handle.{Handle}
-use Rattle.control_word.specs.declared.handle.Kind.TheVariants.{Owner, Weak}
+use Rattle.control_word.specs.declared.model.handle.Handle.{Handle}
+use Rattle.control_word.specs.declared.model.handle.Kind.TheVariants.{Owner, Weak}
 use Rattle.control_word.specs.declared.place.Place.{Place}
 use Rattle.control_word.specs.State.{on_shelf}
 

@@ -10,12 +10,12 @@ use Rattle.control_word.specs.Events.{after}
 use Rattle.control_word.specs.Histories.{leads}
 use Rattle.control_word.specs.Laws.{NumbersFit}
 use Rattle.control_word.specs.State.{Held, Opening, State, count, handles, in_cells, tally, weak}
-use Rattle.control_word.specs.declared.event.Cell.TheVariants.{Free, Member}
-use Rattle.control_word.specs.declared.event.Entry.{Entry}
-use Rattle.control_word.specs.declared.event.Event.{Event}
-use Rattle.control_word.specs.declared.event.Event.TheVariants.{Compare, Swap}
-use Rattle.control_word.specs.declared.handle.Kind.{Kind}
-use Rattle.control_word.specs.declared.handle.Kind.TheVariants.{Owner, Weak}
+use Rattle.control_word.specs.declared.model.event.Cell.TheVariants.{Free, Member}
+use Rattle.control_word.specs.declared.model.event.Entry.{Entry}
+use Rattle.control_word.specs.declared.model.event.Event.{Event}
+use Rattle.control_word.specs.declared.model.event.Event.TheVariants.{Compare, Swap}
+use Rattle.control_word.specs.declared.model.handle.Kind.{Kind}
+use Rattle.control_word.specs.declared.model.handle.Kind.TheVariants.{Owner, Weak}
 
 module _ {V : Type 0} where
   cells_after : (s : State) (d : ℕ) (a : Event V) → (after s d a).cells ≡ s.cells

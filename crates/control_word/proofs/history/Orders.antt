@@ -10,9 +10,9 @@ use Rattle.control_word.specs.Histories.{IsLegal, leads}
 use Rattle.control_word.specs.Laws.{IsEquivalence, IsStrictWeakOrder, OrdersByOwner}
 use Rattle.control_word.specs.State.{Opening}
 use Rattle.control_word.specs.Words.{blocks_of}
-use Rattle.control_word.specs.declared.event.Entry.{Entry}
-use Rattle.control_word.specs.declared.handle.Handle.{Handle}
-use Rattle.control_word.specs.declared.handle.Kind.{Kind}
+use Rattle.control_word.specs.declared.model.event.Entry.{Entry}
+use Rattle.control_word.specs.declared.model.handle.Handle.{Handle}
+use Rattle.control_word.specs.declared.model.handle.Kind.{Kind}
 
 -- the test says false exactly where its numbers are the other way round
 below_false : (a b : ℕ) → b ≤ a → nat_lt a b ≡ false

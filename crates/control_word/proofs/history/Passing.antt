@@ -11,9 +11,9 @@ use Rattle.control_word.specs.Handles.{is_on}
 use Rattle.control_word.specs.Laws.{how_often, times_kept}
 use Rattle.control_word.specs.State.{HasAll, Held, Opening, Phase, State, Stored, common, count, ending, gone, held, in_cells, live, passed, put}
 use Rattle.control_word.specs.State.{same_held, same_stored, stored, tally, unmade, weak, without}
-use Rattle.control_word.specs.declared.handle.Handle.{Handle}
-use Rattle.control_word.specs.declared.handle.Kind.{Kind}
-use Rattle.control_word.specs.declared.handle.Kind.TheVariants.{Owner, Weak}
+use Rattle.control_word.specs.declared.model.handle.Handle.{Handle}
+use Rattle.control_word.specs.declared.model.handle.Kind.{Kind}
+use Rattle.control_word.specs.declared.model.handle.Kind.TheVariants.{Owner, Weak}
 use Rattle.control_word.specs.declared.place.Block.{Block}
 
 num_one : {A : Type 0} (p : A → Bool) (x y : A) → p x ≡ p y → num p (x ∷ []) ≡ num p (y ∷ [])

@@ -6,7 +6,7 @@ use Rattle.control_word.proofs.lists.Sums.{sum_at, sum_two}
 use Rattle.control_word.specs.Histories.{IsLegal, leads}
 use Rattle.control_word.specs.Laws.{NothingUnseen}
 use Rattle.control_word.specs.State.{IsActing, Opening}
-use Rattle.control_word.specs.declared.event.Entry.{Entry}
+use Rattle.control_word.specs.declared.model.event.Entry.{Entry}
 
 module _ {V : Type 0} where
   pub alone : (z : Opening) (h : List (Entry V)) → IsLegal z h → (d e : ℕ) → (leads z h).allowance d ≡ z.allowance

@@ -15,12 +15,12 @@ use Rattle.control_word.specs.Handles.{handle, object_of}
 use Rattle.control_word.specs.Histories.{IsLegal, leads}
 use Rattle.control_word.specs.Laws.{StoredOnce, how_often, times_kept}
 use Rattle.control_word.specs.State.{Opening, State, all_stored, held}
-use Rattle.control_word.specs.declared.event.Entry.{Entry}
-use Rattle.control_word.specs.declared.event.Event.{Event}
-use Rattle.control_word.specs.declared.event.Event.TheVariants.{ClearMember, Compare, Count, Expired, Finish, Join, Leave, Load, Lock, Make, Read}
-use Rattle.control_word.specs.declared.event.Event.TheVariants.{Share, Split, Swap, Visit, WeakLeave, WeakShare}
-use Rattle.control_word.specs.declared.event.Event.TheVariants.{Shelve, Unshelve}
-use Rattle.control_word.specs.declared.handle.Kind.TheVariants.{Owner, Weak}
+use Rattle.control_word.specs.declared.model.event.Entry.{Entry}
+use Rattle.control_word.specs.declared.model.event.Event.{Event}
+use Rattle.control_word.specs.declared.model.event.Event.TheVariants.{ClearMember, Compare, Count, Expired, Finish, Join, Leave, Load, Lock, Make, Read}
+use Rattle.control_word.specs.declared.model.event.Event.TheVariants.{Share, Split, Swap, Visit, WeakLeave, WeakShare}
+use Rattle.control_word.specs.declared.model.event.Event.TheVariants.{Shelve, Unshelve}
+use Rattle.control_word.specs.declared.model.handle.Kind.TheVariants.{Owner, Weak}
 
 all_kept : (f : ℕ → ℕ) (n b : ℕ) → 1 ≤ b → b ≤ n → 0 < how_often b (all_stored f n)
 all_kept f zero b low high = absurd (omega arith)

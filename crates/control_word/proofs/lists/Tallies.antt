@@ -9,9 +9,9 @@ use mathlib.Core.Path.{fun_ext}
 use Rattle.control_word.specs.Handles.{equivalent, handle, is_on, same_handle, same_kind, same_number, same_place}
 use Rattle.control_word.specs.Laws.{how_often}
 use Rattle.control_word.specs.State.{Has, Held, Stored, put, same_held, same_stored, stored, tally, upto, without}
-use Rattle.control_word.specs.declared.handle.Handle.{Handle}
-use Rattle.control_word.specs.declared.handle.Kind.{Kind}
-use Rattle.control_word.specs.declared.handle.Kind.TheVariants.{Owner, Weak}
+use Rattle.control_word.specs.declared.model.handle.Handle.{Handle}
+use Rattle.control_word.specs.declared.model.handle.Kind.{Kind}
+use Rattle.control_word.specs.declared.model.handle.Kind.TheVariants.{Owner, Weak}
 use Rattle.control_word.specs.declared.place.Place.{Place}
 
 module _ {A : Type 0} where

@@ -4,7 +4,7 @@ use Rattle.control_word.specs.Packing.{IsBlock, IsPlace, IsCellWord, IsPackedCel
 use Rattle.control_word.specs.Packing.{block_number, place_block, place_field, cell_bits}
 use Rattle.control_word.specs.declared.place.Block.{Block}
 use Rattle.control_word.specs.declared.place.Place.{Place}
-use Rattle.control_word.specs.declared.cell.CellWord.{CellWord}
+use Rattle.control_word.specs.declared.packed.cell.CellWord.{CellWord}
 
 -- the parts are within their widths
 pub owned_fits : (b : Option Block) → IfSome b IsBlock → block_number b < 65536

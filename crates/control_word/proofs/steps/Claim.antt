@@ -28,15 +28,15 @@ use Rattle.control_word.specs.Steps.{Claims}
 use Rattle.control_word.specs.Views.{Fits, Stands, added, adds, more, owed, owes, pays, sees}
 use Rattle.control_word.specs.Words.{Says, bank, block_words, blocks_of, cell_spot, flags_of, member_funds, object_words, owned_bits, packed}
 use Rattle.control_word.specs.Words.{place_bits, slot, worth}
-use Rattle.control_word.specs.declared.event.Entry.{Entry}
-use Rattle.control_word.specs.declared.event.Event.TheVariants.{Make}
-use Rattle.control_word.specs.declared.handle.Handle.{Handle}
-use Rattle.control_word.specs.declared.handle.Kind.{Kind}
-use Rattle.control_word.specs.declared.handle.Kind.TheVariants.{Owner, Weak}
+use Rattle.control_word.specs.declared.model.event.Entry.{Entry}
+use Rattle.control_word.specs.declared.model.event.Event.TheVariants.{Make}
+use Rattle.control_word.specs.declared.model.handle.Handle.{Handle}
+use Rattle.control_word.specs.declared.model.handle.Kind.{Kind}
+use Rattle.control_word.specs.declared.model.handle.Kind.TheVariants.{Owner, Weak}
 use Rattle.control_word.specs.declared.place.Block.{Block}
 use Rattle.control_word.specs.declared.place.Place.{Place}
-use Rattle.control_word.specs.declared.view.Pending.TheVariants.{Idle, Making}
-use Rattle.control_word.specs.declared.view.View.{View}
+use Rattle.control_word.specs.declared.model.view.Pending.TheVariants.{Idle, Making}
+use Rattle.control_word.specs.declared.model.view.View.{View}
 
 owned_put : (f g : ℕ → ℕ) (n : Option ℕ) → ((r : ℕ) → n ≡ Some r → f r ≡ g r) → owned_bits f n ≡ owned_bits g n
 owned_put f g None e = refl

@@ -23,10 +23,10 @@ use Rattle.control_word.specs.State.{HasRoom, Held, Opening, State, bag_size, he
 use Rattle.control_word.specs.Steps.{Joins, MergesViews}
 use Rattle.control_word.specs.Views.{IsSecond, Stands, adds, more, owed, owes, pays, sees}
 use Rattle.control_word.specs.Words.{cell_spot}
-use Rattle.control_word.specs.declared.event.Entry.{Entry}
-use Rattle.control_word.specs.declared.event.Event.TheVariants.{Join}
-use Rattle.control_word.specs.declared.view.Pending.TheVariants.{Idle, Merging}
-use Rattle.control_word.specs.declared.view.View.{View}
+use Rattle.control_word.specs.declared.model.event.Entry.{Entry}
+use Rattle.control_word.specs.declared.model.event.Event.TheVariants.{Join}
+use Rattle.control_word.specs.declared.model.view.Pending.TheVariants.{Idle, Merging}
+use Rattle.control_word.specs.declared.model.view.View.{View}
 
 module _ {V : Type 0} where
   module _ (z : Opening) (words : List ℕ) (views : List (View V)) (h : List (Entry V)) (stands : Stands z words views h)

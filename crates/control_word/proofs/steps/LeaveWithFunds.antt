@@ -9,10 +9,10 @@ use Rattle.control_word.specs.State.{Has, held}
 use Rattle.control_word.specs.Steps.{Point, Ready, counts, me, state}
 use Rattle.control_word.specs.CellSteps.{LeavesWithFunds, WeakLeavesWithFunds}
 use Rattle.control_word.specs.Views.{Fits}
-use Rattle.control_word.specs.declared.handle.Kind.{Kind}
-use Rattle.control_word.specs.declared.handle.Kind.TheVariants.{Owner, Weak}
+use Rattle.control_word.specs.declared.model.handle.Kind.{Kind}
+use Rattle.control_word.specs.declared.model.handle.Kind.TheVariants.{Owner, Weak}
 use Rattle.control_word.specs.declared.place.Place.{Place}
-use Rattle.control_word.specs.declared.view.Pending.TheVariants.{Paying}
+use Rattle.control_word.specs.declared.model.view.Pending.TheVariants.{Paying}
 
 module _ {V : Type 0} where
   -- a desk that has funds out has the handle that they are for

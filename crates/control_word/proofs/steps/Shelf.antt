@@ -26,13 +26,13 @@ use Rattle.control_word.specs.State.{Has, InShape, IsVacant, Opening, State, Sto
 use Rattle.control_word.specs.Steps.{ShelfShows, Shelves, Unshelves}
 use Rattle.control_word.specs.Views.{Bare, Fits, Stands, more, owed, sees}
 use Rattle.control_word.specs.Words.{Shows, ShowsShelf, bank, block_words, cell_spot, shelf_spot}
-use Rattle.control_word.specs.declared.event.Entry.{Entry}
-use Rattle.control_word.specs.declared.event.Event.{Event}
-use Rattle.control_word.specs.declared.event.Event.TheVariants.{Shelve, Unshelve}
+use Rattle.control_word.specs.declared.model.event.Entry.{Entry}
+use Rattle.control_word.specs.declared.model.event.Event.{Event}
+use Rattle.control_word.specs.declared.model.event.Event.TheVariants.{Shelve, Unshelve}
 use Rattle.control_word.specs.declared.place.Block.{Block}
-use Rattle.control_word.specs.declared.view.Pending.{Pending}
-use Rattle.control_word.specs.declared.view.Pending.TheVariants.{Idle, Making, Merging, Parting, Paying, Visiting}
-use Rattle.control_word.specs.declared.view.View.{View}
+use Rattle.control_word.specs.declared.model.view.Pending.{Pending}
+use Rattle.control_word.specs.declared.model.view.Pending.TheVariants.{Idle, Making, Merging, Parting, Paying, Visiting}
+use Rattle.control_word.specs.declared.model.view.View.{View}
 
 -- block b's bit alone becomes x
 shelf_set : (z : Opening) (words : List ℕ) (s : State) (r : List Stored) (b n : ℕ) (x : Bool)

@@ -12,9 +12,9 @@ use Rattle.control_word.specs.Packing.{IsCellWord, cell_bits}
 use Rattle.control_word.specs.Steps.{Begins, HasHeadroom, Point, Ready, cell_word, me, state, word}
 use Rattle.control_word.specs.CellSteps.{CellsShow}
 use Rattle.control_word.specs.Words.{blocks_of, shown}
-use Rattle.control_word.specs.declared.event.Cell.{Cell}
-use Rattle.control_word.specs.declared.event.Cell.TheVariants.{Free, Member}
-use Rattle.control_word.specs.declared.view.Pending.{Pending}
+use Rattle.control_word.specs.declared.model.event.Cell.{Cell}
+use Rattle.control_word.specs.declared.model.event.Cell.TheVariants.{Free, Member}
+use Rattle.control_word.specs.declared.model.view.Pending.{Pending}
 
 module _ {V : Type 0} where
   pub begins : Begins V

@@ -24,12 +24,12 @@ use Rattle.control_word.specs.State.{unmade, weak, weak_number, without}
 use Rattle.control_word.specs.Steps.{Finishes, WeakLeaves, counts, state}
 use Rattle.control_word.specs.Views.{Stands, owed, paid, sees}
 use Rattle.control_word.specs.Words.{bank}
-use Rattle.control_word.specs.declared.event.Entry.{Entry}
-use Rattle.control_word.specs.declared.event.Event.TheVariants.{Finish, WeakLeave}
-use Rattle.control_word.specs.declared.handle.Kind.TheVariants.{Weak}
+use Rattle.control_word.specs.declared.model.event.Entry.{Entry}
+use Rattle.control_word.specs.declared.model.event.Event.TheVariants.{Finish, WeakLeave}
+use Rattle.control_word.specs.declared.model.handle.Kind.TheVariants.{Weak}
 use Rattle.control_word.specs.declared.place.Place.{Place}
-use Rattle.control_word.specs.declared.view.Pending.TheVariants.{Idle}
-use Rattle.control_word.specs.declared.view.View.{View}
+use Rattle.control_word.specs.declared.model.view.Pending.TheVariants.{Idle}
+use Rattle.control_word.specs.declared.model.view.View.{View}
 
 eqb_suc : (n : ℕ) → (suc n == 1) ≡ (n == 0)
 eqb_suc n = ⊎_elim (λ (e : n ≡ 0). eq-eqb (suc n) 1 (omega arith) ∙ sym (eq-eqb n 0 e)) (λ (e : n ≢ 0). ne_eqb (suc n) 1 (λ u. omega arith)

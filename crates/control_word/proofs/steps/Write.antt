@@ -22,14 +22,14 @@ use Rattle.control_word.specs.State.{Has, Opening, Stored, same_stored, stored, 
 use Rattle.control_word.specs.Steps.{WritesWeakWord, WritesWord, counts, known_of}
 use Rattle.control_word.specs.Views.{Fits, Stands, added, adds, more, owed, owes, paid, pays}
 use Rattle.control_word.specs.Words.{blocks_of, cell_spot, counts_at, slot}
-use Rattle.control_word.specs.declared.event.Entry.{Entry}
-use Rattle.control_word.specs.declared.handle.Handle.{Handle}
-use Rattle.control_word.specs.declared.handle.Kind.{Kind}
-use Rattle.control_word.specs.declared.handle.Kind.TheVariants.{Owner}
+use Rattle.control_word.specs.declared.model.event.Entry.{Entry}
+use Rattle.control_word.specs.declared.model.handle.Handle.{Handle}
+use Rattle.control_word.specs.declared.model.handle.Kind.{Kind}
+use Rattle.control_word.specs.declared.model.handle.Kind.TheVariants.{Owner}
 use Rattle.control_word.specs.declared.place.Block.{Block}
-use Rattle.control_word.specs.declared.view.Pending.{Pending}
-use Rattle.control_word.specs.declared.view.Pending.TheVariants.{Idle, Making, Merging, Parting, Paying, Visiting}
-use Rattle.control_word.specs.declared.view.View.{View}
+use Rattle.control_word.specs.declared.model.view.Pending.{Pending}
+use Rattle.control_word.specs.declared.model.view.Pending.TheVariants.{Idle, Making, Merging, Parting, Paying, Visiting}
+use Rattle.control_word.specs.declared.model.view.View.{View}
 
 -- a block that is in two desks' stores would be there twice
 two_stores : (d e b : ℕ) (l : List Stored) → Has (stored d b) l → Has (stored e b) l → d ≢ e → 1 < how_often b l

@@ -12,9 +12,9 @@ use Rattle.control_word.specs.Layout.{spot}
 use Rattle.control_word.specs.State.{IsActing, Opening, State}
 use Rattle.control_word.specs.Views.{IsSecond, Knows, Seated, Stands, StandsFor, added, adds, comes, more, owed, owes, paid, pays, stays, total}
 use Rattle.control_word.specs.Words.{Shows}
-use Rattle.control_word.specs.declared.event.Entry.{Entry}
-use Rattle.control_word.specs.declared.view.Pending.TheVariants.{Parting}
-use Rattle.control_word.specs.declared.view.View.{View}
+use Rattle.control_word.specs.declared.model.event.Entry.{Entry}
+use Rattle.control_word.specs.declared.model.view.Pending.TheVariants.{Parting}
+use Rattle.control_word.specs.declared.model.view.View.{View}
 
 -- an element behind a list
 at_end : {A : Type 0} (l : List A) (a : A) (i : ℕ) (x : A) → get_elem? (l ++ a ∷ []) i ≡ some x

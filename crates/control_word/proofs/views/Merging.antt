@@ -13,9 +13,9 @@ use Rattle.control_word.specs.Layout.{spot}
 use Rattle.control_word.specs.State.{IsActing, Opening, State}
 use Rattle.control_word.specs.Views.{Knows, NoneBy, Seated, Stands, StandsFor, added, adds, longer, more, owed, owes, paid, pays, together, used_up}
 use Rattle.control_word.specs.Words.{Shows}
-use Rattle.control_word.specs.declared.event.Entry.{Entry}
-use Rattle.control_word.specs.declared.view.Pending.TheVariants.{Idle}
-use Rattle.control_word.specs.declared.view.View.{View}
+use Rattle.control_word.specs.declared.model.event.Entry.{Entry}
+use Rattle.control_word.specs.declared.model.view.Pending.TheVariants.{Idle}
+use Rattle.control_word.specs.declared.model.view.View.{View}
 
 -- of two equal lists with the same kind of end the shorter beginning begins the longer
 split_append : {A : Type 0} (a b c d : List A) → a ++ b ≡ c ++ d → length c ≤ length a → (m : List A) × (a ≡ c ++ m) × (d ≡ m ++ b)

@@ -11,8 +11,8 @@ use Rattle.control_word.proofs.words.Frames.{total_none}
 use Rattle.control_word.specs.Handles.{is_on}
 use Rattle.control_word.specs.State.{Held, sum_below, tally}
 use Rattle.control_word.specs.Views.{total}
-use Rattle.control_word.specs.declared.handle.Kind.{Kind}
-use Rattle.control_word.specs.declared.view.View.{View}
+use Rattle.control_word.specs.declared.model.handle.Kind.{Kind}
+use Rattle.control_word.specs.declared.model.view.View.{View}
 
 total_sum : {A : Type 0} (f g k : A → ℕ) (l : List A) → ((a : A) → k a ≡ f a + g a) → total k l ≡ total f l + total g l
 total_sum f g k [] h = refl

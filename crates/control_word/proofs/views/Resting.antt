@@ -20,11 +20,11 @@ use Rattle.control_word.specs.Packing.{number_of}
 use Rattle.control_word.specs.State.{InShape, Opening, count, weak_number}
 use Rattle.control_word.specs.Views.{Fits, IsAtRest, NamesBlock, Stands, added, adds, owed, owes, paid, pays}
 use Rattle.control_word.specs.Words.{bank, block_words, slot}
-use Rattle.control_word.specs.declared.event.Entry.{Entry}
-use Rattle.control_word.specs.declared.handle.Kind.TheVariants.{Owner, Weak}
-use Rattle.control_word.specs.declared.view.Pending.{Pending}
-use Rattle.control_word.specs.declared.view.Pending.TheVariants.{Idle, Making, Merging, Parting, Paying, Visiting}
-use Rattle.control_word.specs.declared.view.View.{View}
+use Rattle.control_word.specs.declared.model.event.Entry.{Entry}
+use Rattle.control_word.specs.declared.model.handle.Kind.TheVariants.{Owner, Weak}
+use Rattle.control_word.specs.declared.model.view.Pending.{Pending}
+use Rattle.control_word.specs.declared.model.view.Pending.TheVariants.{Idle, Making, Merging, Parting, Paying, Visiting}
+use Rattle.control_word.specs.declared.model.view.View.{View}
 
 module _ {V : Type 0} where
   -- what a desk has by what it has seen, it has

@@ -14,11 +14,11 @@ use Rattle.control_word.specs.State.{HasRoom, InShape, IsActing, Opening}
 use Rattle.control_word.specs.Steps.{word}
 use Rattle.control_word.specs.Views.{Bare, Fits, HasBoth, IsSecond, Knows, Names, Seated, Stands, StandsFor, Team, added, adds, more, owed, sees_as}
 use Rattle.control_word.specs.Words.{Shows}
-use Rattle.control_word.specs.declared.event.Entry.{Entry}
-use Rattle.control_word.specs.declared.event.Event.{Event}
-use Rattle.control_word.specs.declared.view.Pending.{Pending}
-use Rattle.control_word.specs.declared.view.Pending.TheVariants.{Idle, Making, Merging, Parting, Paying, Visiting}
-use Rattle.control_word.specs.declared.view.View.{View}
+use Rattle.control_word.specs.declared.model.event.Entry.{Entry}
+use Rattle.control_word.specs.declared.model.event.Event.{Event}
+use Rattle.control_word.specs.declared.model.view.Pending.{Pending}
+use Rattle.control_word.specs.declared.model.view.Pending.TheVariants.{Idle, Making, Merging, Parting, Paying, Visiting}
+use Rattle.control_word.specs.declared.model.view.View.{View}
 
 module _ {V : Type 0} where
   -- one view changes, and the history may grow by an event of its desk

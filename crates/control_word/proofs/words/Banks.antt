@@ -16,10 +16,10 @@ use Rattle.control_word.specs.Handles.{handle}
 use Rattle.control_word.specs.Layout.{spot}
 use Rattle.control_word.specs.State.{Held, Object, Opening, State, common, put, sum_below}
 use Rattle.control_word.specs.Words.{bank, blocks_of, cell_at, cell_spot, counts_at, member_funds, worth}
-use Rattle.control_word.specs.declared.event.Cell.{Cell}
-use Rattle.control_word.specs.declared.event.Cell.TheVariants.{Free, Member}
-use Rattle.control_word.specs.declared.handle.Handle.{Handle}
-use Rattle.control_word.specs.declared.handle.Kind.{Kind}
+use Rattle.control_word.specs.declared.model.event.Cell.{Cell}
+use Rattle.control_word.specs.declared.model.event.Cell.TheVariants.{Free, Member}
+use Rattle.control_word.specs.declared.model.handle.Handle.{Handle}
+use Rattle.control_word.specs.declared.model.handle.Kind.{Kind}
 use Rattle.control_word.specs.declared.place.Place.{Place}
 
 pub sum_set : (n p : ℕ) (f g : ℕ → ℕ) → p < n → ((j : ℕ) → j < n → j ≢ p → g j ≡ f j) → sum_below n g + f p ≡ sum_below n f + g p

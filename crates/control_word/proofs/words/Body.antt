@@ -13,10 +13,10 @@ use Rattle.control_word.specs.Layout.{spot}
 use Rattle.control_word.specs.State.{InShape, Object, Opening, count, weak_number}
 use Rattle.control_word.specs.Views.{Fits, Stands, added, adds, more, owed, owes, pays}
 use Rattle.control_word.specs.Words.{block_words, blocks_of, flags_of, object_words, slot}
-use Rattle.control_word.specs.declared.event.Entry.{Entry}
-use Rattle.control_word.specs.declared.view.Pending.{Pending}
-use Rattle.control_word.specs.declared.view.Pending.TheVariants.{Idle, Making, Merging, Parting, Paying, Visiting}
-use Rattle.control_word.specs.declared.view.View.{View}
+use Rattle.control_word.specs.declared.model.event.Entry.{Entry}
+use Rattle.control_word.specs.declared.model.view.Pending.{Pending}
+use Rattle.control_word.specs.declared.model.view.Pending.TheVariants.{Idle, Making, Merging, Parting, Paying, Visiting}
+use Rattle.control_word.specs.declared.model.view.View.{View}
 
 -- the fields of an object among its words
 pub words_field : (f : ℕ → ℕ) (x : Object) (j : ℕ) → j < 4 → get_or (object_words f x) (1 + j) 0 ≡ slice_index x.fields j

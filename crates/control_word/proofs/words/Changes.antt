@@ -22,13 +22,13 @@ use Rattle.control_word.specs.State.{Held, Object, Opening, State, Stored, bag_s
 use Rattle.control_word.specs.Steps.{counts}
 use Rattle.control_word.specs.Views.{Bare, Stands, more, owed, sees}
 use Rattle.control_word.specs.Words.{Shows, bank, block_words, blocks_of, counts_at, slot}
-use Rattle.control_word.specs.declared.event.Entry.{Entry}
-use Rattle.control_word.specs.declared.event.Event.{Event}
-use Rattle.control_word.specs.declared.handle.Kind.{Kind}
-use Rattle.control_word.specs.declared.handle.Kind.TheVariants.{Owner, Weak}
+use Rattle.control_word.specs.declared.model.event.Entry.{Entry}
+use Rattle.control_word.specs.declared.model.event.Event.{Event}
+use Rattle.control_word.specs.declared.model.handle.Kind.{Kind}
+use Rattle.control_word.specs.declared.model.handle.Kind.TheVariants.{Owner, Weak}
 use Rattle.control_word.specs.declared.place.Place.{Place}
-use Rattle.control_word.specs.declared.view.Pending.TheVariants.{Idle}
-use Rattle.control_word.specs.declared.view.View.{View}
+use Rattle.control_word.specs.declared.model.view.Pending.TheVariants.{Idle}
+use Rattle.control_word.specs.declared.model.view.View.{View}
 
 module _ {V : Type 0} where
   stores_shows : (z : Opening) (ws : List ℕ) (us taken : ℕ → ℕ) (vs : List (View V)) (t : State) (r : List Stored)

@@ -19,12 +19,12 @@ use Rattle.control_word.specs.Histories.{leads}
 use Rattle.control_word.specs.State.{Has, Opening, handles, held, in_cells, same_held, tally, without}
 use Rattle.control_word.specs.Views.{Stands, added, adds, owed, owes, paid, pays, sees}
 use Rattle.control_word.specs.Words.{bank, blocks_of, counts_at}
-use Rattle.control_word.specs.declared.event.Entry.{Entry}
-use Rattle.control_word.specs.declared.handle.Kind.{Kind}
+use Rattle.control_word.specs.declared.model.event.Entry.{Entry}
+use Rattle.control_word.specs.declared.model.handle.Kind.{Kind}
 use Rattle.control_word.specs.declared.place.Place.{Place}
-use Rattle.control_word.specs.declared.view.Pending.{Pending}
-use Rattle.control_word.specs.declared.view.Pending.TheVariants.{Idle, Paying}
-use Rattle.control_word.specs.declared.view.View.{View}
+use Rattle.control_word.specs.declared.model.view.Pending.{Pending}
+use Rattle.control_word.specs.declared.model.view.Pending.TheVariants.{Idle, Paying}
+use Rattle.control_word.specs.declared.model.view.View.{View}
 
 module _ {V : Type 0} where
   -- a call with so many funds out on word w, and with nothing else on any word

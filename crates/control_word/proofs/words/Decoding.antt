@@ -19,13 +19,13 @@ use Rattle.control_word.specs.Packing.{IsBlock, IsCellWord, IsPlace, cell_bits}
 use Rattle.control_word.specs.State.{Opening, State}
 use Rattle.control_word.specs.Views.{Stands}
 use Rattle.control_word.specs.Words.{block_of, blocks_of, cell_at, packed, shown}
-use Rattle.control_word.specs.declared.event.Cell.{Cell}
-use Rattle.control_word.specs.declared.event.Cell.TheVariants.{Free, Member}
-use Rattle.control_word.specs.declared.event.Entry.{Entry}
-use Rattle.control_word.specs.declared.handle.Handle.{Handle}
-use Rattle.control_word.specs.declared.handle.Kind.{Kind}
+use Rattle.control_word.specs.declared.model.event.Cell.{Cell}
+use Rattle.control_word.specs.declared.model.event.Cell.TheVariants.{Free, Member}
+use Rattle.control_word.specs.declared.model.event.Entry.{Entry}
+use Rattle.control_word.specs.declared.model.handle.Handle.{Handle}
+use Rattle.control_word.specs.declared.model.handle.Kind.{Kind}
 use Rattle.control_word.specs.declared.place.Place.{Place}
-use Rattle.control_word.specs.declared.view.View.{View}
+use Rattle.control_word.specs.declared.model.view.View.{View}
 
 shown_parts : (block : ℕ → ℕ) (k : Kind) (o : Option ℕ) (p : Option Place) (t : ℕ)
     → packed block (handle k o p) + 17179869184 * t ≡ cell_bits (shown block (handle k o p) t)

@@ -17,11 +17,11 @@ use Rattle.control_word.specs.Layout.{spot}
 use Rattle.control_word.specs.State.{Opening, State}
 use Rattle.control_word.specs.Views.{Fits, Stands, added, adds, more, owed, owes, paid, pays, total}
 use Rattle.control_word.specs.Words.{Shows, blocks_of, cell_spot, flags_of, object_words}
-use Rattle.control_word.specs.declared.event.Entry.{Entry}
+use Rattle.control_word.specs.declared.model.event.Entry.{Entry}
 use Rattle.control_word.specs.declared.place.Place.{Place}
-use Rattle.control_word.specs.declared.view.Pending.{Pending}
-use Rattle.control_word.specs.declared.view.Pending.TheVariants.{Idle, Making, Merging, Parting, Paying, Visiting}
-use Rattle.control_word.specs.declared.view.View.{View}
+use Rattle.control_word.specs.declared.model.view.Pending.{Pending}
+use Rattle.control_word.specs.declared.model.view.Pending.TheVariants.{Idle, Making, Merging, Parting, Paying, Visiting}
+use Rattle.control_word.specs.declared.model.view.View.{View}
 
 pub total_at : {A : Type 0} (f : A → ℕ) (l : List A) (i : ℕ) (a : A) → get_elem? l i ≡ some a → f a ≤ total f l
 total_at f [] i a e = absurd (some-ne-none a (sym e))

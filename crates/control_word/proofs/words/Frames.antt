@@ -15,7 +15,7 @@ use Rattle.control_word.specs.Layout.{spot}
 use Rattle.control_word.specs.State.{Held, InShape, IsVacant, Object, Opening, State, Stored, count, on_shelf, unmade, weak, weak_number}
 use Rattle.control_word.specs.Views.{total}
 use Rattle.control_word.specs.Words.{Says, Shows, ShowsShelf, block_words, blocks_of, cell_spot, object_words, packed, shelf_spot}
-use Rattle.control_word.specs.declared.handle.Handle.{Handle}
+use Rattle.control_word.specs.declared.model.handle.Handle.{Handle}
 
 pub spot_apart : (b k c j : ℕ) → 1 ≤ b → 1 ≤ c → k < 10 → j < 10 → spot b k ≡ spot c j → (b ≡ c) × (k ≡ j)
 spot_apart b k c j hb hc hk hj e = (omega arith, omega arith)

@@ -19,8 +19,8 @@ use Rattle.control_word.specs.Layout.{spot}
 use Rattle.control_word.specs.State.{Held, Object, Opening, State, count, handles, in_cells, members, sum_below, tally, unmade, upto, weak}
 use Rattle.control_word.specs.Views.{total}
 use Rattle.control_word.specs.Words.{bank, blocks_of, cell_spot, counts_at, member_funds, slot, worth}
-use Rattle.control_word.specs.declared.handle.Kind.{Kind}
-use Rattle.control_word.specs.declared.handle.Kind.TheVariants.{Owner, Weak}
+use Rattle.control_word.specs.declared.model.handle.Kind.{Kind}
+use Rattle.control_word.specs.declared.model.handle.Kind.TheVariants.{Owner, Weak}
 use Rattle.control_word.specs.declared.place.Place.{Place}
 
 module _ {A : Type 0} where

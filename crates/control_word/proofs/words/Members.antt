@@ -11,10 +11,10 @@ use Rattle.control_word.specs.Events.{InHand, kind_of, swaps}
 use Rattle.control_word.specs.Handles.{empty}
 use Rattle.control_word.specs.State.{IsVacant, Object, Opening, State, common, put, weak_number}
 use Rattle.control_word.specs.Words.{block_words, blocks_of, object_words, packed}
-use Rattle.control_word.specs.declared.event.Cell.{Cell}
-use Rattle.control_word.specs.declared.event.Cell.TheVariants.{Free, Member}
-use Rattle.control_word.specs.declared.handle.Handle.{Handle}
-use Rattle.control_word.specs.declared.handle.Kind.{Kind}
+use Rattle.control_word.specs.declared.model.event.Cell.{Cell}
+use Rattle.control_word.specs.declared.model.event.Cell.TheVariants.{Free, Member}
+use Rattle.control_word.specs.declared.model.handle.Handle.{Handle}
+use Rattle.control_word.specs.declared.model.handle.Kind.{Kind}
 
 pub packed_empty : (f : ℕ → ℕ) (k : Kind) → packed f (empty k) ≡ 0
 unfolding packed

@@ -12,10 +12,10 @@ use Rattle.control_word.specs.Layout.{spot, shelf_place}
 use Rattle.control_word.specs.State.{IsOpening, Opening, kind_of_free, nobody, start}
 use Rattle.control_word.specs.Views.{Seated, Stands, StandsFor, added, adds, fresh, owed, owes, paid, pays, total}
 use Rattle.control_word.specs.Words.{bank, block_words, blocks_of, cell_spot, object_words, shelf_spot}
-use Rattle.control_word.specs.declared.handle.Kind.TheVariants.{Owner, Weak}
-use Rattle.control_word.specs.declared.view.Pending.{Pending}
-use Rattle.control_word.specs.declared.view.Pending.TheVariants.{Idle}
-use Rattle.control_word.specs.declared.view.View.{View}
+use Rattle.control_word.specs.declared.model.handle.Kind.TheVariants.{Owner, Weak}
+use Rattle.control_word.specs.declared.model.view.Pending.{Pending}
+use Rattle.control_word.specs.declared.model.view.Pending.TheVariants.{Idle}
+use Rattle.control_word.specs.declared.model.view.View.{View}
 
 zero_read : (n i : ℕ) → get_or {A = ℕ} (replicate n 0) i 0 ≡ 0
 zero_read zero i = refl

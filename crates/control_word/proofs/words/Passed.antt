@@ -10,12 +10,12 @@ use Rattle.control_word.specs.Handles.{is_on}
 use Rattle.control_word.specs.State.{HasAll, Held, IsVacant, Opening, State, common, count, held, passed, same_held, weak}
 use Rattle.control_word.specs.Views.{Stands, added, adds, owed, owes, paid, pays}
 use Rattle.control_word.specs.Words.{bank, block_words, object_words}
-use Rattle.control_word.specs.declared.event.Entry.{Entry}
-use Rattle.control_word.specs.declared.handle.Handle.{Handle}
-use Rattle.control_word.specs.declared.handle.Kind.{Kind}
-use Rattle.control_word.specs.declared.handle.Kind.TheVariants.{Owner, Weak}
+use Rattle.control_word.specs.declared.model.event.Entry.{Entry}
+use Rattle.control_word.specs.declared.model.handle.Handle.{Handle}
+use Rattle.control_word.specs.declared.model.handle.Kind.{Kind}
+use Rattle.control_word.specs.declared.model.handle.Kind.TheVariants.{Owner, Weak}
 use Rattle.control_word.specs.declared.place.Block.{Block}
-use Rattle.control_word.specs.declared.view.View.{View}
+use Rattle.control_word.specs.declared.model.view.View.{View}
 
 -- what a split and a join leave of the counts
 module _ (s : State) where

@@ -25,15 +25,15 @@ use Rattle.control_word.specs.Layout.{spot}
 use Rattle.control_word.specs.State.{InShape, IsVacant, Opening, State, held, weak_number}
 use Rattle.control_word.specs.Views.{Fits, Stands, adds, more, owed, owes, paid, pays}
 use Rattle.control_word.specs.Words.{Shows, ShowsShelf, block_words, blocks_of, cell_spot, counts_at, packed, slot}
-use Rattle.control_word.specs.declared.event.Cell.{Cell}
-use Rattle.control_word.specs.declared.event.Cell.TheVariants.{Free, Member}
-use Rattle.control_word.specs.declared.event.Entry.{Entry}
-use Rattle.control_word.specs.declared.handle.Kind.{Kind}
-use Rattle.control_word.specs.declared.handle.Kind.TheVariants.{Owner, Weak}
+use Rattle.control_word.specs.declared.model.event.Cell.{Cell}
+use Rattle.control_word.specs.declared.model.event.Cell.TheVariants.{Free, Member}
+use Rattle.control_word.specs.declared.model.event.Entry.{Entry}
+use Rattle.control_word.specs.declared.model.handle.Kind.{Kind}
+use Rattle.control_word.specs.declared.model.handle.Kind.TheVariants.{Owner, Weak}
 use Rattle.control_word.specs.declared.place.Place.{Place}
-use Rattle.control_word.specs.declared.view.Pending.{Pending}
-use Rattle.control_word.specs.declared.view.Pending.TheVariants.{Idle, Making, Merging, Parting, Paying, Visiting}
-use Rattle.control_word.specs.declared.view.View.{View}
+use Rattle.control_word.specs.declared.model.view.Pending.{Pending}
+use Rattle.control_word.specs.declared.model.view.Pending.TheVariants.{Idle, Making, Merging, Parting, Paying, Visiting}
+use Rattle.control_word.specs.declared.model.view.View.{View}
 
 pub kept_in : (z : Opening) (s : State) (c : Cell) → Sound z s → IsKept s c → InState s c
 kept_in z s (Free c) fine kept = kept

@@ -9,10 +9,10 @@ use Rattle.control_word.specs.State.{State}
 use Rattle.control_word.specs.Steps.{purse}
 use Rattle.control_word.specs.Views.{Fits, adds, owes, pays}
 use Rattle.control_word.specs.Words.{blocks_of, counts_at, worth}
-use Rattle.control_word.specs.declared.event.Cell.{Cell}
-use Rattle.control_word.specs.declared.handle.Handle.{Handle}
-use Rattle.control_word.specs.declared.handle.Kind.{Kind}
-use Rattle.control_word.specs.declared.handle.Kind.TheVariants.{Owner, Weak}
+use Rattle.control_word.specs.declared.model.event.Cell.{Cell}
+use Rattle.control_word.specs.declared.model.handle.Handle.{Handle}
+use Rattle.control_word.specs.declared.model.handle.Kind.{Kind}
+use Rattle.control_word.specs.declared.model.handle.Kind.TheVariants.{Owner, Weak}
 use Rattle.control_word.specs.declared.place.Place.{Place}
 
 pub formed_empty : (k : Kind) → IsFormed (empty k)

@@ -23,13 +23,13 @@ use Rattle.control_word.specs.State.{Held, Opening, handles, held, in_cells, tal
 use Rattle.control_word.specs.Steps.{word}
 use Rattle.control_word.specs.Views.{Fits, Stands, owed, owes, paid, pays, total}
 use Rattle.control_word.specs.Words.{bank, blocks_of, counts_at}
-use Rattle.control_word.specs.declared.event.Entry.{Entry}
-use Rattle.control_word.specs.declared.handle.Kind.{Kind}
-use Rattle.control_word.specs.declared.handle.Kind.TheVariants.{Owner, Weak}
+use Rattle.control_word.specs.declared.model.event.Entry.{Entry}
+use Rattle.control_word.specs.declared.model.handle.Kind.{Kind}
+use Rattle.control_word.specs.declared.model.handle.Kind.TheVariants.{Owner, Weak}
 use Rattle.control_word.specs.declared.place.Place.{Place}
-use Rattle.control_word.specs.declared.view.Pending.{Pending}
-use Rattle.control_word.specs.declared.view.Pending.TheVariants.{Idle, Making, Merging, Parting, Paying, Visiting}
-use Rattle.control_word.specs.declared.view.View.{View}
+use Rattle.control_word.specs.declared.model.view.Pending.{Pending}
+use Rattle.control_word.specs.declared.model.view.Pending.TheVariants.{Idle, Making, Merging, Parting, Paying, Visiting}
+use Rattle.control_word.specs.declared.model.view.View.{View}
 
 -- the number that a word tells: its low half, or 1 where that is 0 and funds are there
 pub relaxed : (n l m f : ℕ) (low high : ℕ) → n + l ≡ m + 4294967296 * f → l ≤ f → l ≤ m → m < 4294967296 → n ≡ low + 4294967296 * high

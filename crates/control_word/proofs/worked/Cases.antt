@@ -12,10 +12,10 @@ use Rattle.control_word.specs.State.{IsOpening, IsVacant, bag_size, count, weak}
 use Rattle.control_word.specs.Worked.{BlockUsedAgain, CountAfterCopy, CycleStays, FailedCompareHandsOutHeld, LockKeepsAlive, compare_ended}
 use Rattle.control_word.specs.Worked.{compare_held, compares, copy_ended, cycle_ended, four_blocks, leftover, lock_ended, lock_expired, owner_at}
 use Rattle.control_word.specs.Worked.{reached, reuse_copied, reuse_ended}
-use Rattle.control_word.specs.declared.event.Entry.{Entry}
-use Rattle.control_word.specs.declared.event.Event.{Event}
-use Rattle.control_word.specs.declared.handle.Handle.{Handle}
-use Rattle.control_word.specs.declared.handle.Kind.TheVariants.{Owner}
+use Rattle.control_word.specs.declared.model.event.Entry.{Entry}
+use Rattle.control_word.specs.declared.model.event.Event.{Event}
+use Rattle.control_word.specs.declared.model.handle.Handle.{Handle}
+use Rattle.control_word.specs.declared.model.handle.Kind.TheVariants.{Owner}
 use Rattle.control_word.specs.declared.place.Place.{Place}
 
 opening_fits : IsOpening four_blocks

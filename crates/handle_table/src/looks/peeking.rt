@@ -11,7 +11,7 @@ ghost use Rattle.handle_table.specs.Tables.{FitsSlots, IsAt};
 use crate::fault::Fault;
 use crate::slots::handle_at;
 use crate::table::{HandleTable, Home};
-use control_word::handle::Kind;
+use control_word::model::handle::Kind;
 use control_word::{Block, Place};
 use shared_handle::Held;
 

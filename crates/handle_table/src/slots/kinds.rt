@@ -1,6 +1,6 @@
 //! Handles of a wanted kind, and what a cell sees of a handle.
 ghost use Rattle.std.specs.Prelude.{◌≡◌, slice_get, slice_set, IfErr, IfOk, None, Some};
-ghost use Rattle.control_word.specs.declared.handle.Kind.TheVariants as kind;
+ghost use Rattle.control_word.specs.declared.model.handle.Kind.TheVariants as kind;
 ghost use Rattle.handle_table.specs.Calls.{WhyNoOwner, WhyNoWeak};
 ghost use Rattle.handle_table.specs.Cells.{IsShownToCell, WhyNoneOf};
 ghost use Rattle.handle_table.specs.Parts.{IsContent, kind_of_held};
@@ -9,7 +9,7 @@ use crate::fault::Fault;
 use crate::slots::{owner_at, take_handle, weak_at};
 use control_block::cell_calls::Content;
 use control_block::handles::{Shared, Weak};
-use control_word::handle::Kind;
+use control_word::model::handle::Kind;
 use shared_handle::Held;
 
 /// The handle goes into a cell: this is what the cell gets.

@@ -2,7 +2,7 @@
 ghost use Rattle.std.specs.Prelude.{◌<◌, ◌≤◌, IfSome};
 ghost use Rattle.control_word.specs.Packing.{IsCellWord, IsPlace};
 
-use control_word::cell::{CellWord, ONE_TAKEN, pack, packing_is_one_to_one, unpack};
+use control_word::packed::cell::{CellWord, ONE_TAKEN, pack, packing_is_one_to_one, unpack};
 use control_word::place::{Block, Place};
 use std::process::Abort;
 

@@ -1,5 +1,5 @@
 //! Rows of the counts' words, and each half at its limits.
-use control_word::counts::{
+use control_word::packed::counts::{
     Count, Counts, FUND_TURNED, ONE_FUND, has_owner, is_last, pack_count, told_count, unpack_count,
     with_fund_turned, with_funds, with_handle, without_funds, without_handle,
 };

@@ -1,9 +1,9 @@
 //! Rows of the layout, and the limits.
-use control_word::layout::{
+use control_word::limits;
+use control_word::packed::layout::{
     DOOR, ENABLED, FIELDS, FLAGS, MEMBERS, NULL, OWNERS, WEAKS, block_word, cell_word, table_words,
     words_lie_apart,
 };
-use control_word::limits;
 use control_word::place::Block;
 use control_word::shape::{self, Shape};
 

@@ -1,7 +1,7 @@
 //! A subject and its observers: a list of weak pointers to objects, some of which have ended.
 ghost use Rattle.std.specs.Prelude.{◌≡◌, ◌+◌, ◌≤◌, IfOk, IfSome, List, MatchOption, length};
 ghost use Rattle.std.specs.List.{All};
-ghost use Rattle.control_word.specs.declared.handle.Handle.{Handle};
+ghost use Rattle.control_word.specs.declared.model.handle.Handle.{Handle};
 ghost use Rattle.control_block.specs.Desks.{Belongs, IsSameDesk, bag_of};
 ghost use Rattle.measure.specs.Observers.{IsOfObject, IsWatchedBy, with_observer, with_observers};
 

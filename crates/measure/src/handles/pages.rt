@@ -1,6 +1,6 @@
 //! The rows of objects with a value of 4 KiB, by one thread alone.
 ghost use Rattle.std.specs.Prelude.{◌≡◌};
-ghost use Rattle.control_word.specs.declared.handle.Kind.TheVariants.{Owner};
+ghost use Rattle.control_word.specs.declared.model.handle.Kind.TheVariants.{Owner};
 ghost use Rattle.control_block.specs.Desks.{Belongs, IsSameDesk, bag_of};
 ghost use Rattle.control_block.specs.CellCalls.{HoldsHandle};
 

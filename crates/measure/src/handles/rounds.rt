@@ -1,6 +1,6 @@
 //! The work of each row, on one desk: a user's own calls, `count` times, and whether none was refused.
 ghost use Rattle.std.specs.Prelude.{◌≡◌, ◌+◌};
-ghost use Rattle.control_word.specs.declared.handle.Kind.TheVariants.{Owner, Weak};
+ghost use Rattle.control_word.specs.declared.model.handle.Kind.TheVariants.{Owner, Weak};
 ghost use Rattle.control_block.specs.Desks.{Belongs, IsSameDesk, bag_of};
 ghost use Rattle.control_block.specs.CellCalls.{HoldsHandle, without_handle};
 ghost use Rattle.shared_handle.specs.Endings.{EndsInHand};

@@ -1,6 +1,6 @@
 //! Calls on a scene, with nodes in seats.
 ghost use Rattle.std.specs.Prelude.{◌≡◌, []};
-ghost use Rattle.control_word.specs.declared.handle.Kind.TheVariants.{Owner};
+ghost use Rattle.control_word.specs.declared.model.handle.Kind.TheVariants.{Owner};
 ghost use Rattle.control_block.specs.Desks.{Belongs, IsSameDesk, bag_of};
 ghost use Rattle.control_block.specs.CellCalls.{HoldsHandle};
 ghost use Rattle.scene_structures.specs.Stacks.{ServesDomain};

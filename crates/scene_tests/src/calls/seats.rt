@@ -1,6 +1,6 @@
 //! Handles that go into seats and come out.
 ghost use Rattle.std.specs.Prelude.{◌≡◌, ◌+◌, ◌<◌, ◌≤◌, IfOk, IfSome};
-ghost use Rattle.control_word.specs.declared.handle.Kind.TheVariants.{Owner};
+ghost use Rattle.control_word.specs.declared.model.handle.Kind.TheVariants.{Owner};
 ghost use Rattle.control_block.specs.Desks.{Belongs, IsSameDesk, bag_of};
 ghost use Rattle.control_block.specs.CellCalls.{HoldsHandle, with_handle, without_handle};
 ghost use Rattle.scene_structures.specs.Stacks.{ServesDomain};

@@ -1,8 +1,8 @@
 //! What an object that ends still gives, and its end.
 ghost use Rattle.std.specs.Prelude.{◌≡◌, ◌≢◌, ℕ, ◌+◌, ◌<◌, Bool, cond, ◌&&◌, true, false};
 ghost use Rattle.std.specs.Prelude.{length, slice_index, Err, IfErr, IfOk, OnOk, Some};
-ghost use Rattle.control_word.specs.declared.event.Event.TheVariants.{Finish};
-ghost use Rattle.control_word.specs.declared.handle.Kind.TheVariants.{Weak};
+ghost use Rattle.control_word.specs.declared.model.event.Event.TheVariants.{Finish};
+ghost use Rattle.control_word.specs.declared.model.handle.Kind.TheVariants.{Weak};
 ghost use Rattle.control_word.specs.Histories.{value};
 ghost use Rattle.control_block.specs.Rule.{opening_of};
 ghost use Rattle.control_block.specs.Desks.{Belongs, AddsEvent, IsEnding, IsSameDesk, Keeps, KeepsOtherEndings};

@@ -8,8 +8,8 @@ use Rattle.step_table.specs.Holdings.{is_full, slot_pointer}
 use Rattle.step_table.specs.Openings.{opening}
 use Rattle.step_table.specs.Refills.{RefillFits}
 use Rattle.step_table.specs.Stories.{story_state}
-use Rattle.step_threads.specs.declared.act.Act.TheVariants.{Leave}
-use Rattle.step_threads.specs.declared.act.Task.{Task}
+use Rattle.step_threads.specs.declared.programs.act.Act.TheVariants.{Leave}
+use Rattle.step_threads.specs.declared.programs.act.Task.{Task}
 use Rattle.step_threads.specs.declared.ending.Ending.{Ending}
 use Rattle.step_threads.specs.declared.half.Half.{Half}
 use Rattle.step_threads.specs.declared.half.Half.TheVariants.{Rest, Making, Locking, Giving, Brought, Saw, Matched, Refill, Returning, Clearing}

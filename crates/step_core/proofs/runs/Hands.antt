@@ -8,12 +8,12 @@ use Rattle.std.proofs.lemmas.List.{length-map}
 use Rattle.control_word.proofs.history.Allowances.{allowed}
 use Rattle.control_word.proofs.lists.Tallies.{num, num_has}
 use Rattle.control_word.specs.State.{Held, bag_size}
-use Rattle.step_table.specs.declared.slot.Slot.{Slot}
-use Rattle.step_table.specs.declared.slot.Slot.TheVariants.{Empty, Full}
+use Rattle.step_table.specs.declared.slots.slot.Slot.{Slot}
+use Rattle.step_table.specs.declared.slots.slot.Slot.TheVariants.{Empty, Full}
 use Rattle.step_table.specs.Holdings.{Slots, full, slot_has_object, plain, pointer_of, slot_pointer, slot_value}
 use Rattle.step_table.specs.Openings.{opening, share_of}
 use Rattle.step_table.specs.Stories.{Kept, Story, story_state}
-use Rattle.step_threads.specs.declared.act.Task.{Task}
+use Rattle.step_threads.specs.declared.programs.act.Task.{Task}
 use Rattle.step_threads.specs.declared.ending.Ending.{Ending}
 use Rattle.step_threads.specs.declared.thread.Thread.{Thread}
 use Rattle.step_threads.specs.Courses.{DropsInTime, IsReady, TasksMayCome, Walk, hand, other}

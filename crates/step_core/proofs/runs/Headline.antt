@@ -3,10 +3,10 @@ use Rattle.std.proofs.Common.{◌≡◌, ℕ, ◌-◌, ◌<◌, ◌==◌, Bool, 
 use Rattle.std.proofs.Common.{inl, inr, arith}
 use Rattle.std.specs.Prelude.{Option, Some, None, not, ◌&&◌, ◌⊎◌, ◌↔◌}
 use Rattle.std.proofs.lemmas.Bool.{eqb-true, eqb-false, false≢true}
-use Rattle.control_word.specs.declared.event.Entry.{Entry}
-use Rattle.control_word.specs.declared.event.Event.{Event}
-use Rattle.control_word.specs.declared.event.Event.TheVariants.{Leave, Lock}
-use Rattle.control_word.specs.declared.handle.Handle.{Handle}
+use Rattle.control_word.specs.declared.model.event.Entry.{Entry}
+use Rattle.control_word.specs.declared.model.event.Event.{Event}
+use Rattle.control_word.specs.declared.model.event.Event.TheVariants.{Leave, Lock}
+use Rattle.control_word.specs.declared.model.handle.Handle.{Handle}
 use Rattle.control_word.specs.Events.{Asks}
 use Rattle.control_word.specs.Handles.{object_of}
 use Rattle.control_word.specs.Histories.{IsLegal, ends_by, entry, given}
@@ -14,8 +14,8 @@ use Rattle.control_word.specs.State.{count}
 use Rattle.control_word.proofs.history.Given.{given_over, live_while_owned, over}
 use Rattle.control_word.proofs.history.Made.{gives_once}
 use Rattle.control_word.proofs.views.Resting.{rests_exactly}
-use Rattle.step_table.specs.declared.extent.Extent.{Extent}
-use Rattle.step_table.specs.declared.past.Deed.{Deed}
+use Rattle.step_table.specs.declared.memory.extent.Extent.{Extent}
+use Rattle.step_table.specs.declared.memory.past.Deed.{Deed}
 use Rattle.step_core.specs.declared.trace.TraceStep.{TraceStep}
 use Rattle.step_core.specs.Headline.{ValueCameOut, CountsAtRest, LastLeft, LocksWhereOwned, ValuesAtLastLeave, ValuesOnce, Was}
 use Rattle.step_table.specs.Openings.{opening}

@@ -11,7 +11,7 @@ use Rattle.step_threads.specs.declared.half.Half.TheVariants.{Rest}
 use Rattle.step_threads.specs.declared.said.Stepped.{Stepped}
 use Rattle.step_threads.specs.declared.said.Stepped.TheVariants.{Event, Quiet, Waited, Done}
 use Rattle.step_core.specs.Bounds.{alone, living, most_steps, spare, walk_steps}
-use Rattle.step_table.specs.declared.holdings.Pointer.{Pointer}
+use Rattle.step_table.specs.declared.slots.holdings.Pointer.{Pointer}
 use Rattle.step_table.specs.Holdings.{is_full, slot_pointer}
 use Rattle.step_threads.specs.Courses.{Walk, other}
 use Rattle.step_table.specs.Openings.{opening}

@@ -12,10 +12,10 @@ use lib.ListN.{get_elem?}
 use Rattle.control_word.proofs.history.Legal.{sound}
 use Rattle.control_word.proofs.history.Soundness.{OwnersFit, Sound}
 use Rattle.control_word.proofs.views.Resting.{rests_exactly}
-use Rattle.control_word.specs.declared.counts.Counts.{Counts}
-use Rattle.control_word.specs.declared.view.Pending.{Pending}
-use Rattle.control_word.specs.declared.view.Pending.TheVariants.{Idle}
-use Rattle.control_word.specs.declared.view.View.{View}
+use Rattle.control_word.specs.declared.packed.counts.Counts.{Counts}
+use Rattle.control_word.specs.declared.model.view.Pending.{Pending}
+use Rattle.control_word.specs.declared.model.view.Pending.TheVariants.{Idle}
+use Rattle.control_word.specs.declared.model.view.View.{View}
 use Rattle.control_word.specs.Layout.{spot}
 use Rattle.control_word.specs.Packing.{number_of}
 use Rattle.control_word.specs.State.{InShape, IsVacant, Opening, Phase, State, common, count, ending, gone, live, unmade, weak, weak_number}

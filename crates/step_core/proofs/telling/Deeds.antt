@@ -1,12 +1,12 @@
 -- What a deed adds to the totals, and what is left by it.
 use Rattle.std.proofs.Common.{◌≡◌, ℕ, ◌+◌, ◌*◌, ◌≤◌, Bool, true, false, cond, refl, sym, ap, ◌∙◌, arith}
 use Rattle.std.specs.Prelude.{Option, Some, None, is_some, option_map}
-use Rattle.control_word.specs.declared.event.Event.TheVariants as event
+use Rattle.control_word.specs.declared.model.event.Event.TheVariants as event
 use Rattle.control_word.specs.declared.place.Place.{Place}
 use Rattle.control_word.specs.Histories.{entry}
 use Rattle.step_threads.specs.declared.half.Half.{Half}
 use Rattle.step_threads.specs.declared.half.Half.TheVariants.{Rest}
-use Rattle.step_table.specs.declared.holdings.Pointer.{Pointer}
+use Rattle.step_table.specs.declared.slots.holdings.Pointer.{Pointer}
 use Rattle.step_threads.specs.declared.said.Answer.{Answer}
 use Rattle.step_core.specs.Bounds.{walk_steps}
 use Rattle.step_threads.specs.Courses.{Walk}
@@ -15,8 +15,8 @@ use Rattle.step_table.specs.Deeds.{remains, read_deed, downgrade, is_last as is_
 use Rattle.step_table.specs.Deeds.{alias}
 use Rattle.step_threads.specs.NextSteps.{stepped, story_by, walk_by}
 use Rattle.step_threads.specs.Steps.{Step, silent}
-use Rattle.control_word.specs.declared.handle.Kind.{Kind}
-use Rattle.control_word.specs.declared.handle.Kind.TheVariants.{Owner, Weak}
+use Rattle.control_word.specs.declared.model.handle.Kind.{Kind}
+use Rattle.control_word.specs.declared.model.handle.Kind.TheVariants.{Owner, Weak}
 use Rattle.step_table.specs.Stories.{Story, owner_in, story_state}
 use Rattle.step_core.specs.Told.{step_ends, is_prepared, step_makes}
 use Rattle.step_core.specs.Totals.{ended_in, made_in}

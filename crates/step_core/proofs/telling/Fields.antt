@@ -7,7 +7,7 @@ use Rattle.std.proofs.lemmas.Bool.{cases_eq, cond-true, cond-false, false≢true
 use Rattle.std.proofs.lemmas.List.{ext_get_or}
 use Rattle.control_word.proofs.history.Legal.{sound}
 use Rattle.control_word.proofs.history.Soundness.{IsBusy}
-use Rattle.control_word.specs.declared.counts.Counts.{Counts}
+use Rattle.control_word.specs.declared.packed.counts.Counts.{Counts}
 use Rattle.control_word.specs.declared.place.Block.{Block}
 use Rattle.control_word.specs.Layout.{spot}
 use Rattle.control_word.specs.State.{count, weak, weak_number}

@@ -2,10 +2,10 @@
 use Rattle.std.proofs.Common.{◌≡◌, ◌≢◌, inl, inr, ℕ, zero, suc, ◌+◌, ◌<◌, List, [], ◌∷◌, ◌++◌, length, get_or, map, replicate}
 use Rattle.std.proofs.Common.{refl, sym, ap, subst, ⊎_elim, arith}
 use Rattle.std.proofs.lemmas.Bool.{cases_eq}
-use Rattle.step_threads.specs.declared.act.Act.{Act}
-use Rattle.step_threads.specs.declared.act.Act.TheVariants.{Clear}
-use Rattle.step_threads.specs.declared.act.Task.{Task}
-use Rattle.step_threads.specs.declared.call.Call.{Call}
+use Rattle.step_threads.specs.declared.programs.act.Act.{Act}
+use Rattle.step_threads.specs.declared.programs.act.Act.TheVariants.{Clear}
+use Rattle.step_threads.specs.declared.programs.act.Task.{Task}
+use Rattle.step_threads.specs.declared.programs.call.Call.{Call}
 use Rattle.step_table.specs.Holdings.{plain, pointer_of}
 use Rattle.step_threads.specs.Acts.{acts as acts_of, clearing, numbered_tasks, tasks_from}
 use Rattle.step_threads.specs.Programs.{Part}

@@ -4,20 +4,20 @@ use Rattle.std.proofs.Common.{refl, sym, subst, ⊎_elim}
 use Rattle.std.proofs.Common.{get_or-set_other, get_or-set_same, length-set}
 use Rattle.std.specs.Prelude.{Option, Some, None, is_some, option_map, slice_set}
 use Rattle.std.proofs.lemmas.Bool.{cases_eq, cond_both}
-use Rattle.control_word.specs.declared.handle.Kind.{Kind}
+use Rattle.control_word.specs.declared.model.handle.Kind.{Kind}
 use Rattle.control_word.specs.declared.place.Block.{Block}
-use Rattle.step_threads.specs.declared.act.Act.{Act}
-use Rattle.step_threads.specs.declared.act.Act.TheVariants.{Make, Lock, Clear, FromThis, Swap, Exchange, Load, Compare, Leave}
-use Rattle.step_threads.specs.declared.act.Task.{Task}
+use Rattle.step_threads.specs.declared.programs.act.Act.{Act}
+use Rattle.step_threads.specs.declared.programs.act.Act.TheVariants.{Make, Lock, Clear, FromThis, Swap, Exchange, Load, Compare, Leave}
+use Rattle.step_threads.specs.declared.programs.act.Task.{Task}
 use Rattle.step_threads.specs.declared.ending.Ending.{Ending}
 use Rattle.step_threads.specs.declared.half.Half.{Half}
 use Rattle.step_threads.specs.declared.half.Half.TheVariants.{Rest, Making, Locking, Giving, Brought, Saw, Matched, Refill, Returning, Clearing}
-use Rattle.control_word.specs.declared.cell.CellWord.{CellWord}
-use Rattle.step_table.specs.declared.cell_deed.Cell.{Cell}
-use Rattle.step_table.specs.declared.cell_deed.Cell.TheVariants.{Member}
-use Rattle.step_table.specs.declared.form.Form.{Form}
-use Rattle.step_table.specs.declared.holdings.Pointer.{Pointer}
-use Rattle.step_table.specs.declared.past.Deed.TheVariants as deed
+use Rattle.control_word.specs.declared.packed.cell.CellWord.{CellWord}
+use Rattle.step_table.specs.declared.cell_steps.cell_deed.Cell.{Cell}
+use Rattle.step_table.specs.declared.cell_steps.cell_deed.Cell.TheVariants.{Member}
+use Rattle.step_table.specs.declared.memory.form.Form.{Form}
+use Rattle.step_table.specs.declared.slots.holdings.Pointer.{Pointer}
+use Rattle.step_table.specs.declared.memory.past.Deed.TheVariants as deed
 use Rattle.step_table.specs.Cells.{word_of_cell}
 use Rattle.step_table.specs.Contents.{compared_in, held_in, seen, slot_of}
 use Rattle.step_table.specs.Deeds.{is_enabled, lock, on, owner_word}

@@ -2,10 +2,11 @@
 use Rattle.std.proofs.Common.{◌≡◌, ℕ, ◌+◌, ◌≤◌, List, [], ◌∷◌, refl, ap, ◌∙◌, arith}
 use Rattle.std.specs.Prelude.{Some, None}
 use Rattle.control_word.specs.State.{State}
-use Rattle.step_threads.specs.declared.act.Act.{Act}
-use Rattle.step_threads.specs.declared.act.Act.TheVariants.{Make, Share, Downgrade, Lock, Put, Leave, Clear, Count, Expired, Read, FromThis, Alias, Move, Ask}
-use Rattle.step_threads.specs.declared.act.Act.TheVariants.{Offer, Swap, Exchange, Load, Compare, Drop}
-use Rattle.step_threads.specs.declared.act.Task.{Task}
+use Rattle.step_threads.specs.declared.programs.act.Act.{Act}
+use Rattle.step_threads.specs.declared.programs.act.Act.TheVariants.{Make, Share, Downgrade, Lock, Put, Leave, Clear, Count, Expired, Read, FromThis, Alias}
+use Rattle.step_threads.specs.declared.programs.act.Act.TheVariants.{Move, Ask}
+use Rattle.step_threads.specs.declared.programs.act.Act.TheVariants.{Offer, Swap, Exchange, Load, Compare, Drop}
+use Rattle.step_threads.specs.declared.programs.act.Task.{Task}
 use Rattle.step_core.specs.Bounds.{walk_steps, weight}
 use Rattle.step_threads.specs.Courses.{Going, Walk, going}
 use Rattle.step_table.specs.Holdings.{Slots}

@@ -8,8 +8,8 @@ use Rattle.control_word.proofs.words.Funds.{cell_busy, member_busy}
 use Rattle.control_word.specs.declared.place.Block.{Block}
 use Rattle.control_word.specs.Events.{cell_of}
 use Rattle.control_word.specs.Words.{block_of, blocks_of}
-use Rattle.step_table.specs.declared.cell_deed.Cell.{Cell}
-use Rattle.step_table.specs.declared.cell_deed.Cell.TheVariants.{Free, Member}
+use Rattle.step_table.specs.declared.cell_steps.cell_deed.Cell.{Cell}
+use Rattle.step_table.specs.declared.cell_steps.cell_deed.Cell.TheVariants.{Free, Member}
 use Rattle.step_table.specs.CellDeeds.{cell_in}
 use Rattle.step_table.specs.Cells.{IsCellInUse, target_of}
 use Rattle.step_table.specs.Openings.{opening}

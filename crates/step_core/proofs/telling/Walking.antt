@@ -4,20 +4,21 @@ use Rattle.std.proofs.Common.{◌∙◌, ◌≢◌, ⊎_elim, arith, get_or-set_
 use Rattle.std.specs.Prelude.{Option, Some, None, is_some, slice_set, sum_by}
 use Rattle.std.proofs.lemmas.Bool.{cases_eq, cond_both}
 use Rattle.std.proofs.lemmas.List.Sums.{sum_by-cons}
-use Rattle.control_word.specs.declared.handle.Kind.{Kind}
-use Rattle.control_word.specs.declared.handle.Kind.TheVariants.{Owner, Weak}
+use Rattle.control_word.specs.declared.model.handle.Kind.{Kind}
+use Rattle.control_word.specs.declared.model.handle.Kind.TheVariants.{Owner, Weak}
 use Rattle.control_word.specs.State.{State}
-use Rattle.step_threads.specs.declared.act.Act.{Act}
-use Rattle.step_threads.specs.declared.act.Act.TheVariants.{Make, Share, Downgrade, Lock, Put, Leave, Clear, Count, Expired, Read, FromThis, Alias, Move, Ask}
-use Rattle.step_threads.specs.declared.act.Act.TheVariants.{Offer, Swap, Exchange, Load, Compare, Drop}
-use Rattle.step_threads.specs.declared.act.Task.{Task}
+use Rattle.step_threads.specs.declared.programs.act.Act.{Act}
+use Rattle.step_threads.specs.declared.programs.act.Act.TheVariants.{Make, Share, Downgrade, Lock, Put, Leave, Clear, Count, Expired, Read, FromThis, Alias}
+use Rattle.step_threads.specs.declared.programs.act.Act.TheVariants.{Move, Ask}
+use Rattle.step_threads.specs.declared.programs.act.Act.TheVariants.{Offer, Swap, Exchange, Load, Compare, Drop}
+use Rattle.step_threads.specs.declared.programs.act.Task.{Task}
 use Rattle.step_threads.specs.declared.ending.Ending.{Ending}
-use Rattle.step_table.specs.declared.holdings.Pointer.{Pointer}
+use Rattle.step_table.specs.declared.slots.holdings.Pointer.{Pointer}
 use Rattle.step_core.specs.Bounds.{carried, task_steps, walk_steps, weight}
 use Rattle.step_threads.specs.Endings.{ending_steps, staged}
 use Rattle.step_threads.specs.Courses.{Walk, hand, idle, other, placed, walk_settled, slots_idle, taken_idle}
 use Rattle.step_table.specs.Deeds.{is_last, owned, on}
-use Rattle.step_table.specs.declared.slot.Slot.{Slot}
+use Rattle.step_table.specs.declared.slots.slot.Slot.{Slot}
 use Rattle.step_threads.specs.Steps.{with_endings}
 use Rattle.step_table.specs.Holdings.{Slots, is_full, plain, pointer_of, slot_pointer, slot_value}
 use Rattle.step_threads.specs.Scenes.{begins_end, begins_end_as, ended_by, endings_by, hands, leaving_pointer, remains_as, went}

@@ -2,13 +2,13 @@
 use Rattle.std.proofs.Common.{◌≡◌, ℕ, true, List, ◌∷◌, inl, set, refl, sym, ap, subst, ◌∙◌}
 use Rattle.std.specs.Prelude.{Option, Some, None, option_map}
 use Rattle.std.proofs.lemmas.Bool.{cond-true}
-use Rattle.control_word.specs.declared.handle.Kind.{Kind}
-use Rattle.control_word.specs.declared.handle.Kind.TheVariants.{Owner, Weak}
-use Rattle.step_threads.specs.declared.act.Act.{Act}
-use Rattle.step_threads.specs.declared.act.Act.TheVariants.{FromThis}
-use Rattle.step_threads.specs.declared.act.Task.{Task}
+use Rattle.control_word.specs.declared.model.handle.Kind.{Kind}
+use Rattle.control_word.specs.declared.model.handle.Kind.TheVariants.{Owner, Weak}
+use Rattle.step_threads.specs.declared.programs.act.Act.{Act}
+use Rattle.step_threads.specs.declared.programs.act.Act.TheVariants.{FromThis}
+use Rattle.step_threads.specs.declared.programs.act.Task.{Task}
 use Rattle.step_threads.specs.declared.half.Half.TheVariants.{Rest, Giving}
-use Rattle.step_table.specs.declared.holdings.Pointer.{Pointer}
+use Rattle.step_table.specs.declared.slots.holdings.Pointer.{Pointer}
 use Rattle.step_table.specs.Deeds.{give, is_enabled}
 use Rattle.step_table.specs.Holdings.{inside, slot_pointer}
 use Rattle.step_table.specs.Openings.{opening}

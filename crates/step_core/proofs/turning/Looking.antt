@@ -2,13 +2,13 @@
 use Rattle.std.proofs.Common.{◌≡◌, ℕ, ◌<◌, Bool, true, false, cond, not, ◌&&◌, List, [], ◌∷◌, set, refl, sym, ap, subst, ◌∙◌}
 use Rattle.std.specs.Prelude.{Option, Some, None, is_some}
 use Rattle.std.proofs.lemmas.Bool.{and_parts, cond_both, false≢true}
-use Rattle.control_word.specs.declared.cell.CellWord.{CellWord}
-use Rattle.control_word.specs.declared.event.Event.{Event}
-use Rattle.step_table.specs.declared.cell_deed.Cell.{Cell}
-use Rattle.step_table.specs.declared.cell_deed.CellDeed.TheVariants.{Look}
-use Rattle.step_table.specs.declared.cell_deed.Compared.{Compared}
-use Rattle.step_table.specs.declared.past.Deed.{Deed}
-use Rattle.step_table.specs.declared.past.Deed.TheVariants.{OnCell}
+use Rattle.control_word.specs.declared.packed.cell.CellWord.{CellWord}
+use Rattle.control_word.specs.declared.model.event.Event.{Event}
+use Rattle.step_table.specs.declared.cell_steps.cell_deed.Cell.{Cell}
+use Rattle.step_table.specs.declared.cell_steps.cell_deed.CellDeed.TheVariants.{Look}
+use Rattle.step_table.specs.declared.cell_steps.cell_deed.Compared.{Compared}
+use Rattle.step_table.specs.declared.memory.past.Deed.{Deed}
+use Rattle.step_table.specs.declared.memory.past.Deed.TheVariants.{OnCell}
 use Rattle.step_table.specs.CellDeeds.{kind_in_state}
 use Rattle.step_table.specs.Cells.{IsOpenTo}
 use Rattle.step_table.specs.Contents.{as_word, compare_of, compared_in, is_of, is_spent, load_of, same_value, seen}
@@ -18,10 +18,10 @@ use Rattle.step_table.specs.Stories.{Kept, Nothing, event_added, event_of, story
 use Rattle.step_table.proofs.contained.Coming.{seen_found}
 use Rattle.step_table.proofs.contained.Telling.{look_tells, unlike_tells}
 use Rattle.step_table.proofs.tables.Shown.{Found}
-use Rattle.step_threads.specs.declared.act.Act.{Act}
-use Rattle.step_threads.specs.declared.act.Act.TheVariants.{Compare, Load}
-use Rattle.step_threads.specs.declared.act.Task.{Task}
-use Rattle.step_threads.specs.declared.call.CellName.{CellName}
+use Rattle.step_threads.specs.declared.programs.act.Act.{Act}
+use Rattle.step_threads.specs.declared.programs.act.Act.TheVariants.{Compare, Load}
+use Rattle.step_threads.specs.declared.programs.act.Task.{Task}
+use Rattle.step_threads.specs.declared.programs.call.CellName.{CellName}
 use Rattle.step_threads.specs.declared.ending.Ending.{Ending}
 use Rattle.step_threads.specs.declared.half.Half.{Half}
 use Rattle.step_threads.specs.declared.half.Half.TheVariants.{Rest, Saw}

@@ -2,14 +2,14 @@
 use Rattle.std.proofs.Common.{◌≡◌, ℕ, ◌<◌, get_or, true, refl, sym, ap, subst, ◌∙◌}
 use Rattle.std.proofs.lemmas.Bool.{eqb-true}
 use Rattle.std.specs.Prelude.{Option, Some, None, is_some, ◌==◌}
-use Rattle.control_word.specs.declared.cell.CellWord.{CellWord}
-use Rattle.control_word.specs.declared.handle.Handle.{Handle}
+use Rattle.control_word.specs.declared.packed.cell.CellWord.{CellWord}
+use Rattle.control_word.specs.declared.model.handle.Handle.{Handle}
 use Rattle.control_word.specs.declared.place.Block.{Block}
 use Rattle.control_word.specs.Handles.{empty, has_object}
 use Rattle.control_word.specs.Packing.{cell_bits}
 use Rattle.control_word.specs.State.{ending, kind_of_member}
 use Rattle.control_word.specs.Words.{block_of, blocks_of, shown}
-use Rattle.step_table.specs.declared.cell_deed.Cell.TheVariants.{Member}
+use Rattle.step_table.specs.declared.cell_steps.cell_deed.Cell.TheVariants.{Member}
 use Rattle.step_table.specs.CellDeeds.{cell_in, handle_as}
 use Rattle.step_table.specs.Cells.{word_of_cell}
 use Rattle.step_table.specs.Contents.{held_in, seen}

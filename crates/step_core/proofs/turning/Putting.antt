@@ -1,7 +1,7 @@
 -- What the step does by which a value goes into a cell.
 use Rattle.std.proofs.Common.{◌≡◌, ℕ, List, ◌∷◌, true, inl, refl, ap}
 use Rattle.std.specs.Prelude.{is_some, option_map}
-use Rattle.step_threads.specs.declared.act.Task.{Task}
+use Rattle.step_threads.specs.declared.programs.act.Task.{Task}
 use Rattle.step_threads.specs.declared.half.Half.TheVariants.{Brought}
 use Rattle.step_threads.specs.Courses.{Going, going}
 use Rattle.step_threads.specs.Scenes.{walk_of}

@@ -8,7 +8,7 @@ use Rattle.std.proofs.lemmas.List.Elements.{All-head}
 use Rattle.step_threads.specs.declared.ending.Ending.{Ending}
 use Rattle.step_threads.specs.declared.half.Half.{Half}
 use Rattle.step_threads.specs.declared.half.Half.TheVariants.{Rest, Making, Locking, Giving, Brought, Saw, Matched, Refill, Returning, Clearing}
-use Rattle.control_word.specs.declared.handle.Kind.{Kind}
+use Rattle.control_word.specs.declared.model.handle.Kind.{Kind}
 use Rattle.control_word.specs.declared.place.Block.{Block}
 use Rattle.step_threads.specs.declared.said.Stepped.{Stepped}
 use Rattle.step_threads.specs.Courses.{Walk, hand}
@@ -18,9 +18,9 @@ use Rattle.step_threads.specs.Scenes.{Scene, rested, walk_of}
 use Rattle.step_threads.specs.NextSteps.{at_rest, emptied, step_at, story_after}
 use Rattle.step_threads.specs.Steps.{Step, empties, ends_on, refills_on, returns}
 use Rattle.step_threads.specs.Threads.{IsClearingMember}
-use Rattle.control_word.specs.declared.cell.CellWord.{CellWord}
-use Rattle.step_table.specs.declared.cell_deed.Cell.{Cell}
-use Rattle.step_table.specs.declared.refill.Stage.{Stage}
+use Rattle.control_word.specs.declared.packed.cell.CellWord.{CellWord}
+use Rattle.step_table.specs.declared.cell_steps.cell_deed.Cell.{Cell}
+use Rattle.step_table.specs.declared.cell_steps.refill.Stage.{Stage}
 use Rattle.step_table.specs.Refills.{RefillFits}
 use Rattle.step_table.specs.Stories.{Story}
 use Rattle.step_core.specs.Turning.{HasBegun, IsAlone, FundsAreHeld, IsTried, has_rest, is_clearing, is_ending, is_refilling, is_returning, returned}

@@ -5,13 +5,13 @@ use Rattle.std.proofs.Common.{get_or-set_same}
 use Rattle.std.specs.Prelude.{Option, Some, None, is_some}
 use Rattle.std.proofs.lemmas.Bool.{cond-false, cond-true}
 use Rattle.std.proofs.lemmas.List.{length-set}
-use Rattle.control_word.specs.declared.event.Event.TheVariants as event
-use Rattle.control_word.specs.declared.handle.Handle.{Handle}
+use Rattle.control_word.specs.declared.model.event.Event.TheVariants as event
+use Rattle.control_word.specs.declared.model.handle.Handle.{Handle}
 use Rattle.control_word.specs.Handles.{has_object}
 use Rattle.control_word.specs.Histories.{entry, leads}
 use Rattle.control_word.specs.State.{Opening, State, weak}
 use Rattle.step_threads.specs.declared.ending.Ending.{Ending}
-use Rattle.step_table.specs.declared.slot.Slot.{Slot}
+use Rattle.step_table.specs.declared.slots.slot.Slot.{Slot}
 use Rattle.step_threads.specs.Courses.{hand}
 use Rattle.step_threads.specs.Endings.{staged}
 use Rattle.step_table.specs.Contents.{slot_as, slot_of}

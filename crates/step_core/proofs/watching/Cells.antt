@@ -5,19 +5,19 @@ use Rattle.std.proofs.Common.{get_or-set_other, get_or-set_same, eq-eqb, ne_eqb,
 use Rattle.std.specs.Prelude.{◌&&◌, Option, Some, None, slice_index, slice_set}
 use Rattle.std.proofs.lemmas.Bool.{and_from, and_parts, cases_eq, cond_both, false≢true, ltb-false}
 use Rattle.std.proofs.lemmas.Option.{same_Some}
-use Rattle.control_word.specs.declared.cell.CellWord.{CellWord}
+use Rattle.control_word.specs.declared.packed.cell.CellWord.{CellWord}
 use Rattle.control_word.specs.declared.place.Block.{Block}
 use Rattle.control_word.specs.declared.shape.Shape.{Shape}
 use Rattle.control_word.specs.Packing.{IsCellWord, cell_bits}
 use Rattle.step_threads.specs.declared.half.Half.{Half}
 use Rattle.step_threads.specs.declared.half.Half.TheVariants.{Rest, Saw, Refill}
-use Rattle.step_table.specs.declared.cell_deed.Cell.{Cell}
-use Rattle.step_table.specs.declared.cell_deed.Cell.TheVariants.{Free, Member}
-use Rattle.step_table.specs.declared.cell_deed.CellDeed.TheVariants as cell_deed
-use Rattle.step_table.specs.declared.past.Deed.{Deed}
-use Rattle.step_table.specs.declared.past.Deed.TheVariants as deed
-use Rattle.step_table.specs.declared.refill.Stage.{Stage}
-use Rattle.step_table.specs.declared.refill.Stage.TheVariants.{Turning, Checking, Lacking, Refilling, Failing}
+use Rattle.step_table.specs.declared.cell_steps.cell_deed.Cell.{Cell}
+use Rattle.step_table.specs.declared.cell_steps.cell_deed.Cell.TheVariants.{Free, Member}
+use Rattle.step_table.specs.declared.cell_steps.cell_deed.CellDeed.TheVariants as cell_deed
+use Rattle.step_table.specs.declared.memory.past.Deed.{Deed}
+use Rattle.step_table.specs.declared.memory.past.Deed.TheVariants as deed
+use Rattle.step_table.specs.declared.cell_steps.refill.Stage.{Stage}
+use Rattle.step_table.specs.declared.cell_steps.refill.Stage.TheVariants.{Turning, Checking, Lacking, Refilling, Failing}
 use Rattle.step_table.specs.CellDeeds.{kind_in_state, word_of}
 use Rattle.step_table.specs.Cells.{IsSomewhere, word_of_cell}
 use Rattle.step_table.specs.Contents.{same_value, seen}

@@ -9,7 +9,7 @@ use Rattle.std.proofs.lemmas.Bool.{and_from}
 use Rattle.control_word.proofs.lists.Tallies.{num, num_cons}
 use Rattle.control_word.proofs.packing.Cells.{block_fits, field_fits, owned_fits, same_block as one_block, same_place as one_place}
 use Rattle.control_word.proofs.packing.Fields.{same_parts}
-use Rattle.control_word.specs.declared.cell.CellWord.{CellWord}
+use Rattle.control_word.specs.declared.packed.cell.CellWord.{CellWord}
 use Rattle.control_word.specs.declared.place.Block.{Block}
 use Rattle.control_word.specs.declared.place.Place.{Place}
 use Rattle.control_word.specs.Handles.{same_place}
@@ -18,8 +18,8 @@ use Rattle.control_word.specs.Packing.{IsCellWord, block_number, cell_bits, plac
 use Rattle.control_word.specs.State.{InShape}
 use Rattle.step_threads.specs.declared.half.Half.{Half}
 use Rattle.step_threads.specs.declared.half.Half.TheVariants.{Rest, Making, Locking, Giving, Brought, Saw, Matched, Refill, Returning, Clearing}
-use Rattle.step_table.specs.declared.cell_deed.Cell.{Cell}
-use Rattle.step_table.specs.declared.cell_deed.Cell.TheVariants.{Free, Member}
+use Rattle.step_table.specs.declared.cell_steps.cell_deed.Cell.{Cell}
+use Rattle.step_table.specs.declared.cell_steps.cell_deed.Cell.TheVariants.{Free, Member}
 use Rattle.step_table.specs.CellDeeds.{word_of}
 use Rattle.step_table.specs.Cells.{IsSomewhere, word_of_cell}
 use Rattle.step_table.specs.Contents.{same_block, same_value}

@@ -1,8 +1,8 @@
 -- What comes out of a cell, and into a slot.
 use Rattle.std.proofs.Common.{◌≡◌, ℕ, ◌<◌, get_or, length, set, false, Option, Some, None, refl, sym, ap, subst, ◌∙◌, arith}
 use Rattle.std.specs.Prelude.{IfSome, is_some}
-use Rattle.control_word.specs.declared.cell.CellWord.{CellWord}
-use Rattle.control_word.specs.declared.handle.Kind.{Kind}
+use Rattle.control_word.specs.declared.packed.cell.CellWord.{CellWord}
+use Rattle.control_word.specs.declared.model.handle.Kind.{Kind}
 use Rattle.control_word.specs.declared.place.Block.{Block}
 use Rattle.control_word.specs.declared.place.Place.{Place}
 use Rattle.control_word.specs.Events.{gets}
@@ -10,12 +10,12 @@ use Rattle.control_word.specs.Handles.{IsPointer, handle}
 use Rattle.control_word.specs.Packing.{IsCellWord, IsPlace, cell_bits}
 use Rattle.control_word.specs.State.{ending, kind_of_member}
 use Rattle.control_word.specs.Words.{blocks_of, shown}
-use Rattle.step_table.specs.declared.cell_deed.Cell.{Cell}
-use Rattle.step_table.specs.declared.cell_deed.Cell.TheVariants.{Member}
-use Rattle.step_table.specs.declared.cell_deed.CellDeed.TheVariants.{Look, Take, TakeOut}
-use Rattle.step_table.specs.declared.cell_deed.Compared.{Compared}
-use Rattle.step_table.specs.declared.past.Deed.TheVariants.{OnCell}
-use Rattle.step_table.specs.declared.slot.Slot.{Slot}
+use Rattle.step_table.specs.declared.cell_steps.cell_deed.Cell.{Cell}
+use Rattle.step_table.specs.declared.cell_steps.cell_deed.Cell.TheVariants.{Member}
+use Rattle.step_table.specs.declared.cell_steps.cell_deed.CellDeed.TheVariants.{Look, Take, TakeOut}
+use Rattle.step_table.specs.declared.cell_steps.cell_deed.Compared.{Compared}
+use Rattle.step_table.specs.declared.memory.past.Deed.TheVariants.{OnCell}
+use Rattle.step_table.specs.declared.slots.slot.Slot.{Slot}
 use Rattle.step_table.specs.CellDeeds.{cell_in, handle_as, kind_in_state, object_at}
 use Rattle.step_table.specs.Cells.{IsOpenTo, ShowsCell, word_of_cell}
 use Rattle.step_table.specs.Contents.{held_in, seen, slot_by, slot_in, slot_of}

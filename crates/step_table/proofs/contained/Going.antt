@@ -3,23 +3,23 @@ use Rattle.std.proofs.Common.{◌≡◌, ◌≢◌, ℕ, ◌<◌, ◌∷◌, tru
 use Rattle.std.proofs.Common.{◌∙◌, arith}
 use Rattle.std.proofs.Common.{get_or-set_same, get_or-set_other, length-set}
 use Rattle.std.proofs.lemmas.List.{set-set, set_comm}
-use Rattle.control_word.specs.declared.cell.CellWord.{CellWord}
-use Rattle.control_word.specs.declared.event.Cell.{Cell as Named}
-use Rattle.control_word.specs.declared.event.Cell.TheVariants as named
-use Rattle.control_word.specs.declared.handle.Handle.{Handle}
-use Rattle.control_word.specs.declared.handle.Kind.{Kind}
-use Rattle.control_word.specs.declared.handle.Kind.TheVariants.{Owner, Weak}
+use Rattle.control_word.specs.declared.packed.cell.CellWord.{CellWord}
+use Rattle.control_word.specs.declared.model.event.Cell.{Cell as Named}
+use Rattle.control_word.specs.declared.model.event.Cell.TheVariants as named
+use Rattle.control_word.specs.declared.model.handle.Handle.{Handle}
+use Rattle.control_word.specs.declared.model.handle.Kind.{Kind}
+use Rattle.control_word.specs.declared.model.handle.Kind.TheVariants.{Owner, Weak}
 use Rattle.control_word.specs.declared.place.Block.{Block}
 use Rattle.control_word.specs.Events.{swaps}
 use Rattle.control_word.specs.Handles.{handle, has_object}
 use Rattle.control_word.specs.State.{Held, State, held, same_held, without}
-use Rattle.step_table.specs.declared.cell_deed.Cell.{Cell}
-use Rattle.step_table.specs.declared.cell_deed.CellDeed.TheVariants.{CompareSwap, Swap}
-use Rattle.step_table.specs.declared.cell_deed.Compared.{Compared}
-use Rattle.step_table.specs.declared.holdings.Pointer.{Pointer}
-use Rattle.step_table.specs.declared.past.Deed.TheVariants.{OnCell}
-use Rattle.step_table.specs.declared.slot.Slot.{Slot}
-use Rattle.step_table.specs.declared.slot.Slot.TheVariants.{Empty, Full}
+use Rattle.step_table.specs.declared.cell_steps.cell_deed.Cell.{Cell}
+use Rattle.step_table.specs.declared.cell_steps.cell_deed.CellDeed.TheVariants.{CompareSwap, Swap}
+use Rattle.step_table.specs.declared.cell_steps.cell_deed.Compared.{Compared}
+use Rattle.step_table.specs.declared.slots.holdings.Pointer.{Pointer}
+use Rattle.step_table.specs.declared.memory.past.Deed.TheVariants.{OnCell}
+use Rattle.step_table.specs.declared.slots.slot.Slot.{Slot}
+use Rattle.step_table.specs.declared.slots.slot.Slot.TheVariants.{Empty, Full}
 use Rattle.step_table.specs.CellDeeds.{cell_in, handle_as, handle_told, kind_in_state, object_at}
 use Rattle.step_table.specs.Contents.{as_word, held_in, is_of, slot_of, slots_swapped}
 use Rattle.step_table.specs.Deeds.{leave_as}

@@ -1,12 +1,12 @@
 -- What is asked of a slot's value that goes into a cell, by its word.
 use Rattle.std.proofs.Common.{◌≡◌, ℕ, ◌<◌, true, length, Some, None, refl, sym, ap, subst, ◌∙◌}
-use Rattle.control_word.specs.declared.cell.CellWord.{CellWord}
-use Rattle.control_word.specs.declared.handle.Kind.{Kind}
+use Rattle.control_word.specs.declared.packed.cell.CellWord.{CellWord}
+use Rattle.control_word.specs.declared.model.handle.Kind.{Kind}
 use Rattle.control_word.specs.Packing.{IsCellWord}
 use Rattle.control_word.specs.State.{State, bag_size}
-use Rattle.step_table.specs.declared.cell_deed.Cell.{Cell}
-use Rattle.step_table.specs.declared.slot.Slot.{Slot}
-use Rattle.step_table.specs.declared.slot.Slot.TheVariants.{Empty, Full}
+use Rattle.step_table.specs.declared.cell_steps.cell_deed.Cell.{Cell}
+use Rattle.step_table.specs.declared.slots.slot.Slot.{Slot}
+use Rattle.step_table.specs.declared.slots.slot.Slot.TheVariants.{Empty, Full}
 use Rattle.step_table.specs.CellDeeds.{kind_in_state, owing_funds}
 use Rattle.step_table.specs.Cells.{HasInHand}
 use Rattle.step_table.specs.Contents.{as_word, is_of, owing_for, block_of_value}

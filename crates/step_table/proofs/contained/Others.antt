@@ -3,14 +3,14 @@ use Rattle.std.proofs.Common.{◌≡◌, ◌≢◌, ℕ, ◌<◌, Option, Some, 
 use Rattle.control_word.proofs.history.Kept.{cells_led, has_same}
 use Rattle.control_word.proofs.history.Legal.{held_busy, sound, written}
 use Rattle.control_word.proofs.history.Soundness.{IsBusy}
-use Rattle.control_word.specs.declared.cell.CellWord.{CellWord}
-use Rattle.control_word.specs.declared.event.Event.{Event}
-use Rattle.control_word.specs.declared.handle.Kind.{Kind}
-use Rattle.control_word.specs.declared.handle.Kind.TheVariants.{Owner}
+use Rattle.control_word.specs.declared.packed.cell.CellWord.{CellWord}
+use Rattle.control_word.specs.declared.model.event.Event.{Event}
+use Rattle.control_word.specs.declared.model.handle.Kind.{Kind}
+use Rattle.control_word.specs.declared.model.handle.Kind.TheVariants.{Owner}
 use Rattle.control_word.specs.declared.place.Block.{Block}
 use Rattle.control_word.specs.declared.place.Place.{Place}
-use Rattle.control_word.specs.declared.view.Pending.{Pending}
-use Rattle.control_word.specs.declared.view.Pending.TheVariants.{Paying}
+use Rattle.control_word.specs.declared.model.view.Pending.{Pending}
+use Rattle.control_word.specs.declared.model.view.Pending.TheVariants.{Paying}
 use Rattle.control_word.specs.Handles.{handle, object_of}
 use Rattle.control_word.specs.Histories.{leads, value}
 use Rattle.control_word.specs.Layout.{spot}
@@ -18,13 +18,13 @@ use Rattle.control_word.specs.State.{Has, State, held}
 use Rattle.control_word.specs.Steps.{me}
 use Rattle.control_word.specs.Views.{Fits}
 use Rattle.control_word.specs.Words.{slot}
-use Rattle.step_table.specs.declared.cell_deed.Cell.{Cell}
-use Rattle.step_table.specs.declared.cell_deed.Cell.TheVariants.{Free, Member}
-use Rattle.step_table.specs.declared.past.Deed.{Deed}
-use Rattle.step_table.specs.declared.refill.Stage.{Stage}
-use Rattle.step_table.specs.declared.refill.Stage.TheVariants.{Turning, Checking, Lacking, Refilling, Failing}
-use Rattle.step_table.specs.declared.slot.Slot.{Slot}
-use Rattle.step_table.specs.declared.slot.Slot.TheVariants.{Empty, Full}
+use Rattle.step_table.specs.declared.cell_steps.cell_deed.Cell.{Cell}
+use Rattle.step_table.specs.declared.cell_steps.cell_deed.Cell.TheVariants.{Free, Member}
+use Rattle.step_table.specs.declared.memory.past.Deed.{Deed}
+use Rattle.step_table.specs.declared.cell_steps.refill.Stage.{Stage}
+use Rattle.step_table.specs.declared.cell_steps.refill.Stage.TheVariants.{Turning, Checking, Lacking, Refilling, Failing}
+use Rattle.step_table.specs.declared.slots.slot.Slot.{Slot}
+use Rattle.step_table.specs.declared.slots.slot.Slot.TheVariants.{Empty, Full}
 use Rattle.step_table.specs.CellDeeds.{kind_in_state, owing_funds}
 use Rattle.step_table.specs.Cells.{IsOpenTo}
 use Rattle.step_table.specs.Contents.{owing_for}

@@ -3,14 +3,14 @@ use Rattle.std.proofs.Common.{◌≡◌, ℕ, ◌-◌, ◌<◌, List, Option, So
 use Rattle.std.proofs.Common.{get_or-set_same, ◌∷◌}
 use Rattle.std.proofs.lemmas.Bool.{cond_both}
 use Rattle.std.proofs.lemmas.Option.{same_Some}
-use Rattle.control_word.specs.declared.cell.CellWord.{CellWord}
-use Rattle.control_word.specs.declared.handle.Handle.{Handle}
-use Rattle.control_word.specs.declared.handle.Kind.{Kind}
+use Rattle.control_word.specs.declared.packed.cell.CellWord.{CellWord}
+use Rattle.control_word.specs.declared.model.handle.Handle.{Handle}
+use Rattle.control_word.specs.declared.model.handle.Kind.{Kind}
 use Rattle.control_word.specs.declared.place.Block.{Block}
 use Rattle.control_word.specs.declared.place.Place.{Place}
-use Rattle.control_word.specs.declared.view.Pending.{Pending}
-use Rattle.control_word.specs.declared.view.Pending.TheVariants.{Paying}
-use Rattle.control_word.specs.declared.view.View.{View}
+use Rattle.control_word.specs.declared.model.view.Pending.{Pending}
+use Rattle.control_word.specs.declared.model.view.Pending.TheVariants.{Paying}
+use Rattle.control_word.specs.declared.model.view.View.{View}
 use Rattle.control_word.specs.Events.{IsOpen, gets}
 use Rattle.control_word.specs.Handles.{handle, has_object}
 use Rattle.control_word.specs.Layout.{spot}
@@ -18,13 +18,13 @@ use Rattle.control_word.specs.Packing.{IsCellWord}
 use Rattle.control_word.specs.State.{Has, Held, State, held, kind_of_member}
 use Rattle.control_word.specs.Views.{used_up}
 use Rattle.control_word.specs.Words.{slot}
-use Rattle.step_table.specs.declared.cell_deed.Cell.{Cell}
-use Rattle.step_table.specs.declared.cell_deed.Cell.TheVariants.{Free, Member}
-use Rattle.step_table.specs.declared.cell_deed.CellDeed.{CellDeed}
-use Rattle.step_table.specs.declared.cell_deed.CellDeed.TheVariants.{Look, Bring, GiveBack, Take, Turn, Refill, Swap, CompareSwap, TakeOut}
-use Rattle.step_table.specs.declared.cell_deed.Compared.{Compared}
-use Rattle.step_table.specs.declared.past.Deed.TheVariants.{OnCell}
-use Rattle.step_table.specs.declared.refill.Stage.TheVariants.{Turning, Checking, Lacking, Refilling, Failing}
+use Rattle.step_table.specs.declared.cell_steps.cell_deed.Cell.{Cell}
+use Rattle.step_table.specs.declared.cell_steps.cell_deed.Cell.TheVariants.{Free, Member}
+use Rattle.step_table.specs.declared.cell_steps.cell_deed.CellDeed.{CellDeed}
+use Rattle.step_table.specs.declared.cell_steps.cell_deed.CellDeed.TheVariants.{Look, Bring, GiveBack, Take, Turn, Refill, Swap, CompareSwap, TakeOut}
+use Rattle.step_table.specs.declared.cell_steps.cell_deed.Compared.{Compared}
+use Rattle.step_table.specs.declared.memory.past.Deed.TheVariants.{OnCell}
+use Rattle.step_table.specs.declared.cell_steps.refill.Stage.TheVariants.{Turning, Checking, Lacking, Refilling, Failing}
 use Rattle.step_table.specs.CellDeeds.{cell_in, cell_pending, handle_told, kind_in_state, object_at, owing_funds}
 use Rattle.step_table.specs.Cells.{IsOpenTo}
 use Rattle.step_table.specs.Refills.{RefillFits, more_taken}

@@ -1,14 +1,14 @@
 -- How the owner word of an object tells how many owners it has.
 use Rattle.std.proofs.Common.{◌≡◌, ◌≢◌, ℕ, ◌<◌, Some, ap, ◌∙◌, ⊎_elim}
 use Rattle.std.proofs.lemmas.Bool.{cases_eq}
-use Rattle.control_word.specs.declared.view.Pending.{Pending}
-use Rattle.control_word.specs.declared.view.Pending.TheVariants.{Idle}
+use Rattle.control_word.specs.declared.model.view.Pending.{Pending}
+use Rattle.control_word.specs.declared.model.view.Pending.TheVariants.{Idle}
 use Rattle.control_word.specs.Layout.{spot}
 use Rattle.control_word.specs.Views.{owed, owes}
 use Rattle.step_table.specs.Deeds.{IsSettled, TellsUseCount, by_word, owner_word, told_number}
 use Rattle.step_table.specs.Holdings.{HoldsBag, Slots, slot_pointer}
 use Rattle.step_table.specs.Stories.{Kept, Nothing, Story, pending, story_state}
-use Rattle.step_table.specs.declared.holdings.Pointer.{Pointer}
+use Rattle.step_table.specs.declared.slots.holdings.Pointer.{Pointer}
 use Rattle.step_table.proofs.holding.Owning.{slot_held}
 use Rattle.step_table.proofs.tables.Doors.{none_in}
 use Rattle.step_table.proofs.tables.Owners.{exact_count, told_most, told_none, told_word}

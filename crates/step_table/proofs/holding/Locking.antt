@@ -1,9 +1,9 @@
 -- What a lock does to a desk's bag and to its slots.
 use Rattle.std.proofs.Common.{◌≡◌, ℕ, ◌<◌, Bool, true, false, cond, not, length, set, None, refl, subst}
 use Rattle.control_word.specs.Handles.{IsPointer}
-use Rattle.step_table.specs.declared.holdings.Pointer.{Pointer}
-use Rattle.step_table.specs.declared.slot.Slot.TheVariants.{Full}
-use Rattle.step_table.specs.declared.past.Deed.TheVariants.{Lock}
+use Rattle.step_table.specs.declared.slots.holdings.Pointer.{Pointer}
+use Rattle.step_table.specs.declared.slots.slot.Slot.TheVariants.{Full}
+use Rattle.step_table.specs.declared.memory.past.Deed.TheVariants.{Lock}
 use Rattle.step_table.specs.Deeds.{as_owner}
 use Rattle.step_table.specs.Holdings.{HoldsBag, Slots, slot_pointer}
 use Rattle.step_table.specs.Stories.{Story, story_after_deed}

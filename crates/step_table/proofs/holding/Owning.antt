@@ -6,21 +6,21 @@ use Rattle.std.proofs.lemmas.Bool.{cases_eq}
 use Rattle.std.proofs.lemmas.Option.{same_Some}
 use Rattle.control_word.proofs.lists.Tallies.{handle_self, held_self, held_true, num, num_cons, num_has, num_without}
 use Rattle.control_word.proofs.words.Counting.{bag_one}
-use Rattle.control_word.specs.declared.handle.Handle.{Handle}
+use Rattle.control_word.specs.declared.model.handle.Handle.{Handle}
 use Rattle.control_word.specs.declared.place.Block.{Block}
 use Rattle.control_word.specs.declared.place.Place.{Place}
 use Rattle.control_word.proofs.history.Legal.{sound}
 use Rattle.control_word.proofs.lists.Tallies.{put_other, put_same}
 use Rattle.control_word.specs.Events.{origin}
-use Rattle.control_word.specs.declared.handle.Kind.{Kind}
-use Rattle.control_word.specs.declared.handle.Kind.TheVariants.{Owner, Weak}
+use Rattle.control_word.specs.declared.model.handle.Kind.{Kind}
+use Rattle.control_word.specs.declared.model.handle.Kind.TheVariants.{Owner, Weak}
 use Rattle.control_word.specs.Handles.{IsPointer, handle, owner, same_handle}
 use Rattle.control_word.specs.State.{Has, Held, InShape, Opening, bag_size, held, same_held, stored, without}
-use Rattle.step_table.specs.declared.form.Form.{Form}
-use Rattle.step_table.specs.declared.holdings.Pointer.{Pointer}
-use Rattle.step_table.specs.declared.slot.Slot.{Slot}
-use Rattle.step_table.specs.declared.slot.Slot.TheVariants.{Empty, Full}
-use Rattle.step_table.specs.declared.past.Deed.TheVariants.{Claim}
+use Rattle.step_table.specs.declared.memory.form.Form.{Form}
+use Rattle.step_table.specs.declared.slots.holdings.Pointer.{Pointer}
+use Rattle.step_table.specs.declared.slots.slot.Slot.{Slot}
+use Rattle.step_table.specs.declared.slots.slot.Slot.TheVariants.{Empty, Full}
+use Rattle.step_table.specs.declared.memory.past.Deed.TheVariants.{Claim}
 use Rattle.step_table.specs.Deeds.{leave_as, share, share_as}
 use Rattle.step_table.specs.Holdings.{HoldsBag, IsSlot, Slots, slot_has_object, is_it, owns, plain, pointer_of, slot_pointer, times_held, slot_value, weak_as}
 use Rattle.step_table.specs.Holdings.{weak_slot}

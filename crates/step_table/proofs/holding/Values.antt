@@ -2,12 +2,12 @@
 use Rattle.std.proofs.Common.{◌≡◌, ℕ, Option, Some, None, refl, sym, ap, subst, ◌∙◌}
 use Rattle.std.proofs.lemmas.Option.{same_Some}
 use Rattle.std.specs.Prelude.{nat_lt}
-use Rattle.control_word.specs.declared.handle.Kind.{Kind}
-use Rattle.control_word.specs.declared.handle.Kind.TheVariants.{Owner, Weak}
+use Rattle.control_word.specs.declared.model.handle.Kind.{Kind}
+use Rattle.control_word.specs.declared.model.handle.Kind.TheVariants.{Owner, Weak}
 use Rattle.control_word.specs.Handles.{empty, rank}
 use Rattle.control_word.specs.State.{Has, held}
 use Rattle.control_word.specs.Words.{blocks_of}
-use Rattle.step_table.specs.declared.holdings.Pointer.{Pointer}
+use Rattle.step_table.specs.declared.slots.holdings.Pointer.{Pointer}
 use Rattle.step_table.specs.Deeds.{handle_of, on, pointer_before}
 use Rattle.step_table.specs.Holdings.{HoldsBag, Slots, owner_as, owner_slot, slot_pointer}
 use Rattle.step_table.specs.Stories.{Kept, Story, handle_in_block, owner_in, story_state}

@@ -2,19 +2,19 @@
 use Rattle.std.proofs.Common.{◌≡◌, ◌≢◌, ℕ, Bool, ◌≤◌, true, false, List, length, Option, Some, None, refl, sym, ap, ◌∙◌, subst}
 use Rattle.control_word.proofs.history.Kept.{Same, same_after, still}
 use Rattle.control_word.proofs.lists.Tallies.{put_cases}
-use Rattle.control_word.specs.declared.event.Cell.{Cell as Named}
-use Rattle.control_word.specs.declared.event.Cell.TheVariants.{Free, Member}
-use Rattle.control_word.specs.declared.event.Event.{Event}
-use Rattle.control_word.specs.declared.event.Event.TheVariants as event
-use Rattle.control_word.specs.declared.handle.Handle.{Handle}
-use Rattle.control_word.specs.declared.handle.Kind.{Kind}
+use Rattle.control_word.specs.declared.model.event.Cell.{Cell as Named}
+use Rattle.control_word.specs.declared.model.event.Cell.TheVariants.{Free, Member}
+use Rattle.control_word.specs.declared.model.event.Event.{Event}
+use Rattle.control_word.specs.declared.model.event.Event.TheVariants as event
+use Rattle.control_word.specs.declared.model.handle.Handle.{Handle}
+use Rattle.control_word.specs.declared.model.handle.Kind.{Kind}
 use Rattle.control_word.specs.declared.place.Block.{Block}
 use Rattle.control_word.specs.declared.place.Place.{Place}
 use Rattle.control_word.specs.Events.{clears, gets, swaps}
 use Rattle.control_word.specs.State.{Object, State, kind_of_member, put}
-use Rattle.step_table.specs.declared.cell_deed.CellDeed.{CellDeed}
-use Rattle.step_table.specs.declared.cell_deed.CellDeed.TheVariants.{Look, Bring, GiveBack, Take, Turn, Refill, Swap, CompareSwap, TakeOut}
-use Rattle.step_table.specs.declared.past.Deed.TheVariants.{OnCell}
+use Rattle.step_table.specs.declared.cell_steps.cell_deed.CellDeed.{CellDeed}
+use Rattle.step_table.specs.declared.cell_steps.cell_deed.CellDeed.TheVariants.{Look, Bring, GiveBack, Take, Turn, Refill, Swap, CompareSwap, TakeOut}
+use Rattle.step_table.specs.declared.memory.past.Deed.TheVariants.{OnCell}
 use Rattle.step_table.specs.CellDeeds.{cell_event, cell_in, cell_pending, handle_as, handle_told, kind_in_state, owing_funds}
 use Rattle.step_table.specs.Stories.{AllWhole, Nothing, ShutsNoDoor, Story, story_after_deed, object_of_block, story_state}
 

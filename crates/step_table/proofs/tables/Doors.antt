@@ -4,17 +4,17 @@ use Rattle.std.proofs.Common.{subst, ⊎_elim, arith}
 use Rattle.std.proofs.Common.{get_or-set_same, get_or-set_other, ne_eqb}
 use Rattle.std.proofs.lemmas.Bool.{cases_eq, cond_both, cond-false}
 use Rattle.control_word.proofs.lists.Tallies.{put_cases}
-use Rattle.control_word.specs.declared.view.Pending.{Pending}
-use Rattle.control_word.specs.declared.view.Pending.TheVariants.{Idle, Making, Merging, Parting, Paying, Visiting}
-use Rattle.control_word.specs.declared.view.View.{View}
+use Rattle.control_word.specs.declared.model.view.Pending.{Pending}
+use Rattle.control_word.specs.declared.model.view.Pending.TheVariants.{Idle, Making, Merging, Parting, Paying, Visiting}
+use Rattle.control_word.specs.declared.model.view.View.{View}
 use Rattle.control_word.specs.Events.{moved_to}
 use Rattle.control_word.specs.Histories.{IsLegal}
 use Rattle.control_word.specs.Layout.{spot}
 use Rattle.control_word.specs.State.{Object, ending}
 use Rattle.control_word.specs.Views.{added, adds, total, used_up}
-use Rattle.step_table.specs.declared.past.Deed.{Deed}
-use Rattle.step_table.specs.declared.past.Deed.TheVariants.{Prepare, Write, Claim, Share, WeakShare, Leave, WeakLeave, Lock, Count, Expired, Read, Clear}
-use Rattle.step_table.specs.declared.past.Deed.TheVariants.{Finish, OnCell, OnShelf}
+use Rattle.step_table.specs.declared.memory.past.Deed.{Deed}
+use Rattle.step_table.specs.declared.memory.past.Deed.TheVariants.{Prepare, Write, Claim, Share, WeakShare, Leave, WeakLeave, Lock, Count, Expired, Read, Clear}
+use Rattle.step_table.specs.declared.memory.past.Deed.TheVariants.{Finish, OnCell, OnShelf}
 use Rattle.step_table.proofs.tables.CellDeeds.{shuts_cell, whole_framed}
 use Rattle.step_table.proofs.tables.ShelfDeeds.{shelf_framed}
 use Rattle.step_table.specs.Openings.{opening}

@@ -6,11 +6,11 @@ use Rattle.control_word.proofs.history.Allowances.{allowed}
 use Rattle.control_word.proofs.steps.Clear.{clears'}
 use Rattle.control_word.proofs.steps.WeakLeave.{finishes'}
 use Rattle.control_word.proofs.words.CellWords.{cell_read}
-use Rattle.control_word.specs.declared.event.Cell.TheVariants.{Member}
-use Rattle.control_word.specs.declared.event.Event.TheVariants as event
-use Rattle.control_word.specs.declared.handle.Handle.{Handle}
+use Rattle.control_word.specs.declared.model.event.Cell.TheVariants.{Member}
+use Rattle.control_word.specs.declared.model.event.Event.TheVariants as event
+use Rattle.control_word.specs.declared.model.handle.Handle.{Handle}
 use Rattle.control_word.specs.declared.place.Block.{Block}
-use Rattle.control_word.specs.declared.view.Pending.TheVariants.{Idle}
+use Rattle.control_word.specs.declared.model.view.Pending.TheVariants.{Idle}
 use Rattle.control_word.specs.Events.{after as cleared}
 use Rattle.control_word.specs.Handles.{empty}
 use Rattle.control_word.specs.Histories.{entry}
@@ -19,7 +19,7 @@ use Rattle.control_word.specs.State.{HasRoom, ending, kind_of_member, weak}
 use Rattle.control_word.specs.Steps.{me, purse}
 use Rattle.control_word.specs.Views.{Stands, sees_as}
 use Rattle.control_word.specs.Words.{blocks_of, packed}
-use Rattle.step_table.specs.declared.past.Deed.TheVariants.{Clear, Finish}
+use Rattle.step_table.specs.declared.memory.past.Deed.TheVariants.{Clear, Finish}
 use Rattle.step_table.specs.Openings.{opening}
 use Rattle.step_table.specs.Stories.{Nothing, Story, Kept, story_after_deed, object_of_block, pending, story_state, view_in}
 use Rattle.step_table.proofs.tables.Cells.{decoded, zero_shows}

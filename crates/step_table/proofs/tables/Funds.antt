@@ -11,12 +11,12 @@ use Rattle.control_word.proofs.steps.Standing.{has_headroom}
 use Rattle.control_word.proofs.steps.Turn.{turns}
 use Rattle.control_word.proofs.words.Funds.{slot_low}
 use Rattle.control_word.proofs.words.Rooms.{halves}
-use Rattle.control_word.specs.declared.handle.Kind.{Kind}
+use Rattle.control_word.specs.declared.model.handle.Kind.{Kind}
 use Rattle.control_word.specs.declared.place.Block.{Block}
 use Rattle.control_word.specs.declared.place.Place.{Place}
-use Rattle.control_word.specs.declared.view.Pending.{Pending}
-use Rattle.control_word.specs.declared.view.Pending.TheVariants.{Idle, Paying}
-use Rattle.control_word.specs.declared.view.View.{View}
+use Rattle.control_word.specs.declared.model.view.Pending.{Pending}
+use Rattle.control_word.specs.declared.model.view.Pending.TheVariants.{Idle, Paying}
+use Rattle.control_word.specs.declared.model.view.View.{View}
 use Rattle.control_word.specs.Histories.{value}
 use Rattle.control_word.specs.Layout.{spot}
 use Rattle.control_word.specs.Packing.{funds_of, number_of}
@@ -24,8 +24,8 @@ use Rattle.control_word.specs.State.{Has, InShape, held}
 use Rattle.control_word.specs.Steps.{Ready, me}
 use Rattle.control_word.specs.Views.{Fits, Stands, pays, sees_as}
 use Rattle.control_word.specs.Words.{slot}
-use Rattle.step_table.specs.declared.cell_deed.CellDeed.TheVariants.{Bring, GiveBack, Turn}
-use Rattle.step_table.specs.declared.past.Deed.TheVariants.{OnCell}
+use Rattle.step_table.specs.declared.cell_steps.cell_deed.CellDeed.TheVariants.{Bring, GiveBack, Turn}
+use Rattle.step_table.specs.declared.memory.past.Deed.TheVariants.{OnCell}
 use Rattle.step_table.specs.CellDeeds.{owing_funds}
 use Rattle.step_table.specs.Openings.{opening}
 use Rattle.step_table.specs.Stories.{Kept, Nothing, Story, story_after_deed, handle_in_block, object_of_block, pending, story_state, view_in}

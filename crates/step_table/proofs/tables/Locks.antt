@@ -1,17 +1,17 @@
 -- Locks of weak handles.
 use Rattle.std.proofs.Common.{◌≡◌, ℕ, suc, ◌<◌, true, false, ◌∷◌, set, get_or, Option, sym, subst}
 use Rattle.control_word.proofs.steps.Lock.{locks}
-use Rattle.control_word.specs.declared.event.Event.TheVariants as event
-use Rattle.control_word.specs.declared.handle.Kind.TheVariants.{Weak}
+use Rattle.control_word.specs.declared.model.event.Event.TheVariants as event
+use Rattle.control_word.specs.declared.model.handle.Kind.TheVariants.{Weak}
 use Rattle.control_word.specs.declared.place.Block.{Block}
 use Rattle.control_word.specs.declared.place.Place.{Place}
-use Rattle.control_word.specs.declared.view.Pending.TheVariants.{Idle}
+use Rattle.control_word.specs.declared.model.view.Pending.TheVariants.{Idle}
 use Rattle.control_word.specs.Histories.{entry}
 use Rattle.control_word.specs.Layout.{spot}
 use Rattle.control_word.specs.State.{Has, bag_size, held}
 use Rattle.control_word.specs.Steps.{me}
 use Rattle.control_word.specs.Views.{Stands, sees_as}
-use Rattle.step_table.specs.declared.past.Deed.TheVariants.{Lock}
+use Rattle.step_table.specs.declared.memory.past.Deed.TheVariants.{Lock}
 use Rattle.step_table.specs.Openings.{opening}
 use Rattle.step_table.specs.Stories.{Story, Kept, story_after_deed, object_of_block, pending, story_state, view_in, weak_in}
 use Rattle.step_table.proofs.tables.Owners.{mine_as}

@@ -2,15 +2,15 @@
 use Rattle.std.proofs.Common.{◌≡◌, ℕ, ◌+◌, ◌<◌, Bool, List, ◌∷◌, length, set, get_or, sym, ap, subst, ◌∙◌, arith}
 use Rattle.control_word.proofs.steps.Claim.{claims}
 use Rattle.control_word.proofs.steps.Write.{writes_weak_word, writes_word}
-use Rattle.control_word.specs.declared.event.Event.TheVariants as event
+use Rattle.control_word.specs.declared.model.event.Event.TheVariants as event
 use Rattle.control_word.specs.declared.place.Block.{Block}
-use Rattle.control_word.specs.declared.view.Pending.{Pending}
-use Rattle.control_word.specs.declared.view.Pending.TheVariants.{Idle, Making}
+use Rattle.control_word.specs.declared.model.view.Pending.{Pending}
+use Rattle.control_word.specs.declared.model.view.Pending.TheVariants.{Idle, Making}
 use Rattle.control_word.specs.Layout.{spot}
 use Rattle.control_word.specs.State.{Has, bag_size, stored}
 use Rattle.control_word.specs.Views.{Stands, sees_as}
 use Rattle.control_word.specs.Words.{flags_of}
-use Rattle.step_table.specs.declared.past.Deed.TheVariants.{Prepare, Write, Claim}
+use Rattle.step_table.specs.declared.memory.past.Deed.TheVariants.{Prepare, Write, Claim}
 use Rattle.step_table.specs.Openings.{opening}
 use Rattle.step_table.specs.Stories.{Nothing, Story, Kept, IsMaking, story_after_deed, known_words, pending, story_state, view_in}
 use Rattle.step_table.proofs.tables.Standing.{point, ready, kept_after}

@@ -7,13 +7,13 @@ use Rattle.control_word.proofs.steps.Leave.{leaves'}
 use Rattle.control_word.proofs.steps.Look.{tells_count}
 use Rattle.control_word.proofs.steps.Share.{shares}
 use Rattle.control_word.proofs.steps.Standing.{has_headroom}
-use Rattle.control_word.specs.declared.event.Event.TheVariants as event
-use Rattle.control_word.specs.declared.handle.Kind.{Kind}
-use Rattle.control_word.specs.declared.handle.Kind.TheVariants.{Owner}
+use Rattle.control_word.specs.declared.model.event.Event.TheVariants as event
+use Rattle.control_word.specs.declared.model.handle.Kind.{Kind}
+use Rattle.control_word.specs.declared.model.handle.Kind.TheVariants.{Owner}
 use Rattle.control_word.specs.Words.{slot}
 use Rattle.control_word.specs.declared.place.Block.{Block}
 use Rattle.control_word.specs.declared.place.Place.{Place}
-use Rattle.control_word.specs.declared.view.Pending.TheVariants.{Idle}
+use Rattle.control_word.specs.declared.model.view.Pending.TheVariants.{Idle}
 use Rattle.control_word.specs.Handles.{IsPointer}
 use Rattle.control_word.specs.Histories.{entry}
 use Rattle.control_word.specs.Layout.{spot}
@@ -21,7 +21,7 @@ use Rattle.control_word.specs.Packing.{funds_of, number_of}
 use Rattle.control_word.specs.State.{Has, bag_size, count, held}
 use Rattle.control_word.specs.Steps.{me}
 use Rattle.control_word.specs.Views.{Stands, owed, sees_as}
-use Rattle.step_table.specs.declared.past.Deed.TheVariants.{Share, Leave, Count}
+use Rattle.step_table.specs.declared.memory.past.Deed.TheVariants.{Share, Leave, Count}
 use Rattle.step_table.specs.Deeds.{told_number}
 use Rattle.step_table.specs.Openings.{opening}
 use Rattle.step_table.specs.Stories.{Story, Kept, story_after_deed, handle_in_block, object_of_block, owner_in, pending, story_state, view_in}

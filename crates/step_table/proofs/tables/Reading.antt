@@ -6,15 +6,15 @@ use Rattle.control_word.proofs.history.Legal.{sound}
 use Rattle.control_word.proofs.history.Soundness.{IsBusy}
 use Rattle.control_word.proofs.steps.Look.{look_event}
 use Rattle.control_word.proofs.words.Body.{body_more, body_read, words_field, words_flags}
-use Rattle.control_word.specs.declared.event.Event.TheVariants as event
+use Rattle.control_word.specs.declared.model.event.Event.TheVariants as event
 use Rattle.control_word.specs.declared.place.Block.{Block}
 use Rattle.control_word.specs.declared.place.Place.{Place}
-use Rattle.control_word.specs.declared.view.Pending.TheVariants.{Idle}
+use Rattle.control_word.specs.declared.model.view.Pending.TheVariants.{Idle}
 use Rattle.control_word.specs.Layout.{spot}
 use Rattle.control_word.specs.State.{Has, Object, held}
 use Rattle.control_word.specs.Words.{blocks_of, flags_of, object_words}
-use Rattle.step_table.specs.declared.ended.Ended.TheVariants.{Fields, Null}
-use Rattle.step_table.specs.declared.past.Deed.TheVariants.{Read}
+use Rattle.step_table.specs.declared.memory.ended.Ended.TheVariants.{Fields, Null}
+use Rattle.step_table.specs.declared.memory.past.Deed.TheVariants.{Read}
 use Rattle.step_table.specs.Openings.{opening}
 use Rattle.step_table.specs.Deeds.{remains}
 use Rattle.step_table.specs.Stories.{Kept, Story, story_after_deed, object_of_block, owner_in, pending, story_state, view_in}

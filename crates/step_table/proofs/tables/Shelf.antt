@@ -4,14 +4,14 @@ use Rattle.std.proofs.Common.{refl, sym, ap, subst, ◌∙◌, arith}
 use Rattle.std.specs.Int.{bit_at, bit_not, w64}
 use Rattle.std.specs.Prelude.{bit_and}
 use Rattle.control_word.proofs.steps.Shelf.{shelves', unshelves'}
-use Rattle.control_word.specs.declared.event.Event.TheVariants as event
+use Rattle.control_word.specs.declared.model.event.Event.TheVariants as event
 use Rattle.control_word.specs.declared.place.Block.{Block}
-use Rattle.control_word.specs.declared.view.Pending.TheVariants.{Idle}
+use Rattle.control_word.specs.declared.model.view.Pending.TheVariants.{Idle}
 use Rattle.control_word.specs.Layout.{bit_of}
 use Rattle.control_word.specs.State.{Has, Opening, on_shelf, stored}
 use Rattle.control_word.specs.Words.{shelf_spot}
-use Rattle.step_table.specs.declared.past.Deed.TheVariants.{OnShelf}
-use Rattle.step_table.specs.declared.shelf.ShelfDeed.TheVariants.{Shelve, Unshelve, Miss}
+use Rattle.step_table.specs.declared.memory.past.Deed.TheVariants.{OnShelf}
+use Rattle.step_table.specs.declared.memory.shelf.ShelfDeed.TheVariants.{Shelve, Unshelve, Miss}
 use Rattle.step_table.specs.Openings.{opening}
 use Rattle.step_table.specs.ShelfDeeds.{shelf_words}
 use Rattle.step_table.specs.Stories.{Story, Kept, story_after_deed, pending, story_state}

@@ -2,9 +2,9 @@
 use Rattle.std.proofs.Common.{◌≡◌, ℕ, Bool, List, refl}
 use Rattle.control_word.specs.declared.place.Block.{Block}
 use Rattle.control_word.specs.State.{Stored}
-use Rattle.step_table.specs.declared.past.Deed.TheVariants.{OnShelf}
-use Rattle.step_table.specs.declared.shelf.ShelfDeed.{ShelfDeed}
-use Rattle.step_table.specs.declared.shelf.ShelfDeed.TheVariants.{Shelve, Unshelve, Miss}
+use Rattle.step_table.specs.declared.memory.past.Deed.TheVariants.{OnShelf}
+use Rattle.step_table.specs.declared.memory.shelf.ShelfDeed.{ShelfDeed}
+use Rattle.step_table.specs.declared.memory.shelf.ShelfDeed.TheVariants.{Shelve, Unshelve, Miss}
 use Rattle.step_table.specs.Stories.{Story, story_after_deed, story_state}
 
 pub shelf_framed : (v : Story) (d : ℕ) (b : Block) (x : ShelfDeed)

@@ -11,15 +11,15 @@ use Rattle.control_word.proofs.words.Banks.{IsKept, open_kept}
 use Rattle.control_word.proofs.words.CellWords.{cell_inside}
 use Rattle.control_word.proofs.words.Decoding.{cell_shown}
 use Rattle.control_word.proofs.words.Funds.{cell_busy, member_busy}
-use Rattle.control_word.specs.declared.cell.CellWord.{CellWord}
-use Rattle.control_word.specs.declared.event.Cell.{Cell as Named}
-use Rattle.control_word.specs.declared.event.Cell.TheVariants as named
-use Rattle.control_word.specs.declared.event.Event.{Event}
-use Rattle.control_word.specs.declared.handle.Kind.{Kind}
+use Rattle.control_word.specs.declared.packed.cell.CellWord.{CellWord}
+use Rattle.control_word.specs.declared.model.event.Cell.{Cell as Named}
+use Rattle.control_word.specs.declared.model.event.Cell.TheVariants as named
+use Rattle.control_word.specs.declared.model.event.Event.{Event}
+use Rattle.control_word.specs.declared.model.handle.Kind.{Kind}
 use Rattle.control_word.specs.declared.place.Block.{Block}
 use Rattle.control_word.specs.declared.place.Place.{Place}
-use Rattle.control_word.specs.declared.view.Pending.{Pending}
-use Rattle.control_word.specs.declared.view.Pending.TheVariants.{Paying}
+use Rattle.control_word.specs.declared.model.view.Pending.{Pending}
+use Rattle.control_word.specs.declared.model.view.Pending.TheVariants.{Paying}
 use Rattle.control_word.specs.Events.{cell_of}
 use Rattle.control_word.specs.Handles.{handle}
 use Rattle.control_word.specs.Histories.{entry}
@@ -28,8 +28,8 @@ use Rattle.control_word.specs.Layout.{spot}
 use Rattle.control_word.specs.Steps.{Adds, me, purse}
 use Rattle.control_word.specs.Views.{Stands, sees_as}
 use Rattle.control_word.specs.Words.{blocks_of, packed, shown, slot}
-use Rattle.step_table.specs.declared.cell_deed.Cell.{Cell}
-use Rattle.step_table.specs.declared.cell_deed.Cell.TheVariants.{Free, Member}
+use Rattle.step_table.specs.declared.cell_steps.cell_deed.Cell.{Cell}
+use Rattle.step_table.specs.declared.cell_steps.cell_deed.Cell.TheVariants.{Free, Member}
 use Rattle.step_table.specs.CellDeeds.{cell_in, handle_as, kind_in_state, owing_funds, word_of}
 use Rattle.step_table.specs.Cells.{IsOpenTo, IsSomewhere, ShowsCell, word_of_cell}
 use Rattle.step_table.specs.Openings.{opening}

@@ -7,12 +7,12 @@ use Rattle.std.proofs.lemmas.Bool.{cases_eq, cond_both, cond-true, cond-false, l
 use Rattle.std.proofs.lemmas.Nat.{le-div}
 use Rattle.std.proofs.Math.Nat.{div-add-mod, div-lt_iff_lt-mul, div-zero, mul_comm, mul-suc, one-mul, suc-mul, zero-div}
 use Rattle.control_word.proofs.words.Opening.{opens}
-use Rattle.control_word.specs.declared.view.Pending.TheVariants.{Idle}
-use Rattle.control_word.specs.declared.view.View.{View}
+use Rattle.control_word.specs.declared.model.view.Pending.TheVariants.{Idle}
+use Rattle.control_word.specs.declared.model.view.View.{View}
 use Rattle.control_word.specs.Layout.{table_size}
 use Rattle.control_word.specs.State.{IsOpening, sum_below}
 use Rattle.control_word.specs.Views.{Stands, fresh, used_up}
-use Rattle.step_table.specs.declared.extent.Extent.{Extent}
+use Rattle.step_table.specs.declared.memory.extent.Extent.{Extent}
 use Rattle.step_table.specs.Openings.{IsExtent, each_stock, holder_of, opening, share_of}
 use Rattle.step_table.specs.Stories.{Kept, Nothing, ShutsNoDoor}
 

@@ -13,16 +13,16 @@ use Rattle.control_word.proofs.steps.Take.{takes}
 use Rattle.control_word.proofs.words.Banks.{IsKept}
 use Rattle.control_word.proofs.words.Counting.{bag_one}
 use Rattle.control_word.proofs.words.Decoding.{cell_shown}
-use Rattle.control_word.specs.declared.cell.CellWord.{CellWord}
-use Rattle.control_word.specs.declared.event.Cell.{Cell as Named}
-use Rattle.control_word.specs.declared.event.Cell.TheVariants as named
-use Rattle.control_word.specs.declared.event.Event.TheVariants as event
-use Rattle.control_word.specs.declared.handle.Handle.{Handle}
-use Rattle.control_word.specs.declared.handle.Kind.{Kind}
+use Rattle.control_word.specs.declared.packed.cell.CellWord.{CellWord}
+use Rattle.control_word.specs.declared.model.event.Cell.{Cell as Named}
+use Rattle.control_word.specs.declared.model.event.Cell.TheVariants as named
+use Rattle.control_word.specs.declared.model.event.Event.TheVariants as event
+use Rattle.control_word.specs.declared.model.handle.Handle.{Handle}
+use Rattle.control_word.specs.declared.model.handle.Kind.{Kind}
 use Rattle.control_word.specs.declared.place.Block.{Block}
 use Rattle.control_word.specs.declared.place.Place.{Place}
-use Rattle.control_word.specs.declared.view.Pending.{Pending}
-use Rattle.control_word.specs.declared.view.Pending.TheVariants.{Idle, Paying}
+use Rattle.control_word.specs.declared.model.view.Pending.{Pending}
+use Rattle.control_word.specs.declared.model.view.Pending.TheVariants.{Idle, Paying}
 use Rattle.control_word.specs.Events.{InHand, IsOpen, cell_of, changes, clears, gets, loses, swaps}
 use Rattle.control_word.specs.Handles.{empty, equivalent, handle, has_object}
 use Rattle.control_word.specs.Layout.{spot}
@@ -30,11 +30,11 @@ use Rattle.control_word.specs.Packing.{IsCellWord, cell_bits}
 use Rattle.control_word.specs.State.{Has, HasRoom, Held, State, bag_size, ending, held, kind_of_member, put, same_held}
 use Rattle.control_word.specs.Steps.{purse}
 use Rattle.control_word.specs.Words.{blocks_of, counts_at, packed, slot}
-use Rattle.step_table.specs.declared.cell_deed.Cell.{Cell}
-use Rattle.step_table.specs.declared.cell_deed.Cell.TheVariants.{Member}
-use Rattle.step_table.specs.declared.cell_deed.CellDeed.TheVariants.{CompareSwap, Swap, Take, TakeOut}
-use Rattle.step_table.specs.declared.cell_deed.Compared.{Compared}
-use Rattle.step_table.specs.declared.past.Deed.TheVariants.{OnCell}
+use Rattle.step_table.specs.declared.cell_steps.cell_deed.Cell.{Cell}
+use Rattle.step_table.specs.declared.cell_steps.cell_deed.Cell.TheVariants.{Member}
+use Rattle.step_table.specs.declared.cell_steps.cell_deed.CellDeed.TheVariants.{CompareSwap, Swap, Take, TakeOut}
+use Rattle.step_table.specs.declared.cell_steps.cell_deed.Compared.{Compared}
+use Rattle.step_table.specs.declared.memory.past.Deed.TheVariants.{OnCell}
 use Rattle.step_table.specs.CellDeeds.{cell_in, handle_told, kind_in_state, object_at, owing_funds, word_of}
 use Rattle.step_table.specs.Cells.{HasInHand, IsOpenTo, ShowsCell, word_of_cell}
 use Rattle.step_table.specs.Openings.{opening}

@@ -4,14 +4,14 @@ use Rattle.std.proofs.Common.{arith}
 use Rattle.std.proofs.lemmas.Bool.{cases_eq, cases_lt}
 use Rattle.control_word.proofs.lists.Tallies.{put_cases}
 use Rattle.control_word.proofs.history.Legal.{sound}
-use Rattle.control_word.specs.declared.event.Entry.{Entry}
-use Rattle.control_word.specs.declared.event.Event.{Event}
-use Rattle.control_word.specs.declared.event.Event.TheVariants.{Shelve, Unshelve}
-use Rattle.control_word.specs.declared.event.Event.TheVariants.{Make, Share, Leave, Count, Expired, Read, WeakShare, WeakLeave, Lock, Load, Swap}
-use Rattle.control_word.specs.declared.event.Event.TheVariants.{Compare, ClearMember, Finish, Visit, Split, Join}
-use Rattle.control_word.specs.declared.event.Cell.{Cell}
-use Rattle.control_word.specs.declared.event.Cell.TheVariants.{Free, Member}
-use Rattle.control_word.specs.declared.handle.Handle.{Handle}
+use Rattle.control_word.specs.declared.model.event.Entry.{Entry}
+use Rattle.control_word.specs.declared.model.event.Event.{Event}
+use Rattle.control_word.specs.declared.model.event.Event.TheVariants.{Shelve, Unshelve}
+use Rattle.control_word.specs.declared.model.event.Event.TheVariants.{Make, Share, Leave, Count, Expired, Read, WeakShare, WeakLeave, Lock, Load, Swap}
+use Rattle.control_word.specs.declared.model.event.Event.TheVariants.{Compare, ClearMember, Finish, Visit, Split, Join}
+use Rattle.control_word.specs.declared.model.event.Cell.{Cell}
+use Rattle.control_word.specs.declared.model.event.Cell.TheVariants.{Free, Member}
+use Rattle.control_word.specs.declared.model.handle.Handle.{Handle}
 use Rattle.control_word.specs.Events.{after, fills, loses}
 use Rattle.control_word.specs.Handles.{object_of}
 use Rattle.control_word.specs.Histories.{IsLegal, leads, value, valued}

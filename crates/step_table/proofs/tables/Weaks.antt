@@ -5,19 +5,19 @@ use Rattle.control_word.proofs.history.Moving.{owner_counted}
 use Rattle.control_word.proofs.steps.Look.{look_event, tells_expired}
 use Rattle.control_word.proofs.steps.WeakLeave.{weak_leaves'}
 use Rattle.control_word.proofs.steps.WeakShare.{weak_shares}
-use Rattle.control_word.specs.declared.event.Event.TheVariants as event
-use Rattle.control_word.specs.declared.handle.Kind.{Kind}
-use Rattle.control_word.specs.declared.handle.Kind.TheVariants.{Owner, Weak}
+use Rattle.control_word.specs.declared.model.event.Event.TheVariants as event
+use Rattle.control_word.specs.declared.model.handle.Kind.{Kind}
+use Rattle.control_word.specs.declared.model.handle.Kind.TheVariants.{Owner, Weak}
 use Rattle.control_word.specs.declared.place.Block.{Block}
 use Rattle.control_word.specs.declared.place.Place.{Place}
-use Rattle.control_word.specs.declared.view.Pending.TheVariants.{Idle}
+use Rattle.control_word.specs.declared.model.view.Pending.TheVariants.{Idle}
 use Rattle.control_word.specs.Events.{Asks, is_gone, place_at}
 use Rattle.control_word.specs.Histories.{entry}
 use Rattle.control_word.specs.Layout.{spot}
 use Rattle.control_word.specs.State.{Has, bag_size, count, held, weak}
 use Rattle.control_word.specs.Steps.{me}
 use Rattle.control_word.specs.Views.{Stands, sees_as}
-use Rattle.step_table.specs.declared.past.Deed.TheVariants.{WeakShare, WeakLeave, Expired}
+use Rattle.step_table.specs.declared.memory.past.Deed.TheVariants.{WeakShare, WeakLeave, Expired}
 use Rattle.step_table.specs.Openings.{opening}
 use Rattle.step_table.specs.Stories.{Nothing, Story, Kept, story_after_deed, handle_in_block, object_of_block, pending, story_state, view_in, weak_in}
 use Rattle.step_table.proofs.tables.Owners.{mine_as, some_owner}

@@ -9,7 +9,7 @@ use Rattle.std.proofs.lemmas.Option.{same_Some}
 use Rattle.control_word.specs.declared.place.Block.{Block}
 use Rattle.step_threads.specs.declared.course.Course.{Course}
 use Rattle.step_threads.specs.declared.ending.Ending.{Ending}
-use Rattle.step_table.specs.declared.extent.Extent.{Extent}
+use Rattle.step_table.specs.declared.memory.extent.Extent.{Extent}
 use Rattle.step_threads.specs.Endings.{EndsAll, IsEndingAtStage, Stack, endings_in_block, first_of}
 use Rattle.step_table.specs.Stories.{Story}
 use Rattle.step_threads.specs.Threads.{EndsFit}

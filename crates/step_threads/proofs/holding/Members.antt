@@ -6,12 +6,12 @@ use Rattle.control_word.proofs.history.Legal.{sound}
 use Rattle.control_word.proofs.lists.Tallies.{put_cases}
 use Rattle.control_word.specs.Events.{moved_to}
 use Rattle.control_word.specs.State.{Object, Phase, State, ending, live, put, unmade}
-use Rattle.step_table.specs.declared.cell_deed.Cell.TheVariants.{Free, Member}
-use Rattle.step_table.specs.declared.cell_deed.CellDeed.{CellDeed}
-use Rattle.step_table.specs.declared.cell_deed.CellDeed.TheVariants.{Look, Bring, GiveBack, Take, Turn, Refill, Swap, CompareSwap, TakeOut}
-use Rattle.step_table.specs.declared.past.Deed.{Deed}
-use Rattle.step_table.specs.declared.past.Deed.TheVariants.{Prepare, Write, Claim, Share, WeakShare, Leave, WeakLeave, Lock, Count, Expired, Read, Clear}
-use Rattle.step_table.specs.declared.past.Deed.TheVariants.{Finish, OnShelf, OnCell}
+use Rattle.step_table.specs.declared.cell_steps.cell_deed.Cell.TheVariants.{Free, Member}
+use Rattle.step_table.specs.declared.cell_steps.cell_deed.CellDeed.{CellDeed}
+use Rattle.step_table.specs.declared.cell_steps.cell_deed.CellDeed.TheVariants.{Look, Bring, GiveBack, Take, Turn, Refill, Swap, CompareSwap, TakeOut}
+use Rattle.step_table.specs.declared.memory.past.Deed.{Deed}
+use Rattle.step_table.specs.declared.memory.past.Deed.TheVariants.{Prepare, Write, Claim, Share, WeakShare, Leave, WeakLeave, Lock, Count, Expired, Read, Clear}
+use Rattle.step_table.specs.declared.memory.past.Deed.TheVariants.{Finish, OnShelf, OnCell}
 use Rattle.step_table.specs.Openings.{opening}
 use Rattle.step_table.specs.Stories.{Kept, Story, story_after_deed, object_of_block, story_state}
 use Rattle.step_table.proofs.tables.ShelfDeeds.{shelf_framed}

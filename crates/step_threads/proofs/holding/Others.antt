@@ -8,9 +8,9 @@ use Rattle.control_word.proofs.history.Moving.{counted_live, owner_counted}
 use Rattle.control_word.specs.State.{Object, State, Stored, common, ending, live, same_stored, stock, stored, unmade, weak_number}
 use Rattle.step_threads.specs.declared.ending.Ending.{Ending}
 use Rattle.step_threads.specs.declared.half.Half.{Half}
-use Rattle.step_table.specs.declared.past.Deed.{Deed}
-use Rattle.step_table.specs.declared.past.Deed.TheVariants.{Prepare, Write, Claim, Share, WeakShare, Leave, WeakLeave, Lock, Count, Expired, Read, Clear}
-use Rattle.step_table.specs.declared.past.Deed.TheVariants.{Finish, OnShelf, OnCell}
+use Rattle.step_table.specs.declared.memory.past.Deed.{Deed}
+use Rattle.step_table.specs.declared.memory.past.Deed.TheVariants.{Prepare, Write, Claim, Share, WeakShare, Leave, WeakLeave, Lock, Count, Expired, Read, Clear}
+use Rattle.step_table.specs.declared.memory.past.Deed.TheVariants.{Finish, OnShelf, OnCell}
 use Rattle.step_threads.specs.Actors.{Stocks, in_store}
 use Rattle.step_threads.specs.Endings.{EndsAll}
 use Rattle.step_table.specs.Openings.{opening}

@@ -8,9 +8,9 @@ use Rattle.std.specs.List.Sorted.{IsPermutation}
 use Rattle.control_word.proofs.lists.Tallies.{num, num_without, stored_self, stored_true}
 use Rattle.control_word.specs.declared.place.Block.{Block}
 use Rattle.control_word.specs.State.{Has, Stored, same_stored, stored}
-use Rattle.step_table.specs.declared.form.Form.{Form}
+use Rattle.step_table.specs.declared.memory.form.Form.{Form}
 use Rattle.step_threads.specs.declared.half.Half.TheVariants.{Rest, Making}
-use Rattle.step_table.specs.declared.past.Deed.TheVariants.{Claim}
+use Rattle.step_table.specs.declared.memory.past.Deed.TheVariants.{Claim}
 use Rattle.step_threads.specs.Actors.{Stocks}
 use Rattle.step_table.specs.Stories.{Story, story_after_deed, story_state}
 

@@ -5,7 +5,7 @@ use crate::shapes::{alone, shape};
 use control_block::cell_calls::Site;
 use control_block::census::Holders;
 use control_word::Block;
-use control_word::handle::Kind;
+use control_word::model::handle::Kind;
 use handle_table::{Cell, SharedMember, run};
 use std::process::Abort;
 use std::test::Fail;

@@ -2,9 +2,9 @@ use Rattle.std.proofs.Common.{◌≡◌, ◌<◌, ◌-◌, ◌==◌, ◌∷◌, 
 use Rattle.atomic_table.specs.Table.{Allows, step}
 use mathlib.Core.Option.{none}
 use Rattle.control_word.specs.Histories.{value}
-use Rattle.control_word.specs.declared.event.Event.TheVariants.{Finish}
+use Rattle.control_word.specs.declared.model.event.Event.TheVariants.{Finish}
 use Rattle.control_word.specs.declared.place.Block.{Block}
-use Rattle.control_word.specs.declared.view.Pending.TheVariants.{Idle}
+use Rattle.control_word.specs.declared.model.view.Pending.TheVariants.{Idle}
 use Rattle.control_block.specs.Plays.{Added, Ends, IsClear, fetched, tells}
 use Rattle.control_block.specs.Rule.{Ruled, opening_of}
 use Rattle.control_block.specs.declared.board.Sight.{Sight}

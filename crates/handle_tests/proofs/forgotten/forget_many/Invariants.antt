@@ -1,5 +1,5 @@
 use Rattle.std.proofs.Common.{◌≡◌}
-use Rattle.control_word.specs.declared.handle.Kind.TheVariants.{Owner}
+use Rattle.control_word.specs.declared.model.handle.Kind.TheVariants.{Owner}
 use Rattle.control_block.specs.Desks.{IsSameDesk}
 use Rattle.control_block.specs.CellCalls.{HoldsHandle}
 use Rattle.handle_tests.proofs.forgotten.forget_many.Given as goal

@@ -1,6 +1,6 @@
 use Rattle.std.proofs.Common.{◌∙◌, ◌++◌, ◌∷◌, [], ℕ, List, ap, append_assoc, codes, sym}
 use Rattle.std.specs.Prelude.{string_bytes}
-use Rattle.step_table.specs.declared.cell_deed.Cell.TheVariants.{Free}
+use Rattle.step_table.specs.declared.cell_steps.cell_deed.Cell.TheVariants.{Free}
 use Rattle.leak_report.specs.Cells.{block_cell_text}
 use Rattle.leak_report.proofs.graph.put_box.Goals as goal
 

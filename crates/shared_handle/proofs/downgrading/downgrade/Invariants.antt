@@ -1,5 +1,5 @@
 use Rattle.std.proofs.Common.{None}
-use Rattle.control_word.specs.declared.handle.Kind.TheVariants.{Weak}
+use Rattle.control_word.specs.declared.model.handle.Kind.TheVariants.{Weak}
 use Rattle.shared_handle.proofs.downgrading.downgrade.Given as goal
 
 abbrev pub ghosts-share_weak : goal.ghosts-share_weak

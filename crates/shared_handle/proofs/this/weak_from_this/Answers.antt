@@ -1,5 +1,5 @@
 use Rattle.std.proofs.Common.{refl, sym, inl, inr, subst, Option}
-use Rattle.control_word.specs.declared.handle.Kind.TheVariants.{Owner}
+use Rattle.control_word.specs.declared.model.handle.Kind.TheVariants.{Owner}
 use Rattle.control_word.specs.declared.place.Block.{Block}
 use Rattle.control_block.specs.Desks.{DeskNow, HasHandle}
 use Rattle.control_block.specs.CellCalls.{HoldsHandle}

@@ -1,7 +1,7 @@
 use Rattle.std.proofs.Common.{◌≡◌, true, false, refl, sym, subst, arith}
 use Rattle.std.specs.Prelude.{All}
 use Rattle.std.proofs.lemmas.List.Elements.{All-map}
-use Rattle.step_threads.specs.declared.call.Actor.{Actor}
+use Rattle.step_threads.specs.declared.programs.call.Actor.{Actor}
 use Rattle.step_threads.specs.Programs.{IsPart, Part, part_of}
 use Rattle.step_core.specs.Starts.{HasFields}
 use Rattle.step_core.proofs.Programs.{all_mapped, held_by_more}

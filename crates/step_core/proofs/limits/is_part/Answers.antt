@@ -1,7 +1,7 @@
 use Rattle.std.proofs.Common.{◌<◌, List, [], length, get_or, refl, subst}
-use Rattle.step_threads.specs.declared.call.Call.{Call}
-use Rattle.step_threads.specs.declared.call.Call.TheVariants.{Make}
-use Rattle.control_word.specs.declared.handle.Kind.{Kind}
+use Rattle.step_threads.specs.declared.programs.call.Call.{Call}
+use Rattle.step_threads.specs.declared.programs.call.Call.TheVariants.{Make}
+use Rattle.control_word.specs.declared.model.handle.Kind.{Kind}
 use Rattle.step_threads.specs.Programs.{IsApartFromCell, IsWellNamed}
 use Rattle.step_core.specs.Starts.{HasFields}
 use Rattle.step_core.proofs.Programs.{held_by_more}

@@ -1,8 +1,8 @@
 use Rattle.std.proofs.Common.{◌≡◌, ◌≤◌, ◌+◌, ◌∙◌, ℕ, List, length, sym, ap, subst, arith}
-use Rattle.step_threads.specs.declared.call.Call.{Call}
+use Rattle.step_threads.specs.declared.programs.call.Call.{Call}
 use Rattle.step_threads.specs.Acts.{tasks_from}
 use Rattle.std.specs.Prelude.{All}
-use Rattle.step_threads.specs.declared.act.Task.{Task}
+use Rattle.step_threads.specs.declared.programs.act.Task.{Task}
 use Rattle.step_threads.specs.Courses.{HasCell}
 use Rattle.step_threads.specs.Endings.{Stack}
 use Rattle.step_table.specs.Holdings.{HoldsBag, Slots}

@@ -1,6 +1,6 @@
 use Rattle.std.proofs.Common.{refl, sym, subst, arith}
 use Rattle.std.specs.Prelude.{All}
-use Rattle.step_threads.specs.declared.call.Actor.{Actor}
+use Rattle.step_threads.specs.declared.programs.call.Actor.{Actor}
 use Rattle.step_threads.specs.Programs.{AllHaveCells, IsPart, Part, part_of}
 use Rattle.step_core.specs.Starts.{HasFields, first_story}
 use Rattle.step_core.proofs.Openings.{push_started}

@@ -1,6 +1,6 @@
 use Rattle.std.proofs.Common.{◌≡◌, length, sym, subst}
 use Rattle.std.proofs.lemmas.List.{length-map}
-use Rattle.step_table.specs.declared.extent.Extent.{Extent}
+use Rattle.step_table.specs.declared.memory.extent.Extent.{Extent}
 use Rattle.step_threads.specs.Programs.{part_of}
 use Rattle.step_core.specs.Starts.{first_story}
 use Rattle.step_table.specs.Stories.{Story}

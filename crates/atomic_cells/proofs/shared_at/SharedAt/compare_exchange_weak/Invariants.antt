@@ -1,6 +1,6 @@
 use Rattle.std.proofs.Common.{true}
 use Rattle.atomic_cells.specs.Sites.{shared_cell}
-use Rattle.control_word.specs.declared.handle.Kind.TheVariants.{Owner}
+use Rattle.control_word.specs.declared.model.handle.Kind.TheVariants.{Owner}
 use Rattle.control_block.specs.CellCalls.{handle_in}
 use Rattle.atomic_cells.proofs.shared_at.SharedAt.compare_exchange_weak.Given as goal
 

@@ -1,5 +1,5 @@
 use Rattle.std.proofs.Common.{◌+◌, ap, subst, ◌∙◌}
-use Rattle.control_word.specs.declared.handle.Kind.TheVariants.{Owner}
+use Rattle.control_word.specs.declared.model.handle.Kind.TheVariants.{Owner}
 use Rattle.control_block.specs.CellCalls.{cell_of_site, handle_in}
 use Rattle.control_block.specs.Desks.{endings_of}
 use Rattle.control_block.specs.Storing.{Replaces}

@@ -1,6 +1,6 @@
 use Rattle.std.proofs.Common.{false}
 use Rattle.control_word.specs.Handles.{empty}
-use Rattle.control_word.specs.declared.handle.Kind.TheVariants.{Owner}
+use Rattle.control_word.specs.declared.model.handle.Kind.TheVariants.{Owner}
 use Rattle.control_block.specs.CellCalls.{cell_of_site, handle_in}
 use Rattle.atomic_cells.proofs.shared_at.SharedAt.store.Given as goal
 

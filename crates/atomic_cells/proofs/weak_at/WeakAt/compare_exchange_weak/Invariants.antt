@@ -1,6 +1,6 @@
 use Rattle.std.proofs.Common.{true}
 use Rattle.atomic_cells.specs.Sites.{weak_cell}
-use Rattle.control_word.specs.declared.handle.Kind.TheVariants.{Weak}
+use Rattle.control_word.specs.declared.model.handle.Kind.TheVariants.{Weak}
 use Rattle.control_block.specs.CellCalls.{handle_in}
 use Rattle.atomic_cells.proofs.weak_at.WeakAt.compare_exchange_weak.Given as goal
 

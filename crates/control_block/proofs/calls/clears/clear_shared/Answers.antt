@@ -2,9 +2,9 @@ use Rattle.std.proofs.Common.{◌≡◌, ◌+◌, cond, Option, refl, sym, ap, s
 use Rattle.std.proofs.lemmas.Bool.{cond-false}
 use Rattle.std.specs.Prelude.{is_some}
 use mir.Val.{bool_byte}
-use Rattle.control_word.specs.declared.event.Event.TheVariants.{ClearMember}
-use Rattle.control_word.specs.declared.handle.Kind.TheVariants.{Owner, Weak}
-use Rattle.control_word.specs.declared.cell.CellWord.{CellWord}
+use Rattle.control_word.specs.declared.model.event.Event.TheVariants.{ClearMember}
+use Rattle.control_word.specs.declared.model.handle.Kind.TheVariants.{Owner, Weak}
+use Rattle.control_word.specs.declared.packed.cell.CellWord.{CellWord}
 use Rattle.control_block.specs.Clearing.{Empties}
 use Rattle.control_block.specs.Desks.{DeskNow}
 use Rattle.control_block.specs.Inside.{desk_now}

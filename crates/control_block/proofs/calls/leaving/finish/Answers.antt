@@ -1,8 +1,8 @@
 use Rattle.std.proofs.Common.{◌+◌, ◌∷◌, cond, refl, sym, ap, ◌∙◌, arith, None, length}
 use Rattle.control_word.specs.Histories.{leads}
 use Rattle.control_word.specs.State.{stored}
-use Rattle.control_word.specs.declared.event.Event.TheVariants.{Finish}
-use Rattle.control_word.specs.declared.view.Pending.TheVariants.{Idle}
+use Rattle.control_word.specs.declared.model.event.Event.TheVariants.{Finish}
+use Rattle.control_word.specs.declared.model.view.Pending.TheVariants.{Idle}
 use Rattle.control_word.proofs.history.Legal.{sound}
 use Rattle.control_block.specs.Desks.{bag_of, endings_of, latest_of, stock_of}
 use Rattle.control_block.specs.Inside.{desk_now}

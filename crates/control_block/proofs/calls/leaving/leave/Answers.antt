@@ -5,9 +5,9 @@ use Rattle.control_block.specs.Plays.{known}
 use Rattle.control_word.specs.Handles.{handle, same_handle}
 use Rattle.control_word.specs.Histories.{leads}
 use Rattle.control_word.specs.State.{without}
-use Rattle.control_word.specs.declared.event.Event.TheVariants.{Leave}
-use Rattle.control_word.specs.declared.handle.Kind.TheVariants.{Owner}
-use Rattle.control_word.specs.declared.view.Pending.TheVariants.{Idle}
+use Rattle.control_word.specs.declared.model.event.Event.TheVariants.{Leave}
+use Rattle.control_word.specs.declared.model.handle.Kind.TheVariants.{Owner}
+use Rattle.control_word.specs.declared.model.view.Pending.TheVariants.{Idle}
 use Rattle.control_word.proofs.history.Legal.{sound}
 use Rattle.control_block.specs.Desks.{bag_of, endings_of, on_latest, stock_of}
 use Rattle.control_block.specs.Inside.{desk_now}

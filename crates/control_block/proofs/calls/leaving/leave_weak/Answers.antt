@@ -3,9 +3,9 @@ use Rattle.control_word.proofs.history.Legal.{sound}
 use Rattle.control_word.specs.Handles.{handle, same_handle}
 use Rattle.control_word.specs.Histories.{leads}
 use Rattle.control_word.specs.State.{stored, without}
-use Rattle.control_word.specs.declared.event.Event.TheVariants.{WeakLeave}
-use Rattle.control_word.specs.declared.handle.Kind.TheVariants.{Weak}
-use Rattle.control_word.specs.declared.view.Pending.TheVariants.{Idle}
+use Rattle.control_word.specs.declared.model.event.Event.TheVariants.{WeakLeave}
+use Rattle.control_word.specs.declared.model.handle.Kind.TheVariants.{Weak}
+use Rattle.control_word.specs.declared.model.view.Pending.TheVariants.{Idle}
 use Rattle.control_block.specs.Desks.{bag_of, endings_of, on_latest, stock_of}
 use Rattle.control_block.specs.Inside.{desk_now}
 use Rattle.control_block.specs.Rule.{opening_of}

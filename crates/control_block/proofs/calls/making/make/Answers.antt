@@ -2,9 +2,9 @@ use Rattle.std.proofs.Common.{◌∷◌, refl, sym, ap, ◌∙◌, arith, None, 
 use Rattle.control_word.specs.Events.{origin}
 use Rattle.control_word.specs.Handles.{handle}
 use Rattle.control_word.specs.Histories.{leads}
-use Rattle.control_word.specs.declared.event.Event.TheVariants.{Make}
-use Rattle.control_word.specs.declared.handle.Kind.TheVariants.{Owner}
-use Rattle.control_word.specs.declared.view.Pending.TheVariants.{Idle}
+use Rattle.control_word.specs.declared.model.event.Event.TheVariants.{Make}
+use Rattle.control_word.specs.declared.model.handle.Kind.TheVariants.{Owner}
+use Rattle.control_word.specs.declared.model.view.Pending.TheVariants.{Idle}
 use Rattle.control_word.proofs.history.Legal.{sound}
 use Rattle.control_block.specs.Desks.{endings_of, bag_of, stock_of}
 use Rattle.control_block.specs.Rule.{opening_of}

@@ -1,6 +1,6 @@
 use Rattle.std.proofs.Common.{refl, sym, ap, ◌∙◌, arith, None}
-use Rattle.control_word.specs.declared.event.Event.TheVariants.{Count}
-use Rattle.control_word.specs.declared.view.Pending.TheVariants.{Idle}
+use Rattle.control_word.specs.declared.model.event.Event.TheVariants.{Count}
+use Rattle.control_word.specs.declared.model.view.Pending.TheVariants.{Idle}
 use Rattle.control_block.specs.Desks.{bag_of, on_latest}
 use Rattle.control_block.specs.Inside.{desk_now}
 use Rattle.control_block.proofs.DeskBags.{adds_of, bag_stays, holding_in, calm, keeps_quietly}

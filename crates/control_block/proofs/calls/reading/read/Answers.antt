@@ -1,7 +1,7 @@
 use Rattle.std.proofs.Common.{◌+◌, refl, sym, ap, ◌∙◌, arith, None, Some}
-use Rattle.control_word.specs.declared.event.Event.TheVariants.{Read}
-use Rattle.control_word.specs.declared.handle.Kind.TheVariants.{Owner}
-use Rattle.control_word.specs.declared.view.Pending.TheVariants.{Idle}
+use Rattle.control_word.specs.declared.model.event.Event.TheVariants.{Read}
+use Rattle.control_word.specs.declared.model.handle.Kind.TheVariants.{Owner}
+use Rattle.control_word.specs.declared.model.view.Pending.TheVariants.{Idle}
 use Rattle.control_block.specs.Desks.{bag_of, on_latest}
 use Rattle.control_block.specs.Inside.{desk_now}
 use Rattle.control_block.proofs.DeskBags.{adds_of, bag_stays, holding_in, calm, keeps_quietly, field_low}

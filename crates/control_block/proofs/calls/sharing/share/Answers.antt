@@ -1,8 +1,8 @@
 use Rattle.std.proofs.Common.{refl, sym, ap, ◌∙◌, arith, Some, ◌∷◌}
 use Rattle.control_word.specs.Handles.{handle}
-use Rattle.control_word.specs.declared.event.Event.TheVariants.{Share}
-use Rattle.control_word.specs.declared.handle.Kind.TheVariants.{Owner}
-use Rattle.control_word.specs.declared.view.Pending.TheVariants.{Idle}
+use Rattle.control_word.specs.declared.model.event.Event.TheVariants.{Share}
+use Rattle.control_word.specs.declared.model.handle.Kind.TheVariants.{Owner}
+use Rattle.control_word.specs.declared.model.view.Pending.TheVariants.{Idle}
 use Rattle.control_block.specs.Desks.{bag_of, on_latest}
 use Rattle.control_block.specs.Inside.{desk_now}
 use Rattle.control_block.proofs.DeskBags.{not_full, adds_of, bag_gets, block_still, holding_in, calm, keeps_quietly, points_well, room_left}

@@ -1,4 +1,4 @@
-use Rattle.control_word.specs.declared.handle.Kind.TheVariants.{Owner}
+use Rattle.control_word.specs.declared.model.handle.Kind.TheVariants.{Owner}
 use Rattle.control_block.specs.Plays.{known}
 use Rattle.control_block.proofs.calls.sharing.share.Given as goal
 

@@ -1,8 +1,8 @@
 use Rattle.std.proofs.Common.{◌∷◌, refl, sym, ap, ◌∙◌, arith, None, Some}
 use Rattle.control_word.specs.Handles.{handle}
-use Rattle.control_word.specs.declared.event.Event.TheVariants.{WeakShare}
-use Rattle.control_word.specs.declared.handle.Kind.TheVariants.{Weak}
-use Rattle.control_word.specs.declared.view.Pending.TheVariants.{Idle}
+use Rattle.control_word.specs.declared.model.event.Event.TheVariants.{WeakShare}
+use Rattle.control_word.specs.declared.model.handle.Kind.TheVariants.{Weak}
+use Rattle.control_word.specs.declared.model.view.Pending.TheVariants.{Idle}
 use Rattle.control_block.specs.Desks.{bag_of, latest_of, on_latest}
 use Rattle.control_block.specs.Inside.{desk_now}
 use Rattle.control_block.proofs.DeskBags.{not_full, adds_of, bag_gets, calm, keeps_quietly, room_left}

@@ -4,10 +4,10 @@ use mir.Val.{bool_byte}
 use Rattle.control_word.specs.Events.{InHand}
 use Rattle.control_word.specs.Handles.{object_of}
 use Rattle.control_word.specs.State.{bag_size}
-use Rattle.control_word.specs.declared.cell.CellWord.{CellWord}
-use Rattle.control_word.specs.declared.event.Event.TheVariants.{Swap}
-use Rattle.control_word.specs.declared.handle.Handle.{Handle}
-use Rattle.control_word.specs.declared.handle.Kind.TheVariants.{Owner}
+use Rattle.control_word.specs.declared.packed.cell.CellWord.{CellWord}
+use Rattle.control_word.specs.declared.model.event.Event.TheVariants.{Swap}
+use Rattle.control_word.specs.declared.model.handle.Handle.{Handle}
+use Rattle.control_word.specs.declared.model.handle.Kind.TheVariants.{Owner}
 use Rattle.control_word.specs.declared.place.Block.{Block}
 use Rattle.control_word.specs.declared.place.Place.{Place}
 use Rattle.control_block.specs.CellCalls.{HoldsHandle, handle_in, word_at}

@@ -2,9 +2,9 @@ use Rattle.std.proofs.Common.{◌∙◌, None, Some, refl, sym, ap, length, arit
 use Rattle.control_word.proofs.history.Legal.{sound}
 use Rattle.control_word.specs.Histories.{leads}
 use Rattle.control_word.specs.Layout.{spot}
-use Rattle.control_word.specs.declared.event.Event.TheVariants.{Visit}
-use Rattle.control_word.specs.declared.handle.Kind.TheVariants.{Owner}
-use Rattle.control_word.specs.declared.view.Pending.TheVariants.{Idle}
+use Rattle.control_word.specs.declared.model.event.Event.TheVariants.{Visit}
+use Rattle.control_word.specs.declared.model.handle.Kind.TheVariants.{Owner}
+use Rattle.control_word.specs.declared.model.view.Pending.TheVariants.{Idle}
 use Rattle.control_block.specs.Desks.{endings_of, bag_of, on_latest, stock_of}
 use Rattle.control_block.specs.Inside.{desk_now}
 use Rattle.control_block.specs.Plays.{known}

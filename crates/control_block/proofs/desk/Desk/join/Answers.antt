@@ -7,7 +7,7 @@ use Rattle.control_word.specs.Histories.{IsLegal}
 use Rattle.control_word.specs.Layout.{IsWithinLimits}
 use Rattle.control_word.specs.State.{Held, bag, bag_size, same_stored, stock, stored}
 use Rattle.control_word.specs.Words.{blocks_of}
-use Rattle.control_word.specs.declared.handle.Handle.{Handle}
+use Rattle.control_word.specs.declared.model.handle.Handle.{Handle}
 use Rattle.control_word.specs.declared.shape.Shape.{Shape}
 use Rattle.control_block.specs.Desks.{DeskNow, IsEnding, allowance_of, bag_of, by_block, endings_of, many_ending, member_in, stock_of}
 use Rattle.control_block.specs.Inside.{IsSized}

@@ -1,6 +1,6 @@
 use Rattle.std.proofs.Common.{◌+◌, ◌/◌, ◌<◌, ◌≤◌, refl, sym, ap, ◌∙◌, arith, None, length}
-use Rattle.control_word.specs.declared.event.Event.TheVariants.{Shelve}
-use Rattle.control_word.specs.declared.view.Pending.TheVariants.{Idle}
+use Rattle.control_word.specs.declared.model.event.Event.TheVariants.{Shelve}
+use Rattle.control_word.specs.declared.model.view.Pending.TheVariants.{Idle}
 use Rattle.control_block.specs.Desks.{stock_of}
 use Rattle.control_block.proofs.DeskBags.{calm}
 use Rattle.control_block.proofs.DeskSteps.{as_many, came, desk_after, ending_same}

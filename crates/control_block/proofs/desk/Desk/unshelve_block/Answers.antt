@@ -1,7 +1,7 @@
 use Rattle.std.proofs.Common.{◌≡◌, ◌+◌, ◌<◌, refl, sym, ap, subst, ◌∙◌, arith, None, length, true}
 use Rattle.control_word.specs.State.{on_shelf}
-use Rattle.control_word.specs.declared.event.Event.TheVariants.{Unshelve}
-use Rattle.control_word.specs.declared.view.Pending.TheVariants.{Idle}
+use Rattle.control_word.specs.declared.model.event.Event.TheVariants.{Unshelve}
+use Rattle.control_word.specs.declared.model.view.Pending.TheVariants.{Idle}
 use Rattle.control_block.specs.Desks.{DeskNow, stock_of}
 use Rattle.control_block.specs.Own.{IsSole}
 use Rattle.control_block.specs.Plays.{At, known}

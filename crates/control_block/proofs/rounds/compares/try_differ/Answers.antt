@@ -1,10 +1,10 @@
 use Rattle.std.proofs.Common.{false, refl, sym, subst}
 use Rattle.atomic_table.specs.Seated.{TableId}
 use Rattle.control_word.specs.Handles.{empty}
-use Rattle.control_word.specs.declared.event.Event.{Event}
-use Rattle.control_word.specs.declared.event.Event.TheVariants.{Compare}
-use Rattle.control_word.specs.declared.handle.Handle.{Handle}
-use Rattle.control_word.specs.declared.handle.Kind.{Kind}
+use Rattle.control_word.specs.declared.model.event.Event.{Event}
+use Rattle.control_word.specs.declared.model.event.Event.TheVariants.{Compare}
+use Rattle.control_word.specs.declared.model.handle.Handle.{Handle}
+use Rattle.control_word.specs.declared.model.handle.Kind.{Kind}
 use Rattle.control_block.specs.CellPlays.{Took}
 use Rattle.control_block.specs.CellRounds.{CameOut, IsCounted}
 use Rattle.control_block.specs.Inside.{IsSized}

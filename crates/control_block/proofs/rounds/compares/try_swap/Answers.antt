@@ -1,6 +1,6 @@
 use Rattle.std.proofs.Common.{true, refl, sym, ap, subst, ◌∙◌}
-use Rattle.control_word.specs.declared.event.Event.TheVariants.{Compare}
-use Rattle.control_word.specs.declared.handle.Kind.{Kind}
+use Rattle.control_word.specs.declared.model.event.Event.TheVariants.{Compare}
+use Rattle.control_word.specs.declared.model.handle.Kind.{Kind}
 use Rattle.control_word.specs.declared.shape.Shape.{Shape}
 use Rattle.atomic_table.specs.Seated.{TableId}
 use Rattle.control_block.specs.CellPlays.{Gave, kind_in}

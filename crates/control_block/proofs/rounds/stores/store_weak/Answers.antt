@@ -1,7 +1,7 @@
 use Rattle.std.proofs.Common.{refl, subst}
 use Rattle.atomic_table.specs.Seated.{TableId}
-use Rattle.control_word.specs.declared.event.Event.TheVariants.{Swap}
-use Rattle.control_word.specs.declared.handle.Kind.TheVariants.{Weak}
+use Rattle.control_word.specs.declared.model.event.Event.TheVariants.{Swap}
+use Rattle.control_word.specs.declared.model.handle.Kind.TheVariants.{Weak}
 use Rattle.control_block.specs.Inside.{IsSized}
 use Rattle.control_block.proofs.CellRounds.{gave_counted}
 use Rattle.control_block.proofs.CellTrades.{swap_trades}

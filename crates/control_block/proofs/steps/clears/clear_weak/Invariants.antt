@@ -1,6 +1,6 @@
 use Rattle.std.proofs.Common.{None}
 use Rattle.control_word.specs.Handles.{object_of}
-use Rattle.control_word.specs.declared.handle.Kind.TheVariants.{Weak}
+use Rattle.control_word.specs.declared.model.handle.Kind.TheVariants.{Weak}
 use Rattle.control_block.specs.Leaving.{block_out, shown_handle}
 use Rattle.control_block.proofs.steps.clears.clear_weak.Given as goal
 

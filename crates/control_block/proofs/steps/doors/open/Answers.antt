@@ -2,9 +2,9 @@ use Rattle.std.proofs.Common.{◌+◌, ◌-◌, ◌<◌, ◌%◌, ◌^◌, ◌�
 use Rattle.atomic_table.specs.Table.{Allows, step}
 use mathlib.Core.Option.{none}
 use Rattle.control_word.specs.Handles.{owner}
-use Rattle.control_word.specs.declared.event.Event.TheVariants.{Visit}
+use Rattle.control_word.specs.declared.model.event.Event.TheVariants.{Visit}
 use Rattle.control_word.specs.declared.place.Block.{Block}
-use Rattle.control_word.specs.declared.view.Pending.TheVariants.{Idle, Visiting}
+use Rattle.control_word.specs.declared.model.view.Pending.TheVariants.{Idle, Visiting}
 use Rattle.control_block.specs.DoorPlays.{opened}
 use Rattle.control_block.specs.Plays.{Added}
 use Rattle.control_block.specs.Rule.{Ruled}

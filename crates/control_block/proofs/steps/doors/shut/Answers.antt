@@ -2,7 +2,7 @@ use Rattle.std.proofs.Common.{◌==◌, ◌+◌, ◌-◌, ◌<◌, ◌∙◌, �
 use Rattle.atomic_table.specs.Table.{Allows, step}
 use mathlib.Core.Option.{none}
 use prog.Atomic.{either}
-use Rattle.control_word.specs.declared.handle.Kind.TheVariants.{Owner}
+use Rattle.control_word.specs.declared.model.handle.Kind.TheVariants.{Owner}
 use Rattle.control_word.specs.declared.place.Block.{Block}
 use Rattle.control_block.specs.DoorPlays.{shut}
 use Rattle.control_block.specs.Plays.{At, peeked}

@@ -3,10 +3,10 @@ use Rattle.atomic_table.specs.Table.{Allows, step}
 use mathlib.Core.Option.{none}
 use Rattle.control_word.specs.Handles.{owner}
 use Rattle.control_word.specs.Histories.{value}
-use Rattle.control_word.specs.declared.event.Event.TheVariants.{Leave}
-use Rattle.control_word.specs.declared.handle.Kind.TheVariants.{Owner}
+use Rattle.control_word.specs.declared.model.event.Event.TheVariants.{Leave}
+use Rattle.control_word.specs.declared.model.handle.Kind.TheVariants.{Owner}
 use Rattle.control_word.specs.declared.place.Block.{Block}
-use Rattle.control_word.specs.declared.view.Pending.TheVariants.{Idle}
+use Rattle.control_word.specs.declared.model.view.Pending.TheVariants.{Idle}
 use Rattle.control_block.specs.Plays.{At, Ends, left}
 use Rattle.control_block.specs.Rule.{Ruled, opening_of, seeing}
 use Rattle.control_block.proofs.Chairs.{added_as, first_slot}

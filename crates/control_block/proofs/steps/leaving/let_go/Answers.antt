@@ -1,6 +1,6 @@
 use Rattle.std.proofs.Common.{◌≡◌, ℕ, ◌-◌, ◌≤◌, refl, ap, subst}
 use Rattle.std.specs.Prelude.{IfSome}
-use Rattle.control_word.specs.declared.handle.Kind.TheVariants.{Owner}
+use Rattle.control_word.specs.declared.model.handle.Kind.TheVariants.{Owner}
 use Rattle.control_block.specs.CellRounds.{IsCounted}
 use Rattle.control_block.specs.Plays.{known}
 use Rattle.control_block.proofs.LetGo.{gone_rests, may_go, none_gone, none_owed, some_gone}

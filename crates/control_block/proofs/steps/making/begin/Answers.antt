@@ -2,7 +2,7 @@ use Rattle.std.proofs.Common.{◌-◌, ◌<◌, ◌∷◌, None, Some, sym, subs
 use Rattle.atomic_table.specs.Table.{Allows, step}
 use mathlib.Core.Option.{none}
 use Rattle.control_word.specs.declared.place.Block.{Block}
-use Rattle.control_word.specs.declared.view.Pending.TheVariants.{Making}
+use Rattle.control_word.specs.declared.model.view.Pending.TheVariants.{Making}
 use Rattle.control_block.specs.Plays.{Moved, began}
 use Rattle.control_block.specs.Rule.{Ruled}
 use Rattle.control_block.proofs.kept.Make.{allows_begin}

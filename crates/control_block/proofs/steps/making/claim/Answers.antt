@@ -2,9 +2,9 @@ use Rattle.std.proofs.Common.{◌<◌, ◌∷◌, None, Some, sym, ap, subst, �
 use Rattle.atomic_table.specs.Table.{Allows, step}
 use mathlib.Core.Option.{none}
 use Rattle.control_word.specs.Words.{flags_of}
-use Rattle.control_word.specs.declared.event.Event.TheVariants.{Make}
+use Rattle.control_word.specs.declared.model.event.Event.TheVariants.{Make}
 use Rattle.control_word.specs.declared.place.Block.{Block}
-use Rattle.control_word.specs.declared.view.Pending.TheVariants.{Idle, Making}
+use Rattle.control_word.specs.declared.model.view.Pending.TheVariants.{Idle, Making}
 use Rattle.control_block.specs.Plays.{made, tells}
 use Rattle.control_block.specs.Rule.{Ruled}
 use Rattle.control_block.proofs.Chairs.{first_slot, has_hand, makes, moved_added, room_moved, some_same, stays_awake}

@@ -1,6 +1,6 @@
 use Rattle.std.proofs.Common.{◌∷◌, List, ℕ, Bool, None, Some, length, sym, ap, subst, ◌∙◌, arith}
 use Rattle.control_word.specs.Words.{flags_of}
-use Rattle.control_word.specs.declared.event.Event.TheVariants.{Make}
+use Rattle.control_word.specs.declared.model.event.Event.TheVariants.{Make}
 use Rattle.control_block.specs.Plays.{IsPrepared, tells}
 use Rattle.control_block.proofs.Chairs.{fills, flag_bits}
 use Rattle.control_block.proofs.steps.making.make.Goals as goal

@@ -1,6 +1,6 @@
 use Rattle.std.proofs.Common.{◌∙◌, List, ap, refl, subst, sym}
-use Rattle.control_word.specs.declared.handle.Handle.{Handle}
-use Rattle.control_word.specs.declared.handle.Kind.{Kind}
+use Rattle.control_word.specs.declared.model.handle.Handle.{Handle}
+use Rattle.control_word.specs.declared.model.handle.Kind.{Kind}
 use Rattle.control_block.specs.CellCalls.{HoldsHandle, IsOpenAt, cell_of_site, with_handle}
 use Rattle.control_block.specs.Desks.{bag_of}
 use Rattle.control_block.specs.HandleLists.{without_held}

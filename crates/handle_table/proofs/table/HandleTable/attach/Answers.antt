@@ -1,5 +1,5 @@
 use Rattle.std.proofs.Common.{inl, refl, subst}
-use Rattle.control_word.specs.declared.event.Cell.TheVariants.{Free}
+use Rattle.control_word.specs.declared.model.event.Cell.TheVariants.{Free}
 use Rattle.control_block.specs.Own.{IsSole}
 use Rattle.control_block.specs.declared.handles.Held.TheVariants.{Owner}
 use Rattle.scene_structures.specs.Observers.{Attaches, IsAttached}

@@ -1,5 +1,5 @@
 use Rattle.std.proofs.Common.{◌∙◌, inl, inr, refl, subst, sym}
-use Rattle.control_word.specs.declared.handle.Kind.{Kind}
+use Rattle.control_word.specs.declared.model.handle.Kind.{Kind}
 use Rattle.control_block.specs.CellCalls.{cell_of_site}
 use Rattle.atomic_cells.specs.Compares as cells
 use Rattle.handle_table.specs.Cells.{WhyNoneOf, kind_of_cell}

@@ -1,5 +1,5 @@
 use Rattle.std.proofs.Common.{refl}
-use Rattle.control_word.specs.declared.event.Cell.TheVariants.{Free}
+use Rattle.control_word.specs.declared.model.event.Cell.TheVariants.{Free}
 use Rattle.control_block.specs.Own.{IsSole}
 use Rattle.scene_structures.specs.Walks.{IsToldList, WalksOver}
 use Rattle.handle_table.proofs.Structured.{desk_does, whole_still}

@@ -1,5 +1,5 @@
 use Rattle.std.proofs.Common.{◌∷◌, ◌∙◌, List, Some, ap, inl, inr, refl, subst, sym}
-use Rattle.control_word.specs.declared.handle.Kind.{Kind}
+use Rattle.control_word.specs.declared.model.handle.Kind.{Kind}
 use Rattle.control_block.specs.CellCalls.{cell_of_site}
 use Rattle.atomic_cells.specs.Cells as cells
 use Rattle.handle_table.specs.Calls.{Assigns}

@@ -1,5 +1,5 @@
 use Rattle.std.proofs.Common.{◌∙◌, ap, inl, inr, refl, subst}
-use Rattle.control_word.specs.declared.handle.Kind.{Kind}
+use Rattle.control_word.specs.declared.model.handle.Kind.{Kind}
 use Rattle.control_block.specs.CellCalls.{cell_of_site}
 use Rattle.control_block.specs.Desks.{DeskNow}
 use Rattle.atomic_cells.specs.Cells as cells

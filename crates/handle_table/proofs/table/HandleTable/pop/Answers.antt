@@ -1,6 +1,6 @@
 use Rattle.std.proofs.Common.{◌≡◌, ◌+◌, refl, subst, true}
-use Rattle.control_word.specs.declared.event.Cell.TheVariants.{Free}
-use Rattle.control_word.specs.declared.handle.Kind.TheVariants as kind
+use Rattle.control_word.specs.declared.model.event.Cell.TheVariants.{Free}
+use Rattle.control_word.specs.declared.model.handle.Kind.TheVariants as kind
 use Rattle.control_block.specs.Desks.{bag_of}
 use Rattle.control_block.specs.Own.{IsSole}
 use Rattle.control_block.specs.declared.handles.Held.TheVariants.{Owner}

@@ -1,5 +1,5 @@
 use Rattle.std.proofs.Common.{◌≡◌, ◌%◌, ◌^◌, ℕ, List, None, refl}
-use Rattle.control_word.specs.declared.event.Cell.TheVariants.{Free}
+use Rattle.control_word.specs.declared.model.event.Cell.TheVariants.{Free}
 use Rattle.scene_structures.specs.Prunes.{IsPruned, Prunes}
 use Rattle.handle_table.proofs.Structured.{desk_does, whole_still}
 use Rattle.handle_table.proofs.Wholes.{seen}

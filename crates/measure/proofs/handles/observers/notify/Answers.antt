@@ -1,5 +1,5 @@
 use Rattle.std.proofs.Common.{subst, sym}
-use Rattle.control_word.specs.declared.handle.Kind.TheVariants.{Weak}
+use Rattle.control_word.specs.declared.model.handle.Kind.TheVariants.{Weak}
 use Rattle.control_block.specs.Desks.{bag_of}
 use Rattle.measure.specs.Observers.{IsWatchedBy}
 use Rattle.shared_handle.proofs.Callers.{held_by}

@@ -1,6 +1,6 @@
 use Rattle.std.proofs.Common.{rules, ◌≡◌, List, Some}
 use Rattle.std.proofs.lemmas.List.Elements.{All-pop}
-use Rattle.control_word.specs.declared.handle.Handle.{Handle}
+use Rattle.control_word.specs.declared.model.handle.Handle.{Handle}
 use Rattle.control_block.specs.Desks.{bag_of}
 use Rattle.measure.specs.Observers.{IsOfObject, with_observers}
 use Rattle.measure.proofs.Observed.{listed_last}

@@ -1,5 +1,5 @@
 use Rattle.std.proofs.Common.{◌≡◌, All, List}
-use Rattle.control_word.specs.declared.handle.Handle.{Handle}
+use Rattle.control_word.specs.declared.model.handle.Handle.{Handle}
 use Rattle.control_block.specs.Desks.{IsSameDesk, bag_of}
 use Rattle.measure.specs.Observers.{IsOfObject, with_observers}
 use Rattle.measure.proofs.handles.observers.retire.Given as goal

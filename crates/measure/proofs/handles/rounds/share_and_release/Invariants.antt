@@ -1,5 +1,5 @@
 use Rattle.std.proofs.Common.{◌≡◌}
-use Rattle.control_word.specs.declared.handle.Kind.TheVariants.{Owner}
+use Rattle.control_word.specs.declared.model.handle.Kind.TheVariants.{Owner}
 use Rattle.control_block.specs.Desks.{IsSameDesk, bag_of}
 use Rattle.control_block.specs.CellCalls.{HoldsHandle}
 use Rattle.measure.proofs.handles.rounds.share_and_release.Given as goal

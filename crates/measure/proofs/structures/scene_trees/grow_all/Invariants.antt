@@ -1,4 +1,4 @@
-use Rattle.control_word.specs.declared.handle.Kind.TheVariants.{Owner}
+use Rattle.control_word.specs.declared.model.handle.Kind.TheVariants.{Owner}
 use Rattle.control_block.specs.Desks.{IsSameDesk}
 use Rattle.control_block.specs.CellCalls.{HoldsHandle}
 use Rattle.scene_structures.specs.Stacks.{ServesDomain}

@@ -1,8 +1,8 @@
 use Rattle.std.proofs.Common.{◌≡◌, ◌<◌, ap, subst, arith}
-use Rattle.control_word.specs.declared.event.Cell.TheVariants.{Free}
+use Rattle.control_word.specs.declared.model.event.Cell.TheVariants.{Free}
 use Rattle.control_word.specs.declared.shape.Shape.{Shape}
 use Rattle.control_block.specs.Rule.{opening_of}
-use Rattle.control_word.specs.declared.event.Cell.{Cell}
+use Rattle.control_word.specs.declared.model.event.Cell.{Cell}
 use Rattle.atomic_cells.specs.Sites.{shared_cell}
 use Rattle.atomic_cells.specs.declared.sites.SharedSite.{SharedSite}
 use Rattle.scene_structures.specs.Hands.{IsOpenBy, node_in}

@@ -1,5 +1,5 @@
 use Rattle.std.proofs.Common.{◌≡◌, ◌<◌, None, ap, subst, arith}
-use Rattle.control_word.specs.declared.event.Cell.TheVariants.{Free}
+use Rattle.control_word.specs.declared.model.event.Cell.TheVariants.{Free}
 use Rattle.control_word.specs.declared.shape.Shape.{Shape}
 use Rattle.control_block.specs.Rule.{opening_of}
 use Rattle.scene_structures.specs.Prunes.{Prunes}

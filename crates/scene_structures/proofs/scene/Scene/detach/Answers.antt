@@ -1,7 +1,7 @@
 use Rattle.std.proofs.Common.{◌≡◌, [], ◌∷◌, Option, Some, refl, inl, inr, sym, ap, subst, ◌∙◌}
 use Rattle.control_word.specs.Events.{place_at}
 use Rattle.control_word.specs.Handles.{object_of}
-use Rattle.control_word.specs.declared.handle.Kind.TheVariants.{Owner}
+use Rattle.control_word.specs.declared.model.handle.Kind.TheVariants.{Owner}
 use Rattle.control_word.specs.declared.place.Block.{Block}
 use Rattle.control_word.specs.declared.place.Place.{Place}
 use Rattle.control_block.specs.Desks.{bag_of}

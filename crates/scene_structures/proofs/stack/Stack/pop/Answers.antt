@@ -1,7 +1,7 @@
 use Rattle.std.proofs.Common.{◌≡◌, ◌<◌, ap, sym, subst, ◌∙◌, arith}
-use Rattle.control_word.specs.declared.event.Cell.{Cell}
-use Rattle.control_word.specs.declared.event.Cell.TheVariants.{Free}
-use Rattle.control_word.specs.declared.event.Event.TheVariants.{Load}
+use Rattle.control_word.specs.declared.model.event.Cell.{Cell}
+use Rattle.control_word.specs.declared.model.event.Cell.TheVariants.{Free}
+use Rattle.control_word.specs.declared.model.event.Event.TheVariants.{Load}
 use Rattle.control_word.specs.declared.shape.Shape.{Shape}
 use Rattle.control_block.specs.Desks.{AddsEvent, bag_of}
 use Rattle.control_block.specs.Rule.{opening_of}

@@ -1,6 +1,6 @@
 use Rattle.std.proofs.Common.{◌≡◌, subst, sym}
 use Rattle.std.specs.Prelude.{None, Option}
-use Rattle.control_word.specs.declared.counts.Counts.{Counts}
+use Rattle.control_word.specs.declared.packed.counts.Counts.{Counts}
 use Rattle.control_word.specs.State.{IsVacant}
 use Rattle.step_table.specs.Stories.{Kept, story_state}
 use Rattle.step_core.specs.Worlds.{Sight}

@@ -1,8 +1,8 @@
 use Rattle.std.proofs.Common.{sym, ap, subst, ◌∙◌}
 use Rattle.std.specs.Prelude.{◌||◌, is_some}
-use Rattle.step_table.specs.declared.cell_deed.Cell.{Cell}
-use Rattle.step_table.specs.declared.comparing.Comparing.{Comparing}
-use Rattle.step_table.specs.declared.holdings.Holdings.{Holdings}
+use Rattle.step_table.specs.declared.cell_steps.cell_deed.Cell.{Cell}
+use Rattle.step_table.specs.declared.cell_steps.comparing.Comparing.{Comparing}
+use Rattle.step_table.specs.declared.slots.holdings.Holdings.{Holdings}
 use Rattle.step_table.specs.CellDeeds.{kind_in_state}
 use Rattle.step_table.specs.Cells.{IsOpenTo}
 use Rattle.step_table.specs.Contents.{CanCompare, as_word, same_value}

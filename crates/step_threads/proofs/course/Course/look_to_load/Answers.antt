@@ -1,6 +1,6 @@
 use Rattle.std.proofs.Common.{sym, ap, subst}
-use Rattle.step_table.specs.declared.cell_deed.Cell.{Cell}
-use Rattle.step_table.specs.declared.holdings.Holdings.{Holdings}
+use Rattle.step_table.specs.declared.cell_steps.cell_deed.Cell.{Cell}
+use Rattle.step_table.specs.declared.slots.holdings.Holdings.{Holdings}
 use Rattle.step_table.specs.Cells.{IsOpenTo}
 use Rattle.step_threads.specs.Courses.{HasCell}
 use Rattle.step_threads.specs.Programs.{IsIn}

@@ -2,7 +2,7 @@ use Rattle.step_threads.specs.declared.half.Half.TheVariants.{Making}
 use Rattle.std.proofs.Common.{ℕ, Bool, false, refl, ap, ◌∙◌}
 use Rattle.std.proofs.Common.{sym, subst}
 use Rattle.std.specs.Prelude.{Option, Some, None}
-use Rattle.step_threads.specs.declared.act.Act.TheVariants.{Make}
+use Rattle.step_threads.specs.declared.programs.act.Act.TheVariants.{Make}
 use Rattle.control_word.specs.declared.refusal.Refusal.TheVariants.{Full}
 use Rattle.step_threads.specs.declared.said.Answer.TheVariants.{Refused}
 use Rattle.step_threads.specs.declared.said.Said.{Said}

@@ -1,9 +1,9 @@
 use Rattle.std.proofs.Common.{◌≡◌, cond, refl, sym, ap, ◌∙◌}
 use Rattle.std.proofs.lemmas.Bool.{cond-true, cond-false}
-use Rattle.control_word.specs.declared.cell.CellWord.{CellWord}
+use Rattle.control_word.specs.declared.packed.cell.CellWord.{CellWord}
 use Rattle.step_threads.specs.declared.half.Half.{Half}
 use Rattle.step_threads.specs.declared.half.Half.TheVariants.{Rest, Refill}
-use Rattle.step_table.specs.declared.refill.Stage.TheVariants.{Checking, Lacking}
+use Rattle.step_table.specs.declared.cell_steps.refill.Stage.TheVariants.{Checking, Lacking}
 use Rattle.step_threads.specs.declared.said.Said.{Said}
 use Rattle.step_threads.specs.declared.said.Stepped.TheVariants.{Quiet}
 use Rattle.step_table.specs.Refills.{is_drained}

@@ -1,7 +1,7 @@
 use Rattle.std.proofs.Common.{◌∙◌, ℕ, arith, drop, set, cond, sym, ap, subst}
 use Rattle.std.specs.Prelude.{is_some}
-use Rattle.control_word.specs.declared.handle.Kind.{Kind}
-use Rattle.step_table.specs.declared.cell_deed.Cell.TheVariants.{Member}
+use Rattle.control_word.specs.declared.model.handle.Kind.{Kind}
+use Rattle.step_table.specs.declared.cell_steps.cell_deed.Cell.TheVariants.{Member}
 use Rattle.step_table.specs.Contents.{held_in, slot_of}
 use Rattle.step_table.specs.Holdings.{HoldsBag, slot_pointer}
 use Rattle.step_table.specs.Stories.{Story, story_state}

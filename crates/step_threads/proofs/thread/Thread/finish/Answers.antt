@@ -1,5 +1,5 @@
 use Rattle.std.proofs.Common.{◌∙◌, ℕ, ◌<◌, Bool, sym, ap, subst}
-use Rattle.step_table.specs.declared.past.Deed.TheVariants as deed
+use Rattle.step_table.specs.declared.memory.past.Deed.TheVariants as deed
 use Rattle.step_table.specs.Stories.{Kept, Story, story_after_deed}
 use Rattle.step_threads.specs.Threads.{FitsThread}
 use Rattle.step_threads.proofs.Endings.{room_left}

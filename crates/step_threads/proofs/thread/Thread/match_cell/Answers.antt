@@ -1,6 +1,6 @@
 use Rattle.std.proofs.Common.{ℕ, true, sym, ap, subst, ◌∙◌}
 use Rattle.std.proofs.lemmas.Bool.{cond-false, cond-true}
-use Rattle.control_word.specs.declared.handle.Kind.{Kind}
+use Rattle.control_word.specs.declared.model.handle.Kind.{Kind}
 use Rattle.step_table.specs.CellDeeds.{kind_in_state}
 use Rattle.step_table.specs.Contents.{compared_in}
 use Rattle.step_table.specs.Holdings.{slot_pointer}

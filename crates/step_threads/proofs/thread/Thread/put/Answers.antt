@@ -1,7 +1,7 @@
 use Rattle.std.proofs.Common.{◌≡◌, ◌∙◌, Bool, false, cond, refl, sym, ap}
 use Rattle.std.specs.Prelude.{Option, None, option_map, slice_set}
-use Rattle.step_threads.specs.declared.act.Act.TheVariants as act
-use Rattle.step_table.specs.declared.holdings.Pointer.{Pointer}
+use Rattle.step_threads.specs.declared.programs.act.Act.TheVariants as act
+use Rattle.step_table.specs.declared.slots.holdings.Pointer.{Pointer}
 use Rattle.step_threads.specs.Courses.{Walk, done_on, placed, rest, task_at, walk}
 use Rattle.step_threads.specs.declared.half.Half.TheVariants.{Rest}
 use Rattle.step_threads.specs.Steps.{step_of_act}

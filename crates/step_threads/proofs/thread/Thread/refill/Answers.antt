@@ -1,10 +1,10 @@
 use Rattle.std.proofs.Common.{Bool, cond, sym, ap, ◌∙◌}
 use Rattle.control_word.specs.declared.place.Block.{Block}
 use Rattle.std.specs.Prelude.{Option}
-use Rattle.step_table.specs.declared.cell_deed.CellDeed.TheVariants.{Refill as Refills}
+use Rattle.step_table.specs.declared.cell_steps.cell_deed.CellDeed.TheVariants.{Refill as Refills}
 use Rattle.step_threads.specs.declared.half.Half.TheVariants.{Rest, Refill}
-use Rattle.step_table.specs.declared.past.Deed.TheVariants.{OnCell}
-use Rattle.step_table.specs.declared.refill.Stage.TheVariants.{Refilling, Failing}
+use Rattle.step_table.specs.declared.memory.past.Deed.TheVariants.{OnCell}
+use Rattle.step_table.specs.declared.cell_steps.refill.Stage.TheVariants.{Refilling, Failing}
 use Rattle.step_table.specs.CellDeeds.{kind_in_state, owing_funds}
 use Rattle.step_table.specs.Stories.{story_after_deed, story_state}
 use Rattle.step_threads.proofs.RefillFits.{fits_as, fits_missed, fits_refilled, refill_here}

@@ -1,9 +1,9 @@
 use Rattle.std.proofs.Common.{ℕ, ap, ◌∙◌}
-use Rattle.control_word.specs.declared.handle.Kind.{Kind}
-use Rattle.step_table.specs.declared.cell_deed.CellDeed.TheVariants.{Bring}
+use Rattle.control_word.specs.declared.model.handle.Kind.{Kind}
+use Rattle.step_table.specs.declared.cell_steps.cell_deed.CellDeed.TheVariants.{Bring}
 use Rattle.step_threads.specs.declared.half.Half.TheVariants.{Refill}
-use Rattle.step_table.specs.declared.past.Deed.TheVariants.{OnCell}
-use Rattle.step_table.specs.declared.refill.Stage.TheVariants.{Refilling}
+use Rattle.step_table.specs.declared.memory.past.Deed.TheVariants.{OnCell}
+use Rattle.step_table.specs.declared.cell_steps.refill.Stage.TheVariants.{Refilling}
 use Rattle.step_table.specs.CellDeeds.{kind_in_state}
 use Rattle.step_table.specs.Stories.{story_after_deed, story_state}
 use Rattle.step_threads.proofs.RefillFits.{fits_as, fits_refunded}

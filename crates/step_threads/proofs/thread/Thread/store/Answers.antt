@@ -1,5 +1,5 @@
 use Rattle.std.proofs.Common.{refl, sym, ap, ◌∙◌}
-use Rattle.step_threads.specs.declared.act.Act.TheVariants.{Swap}
+use Rattle.step_threads.specs.declared.programs.act.Act.TheVariants.{Swap}
 use Rattle.step_threads.specs.declared.said.Said.{Said}
 use Rattle.step_threads.specs.declared.said.Stepped.TheVariants.{Quiet}
 use Rattle.step_threads.specs.Courses.{hand, task_at, walk}

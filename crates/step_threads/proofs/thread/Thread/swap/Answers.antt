@@ -1,7 +1,7 @@
 use Rattle.std.proofs.lemmas.Grind.{common_steps}
 use Rattle.std.proofs.Common.{arith}
 use Rattle.std.proofs.Common.{sym, subst, ap, ◌∙◌}
-use Rattle.control_word.specs.declared.handle.Kind.{Kind}
+use Rattle.control_word.specs.declared.model.handle.Kind.{Kind}
 use Rattle.step_table.specs.Contents.{as_word}
 use Rattle.step_threads.specs.Courses.{HasGoneOn, hand}
 use Rattle.step_table.specs.Holdings.{slot_value}

@@ -1,10 +1,10 @@
 use Rattle.std.proofs.Common.{◌≡◌, cond, sym, ap, ◌∙◌}
 use Rattle.std.proofs.lemmas.Bool.{cond-true, cond-false}
-use Rattle.control_word.specs.declared.handle.Kind.{Kind}
-use Rattle.step_table.specs.declared.cell_deed.CellDeed.TheVariants.{Turn}
+use Rattle.control_word.specs.declared.model.handle.Kind.{Kind}
+use Rattle.step_table.specs.declared.cell_steps.cell_deed.CellDeed.TheVariants.{Turn}
 use Rattle.step_threads.specs.declared.half.Half.TheVariants.{Rest, Refill}
-use Rattle.step_table.specs.declared.past.Deed.TheVariants.{OnCell}
-use Rattle.step_table.specs.declared.refill.Stage.TheVariants.{Checking}
+use Rattle.step_table.specs.declared.memory.past.Deed.TheVariants.{OnCell}
+use Rattle.step_table.specs.declared.cell_steps.refill.Stage.TheVariants.{Checking}
 use Rattle.step_table.specs.Refills.{is_low}
 use Rattle.step_table.specs.Stories.{story_after_deed}
 use Rattle.step_threads.proofs.RefillFits.{fits_as, fits_turned}

@@ -1,10 +1,10 @@
-use Rattle.step_table.specs.declared.form.Form.{Form}
+use Rattle.step_table.specs.declared.memory.form.Form.{Form}
 use Rattle.step_threads.specs.declared.half.Half.TheVariants.{Making}
 use Rattle.std.proofs.Common.{◌+◌, false}
 use Rattle.step_threads.specs.declared.thread.Thread.{Thread}
 use Rattle.std.proofs.Common.{ℕ, sym, ap, subst, get_or, ◌∙◌}
 use Rattle.step_threads.specs.Actors.{wanted}
-use Rattle.step_table.specs.declared.past.Deed.TheVariants as deed
+use Rattle.step_table.specs.declared.memory.past.Deed.TheVariants as deed
 use Rattle.step_table.specs.Stories.{Story, story_after_deed}
 use Rattle.step_threads.specs.Threads.{FitsThread}
 use Rattle.step_threads.proofs.Threads.{form_here, fits_write}

@@ -1,0 +1,3 @@
+//! Laws of histories and of steps. The functions that carry them have no work to do.
+pub mod history_laws;
+pub mod step_laws;

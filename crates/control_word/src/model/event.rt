@@ -1,0 +1,108 @@
+//! What a call did at its deciding step, with its reply. Values of these types live in proofs alone.
+
+use crate::model::handle::Handle;
+use crate::place::{Block, Place};
+use std::collections::LinkedList;
+
+/// A cell: free-standing, or a member of an object (0 first, 1 next, 2 up).
+#[derive(Clone, Copy, PartialEq, Eq, Debug, Drop)]
+pub enum Cell {
+    Free(u64),
+    Member { object: u64, member: u64 },
+}
+
+/// An event, with its reply. `V` is the type of the objects' values.
+pub enum Event<V> {
+    Make {
+        block: Block,
+        enabled: bool,
+        null: bool,
+        fields: [u64; 4],
+        value: V,
+    },
+    Share {
+        of: Handle,
+        place: Option<Place>,
+    },
+    Leave {
+        of: Handle,
+        last: bool,
+    },
+    Count {
+        of: Handle,
+        owners: u64,
+    },
+    Expired {
+        of: Handle,
+        expired: bool,
+    },
+    Read {
+        of: Handle,
+        field: u64,
+    },
+    WeakShare {
+        object: u64,
+        place: Option<Place>,
+    },
+    WeakLeave {
+        of: Handle,
+        vacant: bool,
+    },
+    Lock {
+        of: Handle,
+        got: bool,
+    },
+    Load {
+        cell: Cell,
+        got: Handle,
+    },
+    Swap {
+        cell: Cell,
+        new: Handle,
+        old: Handle,
+    },
+    Compare {
+        cell: Cell,
+        expected: Handle,
+        new: Handle,
+        held: Handle,
+        swapped: bool,
+        weak: bool,
+    },
+    ClearMember {
+        object: u64,
+        member: u64,
+        held: Handle,
+    },
+    Finish {
+        object: u64,
+        vacant: bool,
+        value: V,
+    },
+    Visit {
+        of: Handle,
+        was: V,
+        becomes: V,
+    },
+    Split {
+        to: u64,
+        allowance: u64,
+        handles: LinkedList<Handle>,
+        blocks: LinkedList<Block>,
+    },
+    Join {
+        other: u64,
+    },
+    Shelve {
+        block: Block,
+    },
+    Unshelve {
+        block: Block,
+    },
+}
+
+/// An event of a desk, which goes by its number.
+pub struct Entry<V> {
+    pub desk: u64,
+    pub event: Event<V>,
+}

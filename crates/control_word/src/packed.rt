@@ -1,0 +1,4 @@
+//! Packed words, and where they lie in a table.
+pub mod cell;
+pub mod counts;
+pub mod layout;

@@ -1,0 +1,125 @@
+//! Blocks in an order in which no owner leads back, as far as there is one. Nothing is known of it: it serves guesses.
+use crate::guesses::search::{at, put_at};
+use crate::guesses::web::{Web, source_at, target_at};
+use crate::holding::Holding;
+use std::alloc::{AllocError, Global};
+
+/// Of each block how many owners on it are not yet behind.
+#[derive(Drop)]
+pub(crate) struct Ordering {
+    counts: Vec<usize>,
+    /// The blocks that are behind, in order.
+    pub(crate) order: Vec<usize>,
+}
+
+impl Ordering {
+    pub(crate) fn new(alloc: Global, blocks: u16) -> Result<Ordering, AllocError> {
+        Ok(Ordering {
+            counts: vec![in alloc; 0; usize::from(blocks) + 1]?,
+            order: Vec::new(alloc),
+        })
+    }
+
+    /// Whether a block isn't behind, for an owner that isn't.
+    pub(crate) fn waits(&self, block: usize) -> bool {
+        at(self.counts.as_slice(), block) > 0
+    }
+
+    /// Counts the owners on a block, but for the one at a place.
+    fn count(&mut self, web: &Web, most: usize, block: usize, without: usize) {
+        let mut count = 0usize;
+        let mut place = web.first_on(block);
+        for _owner in 0..most {
+            if place == 0 {
+                break;
+            }
+            if place != without {
+                count = count.saturating_add(1);
+            }
+            place = web.next_on(place);
+        }
+        put_at(&mut self.counts, block, count);
+    }
+
+    /// One owner on a block is behind.
+    fn lower(&mut self, block: usize) -> Result<(), AllocError> {
+        let count = at(self.counts.as_slice(), block);
+        if count == 0 {
+            return Ok(());
+        }
+        put_at(&mut self.counts, block, count - 1);
+        if count == 1 {
+            self.order.push(block)?;
+        }
+        Ok(())
+    }
+
+    /// All owners in a block are behind, but for the one at a place.
+    fn pass(
+        &mut self,
+        holdings: &[Holding],
+        web: &Web,
+        block: usize,
+        without: usize,
+    ) -> Result<(), AllocError> {
+        let mut place = web.first_in(block);
+        for _owner in 0..holdings.len() {
+            if place == 0 {
+                break;
+            }
+            if place != without {
+                self.lower(target_at(holdings, place))?;
+            }
+            place = web.next_in(place);
+        }
+        Ok(())
+    }
+
+    /// Orders blocks, without the owner at a place.
+    pub(crate) fn run(
+        &mut self,
+        holdings: &[Holding],
+        web: &Web,
+        members: &[usize],
+        without: usize,
+    ) -> Result<(), AllocError> {
+        self.order.clear();
+        for block in members {
+            self.count(web, holdings.len(), *block, without);
+        }
+        for block in members {
+            if at(self.counts.as_slice(), *block) == 0 {
+                self.order.push(*block)?;
+            }
+        }
+        for index in 0..members.len() {
+            if index >= self.order.len() {
+                break;
+            }
+            let block = self.order[index];
+            self.pass(holdings, web, block, without)?;
+        }
+        Ok(())
+    }
+
+    /// An owner on a block that waits, in another that does, but for the one at a place; 0 where there is none.
+    pub(crate) fn waited_for(
+        &self,
+        holdings: &[Holding],
+        web: &Web,
+        block: usize,
+        without: usize,
+    ) -> usize {
+        let mut place = web.first_on(block);
+        for _owner in 0..holdings.len() {
+            if place == 0 {
+                break;
+            }
+            if place != without && self.waits(source_at(holdings, place)) {
+                return place;
+            }
+            place = web.next_on(place);
+        }
+        0
+    }
+}

@@ -1,0 +1,4 @@
+//! Looks at guesses, by which they are believed.
+pub(crate) mod checking;
+pub(crate) mod looking;
+pub(crate) mod rings;

@@ -1,0 +1,60 @@
+use Rattle.std.proofs.Common.{ℕ, refl, ap, subst, ◌∙◌}
+use Rattle.control_word.specs.Handles.{object_of}
+use Rattle.control_word.specs.declared.model.event.Cell.{Cell}
+use Rattle.shared_handle.proofs.Goings.{does_both, does_none}
+use Rattle.shared_handle.proofs.Piles.{same_both, same_desk}
+use Rattle.atomic_cells.specs.Sites.{shared_cell}
+use Rattle.scene_structures.specs.Detaches.{IsSought}
+use Rattle.scene_structures.specs.Hands.{node_in}
+use Rattle.scene_structures.specs.Puts.{PutsOnly, in_no_cell}
+use Rattle.scene_structures.proofs.Adopting.{these_node}
+use Rattle.scene_structures.proofs.Detached.{sought_later}
+use Rattle.scene_structures.proofs.Sites.{cell_these, open_same, these_both}
+use Rattle.scene_structures.proofs.Others.{others_both, others_none}
+use Rattle.scene_structures.proofs.lists.cutting.cut.Goals as goal
+
+pub loop-init : goal.loop-init
+loop-init g c =
+    record {
+      carries = c.requires.carries;
+      others = others_none c.args.desk.now c.args.pile.now.endings.items;
+      none = c.requires.empty;
+      held = refl;
+      same = same_desk c.args.desk.now;
+      bag = λ base has. has;
+      latest = λ base has k p b in'. refl;
+      tried = does_none (PutsOnly in_no_cell) c.args.desk.now;
+    }
+
+pub try_cut-requires-clause-bag : goal.try_cut-requires-clause-bag
+try_cut-requires-clause-bag g c κs within =
+    let i = c.loop.invariant in let b = c.requires.bag in
+    (b.0, i.bag b.0 b.1, open_same c.args.desk.now c.loop.desk b.0 c.args.at.now.site i.same.shape b.2, b.3)
+
+pub loop-preserved : goal.loop-preserved
+loop-preserved g c =
+    let i = c.loop.invariant in let d = c.args.desk.now in let l = c.loop.desk in let t = c.try_cut.new.desk in let e = c.in-None-try_cut.ensures in
+    record {
+      carries = e.carries;
+      others = others_both i.others e.others;
+      none = e.none;
+      held = e.held ∙ i.held;
+      same = same_both d l t i.same e.desk;
+      bag = λ base has. e.bag base (i.bag base has);
+      latest = λ base has. these_both d l t base (i.latest base has) (e.latest base (i.bag base has));
+      tried = does_both (PutsOnly in_no_cell) d l t i.tried e.own;
+    }
+
+pub returns-in-Some-try_cut-clause-own : goal.returns-in-Some-try_cut-clause-own
+returns-in-Some-try_cut-clause-own g c =
+    let i = c.loop.invariant in let d = c.args.desk.now in let l = c.loop.desk in let t = c.try_cut.new.desk in
+    let b = c.requires.bag in let site = c.args.at.now.site in let node = c.args.node.now in let s = c.in-Some-try_cut.sought in
+    let keeps = i.latest b.0 b.1 in
+    let cell = cell_these d l d.shape b.0 site keeps b.2 in
+    let number = ap object_of (these_node d l b.0 node keeps b.3) in
+    sought_later d l t (shared_cell d site) (object_of (node_in d node)) s i.tried
+    (subst (λ (n : ℕ). IsSought l (shared_cell d site) n s t) number
+    (subst (λ (k : Cell). IsSought l k (object_of (node_in l node)) s t) cell c.in-Some-try_cut.ensures.own))
+
+pub returns-in-Some-try_cut-clause-others : goal.returns-in-Some-try_cut-clause-others
+returns-in-Some-try_cut-clause-others g c = others_both c.loop.invariant.others c.try_cut.ensures.others

@@ -1,0 +1,32 @@
+use Rattle.std.proofs.Common.{[]}
+use Rattle.control_block.proofs.Latest.{calls_keep_latest}
+use Rattle.atomic_cells.specs.Sites.{shared_cell}
+use Rattle.scene_structures.proofs.Calls.{got_lists}
+use Rattle.scene_structures.proofs.Hands.{hands_first, hands_got}
+use Rattle.scene_structures.proofs.Looks.{finds_none, looks_first, no_member}
+use Rattle.scene_structures.proofs.Sites.{these_after, these_both, these_over}
+use Rattle.scene_structures.proofs.Others.{others_both, others_call}
+use Rattle.scene_structures.proofs.lists.cutting.find.Goals as goal
+
+pub returns-in_default-member-clause-latest : goal.returns-in_default-member-clause-latest
+returns-in_default-member-clause-latest g c base has =
+    let d = c.args.desk.now in let m = c.load.new.desk in let e = c.let_go.new.desk in let t = c.in-Ok.ensures in let top = c.in-Ok.top in
+    let h = hands_got d m base top [] has t.bag t.held in
+    these_both d m e base (these_over d m base [] (calls_keep_latest d _ m t.event) has)
+    (these_after m e base [] c.let_go.ensures.latest (hands_first m e base top [] h c.let_go.ensures.bag c.let_go.ensures.held))
+
+pub returns-in_default-member-clause-own : goal.returns-in_default-member-clause-own
+returns-in_default-member-clause-own g c =
+    let d = c.args.desk.now in let m = c.load.new.desk in let top = c.in-Ok.top in let cell = shared_cell d c.args.at.now.site in
+    finds_none d m c.let_go.new.desk cell top (looks_first d m cell top c.in-Ok.ensures.event (got_lists d m top c.in-Ok.ensures.bag))
+    (no_member _ top.block top.place c.member.result c.member.ensures c.in_default-member.not-Ok) c.let_go.ensures.own
+
+pub returns-clause-latest : goal.returns-clause-latest
+returns-clause-latest g c base has =
+    let d = c.args.desk.now in these_over d c.load.new.desk base [] (calls_keep_latest d _ c.load.new.desk c.in-Ok.ensures.event) has
+
+pub returns-in_default-member-clause-others : goal.returns-in_default-member-clause-others
+returns-in_default-member-clause-others g c = others_both (others_call _ c.in-Ok.ensures.keeps) c.let_go.ensures.others
+
+pub returns-clause-others : goal.returns-clause-others
+returns-clause-others g c = others_call _ c.in-Ok.ensures.keeps

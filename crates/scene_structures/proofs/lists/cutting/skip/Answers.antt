@@ -1,0 +1,119 @@
+use Rattle.std.proofs.Common.{◌≡◌, [], ◌∷◌, true, subst}
+use Rattle.control_word.specs.declared.model.event.Cell.{Cell}
+use Rattle.control_word.specs.declared.model.event.Event.TheVariants.{Compare}
+use Rattle.control_word.specs.declared.model.handle.Kind.TheVariants.{Owner}
+use Rattle.control_block.proofs.Latest.{calls_keep_latest}
+use Rattle.control_block.specs.CellCalls.{without_handle}
+use Rattle.control_block.specs.Desks.{AddsEvent, bag_of}
+use Rattle.control_block.specs.declared.handles.Shared.{Shared}
+use Rattle.shared_handle.proofs.Goings.{does_both}
+use Rattle.shared_handle.specs.Piles.{IsParting}
+use Rattle.atomic_cells.specs.Sites.{shared_cell}
+use Rattle.scene_structures.specs.Hands.{node_in}
+use Rattle.scene_structures.proofs.Detached.{missed, skips}
+use Rattle.scene_structures.proofs.Hands.{first_lists, hands_first, hands_given, hands_got, hands_second, holds_first}
+use Rattle.scene_structures.proofs.Pushes.{differs_back, differs_bag, differs_event, differs_held, same_node, swapped_bag, swapped_event, swapped_held}
+use Rattle.scene_structures.proofs.Sites.{cell_these, open_now, these_after, these_both, these_over}
+use Rattle.scene_structures.proofs.Others.{others_both, others_call}
+use Rattle.scene_structures.proofs.lists.cutting.skip.Goals as goal
+
+pub compare_exchange_weak-requires-clause-cell : goal.compare_exchange_weak-requires-clause-cell
+compare_exchange_weak-requires-clause-cell g c κs within =
+    let d = c.args.desk.now in let m = c.load.new.desk in let t = c.in-Ok-load.ensures in let node = c.args.node in let b = c.requires.bag in
+    let below = c.in-Ok-load.below in
+    open_now m d.shape b.0 (below ∷ node ∷ []) c.args.at.now.site t.keeps.shape (hands_got d m b.0 below (node ∷ []) b.1 t.bag t.held) b.2
+
+pub let_go-requires-in-Ok-Swapped-clause-holds : goal.let_go-requires-in-Ok-Swapped-clause-holds
+let_go-requires-in-Ok-Swapped-clause-holds g c κs within =
+    let d = c.args.desk.now in let m = c.load.new.desk in let u = c.compare_exchange_weak.new.desk in let f = c.let_go.new.desk in
+    let t = c.in-Ok-load.ensures in let below = c.in-Ok-load.below in let node = c.args.node in let x = c.in-Ok-Swapped in
+    let base = c.requires.bag.0 in
+    let h = hands_got d m base below (node ∷ []) c.requires.bag.1 t.bag t.held in
+    let i = hands_given m u base below x.old (node ∷ []) h (swapped_bag m u below x.field-0 x.old x.field-0-is x.ensures.bag)
+    (swapped_held m u below x.field-0 x.old x.field-0-is x.ensures.held) in
+    holds_first f base node [] (hands_first u f base x.old (node ∷ []) i c.let_go.ensures.bag c.let_go.ensures.held)
+
+pub returns-in-Ok-Swapped-clause-latest : goal.returns-in-Ok-Swapped-clause-latest
+returns-in-Ok-Swapped-clause-latest g c base has =
+    let d = c.args.desk.now in let m = c.load.new.desk in let u = c.compare_exchange_weak.new.desk in let f = c.let_go.new.desk in
+    let e = c.let_go-in-Ok-Swapped.new.desk in
+    let t = c.in-Ok-load.ensures in let below = c.in-Ok-load.below in let node = c.args.node in let x = c.in-Ok-Swapped in
+    let h = hands_got d m base below (node ∷ []) has t.bag t.held in
+    let i = hands_given m u base below x.old (node ∷ []) h (swapped_bag m u below x.field-0 x.old x.field-0-is x.ensures.bag)
+    (swapped_held m u below x.field-0 x.old x.field-0-is x.ensures.held) in
+    let j = hands_first u f base x.old (node ∷ []) i c.let_go.ensures.bag c.let_go.ensures.held in
+    let k = hands_first f e base node [] j c.let_go-in-Ok-Swapped.ensures.bag c.let_go-in-Ok-Swapped.ensures.held in
+    these_both d m e base (these_over d m base (node ∷ []) (calls_keep_latest d _ m t.event) has)
+    (these_both m u e base (these_over m u base (below ∷ node ∷ []) (calls_keep_latest m _ u x.ensures.compared) h)
+    (these_both u f e base (these_after u f base (node ∷ []) c.let_go.ensures.latest j)
+    (these_after f e base [] c.let_go-in-Ok-Swapped.ensures.latest k)))
+
+pub returns-in-Ok-Swapped-clause-own : goal.returns-in-Ok-Swapped-clause-own
+returns-in-Ok-Swapped-clause-own g c =
+    let d = c.args.desk.now in let m = c.load.new.desk in let u = c.compare_exchange_weak.new.desk in let f = c.let_go.new.desk in
+    let e = c.let_go-in-Ok-Swapped.new.desk in
+    let t = c.in-Ok-load.ensures in let below = c.in-Ok-load.below in let node = c.args.node in let x = c.in-Ok-Swapped in
+    let b = c.requires.bag in let site = c.args.at.now.site in
+    let cell = cell_these d m d.shape b.0 site (these_over d m b.0 (node ∷ []) (calls_keep_latest d _ m t.event) b.1) b.2 in
+    let at = swapped_event m u below x.field-0 (shared_cell m site) (node_in m node) (node_in m below) x.old x.field-0-is x.ensures.compared in
+    skips d m u e (shared_cell d site) node below (node_in u x.old) c.in-Ok.member c.in-Ok.ensures t.event
+    (same_node d m node (calls_keep_latest d _ m t.event) (first_lists d b.0 node [] b.1))
+    (subst (λ (k : Cell). AddsEvent m (Compare k (node_in m node) (node_in m below) (node_in u x.old) true true) u) cell at)
+    (does_both IsParting u f e c.let_go.ensures.own c.let_go-in-Ok-Swapped.ensures.own)
+
+pub let_go-requires-in-Ok-Differs-3-clause-holds : goal.let_go-requires-in-Ok-Differs-3-clause-holds
+let_go-requires-in-Ok-Differs-3-clause-holds g c κs within =
+    let d = c.args.desk.now in let m = c.load.new.desk in let u = c.compare_exchange_weak.new.desk in
+    let e = c.let_go-in-Ok-Differs in let f = c.let_go-in-Ok-Differs-2 in
+    let t = c.in-Ok-load.ensures in let below = c.in-Ok-load.below in let node = c.args.node in let x = c.in-Ok-Differs in
+    let base = c.requires.bag.0 in
+    let h = hands_got d m base below (node ∷ []) c.requires.bag.1 t.bag t.held in
+    let i = hands_got m u base x.held (below ∷ node ∷ []) h (differs_bag m u below x.field-0 x.held x.desired x.field-0-is x.ensures.bag)
+    (differs_held m u below x.field-0 x.held x.desired x.field-0-is x.ensures.held) in
+    let back = differs_back m u below x.field-0 x.held x.desired x.field-0-is x.ensures.back in
+    let bag = subst (λ (n : Shared). bag_of e.new.desk ≡ without_handle Owner n.block n.place (bag_of u)) back e.ensures.bag in
+    let j = hands_second u e.new.desk base x.held below (node ∷ []) i bag e.ensures.held in
+    let k = hands_first e.new.desk f.new.desk base x.held (node ∷ []) j f.ensures.bag f.ensures.held in
+    holds_first f.new.desk base node [] k
+
+pub returns-in-Ok-Differs-clause-latest : goal.returns-in-Ok-Differs-clause-latest
+returns-in-Ok-Differs-clause-latest g c base has =
+    let d = c.args.desk.now in let m = c.load.new.desk in let u = c.compare_exchange_weak.new.desk in
+    let e = c.let_go-in-Ok-Differs in let f = c.let_go-in-Ok-Differs-2 in
+    let t = c.in-Ok-load.ensures in let below = c.in-Ok-load.below in let node = c.args.node in let x = c.in-Ok-Differs in
+    let h = hands_got d m base below (node ∷ []) has t.bag t.held in
+    let i = hands_got m u base x.held (below ∷ node ∷ []) h (differs_bag m u below x.field-0 x.held x.desired x.field-0-is x.ensures.bag)
+    (differs_held m u below x.field-0 x.held x.desired x.field-0-is x.ensures.held) in
+    let back = differs_back m u below x.field-0 x.held x.desired x.field-0-is x.ensures.back in
+    let bag = subst (λ (n : Shared). bag_of e.new.desk ≡ without_handle Owner n.block n.place (bag_of u)) back e.ensures.bag in
+    let j = hands_second u e.new.desk base x.held below (node ∷ []) i bag e.ensures.held in
+    let k = hands_first e.new.desk f.new.desk base x.held (node ∷ []) j f.ensures.bag f.ensures.held in
+    let v = c.let_go-in-Ok-Differs-3 in
+    let l = hands_first f.new.desk v.new.desk base node [] k v.ensures.bag v.ensures.held in
+    these_both d m v.new.desk base (these_over d m base (node ∷ []) (calls_keep_latest d _ m t.event) has)
+    (these_both m u v.new.desk base (these_over m u base (below ∷ node ∷ []) (calls_keep_latest m _ u x.ensures.compared) h)
+    (these_both u e.new.desk v.new.desk base (these_after u e.new.desk base (x.held ∷ node ∷ []) e.ensures.latest j)
+    (these_both e.new.desk f.new.desk v.new.desk base (these_after e.new.desk f.new.desk base (node ∷ []) f.ensures.latest k)
+    (these_after f.new.desk v.new.desk base [] v.ensures.latest l))))
+
+pub returns-in-Ok-Differs-clause-own : goal.returns-in-Ok-Differs-clause-own
+returns-in-Ok-Differs-clause-own g c =
+    let d = c.args.desk.now in let m = c.load.new.desk in let u = c.compare_exchange_weak.new.desk in
+    let e = c.let_go-in-Ok-Differs in let f = c.let_go-in-Ok-Differs-2 in let k = c.let_go-in-Ok-Differs-3 in
+    let x = c.in-Ok-Differs in let below = c.in-Ok-load.below in
+    missed d m u k.new.desk _ _ _ _ _ _ c.in-Ok-load.ensures.event
+    (differs_event m u below x.field-0 _ _ _ x.held x.desired x.field-0-is x.ensures.compared)
+    (does_both IsParting u f.new.desk k.new.desk (does_both IsParting u e.new.desk f.new.desk e.ensures.own f.ensures.own) k.ensures.own)
+
+pub returns-in-Ok-Swapped-clause-others : goal.returns-in-Ok-Swapped-clause-others
+returns-in-Ok-Swapped-clause-others g c =
+    others_both (others_call _ c.in-Ok-load.ensures.keeps)
+    (others_both (others_call _ c.in-Ok-Swapped.ensures.keeps)
+    (others_both c.let_go.ensures.others c.let_go-in-Ok-Swapped.ensures.others))
+
+pub returns-in-Ok-Differs-clause-others : goal.returns-in-Ok-Differs-clause-others
+returns-in-Ok-Differs-clause-others g c =
+    others_both (others_call _ c.in-Ok-load.ensures.keeps)
+    (others_both (others_call _ c.in-Ok-Differs.ensures.keeps)
+    (others_both c.let_go-in-Ok-Differs.ensures.others
+    (others_both c.let_go-in-Ok-Differs-2.ensures.others c.let_go-in-Ok-Differs-3.ensures.others)))

@@ -1,0 +1,47 @@
+use Rattle.std.proofs.Common.{Bool, true, [], sym, subst}
+use Rattle.control_word.specs.declared.model.event.Cell.{Cell}
+use Rattle.shared_handle.proofs.Goings.{does_both, does_one}
+use Rattle.atomic_cells.specs.Sites.{shared_cell}
+use Rattle.scene_structures.specs.Detaches.{MaySkip}
+use Rattle.scene_structures.specs.Hands.{Lists, node_in}
+use Rattle.scene_structures.specs.Puts.{PutsOnly, in_no_cell}
+use Rattle.scene_structures.proofs.Adopting.{these_node}
+use Rattle.scene_structures.proofs.Detached.{cuts_node, meets_other}
+use Rattle.scene_structures.proofs.Hands.{first_lists, lists_under}
+use Rattle.scene_structures.proofs.Looks.{legal_after}
+use Rattle.scene_structures.proofs.Sites.{cell_these}
+use Rattle.scene_structures.proofs.Others.{others_both}
+use Rattle.scene_structures.proofs.lists.cutting.try_cut.Goals as goal
+
+pub returns-then-not-is_same-clause-own : goal.returns-then-not-is_same-clause-own
+returns-then-not-is_same-clause-own g c =
+    let d = c.args.desk.now in let m = c.find.new.desk in let top = c.in-Some.top in let node = c.args.node.now in let b = c.requires.bag in
+    let f = c.in-Some.ensures in
+    let hands = f.bag b.0 b.1 in
+    let lists = subst (Lists node.block node.place) (sym hands.bag) (lists_under node.block top.block node.place top.place b.0 b.3) in
+    meets_other d m (shared_cell d c.args.at.now.site) top node f.own.0 f.own.1 c.requires.node (legal_after d m _ f.own.0)
+    (first_lists m b.0 top [] hands) lists (these_node d m b.0 node (f.latest b.0 b.1) b.3)
+    (λ same. let t = c.is_same.ensures.1 same in let u = c.if-not-is_same.true in absurd (cc))
+
+pub returns-then-skip-clause-own : goal.returns-then-skip-clause-own
+returns-then-skip-clause-own g c =
+    let d = c.args.desk.now in let m = c.find.new.desk in let e = c.skip.new.desk in let top = c.in-Some.top in let node = c.args.node.now in
+    let b = c.requires.bag in let site = c.args.at.now.site in let f = c.in-Some.ensures in
+    let keeps = f.latest b.0 b.1 in
+    let skipped = subst (λ (x : Bool). MaySkip m (shared_cell m site) (node_in m top) x e) c.if-skip.true c.skip.ensures.own in
+    cuts_node d m e (shared_cell d site) top node f.own.0 f.own.1 (c.is_same.ensures.0 c.if-not-is_same.false)
+    (these_node d m b.0 node keeps b.3)
+    (subst (λ (k : Cell). MaySkip m k (node_in m top) true e) (cell_these d m d.shape b.0 site keeps b.2) skipped)
+
+pub returns-else-skip-clause-own : goal.returns-else-skip-clause-own
+returns-else-skip-clause-own g c =
+    let d = c.args.desk.now in let m = c.find.new.desk in let e = c.skip.new.desk in let top = c.in-Some.top in
+    let f = c.in-Some.ensures in
+    does_both (PutsOnly in_no_cell) d m e (does_one (PutsOnly in_no_cell) d m _ f.own.0 tt)
+    (subst (λ (x : Bool). MaySkip m (shared_cell m c.args.at.now.site) (node_in m top) x e) c.if-skip.false c.skip.ensures.own)
+
+pub returns-then-skip-clause-others : goal.returns-then-skip-clause-others
+returns-then-skip-clause-others g c = others_both c.find.ensures.others c.skip.ensures.others
+
+pub returns-else-skip-clause-others : goal.returns-else-skip-clause-others
+returns-else-skip-clause-others g c = others_both c.find.ensures.others c.skip.ensures.others

@@ -1,0 +1,58 @@
+use Rattle.std.proofs.Common.{[], ◌∷◌, subst}
+use Rattle.control_word.specs.declared.model.event.Cell.{Cell}
+use Rattle.control_word.specs.declared.model.event.Event.TheVariants.{Swap}
+use Rattle.control_block.proofs.Latest.{calls_keep_latest}
+use Rattle.control_block.specs.Desks.{AddsEvent}
+use Rattle.shared_handle.proofs.Goings.{does_both}
+use Rattle.shared_handle.specs.Piles.{IsParting}
+use Rattle.atomic_cells.specs.Sites.{shared_cell}
+use Rattle.scene_structures.specs.Hands.{node_in}
+use Rattle.scene_structures.proofs.Hands.{hands_first, hands_given, hands_got}
+use Rattle.scene_structures.proofs.Pruned.{passes}
+use Rattle.scene_structures.proofs.Sites.{cell_these, open_now, these_after, these_both, these_over}
+use Rattle.scene_structures.proofs.Others.{others_both, others_call}
+use Rattle.scene_structures.proofs.lists.pruning.pass.Goals as goal
+
+pub exchange-old-requires-clause-cell : goal.exchange-old-requires-clause-cell
+exchange-old-requires-clause-cell g c κs within =
+    let d = c.args.desk.now in let m = c.load.new.desk in let t = c.in-Ok-load.ensures in let next = c.in-Ok-load.next in let node = c.args.node in
+    let b = c.requires.bag in
+    open_now m d.shape b.0 (next ∷ node ∷ []) c.args.at.now.site t.keeps.shape (hands_got d m b.0 next (node ∷ []) b.1 t.bag t.held) b.2
+
+pub returns-clause-bag : goal.returns-clause-bag
+returns-clause-bag g c base has =
+    let d = c.args.desk.now in let m = c.load.new.desk in let u = c.exchange-old.new.desk in let f = c.let_go.new.desk in let e = c.let_go-2.new.desk in
+    let t = c.in-Ok-load.ensures in let next = c.in-Ok-load.next in let old = c.exchange-old.result in let node = c.args.node in
+    let x = c.exchange-old.ensures in
+    let h = hands_given m u base next old (node ∷ []) (hands_got d m base next (node ∷ []) has t.bag t.held) x.bag x.held in
+    hands_first f e base node [] (hands_first u f base old (node ∷ []) h c.let_go.ensures.bag c.let_go.ensures.held) c.let_go-2.ensures.bag
+    c.let_go-2.ensures.held
+
+pub returns-clause-latest : goal.returns-clause-latest
+returns-clause-latest g c base has =
+    let d = c.args.desk.now in let m = c.load.new.desk in let u = c.exchange-old.new.desk in let f = c.let_go.new.desk in let e = c.let_go-2.new.desk in
+    let t = c.in-Ok-load.ensures in let next = c.in-Ok-load.next in let old = c.exchange-old.result in let node = c.args.node in
+    let x = c.exchange-old.ensures in
+    let got = hands_got d m base next (node ∷ []) has t.bag t.held in
+    let h = hands_given m u base next old (node ∷ []) got x.bag x.held in
+    let i = hands_first u f base old (node ∷ []) h c.let_go.ensures.bag c.let_go.ensures.held in
+    these_both d m e base (these_over d m base (node ∷ []) (calls_keep_latest d _ m t.event) has)
+    (these_both m u e base (these_over m u base (next ∷ node ∷ []) (calls_keep_latest m _ u x.event) got)
+    (these_both u f e base (these_after u f base (node ∷ []) c.let_go.ensures.latest i)
+    (these_after f e base [] c.let_go-2.ensures.latest (returns-clause-bag g c base has))))
+
+pub returns-clause-own : goal.returns-clause-own
+returns-clause-own g c =
+    let d = c.args.desk.now in let m = c.load.new.desk in let u = c.exchange-old.new.desk in let f = c.let_go.new.desk in let e = c.let_go-2.new.desk in
+    let t = c.in-Ok-load.ensures in let next = c.in-Ok-load.next in let old = c.exchange-old.result in let node = c.args.node in
+    let x = c.exchange-old.ensures in let b = c.requires.bag in let site = c.args.at.now.site in
+    let cell = cell_these d m d.shape b.0 site (these_over d m b.0 (node ∷ []) (calls_keep_latest d _ m t.event) b.1) b.2 in
+    passes d m u e (shared_cell d site) node next old c.in-Ok.member c.in-Ok.ensures t.event
+    (subst (λ (k : Cell). AddsEvent m (Swap k (node_in m next) (node_in u old)) u) cell x.event)
+    (does_both IsParting u f e c.let_go.ensures.own c.let_go-2.ensures.own)
+
+pub returns-clause-others : goal.returns-clause-others
+returns-clause-others g c =
+    others_both (others_call _ c.in-Ok-load.ensures.keeps)
+    (others_both (others_call _ c.exchange-old.ensures.keeps)
+    (others_both c.let_go.ensures.others c.let_go-2.ensures.others))

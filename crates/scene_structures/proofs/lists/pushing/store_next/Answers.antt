@@ -1,0 +1,23 @@
+use Rattle.shared_handle.proofs.Piles.{carries_kept}
+use Rattle.scene_structures.proofs.Pushes.{fills, held_stored}
+use Rattle.scene_structures.proofs.Others.{others_both, others_call}
+use Rattle.scene_structures.proofs.lists.pushing.store_next.Goals as goal
+
+pub let_go-requires-clause-carries : goal.let_go-requires-clause-carries
+let_go-requires-clause-carries g c κs within =
+    let k = c.exchange-old.ensures.keeps in
+    carries_kept _ c.args.desk.now c.exchange-old.new.desk c.args.pile.now c.requires.carries k.domain k.shape k.endings
+
+pub returns-clause-own : goal.returns-clause-own
+returns-clause-own g c =
+    fills c.args.desk.now c.exchange-old.new.desk c.let_go.new.desk c.args.node.now c.in-Ok.next _ _ c.in-Ok.ensures c.exchange-old.ensures.event
+    c.let_go.ensures.own
+
+pub returns-clause-latest : goal.returns-clause-latest
+returns-clause-latest g c =
+    held_stored c.args.desk.now c.exchange-old.new.desk c.let_go.new.desk c.args.below.block c.exchange-old.result.block c.args.below.place
+    c.exchange-old.result.place
+    _ _ _ c.exchange-old.ensures.event c.exchange-old.ensures.bag c.let_go.ensures.bag c.let_go.ensures.latest
+
+pub returns-clause-others : goal.returns-clause-others
+returns-clause-others g c = others_both (others_call _ c.exchange-old.ensures.keeps) c.let_go.ensures.others

@@ -1,0 +1,45 @@
+use Rattle.std.proofs.Common.{◌≡◌, Option, Some, refl, inl, inr, sym, subst, ◌∙◌}
+use Rattle.control_word.specs.Events.{place_at}
+use Rattle.control_word.specs.declared.model.handle.Kind.TheVariants.{Owner}
+use Rattle.control_word.specs.declared.place.Block.{Block}
+use Rattle.control_word.specs.declared.place.Place.{Place}
+use Rattle.control_block.specs.CellCalls.{with_handle}
+use Rattle.control_block.specs.Desks.{bag_of}
+use Rattle.shared_handle.specs.Calls.{IsOfThis, SharesOwner}
+use Rattle.control_block.specs.CellCalls.{HoldsHandle}
+use Rattle.scene_structures.specs.Walks.{TellsField}
+use Rattle.scene_structures.proofs.Walks.{tells, told_latest}
+use Rattle.scene_structures.proofs.Others.{others_both, others_call, others_none}
+use Rattle.scene_structures.proofs.lists.walking.first_field.Goals as goal
+
+pub returns-clause-latest : goal.returns-clause-latest
+returns-clause-latest g c =
+    let d = c.args.desk.now in let m = c.alias.new.desk in let n = c.read.new.desk in let e = c.let_go.new.desk in
+    let b = c.in-Some.block in let p = c.args.owner.now.place in let r = c.in-Ok-read.ensures in let a = c.in-Ok.ensures in let first = c.in-Ok.first in
+    let is : c.args.owner.now.block ≡ Some b = sym c.in-Some.ensures in
+    let same = a.given (inr (inl (subst (λ (k : Option Block). IsOfThis k (place_at b.0)) (sym is) refl))) in
+    let event = subst (λ (q : Option Place). SharesOwner d c.args.owner.now.block p q m) same a.event in
+    let bag : bag_of m ≡ with_handle Owner first.block first.place (bag_of d) =
+    a.bag ∙ (λ i. with_handle Owner (sym a.handle.0 i) (sym a.handle.1 i) (bag_of d)) in
+    told_latest d m n e _ _ first.block first.place (subst (λ (k : Option Block). SharesOwner d k p (place_at b.0) m) is event) bag r.read.3 r.bag
+    c.let_go.ensures.latest c.let_go.ensures.bag
+
+pub returns-clause-own : goal.returns-clause-own
+returns-clause-own g c =
+    let d = c.args.desk.now in let m = c.alias.new.desk in let n = c.read.new.desk in let e = c.let_go.new.desk in
+    let b = c.in-Some.block in let p = c.args.owner.now.place in let r = c.in-Ok-read.ensures.read in let a = c.in-Ok.ensures in
+    let is : c.args.owner.now.block ≡ Some b = sym c.in-Some.ensures in
+    let same = a.given (inr (inl (subst (λ (k : Option Block). IsOfThis k (place_at b.0)) (sym is) refl))) in
+    let event = subst (λ (q : Option Place). SharesOwner d c.args.owner.now.block p q m) same a.event in
+    subst (λ (k : Option Block). TellsField d k (Some c.in-Ok-read.told) e) (sym is)
+    (tells d m n e b p c.in-Ok-read.told r.0 (subst (λ (k : Option Block). SharesOwner d k p (place_at b.0) m) is event)
+    (subst (λ (k : Option Block). HoldsHandle d Owner k p) is c.requires.holds) (sym same ∙ (sym a.handle.1 ∙ r.1))
+    (sym is ∙ (sym a.handle.0 ∙ r.2)) r.3 c.let_go.ensures.own)
+
+pub returns-in_default-clause-others : goal.returns-in_default-clause-others
+returns-in_default-clause-others g c = others_none c.args.desk.now c.args.pile.now.endings.items
+
+pub returns-clause-others : goal.returns-clause-others
+returns-clause-others g c =
+    others_both (others_call _ c.in-Ok.ensures.keeps)
+    (others_both (others_call _ c.in-Ok-read.ensures.keeps) c.let_go.ensures.others)

@@ -1,0 +1,23 @@
+use Rattle.std.proofs.Common.{◌≡◌, [], ◌∷◌, List}
+use Rattle.control_word.specs.declared.model.event.Event.{Event}
+use Rattle.control_word.specs.declared.model.handle.Handle.{Handle}
+use Rattle.control_block.specs.Desks.{IsSameDesk}
+use Rattle.shared_handle.specs.Piles.{Carries, FoldsBack}
+use Rattle.scene_structures.specs.Others.{KeepsOthers}
+use Rattle.scene_structures.specs.Hands.{HasHands, node_in}
+use Rattle.scene_structures.specs.Walks.{HasLooked, SeenNode, Walks, told_of}
+use Rattle.scene_structures.proofs.lists.walking.walk.Given as goal
+
+abbrev pub invariant-loop : goal.invariant-loop
+invariant-loop g l = record {
+  carries : Carries l.domain l.desk l.pile;
+  others : KeepsOthers l.initial.desk l.initial.pile.endings.items l.desk l.pile.endings.items;
+  none : l.pile.endings.items ≡ [];
+  held : l.desk.held ≡ l.initial.desk.held;
+  same : IsSameDesk l.initial.desk l.desk;
+  bag : (base : List Handle) → HasHands base (l.initial.node ∷ []) l.initial.desk → HasHands base (l.node ∷ []) l.desk;
+  walked : (stops : List SeenNode) × (looks : List (Event g.row.V.Denot))
+      × Walks (node_in l.initial.desk l.initial.node) stops (node_in l.desk l.node) looks × HasLooked l.initial.desk looks l.desk
+      × FoldsBack (λ p x q. goal.F-step g p x tt q) l.initial.tell (told_of stops) l.tell;
+  always : goal.F-IsAlwaysCallable g l.tell;
+}

@@ -1,0 +1,76 @@
+use Rattle.std.proofs.Common.{[], ◌∷◌, ap, subst, sym}
+use Rattle.control_word.specs.Handles.{object_of}
+use Rattle.shared_handle.proofs.Goings.{does_none}
+use Rattle.scene_structures.specs.Hands.{Lists, node_in, stacked}
+use Rattle.scene_structures.specs.Puts.{PutsOnly, in_no_cell}
+use Rattle.scene_structures.proofs.Adopting.{these_node}
+use Rattle.scene_structures.proofs.Detached.{hands_above, these_fewer, within_holds}
+use Rattle.scene_structures.proofs.Unlinks.{unlinks_same}
+use Rattle.scene_structures.proofs.Hands.{hands_first, hands_kept, holds_first, lists_first, lists_under}
+use Rattle.scene_structures.proofs.Pruned.{hands_below}
+use Rattle.scene_structures.proofs.Sites.{these_after, these_both}
+use Rattle.scene_structures.proofs.Others.{others_both}
+use Rattle.scene_structures.proofs.tree.detaching.leave.Goals as goal
+
+pub cut_child-went-requires-clause-bag : goal.cut_child-went-requires-clause-bag
+cut_child-went-requires-clause-bag g c κs within =
+    let b = c.requires.bag in let parent = c.args.parent in let node = c.args.node.now in (
+      stacked (parent ∷ []) b.0,
+      hands_below c.args.desk.now b.0 parent b.1,
+      lists_first parent.block parent.place b.0,
+      lists_under node.block parent.block node.place parent.place b.0 b.2,
+    )
+
+pub unlink-requires-clause-holds : goal.unlink-requires-clause-holds
+unlink-requires-clause-holds g c κs within =
+    let b = c.requires.bag in let parent = c.args.parent in let node = c.args.node.now in let m = c.cut_child-went in
+    let has = m.ensures.bag (stacked (parent ∷ []) b.0) (hands_below c.args.desk.now b.0 parent b.1) in
+    within_holds m.new.desk node c.requires.node
+    (subst (Lists node.block node.place) (sym has.bag) (lists_under node.block parent.block node.place parent.place b.0 b.2))
+
+pub let_go-requires-clause-holds : goal.let_go-requires-clause-holds
+let_go-requires-clause-holds g c κs within =
+    let d = c.args.desk.now in let b = c.requires.bag in let parent = c.args.parent in let m = c.cut_child-went in let u = c.unlink in
+    let has = hands_above d m.new.desk b.0 parent b.1 (m.ensures.bag (stacked (parent ∷ []) b.0) (hands_below d b.0 parent b.1)) m.ensures.held in
+    holds_first u.new.desk b.0 parent [] (hands_kept m.new.desk u.new.desk b.0 (parent ∷ []) has u.ensures.bag u.ensures.held)
+
+pub returns-clause-bag : goal.returns-clause-bag
+returns-clause-bag g c base has' =
+    let d = c.args.desk.now in let parent = c.args.parent in let m = c.cut_child-went in let u = c.unlink in let e = c.let_go in
+    let has = hands_above d m.new.desk base parent has' (m.ensures.bag (stacked (parent ∷ []) base) (hands_below d base parent has')) m.ensures.held in
+    hands_first u.new.desk e.new.desk base parent [] (hands_kept m.new.desk u.new.desk base (parent ∷ []) has u.ensures.bag u.ensures.held)
+    e.ensures.bag e.ensures.held
+
+pub returns-clause-latest : goal.returns-clause-latest
+returns-clause-latest g c base has' =
+    let d = c.args.desk.now in let parent = c.args.parent in let m = c.cut_child-went in let u = c.unlink in let e = c.let_go in
+    let below = hands_below d base parent has' in
+    let has = hands_above d m.new.desk base parent has' (m.ensures.bag (stacked (parent ∷ []) base) below) m.ensures.held in
+    let in_u = hands_kept m.new.desk u.new.desk base (parent ∷ []) has u.ensures.bag u.ensures.held in
+    let in_e = hands_first u.new.desk e.new.desk base parent [] in_u e.ensures.bag e.ensures.held in
+    these_both d m.new.desk e.new.desk base (these_fewer d m.new.desk (parent ∷ []) base (m.ensures.latest (stacked (parent ∷ []) base) below))
+    (these_both m.new.desk u.new.desk e.new.desk base (these_after m.new.desk u.new.desk base (parent ∷ []) u.ensures.latest in_u)
+    (these_after u.new.desk e.new.desk base [] e.ensures.latest in_e))
+
+pub returns-clause-own : goal.returns-clause-own
+returns-clause-own g c =
+    let d = c.args.desk.now in let b = c.requires.bag in let parent = c.args.parent in let node = c.args.node.now in
+    let m = c.cut_child-went in let u = c.unlink in
+    let base = stacked (parent ∷ []) b.0 in
+    let keeps = m.ensures.latest base (hands_below d b.0 parent b.1) in
+    let same = these_node d m.new.desk base node keeps (lists_under node.block parent.block node.place parent.place b.0 b.2) in
+    record {
+      at = d;
+      comes = does_none (PutsOnly in_no_cell) d;
+      passed = m.ensures.own.0;
+      found = m.result;
+      sought = m.new.desk;
+      seeks = m.ensures.own.1;
+      unlinked = u.new.desk;
+      unlinks = unlinks_same m.result m.new.desk u.new.desk (object_of (node_in m.new.desk node)) (object_of (node_in d node)) (ap object_of same)
+          u.ensures.own;
+      leaves = c.let_go.ensures.own;
+    }
+
+pub returns-clause-others : goal.returns-clause-others
+returns-clause-others g c = others_both c.cut_child-went.ensures.others (others_both c.unlink.ensures.others c.let_go.ensures.others)

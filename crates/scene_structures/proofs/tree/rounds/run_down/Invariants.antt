@@ -1,0 +1,24 @@
+use Rattle.std.proofs.Common.{◌≡◌, ◌≤◌, ◌+◌, ◌*◌, ◌-◌, length}
+use Rattle.control_block.specs.Desks.{IsSameDesk, bag_of}
+use Rattle.shared_handle.specs.Piles.{Carries}
+use Rattle.scene_structures.specs.Others.{KeepsOthers}
+use Rattle.scene_structures.specs.Teardowns.{HasRoomForEnds, MakesRounds, empty_slots}
+use Rattle.scene_structures.proofs.tree.rounds.run_down.Given as goal
+
+abbrev pub invariant-loop-pile : goal.invariant-loop-pile
+invariant-loop-pile g l = record {
+  carries : Carries l.domain l.desk l.pile;
+  others : KeepsOthers l.initial.desk l.initial.pile.endings.items l.desk l.pile.endings.items;
+  bag : bag_of l.desk ≡ bag_of l.initial.desk;
+  held : l.desk.held ≡ l.initial.desk.held;
+  same : IsSameDesk l.initial.desk l.desk;
+  vacant : l.ended.vacant.items ≡ empty_slots 0 l.ended.slots.items;
+  room : HasRoomForEnds (l.domain.shape.blocks + 1) l.ended;
+  few : length l.ended.slots.items ≤ l.domain.shape.blocks + 1;
+  most : l.rounds ≤ 4 * l.domain.shape.blocks;
+  blocks : l.blocks ≡ l.domain.shape.blocks;
+  runs : MakesRounds l.initial.desk l.initial.pile.endings.items l.initial.ended.slots.items l.rounds l.desk l.pile.endings.items l.ended.slots.items;
+}
+
+abbrev pub decreases-loop-pile : goal.decreases-loop-pile
+decreases-loop-pile g l = 4 * l.domain.shape.blocks - l.rounds

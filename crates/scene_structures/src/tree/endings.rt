@@ -1,0 +1,64 @@
+//! Owners that leave, with all that ends by that.
+ghost use Rattle.std.specs.Prelude.{◌≡◌, ◌+◌, []};
+ghost use Rattle.control_word.specs.declared.model.handle.Kind.TheVariants.{Owner};
+ghost use Rattle.control_block.specs.Desks.{IsSameDesk, bag_of};
+ghost use Rattle.control_block.specs.Own.{Does};
+ghost use Rattle.control_block.specs.CellCalls.{HoldsHandle, without_handle};
+ghost use Rattle.shared_handle.specs.Piles.{Carries, IsParting};
+ghost use Rattle.scene_structures.specs.Hands.{KeepsHeld};
+ghost use Rattle.scene_structures.specs.Others.{KeepsOthers};
+
+use control_block::desk::Desk;
+use control_block::domain::Domain;
+use shared_handle::{Pile, Round, Shared, drop_shared};
+use std::sync::Wait;
+
+/// All of the pile ends, and what the desk holds meanwhile stays on its object.
+fn settle<V: Drop + Send, R: Wait>(
+    rt: &R,
+    domain: &Domain<V>,
+    desk: &mut Desk<V>,
+    pile: &mut Pile<V>,
+)
+    requires carries { Carries domain.now desk.old pile.old }
+    ensures carries { Carries domain.now desk.new pile.new }
+    ensures others { KeepsOthers desk.old pile.old.endings.items desk.new pile.new.endings.items }
+    ensures none { pile.new.endings.items ≡ [] }
+    ensures bag { bag_of desk.new ≡ bag_of desk.old }
+    ensures held { desk.new.held ≡ desk.old.held }
+    ensures desk { IsSameDesk desk.old desk.new }
+    ensures own { Does IsParting desk.old desk.new }
+    ensures latest { KeepsHeld desk.old desk.new }
+{
+    for _ in rt.forever() {
+        match pile.round(domain, desk) {
+            Round::Settled => return,
+            Round::Cleared(_, _) => {}
+            Round::Ended(value) => drop(value),
+        }
+    }
+    unreachable!()
+}
+
+/// An owner leaves. Where it was the last, its object ends, and all that ends by that.
+pub(crate) fn let_go<V: Drop + Send, R: Wait>(
+    rt: &R,
+    domain: &Domain<V>,
+    desk: &mut Desk<V>,
+    owner: Shared,
+    pile: &mut Pile<V>,
+)
+    requires carries { Carries domain.now desk.old pile.old }
+    requires holds { HoldsHandle desk.old Owner owner.block owner.place }
+    ensures carries { Carries domain.now desk.new pile.new }
+    ensures others { KeepsOthers desk.old pile.old.endings.items desk.new pile.new.endings.items }
+    ensures none { pile.new.endings.items ≡ [] }
+    ensures bag { bag_of desk.new ≡ without_handle Owner owner.block owner.place (bag_of desk.old) }
+    ensures held { desk.new.held + 1 ≡ desk.old.held }
+    ensures desk { IsSameDesk desk.old desk.new }
+    ensures own { Does IsParting desk.old desk.new }
+    ensures latest { KeepsHeld desk.old desk.new }
+{
+    let _gone = drop_shared(domain, desk, pile, owner);
+    settle(rt, domain, desk, pile);
+}

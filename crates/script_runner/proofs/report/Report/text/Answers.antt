@@ -1,9 +1,0 @@
-use Rattle.std.specs.Prelude.{string_bytes}
-use Rattle.script_runner.proofs.Threads.{report_then}
-use Rattle.script_runner.proofs.report.Report.text.Goals as goal
-
-pub returns : goal.returns
-returns c =
-    report_then c.args.self.now c.as_slice.result.now (string_bytes c.new-text.result) (string_bytes c.put_threads.new.text)
-    (string_bytes c.put_census.new.text) (string_bytes c.put_totals.new.text) c.as_slice.ensures.value c.new-text.ensures.bytes
-    c.in_ok-put_threads.ensures c.in_ok-put_census.ensures c.in_ok-put_totals.ensures

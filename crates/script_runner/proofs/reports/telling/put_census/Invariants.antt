@@ -1,0 +1,10 @@
+use Rattle.std.proofs.Common.{◌≡◌, ◌++◌}
+use Rattle.std.specs.Prelude.{string_bytes}
+use Rattle.std.specs.List.{flat_map}
+use Rattle.script_text.specs.Grammar.{ended}
+use Rattle.step_threads.specs.Stocks.{from}
+use Rattle.script_runner.specs.Telling.{closed_block_lines}
+use Rattle.script_runner.proofs.reports.telling.put_census.Given as goal
+
+abbrev pub invariant-loop-before : goal.invariant-loop-before
+invariant-loop-before l = string_bytes l.text ≡ string_bytes l.fn.text ++ ended (flat_map (closed_block_lines l.census) (from 1 l.before))

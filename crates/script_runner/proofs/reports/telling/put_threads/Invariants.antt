@@ -1,0 +1,8 @@
+use Rattle.std.proofs.Common.{◌≡◌, ◌++◌, take}
+use Rattle.std.specs.Prelude.{string_bytes}
+use Rattle.script_text.specs.Grammar.{ended}
+use Rattle.script_runner.specs.Telling.{threads_lines}
+use Rattle.script_runner.proofs.reports.telling.put_threads.Given as goal
+
+abbrev pub invariant-loop-at : goal.invariant-loop-at
+invariant-loop-at l = string_bytes l.text ≡ string_bytes l.fn.text ++ ended (threads_lines 1 (take l.at l.lines))

@@ -1,0 +1,56 @@
+//! The world at the end of a script's run (own).
+ghost use Rattle.std.specs.Prelude.{◌≡◌, ◌≤◌, ◌+◌, All, IfErr, IfOk, length};
+ghost use Rattle.script_text.specs.declared.fault.Fault.TheVariants.{Memory};
+ghost use Rattle.script_text.specs.Beginnings.{script_scene};
+ghost use Rattle.step_core.specs.Totals.{IsAtEnd};
+ghost use Rattle.step_core.specs.Worlds.{scene};
+ghost use Rattle.script_stepper.specs.Ends.{IsRunEnd, IsRefused, IsRunOut};
+
+use crate::runs::running::run_turns;
+use crate::runs::stepping::{shape_of, world_of};
+use crate::turns::turns_of;
+use script_text::{Fault, Script, parse};
+use std::alloc::Global;
+use step_core::World;
+
+/// A world in which each thread is at its end, and how many blocks it has. It has the 256 free cells of scripts, of
+/// which the first 128 are shared.
+#[derive(Drop)]
+pub struct End {
+    pub world: World,
+    pub blocks: u16,
+    ghost ended: { IsAtEnd world },
+    ghost all: { blocks ≡ world.story.extent.shape.blocks },
+    ghost shared: { world.story.extent.shape.shared_cells ≡ 128 },
+    ghost cells: { world.story.extent.shape.shared_cells + world.story.extent.shape.weak_cells ≡ 256 },
+}
+
+/// Runs a script to its end, with turns each of which names a thread.
+fn run_out(alloc: Global, script: &Script, turns: &[u8]) -> Result<End, Fault>
+    requires { All (λ thread. (1 ≤ thread) × (thread ≤ length script.now.threads)) turns.now }
+    ensures ok { IfOk result (λ end. IsRunOut turns.now (script_scene script.now) (scene end.world)) }
+    ensures memory { IfErr result (λ fault. fault ≡ Memory) }
+{
+    let threads = script.threads();
+    let shared = script.blocks();
+    let shape = shape_of(shared, threads);
+    let blocks = shape.blocks as u16;
+    let mut world = world_of(alloc, script, shape)?;
+    let mut text = String::new(alloc);
+    match run_turns(&mut world, threads as u8, turns, &mut text) {
+        Ok(()) => Ok(End { world, blocks }),
+        Err(_) => Err(Fault::Memory),
+    }
+}
+
+/// Runs a script with a list of turns, as [`crate::step_text`] does, and gives the world at its end (own): one turn for
+/// each number of the list, then each thread to its end in number order. Refused by 1 where a growth was refused, by 10
+/// just where a line of the script is faulty, and then by 11 just where a number of the list is.
+pub fn end_of(alloc: Global, script: &[u8], turns: &[u8]) -> Result<End, Fault>
+    ensures end { IfOk result (λ end. IsRunEnd script.now turns.now (scene end.world)) }
+    ensures refused { IfErr result (λ fault. IsRefused script.now turns.now fault) }
+{
+    let script = parse(alloc, script)?;
+    let turns = turns_of(alloc, turns, script.threads() as u8)?;
+    run_out(alloc, &script, turns.as_slice())
+}

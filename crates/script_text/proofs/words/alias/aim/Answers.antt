@@ -1,0 +1,11 @@
+use Rattle.std.proofs.Common.{ℕ, Bor, List, [], rules}
+use Rattle.script_text.specs.Shapes.{aim_at}
+use Rattle.script_text.proofs.ShapeLemmas.{pair_of, fails_first}
+use Rattle.script_text.proofs.words.alias.aim.Goals as goal
+
+pub returns-in_err-of-in-len2 : goal.returns-in_err-of-in-len2
+unfolding aim_at
+returns-in_err-of-in-len2 c =
+    let none : Bor (List ℕ) = record { ref_ptr = (0, 0); now = [] } in
+    let words = pair_of c.args.words.now none c.in-len2.len_at_least c.in-len2.len_below in
+    rw words (search (rules, fails_first))

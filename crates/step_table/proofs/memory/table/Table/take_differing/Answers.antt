@@ -1,0 +1,50 @@
+use Rattle.std.proofs.Common.{◌≡◌, ◌+◌, ◌∙◌, ℕ, ap, get_or, length, sym, arith}
+use Rattle.step_table.specs.declared.memory.extent.Extent.{Extent}
+use Rattle.step_table.specs.CellDeeds.{word_of}
+use Rattle.step_table.specs.Stories.{Story, Kept}
+use Rattle.step_table.proofs.tables.Standing.{kept_as, kept_now}
+use Rattle.std.specs.Prelude.{Some}
+use Rattle.std.proofs.lemmas.Bool.{eqb-true}
+use Rattle.step_table.specs.declared.cell_steps.cell_deed.CellDeed.TheVariants.{Take}
+use Rattle.step_table.specs.declared.memory.past.Deed.TheVariants.{OnCell}
+use Rattle.step_table.proofs.tables.Shown.{kept_cell, somewhere, word_inside}
+use Rattle.step_table.proofs.tables.Swaps.{cell_bits_few, kept_take_differing}
+use Rattle.step_table.proofs.memory.table.Table.take_differing.Goals as goal
+
+pub overflow_add-pack : goal.overflow_add-pack
+overflow_add-pack c =
+    let a = cell_bits_few c.args.seen c.requires.seen.0 in let e = c.pack.ensures in omega (arith, a, e)
+
+pub place_of-requires : goal.place_of-requires
+place_of-requires c =
+    let k : Kept c.args.self.now = kept_now _ _ _ _ c.args.self.now c.self.invariant c.self.view_is in
+    let is = kept_cell c.args.self.now c.args.desk c.args.cell k c.requires.open in
+    somewhere c.args.self.now c.args.cell k is
+
+pub set-requires : goal.set-requires
+set-requires c =
+    let k : Kept c.args.self.now = kept_now _ _ _ _ c.args.self.now c.self.invariant c.self.view_is in
+    let w : c.self.inside.words ≡ c.args.self.now.words = ap (λ (s : Story). s.words) c.self.view_is in
+    let x : c.self.inside.extent ≡ c.args.self.now.extent = ap (λ (s : Story). s.extent) c.self.view_is in
+    let is = kept_cell c.args.self.now c.args.desk c.args.cell k c.requires.open in
+    let i = word_inside c.args.self.now c.args.desk c.args.cell k c.requires.seat is in
+    let at : c.place_of.result ≡ word_of c.args.self.now.extent.shape.blocks c.args.cell =
+    c.place_of.ensures ∙ ap (λ (y : Extent). word_of y.shape.blocks c.args.cell) x in
+    omega (arith, i, at, ap (length {A = ℕ}) w)
+
+pub invariant_of-self : goal.invariant_of-self
+invariant_of-self c =
+    let k : Kept c.args.self.now = kept_now _ _ _ _ c.args.self.now c.self.invariant c.self.view_is in
+    let w : c.self.inside.words ≡ c.args.self.now.words = ap (λ (s : Story). s.words) c.self.view_is in
+    let x : c.self.inside.extent ≡ c.args.self.now.extent = ap (λ (s : Story). s.extent) c.self.view_is in
+    let is = kept_cell c.args.self.now c.args.desk c.args.cell k c.requires.open in
+    let at : c.place_of.result ≡ word_of c.args.self.now.extent.shape.blocks c.args.cell =
+    c.place_of.ensures ∙ ap (λ (y : Extent). word_of y.shape.blocks c.args.cell) x in
+    let z = eqb-true _ _ (sym c.shows.ensures ∙ c.if-not-shows.false) in
+    kept_as c.args.self.now c.args.desk (OnCell (Take c.args.cell c.args.seen (Some c.args.compared))) _ _ _ _
+    (kept_take_differing c.args.self.now c.args.desk c.args.cell c.args.seen c.args.compared k c.requires.seat c.requires.idle c.requires.open
+    c.requires.seen.1 c.requires.seen.2
+    c.requires.differs c.requires.expected c.requires.hand c.requires.room
+    c.requires.seen.0 z)
+    x (let e = c.pack.ensures in let g : c.pack.result + 17179869184 ≡ get_or c.args.self.now.words
+    (word_of c.args.self.now.extent.shape.blocks c.args.cell) 0 + 17179869184 = omega (arith, e, z) in let s = c.set.ensures in cc) c.then-past.ensures

@@ -1,0 +1,16 @@
+use Rattle.std.proofs.Common.{set, sym, subst}
+use Rattle.step_table.specs.Deeds.{is_last}
+use Rattle.step_table.specs.Holdings.{HoldsBag, plain}
+use Rattle.step_table.specs.Stories.{Story, story_state}
+use Rattle.step_table.proofs.holding.Owning.{holds_leave, slot_held}
+use Rattle.step_table.proofs.slots.holdings.Holdings.leave.Goals as goal
+
+pub leave_pointer-last-requires-clause-held : goal.leave_pointer-last-requires-clause-held
+leave_pointer-last-requires-clause-held c =
+    slot_held c.args.desk c.args.self.now.slots.items c.args.table.now c.args.from c.args.pointer c.requires.holds c.requires.from
+
+pub returns-clause-holds : goal.returns-clause-holds
+returns-clause-holds c =
+    subst (λ (v : Story). HoldsBag c.args.desk (set c.args.self.now.slots.items c.args.from plain) v) (sym c.leave_pointer-last.ensures.after)
+    (holds_leave c.args.desk c.args.self.now.slots.items c.args.table.now c.args.from c.args.pointer
+    (is_last (story_state c.args.table.now) c.args.pointer) c.requires.holds c.requires.from)

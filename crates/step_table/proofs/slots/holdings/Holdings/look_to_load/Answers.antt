@@ -1,0 +1,51 @@
+use Rattle.std.proofs.Common.{◌∙◌, Bool, cond, set, sym, ap, subst}
+use Rattle.std.proofs.lemmas.Bool.{cond-false}
+use Rattle.std.specs.Prelude.{None, is_some}
+use Rattle.step_table.specs.declared.cell_steps.cell_deed.CellDeed.TheVariants.{Look}
+use Rattle.step_table.specs.declared.memory.past.Deed.TheVariants.{OnCell}
+use Rattle.step_table.specs.declared.slots.slot.Slot.{Slot}
+use Rattle.step_table.specs.Contents.{held_in, slot_of}
+use Rattle.step_table.specs.Holdings.{HoldsBag}
+use Rattle.step_table.specs.Stories.{Story, story_after_deed, story_state}
+use Rattle.step_table.proofs.contained.Coming.{comes, holds_seen, open_shown}
+use Rattle.step_table.proofs.contained.Told.{shows_seen}
+use Rattle.step_table.proofs.slots.holdings.Holdings.look_to_load.Goals as goal
+
+pub returns-then-is_some-clause-found : goal.returns-then-is_some-clause-found
+returns-then-is_some-clause-found c =
+    let v = c.args.table.now in
+    let x = c.look_cell-found.result in
+    shows_seen v c.args.desk c.args.cell x
+    (open_shown v c.args.desk c.args.cell x c.known.ensures c.requires.seat c.requires.open c.look_cell-found.ensures.found)
+
+pub returns-clause-found : goal.returns-clause-found
+returns-clause-found c =
+    let v = c.args.table.now in
+    let x = c.look_cell-found.result in
+    shows_seen v c.args.desk c.args.cell x
+    (open_shown v c.args.desk c.args.cell x c.known.ensures c.requires.seat c.requires.open c.look_cell-found.ensures.found)
+
+pub returns-clause-slots : goal.returns-clause-slots
+returns-clause-slots c =
+    let v = c.args.table.now in
+    let x = c.look_cell-found.result in
+    let slots = c.args.self.now.slots.items in
+    let found = open_shown v c.args.desk c.args.cell x c.known.ensures c.requires.seat c.requires.open c.look_cell-found.ensures.found in
+    ap (λ (z : Slot). set slots c.args.to z)
+    (comes v c.args.desk c.args.cell x c.kind_in-kind.result c.slot_in.result found c.kind_in-kind.ensures c.slot_in.ensures)
+    ∙ sym (cond-false (is_some x.owned) slots (set slots c.args.to (slot_of (story_state v) (held_in (story_state v) c.args.cell)))
+    (sym c.is_some.ensures ∙ c.if-is_some.false))
+
+pub returns-clause-holds : goal.returns-clause-holds
+returns-clause-holds c =
+    let v = c.args.table.now in
+    let d = c.args.desk in
+    let slots = c.args.self.now.slots.items in
+    let x = c.look_cell-found.result in
+    let found = open_shown v c.args.desk c.args.cell x c.known.ensures c.requires.seat c.requires.open c.look_cell-found.ensures.found in
+    let y = comes v d c.args.cell x c.kind_in-kind.result c.slot_in.result found c.kind_in-kind.ensures c.slot_in.ensures in
+    let w = story_after_deed v d (OnCell (Look c.args.cell x None)) in
+    let t = c.look_cell-found.ensures.after ∙ ap (λ (b : Bool). cond b v w) (sym c.is_some.ensures ∙ c.if-is_some.false) in
+    subst (λ (z : Slot). HoldsBag d (set slots c.args.to z) c.look_cell-found.new.self) (sym y)
+    (subst (λ (u : Story). HoldsBag d (set slots c.args.to (slot_of (story_state v) (held_in (story_state v) c.args.cell))) u) (sym t)
+    (holds_seen d slots v c.args.to c.args.cell x c.requires.holds found c.requires.inside c.requires.empty None))

@@ -1,0 +1,87 @@
+//! Funds: handles that are paid for ahead, on the count of an object's owners or of its weak handles. Each function is
+//! one atomic step on one word.
+ghost use Rattle.std.specs.Prelude.{◌≡◌, ◌<◌, ◌≤◌, Option, Some};
+ghost use Rattle.control_word.specs.declared.place.Place.{Place};
+ghost use Rattle.control_word.specs.declared.model.view.Pending.TheVariants.{Idle};
+ghost use Rattle.control_word.specs.Layout.{spot};
+ghost use Rattle.control_word.specs.State.{Has, held};
+ghost use Rattle.control_word.specs.Words.{slot};
+ghost use Rattle.step_table.specs.CellDeeds.{owing_funds};
+ghost use Rattle.step_table.specs.Stories.{story_after_deed, handle_in_block, pending, story_state};
+
+use crate::cell_steps::cell_deed::CellDeed;
+use crate::memory::past::Deed;
+use crate::memory::table::Table;
+use crate::slots::holdings::Pointer;
+use control_word::model::handle::Kind;
+use control_word::packed::counts::{with_fund_turned, with_funds, without_funds};
+use control_word::packed::layout::{OWNERS, WEAKS, block_word};
+use control_word::place::Block;
+
+/// Where handles of this kind on the block's object are counted.
+pub(crate) fn count_word(block: Block, kind: Kind) -> usize
+    requires { 0 < block.0 }
+    ensures { result ≡ spot block.0 (slot kind) }
+{
+    match kind {
+        Kind::Owner => block_word(block, OWNERS),
+        Kind::Weak => block_word(block, WEAKS),
+    }
+}
+
+impl Table {
+    /// Brings up to 256 funds to the count of a handle in hand: for that handle, which goes into a cell, or for one
+    /// like it that is there. They are out until they are in the cell or given back.
+    pub fn bring(&mut self, desk: usize, pointer: Pointer, funds: u32)
+        requires seat { desk < self.old.extent.actors }
+        requires idle { pending self.old desk ≡ Idle }
+        requires held { Has (held desk (handle_in_block self.old pointer.kind pointer.block pointer.place))
+            (story_state self.old).hands }
+        requires few { funds ≤ 256 }
+        ensures { self.new ≡ story_after_deed self.old desk
+            (Deed.OnCell (CellDeed.Bring pointer.kind pointer.block pointer.place funds)) }
+    {
+        let Pointer { kind, block, place } = pointer;
+        let found = self.words.get(count_word(block, kind));
+        let deed = CellDeed::Bring {
+            kind,
+            block,
+            place,
+            funds,
+        };
+        let past = self.then(desk, Deed::OnCell { deed });
+        self.words
+            .set(count_word(block, kind), with_funds(found, funds));
+        self.past = past;
+    }
+
+    /// Gives back the funds that are out, all of them: nothing is half done any more.
+    pub fn give_back(&mut self, desk: usize, kind: Kind, block: Block, funds: u32)
+        requires seat { desk < self.old.extent.actors }
+        requires owes { (p : Option Place)
+            × (pending self.old desk ≡ owing_funds (story_state self.old) kind (Some block) p funds 0) }
+        ensures { self.new ≡ story_after_deed self.old desk (Deed.OnCell (CellDeed.GiveBack kind block funds)) }
+    {
+        let found = self.words.get(count_word(block, kind));
+        let deed = CellDeed::GiveBack { kind, block, funds };
+        let past = self.then(desk, Deed::OnCell { deed });
+        self.words
+            .set(count_word(block, kind), without_funds(found, funds));
+        self.past = past;
+    }
+
+    /// Turns the fund that a load took into a handle in the number: the load is over.
+    pub fn turn_fund(&mut self, desk: usize, kind: Kind, block: Block)
+        requires seat { desk < self.old.extent.actors }
+        requires owes { (p : Option Place)
+            × (pending self.old desk ≡ owing_funds (story_state self.old) kind (Some block) p 1 1) }
+        ensures { self.new ≡ story_after_deed self.old desk (Deed.OnCell (CellDeed.Turn kind block)) }
+    {
+        let found = self.words.get(count_word(block, kind));
+        let deed = CellDeed::Turn { kind, block };
+        let past = self.then(desk, Deed::OnCell { deed });
+        self.words
+            .set(count_word(block, kind), with_fund_turned(found));
+        self.past = past;
+    }
+}

@@ -1,0 +1,70 @@
+//! What cells hold, between their words and the slots of an actor.
+ghost use Rattle.std.specs.Prelude.{◌≡◌};
+ghost use Rattle.control_word.specs.State.{kind_of_member};
+ghost use Rattle.step_table.specs.CellDeeds.{kind_in_state};
+ghost use Rattle.step_table.specs.Contents.{as_word, slot_in};
+ghost use Rattle.step_table.specs.Stories.{story_state};
+
+use crate::cell_steps::cell_deed::Cell;
+use crate::memory::table::Table;
+use crate::slots::holdings::Pointer;
+use crate::slots::slot::Slot;
+use control_word::CellWord;
+use control_word::model::handle::Kind;
+
+impl Table {
+    /// The kind of the handles in a cell.
+    pub fn kind_in(&self, cell: Cell) -> Kind
+        ensures { result ≡ kind_in_state (story_state self.now) cell }
+    {
+        match cell {
+            Cell::Free { number } => self.kind_of_free(number),
+            Cell::Member { member, .. } => kind_of_member(member),
+        }
+    }
+
+    /// The shared cells come first.
+    fn kind_of_free(&self, number: u32) -> Kind
+        ensures { result ≡ kind_in_state (story_state self.now) (Cell.Free number) }
+    {
+        if number < self.extent.shape.shared_cells {
+            Kind::Owner
+        } else {
+            Kind::Weak
+        }
+    }
+}
+
+/// Members 0 and 1 hold owners, and member 2 a weak handle.
+fn kind_of_member(member: u8) -> Kind
+    ensures { result ≡ kind_of_member member }
+{
+    if member == 2 { Kind::Weak } else { Kind::Owner }
+}
+
+impl Slot {
+    /// The value as it goes into a cell, of which no fund was taken.
+    pub fn word(self) -> CellWord
+        ensures { result ≡ as_word self }
+    {
+        CellWord {
+            owned: match self {
+                Slot::Empty { .. } => None,
+                Slot::Full(pointer) => Some(pointer.block),
+            },
+            place: self.place(),
+            taken: 0,
+        }
+    }
+}
+
+/// A value of this kind that a cell's word tells.
+pub(crate) fn slot_in(kind: Kind, found: CellWord) -> Slot
+    ensures { result ≡ slot_in kind found }
+{
+    let place = found.place;
+    match found.owned {
+        None => Slot::Empty { place },
+        Some(block) => Slot::Full(Pointer { kind, block, place }),
+    }
+}

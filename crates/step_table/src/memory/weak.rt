@@ -1,0 +1,140 @@
+//! What weak handles do to the words of a table. Each function is one atomic step on one word.
+ghost use Rattle.std.specs.Prelude.{◌≡◌, ◌⊎◌, ◌<◌, ◌==◌, ◌&&◌, true, false, cond, slice_index};
+ghost use Rattle.control_word.specs.declared.model.view.Pending.TheVariants.{Idle};
+ghost use Rattle.control_word.specs.Events.{is_gone, place_at};
+ghost use Rattle.control_word.specs.Layout.{spot};
+ghost use Rattle.control_word.specs.State.{Has, held, bag_size, count, weak};
+ghost use Rattle.step_table.specs.Stories.{story_after_deed, handle_in_block, object_of_block, pending, story_state};
+ghost use Rattle.step_table.specs.Stories.{weak_in};
+
+use crate::memory::past::Deed;
+use crate::memory::table::Table;
+use crate::slots::holdings::Pointer;
+use control_word::packed::counts::is_last;
+use control_word::packed::layout::{OWNERS, WEAKS, block_word};
+use control_word::place::{Block, Place};
+
+impl Table {
+    /// A weak handle more, with the place of a handle or of its object itself. That handle keeps the block while the
+    /// word goes up.
+    pub(crate) fn weak_share(&mut self, desk: usize, pointer: Pointer, place: Option<Place>)
+        requires seat { desk < self.old.extent.actors }
+        requires idle { pending self.old desk ≡ Idle }
+        requires held { Has (held desk (handle_in_block self.old pointer.kind pointer.block pointer.place))
+            (story_state self.old).hands }
+        requires place { (place ≡ pointer.place) ⊎ (place ≡ place_at pointer.block.0) }
+        requires room { bag_size (story_state self.old) desk < (story_state self.old).allowance desk }
+        ensures { self.new ≡ story_after_deed self.old desk (Deed.WeakShare pointer.block place) }
+    {
+        let block = pointer.block;
+        let found = self.words.get(block_word(block, WEAKS));
+        let past = self.then(desk, Deed::WeakShare { block, place });
+        self.words.set(block_word(block, WEAKS), found + 1);
+        self.past = past;
+    }
+
+    /// Ends a weak handle. Answers whether the block is vacant: just where the whole word was 1, as the owners of an
+    /// object that isn't gone count as one more.
+    pub(crate) fn weak_leave(&mut self, desk: usize, block: Block, place: Option<Place>) -> bool
+        requires seat { desk < self.old.extent.actors }
+        requires idle { pending self.old desk ≡ Idle }
+        requires held { Has (held desk (weak_in self.old block place)) (story_state self.old).hands }
+        ensures vacant { result ≡ (weak (story_state self.old) (object_of_block self.old block) == 1
+            && is_gone ((story_state self.old).object (object_of_block self.old block)).phase) }
+        ensures after { self.new ≡ story_after_deed self.old desk (Deed.WeakLeave block place result) }
+    {
+        let found = self.words.get(block_word(block, WEAKS));
+        let vacant = is_last(found);
+        let past = self.then(
+            desk,
+            Deed::WeakLeave {
+                block,
+                place,
+                vacant,
+            },
+        );
+        self.words.set(block_word(block, WEAKS), found - 1);
+        self.past = past;
+        vacant
+    }
+
+    /// Whether no owner is left, by a handle: just where the whole owner word is 0.
+    pub fn is_expired(&mut self, desk: usize, pointer: Pointer) -> bool
+        requires seat { desk < self.old.extent.actors }
+        requires idle { pending self.old desk ≡ Idle }
+        requires held { Has (held desk (handle_in_block self.old pointer.kind pointer.block pointer.place))
+            (story_state self.old).hands }
+        ensures exact { result ≡ (count (story_state self.old) (object_of_block self.old pointer.block) == 0) }
+        ensures after { self.new ≡ story_after_deed self.old desk
+            (Deed.Expired pointer.kind pointer.block pointer.place result) }
+    {
+        let Pointer { kind, block, place } = pointer;
+        let expired = self.words.get(block_word(block, OWNERS)) == 0;
+        self.past = self.then(
+            desk,
+            Deed::Expired {
+                kind,
+                block,
+                place,
+                expired,
+            },
+        );
+        expired
+    }
+
+    /// The first look of a lock, which answers the owner word. Where that is 0 no owner is left: the lock is empty by
+    /// this look.
+    pub fn look_lock(&mut self, desk: usize, block: Block, place: Option<Place>) -> u64
+        requires seat { desk < self.old.extent.actors }
+        requires idle { pending self.old desk ≡ Idle }
+        requires held { Has (held desk (weak_in self.old block place)) (story_state self.old).hands }
+        ensures found { result ≡ slice_index self.old.words (spot block.0 0) }
+        ensures left { (result == 0) ≡ (count (story_state self.old) (object_of_block self.old block) == 0) }
+        ensures after { self.new ≡ cond (result == 0)
+            (story_after_deed self.old desk (Deed.Lock block place false)) self.old }
+    {
+        let found = self.words.get(block_word(block, OWNERS));
+        if found > 0 {
+            return found;
+        }
+        self.past = self.then(
+            desk,
+            Deed::Lock {
+                block,
+                place,
+                got: false,
+            },
+        );
+        found
+    }
+
+    /// Tries a lock by a `compare_exchange`: where the owner word is still the one that was found, which isn't 0, it
+    /// goes up by one. Answers the word as it was.
+    pub fn try_lock(&mut self, desk: usize, block: Block, place: Option<Place>, found: u64) -> u64
+        requires seat { desk < self.old.extent.actors }
+        requires idle { pending self.old desk ≡ Idle }
+        requires held { Has (held desk (weak_in self.old block place)) (story_state self.old).hands }
+        requires room { bag_size (story_state self.old) desk < (story_state self.old).allowance desk }
+        requires some { 0 < found }
+        ensures word { result ≡ slice_index self.old.words (spot block.0 0) }
+        ensures left { (result == 0) ≡ (count (story_state self.old) (object_of_block self.old block) == 0) }
+        ensures after { self.new ≡ cond (result == found)
+            (story_after_deed self.old desk (Deed.Lock block place true)) self.old }
+    {
+        let now = self.words.get(block_word(block, OWNERS));
+        if now != found {
+            return now;
+        }
+        let past = self.then(
+            desk,
+            Deed::Lock {
+                block,
+                place,
+                got: true,
+            },
+        );
+        self.words.set(block_word(block, OWNERS), now + 1);
+        self.past = past;
+        now
+    }
+}

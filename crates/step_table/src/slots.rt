@@ -1,0 +1,8 @@
+//! What an actor's names hold, and what is done with it.
+pub mod holdings;
+pub mod pointer;
+pub mod reading;
+pub mod slot;
+pub mod taking;
+pub mod this;
+pub mod values;

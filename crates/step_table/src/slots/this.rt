@@ -1,0 +1,109 @@
+//! Pointers that an object gives to itself.
+ghost use Rattle.std.specs.Prelude.{◌≡◌, ◌<◌, Bool, length, slice_set, Some, None};
+ghost use Rattle.control_word.specs.declared.model.handle.Kind.TheVariants.{Owner};
+ghost use Rattle.control_word.specs.declared.model.view.Pending.TheVariants.{Idle};
+ghost use Rattle.control_word.specs.Events.{place_at};
+ghost use Rattle.control_word.specs.State.{Has, bag_size, held};
+ghost use Rattle.control_word.specs.Words.{flags_of};
+ghost use Rattle.step_table.specs.Deeds.{give, is_enabled, this_as};
+ghost use Rattle.step_table.specs.declared.slots.slot.Slot.TheVariants.{Full};
+ghost use Rattle.step_table.specs.Stories.{story_after_deed, handle_in_block, pending, story_state};
+
+use crate::memory::table::Table;
+use crate::slots::holdings::{Holdings, Pointer};
+use control_word::model::handle::Kind;
+use control_word::packed::layout::{ENABLED, FLAGS};
+use control_word::place::{Block, Place};
+
+impl Table {
+    /// Whether an object gives pointers to itself, by a handle of it: its flag doesn't change.
+    pub fn is_enabled(&self, desk: usize, pointer: Pointer) -> bool
+        requires { Has (held desk (handle_in_block self.now pointer.kind pointer.block pointer.place))
+            (story_state self.now).hands }
+        ensures { result ≡ is_enabled (story_state self.now) pointer }
+    {
+        self.known();
+        is_enabled(self.word(pointer.block, FLAGS))
+    }
+
+    /// A handle more, of this kind and of the object itself, from an owner.
+    pub fn give(&mut self, desk: usize, kind: Kind, pointer: Pointer)
+        requires seat { desk < self.old.extent.actors }
+        requires idle { pending self.old desk ≡ Idle }
+        requires held { Has (held desk (handle_in_block self.old pointer.kind pointer.block pointer.place))
+            (story_state self.old).hands }
+        requires owner { pointer.kind ≡ Owner }
+        requires room { bag_size (story_state self.old) desk < (story_state self.old).allowance desk }
+        ensures { self.new ≡ story_after_deed self.old desk (give kind pointer) }
+    {
+        self.known();
+        let place = itself(pointer.block);
+        match kind {
+            Kind::Owner => self.share(desk, pointer.block, pointer.place, place),
+            Kind::Weak => self.weak_share(desk, pointer, place),
+        }
+    }
+}
+
+impl Holdings {
+    ghost use Rattle.step_table.specs.Holdings.{HoldsBag, inside, slot_pointer};
+
+    /// Whether the object of an owner in a slot gives pointers to itself.
+    pub fn is_enabled(&self, desk: usize, table: &Table, from: usize, pointer: Pointer) -> bool
+        requires holds { HoldsBag desk self.now.slots.items table.now }
+        requires from { inside (slot_pointer self.now.slots.items from) ≡ Some pointer }
+        ensures { result ≡ is_enabled (story_state table.now) pointer }
+    {
+        table.is_enabled(desk, pointer)
+    }
+
+    /// Puts a pointer of this kind to the object itself, from an owner in one slot, into another slot, which is empty.
+    pub fn give(
+        &mut self,
+        desk: usize,
+        table: &mut Table,
+        from: usize,
+        to: usize,
+        kind: Kind,
+        pointer: Pointer,
+    )
+        requires seat { desk < table.old.extent.actors }
+        requires idle { pending table.old desk ≡ Idle }
+        requires holds { HoldsBag desk self.old.slots.items table.old }
+        requires from { inside (slot_pointer self.old.slots.items from) ≡ Some pointer }
+        requires inside { to < length self.old.slots.items }
+        requires empty { slot_pointer self.old.slots.items to ≡ None }
+        ensures slots { self.new.slots.items ≡ slice_set self.old.slots.items to (Full (this_as kind pointer)) }
+        ensures table { table.new ≡ story_after_deed table.old desk (give kind pointer) }
+        ensures holds { HoldsBag desk self.new.slots.items table.new }
+    {
+        table.known();
+        table.give(desk, kind, pointer);
+        self.fill(to, this_of(kind, pointer));
+    }
+}
+
+/// Whether flags say that an object gives pointers to itself.
+fn is_enabled(flags: u64) -> bool
+    ensures { (enabled null : Bool) → flags ≡ flags_of enabled null → result ≡ enabled }
+{
+    flags & ENABLED != 0
+}
+
+/// The place of an object itself.
+fn itself(block: Block) -> Option<Place>
+    ensures { result ≡ place_at block.0 }
+{
+    Some(Place { block, field: 0 })
+}
+
+/// A pointer of a kind to the object that a pointer owns.
+fn this_of(kind: Kind, pointer: Pointer) -> Pointer
+    ensures { result ≡ this_as kind pointer }
+{
+    Pointer {
+        kind,
+        block: pointer.block,
+        place: itself(pointer.block),
+    }
+}

@@ -1,0 +1,119 @@
+//! How a thread locks a weak pointer, step by step.
+ghost use Rattle.std.specs.Prelude.{◌≡◌, ◌<◌, ◌==◌, cond, length, Some, None, []};
+ghost use Rattle.step_threads.specs.Scenes.{lock_answer};
+
+use crate::half::Half;
+use crate::programs::act::Act;
+use crate::said::{Answer, Said, Stepped};
+use crate::thread::{Thread, silent};
+use control_word::Refusal;
+use step_table::memory::table::Table;
+
+impl Thread {
+    ghost use Rattle.step_threads.specs.Courses.{task_at};
+    ghost use Rattle.step_threads.specs.Threads.{FitsThread, HasStepped};
+
+    /// The first step of a lock: it looks at the word of the owners. Without a weak pointer it touches no word.
+    pub fn lock(&mut self, desk: usize, table: &mut Table, name: u8, must: bool) -> Stepped
+        requires fits { FitsThread desk self.old table.old }
+        requires rest { self.old.half ≡ Half.Rest }
+        requires none { self.old.course.endings.list ≡ [] }
+        requires within { self.old.course.at < length self.old.course.tasks.items }
+        requires act { (task_at self.old.course).act ≡ Act.Lock name must }
+        ensures stepped { HasStepped desk self.old table.old result self.new table.new }
+        ensures fits { FitsThread desk self.new table.new }
+    {
+        table.known();
+        let statement = self.course.statement();
+        let from = usize::from(name);
+        let Some(pointer) = self.course.holdings.weak(from) else {
+            self.course.take(!must);
+            return Stepped::Quiet(locked(statement, must, false));
+        };
+        let word = self.course.holdings.look_lock(desk, table, from, pointer);
+        if word == 0 {
+            self.course.take(!must);
+            return Stepped::Event(locked(statement, must, false));
+        }
+        self.half = Half::Locking { word };
+        Stepped::Quiet(silent(statement))
+    }
+
+    /// The next step of a lock that is under way.
+    pub(crate) fn lock_on(&mut self, desk: usize, table: &mut Table, word: u64) -> Stepped
+        requires fits { FitsThread desk self.old table.old }
+        requires half { self.old.half ≡ Half.Locking word }
+        ensures stepped { HasStepped desk self.old table.old result self.new table.new }
+        ensures fits { FitsThread desk self.new table.new }
+    {
+        let Act::Lock { name, must } = self.course.tasks[self.course.at].act else {
+            unreachable!()
+        };
+        self.try_lock(desk, table, name, must, word)
+    }
+
+    /// Tries a lock with the word that it found: where that is still there the owner comes into the hand. Else it goes
+    /// on with the word that is there, and where that is 0 it looks anew.
+    fn try_lock(
+        &mut self,
+        desk: usize,
+        table: &mut Table,
+        name: u8,
+        must: bool,
+        word: u64,
+    ) -> Stepped
+        requires fits { FitsThread desk self.old table.old }
+        requires half { self.old.half ≡ Half.Locking word }
+        requires act { (task_at self.old.course).act ≡ Act.Lock name must }
+        ensures stepped { HasStepped desk self.old table.old result self.new table.new }
+        ensures fits { FitsThread desk self.new table.new }
+    {
+        table.known();
+        let statement = self.course.statement();
+        let from = usize::from(name);
+        let hand = self.course.holdings.hand();
+        let Some(pointer) = self.course.holdings.weak(from) else {
+            unreachable!()
+        };
+        let now = self
+            .course
+            .holdings
+            .try_lock(desk, table, from, hand, pointer, word);
+        if now == word {
+            self.course.take(true);
+            self.half = Half::Rest;
+            return Stepped::Event(locked(statement, must, true));
+        }
+        self.half = goes_on(now);
+        Stepped::Quiet(silent(statement))
+    }
+}
+
+/// A lock goes on with a word that it found, and looks anew where that is 0.
+fn goes_on(word: u64) -> Half
+    ensures { result ≡ cond (word == 0) Half.Rest (Half.Locking word) }
+{
+    if word == 0 {
+        Half::Rest
+    } else {
+        Half::Locking { word }
+    }
+}
+
+/// What a lock says that is done.
+fn locked(statement: u32, must: bool, got: bool) -> Said
+    ensures { result ≡ record { statement = statement; answer = Some (lock_answer must got); ended = None } }
+{
+    let answer = if !must {
+        Answer::Locked(got)
+    } else if got {
+        Answer::Upgraded
+    } else {
+        Answer::Refused(Refusal::BadWeak)
+    };
+    Said {
+        statement,
+        answer: Some(answer),
+        ended: None,
+    }
+}

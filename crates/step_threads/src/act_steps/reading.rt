@@ -1,0 +1,60 @@
+//! How a thread reads the field that an owner points at.
+ghost use Rattle.std.specs.Prelude.{◌≡◌, ◌<◌, length, Some, None, []};
+ghost use Rattle.step_threads.specs.Scenes.{outside};
+ghost use Rattle.step_threads.specs.declared.programs.act.Act.{Act};
+
+use crate::half::Half;
+use crate::said::{Answer, Said, Stepped};
+use crate::thread::Thread;
+use control_word::Refusal;
+use control_word::place::Place;
+use step_table::memory::table::Table;
+
+impl Thread {
+    ghost use Rattle.step_threads.specs.Courses.{task_at};
+    ghost use Rattle.step_threads.specs.Threads.{FitsThread, HasStepped};
+
+    /// Tells the field that a name points at. It touches no word where that isn't in the object that the name owns.
+    pub(crate) fn read(&mut self, desk: usize, table: &mut Table, name: u8) -> Stepped
+        requires fits { FitsThread desk self.old table.old }
+        requires rest { self.old.half ≡ Half.Rest }
+        requires none { self.old.course.endings.list ≡ [] }
+        requires within { self.old.course.at < length self.old.course.tasks.items }
+        requires act { (task_at self.old.course).act ≡ Act.Read name }
+        ensures stepped { HasStepped desk self.old table.old result self.new table.new }
+        ensures fits { FitsThread desk self.new table.new }
+    {
+        table.known();
+        let statement = self.course.statement();
+        let from = usize::from(name);
+        let Some(pointer) = self.course.holdings.inside(from) else {
+            let answer = outside(self.course.holdings.place(from));
+            self.course.go_on();
+            return Stepped::Quiet(tells(statement, answer));
+        };
+        let value = self.course.holdings.read(desk, table, from, pointer);
+        self.course.go_on();
+        Stepped::Event(tells(statement, Answer::Read(value)))
+    }
+}
+
+/// Why a pointer with this place, which isn't in its object, is refused.
+pub(crate) fn outside(place: Option<Place>) -> Answer
+    ensures { result ≡ outside place }
+{
+    match place {
+        None => Answer::Refused(Refusal::Null),
+        Some(_) => Answer::Refused(Refusal::Outside),
+    }
+}
+
+/// What a step says that answers.
+pub(crate) fn tells(statement: u32, answer: Answer) -> Said
+    ensures { result ≡ record { statement = statement; answer = Some answer; ended = None } }
+{
+    Said {
+        statement,
+        answer: Some(answer),
+        ended: None,
+    }
+}

@@ -1,0 +1,7 @@
+//! How a thread goes on act by act.
+pub(crate) mod asking;
+pub mod leaving;
+pub mod offering;
+pub mod refusing;
+pub mod trying;
+pub mod values;
