@@ -1,6 +1,7 @@
 -- Of two replies of an act that are right and chosen one is as the other, as far as the reply matters.
+use Rattle.step_threads.specs.Shelving.{moved}
 use Rattle.std.proofs.Common.{◌≡◌, ℕ, ◌==◌, ◌&&◌, Bool, true, false, not, cond, List, [], ◌∷◌, refl, sym, ap, subst, ◌∙◌}
-use Rattle.std.specs.Prelude.{Option, Some, None, slice_index, slice_set}
+use Rattle.std.specs.Prelude.{Option, Some, None, option_map, slice_index, slice_set}
 use Rattle.std.specs.List.{filter}
 use Rattle.std.proofs.lemmas.Option.{same_Some}
 use Rattle.control_word.specs.declared.model.event.Event.{Event}
@@ -24,7 +25,8 @@ use Rattle.step_table.specs.Holdings.{Slots, inside, is_full, place_in, plain, s
 use Rattle.step_table.specs.Stories.{Nothing}
 use Rattle.step_threads.specs.declared.programs.act.Act.{Act}
 use Rattle.step_threads.specs.declared.programs.act.Act.TheVariants.{Make, Share, Downgrade, Lock, Put, Leave, Clear, Count, Expired, Read, FromThis, Alias}
-use Rattle.step_threads.specs.declared.programs.act.Act.TheVariants.{Move, Ask, Offer, Swap, Exchange, Load, Compare, Drop}
+use Rattle.step_threads.specs.declared.programs.act.Act.TheVariants.{Move, Ask}
+use Rattle.step_threads.specs.declared.programs.act.Act.TheVariants.{Offer, Swap, Exchange, Load, Compare, Drop, OnShelf}
 use Rattle.step_threads.specs.declared.programs.call.CellName.{CellName}
 use Rattle.step_threads.specs.declared.said.Answer.{Answer}
 use Rattle.step_threads.specs.declared.said.Answer.TheVariants as answer
@@ -81,7 +83,8 @@ module _ (s : State) (d : ℕ) where
   last_once x Weak b c p q = p.1 ∙ sym q
 
   leaves_once : (o : Option Pointer) (b c : Bool) (x y : Option Ended) (e f : Events) → IsLeaveEvent s o b x e → IsLeaveEvent s o c y f
-      → Comes e → Right f → (b ≡ c) × (x ≡ y) × (e ≡ f)
+      → Comes e → Right f
+      → (b ≡ c) × (x ≡ y) × (e ≡ f)
   leaves_once None b c x y e f p q u v = (p.0 ∙ sym q.0, p.1 ∙ sym q.1, p.2 ∙ sym q.2)
   leaves_once (Some z) b c x y e f p q u v =
       let same = last_once z z.kind b c (subst Comes p.0 u) (subst Right q.0 v) in (
@@ -91,14 +94,16 @@ module _ (s : State) (d : ℕ) where
       )
 
   leaving_once : (h : Hands) (o : Option Pointer) (b c : Bool) (x y : Option Ended) (e f : Events) → IsLeaveEvent s o b x e
-      → IsLeaveEvent s o c y f → Comes e → Right f → (leaving h o b x ≡ leaving h o c y) × (e ≡ f)
+      → IsLeaveEvent s o c y f → Comes e → Right f
+      → (leaving h o b x ≡ leaving h o c y) × (e ≡ f)
   leaving_once h o b c x y e f p q u v =
       let r = leaves_once o b c x y e f p q u v in
       (ap (λ (t : Bool). leaving h o t x) r.0 ∙ ap (λ (t : Option Ended). leaving h o c t) r.1, r.2)
 
   -- ---- what is told of a pointer
 
-  counts_once : (o : Option Pointer) (n m : ℕ) (e f : Events) → On (λ x. e ≡ Some (event.Count (handle_of s x) n)) ((n ≡ 0) × (e ≡ None)) o
+  counts_once : (o : Option Pointer) (n m : ℕ) (e f : Events)
+      → On (λ x. e ≡ Some (event.Count (handle_of s x) n)) ((n ≡ 0) × (e ≡ None)) o
       → On (λ x. f ≡ Some (event.Count (handle_of s x) m)) ((m ≡ 0) × (f ≡ None)) o → Chosen e → Chosen f → (n ≡ m) × (e ≡ f)
   counts_once None n m e f p q u v = (p.0 ∙ sym q.0, p.1 ∙ sym q.1)
   counts_once (Some x) n m e f p q u v =
@@ -233,6 +238,9 @@ module _ (s : State) (d : ℕ) where
         leaving_once (slice_set l (other l) plain, taken) (slot_pointer l (other l)) b c x y e f m n u v
     one_reply Drop (Left b x) _ e f m n u v g h = absurd n
     one_reply Drop _ q e f m n u v g h = absurd m
+    one_reply (OnShelf x) (Found o) (Found p) e f m n u v g h = (refl, m.1 ∙ ap (option_map (moved x)) (m.0 ∙ sym n.0) ∙ sym n.1)
+    one_reply (OnShelf x) (Found o) _ e f m n u v g h = absurd n
+    one_reply (OnShelf x) _ q e f m n u v g h = absurd m
     one_reply (Count k) (Told x) (Told y) e f m n u v g h =
         let r = counts_once (slot_pointer l k) x y e f m n g h in (ap (λ (t : ℕ). row (Count k) l taken (Told t)) r.0, r.1)
     one_reply (Count k) (Told x) _ e f m n u v g h = absurd n

@@ -24,3 +24,4 @@ pub mod LookSteps
 pub mod LoadFits
 pub mod RefillFits
 pub mod holding
+pub mod ShelfSteps

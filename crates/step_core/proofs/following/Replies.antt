@@ -1,4 +1,7 @@
 -- What acts make and leave is what their replies say.
+use Rattle.step_threads.specs.declared.programs.act.ShelfAct.{ShelfAct}
+use Rattle.step_threads.specs.declared.programs.act.ShelfAct.TheVariants.{Shelve, Unshelve}
+use Rattle.step_threads.specs.Shelving.{moved, moves, shelf_block}
 use Rattle.std.proofs.Common.{◌≡◌, ℕ, Bool, true, false, cond, List, ◌∷◌, refl, sym, ap}
 use Rattle.std.specs.Prelude.{Option, Some, None, option_map, slice_set}
 use Rattle.control_word.specs.declared.model.event.Event.{Event}
@@ -18,7 +21,7 @@ use Rattle.step_table.specs.Stories.{Nothing, event_added, event_of}
 use Rattle.step_threads.specs.declared.programs.act.Act.{Act}
 use Rattle.step_threads.specs.declared.programs.act.Act.TheVariants.{Make, Share, Downgrade, Lock, Put, Leave, Clear, Count, Expired, Read, FromThis, Alias}
 use Rattle.step_threads.specs.declared.programs.act.Act.TheVariants.{Move, Ask}
-use Rattle.step_threads.specs.declared.programs.act.Act.TheVariants.{Offer, Swap, Exchange, Load, Compare, Drop}
+use Rattle.step_threads.specs.declared.programs.act.Act.TheVariants.{Offer, Swap, Exchange, Load, Compare, Drop, OnShelf}
 use Rattle.step_threads.specs.declared.programs.act.Task.{Task}
 use Rattle.step_threads.specs.declared.programs.call.CellName.{CellName}
 use Rattle.step_threads.specs.declared.ending.Ending.{Ending}
@@ -98,6 +101,11 @@ module _ (tell : Telling) (z : Opening) (d : ℕ) (h : History) (n : ℕ) (w : W
   load_makes c true = (held_in now (cell_of_name now w.slots c), refl, refl)
   load_makes c false = refl
 
+  shelf_history : (x : ShelfAct) (o : Option ℕ) → does z d h (option_map (moves x) o) ≡ put_on d (option_map (moved x) o) h
+  shelf_history x None = refl
+  shelf_history Shelve (Some b) = refl
+  shelf_history Unshelve (Some b) = refl
+
   -- each act
   unfoldable pub replied : (a : Act) → Replied tell z d h n w ts a
   replied (Make form) =
@@ -159,6 +167,16 @@ module _ (tell : Telling) (z : Opening) (d : ℕ) (h : History) (n : ℕ) (w : W
         history = left_at o;
         says = refl;
         goes = ap (λ (es : List Ending). walk_settled (slice_set w.slots i plain) w.taken es ts) (leave_ends now n w.endings o);
+      }
+  replied (OnShelf x) =
+      let o = shelf_block now d x in
+      record {
+        reply = Found o;
+        event = option_map (moved x) o;
+        makes = (refl, refl);
+        history = shelf_history x o;
+        says = refl;
+        goes = refl;
       }
   replied (Count i) =
       let o = slot_pointer w.slots i in

@@ -7,7 +7,8 @@ use Rattle.control_word.specs.State.{weak}
 use Rattle.step_threads.specs.declared.programs.act.Act.{Act}
 use Rattle.step_table.specs.declared.memory.form.Form.{Form}
 use Rattle.step_threads.specs.declared.programs.act.Act.TheVariants.{Make, Share, Downgrade, Lock, Put, Leave, Clear, Count, Expired, Read, FromThis, Alias}
-use Rattle.step_threads.specs.declared.programs.act.Act.TheVariants.{Move, Ask, Offer, Swap, Exchange, Load, Compare, Drop}
+use Rattle.step_threads.specs.declared.programs.act.Act.TheVariants.{Move, Ask}
+use Rattle.step_threads.specs.declared.programs.act.Act.TheVariants.{Offer, Swap, Exchange, Load, Compare, Drop, OnShelf}
 use Rattle.step_threads.specs.declared.programs.act.Task.{Task}
 use Rattle.step_threads.specs.declared.half.Half.{Half}
 use Rattle.step_threads.specs.declared.half.Half.TheVariants.{Rest, Making, Locking, Giving, Brought, Saw, Matched, Refill, Returning, Clearing}
@@ -42,6 +43,8 @@ use Rattle.step_core.proofs.telling.Walking.{went_plain}
 use Rattle.step_core.proofs.telling.Swapping.{swapping, went_swap}
 use Rattle.step_core.proofs.telling.Looking.{compares_one, counted_match, counted_refill, counted_saw, load_one}
 use Rattle.step_core.proofs.telling.Deeds.{IsCounted, aliased_by, downgraded, expired, left, locked_by, plus_none, quiet, read_one, shared, told}
+use Rattle.step_core.proofs.telling.Deeds.{moved_one}
+use Rattle.step_threads.specs.Shelving.{shelf_block}
 
 made_one : (v : Story) (d i k : ℕ) (w : Walk) (t : Task) (ts : List Task) (b : Block) (f : Bool) (form : Form) → (i == 5) ≡ true
     → t.act ≡ Make form → w.endings ≡ [] → w.todo ≡ t ∷ ts → IsCounted v d (Making b i f) w (Some (claims w k ts b form))
@@ -56,7 +59,8 @@ made_one v d i k w t ts b f form e same none is =
     let g : weight t.act ≡ 28 = ap weight same in
     record { made = m; ended = plus_none _; few = omega (arith, c, l, n, a, g) }
 
-prepared_one : (v : Story) (d k found want i : ℕ) (w : Walk) (b : Block) (f : Bool) → IsCounted v d (Making b i f) w (Some (prepares found want w k b i f))
+prepared_one : (v : Story) (d k found want i : ℕ) (w : Walk) (b : Block) (f : Bool)
+    → IsCounted v d (Making b i f) w (Some (prepares found want w k b i f))
 prepared_one v d k found want i w b true = record { made = plus_none _; ended = plus_none _; few = omega arith }
 prepared_one v d k found want i w b false = record { made = plus_none _; ended = plus_none _; few = omega arith }
 
@@ -214,6 +218,8 @@ counted_act v d k w t ts (Compare i c weak) none is same =
     none is refl refl
 counted_act v d k w t ts Drop none is same =
     left v d k w (went (story_state v) d w k ts Drop) (slot_pointer w.slots (other w.slots)) (went_less (story_state v) d k w t ts Drop none is)
+counted_act v d k w t ts (OnShelf x) none is same =
+    moved_one v d k w (went (story_state v) d w k ts (OnShelf x)) x (plain v d k w t ts (OnShelf x) none is refl) (shelf_block (story_state v) d x)
 
 counted_task : (v : Story) (d : ℕ) (w : Walk) (ts : List Task) → w.endings ≡ [] → w.todo ≡ ts → IsCounted v d Rest w (begun v d w ts)
 counted_task v d w [] none is = record { made = plus_none _; ended = plus_none _; few = omega arith }
@@ -222,6 +228,8 @@ counted_task v d w (t ∷ ts) none is = counted_act v d t.statement w t ts t.act
 counted_end : (v : Story) (d : ℕ) (w : Walk) (e : Ending) (es : List Ending) → w.endings ≡ e ∷ es → IsFree w.slots
     → IsCounted v d Rest w (Some (ends_on v w e es))
 counted_end v d w e es is free =
+    let a = over_less w e es is free in
+    let b = staged_most w e es is free in
     let finished : Step = record {
       deed = Some (deed.Finish e.block (weak (story_state v) (object_of_block v e.block) == 0));
       half = Rest;
@@ -232,9 +240,9 @@ counted_end v d w e es is free =
     let looked = within w e.statement None Clearing in
     let P : Step → Type 0 = λ x. IsCounted v d Rest w (Some x) in
     cond_both (e.stage == 3) finished (cond (word_of_cell v (Member e.block e.stage) == 0) cleared looked) P
-    (λ _. record { made = plus_none _; ended = plus_none _; few = omega (arith, over_less w e es is free) })
+    (λ _. record { made = plus_none _; ended = plus_none _; few = omega (arith, a) })
     (λ _. cond_both (word_of_cell v (Member e.block e.stage) == 0) cleared looked P
-    (λ _. record { made = plus_none _; ended = plus_none _; few = omega (arith, staged_most w e es is free) })
+    (λ _. record { made = plus_none _; ended = plus_none _; few = omega (arith, b) })
     (λ _. record { made = plus_none _; ended = plus_none _; few = omega arith }))
 
 -- what a member holds comes out
@@ -253,7 +261,8 @@ counted_rest v d w (e ∷ es) is =
     cond_both (is_full (slot_pointer w.slots (hand w.slots))) (first v d w e.statement w.todo (Leave (hand w.slots))) (ends_on v w e es)
     (λ (x : Step). IsCounted v d Rest w (Some x))
     (λ full. left v d e.statement w (went (story_state v) d w e.statement w.todo (Leave (hand w.slots))) (slot_pointer w.slots (hand w.slots))
-    (carried_leaves (story_state v) d e.statement w e es is full)) (λ free. counted_end v d w e es is free)
+    (carried_leaves (story_state v) d e.statement w e es is full))
+    (λ free. counted_end v d w e es is free)
 
 counted_try : (v : Story) (d word : ℕ) (w : Walk) (t : Task) (ts : List Task) (a : Act) (o : Option Pointer) → w.endings ≡ [] → w.todo ≡ t ∷ ts
     → locked_pointer w.slots a ≡ o → IsCounted v d (Locking word) w (option_map (tries v d w t.statement ts a word) o)
@@ -279,6 +288,7 @@ counted_try v d word w t ts (Exchange i c) (Some y) none is e = cc
 counted_try v d word w t ts (Load c) (Some y) none is e = cc
 counted_try v d word w t ts (Compare i c weak) (Some y) none is e = cc
 counted_try v d word w t ts Drop (Some y) none is e = cc
+counted_try v d word w t ts (OnShelf x) (Some y) none is e = cc
 
 counted_lock : (v : Story) (d word : ℕ) (w : Walk) (ts : List Task) → w.endings ≡ [] → w.todo ≡ ts
     → IsCounted v d (Locking word) w (tried v d w word ts)
