@@ -25,3 +25,4 @@ pub mod LoadFits
 pub mod RefillFits
 pub mod holding
 pub mod ShelfSteps
+pub mod ShelfWords

@@ -1,5 +1,5 @@
 -- Acts on the shelf: what they do to the store, and to the thread.
-use Rattle.std.proofs.Common.{◌≡◌, ℕ, zero, suc, ◌+◌, ◌-◌, ◌*◌, ◌/◌, ◌%◌, ◌<◌, ◌≤◌, ◌==◌, Bool, true, false, cond, not, List, [], ◌∷◌, length, refl, sym, ap}
+use Rattle.std.proofs.Common.{◌≡◌, ℕ, ◌<◌, ◌≤◌, ◌==◌, Bool, true, false, cond, List, [], ◌∷◌, length, refl, sym, ap}
 use Rattle.std.proofs.Common.{subst, ◌∙◌, inl, arith}
 use Rattle.std.proofs.lemmas.List.Sorted.{sum_by_popped, sum_by_pushed}
 use Rattle.std.proofs.lemmas.List.Sums.{sum_by-cons}
@@ -15,7 +15,7 @@ use Rattle.step_table.specs.declared.memory.shelf.ShelfDeed.TheVariants as shelf
 use Rattle.step_threads.specs.Actors.{Stocks}
 use Rattle.step_threads.specs.Courses.{CourseReady, HasGoneOn, IsReady, TasksMayCome, other, rest, walk_settled, taken_after, task_at, walk}
 use Rattle.step_threads.specs.NextSteps.{first, deed_is_event, stepped, story_after}
-use Rattle.step_threads.specs.Shelving.{least_from, moves, shelf_block}
+use Rattle.step_threads.specs.Shelving.{least_shelved, moves, shelf_block}
 use Rattle.step_threads.specs.Steps.{silent}
 use Rattle.step_threads.specs.Stocks.{StoreView}
 use Rattle.step_threads.specs.Threads.{FitsThread, HasStepped}
@@ -35,73 +35,7 @@ use Rattle.step_threads.proofs.Threads.{cells_on, own_pending, resting}
 use Rattle.step_threads.proofs.holding.Ends.{ends_gone}
 use Rattle.step_threads.proofs.holding.Few.{store_few}
 use Rattle.step_threads.proofs.holding.Storing.{one_stored, taken_stored}
-
--- ---- the least number of a set
-
-pub least_in : (f : ℕ → Bool) (b n c : ℕ) → least_from f b n ≡ Some c → f c ≡ true
-unfolding least_from
-least_in f b zero c e = absurd cc
-least_in f b (suc n) c e = go (f b) refl e (λ r. least_in f (b + 1) n c r)
-  where
-    go : (x : Bool) → f b ≡ x → cond x (Some b) (least_from f (b + 1) n) ≡ Some c → (least_from f (b + 1) n ≡ Some c → f c ≡ true) → f c ≡ true
-    go true t e more = let s : b ≡ c = cc in subst (λ k. f k ≡ true) s t
-    go false t e more = more e
-
--- where there is none among so many, it is behind them
-pub least_past : (f : ℕ → Bool) (b n m : ℕ) → least_from f b n ≡ None → least_from f b (m + n) ≡ least_from f (b + n) m
-unfolding least_from
-least_past f b zero m e = refl
-least_past f b (suc n) m e =
-    go (f b) e (λ r. least_past f (b + 1) n m r ∙ ap (λ k. least_from f k m) (let s : b + 1 + n ≡ b + suc n = omega arith in s))
-  where
-    go : (x : Bool) → cond x (Some b) (least_from f (b + 1) n) ≡ None
-        → (least_from f (b + 1) n ≡ None → least_from f (b + 1) (m + n) ≡ least_from f (b + suc n) m)
-        → cond x (Some b) (least_from f (b + 1) (m + n)) ≡ least_from f (b + suc n) m
-    go true e more = absurd cc
-    go false e more = more e
-
-pub least_here_on : (f : ℕ → Bool) (b n m c : ℕ) → least_from f b n ≡ Some c → least_from f b (m + n) ≡ Some c
-unfolding least_from
-least_here_on f b zero m c e = absurd cc
-least_here_on f b (suc n) m c e = go (f b) e (λ r. least_here_on f (b + 1) n m c r)
-  where
-    go : (x : Bool) → cond x (Some b) (least_from f (b + 1) n) ≡ Some c → (least_from f (b + 1) n ≡ Some c → least_from f (b + 1) (m + n) ≡ Some c)
-        → cond x (Some b) (least_from f (b + 1) (m + n)) ≡ Some c
-    go true e more = e
-    go false e more = more e
-
-pub least_none : (f : ℕ → Bool) (b n : ℕ) → ((i : ℕ) → b ≤ i → i < b + n → f i ≡ false) → least_from f b n ≡ None
-unfolding least_from
-least_none f b zero off = refl
-least_none f b (suc n) off =
-    ap (λ x. cond x (Some b) (least_from f (b + 1) n)) (off b (omega arith) (omega arith))
-    ∙ least_none f (b + 1) n (λ i le lt. off i (omega (arith, le)) (omega (arith, lt)))
-
-pub least_at : (f : ℕ → Bool) (b n : ℕ) → 0 < n → f b ≡ true → least_from f b n ≡ Some b
-unfolding least_from
-least_at f b zero lt e = absurd (omega (arith, lt))
-least_at f b (suc n) lt e = ap (λ x. cond x (Some b) (least_from f (b + 1) n)) e
-
-pub least_step : (f : ℕ → Bool) (b n : ℕ) → 0 < n → f b ≡ false → least_from f b n ≡ least_from f (b + 1) (n - 1)
-unfolding least_from
-least_step f b zero lt e = absurd (omega (arith, lt))
-least_step f b (suc n) lt e =
-    ap (λ x. cond x (Some b) (least_from f (b + 1) n)) e ∙ ap (least_from f (b + 1)) (let s : n ≡ suc n - 1 = omega arith in s)
-
--- a word of the shelf is passed, or has the block
-pub word_past : (f : ℕ → Bool) (w : ℕ) → w < 1024 → least_from f (64 * w) 64 ≡ None
-    → least_from f (64 * w) (65536 - 64 * w) ≡ least_from f (64 * (w + 1)) (65536 - 64 * (w + 1))
-word_past f w lt e =
-    let n : 65536 - 64 * w ≡ 65536 - 64 * (w + 1) + 64 = omega (arith, lt) in
-    let b : 64 * w + 64 ≡ 64 * (w + 1) = omega arith in
-    ap (least_from f (64 * w)) n ∙ least_past f (64 * w) 64 (65536 - 64 * (w + 1)) e ∙ ap (λ k. least_from f k (65536 - 64 * (w + 1))) b
-
-pub word_has : (f : ℕ → Bool) (w c : ℕ) → w < 1024 → least_from f (64 * w) 64 ≡ Some c → least_from f (64 * w) (65536 - 64 * w) ≡ Some c
-word_has f w c lt e =
-    let n : 65536 - 64 * w ≡ 65536 - 64 * (w + 1) + 64 = omega (arith, lt) in
-    ap (least_from f (64 * w)) n ∙ least_here_on f (64 * w) 64 (65536 - 64 * (w + 1)) c e
-
--- ---- threads
+use Rattle.step_threads.proofs.ShelfWords.{least_in}
 
 -- nothing is taken and nothing dropped
 pub shelf_ready : (c : Course) (x : ShelfAct) → c.at < length c.tasks.items → CourseReady c → (task_at c).act ≡ OnShelf x
@@ -143,6 +77,13 @@ stocks_unshelve d old new v b stocks p room =
           let s = stocks.stocked c in omega (arith, a, o, q, s);
       roomy = (let r = stocks.roomy in omega (arith, r, room));
     }
+
+-- what was found on the shelf comes from it
+pub unshelved : (d : ℕ) (v w : Story) (b : Block) (got : Bool) → Some b.0 ≡ least_shelved (story_state v) → got ≡ (story_state v).shelved b.0
+    → w ≡ story_after_deed v d (deed.OnShelf b (cond got shelf.Unshelve shelf.Miss)) → w ≡ story_after_deed v d (moves Unshelve b.0)
+unshelved d v w b got found is after =
+    let has : got ≡ true = is ∙ least_in (story_state v).shelved 0 65536 b.0 (sym found) in
+    after ∙ ap (λ (x : Bool). story_after_deed v d (deed.OnShelf b (cond x shelf.Unshelve shelf.Miss))) has
 
 -- it has room there
 pub room_unshelve : (d : ℕ) (t : Thread) (v w : Story) (b : Block) → FitsThread d t v → t.half ≡ Rest
