@@ -22,9 +22,13 @@ least_in f b (suc n) c e = go (f b) refl e (λ r. least_in f (b + 1) n c r)
 -- where there is none among so many, it is behind them
 pub least_past : (f : ℕ → Bool) (b n m : ℕ) → least_from f b n ≡ None → least_from f b (m + n) ≡ least_from f (b + n) m
 unfolding least_from
-least_past f b zero m e = refl
+least_past f b zero m e =
+    let p : m + 0 ≡ m = omega arith in
+    let q : b ≡ b + 0 = omega arith in
+    ap (least_from f b) p ∙ ap (λ k. least_from f k m) q
 least_past f b (suc n) m e =
-    go (f b) e (λ r. least_past f (b + 1) n m r ∙ ap (λ k. least_from f k m) (let s : b + 1 + n ≡ b + suc n = omega arith in s))
+    ap (least_from f b) (let s : m + suc n ≡ suc (m + n) = omega arith in s)
+    ∙ go (f b) e (λ r. least_past f (b + 1) n m r ∙ ap (λ k. least_from f k m) (let s : b + 1 + n ≡ b + suc n = omega arith in s))
   where
     go : (x : Bool) → cond x (Some b) (least_from f (b + 1) n) ≡ None
         → (least_from f (b + 1) n ≡ None → least_from f (b + 1) (m + n) ≡ least_from f (b + suc n) m)
@@ -35,7 +39,8 @@ least_past f b (suc n) m e =
 pub least_here_on : (f : ℕ → Bool) (b n m c : ℕ) → least_from f b n ≡ Some c → least_from f b (m + n) ≡ Some c
 unfolding least_from
 least_here_on f b zero m c e = absurd cc
-least_here_on f b (suc n) m c e = go (f b) e (λ r. least_here_on f (b + 1) n m c r)
+least_here_on f b (suc n) m c e =
+    ap (least_from f b) (let s : m + suc n ≡ suc (m + n) = omega arith in s) ∙ go (f b) e (λ r. least_here_on f (b + 1) n m c r)
   where
     go : (x : Bool) → cond x (Some b) (least_from f (b + 1) n) ≡ Some c → (least_from f (b + 1) n ≡ Some c → least_from f (b + 1) (m + n) ≡ Some c)
         → cond x (Some b) (least_from f (b + 1) (m + n)) ≡ Some c
@@ -101,7 +106,7 @@ word_empty f n w shows lt none =
     (λ i le high. off (f i)
     (sym (shows i (omega (arith, lt, high)) (omega (arith, le, high))) ∙ ap (λ m. bit_at m (i % 64)) none ∙ bit_at-zero (i % 64)))
   where
-    off : (x : Bool) → cond x 1 0 ≡ 0 → x ≡ false
+    off : (x : Bool) → cond {A = ℕ} x 1 0 ≡ 0 → x ≡ false
     off true e = absurd (omega (arith, e))
     off false e = refl
 

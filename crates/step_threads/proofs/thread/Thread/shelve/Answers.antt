@@ -24,7 +24,7 @@ returns-in-None-clause-stepped c =
     let v = c.args.table.now in
     stepped_shelf c.args.desk t _ v _ _ Shelve None c.statement-statement.result c.statement-statement.ensures c.requires.rest c.requires.none
     c.requires.within c.requires.act (least_nowhere c.args.desk t v c.requires.fits c.requires.rest c.in-None.ensures.least)
-    (ap Quiet c.silent-in-None.ensures) refl c.go_on-in-None.ensures.walk c.requires.rest
+    (ap Quiet c.silent.ensures) refl c.go_on.ensures.walk c.requires.rest
 
 pub returns-in-Some-clause-stepped : goal.returns-in-Some-clause-stepped
 returns-in-Some-clause-stepped c =
@@ -47,7 +47,7 @@ returns-in-Some-clause-fits c =
     let course = c.go_on-in-Some.new.self in
     let holds = c.requires.fits.holds in
     let stocks = stocks_shelve d t.stock.blocks s.blocks t.stock.room v b (resting d t v c.requires.fits c.requires.rest) c.in-Some.ensures.least.0 in
-    subst (λ (h : Half). FitsThread d (record { course = course; stock = s; half = h }) c.shelve.new.table) (sym c.requires.rest)
+    subst (λ (h : Half). FitsThread d (record { course = course; stock = s; half = h }) c.shelve.new.self) (sym c.requires.rest)
     (subst (λ (u : Story). FitsThread d (record { course = course; stock = s; half = Rest }) u) (sym c.shelve.ensures)
     (fits_moved d t v Shelve b.0 course s c.known.ensures c.requires.fits c.requires.none
     (c.go_on-in-Some.ensures.on d w (record { owned = holds.owned; size = holds.size; formed = holds.formed }))

@@ -14,9 +14,9 @@ use Rattle.step_threads.proofs.thread.Thread.unshelve.Goals as goal
 pub put-requires : goal.put-requires
 put-requires c =
     let v = c.args.table.now in
-    let w = c.unshelve.new.table in
+    let w = c.unshelve.new.self in
     room_unshelve c.args.desk c.args.self.now v w c.in-Some.block c.requires.fits c.requires.rest
-    (unshelved c.args.desk v w c.in-Some.block c.unshelve.result c.in-Some.ensures c.unshelve.ensures.got c.unshelve.ensures.after) c.known-2.ensures
+    (unshelved c.args.desk v w c.in-Some.block c.unshelve.result c.in-Some.ensures c.unshelve.ensures.got c.unshelve.ensures.after) c.known-in-Some.ensures
 
 pub returns-in-None-clause-stepped : goal.returns-in-None-clause-stepped
 returns-in-None-clause-stepped c =
@@ -24,7 +24,7 @@ returns-in-None-clause-stepped c =
     let v = c.args.table.now in
     stepped_shelf c.args.desk t _ v _ _ Unshelve None c.statement-statement.result c.statement-statement.ensures c.requires.rest c.requires.none
     c.requires.within c.requires.act (sym c.in-None.ensures)
-    (ap Quiet c.silent-in-None.ensures) refl c.go_on-in-None.ensures.walk c.requires.rest
+    (ap Quiet c.silent.ensures) refl c.go_on.ensures.walk c.requires.rest
 
 pub returns-in-Some-clause-stepped : goal.returns-in-Some-clause-stepped
 returns-in-Some-clause-stepped c =
@@ -45,9 +45,9 @@ returns-in-Some-clause-fits c =
     let s = c.put.new.self in
     let course = c.go_on-in-Some.new.self in
     let holds = c.requires.fits.holds in
-    let is = unshelved d v c.unshelve.new.table b c.unshelve.result c.in-Some.ensures c.unshelve.ensures.got c.unshelve.ensures.after in
+    let is = unshelved d v c.unshelve.new.self b c.unshelve.result c.in-Some.ensures c.unshelve.ensures.got c.unshelve.ensures.after in
     let stocks = stocks_unshelve d t.stock s v b (resting d t v c.requires.fits c.requires.rest) c.put.ensures.blocks c.put.ensures.room in
-    subst (λ (h : Half). FitsThread d (record { course = course; stock = s; half = h }) c.unshelve.new.table) (sym c.requires.rest)
+    subst (λ (h : Half). FitsThread d (record { course = course; stock = s; half = h }) c.unshelve.new.self) (sym c.requires.rest)
     (subst (λ (u : Story). FitsThread d (record { course = course; stock = s; half = Rest }) u) (sym is)
     (fits_moved d t v Unshelve b.0 course s c.known.ensures c.requires.fits c.requires.none
     (c.go_on-in-Some.ensures.on d w (record { owned = holds.owned; size = holds.size; formed = holds.formed })) stocks))
