@@ -1,5 +1,5 @@
 -- Acts on the shelf: what they do to the store, and to the thread.
-use Rattle.std.proofs.Common.{◌≡◌, ℕ, ◌<◌, ◌≤◌, ◌==◌, Bool, true, false, cond, List, [], ◌∷◌, length, refl, sym, ap}
+use Rattle.std.proofs.Common.{◌≡◌, ℕ, ◌<◌, ◌≤◌, ◌==◌, Bool, true, cond, List, [], ◌∷◌, length, refl, sym, ap}
 use Rattle.std.proofs.Common.{subst, ◌∙◌, inl, arith}
 use Rattle.std.proofs.lemmas.List.Sorted.{sum_by_popped, sum_by_pushed}
 use Rattle.std.proofs.lemmas.List.Sums.{sum_by-cons}
@@ -8,13 +8,12 @@ use Rattle.std.specs.Prelude.{Option, Some, None, option_map, is_some}
 use Rattle.control_word.proofs.lists.Tallies.{num_cons, num_without, stored_self, stored_true}
 use Rattle.control_word.specs.State.{same_stored, stored}
 use Rattle.control_word.specs.declared.place.Block.{Block}
-use Rattle.step_table.specs.Stories.{Kept, Story, story_after_deed, event_of, story_state}
-use Rattle.step_table.specs.declared.memory.past.Deed.{Deed}
+use Rattle.step_table.specs.Stories.{Kept, Story, story_after_deed, story_state}
 use Rattle.step_table.specs.declared.memory.past.Deed.TheVariants as deed
 use Rattle.step_table.specs.declared.memory.shelf.ShelfDeed.TheVariants as shelf
 use Rattle.step_threads.specs.Actors.{Stocks}
 use Rattle.step_threads.specs.Courses.{CourseReady, HasGoneOn, IsReady, TasksMayCome, other, rest, walk_settled, taken_after, task_at, walk}
-use Rattle.step_threads.specs.NextSteps.{first, deed_is_event, stepped, story_after}
+use Rattle.step_threads.specs.NextSteps.{first, deed_is_event, story_after}
 use Rattle.step_threads.specs.Shelving.{least_shelved, moves, shelf_block}
 use Rattle.step_threads.specs.Steps.{silent}
 use Rattle.step_threads.specs.Stocks.{StoreView}

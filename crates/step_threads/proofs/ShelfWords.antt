@@ -3,7 +3,7 @@ use Rattle.std.proofs.Common.{◌≡◌, ◌≢◌, ℕ, zero, suc, ◌+◌, ◌
 use Rattle.std.proofs.Common.{arith, eq-eqb, ne_eqb}
 use Rattle.std.proofs.lemmas.Nat.Bits.{bit_at-zero}
 use Rattle.std.specs.Int.{bit_at}
-use Rattle.std.specs.Prelude.{Option, Some, None, bit_and}
+use Rattle.std.specs.Prelude.{Some, None, bit_and}
 use Rattle.control_word.proofs.packing.Bits.{bit_tells}
 use Rattle.control_word.specs.Layout.{bit_of}
 use Rattle.step_threads.specs.Shelving.{least_from}

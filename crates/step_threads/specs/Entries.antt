@@ -1,6 +1,6 @@
 -- What the acts of threads add to the history. All of it is own but the events, which name their sections.
 pub use Rattle.step_threads.specs.Shelving.{least, lesser}
-use Rattle.std.specs.Prelude.{ℕ, Bool, cond, List, [], ◌∷◌, Option, Some, None, option_map}
+use Rattle.std.specs.Prelude.{ℕ, Bool, cond, List, ◌∷◌, Option, Some, None, option_map}
 use Rattle.control_word.specs.declared.model.event.Entry.{Entry}
 use Rattle.control_word.specs.Handles.{equivalent}
 use Rattle.control_word.specs.Histories.{entry, leads}

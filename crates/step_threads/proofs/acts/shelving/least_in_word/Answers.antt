@@ -1,4 +1,4 @@
-use Rattle.std.proofs.Common.{◌≡◌, ℕ, ◌*◌, ◌+◌, false, sym, ap, ◌∙◌, arith}
+use Rattle.std.proofs.Common.{sym, ap, ◌∙◌, arith}
 use Rattle.std.specs.Prelude.{bit_and}
 use Rattle.step_table.specs.Stories.{story_state}
 use Rattle.step_threads.proofs.ShelfWords.{bit_off, bit_on, word_done, word_empty, word_here, word_next}

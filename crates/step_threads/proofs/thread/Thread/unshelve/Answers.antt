@@ -1,4 +1,4 @@
-use Rattle.std.proofs.Common.{ℕ, ◌<◌, refl, sym, subst, ap}
+use Rattle.std.proofs.Common.{refl, sym, subst, ap}
 use Rattle.std.specs.Prelude.{Some, None}
 use Rattle.step_table.specs.Stories.{Story, story_after_deed}
 use Rattle.step_threads.specs.Shelving.{moves}
