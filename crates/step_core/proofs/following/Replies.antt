@@ -101,7 +101,7 @@ module _ (tell : Telling) (z : Opening) (d : ℕ) (h : History) (n : ℕ) (w : W
   load_makes c true = (held_in now (cell_of_name now w.slots c), refl, refl)
   load_makes c false = refl
 
-  shelf_history : (x : ShelfAct) (o : Option ℕ) → does z d h (option_map (moves x) o) ≡ put_on d (option_map (moved x) o) h
+  pub shelf_history : (x : ShelfAct) (o : Option ℕ) → does z d h (option_map (moves x) o) ≡ put_on d (option_map (moved x) o) h
   shelf_history x None = refl
   shelf_history Shelve (Some b) = refl
   shelf_history Unshelve (Some b) = refl

@@ -3,6 +3,7 @@ use Rattle.step_threads.specs.declared.programs.act.ShelfAct.{ShelfAct}
 use Rattle.step_threads.specs.declared.programs.act.ShelfAct.TheVariants.{Shelve, Unshelve}
 use Rattle.step_threads.specs.Shelving.{moves}
 use Rattle.control_word.specs.Words.{shelf_spot}
+use Rattle.step_table.specs.Openings.{opening}
 use Rattle.std.proofs.Common.{◌≡◌, ◌≢◌, ℕ, suc, ◌+◌, ◌-◌, ◌*◌, ◌<◌, ◌≤◌, ◌==◌, Bool, true, false, cond, List, length}
 use Rattle.std.proofs.Common.{refl, sym, ap, subst, ◌∙◌, ⊎_elim, inl, inr, arith}
 use Rattle.std.proofs.Common.{get_or-set_other, get_or-set_same, eq-eqb, ne_eqb, eqb-true}
