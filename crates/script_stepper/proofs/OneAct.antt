@@ -25,8 +25,7 @@ use Rattle.step_table.specs.Holdings.{Slots, inside, is_full, place_in, plain, s
 use Rattle.step_table.specs.Stories.{Nothing}
 use Rattle.step_threads.specs.declared.programs.act.Act.{Act}
 use Rattle.step_threads.specs.declared.programs.act.Act.TheVariants.{Make, Share, Downgrade, Lock, Put, Leave, Clear, Count, Expired, Read, FromThis, Alias}
-use Rattle.step_threads.specs.declared.programs.act.Act.TheVariants.{Move, Ask}
-use Rattle.step_threads.specs.declared.programs.act.Act.TheVariants.{Offer, Swap, Exchange, Load, Compare, Drop, OnShelf}
+use Rattle.step_threads.specs.declared.programs.act.Act.TheVariants.{Move, Ask, Offer, Swap, Exchange, Load, Compare, Drop, OnShelf}
 use Rattle.step_threads.specs.declared.programs.call.CellName.{CellName}
 use Rattle.step_threads.specs.declared.said.Answer.{Answer}
 use Rattle.step_threads.specs.declared.said.Answer.TheVariants as answer
@@ -83,8 +82,7 @@ module _ (s : State) (d : ℕ) where
   last_once x Weak b c p q = p.1 ∙ sym q
 
   leaves_once : (o : Option Pointer) (b c : Bool) (x y : Option Ended) (e f : Events) → IsLeaveEvent s o b x e → IsLeaveEvent s o c y f
-      → Comes e → Right f
-      → (b ≡ c) × (x ≡ y) × (e ≡ f)
+      → Comes e → Right f → (b ≡ c) × (x ≡ y) × (e ≡ f)
   leaves_once None b c x y e f p q u v = (p.0 ∙ sym q.0, p.1 ∙ sym q.1, p.2 ∙ sym q.2)
   leaves_once (Some z) b c x y e f p q u v =
       let same = last_once z z.kind b c (subst Comes p.0 u) (subst Right q.0 v) in (
@@ -94,21 +92,18 @@ module _ (s : State) (d : ℕ) where
       )
 
   leaving_once : (h : Hands) (o : Option Pointer) (b c : Bool) (x y : Option Ended) (e f : Events) → IsLeaveEvent s o b x e
-      → IsLeaveEvent s o c y f → Comes e → Right f
-      → (leaving h o b x ≡ leaving h o c y) × (e ≡ f)
+      → IsLeaveEvent s o c y f → Comes e → Right f → (leaving h o b x ≡ leaving h o c y) × (e ≡ f)
   leaving_once h o b c x y e f p q u v =
       let r = leaves_once o b c x y e f p q u v in
       (ap (λ (t : Bool). leaving h o t x) r.0 ∙ ap (λ (t : Option Ended). leaving h o c t) r.1, r.2)
 
   -- ---- what is told of a pointer
 
-  counts_once : (o : Option Pointer) (n m : ℕ) (e f : Events)
-      → On (λ x. e ≡ Some (event.Count (handle_of s x) n)) ((n ≡ 0) × (e ≡ None)) o
+  counts_once : (o : Option Pointer) (n m : ℕ) (e f : Events) → On (λ x. e ≡ Some (event.Count (handle_of s x) n)) ((n ≡ 0) × (e ≡ None)) o
       → On (λ x. f ≡ Some (event.Count (handle_of s x) m)) ((m ≡ 0) × (f ≡ None)) o → Chosen e → Chosen f → (n ≡ m) × (e ≡ f)
   counts_once None n m e f p q u v = (p.0 ∙ sym q.0, p.1 ∙ sym q.1)
   counts_once (Some x) n m e f p q u v =
-      let a = subst Chosen p u in
-      let b = subst Chosen q v in
+      let a = subst Chosen p u in let b = subst Chosen q v in
       let same : n ≡ m = a ∙ sym b in
       (same, p ∙ ap (λ (k : ℕ). Some (event.Count (handle_of s x) k)) same ∙ sym q)
 
@@ -118,8 +113,7 @@ module _ (s : State) (d : ℕ) where
       → (b ≡ c) × (e ≡ f)
   locks_once None b c e f p q u v = (p.0 ∙ sym q.0, p.1 ∙ sym q.1)
   locks_once (Some x) b c e f p q u v =
-      let a = subst Comes p u in
-      let k = subst Right q v in
+      let a = subst Comes p u in let k = subst Right q v in
       let same : b ≡ c = a.1 ∙ sym k in
       (same, p ∙ ap (λ (t : Bool). Some (event.Lock (weak_of (owned s x) x.place) t)) same ∙ sym q)
 
@@ -128,8 +122,7 @@ module _ (s : State) (d : ℕ) where
       → On (λ x. f ≡ Some (event.Expired (handle_of s x) c)) ((c ≡ true) × (f ≡ None)) o → Comes e → Right f → (b ≡ c) × (e ≡ f)
   expires_once None b c e f p q u v = (p.0 ∙ sym q.0, p.1 ∙ sym q.1)
   expires_once (Some x) b c e f p q u v =
-      let a = subst Comes p u in
-      let k = subst Right q v in
+      let a = subst Comes p u in let k = subst Right q v in
       let same : b ≡ c = a.1 ∙ sym k in
       (same, p ∙ ap (λ (t : Bool). Some (event.Expired (handle_of s x) t)) same ∙ sym q)
 
@@ -146,8 +139,7 @@ module _ (s : State) (d : ℕ) where
 
   gives_once : (o : Option Pointer) (g : Bool → Pointer → Events) (t : Pointer → Bool) (b c : Bool) (e f : Events)
       → On (λ x. (b ≡ t x) × (e ≡ g b x)) ((b ≡ false) × (e ≡ None)) o
-      → On (λ x. (c ≡ t x) × (f ≡ g c x)) ((c ≡ false) × (f ≡ None)) o
-      → (b ≡ c) × (e ≡ f)
+      → On (λ x. (c ≡ t x) × (f ≡ g c x)) ((c ≡ false) × (f ≡ None)) o → (b ≡ c) × (e ≡ f)
   gives_once None g t b c e f p q = (p.0 ∙ sym q.0, p.1 ∙ sym q.1)
   gives_once (Some x) g t b c e f p q =
       let same : b ≡ c = p.0 ∙ sym q.0 in (same, p.1 ∙ ap (λ (k : Bool). g k x) same ∙ sym q.1)

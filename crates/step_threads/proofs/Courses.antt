@@ -6,8 +6,7 @@ use Rattle.std.proofs.lemmas.Bool.{cond-true, cond-false, false≢true}
 use Rattle.std.proofs.lemmas.List.{drop_more}
 use Rattle.step_threads.specs.declared.programs.act.Act.{Act}
 use Rattle.step_threads.specs.declared.programs.act.Act.TheVariants.{Make, Share, Downgrade, Lock, Put, Leave, Clear, Count, Expired, Read, FromThis, Alias}
-use Rattle.step_threads.specs.declared.programs.act.Act.TheVariants.{Move, Ask}
-use Rattle.step_threads.specs.declared.programs.act.Act.TheVariants.{Offer, Swap, Exchange, Load, Compare, Drop, OnShelf}
+use Rattle.step_threads.specs.declared.programs.act.Act.TheVariants.{Move, Ask, Offer, Swap, Exchange, Load, Compare, Drop, OnShelf}
 use Rattle.step_threads.specs.declared.programs.act.Task.{Task}
 use Rattle.step_threads.specs.declared.course.Course.{Course}
 use Rattle.step_threads.specs.declared.ending.Ending.{Ending}

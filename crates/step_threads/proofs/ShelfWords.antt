@@ -1,5 +1,6 @@
 -- The least block on the shelf, by its words.
-use Rattle.std.proofs.Common.{◌≡◌, ◌≢◌, ℕ, zero, suc, ◌+◌, ◌-◌, ◌*◌, ◌/◌, ◌%◌, ◌<◌, ◌≤◌, ◌==◌, Bool, true, false, cond, not, refl, sym, ap, subst, ◌∙◌}
+use Rattle.std.proofs.Common.{◌≡◌, ◌≢◌, ℕ, zero, suc, ◌+◌, ◌-◌, ◌*◌, ◌/◌, ◌%◌, ◌<◌, ◌≤◌, ◌==◌, Bool, true}
+use Rattle.std.proofs.Common.{false, cond, not, refl, sym, ap, subst, ◌∙◌}
 use Rattle.std.proofs.Common.{arith, eq-eqb, ne_eqb}
 use Rattle.std.proofs.lemmas.Nat.Bits.{bit_at-zero}
 use Rattle.std.specs.Int.{bit_at}
@@ -15,7 +16,8 @@ unfolding least_from
 least_in f b zero c e = absurd cc
 least_in f b (suc n) c e = go (f b) refl e (λ r. least_in f (b + 1) n c r)
   where
-    go : (x : Bool) → f b ≡ x → cond x (Some b) (least_from f (b + 1) n) ≡ Some c → (least_from f (b + 1) n ≡ Some c → f c ≡ true) → f c ≡ true
+    go : (x : Bool) → f b ≡ x → cond x (Some b) (least_from f (b + 1) n) ≡ Some c → (least_from f (b + 1) n ≡ Some c → f c ≡ true)
+        → f c ≡ true
     go true t e more = let s : b ≡ c = cc in subst (λ k. f k ≡ true) s t
     go false t e more = more e
 
@@ -121,5 +123,6 @@ pub word_here : (f : ℕ → Bool) (w j : ℕ) → j < 64 → least_from f (64 *
     → least_from f (64 * w) 64 ≡ Some (64 * w + j)
 word_here f w j lt same on = same ∙ least_at f (64 * w + j) (64 - j) (omega (arith, lt)) on
 
-pub word_done : (f : ℕ → Bool) (w j : ℕ) → 64 ≤ j → least_from f (64 * w) 64 ≡ least_from f (64 * w + j) (64 - j) → least_from f (64 * w) 64 ≡ None
+pub word_done : (f : ℕ → Bool) (w j : ℕ) → 64 ≤ j → least_from f (64 * w) 64 ≡ least_from f (64 * w + j) (64 - j)
+    → least_from f (64 * w) 64 ≡ None
 word_done f w j le same = let n : 64 - j ≡ 0 = omega (arith, le) in same ∙ ap (least_from f (64 * w + j)) n ∙ least_zero f (64 * w + j)

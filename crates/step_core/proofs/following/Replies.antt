@@ -20,8 +20,7 @@ use Rattle.step_table.specs.Holdings.{Slots, inside, is_full, owner_slot, place_
 use Rattle.step_table.specs.Stories.{Nothing, event_added, event_of}
 use Rattle.step_threads.specs.declared.programs.act.Act.{Act}
 use Rattle.step_threads.specs.declared.programs.act.Act.TheVariants.{Make, Share, Downgrade, Lock, Put, Leave, Clear, Count, Expired, Read, FromThis, Alias}
-use Rattle.step_threads.specs.declared.programs.act.Act.TheVariants.{Move, Ask}
-use Rattle.step_threads.specs.declared.programs.act.Act.TheVariants.{Offer, Swap, Exchange, Load, Compare, Drop, OnShelf}
+use Rattle.step_threads.specs.declared.programs.act.Act.TheVariants.{Move, Ask, Offer, Swap, Exchange, Load, Compare, Drop, OnShelf}
 use Rattle.step_threads.specs.declared.programs.act.Task.{Task}
 use Rattle.step_threads.specs.declared.programs.call.CellName.{CellName}
 use Rattle.step_threads.specs.declared.ending.Ending.{Ending}
@@ -34,6 +33,7 @@ use Rattle.step_threads.specs.Scenes.{came, ended_by, found, said_of, taking, we
 use Rattle.step_core.specs.Following.{no_worth}
 use Rattle.step_core.proofs.following.Parts.{asks, counting, expiring, gave, gives, leave_ends, leave_makes, leaving_event, left, lock_found, lock_makes}
 use Rattle.step_core.proofs.following.Parts.{locking, none_stored, on_pointer, read_makes, read_says, reading, shared, this_answers, this_found, this_makes}
+use Rattle.step_core.proofs.following.Histories.{load_history, load_makes, shelf_history, swap_event, swap_history, swap_makes, swap_slots}
 
 -- what an act of statement n makes, with these tasks after it, by a reply
 pub record Replied (tell : Telling) (z : Opening) (d : ℕ) (h : History) (n : ℕ) (w : Walk) (ts : List Task) (a : Act) : Type 0 where
@@ -72,39 +72,6 @@ module _ (tell : Telling) (z : Opening) (d : ℕ) (h : History) (n : ℕ) (w : W
       → IsMakeEvent no_worth now d w.slots (Make form) (Found o) (option_map (made_of form) o)
   make_makes form None e = (none_stored d now.stores e, refl)
   make_makes form (Some b) e = refl
-
-  abbrev swap_event : CellName → ℕ → Event Nothing
-  swap_event c i = swap_of now (cell_of_name now w.slots c) (slot_value w.slots i)
-
-  pub swap_history : (c : CellName) (i : ℕ) (b : Bool)
-      → on_going (history_swaps z d w.slots h) h (cond b (Some (c, i)) None) ≡ put_on d (cond b (Some (swap_event c i)) None) h
-  swap_history c i true = refl
-  swap_history c i false = refl
-
-  pub swap_makes : (c : CellName) (i : ℕ) (b : Bool)
-      → let e = cond b (Some (swap_event c i)) None in Where b (IsSwapEvent now w.slots c i (came now w.slots c) e) (e ≡ None)
-  swap_makes c i true = (held_in now (cell_of_name now w.slots c), refl, refl)
-  swap_makes c i false = refl
-
-  pub swap_slots : (c : CellName) (i : ℕ) (f : CellName → ℕ → Slots) (b : Bool)
-      → on_going f w.slots (cond b (Some (c, i)) None) ≡ cond b (f c i) w.slots
-  swap_slots c i f true = refl
-  swap_slots c i f false = refl
-
-  pub load_history : (c : CellName) (b : Bool)
-      → cond b (loads z d w.slots h c) h ≡ put_on d (cond b (Some (load_of now (cell_of_name now w.slots c))) None) h
-  load_history c true = refl
-  load_history c false = refl
-
-  pub load_makes : (c : CellName) (b : Bool)
-      → let e = cond b (Some (load_of now (cell_of_name now w.slots c))) None in Where b (IsLoadEvent now w.slots c (came now w.slots c) e) (e ≡ None)
-  load_makes c true = (held_in now (cell_of_name now w.slots c), refl, refl)
-  load_makes c false = refl
-
-  pub shelf_history : (x : ShelfAct) (o : Option ℕ) → does z d h (option_map (moves x) o) ≡ put_on d (option_map (moved x) o) h
-  shelf_history x None = refl
-  shelf_history Shelve (Some b) = refl
-  shelf_history Unshelve (Some b) = refl
 
   -- each act
   unfoldable pub replied : (a : Act) → Replied tell z d h n w ts a
@@ -174,7 +141,7 @@ module _ (tell : Telling) (z : Opening) (d : ℕ) (h : History) (n : ℕ) (w : W
         reply = Found o;
         event = option_map (moved x) o;
         makes = (refl, refl);
-        history = shelf_history x o;
+        history = shelf_history z d h w.slots x o;
         says = refl;
         goes = refl;
       }
@@ -278,30 +245,30 @@ module _ (tell : Telling) (z : Opening) (d : ℕ) (h : History) (n : ℕ) (w : W
       let f = λ (x : CellName) (k : ℕ). slots_swapped k (other w.slots) w.slots (came now w.slots x) in
       record {
         reply = Came (came now w.slots c);
-        event = cond b (Some (swap_event c i)) None;
-        makes = swap_makes c i b;
-        history = swap_history c i b;
+        event = cond b (Some (swap_event z d h w.slots c i)) None;
+        makes = swap_makes z d h w.slots c i b;
+        history = swap_history z d h w.slots c i b;
         says = refl;
-        goes = ap (λ (l : Slots). walk_settled l false w.endings ts) (swap_slots c i f b);
+        goes = ap (λ (l : Slots). walk_settled l false w.endings ts) (swap_slots z d h w.slots c i f b);
       }
   replied (Exchange i c) =
       let b = may_go w.slots c i in
       let f = λ (x : CellName) (k : ℕ). slice_set w.slots k (came now w.slots x) in
       record {
         reply = Came (came now w.slots c);
-        event = cond b (Some (swap_event c i)) None;
-        makes = swap_makes c i b;
-        history = swap_history c i b;
+        event = cond b (Some (swap_event z d h w.slots c i)) None;
+        makes = swap_makes z d h w.slots c i b;
+        history = swap_history z d h w.slots c i b;
         says = refl;
-        goes = ap (λ (l : Slots). walk_settled l w.taken w.endings ts) (swap_slots c i f b);
+        goes = ap (λ (l : Slots). walk_settled l w.taken w.endings ts) (swap_slots z d h w.slots c i f b);
       }
   replied (Load c) =
       let b = is_there w.slots c in
       record {
         reply = Came (came now w.slots c);
         event = cond b (Some (load_of now (cell_of_name now w.slots c))) None;
-        makes = load_makes c b;
-        history = load_history c b;
+        makes = load_makes z d h w.slots c b;
+        history = load_history z d h w.slots c b;
         says = refl;
         goes = refl;
       }

@@ -7,8 +7,7 @@ use Rattle.control_word.specs.State.{weak}
 use Rattle.step_threads.specs.declared.programs.act.Act.{Act}
 use Rattle.step_table.specs.declared.memory.form.Form.{Form}
 use Rattle.step_threads.specs.declared.programs.act.Act.TheVariants.{Make, Share, Downgrade, Lock, Put, Leave, Clear, Count, Expired, Read, FromThis, Alias}
-use Rattle.step_threads.specs.declared.programs.act.Act.TheVariants.{Move, Ask}
-use Rattle.step_threads.specs.declared.programs.act.Act.TheVariants.{Offer, Swap, Exchange, Load, Compare, Drop, OnShelf}
+use Rattle.step_threads.specs.declared.programs.act.Act.TheVariants.{Move, Ask, Offer, Swap, Exchange, Load, Compare, Drop, OnShelf}
 use Rattle.step_threads.specs.declared.programs.act.Task.{Task}
 use Rattle.step_threads.specs.declared.half.Half.{Half}
 use Rattle.step_threads.specs.declared.half.Half.TheVariants.{Rest, Making, Locking, Giving, Brought, Saw, Matched, Refill, Returning, Clearing}
@@ -45,33 +44,7 @@ use Rattle.step_core.proofs.telling.Looking.{compares_one, counted_match, counte
 use Rattle.step_core.proofs.telling.Deeds.{IsCounted, aliased_by, downgraded, expired, left, locked_by, plus_none, quiet, read_one, shared, told}
 use Rattle.step_core.proofs.telling.Deeds.{moved_one}
 use Rattle.step_threads.specs.Shelving.{shelf_block}
-
-made_one : (v : Story) (d i k : ℕ) (w : Walk) (t : Task) (ts : List Task) (b : Block) (f : Bool) (form : Form) → (i == 5) ≡ true
-    → t.act ≡ Make form → w.endings ≡ [] → w.todo ≡ t ∷ ts → IsCounted v d (Making b i f) w (Some (claims w k ts b form))
-made_one v d i k w t ts b f form e same none is =
-    let c : ◌≡◌ {A = ℕ} (cond (i == 5) 1 0) 1 = ap (λ (z : Bool). cond z 1 0) e in
-    let m : suc (made_in v.history) ≡ made_in v.history + cond (i == 5) 1 0 = omega (arith, c) in
-    let x = holding w.slots form.null (Some b.0) in
-    let l = settled_alone x.0 x.1 ts in
-    let n : walk_steps (walk_settled x.0 x.1 w.endings ts) ≡ walk_steps (walk_settled x.0 x.1 [] ts) =
-    ap (λ (es : List Ending). walk_steps (walk_settled x.0 x.1 es ts)) none in
-    let a = walk_alone w t ts none is in
-    let g : weight t.act ≡ 28 = ap weight same in
-    record { made = m; ended = plus_none _; few = omega (arith, c, l, n, a, g) }
-
-prepared_one : (v : Story) (d k found want i : ℕ) (w : Walk) (b : Block) (f : Bool)
-    → IsCounted v d (Making b i f) w (Some (prepares found want w k b i f))
-prepared_one v d k found want i w b true = record { made = plus_none _; ended = plus_none _; few = omega arith }
-prepared_one v d k found want i w b false = record { made = plus_none _; ended = plus_none _; few = omega arith }
-
-counted_make : (v : Story) (d i : ℕ) (w : Walk) (b : Block) (f : Bool) (ts : List Task) → w.todo ≡ ts → w.endings ≡ []
-    → IsUnderWay d v (Making b i f) ts → IsCounted v d (Making b i f) w (made_on v d w b i f ts)
-counted_make v d i w b f [] is none way = absurd way
-counted_make v d i w b f (t ∷ ts) is none way =
-    let found = get_or (known_words (pending v d)) i 0 in let want = get_or (wanted (form_of t.act)) i 0 in
-    cond_both (i == 5) (claims w t.statement ts b (form_of t.act)) (prepares found want w t.statement b i f)
-    (λ (x : Step). IsCounted v d (Making b i f) w (Some x)) (λ e. made_one v d i t.statement w t ts b f (form_of t.act) e way.2 none is)
-    (λ e. prepared_one v d t.statement found want i w b f)
+use Rattle.step_core.proofs.telling.Making.{counted_make}
 
 begun_in : (v : Story) (d k : ℕ) (w : Walk) (t : Task) (ts : List Task) (o : Option ℕ) → w.endings ≡ [] → w.todo ≡ t ∷ ts
     → IsCounted v d Rest w (Some (begins w k ts o))
@@ -261,8 +234,7 @@ counted_rest v d w (e ∷ es) is =
     cond_both (is_full (slot_pointer w.slots (hand w.slots))) (first v d w e.statement w.todo (Leave (hand w.slots))) (ends_on v w e es)
     (λ (x : Step). IsCounted v d Rest w (Some x))
     (λ full. left v d e.statement w (went (story_state v) d w e.statement w.todo (Leave (hand w.slots))) (slot_pointer w.slots (hand w.slots))
-    (carried_leaves (story_state v) d e.statement w e es is full))
-    (λ free. counted_end v d w e es is free)
+    (carried_leaves (story_state v) d e.statement w e es is full)) (λ free. counted_end v d w e es is free)
 
 counted_try : (v : Story) (d word : ℕ) (w : Walk) (t : Task) (ts : List Task) (a : Act) (o : Option Pointer) → w.endings ≡ [] → w.todo ≡ t ∷ ts
     → locked_pointer w.slots a ≡ o → IsCounted v d (Locking word) w (option_map (tries v d w t.statement ts a word) o)
