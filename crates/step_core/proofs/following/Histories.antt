@@ -1,39 +1,20 @@
 -- What acts on cells and on the shelf do to the history is what their replies say.
 use Rattle.step_threads.specs.declared.programs.act.ShelfAct.{ShelfAct}
 use Rattle.step_threads.specs.declared.programs.act.ShelfAct.TheVariants.{Shelve, Unshelve}
-use Rattle.step_threads.specs.Shelving.{moved, moves, shelf_block}
-use Rattle.std.proofs.Common.{◌≡◌, ℕ, Bool, true, false, cond, List, ◌∷◌, refl, sym, ap}
-use Rattle.std.specs.Prelude.{Option, Some, None, option_map, slice_set}
+use Rattle.step_threads.specs.Shelving.{moved, moves}
+use Rattle.std.proofs.Common.{◌≡◌, ℕ, Bool, true, false, cond, refl}
+use Rattle.std.specs.Prelude.{Option, Some, None, option_map}
 use Rattle.control_word.specs.declared.model.event.Event.{Event}
-use Rattle.control_word.specs.declared.model.event.Event.TheVariants as event
-use Rattle.control_word.specs.declared.model.handle.Kind.TheVariants.{Owner, Weak}
-use Rattle.control_word.specs.Events.{place_at}
-use Rattle.control_word.specs.Histories.{entry, leads}
+use Rattle.control_word.specs.Histories.{leads}
 use Rattle.control_word.specs.State.{Opening, State}
-use Rattle.step_table.specs.declared.memory.form.Form.{Form}
-use Rattle.step_table.specs.declared.slots.holdings.Pointer.{Pointer}
-use Rattle.step_table.specs.declared.memory.past.Deed.{Deed}
-use Rattle.step_table.specs.Contents.{compare_of, held_in, load_of, swap_of, slots_swapped}
-use Rattle.step_table.specs.Deeds.{Telling, alias, aliased, downgrade, field_of, give, is_expired, is_last, leave, lock, on, read_deed, share, tell_count}
-use Rattle.step_table.specs.Deeds.{tell_expired, this_as}
-use Rattle.step_table.specs.Holdings.{Slots, inside, is_full, owner_slot, place_in, plain, slot_pointer, slot_value, weak_slot}
-use Rattle.step_table.specs.Stories.{Nothing, event_added, event_of}
-use Rattle.step_threads.specs.declared.programs.act.Act.{Act}
-use Rattle.step_threads.specs.declared.programs.act.Act.TheVariants.{Make, Share, Downgrade, Lock, Put, Leave, Clear, Count, Expired, Read, FromThis, Alias}
-use Rattle.step_threads.specs.declared.programs.act.Act.TheVariants.{Move, Ask}
-use Rattle.step_threads.specs.declared.programs.act.Act.TheVariants.{Offer, Swap, Exchange, Load, Compare, Drop, OnShelf}
-use Rattle.step_threads.specs.declared.programs.act.Task.{Task}
+use Rattle.step_table.specs.Contents.{held_in, load_of, swap_of}
+use Rattle.step_table.specs.Holdings.{Slots, slot_value}
+use Rattle.step_table.specs.Stories.{Nothing}
 use Rattle.step_threads.specs.declared.programs.call.CellName.{CellName}
-use Rattle.step_threads.specs.declared.ending.Ending.{Ending}
-use Rattle.step_threads.specs.declared.said.Answer.{Answer}
-use Rattle.step_threads.specs.Courses.{Walk, cell_of_name, hand, is_there, offered, on_going, other, placed, walk_settled}
-use Rattle.step_threads.specs.Doings.{IsLoadEvent, IsMakeEvent, IsSwapEvent, Where, answers_order, copies, copy, put_on}
-use Rattle.step_threads.specs.Entries.{History, acted, does, giving, is_expected, least, loads, make_deed, history_swaps}
-use Rattle.step_threads.specs.Rows.{Reply, Plain, Found, Got, Told, Came, Compared, Left, walk_after_act, may_go, row, said_by_row}
-use Rattle.step_threads.specs.Scenes.{came, ended_by, found, said_of, taking, went}
-use Rattle.step_core.specs.Following.{no_worth}
-use Rattle.step_core.proofs.following.Parts.{asks, counting, expiring, gave, gives, leave_ends, leave_makes, leaving_event, left, lock_found, lock_makes}
-use Rattle.step_core.proofs.following.Parts.{locking, none_stored, on_pointer, read_makes, read_says, reading, shared, this_answers, this_found, this_makes}
+use Rattle.step_threads.specs.Courses.{cell_of_name, on_going}
+use Rattle.step_threads.specs.Doings.{IsLoadEvent, IsSwapEvent, Where, put_on}
+use Rattle.step_threads.specs.Entries.{History, does, loads, history_swaps}
+use Rattle.step_threads.specs.Scenes.{came}
 
 module _ (z : Opening) (d : ℕ) (h : History) (l : Slots) where
   abbrev now : State

@@ -1,7 +1,5 @@
 -- What acts make and leave is what their replies say.
-use Rattle.step_threads.specs.declared.programs.act.ShelfAct.{ShelfAct}
-use Rattle.step_threads.specs.declared.programs.act.ShelfAct.TheVariants.{Shelve, Unshelve}
-use Rattle.step_threads.specs.Shelving.{moved, moves, shelf_block}
+use Rattle.step_threads.specs.Shelving.{moved, shelf_block}
 use Rattle.std.proofs.Common.{◌≡◌, ℕ, Bool, true, false, cond, List, ◌∷◌, refl, sym, ap}
 use Rattle.std.specs.Prelude.{Option, Some, None, option_map, slice_set}
 use Rattle.control_word.specs.declared.model.event.Event.{Event}
@@ -13,7 +11,7 @@ use Rattle.control_word.specs.State.{Opening, State}
 use Rattle.step_table.specs.declared.memory.form.Form.{Form}
 use Rattle.step_table.specs.declared.slots.holdings.Pointer.{Pointer}
 use Rattle.step_table.specs.declared.memory.past.Deed.{Deed}
-use Rattle.step_table.specs.Contents.{compare_of, held_in, load_of, swap_of, slots_swapped}
+use Rattle.step_table.specs.Contents.{compare_of, held_in, load_of, slots_swapped}
 use Rattle.step_table.specs.Deeds.{Telling, alias, aliased, downgrade, field_of, give, is_expired, is_last, leave, lock, on, read_deed, share, tell_count}
 use Rattle.step_table.specs.Deeds.{tell_expired, this_as}
 use Rattle.step_table.specs.Holdings.{Slots, inside, is_full, owner_slot, place_in, plain, slot_pointer, slot_value, weak_slot}
@@ -25,9 +23,9 @@ use Rattle.step_threads.specs.declared.programs.act.Task.{Task}
 use Rattle.step_threads.specs.declared.programs.call.CellName.{CellName}
 use Rattle.step_threads.specs.declared.ending.Ending.{Ending}
 use Rattle.step_threads.specs.declared.said.Answer.{Answer}
-use Rattle.step_threads.specs.Courses.{Walk, cell_of_name, hand, is_there, offered, on_going, other, placed, walk_settled}
-use Rattle.step_threads.specs.Doings.{IsLoadEvent, IsMakeEvent, IsSwapEvent, Where, answers_order, copies, copy, put_on}
-use Rattle.step_threads.specs.Entries.{History, acted, does, giving, is_expected, least, loads, make_deed, history_swaps}
+use Rattle.step_threads.specs.Courses.{Walk, cell_of_name, hand, is_there, offered, other, placed, walk_settled}
+use Rattle.step_threads.specs.Doings.{IsMakeEvent, answers_order, copies, copy, put_on}
+use Rattle.step_threads.specs.Entries.{History, acted, does, giving, is_expected, least, make_deed}
 use Rattle.step_threads.specs.Rows.{Reply, Plain, Found, Got, Told, Came, Compared, Left, walk_after_act, may_go, row, said_by_row}
 use Rattle.step_threads.specs.Scenes.{came, ended_by, found, said_of, taking, went}
 use Rattle.step_core.specs.Following.{no_worth}

@@ -1,11 +1,9 @@
 -- What a step adds to the totals, and what it takes from the tasks that are left.
-use Rattle.std.proofs.Common.{◌≡◌, ℕ, suc, ◌+◌, ◌≤◌, ◌==◌, Bool, true, false, cond, List, [], ◌∷◌, get_or, refl, ap, arith}
+use Rattle.std.proofs.Common.{◌≡◌, ℕ, ◌≤◌, ◌==◌, Bool, true, false, cond, List, [], ◌∷◌, refl, ap, arith}
 use Rattle.std.specs.Prelude.{Option, Some, None, is_some, option_map}
 use Rattle.std.proofs.lemmas.Bool.{cond_both}
-use Rattle.control_word.specs.declared.place.Block.{Block}
 use Rattle.control_word.specs.State.{weak}
 use Rattle.step_threads.specs.declared.programs.act.Act.{Act}
-use Rattle.step_table.specs.declared.memory.form.Form.{Form}
 use Rattle.step_threads.specs.declared.programs.act.Act.TheVariants.{Make, Share, Downgrade, Lock, Put, Leave, Clear, Count, Expired, Read, FromThis, Alias}
 use Rattle.step_threads.specs.declared.programs.act.Act.TheVariants.{Move, Ask, Offer, Swap, Exchange, Load, Compare, Drop, OnShelf}
 use Rattle.step_threads.specs.declared.programs.act.Task.{Task}
@@ -15,10 +13,9 @@ use Rattle.step_table.specs.declared.slots.holdings.Pointer.{Pointer}
 use Rattle.step_table.specs.declared.memory.past.Deed.TheVariants as deed
 use Rattle.step_threads.specs.declared.said.Answer.{Answer}
 use Rattle.step_table.specs.declared.memory.ended.Ended.{Ended}
-use Rattle.step_threads.specs.Actors.{wanted}
 use Rattle.step_threads.specs.declared.ending.Ending.{Ending}
-use Rattle.step_core.specs.Bounds.{walk_steps, weight}
-use Rattle.step_threads.specs.Courses.{Going, Walk, cell_of_name, comparing, form_of, going, hand, locked_pointer, offered, on_going, other, walk_settled}
+use Rattle.step_core.specs.Bounds.{walk_steps}
+use Rattle.step_threads.specs.Courses.{Going, Walk, cell_of_name, comparing, going, hand, locked_pointer, offered, on_going, other, walk_settled}
 use Rattle.step_threads.specs.Endings.{staged}
 use Rattle.step_table.specs.declared.cell_steps.cell_deed.Cell.TheVariants.{Member}
 use Rattle.step_table.specs.Cells.{word_of_cell}
@@ -26,16 +23,15 @@ use Rattle.step_table.specs.Contents.{compared_in, seen}
 use Rattle.step_table.specs.Holdings.{inside, is_full, owner_slot, place_in, slot_pointer}
 use Rattle.step_threads.specs.Entries.{least}
 use Rattle.step_table.specs.Deeds.{by_word, on, give, is_enabled, lock, owner_word, aliased}
-use Rattle.step_threads.specs.Scenes.{answer_of, ended_of, holding, leaving_pointer as leaves_by, went}
-use Rattle.step_threads.specs.NextSteps.{at_rest, begun, emptied, first, given_step, made_on, sent, step_at, tried}
-use Rattle.step_threads.specs.Steps.{Step, step_of_act, asks, begins, brings, claims, empties, ends_on, looks, prepares, sends, silent, step_of_swap}
+use Rattle.step_threads.specs.Scenes.{answer_of, ended_of, leaving_pointer as leaves_by, went}
+use Rattle.step_threads.specs.NextSteps.{at_rest, begun, emptied, first, given_step, sent, step_at, tried}
+use Rattle.step_threads.specs.Steps.{Step, step_of_act, asks, begins, brings, empties, ends_on, looks, sends, silent, step_of_swap}
 use Rattle.step_threads.specs.Steps.{tries, trying, with_endings, within}
 use Rattle.control_word.specs.declared.model.handle.Kind.{Kind}
 use Rattle.control_word.specs.declared.model.handle.Kind.TheVariants.{Owner, Weak}
-use Rattle.step_table.specs.Stories.{Story, known_words, object_of_block, pending, story_state}
+use Rattle.step_table.specs.Stories.{Story, object_of_block, story_state}
 use Rattle.step_threads.specs.Threads.{IsClearingMember}
 use Rattle.step_core.specs.Told.{is_prepared}
-use Rattle.step_core.specs.Totals.{made_in}
 use Rattle.step_core.specs.Turning.{IsAlone, IsTried, IsUnderWay}
 use Rattle.step_core.proofs.telling.Walking.{IsFree, carried_leaves, carried_most, over_less, settled_alone, staged_most, taken_out, walk_alone, went_less}
 use Rattle.step_core.proofs.telling.Walking.{went_plain}

@@ -1,49 +1,24 @@
 -- What the steps of a make add to the totals, and what they take from the tasks that are left.
-use Rattle.std.proofs.Common.{◌≡◌, ℕ, suc, ◌+◌, ◌≤◌, ◌==◌, Bool, true, false, cond, List, [], ◌∷◌, get_or, refl, ap, arith}
-use Rattle.std.specs.Prelude.{Option, Some, None, is_some, option_map}
+use Rattle.std.proofs.Common.{◌≡◌, ℕ, suc, ◌+◌, ◌==◌, Bool, true, false, cond, List, [], ◌∷◌, get_or, ap, arith}
+use Rattle.std.specs.Prelude.{Some}
 use Rattle.std.proofs.lemmas.Bool.{cond_both}
 use Rattle.control_word.specs.declared.place.Block.{Block}
-use Rattle.control_word.specs.State.{weak}
-use Rattle.step_threads.specs.declared.programs.act.Act.{Act}
 use Rattle.step_table.specs.declared.memory.form.Form.{Form}
-use Rattle.step_threads.specs.declared.programs.act.Act.TheVariants.{Make, Share, Downgrade, Lock, Put, Leave, Clear, Count, Expired, Read, FromThis, Alias}
-use Rattle.step_threads.specs.declared.programs.act.Act.TheVariants.{Move, Ask, Offer, Swap, Exchange, Load, Compare, Drop, OnShelf}
+use Rattle.step_threads.specs.declared.programs.act.Act.TheVariants.{Make}
 use Rattle.step_threads.specs.declared.programs.act.Task.{Task}
-use Rattle.step_threads.specs.declared.half.Half.{Half}
-use Rattle.step_threads.specs.declared.half.Half.TheVariants.{Rest, Making, Locking, Giving, Brought, Saw, Matched, Refill, Returning, Clearing}
-use Rattle.step_table.specs.declared.slots.holdings.Pointer.{Pointer}
-use Rattle.step_table.specs.declared.memory.past.Deed.TheVariants as deed
-use Rattle.step_threads.specs.declared.said.Answer.{Answer}
-use Rattle.step_table.specs.declared.memory.ended.Ended.{Ended}
+use Rattle.step_threads.specs.declared.half.Half.TheVariants.{Making}
 use Rattle.step_threads.specs.Actors.{wanted}
 use Rattle.step_threads.specs.declared.ending.Ending.{Ending}
 use Rattle.step_core.specs.Bounds.{walk_steps, weight}
-use Rattle.step_threads.specs.Courses.{Going, Walk, cell_of_name, comparing, form_of, going, hand, locked_pointer, offered, on_going, other, walk_settled}
-use Rattle.step_threads.specs.Endings.{staged}
-use Rattle.step_table.specs.declared.cell_steps.cell_deed.Cell.TheVariants.{Member}
-use Rattle.step_table.specs.Cells.{word_of_cell}
-use Rattle.step_table.specs.Contents.{compared_in, seen}
-use Rattle.step_table.specs.Holdings.{inside, is_full, owner_slot, place_in, slot_pointer}
-use Rattle.step_threads.specs.Entries.{least}
-use Rattle.step_table.specs.Deeds.{by_word, on, give, is_enabled, lock, owner_word, aliased}
-use Rattle.step_threads.specs.Scenes.{answer_of, ended_of, holding, leaving_pointer as leaves_by, went}
-use Rattle.step_threads.specs.NextSteps.{at_rest, begun, emptied, first, given_step, made_on, sent, step_at, tried}
-use Rattle.step_threads.specs.Steps.{Step, step_of_act, asks, begins, brings, claims, empties, ends_on, looks, prepares, sends, silent, step_of_swap}
-use Rattle.step_threads.specs.Steps.{tries, trying, with_endings, within}
-use Rattle.control_word.specs.declared.model.handle.Kind.{Kind}
-use Rattle.control_word.specs.declared.model.handle.Kind.TheVariants.{Owner, Weak}
-use Rattle.step_table.specs.Stories.{Story, known_words, object_of_block, pending, story_state}
-use Rattle.step_threads.specs.Threads.{IsClearingMember}
-use Rattle.step_core.specs.Told.{is_prepared}
+use Rattle.step_threads.specs.Courses.{Walk, form_of, walk_settled}
+use Rattle.step_threads.specs.Scenes.{holding}
+use Rattle.step_threads.specs.NextSteps.{made_on}
+use Rattle.step_threads.specs.Steps.{Step, claims, prepares}
+use Rattle.step_table.specs.Stories.{Story, known_words, pending}
 use Rattle.step_core.specs.Totals.{made_in}
-use Rattle.step_core.specs.Turning.{IsAlone, IsTried, IsUnderWay}
-use Rattle.step_core.proofs.telling.Walking.{IsFree, carried_leaves, carried_most, over_less, settled_alone, staged_most, taken_out, walk_alone, went_less}
-use Rattle.step_core.proofs.telling.Walking.{went_plain}
-use Rattle.step_core.proofs.telling.Swapping.{swapping, went_swap}
-use Rattle.step_core.proofs.telling.Looking.{compares_one, counted_match, counted_refill, counted_saw, load_one}
-use Rattle.step_core.proofs.telling.Deeds.{IsCounted, aliased_by, downgraded, expired, left, locked_by, plus_none, quiet, read_one, shared, told}
-use Rattle.step_core.proofs.telling.Deeds.{moved_one}
-use Rattle.step_threads.specs.Shelving.{shelf_block}
+use Rattle.step_core.specs.Turning.{IsUnderWay}
+use Rattle.step_core.proofs.telling.Walking.{settled_alone, walk_alone}
+use Rattle.step_core.proofs.telling.Deeds.{IsCounted, plus_none}
 
 made_one : (v : Story) (d i k : ℕ) (w : Walk) (t : Task) (ts : List Task) (b : Block) (f : Bool) (form : Form) → (i == 5) ≡ true
     → t.act ≡ Make form → w.endings ≡ [] → w.todo ≡ t ∷ ts → IsCounted v d (Making b i f) w (Some (claims w k ts b form))
