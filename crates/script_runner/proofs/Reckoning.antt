@@ -39,6 +39,7 @@ idle_asks (act.Swap c) l taken is = refl
 idle_asks (act.Exchange k c) l taken is = refl
 idle_asks (act.Load c) l taken is = refl
 idle_asks (act.Compare k c weak) l taken is = refl
+idle_asks (act.OnShelf x) l taken is = refl
 
 pub settled_asks : (l : Slots) (taken : Bool) (es : List Ending) (ts : List Task) → asked_in (walk_settled l taken es ts).todo ≡ asked_in ts
 settled_asks l taken es [] = refl

@@ -6,7 +6,7 @@ use Rattle.std.specs.Prelude.{slice_set}
 use Rattle.step_table.specs.Holdings.{Slots, plain, slot_value}
 use Rattle.step_threads.specs.Courses.{Walk, hand, idle, other, placed, walk_settled, slots_idle, taken_idle}
 use Rattle.step_threads.specs.declared.programs.act.Act.TheVariants.{Make, Share, Downgrade, Lock, Put, Leave, Clear, Count, Expired, Read, FromThis, Alias}
-use Rattle.step_threads.specs.declared.programs.act.Act.TheVariants.{Move, Ask, Offer, Swap, Exchange, Load, Compare, Drop}
+use Rattle.step_threads.specs.declared.programs.act.Act.TheVariants.{Move, Ask, Offer, Swap, Exchange, Load, Compare, Drop, OnShelf}
 use Rattle.step_threads.specs.declared.programs.act.Act.{Act}
 use Rattle.step_threads.specs.declared.programs.act.Task.{Task}
 use Rattle.step_threads.specs.declared.ending.Ending.{Ending}
@@ -86,6 +86,7 @@ idle_empty (Ask q) l taken e = record { many = refl; hand = e }
 idle_empty (Offer k c) l taken e = record { many = refl; hand = e }
 idle_empty (Exchange k c) l taken e = record { many = refl; hand = e }
 idle_empty (Load c) l taken e = record { many = refl; hand = e }
+idle_empty (OnShelf x) l taken e = record { many = refl; hand = e }
 
 pub settled_empty : (l : Slots) (taken : Bool) (es : List Ending) (ts : List Task) → slot_value l (hand l) ≡ plain
     → Empty l (walk_settled l taken es ts).slots

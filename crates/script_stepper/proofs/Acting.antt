@@ -9,7 +9,7 @@ use Rattle.control_word.specs.State.{State}
 use Rattle.step_threads.specs.declared.programs.act.Act.{Act}
 use Rattle.step_threads.specs.declared.programs.act.Act.TheVariants.{Make, Share, Downgrade, Alias, Move, FromThis, Lock, Put, Leave, Clear, Count, Expired}
 use Rattle.step_threads.specs.declared.programs.act.Act.TheVariants.{Read, Ask}
-use Rattle.step_threads.specs.declared.programs.act.Act.TheVariants.{Offer, Swap, Exchange, Load, Compare, Drop}
+use Rattle.step_threads.specs.declared.programs.act.Act.TheVariants.{Offer, Swap, Exchange, Load, Compare, Drop, OnShelf}
 use Rattle.step_threads.specs.declared.programs.act.Task.{Task}
 use Rattle.step_threads.specs.declared.ending.Ending.{Ending}
 use Rattle.step_table.specs.declared.slots.holdings.Pointer.{Pointer}
@@ -71,6 +71,7 @@ idle_size (Load c) slots taken = refl
 idle_size (Compare k c weak) slots true = placed_size (other slots) slots
 idle_size (Compare k c weak) slots false = refl
 idle_size Drop slots taken = length-set slots (other slots) plain
+idle_size (OnShelf x) slots taken = refl
 
 pub settled_size : (ts : List Task) (slots : Slots) (taken : Bool) (es : List Ending) → length (walk_settled slots taken es ts).slots ≡ length slots
 settled_size [] slots taken es = refl
@@ -142,6 +143,7 @@ hands_size s d slots taken (Load c) =
     if_size (is_there slots c) slots (slice_set slots (hand slots) x) true taken (length-set slots (hand slots) x)
 hands_size s d slots taken (Compare k c weak) = compared_size slots (came s slots c) (is_expected s slots k c)
 hands_size s d slots taken Drop = length-set slots (other slots) plain
+hands_size s d slots taken (OnShelf x) = refl
 
 -- ---- a thread after an act alone
 
@@ -216,6 +218,7 @@ free_idle (Load c) slots taken h = h
 free_idle (Compare k c weak) slots true h = free_placed (other slots) slots
 free_idle (Compare k c weak) slots false h = h
 free_idle Drop slots taken h = free_dropped slots h
+free_idle (OnShelf x) slots taken h = h
 
 free_settled : (ts : List Task) (slots : Slots) (taken : Bool) (es : List Ending) → IsFree slots → IsFree (walk_settled slots taken es ts).slots
 free_settled [] slots taken es h = h

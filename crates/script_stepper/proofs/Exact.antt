@@ -7,7 +7,7 @@ use Rattle.control_word.specs.State.{Opening, State}
 use Rattle.step_threads.specs.declared.programs.act.Act.{Act}
 use Rattle.step_threads.specs.declared.programs.act.Act.TheVariants.{Make, Share, Downgrade, Alias, Move, FromThis, Lock, Put, Leave, Clear, Count, Expired}
 use Rattle.step_threads.specs.declared.programs.act.Act.TheVariants.{Read, Ask}
-use Rattle.step_threads.specs.declared.programs.act.Act.TheVariants.{Offer, Swap, Exchange, Load, Compare, Drop}
+use Rattle.step_threads.specs.declared.programs.act.Act.TheVariants.{Offer, Swap, Exchange, Load, Compare, Drop, OnShelf}
 use Rattle.step_threads.specs.declared.programs.act.Task.{Task}
 use Rattle.step_threads.specs.declared.said.Answer.{Answer}
 use Rattle.step_threads.specs.declared.said.Answer.TheVariants as answer
@@ -60,6 +60,7 @@ acted_exact tell z d slots h (Exchange k c) e = refl
 acted_exact tell z d slots h (Load c) e = refl
 acted_exact tell z d slots h (Compare k c weak) e = refl
 acted_exact tell z d slots h Drop e = refl
+acted_exact tell z d slots h (OnShelf x) e = refl
 
 answer_exact : (tell : Telling) (s : State) (d : ℕ) (slots : Slots) (a : Act) → IsExact tell s slots
     → answer_of tell s d slots a ≡ answer_of exact s d slots a
@@ -83,6 +84,7 @@ answer_exact tell s d slots (Exchange k c) e = refl
 answer_exact tell s d slots (Load c) e = refl
 answer_exact tell s d slots (Compare k c weak) e = refl
 answer_exact tell s d slots Drop e = refl
+answer_exact tell s d slots (OnShelf x) e = refl
 
 play_at : (tell : Telling) (c : Scene) (d : ℕ) (w : Walk) (o : Option Task) → IsExact tell (state_in c) w.slots
     → play_from tell c d w o ≡ play_from exact c d w o

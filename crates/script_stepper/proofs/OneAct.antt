@@ -1,6 +1,7 @@
 -- Of two replies of an act that are right and chosen one is as the other, as far as the reply matters.
+use Rattle.step_threads.specs.Shelving.{moved}
 use Rattle.std.proofs.Common.{◌≡◌, ℕ, ◌==◌, ◌&&◌, Bool, true, false, not, cond, List, [], ◌∷◌, refl, sym, ap, subst, ◌∙◌}
-use Rattle.std.specs.Prelude.{Option, Some, None, slice_index, slice_set}
+use Rattle.std.specs.Prelude.{Option, Some, None, option_map, slice_index, slice_set}
 use Rattle.std.specs.List.{filter}
 use Rattle.std.proofs.lemmas.Option.{same_Some}
 use Rattle.control_word.specs.declared.model.event.Event.{Event}
@@ -24,7 +25,7 @@ use Rattle.step_table.specs.Holdings.{Slots, inside, is_full, place_in, plain, s
 use Rattle.step_table.specs.Stories.{Nothing}
 use Rattle.step_threads.specs.declared.programs.act.Act.{Act}
 use Rattle.step_threads.specs.declared.programs.act.Act.TheVariants.{Make, Share, Downgrade, Lock, Put, Leave, Clear, Count, Expired, Read, FromThis, Alias}
-use Rattle.step_threads.specs.declared.programs.act.Act.TheVariants.{Move, Ask, Offer, Swap, Exchange, Load, Compare, Drop}
+use Rattle.step_threads.specs.declared.programs.act.Act.TheVariants.{Move, Ask, Offer, Swap, Exchange, Load, Compare, Drop, OnShelf}
 use Rattle.step_threads.specs.declared.programs.call.CellName.{CellName}
 use Rattle.step_threads.specs.declared.said.Answer.{Answer}
 use Rattle.step_threads.specs.declared.said.Answer.TheVariants as answer
@@ -102,8 +103,7 @@ module _ (s : State) (d : ℕ) where
       → On (λ x. f ≡ Some (event.Count (handle_of s x) m)) ((m ≡ 0) × (f ≡ None)) o → Chosen e → Chosen f → (n ≡ m) × (e ≡ f)
   counts_once None n m e f p q u v = (p.0 ∙ sym q.0, p.1 ∙ sym q.1)
   counts_once (Some x) n m e f p q u v =
-      let a = subst Chosen p u in
-      let b = subst Chosen q v in
+      let a = subst Chosen p u in let b = subst Chosen q v in
       let same : n ≡ m = a ∙ sym b in
       (same, p ∙ ap (λ (k : ℕ). Some (event.Count (handle_of s x) k)) same ∙ sym q)
 
@@ -113,8 +113,7 @@ module _ (s : State) (d : ℕ) where
       → (b ≡ c) × (e ≡ f)
   locks_once None b c e f p q u v = (p.0 ∙ sym q.0, p.1 ∙ sym q.1)
   locks_once (Some x) b c e f p q u v =
-      let a = subst Comes p u in
-      let k = subst Right q v in
+      let a = subst Comes p u in let k = subst Right q v in
       let same : b ≡ c = a.1 ∙ sym k in
       (same, p ∙ ap (λ (t : Bool). Some (event.Lock (weak_of (owned s x) x.place) t)) same ∙ sym q)
 
@@ -123,8 +122,7 @@ module _ (s : State) (d : ℕ) where
       → On (λ x. f ≡ Some (event.Expired (handle_of s x) c)) ((c ≡ true) × (f ≡ None)) o → Comes e → Right f → (b ≡ c) × (e ≡ f)
   expires_once None b c e f p q u v = (p.0 ∙ sym q.0, p.1 ∙ sym q.1)
   expires_once (Some x) b c e f p q u v =
-      let a = subst Comes p u in
-      let k = subst Right q v in
+      let a = subst Comes p u in let k = subst Right q v in
       let same : b ≡ c = a.1 ∙ sym k in
       (same, p ∙ ap (λ (t : Bool). Some (event.Expired (handle_of s x) t)) same ∙ sym q)
 
@@ -141,8 +139,7 @@ module _ (s : State) (d : ℕ) where
 
   gives_once : (o : Option Pointer) (g : Bool → Pointer → Events) (t : Pointer → Bool) (b c : Bool) (e f : Events)
       → On (λ x. (b ≡ t x) × (e ≡ g b x)) ((b ≡ false) × (e ≡ None)) o
-      → On (λ x. (c ≡ t x) × (f ≡ g c x)) ((c ≡ false) × (f ≡ None)) o
-      → (b ≡ c) × (e ≡ f)
+      → On (λ x. (c ≡ t x) × (f ≡ g c x)) ((c ≡ false) × (f ≡ None)) o → (b ≡ c) × (e ≡ f)
   gives_once None g t b c e f p q = (p.0 ∙ sym q.0, p.1 ∙ sym q.1)
   gives_once (Some x) g t b c e f p q =
       let same : b ≡ c = p.0 ∙ sym q.0 in (same, p.1 ∙ ap (λ (k : Bool). g k x) same ∙ sym q.1)
@@ -233,6 +230,9 @@ module _ (s : State) (d : ℕ) where
         leaving_once (slice_set l (other l) plain, taken) (slot_pointer l (other l)) b c x y e f m n u v
     one_reply Drop (Left b x) _ e f m n u v g h = absurd n
     one_reply Drop _ q e f m n u v g h = absurd m
+    one_reply (OnShelf x) (Found o) (Found p) e f m n u v g h = (refl, m.1 ∙ ap (option_map (moved x)) (m.0 ∙ sym n.0) ∙ sym n.1)
+    one_reply (OnShelf x) (Found o) _ e f m n u v g h = absurd n
+    one_reply (OnShelf x) _ q e f m n u v g h = absurd m
     one_reply (Count k) (Told x) (Told y) e f m n u v g h =
         let r = counts_once (slot_pointer l k) x y e f m n g h in (ap (λ (t : ℕ). row (Count k) l taken (Told t)) r.0, r.1)
     one_reply (Count k) (Told x) _ e f m n u v g h = absurd n

@@ -1,4 +1,7 @@
 -- What an act does to the totals of a history, and to the parts that endings have left.
+use Rattle.step_threads.specs.declared.programs.act.ShelfAct.{ShelfAct}
+use Rattle.step_threads.specs.declared.programs.act.ShelfAct.TheVariants.{Shelve, Unshelve}
+use Rattle.step_threads.specs.Shelving.{moves, shelf_block}
 use Rattle.std.proofs.Common.{◌≡◌, ℕ, ◌+◌, ◌*◌, ◌≤◌, Bool, true, false, List, refl, arith}
 use Rattle.std.specs.Prelude.{Option, Some, None, cond, option_map}
 use Rattle.control_word.specs.declared.model.handle.Kind.{Kind}
@@ -8,7 +11,7 @@ use Rattle.control_word.specs.State.{Opening, State}
 use Rattle.step_threads.specs.declared.programs.act.Act.{Act}
 use Rattle.step_threads.specs.declared.programs.act.Act.TheVariants.{Make, Share, Downgrade, Alias, Move, FromThis, Lock, Put, Leave, Clear, Count, Expired}
 use Rattle.step_threads.specs.declared.programs.act.Act.TheVariants.{Read, Ask}
-use Rattle.step_threads.specs.declared.programs.act.Act.TheVariants.{Offer, Swap, Exchange, Load, Compare, Drop}
+use Rattle.step_threads.specs.declared.programs.act.Act.TheVariants.{Offer, Swap, Exchange, Load, Compare, Drop, OnShelf}
 use Rattle.step_table.specs.declared.memory.form.Form.{Form}
 use Rattle.step_threads.specs.declared.ending.Ending.{Ending}
 use Rattle.step_table.specs.declared.slots.holdings.Pointer.{Pointer}
@@ -91,6 +94,12 @@ swapped : (z : Opening) (d : ℕ) (slots : Slots) (h : History) (es : List Endin
 swapped z d slots h es None = same 0 h h es refl refl
 swapped z d slots h es (Some x) = same 0 h (history_swaps z d slots h x.0 x.1) es refl refl
 
+-- a block goes to the shelf or comes from it, if there is one
+moved_tally : (z : Opening) (d : ℕ) (h : History) (es : List Ending) (x : ShelfAct) (b : Option ℕ) → Tally 0 h es (does z d h (option_map (moves x) b)) es
+moved_tally z d h es x None = same 0 h h es refl refl
+moved_tally z d h es Shelve (Some b) = same 0 h (does z d h (Some (moves Shelve b))) es refl refl
+moved_tally z d h es Unshelve (Some b) = same 0 h (does z d h (Some (moves Unshelve b))) es refl refl
+
 pub tally : (z : Opening) (d k : ℕ) (slots : Slots) (h : History) (es : List Ending) (a : Act)
     → Tally (may_make a) h es (acted exact z d slots h a) (endings_by (leads z h) k slots es a)
 tally z d k slots h es (Make form) = make_tally z d form h es (least d (leads z h).stores)
@@ -118,3 +127,4 @@ tally z d k slots h es (Exchange i c) = swapped z d slots h es (going slots (Exc
 tally z d k slots h es (Load c) = same_if (is_there slots c) h (loads z d slots h c) es refl refl
 tally z d k slots h es (Compare i c weak) = same 0 h (history_compares z d slots h i c weak) es refl refl
 tally z d k slots h es Drop = left_tally z d k h es (slot_pointer slots (other slots))
+tally z d k slots h es (OnShelf x) = moved_tally z d h es x (shelf_block (leads z h) d x)

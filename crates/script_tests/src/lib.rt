@@ -14,6 +14,8 @@ mod naming;
 #[cfg(test)]
 mod opening;
 #[cfg(test)]
+mod shelving;
+#[cfg(test)]
 mod steps;
 #[cfg(test)]
 mod workers;

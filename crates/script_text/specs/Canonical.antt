@@ -14,7 +14,7 @@ use Rattle.script_text.specs.Cells.{cell_text}
 use Rattle.script_text.specs.Drafts.{ScriptView, Section}
 use Rattle.script_text.specs.Grammar.{ended}
 
--- the words of a statement
+-- the words of a statement; no text asks for a shelve or an unshelve, so that no script has one
 abbrev pub call_words : NameList → Call → List (List ℕ)
 call_words names (call.Make target fields) = codes "make" ∷ name_text names target ∷ map decimal fields
 call_words names (call.MakeThis target fields) = codes "makethis" ∷ name_text names target ∷ map decimal fields
@@ -53,6 +53,8 @@ call_words names (call.Upgrade target source) =
     codes "upgrade" ∷ name_text names target ∷ name_text names source ∷ []
 call_words names (call.WeakCount name) = codes "wcount" ∷ name_text names name ∷ []
 call_words names (call.Expired name) = codes "expired" ∷ name_text names name ∷ []
+call_words names (call.Shelve count) = codes "shelve" ∷ decimal count ∷ []
+call_words names (call.Unshelve count) = codes "unshelve" ∷ decimal count ∷ []
 
 -- the same by the shape of the line
 abbrev pub line_words : NameList → Line → List (List ℕ)
@@ -68,6 +70,7 @@ line_words names (line.Cell word cell name) = word.now ∷ cell_text names cell 
 line_words names (line.Load target cell) = codes "load" ∷ name_text names target ∷ cell_text names cell ∷ []
 line_words names (line.Compare word cell expected desired) =
     word.now ∷ cell_text names cell ∷ name_text names expected ∷ name_text names desired ∷ []
+line_words names (line.Number word count) = word.now ∷ decimal count ∷ []
 
 -- a number after a space
 abbrev pub number_after : ℕ → List ℕ

@@ -24,6 +24,7 @@ pub(crate) enum Line {
     Cell(&'static str, CellName, Name),
     Load(Name, CellName),
     Compare(&'static str, CellName, Name, Name),
+    Number(&'static str, u16),
 }
 
 /// The line of a call.
@@ -72,6 +73,8 @@ fn line_of(call: &Call) -> Line
             let word = if weak { "compare_weak" } else { "compare" };
             Line::Compare(word, cell, expected, desired)
         }
+        Call::Shelve { count } => Line::Number("shelve", count),
+        Call::Unshelve { count } => Line::Number("unshelve", count),
     }
 }
 
@@ -89,6 +92,14 @@ fn put_three(text: &mut String, first: &str, second: &str, third: &str) -> Resul
         (AddsLines text.old text.new (spaced (first.now ∷ second.now ∷ third.now ∷ []) ∷ [])) }
 {
     writeln!(text, "{first} {second} {third}")?;
+    Ok(())
+}
+
+/// Adds a line of a word and a number.
+fn put_number(text: &mut String, first: &str, count: u16) -> Result<(), AllocError>
+    ensures { OnOk result (AddsLines text.old text.new (spaced (first.now ∷ decimal count ∷ []) ∷ [])) }
+{
+    writeln!(text, "{first} {count}")?;
     Ok(())
 }
 
@@ -245,5 +256,6 @@ pub(crate) fn put_call(text: &mut String, names: &Names, call: &Call) -> Result<
             let (expected, desired) = (names.text(expected), names.text(desired));
             put_compare(text, names, word, cell, expected, desired)
         }
+        Line::Number(word, count) => put_number(text, word, count),
     }
 }

@@ -36,25 +36,28 @@ one_named kinds asked x b e h =
       λ a. h.1 (All-head (IsDeclared kinds) x [] a),
     )
 
--- three tests in a row, of one name and of two lists of names
-three_tests : (kinds : List Kind) (x : Asked) (ys zs : List Asked) (p q r : Bool) → Tells p (IsDeclared kinds x)
-    → Tells q (All (IsDeclared kinds) ys) → Tells r (All (IsDeclared kinds) zs) → Tells (p && q && r) (All (IsDeclared kinds) (x ∷ ys ++ zs))
-three_tests kinds x ys zs false q r h k l = (λ t. absurd (not_true t), λ a. h.1 (All-head (IsDeclared kinds) x (ys ++ zs) a))
-three_tests kinds x ys zs true false r h k l = (
+-- three tests in a row, of lists of names
+three_tests : (kinds : List Kind) (xs ys zs : List Asked) (p q r : Bool) → Tells p (All (IsDeclared kinds) xs)
+    → Tells q (All (IsDeclared kinds) ys) → Tells r (All (IsDeclared kinds) zs) → Tells (p && q && r) (All (IsDeclared kinds) ((xs ++ ys) ++ zs))
+three_tests kinds xs ys zs false q r h k l = (
   λ t. absurd (not_true t),
-  λ a. k.1 (all_left (IsDeclared kinds) ys zs (All-tail (IsDeclared kinds) x (ys ++ zs) a)),
+  λ a. h.1 (all_left (IsDeclared kinds) xs ys (all_left (IsDeclared kinds) (xs ++ ys) zs a)),
 )
-three_tests kinds x ys zs true true r h k l = (
-  λ t. All-cons (IsDeclared kinds) x (ys ++ zs) (h.0 refl) (All-append (IsDeclared kinds) ys zs (k.0 refl) (l.0 t)),
-  λ a. l.1 (all_right (IsDeclared kinds) ys zs (All-tail (IsDeclared kinds) x (ys ++ zs) a)),
+three_tests kinds xs ys zs true false r h k l = (
+  λ t. absurd (not_true t),
+  λ a. k.1 (all_right (IsDeclared kinds) xs ys (all_left (IsDeclared kinds) (xs ++ ys) zs a)),
+)
+three_tests kinds xs ys zs true true r h k l = (
+  λ t. All-append (IsDeclared kinds) (xs ++ ys) zs (All-append (IsDeclared kinds) xs ys (h.0 refl) (k.0 refl)) (l.0 t),
+  λ a. l.1 (all_right (IsDeclared kinds) (xs ++ ys) zs a),
 )
 
-pub three_named : (kinds : List Kind) (call : Call) (x : Asked) (ys zs : List Asked) (p q r b : Bool) → names_of call ≡ x ∷ ys ++ zs
-    → b ≡ (p && q && r) → Tells p (IsDeclared kinds x) → Tells q (All (IsDeclared kinds) ys) → Tells r (All (IsDeclared kinds) zs)
+pub three_named : (kinds : List Kind) (call : Call) (xs ys zs : List Asked) (p q r b : Bool) → names_of call ≡ (xs ++ ys) ++ zs
+    → b ≡ (p && q && r) → Tells p (All (IsDeclared kinds) xs) → Tells q (All (IsDeclared kinds) ys) → Tells r (All (IsDeclared kinds) zs)
     → Tells b (IsWellNamed kinds call)
-three_named kinds call x ys zs p q r b e is h k l =
+three_named kinds call xs ys zs p q r b e is h k l =
     subst (λ (l : List Asked). Tells b (All (IsDeclared kinds) l)) (sym e)
-    (subst (λ (t : Bool). Tells t (All (IsDeclared kinds) (x ∷ ys ++ zs))) (sym is) (three_tests kinds x ys zs p q r h k l))
+    (subst (λ (t : Bool). Tells t (All (IsDeclared kinds) ((xs ++ ys) ++ zs))) (sym is) (three_tests kinds xs ys zs p q r h k l))
 
 -- what holds of each element's image
 pub all_mapped : {X Y : Type 0} (P : Y → Type 0) (f : X → Y) (xs : List X) → All P (map f xs) → (k : ℕ) (d : X) → k < length xs → P (f

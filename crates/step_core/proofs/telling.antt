@@ -4,6 +4,7 @@ pub mod Names
 pub mod Firsts
 pub mod Order
 pub mod Deeds
+pub mod Making
 pub mod Counting
 pub mod Still
 pub mod Swapping

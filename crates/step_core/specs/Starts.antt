@@ -1,11 +1,11 @@
 -- How a world begins. All of it is own.
 pub use Rattle.step_threads.specs.Interleavings.{first_walk, no_slots}
-use Rattle.std.specs.Prelude.{◌≡◌, ◌*◌, ◌≤◌, List, [], All, length, map, replicate}
+use Rattle.std.specs.Prelude.{◌≡◌, ◌*◌, ◌<◌, ◌≤◌, List, [], All, length, map, replicate}
 use Rattle.control_word.specs.declared.shape.Shape.{Shape}
 use Rattle.control_word.specs.Layout.{IsWithinLimits, table_size}
 use Rattle.control_word.specs.Views.{fresh}
 use Rattle.step_threads.specs.declared.programs.call.Call.{Call}
-use Rattle.step_threads.specs.declared.programs.call.Call.TheVariants.{Make, MakeThis}
+use Rattle.step_threads.specs.declared.programs.call.Call.TheVariants.{Make, MakeThis, Shelve, Unshelve}
 use Rattle.step_table.specs.declared.memory.extent.Extent.{Extent}
 use Rattle.step_threads.specs.declared.half.Half.{Half}
 use Rattle.step_threads.specs.declared.half.Half.TheVariants.{Rest}
@@ -37,10 +37,12 @@ first_sight shape parts =
       halves = map {B = Half} (λ (part : Part). Rest) parts;
     }
 
--- an object has four fields
+-- an object has four fields; a shelve and an unshelve are of so many blocks as a table may have
 abbrev pub HasFields : Call → Type 0
 HasFields (Make target fields) = length fields ≡ 4
 HasFields (MakeThis target fields) = length fields ≡ 4
+HasFields (Shelve n) = n < 65536
+HasFields (Unshelve n) = n < 65536
 HasFields _ = Unit {0}
 
 abbrev pub AllHaveFields : List Part → Type 0

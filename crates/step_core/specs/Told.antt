@@ -52,7 +52,7 @@ pub record TotalsAreTold (u : Sight) (m e : ℕ) : Type 0 where
   pub made : m ≡ made_in u.story.history
   pub ended : e ≡ ended_in u.story.history
   pub order : e ≤ m
-  pub few : 28 * m + left_to_do u.walks ≤ 13 * e + 1970176
+  pub few : 28 * m + left_to_do u.walks ≤ 13 * e + 8589807616
   pub endings : AllEndInThreads (story_state u.story) (λ d. (walk_of (scene u) d).endings)
   pub watched : IsWatched u.story u.halves
   pub tidy : (d : ℕ) → IsTidy (walk_of (scene u) d)

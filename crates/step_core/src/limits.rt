@@ -45,8 +45,8 @@ fn is_declared_if(kinds: &[Kind], asked: Option<Asked>) -> bool
     }
 }
 
-/// One to three names.
-type Names = (Asked, Option<Asked>, Option<Asked>);
+/// Three names at most.
+type Names = (Option<Asked>, Option<Asked>, Option<Asked>);
 
 fn owner(name: Name) -> Asked
     ensures { result ≡ owner_asked name }
@@ -79,14 +79,14 @@ fn through(cell: CellName) -> Option<Asked>
 
 /// Two names.
 fn two(first: Asked, second: Asked) -> Names
-    ensures { result ≡ (first, Some second, None) }
+    ensures { result ≡ (Some first, Some second, None) }
 {
-    (first, Some(second), None)
+    (Some(first), Some(second), None)
 }
 
 /// The names of a call, each with the kind that the call asks for.
 fn names_of(call: Call) -> Names
-    ensures names { names_of call ≡ result.0 ∷ asked_list result.1 ++ asked_list result.2 }
+    ensures names { names_of call ≡ (asked_list result.0 ++ asked_list result.1) ++ asked_list result.2 }
     ensures fields { HasFields call }
 {
     match call {
@@ -97,11 +97,11 @@ fn names_of(call: Call) -> Names
         | Call::Reset { name }
         | Call::Count { name }
         | Call::Read { name }
-        | Call::Place { name } => (owner(name), None, None),
+        | Call::Place { name } => (Some(owner(name)), None, None),
         Call::WeakEmpty { target: name }
         | Call::WeakReset { name }
         | Call::WeakCount { name }
-        | Call::Expired { name } => (weak(name), None, None),
+        | Call::Expired { name } => (Some(weak(name)), None, None),
         Call::Copy { target, source }
         | Call::Move { target, source }
         | Call::AliasNull { target, source }
@@ -120,20 +120,21 @@ fn names_of(call: Call) -> Names
             source,
             of,
             ..
-        } => (owner(target), Some(owner(source)), Some(owner(of))),
+        } => (Some(owner(target)), Some(owner(source)), Some(owner(of))),
         Call::Store { cell, source: name }
         | Call::Exchange { cell, name }
-        | Call::Load { target: name, cell } => (as_in(cell, name), through(cell), None),
+        | Call::Load { target: name, cell } => (Some(as_in(cell, name)), through(cell), None),
         Call::Compare {
             cell,
             expected,
             desired,
             ..
         } => (
-            as_in(cell, expected),
+            Some(as_in(cell, expected)),
             Some(as_in(cell, desired)),
             through(cell),
         ),
+        Call::Shelve { .. } | Call::Unshelve { .. } => (None, None, None),
     }
 }
 
@@ -149,7 +150,7 @@ fn is_well_named(kinds: &[Kind], call: Call) -> bool
     ensures fields { HasFields call }
 {
     let (first, second, third) = names_of(call);
-    let one = is_declared(kinds, first);
+    let one = is_declared_if(kinds, first);
     let two = is_declared_if(kinds, second);
     let three = is_declared_if(kinds, third);
     all_three(one, two, three)

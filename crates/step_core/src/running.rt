@@ -68,7 +68,7 @@ impl World {
     /// More steps than the world has left.
     fn most_steps(&self) -> usize
         ensures enough { most_steps self.now + 6 * length self.now.walks ≤ result }
-        ensures few { result ≤ 2000000 }
+        ensures few { result ≤ 8590000000 }
     {
         self.table.known();
         let living = (self.made - self.ended) as usize;
@@ -226,7 +226,7 @@ fn is_compare(act: Act) -> bool
 fn steps_left(threads: &[Thread]) -> usize
     requires within { (d : ℕ) (t : Thread) → slice_get threads.now d ≡ Some t
         → t.course.at ≤ length t.course.tasks.items }
-    requires few { sum_by steps_of threads.now ≤ 2000000 }
+    requires few { sum_by steps_of threads.now ≤ 8590000000 }
     ensures { result ≡ sum_by steps_of threads.now }
 {
     let mut left = 0;
@@ -239,7 +239,7 @@ fn steps_left(threads: &[Thread]) -> usize
 
 /// The steps that tasks have.
 fn task_steps(tasks: &[Task]) -> usize
-    requires { task_steps tasks.now ≤ 2000000 }
+    requires { task_steps tasks.now ≤ 8590000000 }
     ensures { result ≡ task_steps tasks.now }
 {
     let mut left = 0;

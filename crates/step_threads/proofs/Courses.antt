@@ -6,8 +6,7 @@ use Rattle.std.proofs.lemmas.Bool.{cond-true, cond-false, false≢true}
 use Rattle.std.proofs.lemmas.List.{drop_more}
 use Rattle.step_threads.specs.declared.programs.act.Act.{Act}
 use Rattle.step_threads.specs.declared.programs.act.Act.TheVariants.{Make, Share, Downgrade, Lock, Put, Leave, Clear, Count, Expired, Read, FromThis, Alias}
-use Rattle.step_threads.specs.declared.programs.act.Act.TheVariants.{Move, Ask}
-use Rattle.step_threads.specs.declared.programs.act.Act.TheVariants.{Offer, Swap, Exchange, Load, Compare, Drop}
+use Rattle.step_threads.specs.declared.programs.act.Act.TheVariants.{Move, Ask, Offer, Swap, Exchange, Load, Compare, Drop, OnShelf}
 use Rattle.step_threads.specs.declared.programs.act.Task.{Task}
 use Rattle.step_threads.specs.declared.course.Course.{Course}
 use Rattle.step_threads.specs.declared.ending.Ending.{Ending}
@@ -65,6 +64,7 @@ idle_taken (Exchange k c) = refl
 idle_taken (Load c) = refl
 idle_taken (Compare k c weak) = refl
 idle_taken Drop = refl
+idle_taken (OnShelf x) = refl
 
 taken_either : (b : Bool) (x y : Walk) → x.taken ≡ false → y.taken ≡ false → (cond b x y).taken ≡ false
 taken_either true x y e f = e
@@ -166,8 +166,7 @@ put_ready k slots false es ts lt below free owes r = record { some = lt; free = 
 
 -- what is in hand, and goes nowhere, is to be dropped
 swap_ready : (slots : Slots) (taken : Bool) (es : List Ending) (ts : List Task) → 1 < length slots → (taken ≡ false → IsFree slots es)
-    → DropsInTime ts
-    → TasksMayCome (other slots) false ts → IsReady (cond taken (placed (other slots) slots) slots) false es ts
+    → DropsInTime ts → TasksMayCome (other slots) false ts → IsReady (cond taken (placed (other slots) slots) slots) false es ts
 swap_ready slots true es ts lt free drops r = placed_ready (other slots) slots es ts lt r (inr drops)
 swap_ready slots false es ts lt free drops r = record { some = lt; free = free; owes = inr drops; ready = r }
 
@@ -207,6 +206,7 @@ weaker n (Exchange k c) b = (b.0, b.1, refl)
 weaker n (Load c) b = (b.0, refl)
 weaker n (Compare k c weak) b = b
 weaker n Drop b = refl
+weaker n (OnShelf x) b = tt
 
 ready_more : (n : ℕ) (act : Act) (ts : List Task) → (TasksMayCome n true ts → TasksMayCome n false ts) → TasksMayCome n (taken_after act true) ts
     → TasksMayCome n (taken_after act false) ts
@@ -230,6 +230,7 @@ ready_more n (Exchange k c) ts f r = f r
 ready_more n (Load c) ts f r = r
 ready_more n (Compare k c weak) ts f r = r
 ready_more n Drop ts f r = f r
+ready_more n (OnShelf x) ts f r = f r
 
 -- what is ready for a value in hand is ready for none
 pub ready_any : (n : ℕ) (ts : List Task) → TasksMayCome n true ts → TasksMayCome n false ts
@@ -261,6 +262,7 @@ ready_past (Exchange k c) slots taken es ts i lt free owes b f r = absurd (false
 ready_past (Load c) slots taken es ts i lt free owes b f r = absurd (false≢true i)
 ready_past (Compare k c weak) slots taken es ts i lt free owes b f r = swap_ready slots taken es ts lt free f (ready_any (other slots) ts r)
 ready_past Drop slots taken es ts i lt free owes b f r = drop_ready slots taken es ts lt free r
+ready_past (OnShelf x) slots taken es ts i lt free owes b f r = absurd (false≢true i)
 
 -- what the next act may rely on, and what is left to do after it
 pub ready_head : (c : Course) → c.at < length c.tasks.items → CourseReady c
@@ -289,8 +291,7 @@ passed_ready a b lt e p r =
     let taken = taken_idle (task_at a).act a.taken in
     let es : b.endings.list ≡ a.endings.list = ap (λ (x : Stack). x.list) p.endings in
     subst (λ (z : Slots). IsReady z b.taken b.endings.list (todo b)) (sym p.slots)
-    (subst (λ (z : Bool). IsReady slots z b.endings.list (todo b)) (sym p.taken)
-    (subst (λ (z : List Ending). IsReady slots taken z (todo b)) (sym es)
+    (subst (λ (z : Bool). IsReady slots z b.endings.list (todo b)) (sym p.taken) (subst (λ (z : List Ending). IsReady slots taken z (todo b)) (sym es)
     (subst (λ (z : List Task). IsReady slots taken a.endings.list z) (sym (passed_todo a b p)) k)))
 
 pub passed_within : (a b : Course) → a.at < length a.tasks.items → IsPassed a b → b.at ≤ length b.tasks.items

@@ -24,3 +24,5 @@ pub mod LookSteps
 pub mod LoadFits
 pub mod RefillFits
 pub mod holding
+pub mod ShelfSteps
+pub mod ShelfWords

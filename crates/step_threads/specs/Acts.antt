@@ -1,11 +1,12 @@
 -- What statements do, act by act. All of it is own.
-use Rattle.std.specs.Prelude.{ℕ, zero, suc, ◌+◌, true, false, List, [], ◌∷◌, ◌++◌, Some, None}
+use Rattle.std.specs.Prelude.{ℕ, zero, suc, ◌+◌, true, false, List, [], ◌∷◌, ◌++◌, replicate}
+use Rattle.std.specs.Prelude.{Some, None}
 use Rattle.control_word.specs.declared.model.handle.Kind.TheVariants as handle
 use Rattle.step_threads.specs.declared.programs.act.Act.{Act}
 use Rattle.step_threads.specs.declared.programs.act.Act.TheVariants as act
 use Rattle.step_threads.specs.declared.programs.act.Question.TheVariants as question
 use Rattle.step_threads.specs.declared.programs.statement.Tail.{Tail}
-use Rattle.step_threads.specs.declared.programs.statement.Tail.TheVariants.{Nothing, Named, Into, IntoAs}
+use Rattle.step_threads.specs.declared.programs.statement.Tail.TheVariants.{Nothing, Named, Into, IntoAs, Times}
 use Rattle.step_threads.specs.declared.programs.act.Task.{Task}
 use Rattle.step_threads.specs.declared.programs.call.Call.{Call}
 use Rattle.step_threads.specs.declared.programs.call.Call.TheVariants.{Make, Empty, Reset, Copy, Count}
@@ -14,6 +15,8 @@ use Rattle.step_threads.specs.declared.programs.call.Call.TheVariants.{WeakThis}
 use Rattle.step_threads.specs.declared.programs.call.Call.TheVariants.{Read, Place, Same, Before}
 use Rattle.step_threads.specs.declared.programs.call.Call.TheVariants.{Store, Exchange, Load, Compare, Weak, WeakCopy}
 use Rattle.step_threads.specs.declared.programs.call.Call.TheVariants.{WeakEmpty}
+use Rattle.step_threads.specs.declared.programs.call.Call.TheVariants.{Shelve, Unshelve}
+use Rattle.step_threads.specs.declared.programs.act.ShelfAct.TheVariants as shelf
 use Rattle.step_threads.specs.declared.programs.call.Call.TheVariants.{WeakReset, Lock, Upgrade, WeakCount, Expired}
 
 -- the acts of a statement, in order
@@ -50,13 +53,17 @@ acts (Exchange cell name) = act.Exchange name.0 cell ∷ []
 acts (Load target cell) = act.Load cell ∷ act.Put target.0 ∷ []
 acts (Compare cell expected desired weak) =
     act.Offer desired.0 cell ∷ act.Compare expected.0 cell weak ∷ act.Put expected.0 ∷ act.Drop ∷ []
+acts (Shelve n) = replicate n (act.OnShelf shelf.Shelve)
+acts (Unshelve n) = replicate n (act.OnShelf shelf.Unshelve)
 
--- how a call goes on after its first act: what was taken goes to its name or into a cell, where there is one
-abbrev pub tail : Tail → List Act
-tail Nothing = []
-tail (Named name) = act.Put name.0 ∷ []
-tail (Into cell) = act.Swap cell ∷ act.Drop ∷ []
-tail (IntoAs cell name weak) = act.Compare name.0 cell weak ∷ act.Put name.0 ∷ act.Drop ∷ []
+-- how a call goes on from its first act: what was taken goes to its name or into a cell, where there is one; or the
+-- act is made so often
+abbrev pub with_tail : Act → Tail → List Act
+with_tail a Nothing = a ∷ []
+with_tail a (Named name) = a ∷ act.Put name.0 ∷ []
+with_tail a (Into cell) = a ∷ act.Swap cell ∷ act.Drop ∷ []
+with_tail a (IntoAs cell name weak) = a ∷ act.Compare name.0 cell weak ∷ act.Put name.0 ∷ act.Drop ∷ []
+with_tail a (Times n) = replicate n a
 
 abbrev pub numbered_tasks : ℕ → List Act → List Task
 numbered_tasks k [] = []

@@ -10,8 +10,7 @@ use Rattle.step_table.specs.declared.memory.form.Form.{Form}
 use Rattle.step_threads.specs.declared.programs.act.Act.TheVariants.{Make, Share, Downgrade, Lock, Put, Leave, Clear}
 use Rattle.step_threads.specs.declared.programs.act.Act.TheVariants.{Count}
 use Rattle.step_threads.specs.declared.programs.act.Act.TheVariants.{Expired, Read, FromThis, Alias, Move, Ask, Offer}
-use Rattle.step_threads.specs.declared.programs.act.Act.TheVariants.{Swap}
-use Rattle.step_threads.specs.declared.programs.act.Act.TheVariants.{Exchange, Load, Compare, Drop}
+use Rattle.step_threads.specs.declared.programs.act.Act.TheVariants.{Swap, Exchange, Load, Compare, Drop, OnShelf}
 use Rattle.step_threads.specs.declared.programs.act.Question.{Question}
 use Rattle.step_threads.specs.declared.programs.act.Question.TheVariants as question
 use Rattle.step_threads.specs.declared.programs.act.Task.{Task}
@@ -192,6 +191,7 @@ MayComeNext n taken (Exchange k c) = (k < n) × IsNamed n c × (taken ≡ false)
 MayComeNext n taken (Load c) = IsNamed n c × (taken ≡ false)
 MayComeNext n taken (Compare k c weak) = (k < n) × IsNamed n c
 MayComeNext n taken Drop = taken ≡ false
+MayComeNext n taken (OnShelf x) = Unit {0}
 
 abbrev pub taken_after : Act → Bool → Bool
 taken_after (Make form) taken = true

@@ -27,7 +27,7 @@ use Rattle.step_threads.specs.declared.programs.act.Act.TheVariants.{Make, Share
 use Rattle.step_threads.specs.declared.programs.act.Act.TheVariants.{Count}
 use Rattle.step_threads.specs.declared.programs.act.Act.TheVariants.{Expired, Read, FromThis, Alias, Move, Ask, Offer}
 use Rattle.step_threads.specs.declared.programs.act.Act.TheVariants.{Swap}
-use Rattle.step_threads.specs.declared.programs.act.Act.TheVariants.{Exchange, Load, Compare, Drop}
+use Rattle.step_threads.specs.declared.programs.act.Act.TheVariants.{Exchange, Load, Compare, Drop, OnShelf}
 use Rattle.step_threads.specs.declared.programs.act.Question.{Question}
 use Rattle.step_threads.specs.declared.programs.act.Question.TheVariants as question
 use Rattle.step_threads.specs.declared.programs.act.Task.{Task}
@@ -38,6 +38,7 @@ use Rattle.step_threads.specs.Courses.{Walk, cell_of_name, hand, is_there, offer
 use Rattle.step_threads.specs.Endings.{staged}
 use Rattle.step_threads.specs.Rows.{Reply, Plain, Found, Got, Told, Came, Compared, Left, walk_after_act, may_go, row}
 use Rattle.step_threads.specs.Rows.{said_by_row}
+use Rattle.step_threads.specs.Shelving.{moved, shelf_block}
 use Rattle.step_threads.specs.Scenes.{remains_as}
 use Rattle.step_threads.specs.Steps.{silent}
 
@@ -161,6 +162,7 @@ module _ {V : Type 0} where
   IsMakeEvent worth s d l (Exchange k c) (Came x) e = Where (may_go l c k) (IsSwapEvent s l c k x e) (e ≡ None)
   IsMakeEvent worth s d l (Load c) (Came x) e = Where (is_there l c) (IsLoadEvent s l c x e) (e ≡ None)
   IsMakeEvent worth s d l (Compare k c weak) (Compared swaps x) e = IsCompareEvent s l c k weak swaps x e
+  IsMakeEvent worth s d l (OnShelf x) (Found o) e = (o ≡ shelf_block s d x) × (e ≡ option_map (moved x) o)
   IsMakeEvent worth s d l _ _ e = ⊥
 
   -- an act is made, with some reply: what is done, what it says, and where the thread is then

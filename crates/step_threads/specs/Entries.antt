@@ -1,15 +1,16 @@
 -- What the acts of threads add to the history. All of it is own but the events, which name their sections.
-use Rattle.std.specs.Prelude.{ℕ, ◌==◌, min, Bool, cond, List, [], ◌∷◌, Option, Some, None, option_map}
+pub use Rattle.step_threads.specs.Shelving.{least, lesser}
+use Rattle.std.specs.Prelude.{ℕ, Bool, cond, List, ◌∷◌, Option, Some, None, option_map}
 use Rattle.control_word.specs.declared.model.event.Entry.{Entry}
 use Rattle.control_word.specs.Handles.{equivalent}
 use Rattle.control_word.specs.Histories.{entry, leads}
-use Rattle.control_word.specs.State.{Opening, State, Stored}
+use Rattle.control_word.specs.State.{Opening, State}
 use Rattle.step_threads.specs.declared.programs.act.Act.{Act}
 use Rattle.step_threads.specs.declared.programs.act.Act.TheVariants.{Make, Share, Downgrade, Lock, Put, Leave, Clear}
 use Rattle.step_threads.specs.declared.programs.act.Act.TheVariants.{Count}
 use Rattle.step_threads.specs.declared.programs.act.Act.TheVariants.{Expired, Read, FromThis, Alias, Move, Ask, Offer}
 use Rattle.step_threads.specs.declared.programs.act.Act.TheVariants.{Swap}
-use Rattle.step_threads.specs.declared.programs.act.Act.TheVariants.{Exchange, Load, Compare, Drop}
+use Rattle.step_threads.specs.declared.programs.act.Act.TheVariants.{Exchange, Load, Compare, Drop, OnShelf}
 use Rattle.step_table.specs.declared.memory.form.Form.{Form}
 use Rattle.step_threads.specs.declared.programs.call.CellName.{CellName}
 use Rattle.step_table.specs.declared.slots.holdings.Pointer.{Pointer}
@@ -21,19 +22,11 @@ use Rattle.step_table.specs.Deeds.{Telling, alias, aliased, downgrade, give, is_
 use Rattle.step_table.specs.Deeds.{tell_count, tell_expired}
 use Rattle.step_table.specs.Holdings.{Slots, inside, owner_slot, place_in, slot_pointer, slot_value}
 use Rattle.step_table.specs.Stories.{Nothing, event_added, event_of}
+use Rattle.step_threads.specs.Shelving.{moves, shelf_block}
 use Rattle.step_threads.specs.Courses.{cell_of_name, going, hand, is_there, locked_pointer, offered, on_going, other}
 
 abbrev pub History : Type 0
 History = List (Entry Nothing)
-
--- the least block in a desk's store
-abbrev pub lesser : ℕ → Option ℕ → Option ℕ
-lesser b None = Some b
-lesser b (Some c) = Some (min b c)
-
-abbrev pub least : ℕ → List Stored → Option ℕ
-least d [] = None
-least d (x ∷ xs) = cond (x.desk == d) (lesser x.block (least d xs)) (least d xs)
 
 -- the history after a deed of desk d, if any
 abbrev pub does : Opening → ℕ → History → Option Deed → History
@@ -96,3 +89,4 @@ acted tell z d slots h (Exchange k c) = on_going (history_swaps z d slots h) h (
 acted tell z d slots h (Load c) = cond (is_there slots c) (loads z d slots h c) h
 acted tell z d slots h (Compare k c weak) = history_compares z d slots h k c weak
 acted tell z d slots h Drop = does z d h (option_map (leave (leads z h)) (slot_pointer slots (other slots)))
+acted tell z d slots h (OnShelf x) = does z d h (option_map (moves x) (shelf_block (leads z h) d x))

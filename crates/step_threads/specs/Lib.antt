@@ -10,6 +10,7 @@ pub mod Passing
 pub mod Programs
 pub mod Rows
 pub mod Scenes
+pub mod Shelving
 pub mod Steps
 pub mod Stocks
 pub mod Threads

@@ -12,6 +12,7 @@ use Rattle.step_threads.specs.declared.programs.call.Call.TheVariants.{Read, Pla
 use Rattle.step_threads.specs.declared.programs.call.Call.TheVariants.{Store, Exchange, Load, Compare, WeakCopy}
 use Rattle.step_threads.specs.declared.programs.call.Call.TheVariants.{WeakEmpty}
 use Rattle.step_threads.specs.declared.programs.call.Call.TheVariants.{WeakReset, Lock, Upgrade, WeakCount, Expired}
+use Rattle.step_threads.specs.declared.programs.call.Call.TheVariants.{Shelve, Unshelve}
 use Rattle.step_threads.specs.declared.programs.call.Call.TheVariants as call
 use Rattle.step_threads.specs.declared.programs.call.CellName.{CellName}
 use Rattle.step_threads.specs.declared.programs.call.CellName.TheVariants as cell
@@ -95,6 +96,8 @@ names_of (Store cell source) = as_in cell source ∷ through cell
 names_of (Exchange cell name) = as_in cell name ∷ through cell
 names_of (Load target cell) = as_in cell target ∷ through cell
 names_of (Compare cell expected desired weak) = as_in cell expected ∷ as_in cell desired ∷ through cell
+names_of (Shelve n) = []
+names_of (Unshelve n) = []
 
 -- the cells of a call
 abbrev pub cells_of : Call → List CellName

@@ -14,7 +14,7 @@ use Rattle.step_threads.specs.declared.programs.act.Act.TheVariants.{Make, Share
 use Rattle.step_threads.specs.declared.programs.act.Act.TheVariants.{Count}
 use Rattle.step_threads.specs.declared.programs.act.Act.TheVariants.{Expired, Read, FromThis, Alias, Move, Ask, Offer}
 use Rattle.step_threads.specs.declared.programs.act.Act.TheVariants.{Swap}
-use Rattle.step_threads.specs.declared.programs.act.Act.TheVariants.{Exchange, Load, Compare, Drop}
+use Rattle.step_threads.specs.declared.programs.act.Act.TheVariants.{Exchange, Load, Compare, Drop, OnShelf}
 use Rattle.step_threads.specs.declared.programs.act.Question.{Question}
 use Rattle.step_threads.specs.declared.programs.act.Question.TheVariants as question
 use Rattle.step_threads.specs.declared.programs.act.Task.{Task}
@@ -118,6 +118,7 @@ hands s d slots taken (Load c) =
     cond (is_there slots c) (slice_set slots (hand slots) (came s slots c), true) (slots, taken)
 hands s d slots taken (Compare k c weak) = compared slots (came s slots c) (is_expected s slots k c)
 hands s d slots taken Drop = (slice_set slots (other slots) plain, taken)
+hands s d slots taken (OnShelf x) = (slots, taken)
 
 -- the pointer that leaves by an act
 abbrev pub leaving_pointer : Slots → Act → Option Pointer

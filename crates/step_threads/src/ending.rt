@@ -90,7 +90,7 @@ impl Endings {
 
     /// The steps that they have left, but for what comes out of members.
     pub fn steps_left(&self) -> usize
-        requires { sum_by ending_steps self.now.list ≤ 2000000 }
+        requires { sum_by ending_steps self.now.list ≤ 8590000000 }
         ensures { result ≡ sum_by ending_steps self.now.list }
     {
         ending_steps(self.items.as_slice())
@@ -99,7 +99,7 @@ impl Endings {
 
 /// The steps that endings have left.
 fn ending_steps(endings: &[Ending]) -> usize
-    requires { sum_by ending_steps endings.now ≤ 2000000 }
+    requires { sum_by ending_steps endings.now ≤ 8590000000 }
     ensures { result ≡ sum_by ending_steps endings.now }
 {
     let mut left = 0;

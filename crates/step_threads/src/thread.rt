@@ -106,6 +106,7 @@ impl Thread {
             Act::Load { cell } => self.load(desk, table, cell),
             Act::Compare { name, cell, weak } => self.compare(desk, table, name, cell, weak),
             Act::Drop => self.drop_other(desk, table),
+            Act::OnShelf { act } => self.on_shelf(desk, table, act),
         }
     }
 

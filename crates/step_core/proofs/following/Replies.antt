@@ -1,4 +1,5 @@
 -- What acts make and leave is what their replies say.
+use Rattle.step_threads.specs.Shelving.{moved, shelf_block}
 use Rattle.std.proofs.Common.{◌≡◌, ℕ, Bool, true, false, cond, List, ◌∷◌, refl, sym, ap}
 use Rattle.std.specs.Prelude.{Option, Some, None, option_map, slice_set}
 use Rattle.control_word.specs.declared.model.event.Event.{Event}
@@ -10,27 +11,27 @@ use Rattle.control_word.specs.State.{Opening, State}
 use Rattle.step_table.specs.declared.memory.form.Form.{Form}
 use Rattle.step_table.specs.declared.slots.holdings.Pointer.{Pointer}
 use Rattle.step_table.specs.declared.memory.past.Deed.{Deed}
-use Rattle.step_table.specs.Contents.{compare_of, held_in, load_of, swap_of, slots_swapped}
+use Rattle.step_table.specs.Contents.{compare_of, held_in, load_of, slots_swapped}
 use Rattle.step_table.specs.Deeds.{Telling, alias, aliased, downgrade, field_of, give, is_expired, is_last, leave, lock, on, read_deed, share, tell_count}
 use Rattle.step_table.specs.Deeds.{tell_expired, this_as}
 use Rattle.step_table.specs.Holdings.{Slots, inside, is_full, owner_slot, place_in, plain, slot_pointer, slot_value, weak_slot}
 use Rattle.step_table.specs.Stories.{Nothing, event_added, event_of}
 use Rattle.step_threads.specs.declared.programs.act.Act.{Act}
 use Rattle.step_threads.specs.declared.programs.act.Act.TheVariants.{Make, Share, Downgrade, Lock, Put, Leave, Clear, Count, Expired, Read, FromThis, Alias}
-use Rattle.step_threads.specs.declared.programs.act.Act.TheVariants.{Move, Ask}
-use Rattle.step_threads.specs.declared.programs.act.Act.TheVariants.{Offer, Swap, Exchange, Load, Compare, Drop}
+use Rattle.step_threads.specs.declared.programs.act.Act.TheVariants.{Move, Ask, Offer, Swap, Exchange, Load, Compare, Drop, OnShelf}
 use Rattle.step_threads.specs.declared.programs.act.Task.{Task}
 use Rattle.step_threads.specs.declared.programs.call.CellName.{CellName}
 use Rattle.step_threads.specs.declared.ending.Ending.{Ending}
 use Rattle.step_threads.specs.declared.said.Answer.{Answer}
-use Rattle.step_threads.specs.Courses.{Walk, cell_of_name, hand, is_there, offered, on_going, other, placed, walk_settled}
-use Rattle.step_threads.specs.Doings.{IsLoadEvent, IsMakeEvent, IsSwapEvent, Where, answers_order, copies, copy, put_on}
-use Rattle.step_threads.specs.Entries.{History, acted, does, giving, is_expected, least, loads, make_deed, history_swaps}
+use Rattle.step_threads.specs.Courses.{Walk, cell_of_name, hand, is_there, offered, other, placed, walk_settled}
+use Rattle.step_threads.specs.Doings.{IsMakeEvent, answers_order, copies, copy, put_on}
+use Rattle.step_threads.specs.Entries.{History, acted, does, giving, is_expected, least, make_deed}
 use Rattle.step_threads.specs.Rows.{Reply, Plain, Found, Got, Told, Came, Compared, Left, walk_after_act, may_go, row, said_by_row}
 use Rattle.step_threads.specs.Scenes.{came, ended_by, found, said_of, taking, went}
 use Rattle.step_core.specs.Following.{no_worth}
 use Rattle.step_core.proofs.following.Parts.{asks, counting, expiring, gave, gives, leave_ends, leave_makes, leaving_event, left, lock_found, lock_makes}
 use Rattle.step_core.proofs.following.Parts.{locking, none_stored, on_pointer, read_makes, read_says, reading, shared, this_answers, this_found, this_makes}
+use Rattle.step_core.proofs.following.Histories.{load_history, load_makes, shelf_history, swap_event, swap_history, swap_makes, swap_slots}
 
 -- what an act of statement n makes, with these tasks after it, by a reply
 pub record Replied (tell : Telling) (z : Opening) (d : ℕ) (h : History) (n : ℕ) (w : Walk) (ts : List Task) (a : Act) : Type 0 where
@@ -69,34 +70,6 @@ module _ (tell : Telling) (z : Opening) (d : ℕ) (h : History) (n : ℕ) (w : W
       → IsMakeEvent no_worth now d w.slots (Make form) (Found o) (option_map (made_of form) o)
   make_makes form None e = (none_stored d now.stores e, refl)
   make_makes form (Some b) e = refl
-
-  abbrev swap_event : CellName → ℕ → Event Nothing
-  swap_event c i = swap_of now (cell_of_name now w.slots c) (slot_value w.slots i)
-
-  pub swap_history : (c : CellName) (i : ℕ) (b : Bool)
-      → on_going (history_swaps z d w.slots h) h (cond b (Some (c, i)) None) ≡ put_on d (cond b (Some (swap_event c i)) None) h
-  swap_history c i true = refl
-  swap_history c i false = refl
-
-  pub swap_makes : (c : CellName) (i : ℕ) (b : Bool)
-      → let e = cond b (Some (swap_event c i)) None in Where b (IsSwapEvent now w.slots c i (came now w.slots c) e) (e ≡ None)
-  swap_makes c i true = (held_in now (cell_of_name now w.slots c), refl, refl)
-  swap_makes c i false = refl
-
-  pub swap_slots : (c : CellName) (i : ℕ) (f : CellName → ℕ → Slots) (b : Bool)
-      → on_going f w.slots (cond b (Some (c, i)) None) ≡ cond b (f c i) w.slots
-  swap_slots c i f true = refl
-  swap_slots c i f false = refl
-
-  pub load_history : (c : CellName) (b : Bool)
-      → cond b (loads z d w.slots h c) h ≡ put_on d (cond b (Some (load_of now (cell_of_name now w.slots c))) None) h
-  load_history c true = refl
-  load_history c false = refl
-
-  pub load_makes : (c : CellName) (b : Bool)
-      → let e = cond b (Some (load_of now (cell_of_name now w.slots c))) None in Where b (IsLoadEvent now w.slots c (came now w.slots c) e) (e ≡ None)
-  load_makes c true = (held_in now (cell_of_name now w.slots c), refl, refl)
-  load_makes c false = refl
 
   -- each act
   unfoldable pub replied : (a : Act) → Replied tell z d h n w ts a
@@ -159,6 +132,16 @@ module _ (tell : Telling) (z : Opening) (d : ℕ) (h : History) (n : ℕ) (w : W
         history = left_at o;
         says = refl;
         goes = ap (λ (es : List Ending). walk_settled (slice_set w.slots i plain) w.taken es ts) (leave_ends now n w.endings o);
+      }
+  replied (OnShelf x) =
+      let o = shelf_block now d x in
+      record {
+        reply = Found o;
+        event = option_map (moved x) o;
+        makes = (refl, refl);
+        history = shelf_history z d h w.slots x o;
+        says = refl;
+        goes = refl;
       }
   replied (Count i) =
       let o = slot_pointer w.slots i in
@@ -260,30 +243,30 @@ module _ (tell : Telling) (z : Opening) (d : ℕ) (h : History) (n : ℕ) (w : W
       let f = λ (x : CellName) (k : ℕ). slots_swapped k (other w.slots) w.slots (came now w.slots x) in
       record {
         reply = Came (came now w.slots c);
-        event = cond b (Some (swap_event c i)) None;
-        makes = swap_makes c i b;
-        history = swap_history c i b;
+        event = cond b (Some (swap_event z d h w.slots c i)) None;
+        makes = swap_makes z d h w.slots c i b;
+        history = swap_history z d h w.slots c i b;
         says = refl;
-        goes = ap (λ (l : Slots). walk_settled l false w.endings ts) (swap_slots c i f b);
+        goes = ap (λ (l : Slots). walk_settled l false w.endings ts) (swap_slots z d h w.slots c i f b);
       }
   replied (Exchange i c) =
       let b = may_go w.slots c i in
       let f = λ (x : CellName) (k : ℕ). slice_set w.slots k (came now w.slots x) in
       record {
         reply = Came (came now w.slots c);
-        event = cond b (Some (swap_event c i)) None;
-        makes = swap_makes c i b;
-        history = swap_history c i b;
+        event = cond b (Some (swap_event z d h w.slots c i)) None;
+        makes = swap_makes z d h w.slots c i b;
+        history = swap_history z d h w.slots c i b;
         says = refl;
-        goes = ap (λ (l : Slots). walk_settled l w.taken w.endings ts) (swap_slots c i f b);
+        goes = ap (λ (l : Slots). walk_settled l w.taken w.endings ts) (swap_slots z d h w.slots c i f b);
       }
   replied (Load c) =
       let b = is_there w.slots c in
       record {
         reply = Came (came now w.slots c);
         event = cond b (Some (load_of now (cell_of_name now w.slots c))) None;
-        makes = load_makes c b;
-        history = load_history c b;
+        makes = load_makes z d h w.slots c b;
+        history = load_history z d h w.slots c b;
         says = refl;
         goes = refl;
       }

@@ -21,7 +21,7 @@ use Rattle.step_table.specs.Stories.{Story, story_state}
 use Rattle.step_threads.specs.declared.programs.act.Act.{Act}
 use Rattle.step_threads.specs.declared.programs.act.Act.TheVariants.{Make, Share, Downgrade, Lock, Put, Leave, Clear, Count, Expired, Read, FromThis, Alias}
 use Rattle.step_threads.specs.declared.programs.act.Act.TheVariants.{Move, Ask}
-use Rattle.step_threads.specs.declared.programs.act.Act.TheVariants.{Offer, Swap, Exchange, Load, Compare, Drop}
+use Rattle.step_threads.specs.declared.programs.act.Act.TheVariants.{Offer, Swap, Exchange, Load, Compare, Drop, OnShelf}
 use Rattle.step_threads.specs.declared.programs.act.Task.{Task}
 use Rattle.step_threads.specs.declared.programs.call.CellName.{CellName}
 use Rattle.step_threads.specs.declared.half.Half.TheVariants.{Rest, Giving, Refill, Saw}
@@ -102,6 +102,7 @@ module _ (v : Story) (d : ℕ) (w : Walk) (k : ℕ) (ts : List Task) where
   first_said (Ask q) = λ t. absurd (false≢true t)
   first_said (Offer i c) = λ t. absurd (false≢true t)
   first_said Drop = λ t. absurd (false≢true t)
+  first_said (OnShelf x) = λ t. absurd (false≢true t)
 
 -- nor does one that turns a fund or puts funds back
 pub refills_said : (v : Story) (w : Walk) (stage : Stage) (c : Cell) (x : CellWord) (k : ℕ) (b : Block)

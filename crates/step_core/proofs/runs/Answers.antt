@@ -1,4 +1,7 @@
 -- What a step answers that is a lock.
+use Rattle.step_threads.specs.declared.programs.act.ShelfAct.{ShelfAct}
+use Rattle.step_threads.specs.declared.programs.act.ShelfAct.TheVariants.{Shelve, Unshelve}
+use Rattle.step_threads.specs.Shelving.{moves, shelf_block}
 use Rattle.std.proofs.Common.{◌≡◌, ℕ, ◌==◌, Bool, true, false, cond, List, [], ◌∷◌, get_or, refl, sym, ap, subst, ◌∙◌}
 use Rattle.std.specs.Prelude.{Option, Some, None, not, option_map}
 use Rattle.std.proofs.lemmas.Bool.{cond_both}
@@ -9,7 +12,7 @@ use Rattle.control_word.specs.State.{State, weak}
 use Rattle.step_threads.specs.declared.programs.act.Act.{Act}
 use Rattle.step_threads.specs.declared.programs.act.Act.TheVariants.{Make, Share, Downgrade, Lock, Put, Leave, Clear, Count, Expired, Read, FromThis, Alias}
 use Rattle.step_threads.specs.declared.programs.act.Act.TheVariants.{Move, Ask}
-use Rattle.step_threads.specs.declared.programs.act.Act.TheVariants.{Offer, Swap, Exchange, Load, Compare, Drop}
+use Rattle.step_threads.specs.declared.programs.act.Act.TheVariants.{Offer, Swap, Exchange, Load, Compare, Drop, OnShelf}
 use Rattle.step_threads.specs.declared.programs.act.Task.{Task}
 use Rattle.step_threads.specs.declared.half.Half.{Half}
 use Rattle.step_threads.specs.declared.half.Half.TheVariants.{Rest, Making, Locking, Giving, Brought, Saw, Matched, Refill, Returning, Clearing}
@@ -67,6 +70,12 @@ module _ (l : List Task) where
   leave_plain : (k : Kind) (x : Pointer) (last : Bool) → lock_of (Some (leave_as k x last)) ≡ None
   leave_plain Owner x last = refl
   leave_plain Weak x last = refl
+
+  shelf_tells : (v : Story) (d k : ℕ) (w : Walk) (ts : List Task) (x : ShelfAct) (o : Option ℕ)
+      → Tells l (Some (step_of_act v d w k ts (OnShelf x) (option_map (moves x) o) Rest))
+  shelf_tells v d k w ts x None = tt
+  shelf_tells v d k w ts Shelve (Some b) = tt
+  shelf_tells v d k w ts Unshelve (Some b) = tt
 
   begin_tells : (w : Walk) (k : ℕ) (ts : List Task) (o : Option ℕ) → Tells l (Some (begins w k ts o))
   begin_tells w k ts None = tt
@@ -188,6 +197,7 @@ module _ (l : List Task) where
       (compared_in w.slots (comparing w.slots i weak)) (seen v (cell_of_name (story_state v) w.slots c))
   first_tells v d k w ts Drop next =
       plain (leave (story_state v)) _ (λ x. leave_plain x.kind x (is_last (story_state v) x)) (slot_pointer w.slots (other w.slots))
+  first_tells v d k w ts (OnShelf x) next = shelf_tells v d k w ts x (shelf_block (story_state v) d x)
   first_tells v d k w ts (Lock i must) next =
       lock_tells v d k i w ts must (locked_pointer w.slots (Lock i must)) refl (next i must refl)
 

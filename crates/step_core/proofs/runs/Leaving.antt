@@ -1,4 +1,7 @@
 -- What the steps of a thread leave of objects that end.
+use Rattle.step_threads.specs.declared.programs.act.ShelfAct.{ShelfAct}
+use Rattle.step_threads.specs.declared.programs.act.ShelfAct.TheVariants.{Shelve, Unshelve}
+use Rattle.step_threads.specs.Shelving.{moves, shelf_block}
 use Rattle.std.proofs.Common.{◌≡◌, ℕ, ◌==◌, Bool, true, false, cond, List, [], ◌∷◌, get_or, refl}
 use Rattle.std.specs.Prelude.{Option, Some, None, option_map}
 use Rattle.std.proofs.lemmas.Bool.{cond_both}
@@ -10,7 +13,7 @@ use Rattle.control_word.specs.State.{weak}
 use Rattle.step_threads.specs.declared.programs.act.Act.{Act}
 use Rattle.step_threads.specs.declared.programs.act.Act.TheVariants.{Make, Share, Downgrade, Lock, Put, Leave, Clear, Count, Expired, Read, FromThis, Alias}
 use Rattle.step_threads.specs.declared.programs.act.Act.TheVariants.{Move, Ask}
-use Rattle.step_threads.specs.declared.programs.act.Act.TheVariants.{Offer, Swap, Exchange, Load, Compare, Drop}
+use Rattle.step_threads.specs.declared.programs.act.Act.TheVariants.{Offer, Swap, Exchange, Load, Compare, Drop, OnShelf}
 use Rattle.step_threads.specs.declared.programs.act.Task.{Task}
 use Rattle.step_threads.specs.declared.half.Half.{Half}
 use Rattle.step_threads.specs.declared.half.Half.TheVariants.{Rest, Making, Locking, Giving, Brought, Saw, Matched, Refill, Returning, Clearing}
@@ -86,6 +89,11 @@ read_tells : (v : Story) (o : Option Pointer) → None ≡ left_by v (option_map
 read_tells v None = refl
 read_tells v (Some x) = refl
 
+shelf_tells : (v : Story) (x : ShelfAct) (o : Option ℕ) → None ≡ left_by v (option_map (moves x) o)
+shelf_tells v x None = refl
+shelf_tells v Shelve (Some b) = refl
+shelf_tells v Unshelve (Some b) = refl
+
 -- an object that is asked for a pointer, or gives one, goes on
 ask_tells : (v : Story) (d k i : ℕ) (q : Kind) (w : Walk) (ts : List Task) (o : Option Pointer)
     → Tells v (Some (on (asks v d w k ts i q) (step_of_act v d w k ts (FromThis i q) None Rest) o))
@@ -133,6 +141,7 @@ try_tells v d k word w ts (Exchange i c) (Some x) e = cc
 try_tells v d k word w ts (Load c) (Some x) e = cc
 try_tells v d k word w ts (Compare i c weak) (Some x) e = cc
 try_tells v d k word w ts Drop (Some x) e = cc
+try_tells v d k word w ts (OnShelf y) (Some x) e = cc
 
 tried_tells : (v : Story) (d word : ℕ) (w : Walk) (ts : List Task) → Tells v (tried v d w word ts)
 tried_tells v d word w [] = tt
@@ -204,6 +213,7 @@ first_tells v d k w ts (Compare i c weak) =
     (each_cell v d w k ts (Compare i c weak) (cell_of_name (story_state v) w.slots c) refl) (compared_in w.slots (comparing w.slots i weak))
     (seen v (cell_of_name (story_state v) w.slots c))
 first_tells v d k w ts Drop = leave_tells v (slot_pointer w.slots (other w.slots))
+first_tells v d k w ts (OnShelf x) = shelf_tells v x (shelf_block (story_state v) d x)
 
 task_tells : (v : Story) (d : ℕ) (w : Walk) (ts : List Task) → Tells v (begun v d w ts)
 task_tells v d w [] = tt

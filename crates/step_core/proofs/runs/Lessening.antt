@@ -1,4 +1,5 @@
 -- How many steps a thread has left, step by step.
+use Rattle.step_threads.specs.Shelving.{moves, shelf_block}
 use Rattle.std.proofs.Common.{◌≡◌, ℕ, ◌+◌, ◌<◌, ◌≤◌, ◌==◌, Bool, true, false, cond, List, [], ◌∷◌, get_or, refl, sym, ap}
 use Rattle.std.proofs.Common.{◌∙◌, arith}
 use Rattle.std.specs.Prelude.{Option, Some, None, is_some, option_map}
@@ -10,7 +11,7 @@ use Rattle.step_threads.specs.declared.programs.act.Act.{Act}
 use Rattle.step_table.specs.declared.memory.form.Form.{Form}
 use Rattle.step_threads.specs.declared.programs.act.Act.TheVariants.{Make, Share, Downgrade, Lock, Put, Leave, Clear, Count, Expired, Read, FromThis, Alias}
 use Rattle.step_threads.specs.declared.programs.act.Act.TheVariants.{Move, Ask}
-use Rattle.step_threads.specs.declared.programs.act.Act.TheVariants.{Offer, Swap, Exchange, Load, Compare, Drop}
+use Rattle.step_threads.specs.declared.programs.act.Act.TheVariants.{Offer, Swap, Exchange, Load, Compare, Drop, OnShelf}
 use Rattle.step_threads.specs.declared.programs.act.Task.{Task}
 use Rattle.step_threads.specs.declared.ending.Ending.{Ending}
 use Rattle.step_threads.specs.declared.half.Half.{Half}
@@ -169,6 +170,8 @@ first_less v d k w t ts (Compare i c weak) kept seat holds none is same has stil
     compare_less v d w kept seat holds k t ts i c weak none is same has still calm
 first_less v d k w t ts Drop kept seat holds none is same has still calm =
     left_less v d k w (went (story_state v) d w k ts Drop) (slot_pointer w.slots (other w.slots)) (went_less (story_state v) d k w t ts Drop none is)
+first_less v d k w t ts (OnShelf x) kept seat holds none is same has still calm =
+    plain_less v d k Rest w t ts (OnShelf x) (option_map (moves x) (shelf_block (story_state v) d x)) refl refl none is (omega arith) (omega arith)
 
 task_less : (v : Story) (d : ℕ) (w : Walk) (ts : List Task) → Kept v → d < v.extent.actors → HoldsBag d w.slots v → w.endings ≡ [] → w.todo ≡ ts
     → IsInShape v.extent.shape ts → IsStill w ts → waits_at v w [] ts ≡ false → IsLess v d Rest w (begun v d w ts)
@@ -251,6 +254,7 @@ tried_less v d word w t ts (Exchange i c) (Some x) none is same e full = cc
 tried_less v d word w t ts (Load c) (Some x) none is same e full = cc
 tried_less v d word w t ts (Compare i c weak) (Some x) none is same e full = cc
 tried_less v d word w t ts Drop (Some x) none is same e full = cc
+tried_less v d word w t ts (OnShelf y) (Some x) none is same e full = cc
 
 lock_less : (v : Story) (d word : ℕ) (w : Walk) (ts : List Task) → w.endings ≡ [] → w.todo ≡ ts → NextActLocks w.slots ts
     → IsLess v d (Locking word) w (tried v d w word ts)

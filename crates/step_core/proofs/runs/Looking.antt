@@ -10,7 +10,7 @@ use Rattle.control_word.specs.Packing.{cell_bits}
 use Rattle.step_threads.specs.declared.programs.act.Act.{Act}
 use Rattle.step_threads.specs.declared.programs.act.Act.TheVariants.{Make, Share, Downgrade, Lock, Put, Leave, Clear, Count, Expired, Read, FromThis, Alias}
 use Rattle.step_threads.specs.declared.programs.act.Act.TheVariants.{Move, Ask}
-use Rattle.step_threads.specs.declared.programs.act.Act.TheVariants.{Offer, Swap, Exchange, Load, Compare, Drop}
+use Rattle.step_threads.specs.declared.programs.act.Act.TheVariants.{Offer, Swap, Exchange, Load, Compare, Drop, OnShelf}
 use Rattle.step_threads.specs.declared.programs.act.Task.{Task}
 use Rattle.step_threads.specs.declared.programs.call.CellName.{CellName}
 use Rattle.step_threads.specs.declared.half.Half.TheVariants.{Rest, Saw, Matched, Refill}
@@ -119,6 +119,7 @@ module _ (v : Story) (d : ℕ) (w : Walk) (kept : Kept v) (seat : d < v.extent.a
   saw_less t ts x (Swap c) none is same has still held = absurd (subst (λ (b : Act). IsSeenBy w.slots x b) same held)
   saw_less t ts x (Exchange i c) none is same has still held = absurd (subst (λ (b : Act). IsSeenBy w.slots x b) same held)
   saw_less t ts x Drop none is same has still held = absurd (subst (λ (b : Act). IsSeenBy w.slots x b) same held)
+  saw_less t ts x (OnShelf y) none is same has still held = absurd (subst (λ (b : Act). IsSeenBy w.slots x b) same held)
 
   pub seen_less : (x : CellWord) (ts : List Task) → w.endings ≡ [] → w.todo ≡ ts → IsInShape v.extent.shape ts
       → IsStill w ts → IsSeen w.slots x ts
@@ -151,6 +152,7 @@ module _ (v : Story) (d : ℕ) (w : Walk) (kept : Kept v) (seat : d < v.extent.a
   swap_less t ts x (Swap c) none is same held = absurd (subst (λ (b : Act). IsMatchedBy w.slots x b) same held)
   swap_less t ts x (Exchange i c) none is same held = absurd (subst (λ (b : Act). IsMatchedBy w.slots x b) same held)
   swap_less t ts x Drop none is same held = absurd (subst (λ (b : Act). IsMatchedBy w.slots x b) same held)
+  swap_less t ts x (OnShelf y) none is same held = absurd (subst (λ (b : Act). IsMatchedBy w.slots x b) same held)
   swap_less t ts x (Load c) none is same held = absurd (subst (λ (b : Act). IsMatchedBy w.slots x b) same held)
 
   pub swapping_less : (x : CellWord) (ts : List Task) → w.endings ≡ [] → w.todo ≡ ts → IsMatched w.slots x ts

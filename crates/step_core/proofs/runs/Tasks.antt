@@ -55,7 +55,7 @@ enough v threads =
 
 -- what the totals say of it
 pub few_steps : (v : Story) (threads : List Thread) (m e : ℕ) → TotalsAreTold (sight v threads) m e
-    → (sum_by steps_of threads + 13 * (m - e) ≤ 1970176) × (living (sight v threads) ≡ m - e)
+    → (sum_by steps_of threads + 13 * (m - e) ≤ 8589807616) × (living (sight v threads) ≡ m - e)
 few_steps v threads m e told =
     let a = (all_steps threads).1 in
     let f = told.few in

@@ -5,7 +5,7 @@ use Rattle.std.proofs.lemmas.Bool.{false≢true}
 use Rattle.step_threads.specs.declared.programs.act.Act.{Act}
 use Rattle.step_threads.specs.declared.programs.act.Act.TheVariants.{Make, Share, Downgrade, Lock, Put, Leave, Clear, Count, Expired, Read, FromThis, Alias}
 use Rattle.step_threads.specs.declared.programs.act.Act.TheVariants.{Move, Ask}
-use Rattle.step_threads.specs.declared.programs.act.Act.TheVariants.{Offer, Swap, Exchange, Load, Compare, Drop}
+use Rattle.step_threads.specs.declared.programs.act.Act.TheVariants.{Offer, Swap, Exchange, Load, Compare, Drop, OnShelf}
 use Rattle.step_threads.specs.declared.programs.act.Task.{Task}
 use Rattle.step_threads.specs.declared.ending.Ending.{Ending}
 use Rattle.step_threads.specs.declared.half.Half.{Half}
@@ -72,6 +72,7 @@ act_quiet v d k w ts (Offer i c) e = absurd (false≢true e)
 act_quiet v d k w ts (Swap c) e = absurd (false≢true e)
 act_quiet v d k w ts (Exchange i c) e = absurd (false≢true e)
 act_quiet v d k w ts Drop e = absurd (false≢true e)
+act_quiet v d k w ts (OnShelf x) e = absurd (false≢true e)
 
 rest_quiet : (v : Story) (d : ℕ) (w : Walk) (es : List Ending) (ts : List Task) → w.todo ≡ ts
     → Quiet v d (waits_at v w es ts) (story_by v d (at_rest v d w es))

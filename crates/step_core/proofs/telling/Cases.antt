@@ -17,7 +17,7 @@ use Rattle.step_table.specs.declared.cell_steps.refill.Stage.TheVariants.{Turnin
 use Rattle.step_threads.specs.declared.programs.act.Act.{Act}
 use Rattle.step_threads.specs.declared.programs.act.Act.TheVariants.{Make, Share, Downgrade, Lock, Put, Leave, Clear, Count, Expired, Read, FromThis, Alias}
 use Rattle.step_threads.specs.declared.programs.act.Act.TheVariants.{Move, Ask}
-use Rattle.step_threads.specs.declared.programs.act.Act.TheVariants.{Offer, Swap, Exchange, Load, Compare, Drop}
+use Rattle.step_threads.specs.declared.programs.act.Act.TheVariants.{Offer, Swap, Exchange, Load, Compare, Drop, OnShelf}
 use Rattle.step_threads.specs.declared.programs.act.Task.{Task}
 use Rattle.step_threads.specs.declared.programs.call.CellName.{CellName}
 use Rattle.step_threads.specs.declared.half.Half.{Half}
@@ -120,6 +120,7 @@ saw_act v d w k ts P each x (Offer i c) = each.none
 saw_act v d w k ts P each x (Swap c) = each.none
 saw_act v d w k ts P each x (Exchange i c) = each.none
 saw_act v d w k ts P each x Drop = each.none
+saw_act v d w k ts P each x (OnShelf y) = each.none
 
 matched_act : (v : Story) (d : ℕ) (w : Walk) (k : ℕ) (ts : List Task) (P : Option Step → Type 0) → IsEachAct v d w k ts P → (x : CellWord) (a : Act)
     → P (matched_on v d w k ts x a)
@@ -145,6 +146,7 @@ matched_act v d w k ts P each x (Offer i c) = each.none
 matched_act v d w k ts P each x (Swap c) = each.none
 matched_act v d w k ts P each x (Exchange i c) = each.none
 matched_act v d w k ts P each x Drop = each.none
+matched_act v d w k ts P each x (OnShelf y) = each.none
 
 pub each_saw : (v : Story) (d : ℕ) (w : Walk) (P : Option Step → Type 0) (x : CellWord) (ts : List Task) → P None
     → ((t : Task) (us : List Task) → ts ≡ t ∷ us → IsEachAct v d w t.statement us P) → P (saw v d w x ts)

@@ -1,4 +1,6 @@
 -- Which objects end in whose hands, after a step.
+use Rattle.step_core.proofs.telling.Still.{done_shelf}
+use Rattle.step_threads.specs.Shelving.{shelf_block}
 use Rattle.std.proofs.Common.{◌≡◌, ◌≢◌, ℕ, suc, ◌+◌, ◌<◌, ◌==◌, Bool, true, false, cond, List, [], ◌∷◌, get_or, refl, sym, ap}
 use Rattle.std.proofs.Common.{subst, ◌∙◌, ⊎_elim, eq-eqb, ne_eqb, arith}
 use Rattle.std.specs.Prelude.{Option, Some, None, option_map}
@@ -15,7 +17,7 @@ use Rattle.step_threads.specs.declared.programs.act.Act.{Act}
 use Rattle.step_table.specs.declared.memory.form.Form.{Form}
 use Rattle.step_threads.specs.declared.programs.act.Act.TheVariants.{Make, Share, Downgrade, Lock, Put, Leave, Clear, Count, Expired, Read, FromThis, Alias}
 use Rattle.step_threads.specs.declared.programs.act.Act.TheVariants.{Move, Ask}
-use Rattle.step_threads.specs.declared.programs.act.Act.TheVariants.{Offer, Swap, Exchange, Load, Compare, Drop}
+use Rattle.step_threads.specs.declared.programs.act.Act.TheVariants.{Offer, Swap, Exchange, Load, Compare, Drop, OnShelf}
 use Rattle.step_threads.specs.declared.programs.act.Task.{Task}
 use Rattle.step_threads.specs.declared.ending.Ending.{Ending}
 use Rattle.step_threads.specs.declared.half.Half.{Half}
@@ -141,6 +143,8 @@ acted v d k w ts f at all kept (Compare i c weak) =
     compares_on v d k w ts (Compare i c weak) c (compared_in w.slots (comparing w.slots i weak)) (seen v (cell_of_name (story_state v) w.slots c)) f refl at all
 acted v d k w ts f at all kept Drop =
     left v d k w (went (story_state v) d w k ts Drop) _ f at all kept (slot_pointer w.slots (other w.slots)) (act_endings v d k w ts Drop)
+acted v d k w ts f at all kept (OnShelf x) =
+    plain v d k w ts (OnShelf x) _ Rest f refl (done_shelf v d x (shelf_block (story_state v) d x)) at all
 
 begun_task : (v : Story) (d : ℕ) (w : Walk) (f : Lists) → f d ≡ w.endings → AllEndInThreads (story_state v) f → Kept v → (ts : List Task)
     → Right v d w f (begun v d w ts)

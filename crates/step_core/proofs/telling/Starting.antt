@@ -9,6 +9,7 @@ use Rattle.control_word.specs.Layout.{table_size}
 use Rattle.control_word.specs.State.{ending, unmade}
 use Rattle.step_threads.specs.declared.programs.act.Act.{Act}
 use Rattle.step_threads.specs.declared.programs.act.Act.TheVariants as act
+use Rattle.step_threads.specs.declared.programs.act.ShelfAct.TheVariants as shelf
 use Rattle.step_threads.specs.declared.programs.act.Task.{Task}
 use Rattle.step_threads.specs.declared.programs.call.Call.{Call}
 use Rattle.step_threads.specs.declared.programs.call.Call.TheVariants as call
@@ -19,7 +20,8 @@ use Rattle.step_core.specs.Bounds.{left_to_do, task_steps, walk_steps, weight}
 use Rattle.step_threads.specs.Courses.{Walk}
 use Rattle.step_threads.specs.Scenes.{nowhere}
 use Rattle.step_threads.specs.Programs.{IsPart, IsProgram, Part, call_count}
-use Rattle.step_core.specs.Starts.{first_story, first_walk, no_slots}
+use Rattle.step_core.specs.Starts.{AllHaveFields, HasFields, first_story, first_walk, no_slots}
+use Rattle.step_threads.specs.declared.programs.act.ShelfAct.{ShelfAct}
 use Rattle.step_core.specs.Told.{IsTidy, TotalsAreTold, sight}
 use Rattle.step_core.specs.Worlds.{thread_half, thread_walk}
 use Rattle.step_core.proofs.watching.Worlds.{watched_start}
@@ -45,56 +47,63 @@ numbered_steps k (a ∷ rest) ts =
     let b = sum_by-cons (λ (t : Task). weight t.act) (record { statement = k; act = a }) (numbered_tasks k rest ++ ts) in
     omega (arith, i, b)
 
-call_steps : (c : Call) → act_steps (acts c) ≤ 30
-call_steps (call.Make t f) = omega arith
-call_steps (call.Empty t) = omega arith
-call_steps (call.Reset t) = omega arith
-call_steps (call.Copy t s) = omega arith
-call_steps (call.Count t) = omega arith
-call_steps (call.Weak t s) = omega arith
-call_steps (call.WeakCopy t s) = omega arith
-call_steps (call.WeakEmpty t) = omega arith
-call_steps (call.WeakReset t) = omega arith
-call_steps (call.Lock t s) = omega arith
-call_steps (call.Upgrade t s) = omega arith
-call_steps (call.WeakCount t) = omega arith
-call_steps (call.Expired t) = omega arith
-call_steps (call.MakeThis t f) = omega arith
-call_steps (call.Null t) = omega arith
-call_steps (call.Move t s) = omega arith
-call_steps (call.Alias t s o f) = omega arith
-call_steps (call.AliasNull t s) = omega arith
-call_steps (call.This t s) = omega arith
-call_steps (call.WeakThis t s) = omega arith
-call_steps (call.Read t) = omega arith
-call_steps (call.Place t) = omega arith
-call_steps (call.Same t s) = omega arith
-call_steps (call.Before t s) = omega arith
-call_steps (call.Store c s) = omega arith
-call_steps (call.Exchange c n) = omega arith
-call_steps (call.Load t c) = omega arith
-call_steps (call.Compare c x y b) = omega arith
+many_steps : (n : ℕ) (x : ShelfAct) → act_steps (replicate n (act.OnShelf x)) ≡ 2 * n
+many_steps zero x = refl
+many_steps (suc n) x = let i = many_steps n x in omega (arith, i)
 
-all_steps : (k : ℕ) (calls : List Call) (n : ℕ) → task_steps (tasks_from k calls n) ≤ 30 * length calls + 2 * n
-all_steps k [] n = let i = clearing_steps n in omega (arith, i)
-all_steps k (c ∷ cs) n =
-    let i = all_steps (k + 1) cs n in
+call_steps : (c : Call) → HasFields c → act_steps (acts c) ≤ 131070
+call_steps (call.Make t f) few = omega arith
+call_steps (call.Empty t) few = omega arith
+call_steps (call.Reset t) few = omega arith
+call_steps (call.Copy t s) few = omega arith
+call_steps (call.Count t) few = omega arith
+call_steps (call.Weak t s) few = omega arith
+call_steps (call.WeakCopy t s) few = omega arith
+call_steps (call.WeakEmpty t) few = omega arith
+call_steps (call.WeakReset t) few = omega arith
+call_steps (call.Lock t s) few = omega arith
+call_steps (call.Upgrade t s) few = omega arith
+call_steps (call.WeakCount t) few = omega arith
+call_steps (call.Expired t) few = omega arith
+call_steps (call.MakeThis t f) few = omega arith
+call_steps (call.Null t) few = omega arith
+call_steps (call.Move t s) few = omega arith
+call_steps (call.Alias t s o f) few = omega arith
+call_steps (call.AliasNull t s) few = omega arith
+call_steps (call.This t s) few = omega arith
+call_steps (call.WeakThis t s) few = omega arith
+call_steps (call.Read t) few = omega arith
+call_steps (call.Place t) few = omega arith
+call_steps (call.Same t s) few = omega arith
+call_steps (call.Before t s) few = omega arith
+call_steps (call.Store c s) few = omega arith
+call_steps (call.Exchange c n) few = omega arith
+call_steps (call.Load t c) few = omega arith
+call_steps (call.Compare c x y b) few = omega arith
+call_steps (call.Shelve n) few = let m = many_steps n shelf.Shelve in omega (arith, m, few)
+call_steps (call.Unshelve n) few = let m = many_steps n shelf.Unshelve in omega (arith, m, few)
+
+all_steps : (k : ℕ) (calls : List Call) (n : ℕ) → All HasFields calls → task_steps (tasks_from k calls n) ≤ 131070 * length calls + 2 * n
+all_steps k [] n all = let i = clearing_steps n in omega (arith, i)
+all_steps k (c ∷ cs) n all =
+    let i = all_steps (k + 1) cs n (All-tail HasFields c cs all) in
     let a = numbered_steps k (acts c) (tasks_from (k + 1) cs n) in
-    let b = call_steps c in
+    let b = call_steps c (All-head HasFields c cs all) in
     omega (arith, i, a, b)
 
-first_left : (part : Part) → IsPart part → walk_steps (first_walk part) ≤ 30 * length part.calls + 64
-first_left part fine =
+first_left : (part : Part) → IsPart part → All HasFields part.calls → walk_steps (first_walk part) ≤ 131070 * length part.calls + 64
+first_left part fine fields =
     let s = settled_alone (no_slots (length part.kinds)) false (tasks_from 1 part.calls (length part.kinds)) in
-    let t = all_steps 1 part.calls (length part.kinds) in
+    let t = all_steps 1 part.calls (length part.kinds) fields in
     let f = fine.few in
     omega (arith, s, t, f)
 
-all_left : (parts : List Part) → All IsPart parts → left_to_do (map first_walk parts) ≤ 30 * call_count parts + 64 * length parts
-all_left [] all = omega arith
-all_left (p ∷ ps) all =
-    let f = first_left p (All-head IsPart p ps all) in
-    let i = all_left ps (All-tail IsPart p ps all) in
+all_left : (parts : List Part) → All IsPart parts → AllHaveFields parts
+    → left_to_do (map first_walk parts) ≤ 131070 * call_count parts + 64 * length parts
+all_left [] all fields = omega arith
+all_left (p ∷ ps) all fields =
+    let f = first_left p (All-head IsPart p ps all) (All-head (λ (part : Part). All HasFields part.calls) p ps fields) in
+    let i = all_left ps (All-tail IsPart p ps all) (All-tail (λ (part : Part). All HasFields part.calls) p ps fields) in
     let a = sum_by-cons walk_steps (first_walk p) (map first_walk ps) in
     let b = sum_by-cons (λ (q : Part). length q.calls) p ps in
     omega (arith, f, i, a, b)
@@ -108,13 +117,13 @@ zero_at zero i = refl
 zero_at (suc n) zero = refl
 zero_at (suc n) (suc i) = zero_at n i
 
-pub told_start : (x : Extent) (parts : List Part) (threads : List Thread) → x.actors ≡ length parts → IsProgram parts
+pub told_start : (x : Extent) (parts : List Part) (threads : List Thread) → x.actors ≡ length parts → IsProgram parts → AllHaveFields parts
     → map thread_walk threads ≡ map first_walk parts → TotalsAreTold (sight (first_story x) threads) 0 0
-told_start x parts threads size fine walks =
+told_start x parts threads size fine fields walks =
     let l = length-map threads thread_walk in
     let k = length-map threads thread_half in
     let n : length (map thread_walk threads) ≡ length parts = ap (λ (ws : List Walk). length ws) walks ∙ length-map parts first_walk in
-    let a = all_left parts fine.each in
+    let a = all_left parts fine.each fields in
     let calls = fine.calls in
     let actors = fine.actors in
     let same : left_to_do (map thread_walk threads) ≡ left_to_do (map first_walk parts) = ap left_to_do walks in

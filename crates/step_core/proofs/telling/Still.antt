@@ -1,4 +1,7 @@
 -- Steps by which no object begins to end, or comes to its end.
+use Rattle.step_threads.specs.declared.programs.act.ShelfAct.{ShelfAct}
+use Rattle.step_threads.specs.declared.programs.act.ShelfAct.TheVariants.{Shelve, Unshelve}
+use Rattle.step_threads.specs.Shelving.{moves}
 use Rattle.std.proofs.Common.{◌≡◌, ◌≢◌, ℕ, ◌<◌, ◌==◌, Bool, true, false, cond, List, [], ◌∷◌, refl, sym, ap, subst, ◌∙◌}
 use Rattle.std.proofs.Common.{⊎_elim}
 use Rattle.std.specs.Prelude.{Option, Some, None, option_map}
@@ -15,7 +18,7 @@ use Rattle.step_table.specs.CellDeeds.{cell_in, handle_told}
 use Rattle.step_threads.specs.declared.programs.act.Act.{Act}
 use Rattle.step_threads.specs.declared.programs.act.Act.TheVariants.{Make, Share, Downgrade, Lock, Put, Leave, Clear, Count, Expired, Read, FromThis, Alias}
 use Rattle.step_threads.specs.declared.programs.act.Act.TheVariants.{Move, Ask}
-use Rattle.step_threads.specs.declared.programs.act.Act.TheVariants.{Offer, Swap, Exchange, Load, Compare, Drop}
+use Rattle.step_threads.specs.declared.programs.act.Act.TheVariants.{Offer, Swap, Exchange, Load, Compare, Drop, OnShelf}
 use Rattle.step_threads.specs.declared.programs.act.Task.{Task}
 use Rattle.step_threads.specs.declared.ending.Ending.{Ending}
 use Rattle.step_threads.specs.declared.half.Half.{Half}
@@ -114,6 +117,13 @@ pub done_on : (v : Story) (d : ℕ) (f : Pointer → Deed) (o : Option Pointer)
 done_on v d f None still = refl
 done_on v d f (Some x) still = still x
 
+-- a block goes to the shelf or comes from it, if there is one
+pub done_shelf : (v : Story) (d : ℕ) (x : ShelfAct) (o : Option ℕ)
+    → (story_state (story_after v d (option_map (moves x) o))).object ≡ (story_state v).object
+done_shelf v d x None = refl
+done_shelf v d Shelve (Some b) = refl
+done_shelf v d Unshelve (Some b) = refl
+
 pub shared : (v : Story) (d : ℕ) (q : Kind) (x : Pointer) → (story_state (story_after v d (Some (share_as q x)))).object ≡ (story_state v).object
 shared v d Owner x = refl
 shared v d Weak x = refl
@@ -196,6 +206,7 @@ tried_by v d word k w ts (Exchange i c) f at all (Some y) e = cc
 tried_by v d word k w ts (Load c) f at all (Some y) e = cc
 tried_by v d word k w ts (Compare i c weak) f at all (Some y) e = cc
 tried_by v d word k w ts Drop f at all (Some y) e = cc
+tried_by v d word k w ts (OnShelf x) f at all (Some y) e = cc
 
 pub tried_on : (v : Story) (d word : ℕ) (w : Walk) (f : Lists) → f d ≡ w.endings → AllEndInThreads (story_state v) f → (ts : List Task)
     → Right v d w f (tried v d w word ts)

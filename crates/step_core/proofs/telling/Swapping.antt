@@ -5,7 +5,7 @@ use Rattle.control_word.specs.State.{State}
 use Rattle.step_threads.specs.declared.programs.act.Act.{Act}
 use Rattle.step_threads.specs.declared.programs.act.Act.TheVariants.{Make, Share, Downgrade, Lock, Put, Leave, Clear, Count, Expired, Read, FromThis, Alias}
 use Rattle.step_threads.specs.declared.programs.act.Act.TheVariants.{Move, Ask}
-use Rattle.step_threads.specs.declared.programs.act.Act.TheVariants.{Offer, Swap, Exchange, Load, Compare, Drop}
+use Rattle.step_threads.specs.declared.programs.act.Act.TheVariants.{Offer, Swap, Exchange, Load, Compare, Drop, OnShelf}
 use Rattle.step_threads.specs.declared.programs.act.Task.{Task}
 use Rattle.step_core.specs.Bounds.{walk_steps, weight}
 use Rattle.step_threads.specs.Courses.{Going, Walk, going}
@@ -40,6 +40,7 @@ swapping s slots (Offer k c) x e = cc
 swapping s slots (Load c) x e = cc
 swapping s slots (Compare k c weak) x e = cc
 swapping s slots Drop x e = cc
+swapping s slots (OnShelf y) x e = cc
 
 pub went_swap : (s : State) (d k : ℕ) (w : Walk) (t : Task) (ts : List Task) (a : Act) (x : Going) → w.endings ≡ [] → w.todo ≡ t ∷ ts
     → t.act ≡ a → going w.slots a ≡ Some x → walk_steps (went s d w k ts a) + 3 ≤ walk_steps w

@@ -6,7 +6,7 @@ use Rattle.step_table.specs.declared.memory.past.Deed.TheVariants as deed
 use Rattle.step_threads.specs.declared.programs.act.Act.{Act}
 use Rattle.step_threads.specs.declared.programs.act.Act.TheVariants.{Make, Share, Downgrade, Lock, Put, Leave, Clear, Count, Expired, Read, FromThis, Alias}
 use Rattle.step_threads.specs.declared.programs.act.Act.TheVariants.{Move, Ask}
-use Rattle.step_threads.specs.declared.programs.act.Act.TheVariants.{Offer, Swap, Exchange, Load, Compare, Drop}
+use Rattle.step_threads.specs.declared.programs.act.Act.TheVariants.{Offer, Swap, Exchange, Load, Compare, Drop, OnShelf}
 use Rattle.step_threads.specs.declared.programs.act.Task.{Task}
 use Rattle.step_threads.specs.declared.ending.Ending.{Ending}
 use Rattle.step_threads.specs.declared.half.Half.{Half}
@@ -76,6 +76,7 @@ act_adds v d k w ts (Offer i c) = (refl, refl)
 act_adds v d k w ts (Swap c) = (refl, refl)
 act_adds v d k w ts (Exchange i c) = (refl, refl)
 act_adds v d k w ts Drop = (refl, refl)
+act_adds v d k w ts (OnShelf x) = (refl, refl)
 
 task_adds : (v : Story) (d : ℕ) (w : Walk) (ts : List Task) → let r = stepped v (begun v d w ts) in Adds (cond (waits_at v w [] ts) Waited r) r
 task_adds v d w [] = (refl, refl)

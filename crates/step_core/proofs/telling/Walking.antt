@@ -10,7 +10,7 @@ use Rattle.control_word.specs.State.{State}
 use Rattle.step_threads.specs.declared.programs.act.Act.{Act}
 use Rattle.step_threads.specs.declared.programs.act.Act.TheVariants.{Make, Share, Downgrade, Lock, Put, Leave, Clear, Count, Expired, Read, FromThis, Alias}
 use Rattle.step_threads.specs.declared.programs.act.Act.TheVariants.{Move, Ask}
-use Rattle.step_threads.specs.declared.programs.act.Act.TheVariants.{Offer, Swap, Exchange, Load, Compare, Drop}
+use Rattle.step_threads.specs.declared.programs.act.Act.TheVariants.{Offer, Swap, Exchange, Load, Compare, Drop, OnShelf}
 use Rattle.step_threads.specs.declared.programs.act.Task.{Task}
 use Rattle.step_threads.specs.declared.ending.Ending.{Ending}
 use Rattle.step_table.specs.declared.slots.holdings.Pointer.{Pointer}
@@ -97,6 +97,7 @@ idle_free (Load c) slots taken free = free
 idle_free (Compare k c weak) slots true free = placed_free (other slots) slots
 idle_free (Compare k c weak) slots false free = free
 idle_free Drop slots taken free = dropped_free slots free
+idle_free (OnShelf x) slots taken free = free
 
 settled_free : (slots : Slots) (taken : Bool) (es : List Ending) (ts : List Task) → IsFree slots → IsFree (walk_settled slots taken es ts).slots
 settled_free slots taken es [] free = free
@@ -161,6 +162,7 @@ weight_two (Exchange k c) = omega arith
 weight_two (Load c) = omega arith
 weight_two (Compare k c weak) = omega arith
 weight_two Drop = omega arith
+weight_two (OnShelf x) = omega arith
 
 -- settled without an ending, a thread has the steps of its tasks alone
 pub settled_alone : (slots : Slots) (taken : Bool) (ts : List Task) → walk_steps (walk_settled slots taken [] ts) ≤ task_steps ts

@@ -5,7 +5,7 @@ use Rattle.std.proofs.lemmas.Bool.{cond_both, false≢true}
 use Rattle.step_threads.specs.declared.programs.act.Act.{Act}
 use Rattle.step_threads.specs.declared.programs.act.Act.TheVariants.{Make, Share, Downgrade, Lock, Put, Leave, Clear, Count, Expired, Read, FromThis, Alias}
 use Rattle.step_threads.specs.declared.programs.act.Act.TheVariants.{Move, Ask}
-use Rattle.step_threads.specs.declared.programs.act.Act.TheVariants.{Offer, Swap, Exchange, Load, Compare, Drop}
+use Rattle.step_threads.specs.declared.programs.act.Act.TheVariants.{Offer, Swap, Exchange, Load, Compare, Drop, OnShelf}
 use Rattle.step_threads.specs.declared.programs.act.Task.{Task}
 use Rattle.step_threads.specs.declared.half.Half.TheVariants.{Rest, Giving}
 use Rattle.step_table.specs.declared.slots.holdings.Pointer.{Pointer}
@@ -50,6 +50,7 @@ acts_so d u k ts (Exchange i c) can none is = goes_so d u k ts (Exchange i c) (g
 acts_so d u k ts (Load c) can none is = load_first d u k ts c can none is
 acts_so d u k ts (Compare i c weak) can none is = compare_first d u k ts i c weak can none is
 acts_so d u k ts Drop can none is = (refl, does_so d u.story _ _)
+acts_so d u k ts (OnShelf x) can none is = (refl, does_so d u.story _ _)
 
 begins_same : (d : ℕ) (u : Sight) (k : ℕ) (ts : List Task) (o : Option ℕ) → is_acting (begins (walk_of (scene u) d) k ts o).half ≡ true
     → scene (sight_by d u (Some (begins (walk_of (scene u) d) k ts o))) ≡ scene u
@@ -103,3 +104,4 @@ first_same d u k ts (Exchange i c) is = goes_same d u k ts (Exchange i c) (going
 first_same d u k ts (Load c) is = load_same d u k ts c is
 first_same d u k ts (Compare i c weak) is = compare_same d u k ts i c weak is
 first_same d u k ts Drop is = absurd (false≢true is)
+first_same d u k ts (OnShelf x) is = absurd (false≢true is)

@@ -22,7 +22,7 @@ use Rattle.step_table.proofs.holding.Owning.{slot_held}
 use Rattle.step_threads.specs.declared.programs.act.Act.{Act}
 use Rattle.step_threads.specs.declared.programs.act.Act.TheVariants.{Make, Share, Downgrade, Lock, Put, Leave, Clear, Count, Expired, Read, FromThis, Alias}
 use Rattle.step_threads.specs.declared.programs.act.Act.TheVariants.{Move, Ask}
-use Rattle.step_threads.specs.declared.programs.act.Act.TheVariants.{Offer, Swap, Exchange, Load, Compare, Drop}
+use Rattle.step_threads.specs.declared.programs.act.Act.TheVariants.{Offer, Swap, Exchange, Load, Compare, Drop, OnShelf}
 use Rattle.step_threads.specs.declared.programs.act.Task.{Task}
 use Rattle.step_threads.specs.declared.programs.call.CellName.{CellName}
 use Rattle.step_threads.specs.declared.half.Half.TheVariants.{Rest, Saw, Matched, Refill}
@@ -204,6 +204,7 @@ rest_out d u k ts (Offer j c) is can none = absurd (false≢true is)
 rest_out d u k ts (Swap c) is can none = absurd (false≢true is)
 rest_out d u k ts (Exchange j c) is can none = absurd (false≢true is)
 rest_out d u k ts Drop is can none = absurd (false≢true is)
+rest_out d u k ts (OnShelf y) is can none = absurd (false≢true is)
 
 pub saw_out : (d : ℕ) (u : Sight) (k : ℕ) (ts : List Task) (x : CellWord) (a : Act) → IsSeenBy (walk_of (scene u) d).slots x a
     → IsCellWord x → CanLook d u a
@@ -236,6 +237,7 @@ saw_out d u k ts x (Offer j c) is valid can = absurd is
 saw_out d u k ts x (Swap c) is valid can = absurd is
 saw_out d u k ts x (Exchange j c) is valid can = absurd is
 saw_out d u k ts x Drop is valid can = absurd is
+saw_out d u k ts x (OnShelf y) is valid can = absurd is
 
 pub matched_out : (d : ℕ) (u : Sight) (k : ℕ) (ts : List Task) (x : CellWord) (a : Act) → IsMatchedBy (walk_of (scene u) d).slots x a → IsCellWord x
     → CanLook d u a → Next d u k ts a (Matched x) (matched_on u.story d (walk_of (scene u) d) k ts x a)
@@ -265,3 +267,4 @@ matched_out d u k ts x (Offer j c) is valid can = absurd is
 matched_out d u k ts x (Swap c) is valid can = absurd is
 matched_out d u k ts x (Exchange j c) is valid can = absurd is
 matched_out d u k ts x Drop is valid can = absurd is
+matched_out d u k ts x (OnShelf y) is valid can = absurd is

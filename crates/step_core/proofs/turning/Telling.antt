@@ -19,7 +19,7 @@ use Rattle.step_table.proofs.holding.Keeping.{same_pending}
 use Rattle.step_threads.specs.declared.programs.act.Act.{Act}
 use Rattle.step_threads.specs.declared.programs.act.Act.TheVariants.{Make, Share, Downgrade, Lock, Put, Leave, Clear, Count, Expired, Read, FromThis, Alias}
 use Rattle.step_threads.specs.declared.programs.act.Act.TheVariants.{Move, Ask}
-use Rattle.step_threads.specs.declared.programs.act.Act.TheVariants.{Offer, Swap, Exchange, Load, Compare, Drop}
+use Rattle.step_threads.specs.declared.programs.act.Act.TheVariants.{Offer, Swap, Exchange, Load, Compare, Drop, OnShelf}
 use Rattle.step_threads.specs.declared.half.Half.{Half}
 use Rattle.step_threads.specs.declared.half.Half.TheVariants.{Rest}
 use Rattle.step_threads.specs.declared.said.Stepped.{Stepped}
@@ -57,6 +57,7 @@ told_answer v s d slots (Exchange k c) = refl
 told_answer v s d slots (Load c) = refl
 told_answer v s d slots (Compare k c weak) = refl
 told_answer v s d slots Drop = refl
+told_answer v s d slots (OnShelf x) = refl
 
 count_or : (v : Story) (a : Act) → ((i : ℕ) × (a ≡ Count i)) ⊎ (tell_of v a ≡ exact)
 count_or v (Make form) = inr refl
@@ -79,6 +80,7 @@ count_or v (Exchange k c) = inr refl
 count_or v (Load c) = inr refl
 count_or v (Compare k c weak) = inr refl
 count_or v Drop = inr refl
+count_or v (OnShelf x) = inr refl
 
 pub exact_told : (d : ℕ) (u : Sight) → TellsAllCounts d u (scene u) exact
 exact_told d u =

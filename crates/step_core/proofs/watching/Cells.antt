@@ -1,4 +1,9 @@
 -- Steps on cells: where half of a cell's funds or more are taken, threads count that put them back.
+use Rattle.step_threads.specs.declared.programs.act.ShelfAct.{ShelfAct}
+use Rattle.step_threads.specs.declared.programs.act.ShelfAct.TheVariants.{Shelve, Unshelve}
+use Rattle.step_threads.specs.Shelving.{moves}
+use Rattle.control_word.specs.Words.{shelf_spot}
+use Rattle.step_table.specs.Openings.{opening}
 use Rattle.std.proofs.Common.{◌≡◌, ◌≢◌, ℕ, suc, ◌+◌, ◌-◌, ◌*◌, ◌<◌, ◌≤◌, ◌==◌, Bool, true, false, cond, List, length}
 use Rattle.std.proofs.Common.{refl, sym, ap, subst, ◌∙◌, ⊎_elim, inl, inr, arith}
 use Rattle.std.proofs.Common.{get_or-set_other, get_or-set_same, eq-eqb, ne_eqb, eqb-true}
@@ -45,6 +50,22 @@ in_words v (Member b m) kept is =
     let high = is.1 in
     let few = is.2 in
     omega (arith, s, from, high, few)
+
+-- a word of the shelf is none of a cell
+shelf_apart : (v : Story) (c : Cell) (b : ℕ) → IsCellOfShape v.extent.shape c → word_of v.extent.shape.blocks c ≢ shelf_spot (opening v.extent) b
+shelf_apart v (Free n) b is e = omega (arith, is, e)
+shelf_apart v (Member a m) b is e =
+    let from = is.0 in
+    let high = is.1 in
+    let few = is.2 in
+    omega (arith, from, high, few, e)
+
+pub shelf_off : (v : Story) (d : ℕ) (x : ShelfAct) (b : ℕ) (c : Cell) → IsCellOfShape v.extent.shape c
+    → slice_index (story_after v d (Some (moves x b))).words (word_of v.extent.shape.blocks c) ≡ word_of_cell v c
+shelf_off v d Shelve b c is =
+    get_or-set_other v.words (shelf_spot (opening v.extent) b) (word_of v.extent.shape.blocks c) _ 0 (shelf_apart v c b is)
+shelf_off v d Unshelve b c is =
+    get_or-set_other v.words (shelf_spot (opening v.extent) b) (word_of v.extent.shape.blocks c) _ 0 (shelf_apart v c b is)
 
 -- one word is another, or none is: so it is for each cell of the shape
 abbrev pub WatchesWord : Story → Half → List ℕ → Half → Type 0

@@ -15,7 +15,7 @@ use Rattle.control_word.specs.Views.{Fits}
 use Rattle.step_threads.specs.declared.programs.act.Act.{Act}
 use Rattle.step_threads.specs.declared.programs.act.Act.TheVariants.{Make, Share, Downgrade, Lock, Put, Leave, Clear, Count, Expired, Read, FromThis, Alias}
 use Rattle.step_threads.specs.declared.programs.act.Act.TheVariants.{Move, Ask}
-use Rattle.step_threads.specs.declared.programs.act.Act.TheVariants.{Offer, Swap, Exchange, Load, Compare, Drop}
+use Rattle.step_threads.specs.declared.programs.act.Act.TheVariants.{Offer, Swap, Exchange, Load, Compare, Drop, OnShelf}
 use Rattle.step_threads.specs.declared.programs.act.Task.{Task}
 use Rattle.step_threads.specs.declared.ending.Ending.{Ending}
 use Rattle.step_threads.specs.declared.half.Half.{Half}
@@ -103,6 +103,7 @@ module _ (v : Story) (d : ℕ) (w : Walk) (kept : Kept v) (seat : d < v.extent.a
   saw_watch k ts x (Swap c) valid = tt
   saw_watch k ts x (Exchange i c) valid = tt
   saw_watch k ts x Drop valid = tt
+  saw_watch k ts x (OnShelf y) valid = tt
 
   matched_watch : (k : ℕ) (ts : List Task) (x : CellWord) (a : Act) → IsWatch v d (Matched x) (matched_on v d w k ts x a)
   matched_watch k ts x (Compare i c weak) =
@@ -126,6 +127,7 @@ module _ (v : Story) (d : ℕ) (w : Walk) (kept : Kept v) (seat : d < v.extent.a
   matched_watch k ts x (Swap c) = tt
   matched_watch k ts x (Exchange i c) = tt
   matched_watch k ts x Drop = tt
+  matched_watch k ts x (OnShelf y) = tt
 
   seen_watch : (x : CellWord) (ts : List Task) → IsCellWord x → IsWatch v d (Saw x) (saw v d w x ts)
   seen_watch x [] valid = tt

@@ -1,6 +1,9 @@
 -- What each step does to the funds that are taken of cells.
+use Rattle.step_threads.specs.declared.programs.act.ShelfAct.{ShelfAct}
+use Rattle.step_threads.specs.Shelving.{moves, shelf_block}
+use Rattle.step_core.proofs.watching.Cells.{shelf_off}
 use Rattle.std.proofs.Common.{◌≡◌, ℕ, ◌<◌, ◌==◌, Bool, false, cond, List, refl}
-use Rattle.std.proofs.Common.{eqb-true}
+use Rattle.std.proofs.Common.{eqb-true, inl, arith}
 use Rattle.std.specs.Prelude.{Option, Some, None, is_some, option_map}
 use Rattle.std.proofs.lemmas.Bool.{cond_both}
 use Rattle.control_word.specs.declared.packed.cell.CellWord.{CellWord}
@@ -11,7 +14,7 @@ use Rattle.control_word.specs.State.{weak}
 use Rattle.step_threads.specs.declared.programs.act.Act.{Act}
 use Rattle.step_threads.specs.declared.programs.act.Act.TheVariants.{Make, Share, Downgrade, Lock, Put, Leave, Clear, Count, Expired, Read, FromThis, Alias}
 use Rattle.step_threads.specs.declared.programs.act.Act.TheVariants.{Move, Ask}
-use Rattle.step_threads.specs.declared.programs.act.Act.TheVariants.{Offer, Swap, Exchange, Load, Compare, Drop}
+use Rattle.step_threads.specs.declared.programs.act.Act.TheVariants.{Offer, Swap, Exchange, Load, Compare, Drop, OnShelf}
 use Rattle.step_threads.specs.declared.programs.act.Task.{Task}
 use Rattle.step_threads.specs.declared.programs.call.CellName.{CellName}
 use Rattle.step_threads.specs.declared.half.Half.{Half}
@@ -68,6 +71,7 @@ locked_is w (Exchange i c) x e = cc
 locked_is w (Load c) x e = cc
 locked_is w (Compare i c weak) x e = cc
 locked_is w Drop x e = cc
+locked_is w (OnShelf y) x e = cc
 
 module _ (v : Story) (d : ℕ) (w : Walk) (kept : Kept v) (seat : d < v.extent.actors) (holds : HoldsBag d w.slots v) where
   in_slot : (i : ℕ) (x : Pointer) → slot_pointer w.slots i ≡ Some x → IsThere v x.block
@@ -116,6 +120,11 @@ module _ (v : Story) (d : ℕ) (w : Walk) (kept : Kept v) (seat : d < v.extent.a
       cond_both (is_enabled (story_state v) x) (record { deed = None; half = Giving i q x; walk = w; said = silent k })
       (step_of_act v d w k ts (FromThis i q) None Rest) (λ (y : Step). IsWatch v d Rest (Some y))
       (λ t. still v d Rest None (Giving i q x) (λ p a. refl) (λ n valid. refl)) (λ t. still v d Rest None Rest (λ p a. refl) (λ n valid. refl))
+
+  -- a block goes to the shelf or comes from it, if there is one
+  shelf_watch : (x : ShelfAct) (o : Option ℕ) → Watches v d Rest (option_map (moves x) o) Rest
+  shelf_watch x None = still v d Rest None Rest (λ p a. refl) (λ n valid. refl)
+  shelf_watch x (Some b) = λ c is. inl (shelf_off v d x b c is, omega arith)
 
   -- a value goes into a cell
   swaps_watch : (h : Half) (k : ℕ) (ts : List Task) (a : Act) (c : CellName) (i : ℕ) → IsQuiet v h
@@ -237,3 +246,4 @@ module _ (v : Story) (d : ℕ) (w : Walk) (kept : Kept v) (seat : d < v.extent.a
       compares_watch k ts (Compare i c weak) (cell_of_name (story_state v) w.slots c) (compared_in w.slots (comparing w.slots i weak))
       (seen v (cell_of_name (story_state v) w.slots c))
   first_watch k ts Drop = leaves (other w.slots)
+  first_watch k ts (OnShelf x) = shelf_watch x (shelf_block (story_state v) d x)

@@ -101,6 +101,19 @@ pub enum Act {
     },
     /// Leaves what is to be dropped. It is no act where that is nothing.
     Drop,
+    /// Moves a vacant block to the shelf or from it, if there is one.
+    OnShelf {
+        act: ShelfAct,
+    },
+}
+
+/// Which way a vacant block goes.
+#[derive(Clone, Copy)]
+pub enum ShelfAct {
+    /// The least block of the store goes to the shelf.
+    Shelve,
+    /// The least block on the shelf comes into the store.
+    Unshelve,
 }
 
 /// What is told of the pointers of names, by their values alone.

@@ -190,6 +190,16 @@ pub enum Call {
         desired: Name,
         weak: bool,
     },
+    /// So many vacant blocks of the actor's store go to the shelf, or all where it has fewer, each by an act of its
+    /// own. It says nothing, and no statement of the script language asks for it (own).
+    Shelve {
+        count: u16,
+    },
+    /// So many blocks come from the shelf into the actor's store, or all where it has fewer, each by an act of its own.
+    /// It says nothing, and no statement of the script language asks for it (own).
+    Unshelve {
+        count: u16,
+    },
 }
 
 /// An actor: the kinds of its names, by their numbers, and its calls in order.

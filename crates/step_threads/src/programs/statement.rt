@@ -1,8 +1,8 @@
 //! The acts of statements, and the tasks of a thread.
-ghost use Rattle.std.specs.Prelude.{◌≡◌, ◌<◌, ◌^◌, ◌++◌, ◌∷◌, length, IfOk, OnOk};
-ghost use Rattle.step_threads.specs.Acts.{acts, numbered_tasks, tail, tasks_from};
+ghost use Rattle.std.specs.Prelude.{◌≡◌, ◌<◌, ◌^◌, ◌++◌, ◌∷◌, length, replicate, IfOk, OnOk};
+ghost use Rattle.step_threads.specs.Acts.{acts, numbered_tasks, tasks_from, with_tail};
 
-use crate::programs::act::{Act, Question, Task};
+use crate::programs::act::{Act, Question, ShelfAct, Task};
 use crate::programs::call::{Call, CellName, Name};
 use control_word::model::handle::Kind;
 use std::alloc::{AllocError, Global};
@@ -29,7 +29,7 @@ pub fn tasks(alloc: Global, calls: &[Call], names: u8) -> Result<Vec<Task>, Allo
     Ok(tasks)
 }
 
-/// How a call goes on after its first act.
+/// How a call goes on from its first act.
 #[derive(Clone, Copy)]
 pub enum Tail {
     /// It doesn't.
@@ -45,6 +45,8 @@ pub enum Tail {
         name: Name,
         weak: bool,
     },
+    /// It is made so often in all, and that is the whole of the call.
+    Times(u16),
 }
 
 /// The tasks of a call.
@@ -52,9 +54,12 @@ fn add(tasks: &mut Vec<Task>, statement: u32, call: Call) -> Result<(), AllocErr
     ensures { OnOk result (tasks.new.items ≡ tasks.old.items ++ numbered_tasks statement (acts call)) }
 {
     let (act, tail) = parts(call);
+    if let Tail::Times(count) = tail {
+        return repeat(tasks, statement, act, count);
+    }
     tasks.push(Task { statement, act })?;
     match tail {
-        Tail::Nothing => Ok(()),
+        Tail::Nothing | Tail::Times(_) => Ok(()),
         Tail::Named(name) => {
             let act = Act::Put { name: name.0 };
             tasks.push(Task { statement, act })?;
@@ -80,9 +85,21 @@ fn add(tasks: &mut Vec<Task>, statement: u32, call: Call) -> Result<(), AllocErr
     }
 }
 
+/// An act so often.
+fn repeat(tasks: &mut Vec<Task>, statement: u32, act: Act, count: u16) -> Result<(), AllocError>
+    ensures { OnOk result (tasks.new.items ≡ tasks.old.items ++ numbered_tasks statement (replicate count act)) }
+{
+    let mut left = count;
+    while left > 0 {
+        left -= 1;
+        tasks.push(Task { statement, act })?;
+    }
+    Ok(())
+}
+
 /// The first act of a call, and how it goes on.
 fn parts(call: Call) -> (Act, Tail)
-    ensures { acts call ≡ result.0 ∷ tail result.1 }
+    ensures { acts call ≡ with_tail result.0 result.1 }
 {
     match call {
         Call::Make { target, fields } => (make(fields, false, false), Tail::Named(target)),
@@ -107,6 +124,8 @@ fn parts(call: Call) -> (Act, Tail)
         Call::WeakThis { target, source } => (from_this(source, Kind::Weak), Tail::Named(target)),
         Call::Read { name } => (Act::Read { name: name.0 }, Tail::Nothing),
         Call::Move { target, source } => (Act::Move { name: source.0 }, Tail::Named(target)),
+        Call::Shelve { count } => (on_shelf(ShelfAct::Shelve), Tail::Times(count)),
+        Call::Unshelve { count } => (on_shelf(ShelfAct::Unshelve), Tail::Times(count)),
         Call::Alias {
             target,
             source,
@@ -160,6 +179,13 @@ fn from_this(source: Name, kind: Kind) -> Act
         name: source.0,
         kind,
     }
+}
+
+/// A block that goes to the shelf, or comes from it.
+fn on_shelf(act: ShelfAct) -> Act
+    ensures { result ≡ Act.OnShelf act }
+{
+    Act::OnShelf { act }
 }
 
 /// The question whether two names point at one place.

@@ -16,5 +16,5 @@ invariant_of-result c =
     let e : c.in_ok-table.table ≡ first_story x = c.in_ok-table.ensures in (
       subst (λ (v : Story). AllFit v threads) (sym e) c.in_ok-threads.ensures.fit,
       subst (λ (v : Story). TotalsAreTold (sight v threads) 0 0) (sym e)
-          (told_start x _ threads (sym (length-map c.args.actors.now part_of)) c.requires.begin.program c.in_ok-threads.ensures.walks),
+          (told_start x _ threads (sym (length-map c.args.actors.now part_of)) c.requires.begin.program c.requires.fields c.in_ok-threads.ensures.walks),
     )

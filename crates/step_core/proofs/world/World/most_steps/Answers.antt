@@ -24,7 +24,7 @@ module _ (c : goal.After-len) where
       sym (ap living c.self.view_is)
       ∙ (few_steps c.self.inside.table c.self.inside.threads.items c.self.inside.made c.self.inside.ended c.self.invariant.1).1
 
-  few : c.steps_left.result + 29 * c.len.result + 13 * (c.self.inside.made - c.self.inside.ended) ≤ 2000000
+  few : c.steps_left.result + 29 * c.len.result + 13 * (c.self.inside.made - c.self.inside.ended) ≤ 8590000000
   few =
       let f = (few_steps c.self.inside.table c.self.inside.threads.items c.self.inside.made c.self.inside.ended c.self.invariant.1).0 in
       let s = ap (sum_by steps_of) c.as_slice.ensures.value in

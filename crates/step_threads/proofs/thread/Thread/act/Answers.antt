@@ -121,3 +121,9 @@ returns-in-Leave-clause-stepped c = grind (arith, common_steps)
 
 pub returns-in-Leave-clause-fits : goal.returns-in-Leave-clause-fits
 returns-in-Leave-clause-fits c = grind (arith, common_steps)
+
+pub returns-in-OnShelf-clause-stepped : goal.returns-in-OnShelf-clause-stepped
+returns-in-OnShelf-clause-stepped c = grind (arith, common_steps)
+
+pub returns-in-OnShelf-clause-fits : goal.returns-in-OnShelf-clause-fits
+returns-in-OnShelf-clause-fits c = grind (arith, common_steps)

@@ -1,0 +1,54 @@
+-- What acts on cells and on the shelf do to the history is what their replies say.
+use Rattle.step_threads.specs.declared.programs.act.ShelfAct.{ShelfAct}
+use Rattle.step_threads.specs.declared.programs.act.ShelfAct.TheVariants.{Shelve, Unshelve}
+use Rattle.step_threads.specs.Shelving.{moved, moves}
+use Rattle.std.proofs.Common.{◌≡◌, ℕ, Bool, true, false, cond, refl}
+use Rattle.std.specs.Prelude.{Option, Some, None, option_map}
+use Rattle.control_word.specs.declared.model.event.Event.{Event}
+use Rattle.control_word.specs.Histories.{leads}
+use Rattle.control_word.specs.State.{Opening, State}
+use Rattle.step_table.specs.Contents.{held_in, load_of, swap_of}
+use Rattle.step_table.specs.Holdings.{Slots, slot_value}
+use Rattle.step_table.specs.Stories.{Nothing}
+use Rattle.step_threads.specs.declared.programs.call.CellName.{CellName}
+use Rattle.step_threads.specs.Courses.{cell_of_name, on_going}
+use Rattle.step_threads.specs.Doings.{IsLoadEvent, IsSwapEvent, Where, put_on}
+use Rattle.step_threads.specs.Entries.{History, does, loads, history_swaps}
+use Rattle.step_threads.specs.Scenes.{came}
+
+module _ (z : Opening) (d : ℕ) (h : History) (l : Slots) where
+  abbrev now : State
+  now = leads z h
+
+  abbrev pub swap_event : CellName → ℕ → Event Nothing
+  swap_event c i = swap_of now (cell_of_name now l c) (slot_value l i)
+
+  pub swap_history : (c : CellName) (i : ℕ) (b : Bool)
+      → on_going (history_swaps z d l h) h (cond b (Some (c, i)) None) ≡ put_on d (cond b (Some (swap_event c i)) None) h
+  swap_history c i true = refl
+  swap_history c i false = refl
+
+  pub swap_makes : (c : CellName) (i : ℕ) (b : Bool)
+      → let e = cond b (Some (swap_event c i)) None in Where b (IsSwapEvent now l c i (came now l c) e) (e ≡ None)
+  swap_makes c i true = (held_in now (cell_of_name now l c), refl, refl)
+  swap_makes c i false = refl
+
+  pub swap_slots : (c : CellName) (i : ℕ) (f : CellName → ℕ → Slots) (b : Bool)
+      → on_going f l (cond b (Some (c, i)) None) ≡ cond b (f c i) l
+  swap_slots c i f true = refl
+  swap_slots c i f false = refl
+
+  pub load_history : (c : CellName) (b : Bool)
+      → cond b (loads z d l h c) h ≡ put_on d (cond b (Some (load_of now (cell_of_name now l c))) None) h
+  load_history c true = refl
+  load_history c false = refl
+
+  pub load_makes : (c : CellName) (b : Bool)
+      → let e = cond b (Some (load_of now (cell_of_name now l c))) None in Where b (IsLoadEvent now l c (came now l c) e) (e ≡ None)
+  load_makes c true = (held_in now (cell_of_name now l c), refl, refl)
+  load_makes c false = refl
+
+  pub shelf_history : (x : ShelfAct) (o : Option ℕ) → does z d h (option_map (moves x) o) ≡ put_on d (option_map (moved x) o) h
+  shelf_history x None = refl
+  shelf_history Shelve (Some b) = refl
+  shelf_history Unshelve (Some b) = refl
