@@ -40,13 +40,13 @@ pub told_append : (xs ys : List Said) → told_in (xs ++ ys) ≡ told_in xs + to
 told_append [] ys = omega arith
 told_append (x ∷ xs) ys = let ih = told_append xs ys in omega (arith, ih)
 
-line_refuses : (k : ℕ) (a : Option Answer) (e : Option Ended) (x : Said) → x ≡ record { statement = k; answer = a; ended = e }
+pub line_refuses : (k : ℕ) (a : Option Answer) (e : Option Ended) (x : Said) → x ≡ record { statement = k; answer = a; ended = e }
     → refused_in (cond (is_some a || is_some e) (x ∷ []) []) ≡ refuses a
 line_refuses k None None x is = refl
 line_refuses k None (Some e) x is = let t : refuses x.answer ≡ 0 = ap (λ (y : Said). refuses y.answer) is in omega (arith, t)
 line_refuses k (Some a) e x is = let t : refuses x.answer ≡ refuses (Some a) = ap (λ (y : Said). refuses y.answer) is in omega (arith, t)
 
-line_tells : (k : ℕ) (a : Option Answer) (e : Option Ended) (x : Said) → x ≡ record { statement = k; answer = a; ended = e }
+pub line_tells : (k : ℕ) (a : Option Answer) (e : Option Ended) (x : Said) → x ≡ record { statement = k; answer = a; ended = e }
     → told_in (cond (is_some a || is_some e) (x ∷ []) []) ≡ cond (is_some e) 1 0
 line_tells k None None x is = refl
 line_tells k None (Some e) x is =
