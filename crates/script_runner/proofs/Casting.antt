@@ -3,23 +3,26 @@ use Rattle.std.proofs.Common.{Bool, ◌≡◌, ◌⊎◌, inl, inr, ℕ, ◌+◌
 use Rattle.std.proofs.Common.{[], ◌∷◌, ◌++◌, length, map, take, get_or, reverse, refl, sym, ap, subst, ◌∙◌, arith}
 use Rattle.std.proofs.Common.{append_assoc}
 use Rattle.std.proofs.lemmas.List.{length-append, map_more, reverse-append}
+use Rattle.std.proofs.lemmas.List.Elements.{All-replicate}
+use Rattle.std.proofs.lemmas.Slice.Zip.{all_zipped_more}
 use Rattle.std.specs.Global.{Vec}
 use Rattle.std.specs.List.{AllByRecursion, AllZip}
+use Rattle.std.specs.Prelude.{All, replicate}
 use Rattle.control_word.specs.State.{Opening}
 use Rattle.control_word.specs.declared.model.event.Entry.{Entry}
 use Rattle.handle_table.specs.Parting.{IsNew}
 use Rattle.handle_table.specs.Staffs.{EachDoes}
 use Rattle.handle_table.specs.Tables.{TableNow}
-use Rattle.ownership_ledger.specs.Now.{ShareNow}
+use Rattle.ownership_ledger.specs.Now.{ShareNow, new_share}
 use Rattle.script_runner.proofs.Stepping.{not_lost}
 use Rattle.script_runner.proofs.Summing.{marked_ended, marked_made}
-use Rattle.script_runner.specs.Casts.{HasRole, HasSaid, IsReadyFor, IsRoleFor}
+use Rattle.script_runner.specs.Casts.{HasRole, HasSaid, IsNewShare, IsReadyFor, IsRoleFor}
 use Rattle.script_runner.specs.Deals.{field_0}
 use Rattle.script_runner.specs.Reports.{HasAdded}
 use Rattle.script_runner.specs.Teams.{AllMarked, AllPlay, PlaysThread}
 use Rattle.script_runner.specs.Totals.{asked_in, refused_in, told_in}
 use Rattle.script_runner.specs.Works.{HasAskedAll, IsWorked}
-use Rattle.script_runner.specs.declared.workers.cast.Role.{Role}
+use Rattle.script_runner.specs.declared.workers.role.Role.{Role}
 use Rattle.script_runner.specs.declared.workers.worker.Worker.{Worker}
 use Rattle.atomic_table.specs.Seated.{TableId}
 use Rattle.control_word.specs.declared.model.handle.Kind.{Kind}
@@ -41,13 +44,6 @@ same_many R [] [] all = refl
 same_many R (x ∷ xs) (y ∷ ys) all = let ih = same_many R xs ys all.1 in omega (arith, ih)
 same_many R [] (y ∷ ys) all = absurd all
 same_many R (x ∷ xs) [] all = absurd all
-
-zip_push : {X Y : Type 0} (R : X → Y → Type 0) (xs : List X) (ys : List Y) (x : X) (y : Y) → AllZip R xs ys → R x y
-    → AllZip R (xs ++ x ∷ []) (ys ++ y ∷ [])
-zip_push R [] [] x y all here = (here, tt)
-zip_push R (a ∷ xs) (b ∷ ys) x y all here = (all.0, zip_push R xs ys x y all.1 here)
-zip_push R [] (b ∷ ys) x y all here = absurd all
-zip_push R (a ∷ xs) [] x y all here = absurd all
 
 -- an actor's names are few
 pub few_names : (actors : List Actor) (i : ℕ) (a : Actor) → IsProgram (map part_of actors) → i < length actors → a ≡ get_or actors i a
@@ -78,7 +74,7 @@ role_then actors i a rs more r lt is next all here =
     let on : map part_of (take (i + 1) actors) ≡ ps ++ part_of a ∷ [] =
     map_more part_of actors i a lt ∙ ap (λ (x : Actor). ps ++ part_of x ∷ []) (sym is) in
     subst (λ (l : List Role). AllZip IsRoleFor (map part_of (take (i + 1) actors)) l) (sym next)
-    (subst (λ (l : List Part). AllZip IsRoleFor l (rs ++ r ∷ [])) (sym on) (zip_push IsRoleFor ps rs (part_of a) r all here))
+    (subst (λ (l : List Part). AllZip IsRoleFor l (rs ++ r ∷ [])) (sym on) (all_zipped_more IsRoleFor ps rs (part_of a) r all here))
 
 -- the last of a list goes behind another, which is turned round
 pub zip_turned : {X Y : Type 0} (R : X → Y → Type 0) (x : X) (done : List X) (ys more : List Y) (y : Y) → more ≡ ys ++ y ∷ []
@@ -91,6 +87,17 @@ map_turned f x done ys more next is = ap reverse next ∙ (reverse-append ys (f 
 
 pub gone_then : {X : Type 0} (all xs more done : List X) (x : X) → all ≡ xs ++ done → xs ≡ more ++ x ∷ [] → all ≡ more ++ x ∷ done
 gone_then all xs more done x is popped = is ∙ (ap (λ l. l ++ done) popped ∙ append_assoc more (x ∷ []) done)
+
+-- at the end none is left
+pub all_gone : {X : Type 0} (all xs done : List X) → all ≡ xs ++ done → length xs ≡ 0 → all ≡ done
+all_gone all [] done is none = is
+all_gone all (x ∷ xs) done is none = absurd (omega arith)
+
+-- nothing was added to the shares of a book that was opened
+pub all_new : (book : TableId) (workers : ℕ) (ss : List ShareNow) → ss ≡ replicate workers (new_share book workers)
+    → All (IsNewShare book) ss
+all_new book workers ss is =
+    subst (All (IsNewShare book)) (sym is) (All-replicate (IsNewShare book) workers (new_share book workers) (refl, refl))
 
 pub neither : (a b : Bool) → a || b ≡ false → (a ≡ false) × (b ≡ false)
 neither true b e = absurd cc

@@ -5,7 +5,7 @@ use Rattle.atomic_table.specs.Seated.{TableId}
 use Rattle.ownership_ledger.specs.Now.{ShareNow}
 use Rattle.ownership_ledger.specs.Rule.{zeros}
 use Rattle.script_runner.specs.Works.{IsFor}
-use Rattle.script_runner.specs.declared.workers.cast.Role.{Role}
+use Rattle.script_runner.specs.declared.workers.role.Role.{Role}
 use Rattle.script_runner.specs.declared.workers.worker.Worker.{Worker}
 use Rattle.step_threads.specs.Programs.{Part}
 use Rattle.step_threads.specs.declared.said.Said.{Said}

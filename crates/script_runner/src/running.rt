@@ -9,7 +9,8 @@ ghost use Rattle.script_runner.specs.Reports.{IsReport, IsPerformed};
 
 use crate::gate::Gate;
 use crate::reports::report::Report;
-use crate::workers::cast::{Role, cast_of, dismiss, man};
+use crate::workers::cast::{cast_of, dismiss, man};
+use crate::workers::role::Role;
 use crate::workers::worker::{SLOTS, Worker};
 use control_block::census::Census;
 use control_word::limits::{SCRIPT_SHARED_CELLS, SCRIPT_WEAK_CELLS};

@@ -2,5 +2,6 @@
 pub(crate) mod cast;
 pub(crate) mod log;
 pub(crate) mod notes;
+pub(crate) mod role;
 pub(crate) mod seats;
 pub(crate) mod worker;

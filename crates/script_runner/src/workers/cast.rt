@@ -7,24 +7,14 @@ ghost use Rattle.script_text.specs.Scripts.{program_in};
 ghost use Rattle.script_runner.specs.Casts.{HasRole, IsNewShare, IsRoleFor};
 
 use crate::workers::log::Log;
+use crate::workers::role::Role;
 use crate::workers::worker::Worker;
 use control_word::Refusal;
 use ownership_ledger::{Book, Share};
 use script_text::Script;
 use std::alloc::{AllocError, Global};
-use step_core::{Actor, Call, Kind, Said};
-use step_threads::programs::act::Task;
+use step_core::{Actor, Call, Said};
 use step_threads::programs::statement::tasks;
-
-/// What a worker needs of its thread: its number from 1, the kinds of its names, its tasks, and room for its lines.
-#[derive(Drop)]
-pub(crate) struct Role {
-    pub number: usize,
-    pub kinds: Vec<Kind>,
-    pub tasks: Vec<Task>,
-    pub said: Vec<Said>,
-    ghost silent: { length said.items ≡ 0 },
-}
 
 /// How many objects the calls ask for.
 fn makes(calls: &[Call]) -> usize {

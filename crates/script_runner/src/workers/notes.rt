@@ -24,7 +24,10 @@ impl<'a> Log<'a> {
         ensures book { self.new.share.book ≡ self.old.share.book }
         ensures asked { (self.new.lost ≡ true) ⊎ (self.new.asked + says_full answer ≡ self.old.asked + asks_for act) }
     {
-        if self.lost || asks(act) == refuses(answer) {
+        if self.lost {
+            return;
+        }
+        if asks(act) == refuses(answer) {
             return;
         }
         if self.is_full() {
@@ -59,14 +62,18 @@ impl<'a> Log<'a> {
             answer,
             ended,
         };
-        if self.said.push(said).is_err() {
-            self.lost = true;
-            return;
+        match self.said.push(said) {
+            Ok(()) => {}
+            Err(_) => {
+                self.lost = true;
+                return;
+            }
         }
         self.asked += refuses(answer);
-        if ended.is_some() {
-            self.book.add_ended(&mut self.share);
+        if ended.is_none() {
+            return;
         }
+        self.book.add_ended(&mut self.share);
     }
 
     /// What a comparison answers, and what it tells of an object that is to end.

@@ -2,7 +2,7 @@ use Rattle.std.proofs.Common.{◌≡◌, ◌≤◌, ◌+◌, ◌++◌, List, len
 use Rattle.std.specs.List.{AllZip}
 use Rattle.std.specs.Prelude.{All}
 use Rattle.script_runner.specs.Casts.{HasRole, IsNewShare}
-use Rattle.script_runner.specs.declared.workers.cast.Role.{Role}
+use Rattle.script_runner.specs.declared.workers.role.Role.{Role}
 use Rattle.script_runner.proofs.workers.cast.man.Given as goal
 
 abbrev pub invariant-loop-role : goal.invariant-loop-role
