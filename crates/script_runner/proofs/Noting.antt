@@ -1,6 +1,7 @@
 -- What a worker's lines and tasks count for, one after another.
 use Rattle.std.proofs.Common.{◌≡◌, inl, inr, ℕ, ◌+◌, ◌≤◌, Bool, true, false, cond, List, [], ◌∷◌, ◌++◌, length, Option, Some, None}
-use Rattle.std.proofs.Common.{refl, sym, ap, subst, ◌∙◌, arith}
+use Rattle.std.proofs.Common.{◌||◌, refl, sym, ap, subst, ◌∙◌, arith}
+use Rattle.std.proofs.lemmas.Bool.{cond-true}
 use Rattle.std.specs.Prelude.{drop, is_some, slice_get}
 use Rattle.control_block.specs.Desks.{DeskNow, state_of}
 use Rattle.handle_table.specs.Tables.{TableNow}
@@ -33,9 +34,13 @@ pub told_few : (xs : List Said) → told_in xs ≤ length xs
 told_few [] = omega arith
 told_few (x ∷ xs) = let a = tells_few (is_some x.ended) in let ih = told_few xs in omega (arith, a, ih)
 
+-- a line where there is something to say
+pub told_once : (x : Said) (log said : List Said) → is_some x.answer || is_some x.ended ≡ true → said ≡ log ++ x ∷ [] → said ≡ log ++ told_line x
+told_once x log said tells is = is ∙ ap (λ l. log ++ l) (sym (cond-true (is_some x.answer || is_some x.ended) (x ∷ []) [] tells))
+
 module _ (log said : List Said) (k : ℕ) (a : Option Answer) (e : Option Ended)
     (is : said ≡ log ++ told_line (record { statement = k; answer = a; ended = e })) where
-  line : Said
+  abbrev line : Said
   line = record { statement = k; answer = a; ended = e }
 
   -- one line more

@@ -1,5 +1,5 @@
 //! What a worker notes of its acts: lines, and what it adds to its share.
-ghost use Rattle.std.specs.Prelude.{◌≡◌, ◌⊎◌, ◌+◌, ◌<◌, ◌≤◌, ◌++◌, true, false, length, None, Some};
+ghost use Rattle.std.specs.Prelude.{◌≡◌, ◌⊎◌, ◌+◌, ◌<◌, ◌≤◌, ◌++◌, ◌||◌, true, false, is_some, length, None, Some};
 ghost use Rattle.step_threads.specs.declared.said.Answer.TheVariants as says;
 ghost use Rattle.script_runner.specs.Logs.{told_line};
 ghost use Rattle.script_runner.specs.Totals.{objects_asked as asks_for, refuses as says_full};
@@ -8,6 +8,13 @@ use crate::reports::totals::{asks, refuses};
 use crate::workers::log::Log;
 use step_core::{Answer, Ended, Said};
 use step_threads::programs::act::Act;
+
+/// Whether there is something to say.
+fn tells(said: Said) -> bool
+    ensures { result ≡ (is_some said.answer || is_some said.ended) }
+{
+    said.answer.is_some() || said.ended.is_some()
+}
 
 impl<'a> Log<'a> {
     /// Whether it may have said or asked for so much that its share has no room for one more.
@@ -50,18 +57,18 @@ impl<'a> Log<'a> {
         if self.lost {
             return;
         }
-        if answer.is_none() && ended.is_none() {
+        let said = Said {
+            statement,
+            answer,
+            ended,
+        };
+        if !tells(said) {
             return;
         }
         if self.is_full() {
             self.lost = true;
             return;
         }
-        let said = Said {
-            statement,
-            answer,
-            ended,
-        };
         match self.said.push(said) {
             Ok(()) => {}
             Err(_) => {
