@@ -1,5 +1,6 @@
 -- What workers of a script leave is the script's report.
-use Rattle.std.proofs.Common.{◌≡◌, ◌⊎◌, inl, inr, ℕ, ◌*◌, ◌≤◌, false, List, [], ◌∷◌, length, map, None, refl, sym, ap, subst, ◌∙◌, arith}
+use Rattle.std.proofs.Common.{◌≡◌, ◌⊎◌, inl, inr, ℕ, ◌*◌, ◌≤◌, false, List, [], ◌∷◌, length, map, None}
+use Rattle.std.proofs.Common.{refl, sym, ap, subst, ◌∙◌, arith}
 use Rattle.std.proofs.lemmas.List.{length-map}
 use Rattle.std.proofs.lemmas.List.Elements.{All-from_recursion, recursion_from_All}
 use Rattle.std.proofs.lemmas.List.Sums.{sum_by-cons}
@@ -94,17 +95,17 @@ module _ {G : Type 0} where
   module _ (book : TableId) (roles : List Role) (shape : Shape) (share : Share) (had has : List (Worker G)) (r : Result CensusNow Refusal)
       (each : AllZip (HasRole book) roles had) (works : IfOk r (Shifts ℕ Does shape share had has))
       (kept : IfErr r (λ why. (why ≡ NotSole) ⊎ (has ≡ had))) (parted : IfErr r (λ why. why ≡ NotSole → IsParted ℕ Does shape share had has))
-      where
-    pub workers_left : length has ≡ length roles
-    workers_left =
-        (still book shape share had has r (all_share book roles had each) works kept parted).many ∙ same_many (HasRole book) roles had each
+    where
+      pub workers_left : length has ≡ length roles
+      workers_left =
+          (still book shape share had has r (all_share book roles had each) works kept parted).many ∙ same_many (HasRole book) roles had each
 
-    pub shares_left : (ss : List ShareNow) → ss ≡ map (λ (w : Worker G). w.log.share) has
-        → All (λ (s : ShareNow). s.book ≡ book) ss × (length ss ≡ length roles)
-    shares_left ss is = (
-      shares_still book has ss is (still book shape share had has r (all_share book roles had each) works kept parted).share,
-      ap length is ∙ (length-map has (λ (w : Worker G). w.log.share) ∙ workers_left),
-    )
+      pub shares_left : (ss : List ShareNow) → ss ≡ map (λ (w : Worker G). w.log.share) has
+          → All (λ (s : ShareNow). s.book ≡ book) ss × (length ss ≡ length roles)
+      shares_left ss is = (
+        shares_still book has ss is (still book shape share had has r (all_share book roles had each) works kept parted).share,
+        ap length is ∙ (length-map has (λ (w : Worker G). w.log.share) ∙ workers_left),
+      )
 
   -- the workers were ready for their threads, came to their ends, and had the slots that these need
   pub performed : (script : ScriptView) (census : CensusNow) (shape : Shape) (share : Share) (had has : List (Worker G))

@@ -24,7 +24,8 @@ IsFor part kinds tasks = (part.kinds ≡ kinds) × (tasks ≡ tasks_from 1 part.
 
 -- the share is of the same book; and the worker couldn't go on, or asked for each object that the tasks ask for
 abbrev pub HasAskedAll : List Task → Log → Log → Type 0
-HasAskedAll tasks w x = (x.share.book ≡ w.share.book) × ((x.lost ≡ true) ⊎ (x.asked ≡ w.asked + asked_in tasks))
+HasAskedAll tasks w x =
+    (x.share.book ≡ w.share.book) × ((x.lost ≡ true) ⊎ (x.asked ≡ w.asked + asked_in tasks))
 
 -- a new table is left as the last act of its thread leaves it, with these lines, or the worker couldn't go on
 abbrev pub IsWorked : List Kind → List Task → Log → TableNow ℕ → Log → TableNow ℕ → Type 0

@@ -1,5 +1,6 @@
 //! What a worker notes of its acts: lines, and what it adds to its share.
-ghost use Rattle.std.specs.Prelude.{◌≡◌, ◌⊎◌, ◌+◌, ◌<◌, ◌≤◌, ◌++◌, ◌||◌, true, false, is_some, length, None, Some};
+ghost use Rattle.std.specs.Prelude.{◌≡◌, ◌⊎◌, ◌+◌, ◌<◌, ◌≤◌, ◌++◌, ◌||◌, true, false};
+ghost use Rattle.std.specs.Prelude.{is_some, length, None, Some};
 ghost use Rattle.step_threads.specs.declared.said.Answer.TheVariants as says;
 ghost use Rattle.script_runner.specs.Logs.{told_line};
 ghost use Rattle.script_runner.specs.Totals.{objects_asked as asks_for, refuses as says_full};
@@ -24,12 +25,14 @@ impl<'a> Log<'a> {
         self.asked == u32::MAX || self.said.len() >= u32::MAX as usize
     }
 
-    /// An object that was made is added to the share: the act asked for one, and its answer isn't that there is no block.
+    /// An object that was made is added to the share: the act asked for one, and its answer isn't that there is no
+    /// block.
     pub(crate) fn add_made(&mut self, act: Act, answer: Option<Answer>)
         requires { says_full answer ≤ asks_for act }
         ensures same { (self.new.said ≡ self.old.said) × (self.new.taken ≡ self.old.taken) }
         ensures book { self.new.share.book ≡ self.old.share.book }
-        ensures asked { (self.new.lost ≡ true) ⊎ (self.new.asked + says_full answer ≡ self.old.asked + asks_for act) }
+        ensures asked { (self.new.lost ≡ true)
+            ⊎ (self.new.asked + says_full answer ≡ self.old.asked + asks_for act) }
     {
         if self.lost {
             return;
