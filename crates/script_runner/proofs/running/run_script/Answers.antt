@@ -1,8 +1,42 @@
-use Rattle.std.proofs.Common.{length, refl, sym, subst, ◌∙◌, arith}
+use Rattle.std.proofs.Common.{◌≡◌, length, refl, sym, ap, subst, ◌∙◌, arith}
 use Rattle.std.proofs.lemmas.List.{length-map, length-replicate}
 use Rattle.ownership_ledger.specs.Now.{IsLast, new_share}
-use Rattle.script_runner.proofs.Casting.{all_new, same_many}
-use Rattle.script_runner.proofs.Reporting.{few_lines, reported}
+use Rattle.script_runner.proofs.Casting.{same_many}
+use Rattle.script_runner.proofs.Reporting.{reported}
 use Rattle.script_runner.specs.Casts.{IsRoleFor}
 use Rattle.script_text.specs.Scripts.{part_in, program_in}
 use Rattle.script_runner.proofs.running.run_script.Goals as goal
+
+pub perform-worked-requires-clause-many : goal.perform-worked-requires-clause-many
+perform-worked-requires-clause-many g c κs within =
+    let threads = c.args.script.now.threads in
+    ap length c.in_ok-book.ensures.shares
+    ∙ (length-replicate c.threads.result (new_share c.in_ok-book.book.id c.threads.result)
+    ∙ (c.threads.ensures.number
+    ∙ sym (same_many IsRoleFor (program_in threads) c.in_ok-roles.roles.items c.in_ok-roles.ensures.each ∙ length-map threads part_in)))
+
+pub perform-worked-requires-clause-room : goal.perform-worked-requires-clause-room
+perform-worked-requires-clause-room g c κs within =
+    let threads = c.args.script.now.threads in
+    let many : length c.in_ok-roles.roles.items ≡ length threads =
+    same_many IsRoleFor (program_in threads) c.in_ok-roles.roles.items c.in_ok-roles.ensures.each ∙ length-map threads part_in in
+    let items = c.in_ok-roles.roles.ok.0 in
+    let long = c.len.ensures in
+    let lines = c.in-Ok.ensures.capacity in
+    let number = c.threads.ensures.number in
+    let shares = c.in_ok-book.ensures.room in
+    (c.in-Ok.ensures.items, omega (arith, items, long, lines), omega (arith, many, number, shares))
+
+pub returns-clause-report : goal.returns-clause-report
+returns-clause-report g c =
+    let totals = c.gather-totals.ensures in
+    let workers = c.threads.result in
+    let many : c.in_ok-book.book.workers ≡ length c.perform-worked.new.shares.items =
+    c.in_ok-book.ensures.book
+    ∙ sym (c.in-Ok-worked.ensures.many
+    ∙ (ap length c.in_ok-book.ensures.shares ∙ length-replicate workers (new_share c.in_ok-book.book.id workers))) in
+    reported c.args.script.now _ c.perform-worked.new.shares.items c.in-Ok-worked.ensures.run (record {
+      book = subst (λ n. IsLast n c.gather-totals.result) many totals.book;
+      made = totals.made;
+      ended = totals.ended;
+    })
