@@ -24,7 +24,7 @@ use Rattle.ownership_ledger.specs.Now.{ShareNow}
 use Rattle.script_runner.proofs.Casting.{AllShare, Does, all_added, all_play, all_said, all_share, as_many, same_many, still_share}
 use Rattle.script_runner.proofs.Summing.{all_ended, all_made, sum_ended, sum_made}
 use Rattle.script_runner.proofs.Weaving.{teams_interleave}
-use Rattle.script_runner.specs.Casts.{HasRole, HasSaid, IsReadyFor}
+use Rattle.script_runner.specs.Casts.{HasRole, IsReadyFor}
 use Rattle.script_runner.specs.Deals.{field_0}
 use Rattle.script_runner.specs.Reports.{HasAdded, IsGathered, IsPerformed, IsReport, domain_shape}
 use Rattle.script_runner.specs.Teams.{IsInterleaved}

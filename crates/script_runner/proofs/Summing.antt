@@ -7,15 +7,15 @@ use Rattle.std.proofs.lemmas.List.{append-nil}
 use Rattle.std.specs.List.{AllByRecursion}
 use Rattle.std.specs.Prelude.{IfSome, is_some}
 use Rattle.control_block.specs.Own.{KeepsDesks}
-use Rattle.control_word.specs.Histories.{entry, leads}
+use Rattle.control_word.specs.Histories.{leads}
 use Rattle.control_word.specs.State.{Has, Opening}
 use Rattle.control_word.specs.declared.model.event.Entry.{Entry}
 use Rattle.control_word.specs.declared.model.event.Event.{Event}
 use Rattle.control_word.specs.declared.model.event.Event.TheVariants as event
 use Rattle.script_runner.proofs.Logging.{own_said, said_append}
-use Rattle.script_runner.proofs.Reckoning.{Steps, does_at, settled_asks}
-use Rattle.script_runner.proofs.Tallying.{ends_of, makes_of, tells}
-use Rattle.script_runner.specs.Teams.{AllAbove, AllMarked, AreRising}
+use Rattle.script_runner.proofs.Reckoning.{does_at, settled_asks}
+use Rattle.script_runner.proofs.Tallying.{ends_of, makes_of}
+use Rattle.script_runner.specs.Teams.{AllAbove, AreRising}
 use Rattle.script_runner.specs.Totals.{asked_in, count_ended_by, count_ended_in, ends, made_by, count_made_in, makes, refused_in, refuses, told_in}
 use Rattle.step_table.specs.declared.memory.ended.Ended.{Ended}
 use Rattle.step_table.specs.declared.memory.form.Form.{Form}
@@ -23,7 +23,7 @@ use Rattle.step_threads.specs.Acts.{tasks_from}
 use Rattle.step_table.specs.Holdings.{Slots, is_full, slot_pointer}
 use Rattle.step_threads.specs.Courses.{Walk, hand}
 use Rattle.step_threads.specs.declared.programs.act.Act.TheVariants as act
-use Rattle.step_threads.specs.Doings.{Ahead, AnAct, AnEnd, Doing, GoesThrough, Over, ahead, ahead_of, lines, onto, put_on, spoken}
+use Rattle.step_threads.specs.Doings.{AnAct, AnEnd, Doing, GoesThrough, Over, ahead, ahead_of, lines, onto, put_on, spoken}
 use Rattle.step_threads.specs.Interleavings.{IsSplitOrJoin, Marked, first_walk, no_slots, said_on}
 use Rattle.step_threads.specs.Programs.{Part}
 use Rattle.step_threads.specs.declared.programs.act.Task.{Task}

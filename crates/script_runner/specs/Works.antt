@@ -11,7 +11,6 @@ use Rattle.step_threads.specs.Acts.{tasks_from}
 use Rattle.step_threads.specs.Interleavings.{no_slots}
 use Rattle.step_threads.specs.Programs.{Part}
 use Rattle.step_threads.specs.declared.programs.act.Task.{Task}
-use Rattle.step_threads.specs.declared.programs.call.Actor.{Actor}
 use Rattle.control_word.specs.declared.model.handle.Kind.{Kind}
 
 -- a new table's first slots are so many empty names

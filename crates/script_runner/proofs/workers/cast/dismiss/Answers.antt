@@ -1,6 +1,5 @@
-use Rattle.std.proofs.Common.{[], ◌∷◌, length, reverse, refl, sym, ap, ◌∙◌, arith}
+use Rattle.std.proofs.Common.{[], length, reverse, sym, ap, arith}
 use Rattle.std.proofs.lemmas.List.{append-nil}
-use Rattle.script_runner.proofs.Casting as casting
 use Rattle.script_runner.proofs.workers.cast.dismiss.Goals as goal
 
 pub loop-worker-init : goal.loop-worker-init

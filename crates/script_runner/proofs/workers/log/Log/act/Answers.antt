@@ -1,9 +1,8 @@
-use Rattle.std.proofs.Common.{ℕ, false, refl, sym, ap, subst, ◌∙◌, ◌++◌, arith}
+use Rattle.std.proofs.Common.{ℕ, refl, sym, ap, subst, ◌∙◌, ◌++◌, arith}
 use Rattle.std.specs.Global.{Vec}
 use Rattle.handle_table.specs.Tables.{TableNow}
 use Rattle.script_runner.specs.Deals.{IsHandOfTable, statement_says}
 use Rattle.script_runner.specs.Logs.{told_line}
-use Rattle.script_runner.proofs.Acting.{went}
 use Rattle.script_runner.proofs.Noting.{dealt_refuses}
 use Rattle.step_threads.specs.declared.said.Said.{Said}
 use Rattle.script_runner.proofs.Stepping as steps

@@ -1,4 +1,4 @@
-use Rattle.std.proofs.Common.{ℕ, true, false, refl, sym, ap, subst, ◌∙◌}
+use Rattle.std.proofs.Common.{ℕ, true, refl, sym, ap, subst, ◌∙◌}
 use Rattle.handle_table.specs.Tables.{TableNow}
 use Rattle.script_runner.specs.Deals.{IsHandOfTable}
 use Rattle.script_runner.proofs.Stepping as steps
