@@ -26,7 +26,7 @@ use Rattle.step_table.specs.declared.memory.field.Field.{Field}
 use Rattle.step_table.specs.declared.memory.form.Form.{Form}
 use Rattle.step_table.specs.declared.slots.holdings.Pointer.{Pointer}
 use Rattle.step_threads.specs.Courses.{idle}
-use Rattle.step_threads.specs.Doings.{IsMakeEvent, On}
+use Rattle.step_threads.specs.Doings.{On}
 use Rattle.step_threads.specs.Rows.{Found, Got, Plain, Reply, row}
 use Rattle.step_threads.specs.Scenes as scenes
 use Rattle.step_threads.specs.declared.programs.act.Act.TheVariants as act

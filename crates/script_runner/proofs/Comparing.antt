@@ -42,7 +42,6 @@ use Rattle.step_table.specs.Holdings.{Slots, is_full, pointer_of, slot_pointer, 
 use Rattle.step_table.specs.declared.memory.form.Form.{Form}
 use Rattle.step_table.specs.declared.slots.slot.Slot.{Slot}
 use Rattle.step_threads.specs.Courses.{cell_of_name, hand as hand_of, idle, other as other_of, slots_idle}
-use Rattle.step_threads.specs.Doings.{IsCompareEvent}
 use Rattle.step_threads.specs.Programs.{kind_at}
 use Rattle.step_threads.specs.Rows.{Compared}
 use Rattle.step_threads.specs.declared.programs.act.Act.TheVariants as act

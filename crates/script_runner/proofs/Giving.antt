@@ -9,7 +9,7 @@ use Rattle.control_block.specs.declared.handles.Held.{Held}
 use Rattle.control_block.specs.declared.handles.Shared.{Shared}
 use Rattle.control_block.specs.declared.handles.Weak as weak_handle
 use Rattle.control_word.specs.Events.{place_at}
-use Rattle.control_word.specs.Handles.{owner, empty, handle, rank, same_place}
+use Rattle.control_word.specs.Handles.{empty, handle, rank, same_place}
 use Rattle.control_word.specs.Words.{blocks_of}
 use Rattle.control_word.specs.declared.model.event.Event.TheVariants as event
 use Rattle.control_word.specs.declared.model.handle.Kind.TheVariants as kind

@@ -36,6 +36,6 @@ pub mod Weaving
 pub mod Tallying
 pub mod Reckoning
 pub mod Summing
-pub mod Counting
+pub mod Noting
 pub mod Casting
 pub mod Reporting

@@ -4,10 +4,10 @@ use Rattle.std.proofs.Common.{◌≡◌, ◌⊎◌, ℕ, ◌<◌, Bool, true, fa
 use Rattle.std.proofs.lemmas.List.{set-get_or}
 use Rattle.std.specs.Prelude.{option_map, slice_set}
 use Rattle.control_block.specs.Desks.{on_latest, state_of}
-use Rattle.control_block.specs.declared.handles.Held.TheVariants.{Owner, Weak}
+use Rattle.control_block.specs.declared.handles.Held.TheVariants.{Weak}
 use Rattle.control_block.specs.declared.handles.Shared.{Shared}
 use Rattle.control_block.specs.declared.handles.Weak as weak_handle
-use Rattle.control_word.specs.Handles.{weak_of, handle}
+use Rattle.control_word.specs.Handles.{weak_of}
 use Rattle.control_word.specs.declared.model.event.Event.TheVariants as event
 use Rattle.control_word.specs.declared.model.event.Event.{Event}
 use Rattle.control_word.specs.declared.model.handle.Kind.TheVariants as kind
@@ -30,7 +30,7 @@ use Rattle.step_table.specs.Holdings.{plain, slot_pointer, slot_value, weak_slot
 use Rattle.step_table.specs.declared.memory.form.Form.{Form}
 use Rattle.step_table.specs.declared.slots.holdings.Pointer.{Pointer}
 use Rattle.step_threads.specs.Courses.{hand as hand_of}
-use Rattle.step_threads.specs.Doings.{IsMakeEvent, On}
+use Rattle.step_threads.specs.Doings.{On}
 use Rattle.step_threads.specs.Rows.{Found, Got}
 use Rattle.step_threads.specs.Scenes.{taking}
 use Rattle.step_threads.specs.declared.programs.act.Act.TheVariants as act

@@ -16,7 +16,6 @@ use Rattle.script_runner.specs.Logs.{TellsThread, told_line}
 use Rattle.script_runner.specs.Seats.{Acts, IsQuiet, IsToldEnding}
 use Rattle.script_runner.specs.declared.acts.went.Went.{Went}
 use Rattle.shared_handle.specs.declared.endings.Ending as pile
-use Rattle.shared_handle.specs.declared.pile.Round.TheVariants.{Ended}
 use Rattle.step_table.specs.declared.memory.ended.Ended as ended
 use Rattle.step_threads.specs.Courses.{idle, walk_settled}
 use Rattle.step_threads.specs.Rows.{Reply, row, said_by_row}

@@ -24,7 +24,7 @@ use Rattle.script_runner.specs.Deals.{GoesOnWith, IsEmptied, field_0, thread_slo
 use Rattle.script_runner.specs.Seats.{Done, IsQuiet, IsSeated}
 use Rattle.script_runner.specs.Teams.{AllBare, HasNoObject, PlaysThread}
 use Rattle.script_runner.specs.Works.{IsBegun, IsWorked}
-use Rattle.script_runner.specs.declared.log.Log.{Log}
+use Rattle.script_runner.specs.declared.workers.log.Log.{Log}
 use Rattle.step_table.specs.Holdings.{Slots, plain, pointer_of, slot_pointer, slot_value}
 use Rattle.step_table.specs.declared.memory.ended.Ended.{Ended}
 use Rattle.step_threads.specs.Doings.{IsLeaveEvent}

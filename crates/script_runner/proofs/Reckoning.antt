@@ -5,7 +5,7 @@ use Rattle.std.specs.Prelude.{IfSome}
 use Rattle.control_block.specs.Own.{KeepsDesks}
 use Rattle.control_word.specs.State.{State}
 use Rattle.script_runner.proofs.Tallying.{act_counts, ends_of, makes_of, mild_some, tells}
-use Rattle.script_runner.specs.Totals.{asked_in, objects_asked, ends, makes, refuses}
+use Rattle.script_runner.specs.Totals.{asked_in, objects_asked, refuses}
 use Rattle.step_table.specs.Holdings.{Slots, is_full, slot_pointer}
 use Rattle.step_table.specs.declared.memory.form.Form.{Form}
 use Rattle.step_threads.specs.Courses.{Walk, hand, idle, walk_settled, slots_idle, taken_idle}

@@ -1,29 +1,36 @@
 -- What workers of a script leave is the script's report.
-use Rattle.std.proofs.Common.{◌≡◌, ◌⊎◌, ℕ, ◌*◌, ◌≤◌, List, length, map, None, refl, sym, ap, subst, ◌∙◌, arith}
+use Rattle.std.proofs.Common.{◌≡◌, ◌⊎◌, inl, inr, ℕ, ◌*◌, ◌≤◌, false, List, [], ◌∷◌, length, map, None}
+use Rattle.std.proofs.Common.{refl, sym, ap, subst, ◌∙◌, arith}
 use Rattle.std.proofs.lemmas.List.{length-map}
-use Rattle.std.proofs.lemmas.List.Elements.{recursion_from_All}
+use Rattle.std.proofs.lemmas.List.Elements.{All-from_recursion, recursion_from_All}
+use Rattle.std.proofs.lemmas.List.Sums.{sum_by-cons}
 use Rattle.std.specs.Global.{Vec}
 use Rattle.std.specs.List.{AllByRecursion, AllZip}
-use Rattle.std.specs.Prelude.{All}
+use Rattle.std.specs.Prelude.{All, Err, IfErr, IfOk, Ok, Result, sum_by}
+use Rattle.atomic_table.specs.Seated.{TableId}
 use Rattle.control_block.specs.Census.{CensusNow}
 use Rattle.control_block.specs.Rule.{opening_of}
 use Rattle.control_word.specs.Histories.{IsLegal}
 use Rattle.control_word.specs.Layout.{IsWithinLimits}
 use Rattle.control_word.specs.State.{Has}
 use Rattle.control_word.specs.declared.model.event.Entry.{Entry}
+use Rattle.control_word.specs.declared.refusal.Refusal.{Refusal}
+use Rattle.control_word.specs.declared.refusal.Refusal.TheVariants.{NotSole}
 use Rattle.control_word.specs.declared.shape.Shape.{Shape}
 use Rattle.handle_table.specs.Parting.{IsNew}
-use Rattle.handle_table.specs.Staffs.{Shifts}
+use Rattle.handle_table.specs.Staffs.{IsParted, Shifts}
 use Rattle.handle_table.specs.declared.staff.Share.{Share}
-use Rattle.script_runner.proofs.Casting.{Does, all_play, as_many, made_all, same_many}
-use Rattle.script_runner.proofs.Summing.{sum_ended, sum_made}
+use Rattle.ownership_ledger.specs.Now.{ShareNow}
+use Rattle.script_runner.proofs.Casting.{AllShare, Does, all_added, all_play, all_said, all_share, as_many, same_many, still_share}
+use Rattle.script_runner.proofs.Summing.{all_ended, all_made, sum_ended, sum_made}
 use Rattle.script_runner.proofs.Weaving.{teams_interleave}
-use Rattle.script_runner.specs.Casts.{AreTotals, HasSaid, IsReadyFor}
+use Rattle.script_runner.specs.Casts.{HasRole, IsReadyFor}
 use Rattle.script_runner.specs.Deals.{field_0}
-use Rattle.script_runner.specs.Reports.{IsReport, domain_shape}
+use Rattle.script_runner.specs.Reports.{HasAdded, IsGathered, IsPerformed, IsReport, domain_shape}
 use Rattle.script_runner.specs.Teams.{IsInterleaved}
 use Rattle.script_runner.specs.declared.reports.report.Report.{Report}
-use Rattle.script_runner.specs.declared.worker.Worker.{Worker}
+use Rattle.script_runner.specs.declared.workers.role.Role.{Role}
+use Rattle.script_runner.specs.declared.workers.worker.Worker.{Worker}
 use Rattle.script_text.specs.Beginnings.{shape_for}
 use Rattle.script_text.specs.Drafts.{ScriptView}
 use Rattle.script_text.specs.Scripts.{part_in, program_in}
@@ -41,50 +48,92 @@ in_shape script blocks threads shape is all many =
     ∙ ap {B = Shape} (λ (n : ℕ). record (shape_for (blocks_in script.version) n) { allowance = 65536 * n }) many
 
 module _ {G : Type 0} where
-  -- as many workers are left
-  pub same_workers : (shape : Shape) (share : Share) (had has : List (Worker G)) (c : CensusNow) → Shifts ℕ Does shape share had has c
-      → length has ≡ length had
-  same_workers shape share had has c s = let st = s.works.out.staffs in (as_many had st.lent has st.left st.each).2
-
   -- a domain that was within limits had few blocks
   pub few_blocks : (shape : Shape) (share : Share) (had has : List (Worker G)) (c : CensusNow) → Shifts ℕ Does shape share had has c
       → IsWithinLimits shape → c.blocks ≤ 65535
   few_blocks shape share had has c s within = let is = s.closed.blocks in let few = within.blocks in omega (arith, is, few)
 
-  -- each thread has its lines
-  pub line_count : (script : ScriptView) (had has : List (Worker G)) (lines : List (Vec Said)) → length has ≡ length had
-      → AllZip IsReadyFor (program_in script.threads) had → AllZip HasSaid has lines → length lines ≡ length script.threads
-  line_count script had has lines many ready said =
-      same_many HasSaid has lines said
-      ∙ (many ∙ (same_many IsReadyFor (program_in script.threads) had ready ∙ length-map script.threads part_in))
+  -- what those said is told of so many threads
+  line_count : (script : ScriptView) (had has : List (Worker G)) → length has ≡ length had
+      → AllZip IsReadyFor (program_in script.threads) had
+      → length (map (λ (v : Vec Said). v.items) (map (λ (w : Worker G). w.log.said) has)) ≡ length script.threads
+  line_count script had has many ready =
+      length-map (map (λ (w : Worker G). w.log.said) has) (λ (v : Vec Said). v.items)
+      ∙ (length-map has (λ (w : Worker G). w.log.said)
+      ∙ (many ∙ (same_many IsReadyFor (program_in script.threads) had ready ∙ length-map script.threads part_in)))
+
+  -- as many workers are left, each with a share of its book, also where they are refused
+  pub record AreStill (book : TableId) (had has : List (Worker G)) : Type 0 where
+    pub many : length has ≡ length had
+    pub share : AllShare book has
+
+  pub still : (book : TableId) (shape : Shape) (share : Share) (had has : List (Worker G)) (r : Result CensusNow Refusal) → AllShare book had
+      → IfOk r (Shifts ℕ Does shape share had has) → IfErr r (λ why. (why ≡ NotSole) ⊎ (has ≡ had))
+      → IfErr r (λ why. why ≡ NotSole → IsParted ℕ Does shape share had has) → AreStill book had has
+  still book shape share had has (Ok c) all works kept parted =
+      let st = works.works.out.staffs in
+      record { many = (as_many had st.lent has st.left st.each).2; share = still_share book had st.lent has st.left st.each all }
+  still book shape share had has (Err why) all works (inl not) parted =
+      let st = (parted not).works.out.staffs in
+      record { many = (as_many had st.lent has st.left st.each).2; share = still_share book had st.lent has st.left st.each all }
+  still book shape share had has (Err why) all works (inr same) parted =
+      subst (AreStill book had) (sym same) (record { many = refl; share = all })
+
+  -- and so are their shares
+  pub shares_still : (book : TableId) (xs : List (Worker G)) (ss : List ShareNow) → ss ≡ map (λ (w : Worker G). w.log.share) xs
+      → AllShare book xs → All (λ (s : ShareNow). s.book ≡ book) ss
+  shares_still book xs ss is all =
+      subst (All (λ (s : ShareNow). s.book ≡ book)) (sym is)
+      (All-from_recursion (λ (s : ShareNow). s.book ≡ book) (map (λ (w : Worker G). w.log.share) xs) (go xs all))
+    where
+      go : (xs : List (Worker G)) → AllShare book xs
+          → AllByRecursion (λ (s : ShareNow). s.book ≡ book) (map (λ (w : Worker G). w.log.share) xs)
+      go [] all = tt
+      go (x ∷ xs) all = (all.0, go xs all.1)
+
+  -- so much is left where each had a role, and a share of the book
+  module _ (book : TableId) (roles : List Role) (shape : Shape) (share : Share) (had has : List (Worker G)) (r : Result CensusNow Refusal)
+      (each : AllZip (HasRole book) roles had) (works : IfOk r (Shifts ℕ Does shape share had has))
+      (kept : IfErr r (λ why. (why ≡ NotSole) ⊎ (has ≡ had))) (parted : IfErr r (λ why. why ≡ NotSole → IsParted ℕ Does shape share had has))
+    where
+      pub workers_left : length has ≡ length roles
+      workers_left =
+          (still book shape share had has r (all_share book roles had each) works kept parted).many ∙ same_many (HasRole book) roles had each
+
+      pub shares_left : (ss : List ShareNow) → ss ≡ map (λ (w : Worker G). w.log.share) has
+          → All (λ (s : ShareNow). s.book ≡ book) ss × (length ss ≡ length roles)
+      shares_left ss is = (
+        shares_still book has ss is (still book shape share had has r (all_share book roles had each) works kept parted).share,
+        ap length is ∙ (length-map has (λ (w : Worker G). w.log.share) ∙ workers_left),
+      )
 
   -- the workers were ready for their threads, came to their ends, and had the slots that these need
-  pub reported : (script : ScriptView) (report : Report) (shape : Shape) (share : Share) (had has : List (Worker G))
+  pub performed : (script : ScriptView) (census : CensusNow) (shape : Shape) (share : Share) (had has : List (Worker G))
       → shape ≡ domain_shape script → AllZip IsReadyFor (program_in script.threads) had
-      → Shifts ℕ Does shape share had has report.census
-      → AllZip HasSaid has report.lines.items → AreTotals has report.totals → share.slots ≡ 34 → IsReport script report
-  reported script report given share had has same ready works said totals slots =
+      → Shifts ℕ Does shape share had has census → AllByRecursion (λ (w : Worker G). w.log.lost ≡ false) has → share.slots ≡ 34
+      → IsPerformed script (map (λ (v : Vec Said). v.items) (map (λ (w : Worker G). w.log.said) has)) census
+      (map (λ (w : Worker G). w.log.share) has)
+  performed script census given share had has same ready works kept slots =
       let shape = domain_shape script in
-      let s = subst (λ (k : Shape). Shifts ℕ Does k share had has report.census) same works in
+      let s = subst (λ (k : Shape). Shifts ℕ Does k share had has census) same works in
       let st = s.works.out.staffs in
       let first = s.works.first in
       let ps = program_in script.threads in
-      let ls = map (λ (v : Vec Said). v.items) report.lines.items in
+      let vs = map (λ (w : Worker G). w.log.said) has in
+      let ls = map (λ (v : Vec Said). v.items) vs in
+      let said = all_said has kept in
       let many = as_many had st.lent has st.left st.each in
       let new : AllByRecursion (IsNew 34) st.lent =
       recursion_from_All (IsNew 34) st.lent (subst (λ n. All (IsNew n) st.lent) slots st.new) in
-      let play = all_play ps had st.lent has st.left report.lines.items ready new st.each said in
+      let play = all_play ps had st.lent has st.left vs ready new st.each said in
       let at : first.desk.shape ≡ shape = s.works.begins.shape ∙ s.of in
       let legal = subst (λ (k : Shape). IsLegal (opening_of k) s.last.seen) (sym at) s.closed.legal in
       let woven : IsInterleaved field_0 (opening_of shape) s.last.seen ps ls =
       subst (λ (k : Shape). IsInterleaved field_0 (opening_of k) s.last.seen ps ls) at
       (teams_interleave {V = ℕ} field_0 ps ls s.domain share.slots first s.works.out.after st.between s.last st.lent st.left share.allowance
       share.blocks s.works.begins s.works.new st.parts play st.absorbs s.works.out.winds_up legal) in
-      let others = recursion_from_All (λ (e : Entry ℕ). Has e.desk woven.names ⊎ IsSplitOrJoin e.event) s.last.seen woven.others in
-      let sums = made_all (opening_of shape) s.last.seen woven.names ps had st.lent has st.left report.lines.items ready st.each said
-      woven.each in
       record {
-        lines = line_count script had has report.lines.items many.2 ready said;
+        many = line_count script had has many.2 ready;
         team = record { workers = length had; slots = share.slots; allowance = share.allowance; blocks = share.blocks };
         manned = record { workers = length had; fewer = None };
         runs = record {
@@ -113,6 +162,51 @@ module _ {G : Type 0} where
           closed = s.closed;
         };
         interleaved = woven;
-        made = totals.0 ∙ (sums.0 ∙ sum_made woven.names s.last.seen woven.rising others);
-        ended = totals.1 ∙ (sums.1 ∙ sum_ended woven.names s.last.seen woven.rising others);
+        added = all_added (opening_of shape) s.last.seen woven.names ps had st.lent has st.left vs ready st.each said woven.each;
       }
+
+  pub performed_as : (script : ScriptView) (census : CensusNow) (has : List (Worker G)) (lines : List (Vec Said)) (shares : List ShareNow)
+      → lines ≡ map (λ (w : Worker G). w.log.said) has → shares ≡ map (λ (w : Worker G). w.log.share) has
+      → IsPerformed script (map (λ (v : Vec Said). v.items) (map (λ (w : Worker G). w.log.said) has)) census
+      (map (λ (w : Worker G). w.log.share) has)
+      → IsPerformed script (map (λ (v : Vec Said). v.items) lines) census shares
+  performed_as script census has lines shares said added is =
+      subst (λ (l : List (Vec Said)). IsPerformed script (map (λ (v : Vec Said). v.items) l) census shares) (sym said)
+      (subst (IsPerformed script (map (λ (v : Vec Said). v.items) (map (λ (w : Worker G). w.log.said) has)) census) (sym added) is)
+
+-- the sums of what was added to shares are what all names make and end
+sum_shares : (h : List (Entry ℕ)) (ns : List ℕ) (ss : List ShareNow) → AllZip (HasAdded h) ns ss
+    → (sum_by (λ (s : ShareNow). s.own.made) ss ≡ all_made ns h) × (sum_by (λ (s : ShareNow). s.own.ended) ss ≡ all_ended ns h)
+sum_shares h [] [] all = (refl, refl)
+sum_shares h (n ∷ ns) (s ∷ ss) all =
+    let ih = sum_shares h ns ss all.1 in
+    let made = ih.0 in
+    let ended = ih.1 in
+    let a = all.0.0 in
+    let b = all.0.1 in
+    let p = sum_by-cons (λ (s : ShareNow). s.own.made) s ss in
+    let q = sum_by-cons (λ (s : ShareNow). s.own.ended) s ss in (omega (arith, made, a, p), omega (arith, ended, b, q))
+sum_shares h [] (s ∷ ss) all = absurd all
+sum_shares h (n ∷ ns) [] all = absurd all
+
+-- what workers did, with the totals of their book, is a report
+pub reported : (script : ScriptView) (report : Report) (shares : List ShareNow)
+    → IsPerformed script (map (λ (v : Vec Said). v.items) report.lines.items) report.census shares → IsGathered shares report.totals
+    → IsReport script report
+reported script report shares run sums =
+    let woven = run.interleaved in
+    let h = run.runs.last.seen in
+    let others = recursion_from_All (λ (e : Entry ℕ). Has e.desk woven.names ⊎ IsSplitOrJoin e.event) h woven.others in
+    let own = sum_shares h woven.names shares run.added in
+    record {
+      shares = shares;
+      run = run;
+      gathered = sums;
+      made = sums.made ∙ (own.0 ∙ sum_made woven.names h woven.rising others);
+      ended = sums.ended ∙ (own.1 ∙ sum_ended woven.names h woven.rising others);
+    }
+
+-- there are few lines and few blocks
+pub few_lines : (script : ScriptView) (lines : List (Vec Said)) (census : CensusNow) (shares : List ShareNow)
+    → IsPerformed script (map (λ (v : Vec Said). v.items) lines) census shares → length lines ≡ length script.threads
+few_lines script lines census shares run = sym (length-map lines (λ (v : Vec Said). v.items)) ∙ run.many

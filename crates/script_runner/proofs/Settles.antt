@@ -26,7 +26,6 @@ use Rattle.step_threads.specs.Courses.{walk_settled}
 use Rattle.step_threads.specs.Interleavings.{first_walk, no_slots}
 use Rattle.step_threads.specs.Programs.{Part}
 use Rattle.step_threads.specs.declared.programs.act.Task.{Task}
-use Rattle.step_threads.specs.declared.ending.Ending.{Ending}
 use Rattle.step_threads.specs.declared.said.Said.{Said}
 use Rattle.control_block.specs.Desks.{object_in}
 

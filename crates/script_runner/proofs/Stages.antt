@@ -5,7 +5,6 @@ use Rattle.control_block.specs.Desks.{DeskNow}
 use Rattle.control_word.specs.declared.place.Block.{Block}
 use Rattle.control_word.specs.declared.place.Place.{Place}
 use Rattle.script_runner.specs.EndCalls.{IsAtStage}
-use Rattle.script_runner.specs.Logs.{told_line}
 use Rattle.shared_handle.specs.Endings.{EndsInHand, IsClearing, IsGone, IsLeft, IsUncleared, with_clear, IsAllClear}
 use Rattle.shared_handle.specs.Piles.{AllEnd, next_member}
 use Rattle.shared_handle.specs.declared.endings.Ending as pile
@@ -13,8 +12,6 @@ use Rattle.shared_handle.specs.declared.endings.Left.TheVariants as left
 use Rattle.shared_handle.specs.declared.endings.Left.{Left}
 use Rattle.shared_handle.specs.declared.endings.Member.TheVariants.{First, Next, Up}
 use Rattle.shared_handle.specs.declared.endings.Member.{Member}
-use Rattle.step_threads.specs.Rows.{walk_after_act}
-use Rattle.step_threads.specs.declared.ending.Ending.{Ending}
 
 abbrev pub first_or : {A : Type 0} → A → List A → A
 first_or a [] = a

@@ -7,15 +7,15 @@ use Rattle.std.proofs.lemmas.List.{append-nil}
 use Rattle.std.specs.List.{AllByRecursion}
 use Rattle.std.specs.Prelude.{IfSome, is_some}
 use Rattle.control_block.specs.Own.{KeepsDesks}
-use Rattle.control_word.specs.Histories.{entry, leads}
+use Rattle.control_word.specs.Histories.{leads}
 use Rattle.control_word.specs.State.{Has, Opening}
 use Rattle.control_word.specs.declared.model.event.Entry.{Entry}
 use Rattle.control_word.specs.declared.model.event.Event.{Event}
 use Rattle.control_word.specs.declared.model.event.Event.TheVariants as event
 use Rattle.script_runner.proofs.Logging.{own_said, said_append}
-use Rattle.script_runner.proofs.Reckoning.{Steps, does_at, settled_asks}
-use Rattle.script_runner.proofs.Tallying.{ends_of, makes_of, tells}
-use Rattle.script_runner.specs.Teams.{AllAbove, AllMarked, AreRising}
+use Rattle.script_runner.proofs.Reckoning.{does_at, settled_asks}
+use Rattle.script_runner.proofs.Tallying.{ends_of, makes_of}
+use Rattle.script_runner.specs.Teams.{AllAbove, AreRising}
 use Rattle.script_runner.specs.Totals.{asked_in, count_ended_by, count_ended_in, ends, made_by, count_made_in, makes, refused_in, refuses, told_in}
 use Rattle.step_table.specs.declared.memory.ended.Ended.{Ended}
 use Rattle.step_table.specs.declared.memory.form.Form.{Form}
@@ -23,7 +23,7 @@ use Rattle.step_threads.specs.Acts.{tasks_from}
 use Rattle.step_table.specs.Holdings.{Slots, is_full, slot_pointer}
 use Rattle.step_threads.specs.Courses.{Walk, hand}
 use Rattle.step_threads.specs.declared.programs.act.Act.TheVariants as act
-use Rattle.step_threads.specs.Doings.{Ahead, AnAct, AnEnd, Doing, GoesThrough, Over, ahead, ahead_of, lines, onto, put_on, spoken}
+use Rattle.step_threads.specs.Doings.{AnAct, AnEnd, Doing, GoesThrough, Over, ahead, ahead_of, lines, onto, put_on, spoken}
 use Rattle.step_threads.specs.Interleavings.{IsSplitOrJoin, Marked, first_walk, no_slots, said_on}
 use Rattle.step_threads.specs.Programs.{Part}
 use Rattle.step_threads.specs.declared.programs.act.Task.{Task}
@@ -40,13 +40,13 @@ pub told_append : (xs ys : List Said) → told_in (xs ++ ys) ≡ told_in xs + to
 told_append [] ys = omega arith
 told_append (x ∷ xs) ys = let ih = told_append xs ys in omega (arith, ih)
 
-line_refuses : (k : ℕ) (a : Option Answer) (e : Option Ended) (x : Said) → x ≡ record { statement = k; answer = a; ended = e }
+pub line_refuses : (k : ℕ) (a : Option Answer) (e : Option Ended) (x : Said) → x ≡ record { statement = k; answer = a; ended = e }
     → refused_in (cond (is_some a || is_some e) (x ∷ []) []) ≡ refuses a
 line_refuses k None None x is = refl
 line_refuses k None (Some e) x is = let t : refuses x.answer ≡ 0 = ap (λ (y : Said). refuses y.answer) is in omega (arith, t)
 line_refuses k (Some a) e x is = let t : refuses x.answer ≡ refuses (Some a) = ap (λ (y : Said). refuses y.answer) is in omega (arith, t)
 
-line_tells : (k : ℕ) (a : Option Answer) (e : Option Ended) (x : Said) → x ≡ record { statement = k; answer = a; ended = e }
+pub line_tells : (k : ℕ) (a : Option Answer) (e : Option Ended) (x : Said) → x ≡ record { statement = k; answer = a; ended = e }
     → told_in (cond (is_some a || is_some e) (x ∷ []) []) ≡ cond (is_some e) 1 0
 line_tells k None None x is = refl
 line_tells k None (Some e) x is =

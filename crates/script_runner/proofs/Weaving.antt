@@ -1,13 +1,12 @@
 -- A history has nothing but what its threads do, and the splits and joins of the desk that lent them their tables.
-use Rattle.std.proofs.Common.{◌≡◌, ◌⊎◌, inl, inr, ℕ, suc, ◌<◌, ◌≤◌, ◌==◌, Bool, true, false, cond}
-use Rattle.std.proofs.Common.{List, [], ◌∷◌, ◌++◌, Option, Some, None, refl, sym, ap, subst, ◌∙◌, arith}
+use Rattle.std.proofs.Common.{◌≡◌, ◌⊎◌, inl, inr, ℕ, ◌<◌, ◌≤◌, ◌==◌, true, false}
+use Rattle.std.proofs.Common.{List, [], ◌∷◌, refl, sym, ap, subst, ◌∙◌, arith}
 use Rattle.std.proofs.Common.{eq-eqb}
-use Rattle.std.proofs.lemmas.Bool.{cases_lt, cond-false, cond-true, cond_both}
+use Rattle.std.proofs.lemmas.Bool.{cases_lt, cond-true, cond_both}
 use Rattle.std.proofs.lemmas.List.Elements.{All-from_recursion}
 use Rattle.std.specs.List.{AllByRecursion}
-use Rattle.std.specs.Prelude.{All}
-use Rattle.control_block.proofs.Own.{calls_add, joins_add, splits_add}
-use Rattle.control_block.specs.Desks.{IsFirstDesk, DeskNow, DomainNow}
+use Rattle.control_block.proofs.Own.{joins_add, splits_add}
+use Rattle.control_block.specs.Desks.{DeskNow}
 use Rattle.control_block.specs.Own.{KeepsDesks, events_of, own_of}
 use Rattle.control_block.specs.Rule.{opening_of}
 use Rattle.control_word.specs.Events.{Asks, after}
@@ -17,14 +16,14 @@ use Rattle.control_word.specs.declared.model.event.Cell.TheVariants.{Free, Membe
 use Rattle.control_word.specs.declared.model.event.Entry.{Entry}
 use Rattle.control_word.specs.declared.model.event.Event.{Event}
 use Rattle.control_word.specs.declared.model.event.Event.TheVariants as event
-use Rattle.handle_table.specs.Parting.{AbsorbsAll, IsNew, IsPartedInto, WindsUp}
+use Rattle.handle_table.specs.Parting.{AbsorbsAll, IsPartedInto}
 use Rattle.handle_table.specs.Tables as table
 use Rattle.handle_table.specs.Tables.{AllVacant, TableNow}
 use Rattle.script_runner.proofs.Summing.{KeepsAt, marked_keeps}
 use Rattle.script_runner.proofs.Teams.{quiet_wound, teams_play}
-use Rattle.script_runner.specs.Teams.{AllBare, AllMarked, AllPlay, HasNoObject, IsInterleaved, TeamsInterleave, desk_names}
+use Rattle.script_runner.specs.Teams.{AllBare, AllMarked, HasNoObject, TeamsInterleave, desk_names}
 use Rattle.step_table.specs.declared.memory.form.Form.{Form}
-use Rattle.step_threads.specs.Interleavings.{IsSplitOrJoin, Marked}
+use Rattle.step_threads.specs.Interleavings.{IsSplitOrJoin}
 use Rattle.step_threads.specs.Programs.{Part}
 use Rattle.step_threads.specs.declared.said.Said.{Said}
 

@@ -2,7 +2,7 @@
 use Rattle.std.specs.Prelude.{◌≡◌, ◌⊎◌, ◌<◌, ◌+◌, ◌∷◌, ◌++◌}
 use Rattle.std.specs.Prelude.{ℕ, Bool, true, false, List, []}
 use Rattle.std.specs.Prelude.{None, IfNone, IfSome, Option, get_or, slice_get, Some}
-use Rattle.control_block.specs.Desks.{DeskNow, object_in}
+use Rattle.control_block.specs.Desks.{object_in}
 use Rattle.handle_table.specs.Handles.{EmptiesSlot, EmptiesSlotWeakly}
 use Rattle.handle_table.specs.Tables.{TableNow}
 use Rattle.handle_table.specs.declared.fault.Fault.TheVariants.{Call}
@@ -12,8 +12,6 @@ use Rattle.control_word.specs.declared.refusal.Refusal.{Refusal}
 use Rattle.step_threads.specs.declared.said.Answer.TheVariants as answer
 use Rattle.script_runner.specs.CellCalls.{ByCompare, ByDiffering}
 use Rattle.script_runner.specs.EndCalls.{Piled, TakesThread}
-use Rattle.script_runner.specs.Goings.{task}
-use Rattle.script_runner.specs.Logs.{told_line}
 use Rattle.script_runner.specs.Seats.{Acts, IsQuiet, IsSeated, shown_slots}
 use Rattle.script_runner.specs.declared.acts.went.Went.{Went}
 use Rattle.shared_handle.specs.Piles.{AllEnd}

@@ -1,30 +1,55 @@
 -- What a run of a script on real workers leaves. All of it is own.
-use Rattle.std.specs.Prelude.{◌≡◌, ℕ, ◌*◌, length, map}
+use Rattle.std.specs.Prelude.{◌≡◌, ℕ, ◌*◌, length, List, map, sum_by}
+use Rattle.std.specs.List.{AllZip}
+use Rattle.control_block.specs.Census.{CensusNow}
 use Rattle.control_block.specs.Rule.{opening_of}
+use Rattle.control_word.specs.declared.model.event.Entry.{Entry}
 use Rattle.control_word.specs.declared.shape.Shape.{Shape}
 use Rattle.handle_table.specs.Programs.{Runs}
 use Rattle.handle_table.specs.declared.program.Manned.{Manned}
 use Rattle.handle_table.specs.declared.program.Team.{Team}
+use Rattle.ownership_ledger.specs.Now.{IsLast, ShareNow}
+use Rattle.ownership_ledger.specs.declared.share.Totals.{Totals}
 use Rattle.script_text.specs.Beginnings.{script_shape}
 use Rattle.script_text.specs.Drafts.{ScriptView}
 use Rattle.script_text.specs.Scripts.{program_in}
 use Rattle.script_runner.specs.Deals.{field_0}
 use Rattle.script_runner.specs.Teams.{IsInterleaved}
-use Rattle.script_runner.specs.Totals.{count_ended_in, count_made_in}
+use Rattle.script_runner.specs.Totals.{count_ended_by, count_ended_in, made_by, count_made_in}
 use Rattle.script_runner.specs.declared.reports.report.Report.{Report}
+use Rattle.step_threads.specs.declared.said.Said.{Said}
 
 -- the domain of a script's workers has as many blocks and cells as its world, and room for each worker's allowance
 abbrev pub domain_shape : ScriptView → Shape
 domain_shape script = record (script_shape script) { allowance = 65536 * length script.threads }
 
+-- what was added to a share is what the history has under a name
+abbrev pub HasAdded : {V : Type 0} → List (Entry V) → ℕ → ShareNow → Type 0
+HasAdded h n s = (s.own.made ≡ made_by n h) × (s.own.ended ≡ count_ended_by n h)
+
 -- A team worked in the domain, which was closed without a handle left in any hands. The desk that closed it has seen
--- all, and that is an interleaving of the threads, each with its lines
-pub record IsReport (script : ScriptView) (report : Report) : Type 0 where
-  pub lines : length report.lines.items ≡ length script.threads
+-- all, and that is an interleaving of the threads, each with its lines. Each thread has a share of a book, to which its
+-- makes and the ends of its objects were added
+pub record IsPerformed (script : ScriptView) (lines : List (List Said)) (census : CensusNow) (shares : List ShareNow)
+    : Type 0 where
+  pub many : length lines ≡ length script.threads
   pub team : Team
   pub manned : Manned
-  pub runs : Runs ℕ (domain_shape script) team manned report.census
+  pub runs : Runs ℕ (domain_shape script) team manned census
   pub interleaved : IsInterleaved field_0 (opening_of (domain_shape script)) runs.last.seen
-      (program_in script.threads) (map (λ v. v.items) report.lines.items)
-  pub made : report.totals.made ≡ count_made_in runs.last.seen
-  pub ended : report.totals.ended ≡ count_ended_in runs.last.seen
+      (program_in script.threads) lines
+  pub added : AllZip (HasAdded runs.last.seen) interleaved.names shares
+
+-- the totals are those that the book of these shares ends with, which are the sums of what was added to them
+pub record IsGathered (shares : List ShareNow) (t : Totals) : Type 0 where
+  pub book : IsLast (length shares) t
+  pub made : t.made ≡ sum_by (λ s. s.own.made) shares
+  pub ended : t.ended ≡ sum_by (λ s. s.own.ended) shares
+
+-- a run of the script, with the totals of its book: as many objects as the history makes, and as end in it
+pub record IsReport (script : ScriptView) (report : Report) : Type 0 where
+  pub shares : List ShareNow
+  pub run : IsPerformed script (map (λ v. v.items) report.lines.items) report.census shares
+  pub gathered : IsGathered shares report.totals
+  pub made : report.totals.made ≡ count_made_in run.runs.last.seen
+  pub ended : report.totals.ended ≡ count_ended_in run.runs.last.seen

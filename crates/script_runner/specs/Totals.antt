@@ -1,6 +1,6 @@
 -- How many objects a history makes and how many end in it, all together and under a name; and what a thread's tasks and
 -- lines say of that. All of it is own.
-use Rattle.std.specs.Prelude.{ℕ, ◌+◌, ◌-◌, ◌==◌, cond, is_some, List, [], ◌∷◌, Option, None, Some}
+use Rattle.std.specs.Prelude.{ℕ, ◌+◌, ◌==◌, cond, is_some, List, [], ◌∷◌, Option, Some}
 use Rattle.control_word.specs.declared.model.event.Entry.{Entry}
 use Rattle.control_word.specs.declared.model.event.Event.{Event}
 use Rattle.control_word.specs.declared.model.event.Event.TheVariants.{Leave, Make}

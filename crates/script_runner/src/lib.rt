@@ -4,11 +4,9 @@
 mod acts;
 mod gate;
 mod laws;
-mod log;
 mod reports;
 mod running;
-mod seats;
-mod worker;
+mod workers;
 
 pub use gate::{Gate, Open};
 pub use laws::{desk_calls, table_calls, team_laws, worker_logs};

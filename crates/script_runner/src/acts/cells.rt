@@ -8,7 +8,7 @@ ghost use Rattle.script_runner.specs.Deals.{IsActed, IsDealt, IsThird};
 ghost use Rattle.script_runner.specs.Seats.{IsHand, IsSeated};
 
 use crate::acts::went::Went;
-use crate::seats::seen;
+use crate::workers::seats::seen;
 use handle_table::{Cell, Fault, HandleTable, Home, SharedMember};
 use std::sync::Wait;
 use step_core::{Answer, CellName, Kind};

@@ -5,7 +5,7 @@ ghost use Rattle.script_runner.specs.Deals.{IsActed, IsDealt};
 ghost use Rattle.script_runner.specs.Seats.{IsSeated};
 
 use crate::acts::went::Went;
-use crate::seats::{empty, is_full, top_of};
+use crate::workers::seats::{empty, is_full, top_of};
 use handle_table::{Fault, HandleTable, Home};
 use step_core::Kind;
 

@@ -7,7 +7,7 @@ ghost use Rattle.script_runner.specs.Deals.{IsActed, NotGiven};
 ghost use Rattle.script_runner.specs.Seats.{IsHand};
 
 use crate::acts::went::{Went, refused};
-use crate::seats::empty;
+use crate::workers::seats::empty;
 use control_word::{Place, Refusal};
 use handle_table::{Fault, HandleTable, Home};
 use std::sync::Wait;

@@ -1,30 +1,42 @@
-use Rattle.std.proofs.Common.{refl, arith}
-use Rattle.script_runner.proofs.Reporting.{few_blocks, in_shape, line_count, reported, same_workers}
+use Rattle.std.proofs.Common.{◌≡◌, length, sym, ap, subst, ◌∙◌, arith}
+use Rattle.std.proofs.lemmas.List.{length-map, length-replicate}
+use Rattle.ownership_ledger.specs.Now.{IsLast, new_share}
+use Rattle.script_runner.proofs.Casting.{same_many}
+use Rattle.script_runner.proofs.Reporting.{reported}
+use Rattle.script_runner.specs.Casts.{IsRoleFor}
+use Rattle.script_text.specs.Scripts.{part_in, program_in}
 use Rattle.script_runner.proofs.running.run_script.Goals as goal
 
-pub gathered-requires : goal.gathered-requires
-gathered-requires g c =
-    let many = same_workers {G = g.row.G.Denot} _ _ c.in_ok-workers.workers.items c.run_workers.new.workers.items _ c.in-Ok-run_workers.ensures.works in
-    let room = c.in-Ok.ensures.capacity in
+pub perform-worked-requires-clause-many : goal.perform-worked-requires-clause-many
+perform-worked-requires-clause-many g c κs within =
+    let threads = c.args.script.now.threads in
+    ap length c.in_ok-book.ensures.shares
+    ∙ (length-replicate c.threads.result (new_share c.in_ok-book.book.id c.threads.result)
+    ∙ (c.threads.ensures.number
+    ∙ sym (same_many IsRoleFor (program_in threads) c.in_ok-roles.roles.items c.in_ok-roles.ensures.each ∙ length-map threads part_in)))
+
+pub perform-worked-requires-clause-room : goal.perform-worked-requires-clause-room
+perform-worked-requires-clause-room g c κs within =
+    let threads = c.args.script.now.threads in
+    let many : length c.in_ok-roles.roles.items ≡ length threads =
+    same_many IsRoleFor (program_in threads) c.in_ok-roles.roles.items c.in_ok-roles.ensures.each ∙ length-map threads part_in in
+    let items = c.in_ok-roles.roles.ok.0 in
     let long = c.len.ensures in
-    let items = c.in_ok-workers.workers.ok.0 in (c.in-Ok.ensures.items, omega (arith, many, room, long, items))
-
-pub invariant_of-result-clause-few : goal.invariant_of-result-clause-few
-invariant_of-result-clause-few g c =
-    let many = same_workers {G = g.row.G.Denot} _ _ c.in_ok-workers.workers.items c.run_workers.new.workers.items _ c.in-Ok-run_workers.ensures.works in
-    let lines = line_count {G = g.row.G.Denot} c.args.script.now c.in_ok-workers.workers.items c.run_workers.new.workers.items
-    c.gathered.new.lines.items many c.in_ok-workers.ensures.each c.in_ok-totals.ensures.each in
-    let threads = c.threads-threads.ensures.number in
-    let few = c.threads-threads.ensures.within in omega (arith, lines, threads, few)
-
-pub invariant_of-result-clause-blocks : goal.invariant_of-result-clause-blocks
-invariant_of-result-clause-blocks g c =
-    few_blocks {G = g.row.G.Denot} _ _ c.in_ok-workers.workers.items c.run_workers.new.workers.items _ c.in-Ok-run_workers.ensures.works
-    c.shape_of-shape.ensures.within
+    let lines = c.in-Ok.ensures.capacity in
+    let number = c.threads.ensures.number in
+    let shares = c.in_ok-book.ensures.room in
+    (c.in-Ok.ensures.items, omega (arith, items, long, lines), omega (arith, many, number, shares))
 
 pub returns-clause-report : goal.returns-clause-report
 returns-clause-report g c =
-    reported {G = g.row.G.Denot} c.args.script.now _ c.shape_of-shape.result _ c.in_ok-workers.workers.items c.run_workers.new.workers.items
-    (in_shape c.args.script.now c.blocks-3.result c.threads-threads.result c.shape_of-shape.result c.shape_of-shape.ensures.shape
-    c.blocks-3.ensures.number c.threads-threads.ensures.number)
-    c.in_ok-workers.ensures.each c.in-Ok-run_workers.ensures.works c.in_ok-totals.ensures.each c.in_ok-totals.ensures.totals refl
+    let totals = c.gather-totals.ensures in
+    let workers = c.threads.result in
+    let many : c.in_ok-book.book.workers ≡ length c.perform-worked.new.shares.items =
+    c.in_ok-book.ensures.book
+    ∙ sym (c.in-Ok-worked.ensures.many
+    ∙ (ap length c.in_ok-book.ensures.shares ∙ length-replicate workers (new_share c.in_ok-book.book.id workers))) in
+    reported c.args.script.now _ c.perform-worked.new.shares.items c.in-Ok-worked.ensures.run (record {
+      book = subst (λ n. IsLast n c.gather-totals.result) many totals.book;
+      made = totals.made;
+      ended = totals.ended;
+    })

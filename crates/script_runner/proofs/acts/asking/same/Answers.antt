@@ -1,4 +1,4 @@
-use Rattle.std.proofs.Common.{◌<◌, false, Some, sym, subst, arith}
+use Rattle.std.proofs.Common.{◌<◌, Some, sym, subst, arith}
 use Rattle.handle_table.specs.Pairs as pairs
 use Rattle.step_threads.specs.declared.programs.act.Act.TheVariants as act
 use Rattle.step_threads.specs.declared.programs.act.Question.TheVariants as question

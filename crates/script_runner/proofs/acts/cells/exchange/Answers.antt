@@ -1,4 +1,4 @@
-use Rattle.std.proofs.Common.{◌<◌, false, Some, sym, subst, arith}
+use Rattle.std.proofs.Common.{◌<◌, Some, sym, subst, arith}
 use Rattle.handle_table.specs.Cells as cells
 use Rattle.script_runner.specs.CellCalls.{as_cell}
 use Rattle.script_runner.specs.Deals.{IsActed}

@@ -1,4 +1,4 @@
-use Rattle.std.proofs.Common.{◌<◌, false, refl, subst, ◌∙◌, arith}
+use Rattle.std.proofs.Common.{◌<◌, refl, subst, ◌∙◌, arith}
 use Rattle.handle_table.specs.Calls as calls
 use Rattle.handle_table.specs.Tables.{IsAt}
 use Rattle.script_runner.proofs.Offering as law

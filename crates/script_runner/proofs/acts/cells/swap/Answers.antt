@@ -1,4 +1,4 @@
-use Rattle.std.proofs.Common.{◌≡◌, ◌+◌, ◌-◌, true, false, None, sym, subst, arith}
+use Rattle.std.proofs.Common.{◌≡◌, ◌+◌, ◌-◌, false, None, sym, subst, arith}
 use Rattle.handle_table.specs.Calls as calls
 use Rattle.handle_table.specs.Cells as cells
 use Rattle.script_runner.specs.Deals.{IsDealt}

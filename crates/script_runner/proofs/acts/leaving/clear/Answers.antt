@@ -1,4 +1,4 @@
-use Rattle.std.proofs.Common.{◌≡◌, ◌<◌, ◌+◌, true, false, refl, subst, ◌∙◌, arith}
+use Rattle.std.proofs.Common.{◌≡◌, ◌<◌, ◌+◌, true, refl, subst, ◌∙◌, arith}
 use Rattle.step_table.specs.Holdings.{is_full, slot_pointer}
 use Rattle.script_runner.specs.Deals.{IsEmptied, thread_slots}
 use Rattle.script_runner.proofs.Parting as law

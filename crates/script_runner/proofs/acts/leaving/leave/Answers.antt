@@ -1,4 +1,4 @@
-use Rattle.std.proofs.Common.{◌<◌, false, refl, subst, arith}
+use Rattle.std.proofs.Common.{◌<◌, refl, subst, arith}
 use Rattle.script_runner.specs.Deals.{IsEmptied}
 use Rattle.script_runner.proofs.Parting as law
 use Rattle.script_runner.proofs.acts.leaving.leave.Goals as goal

@@ -1,4 +1,4 @@
-use Rattle.std.proofs.Common.{◌≡◌, ◌+◌, ◌-◌, true, false, None, sym, subst, ◌∙◌, arith}
+use Rattle.std.proofs.Common.{◌≡◌, ◌+◌, ◌-◌, None, sym, subst, ◌∙◌, arith}
 use Rattle.handle_table.specs.Calls as calls
 use Rattle.step_threads.specs.declared.programs.act.Act.TheVariants as act
 use Rattle.script_runner.specs.Deals.{IsDealt}

@@ -1,4 +1,4 @@
-use Rattle.std.proofs.Common.{◌≡◌, false, ap, subst, ◌∙◌, arith}
+use Rattle.std.proofs.Common.{◌≡◌, ap, subst, ◌∙◌, arith}
 use Rattle.handle_table.specs.Calls as calls
 use Rattle.handle_table.specs.This as this
 use Rattle.script_runner.specs.Deals.{thread_slots}

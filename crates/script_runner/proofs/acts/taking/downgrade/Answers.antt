@@ -1,4 +1,4 @@
-use Rattle.std.proofs.Common.{false, subst, arith}
+use Rattle.std.proofs.Common.{subst, arith}
 use Rattle.handle_table.specs.Calls as calls
 use Rattle.script_runner.proofs.Acting as law
 use Rattle.script_runner.proofs.acts.taking.downgrade.Goals as goal

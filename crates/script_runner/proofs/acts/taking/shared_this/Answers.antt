@@ -1,4 +1,4 @@
-use Rattle.std.proofs.Common.{◌+◌, false, subst, arith}
+use Rattle.std.proofs.Common.{◌+◌, subst, arith}
 use Rattle.handle_table.specs.This as this
 use Rattle.control_word.specs.declared.model.handle.Kind.TheVariants as kind
 use Rattle.script_runner.proofs.Acting as law

@@ -1,4 +1,4 @@
-use Rattle.std.proofs.Common.{false, ap, subst, ◌∙◌, arith}
+use Rattle.std.proofs.Common.{ap, subst, ◌∙◌, arith}
 use Rattle.handle_table.specs.Handles as handles
 use Rattle.handle_table.specs.declared.fault.Fault.TheVariants as fault
 use Rattle.control_word.specs.declared.refusal.Refusal.TheVariants as refusal

@@ -1,8 +1,0 @@
-use Rattle.std.proofs.Common.{◌≡◌}
-use Rattle.script_runner.specs.Deals.{IsPartlySettled}
-use Rattle.script_runner.proofs.log.Log.settle.Given as goal
-
-abbrev pub invariant-loop : goal.invariant-loop
-invariant-loop g l =
-    (l.self.taken ≡ l.initial.self.taken)
-    × IsPartlySettled l.fn.hand l.fn.statement l.initial.self.taken l.initial.table l.initial.self.said.items l.table l.self.said.items

@@ -1,5 +1,0 @@
-use Rattle.script_runner.proofs.Sights.{none_shown}
-use Rattle.script_runner.proofs.seats.is_full.Goals as goal
-
-pub returns-in-Err : goal.returns-in-Err
-returns-in-Err g c m lt = none_shown m c.args.at c.args.table.now c.in-Err.field-0 lt c.in-Err.ensures.fault

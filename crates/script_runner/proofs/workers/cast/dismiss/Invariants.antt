@@ -1,0 +1,15 @@
+use Rattle.std.proofs.Common.{◌≡◌, ◌≤◌, ◌+◌, ◌++◌, false, List, length, map, reverse, vec_capacity}
+use Rattle.std.specs.List.{AllByRecursion}
+use Rattle.script_runner.specs.declared.workers.worker.Worker.{Worker}
+use Rattle.script_runner.proofs.workers.cast.dismiss.Given as goal
+
+abbrev pub invariant-loop-worker : goal.invariant-loop-worker
+invariant-loop-worker g l =
+    (length l.workers.items + length l.shares.items ≤ vec_capacity l.shares)
+    × (length l.workers.items + length l.lines.items ≤ vec_capacity l.lines)
+    × ((done : List (Worker g.row.G.Denot)) × (l.initial.workers.items ≡ l.workers.items ++ done)
+    × (reverse l.shares.items ≡ map (λ w. w.log.share) done) × (reverse l.lines.items ≡ map (λ w. w.log.said) done)
+    × (l.one_lost ≡ false → AllByRecursion (λ w. w.log.lost ≡ false) done))
+
+abbrev pub decreases-loop-worker : goal.decreases-loop-worker
+decreases-loop-worker g l = length l.workers.items

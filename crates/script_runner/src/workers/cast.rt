@@ -1,0 +1,168 @@
+//! What a script's workers need before they start, and what they leave.
+ghost use Rattle.std.specs.Prelude.{◌≡◌, ◌<◌, ◌≤◌, ◌^◌, [], All, length, map, false, vec_capacity};
+ghost use Rattle.std.specs.Prelude.{IfErr, IfOk};
+ghost use Rattle.std.specs.List.{AllByRecursion, AllZip};
+ghost use Rattle.step_threads.specs.Programs.{IsProgram, part_of};
+ghost use Rattle.script_text.specs.Scripts.{program_in};
+ghost use Rattle.script_runner.specs.Casts.{HasRole, IsNewShare, IsRoleFor};
+
+use crate::workers::log::Log;
+use crate::workers::role::Role;
+use crate::workers::worker::Worker;
+use control_word::Refusal;
+use ownership_ledger::{Book, Share};
+use script_text::Script;
+use std::alloc::{AllocError, Global};
+use step_core::{Actor, Call, Said};
+use step_threads::programs::statement::tasks;
+
+/// How many objects the calls ask for.
+fn makes(calls: &[Call]) -> usize {
+    let mut makes: usize = 0;
+    for call in calls {
+        match call {
+            Call::Make { .. } | Call::MakeThis { .. } | Call::Null { .. } => {
+                makes = makes.saturating_add(1)
+            }
+            _ => {}
+        }
+    }
+    makes
+}
+
+/// A thread's role, with room for all that it may say: each act answers once at most, and no more objects end than all
+/// threads make.
+fn role_of(alloc: Global, actor: &Actor, objects: usize, number: usize) -> Result<Role, AllocError>
+    requires calls { length actor.now.calls.items < 2 ^ 31 }
+    requires names { length actor.now.kinds.items ≤ 32 }
+    ensures { IfOk result (IsRoleFor (part_of actor.now)) }
+{
+    let tasks = tasks(alloc, actor.calls.as_slice(), actor.kinds.len() as u8)?;
+    let kinds = Vec::from_slice(alloc, actor.kinds.as_slice())?;
+    let said = Vec::with_capacity(alloc, tasks.len().saturating_add(objects))?;
+    Ok(Role {
+        number,
+        kinds,
+        tasks,
+        said,
+    })
+}
+
+/// A role for each thread.
+fn roles_of(alloc: Global, actors: &[Actor], objects: usize) -> Result<Vec<Role>, AllocError>
+    requires program { IsProgram (map part_of actors.now) }
+    ensures { IfOk result (λ v. AllZip IsRoleFor (map part_of actors.now) v.items) }
+{
+    let mut roles = Vec::with_capacity(alloc, actors.len())?;
+    for (at, actor) in actors.iter().enumerate() {
+        let role = role_of(alloc, actor, objects, at + 1)?;
+        roles.push(role)?;
+    }
+    Ok(roles)
+}
+
+/// The roles of a script's threads.
+pub(crate) fn cast_of(alloc: Global, script: &Script) -> Result<Vec<Role>, Refusal>
+    ensures each { IfOk result (λ v. AllZip IsRoleFor (program_in script.now.threads) v.items) }
+    ensures refused { IfErr result (λ why. why ≡ Refusal.Memory) }
+{
+    let program = script.program(alloc)?;
+    let mut objects: usize = 0;
+    for actor in &program.actors {
+        objects = objects.saturating_add(makes(actor.calls.as_slice()));
+    }
+    match roles_of(alloc, program.actors.as_slice(), objects) {
+        Ok(roles) => Ok(roles),
+        Err(_) => Err(Refusal::Memory),
+    }
+}
+
+/// A worker with this role, for the thread of this number, with a share of the book.
+fn worker_of<'a, G>(role: Role, share: Share, book: &'a Book, gate: &'a G) -> Worker<'a, G>
+    requires { IsNewShare book.now.id share }
+    ensures { HasRole book.now.id role result }
+{
+    let Role {
+        number,
+        kinds,
+        tasks,
+        said,
+    } = role;
+    Worker {
+        number,
+        gate,
+        kinds,
+        tasks,
+        log: Log {
+            taken: false,
+            said,
+            lost: false,
+            book,
+            share,
+            asked: 0,
+        },
+    }
+}
+
+/// Each role goes to a worker, with a share of the book.
+pub(crate) fn man<'a, G>(
+    roles: &mut Vec<Role>,
+    shares: &mut Vec<Share>,
+    workers: &mut Vec<Worker<'a, G>>,
+    book: &'a Book,
+    gate: &'a G,
+)
+    requires many { length roles.old.items ≡ length shares.old.items }
+    requires shares { All (IsNewShare book.now.id) shares.old.items }
+    requires room { (workers.old.items ≡ []) × (length roles.old.items ≤ vec_capacity workers.old) }
+    ensures each { AllZip (HasRole book.now.id) roles.old.items workers.new.items }
+    ensures none { shares.new.items ≡ [] }
+    ensures room { vec_capacity shares.new ≡ vec_capacity shares.old }
+{
+    while let Some(role) = roles.pop() {
+        match shares.pop() {
+            Some(share) => workers.push_reserved(worker_of(role, share, book, gate)),
+            None => unreachable!(),
+        }
+    }
+    workers.reverse();
+}
+
+/// What the workers said goes into one list, and their shares into another. Whether one of them couldn't go on.
+pub(crate) fn dismiss<G>(
+    workers: &mut Vec<Worker<'_, G>>,
+    shares: &mut Vec<Share>,
+    lines: &mut Vec<Vec<Said>>,
+) -> bool
+    requires shares { (shares.old.items ≡ []) × (length workers.old.items ≤ vec_capacity shares.old) }
+    requires lines { (lines.old.items ≡ []) × (length workers.old.items ≤ vec_capacity lines.old) }
+    ensures shares { shares.new.items ≡ map (λ w. w.log.share) workers.old.items }
+    ensures lines { lines.new.items ≡ map (λ w. w.log.said) workers.old.items }
+    ensures kept { result ≡ false → AllByRecursion (λ w. w.log.lost ≡ false) workers.old.items }
+    ensures none { workers.new.items ≡ [] }
+{
+    let mut one_lost = false;
+    while let Some(worker) = workers.pop() {
+        let Worker {
+            number: _,
+            gate: _,
+            kinds: _,
+            tasks: _,
+            log,
+        } = worker;
+        let Log {
+            taken: _,
+            said,
+            lost,
+            book: _,
+            share,
+            asked: _,
+        } = log;
+        shares.push_reserved(share);
+        lines.push_reserved(said);
+        one_lost |= lost;
+    }
+    shares.reverse();
+    lines.reverse();
+    one_lost
+}
