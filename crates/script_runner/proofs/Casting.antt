@@ -1,22 +1,19 @@
 -- Workers that were ready for their threads, and what came of them.
-use Rattle.std.proofs.Common.{Bool, ◌≡◌, ◌⊎◌, inl, inr, ℕ, ◌+◌, ◌<◌, ◌≤◌, true, false, ◌||◌, List}
+use Rattle.std.proofs.Common.{Bool, ◌≡◌, ◌⊎◌, inl, inr, ℕ, ◌+◌, ◌<◌, ◌≤◌, true, false, List}
 use Rattle.std.proofs.Common.{[], ◌∷◌, ◌++◌, length, map, take, get_or, reverse, refl, sym, ap, subst, ◌∙◌, arith}
 use Rattle.std.proofs.Common.{append_assoc}
 use Rattle.std.proofs.lemmas.List.{length-append, map_more, reverse-append}
-use Rattle.std.proofs.lemmas.List.Elements.{All-replicate}
 use Rattle.std.proofs.lemmas.Slice.Zip.{all_zipped_more}
 use Rattle.std.specs.Global.{Vec}
 use Rattle.std.specs.List.{AllByRecursion, AllZip}
-use Rattle.std.specs.Prelude.{All, replicate}
 use Rattle.control_word.specs.State.{Opening}
 use Rattle.control_word.specs.declared.model.event.Entry.{Entry}
 use Rattle.handle_table.specs.Parting.{IsNew}
 use Rattle.handle_table.specs.Staffs.{EachDoes}
 use Rattle.handle_table.specs.Tables.{TableNow}
-use Rattle.ownership_ledger.specs.Now.{ShareNow, new_share}
 use Rattle.script_runner.proofs.Stepping.{not_lost}
 use Rattle.script_runner.proofs.Summing.{marked_ended, marked_made}
-use Rattle.script_runner.specs.Casts.{HasRole, HasSaid, IsNewShare, IsReadyFor, IsRoleFor}
+use Rattle.script_runner.specs.Casts.{HasRole, HasSaid, IsReadyFor, IsRoleFor}
 use Rattle.script_runner.specs.Deals.{field_0}
 use Rattle.script_runner.specs.Reports.{HasAdded}
 use Rattle.script_runner.specs.Teams.{AllMarked, AllPlay, PlaysThread}
@@ -81,27 +78,8 @@ pub zip_turned : {X Y : Type 0} (R : X → Y → Type 0) (x : X) (done : List X)
     → R x y → AllZip R done (reverse ys) → AllZip R (x ∷ done) (reverse more)
 zip_turned R x done ys more y next here all = subst (AllZip R (x ∷ done)) (sym (ap reverse next ∙ reverse-append ys (y ∷ []))) (here, all)
 
-pub map_turned : {X Y : Type 0} (f : X → Y) (x : X) (done : List X) (ys more : List Y) → more ≡ ys ++ f x ∷ []
-    → reverse ys ≡ map f done → reverse more ≡ f x ∷ map f done
-map_turned f x done ys more next is = ap reverse next ∙ (reverse-append ys (f x ∷ []) ∙ ap (λ l. f x ∷ l) is)
-
 pub gone_then : {X : Type 0} (all xs more done : List X) (x : X) → all ≡ xs ++ done → xs ≡ more ++ x ∷ [] → all ≡ more ++ x ∷ done
 gone_then all xs more done x is popped = is ∙ (ap (λ l. l ++ done) popped ∙ append_assoc more (x ∷ []) done)
-
--- at the end none is left
-pub all_gone : {X : Type 0} (all xs done : List X) → all ≡ xs ++ done → length xs ≡ 0 → all ≡ done
-all_gone all [] done is none = is
-all_gone all (x ∷ xs) done is none = absurd (omega arith)
-
--- nothing was added to the shares of a book that was opened
-pub all_new : (book : TableId) (workers : ℕ) (ss : List ShareNow) → ss ≡ replicate workers (new_share book workers)
-    → All (IsNewShare book) ss
-all_new book workers ss is =
-    subst (All (IsNewShare book)) (sym is) (All-replicate (IsNewShare book) workers (new_share book workers) (refl, refl))
-
-pub neither : (a b : Bool) → a || b ≡ false → (a ≡ false) × (b ≡ false)
-neither true b e = absurd cc
-neither false b e = (refl, e)
 
 module _ {G : Type 0} where
   -- a worker of a thread's role is ready for it

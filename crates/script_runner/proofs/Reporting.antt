@@ -1,5 +1,5 @@
 -- What workers of a script leave is the script's report.
-use Rattle.std.proofs.Common.{◌≡◌, ◌⊎◌, inl, inr, ℕ, ◌*◌, ◌≤◌, false, List, [], ◌∷◌, length, map, None}
+use Rattle.std.proofs.Common.{◌≡◌, ◌⊎◌, inl, inr, ℕ, ◌*◌, false, List, [], ◌∷◌, length, map, None}
 use Rattle.std.proofs.Common.{refl, sym, ap, subst, ◌∙◌, arith}
 use Rattle.std.proofs.lemmas.List.{length-map}
 use Rattle.std.proofs.lemmas.List.Elements.{All-from_recursion, recursion_from_All}
@@ -11,7 +11,6 @@ use Rattle.atomic_table.specs.Seated.{TableId}
 use Rattle.control_block.specs.Census.{CensusNow}
 use Rattle.control_block.specs.Rule.{opening_of}
 use Rattle.control_word.specs.Histories.{IsLegal}
-use Rattle.control_word.specs.Layout.{IsWithinLimits}
 use Rattle.control_word.specs.State.{Has}
 use Rattle.control_word.specs.declared.model.event.Entry.{Entry}
 use Rattle.control_word.specs.declared.refusal.Refusal.{Refusal}
@@ -48,11 +47,6 @@ in_shape script blocks threads shape is all many =
     ∙ ap {B = Shape} (λ (n : ℕ). record (shape_for (blocks_in script.version) n) { allowance = 65536 * n }) many
 
 module _ {G : Type 0} where
-  -- a domain that was within limits had few blocks
-  pub few_blocks : (shape : Shape) (share : Share) (had has : List (Worker G)) (c : CensusNow) → Shifts ℕ Does shape share had has c
-      → IsWithinLimits shape → c.blocks ≤ 65535
-  few_blocks shape share had has c s within = let is = s.closed.blocks in let few = within.blocks in omega (arith, is, few)
-
   -- what those said is told of so many threads
   line_count : (script : ScriptView) (had has : List (Worker G)) → length has ≡ length had
       → AllZip IsReadyFor (program_in script.threads) had
@@ -205,8 +199,3 @@ reported script report shares run sums =
       made = sums.made ∙ (own.0 ∙ sum_made woven.names h woven.rising others);
       ended = sums.ended ∙ (own.1 ∙ sum_ended woven.names h woven.rising others);
     }
-
--- there are few lines and few blocks
-pub few_lines : (script : ScriptView) (lines : List (Vec Said)) (census : CensusNow) (shares : List ShareNow)
-    → IsPerformed script (map (λ (v : Vec Said). v.items) lines) census shares → length lines ≡ length script.threads
-few_lines script lines census shares run = sym (length-map lines (λ (v : Vec Said). v.items)) ∙ run.many

@@ -1,0 +1,36 @@
+use Rattle.std.proofs.Common.{◌≡◌, ◌+◌, [], ◌∷◌, length, Some, ap, ◌∙◌, arith}
+use Rattle.std.proofs.lemmas.List.{length-append}
+use Rattle.std.proofs.lemmas.List.Elements.{All-pop}
+use Rattle.script_runner.proofs.Casting.{gone_then, same_room, zip_turned}
+use Rattle.script_runner.specs.Casts.{HasRole, IsNewShare}
+use Rattle.script_runner.proofs.workers.cast.man.Goals as goal
+
+pub loop-role-preserved : goal.loop-role-preserved
+loop-role-preserved g c =
+    let inv = c.loop-role.invariant in
+    let book = c.args.book.now.id in
+    let role = c.in-Some.role in
+    let share = c.in-Some-pop.share in
+    let roles = c.pop.new.self.items in
+    let shares = c.pop-in-Some.new.self.items in
+    let done = inv.4.0 in
+    let popped = c.in-Some.ensures.items in
+    let taken = c.in-Some-pop.ensures.items in
+    let pushed = c.push_reserved.ensures.items in
+    let many = inv.0 in
+    let a : length c.loop-role.roles.items ≡ length roles + 1 = omega (arith, ap length popped, length-append roles (role ∷ [])) in
+    let b : length c.loop-role.shares.items ≡ length shares + 1 = omega (arith, ap length taken, length-append shares (share ∷ [])) in
+    let room = same_room c.loop-role.roles.items roles role c.loop-role.workers.items c.push_reserved.new.self.items c.worker_of.result _
+    popped pushed inv.2 in
+    let capacity = c.push_reserved.ensures.capacity in (
+      omega (arith, many, a, b),
+      (All-pop (IsNewShare book) _ _ (Some share) taken inv.1).0,
+      omega (arith, room, capacity),
+      c.pop-in-Some.ensures.capacity ∙ inv.3,
+      (
+        role ∷ done,
+        gone_then c.args.roles.now.items c.loop-role.roles.items roles done role inv.4.1 popped,
+        zip_turned (HasRole book) role done c.loop-role.workers.items c.push_reserved.new.self.items c.worker_of.result pushed
+            c.worker_of.ensures inv.4.2,
+      ),
+    )
