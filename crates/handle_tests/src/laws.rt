@@ -1,6 +1,6 @@
 //! The functions that carry laws have no work to do; each can be called.
 use control_block::laws;
-use control_word::{history_laws, step_laws};
+use control_word::laws::{history_laws, step_laws};
 
 #[test]
 fn laws_of_histories_can_be_called() {
