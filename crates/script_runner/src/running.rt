@@ -94,8 +94,8 @@ fn perform<'a, R: Threads + Wait + Sync, G: Gate + Sync>(
 /// domain.
 ///
 /// It is refused `Memory` and nothing else: where a growth was refused, all of which come before the first worker
-/// starts; or where a worker found in its table what can't be, after which it does and adds no more. All workers that
-/// were started have ended then, and there is no report.
+/// starts; or where a worker found in its table what can't be, or has no room for more in its share, after which it
+/// does and adds no more. All workers that were started have ended then, and there is no report.
 pub fn run_script<R: Threads + Wait + Sync, G: Gate + Sync>(
     rt: &R,
     alloc: Global,

@@ -77,7 +77,7 @@ pub(crate) fn cast_of(alloc: Global, script: &Script) -> Result<Vec<Role>, Refus
     }
 }
 
-/// A worker with this role, for the thread of this number, with a share of the book.
+/// A worker with this role, and a share of the book.
 fn worker_of<'a, G>(role: Role, share: Share, book: &'a Book, gate: &'a G) -> Worker<'a, G>
     requires { IsNewShare book.now.id share }
     ensures { HasRole book.now.id role result }
