@@ -1,6 +1,6 @@
 //! Programs that move blocks to the shelf and from it, as no script does: one actor's blocks serve another.
 use control_word::{Refusal, Shape};
-use std::alloc::Global;
+use std::alloc::{AllocError, Global};
 use std::test::Fail;
 use step_core::{Actor, Answer, Call, Kind, Name, Program, Said, Turned, World};
 
@@ -14,25 +14,22 @@ const D: Name = Name(3);
 
 const E: Name = Name(4);
 
+fn make(target: Name) -> Call {
+    let fields = [0; 4];
+    Call::Make { target, fields }
+}
+
 /// It has two blocks: the third shelve moves none, and there is none for the make.
-const GIVES: [Call; 2] = [Call::Shelve { count: 3 }, make(A)];
+fn gives(alloc: Global) -> Result<Vec<Call>, AllocError> {
+    Ok(vec![in alloc; Call::Shelve { count: 3 }, make(A)]?)
+}
 
 /// Two makes take its own blocks, and two more those from the shelf.
-const TAKES: [Call; 7] = [
-    make(A),
-    make(B),
-    make(C),
-    Call::Unshelve { count: 3 },
-    make(C),
-    make(D),
-    make(E),
-];
-
-const fn make(target: Name) -> Call {
-    Call::Make {
-        target,
-        fields: [0; 4],
-    }
+fn takes(alloc: Global) -> Result<Vec<Call>, AllocError> {
+    let unshelve = Call::Unshelve { count: 3 };
+    let (a, b, c) = (make(A), make(B), make(C));
+    let (d, e) = (make(D), make(E));
+    Ok(vec![in alloc; a, b, c, unshelve, c, d, e]?)
 }
 
 fn silent(statement: u32) -> Turned {
@@ -55,11 +52,11 @@ fn full(statement: u32) -> Turned {
 fn world(alloc: Global) -> Result<World, Fail> {
     let gives = Actor {
         kinds: vec![in alloc; Kind::Owner; 5]?,
-        calls: GIVES.as_slice().to_vec(alloc)?,
+        calls: gives(alloc)?,
     };
     let takes = Actor {
         kinds: vec![in alloc; Kind::Owner; 5]?,
-        calls: TAKES.as_slice().to_vec(alloc)?,
+        calls: takes(alloc)?,
     };
     let mut actors = vec![in alloc; gives]?;
     actors.push(takes)?;
