@@ -1,4 +1,6 @@
 //! Programs that move blocks to the shelf and from it, as no script does: one actor's blocks serve another.
+ghost use Rattle.std.specs.Prelude.{◌<◌, length};
+
 use control_word::{Refusal, Shape};
 use std::alloc::{AllocError, Global};
 use std::test::Fail;
@@ -48,60 +50,70 @@ fn full(statement: u32) -> Turned {
     })
 }
 
-/// A world of four blocks.
-fn world(alloc: Global) -> Result<World, Fail> {
-    let gives = Actor {
-        kinds: vec![in alloc; Kind::Owner; 5]?,
-        calls: gives(alloc)?,
-    };
-    let takes = Actor {
-        kinds: vec![in alloc; Kind::Owner; 5]?,
-        calls: takes(alloc)?,
-    };
-    let mut actors = vec![in alloc; gives]?;
-    actors.push(takes)?;
-    let shape = Shape {
-        blocks: 4,
-        shared_cells: 0,
-        weak_cells: 0,
-        allowance: 80,
-    };
-    match World::new(alloc, shape, Program { actors }) {
-        Ok(world) => Ok(world),
-        Err(refused) => Err(refused.why.into()),
+/// A world with two actors and four blocks.
+#[derive(Drop)]
+struct Pair {
+    world: World,
+    ghost two_actors: { 1 < length world.walks },
+}
+
+impl Pair {
+    fn new(alloc: Global) -> Result<Self, Fail> {
+        let first = Actor {
+            kinds: vec![in alloc; Kind::Owner; 5]?,
+            calls: gives(alloc)?,
+        };
+        let second = Actor {
+            kinds: vec![in alloc; Kind::Owner; 5]?,
+            calls: takes(alloc)?,
+        };
+        let actors = vec![in alloc; first, second]?;
+        let shape = Shape {
+            blocks: 4,
+            shared_cells: 0,
+            weak_cells: 0,
+            allowance: 80,
+        };
+        match World::new(alloc, shape, Program { actors }) {
+            Ok(world) => Ok(Pair { world }),
+            Err(refused) => Err(refused.why.into()),
+        }
+    }
+
+    fn first(&mut self) -> Turned {
+        self.world.turn(1)
+    }
+
+    fn second(&mut self) -> Turned {
+        self.world.turn(2)
     }
 }
 
 #[test]
 fn blocks_change_actors_turn_by_turn(rt: HostRuntime) -> Result<(), Fail> {
-    let mut world = world(rt.alloc())?;
+    let mut pair = Pair::new(rt.alloc())?;
     for _ in 0..3 {
-        assert!(rt; world.turn(1) == silent(1));
+        assert!(rt; pair.first() == silent(1));
     }
-    assert!(rt; world.turn(1) == full(2));
-    assert!(rt; world.turn(1) == Turned::Done);
-    assert!(rt; world.turn(2) == silent(1));
-    assert!(rt; world.turn(2) == silent(2));
-    assert!(rt; world.turn(2) == full(3));
+    assert!(rt; pair.first() == full(2));
+    assert!(rt; pair.first() == Turned::Done);
+    assert!(rt; pair.second() == silent(1));
+    assert!(rt; pair.second() == silent(2));
+    assert!(rt; pair.second() == full(3));
     for _ in 0..3 {
-        assert!(rt; world.turn(2) == silent(4));
+        assert!(rt; pair.second() == silent(4));
     }
-    assert!(rt; world.turn(2) == silent(5));
-    assert!(rt; world.turn(2) == silent(6));
-    assert!(rt; world.turn(2) == full(7));
-    assert_eq!(rt; world.made(), 4);
+    assert!(rt; pair.second() == silent(5));
+    assert!(rt; pair.second() == silent(6));
+    assert!(rt; pair.second() == full(7));
+    assert_eq!(rt; pair.world.made(), 4);
     Ok(())
 }
 
 #[test]
 fn blocks_change_actors_in_a_run(rt: HostRuntime) -> Result<(), Fail> {
-    let mut world = world(rt.alloc())?;
-    let turns = [2, 1, 2, 1, 1];
-    match world.run(rt.alloc(), turns.as_slice()) {
-        Ok(_) => {}
-        Err(_) => return Err(Refusal::Memory.into()),
-    }
-    assert_eq!(rt; world.made(), 4);
-    assert_eq!(rt; world.ended(), 4);
+    let mut world = Pair::new(rt.alloc())?.world;
+    world.run(rt.alloc(), &[2, 1, 2, 1, 1])?;
+    assert_eq!(rt; (world.made(), world.ended()), (4, 4));
     Ok(())
 }
