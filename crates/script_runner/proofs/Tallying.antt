@@ -1,15 +1,15 @@
 -- What a thread's acts make, end and say, as numbers; and none of them is a split or a join.
-use Rattle.step_threads.specs.declared.programs.act.ShelfAct.{ShelfAct}
 use Rattle.step_threads.specs.declared.programs.act.ShelfAct.TheVariants.{Shelve, Unshelve}
-use Rattle.step_threads.specs.Shelving.{moved}
 use Rattle.std.proofs.Common.{◌≡◌, ℕ, ◌+◌, Bool, true, false, cond, Option, Some, None, refl, sym, subst, arith}
 use Rattle.std.specs.Prelude.{IfSome, is_some, option_map}
 use Rattle.control_block.specs.Own.{KeepsDesks}
 use Rattle.control_word.specs.Events.{place_at}
 use Rattle.control_word.specs.State.{State}
 use Rattle.control_word.specs.declared.model.event.Event.{Event}
+use Rattle.control_word.specs.declared.model.event.Event.TheVariants as event
 use Rattle.control_word.specs.declared.model.handle.Kind.{Kind}
 use Rattle.control_word.specs.declared.model.handle.Kind.TheVariants.{Owner, Weak}
+use Rattle.control_word.specs.declared.place.Block.{Block}
 use Rattle.control_word.specs.declared.place.Place.{Place}
 use Rattle.control_word.specs.declared.refusal.Refusal.TheVariants.{Full, NotEnabled}
 use Rattle.script_runner.specs.Totals.{objects_asked, ends, makes, refuses}
@@ -99,10 +99,9 @@ module _ {V : Type 0} where
       → ((x : Pointer) → IsMild (Some (f x))) → IsMild e
   mild_by_map e f o is mild = subst IsMild (sym is) (mild_map f o mild)
 
-  mild_moved : (x : ShelfAct) (o : Option ℕ) → IsMild (option_map (moved x) o)
-  mild_moved x None = record { makes = refl; ends = refl; keeps = tt }
-  mild_moved Shelve (Some b) = record { makes = refl; ends = refl; keeps = tt }
-  mild_moved Unshelve (Some b) = record { makes = refl; ends = refl; keeps = tt }
+  mild_unshelve : (b : Block) (got : Bool) → IsMild (cond got (Some (event.Unshelve b)) None)
+  mild_unshelve b true = record { makes = refl; ends = refl; keeps = tt }
+  mild_unshelve b false = record { makes = refl; ends = refl; keeps = tt }
 
   mild_copy : (s : State) (k : Kind) (p : Option Place) (x : Pointer) → IsMild (Some (copies {V = V} s k p x))
   mild_copy s Owner p x = record { makes = refl; ends = refl; keeps = tt }
@@ -228,5 +227,10 @@ module _ {V : Type 0} where
     act_counts (act.Compare k c weak) (Compared b x) e m =
         mild_counts (act.Compare k c weak) e (Some (answer.Compared b)) refl (mild_some e _ m.1 refl refl tt) refl
     act_counts (act.Compare k c weak) _ e m = absurd m
-    act_counts (act.OnShelf x) (Found o) e m = mild_counts (act.OnShelf x) e None refl (subst IsMild (sym m.1) (mild_moved x o)) refl
-    act_counts (act.OnShelf x) _ e m = absurd m
+    act_counts (act.OnShelf Shelve) (Found None) e m =
+        mild_counts (act.OnShelf Shelve) e None refl (subst IsMild (sym m.1) (record { makes = refl; ends = refl; keeps = tt })) refl
+    act_counts (act.OnShelf Shelve) (Found (Some b)) e m = mild_counts (act.OnShelf Shelve) e None refl (mild_some e _ m refl refl tt) refl
+    act_counts (act.OnShelf Shelve) _ e m = absurd m
+    act_counts (act.OnShelf (Unshelve b)) (Got got) e m =
+        mild_counts (act.OnShelf (Unshelve b)) e None refl (subst IsMild (sym m.1) (mild_unshelve b got)) refl
+    act_counts (act.OnShelf (Unshelve b)) _ e m = absurd m

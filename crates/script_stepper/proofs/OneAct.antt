@@ -1,5 +1,5 @@
 -- Of two replies of an act that are right and chosen one is as the other, as far as the reply matters.
-use Rattle.step_threads.specs.Shelving.{moved}
+use Rattle.step_threads.specs.declared.programs.act.ShelfAct.TheVariants.{Shelve, Unshelve}
 use Rattle.std.proofs.Common.{◌≡◌, ℕ, ◌==◌, ◌&&◌, Bool, true, false, not, cond, List, [], ◌∷◌, refl, sym, ap, subst, ◌∙◌}
 use Rattle.std.specs.Prelude.{Option, Some, None, option_map, slice_index, slice_set}
 use Rattle.std.specs.List.{filter}
@@ -208,6 +208,15 @@ module _ (s : State) (d : ℕ) where
           m ∙ ap (λ (k : ℕ). Some (event.Make (record { 0 = k }) form.enabled form.null form.fields tt)) same ∙ sym n,
         )
 
+    shelves_once : (o p : Option ℕ) (e f : Events) → IsMakeEvent no_worth s d l (OnShelf Shelve) (Found o) e
+        → IsMakeEvent no_worth s d l (OnShelf Shelve) (Found p) f → Chosen e → Chosen f → e ≡ f
+    shelves_once None None e f m n u v = m.1 ∙ sym n.1
+    shelves_once None (Some b) e f m n u v = absurd (none_some b (sym (none_least d s.stores m.0) ∙ subst Chosen n v))
+    shelves_once (Some b) None e f m n u v = absurd (none_some b (sym (none_least d s.stores n.0) ∙ subst Chosen m u))
+    shelves_once (Some b) (Some c) e f m n u v =
+        let same : b ≡ c = same_Some _ _ (sym (subst Chosen m u) ∙ subst Chosen n v) in
+        m ∙ ap (λ (k : ℕ). Some (event.Shelve (record { 0 = k }))) same ∙ sym n
+
     pub one_reply : (a : Act) (r q : Reply) (e f : Events) → IsMakeEvent no_worth s d l a r e → IsMakeEvent no_worth s d l a q f → Comes e → Right f
         → Chosen e → Chosen f
         → Same a r q e f
@@ -230,9 +239,13 @@ module _ (s : State) (d : ℕ) where
         leaving_once (slice_set l (other l) plain, taken) (slot_pointer l (other l)) b c x y e f m n u v
     one_reply Drop (Left b x) _ e f m n u v g h = absurd n
     one_reply Drop _ q e f m n u v g h = absurd m
-    one_reply (OnShelf x) (Found o) (Found p) e f m n u v g h = (refl, m.1 ∙ ap (option_map (moved x)) (m.0 ∙ sym n.0) ∙ sym n.1)
-    one_reply (OnShelf x) (Found o) _ e f m n u v g h = absurd n
-    one_reply (OnShelf x) _ q e f m n u v g h = absurd m
+    one_reply (OnShelf Shelve) (Found o) (Found p) e f m n u v g h = (refl, shelves_once o p e f m n g h)
+    one_reply (OnShelf Shelve) (Found o) _ e f m n u v g h = absurd n
+    one_reply (OnShelf Shelve) _ q e f m n u v g h = absurd m
+    one_reply (OnShelf (Unshelve b)) (Got x) (Got y) e f m n u v g h =
+        (refl, m.1 ∙ ap (λ (t : Bool). cond t (Some (event.Unshelve b)) None) (m.0 ∙ sym n.0) ∙ sym n.1)
+    one_reply (OnShelf (Unshelve b)) (Got x) _ e f m n u v g h = absurd n
+    one_reply (OnShelf (Unshelve b)) _ q e f m n u v g h = absurd m
     one_reply (Count k) (Told x) (Told y) e f m n u v g h =
         let r = counts_once (slot_pointer l k) x y e f m n g h in (ap (λ (t : ℕ). row (Count k) l taken (Told t)) r.0, r.1)
     one_reply (Count k) (Told x) _ e f m n u v g h = absurd n

@@ -1,7 +1,5 @@
 -- Turns by replies are the turns of the machine.
-use Rattle.step_threads.specs.declared.programs.act.ShelfAct.{ShelfAct}
 use Rattle.step_threads.specs.declared.programs.act.ShelfAct.TheVariants.{Shelve, Unshelve}
-use Rattle.step_threads.specs.Shelving.{moved, shelf_block}
 use Rattle.std.proofs.Common.{◌≡◌, ℕ, zero, suc, ◌-◌, Bool, true, false, cond, not, List, [], ◌∷◌, ◌++◌, refl, sym, ap, subst, ◌∙◌}
 use Rattle.std.specs.Prelude.{Option, Some, None, option_map}
 use Rattle.std.proofs.lemmas.Bool.{cond_both}
@@ -58,10 +56,6 @@ module _ (s : State) (d : ℕ) where
   of_leaves Owner x = (refl, tt)
   of_leaves Weak x = (refl, tt)
 
-  of_moved : (x : ShelfAct) (b : ℕ) → Fine (Some (moved x b))
-  of_moved Shelve b = (tt, tt)
-  of_moved Unshelve b = (tt, tt)
-
   of_test : (b : Bool) (e : Event Nothing) → Fine (Some e) → Fine (cond b (Some e) None)
   of_test true e h = h
   of_test false e h = (tt, tt)
@@ -92,7 +86,8 @@ module _ (z : Opening) (d : ℕ) (h : History) (n : ℕ) (w : Walk) (ts : List T
   fine (Leave i) = of_map now d _ (λ x. of_leaves now d x.kind x) (slot_pointer w.slots i)
   fine (Clear i) = of_map now d _ (λ x. of_leaves now d x.kind x) (slot_pointer w.slots i)
   fine Drop = of_map now d _ (λ x. of_leaves now d x.kind x) (slot_pointer w.slots (other w.slots))
-  fine (OnShelf x) = of_map now d (moved x) (of_moved now d x) (shelf_block now d x)
+  fine (OnShelf Shelve) = of_make (least d now.stores) _ (λ b e. (tt, e)) refl
+  fine (OnShelf (Unshelve b)) = of_test now d (now.shelved b.0) (event.Unshelve b) (tt, tt)
   fine (Count i) = of_map now d _ (λ x. (tt, refl)) (slot_pointer w.slots i)
   fine (Downgrade i) = of_map now d _ (λ x. (tt, tt)) (slot_pointer w.slots i)
   fine (Lock i must) = of_lock (weak_slot (slot_pointer w.slots i)) (locking now) (λ x b e. (e, tt))

@@ -1,7 +1,7 @@
 -- What an act does to the totals of a history, and to the parts that endings have left.
 use Rattle.step_threads.specs.declared.programs.act.ShelfAct.{ShelfAct}
 use Rattle.step_threads.specs.declared.programs.act.ShelfAct.TheVariants.{Shelve, Unshelve}
-use Rattle.step_threads.specs.Shelving.{moves, shelf_block}
+use Rattle.step_threads.specs.Shelving.{shelf_block, shelf_deed}
 use Rattle.std.proofs.Common.{◌≡◌, ℕ, ◌+◌, ◌*◌, ◌≤◌, Bool, true, false, List, refl, arith}
 use Rattle.std.specs.Prelude.{Option, Some, None, cond, option_map}
 use Rattle.control_word.specs.declared.model.handle.Kind.{Kind}
@@ -95,10 +95,11 @@ swapped z d slots h es None = same 0 h h es refl refl
 swapped z d slots h es (Some x) = same 0 h (history_swaps z d slots h x.0 x.1) es refl refl
 
 -- a block goes to the shelf or comes from it, if there is one
-moved_tally : (z : Opening) (d : ℕ) (h : History) (es : List Ending) (x : ShelfAct) (b : Option ℕ) → Tally 0 h es (does z d h (option_map (moves x) b)) es
-moved_tally z d h es x None = same 0 h h es refl refl
-moved_tally z d h es Shelve (Some b) = same 0 h (does z d h (Some (moves Shelve b))) es refl refl
-moved_tally z d h es Unshelve (Some b) = same 0 h (does z d h (Some (moves Unshelve b))) es refl refl
+moved_tally : (z : Opening) (d : ℕ) (h : History) (es : List Ending) (x : ShelfAct) (b : Option ℕ) → Tally 0 h es (does z d h (shelf_deed x b)) es
+moved_tally z d h es Shelve None = same 0 h h es refl refl
+moved_tally z d h es Shelve (Some b) = same 0 h (does z d h (shelf_deed Shelve (Some b))) es refl refl
+moved_tally z d h es (Unshelve c) None = same 0 h h es refl refl
+moved_tally z d h es (Unshelve c) (Some b) = same 0 h (does z d h (shelf_deed (Unshelve c) (Some b))) es refl refl
 
 pub tally : (z : Opening) (d k : ℕ) (slots : Slots) (h : History) (es : List Ending) (a : Act)
     → Tally (may_make a) h es (acted exact z d slots h a) (endings_by (leads z h) k slots es a)

@@ -1,7 +1,7 @@
 //! Programs that move blocks to the shelf and from it, as no script does: one actor's blocks serve another.
 ghost use Rattle.std.specs.Prelude.{◌<◌, length};
 
-use control_word::{Refusal, Shape};
+use control_word::{Block, Refusal, Shape};
 use std::alloc::{AllocError, Global};
 use std::test::Fail;
 use step_core::{Actor, Answer, Call, Kind, Name, Program, Said, Turned, World};
@@ -21,17 +21,21 @@ fn make(target: Name) -> Call {
     Call::Make { target, fields }
 }
 
-/// It has two blocks: the third shelve moves none, and there is none for the make.
-fn gives(alloc: Global) -> Result<Vec<Call>, AllocError> {
-    Ok(vec![in alloc; Call::Shelve { count: 3 }, make(A)]?)
+fn unshelve(block: u16) -> Call {
+    let block = Block(block);
+    Call::Unshelve { block }
 }
 
-/// Two makes take its own blocks, and two more those from the shelf.
+/// It has blocks 1 and 2: the third shelve moves none, and there is none for the make. Then it would have block 2 back.
+fn gives(alloc: Global) -> Result<Vec<Call>, AllocError> {
+    Ok(vec![in alloc; Call::Shelve { count: 3 }, make(A), unshelve(2), make(A)]?)
+}
+
+/// Two makes take its own blocks, and two more those from the shelf, on which block 3 isn't.
 fn takes(alloc: Global) -> Result<Vec<Call>, AllocError> {
-    let unshelve = Call::Unshelve { count: 3 };
     let (a, b, c) = (make(A), make(B), make(C));
     let (d, e) = (make(D), make(E));
-    Ok(vec![in alloc; a, b, c, unshelve, c, d, e]?)
+    Ok(vec![in alloc; a, b, c, unshelve(1), unshelve(2), unshelve(3), c, d, e]?)
 }
 
 fn silent(statement: u32) -> Turned {
@@ -96,16 +100,17 @@ fn blocks_change_actors_turn_by_turn(rt: HostRuntime) -> Result<(), Fail> {
         assert!(rt; pair.first() == silent(1));
     }
     assert!(rt; pair.first() == full(2));
-    assert!(rt; pair.first() == Turned::Done);
     assert!(rt; pair.second() == silent(1));
     assert!(rt; pair.second() == silent(2));
     assert!(rt; pair.second() == full(3));
-    for _ in 0..3 {
-        assert!(rt; pair.second() == silent(4));
+    for statement in 4..7 {
+        assert!(rt; pair.second() == silent(statement));
     }
-    assert!(rt; pair.second() == silent(5));
-    assert!(rt; pair.second() == silent(6));
-    assert!(rt; pair.second() == full(7));
+    assert!(rt; pair.first() == silent(3));
+    assert!(rt; pair.first() == full(4));
+    assert!(rt; pair.second() == silent(7));
+    assert!(rt; pair.second() == silent(8));
+    assert!(rt; pair.second() == full(9));
     assert_eq!(rt; pair.world.made(), 4);
     Ok(())
 }

@@ -54,7 +54,7 @@ call_words names (call.Upgrade target source) =
 call_words names (call.WeakCount name) = codes "wcount" ∷ name_text names name ∷ []
 call_words names (call.Expired name) = codes "expired" ∷ name_text names name ∷ []
 call_words names (call.Shelve count) = codes "shelve" ∷ decimal count ∷ []
-call_words names (call.Unshelve count) = codes "unshelve" ∷ decimal count ∷ []
+call_words names (call.Unshelve block) = codes "unshelve" ∷ decimal block.0 ∷ []
 
 -- the same by the shape of the line
 abbrev pub line_words : NameList → Line → List (List ℕ)

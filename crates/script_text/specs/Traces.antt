@@ -27,6 +27,7 @@ Item = ℕ × Said
 abbrev pub IsChosen : State → ℕ → Option (Event Nothing) → Type 0
 IsChosen s d None = Unit {0}
 IsChosen s d (Some (event.Make b enabled null fields value)) = least d s.stores ≡ Some b.0
+IsChosen s d (Some (event.Shelve b)) = least d s.stores ≡ Some b.0
 IsChosen s d (Some (event.Count h n)) = n ≡ count s (object_of h)
 IsChosen s d (Some (event.Compare c expected new found swapped weak)) = swapped ≡ equivalent found expected
 IsChosen s d (Some _) = Unit {0}

@@ -74,7 +74,7 @@ fn line_of(call: &Call) -> Line
             Line::Compare(word, cell, expected, desired)
         }
         Call::Shelve { count } => Line::Number("shelve", count),
-        Call::Unshelve { count } => Line::Number("unshelve", count),
+        Call::Unshelve { block } => Line::Number("unshelve", block.0),
     }
 }
 

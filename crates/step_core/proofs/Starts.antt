@@ -1,5 +1,4 @@
 -- A thread at its start fits the table.
-use Rattle.step_threads.specs.declared.programs.act.ShelfAct.{ShelfAct}
 use Rattle.step_threads.specs.declared.programs.act.Act.TheVariants as act
 use Rattle.step_threads.specs.declared.programs.act.ShelfAct.TheVariants as shelf
 use Rattle.std.proofs.Common.{◌≡◌, ℕ, zero, suc, ◌+◌, ◌<◌, ◌≤◌, false, List, [], ◌∷◌, ◌++◌, length, Option}
@@ -80,10 +79,10 @@ cell_within kinds (cell.Shared n) all = tt
 cell_within kinds (cell.Weak n) all = tt
 cell_within kinds (cell.Member k m) all = within kinds k.0 (owner_asked k).1 (All-head (IsDeclared kinds) (owner_asked k) [] all)
 
-many_ready : (n k m : ℕ) (x : ShelfAct) (ts : List Task) → TasksMayCome n false ts
-    → TasksMayCome n false (numbered_tasks k (replicate m (act.OnShelf x)) ++ ts)
-many_ready n k zero x ts r = r
-many_ready n k (suc m) x ts r = (tt, tt, many_ready n k m x ts r)
+many_ready : (n k m : ℕ) (ts : List Task) → TasksMayCome n false ts
+    → TasksMayCome n false (numbered_tasks k (replicate m (act.OnShelf shelf.Shelve)) ++ ts)
+many_ready n k zero ts r = r
+many_ready n k (suc m) ts r = (tt, tt, many_ready n k m ts r)
 
 call_ready : (kinds : List Kind) (k : ℕ) (c : Call) (ts : List Task) → IsWellNamed kinds c → HasFields c → TasksMayCome (length kinds) false ts
     → TasksMayCome (length kinds) false (numbered_tasks k (acts c) ++ ts)
@@ -190,8 +189,8 @@ call_ready kinds k (call.Compare c x y b) ts named four r =
     let j = in_within kinds c y (All-head (IsDeclared kinds) (as_in c y) (through c) more) in
     let n = cell_within kinds c (All-tail (IsDeclared kinds) (as_in c y) (through c) more) in
     ((j, n, refl), tt, ((i, n), tt, (i, tt, (refl, tt, r))))
-call_ready kinds k (call.Shelve n) ts named four r = many_ready (length kinds) k n shelf.Shelve ts r
-call_ready kinds k (call.Unshelve n) ts named four r = many_ready (length kinds) k n shelf.Unshelve ts r
+call_ready kinds k (call.Shelve n) ts named four r = many_ready (length kinds) k n ts r
+call_ready kinds k (call.Unshelve b) ts named four r = (tt, tt, r)
 
 tasks_ready : (kinds : List Kind) (k : ℕ) (calls : List Call) → All (IsWellNamed kinds) calls → All HasFields calls
     → TasksMayCome (length kinds) false (tasks_from k calls (length kinds))
@@ -239,10 +238,11 @@ four z t u w x h i j k = All-cons (HasTask z) t (u ∷ w ∷ x ∷ []) h (three 
 first_cell : (z : Shape) (c : CellName) → All (IsIn z) (c ∷ []) → IsIn z c
 first_cell z c h = All-head (IsIn z) c [] h
 
-many_cells : (z : Shape) (k n : ℕ) (x : ShelfAct) → All (HasTask z) (numbered_tasks k (replicate n (act.OnShelf x)))
-many_cells z k zero x = All-nil (HasTask z)
-many_cells z k (suc n) x =
-    All-cons (HasTask z) (record { statement = k; act = act.OnShelf x }) (numbered_tasks k (replicate n (act.OnShelf x))) tt (many_cells z k n x)
+many_cells : (z : Shape) (k n : ℕ) → All (HasTask z) (numbered_tasks k (replicate n (act.OnShelf shelf.Shelve)))
+many_cells z k zero = All-nil (HasTask z)
+many_cells z k (suc n) =
+    All-cons (HasTask z) (record { statement = k; act = act.OnShelf shelf.Shelve }) (numbered_tasks k (replicate n (act.OnShelf shelf.Shelve))) tt
+    (many_cells z k n)
 
 call_cells : (z : Shape) (k : ℕ) (c : Call) → HasCells z c → All (HasTask z) (numbered_tasks k (acts c))
 call_cells z k (call.Make t f) h = two z _ _ tt tt
@@ -273,8 +273,8 @@ call_cells z k (call.Store c t) h = three z _ _ _ (first_cell z c h) (first_cell
 call_cells z k (call.Exchange c t) h = one z _ (first_cell z c h)
 call_cells z k (call.Load t c) h = two z _ _ (first_cell z c h) tt
 call_cells z k (call.Compare c x y b) h = four z _ _ _ _ (first_cell z c h) (first_cell z c h) tt tt
-call_cells z k (call.Shelve n) h = many_cells z k n shelf.Shelve
-call_cells z k (call.Unshelve n) h = many_cells z k n shelf.Unshelve
+call_cells z k (call.Shelve n) h = many_cells z k n
+call_cells z k (call.Unshelve b) h = one z _ tt
 
 pub tasks_cells : (z : Shape) (k n : ℕ) (calls : List Call) → All (HasCells z) calls → All (HasTask z) (tasks_from k calls n)
 tasks_cells z k n [] h = clearing_cells z n

@@ -37,12 +37,11 @@ first_sight shape parts =
       halves = map {B = Half} (λ (part : Part). Rest) parts;
     }
 
--- an object has four fields; a shelve and an unshelve are of so many blocks as a table may have
+-- an object has four fields; a shelve is of so many blocks as a table may have
 abbrev pub HasFields : Call → Type 0
 HasFields (Make target fields) = length fields ≡ 4
 HasFields (MakeThis target fields) = length fields ≡ 4
 HasFields (Shelve n) = n < 65536
-HasFields (Unshelve n) = n < 65536
 HasFields _ = Unit {0}
 
 abbrev pub AllHaveFields : List Part → Type 0

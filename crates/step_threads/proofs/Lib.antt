@@ -25,4 +25,3 @@ pub mod LoadFits
 pub mod RefillFits
 pub mod holding
 pub mod ShelfSteps
-pub mod ShelfWords

@@ -6,15 +6,16 @@ use Rattle.std.proofs.lemmas.List.Sums.{sum_by-cons}
 use Rattle.std.specs.List.Sorted.{IsPermutation}
 use Rattle.std.specs.Prelude.{Option, Some, None, option_map, is_some}
 use Rattle.control_word.proofs.lists.Tallies.{num_cons, num_without, stored_self, stored_true}
-use Rattle.control_word.specs.State.{same_stored, stored}
+use Rattle.control_word.specs.State.{State, same_stored, stored}
 use Rattle.control_word.specs.declared.place.Block.{Block}
 use Rattle.step_table.specs.Stories.{Kept, Story, story_after_deed, story_state}
 use Rattle.step_table.specs.declared.memory.past.Deed.TheVariants as deed
+use Rattle.step_table.specs.declared.memory.shelf.ShelfDeed.{ShelfDeed}
 use Rattle.step_table.specs.declared.memory.shelf.ShelfDeed.TheVariants as shelf
 use Rattle.step_threads.specs.Actors.{Stocks}
 use Rattle.step_threads.specs.Courses.{CourseReady, HasGoneOn, IsReady, TasksMayCome, other, rest, walk_settled, taken_after, task_at, walk}
 use Rattle.step_threads.specs.NextSteps.{first, deed_is_event, story_after}
-use Rattle.step_threads.specs.Shelving.{least_shelved, moves, shelf_block}
+use Rattle.step_threads.specs.Shelving.{shelf_block, shelf_deed}
 use Rattle.step_threads.specs.Steps.{silent}
 use Rattle.step_threads.specs.Stocks.{StoreView}
 use Rattle.step_threads.specs.Threads.{FitsThread, HasStepped}
@@ -34,7 +35,6 @@ use Rattle.step_threads.proofs.Threads.{cells_on, own_pending, resting}
 use Rattle.step_threads.proofs.holding.Ends.{ends_gone}
 use Rattle.step_threads.proofs.holding.Few.{store_few}
 use Rattle.step_threads.proofs.holding.Storing.{one_stored, taken_stored}
-use Rattle.step_threads.proofs.ShelfWords.{least_in}
 
 -- nothing is taken and nothing dropped
 pub shelf_ready : (c : Course) (x : ShelfAct) → c.at < length c.tasks.items → CourseReady c → (task_at c).act ≡ OnShelf x
@@ -51,7 +51,7 @@ shelf_ready c x lt ready act =
 
 -- the least block of the store goes to the shelf
 pub stocks_shelve : (d : ℕ) (old new : List ℕ) (room : ℕ) (v : Story) (b : Block) → Stocks d old room Rest v → IsPermutation old (b.0 ∷ new)
-    → Stocks d new room Rest (story_after_deed v d (moves Shelve b.0))
+    → Stocks d new room Rest (story_after_deed v d (deed.OnShelf b shelf.Shelve))
 stocks_shelve d old new room v b stocks p =
     let has = taken_stored d old new room v b stocks p in
     record {
@@ -66,7 +66,7 @@ stocks_shelve d old new room v b stocks p =
 -- a block comes from the shelf
 pub stocks_unshelve : (d : ℕ) (old new : StoreView) (v : Story) (b : Block) → Stocks d old.blocks old.room Rest v
     → IsPermutation (b.0 ∷ old.blocks) new.blocks → old.room ≤ new.room
-    → Stocks d new.blocks new.room Rest (story_after_deed v d (moves Unshelve b.0))
+    → Stocks d new.blocks new.room Rest (story_after_deed v d (deed.OnShelf b shelf.Unshelve))
 stocks_unshelve d old new v b stocks p room =
     record {
       stocked = λ c.
@@ -77,48 +77,31 @@ stocks_unshelve d old new v b stocks p room =
       roomy = (let r = stocks.roomy in omega (arith, r, room));
     }
 
--- what was found on the shelf comes from it
-pub unshelved : (d : ℕ) (v w : Story) (b : Block) (got : Bool) → Some b.0 ≡ least_shelved (story_state v) → got ≡ (story_state v).shelved b.0
-    → w ≡ story_after_deed v d (deed.OnShelf b (cond got shelf.Unshelve shelf.Miss)) → w ≡ story_after_deed v d (moves Unshelve b.0)
-unshelved d v w b got found is after =
-    let has : got ≡ true = is ∙ least_in (story_state v).shelved 0 65536 b.0 (sym found) in
-    after ∙ ap (λ (x : Bool). story_after_deed v d (deed.OnShelf b (cond x shelf.Unshelve shelf.Miss))) has
+-- the bit of a block that wasn't there is cleared
+pub stocks_missed : (d : ℕ) (l : List ℕ) (room : ℕ) (v : Story) (b : Block) → Stocks d l room Rest v
+    → Stocks d l room Rest (story_after_deed v d (deed.OnShelf b shelf.Miss))
+stocks_missed d l room v b stocks = record { stocked = stocks.stocked; roomy = stocks.roomy }
 
 -- it has room there
 pub room_unshelve : (d : ℕ) (t : Thread) (v w : Story) (b : Block) → FitsThread d t v → t.half ≡ Rest
-    → w ≡ story_after_deed v d (moves Unshelve b.0) → Kept w
+    → w ≡ story_after_deed v d (deed.OnShelf b shelf.Unshelve) → Kept w
     → length t.stock.blocks < t.stock.room
 room_unshelve d t v w b fits e is kept =
     let s = resting d t v fits e in
-    let f = store_few d (story_after_deed v d (moves Unshelve b.0)) (b.0 ∷ t.stock.blocks) (subst (λ (u : Story). Kept u) is kept)
+    let f = store_few d (story_after_deed v d (deed.OnShelf b shelf.Unshelve)) (b.0 ∷ t.stock.blocks) (subst (λ (u : Story). Kept u) is kept)
     (λ c. let g = num_cons (same_stored (stored d c)) (stored d b.0) (story_state v).stores in
     let k = one_stored d b.0 c in
     let a = sum_by-cons (λ (y : ℕ). cond (y == c) 1 0) b.0 t.stock.blocks in
     let o = s.stocked c in omega (arith, g, k, a, o)) in
     let r = s.roomy in omega (arith, f, r)
 
--- a block was moved, and the thread went on
-pub fits_moved : (d : ℕ) (t : Thread) (v : Story) (x : ShelfAct) (b : ℕ) (c : Course) (s : StoreView) → Kept v → FitsThread d t v
+-- a bit of the shelf was set or cleared, and the thread went on
+pub fits_moved : (d : ℕ) (t : Thread) (v : Story) (b : Block) (x : ShelfDeed) (c : Course) (s : StoreView) → Kept v → FitsThread d t v
     → t.course.endings.list ≡ []
-    → HasGoneOn d t.course c (story_after_deed v d (moves x b)) → Stocks d s.blocks s.room Rest (story_after_deed v d (moves x b))
-    → FitsThread d (record { course = c; stock = s; half = Rest }) (story_after_deed v d (moves x b))
-fits_moved d t v Shelve b c s kept fits none on stocks =
-    let y = moves Shelve b in
-    let w = story_after_deed v d y in
-    record {
-      seat = fits.seat;
-      holds = on.holds;
-      within = on.within;
-      ready = on.ready;
-      still = on.still;
-      half = own_pending v d y kept fits.seat;
-      next = tt;
-      stocks = stocks;
-      endings = ends_gone d t.course c v w fits.endings none on.endings refl;
-      cells = cells_on d t.course c w on fits.cells;
-    }
-fits_moved d t v Unshelve b c s kept fits none on stocks =
-    let y = moves Unshelve b in
+    → HasGoneOn d t.course c (story_after_deed v d (deed.OnShelf b x)) → Stocks d s.blocks s.room Rest (story_after_deed v d (deed.OnShelf b x))
+    → FitsThread d (record { course = c; stock = s; half = Rest }) (story_after_deed v d (deed.OnShelf b x))
+fits_moved d t v b x c s kept fits none on stocks =
+    let y = deed.OnShelf b x in
     let w = story_after_deed v d y in
     record {
       seat = fits.seat;
@@ -156,7 +139,7 @@ fits_unmoved d t v c s fits e none on blocks room =
 pub stepped_shelf : (d : ℕ) (t t' : Thread) (v w : Story) (r : Stepped) (x : ShelfAct) (o : Option ℕ) (k : ℕ)
     → k ≡ (task_at t.course).statement → t.half ≡ Rest → t.course.endings.list ≡ [] → t.course.at < length t.course.tasks.items
     → (task_at t.course).act ≡ OnShelf x → shelf_block (story_state v) d x ≡ o
-    → r ≡ cond (is_some o) (Event (silent k)) (Quiet (silent k)) → w ≡ story_after v d (option_map (moves x) o)
+    → r ≡ cond (is_some o) (Event (silent k)) (Quiet (silent k)) → w ≡ story_after v d (shelf_deed x o)
     → walk t'.course ≡ walk_settled t.course.holdings.slots.items t.course.taken t.course.endings.list (rest t.course)
     → t'.half ≡ Rest → HasStepped d t v r t' w
 stepped_shelf d t t' v w r x o k number rests none lt act found says story walked half =
@@ -165,16 +148,20 @@ stepped_shelf d t t' v w r x o k number rests none lt act found says story walke
     (waits_act t v (OnShelf x) rests none lt act) (at_act d t v (OnShelf x) rests none lt act)
     (says ∙ ap (λ (m : ℕ). cond (is_some o) (Event (silent m)) (Quiet (silent m))) number ∙ events x o
     ∙ ap (λ (q : Option ℕ). stepped_by q) (sym found))
-    (story ∙ ap (λ (q : Option ℕ). story_after v d (option_map (moves x) q)) (sym found)) walked half
+    (story ∙ ap (λ (q : Option ℕ). story_after v d (shelf_deed x q)) (sym found)) walked half
   where
     stepped_by : Option ℕ → Stepped
     stepped_by q =
         let m = (task_at t.course).statement in
-        cond (deed_is_event v (option_map (moves x) q)) (Event (silent m)) (Quiet (silent m))
+        cond (deed_is_event v (shelf_deed x q)) (Event (silent m)) (Quiet (silent m))
 
     events : (y : ShelfAct) (q : Option ℕ) → let m = (task_at t.course).statement in
-        cond (is_some q) (Event (silent m)) (Quiet (silent m)) ≡ cond (deed_is_event v (option_map (moves y) q)) (Event (silent m)) (Quiet (silent m))
+        cond (is_some q) (Event (silent m)) (Quiet (silent m)) ≡ cond (deed_is_event v (shelf_deed y q)) (Event (silent m)) (Quiet (silent m))
     events Shelve None = refl
-    events Unshelve None = refl
     events Shelve (Some b) = refl
-    events Unshelve (Some b) = refl
+    events (Unshelve c) None = refl
+    events (Unshelve c) (Some b) = refl
+
+-- whether the bit was set tells which block was moved
+pub unshelved_by : (s : State) (d : ℕ) (b : Block) (got : Bool) → got ≡ s.shelved b.0 → shelf_block s d (Unshelve b) ≡ cond got (Some b.0) None
+unshelved_by s d b got e = ap (λ (x : Bool). cond x (Some b.0) None) (sym e)

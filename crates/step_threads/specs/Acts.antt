@@ -54,7 +54,7 @@ acts (Load target cell) = act.Load cell ∷ act.Put target.0 ∷ []
 acts (Compare cell expected desired weak) =
     act.Offer desired.0 cell ∷ act.Compare expected.0 cell weak ∷ act.Put expected.0 ∷ act.Drop ∷ []
 acts (Shelve n) = replicate n (act.OnShelf shelf.Shelve)
-acts (Unshelve n) = replicate n (act.OnShelf shelf.Unshelve)
+acts (Unshelve block) = act.OnShelf (shelf.Unshelve block) ∷ []
 
 -- how a call goes on from its first act: what was taken goes to its name or into a cell, where there is one; or the
 -- act is made so often

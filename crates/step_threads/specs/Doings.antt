@@ -38,7 +38,7 @@ use Rattle.step_threads.specs.Courses.{Walk, cell_of_name, hand, is_there, offer
 use Rattle.step_threads.specs.Endings.{staged}
 use Rattle.step_threads.specs.Rows.{Reply, Plain, Found, Got, Told, Came, Compared, Left, walk_after_act, may_go, row}
 use Rattle.step_threads.specs.Rows.{said_by_row}
-use Rattle.step_threads.specs.Shelving.{moved, shelf_block}
+use Rattle.step_threads.specs.declared.programs.act.ShelfAct.TheVariants.{Shelve, Unshelve}
 use Rattle.step_threads.specs.Scenes.{remains_as}
 use Rattle.step_threads.specs.Steps.{silent}
 
@@ -162,7 +162,10 @@ module _ {V : Type 0} where
   IsMakeEvent worth s d l (Exchange k c) (Came x) e = Where (may_go l c k) (IsSwapEvent s l c k x e) (e ≡ None)
   IsMakeEvent worth s d l (Load c) (Came x) e = Where (is_there l c) (IsLoadEvent s l c x e) (e ≡ None)
   IsMakeEvent worth s d l (Compare k c weak) (Compared swaps x) e = IsCompareEvent s l c k weak swaps x e
-  IsMakeEvent worth s d l (OnShelf x) (Found o) e = (o ≡ shelf_block s d x) × (e ≡ option_map (moved x) o)
+  IsMakeEvent worth s d l (OnShelf Shelve) (Found None) e = (stock s d ≡ []) × (e ≡ None)
+  IsMakeEvent worth s d l (OnShelf Shelve) (Found (Some b)) e = e ≡ Some (event.Shelve (record { 0 = b }))
+  IsMakeEvent worth s d l (OnShelf (Unshelve b)) (Got got) e =
+      (got ≡ s.shelved b.0) × (e ≡ cond got (Some (event.Unshelve b)) None)
   IsMakeEvent worth s d l _ _ e = ⊥
 
   -- an act is made, with some reply: what is done, what it says, and where the thread is then

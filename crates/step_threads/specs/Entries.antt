@@ -22,7 +22,7 @@ use Rattle.step_table.specs.Deeds.{Telling, alias, aliased, downgrade, give, is_
 use Rattle.step_table.specs.Deeds.{tell_count, tell_expired}
 use Rattle.step_table.specs.Holdings.{Slots, inside, owner_slot, place_in, slot_pointer, slot_value}
 use Rattle.step_table.specs.Stories.{Nothing, event_added, event_of}
-use Rattle.step_threads.specs.Shelving.{moves, shelf_block}
+use Rattle.step_threads.specs.Shelving.{shelf_block, shelf_deed}
 use Rattle.step_threads.specs.Courses.{cell_of_name, going, hand, is_there, locked_pointer, offered, on_going, other}
 
 abbrev pub History : Type 0
@@ -89,4 +89,4 @@ acted tell z d slots h (Exchange k c) = on_going (history_swaps z d slots h) h (
 acted tell z d slots h (Load c) = cond (is_there slots c) (loads z d slots h c) h
 acted tell z d slots h (Compare k c weak) = history_compares z d slots h k c weak
 acted tell z d slots h Drop = does z d h (option_map (leave (leads z h)) (slot_pointer slots (other slots)))
-acted tell z d slots h (OnShelf x) = does z d h (option_map (moves x) (shelf_block (leads z h) d x))
+acted tell z d slots h (OnShelf x) = does z d h (shelf_deed x (shelf_block (leads z h) d x))

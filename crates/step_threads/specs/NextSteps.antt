@@ -28,7 +28,7 @@ use Rattle.step_table.specs.Contents.{as_word, compared_in, is_spent, same_value
 use Rattle.step_table.specs.Deeds.{downgrade, give, leave, read_deed, share, tell, tell_expired, alias, aliased, on}
 use Rattle.step_table.specs.Holdings.{inside, is_full, slot_pointer, owner_slot, place_in, slot_value}
 use Rattle.step_threads.specs.Entries.{least}
-use Rattle.step_threads.specs.Shelving.{moves, shelf_block}
+use Rattle.step_threads.specs.Shelving.{shelf_block, shelf_deed}
 use Rattle.step_table.specs.Stories.{Story, story_after_deed, event_of, known_words, pending, story_state}
 use Rattle.step_threads.specs.Steps.{Step, step_of_act, begins, looks, tries, asks, step_of_swap, sends, step_of_look}
 use Rattle.step_threads.specs.Steps.{takes, step_of_compare}
@@ -75,7 +75,7 @@ first v d w k ts (Compare i c weak) =
 first v d w k ts Drop =
     step_of_act v d w k ts Drop (option_map (leave (story_state v)) (slot_pointer w.slots (other w.slots))) Rest
 first v d w k ts (OnShelf x) =
-    step_of_act v d w k ts (OnShelf x) (option_map (moves x) (shelf_block (story_state v) d x)) Rest
+    step_of_act v d w k ts (OnShelf x) (shelf_deed x (shelf_block (story_state v) d x)) Rest
 
 abbrev pub begun : Story → ℕ → Walk → List Task → Option Step
 begun v d w [] = None

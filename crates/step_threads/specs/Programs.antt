@@ -97,7 +97,7 @@ names_of (Exchange cell name) = as_in cell name ∷ through cell
 names_of (Load target cell) = as_in cell target ∷ through cell
 names_of (Compare cell expected desired weak) = as_in cell expected ∷ as_in cell desired ∷ through cell
 names_of (Shelve n) = []
-names_of (Unshelve n) = []
+names_of (Unshelve block) = []
 
 -- the cells of a call
 abbrev pub cells_of : Call → List CellName

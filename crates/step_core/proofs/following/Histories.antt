@@ -1,10 +1,11 @@
 -- What acts on cells and on the shelf do to the history is what their replies say.
-use Rattle.step_threads.specs.declared.programs.act.ShelfAct.{ShelfAct}
 use Rattle.step_threads.specs.declared.programs.act.ShelfAct.TheVariants.{Shelve, Unshelve}
-use Rattle.step_threads.specs.Shelving.{moved, moves}
+use Rattle.step_threads.specs.Shelving.{shelf_deed}
 use Rattle.std.proofs.Common.{◌≡◌, ℕ, Bool, true, false, cond, refl}
 use Rattle.std.specs.Prelude.{Option, Some, None, option_map}
 use Rattle.control_word.specs.declared.model.event.Event.{Event}
+use Rattle.control_word.specs.declared.model.event.Event.TheVariants as event
+use Rattle.control_word.specs.declared.place.Block.{Block}
 use Rattle.control_word.specs.Histories.{leads}
 use Rattle.control_word.specs.State.{Opening, State}
 use Rattle.step_table.specs.Contents.{held_in, load_of, swap_of}
@@ -48,7 +49,14 @@ module _ (z : Opening) (d : ℕ) (h : History) (l : Slots) where
   load_makes c true = (held_in now (cell_of_name now l c), refl, refl)
   load_makes c false = refl
 
-  pub shelf_history : (x : ShelfAct) (o : Option ℕ) → does z d h (option_map (moves x) o) ≡ put_on d (option_map (moved x) o) h
-  shelf_history x None = refl
-  shelf_history Shelve (Some b) = refl
-  shelf_history Unshelve (Some b) = refl
+  abbrev pub shelving : ℕ → Event Nothing
+  shelving b = event.Shelve (record { 0 = b })
+
+  pub shelve_history : (o : Option ℕ) → does z d h (shelf_deed Shelve o) ≡ put_on d (option_map shelving o) h
+  shelve_history None = refl
+  shelve_history (Some b) = refl
+
+  pub unshelve_history : (b : Block) (got : Bool)
+      → does z d h (shelf_deed (Unshelve b) (cond got (Some b.0) None)) ≡ put_on d (cond got (Some (event.Unshelve b)) None) h
+  unshelve_history b true = refl
+  unshelve_history b false = refl

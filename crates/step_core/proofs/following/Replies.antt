@@ -1,5 +1,5 @@
 -- What acts make and leave is what their replies say.
-use Rattle.step_threads.specs.Shelving.{moved, shelf_block}
+use Rattle.step_threads.specs.declared.programs.act.ShelfAct.TheVariants.{Shelve, Unshelve}
 use Rattle.std.proofs.Common.{◌≡◌, ℕ, Bool, true, false, cond, List, ◌∷◌, refl, sym, ap}
 use Rattle.std.specs.Prelude.{Option, Some, None, option_map, slice_set}
 use Rattle.control_word.specs.declared.model.event.Event.{Event}
@@ -31,7 +31,8 @@ use Rattle.step_threads.specs.Scenes.{came, ended_by, found, said_of, taking, we
 use Rattle.step_core.specs.Following.{no_worth}
 use Rattle.step_core.proofs.following.Parts.{asks, counting, expiring, gave, gives, leave_ends, leave_makes, leaving_event, left, lock_found, lock_makes}
 use Rattle.step_core.proofs.following.Parts.{locking, none_stored, on_pointer, read_makes, read_says, reading, shared, this_answers, this_found, this_makes}
-use Rattle.step_core.proofs.following.Histories.{load_history, load_makes, shelf_history, swap_event, swap_history, swap_makes, swap_slots}
+use Rattle.step_core.proofs.following.Histories.{load_history, load_makes, shelve_history, shelving, swap_event, swap_history, swap_makes, swap_slots}
+use Rattle.step_core.proofs.following.Histories.{unshelve_history}
 
 -- what an act of statement n makes, with these tasks after it, by a reply
 pub record Replied (tell : Telling) (z : Opening) (d : ℕ) (h : History) (n : ℕ) (w : Walk) (ts : List Task) (a : Act) : Type 0 where
@@ -70,6 +71,11 @@ module _ (tell : Telling) (z : Opening) (d : ℕ) (h : History) (n : ℕ) (w : W
       → IsMakeEvent no_worth now d w.slots (Make form) (Found o) (option_map (made_of form) o)
   make_makes form None e = (none_stored d now.stores e, refl)
   make_makes form (Some b) e = refl
+
+  pub shelve_makes : (o : Option ℕ) → least d now.stores ≡ o
+      → IsMakeEvent no_worth now d w.slots (OnShelf Shelve) (Found o) (option_map (shelving z d h w.slots) o)
+  shelve_makes None e = (none_stored d now.stores e, refl)
+  shelve_makes (Some b) e = refl
 
   -- each act
   unfoldable pub replied : (a : Act) → Replied tell z d h n w ts a
@@ -133,13 +139,23 @@ module _ (tell : Telling) (z : Opening) (d : ℕ) (h : History) (n : ℕ) (w : W
         says = refl;
         goes = ap (λ (es : List Ending). walk_settled (slice_set w.slots i plain) w.taken es ts) (leave_ends now n w.endings o);
       }
-  replied (OnShelf x) =
-      let o = shelf_block now d x in
+  replied (OnShelf Shelve) =
+      let o = least d now.stores in
       record {
         reply = Found o;
-        event = option_map (moved x) o;
+        event = option_map (shelving z d h w.slots) o;
+        makes = shelve_makes o refl;
+        history = shelve_history z d h w.slots o;
+        says = refl;
+        goes = refl;
+      }
+  replied (OnShelf (Unshelve b)) =
+      let got = now.shelved b.0 in
+      record {
+        reply = Got got;
+        event = cond got (Some (event.Unshelve b)) None;
         makes = (refl, refl);
-        history = shelf_history z d h w.slots x o;
+        history = unshelve_history z d h w.slots b got;
         says = refl;
         goes = refl;
       }

@@ -1,7 +1,7 @@
 -- What a step answers that is a lock.
 use Rattle.step_threads.specs.declared.programs.act.ShelfAct.{ShelfAct}
 use Rattle.step_threads.specs.declared.programs.act.ShelfAct.TheVariants.{Shelve, Unshelve}
-use Rattle.step_threads.specs.Shelving.{moves, shelf_block}
+use Rattle.step_threads.specs.Shelving.{shelf_block, shelf_deed}
 use Rattle.std.proofs.Common.{◌≡◌, ℕ, ◌==◌, Bool, true, false, cond, List, [], ◌∷◌, get_or, refl, sym, ap, subst, ◌∙◌}
 use Rattle.std.specs.Prelude.{Option, Some, None, not, option_map}
 use Rattle.std.proofs.lemmas.Bool.{cond_both}
@@ -72,10 +72,11 @@ module _ (l : List Task) where
   leave_plain Weak x last = refl
 
   shelf_tells : (v : Story) (d k : ℕ) (w : Walk) (ts : List Task) (x : ShelfAct) (o : Option ℕ)
-      → Tells l (Some (step_of_act v d w k ts (OnShelf x) (option_map (moves x) o) Rest))
-  shelf_tells v d k w ts x None = tt
+      → Tells l (Some (step_of_act v d w k ts (OnShelf x) (shelf_deed x o) Rest))
+  shelf_tells v d k w ts Shelve None = tt
   shelf_tells v d k w ts Shelve (Some b) = tt
-  shelf_tells v d k w ts Unshelve (Some b) = tt
+  shelf_tells v d k w ts (Unshelve c) None = tt
+  shelf_tells v d k w ts (Unshelve c) (Some b) = tt
 
   begin_tells : (w : Walk) (k : ℕ) (ts : List Task) (o : Option ℕ) → Tells l (Some (begins w k ts o))
   begin_tells w k ts None = tt

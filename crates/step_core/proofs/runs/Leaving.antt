@@ -1,7 +1,7 @@
 -- What the steps of a thread leave of objects that end.
 use Rattle.step_threads.specs.declared.programs.act.ShelfAct.{ShelfAct}
 use Rattle.step_threads.specs.declared.programs.act.ShelfAct.TheVariants.{Shelve, Unshelve}
-use Rattle.step_threads.specs.Shelving.{moves, shelf_block}
+use Rattle.step_threads.specs.Shelving.{shelf_block, shelf_deed}
 use Rattle.std.proofs.Common.{◌≡◌, ℕ, ◌==◌, Bool, true, false, cond, List, [], ◌∷◌, get_or, refl}
 use Rattle.std.specs.Prelude.{Option, Some, None, option_map}
 use Rattle.std.proofs.lemmas.Bool.{cond_both}
@@ -89,10 +89,11 @@ read_tells : (v : Story) (o : Option Pointer) → None ≡ left_by v (option_map
 read_tells v None = refl
 read_tells v (Some x) = refl
 
-shelf_tells : (v : Story) (x : ShelfAct) (o : Option ℕ) → None ≡ left_by v (option_map (moves x) o)
-shelf_tells v x None = refl
+shelf_tells : (v : Story) (x : ShelfAct) (o : Option ℕ) → None ≡ left_by v (shelf_deed x o)
+shelf_tells v Shelve None = refl
 shelf_tells v Shelve (Some b) = refl
-shelf_tells v Unshelve (Some b) = refl
+shelf_tells v (Unshelve c) None = refl
+shelf_tells v (Unshelve c) (Some b) = refl
 
 -- an object that is asked for a pointer, or gives one, goes on
 ask_tells : (v : Story) (d k i : ℕ) (q : Kind) (w : Walk) (ts : List Task) (o : Option Pointer)

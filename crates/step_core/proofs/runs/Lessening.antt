@@ -1,5 +1,5 @@
 -- How many steps a thread has left, step by step.
-use Rattle.step_threads.specs.Shelving.{moves, shelf_block}
+use Rattle.step_threads.specs.Shelving.{shelf_block, shelf_deed}
 use Rattle.std.proofs.Common.{◌≡◌, ℕ, ◌+◌, ◌<◌, ◌≤◌, ◌==◌, Bool, true, false, cond, List, [], ◌∷◌, get_or, refl, sym, ap}
 use Rattle.std.proofs.Common.{◌∙◌, arith}
 use Rattle.std.specs.Prelude.{Option, Some, None, is_some, option_map}
@@ -171,7 +171,7 @@ first_less v d k w t ts (Compare i c weak) kept seat holds none is same has stil
 first_less v d k w t ts Drop kept seat holds none is same has still calm =
     left_less v d k w (went (story_state v) d w k ts Drop) (slot_pointer w.slots (other w.slots)) (went_less (story_state v) d k w t ts Drop none is)
 first_less v d k w t ts (OnShelf x) kept seat holds none is same has still calm =
-    plain_less v d k Rest w t ts (OnShelf x) (option_map (moves x) (shelf_block (story_state v) d x)) refl refl none is (omega arith) (omega arith)
+    plain_less v d k Rest w t ts (OnShelf x) (shelf_deed x (shelf_block (story_state v) d x)) refl refl none is (omega arith) (omega arith)
 
 task_less : (v : Story) (d : ℕ) (w : Walk) (ts : List Task) → Kept v → d < v.extent.actors → HoldsBag d w.slots v → w.endings ≡ [] → w.todo ≡ ts
     → IsInShape v.extent.shape ts → IsStill w ts → waits_at v w [] ts ≡ false → IsLess v d Rest w (begun v d w ts)

@@ -1,7 +1,7 @@
 -- What a deed adds to the totals, and what is left by it.
 use Rattle.step_threads.specs.declared.programs.act.ShelfAct.{ShelfAct}
 use Rattle.step_threads.specs.declared.programs.act.ShelfAct.TheVariants.{Shelve, Unshelve}
-use Rattle.step_threads.specs.Shelving.{moves}
+use Rattle.step_threads.specs.Shelving.{shelf_deed}
 use Rattle.std.proofs.Common.{◌≡◌, ℕ, ◌+◌, ◌*◌, ◌≤◌, Bool, true, false, cond, refl, sym, ap, ◌∙◌, arith}
 use Rattle.std.specs.Prelude.{Option, Some, None, is_some, option_map}
 use Rattle.control_word.specs.declared.model.event.Event.TheVariants as event
@@ -151,11 +151,12 @@ left v d k w x (Some y) le = left_by v d k w x y y.kind (is_last_of (story_state
 -- a block goes to the shelf or comes from it, if there is one
 pub moved_one : (v : Story) (d k : ℕ) (w x : Walk) (y : ShelfAct) → walk_steps x ≤ walk_steps w → (o : Option ℕ)
     → IsCounted v d Rest w (Some (record {
-      deed = option_map (moves y) o;
+      deed = shelf_deed y o;
       half = Rest;
       walk = x;
       said = record { statement = k; answer = None; ended = None };
     }))
-moved_one v d k w x y le None = record { made = plus_none _; ended = plus_none _; few = omega (arith, le) }
+moved_one v d k w x Shelve le None = record { made = plus_none _; ended = plus_none _; few = omega (arith, le) }
 moved_one v d k w x Shelve le (Some b) = record { made = plus_none _; ended = plus_none _; few = omega (arith, le) }
-moved_one v d k w x Unshelve le (Some b) = record { made = plus_none _; ended = plus_none _; few = omega (arith, le) }
+moved_one v d k w x (Unshelve c) le None = record { made = plus_none _; ended = plus_none _; few = omega (arith, le) }
+moved_one v d k w x (Unshelve c) le (Some b) = record { made = plus_none _; ended = plus_none _; few = omega (arith, le) }

@@ -21,7 +21,6 @@ use Rattle.step_threads.specs.Courses.{Walk}
 use Rattle.step_threads.specs.Scenes.{nowhere}
 use Rattle.step_threads.specs.Programs.{IsPart, IsProgram, Part, call_count}
 use Rattle.step_core.specs.Starts.{AllHaveFields, HasFields, first_story, first_walk, no_slots}
-use Rattle.step_threads.specs.declared.programs.act.ShelfAct.{ShelfAct}
 use Rattle.step_core.specs.Told.{IsTidy, TotalsAreTold, sight}
 use Rattle.step_core.specs.Worlds.{thread_half, thread_walk}
 use Rattle.step_core.proofs.watching.Worlds.{watched_start}
@@ -47,9 +46,9 @@ numbered_steps k (a ∷ rest) ts =
     let b = sum_by-cons (λ (t : Task). weight t.act) (record { statement = k; act = a }) (numbered_tasks k rest ++ ts) in
     omega (arith, i, b)
 
-many_steps : (n : ℕ) (x : ShelfAct) → act_steps (replicate n (act.OnShelf x)) ≡ 2 * n
-many_steps zero x = refl
-many_steps (suc n) x = let i = many_steps n x in omega (arith, i)
+many_steps : (n : ℕ) → act_steps (replicate n (act.OnShelf shelf.Shelve)) ≡ 2 * n
+many_steps zero = refl
+many_steps (suc n) = let i = many_steps n in omega (arith, i)
 
 call_steps : (c : Call) → HasFields c → act_steps (acts c) ≤ 131070
 call_steps (call.Make t f) few = omega arith
@@ -80,8 +79,8 @@ call_steps (call.Store c s) few = omega arith
 call_steps (call.Exchange c n) few = omega arith
 call_steps (call.Load t c) few = omega arith
 call_steps (call.Compare c x y b) few = omega arith
-call_steps (call.Shelve n) few = let m = many_steps n shelf.Shelve in omega (arith, m, few)
-call_steps (call.Unshelve n) few = let m = many_steps n shelf.Unshelve in omega (arith, m, few)
+call_steps (call.Shelve n) few = let m = many_steps n in omega (arith, m, few)
+call_steps (call.Unshelve b) few = omega arith
 
 all_steps : (k : ℕ) (calls : List Call) (n : ℕ) → All HasFields calls → task_steps (tasks_from k calls n) ≤ 131070 * length calls + 2 * n
 all_steps k [] n all = let i = clearing_steps n in omega (arith, i)

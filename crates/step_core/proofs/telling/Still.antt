@@ -1,7 +1,7 @@
 -- Steps by which no object begins to end, or comes to its end.
 use Rattle.step_threads.specs.declared.programs.act.ShelfAct.{ShelfAct}
 use Rattle.step_threads.specs.declared.programs.act.ShelfAct.TheVariants.{Shelve, Unshelve}
-use Rattle.step_threads.specs.Shelving.{moves}
+use Rattle.step_threads.specs.Shelving.{shelf_deed}
 use Rattle.std.proofs.Common.{◌≡◌, ◌≢◌, ℕ, ◌<◌, ◌==◌, Bool, true, false, cond, List, [], ◌∷◌, refl, sym, ap, subst, ◌∙◌}
 use Rattle.std.proofs.Common.{⊎_elim}
 use Rattle.std.specs.Prelude.{Option, Some, None, option_map}
@@ -119,10 +119,11 @@ done_on v d f (Some x) still = still x
 
 -- a block goes to the shelf or comes from it, if there is one
 pub done_shelf : (v : Story) (d : ℕ) (x : ShelfAct) (o : Option ℕ)
-    → (story_state (story_after v d (option_map (moves x) o))).object ≡ (story_state v).object
-done_shelf v d x None = refl
+    → (story_state (story_after v d (shelf_deed x o))).object ≡ (story_state v).object
+done_shelf v d Shelve None = refl
 done_shelf v d Shelve (Some b) = refl
-done_shelf v d Unshelve (Some b) = refl
+done_shelf v d (Unshelve c) None = refl
+done_shelf v d (Unshelve c) (Some b) = refl
 
 pub shared : (v : Story) (d : ℕ) (q : Kind) (x : Pointer) → (story_state (story_after v d (Some (share_as q x)))).object ≡ (story_state v).object
 shared v d Owner x = refl

@@ -1,7 +1,5 @@
 -- Steps on cells: where half of a cell's funds or more are taken, threads count that put them back.
-use Rattle.step_threads.specs.declared.programs.act.ShelfAct.{ShelfAct}
-use Rattle.step_threads.specs.declared.programs.act.ShelfAct.TheVariants.{Shelve, Unshelve}
-use Rattle.step_threads.specs.Shelving.{moves}
+use Rattle.step_table.specs.declared.memory.shelf.ShelfDeed.{ShelfDeed}
 use Rattle.control_word.specs.Words.{shelf_spot}
 use Rattle.step_table.specs.Openings.{opening}
 use Rattle.std.proofs.Common.{◌≡◌, ◌≢◌, ℕ, suc, ◌+◌, ◌-◌, ◌*◌, ◌<◌, ◌≤◌, ◌==◌, Bool, true, false, cond, List, length}
@@ -60,12 +58,10 @@ shelf_apart v (Member a m) b is e =
     let few = is.2 in
     omega (arith, from, high, few, e)
 
-pub shelf_off : (v : Story) (d : ℕ) (x : ShelfAct) (b : ℕ) (c : Cell) → IsCellOfShape v.extent.shape c
-    → slice_index (story_after v d (Some (moves x b))).words (word_of v.extent.shape.blocks c) ≡ word_of_cell v c
-shelf_off v d Shelve b c is =
-    get_or-set_other v.words (shelf_spot (opening v.extent) b) (word_of v.extent.shape.blocks c) _ 0 (shelf_apart v c b is)
-shelf_off v d Unshelve b c is =
-    get_or-set_other v.words (shelf_spot (opening v.extent) b) (word_of v.extent.shape.blocks c) _ 0 (shelf_apart v c b is)
+pub shelf_off : (v : Story) (d : ℕ) (x : ShelfDeed) (b : Block) (c : Cell) → IsCellOfShape v.extent.shape c
+    → slice_index (story_after v d (Some (deed.OnShelf b x))).words (word_of v.extent.shape.blocks c) ≡ word_of_cell v c
+shelf_off v d x b c is =
+    get_or-set_other v.words (shelf_spot (opening v.extent) b.0) (word_of v.extent.shape.blocks c) _ 0 (shelf_apart v c b.0 is)
 
 -- one word is another, or none is: so it is for each cell of the shape
 abbrev pub WatchesWord : Story → Half → List ℕ → Half → Type 0

@@ -1,6 +1,8 @@
 -- What each step does to the funds that are taken of cells.
 use Rattle.step_threads.specs.declared.programs.act.ShelfAct.{ShelfAct}
-use Rattle.step_threads.specs.Shelving.{moves, shelf_block}
+use Rattle.step_threads.specs.declared.programs.act.ShelfAct.TheVariants.{Shelve, Unshelve}
+use Rattle.step_table.specs.declared.memory.shelf.ShelfDeed.TheVariants as shelf
+use Rattle.step_threads.specs.Shelving.{shelf_block, shelf_deed}
 use Rattle.step_core.proofs.watching.Cells.{shelf_off}
 use Rattle.std.proofs.Common.{◌≡◌, ℕ, ◌<◌, ◌==◌, Bool, false, cond, List, refl}
 use Rattle.std.proofs.Common.{eqb-true, inl, arith}
@@ -122,9 +124,11 @@ module _ (v : Story) (d : ℕ) (w : Walk) (kept : Kept v) (seat : d < v.extent.a
       (λ t. still v d Rest None (Giving i q x) (λ p a. refl) (λ n valid. refl)) (λ t. still v d Rest None Rest (λ p a. refl) (λ n valid. refl))
 
   -- a block goes to the shelf or comes from it, if there is one
-  shelf_watch : (x : ShelfAct) (o : Option ℕ) → Watches v d Rest (option_map (moves x) o) Rest
-  shelf_watch x None = still v d Rest None Rest (λ p a. refl) (λ n valid. refl)
-  shelf_watch x (Some b) = λ c is. inl (shelf_off v d x b c is, omega arith)
+  shelf_watch : (x : ShelfAct) (o : Option ℕ) → Watches v d Rest (shelf_deed x o) Rest
+  shelf_watch Shelve None = still v d Rest None Rest (λ p a. refl) (λ n valid. refl)
+  shelf_watch Shelve (Some b) = λ c is. inl (shelf_off v d shelf.Shelve (record { 0 = b }) c is, omega arith)
+  shelf_watch (Unshelve b) None = λ c is. inl (shelf_off v d shelf.Miss b c is, omega arith)
+  shelf_watch (Unshelve b) (Some n) = λ c is. inl (shelf_off v d shelf.Unshelve b c is, omega arith)
 
   -- a value goes into a cell
   swaps_watch : (h : Half) (k : ℕ) (ts : List Task) (a : Act) (c : CellName) (i : ℕ) → IsQuiet v h

@@ -1,8 +1,7 @@
 //! The shelf: vacant blocks that any desk may take. Each function is one atomic step on one word.
-ghost use Rattle.std.specs.Prelude.{◌≡◌, ℕ, ◌<◌, ◌/◌, ◌%◌, cond};
-ghost use Rattle.std.specs.Int.{bit_at};
+ghost use Rattle.std.specs.Prelude.{◌≡◌, ◌<◌, cond};
 ghost use Rattle.control_word.specs.declared.model.view.Pending.TheVariants.{Idle};
-ghost use Rattle.control_word.specs.State.{Has, on_shelf, stored};
+ghost use Rattle.control_word.specs.State.{Has, stored};
 ghost use Rattle.control_word.specs.Words.{shelf_spot};
 ghost use Rattle.step_table.specs.Openings.{opening};
 ghost use Rattle.step_table.specs.Stories.{story_after_deed, pending, story_state};
@@ -68,18 +67,6 @@ impl Table {
         self.words.set(word, found & !shelf_bit(block));
         self.past = past;
         got
-    }
-
-    /// A word of the shelf: which of its blocks are there.
-    pub fn look_shelf(&self, word: u16) -> u64
-        requires { word < 1024 }
-        ensures { (b : ℕ) → b < 65536 → b / 64 ≡ word
-            → bit_at result (b % 64) ≡ on_shelf (story_state self.now) b }
-    {
-        self.known();
-        let shape = &self.extent.shape;
-        let cells = shape.shared_cells + shape.weak_cells;
-        self.words.get(shelf_word(shape.blocks, cells, word))
     }
 }
 

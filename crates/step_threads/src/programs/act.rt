@@ -2,6 +2,7 @@
 
 use crate::programs::call::CellName;
 use control_word::model::handle::Kind;
+use control_word::place::Block;
 use step_table::memory::field::Field;
 use step_table::memory::form::Form;
 
@@ -101,7 +102,7 @@ pub enum Act {
     },
     /// Leaves what is to be dropped. It is no act where that is nothing.
     Drop,
-    /// Moves a vacant block to the shelf or from it, if there is one.
+    /// Moves a vacant block to the shelf or from it.
     OnShelf {
         act: ShelfAct,
     },
@@ -110,10 +111,10 @@ pub enum Act {
 /// Which way a vacant block goes.
 #[derive(Clone, Copy)]
 pub enum ShelfAct {
-    /// The least block of the store goes to the shelf.
+    /// The least block of the store goes to the shelf, if there is one.
     Shelve,
-    /// The least block on the shelf comes into the store.
-    Unshelve,
+    /// This block comes from the shelf into the store, if it is there.
+    Unshelve { block: Block },
 }
 
 /// What is told of the pointers of names, by their values alone.

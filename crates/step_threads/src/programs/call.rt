@@ -3,6 +3,7 @@ ghost use Rattle.std.specs.Prelude.{◌≡◌};
 ghost use Rattle.step_threads.specs.Programs.{is_member_of, kind_at};
 
 pub use control_word::model::handle::Kind;
+use control_word::place::Block;
 use step_table::memory::field::Field;
 
 /// A name of an actor by its number: its place, from 0, in the order of the declarations.
@@ -195,10 +196,10 @@ pub enum Call {
     Shelve {
         count: u16,
     },
-    /// So many blocks come from the shelf into the actor's store, or all where it has fewer, each by an act of its own.
-    /// It says nothing, and no statement of the script language asks for it (own).
+    /// This block comes from the shelf into the actor's store, if it is there. It says nothing, and no statement of the
+    /// script language asks for it (own).
     Unshelve {
-        count: u16,
+        block: Block,
     },
 }
 

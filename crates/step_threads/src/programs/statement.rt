@@ -125,7 +125,7 @@ fn parts(call: Call) -> (Act, Tail)
         Call::Read { name } => (Act::Read { name: name.0 }, Tail::Nothing),
         Call::Move { target, source } => (Act::Move { name: source.0 }, Tail::Named(target)),
         Call::Shelve { count } => (on_shelf(ShelfAct::Shelve), Tail::Times(count)),
-        Call::Unshelve { count } => (on_shelf(ShelfAct::Unshelve), Tail::Times(count)),
+        Call::Unshelve { block } => (on_shelf(ShelfAct::Unshelve { block }), Tail::Nothing),
         Call::Alias {
             target,
             source,

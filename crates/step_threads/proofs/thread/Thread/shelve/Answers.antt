@@ -1,8 +1,9 @@
 use Rattle.std.proofs.Common.{ℕ, refl, sym, subst, ap}
 use Rattle.std.specs.Prelude.{Some, None}
+use Rattle.step_table.specs.declared.memory.past.Deed.TheVariants as deed
+use Rattle.step_table.specs.declared.memory.shelf.ShelfDeed.TheVariants as shelf
 use Rattle.step_table.specs.Stories.{Story, story_after_deed}
 use Rattle.step_threads.specs.Actors.{Stocks}
-use Rattle.step_threads.specs.Shelving.{moves}
 use Rattle.step_threads.specs.Threads.{FitsThread}
 use Rattle.step_threads.specs.declared.programs.act.ShelfAct.TheVariants.{Shelve}
 use Rattle.step_threads.specs.declared.half.Half.{Half}
@@ -42,13 +43,13 @@ returns-in-Some-clause-fits c =
     let t = c.args.self.now in
     let v = c.args.table.now in
     let b = c.in-Some.block in
-    let w = story_after_deed v d (moves Shelve b.0) in
+    let w = story_after_deed v d (deed.OnShelf b shelf.Shelve) in
     let s = c.take_least.new.self in
     let course = c.go_on-in-Some.new.self in
     let holds = c.requires.fits.holds in
     let stocks = stocks_shelve d t.stock.blocks s.blocks t.stock.room v b (resting d t v c.requires.fits c.requires.rest) c.in-Some.ensures.least.0 in
     subst (λ (h : Half). FitsThread d (record { course = course; stock = s; half = h }) c.shelve.new.self) (sym c.requires.rest)
     (subst (λ (u : Story). FitsThread d (record { course = course; stock = s; half = Rest }) u) (sym c.shelve.ensures)
-    (fits_moved d t v Shelve b.0 course s c.known.ensures c.requires.fits c.requires.none
+    (fits_moved d t v b shelf.Shelve course s c.known.ensures c.requires.fits c.requires.none
     (c.go_on-in-Some.ensures.on d w (record { owned = holds.owned; size = holds.size; formed = holds.formed }))
     (subst (λ (n : ℕ). Stocks d s.blocks n Rest w) (sym c.take_least.ensures.room) stocks)))
