@@ -7,6 +7,7 @@ pub mod Exact
 pub mod FaultLines
 pub mod Following
 pub mod Interleaving
+pub mod LeastBlocks
 pub mod LineLemmas
 pub mod Once
 pub mod OneAct

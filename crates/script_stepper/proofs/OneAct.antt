@@ -2,8 +2,6 @@
 use Rattle.step_threads.specs.declared.programs.act.ShelfAct.TheVariants.{Shelve, Unshelve}
 use Rattle.std.proofs.Common.{◌≡◌, ℕ, ◌==◌, ◌&&◌, Bool, true, false, not, cond, List, [], ◌∷◌, refl, sym, ap, subst, ◌∙◌}
 use Rattle.std.specs.Prelude.{Option, Some, None, option_map, slice_index, slice_set}
-use Rattle.std.specs.List.{filter}
-use Rattle.std.proofs.lemmas.Option.{same_Some}
 use Rattle.control_word.specs.declared.model.event.Event.{Event}
 use Rattle.control_word.specs.declared.model.event.Event.TheVariants as event
 use Rattle.control_word.specs.declared.model.handle.Handle.{Handle}
@@ -13,7 +11,7 @@ use Rattle.control_word.specs.declared.place.Place.{Place}
 use Rattle.control_word.specs.Events.{Asks, cell_of, is_gone, place_at}
 use Rattle.control_word.specs.Handles.{equivalent, object_of, owner, weak_of}
 use Rattle.control_word.specs.Histories.{IsLegal, leads}
-use Rattle.control_word.specs.State.{Opening, State, Stored, count, weak}
+use Rattle.control_word.specs.State.{Opening, State, count, weak}
 use Rattle.step_table.specs.declared.memory.ended.Ended.{Ended}
 use Rattle.step_table.specs.declared.memory.form.Form.{Form}
 use Rattle.step_table.specs.declared.slots.holdings.Pointer.{Pointer}
@@ -31,27 +29,15 @@ use Rattle.step_threads.specs.declared.said.Answer.{Answer}
 use Rattle.step_threads.specs.declared.said.Answer.TheVariants as answer
 use Rattle.step_threads.specs.Courses.{cell_of_name, hand, is_there, other, placed}
 use Rattle.step_threads.specs.Doings.{IsLeaveEvent, IsLoadEvent, IsMakeEvent, On, IsSwapEvent, IsCompareEvent, Where, copies, leaves_as, put_on}
-use Rattle.step_threads.specs.Entries.{History, least, lesser}
+use Rattle.step_threads.specs.Entries.{History}
 use Rattle.step_threads.specs.Rows.{Reply, Plain, Found, Got, Told, Came, Compared, Left, having, leaving, may_go, row}
 use Rattle.step_threads.specs.Scenes.{Hands, full_answer, holding, outside, refusal, remains_as}
 use Rattle.step_core.specs.Following.{no_worth}
 use Rattle.script_text.specs.Traces.{IsChosen}
+use Rattle.script_stepper.proofs.LeastBlocks.{least_is_one, least_of_none}
 
 abbrev pub Events : Type 0
 Events = Option (Event Nothing)
-
-none_some : (b : ℕ) → None ≡ Some b → ⊥
-none_some b e = cc
-
--- an empty store has no least block
-none_least_in : (b : Bool) (x : Stored) (l : List Stored) (o : Option ℕ) → (l ≡ [] → o ≡ None) → cond b (x ∷ l) l ≡ []
-    → cond b (lesser x.block o) o ≡ None
-none_least_in true x l o rest e = cc
-none_least_in false x l o rest e = rest e
-
-none_least : (d : ℕ) (xs : List Stored) → filter (λ (x : Stored). x.desk == d) xs ≡ [] → least d xs ≡ None
-none_least d [] e = refl
-none_least d (x ∷ xs) e = none_least_in (x.desk == d) x (filter (λ (y : Stored). y.desk == d) xs) (least d xs) (none_least d xs) e
 
 module _ (s : State) (d : ℕ) where
   -- what was made may come
@@ -199,11 +185,11 @@ module _ (s : State) (d : ℕ) where
         → Chosen e → Chosen f → Same (Make form) (Found o) (Found p) e f
     makes_once form None None e f m n u v = (refl, m.1 ∙ sym n.1)
     makes_once form None (Some b) e f m n u v =
-        absurd (none_some b (sym (none_least d s.stores m.0) ∙ subst Chosen n v))
+        absurd (least_of_none d s.stores b m.0 (subst Chosen n v))
     makes_once form (Some b) None e f m n u v =
-        absurd (none_some b (sym (none_least d s.stores n.0) ∙ subst Chosen m u))
+        absurd (least_of_none d s.stores b n.0 (subst Chosen m u))
     makes_once form (Some b) (Some c) e f m n u v =
-        let same : b ≡ c = same_Some _ _ (sym (subst Chosen m u) ∙ subst Chosen n v) in (
+        let same : b ≡ c = least_is_one d s.stores b c (subst Chosen m u) (subst Chosen n v) in (
           ap (λ (k : ℕ). having (holding l form.null (Some k)) (full_answer (Some k))) same,
           m ∙ ap (λ (k : ℕ). Some (event.Make (record { 0 = k }) form.enabled form.null form.fields tt)) same ∙ sym n,
         )
@@ -211,10 +197,10 @@ module _ (s : State) (d : ℕ) where
     shelves_once : (o p : Option ℕ) (e f : Events) → IsMakeEvent no_worth s d l (OnShelf Shelve) (Found o) e
         → IsMakeEvent no_worth s d l (OnShelf Shelve) (Found p) f → Chosen e → Chosen f → e ≡ f
     shelves_once None None e f m n u v = m.1 ∙ sym n.1
-    shelves_once None (Some b) e f m n u v = absurd (none_some b (sym (none_least d s.stores m.0) ∙ subst Chosen n v))
-    shelves_once (Some b) None e f m n u v = absurd (none_some b (sym (none_least d s.stores n.0) ∙ subst Chosen m u))
+    shelves_once None (Some b) e f m n u v = absurd (least_of_none d s.stores b m.0 (subst Chosen n v))
+    shelves_once (Some b) None e f m n u v = absurd (least_of_none d s.stores b n.0 (subst Chosen m u))
     shelves_once (Some b) (Some c) e f m n u v =
-        let same : b ≡ c = same_Some _ _ (sym (subst Chosen m u) ∙ subst Chosen n v) in
+        let same : b ≡ c = least_is_one d s.stores b c (subst Chosen m u) (subst Chosen n v) in
         m ∙ ap (λ (k : ℕ). Some (event.Shelve (record { 0 = k }))) same ∙ sym n
 
     pub one_reply : (a : Act) (r q : Reply) (e f : Events) → IsMakeEvent no_worth s d l a r e → IsMakeEvent no_worth s d l a q f → Comes e → Right f
