@@ -2,33 +2,17 @@
 #![tactic(auto)]
 
 #[cfg(test)]
-mod arena;
+mod desks;
 #[cfg(test)]
-mod cascade;
-#[cfg(test)]
-mod drops;
+mod ending;
 #[cfg(test)]
 mod example;
 #[cfg(test)]
-mod forgotten;
+mod foundations;
 #[cfg(test)]
 mod laws;
-#[cfg(test)]
-mod ledger;
-#[cfg(test)]
-mod limits;
 #[cfg(test)]
 mod memory;
 #[cfg(test)]
 mod parts;
-#[cfg(test)]
-mod piles;
 pub mod shapes;
-#[cfg(test)]
-mod shelves;
-#[cfg(test)]
-mod splits;
-#[cfg(test)]
-mod this;
-#[cfg(test)]
-mod words;

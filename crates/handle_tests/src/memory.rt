@@ -1,9 +1,9 @@
 //! Growths that are refused. `tests/refuse_allocations` runs these with each allocation refused in turn, and compares
 //! how many allocations other tests take, whose calls take none, with a test that only opens such a domain and closes
 //! it.
+use crate::desks::splits::{abandon, numbers, refusal};
 use crate::parts::shut;
 use crate::shapes::shape;
-use crate::splits::{abandon, numbers, refusal};
 use control_block::domain::open;
 use control_word::Refusal;
 use std::test::Fail;

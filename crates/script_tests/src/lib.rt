@@ -4,22 +4,12 @@
 
 pub mod calls;
 #[cfg(test)]
-mod graphs;
+mod leaks;
 #[cfg(test)]
-mod holding;
+mod machine;
 #[cfg(test)]
 mod memory;
 #[cfg(test)]
-mod naming;
-#[cfg(test)]
-mod opening;
-#[cfg(test)]
-mod shelving;
-#[cfg(test)]
-mod steps;
+mod texts;
 #[cfg(test)]
 mod workers;
-#[cfg(test)]
-mod worlds;
-#[cfg(test)]
-mod writing;

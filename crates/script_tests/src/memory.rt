@@ -1,6 +1,6 @@
 //! Growths that are refused. `tests/refuse_allocations` runs these with each allocation refused in turn, and compares
 //! how many a chain's end takes with a test that only makes its world.
-use crate::worlds::TestWorld;
+use crate::machine::worlds::TestWorld;
 use control_word::{Refusal, Shape};
 use script_stepper::{Output, Sink, fine_text, step_text, write_lines};
 use script_text::{Fault, convert, parse, print};

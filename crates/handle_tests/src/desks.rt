@@ -1,0 +1,4 @@
+//! Domains and their desks: sizes, parts, and the shelf.
+pub(crate) mod limits;
+pub(crate) mod shelves;
+pub(crate) mod splits;

@@ -1,0 +1,116 @@
+//! The shelf: what goes there, and who gets it.
+ghost use Rattle.std.specs.Prelude.{◌≡◌, ◌+◌, ◌≤◌, length};
+ghost use Rattle.control_block.specs.Desks.{Belongs, IsSameDesk};
+
+use crate::desks::splits::{abandon, all_vacant, cut};
+use crate::parts::{drop_owner, shape};
+use control_block::desk::Desk;
+use control_block::domain::{Domain, open};
+use control_word::Refused;
+use shared_handle::make;
+use std::sync::Wait;
+use std::test::Fail;
+use std::thread::{Threads, join_mut};
+
+// What a make answers: 0 where there is an object, which ends again; else the number of the refusal.
+fn try_make(domain: &Domain<u64>, desk: &mut Desk<u64>) -> u8
+    requires domain { Belongs desk.old domain.now }
+    ensures desk { IsSameDesk desk.old desk.new }
+{
+    match make(domain, desk, [0; 4], false, 7) {
+        Ok(owner) => {
+            drop_owner(domain, desk, owner);
+            0
+        }
+        Err(refused) => {
+            let Refused { why, back: _ } = refused;
+            why.number()
+        }
+    }
+}
+
+#[test]
+fn spare_blocks_go_to_the_shelf_and_come_back(rt: HostRuntime) -> Result<(), Fail> {
+    let alloc = rt.alloc();
+    let (domain, mut desk) = open::<u64>(alloc, shape(4, 4)).ok().ok_or("memory")?;
+    let two = desk.shelve(&domain, 2);
+    let half = desk.stock();
+    let rest = desk.shelve(&domain, 9);
+    let none = desk.stock();
+    let refused = try_make(&domain, &mut desk);
+    let one = desk.unshelve(&domain, 1);
+    let answered = try_make(&domain, &mut desk);
+    let three = desk.unshelve(&domain, 9);
+    let no_more = desk.unshelve(&domain, 1);
+    let left = desk.shelve(&domain, 3);
+    let vacant = all_vacant(domain, desk);
+    assert_eq!(rt; [two, half, rest, none], [2, 2, 2, 0]);
+    assert_eq!(rt; [refused, answered], [3, 0]);
+    assert_eq!(rt; [one, three, no_more, left], [1, 3, 0, 3]);
+    assert!(rt; vacant == Some(true));
+    Ok(())
+}
+
+// All blocks of a domain go to the shelf, and so many come back.
+fn there_and_back(rt: &HostRuntime, blocks: u32) -> Option<(u32, u32, u32)> {
+    let (domain, mut desk) = open::<u64>(rt.alloc(), shape(blocks, 1)).ok()?;
+    let shelved = desk.shelve(&domain, blocks);
+    let back = desk.unshelve(&domain, u32::MAX);
+    let stock = desk.stock();
+    abandon(domain, desk);
+    Some((shelved, back, stock))
+}
+
+#[test]
+fn the_blocks_at_the_ends_of_words_come_back(rt: HostRuntime) -> Result<(), Fail> {
+    for blocks in [1, 63, 64, 65, 128, 65_535] {
+        let all = there_and_back(&rt, blocks).ok_or("memory")?;
+        assert!(rt; all == (blocks, blocks, blocks));
+    }
+    Ok(())
+}
+
+// In a thread: 1,000 tries to take one block. How many were taken.
+fn take(domain: &Domain<u64>, desk: &mut Desk<u64>) -> u32
+    requires domain { Belongs desk.old domain.now }
+    ensures desk { IsSameDesk desk.old desk.new }
+{
+    let mut taken: u32 = 0;
+    for _ in 0..1_000 {
+        taken = taken.wrapping_add(desk.unshelve(domain, 1));
+    }
+    taken
+}
+
+// Two desks take from one shelf, in a thread each.
+fn take_both<R: Threads + Wait + Sync>(
+    rt: &R,
+    domain: &Domain<u64>,
+    one: &mut Desk<u64>,
+    two: &mut Desk<u64>,
+) -> u32
+    requires domain { Belongs one.old domain.now × Belongs two.old domain.now }
+    ensures one { IsSameDesk one.old one.new }
+    ensures two { IsSameDesk two.old two.new }
+{
+    let (a, b) = join_mut(rt, &mut || take(domain, one), &mut || take(domain, two));
+    a.wrapping_add(b)
+}
+
+#[test]
+fn each_block_is_taken_once(rt: HostRuntime) -> Result<(), Fail> {
+    let alloc = rt.alloc();
+    let (domain, mut one) = open::<u64>(alloc, shape(8, 8)).ok().ok_or("memory")?;
+    let Ok(mut two) = cut(&domain, &mut one, alloc, 4, 4) else {
+        abandon(domain, one);
+        return Err("memory".into());
+    };
+    let mut shelved = one.shelve(&domain, 8);
+    shelved += two.shelve(&domain, 8);
+    let taken = take_both(&rt, &domain, &mut one, &mut two);
+    one.join(&domain, two);
+    let stock = one.stock();
+    abandon(domain, one);
+    assert_eq!(rt; [shelved, taken, stock], [8, 8, 8]);
+    Ok(())
+}

@@ -1,0 +1,3 @@
+//! What is reached and held at a script's end.
+pub(crate) mod graphs;
+pub(crate) mod holding;

@@ -1,0 +1,71 @@
+//! What no script asks for: steps and turns of one world, mixed, and the shelf's steps on a table.
+use crate::machine::worlds::TestWorld;
+use control_word::{Block, Shape};
+use std::test::Fail;
+use step_core::{Answer, Call, Ended, Name, Said, Stepped, Turned};
+use step_table::memory::extent::Extent;
+use step_table::memory::table::Table;
+
+const A: Name = Name(0);
+
+const CALLS: [Call; 3] = [
+    Call::Make {
+        target: A,
+        fields: [1, 0, 0, 0],
+    },
+    Call::Reset { name: A },
+    Call::Count { name: A },
+];
+
+/// What a step on the way to the Make tells, and its event too.
+const MAKES: Said = Said {
+    statement: 1,
+    answer: None,
+    ended: None,
+};
+
+/// The last owner leaves.
+const ENDS: Said = Said {
+    statement: 2,
+    answer: None,
+    ended: Some(Ended::Fields([1, 0, 0, 0])),
+};
+
+const COUNTS: Said = Said {
+    statement: 3,
+    answer: Some(Answer::Count(0)),
+    ended: None,
+};
+
+#[test]
+fn a_turn_ends_what_steps_began(rt: HostRuntime) -> Result<(), Fail> {
+    let mut world = TestWorld::new(rt.alloc(), 2, CALLS.as_slice())?;
+    for _ in 0..3 {
+        assert!(rt; world.step() == Stepped::Quiet(MAKES));
+    }
+    assert!(rt; world.turn() == Turned::Acted(MAKES));
+    assert!(rt; world.step() == Stepped::Event(ENDS));
+    assert!(rt; world.turn() == Turned::Acted(COUNTS));
+    assert!(rt; world.turn() == Turned::Done);
+    assert!(rt; world.step() == Stepped::Done);
+    Ok(())
+}
+
+#[test]
+fn a_shelved_block_is_taken_once(rt: HostRuntime) -> Result<(), Fail> {
+    let shape = Shape {
+        blocks: 4,
+        shared_cells: 0,
+        weak_cells: 0,
+        allowance: 80,
+    };
+    let mut table = Table::new(rt.alloc(), &Extent { shape, actors: 2 })?;
+    table.shelve(0, Block(1));
+    table.shelve(1, Block(3));
+    assert!(rt; !table.unshelve(0, Block(2)));
+    assert!(rt; table.unshelve(1, Block(1)));
+    assert!(rt; !table.unshelve(0, Block(1)));
+    assert!(rt; table.unshelve(0, Block(3)));
+    assert!(rt; !table.unshelve(1, Block(3)));
+    Ok(())
+}

@@ -1,0 +1,3 @@
+//! Texts that are read, and texts that are written.
+pub(crate) mod naming;
+pub(crate) mod writing;
