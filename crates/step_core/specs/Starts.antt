@@ -5,7 +5,7 @@ use Rattle.control_word.specs.declared.shape.Shape.{Shape}
 use Rattle.control_word.specs.Layout.{IsWithinLimits, table_size}
 use Rattle.control_word.specs.Views.{fresh}
 use Rattle.step_threads.specs.declared.programs.call.Call.{Call}
-use Rattle.step_threads.specs.declared.programs.call.Call.TheVariants.{Make, MakeThis, Shelve, Unshelve}
+use Rattle.step_threads.specs.declared.programs.call.Call.TheVariants.{Make, MakeThis, Shelve}
 use Rattle.step_table.specs.declared.memory.extent.Extent.{Extent}
 use Rattle.step_threads.specs.declared.half.Half.{Half}
 use Rattle.step_threads.specs.declared.half.Half.TheVariants.{Rest}
