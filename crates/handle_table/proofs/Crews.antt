@@ -3,14 +3,14 @@ use Rattle.std.proofs.Common.{◌≡◌, ℕ, List, [], ◌∷◌, ◌++◌, ap,
 use Rattle.std.proofs.lemmas.List.{nil_from_length}
 use Rattle.control_word.specs.declared.shape.Shape.{Shape}
 use Rattle.control_word.specs.Histories.{IsLegal}
-use Rattle.control_block.specs.Census.{CensusNow, TellsAll}
-use Rattle.control_block.specs.Desks.{IsFirstDesk, Belongs, DeskNow, DomainNow, allowance_of, bag_of, endings_of, state_of}
+use Rattle.control_block.specs.Census.{CensusNow}
+use Rattle.control_block.specs.Desks.{IsFirstDesk, Belongs, DeskNow, DomainNow, allowance_of, bag_of, endings_of}
 use Rattle.control_block.specs.Parting.{SplitsOff}
 use Rattle.control_block.specs.Rule.{opening_of}
 use Rattle.control_block.specs.Standing.{Standing}
 use Rattle.handle_table.proofs.Filling.{total_one}
 use Rattle.handle_table.specs.Parting.{AbsorbsAll, IsNew, IsPartedInto, WhyFewer, WindsUp}
-use Rattle.handle_table.specs.Programs.{IsClosed, Runs, Works, WorksIn, WorksOut}
+use Rattle.handle_table.specs.Programs.{CanClose, IsClosed, Runs, Works, WorksIn, WorksOut}
 use Rattle.handle_table.specs.Tables.{FitsSlots, TableNow}
 use Rattle.handle_table.specs.declared.program.Manned.{Manned}
 use Rattle.handle_table.specs.declared.program.Team.{Team}
@@ -42,18 +42,15 @@ module _ {V : Type 0} where
         absorbs = subst (λ (y : TableNow V). AbsorbsAll y left u) is absorbs;
       }
 
-  -- a sole desk without handles closed its domain
-  pub closed : (domain : DomainNow) (d : DeskNow V) (c : CensusNow) → Belongs d domain → Standing d → FitsSlots d [] → endings_of d ≡ 0
-      → allowance_of d ≡ domain.shape.allowance → c.blocks ≡ domain.shape.blocks → TellsAll (state_of d) domain.shape.blocks c
-      → IsClosed d domain.shape c
-  closed domain d c here stands fits none sole blocks tells =
+  -- a sole desk without handles can close its domain
+  pub can_close : (domain : DomainNow) (d : DeskNow V) → Belongs d domain → Standing d → FitsSlots d [] → endings_of d ≡ 0
+      → allowance_of d ≡ domain.shape.allowance → CanClose d domain.shape
+  can_close domain d here stands fits none sole =
       record {
         of = here.shape;
         sole = sole ∙ sym (ap (λ (s : Shape). s.allowance) here.shape);
         legal = subst (λ (s : Shape). IsLegal (opening_of s) d.seen) here.shape stands.legal;
         bare = (nil_from_length (bag_of d) (sym (total_one (bag_of d)) ∙ fits.bag (λ h. 1)), fits.held, none);
-        blocks = blocks;
-        tells = tells;
       }
 
   -- the table was wound up after its team's work

@@ -42,13 +42,17 @@ module _ {V : Type 0} where
     pub new : IsNew team.slots first
     pub out : WorksOut first team manned last
 
-  -- A domain was closed by a desk that had the whole allowance, so that every other one was joined and it has seen all.
-  -- No handle was left with it and nothing to end; and the census tells of all blocks
-  pub record IsClosed (last : DeskNow V) (shape : Shape) (c : CensusNow) : Type 0 where
+  -- A desk of a domain of this shape can close it, with nothing left: it has the whole allowance, so that every other
+  -- one was joined and it has seen all, and it has no handle and nothing to end
+  pub record CanClose (last : DeskNow V) (shape : Shape) : Type 0 where
     pub of : last.shape ≡ shape
     pub sole : IsSole last
     pub legal : IsLegal (opening_of shape) last.seen
     pub bare : (bag_of last ≡ []) × (last.held ≡ 0) × (endings_of last ≡ 0)
+
+  -- such a desk closed its domain, and the census tells of all blocks
+  pub record IsClosed (last : DeskNow V) (shape : Shape) (c : CensusNow) : Type 0 where
+    pub by : CanClose last shape
     pub blocks : c.blocks ≡ shape.blocks
     pub tells : TellsAll (state_of last) shape.blocks c
 

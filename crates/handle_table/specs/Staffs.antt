@@ -2,10 +2,10 @@
 use Rattle.std.specs.Prelude.{◌≡◌, All, List, [], ◌∷◌}
 use Rattle.control_word.specs.declared.shape.Shape.{Shape}
 use Rattle.control_block.specs.Census.{CensusNow}
-use Rattle.control_block.specs.Desks.{IsFirstDesk, DeskNow, DomainNow}
+use Rattle.control_block.specs.Desks.{Belongs, IsFirstDesk, DeskNow, DomainNow}
 use Rattle.control_block.specs.Own.{IsSole}
 use Rattle.handle_table.specs.Parting.{AbsorbsAll, IsNew, IsPartedInto, WindsUp}
-use Rattle.handle_table.specs.Programs.{IsClosed}
+use Rattle.handle_table.specs.Programs.{CanClose, IsClosed}
 use Rattle.handle_table.specs.Tables.{TableNow}
 use Rattle.handle_table.specs.declared.staff.Share.{Share}
 
@@ -45,6 +45,14 @@ module _ {V W : Type 0} where
     pub begins : IsFirstDesk domain first.desk
     pub new : IsNew share.slots first
     pub out : StaffsOut does first share had has last
+
+  -- workers worked in a new domain, and this is the desk that has all that they left, and can close it
+  pub record StaffsOpen (does : WorkerRelation V W) (shape : Shape) (share : Share) (had has : List W)
+      (domain : DomainNow) (last : DeskNow V) : Type 0 where
+    pub of : domain.shape ≡ shape
+    pub here : Belongs last domain
+    pub works : StaffsIn does domain share had has last
+    pub can_close : CanClose last shape
 
 module _ (V : Type 0) {W : Type 0} where
   -- workers worked in a new domain, and the desk that had all that they left closed it

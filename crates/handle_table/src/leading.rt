@@ -6,8 +6,9 @@ ghost use Rattle.shared_handle.specs.Piles.{Bears};
 ghost use Rattle.handle_table.specs.Leading.{LeadsDomain, LeadsIn, LeadsOn, LeadsOut};
 ghost use Rattle.handle_table.specs.Tables.{AllVacant, FitsSlots, on_pile};
 
+use crate::closing::close_bare;
 use crate::opening::{Opened, open_domain};
-use crate::program::{Manned, Program, Team, close_bare, first_table};
+use crate::program::{Manned, Program, Team, first_table};
 use crate::table::{HandleTable, Home};
 use control_block::census::Census;
 use control_block::desk::Desk;

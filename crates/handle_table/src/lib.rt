@@ -3,6 +3,7 @@
 #![tactic(auto)]
 
 mod cells;
+mod closing;
 mod ends;
 mod fault;
 mod handles;
@@ -25,6 +26,6 @@ pub use leading::{Leader, run_leader};
 pub use looks::Peeked;
 pub use program::{Crew, Manned, Program, Ran, Team, run};
 pub use shared_handle::{Gone, Round};
-pub use staff::{Share, Work, run_workers};
+pub use staff::{Share, Work, run_workers, run_workers_open};
 pub use structures::{TableObservers, TableScene, TableStack};
 pub use table::{HandleTable, Home};

@@ -5,7 +5,7 @@ ghost use Rattle.control_block.specs.Desks.{IsFirstDesk, Belongs, DeskNow, endin
 ghost use Rattle.shared_handle.specs.Piles.{Bears};
 ghost use Rattle.handle_table.specs.Tables.{AllVacant, on_pile};
 
-use crate::program::shut;
+use crate::closing::shut;
 use crate::slots::open_slots;
 use control_block::desk::Desk;
 use control_block::domain::{Domain, open};

@@ -2,18 +2,18 @@
 ghost use Rattle.std.specs.Prelude.{◌≡◌, ◌⊎◌, ◌↔◌, [], All, length, IfErr, IfOk, IfSome};
 ghost use Rattle.control_word.specs.Layout.{IsWithinLimits};
 ghost use Rattle.control_block.specs.Desks.{IsFirstDesk, Belongs, DeskNow, endings_of};
-ghost use Rattle.control_block.specs.Own.{IsSole};
 ghost use Rattle.shared_handle.specs.Piles.{Bears};
 ghost use Rattle.handle_table.specs.Parting.{AbsorbsAll, IsNew, IsPartedInto, WhyFewer};
-ghost use Rattle.handle_table.specs.Programs.{IsClosed, IsManned, Runs, Works, WorksIn, WorksOut};
+ghost use Rattle.handle_table.specs.Programs.{IsManned, Runs, Works, WorksIn, WorksOut};
 ghost use Rattle.handle_table.specs.Tables.{AllVacant, FitsSlots, on_pile};
 
+use crate::closing::close_bare;
 use crate::opening::{Opened, open_domain};
 use crate::table::{HandleTable, Home};
-use control_block::census::{Census, close};
+use control_block::census::Census;
 use control_block::desk::Desk;
 use control_block::domain::Domain;
-use control_word::{Refusal, Refused, Shape};
+use control_word::{Refusal, Shape};
 use shared_handle::{Held, Pile};
 use std::alloc::Global;
 use std::marker::{Brand, PhantomData};
@@ -213,41 +213,6 @@ fn run_in<V: Drop + Send, H: Home + Send + Sync, R: Threads + Wait + Sync, P: Pr
 {
     let table = first_table::<V, H>(domain, desk, slots, pile);
     run_at(rt, alloc, table, team, program)
-}
-
-/// A desk that has just begun closes its domain.
-pub(crate) fn shut<V: Drop + Send>(domain: Domain<V>, desk: Desk<V>)
-    requires { IsFirstDesk domain desk }
-{
-    match close(domain, desk) {
-        Ok(census) => drop(census),
-        Err(_) => unreachable!(),
-    }
-}
-
-/// A desk without handles closes its domain. Where it has not the whole allowance it is given up.
-pub(crate) fn close_bare<V: Drop + Send>(
-    domain: Domain<V>,
-    desk: Desk<V>,
-) -> Result<Census<V>, Refusal>
-    requires here { Belongs desk domain }
-    requires none { FitsSlots desk [] × (endings_of desk ≡ 0) }
-    ensures closed { IfOk result (IsClosed desk domain.shape) }
-    ensures refused { IfErr result (λ why. (why ≡ Refusal.NotSole) × (IsSole desk → ⊥)) }
-{
-    desk.stands();
-    match close(domain, desk) {
-        Ok(census) => Ok(census),
-        Err(refused) => {
-            let Refused {
-                why,
-                back: (domain, desk),
-            } = refused;
-            desk.give_up();
-            drop(domain);
-            Err(why)
-        }
-    }
 }
 
 /// A domain is opened, each worker of the team does its part of the program in a thread with a table of its own, and

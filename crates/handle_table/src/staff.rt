@@ -7,11 +7,12 @@ ghost use Rattle.control_word.specs.Layout.{IsWithinLimits};
 ghost use Rattle.control_block.specs.Desks.{IsFirstDesk, Belongs, DeskNow, endings_of};
 ghost use Rattle.shared_handle.specs.Piles.{Bears};
 ghost use Rattle.handle_table.specs.Parting.{IsRefusedPart};
-ghost use Rattle.handle_table.specs.Staffs.{IsParted, Shifts, Staffs, StaffsIn, StaffsOut};
+ghost use Rattle.handle_table.specs.Staffs.{IsParted, Shifts, Staffs, StaffsIn, StaffsOpen, StaffsOut};
 ghost use Rattle.handle_table.specs.Tables.{AllVacant, FitsSlots, on_pile};
 
+use crate::closing::{close_bare, close_sole, keep_sole};
 use crate::opening::{Opened, open_domain};
-use crate::program::{Crew, Team, close_bare, first_table};
+use crate::program::{Crew, Team, first_table};
 use crate::table::{HandleTable, Home};
 use control_block::census::Census;
 use control_block::desk::Desk;
@@ -196,6 +197,52 @@ fn staff_in<V: Drop + Send, H: Home + Send + Sync, R: Threads + Wait + Sync, W: 
     staff_at::<V, H, R, W>(rt, alloc, table, share, workers)
 }
 
+/// A domain is opened, each worker does its part in a thread with a table of its own, and the
+/// domain comes out with its sole desk (own): that has seen the whole history, has no handle and
+/// nothing to end, and can close the domain. The handles that a worker leaves in its slots leave,
+/// and what is left to end does so. What `Work::does` says of a worker and its table holds of each,
+/// and the tables are parts of a first one, which has all again at the end.
+///
+/// It is refused `Shape` just where the shape is outside the limits, `Memory` only where a growth
+/// was really refused, `Limit` or `Full` where there is no such share for each, and `NotSole` where
+/// a worker kept a table for itself. Only with the last has any worked, and then `Work::does` holds
+/// of each too. At each refusal the domain is gone: closed, or with its last desk given up.
+pub fn run_workers_open<V: Drop + Send, R: Threads + Wait + Sync, W: Work<V, R> + Send>(
+    rt: &R,
+    alloc: Global,
+    shape: Shape,
+    share: Share,
+    workers: &mut Vec<W>,
+) -> Result<(Domain<V>, Desk<V>), Refusal>
+    ensures works { IfOk result
+        (λ r. StaffsOpen W.does shape share workers.old.items workers.new.items r.0 r.1) }
+    ensures within { IfOk result (λ _. IsWithinLimits shape) }
+    ensures shape { IfErr result (λ why. why ≡ Refusal.Shape ↔ (IsWithinLimits shape → ⊥)) }
+    ensures refused { IfErr result
+        (λ why. (why ≡ Refusal.Shape) ⊎ ((why ≡ Refusal.NotSole) ⊎ IsRefusedPart why)) }
+    ensures kept { IfErr result
+        (λ why. (why ≡ Refusal.NotSole) ⊎ (workers.new.items ≡ workers.old.items)) }
+    ensures parted { IfErr result
+        (λ why. why ≡ Refusal.NotSole → IsParted V W.does shape share workers.old.items workers.new.items) }
+{
+    let Opened {
+        domain,
+        desk,
+        slots,
+        pile,
+    } = open_domain::<V>(alloc, shape, share.slots)?;
+    let (desk, refused) = staff_in::<V, Brand, R, W>(
+        rt, alloc, &domain, desk, slots, pile, share, workers,
+    );
+    match refused {
+        None => keep_sole(domain, desk),
+        Some(why) => {
+            drop(close_bare(domain, desk));
+            Err(why)
+        }
+    }
+}
+
 /// A domain is opened, each worker does its part in a thread with a table of its own, and the domain is closed (own).
 /// The handles that a worker leaves in its slots leave, and what is left to end does so. What `Work::does` says of a
 /// worker and its table holds of each, and the tables are parts of a first one, which has all again at the end.
@@ -221,21 +268,6 @@ pub fn run_workers<V: Drop + Send, R: Threads + Wait + Sync, W: Work<V, R> + Sen
     ensures parted { IfErr result
         (λ why. why ≡ Refusal.NotSole → IsParted V W.does shape share workers.old.items workers.new.items) }
 {
-    let Opened {
-        domain,
-        desk,
-        slots,
-        pile,
-    } = open_domain::<V>(alloc, shape, share.slots)?;
-    let (desk, refused) = staff_in::<V, Brand, R, W>(
-        rt, alloc, &domain, desk, slots, pile, share, workers,
-    );
-    let closed = close_bare(domain, desk);
-    match refused {
-        None => closed,
-        Some(why) => {
-            drop(closed);
-            Err(why)
-        }
-    }
+    let (domain, desk) = run_workers_open(rt, alloc, shape, share, workers)?;
+    Ok(close_sole(domain, desk))
 }

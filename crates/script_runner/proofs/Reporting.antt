@@ -8,7 +8,7 @@ use Rattle.std.specs.Global.{Vec}
 use Rattle.std.specs.List.{AllByRecursion, AllZip}
 use Rattle.std.specs.Prelude.{All, Err, IfErr, IfOk, Ok, Result, sum_by}
 use Rattle.atomic_table.specs.Seated.{TableId}
-use Rattle.control_block.specs.Census.{CensusNow}
+use Rattle.control_block.specs.Desks.{DeskNow, DomainNow}
 use Rattle.control_block.specs.Rule.{opening_of}
 use Rattle.control_word.specs.Histories.{IsLegal}
 use Rattle.control_word.specs.State.{Has}
@@ -17,7 +17,7 @@ use Rattle.control_word.specs.declared.refusal.Refusal.{Refusal}
 use Rattle.control_word.specs.declared.refusal.Refusal.TheVariants.{NotSole}
 use Rattle.control_word.specs.declared.shape.Shape.{Shape}
 use Rattle.handle_table.specs.Parting.{IsNew}
-use Rattle.handle_table.specs.Staffs.{IsParted, Shifts}
+use Rattle.handle_table.specs.Staffs.{IsParted, StaffsOpen}
 use Rattle.handle_table.specs.declared.staff.Share.{Share}
 use Rattle.ownership_ledger.specs.Now.{ShareNow}
 use Rattle.script_runner.proofs.Casting.{AllShare, Does, all_added, all_play, all_said, all_share, as_many, same_many, still_share}
@@ -61,10 +61,11 @@ module _ {G : Type 0} where
     pub many : length has ≡ length had
     pub share : AllShare book has
 
-  pub still : (book : TableId) (shape : Shape) (share : Share) (had has : List (Worker G)) (r : Result CensusNow Refusal) → AllShare book had
-      → IfOk r (Shifts ℕ Does shape share had has) → IfErr r (λ why. (why ≡ NotSole) ⊎ (has ≡ had))
+  pub still : (book : TableId) (shape : Shape) (share : Share) (had has : List (Worker G)) (r : Result (DomainNow × DeskNow ℕ) Refusal)
+      → AllShare book had
+      → IfOk r (λ x. StaffsOpen Does shape share had has x.0 x.1) → IfErr r (λ why. (why ≡ NotSole) ⊎ (has ≡ had))
       → IfErr r (λ why. why ≡ NotSole → IsParted ℕ Does shape share had has) → AreStill book had has
-  still book shape share had has (Ok c) all works kept parted =
+  still book shape share had has (Ok x) all works kept parted =
       let st = works.works.out.staffs in
       record { many = (as_many had st.lent has st.left st.each).2; share = still_share book had st.lent has st.left st.each all }
   still book shape share had has (Err why) all works (inl not) parted =
@@ -86,8 +87,9 @@ module _ {G : Type 0} where
       go (x ∷ xs) all = (all.0, go xs all.1)
 
   -- so much is left where each had a role, and a share of the book
-  module _ (book : TableId) (roles : List Role) (shape : Shape) (share : Share) (had has : List (Worker G)) (r : Result CensusNow Refusal)
-      (each : AllZip (HasRole book) roles had) (works : IfOk r (Shifts ℕ Does shape share had has))
+  module _ (book : TableId) (roles : List Role) (shape : Shape) (share : Share) (had has : List (Worker G))
+      (r : Result (DomainNow × DeskNow ℕ) Refusal)
+      (each : AllZip (HasRole book) roles had) (works : IfOk r (λ x. StaffsOpen Does shape share had has x.0 x.1))
       (kept : IfErr r (λ why. (why ≡ NotSole) ⊎ (has ≡ had))) (parted : IfErr r (λ why. why ≡ NotSole → IsParted ℕ Does shape share had has))
     where
       pub workers_left : length has ≡ length roles
@@ -102,14 +104,14 @@ module _ {G : Type 0} where
       )
 
   -- the workers were ready for their threads, came to their ends, and had the slots that these need
-  pub performed : (script : ScriptView) (census : CensusNow) (shape : Shape) (share : Share) (had has : List (Worker G))
+  pub performed : (script : ScriptView) (domain : DomainNow) (desk : DeskNow ℕ) (shape : Shape) (share : Share) (had has : List (Worker G))
       → shape ≡ domain_shape script → AllZip IsReadyFor (program_in script.threads) had
-      → Shifts ℕ Does shape share had has census → AllByRecursion (λ (w : Worker G). w.log.lost ≡ false) has → share.slots ≡ 34
-      → IsPerformed script (map (λ (v : Vec Said). v.items) (map (λ (w : Worker G). w.log.said) has)) census
+      → StaffsOpen Does shape share had has domain desk → AllByRecursion (λ (w : Worker G). w.log.lost ≡ false) has → share.slots ≡ 34
+      → IsPerformed script (map (λ (v : Vec Said). v.items) (map (λ (w : Worker G). w.log.said) has)) domain desk
       (map (λ (w : Worker G). w.log.share) has)
-  performed script census given share had has same ready works kept slots =
+  performed script domain desk given share had has same ready works kept slots =
       let shape = domain_shape script in
-      let s = subst (λ (k : Shape). Shifts ℕ Does k share had has census) same works in
+      let s = subst (λ (k : Shape). StaffsOpen Does k share had has domain desk) same works in
       let st = s.works.out.staffs in
       let first = s.works.first in
       let ps = program_in script.threads in
@@ -121,52 +123,50 @@ module _ {G : Type 0} where
       recursion_from_All (IsNew 34) st.lent (subst (λ n. All (IsNew n) st.lent) slots st.new) in
       let play = all_play ps had st.lent has st.left vs ready new st.each said in
       let at : first.desk.shape ≡ shape = s.works.begins.shape ∙ s.of in
-      let legal = subst (λ (k : Shape). IsLegal (opening_of k) s.last.seen) (sym at) s.closed.legal in
-      let woven : IsInterleaved field_0 (opening_of shape) s.last.seen ps ls =
-      subst (λ (k : Shape). IsInterleaved field_0 (opening_of k) s.last.seen ps ls) at
-      (teams_interleave {V = ℕ} field_0 ps ls s.domain share.slots first s.works.out.after st.between s.last st.lent st.left share.allowance
+      let legal = subst (λ (k : Shape). IsLegal (opening_of k) desk.seen) (sym at) s.can_close.legal in
+      let woven : IsInterleaved field_0 (opening_of shape) desk.seen ps ls =
+      subst (λ (k : Shape). IsInterleaved field_0 (opening_of k) desk.seen ps ls) at
+      (teams_interleave {V = ℕ} field_0 ps ls domain share.slots first s.works.out.after st.between desk st.lent st.left share.allowance
       share.blocks s.works.begins s.works.new st.parts play st.absorbs s.works.out.winds_up legal) in
       record {
         many = line_count script had has many.2 ready;
+        of = s.of;
+        here = s.here;
+        can_close = s.can_close;
         team = record { workers = length had; slots = share.slots; allowance = share.allowance; blocks = share.blocks };
         manned = record { workers = length had; fewer = None };
-        runs = record {
-          domain = s.domain;
-          of = s.of;
-          last = s.last;
-          works = record {
-            first = first;
-            begins = s.works.begins;
-            new = s.works.new;
-            out = record {
-              after = s.works.out.after;
-              works = record {
-                lent = st.lent;
-                between = st.between;
-                parts = st.parts;
-                new = st.new;
-                fewer = tt;
-                left = st.left;
-                many = (many.0, many.1);
-                absorbs = st.absorbs;
-              };
-              winds_up = s.works.out.winds_up;
+        works = record {
+          first = first;
+          begins = s.works.begins;
+          new = s.works.new;
+          out = record {
+            after = s.works.out.after;
+            works = record {
+              lent = st.lent;
+              between = st.between;
+              parts = st.parts;
+              new = st.new;
+              fewer = tt;
+              left = st.left;
+              many = (many.0, many.1);
+              absorbs = st.absorbs;
             };
+            winds_up = s.works.out.winds_up;
           };
-          closed = s.closed;
         };
         interleaved = woven;
-        added = all_added (opening_of shape) s.last.seen woven.names ps had st.lent has st.left vs ready st.each said woven.each;
+        added = all_added (opening_of shape) desk.seen woven.names ps had st.lent has st.left vs ready st.each said woven.each;
       }
 
-  pub performed_as : (script : ScriptView) (census : CensusNow) (has : List (Worker G)) (lines : List (Vec Said)) (shares : List ShareNow)
+  pub performed_as : (script : ScriptView) (domain : DomainNow) (desk : DeskNow ℕ) (has : List (Worker G)) (lines : List (Vec Said))
+      (shares : List ShareNow)
       → lines ≡ map (λ (w : Worker G). w.log.said) has → shares ≡ map (λ (w : Worker G). w.log.share) has
-      → IsPerformed script (map (λ (v : Vec Said). v.items) (map (λ (w : Worker G). w.log.said) has)) census
+      → IsPerformed script (map (λ (v : Vec Said). v.items) (map (λ (w : Worker G). w.log.said) has)) domain desk
       (map (λ (w : Worker G). w.log.share) has)
-      → IsPerformed script (map (λ (v : Vec Said). v.items) lines) census shares
-  performed_as script census has lines shares said added is =
-      subst (λ (l : List (Vec Said)). IsPerformed script (map (λ (v : Vec Said). v.items) l) census shares) (sym said)
-      (subst (IsPerformed script (map (λ (v : Vec Said). v.items) (map (λ (w : Worker G). w.log.said) has)) census) (sym added) is)
+      → IsPerformed script (map (λ (v : Vec Said). v.items) lines) domain desk shares
+  performed_as script domain desk has lines shares said added is =
+      subst (λ (l : List (Vec Said)). IsPerformed script (map (λ (v : Vec Said). v.items) l) domain desk shares) (sym said)
+      (subst (IsPerformed script (map (λ (v : Vec Said). v.items) (map (λ (w : Worker G). w.log.said) has)) domain desk) (sym added) is)
 
 -- the sums of what was added to shares are what all names make and end
 sum_shares : (h : List (Entry ℕ)) (ns : List ℕ) (ss : List ShareNow) → AllZip (HasAdded h) ns ss
@@ -184,12 +184,12 @@ sum_shares h [] (s ∷ ss) all = absurd all
 sum_shares h (n ∷ ns) [] all = absurd all
 
 -- what workers did, with the totals of their book, is a report
-pub reported : (script : ScriptView) (report : Report) (shares : List ShareNow)
-    → IsPerformed script (map (λ (v : Vec Said). v.items) report.lines.items) report.census shares → IsGathered shares report.totals
-    → IsReport script report
-reported script report shares run sums =
+pub reported : (script : ScriptView) (report : Report) (domain : DomainNow) (desk : DeskNow ℕ) (shares : List ShareNow)
+    → IsPerformed script (map (λ (v : Vec Said). v.items) report.lines.items) domain desk shares → IsGathered shares report.totals
+    → IsReport script report domain desk
+reported script report domain desk shares run sums =
     let woven = run.interleaved in
-    let h = run.runs.last.seen in
+    let h = desk.seen in
     let others = recursion_from_All (λ (e : Entry ℕ). Has e.desk woven.names ⊎ IsSplitOrJoin e.event) h woven.others in
     let own = sum_shares h woven.names shares run.added in
     record {

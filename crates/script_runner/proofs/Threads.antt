@@ -4,6 +4,7 @@ use Rattle.std.proofs.Common.{append_assoc}
 use Rattle.std.specs.Global.{Vec}
 use Rattle.std.specs.List.{flat_map}
 use Rattle.std.proofs.lemmas.List.{append-nil, length-take-le, take_more}
+use Rattle.control_block.specs.Census.{CensusNow}
 use Rattle.step_threads.specs.declared.said.Said.{Said}
 use Rattle.script_text.specs.Grammar.{ended}
 use Rattle.script_stepper.specs.Lines.{said_lines, totals_text}
@@ -40,14 +41,14 @@ threads_then xs i x said a b c lt is p q =
     ∙ ap (λ (l : List (List ℕ)). a ++ ended l) (sym more)
 
 -- all parts of a report's text
-pub report_then : (report : Report) (lines : List (Vec Said)) (a b c d : List ℕ) → lines ≡ report.lines.items → a ≡ []
+pub report_then : (report : Report) (census : CensusNow) (lines : List (Vec Said)) (a b c d : List ℕ) → lines ≡ report.lines.items → a ≡ []
     → b ≡ a ++ ended (threads_lines 1 lines)
-    → c ≡ b ++ ended (closed_census_lines report.census)
-    → d ≡ c ++ ended (totals_text report.totals.made report.totals.ended ∷ []) → d ≡ ended (report_lines report)
-report_then report lines a b c d all none p q r =
+    → c ≡ b ++ ended (closed_census_lines census)
+    → d ≡ c ++ ended (totals_text report.totals.made report.totals.ended ∷ []) → d ≡ ended (report_lines report census)
+report_then report census lines a b c d all none p q r =
     let threads = threads_lines 1 report.lines.items in
-    let census = closed_census_lines report.census in
+    let blocks = closed_census_lines census in
     let last = totals_text report.totals.made report.totals.ended ∷ [] in
     let begun : b ≡ a ++ ended threads = p ∙ ap (λ (l : List (Vec Said)). a ++ ended (threads_lines 1 l)) all in
-    let both : c ≡ a ++ ended (threads ++ census) = lines_then threads census a b c begun q in
-    lines_then (threads ++ census) last a c d both r ∙ ap (λ (t : List ℕ). t ++ ended (report_lines report)) none
+    let both : c ≡ a ++ ended (threads ++ blocks) = lines_then threads blocks a b c begun q in
+    lines_then (threads ++ blocks) last a c d both r ∙ ap (λ (t : List ℕ). t ++ ended (report_lines report census)) none

@@ -1,15 +1,37 @@
 -- The text of a report that is written, or the refusal in its place.
 use Rattle.std.proofs.Common.{◌≡◌, ℕ, List, Option, Result, Ok, Err, inl, inr, refl, sym, subst, ap}
+use Rattle.control_block.specs.Census.{CensusNow}
+use Rattle.control_block.specs.Desks.{DeskNow, DomainNow}
+use Rattle.control_word.specs.declared.shape.Shape.{Shape}
+use Rattle.handle_table.specs.Programs.{IsClosed}
 use Rattle.std.specs.Prelude.{IfErr}
 use Rattle.std.specs.Io.KnownBytes.{Appends}
 use Rattle.script_text.specs.declared.fault.Cause.{Cause}
 use Rattle.script_text.specs.declared.fault.Fault.{Fault}
 use Rattle.script_text.specs.declared.fault.Fault.TheVariants.{Memory, Syntax, BadTurn, Output, Input}
-use Rattle.script_text.specs.Grammar.{Faulty, IsUnlessMemory}
+use Rattle.script_text.specs.Drafts.{ScriptView}
+use Rattle.script_text.specs.Grammar.{Faulty, IsUnlessMemory, ended}
 use Rattle.script_stepper.specs.Runs.{Delivers, Writes}
 use Rattle.script_stepper.specs.Sinks.{AppendsBeginning}
 use Rattle.script_stepper.proofs.Answering.{not_both, same_fault}
-use Rattle.script_runner.specs.Telling.{TellsReport}
+use Rattle.script_runner.specs.Reports.{IsReport}
+use Rattle.script_runner.specs.Telling.{IsReportText, TellsReport, report_lines}
+use Rattle.script_runner.specs.declared.reports.report.Report.{Report}
+
+-- a report's text, once the desk has closed the domain
+pub report_text : (script : ScriptView) (report : Report) (domain : DomainNow) (desk : DeskNow ℕ) (census : CensusNow) (text : List ℕ)
+    → IsReport script report domain desk → IsClosed desk domain.shape census → text ≡ ended (report_lines report census)
+    → IsReportText script text
+report_text script report domain desk census text is closed says =
+    record {
+      report = report;
+      domain = domain;
+      desk = desk;
+      run = is;
+      census = census;
+      closed = subst (λ (s : Shape). IsClosed desk s census) is.run.of closed;
+      says = says;
+    }
 
 -- a text that may be told is written
 pub delivered : {A : Type 0} (told : Result (List ℕ) Fault → Type 0) (text taken : List ℕ) (r : Result A Fault) (old new : Option (List ℕ))

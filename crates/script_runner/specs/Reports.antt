@@ -1,11 +1,11 @@
--- What a run of a script on real workers leaves. All of it is own.
+-- What a run of a script on real workers leaves: a report, and the domain with its sole desk. All of it is own.
 use Rattle.std.specs.Prelude.{◌≡◌, ℕ, ◌*◌, length, List, map, sum_by}
 use Rattle.std.specs.List.{AllZip}
-use Rattle.control_block.specs.Census.{CensusNow}
+use Rattle.control_block.specs.Desks.{Belongs, DeskNow, DomainNow}
 use Rattle.control_block.specs.Rule.{opening_of}
 use Rattle.control_word.specs.declared.model.event.Entry.{Entry}
 use Rattle.control_word.specs.declared.shape.Shape.{Shape}
-use Rattle.handle_table.specs.Programs.{Runs}
+use Rattle.handle_table.specs.Programs.{CanClose, WorksIn}
 use Rattle.handle_table.specs.declared.program.Manned.{Manned}
 use Rattle.handle_table.specs.declared.program.Team.{Team}
 use Rattle.ownership_ledger.specs.Now.{IsLast, ShareNow}
@@ -27,18 +27,21 @@ domain_shape script = record (script_shape script) { allowance = 65536 * length 
 abbrev pub HasAdded : {V : Type 0} → List (Entry V) → ℕ → ShareNow → Type 0
 HasAdded h n s = (s.own.made ≡ made_by n h) × (s.own.ended ≡ count_ended_by n h)
 
--- A team worked in the domain, which was closed without a handle left in any hands. The desk that closed it has seen
--- all, and that is an interleaving of the threads, each with its lines. Each thread has a share of a book, to which its
--- makes and the ends of its objects were added
-pub record IsPerformed (script : ScriptView) (lines : List (List Said)) (census : CensusNow) (shares : List ShareNow)
-    : Type 0 where
+-- A team worked in the domain, and this desk has all that it left: no handle is in any hands, and the desk can close the
+-- domain. What it has seen is an interleaving of the threads, each with its lines. Each thread has a share of a book, to
+-- which its makes and the ends of its objects were added
+pub record IsPerformed (script : ScriptView) (lines : List (List Said)) (domain : DomainNow) (desk : DeskNow ℕ)
+    (shares : List ShareNow) : Type 0 where
   pub many : length lines ≡ length script.threads
+  pub of : domain.shape ≡ domain_shape script
+  pub here : Belongs desk domain
+  pub can_close : CanClose desk (domain_shape script)
   pub team : Team
   pub manned : Manned
-  pub runs : Runs ℕ (domain_shape script) team manned census
-  pub interleaved : IsInterleaved field_0 (opening_of (domain_shape script)) runs.last.seen
+  pub works : WorksIn domain team manned desk
+  pub interleaved : IsInterleaved field_0 (opening_of (domain_shape script)) desk.seen
       (program_in script.threads) lines
-  pub added : AllZip (HasAdded runs.last.seen) interleaved.names shares
+  pub added : AllZip (HasAdded desk.seen) interleaved.names shares
 
 -- the totals are those that the book of these shares ends with, which are the sums of what was added to them
 pub record IsGathered (shares : List ShareNow) (t : Totals) : Type 0 where
@@ -46,10 +49,10 @@ pub record IsGathered (shares : List ShareNow) (t : Totals) : Type 0 where
   pub made : t.made ≡ sum_by (λ s. s.own.made) shares
   pub ended : t.ended ≡ sum_by (λ s. s.own.ended) shares
 
--- a run of the script, with the totals of its book: as many objects as the history makes, and as end in it
-pub record IsReport (script : ScriptView) (report : Report) : Type 0 where
+-- a run of the script, with the totals of its book: as many objects as the desk's history makes, and as end in it
+pub record IsReport (script : ScriptView) (report : Report) (domain : DomainNow) (desk : DeskNow ℕ) : Type 0 where
   pub shares : List ShareNow
-  pub run : IsPerformed script (map (λ v. v.items) report.lines.items) report.census shares
+  pub run : IsPerformed script (map (λ v. v.items) report.lines.items) domain desk shares
   pub gathered : IsGathered shares report.totals
-  pub made : report.totals.made ≡ count_made_in run.runs.last.seen
-  pub ended : report.totals.ended ≡ count_ended_in run.runs.last.seen
+  pub made : report.totals.made ≡ count_made_in desk.seen
+  pub ended : report.totals.ended ≡ count_ended_in desk.seen

@@ -2,6 +2,7 @@
 #![tactic(auto)]
 
 mod acts;
+mod closing;
 mod gate;
 mod laws;
 mod reports;

@@ -7,15 +7,17 @@ ghost use Rattle.script_text.specs.Scripts.{program_in};
 ghost use Rattle.script_runner.specs.Casts.{IsNewShare, IsRoleFor};
 ghost use Rattle.script_runner.specs.Reports.{IsReport, IsPerformed};
 
+use crate::closing::close_sole;
 use crate::gate::Gate;
 use crate::reports::report::Report;
 use crate::workers::cast::{cast_of, dismiss, man};
 use crate::workers::role::Role;
 use crate::workers::worker::{SLOTS, Worker};
-use control_block::census::Census;
+use control_block::desk::Desk;
+use control_block::domain::Domain;
 use control_word::limits::{SCRIPT_SHARED_CELLS, SCRIPT_WEAK_CELLS};
 use control_word::{Refusal, Shape};
-use handle_table::run_workers;
+use handle_table::run_workers_open;
 use ownership_ledger::{Book, Share};
 use script_text::Script;
 use std::alloc::Global;
@@ -40,8 +42,9 @@ fn shape_of(blocks: u32, threads: u32) -> Shape
     }
 }
 
-/// Workers with these roles do a script's threads, each with a share of the book. What each said goes into a list, and
-/// the shares come back. It is refused where a growth was, or where a worker couldn't go on.
+/// Workers with these roles do a script's threads, each with a share of the book. What each said goes into a list, the
+/// shares come back, and the domain comes out with its sole desk. It is refused where a growth was, or where a worker
+/// couldn't go on.
 fn perform<'a, R: Threads + Wait + Sync, G: Gate + Sync>(
     rt: &R,
     alloc: Global,
@@ -51,7 +54,7 @@ fn perform<'a, R: Threads + Wait + Sync, G: Gate + Sync>(
     book: &'a Book,
     shares: &mut Vec<Share>,
     lines: &mut Vec<Vec<Said>>,
-) -> Result<Census<u64>, Refusal>
+) -> Result<(Domain<u64>, Desk<u64>), Refusal>
     requires roles { AllZip IsRoleFor (program_in script.now.threads) roles.items }
     requires shares { All (IsNewShare book.now.id) shares.old.items }
     requires many { length shares.old.items ≡ length roles.items }
@@ -59,8 +62,8 @@ fn perform<'a, R: Threads + Wait + Sync, G: Gate + Sync>(
         × (length roles.items ≤ vec_capacity shares.old) }
     ensures shares { All (λ s. s.book ≡ book.now.id) shares.new.items }
     ensures many { length shares.new.items ≡ length shares.old.items }
-    ensures run { IfOk result (λ c. IsPerformed script.now (map (λ v. v.items) lines.new.items) c shares.new.items) }
-    ensures few { IfOk result (λ c. c.blocks ≤ 65535) }
+    ensures run { IfOk result
+        (λ r. IsPerformed script.now (map (λ v. v.items) lines.new.items) r.0 r.1 shares.new.items) }
     ensures refused { IfErr result (λ why. why ≡ Refusal.Memory) }
 {
     let mut roles = roles;
@@ -75,23 +78,24 @@ fn perform<'a, R: Threads + Wait + Sync, G: Gate + Sync>(
         blocks: script.blocks() / threads,
     };
     let shape = shape_of(script.blocks(), threads);
-    let worked = run_workers::<u64, R, Worker<'a, G>>(rt, alloc, shape, share, &mut workers);
+    let worked = run_workers_open::<u64, R, Worker<'a, G>>(rt, alloc, shape, share, &mut workers);
     let lost = dismiss(&mut workers, shares, lines);
     workers.destroy_empty();
-    let census = match worked {
-        Ok(census) => census,
+    let (domain, desk) = match worked {
+        Ok(open) => open,
         Err(_) => return Err(Refusal::Memory),
     };
     if lost {
+        drop(close_sole(domain, desk));
         return Err(Refusal::Memory);
     }
-    Ok(census)
+    Ok((domain, desk))
 }
 
 /// Runs a script on real workers, one a thread, each with a table of its own: `gate` is told of each statement in its
-/// thread. An object's value is its field 0. Answers what each thread said, in thread order, the totals of a book to
-/// whose shares the workers add each of their makes and of the ends that they are told of, and the census of the
-/// domain.
+/// thread. An object's value is its field 0. Answers what each thread said, in thread order, and the totals of a book to
+/// whose shares the workers add each of their makes and of the ends that they are told of; and the domain with its sole
+/// desk, which has seen all that the workers did, and has no handle and nothing to end. `close` by it isn't refused.
 ///
 /// It is refused `Memory` and nothing else: where a growth was refused, all of which come before the first worker
 /// starts; or where a worker found in its table what can't be, or has no room for more in its share, after which it
@@ -101,8 +105,8 @@ pub fn run_script<R: Threads + Wait + Sync, G: Gate + Sync>(
     alloc: Global,
     script: &Script,
     gate: &G,
-) -> Result<Report, Refusal>
-    ensures report { IfOk result (IsReport script.now) }
+) -> Result<(Report, Domain<u64>, Desk<u64>), Refusal>
+    ensures report { IfOk result (λ r. IsReport script.now r.0 r.1 r.2) }
     ensures refused { IfErr result (λ why. why ≡ Refusal.Memory) }
 {
     let roles = cast_of(alloc, script)?;
@@ -121,13 +125,9 @@ pub fn run_script<R: Threads + Wait + Sync, G: Gate + Sync>(
         &mut lines,
     );
     let totals = book.gather(shares);
-    let census = match worked {
-        Ok(census) => census,
+    let (domain, desk) = match worked {
+        Ok(open) => open,
         Err(why) => return Err(why),
     };
-    Ok(Report {
-        lines,
-        totals,
-        census,
-    })
+    Ok((Report { lines, totals }, domain, desk))
 }

@@ -1,12 +1,13 @@
 //! Scripts on real workers.
 
+use control_block::census::close;
 use control_word::Refusal;
 use ownership_ledger::Totals;
 use script_runner::{
-    Gate, Open, desk_calls, run_script, run_text, table_calls, team_laws, worker_logs,
+    Gate, Open, Report, desk_calls, run_script, run_text, table_calls, team_laws, worker_logs,
 };
 use script_stepper::Output;
-use script_text::parse;
+use script_text::{Script, parse};
 use std::alloc::Global;
 use std::hint::spin_loop;
 use std::sync::Wait;
@@ -15,6 +16,20 @@ use std::test::Fail;
 use std::thread::Threads;
 use step_core::{Answer, Ended, Said};
 
+/// What a script's workers report, and how many blocks are vacant once the desk that comes out has closed the domain.
+fn run_and_close<R: Threads + Wait + Sync, G: Gate + Sync>(
+    rt: &R,
+    alloc: Global,
+    script: &Script,
+    gate: &G,
+) -> Result<(Report, u32), Refusal> {
+    let (report, domain, desk) = run_script(rt, alloc, script, gate)?;
+    match close(domain, desk) {
+        Ok(census) => Ok((report, census.vacant())),
+        Err(_) => unreachable!(),
+    }
+}
+
 /// The lines of a script whose threads share nothing, and how many blocks are vacant then.
 fn run<R: Threads + Wait + Sync>(
     rt: &R,
@@ -22,8 +37,8 @@ fn run<R: Threads + Wait + Sync>(
     text: &[u8],
 ) -> Option<(Vec<Vec<Said>>, u32)> {
     let script = parse(alloc, text).ok()?;
-    let report = run_script(rt, alloc, &script, &Open).ok()?;
-    Some((report.lines, report.census.vacant()))
+    let (report, vacant) = run_and_close(rt, alloc, &script, &Open).ok()?;
+    Some((report.lines, vacant))
 }
 
 fn answers(said: Said, statement: u32, answer: Answer) -> bool {
@@ -103,7 +118,7 @@ fn met<R: Threads + Wait + Sync>(rt: &R, alloc: Global, late: usize) -> Option<u
         begun: AtomicU32::new(0),
         met: AtomicU32::new(0),
     };
-    run_script(rt, alloc, &script, &gate).ok()?;
+    run_and_close(rt, alloc, &script, &gate).ok()?;
     Some(gate.met.load(Ordering::SeqCst))
 }
 
@@ -161,15 +176,16 @@ fn a_refused_run_leaves_nothing(rt: HostRuntime) -> Result<(), Fail> {
         begun: AtomicU32::new(0),
         run: AtomicU32::new(0),
     };
-    let report = match run_script(&rt, rt.alloc(), &script, &gate) {
-        Ok(report) => report,
+    let (report, vacant) = match run_and_close(&rt, rt.alloc(), &script, &gate) {
+        Ok(ran) => ran,
         Err(why) => {
             assert_eq!(rt; why, Refusal::Memory);
             assert!(rt; gate.begun.load(Ordering::SeqCst) == gate.run.load(Ordering::SeqCst));
-            run_script(&rt, rt.alloc(), &script, &gate)?
+            run_and_close(&rt, rt.alloc(), &script, &gate)?
         }
     };
     assert_eq!(rt; report.totals, Totals { made: 2, ended: 2 });
+    assert_eq!(rt; vacant, 4094);
     Ok(())
 }
 

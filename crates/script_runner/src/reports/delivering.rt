@@ -6,6 +6,7 @@ ghost use Rattle.script_text.specs.declared.fault.Fault.TheVariants.{Syntax};
 ghost use Rattle.script_stepper.specs.Runs.{Delivers, is_output, text_in};
 ghost use Rattle.script_runner.specs.Telling.{TellsReport};
 
+use crate::closing::close_sole;
 use crate::gate::Open;
 use crate::running::run_script;
 use script_stepper::{Sink, write_text};
@@ -14,15 +15,17 @@ use std::alloc::Global;
 use std::sync::Wait;
 use std::thread::Threads;
 
-/// The text of a report of a script's run, or why there is none.
+/// The text of a report of a script's run, with the census that its domain is closed with, or why there is none.
 fn told<R: Threads + Wait + Sync>(rt: &R, alloc: Global, script: &[u8]) -> Result<String, Fault>
     ensures { TellsReport script.now (text_in result) }
 {
     let script = parse(alloc, script)?;
-    let Ok(report) = run_script(rt, alloc, &script, &Open) else {
+    let Ok(ran) = run_script(rt, alloc, &script, &Open) else {
         return Err(Fault::Memory);
     };
-    match report.text(alloc) {
+    let (report, domain, desk) = ran;
+    let census = close_sole(domain, desk);
+    match report.text(alloc, &census) {
         Ok(text) => Ok(text),
         Err(_) => Err(Fault::Memory),
     }
@@ -43,9 +46,9 @@ fn deliver<R: Threads + Wait + Sync, S: Sink>(
     write_text(text.as_bytes(), writer)
 }
 
-/// Runs a script on real workers, one a thread, and writes what comes of it (own): all lines of thread 1, then of
-/// thread 2 and so on, the census and the totals, as [`crate::Report::text`] has them. The whole text is made before
-/// the first byte goes out.
+/// Runs a script on real workers, one a thread, closes its domain, and writes what comes of it (own): all lines of
+/// thread 1, then of thread 2 and so on, the census and the totals, as [`crate::Report::text`] has them. The whole text
+/// is made before the first byte goes out.
 ///
 /// Refused by 1 where a growth was refused or a worker had no table, by 10 just where a line of the script is faulty,
 /// with nothing written; by 12 just where the writer has failed, which then took a beginning of the text. The writer

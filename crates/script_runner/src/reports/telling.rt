@@ -36,10 +36,12 @@ fn put_counts(text: &mut String, census: &Census<u64>, number: u16) -> Result<()
 
 /// Adds a line for each block that isn't vacant, in block order.
 fn put_census(text: &mut String, census: &Census<u64>) -> Result<(), AllocError>
-    requires { census.now.blocks ≤ 65535 }
     ensures { OnOk result (AddsLines text.old text.new (closed_census_lines census.now)) }
 {
-    let blocks = census.blocks() as u16;
+    // A census tells of 65,535 blocks at most.
+    let Ok(blocks) = u16::try_from(census.blocks()) else {
+        return Err(AllocError);
+    };
     for before in 0..blocks {
         put_counts(text, census, before + 1)?;
     }
@@ -47,15 +49,15 @@ fn put_census(text: &mut String, census: &Census<u64>) -> Result<(), AllocError>
 }
 
 impl Report {
-    /// The text that tells of it (own): all lines of thread 1, then of thread 2 and so on, as
-    /// [`script_stepper::write_lines`] writes them; `block B owners N weaks K` of each block that isn't vacant, in
-    /// block order; and last `made M ended E left L`. Refused where a growth was.
-    pub fn text(&self, alloc: Global) -> Result<String, AllocError>
-        ensures { IfOk result (λ text. string_bytes text ≡ ended (report_lines self.now)) }
+    /// The text that tells of it and of a census of its domain (own): all lines of thread 1, then of thread 2 and so
+    /// on, as [`script_stepper::write_lines`] writes them; `block B owners N weaks K` of each block that isn't vacant,
+    /// in block order; and last `made M ended E left L`. Refused where a growth was.
+    pub fn text(&self, alloc: Global, census: &Census<u64>) -> Result<String, AllocError>
+        ensures { IfOk result (λ text. string_bytes text ≡ ended (report_lines self.now census.now)) }
     {
         let mut text = String::new(alloc);
         put_threads(&mut text, self.lines.as_slice())?;
-        put_census(&mut text, &self.census)?;
+        put_census(&mut text, census)?;
         put_totals(&mut text, self.totals.made, self.totals.ended)?;
         Ok(text)
     }

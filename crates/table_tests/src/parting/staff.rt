@@ -1,7 +1,8 @@
 //! Workers with a state of their own: each has a table, and is back in its place with what it became.
 use crate::shapes::shape;
+use control_block::census::close;
 use control_word::Refusal;
-use handle_table::{Fault, HandleTable, Home, Share, Work, run_workers};
+use handle_table::{Fault, HandleTable, Home, Share, Work, run_workers, run_workers_open};
 use std::alloc::Global;
 use std::sync::Wait;
 use std::test::Fail;
@@ -57,6 +58,24 @@ fn each_worker_is_back_in_its_place(rt: HostRuntime) -> Result<(), Fail> {
         let number = at as u32;
         assert_eq!(rt; (worker.wanted, worker.made), (number, number.min(2)));
         assert_eq!(rt; worker.refused, number.saturating_sub(2));
+    }
+    Ok(())
+}
+
+#[test]
+fn a_sole_desk_comes_out_and_closes(rt: HostRuntime) -> Result<(), Fail> {
+    let mut workers = makers(rt.alloc(), 3)?;
+    let open = run_workers_open(&rt, rt.alloc(), shape(8, 0, 0, 20), SHARE, &mut workers)?;
+    let (domain, desk) = open;
+    assert!(rt; desk.is_sole(&domain));
+    assert_eq!(rt; (desk.stock(), desk.allowance(), desk.held()), (8, 20, 0));
+    match close(domain, desk) {
+        Ok(census) => assert_eq!(rt; census.vacant(), 8),
+        Err(_) => panic!(rt; "not sole"),
+    }
+    assert_eq!(rt; workers.len(), 3);
+    for (at, worker) in workers.iter().enumerate() {
+        assert_eq!(rt; worker.made, at as u32);
     }
     Ok(())
 }

@@ -6,61 +6,61 @@ use Rattle.script_runner.proofs.running.perform.Goals as goal
 
 pub dismiss-lost-requires-clause-shares : goal.dismiss-lost-requires-clause-shares
 dismiss-lost-requires-clause-shares g c =
-    let worked = c.run_workers-worked.ensures in
+    let worked = c.run_workers_open-worked.ensures in
     let many = reporting.workers_left {G = g.row.G.Denot} c.args.book.now.id c.args.roles.items _ _ c.man.new.workers.items
-    c.run_workers-worked.new.workers.items c.run_workers-worked.result c.man.ensures.each worked.works worked.kept worked.parted in
+    c.run_workers_open-worked.new.workers.items c.run_workers_open-worked.result c.man.ensures.each worked.works worked.kept worked.parted in
     let room = c.requires.room.2 in
     let kept = c.man.ensures.room in (c.man.ensures.none, omega (arith, many, room, kept))
 
 pub dismiss-lost-requires-clause-lines : goal.dismiss-lost-requires-clause-lines
 dismiss-lost-requires-clause-lines g c =
-    let worked = c.run_workers-worked.ensures in
+    let worked = c.run_workers_open-worked.ensures in
     let many = reporting.workers_left {G = g.row.G.Denot} c.args.book.now.id c.args.roles.items _ _ c.man.new.workers.items
-    c.run_workers-worked.new.workers.items c.run_workers-worked.result c.man.ensures.each worked.works worked.kept worked.parted in
+    c.run_workers_open-worked.new.workers.items c.run_workers_open-worked.result c.man.ensures.each worked.works worked.kept worked.parted in
     let room = c.requires.room.1 in (c.requires.room.0, omega (arith, many, room))
 
 pub returns-in-Err-clause-shares : goal.returns-in-Err-clause-shares
 returns-in-Err-clause-shares g c =
-    let worked = c.run_workers-worked.ensures in
+    let worked = c.run_workers_open-worked.ensures in
     (reporting.shares_left {G = g.row.G.Denot} c.args.book.now.id c.args.roles.items _ _ c.man.new.workers.items
-    c.run_workers-worked.new.workers.items c.run_workers-worked.result c.man.ensures.each worked.works worked.kept worked.parted
+    c.run_workers_open-worked.new.workers.items c.run_workers_open-worked.result c.man.ensures.each worked.works worked.kept worked.parted
     c.dismiss-lost.new.shares.items c.dismiss-lost.ensures.shares).0
 
 pub returns-in-Err-clause-many : goal.returns-in-Err-clause-many
 returns-in-Err-clause-many g c =
-    let worked = c.run_workers-worked.ensures in
+    let worked = c.run_workers_open-worked.ensures in
     (reporting.shares_left {G = g.row.G.Denot} c.args.book.now.id c.args.roles.items _ _ c.man.new.workers.items
-    c.run_workers-worked.new.workers.items c.run_workers-worked.result c.man.ensures.each worked.works worked.kept worked.parted
+    c.run_workers_open-worked.new.workers.items c.run_workers_open-worked.result c.man.ensures.each worked.works worked.kept worked.parted
     c.dismiss-lost.new.shares.items c.dismiss-lost.ensures.shares).1
     ∙ sym c.requires.many
 
 pub returns-then-lost-clause-shares : goal.returns-then-lost-clause-shares
 returns-then-lost-clause-shares g c =
-    let worked = c.run_workers-worked.ensures in
+    let worked = c.run_workers_open-worked.ensures in
     (reporting.shares_left {G = g.row.G.Denot} c.args.book.now.id c.args.roles.items _ _ c.man.new.workers.items
-    c.run_workers-worked.new.workers.items c.run_workers-worked.result c.man.ensures.each worked.works worked.kept worked.parted
+    c.run_workers_open-worked.new.workers.items c.run_workers_open-worked.result c.man.ensures.each worked.works worked.kept worked.parted
     c.dismiss-lost.new.shares.items c.dismiss-lost.ensures.shares).0
 
 pub returns-then-lost-clause-many : goal.returns-then-lost-clause-many
 returns-then-lost-clause-many g c =
-    let worked = c.run_workers-worked.ensures in
+    let worked = c.run_workers_open-worked.ensures in
     (reporting.shares_left {G = g.row.G.Denot} c.args.book.now.id c.args.roles.items _ _ c.man.new.workers.items
-    c.run_workers-worked.new.workers.items c.run_workers-worked.result c.man.ensures.each worked.works worked.kept worked.parted
+    c.run_workers_open-worked.new.workers.items c.run_workers_open-worked.result c.man.ensures.each worked.works worked.kept worked.parted
     c.dismiss-lost.new.shares.items c.dismiss-lost.ensures.shares).1
     ∙ sym c.requires.many
 
 pub returns-clause-shares : goal.returns-clause-shares
 returns-clause-shares g c =
-    let worked = c.run_workers-worked.ensures in
+    let worked = c.run_workers_open-worked.ensures in
     (reporting.shares_left {G = g.row.G.Denot} c.args.book.now.id c.args.roles.items _ _ c.man.new.workers.items
-    c.run_workers-worked.new.workers.items c.run_workers-worked.result c.man.ensures.each worked.works worked.kept worked.parted
+    c.run_workers_open-worked.new.workers.items c.run_workers_open-worked.result c.man.ensures.each worked.works worked.kept worked.parted
     c.dismiss-lost.new.shares.items c.dismiss-lost.ensures.shares).0
 
 pub returns-clause-many : goal.returns-clause-many
 returns-clause-many g c =
-    let worked = c.run_workers-worked.ensures in
+    let worked = c.run_workers_open-worked.ensures in
     (reporting.shares_left {G = g.row.G.Denot} c.args.book.now.id c.args.roles.items _ _ c.man.new.workers.items
-    c.run_workers-worked.new.workers.items c.run_workers-worked.result c.man.ensures.each worked.works worked.kept worked.parted
+    c.run_workers_open-worked.new.workers.items c.run_workers_open-worked.result c.man.ensures.each worked.works worked.kept worked.parted
     c.dismiss-lost.new.shares.items c.dismiss-lost.ensures.shares).1
     ∙ sym c.requires.many
 
@@ -68,10 +68,12 @@ pub returns-clause-run : goal.returns-clause-run
 returns-clause-run g c =
     let s = c.args.script.now in
     let had = c.man.new.workers.items in
-    let has = c.run_workers-worked.new.workers.items in
-    reporting.performed_as {G = g.row.G.Denot} s c.in-Ok-worked.census has c.dismiss-lost.new.lines.items c.dismiss-lost.new.shares.items
+    let has = c.run_workers_open-worked.new.workers.items in
+    let domain = c.in-Ok-worked.open.0 in
+    let desk = c.in-Ok-worked.open.1 in
+    reporting.performed_as {G = g.row.G.Denot} s domain desk has c.dismiss-lost.new.lines.items c.dismiss-lost.new.shares.items
     c.dismiss-lost.ensures.lines c.dismiss-lost.ensures.shares
-    (reporting.performed {G = g.row.G.Denot} s c.in-Ok-worked.census c.shape_of-shape.result _ had has
+    (reporting.performed {G = g.row.G.Denot} s domain desk c.shape_of-shape.result _ had has
     (reporting.in_shape s c.blocks-3.result c.threads-threads.result c.shape_of-shape.result c.shape_of-shape.ensures.shape
     c.blocks-3.ensures.number c.threads-threads.ensures.number)
     (all_ready {G = g.row.G.Denot} c.args.book.now.id (program_in s.threads) c.args.roles.items had c.requires.roles c.man.ensures.each)

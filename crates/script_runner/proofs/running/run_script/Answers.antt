@@ -35,7 +35,7 @@ returns-clause-report g c =
     c.in_ok-book.ensures.book
     ∙ sym (c.in-Ok-worked.ensures.many
     ∙ (ap length c.in_ok-book.ensures.shares ∙ length-replicate workers (new_share c.in_ok-book.book.id workers))) in
-    reported c.args.script.now _ c.perform-worked.new.shares.items c.in-Ok-worked.ensures.run (record {
+    reported c.args.script.now _ _ _ c.perform-worked.new.shares.items c.in-Ok-worked.ensures.run (record {
       book = subst (λ n. IsLast n c.gather-totals.result) many totals.book;
       made = totals.made;
       ended = totals.ended;
