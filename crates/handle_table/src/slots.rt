@@ -1,6 +1,6 @@
 //! Slots, and what is in them.
-ghost use Rattle.std.specs.Prelude.{◌≡◌, ◌≤◌, ◌<◌, [], length, slice_get, slice_set, vec_capacity};
-ghost use Rattle.std.specs.Prelude.{IfErr, IfOk};
+ghost use Rattle.std.specs.Prelude.{◌≡◌, ◌≤◌, ◌<◌, true, [], length, slice_get, slice_set};
+ghost use Rattle.std.specs.Prelude.{vec_capacity, IfErr, IfOk};
 ghost use Rattle.control_word.specs.Views.{total};
 ghost use Rattle.control_block.specs.declared.handles.Held.TheVariants as held;
 ghost use Rattle.handle_table.specs.Calls.{WhyNoHandle, WhyNoOwner, WhyNoWeak};
@@ -81,6 +81,27 @@ pub(crate) fn put(slots: &mut Vec<Option<Held>>, at: usize, handle: Held) -> Opt
     std::mem::replace(&mut slots[at], Some(handle))
 }
 
+/// Whether nothing is in the slot.
+#[inline(always)]
+pub(crate) fn is_vacant(slots: &Vec<Option<Held>>, at: usize) -> bool
+    requires { at < length slots.now.items }
+    ensures { result ≡ true → slice_get slots.now.items at ≡ Some None }
+{
+    match &slots[at] {
+        None => true,
+        Some(_) => false,
+    }
+}
+
+/// A handle goes into a vacant slot.
+#[inline(always)]
+pub(crate) fn fill(slots: &mut Vec<Option<Held>>, at: usize, handle: Held)
+    requires { (at < length slots.old.items) × (slice_get slots.old.items at ≡ Some None) }
+    ensures { slots.new.items ≡ slice_set slots.old.items at (Some handle) }
+{
+    spent(std::mem::replace(&mut slots[at], Some(handle)));
+}
+
 /// What is in the slot goes out of it.
 #[inline(always)]
 pub(crate) fn take_handle(slots: &mut Vec<Option<Held>>, at: usize) -> Result<Held, Fault>
@@ -114,6 +135,7 @@ pub(crate) fn take_owner(slots: &mut Vec<Option<Held>>, at: usize) -> Result<Sha
 }
 
 /// None is left of it.
+#[inline(always)]
 pub(crate) fn spent(slot: Option<Held>)
     requires { slot ≡ None }
 {

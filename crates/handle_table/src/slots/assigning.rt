@@ -6,7 +6,7 @@ ghost use Rattle.shared_handle.specs.Piles.{Bears};
 ghost use Rattle.handle_table.specs.Calls.{Assigns, LetsGo};
 ghost use Rattle.handle_table.specs.Tables.{FitsSlots, on_pile};
 
-use crate::slots::put;
+use crate::slots::{fill, is_vacant, put};
 use control_block::desk::Desk;
 use control_block::domain::Domain;
 use shared_handle::{Gone, Held, Pile, drop_shared, release_weak};
@@ -59,6 +59,11 @@ pub(crate) fn assign<V: Drop + Send>(
         (on_pile pile.old) to handle desk.new slots.new.items (on_pile pile.new) }
     ensures many { length slots.new.items ≡ length slots.old.items }
 {
+    // apart, since a put reads what lay there
+    if is_vacant(slots, to) {
+        fill(slots, to, handle);
+        return;
+    }
     match put(slots, to, handle) {
         None => {}
         Some(old) => {

@@ -28,3 +28,9 @@ returns-in-Some-clause-fits g c =
 pub returns-in-Some-clause-assigns : goal.returns-in-Some-clause-assigns
 returns-in-Some-clause-assigns g c =
     record { old = Some c.in-Some.old; was = c.in-Some.ensures.0; slots = c.put.ensures.1; leaves = (c.let_go.result, c.let_go.ensures.left) }
+
+pub returns-then-is_vacant-clause-fits : goal.returns-then-is_vacant-clause-fits
+returns-then-is_vacant-clause-fits g c =
+    subst (FitsSlots c.args.desk.now) (sym c.fill.ensures)
+    (fits_none c.args.desk.now _
+    (fits_swap c.args.desk.now c.args.slots.now.items c.args.to (Some c.args.handle) None c.requires.fits (c.is_vacant.ensures c.if-is_vacant.true)))
