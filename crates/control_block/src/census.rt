@@ -44,7 +44,8 @@ impl<V: Drop + Send> Model for Census<V> {
 impl<V: Drop + Send> Census<V> {
     /// How many blocks the domain had (own).
     pub fn blocks(&self) -> u32
-        ensures { result ≡ self.now.blocks }
+        ensures is { result ≡ self.now.blocks }
+        ensures few { result ≤ 65535 }
     {
         self.shape.blocks
     }

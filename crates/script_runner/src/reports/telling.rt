@@ -38,11 +38,7 @@ fn put_counts(text: &mut String, census: &Census<u64>, number: u16) -> Result<()
 fn put_census(text: &mut String, census: &Census<u64>) -> Result<(), AllocError>
     ensures { OnOk result (AddsLines text.old text.new (closed_census_lines census.now)) }
 {
-    // A census tells of 65,535 blocks at most.
-    let Ok(blocks) = u16::try_from(census.blocks()) else {
-        return Err(AllocError);
-    };
-    for before in 0..blocks {
+    for before in 0..census.blocks() as u16 {
         put_counts(text, census, before + 1)?;
     }
     Ok(())
