@@ -37,5 +37,5 @@ pub mod Tallying
 pub mod Reckoning
 pub mod Summing
 pub mod Noting
-pub mod Casting
+pub mod Assigning
 pub mod Reporting

@@ -20,15 +20,15 @@ use Rattle.handle_table.specs.Parting.{IsNew}
 use Rattle.handle_table.specs.Staffs.{IsParted, StaffsOpen}
 use Rattle.handle_table.specs.declared.staff.Share.{Share}
 use Rattle.ownership_ledger.specs.Now.{ShareNow}
-use Rattle.script_runner.proofs.Casting.{AllShare, Does, all_added, all_play, all_said, all_share, as_many, same_many, still_share}
+use Rattle.script_runner.proofs.Assigning.{AllShare, Does, all_added, all_play, all_said, all_share, as_many, same_many, still_share}
 use Rattle.script_runner.proofs.Summing.{all_ended, all_made, sum_ended, sum_made}
 use Rattle.script_runner.proofs.Weaving.{teams_interleave}
-use Rattle.script_runner.specs.Casts.{HasRole, IsReadyFor}
+use Rattle.script_runner.specs.Assignments.{HasAssignment, IsReadyFor}
 use Rattle.script_runner.specs.Deals.{field_0}
 use Rattle.script_runner.specs.Reports.{HasAdded, IsGathered, IsPerformed, IsReport, domain_shape}
 use Rattle.script_runner.specs.Teams.{IsInterleaved}
 use Rattle.script_runner.specs.declared.reports.report.Report.{Report}
-use Rattle.script_runner.specs.declared.workers.role.Role.{Role}
+use Rattle.script_runner.specs.declared.workers.assignment.Assignment.{Assignment}
 use Rattle.script_runner.specs.declared.workers.worker.Worker.{Worker}
 use Rattle.script_text.specs.Beginnings.{shape_for}
 use Rattle.script_text.specs.Drafts.{ScriptView}
@@ -86,20 +86,21 @@ module _ {G : Type 0} where
       go [] all = tt
       go (x ∷ xs) all = (all.0, go xs all.1)
 
-  -- so much is left where each had a role, and a share of the book
-  module _ (book : TableId) (roles : List Role) (shape : Shape) (share : Share) (had has : List (Worker G))
+  -- so much is left where each had an assignment, and a share of the book
+  module _ (book : TableId) (assignments : List Assignment) (shape : Shape) (share : Share) (had has : List (Worker G))
       (r : Result (DomainNow × DeskNow ℕ) Refusal)
-      (each : AllZip (HasRole book) roles had) (works : IfOk r (λ x. StaffsOpen Does shape share had has x.0 x.1))
+      (each : AllZip (HasAssignment book) assignments had) (works : IfOk r (λ x. StaffsOpen Does shape share had has x.0 x.1))
       (kept : IfErr r (λ why. (why ≡ NotSole) ⊎ (has ≡ had))) (parted : IfErr r (λ why. why ≡ NotSole → IsParted ℕ Does shape share had has))
     where
-      pub workers_left : length has ≡ length roles
+      pub workers_left : length has ≡ length assignments
       workers_left =
-          (still book shape share had has r (all_share book roles had each) works kept parted).many ∙ same_many (HasRole book) roles had each
+          (still book shape share had has r (all_share book assignments had each) works kept parted).many
+          ∙ same_many (HasAssignment book) assignments had each
 
       pub shares_left : (ss : List ShareNow) → ss ≡ map (λ (w : Worker G). w.log.share) has
-          → All (λ (s : ShareNow). s.book ≡ book) ss × (length ss ≡ length roles)
+          → All (λ (s : ShareNow). s.book ≡ book) ss × (length ss ≡ length assignments)
       shares_left ss is = (
-        shares_still book has ss is (still book shape share had has r (all_share book roles had each) works kept parted).share,
+        shares_still book has ss is (still book shape share had has r (all_share book assignments had each) works kept parted).share,
         ap length is ∙ (length-map has (λ (w : Worker G). w.log.share) ∙ workers_left),
       )
 

@@ -9,7 +9,7 @@ pub mod EndCalls
 pub mod Goings
 pub mod Deals
 pub mod Works
-pub mod Casts
+pub mod Assignments
 pub mod CellCalls
 pub mod Teams
 pub mod Totals

@@ -27,9 +27,9 @@ domain_shape script = record (script_shape script) { allowance = 65536 * length 
 abbrev pub HasAdded : {V : Type 0} → List (Entry V) → ℕ → ShareNow → Type 0
 HasAdded h n s = (s.own.made ≡ made_by n h) × (s.own.ended ≡ count_ended_by n h)
 
--- A team worked in the domain, and this desk has all that it left: no handle is in any hands, and the desk can close the
--- domain. What it has seen is an interleaving of the threads, each with its lines. Each thread has a share of a book, to
--- which its makes and the ends of its objects were added
+-- A team worked in the domain, and this desk has all that it left: no handle is in any hands, and the desk can close
+-- the domain. What it has seen is an interleaving of the threads, each with its lines. Each thread has a share of a
+-- book, to which its makes and the ends of its objects were added
 pub record IsPerformed (script : ScriptView) (lines : List (List Said)) (domain : DomainNow) (desk : DeskNow ℕ)
     (shares : List ShareNow) : Type 0 where
   pub many : length lines ≡ length script.threads

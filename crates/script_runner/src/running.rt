@@ -4,14 +4,14 @@ ghost use Rattle.std.specs.List.{AllZip};
 ghost use Rattle.control_word.specs.Layout.{IsWithinLimits};
 ghost use Rattle.script_text.specs.Beginnings.{shape_for};
 ghost use Rattle.script_text.specs.Scripts.{program_in};
-ghost use Rattle.script_runner.specs.Casts.{IsNewShare, IsRoleFor};
+ghost use Rattle.script_runner.specs.Assignments.{IsNewShare, IsAssignmentFor};
 ghost use Rattle.script_runner.specs.Reports.{IsReport, IsPerformed};
 
 use crate::closing::close_sole;
 use crate::gate::Gate;
 use crate::reports::report::Report;
-use crate::workers::cast::{cast_of, dismiss, man};
-use crate::workers::role::Role;
+use crate::workers::assigning::{assign, assignments_of, collect};
+use crate::workers::assignment::Assignment;
 use crate::workers::worker::{SLOTS, Worker};
 use control_block::desk::Desk;
 use control_block::domain::Domain;
@@ -42,35 +42,35 @@ fn shape_of(blocks: u32, threads: u32) -> Shape
     }
 }
 
-/// Workers with these roles do a script's threads, each with a share of the book. What each said goes into a list, the
-/// shares come back, and the domain comes out with its sole desk. It is refused where a growth was, or where a worker
-/// couldn't go on.
+/// Workers with these assignments do a script's threads, each with a share of the book. What each said goes into a
+/// list, the shares come back, and the domain comes out with its sole desk. It is refused where a growth was, or where
+/// a worker couldn't go on.
 fn perform<'a, R: Threads + Wait + Sync, G: Gate + Sync>(
     rt: &R,
     alloc: Global,
     script: &Script,
     gate: &'a G,
-    roles: Vec<Role>,
+    assignments: Vec<Assignment>,
     book: &'a Book,
     shares: &mut Vec<Share>,
     lines: &mut Vec<Vec<Said>>,
 ) -> Result<(Domain<u64>, Desk<u64>), Refusal>
-    requires roles { AllZip IsRoleFor (program_in script.now.threads) roles.items }
+    requires assignments { AllZip IsAssignmentFor (program_in script.now.threads) assignments.items }
     requires shares { All (IsNewShare book.now.id) shares.old.items }
-    requires many { length shares.old.items ≡ length roles.items }
-    requires room { (lines.old.items ≡ []) × (length roles.items ≤ vec_capacity lines.old)
-        × (length roles.items ≤ vec_capacity shares.old) }
+    requires many { length shares.old.items ≡ length assignments.items }
+    requires room { (lines.old.items ≡ []) × (length assignments.items ≤ vec_capacity lines.old)
+        × (length assignments.items ≤ vec_capacity shares.old) }
     ensures shares { All (λ s. s.book ≡ book.now.id) shares.new.items }
     ensures many { length shares.new.items ≡ length shares.old.items }
     ensures run { IfOk result
         (λ r. IsPerformed script.now (map (λ v. v.items) lines.new.items) r.0 r.1 shares.new.items) }
     ensures refused { IfErr result (λ why. why ≡ Refusal.Memory) }
 {
-    let mut roles = roles;
-    let Ok(mut workers) = Vec::with_capacity(alloc, roles.len()) else {
+    let mut assignments = assignments;
+    let Ok(mut workers) = Vec::with_capacity(alloc, assignments.len()) else {
         return Err(Refusal::Memory);
     };
-    man(&mut roles, shares, &mut workers, book, gate);
+    assign(&mut assignments, shares, &mut workers, book, gate);
     let threads = script.threads();
     let share = handle_table::Share {
         slots: SLOTS,
@@ -79,7 +79,7 @@ fn perform<'a, R: Threads + Wait + Sync, G: Gate + Sync>(
     };
     let shape = shape_of(script.blocks(), threads);
     let worked = run_workers_open::<u64, R, Worker<'a, G>>(rt, alloc, shape, share, &mut workers);
-    let lost = dismiss(&mut workers, shares, lines);
+    let lost = collect(&mut workers, shares, lines);
     workers.destroy_empty();
     let (domain, desk) = match worked {
         Ok(open) => open,
@@ -93,9 +93,10 @@ fn perform<'a, R: Threads + Wait + Sync, G: Gate + Sync>(
 }
 
 /// Runs a script on real workers, one a thread, each with a table of its own: `gate` is told of each statement in its
-/// thread. An object's value is its field 0. Answers what each thread said, in thread order, and the totals of a book to
-/// whose shares the workers add each of their makes and of the ends that they are told of; and the domain with its sole
-/// desk, which has seen all that the workers did, and has no handle and nothing to end. `close` by it isn't refused.
+/// thread. An object's value is its field 0. Answers what each thread said, in thread order, and the totals of a book
+/// to whose shares the workers add each of their makes and of the ends that they are told of; and the domain with its
+/// sole desk, which has seen all that the workers did, and has no handle and nothing to end. `close` by it isn't
+/// refused.
 ///
 /// It is refused `Memory` and nothing else: where a growth was refused, all of which come before the first worker
 /// starts; or where a worker found in its table what can't be, or has no room for more in its share, after which it
@@ -109,8 +110,8 @@ pub fn run_script<R: Threads + Wait + Sync, G: Gate + Sync>(
     ensures report { IfOk result (λ r. IsReport script.now r.0 r.1 r.2) }
     ensures refused { IfErr result (λ why. why ≡ Refusal.Memory) }
 {
-    let roles = cast_of(alloc, script)?;
-    let Ok(mut lines) = Vec::with_capacity(alloc, roles.len()) else {
+    let assignments = assignments_of(alloc, script)?;
+    let Ok(mut lines) = Vec::with_capacity(alloc, assignments.len()) else {
         return Err(Refusal::Memory);
     };
     let (book, mut shares) = Book::open(alloc, script.threads())?;
@@ -119,7 +120,7 @@ pub fn run_script<R: Threads + Wait + Sync, G: Gate + Sync>(
         alloc,
         script,
         gate,
-        roles,
+        assignments,
         &book,
         &mut shares,
         &mut lines,

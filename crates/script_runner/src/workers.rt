@@ -1,7 +1,7 @@
 //! A thread's worker: its part, its seats, and what it says and adds to the book.
-pub(crate) mod cast;
+pub(crate) mod assigning;
+pub(crate) mod assignment;
 pub(crate) mod log;
 pub(crate) mod notes;
-pub(crate) mod role;
 pub(crate) mod seats;
 pub(crate) mod worker;

@@ -1,9 +1,9 @@
 use Rattle.std.proofs.Common.{◌≡◌, length, sym, ap, subst, ◌∙◌, arith}
 use Rattle.std.proofs.lemmas.List.{length-map, length-replicate}
 use Rattle.ownership_ledger.specs.Now.{IsLast, new_share}
-use Rattle.script_runner.proofs.Casting.{same_many}
+use Rattle.script_runner.proofs.Assigning.{same_many}
 use Rattle.script_runner.proofs.Reporting.{reported}
-use Rattle.script_runner.specs.Casts.{IsRoleFor}
+use Rattle.script_runner.specs.Assignments.{IsAssignmentFor}
 use Rattle.script_text.specs.Scripts.{part_in, program_in}
 use Rattle.script_runner.proofs.running.run_script.Goals as goal
 
@@ -13,14 +13,15 @@ perform-worked-requires-clause-many g c κs within =
     ap length c.in_ok-book.ensures.shares
     ∙ (length-replicate c.threads.result (new_share c.in_ok-book.book.id c.threads.result)
     ∙ (c.threads.ensures.number
-    ∙ sym (same_many IsRoleFor (program_in threads) c.in_ok-roles.roles.items c.in_ok-roles.ensures.each ∙ length-map threads part_in)))
+    ∙ sym (same_many IsAssignmentFor (program_in threads) c.in_ok-assignments.assignments.items c.in_ok-assignments.ensures.each
+    ∙ length-map threads part_in)))
 
 pub perform-worked-requires-clause-room : goal.perform-worked-requires-clause-room
 perform-worked-requires-clause-room g c κs within =
     let threads = c.args.script.now.threads in
-    let many : length c.in_ok-roles.roles.items ≡ length threads =
-    same_many IsRoleFor (program_in threads) c.in_ok-roles.roles.items c.in_ok-roles.ensures.each ∙ length-map threads part_in in
-    let items = c.in_ok-roles.roles.ok.0 in
+    let many : length c.in_ok-assignments.assignments.items ≡ length threads =
+    same_many IsAssignmentFor (program_in threads) c.in_ok-assignments.assignments.items c.in_ok-assignments.ensures.each ∙ length-map threads part_in in
+    let items = c.in_ok-assignments.assignments.ok.0 in
     let long = c.len.ensures in
     let lines = c.in-Ok.ensures.capacity in
     let number = c.threads.ensures.number in

@@ -13,13 +13,13 @@ use Rattle.handle_table.specs.Staffs.{EachDoes}
 use Rattle.handle_table.specs.Tables.{TableNow}
 use Rattle.script_runner.proofs.Stepping.{not_lost}
 use Rattle.script_runner.proofs.Summing.{marked_ended, marked_made}
-use Rattle.script_runner.specs.Casts.{HasRole, HasSaid, IsReadyFor, IsRoleFor}
+use Rattle.script_runner.specs.Assignments.{HasAssignment, HasSaid, IsReadyFor, IsAssignmentFor}
 use Rattle.script_runner.specs.Deals.{field_0}
 use Rattle.script_runner.specs.Reports.{HasAdded}
 use Rattle.script_runner.specs.Teams.{AllMarked, AllPlay, PlaysThread}
 use Rattle.script_runner.specs.Totals.{asked_in, refused_in, told_in}
 use Rattle.script_runner.specs.Works.{HasAskedAll, IsWorked}
-use Rattle.script_runner.specs.declared.workers.role.Role.{Role}
+use Rattle.script_runner.specs.declared.workers.assignment.Assignment.{Assignment}
 use Rattle.script_runner.specs.declared.workers.worker.Worker.{Worker}
 use Rattle.atomic_table.specs.Seated.{TableId}
 use Rattle.control_word.specs.declared.model.handle.Kind.{Kind}
@@ -62,16 +62,16 @@ pub tasks_for : (calls given : List Call) (n names : ℕ) (tasks : List Task) �
 tasks_for calls given n names tasks is same many =
     is ∙ ap (λ (l : List Call). tasks_from 1 l n) same ∙ ap (λ (k : ℕ). tasks_from 1 calls k) many
 
--- a role for one thread more
-pub role_then : (actors : List Actor) (i : ℕ) (a : Actor) (rs more : List Role) (r : Role) → i < length actors
-    → a ≡ get_or actors i a → more ≡ rs ++ r ∷ [] → AllZip IsRoleFor (map part_of (take i actors)) rs → IsRoleFor (part_of a) r
-    → AllZip IsRoleFor (map part_of (take (i + 1) actors)) more
-role_then actors i a rs more r lt is next all here =
+-- an assignment for one thread more
+pub assignment_then : (actors : List Actor) (i : ℕ) (a : Actor) (rs more : List Assignment) (r : Assignment) → i < length actors
+    → a ≡ get_or actors i a → more ≡ rs ++ r ∷ [] → AllZip IsAssignmentFor (map part_of (take i actors)) rs → IsAssignmentFor (part_of a) r
+    → AllZip IsAssignmentFor (map part_of (take (i + 1) actors)) more
+assignment_then actors i a rs more r lt is next all here =
     let ps = map part_of (take i actors) in
     let on : map part_of (take (i + 1) actors) ≡ ps ++ part_of a ∷ [] =
     map_more part_of actors i a lt ∙ ap (λ (x : Actor). ps ++ part_of x ∷ []) (sym is) in
-    subst (λ (l : List Role). AllZip IsRoleFor (map part_of (take (i + 1) actors)) l) (sym next)
-    (subst (λ (l : List Part). AllZip IsRoleFor l (rs ++ r ∷ [])) (sym on) (all_zipped_more IsRoleFor ps rs (part_of a) r all here))
+    subst (λ (l : List Assignment). AllZip IsAssignmentFor (map part_of (take (i + 1) actors)) l) (sym next)
+    (subst (λ (l : List Part). AllZip IsAssignmentFor l (rs ++ r ∷ [])) (sym on) (all_zipped_more IsAssignmentFor ps rs (part_of a) r all here))
 
 -- the last of a list goes behind another, which is turned round
 pub zip_turned : {X Y : Type 0} (R : X → Y → Type 0) (x : X) (done : List X) (ys more : List Y) (y : Y) → more ≡ ys ++ y ∷ []
@@ -82,8 +82,8 @@ pub gone_then : {X : Type 0} (all xs more done : List X) (x : X) → all ≡ xs 
 gone_then all xs more done x is popped = is ∙ (ap (λ l. l ++ done) popped ∙ append_assoc more (x ∷ []) done)
 
 module _ {G : Type 0} where
-  -- a worker of a thread's role is ready for it
-  ready : (p : Part) (r : Role) (w : Worker G) (book : TableId) → IsRoleFor p r → HasRole book r w → IsReadyFor p w
+  -- a worker of a thread's assignment is ready for it
+  ready : (p : Part) (r : Assignment) (w : Worker G) (book : TableId) → IsAssignmentFor p r → HasAssignment book r w → IsReadyFor p w
   ready p r w book is has = record {
     tasks = (is.0 ∙ sym (ap (λ (v : Vec Kind). v.items) has.kinds), ap (λ (v : Vec Task). v.items) has.tasks ∙ is.1);
     taken = has.taken;
@@ -91,8 +91,8 @@ module _ {G : Type 0} where
     asked = has.asked;
   }
 
-  pub all_ready : (book : TableId) (ps : List Part) (rs : List Role) (ws : List (Worker G)) → AllZip IsRoleFor ps rs
-      → AllZip (HasRole book) rs ws → AllZip IsReadyFor ps ws
+  pub all_ready : (book : TableId) (ps : List Part) (rs : List Assignment) (ws : List (Worker G)) → AllZip IsAssignmentFor ps rs
+      → AllZip (HasAssignment book) rs ws → AllZip IsReadyFor ps ws
   all_ready book [] [] [] is has = tt
   all_ready book (p ∷ ps) (r ∷ rs) (w ∷ ws) is has = (ready p r w book is.0 has.0, all_ready book ps rs ws is.1 has.1)
   all_ready book [] (r ∷ rs) ws is has = absurd is
@@ -104,7 +104,7 @@ module _ {G : Type 0} where
   abbrev pub AllShare : TableId → List (Worker G) → Type 0
   AllShare book ws = AllByRecursion (λ (w : Worker G). w.log.share.book ≡ book) ws
 
-  pub all_share : (book : TableId) (rs : List Role) (ws : List (Worker G)) → AllZip (HasRole book) rs ws → AllShare book ws
+  pub all_share : (book : TableId) (rs : List Assignment) (ws : List (Worker G)) → AllZip (HasAssignment book) rs ws → AllShare book ws
   all_share book [] [] has = tt
   all_share book (r ∷ rs) (w ∷ ws) has = (has.0.share, all_share book rs ws has.1)
   all_share book [] (w ∷ ws) has = absurd has

@@ -4,10 +4,10 @@ ghost use Rattle.std.specs.Prelude.{IfErr, IfOk};
 ghost use Rattle.std.specs.List.{AllByRecursion, AllZip};
 ghost use Rattle.step_threads.specs.Programs.{IsProgram, part_of};
 ghost use Rattle.script_text.specs.Scripts.{program_in};
-ghost use Rattle.script_runner.specs.Casts.{HasRole, IsNewShare, IsRoleFor};
+ghost use Rattle.script_runner.specs.Assignments.{HasAssignment, IsNewShare, IsAssignmentFor};
 
+use crate::workers::assignment::Assignment;
 use crate::workers::log::Log;
-use crate::workers::role::Role;
 use crate::workers::worker::Worker;
 use control_word::Refusal;
 use ownership_ledger::{Book, Share};
@@ -30,17 +30,22 @@ fn makes(calls: &[Call]) -> usize {
     makes
 }
 
-/// A thread's role, with room for all that it may say: each act answers once at most, and no more objects end than all
-/// threads make.
-fn role_of(alloc: Global, actor: &Actor, objects: usize, number: usize) -> Result<Role, AllocError>
+/// A thread's assignment, with room for all that it may say: each act answers once at most, and no more objects end
+/// than all threads make.
+fn assignment_for(
+    alloc: Global,
+    actor: &Actor,
+    objects: usize,
+    number: usize,
+) -> Result<Assignment, AllocError>
     requires calls { length actor.now.calls.items < 2 ^ 31 }
     requires names { length actor.now.kinds.items ≤ 32 }
-    ensures { IfOk result (IsRoleFor (part_of actor.now)) }
+    ensures { IfOk result (IsAssignmentFor (part_of actor.now)) }
 {
     let tasks = tasks(alloc, actor.calls.as_slice(), actor.kinds.len() as u8)?;
     let kinds = Vec::from_slice(alloc, actor.kinds.as_slice())?;
     let said = Vec::with_capacity(alloc, tasks.len().saturating_add(objects))?;
-    Ok(Role {
+    Ok(Assignment {
         number,
         kinds,
         tasks,
@@ -48,22 +53,26 @@ fn role_of(alloc: Global, actor: &Actor, objects: usize, number: usize) -> Resul
     })
 }
 
-/// A role for each thread.
-fn roles_of(alloc: Global, actors: &[Actor], objects: usize) -> Result<Vec<Role>, AllocError>
+/// A assignment for each thread.
+fn assignments_for(
+    alloc: Global,
+    actors: &[Actor],
+    objects: usize,
+) -> Result<Vec<Assignment>, AllocError>
     requires program { IsProgram (map part_of actors.now) }
-    ensures { IfOk result (λ v. AllZip IsRoleFor (map part_of actors.now) v.items) }
+    ensures { IfOk result (λ v. AllZip IsAssignmentFor (map part_of actors.now) v.items) }
 {
-    let mut roles = Vec::with_capacity(alloc, actors.len())?;
+    let mut assignments = Vec::with_capacity(alloc, actors.len())?;
     for (at, actor) in actors.iter().enumerate() {
-        let role = role_of(alloc, actor, objects, at + 1)?;
-        roles.push(role)?;
+        let assignment = assignment_for(alloc, actor, objects, at + 1)?;
+        assignments.push(assignment)?;
     }
-    Ok(roles)
+    Ok(assignments)
 }
 
-/// The roles of a script's threads.
-pub(crate) fn cast_of(alloc: Global, script: &Script) -> Result<Vec<Role>, Refusal>
-    ensures each { IfOk result (λ v. AllZip IsRoleFor (program_in script.now.threads) v.items) }
+/// The assignments of a script's threads.
+pub(crate) fn assignments_of(alloc: Global, script: &Script) -> Result<Vec<Assignment>, Refusal>
+    ensures each { IfOk result (λ v. AllZip IsAssignmentFor (program_in script.now.threads) v.items) }
     ensures refused { IfErr result (λ why. why ≡ Refusal.Memory) }
 {
     let program = script.program(alloc)?;
@@ -71,23 +80,28 @@ pub(crate) fn cast_of(alloc: Global, script: &Script) -> Result<Vec<Role>, Refus
     for actor in &program.actors {
         objects = objects.saturating_add(makes(actor.calls.as_slice()));
     }
-    match roles_of(alloc, program.actors.as_slice(), objects) {
-        Ok(roles) => Ok(roles),
+    match assignments_for(alloc, program.actors.as_slice(), objects) {
+        Ok(assignments) => Ok(assignments),
         Err(_) => Err(Refusal::Memory),
     }
 }
 
-/// A worker with this role, and a share of the book.
-fn worker_of<'a, G>(role: Role, share: Share, book: &'a Book, gate: &'a G) -> Worker<'a, G>
+/// A worker with this assignment, and a share of the book.
+fn worker_of<'a, G>(
+    assignment: Assignment,
+    share: Share,
+    book: &'a Book,
+    gate: &'a G,
+) -> Worker<'a, G>
     requires { IsNewShare book.now.id share }
-    ensures { HasRole book.now.id role result }
+    ensures { HasAssignment book.now.id assignment result }
 {
-    let Role {
+    let Assignment {
         number,
         kinds,
         tasks,
         said,
-    } = role;
+    } = assignment;
     Worker {
         number,
         gate,
@@ -104,24 +118,24 @@ fn worker_of<'a, G>(role: Role, share: Share, book: &'a Book, gate: &'a G) -> Wo
     }
 }
 
-/// Each role goes to a worker, with a share of the book.
-pub(crate) fn man<'a, G>(
-    roles: &mut Vec<Role>,
+/// Each assignment goes to a worker, with a share of the book.
+pub(crate) fn assign<'a, G>(
+    assignments: &mut Vec<Assignment>,
     shares: &mut Vec<Share>,
     workers: &mut Vec<Worker<'a, G>>,
     book: &'a Book,
     gate: &'a G,
 )
-    requires many { length roles.old.items ≡ length shares.old.items }
+    requires many { length assignments.old.items ≡ length shares.old.items }
     requires shares { All (IsNewShare book.now.id) shares.old.items }
-    requires room { (workers.old.items ≡ []) × (length roles.old.items ≤ vec_capacity workers.old) }
-    ensures each { AllZip (HasRole book.now.id) roles.old.items workers.new.items }
+    requires room { (workers.old.items ≡ []) × (length assignments.old.items ≤ vec_capacity workers.old) }
+    ensures each { AllZip (HasAssignment book.now.id) assignments.old.items workers.new.items }
     ensures none { shares.new.items ≡ [] }
     ensures room { vec_capacity shares.new ≡ vec_capacity shares.old }
 {
-    while let Some(role) = roles.pop() {
+    while let Some(assignment) = assignments.pop() {
         match shares.pop() {
-            Some(share) => workers.push_reserved(worker_of(role, share, book, gate)),
+            Some(share) => workers.push_reserved(worker_of(assignment, share, book, gate)),
             None => unreachable!(),
         }
     }
@@ -129,7 +143,7 @@ pub(crate) fn man<'a, G>(
 }
 
 /// What the workers said goes into one list, and their shares into another. Whether one of them couldn't go on.
-pub(crate) fn dismiss<G>(
+pub(crate) fn collect<G>(
     workers: &mut Vec<Worker<'_, G>>,
     shares: &mut Vec<Share>,
     lines: &mut Vec<Vec<Said>>,

@@ -1,6 +1,6 @@
 use Rattle.std.proofs.Common.{sym, ◌∙◌, arith}
-use Rattle.script_runner.proofs.Casting.{tasks_for}
-use Rattle.script_runner.proofs.workers.cast.role_of.Goals as goal
+use Rattle.script_runner.proofs.Assigning.{tasks_for}
+use Rattle.script_runner.proofs.workers.assigning.assignment_for.Goals as goal
 
 pub returns : goal.returns
 returns c =

@@ -6,7 +6,7 @@ use step_threads::programs::act::Task;
 
 /// What a worker needs of its thread: its number from 1, the kinds of its names, its tasks, and room for its lines.
 #[derive(Drop)]
-pub(crate) struct Role {
+pub(crate) struct Assignment {
     pub number: usize,
     pub kinds: Vec<Kind>,
     pub tasks: Vec<Task>,

@@ -1,7 +1,7 @@
 use Rattle.std.proofs.Common.{◌≡◌, ◌≤◌, ◌+◌, ◌++◌, false, List, length, map, reverse, vec_capacity}
 use Rattle.std.specs.List.{AllByRecursion}
 use Rattle.script_runner.specs.declared.workers.worker.Worker.{Worker}
-use Rattle.script_runner.proofs.workers.cast.dismiss.Given as goal
+use Rattle.script_runner.proofs.workers.assigning.collect.Given as goal
 
 abbrev pub invariant-loop-worker : goal.invariant-loop-worker
 invariant-loop-worker g l =

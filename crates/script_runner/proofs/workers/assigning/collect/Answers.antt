@@ -1,6 +1,6 @@
 use Rattle.std.proofs.Common.{[], length, reverse, sym, ap, arith}
 use Rattle.std.proofs.lemmas.List.{append-nil}
-use Rattle.script_runner.proofs.workers.cast.dismiss.Goals as goal
+use Rattle.script_runner.proofs.workers.assigning.collect.Goals as goal
 
 pub loop-worker-init : goal.loop-worker-init
 loop-worker-init g c = (

@@ -1,0 +1,18 @@
+use Rattle.std.proofs.Common.{◌≡◌, ◌≤◌, ◌+◌, ◌++◌, List, length, reverse, vec_capacity}
+use Rattle.std.specs.List.{AllZip}
+use Rattle.std.specs.Prelude.{All}
+use Rattle.script_runner.specs.Assignments.{HasAssignment, IsNewShare}
+use Rattle.script_runner.specs.declared.workers.assignment.Assignment.{Assignment}
+use Rattle.script_runner.proofs.workers.assigning.assign.Given as goal
+
+abbrev pub invariant-loop-assignment : goal.invariant-loop-assignment
+invariant-loop-assignment g l =
+    (length l.assignments.items ≡ length l.shares.items)
+    × All (IsNewShare l.book.id) l.shares.items
+    × (length l.assignments.items + length l.workers.items ≤ vec_capacity l.workers)
+    × (vec_capacity l.shares ≡ vec_capacity l.initial.shares)
+    × ((done : List Assignment) × (l.initial.assignments.items ≡ l.assignments.items ++ done)
+    × AllZip (HasAssignment l.book.id) done (reverse l.workers.items))
+
+abbrev pub decreases-loop-assignment : goal.decreases-loop-assignment
+decreases-loop-assignment g l = length l.assignments.items

@@ -1,0 +1,8 @@
+use Rattle.std.proofs.Common.{map, take}
+use Rattle.std.specs.List.{AllZip}
+use Rattle.script_runner.specs.Assignments.{IsAssignmentFor}
+use Rattle.step_threads.specs.Programs.{part_of}
+use Rattle.script_runner.proofs.workers.assigning.assignments_for.Given as goal
+
+abbrev pub invariant-loop-at : goal.invariant-loop-at
+invariant-loop-at l = AllZip IsAssignmentFor (map part_of (take l.at l.actors)) l.assignments.items

@@ -1,8 +1,0 @@
-use Rattle.std.proofs.Common.{map, take}
-use Rattle.std.specs.List.{AllZip}
-use Rattle.script_runner.specs.Casts.{IsRoleFor}
-use Rattle.step_threads.specs.Programs.{part_of}
-use Rattle.script_runner.proofs.workers.cast.roles_of.Given as goal
-
-abbrev pub invariant-loop-at : goal.invariant-loop-at
-invariant-loop-at l = AllZip IsRoleFor (map part_of (take l.at l.actors)) l.roles.items
