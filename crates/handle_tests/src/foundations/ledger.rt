@@ -36,9 +36,9 @@ fn add_in_threads(rt: &impl Threads, book: &Book, one: &mut Share, two: &mut Sha
     );
 }
 
-#[test]
-fn so_far_shows_what_joined_workers_added(rt: HostRuntime) -> Result<(), Fail> {
-    let (book, mut shares) = Book::open(rt.alloc(), 3)?;
+// Two of three workers add, and are joined: what the third one's share shows then, and what all gather to.
+fn gather_three(rt: &impl Threads, alloc: Global) -> Result<[Totals; 2], Refusal> {
+    let (book, mut shares) = Book::open(alloc, 3)?;
     let Some(mut one) = shares.pop() else {
         unreachable!()
     };
@@ -48,18 +48,21 @@ fn so_far_shows_what_joined_workers_added(rt: HostRuntime) -> Result<(), Fail> {
     let Some(mut three) = shares.pop() else {
         unreachable!()
     };
-    add_in_threads(&rt, &book, &mut one, &mut two);
+    add_in_threads(rt, &book, &mut one, &mut two);
     let shown = book.so_far(&mut three);
     shares.push_reserved(one);
     shares.push_reserved(two);
     shares.push_reserved(three);
-    let totals = book.gather(shares);
+    Ok([shown, book.gather(shares)])
+}
+
+#[test]
+fn so_far_shows_what_joined_workers_added(rt: HostRuntime) -> Result<(), Fail> {
     let want = Totals {
         made: 123,
         ended: 45,
     };
-    assert_eq!(rt; shown, want);
-    assert_eq!(rt; totals, want);
+    assert_eq!(rt; gather_three(&rt, rt.alloc())?, [want, want]);
     Ok(())
 }
 
@@ -80,16 +83,20 @@ fn add_each<R: Threads + Sync>(rt: &R, book: &Book, shares: &mut [Share])
     );
 }
 
+// Four workers add, and are joined: what their shares gather to.
+fn gather_four<R: Threads + Sync>(rt: &R, alloc: Global) -> Result<Totals, Refusal> {
+    let (book, mut shares) = Book::open(alloc, 4)?;
+    add_each(rt, &book, shares.as_mut_slice());
+    Ok(book.gather(shares))
+}
+
 #[test]
 fn four_threads_gather_to_their_sums(rt: HostRuntime) -> Result<(), Fail> {
-    let (book, mut shares) = Book::open(rt.alloc(), 4)?;
-    add_each(&rt, &book, shares.as_mut_slice());
-    let totals = book.gather(shares);
     let want = Totals {
         made: 30_000,
         ended: 10_000,
     };
-    assert_eq!(rt; totals, want);
+    assert_eq!(rt; gather_four(&rt, rt.alloc())?, want);
     Ok(())
 }
 
