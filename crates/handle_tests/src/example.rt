@@ -98,8 +98,6 @@ fn an_object_of_two_threads(rt: HostRuntime) -> Result<(), Fail> {
     let seen = two_threads(&rt, rt.alloc(), &domain, &mut desk);
     let stock = shut(domain, desk);
     let (owners, gone) = seen.ok_or("memory")?;
-    assert_eq!(rt; owners, 2);
-    assert!(rt; gone);
-    assert_eq!(rt; stock, 4);
+    assert_eq!(rt; (owners, gone, stock), (2, true, 4));
     Ok(())
 }

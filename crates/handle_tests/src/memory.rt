@@ -6,32 +6,43 @@ use crate::parts::shut;
 use crate::shapes::shape;
 use control_block::domain::open;
 use control_word::Refusal;
+use std::alloc::Global;
 use std::test::Fail;
+
+// What the first desk of a domain has.
+fn opened(alloc: Global) -> Result<(u32, u32, u32), Refusal> {
+    let (domain, desk) = open::<u64>(alloc, shape(4, 8))?;
+    let all = numbers(&desk);
+    abandon(domain, desk);
+    Ok(all)
+}
 
 #[test]
 fn a_refused_opening_leaves_nothing(rt: HostRuntime) -> Result<(), Fail> {
-    let alloc = rt.alloc();
-    let (domain, desk) = match open::<u64>(alloc, shape(4, 8)) {
-        Ok(opened) => opened,
+    let all = match opened(rt.alloc()) {
+        Ok(all) => all,
         Err(why) => {
             assert_eq!(rt; why, Refusal::Memory);
-            open::<u64>(alloc, shape(4, 8))?
+            opened(rt.alloc())?
         }
     };
-    let all = numbers(&desk);
-    abandon(domain, desk);
     assert!(rt; all == (8, 0, 4));
     Ok(())
 }
 
-#[test]
-fn a_refused_split_changes_nothing(rt: HostRuntime) -> Result<(), Fail> {
-    let alloc = rt.alloc();
+// What a split answers, what the desk has then, and what the same split answers next.
+fn split_twice(alloc: Global) -> Result<(u8, (u32, u32, u32), u8), Refusal> {
     let (domain, mut desk) = open::<u64>(alloc, shape(4, 8))?;
     let first = refusal(&domain, &mut desk, alloc, 3, 1);
     let between = numbers(&desk);
     let second = refusal(&domain, &mut desk, alloc, 3, 1);
     abandon(domain, desk);
+    Ok((first, between, second))
+}
+
+#[test]
+fn a_refused_split_changes_nothing(rt: HostRuntime) -> Result<(), Fail> {
+    let (first, between, second) = split_twice(rt.alloc())?;
     if second == Refusal::Memory.number() {
         return Err(Refusal::Memory.into());
     }
@@ -41,26 +52,26 @@ fn a_refused_split_changes_nothing(rt: HostRuntime) -> Result<(), Fail> {
     Ok(())
 }
 
+// A domain of so many blocks is opened and closed: how many were vacant.
+fn vacant_of(alloc: Global, blocks: u32) -> Result<u32, Refusal> {
+    let (domain, desk) = open::<u64>(alloc, shape(blocks, 8))?;
+    Ok(shut(domain, desk))
+}
+
 #[test]
 fn one_block_is_opened_and_closed(rt: HostRuntime) -> Result<(), Fail> {
-    let (domain, desk) = open::<u64>(rt.alloc(), shape(1, 8))?;
-    let stock = shut(domain, desk);
-    assert_eq!(rt; stock, 1);
+    assert_eq!(rt; vacant_of(rt.alloc(), 1)?, 1);
     Ok(())
 }
 
 #[test]
 fn two_blocks_are_opened_and_closed(rt: HostRuntime) -> Result<(), Fail> {
-    let (domain, desk) = open::<u64>(rt.alloc(), shape(2, 8))?;
-    let stock = shut(domain, desk);
-    assert_eq!(rt; stock, 2);
+    assert_eq!(rt; vacant_of(rt.alloc(), 2)?, 2);
     Ok(())
 }
 
 #[test]
 fn four_blocks_are_opened_and_closed(rt: HostRuntime) -> Result<(), Fail> {
-    let (domain, desk) = open::<u64>(rt.alloc(), shape(4, 8))?;
-    let stock = shut(domain, desk);
-    assert_eq!(rt; stock, 4);
+    assert_eq!(rt; vacant_of(rt.alloc(), 4)?, 4);
     Ok(())
 }

@@ -27,33 +27,48 @@ pub(crate) fn shut<V: Drop + Send>(domain: Domain<V>, desk: Desk<V>) -> u32
     stock
 }
 
-// What a member held was an object's last owner: no test that asks for a burial has such members.
-fn lose<V: Drop + Send>(left: Left<V>) {
+// What was left of an object when an owner left.
+#[derive(Clone, Copy, PartialEq, Eq, Debug, Drop)]
+pub(crate) enum Was {
+    Empty,
+    Others,
+    Last,
+}
+
+// What was left of what a cell held: where that was an object's last owner, the object is given up.
+pub(crate) fn told<V: Drop + Send>(left: Left<V>) -> Was {
     match left {
-        Left::Empty | Left::Others => {}
+        Left::Empty => Was::Empty,
+        Left::Others => Was::Others,
         Left::Last(ending) => {
             ending.forget();
+            Was::Last
         }
     }
 }
 
-// The end of an object whose members were the last owners of none.
-pub(crate) fn bury<V: Drop + Send>(domain: &Domain<V>, desk: &mut Desk<V>, ending: Ending<V>) -> V
+// What an object's end finds: in first, next and up, and its value.
+pub(crate) type Found<V> = (Was, Was, Was, V);
+
+// The end of an object whose members are the last owners of none.
+pub(crate) fn end_of<V: Drop + Send>(
+    domain: &Domain<V>,
+    desk: &mut Desk<V>,
+    ending: Ending<V>,
+) -> Found<V>
     requires domain { Belongs desk.old domain.now }
     requires ends { EndsInHand desk.old ending }
-    ensures value { result ≡ ending.value }
     ensures desk { IsSameDesk desk.old desk.new }
     ensures bag { bag_of desk.new ≡ bag_of desk.old }
     ensures held { desk.new.held ≡ desk.old.held }
+    ensures endings { KeepsOtherEndings desk.old ending.block.0 desk.new }
 {
     let mut ending = ending;
     let first = ending.clear_member(domain, desk, Member::First);
     let next = ending.clear_member(domain, desk, Member::Next);
     let up = ending.clear_member(domain, desk, Member::Up);
-    lose(first);
-    lose(next);
-    lose(up);
-    ending.finish(domain, desk)
+    let value = ending.finish(domain, desk);
+    (told(first), told(next), told(up), value)
 }
 
 // The value of the object that the handle was the last owner of.
@@ -70,64 +85,9 @@ pub(crate) fn end<V: Drop + Send>(
 {
     match release(domain, desk, handle) {
         Left::Empty | Left::Others => None,
-        Left::Last(ending) => Some(bury(domain, desk, ending)),
-    }
-}
-
-// What was left of an object when an owner left.
-#[derive(Clone, Copy, PartialEq, Eq, Debug, Drop)]
-pub(crate) enum Was {
-    Empty,
-    Others,
-    Last,
-}
-
-// What was left of what a cell held: where that was an object's last owner, the object is given up.
-pub(crate) fn told(left: Left<u64>) -> Was {
-    match left {
-        Left::Empty => Was::Empty,
-        Left::Others => Was::Others,
         Left::Last(ending) => {
-            ending.forget();
-            Was::Last
-        }
-    }
-}
-
-// What an object's end finds: in first, next and up, and its value.
-pub(crate) type Found = (Was, Was, Was, u64);
-
-// The end of an object whose members are the last owners of none.
-pub(crate) fn end_of(domain: &Domain<u64>, desk: &mut Desk<u64>, ending: Ending<u64>) -> Found
-    requires domain { Belongs desk.old domain.now }
-    requires ends { EndsInHand desk.old ending }
-    ensures desk { IsSameDesk desk.old desk.new }
-    ensures bag { bag_of desk.new ≡ bag_of desk.old }
-    ensures held { desk.new.held ≡ desk.old.held }
-    ensures endings { KeepsOtherEndings desk.old ending.block.0 desk.new }
-{
-    let mut ending = ending;
-    let first = ending.clear_member(domain, desk, Member::First);
-    let next = ending.clear_member(domain, desk, Member::Next);
-    let up = ending.clear_member(domain, desk, Member::Up);
-    let value = ending.finish(domain, desk);
-    (told(first), told(next), told(up), value)
-}
-
-// An owner leaves.
-pub(crate) fn drop_owner(domain: &Domain<u64>, desk: &mut Desk<u64>, owner: Shared) -> Was
-    requires domain { Belongs desk.old domain.now }
-    requires held { HoldsHandle desk.old Owner owner.block owner.place }
-    ensures desk { IsSameDesk desk.old desk.new }
-    ensures bag { bag_of desk.new ≡ without_handle Owner owner.block owner.place (bag_of desk.old) }
-    ensures held { desk.new.held + 1 ≡ desk.old.held }
-{
-    match release(domain, desk, owner) {
-        Left::Empty => Was::Empty,
-        Left::Others => Was::Others,
-        Left::Last(ending) => {
-            end_of(domain, desk, ending);
-            Was::Last
+            let (_, _, _, value) = end_of(domain, desk, ending);
+            Some(value)
         }
     }
 }

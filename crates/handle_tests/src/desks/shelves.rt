@@ -3,11 +3,12 @@ ghost use Rattle.std.specs.Prelude.{◌≡◌, ◌+◌, ◌≤◌, length};
 ghost use Rattle.control_block.specs.Desks.{Belongs, IsSameDesk};
 
 use crate::desks::splits::{abandon, all_vacant, cut};
-use crate::parts::{drop_owner, shape};
+use crate::parts::{end, shape};
 use control_block::desk::Desk;
 use control_block::domain::{Domain, open};
 use control_word::Refused;
 use shared_handle::make;
+use std::alloc::Global;
 use std::sync::Wait;
 use std::test::Fail;
 use std::thread::{Threads, join_mut};
@@ -19,7 +20,7 @@ fn try_make(domain: &Domain<u64>, desk: &mut Desk<u64>) -> u8
 {
     match make(domain, desk, [0; 4], false, 7) {
         Ok(owner) => {
-            drop_owner(domain, desk, owner);
+            end(domain, desk, owner);
             0
         }
         Err(refused) => {
@@ -29,10 +30,12 @@ fn try_make(domain: &Domain<u64>, desk: &mut Desk<u64>) -> u8
     }
 }
 
-#[test]
-fn spare_blocks_go_to_the_shelf_and_come_back(rt: HostRuntime) -> Result<(), Fail> {
-    let alloc = rt.alloc();
-    let (domain, mut desk) = open::<u64>(alloc, shape(4, 4)).ok().ok_or("memory")?;
+// What calls on the shelf answer and leave in the store, what two makes answer between them, and whether all blocks are
+// vacant with three of them on the shelf.
+type Shelved = ([u32; 8], [u8; 2], Option<bool>);
+
+fn shelve_and_make(alloc: Global) -> Option<Shelved> {
+    let (domain, mut desk) = open::<u64>(alloc, shape(4, 4)).ok()?;
     let two = desk.shelve(&domain, 2);
     let half = desk.stock();
     let rest = desk.shelve(&domain, 9);
@@ -43,10 +46,15 @@ fn spare_blocks_go_to_the_shelf_and_come_back(rt: HostRuntime) -> Result<(), Fai
     let three = desk.unshelve(&domain, 9);
     let no_more = desk.unshelve(&domain, 1);
     let left = desk.shelve(&domain, 3);
-    let vacant = all_vacant(domain, desk);
-    assert_eq!(rt; [two, half, rest, none], [2, 2, 2, 0]);
-    assert_eq!(rt; [refused, answered], [3, 0]);
-    assert_eq!(rt; [one, three, no_more, left], [1, 3, 0, 3]);
+    let counts = [two, half, rest, none, one, three, no_more, left];
+    Some((counts, [refused, answered], all_vacant(domain, desk)))
+}
+
+#[test]
+fn spare_blocks_go_to_the_shelf_and_come_back(rt: HostRuntime) -> Result<(), Fail> {
+    let (counts, makes, vacant) = shelve_and_make(rt.alloc()).ok_or("memory")?;
+    assert_eq!(rt; counts, [2, 2, 2, 0, 1, 3, 0, 3]);
+    assert_eq!(rt; makes, [3, 0]);
     assert!(rt; vacant == Some(true));
     Ok(())
 }

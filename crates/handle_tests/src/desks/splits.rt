@@ -101,37 +101,52 @@ pub(crate) fn all_vacant(domain: Domain<u64>, desk: Desk<u64>) -> Option<bool>
     }
 }
 
-#[test]
-fn a_desk_is_cut_and_joined(rt: HostRuntime) -> Result<(), Fail> {
-    let alloc = rt.alloc();
-    let (domain, mut desk) = open::<u64>(alloc, shape(4, 8)).ok().ok_or("memory")?;
-    let Ok(child) = cut(&domain, &mut desk, alloc, 3, 1) else {
-        abandon(domain, desk);
-        return Err("memory".into());
-    };
-    let kept = numbers(&desk);
-    let given = numbers(&child);
-    let (domain, mut desk, why) = match close(domain, desk) {
+// A desk that isn't sole can't close its domain: both come back, with the number of the refusal.
+fn refused_close(domain: Domain<u64>, desk: Desk<u64>) -> Option<(Domain<u64>, Desk<u64>, u8)>
+    requires { Belongs desk domain }
+    ensures { IfSome result (λ r. (r.0 ≡ domain) × (r.1 ≡ desk)) }
+{
+    match close(domain, desk) {
         Ok(census) => {
             drop(census);
-            child.give_up();
-            return Err("closed".into());
+            None
         }
         Err(refused) => {
             let Refused {
                 why,
                 back: (domain, desk),
             } = refused;
-            (domain, desk, why.number())
+            Some((domain, desk, why.number()))
         }
+    }
+}
+
+// What a desk has that was cut, what the other has, and the first once they are joined.
+type Parts = [(u32, u32, u32); 3];
+
+// A desk is cut and joined: why it can't close its domain before that, and whether all blocks are vacant then.
+fn cut_and_join(alloc: Global) -> Option<(Parts, u8, Option<bool>)> {
+    let (domain, mut desk) = open::<u64>(alloc, shape(4, 8)).ok()?;
+    let Ok(child) = cut(&domain, &mut desk, alloc, 3, 1) else {
+        abandon(domain, desk);
+        return None;
+    };
+    let kept = numbers(&desk);
+    let given = numbers(&child);
+    let Some((domain, mut desk, why)) = refused_close(domain, desk) else {
+        child.give_up();
+        return None;
     };
     desk.join(&domain, child);
     let joined = numbers(&desk);
-    let vacant = all_vacant(domain, desk);
-    assert!(rt; kept == (5, 0, 3));
-    assert!(rt; given == (3, 0, 1));
+    Some(([kept, given, joined], why, all_vacant(domain, desk)))
+}
+
+#[test]
+fn a_desk_is_cut_and_joined(rt: HostRuntime) -> Result<(), Fail> {
+    let (parts, why, vacant) = cut_and_join(rt.alloc()).ok_or("no two desks")?;
+    assert!(rt; parts == [(5, 0, 3), (3, 0, 1), (8, 0, 4)]);
     assert_eq!(rt; why, 9);
-    assert!(rt; joined == (8, 0, 4));
     assert!(rt; vacant == Some(true));
     Ok(())
 }

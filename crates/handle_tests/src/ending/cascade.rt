@@ -1,9 +1,9 @@
 //! An object that ends within another's end, as the last owner of it was a member of that.
-ghost use Rattle.std.specs.Prelude.{◌≡◌, ◌+◌, IfSome, MatchOption, Some};
-ghost use Rattle.shared_handle.specs.Prelude.{Owner, Block, Belongs, IsSameDesk, bag_of, HoldsHandle, EndsInHand};
-ghost use Rattle.shared_handle.specs.Prelude.{with_handle, without_handle};
+ghost use Rattle.std.specs.Prelude.{◌≡◌, ◌+◌};
+ghost use Rattle.shared_handle.specs.Prelude.{Owner, Belongs, IsSameDesk, bag_of, HoldsHandle, EndsInHand};
+ghost use Rattle.shared_handle.specs.Prelude.{without_handle};
 
-use crate::parts::{Found, Was, drop_owner, end_of, shape, shut, told};
+use crate::parts::{Found, Was, end, end_of, shape, shut, told};
 use atomic_cells::{SharedAt, SharedMember};
 use control_block::desk::Desk;
 use control_block::domain::{Domain, open};
@@ -11,7 +11,7 @@ use shared_handle::{Ending, Left, Member, Shared, make, release};
 use std::test::Fail;
 
 // What two ends find: that within and that around it.
-type Both = (Found, Found);
+type Both = (Found<u64>, Found<u64>);
 
 // The end of an object whose first member is the last owner of another. That ends first, while this one has a member
 // left.
@@ -52,22 +52,6 @@ fn leave_both(domain: &Domain<u64>, desk: &mut Desk<u64>, owner: Shared) -> Opti
     }
 }
 
-// A new object, or none.
-fn object(domain: &Domain<u64>, desk: &mut Desk<u64>, field: u64) -> Option<Shared>
-    requires domain { Belongs desk.old domain.now }
-    ensures desk { IsSameDesk desk.old desk.new }
-    ensures real { IfSome result (λ h. (b : Block) × (h.block ≡ Some b)) }
-    ensures bag { MatchOption result (bag_of desk.new ≡ bag_of desk.old)
-        (λ h. bag_of desk.new ≡ with_handle Owner h.block h.place (bag_of desk.old)) }
-    ensures held { MatchOption result (desk.new.held ≡ desk.old.held) (λ _. desk.new.held ≡ desk.old.held + 1) }
-    ensures holds { IfSome result (λ h. HoldsHandle desk.new Owner h.block h.place) }
-{
-    match make(domain, desk, [field, 0, 0, 0], false, field) {
-        Ok(owner) => Some(owner),
-        Err(_) => None,
-    }
-}
-
 // An owner goes into a member of the whole: what the store found.
 #[tactic(auto, using(atomic_cells::proofs::Members::member_open))]
 fn put_in(
@@ -87,7 +71,7 @@ fn put_in(
     match SharedAt::member(whole, which) {
         Ok(at) => Some(told(at.store(domain, desk, owner))),
         Err(_) => {
-            drop_owner(domain, desk, owner);
+            end(domain, desk, owner);
             None
         }
     }
@@ -99,9 +83,11 @@ fn nest(domain: &Domain<u64>, desk: &mut Desk<u64>) -> Option<Both>
     requires domain { Belongs desk.old domain.now }
     ensures desk { IsSameDesk desk.old desk.new }
 {
-    let whole = object(domain, desk, 1)?;
-    let Some(part) = object(domain, desk, 2) else {
-        drop_owner(domain, desk, whole);
+    let Ok(whole) = make(domain, desk, [1, 0, 0, 0], false, 1) else {
+        return None;
+    };
+    let Ok(part) = make(domain, desk, [2, 0, 0, 0], false, 2) else {
+        end(domain, desk, whole);
         return None;
     };
     put_in(domain, desk, &whole, SharedMember::First, part);
@@ -114,8 +100,6 @@ fn an_object_ends_within_anothers_end(rt: HostRuntime) -> Result<(), Fail> {
     let seen = nest(&domain, &mut desk);
     let vacant = shut(domain, desk);
     let (inner, outer) = seen.ok_or("no two ends")?;
-    assert_eq!(rt; inner.3, 2);
-    assert_eq!(rt; outer.3, 1);
-    assert_eq!(rt; vacant, 2);
+    assert_eq!(rt; (inner.3, outer.3, vacant), (2, 1, 2));
     Ok(())
 }

@@ -1,9 +1,11 @@
 ghost use Rattle.std.specs.Prelude.{◌≡◌};
 ghost use Rattle.control_block.specs.Desks.{Belongs, IsSameDesk};
 
+use crate::ending::forgotten::dropped_with_census;
 use crate::parts::{end, shape, shut};
 use control_block::desk::Desk;
 use control_block::domain::{Domain, open};
+use control_word::Block;
 use shared_handle::make;
 use std::sync::atomic::{AtomicU64, Ordering};
 use std::test::Fail;
@@ -41,42 +43,35 @@ fn drop_by_finish<'a>(
 #[test]
 fn a_value_is_dropped_once(rt: HostRuntime) -> Result<(), Fail> {
     let drops = AtomicU64::new(0);
-    let opened = open::<Counted>(rt.alloc(), shape(2, 8));
-    let (domain, mut desk) = opened.ok().ok_or("memory")?;
+    let (domain, mut desk) = open::<Counted>(rt.alloc(), shape(2, 8))?;
     let before = drop_by_finish(&domain, &mut desk, &drops);
     let after = drops.load(Ordering::SeqCst);
     shut(domain, desk);
-    assert_eq!(rt; before, 0);
-    assert_eq!(rt; after, 1);
-    assert_eq!(rt; drops.load(Ordering::SeqCst), 1);
+    assert_eq!(rt; [before, after, drops.load(Ordering::SeqCst)], [0, 1, 1]);
     Ok(())
 }
 
-// Makes an object whose owner is never released.
+// Makes an object whose owner is never released: its block.
 fn leave_behind<'a>(
     domain: &Domain<Counted<'a>>,
     desk: &mut Desk<Counted<'a>>,
     drops: &'a AtomicU64,
-) -> bool
+) -> Option<Block>
     requires domain { Belongs desk.old domain.now }
     ensures desk { IsSameDesk desk.old desk.new }
 {
     match make(domain, desk, [0; 4], false, Counted { drops }) {
-        Ok(owner) => owner.into_parts().0.is_some(),
-        Err(_) => false,
+        Ok(owner) => owner.into_parts().0,
+        Err(_) => None,
     }
 }
 
 #[test]
 fn a_value_left_is_dropped_with_the_census(rt: HostRuntime) -> Result<(), Fail> {
     let drops = AtomicU64::new(0);
-    let opened = open::<Counted>(rt.alloc(), shape(2, 8));
-    let (domain, mut desk) = opened.ok().ok_or("memory")?;
-    let made = leave_behind(&domain, &mut desk, &drops);
-    let before = drops.load(Ordering::SeqCst);
-    shut(domain, desk);
-    assert!(rt; made);
-    assert_eq!(rt; before, 0);
-    assert_eq!(rt; drops.load(Ordering::SeqCst), 1);
+    let (domain, mut desk) = open::<Counted>(rt.alloc(), shape(2, 8))?;
+    let block = leave_behind(&domain, &mut desk, &drops);
+    let told = dropped_with_census(domain, desk, block, &drops);
+    assert_eq!(rt; told, Some([0, 1, 1, 1]));
     Ok(())
 }

@@ -10,7 +10,7 @@ use atomic_cells::SharedAt;
 use control_block::census::close;
 use control_block::desk::Desk;
 use control_block::domain::{Domain, open};
-use control_word::{Block, Counts, Refused};
+use control_word::{Block, Counts, Refused, Shape};
 use shared_handle::{Left, Shared, downgrade, make, release, share, use_count};
 use std::alloc::Global;
 use std::sync::atomic::{AtomicU64, Ordering};
@@ -26,10 +26,13 @@ pub(crate) fn counted<V: Drop + Send>(
 {
     match close(domain, desk) {
         Ok(census) => {
-            let told = block.map(|block| census.counts(block));
             let taken = census.blocks().saturating_sub(census.vacant());
+            let told = match block {
+                None => None,
+                Some(block) => Some((census.counts(block), taken)),
+            };
             drop(census);
-            Some((told?, taken))
+            told
         }
         Err(refused) => {
             let Refused {
@@ -40,6 +43,22 @@ pub(crate) fn counted<V: Drop + Send>(
             None
         }
     }
+}
+
+// The same, between how many values were dropped before and how many after it: the block's owners, and how many blocks
+// are taken.
+pub(crate) fn dropped_with_census<'a>(
+    domain: Domain<Counted<'a>>,
+    desk: Desk<Counted<'a>>,
+    block: Option<Block>,
+    drops: &'a AtomicU64,
+) -> Option<[u64; 4]>
+    requires { Belongs desk domain }
+{
+    let before = drops.load(Ordering::SeqCst);
+    let (counts, taken) = counted(domain, desk, block)?;
+    let after = drops.load(Ordering::SeqCst);
+    Some([before, u64::from(counts.owners), u64::from(taken), after])
 }
 
 // One more owner, which is forgotten.
@@ -62,6 +81,7 @@ fn forget_weak(domain: &Domain<u64>, desk: &mut Desk<u64>, owner: &Shared)
     requires domain { Belongs desk.old domain.now }
     requires holds { HoldsHandle desk.old Owner owner.now.block owner.now.place }
     ensures desk { IsSameDesk desk.old desk.new }
+    ensures holds { HoldsHandle desk.new Owner owner.now.block owner.now.place }
 {
     match downgrade(domain, desk, owner) {
         Ok(weak) => {
@@ -71,31 +91,53 @@ fn forget_weak(domain: &Domain<u64>, desk: &mut Desk<u64>, owner: &Shared)
     }
 }
 
-// Two owners and a weak handle of a new object, all forgotten: its block.
-fn forget_three(domain: &Domain<u64>, desk: &mut Desk<u64>) -> Option<Block>
+// So many owners of a new object and so many weak handles, all forgotten: its block, and how many owners it told of.
+fn forget_all(
+    domain: &Domain<u64>,
+    desk: &mut Desk<u64>,
+    owners: u32,
+    weaks: u32,
+) -> Option<(Option<Block>, u32)>
     requires domain { Belongs desk.old domain.now }
     ensures desk { IsSameDesk desk.old desk.new }
 {
     let Ok(owner) = make(domain, desk, [0; 4], false, 5) else {
         return None;
     };
-    forget_copy(domain, desk, &owner);
-    forget_weak(domain, desk, &owner);
-    owner.into_parts().0
+    for _ in 1..owners {
+        forget_copy(domain, desk, &owner);
+    }
+    for _ in 0..weaks {
+        forget_weak(domain, desk, &owner);
+    }
+    let told = use_count(domain, desk, &owner);
+    Some((owner.into_parts().0, told))
+}
+
+// What is told of so many handles that are forgotten: by a look, how many owners there are; by the desk, how many
+// handles it holds; by the census, how many owners, weak handles and taken blocks there are.
+fn told_of(alloc: Global, shape: Shape, owners: u32, weaks: u32) -> Option<[u32; 5]> {
+    let (domain, mut desk) = open::<u64>(alloc, shape).ok()?;
+    let Some((block, told)) = forget_all(&domain, &mut desk, owners, weaks) else {
+        abandon(domain, desk);
+        return None;
+    };
+    let held = desk.held();
+    let (counts, taken) = counted(domain, desk, block)?;
+    Some([told, held, counts.owners, counts.weaks, taken])
 }
 
 #[test]
 fn forgotten_handles_stand_in_the_census(rt: HostRuntime) -> Result<(), Fail> {
-    let (domain, mut desk) = open::<u64>(rt.alloc(), shape(2, 8))?;
-    let block = forget_three(&domain, &mut desk);
-    let held = desk.held();
-    let Some((counts, taken)) = counted(domain, desk, block) else {
-        return Err("no census".into());
-    };
-    assert_eq!(rt; held, 3);
-    assert_eq!(rt; counts.owners, 2);
-    assert_eq!(rt; counts.weaks, 1);
-    assert_eq!(rt; taken, 1);
+    let told = told_of(rt.alloc(), shape(2, 8), 2, 1);
+    assert_eq!(rt; told, Some([2, 3, 2, 1, 1]));
+    Ok(())
+}
+
+#[test]
+fn a_desk_holds_a_thousand_handles(rt: HostRuntime) -> Result<(), Fail> {
+    let told = told_of(rt.alloc(), shape(1, 4_194_304), 1_000, 0);
+    assert_eq!(rt; told, Some([1_000, 1_000, 1_000, 0, 1]));
     Ok(())
 }
 
@@ -154,44 +196,6 @@ fn a_cell_holds_an_object_beside_a_forgotten_owner(rt: HostRuntime) -> Result<()
     Ok(())
 }
 
-// So many owners of a new object, all forgotten: its block, and how many it told of.
-fn forget_many(
-    domain: &Domain<u64>,
-    desk: &mut Desk<u64>,
-    owners: u32,
-) -> Option<(Option<Block>, u32)>
-    requires domain { Belongs desk.old domain.now }
-    ensures desk { IsSameDesk desk.old desk.new }
-{
-    let Ok(owner) = make(domain, desk, [0; 4], false, 5) else {
-        return None;
-    };
-    for _ in 1..owners {
-        forget_copy(domain, desk, &owner);
-    }
-    let told = use_count(domain, desk, &owner);
-    Some((owner.into_parts().0, told))
-}
-
-#[test]
-fn a_desk_holds_a_thousand_handles(rt: HostRuntime) -> Result<(), Fail> {
-    let (domain, mut desk) = open::<u64>(rt.alloc(), shape(1, 4_194_304))?;
-    let Some((block, told)) = forget_many(&domain, &mut desk, 1_000) else {
-        abandon(domain, desk);
-        return Err("no object".into());
-    };
-    let held = desk.held();
-    let Some((counts, taken)) = counted(domain, desk, block) else {
-        return Err("no census".into());
-    };
-    assert_eq!(rt; told, 1_000);
-    assert_eq!(rt; held, 1_000);
-    assert_eq!(rt; counts.owners, 1_000);
-    assert_eq!(rt; counts.weaks, 0);
-    assert_eq!(rt; taken, 1);
-    Ok(())
-}
-
 // An object's last owner leaves, and its end is given up: the block.
 fn give_up_ending<'a>(
     domain: &Domain<Counted<'a>>,
@@ -215,13 +219,7 @@ fn a_value_of_an_unfinished_end_is_dropped_with_the_census(rt: HostRuntime) -> R
     let drops = AtomicU64::new(0);
     let (domain, mut desk) = open::<Counted>(rt.alloc(), shape(2, 8))?;
     let block = give_up_ending(&domain, &mut desk, &drops);
-    let before = drops.load(Ordering::SeqCst);
-    let Some((counts, taken)) = counted(domain, desk, block) else {
-        return Err("no census".into());
-    };
-    assert_eq!(rt; before, 0);
-    assert_eq!(rt; counts.owners, 0);
-    assert_eq!(rt; taken, 1);
-    assert_eq!(rt; drops.load(Ordering::SeqCst), 1);
+    let told = dropped_with_census(domain, desk, block, &drops);
+    assert_eq!(rt; told, Some([0, 0, 1, 1]));
     Ok(())
 }

@@ -5,7 +5,7 @@ ghost use Rattle.shared_handle.specs.Piles.{Carries};
 
 use crate::desks::splits::abandon;
 use crate::ending::drops::Counted;
-use crate::ending::forgotten::counted;
+use crate::ending::forgotten::dropped_with_census;
 use crate::parts::{Found, Was, end_of, shut};
 use crate::shapes::shape;
 use control_block::desk::Desk;
@@ -13,7 +13,7 @@ use control_block::domain::{Domain, open};
 use control_word::{Block, Refusal};
 use shared_handle::{Ending, Left, Pile, drop_shared, make, release};
 use std::alloc::Global;
-use std::sync::atomic::{AtomicU64, Ordering};
+use std::sync::atomic::AtomicU64;
 use std::test::Fail;
 
 // An object whose only owner leaves, so that its end is left to the pile: its block.
@@ -72,15 +72,9 @@ fn a_pile_gives_up_at_its_end_what_is_left(rt: HostRuntime) -> Result<(), Fail> 
         abandon(domain, desk);
         return Err("no pile".into());
     };
-    let before = drops.load(Ordering::SeqCst);
-    let Some((counts, taken)) = counted(domain, desk, block) else {
-        return Err("no census".into());
-    };
+    let told = dropped_with_census(domain, desk, block, &drops);
     assert_eq!(rt; left, 2);
-    assert_eq!(rt; before, 0);
-    assert_eq!(rt; counts.owners, 0);
-    assert_eq!(rt; taken, 2);
-    assert_eq!(rt; drops.load(Ordering::SeqCst), 2);
+    assert_eq!(rt; told, Some([0, 0, 2, 2]));
     Ok(())
 }
 
@@ -91,7 +85,7 @@ fn end_beside(
     desk: &mut Desk<u64>,
     pile: &mut Pile<u64>,
     ending: Ending<u64>,
-) -> Option<(Option<u64>, Found)>
+) -> Option<(Option<u64>, Found<u64>)>
     requires carries { Carries domain.now desk.old pile.old }
     requires empty { pile.old.endings.items ≡ [] }
     requires ends { EndsInHand desk.old ending }
@@ -111,7 +105,7 @@ fn end_two(
     alloc: Global,
     domain: &Domain<u64>,
     desk: &mut Desk<u64>,
-) -> Option<(Option<u64>, Found)>
+) -> Option<(Option<u64>, Found<u64>)>
     requires domain { Belongs desk.old domain.now }
     ensures desk { IsSameDesk desk.old desk.new }
 {
@@ -137,11 +131,7 @@ fn a_pile_leaves_alone_what_ends_in_hand(rt: HostRuntime) -> Result<(), Fail> {
     let (domain, mut desk) = open::<u64>(rt.alloc(), shape(2, 8))?;
     let seen = end_two(rt.alloc(), &domain, &mut desk);
     let vacant = shut(domain, desk);
-    let Some((by_pile, in_hand)) = seen else {
-        return Err("no pile".into());
-    };
-    assert_eq!(rt; by_pile, Some(2));
-    assert_eq!(rt; in_hand, (Was::Empty, Was::Empty, Was::Empty, 1));
+    assert!(rt; seen == Some((Some(2), (Was::Empty, Was::Empty, Was::Empty, 1))));
     assert_eq!(rt; vacant, 2);
     Ok(())
 }

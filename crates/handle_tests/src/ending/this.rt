@@ -2,7 +2,7 @@
 ghost use Rattle.std.specs.Prelude.{◌≡◌};
 ghost use Rattle.shared_handle.specs.Prelude.{Owner, Belongs, IsSameDesk, HoldsHandle, EndsInHand};
 
-use crate::parts::{bury, shape, shut};
+use crate::parts::{end_of, shape, shut};
 use control_block::desk::Desk;
 use control_block::domain::{Domain, open};
 use control_word::Refusal;
@@ -48,11 +48,11 @@ fn end_with_a_weak_handle(
     };
     let (fields, _, clear, why) = last_words(domain, desk, &ending);
     let Ok(weak) = ending.weak_from_this(domain, desk) else {
-        bury(domain, desk, ending);
+        end_of(domain, desk, ending);
         return None;
     };
     let expired = expired(domain, desk, &weak);
-    let value = bury(domain, desk, ending);
+    let (_, _, _, value) = end_of(domain, desk, ending);
     let before = desk.stock();
     release_weak(domain, desk, weak);
     Some((fields, clear, why, expired, value, before, desk.stock()))
@@ -74,13 +74,6 @@ fn an_enabled_object_gives_itself(rt: HostRuntime) -> Result<(), Fail> {
     let (domain, mut desk) = open::<u64>(rt.alloc(), shape(2, 8)).ok().ok_or("memory")?;
     let seen = live_and_end(&domain, &mut desk);
     shut(domain, desk);
-    let (fields, clear, why, expired, value, before, after) = seen.ok_or("no end")?;
-    assert_eq!(rt; fields, [1, 2, 3, 4]);
-    assert!(rt; !clear);
-    assert!(rt; why == Some(Refusal::BadWeak));
-    assert!(rt; expired);
-    assert_eq!(rt; value, 9);
-    assert_eq!(rt; before, 1);
-    assert_eq!(rt; after, 2);
+    assert!(rt; seen == Some(([1, 2, 3, 4], false, Some(Refusal::BadWeak), true, 9, 1, 2)));
     Ok(())
 }

@@ -1,31 +1,34 @@
 //! What tokens give, and how often a value is dropped.
 use control_word::Refusal;
-use slot_arena::Arena;
+use slot_arena::{Arena, Filled, Vacant};
 use std::sync::atomic::AtomicU64;
 use std::sync::atomic::Ordering::SeqCst;
 use std::test::Fail;
 
+// A value is filled in, seen, and changed where it lies.
+fn fill_and_change(vacant: Vacant<u64>) -> (Filled<u64>, u64) {
+    let mut filled = vacant.fill(7);
+    let first = *filled.get();
+    *filled.get_mut() = 8;
+    (filled, first)
+}
+
+// A value is taken out while another lies beside it, and a third goes into its cell: all three.
+fn take_beside(filled: Filled<u64>, other: Vacant<u64>) -> [u64; 3] {
+    let beside = other.fill(1);
+    let (vacant, value) = filled.take();
+    [value, *beside.get(), *vacant.fill(9).get()]
+}
+
 #[test]
 fn a_value_stays_in_its_cell_until_it_is_taken(rt: HostRuntime) -> Result<(), Fail> {
     let mut tokens = Arena::new(rt.alloc(), 2)?;
-    let Some(other) = tokens.pop() else {
+    let (Some(other), Some(vacant)) = (tokens.pop(), tokens.pop()) else {
         return Ok(());
     };
-    let Some(vacant) = tokens.pop() else {
-        return Ok(());
-    };
-    let mut filled = vacant.fill(7u64);
-    assert_eq!(rt; *filled.get(), 7);
-    *filled.get_mut() = 8;
-    let mut moved = Some(filled);
-    let beside = other.fill(1);
-    let Some(filled) = moved.take() else {
-        return Ok(());
-    };
-    let (vacant, value) = filled.take();
-    assert_eq!(rt; value, 8);
-    assert_eq!(rt; *beside.get(), 1);
-    assert_eq!(rt; *vacant.fill(9).get(), 9);
+    let (filled, first) = fill_and_change(vacant);
+    assert_eq!(rt; first, 7);
+    assert_eq!(rt; take_beside(filled, other), [8, 1, 9]);
     Ok(())
 }
 
@@ -41,23 +44,32 @@ impl Drop for Counted<'_> {
     }
 }
 
+// How many values were dropped before a cell's end, and after it.
+fn drop_in_cell<'a>(vacant: Vacant<Counted<'a>>, drops: &'a AtomicU64) -> [u64; 2] {
+    let filled = vacant.fill(Counted { drops });
+    let before = drops.load(SeqCst);
+    drop(filled);
+    [before, drops.load(SeqCst)]
+}
+
+// The same of a value that was taken out, and whose cell has ended.
+fn drop_taken<'a>(vacant: Vacant<Counted<'a>>, drops: &'a AtomicU64) -> [u64; 2] {
+    let (vacant, value) = vacant.fill(Counted { drops }).take();
+    drop(vacant);
+    let before = drops.load(SeqCst);
+    drop(value);
+    [before, drops.load(SeqCst)]
+}
+
 #[test]
 fn a_value_is_dropped_once(rt: HostRuntime) -> Result<(), Fail> {
     let drops = AtomicU64::new(0);
     let mut tokens = Arena::new(rt.alloc(), 2)?;
-    if let Some(vacant) = tokens.pop() {
-        let filled = vacant.fill(Counted { drops: &drops });
-        assert_eq!(rt; drops.load(SeqCst), 0);
-        drop(filled);
-    }
-    assert_eq!(rt; drops.load(SeqCst), 1);
-    if let Some(vacant) = tokens.pop() {
-        let (vacant, value) = vacant.fill(Counted { drops: &drops }).take();
-        drop(vacant);
-        assert_eq!(rt; drops.load(SeqCst), 1);
-        drop(value);
-    }
-    assert_eq!(rt; drops.load(SeqCst), 2);
+    let (Some(one), Some(other)) = (tokens.pop(), tokens.pop()) else {
+        return Ok(());
+    };
+    assert_eq!(rt; drop_in_cell(one, &drops), [0, 1]);
+    assert_eq!(rt; drop_taken(other, &drops), [1, 2]);
     Ok(())
 }
 

@@ -3,6 +3,7 @@ ghost use Rattle.std.specs.Prelude.{◌≡◌, ◌+◌, ◌≤◌, All};
 
 use control_word::Refusal;
 use ownership_ledger::{Book, Share, Totals};
+use std::alloc::Global;
 use std::test::Fail;
 use std::thread::{Threads, for_each_mut, join_mut};
 
@@ -35,9 +36,9 @@ fn add_in_threads(rt: &impl Threads, book: &Book, one: &mut Share, two: &mut Sha
     );
 }
 
-#[test]
-fn so_far_shows_what_joined_workers_added(rt: HostRuntime) -> Result<(), Fail> {
-    let (book, mut shares) = Book::open(rt.alloc(), 3)?;
+// Two of three workers add, and are joined: what the third one's share shows then, and what all gather to.
+fn gather_three(rt: &impl Threads, alloc: Global) -> Result<[Totals; 2], Refusal> {
+    let (book, mut shares) = Book::open(alloc, 3)?;
     let Some(mut one) = shares.pop() else {
         unreachable!()
     };
@@ -47,18 +48,21 @@ fn so_far_shows_what_joined_workers_added(rt: HostRuntime) -> Result<(), Fail> {
     let Some(mut three) = shares.pop() else {
         unreachable!()
     };
-    add_in_threads(&rt, &book, &mut one, &mut two);
+    add_in_threads(rt, &book, &mut one, &mut two);
     let shown = book.so_far(&mut three);
     shares.push_reserved(one);
     shares.push_reserved(two);
     shares.push_reserved(three);
-    let totals = book.gather(shares);
+    Ok([shown, book.gather(shares)])
+}
+
+#[test]
+fn so_far_shows_what_joined_workers_added(rt: HostRuntime) -> Result<(), Fail> {
     let want = Totals {
         made: 123,
         ended: 45,
     };
-    assert_eq!(rt; shown, want);
-    assert_eq!(rt; totals, want);
+    assert_eq!(rt; gather_three(&rt, rt.alloc())?, [want, want]);
     Ok(())
 }
 
@@ -79,49 +83,61 @@ fn add_each<R: Threads + Sync>(rt: &R, book: &Book, shares: &mut [Share])
     );
 }
 
+// Four workers add, and are joined: what their shares gather to.
+fn gather_four<R: Threads + Sync>(rt: &R, alloc: Global) -> Result<Totals, Refusal> {
+    let (book, mut shares) = Book::open(alloc, 4)?;
+    add_each(rt, &book, shares.as_mut_slice());
+    Ok(book.gather(shares))
+}
+
 #[test]
 fn four_threads_gather_to_their_sums(rt: HostRuntime) -> Result<(), Fail> {
-    let (book, mut shares) = Book::open(rt.alloc(), 4)?;
-    add_each(&rt, &book, shares.as_mut_slice());
-    let totals = book.gather(shares);
     let want = Totals {
         made: 30_000,
         ended: 10_000,
     };
-    assert_eq!(rt; totals, want);
+    assert_eq!(rt; gather_four(&rt, rt.alloc())?, want);
     Ok(())
+}
+
+// A book is opened for 16 workers, of whom none adds: how many shares there are, and what they gather to.
+fn open_and_gather(alloc: Global) -> Result<(usize, Totals), Refusal> {
+    let (book, shares) = Book::open(alloc, 16)?;
+    let count = shares.len();
+    Ok((count, book.gather(shares)))
 }
 
 // `rt try --test --fail-alloc N` refuses the Nth allocation, and an opening has three. Then it answers
 // `Memory`, and the next one is as if it had never been.
 #[test]
 fn a_refused_opening_leaves_nothing(rt: HostRuntime) -> Result<(), Fail> {
-    let (book, shares) = match Book::open(rt.alloc(), 16) {
-        Ok(opened) => opened,
+    let told = match open_and_gather(rt.alloc()) {
+        Ok(told) => told,
         Err(why) => {
             assert_eq!(rt; why, Refusal::Memory);
-            Book::open(rt.alloc(), 16)?
+            open_and_gather(rt.alloc())?
         }
     };
-    assert_eq!(rt; shares.len(), 16);
-    let totals = book.gather(shares);
-    assert_eq!(rt; totals, Totals { made: 0, ended: 0 });
+    assert_eq!(rt; told, (16, Totals { made: 0, ended: 0 }));
     Ok(())
 }
 
-// What is added and told takes no memory: `tests/refuse_allocations` compares with the opening alone.
-#[test]
-fn one_share_adds_and_is_gathered(rt: HostRuntime) -> Result<(), Fail> {
-    let (book, mut shares) = Book::open(rt.alloc(), 1)?;
+// A sole share adds: what it shows, and what it is gathered to.
+fn gather_one(alloc: Global) -> Result<[Totals; 2], Refusal> {
+    let (book, mut shares) = Book::open(alloc, 1)?;
     let Some(mut share) = shares.pop() else {
         unreachable!()
     };
     add(&book, &mut share, 3, 2);
     let shown = book.so_far(&mut share);
     shares.push_reserved(share);
-    let totals = book.gather(shares);
+    Ok([shown, book.gather(shares)])
+}
+
+// What is added and told takes no memory: `tests/refuse_allocations` compares with the opening alone.
+#[test]
+fn one_share_adds_and_is_gathered(rt: HostRuntime) -> Result<(), Fail> {
     let want = Totals { made: 3, ended: 2 };
-    assert_eq!(rt; shown, want);
-    assert_eq!(rt; totals, want);
+    assert_eq!(rt; gather_one(rt.alloc())?, [want, want]);
     Ok(())
 }

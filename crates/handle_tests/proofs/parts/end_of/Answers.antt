@@ -5,7 +5,7 @@ use Rattle.control_word.specs.declared.place.Block.{Block}
 use Rattle.handle_tests.proofs.parts.end_of.Goals as goal
 
 pub returns-clause-endings : goal.returns-clause-endings
-returns-clause-endings c =
+returns-clause-endings g c =
     let first = c.clear_member-first in let next = c.clear_member-next in let up = c.clear_member-up in let end = c.finish-value in
     let b = c.args.ending.block.0 in let d = c.args.desk.now in
     let one : first.new.self.block.0 ≡ b = ap (λ (x : Block). x.0) first.ensures.object.0 in

@@ -44,8 +44,8 @@ fn owning_none(place: Option<Place>) -> CellWord
 fn check_cell(rt: &impl Abort, cell: CellWord, word: u64)
     requires { IsCellWord cell }
 {
-    assert_eq!(rt; pack(cell), word);
-    assert_eq!(rt; unpack(pack(cell)), cell, "of {word}");
+    let packed = pack(cell);
+    assert_eq!(rt; (packed, unpack(packed)), (word, cell), "of {word}");
 }
 
 #[test]

@@ -14,9 +14,12 @@ fn counts_have_their_words(rt: HostRuntime) {
         number: 2,
         funds: 255,
     };
-    assert_eq!(rt; pack_count(full), 1_099_511_627_777);
-    assert_eq!(rt; pack_count(turned), 1_095_216_660_482);
-    assert_eq!(rt; with_fund_turned(pack_count(full)), pack_count(turned));
+    let word = pack_count(full);
+    let words = [word, pack_count(turned), with_fund_turned(word)];
+    assert_eq!(rt;
+        words,
+        [1_099_511_627_777, 1_095_216_660_482, 1_095_216_660_482]
+    );
     assert_eq!(rt; (ONE_FUND, FUND_TURNED), (4_294_967_296, 4_294_967_295));
 }
 
@@ -45,16 +48,20 @@ fn halves_change_alone_at_their_limits(rt: HostRuntime) {
         number: u32::MAX,
         funds: 7,
     });
-    assert_eq!(rt; with_handle(below), last);
-    assert_eq!(rt; without_handle(last), below);
     let paid = pack_count(Count {
         number: u32::MAX,
         funds: u32::MAX,
     });
-    assert_eq!(rt; with_funds(last, u32::MAX - 7), paid);
-    assert_eq!(rt; without_funds(paid, u32::MAX - 7), last);
-    assert_eq!(rt; with_fund_turned(below), last - ONE_FUND);
-    assert_eq!(rt; (with_funds(5, 0), without_funds(5, 0)), (5, 5));
+    let changed = [
+        with_handle(below),
+        without_handle(last),
+        with_funds(last, u32::MAX - 7),
+        without_funds(paid, u32::MAX - 7),
+        with_fund_turned(below),
+        with_funds(5, 0),
+        without_funds(5, 0),
+    ];
+    assert_eq!(rt; changed, [last, below, paid, last, last - ONE_FUND, 5, 5]);
 }
 
 #[test]
@@ -70,9 +77,8 @@ fn words_tell_the_last_and_the_count(rt: HostRuntime) {
         (4_325_630, false, true, 4_325_630),
         (u64::MAX, false, true, u32::MAX),
     ] {
-        assert_eq!(rt; is_last(word), last, "of {word}");
-        assert_eq!(rt; has_owner(word), owner, "of {word}");
-        assert_eq!(rt; told_count(word), told, "of {word}");
+        let shown = (is_last(word), has_owner(word), told_count(word));
+        assert_eq!(rt; shown, (last, owner, told), "of {word}");
     }
 }
 

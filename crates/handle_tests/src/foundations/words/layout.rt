@@ -10,25 +10,27 @@ use control_word::shape::{self, Shape};
 #[test]
 fn words_lie_where_the_layout_says(rt: HostRuntime) {
     let first = Block(1);
-    let words = [OWNERS, WEAKS, FLAGS, FIELDS, MEMBERS];
-    assert_eq!(rt; words, [0, 1, 2, 3, 7]);
-    assert_eq!(rt; [ENABLED, NULL, DOOR], [1, 2, 4]);
-    assert_eq!(rt; block_word(first, OWNERS), 0);
-    assert_eq!(rt; block_word(first, MEMBERS + 2), 9);
-    assert_eq!(rt; block_word(Block(2), WEAKS), 17);
-    assert_eq!(rt; block_word(Block(65_535), MEMBERS + 2), 1_048_553);
-    assert_eq!(rt; cell_word(65_535, 0), 1_048_560);
-    assert_eq!(rt; cell_word(4, 0), 64);
-    assert_eq!(rt; cell_word(4, 2), 80);
+    let of_blocks = [
+        block_word(first, OWNERS),
+        block_word(first, MEMBERS + 2),
+        block_word(Block(2), WEAKS),
+        block_word(Block(65_535), MEMBERS + 2),
+    ];
     let shape = Shape {
         blocks: 4,
         shared_cells: 1,
         weak_cells: 2,
         allowance: 8,
     };
-    // 16 for each block, 8 for each cell, and the shelf's
-    assert_eq!(rt; table_words(&shape), 88 + 1_024);
+    let of_cells = [cell_word(65_535, 0), cell_word(4, 0), cell_word(4, 2)];
+    let all = table_words(&shape);
     words_lie_apart();
+    assert_eq!(rt; [OWNERS, WEAKS, FLAGS, FIELDS, MEMBERS], [0, 1, 2, 3, 7]);
+    assert_eq!(rt; [ENABLED, NULL, DOOR], [1, 2, 4]);
+    assert_eq!(rt; of_blocks, [0, 9, 17, 1_048_553]);
+    assert_eq!(rt; of_cells, [1_048_560, 64, 80]);
+    // 16 for each block, 8 for each cell, and the shelf's
+    assert_eq!(rt; all, 88 + 1_024);
 }
 
 fn shape_of(blocks: u32, shared_cells: u32, weak_cells: u32, allowance: u32) -> Shape {

@@ -5,6 +5,12 @@ use control_word::refusal::{Refusal, Refused};
 use std::alloc::{AllocError, Global};
 use std::test::Fail;
 
+// The number of a refusal, and what it is called.
+fn message_of(alloc: Global, why: Refusal) -> Result<String, AllocError> {
+    let number = why.number();
+    format!(in alloc; "{number}: {why}")
+}
+
 #[test]
 fn refusals_have_numbers_and_words(rt: HostRuntime) -> Result<(), Fail> {
     for (why, shown) in [
@@ -22,8 +28,7 @@ fn refusals_have_numbers_and_words(rt: HostRuntime) -> Result<(), Fail> {
         (Refusal::Output, "12: output"),
         (Refusal::Input, "13: input"),
     ] {
-        let number = why.number();
-        let message = format!(in rt.alloc(); "{number}: {why}")?;
+        let message = message_of(rt.alloc(), why)?;
         assert_eq!(rt; message.as_str(), shown);
     }
     Ok(())
