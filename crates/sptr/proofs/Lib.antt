@@ -1,4 +1,5 @@
 pub mod Flushing
+pub mod Lines
 pub mod PlainLines
 pub mod Plainly
 pub mod Programs

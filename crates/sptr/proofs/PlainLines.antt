@@ -7,9 +7,8 @@ use Rattle.clap.specs.Words.{Text, fault_of}
 use Rattle.clap.specs.Lexer.{long_of, short_of}
 use Rattle.clap.specs.declared.error.kind.ErrorKind.TheVariants as kind
 use Rattle.clap.proofs.OnLiterals.{clap_on_literals}
-use Rattle.sptr.specs.CommandLine.{AsksFor, AsksPlainly, IsLine, check_line, command_named, convert_line, file_word}
-use Rattle.sptr.specs.CommandLine.{fine_line, left_line, names_file, program, run_line, step_line}
-use Rattle.sptr.specs.CommandLine.{dot_option, dot_words, draws_given, turns_file_option, turns_given, turns_option}
+use Rattle.sptr.specs.CommandLine.{AsksFor, AsksPlainly, IsLine, command_named, dot_option, dot_words, draws_given, file_word, left_line}
+use Rattle.sptr.specs.CommandLine.{names_file, option_rule, program, script_line, turns_given, turns_line}
 use Rattle.sptr.specs.declared.command.Asked.{Asked}
 use Rattle.sptr.specs.declared.command.Asked.TheVariants.{Check, Convert, Fine, Left, Run, Step}
 
@@ -18,84 +17,84 @@ IsFor command list words = (fault_of program words ≡ []) × (command_named wor
     × (names_file words ≡ false)
 
 check_alone : (name : Text) → IsFor (codes "check") [] (name ∷ codes "check" ∷ [])
-unfolding program check_line convert_line step_line fine_line run_line left_line file_word turns_option turns_file_option dot_option clap_on_literals
+unfolding program script_line turns_line left_line file_word option_rule dot_option clap_on_literals
 check_alone name = (refl, refl, refl, refl)
 
 convert_alone : (name : Text) → IsFor (codes "convert") [] (name ∷ codes "convert" ∷ [])
-unfolding program check_line convert_line step_line fine_line run_line left_line file_word turns_option turns_file_option dot_option clap_on_literals
+unfolding program script_line turns_line left_line file_word option_rule dot_option clap_on_literals
 convert_alone name = (refl, refl, refl, refl)
 
 run_alone : (name : Text) → IsFor (codes "run") [] (name ∷ codes "run" ∷ [])
-unfolding program check_line convert_line step_line fine_line run_line left_line file_word turns_option turns_file_option dot_option clap_on_literals
+unfolding program script_line turns_line left_line file_word option_rule dot_option clap_on_literals
 run_alone name = (refl, refl, refl, refl)
 
 step_alone : (name : Text) → IsFor (codes "step") [] (name ∷ codes "step" ∷ [])
-unfolding program check_line convert_line step_line fine_line run_line left_line file_word turns_option turns_file_option dot_option clap_on_literals
+unfolding program script_line turns_line left_line file_word option_rule dot_option clap_on_literals
 step_alone name = (refl, refl, refl, refl)
 
 step_joined : (name list : Text) → IsFor (codes "step") list (name ∷ codes "step" ∷ (codes "--turns=" ++ list) ∷ [])
-unfolding program check_line convert_line step_line fine_line run_line left_line file_word turns_option turns_file_option dot_option clap_on_literals
+unfolding program script_line turns_line left_line file_word option_rule dot_option clap_on_literals
 step_joined name list = (refl, refl, refl, refl)
 
 step_apart : (name list : Text) → bytes_eq list (45 ∷ 45 ∷ []) ≡ false → long_of list ≡ None → short_of list ≡ None
     → IsFor (codes "step") list (name ∷ codes "step" ∷ codes "--turns" ∷ list ∷ [])
-unfolding program check_line convert_line step_line fine_line run_line left_line file_word turns_option turns_file_option dot_option clap_on_literals
+unfolding program script_line turns_line left_line file_word option_rule dot_option clap_on_literals
 step_apart name list dashes long short = (rw (dashes, long, short) refl, refl, rw (dashes, long, short) refl, rw (dashes, long, short) refl)
 
 fine_alone : (name : Text) → IsFor (codes "fine") [] (name ∷ codes "fine" ∷ [])
-unfolding program check_line convert_line step_line fine_line run_line left_line file_word turns_option turns_file_option dot_option clap_on_literals
+unfolding program script_line turns_line left_line file_word option_rule dot_option clap_on_literals
 fine_alone name = (refl, refl, refl, refl)
 
 fine_joined : (name list : Text) → IsFor (codes "fine") list (name ∷ codes "fine" ∷ (codes "--turns=" ++ list) ∷ [])
-unfolding program check_line convert_line step_line fine_line run_line left_line file_word turns_option turns_file_option dot_option clap_on_literals
+unfolding program script_line turns_line left_line file_word option_rule dot_option clap_on_literals
 fine_joined name list = (refl, refl, refl, refl)
 
 fine_apart : (name list : Text) → bytes_eq list (45 ∷ 45 ∷ []) ≡ false → long_of list ≡ None → short_of list ≡ None
     → IsFor (codes "fine") list (name ∷ codes "fine" ∷ codes "--turns" ∷ list ∷ [])
-unfolding program check_line convert_line step_line fine_line run_line left_line file_word turns_option turns_file_option dot_option clap_on_literals
+unfolding program script_line turns_line left_line file_word option_rule dot_option clap_on_literals
 fine_apart name list dashes long short = (rw (dashes, long, short) refl, refl, rw (dashes, long, short) refl, rw (dashes, long, short) refl)
 
 abbrev IsForLeft : Bool → Text → List Text → Type 0
 IsForLeft draws list words = IsFor (codes "left") list words × (draws_given words ≡ draws)
 
 left_alone : (name : Text) → IsForLeft false [] (name ∷ codes "left" ∷ [])
-unfolding program check_line convert_line step_line fine_line run_line left_line file_word turns_option turns_file_option dot_option clap_on_literals
+unfolding program script_line turns_line left_line file_word option_rule dot_option clap_on_literals
 left_alone name = ((refl, refl, refl, refl), refl)
 
 left_joined : (name list : Text) → IsForLeft false list (name ∷ codes "left" ∷ (codes "--turns=" ++ list) ∷ [])
-unfolding program check_line convert_line step_line fine_line run_line left_line file_word turns_option turns_file_option dot_option clap_on_literals
+unfolding program script_line turns_line left_line file_word option_rule dot_option clap_on_literals
 left_joined name list = ((refl, refl, refl, refl), refl)
 
 left_apart : (name list : Text) → bytes_eq list (45 ∷ 45 ∷ []) ≡ false → long_of list ≡ None → short_of list ≡ None
     → IsForLeft false list (name ∷ codes "left" ∷ codes "--turns" ∷ list ∷ [])
-unfolding program check_line convert_line step_line fine_line run_line left_line file_word turns_option turns_file_option dot_option clap_on_literals
+unfolding program script_line turns_line left_line file_word option_rule dot_option clap_on_literals
 left_apart name list dashes long short =
     ((rw (dashes, long, short) refl, refl, rw (dashes, long, short) refl, rw (dashes, long, short) refl), rw (dashes, long, short) refl)
 
 drawn_alone : (name : Text) → IsForLeft true [] (name ∷ codes "left" ∷ codes "--dot" ∷ [])
-unfolding program check_line convert_line step_line fine_line run_line left_line file_word turns_option turns_file_option dot_option clap_on_literals
+unfolding program script_line turns_line left_line file_word option_rule dot_option clap_on_literals
 drawn_alone name = ((refl, refl, refl, refl), refl)
 
 drawn_joined : (name list : Text) → IsForLeft true list (name ∷ codes "left" ∷ codes "--dot" ∷ (codes "--turns=" ++ list) ∷ [])
-unfolding program check_line convert_line step_line fine_line run_line left_line file_word turns_option turns_file_option dot_option clap_on_literals
+unfolding program script_line turns_line left_line file_word option_rule dot_option clap_on_literals
 drawn_joined name list = ((refl, refl, refl, refl), refl)
 
 drawn_apart : (name list : Text) → bytes_eq list (45 ∷ 45 ∷ []) ≡ false → long_of list ≡ None → short_of list ≡ None
     → IsForLeft true list (name ∷ codes "left" ∷ codes "--dot" ∷ codes "--turns" ∷ list ∷ [])
-unfolding program check_line convert_line step_line fine_line run_line left_line file_word turns_option turns_file_option dot_option clap_on_literals
+unfolding program script_line turns_line left_line file_word option_rule dot_option clap_on_literals
 drawn_apart name list dashes long short =
     ((rw (dashes, long, short) refl, refl, rw (dashes, long, short) refl, rw (dashes, long, short) refl), rw (dashes, long, short) refl)
 
 pub help_asked : (name : Text) → fault_of program (name ∷ codes "--help" ∷ []) ≡ kind.DisplayHelp ∷ []
-unfolding program check_line convert_line step_line fine_line run_line left_line file_word turns_option turns_file_option dot_option clap_on_literals
+unfolding program script_line turns_line left_line file_word option_rule dot_option clap_on_literals
 help_asked name = refl
 
 pub version_asked : (name : Text) → fault_of program (name ∷ codes "--version" ∷ []) ≡ kind.DisplayVersion ∷ []
-unfolding program check_line convert_line step_line fine_line run_line left_line file_word turns_option turns_file_option dot_option clap_on_literals
+unfolding program script_line turns_line left_line file_word option_rule dot_option clap_on_literals
 version_asked name = refl
 
 pub no_command : (name : Text) → fault_of program (name ∷ []) ≡ kind.MissingSubcommand ∷ []
-unfolding program check_line convert_line step_line fine_line run_line left_line file_word turns_option turns_file_option dot_option clap_on_literals
+unfolding program script_line turns_line left_line file_word option_rule dot_option clap_on_literals
 no_command name = refl
 
 no_dashes : (list : Text) → slice_get list 0 ≢ Some 45 → (bytes_eq list (45 ∷ 45 ∷ []) ≡ false) × (long_of list ≡ None)

@@ -14,15 +14,15 @@ use Rattle.clap.specs.declared.parser.matches.ArgMatches.TheViews.{out-ArgMatche
 use Rattle.clap.specs.declared.parser.matches.SubCommand.{SubCommand}
 use Rattle.clap.proofs.OnLiterals.{clap_on_literals}
 use Rattle.sptr.proofs.Walks.{enters_own}
-use Rattle.sptr.specs.CommandLine.{check_line, command_named, convert_line, file_word, fine_line, left_line, program, run_line, step_line, turns_file_option}
-use Rattle.sptr.specs.CommandLine.{count_in, dot_option, draws_given, turns_given, turns_option}
+use Rattle.sptr.specs.CommandLine.{command_named, count_in, dot_option, draws_given, file_word, left_line, option_rule, program, script_line}
+use Rattle.sptr.specs.CommandLine.{turns_given, turns_line}
 
 pub program_is_simple : is_simple program ≡ true
-unfolding program check_line convert_line step_line fine_line run_line left_line file_word turns_option turns_file_option dot_option clap_on_literals
+unfolding program script_line turns_line left_line file_word option_rule dot_option clap_on_literals
 program_is_simple = refl
 
 pub program_is_free : is_simple_and_free program ≡ true
-unfolding program check_line convert_line step_line fine_line run_line left_line file_word turns_option turns_file_option dot_option clap_on_literals
+unfolding program script_line turns_line left_line file_word option_rule dot_option clap_on_literals
 program_is_free = refl
 
 abbrev built_line : Shape → Shape
@@ -33,11 +33,11 @@ one_of_all : (words : List Text) → fault_of program words ≡ []
     → (command_named words ≡ Some (codes "check")) ⊎ ((command_named words ≡ Some (codes "convert"))
     ⊎ ((command_named words ≡ Some (codes "step")) ⊎ ((command_named words ≡ Some (codes "fine"))
     ⊎ ((command_named words ≡ Some (codes "run")) ⊎ (command_named words ≡ Some (codes "left"))))))
-unfolding program check_line convert_line step_line fine_line run_line left_line
+unfolding program script_line turns_line left_line
 one_of_all words e =
     let found = enters_own (built program) (argument_words program words)
-    (built_line check_line ∷ built_line convert_line ∷ built_line step_line ∷ built_line fine_line ∷ built_line run_line
-    ∷ built_line left_line ∷ [])
+    (built_line (script_line (codes "check")) ∷ built_line (script_line (codes "convert")) ∷ built_line (turns_line (codes "step"))
+    ∷ built_line (turns_line (codes "fine")) ∷ built_line (script_line (codes "run")) ∷ built_line left_line ∷ [])
     (built_leaf help_shape) refl refl refl refl refl e in
     elim found.2 [
       | inl is ↦ inl (found.1 ∙ ap Some is)

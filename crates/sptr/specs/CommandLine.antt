@@ -2,8 +2,12 @@
 -- is own.
 use Rattle.std.specs.Prelude.{◌≡◌, ◌≢◌, ◌⊎◌, ◌||◌, ℕ, Bool, true, false, cond, nat_lt, List, []}
 use Rattle.std.specs.Prelude.{◌∷◌, ◌++◌, slice_get, Option, Some, None, option_map, option_and_then}
-use Rattle.std.specs.Prelude.{unwrap_or, is_some, codes}
-use Rattle.clap.specs.Words.{App, Row, Rule, Shape, Text, count_of, first_of, new_rule, subcommand_of}
+use Rattle.std.specs.Prelude.{unwrap_or, is_some, codes, IfOk, Result}
+use Rattle.clap.specs.Words.{App, Row, Rule, Shape, Text, app_of, count_of, first_of, new_rule, shape_of, subcommand_of}
+use Rattle.clap.specs.Words.{with_subcommand}
+use Rattle.clap.specs.declared.builder.command.Command.{Command}
+use Rattle.clap.specs.declared.builder.command.Command.TheViews.{out-Command}
+use Rattle.std.specs.declared.alloc.AllocError.{AllocError}
 use Rattle.clap.specs.declared.builder.action.ArgAction.TheVariants.{Count}
 use Rattle.clap.specs.Simple.{new_shape}
 use Rattle.sptr.specs.declared.command.Asked.{Asked}
@@ -14,49 +18,50 @@ use Rattle.sptr.specs.declared.command.Asked.TheVariants.{Check, Convert, Fine, 
 unfoldable pub file_word : Rule
 file_word = record (new_rule (codes "file")) { value_names = 1 }
 
--- `--turns LIST`
-unfoldable pub turns_option : Rule
-turns_option = record (new_rule (codes "turns")) { long = Some (codes "turns"); value_names = 1 }
-
--- `--turns-file FILE`
-unfoldable pub turns_file_option : Rule
-turns_file_option = record (new_rule (codes "turns-file")) { long = Some (codes "turns-file"); value_names = 1 }
+-- `--NAME VALUE`
+unfoldable pub option_rule : Text → Rule
+option_rule name = record (new_rule name) { long = Some name; value_names = 1 }
 
 -- `--dot`
 unfoldable pub dot_option : Rule
 dot_option = record (new_rule (codes "dot")) { long = Some (codes "dot"); action = Some Count }
 
--- `check`, which takes a script
-unfoldable pub check_line : Shape
-check_line = record (new_shape (codes "check")) { rules = file_word ∷ [] }
+-- a command that takes a script
+unfoldable pub script_line : Text → Shape
+script_line name = record (new_shape name) { rules = file_word ∷ [] }
 
--- `convert`, which takes a script
-unfoldable pub convert_line : Shape
-convert_line = record (new_shape (codes "convert")) { rules = file_word ∷ [] }
+-- one that takes a list of turns too
+unfoldable pub turns_line : Text → Shape
+turns_line name = record (new_shape name) {
+  rules = file_word ∷ option_rule (codes "turns") ∷ option_rule (codes "turns-file") ∷ [];
+}
 
--- `step`, which takes a script and a list of turns
-unfoldable pub step_line : Shape
-step_line = record (new_shape (codes "step")) { rules = file_word ∷ turns_option ∷ turns_file_option ∷ [] }
-
--- `fine`, which takes a script and a list of turns
-unfoldable pub fine_line : Shape
-fine_line = record (new_shape (codes "fine")) { rules = file_word ∷ turns_option ∷ turns_file_option ∷ [] }
-
--- `run`, which takes a script
-unfoldable pub run_line : Shape
-run_line = record (new_shape (codes "run")) { rules = file_word ∷ [] }
-
--- `left`, which takes a script, a list of turns and how to tell it
+-- `left`, which also takes how to tell it
 unfoldable pub left_line : Shape
-left_line =
-    record (new_shape (codes "left")) { rules = file_word ∷ turns_option ∷ turns_file_option ∷ dot_option ∷ [] }
+left_line = record (new_shape (codes "left")) {
+  rules = file_word ∷ option_rule (codes "turns") ∷ option_rule (codes "turns-file") ∷ dot_option ∷ [];
+}
+
+-- the program's name
+unfoldable pub bare : App
+bare = record {
+  top = record (new_shape (codes "sptr")) { subcommand_required = true; has_version = true };
+  subs = [];
+}
 
 -- the program's name, and then one of the six
 unfoldable pub program : App
 program = record {
   top = record (new_shape (codes "sptr")) { is_leaf = false; subcommand_required = true; has_version = true };
-  subs = check_line ∷ convert_line ∷ step_line ∷ fine_line ∷ run_line ∷ left_line ∷ [];
+  subs = script_line (codes "check") ∷ script_line (codes "convert") ∷ turns_line (codes "step")
+      ∷ turns_line (codes "fine") ∷ script_line (codes "run") ∷ left_line ∷ [];
 }
+
+-- `new` is `old` with this command too, the last
+abbrev pub AddsCommand : Result Command AllocError → Result Command AllocError → Command → Type 0
+AddsCommand old command new = (app : App) (line : Shape) → IfOk old (λ c. app_of c ≡ app)
+    → IfOk command (λ c. shape_of c ≡ line)
+    → IfOk command (λ c. (out-Command c).has_globals ≡ false) → app_of new ≡ with_subcommand app line
 
 -- the command that the words name
 abbrev pub command_named : List Text → Option Text

@@ -1,13 +1,12 @@
 //! The command line, as `clap` reads it.
 
-ghost use Rattle.std.specs.Prelude.{◌≡◌, IfOk, [], codes, false, is_some, map, nat_lt, unwrap_or};
+ghost use Rattle.std.specs.Prelude.{◌≡◌, IfOk, List, [], codes, false, is_some, map, nat_lt, unwrap_or};
 ghost use Rattle.clap.specs.Words.{FailsBy, app_of, count_of, fault_of, first_of, found_of, rows_of, rule_of, shape_of};
-ghost use Rattle.clap.specs.Words.{subcommand_rows_of, subcommand_of};
+ghost use Rattle.clap.specs.Words.{Text, subcommand_rows_of, subcommand_of};
 ghost use Rattle.clap.specs.declared.builder.command.Command.TheViews.{out-Command};
-ghost use Rattle.sptr.specs.CommandLine.{AsksFor, check_line, convert_line, fine_line, left_line, program, run_line};
-ghost use Rattle.sptr.specs.CommandLine.{step_line};
-ghost use Rattle.sptr.specs.CommandLine.{dot_option, file_word, turns_option, turns_file_option, has_files, names_file};
-ghost use Rattle.sptr.specs.CommandLine.{names_file_in};
+ghost use Rattle.sptr.specs.CommandLine.{AddsCommand, AsksFor, bare, dot_option, file_word, has_files};
+ghost use Rattle.sptr.specs.CommandLine.{left_line, names_file, names_file_in, option_rule, program, script_line};
+ghost use Rattle.sptr.specs.CommandLine.{turns_line};
 
 use clap::{Arg, ArgAction, ArgMatches, Command, Error};
 use std::alloc::{AllocError, Global};
@@ -56,24 +55,15 @@ fn file_argument<'a>(alloc: Global) -> Arg<'a>
         .help("The script; where none is named, standard input")
 }
 
-fn turns_argument<'a>(alloc: Global) -> Arg<'a>
-    ensures rule { rule_of result ≡ turns_option }
+/// `--NAME VALUE`.
+fn option<'a>(alloc: Global, name: &'a str, value: &'a str, help: &'a str) -> Arg<'a>
+    ensures rule { rule_of result ≡ option_rule name.entry.now }
     ensures local { result.global ≡ false }
 {
-    Arg::new(alloc, "turns")
-        .long("turns")
-        .value_name("LIST")
-        .help("Threads, by their numbers, in the order of their turns")
-}
-
-fn turns_file_argument<'a>(alloc: Global) -> Arg<'a>
-    ensures rule { rule_of result ≡ turns_file_option }
-    ensures local { result.global ≡ false }
-{
-    Arg::new(alloc, "turns-file")
-        .long("turns-file")
-        .value_name("FILE")
-        .help("A file with the list of turns, in place of --turns")
+    Arg::new(alloc, name)
+        .long(name)
+        .value_name(value)
+        .help(help)
 }
 
 fn dot_argument<'a>(alloc: Global) -> Arg<'a>
@@ -86,86 +76,83 @@ fn dot_argument<'a>(alloc: Global) -> Arg<'a>
         .help("As a graph for Graphviz")
 }
 
-fn check_command<'a>(alloc: Global) -> Result<Command<'a>, AllocError>
-    ensures shape { IfOk result (λ c. shape_of c ≡ check_line) }
+/// A command that takes a script.
+fn script_command<'a>(
+    alloc: Global,
+    name: &'a str,
+    about: &'a str,
+) -> Result<Command<'a>, AllocError>
+    ensures shape { IfOk result (λ c. shape_of c ≡ script_line name.entry.now) }
     ensures local { IfOk result (λ c. (out-Command c).has_globals ≡ false) }
 {
-    Command::new(alloc, "check")
-        .about("Reads a script, and says how many threads and statements it has")
+    Command::new(alloc, name)
+        .about(about)
         .arg(file_argument(alloc))
 }
 
-fn convert_command<'a>(alloc: Global) -> Result<Command<'a>, AllocError>
-    ensures shape { IfOk result (λ c. shape_of c ≡ convert_line) }
+/// A command that takes a script and a list of turns.
+fn turns_command<'a>(
+    alloc: Global,
+    name: &'a str,
+    about: &'a str,
+) -> Result<Command<'a>, AllocError>
+    ensures shape { IfOk result (λ c. shape_of c ≡ turns_line name.entry.now) }
     ensures local { IfOk result (λ c. (out-Command c).has_globals ≡ false) }
 {
-    Command::new(alloc, "convert")
-        .about("Reads a script, and writes the same in version 2, in canonical form")
-        .arg(file_argument(alloc))
-}
-
-fn step_command<'a>(alloc: Global) -> Result<Command<'a>, AllocError>
-    ensures shape { IfOk result (λ c. shape_of c ≡ step_line) }
-    ensures local { IfOk result (λ c. (out-Command c).has_globals ≡ false) }
-{
-    Command::new(alloc, "step")
-        .about("Runs a script act by act")
-        .arg(file_argument(alloc))?
-        .arg(turns_argument(alloc))?
-        .arg(turns_file_argument(alloc))
-}
-
-fn fine_command<'a>(alloc: Global) -> Result<Command<'a>, AllocError>
-    ensures shape { IfOk result (λ c. shape_of c ≡ fine_line) }
-    ensures local { IfOk result (λ c. (out-Command c).has_globals ≡ false) }
-{
-    Command::new(alloc, "fine")
-        .about("Runs a script by single atomic steps")
-        .arg(file_argument(alloc))?
-        .arg(turns_argument(alloc))?
-        .arg(turns_file_argument(alloc))
-}
-
-fn run_command<'a>(alloc: Global) -> Result<Command<'a>, AllocError>
-    ensures shape { IfOk result (λ c. shape_of c ≡ run_line) }
-    ensures local { IfOk result (λ c. (out-Command c).has_globals ≡ false) }
-{
-    Command::new(alloc, "run")
-        .about("Runs a script on real workers, one a thread")
-        .arg(file_argument(alloc))
+    let turns = "Threads, by their numbers, in the order of their turns";
+    let file = "A file with the list of turns, in place of --turns";
+    script_command(alloc, name, about)?
+        .arg(option(alloc, "turns", "LIST", turns))?
+        .arg(option(alloc, "turns-file", "FILE", file))
 }
 
 fn left_command<'a>(alloc: Global) -> Result<Command<'a>, AllocError>
     ensures shape { IfOk result (λ c. shape_of c ≡ left_line) }
     ensures local { IfOk result (λ c. (out-Command c).has_globals ≡ false) }
 {
-    Command::new(alloc, "left")
-        .about("Runs a script act by act, and tells what is left and who holds it")
-        .arg(file_argument(alloc))?
-        .arg(turns_argument(alloc))?
-        .arg(turns_file_argument(alloc))?
-        .arg(dot_argument(alloc))
+    let about = "Runs a script act by act, and tells what is left and who holds it";
+    turns_command(alloc, "left", about)?.arg(dot_argument(alloc))
+}
+
+/// The program with this command too.
+fn with_command<'a>(
+    program: Result<Command<'a>, AllocError>,
+    command: Result<Command<'a>, AllocError>,
+) -> Result<Command<'a>, AllocError>
+    ensures { IfOk result (λ r. AddsCommand program.entry command.entry r) }
+{
+    program?.subcommand(command?)
+}
+
+/// The program with no command yet.
+fn bare_program<'a>(alloc: Global) -> Command<'a>
+    ensures { app_of result ≡ bare }
+{
+    Command::new(alloc, "sptr")
+        .about("Runs scripts of shared and weak pointers")
+        .version(VERSION)
+        .subcommand_required(true)
 }
 
 fn command<'a>(alloc: Global) -> Result<Command<'a>, AllocError>
     ensures { IfOk result (λ c. app_of c ≡ program) }
 {
-    let check = check_command(alloc)?;
-    let convert = convert_command(alloc)?;
-    let step = step_command(alloc)?;
-    let fine = fine_command(alloc)?;
-    let run = run_command(alloc)?;
-    let left = left_command(alloc)?;
-    Command::new(alloc, "sptr")
-        .about("Runs scripts of shared and weak pointers")
-        .version(VERSION)
-        .subcommand_required(true)
-        .subcommand(check)?
-        .subcommand(convert)?
-        .subcommand(step)?
-        .subcommand(fine)?
-        .subcommand(run)?
-        .subcommand(left)
+    let check = "Reads a script, and says how many threads and statements it has";
+    let program = with_command(
+        Ok(bare_program(alloc)),
+        script_command(alloc, "check", check),
+    );
+    let convert = "Reads a script, and writes the same in version 2, in canonical form";
+    let program = with_command(program, script_command(alloc, "convert", convert));
+    let program = with_command(
+        program,
+        turns_command(alloc, "step", "Runs a script act by act"),
+    );
+    let fine = "Runs a script by single atomic steps";
+    let program = with_command(program, turns_command(alloc, "fine", fine));
+    let run = "Runs a script on real workers, one a thread";
+    let program = with_command(program, script_command(alloc, "run", run));
+    with_command(program, left_command(alloc))
 }
 
 fn matches_of<'a, S: AsStr>(alloc: Global, words: &'a [S]) -> Result<ArgMatches<'a>, Error>
@@ -213,6 +200,28 @@ fn files_of<'a>(matches: &ArgMatches<'a>) -> Files<'a>
     }
 }
 
+/// What a command was given to do. Where it is none of the others, it is `check`.
+fn asked_by<'a>(matches: &ArgMatches<'a>) -> Asked<'a>
+    ensures { (words : List Text) → subcommand_rows_of matches.now ≡ subcommand_of program words
+        → fault_of program words ≡ [] → AsksFor words result }
+{
+    match matches.subcommand() {
+        Some(("step", inner)) => Asked::Step {
+            turns: turns_of(inner),
+        },
+        Some(("fine", inner)) => Asked::Fine {
+            turns: turns_of(inner),
+        },
+        Some(("left", inner)) => Asked::Left {
+            turns: turns_of(inner),
+            draws: is_drawn(inner),
+        },
+        Some(("convert", _)) => Asked::Convert,
+        Some(("run", _)) => Asked::Run,
+        _ => Asked::Check,
+    }
+}
+
 /// What the words of a command line ask for.
 pub(crate) fn asked_of<'a, S: AsStr>(alloc: Global, words: &'a [S]) -> Result<Line<'a>, Error>
     ensures asks { IfOk result (λ line. AsksFor (map S.text words.entry.now) line.asked) }
@@ -220,38 +229,8 @@ pub(crate) fn asked_of<'a, S: AsStr>(alloc: Global, words: &'a [S]) -> Result<Li
     ensures kinds { FailsBy (fault_of program (map S.text words.entry.now)) result }
 {
     let matches = matches_of(alloc, words)?;
-    let files = files_of(&matches);
-    match matches.subcommand() {
-        Some(("step", inner)) => Ok(Line {
-            asked: Asked::Step {
-                turns: turns_of(inner),
-            },
-            files,
-        }),
-        Some(("fine", inner)) => Ok(Line {
-            asked: Asked::Fine {
-                turns: turns_of(inner),
-            },
-            files,
-        }),
-        Some(("left", inner)) => Ok(Line {
-            asked: Asked::Left {
-                turns: turns_of(inner),
-                draws: is_drawn(inner),
-            },
-            files,
-        }),
-        Some(("convert", _)) => Ok(Line {
-            asked: Asked::Convert,
-            files,
-        }),
-        Some(("run", _)) => Ok(Line {
-            asked: Asked::Run,
-            files,
-        }),
-        _ => Ok(Line {
-            asked: Asked::Check,
-            files,
-        }),
-    }
+    Ok(Line {
+        asked: asked_by(&matches),
+        files: files_of(&matches),
+    })
 }

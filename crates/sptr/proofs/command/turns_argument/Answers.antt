@@ -1,7 +1,0 @@
-use Rattle.std.proofs.Common.{rules}
-use Rattle.sptr.specs.CommandLine.{turns_option}
-use Rattle.sptr.proofs.command.turns_argument.Goals as goal
-
-pub returns-clause-rule : goal.returns-clause-rule
-unfolding turns_option
-returns-clause-rule c = search rules
