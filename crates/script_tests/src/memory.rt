@@ -1,14 +1,16 @@
 //! Growths that are refused. `tests/refuse_allocations` runs these with each allocation refused in turn, and compares
 //! how many a chain's end takes with a test that only makes its world.
+ghost use Rattle.std.specs.Prelude.{◌≡◌, false};
+ghost use Rattle.script_stepper.specs.Runs.{is_output};
+
 use crate::machine::worlds::TestWorld;
-use control_word::{Refusal, Shape};
+use control_word::{Block, Place, Refusal};
 use script_stepper::{Output, Sink, fine_text, step_text, write_lines};
-use script_text::{Fault, convert, parse, print};
+use script_text::{Fault, Script, convert, parse, print};
 use std::alloc::{AllocError, Global};
+use std::process::Abort;
 use std::test::Fail;
-use step_core::{
-    Actor, Answer, Call, CellName, Kind, Name, Program, RunRefusal, Said, Turned, World,
-};
+use step_core::{Answer, Call, CellName, Ended, Name, Program, RunRefusal, Said, Turned};
 
 const A: Name = Name(0);
 
@@ -67,84 +69,116 @@ fn a_chain_of_all_blocks_ends(rt: HostRuntime) -> Result<(), Fail> {
 /// A refused run changes nothing: the next one makes all its steps.
 #[test]
 fn a_refused_run_leaves_its_world(rt: HostRuntime) -> Result<(), Fail> {
-    let alloc = rt.alloc();
-    let calls = vec![in alloc; make(A, 1), Call::Count { name: A }]?;
-    let kinds = vec![in alloc; Kind::Owner]?;
-    let actors = vec![in alloc; Actor { kinds, calls }]?;
-    let shape = Shape {
-        blocks: 1,
-        shared_cells: 0,
-        weak_cells: 0,
-        allowance: 40,
-    };
-    let mut world = match World::new(alloc, shape, Program { actors }) {
-        Ok(world) => world,
-        Err(_) => return Err(AllocError.into()),
-    };
-    if let Err(why) = world.run(alloc, &[1, 1]) {
+    let calls = [make(A, 1), Call::Count { name: A }];
+    let mut world = TestWorld::new(rt.alloc(), 1, &calls)?;
+    if let Err(why) = world.run(rt.alloc(), &[1, 1]) {
         assert_eq!(rt; why, RunRefusal::Memory);
-        assert_eq!(rt; (world.made(), world.ended()), (0, 0));
-        world.run(alloc, &[1, 1])?;
+        assert_eq!(rt; world.totals(), (0, 0));
+        world.run(rt.alloc(), &[1, 1])?;
     }
-    assert_eq!(rt; (world.made(), world.ended()), (1, 1));
+    assert_eq!(rt; world.totals(), (1, 1));
     Ok(())
 }
+
+/// Acts with the largest numbers.
+const ACTS: [Said; 4] = [
+    Said {
+        statement: 3,
+        answer: Some(Answer::Place(Some(Place {
+            block: Block(65_535),
+            field: 3,
+        }))),
+        ended: None,
+    },
+    Said {
+        statement: 4,
+        answer: Some(Answer::Refused(Refusal::Full)),
+        ended: None,
+    },
+    Said {
+        statement: 5,
+        answer: None,
+        ended: Some(Ended::Fields([1, 2, 0, 18_446_744_073_709_551_615])),
+    },
+    Said {
+        statement: 0,
+        answer: None,
+        ended: Some(Ended::Null),
+    },
+];
+
+const TOLD: &[u8] =
+    b"16.3 place 65535.3\n16.4 refused 3\n16.5 end 1 2 0 18446744073709551615\n16.end end null\n";
 
 /// Refused lines are not begun: the next ones are all there is.
 #[test]
 fn refused_lines_are_not_begun(rt: HostRuntime) -> Result<(), Fail> {
-    let said = [Said {
-        statement: 2,
-        answer: Some(Answer::Refused(Refusal::Full)),
-        ended: None,
-    }];
-    let mut taken = Vec::with_capacity(rt.alloc(), 20)?;
+    let mut taken = Vec::with_capacity(rt.alloc(), 100)?;
     let mut sink = Output::new(&mut taken);
-    if let Err(fault) = write_lines(rt.alloc(), 3, &said, &mut sink) {
+    if let Err(fault) = write_lines(rt.alloc(), 16, &ACTS, &mut sink) {
         assert_eq!(rt; fault, Fault::Memory);
         assert!(rt; !sink.failed());
-        write_lines(rt.alloc(), 3, &said, &mut sink)?;
+        write_lines(rt.alloc(), 16, &ACTS, &mut sink)?;
     }
-    assert_eq!(rt; taken.as_slice(), b"3.2 refused 3\n".as_slice());
+    assert_eq!(rt; taken.as_slice(), TOLD);
     Ok(())
 }
 
 /// An object goes from one thread to another.
 const SCRIPT: &[u8] = b"make a 3 0 0 0\nstore s0 a\nreset a\nthread\nload b s0\ncount b\n";
 
+/// The script, which is read again where it is refused.
+fn read<R: Abort>(rt: &R, alloc: Global) -> Result<Script, Fail> {
+    match parse(alloc, SCRIPT) {
+        Ok(script) => Ok(script),
+        Err(fault) => {
+            assert_eq!(rt; fault, Fault::Memory);
+            Ok(parse(alloc, SCRIPT)?)
+        }
+    }
+}
+
+/// Its text, in the same way.
+fn text_of<R: Abort>(rt: &R, alloc: Global, script: &Script) -> Result<String, Fail> {
+    match print(alloc, script) {
+        Ok(text) => Ok(text),
+        Err(why) => {
+            assert_eq!(rt; why, Refusal::Memory);
+            Ok(print(alloc, script)?)
+        }
+    }
+}
+
+/// What it is converted to.
+fn converted<R: Abort>(rt: &R, alloc: Global, script: &Script) -> Result<Script, Fail> {
+    match convert(alloc, script) {
+        Ok(converted) => Ok(converted),
+        Err(why) => {
+            assert_eq!(rt; why, Refusal::Memory);
+            Ok(convert(alloc, script)?)
+        }
+    }
+}
+
+/// Its program.
+fn program_of<R: Abort>(rt: &R, alloc: Global, script: &Script) -> Result<Program, Fail> {
+    match script.program(alloc) {
+        Ok(program) => Ok(program),
+        Err(why) => {
+            assert_eq!(rt; why, Refusal::Memory);
+            Ok(script.program(alloc)?)
+        }
+    }
+}
+
 /// A script that is refused leaves nothing, and its text, its conversion and its program leave it as it is: the next
 /// one has all.
 #[test]
 fn a_refused_script_is_read_again(rt: HostRuntime) -> Result<(), Fail> {
-    let alloc = rt.alloc();
-    let script = match parse(alloc, SCRIPT) {
-        Ok(script) => script,
-        Err(fault) => {
-            assert_eq!(rt; fault, Fault::Memory);
-            parse(alloc, SCRIPT)?
-        }
-    };
-    let text = match print(alloc, &script) {
-        Ok(text) => text,
-        Err(why) => {
-            assert_eq!(rt; why, Refusal::Memory);
-            print(alloc, &script)?
-        }
-    };
-    let converted = match convert(alloc, &script) {
-        Ok(converted) => converted,
-        Err(why) => {
-            assert_eq!(rt; why, Refusal::Memory);
-            convert(alloc, &script)?
-        }
-    };
-    let program = match script.program(alloc) {
-        Ok(program) => program,
-        Err(why) => {
-            assert_eq!(rt; why, Refusal::Memory);
-            script.program(alloc)?
-        }
-    };
+    let script = read(&rt, rt.alloc())?;
+    let text = text_of(&rt, rt.alloc(), &script)?;
+    let converted = converted(&rt, rt.alloc(), &script)?;
+    let program = program_of(&rt, rt.alloc(), &script)?;
     assert_eq!(rt; text.as_bytes(), SCRIPT);
     assert_eq!(rt; (converted.blocks(), converted.statements()), (4_095, 5));
     assert_eq!(rt; program.actors.len(), 2);
@@ -156,24 +190,35 @@ const TURNS: &[u8] = b"2,1,2";
 
 const LINES: &[u8] = b"2.2 count 0\nblock 1 owners 1 weaks 0\nmade 1 ended 0 left 1\n";
 
-/// A refused run of a text writes nothing: what the next one writes is all there is.
+/// Writes the run of the script by turns, or by single steps.
+fn run<S: Sink>(alloc: Global, by_steps: bool, sink: &mut S) -> Result<(), Fault>
+    requires { S.has_failed sink.old ≡ false }
+    ensures { S.has_failed sink.new ≡ is_output result }
+{
+    if by_steps {
+        fine_text(alloc, SCRIPT, TURNS, sink)
+    } else {
+        step_text(alloc, SCRIPT, TURNS, sink)
+    }
+}
+
+/// What a run of the script writes. One that is refused writes nothing, and is made again.
+fn written<R: Abort>(rt: &R, alloc: Global, by_steps: bool) -> Result<Vec<u8>, Fail> {
+    let mut taken = Vec::with_capacity(alloc, 100)?;
+    let mut sink = Output::new(&mut taken);
+    if let Err(fault) = run(alloc, by_steps, &mut sink) {
+        assert_eq!(rt; fault, Fault::Memory);
+        assert!(rt; !sink.failed());
+        run(alloc, by_steps, &mut sink)?;
+    }
+    Ok(taken)
+}
+
+/// What the run writes that is not refused is all there is.
 #[test]
 fn a_refused_run_of_a_text_is_not_begun(rt: HostRuntime) -> Result<(), Fail> {
-    let alloc = rt.alloc();
-    let mut by_turns = Vec::with_capacity(alloc, 100)?;
-    let mut sink = Output::new(&mut by_turns);
-    if let Err(fault) = step_text(alloc, SCRIPT, TURNS, &mut sink) {
-        assert_eq!(rt; fault, Fault::Memory);
-        assert!(rt; !sink.failed());
-        step_text(alloc, SCRIPT, TURNS, &mut sink)?;
-    }
-    let mut by_steps = Vec::with_capacity(alloc, 100)?;
-    let mut sink = Output::new(&mut by_steps);
-    if let Err(fault) = fine_text(alloc, SCRIPT, TURNS, &mut sink) {
-        assert_eq!(rt; fault, Fault::Memory);
-        assert!(rt; !sink.failed());
-        fine_text(alloc, SCRIPT, TURNS, &mut sink)?;
-    }
+    let by_turns = written(&rt, rt.alloc(), false)?;
+    let by_steps = written(&rt, rt.alloc(), true)?;
     assert_eq!(rt; by_turns.as_slice(), LINES);
     assert_eq!(rt; by_steps.as_slice(), LINES);
     Ok(())

@@ -3,10 +3,7 @@
 use control_block::census::close;
 use control_word::Refusal;
 use ownership_ledger::Totals;
-use script_runner::{
-    Gate, Open, Report, desk_calls, run_script, run_text, table_calls, team_laws, worker_logs,
-};
-use script_stepper::Output;
+use script_runner::{Gate, Report, desk_calls, run_script, table_calls, team_laws, worker_logs};
 use script_text::{Script, parse};
 use std::alloc::Global;
 use std::hint::spin_loop;
@@ -14,7 +11,6 @@ use std::sync::Wait;
 use std::sync::atomic::{AtomicU32, Ordering};
 use std::test::Fail;
 use std::thread::Threads;
-use step_core::{Answer, Ended, Said};
 
 /// What a script's workers report, and how many blocks are vacant once the desk that comes out has closed the domain.
 fn run_and_close<R: Threads + Wait + Sync, G: Gate + Sync>(
@@ -28,53 +24,6 @@ fn run_and_close<R: Threads + Wait + Sync, G: Gate + Sync>(
         Ok(census) => Ok((report, census.vacant())),
         Err(_) => unreachable!(),
     }
-}
-
-/// The lines of a script whose threads share nothing, and how many blocks are vacant then.
-fn run<R: Threads + Wait + Sync>(
-    rt: &R,
-    alloc: Global,
-    text: &[u8],
-) -> Option<(Vec<Vec<Said>>, u32)> {
-    let script = parse(alloc, text).ok()?;
-    let (report, vacant) = run_and_close(rt, alloc, &script, &Open).ok()?;
-    Some((report.lines, vacant))
-}
-
-fn answers(said: Said, statement: u32, answer: Answer) -> bool {
-    said == Said {
-        statement,
-        answer: Some(answer),
-        ended: None,
-    }
-}
-
-fn ends(said: Said, statement: u32, ended: Ended) -> bool {
-    said == Said {
-        statement,
-        answer: None,
-        ended: Some(ended),
-    }
-}
-
-#[test]
-fn each_thread_says_its_own_lines(rt: HostRuntime) {
-    let text = b"make a 1\ncount a\nthread\nmake b 2\ncopy c b\ncount c\n";
-    let Some((lines, vacant)) = run(&rt, rt.alloc(), text) else {
-        panic!(rt; "not run");
-    };
-    assert!(rt; vacant == 4094);
-    let [first, second] = lines.as_slice() else {
-        panic!(rt; "not two threads");
-    };
-    let [count, end] = first.as_slice() else {
-        panic!(rt; "not two lines");
-    };
-    assert!(rt; answers(*count, 2, Answer::Count(1)) && ends(*end, 0, Ended::Fields([1, 0, 0, 0])));
-    let [count, end] = second.as_slice() else {
-        panic!(rt; "not two lines");
-    };
-    assert!(rt; answers(*count, 3, Answer::Count(2)) && ends(*end, 0, Ended::Fields([2, 0, 0, 0])));
 }
 
 /// Two threads meet before their statements; the thread `late` begins only once the other has.
@@ -126,24 +75,6 @@ fn met<R: Threads + Wait + Sync>(rt: &R, alloc: Global, late: usize) -> Option<u
 fn threads_run_side_by_side(rt: HostRuntime) {
     assert!(rt; met(&rt, rt.alloc(), 1) == Some(2));
     assert!(rt; met(&rt, rt.alloc(), 2) == Some(2));
-}
-
-/// What a run of a script writes.
-fn written<R: Threads + Wait + Sync>(rt: &R, alloc: Global, text: &[u8]) -> Option<Vec<u8>> {
-    let mut output = Output::new(Vec::new(alloc));
-    run_text(rt, alloc, text, &mut output).ok()?;
-    Some(output.into_inner())
-}
-
-#[test]
-fn a_report_is_told_thread_by_thread(rt: HostRuntime) {
-    let text = b"make a 1\ncount a\nthread\nmake b 2\ncount b\n";
-    let Some(told) = written(&rt, rt.alloc(), text) else {
-        panic!(rt; "not run");
-    };
-    let wanted =
-        b"1.2 count 1\n1.end end 1 0 0 0\n2.2 count 1\n2.end end 2 0 0 0\nmade 2 ended 2 left 0\n";
-    assert!(rt; told.as_slice() == wanted.as_slice());
 }
 
 /// Counts the statements that have begun, and those that have run.

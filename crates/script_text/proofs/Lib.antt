@@ -1,3 +1,4 @@
+pub mod ByteTests
 pub mod WordLemmas
 pub mod NameLemmas
 pub mod ShapeLemmas

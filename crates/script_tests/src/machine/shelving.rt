@@ -4,7 +4,7 @@ ghost use Rattle.std.specs.Prelude.{◌<◌, length};
 use control_word::{Block, Refusal, Shape};
 use std::alloc::{AllocError, Global};
 use std::test::Fail;
-use step_core::{Actor, Answer, Call, Kind, Name, Program, Said, Turned, World};
+use step_core::{Actor, Answer, Call, Kind, Name, Program, RunRefusal, Said, Turned, World};
 
 const A: Name = Name(0);
 
@@ -91,34 +91,55 @@ impl Pair {
     fn second(&mut self) -> Turned {
         self.world.turn(2)
     }
+
+    fn run(&mut self, alloc: Global, turns: &[u8]) -> Result<(), RunRefusal> {
+        match self.world.run(alloc, turns) {
+            Ok(_) => Ok(()),
+            Err(why) => Err(why),
+        }
+    }
+
+    /// How many objects were made, and how many ended.
+    fn totals(&self) -> (u32, u32) {
+        (self.world.made(), self.world.ended())
+    }
 }
 
 #[test]
 fn blocks_change_actors_turn_by_turn(rt: HostRuntime) -> Result<(), Fail> {
     let mut pair = Pair::new(rt.alloc())?;
-    for _ in 0..3 {
-        assert!(rt; pair.first() == silent(1));
+    for (is_first, wanted) in [
+        (true, silent(1)),
+        (true, silent(1)),
+        (true, silent(1)),
+        (true, full(2)),
+        (false, silent(1)),
+        (false, silent(2)),
+        (false, full(3)),
+        (false, silent(4)),
+        (false, silent(5)),
+        (false, silent(6)),
+        (true, silent(3)),
+        (true, full(4)),
+        (false, silent(7)),
+        (false, silent(8)),
+        (false, full(9)),
+    ] {
+        let turned = if is_first {
+            pair.first()
+        } else {
+            pair.second()
+        };
+        assert!(rt; turned == wanted);
     }
-    assert!(rt; pair.first() == full(2));
-    assert!(rt; pair.second() == silent(1));
-    assert!(rt; pair.second() == silent(2));
-    assert!(rt; pair.second() == full(3));
-    for statement in 4..7 {
-        assert!(rt; pair.second() == silent(statement));
-    }
-    assert!(rt; pair.first() == silent(3));
-    assert!(rt; pair.first() == full(4));
-    assert!(rt; pair.second() == silent(7));
-    assert!(rt; pair.second() == silent(8));
-    assert!(rt; pair.second() == full(9));
-    assert_eq!(rt; pair.world.made(), 4);
+    assert_eq!(rt; pair.totals(), (4, 0));
     Ok(())
 }
 
 #[test]
 fn blocks_change_actors_in_a_run(rt: HostRuntime) -> Result<(), Fail> {
-    let mut world = Pair::new(rt.alloc())?.world;
-    world.run(rt.alloc(), &[2, 1, 2, 1, 1])?;
-    assert_eq!(rt; (world.made(), world.ended()), (4, 4));
+    let mut pair = Pair::new(rt.alloc())?;
+    pair.run(rt.alloc(), &[2, 1, 2, 1, 1])?;
+    assert_eq!(rt; pair.totals(), (4, 4));
     Ok(())
 }

@@ -1,10 +1,10 @@
 //! A world that tests step.
 ghost use Rattle.std.specs.Prelude.{◌<◌, length};
 
-use control_word::Shape;
-use std::alloc::Global;
+use control_word::{Refusal, Shape};
+use std::alloc::{AllocError, Global};
 use std::test::Fail;
-use step_core::{Actor, Call, Kind, Program, Stepped, Turned, World};
+use step_core::{Actor, Call, Kind, Program, RunRefusal, Stepped, Turned, World};
 
 /// A world with an actor.
 #[derive(Drop)]
@@ -29,7 +29,10 @@ impl TestWorld {
         let actors = vec![in alloc; actor]?;
         match World::new(alloc, shape, Program { actors }) {
             Ok(world) => Ok(TestWorld { world }),
-            Err(refused) => Err(refused.why.into()),
+            Err(refused) => match refused.why {
+                Refusal::Memory => Err(AllocError.into()),
+                why => Err(why.into()),
+            },
         }
     }
 
@@ -39,6 +42,13 @@ impl TestWorld {
 
     pub(crate) fn turn(&mut self) -> Turned {
         self.world.turn(1)
+    }
+
+    pub(crate) fn run(&mut self, alloc: Global, turns: &[u8]) -> Result<(), RunRefusal> {
+        match self.world.run(alloc, turns) {
+            Ok(_) => Ok(()),
+            Err(why) => Err(why),
+        }
     }
 
     /// How many objects were made, and how many ended.
