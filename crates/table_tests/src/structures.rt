@@ -1,4 +1,5 @@
 //! Structures by slots: each call, and each fault.
+pub(crate) mod crowd;
 pub(crate) mod families;
 pub(crate) mod large;
 pub(crate) mod observers;

@@ -13,7 +13,7 @@ use std::thread::Threads;
 
 /// A call on observers, or another on their table.
 #[derive(Clone, Copy, Drop)]
-enum On {
+pub(crate) enum On {
     Attach(usize, u64),
     /// What is told, by hundreds.
     Each,
@@ -37,7 +37,7 @@ fn told<R: Wait, H: Home>(
 }
 
 /// Calls, each of which answers what stands beside it.
-fn all_on<R: Abort + Wait, H: Home>(
+pub(crate) fn all_on<R: Abort + Wait, H: Home>(
     rt: &R,
     table: &mut HandleTable<'_, u64, H>,
     observers: &mut TableObservers<u64, H>,
