@@ -6,10 +6,6 @@ mod accesses;
 #[cfg(test)]
 mod calls;
 #[cfg(test)]
-mod crowd;
-#[cfg(test)]
-mod large;
-#[cfg(test)]
 mod memory;
 #[cfg(test)]
 mod observing;

@@ -22,8 +22,7 @@ const GROWN: [(Call, Answer); 3] = [
 ];
 
 /// The root is back, with its child, and leaves.
-const BACK: [(Call, Answer); 3] = [
-    (Call::Read(Seat::A), Answer::Owned(1, 2)),
+const BACK: [(Call, Answer); 2] = [
     (Call::Vacant, Answer::Count(0)),
     (Call::Reset(Seat::A), Answer::Done),
 ];

@@ -8,15 +8,17 @@ use std::sync::Wait;
 use std::test::Fail;
 use std::thread::Threads;
 
-/// A worker that makes these calls, each of which answers what stands beside it.
+/// A worker that makes the calls of each list, each of which answers what stands beside it.
 #[derive(Drop)]
 pub(crate) struct Listed<'a> {
-    pub(crate) calls: &'a [(Call, Answer)],
+    pub(crate) lists: &'a [&'a [(Call, Answer)]],
 }
 
 impl<R: Abort + Threads + Wait + Sync> Program<u64, R> for Listed<'_> {
     fn work<H: Home>(&self, rt: &R, _number: usize, table: &mut HandleTable<'_, u64, H>) {
-        all(rt, table, self.calls);
+        for calls in self.lists {
+            all(rt, table, calls);
+        }
     }
 }
 

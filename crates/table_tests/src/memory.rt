@@ -1,5 +1,5 @@
 //! Growths that are refused. `tests/refuse_allocations` runs these with each allocation refused in turn.
-use crate::alone::ends;
+use crate::alone::{Listed, ends};
 use crate::handles::telling::hold;
 use crate::listed::{Answer, Call, all};
 use crate::parting::joins::come_together;
@@ -58,12 +58,8 @@ fn a_refused_split_changes_nothing(rt: HostRuntime) -> Result<(), Fail> {
     )
 }
 
-/// Whoever works makes no call.
-struct Idle;
-
-impl<R: Threads + Wait + Sync> Program<u64, R> for Idle {
-    fn work<H: Home>(&self, _rt: &R, _number: usize, _table: &mut HandleTable<'_, u64, H>) {}
-}
+/// A worker that makes no call.
+const IDLE: Listed<'static> = Listed { lists: &[] };
 
 /// What a worker with a table takes of memory, in a domain of so many blocks.
 fn is_idle<R: Abort + Threads + Wait + Sync>(
@@ -76,7 +72,7 @@ fn is_idle<R: Abort + Threads + Wait + Sync>(
         alloc,
         shape(blocks, 0, 0, 6),
         alone(5, 4, 2),
-        &Idle,
+        &IDLE,
         blocks,
     )
 }
@@ -106,12 +102,12 @@ fn a_first_table_is_refused(rt: HostRuntime) -> Result<(), Fail> {
         allowance: 1,
         blocks: 0,
     };
-    match run(&rt, rt.alloc(), shape, team, &Idle) {
+    match run(&rt, rt.alloc(), shape, team, &IDLE) {
         Ok(_) => assert!(rt; false),
         Err(why) => assert_eq!(rt; why, Refusal::Memory),
     }
     team.slots = 1;
-    let ran = run(&rt, rt.alloc(), shape, team, &Idle)?;
+    let ran = run(&rt, rt.alloc(), shape, team, &IDLE)?;
     assert_eq!(rt; ran.census.vacant(), 1);
     Ok(())
 }

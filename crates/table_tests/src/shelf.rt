@@ -33,7 +33,7 @@ const CALLS: [(Call, Answer); 14] = [
 
 #[test]
 fn a_make_takes_a_block_from_the_shelf(rt: HostRuntime) -> Result<(), Fail> {
-    let program = Listed { calls: &CALLS };
+    let program = Listed { lists: &[&CALLS] };
     ends(
         &rt,
         rt.alloc(),
@@ -57,7 +57,7 @@ const FEW: [(Call, Answer); 7] = [
 
 #[test]
 fn at_the_limit_the_shelf_is_left_alone(rt: HostRuntime) -> Result<(), Fail> {
-    let program = Listed { calls: &FEW };
+    let program = Listed { lists: &[&FEW] };
     ends(
         &rt,
         rt.alloc(),

@@ -9,49 +9,29 @@ pub(crate) enum Seat {
     C,
 }
 
-/// Where a handle of the object in block 1 points.
-#[derive(Clone, Copy, Drop)]
-pub(crate) enum Spot {
-    /// Where its first owner did.
-    Own,
-    Nowhere,
-    /// Into block 2.
-    Aside,
-}
-
 /// A call, with the handles that it works on by their seats.
 #[derive(Clone, Copy, Drop)]
 pub(crate) enum Call {
     /// A new object with this field and value.
     Make(Seat, u64),
-    Copy(Seat, Seat),
-    Move(Seat, Seat),
-    /// A handle of the object that points at that place.
-    Alias(Seat, Spot, Seat),
     Reset(Seat),
     /// One more handle is in the desk's hands from now on.
     Forget,
-    Read(Seat),
     /// How many blocks are vacant.
     Vacant,
     Push(u64),
     /// The node that goes out is in the seat then.
     Pop(Seat),
-    /// What the node's `next` owns.
-    Below(Seat),
     /// A node with value 9 is attached to the subject.
     Attach(Seat),
     Each,
-    Prune,
     /// A new child of the first with this field and value.
     AddChild(Seat, u64, Seat),
-    Parent(Seat),
-    Detach(Seat),
     Teardown(Seat),
 }
 
 /// What a call answers.
-#[derive(Clone, Copy, PartialEq, Eq, Debug, Drop)]
+#[derive(Clone, Copy, PartialEq, Eq, Drop)]
 pub(crate) enum Answer {
     Done,
     Not(Refusal),
@@ -59,8 +39,6 @@ pub(crate) enum Answer {
     Back(Refusal, u64),
     Nobody,
     Field(u64),
-    /// The field, and how many owners the object has with the one that tells.
-    Owned(u64, u32),
     Count(u32),
     /// How many subjects were told of, the sum of their fields, and these as digits by twos.
     Told(u64, u64, u64),

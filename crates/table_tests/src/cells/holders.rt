@@ -57,7 +57,7 @@ fn agree<R: Abort>(rt: &R, holders: &Holders, wanted: &[(u16, u32, Kind)]) {
 
 #[test]
 fn the_census_tells_who_holds(rt: HostRuntime) -> Result<(), Fail> {
-    let program = Listed { calls: &TANGLE };
+    let program = Listed { lists: &[&TANGLE] };
     let ran = run(&rt, rt.alloc(), shape(2, 1, 0, 8), alone(3, 4, 2), &program)?;
     let first = ran.census.holders(rt.alloc(), Block(1))?;
     let second = ran.census.holders(rt.alloc(), Block(2))?;

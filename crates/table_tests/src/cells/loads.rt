@@ -75,5 +75,5 @@ const WATCH: [(Call, Answer); 10] = [
 
 #[test]
 fn a_weak_cell_watches(rt: HostRuntime) -> Result<(), Fail> {
-    hold(&rt, rt.alloc(), &WATCH)
+    hold(&rt, rt.alloc(), &[&WATCH])
 }

@@ -37,11 +37,6 @@ const TIED: [(Call, Answer); 21] = [
     (Call::Round, Answer::Value(None)),
 ];
 
-#[test]
-fn two_tied_objects_end(rt: HostRuntime) -> Result<(), Fail> {
-    hold(&rt, rt.alloc(), &TIED)
-}
-
 /// Object 1 is the last owner of object 2 by its first member, so that 2 ends within 1's end.
 const NESTED: [(Call, Answer); 13] = [
     (Call::Make(0, [1, 0, 0, 0], false, 1), Answer::Done),
@@ -60,6 +55,6 @@ const NESTED: [(Call, Answer); 13] = [
 ];
 
 #[test]
-fn an_object_ends_within_anothers_end(rt: HostRuntime) -> Result<(), Fail> {
-    hold(&rt, rt.alloc(), &NESTED)
+fn objects_end_member_by_member(rt: HostRuntime) -> Result<(), Fail> {
+    hold(&rt, rt.alloc(), &[&TIED, &NESTED])
 }

@@ -32,7 +32,7 @@ const CALLS: [(Call, Answer); 20] = [
 
 #[test]
 fn each_call_works(rt: HostRuntime) -> Result<(), Fail> {
-    let program = Listed { calls: &CALLS };
+    let program = Listed { lists: &[&CALLS] };
     ends(
         &rt,
         rt.alloc(),

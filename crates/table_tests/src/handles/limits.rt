@@ -148,7 +148,7 @@ fn a_program_has_a_domain_within_limits(rt: HostRuntime) -> Result<(), Fail> {
             rt.alloc(),
             shape,
             alone(1, 1, 1),
-            &Listed { calls: &[] },
+            &Listed { lists: &[] },
         );
         let wanted = if opens { None } else { Some(Refusal::Shape) };
         assert!(rt; ran.err() == wanted, "{blocks} {shared} {weak} {allowance}");

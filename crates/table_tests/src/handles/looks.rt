@@ -50,7 +50,7 @@ const CALLS: [(Call, Answer); 28] = [
 
 #[test]
 fn handles_tell_of_each_other(rt: HostRuntime) -> Result<(), Fail> {
-    let program = Listed { calls: &CALLS };
+    let program = Listed { lists: &[&CALLS] };
     ends(
         &rt,
         rt.alloc(),

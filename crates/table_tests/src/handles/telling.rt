@@ -10,13 +10,13 @@ use std::sync::Wait;
 use std::test::Fail;
 use std::thread::Threads;
 
-/// The calls on a table of three slots, of which none keeps an object.
+/// The calls of each list on a table of three slots, of which none keeps an object.
 pub(crate) fn hold<R: Abort + Threads + Wait + Sync>(
     rt: &R,
     alloc: Global,
-    calls: &[(Call, Answer)],
+    lists: &[&[(Call, Answer)]],
 ) -> Result<(), Fail> {
-    let program = Listed { calls };
+    let program = Listed { lists };
     ends(rt, alloc, shape(2, 1, 1, 8), alone(3, 4, 2), &program, 2)
 }
 
@@ -26,6 +26,7 @@ const ASIDE: Option<Place> = Some(Place {
     field: 2,
 });
 
+/// An alias keeps the object.
 const ALIAS: [(Call, Answer); 11] = [
     (Call::Make(0, [7, 8, 9, 10], false, 5), Answer::Done),
     (Call::Alias(0, ASIDE, 1), Answer::Done),
@@ -41,11 +42,7 @@ const ALIAS: [(Call, Answer); 11] = [
     (Call::EndNext, Answer::Value(Some(5))),
 ];
 
-#[test]
-fn an_alias_keeps_the_object(rt: HostRuntime) -> Result<(), Fail> {
-    hold(&rt, rt.alloc(), &ALIAS)
-}
-
+/// An empty handle has no owner.
 const EMPTY: [(Call, Answer); 7] = [
     (Call::EmptyWeak(0), Answer::Done),
     (Call::Expired(0), Answer::Is(true)),
@@ -56,11 +53,7 @@ const EMPTY: [(Call, Answer); 7] = [
     (Call::Reset(0), Answer::WasEmpty),
 ];
 
-#[test]
-fn an_empty_handle_has_no_owner(rt: HostRuntime) -> Result<(), Fail> {
-    hold(&rt, rt.alloc(), &EMPTY)
-}
-
+/// A weak handle watches.
 const WATCH: [(Call, Answer); 13] = [
     (Call::Make(0, [5, 0, 0, 0], false, 4), Answer::Done),
     (Call::Downgrade(0, 1), Answer::Done),
@@ -77,11 +70,7 @@ const WATCH: [(Call, Answer); 13] = [
     (Call::Reset(1), Answer::OthersOwn),
 ];
 
-#[test]
-fn a_weak_handle_watches(rt: HostRuntime) -> Result<(), Fail> {
-    hold(&rt, rt.alloc(), &WATCH)
-}
-
+/// An expired weak pointer gives no owner.
 const LOCK: [(Call, Answer); 14] = [
     (Call::Make(0, [5, 0, 0, 0], false, 5), Answer::Done),
     (Call::Downgrade(0, 1), Answer::Done),
@@ -102,11 +91,7 @@ const LOCK: [(Call, Answer); 14] = [
     (Call::Reset(1), Answer::OthersOwn),
 ];
 
-#[test]
-fn an_expired_weak_pointer_gives_no_owner(rt: HostRuntime) -> Result<(), Fail> {
-    hold(&rt, rt.alloc(), &LOCK)
-}
-
+/// An object that gives itself; it is left to end.
 const THIS: [(Call, Answer); 9] = [
     (Call::Make(0, [1, 2, 3, 4], true, 9), Answer::Done),
     (Call::SharedFromThis(0, 1), Answer::Done),
@@ -119,11 +104,7 @@ const THIS: [(Call, Answer); 9] = [
     (Call::Reset(0), Answer::WasLast),
 ];
 
-#[test]
-fn an_enabled_object_gives_itself(rt: HostRuntime) -> Result<(), Fail> {
-    hold(&rt, rt.alloc(), &THIS)
-}
-
+/// The value of an owned null is visited.
 const NULL: [(Call, Answer); 8] = [
     (Call::MakeNull(0, 9), Answer::Done),
     (Call::UseCount(0), Answer::Count(1)),
@@ -136,6 +117,10 @@ const NULL: [(Call, Answer); 8] = [
 ];
 
 #[test]
-fn the_value_of_an_owned_null_is_visited(rt: HostRuntime) -> Result<(), Fail> {
-    hold(&rt, rt.alloc(), &NULL)
+fn handles_tell_by_rows(rt: HostRuntime) -> Result<(), Fail> {
+    hold(
+        &rt,
+        rt.alloc(),
+        &[&ALIAS, &EMPTY, &WATCH, &LOCK, &NULL, &THIS],
+    )
 }

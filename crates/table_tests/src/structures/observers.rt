@@ -13,7 +13,7 @@ use std::thread::Threads;
 
 /// A call on observers, or another on their table.
 #[derive(Clone, Copy, Drop)]
-enum On {
+pub(crate) enum On {
     Attach(usize, u64),
     /// What is told, by hundreds.
     Each,
@@ -37,7 +37,7 @@ fn told<R: Wait, H: Home>(
 }
 
 /// Calls, each of which answers what stands beside it.
-fn all_on<R: Abort + Wait, H: Home>(
+pub(crate) fn all_on<R: Abort + Wait, H: Home>(
     rt: &R,
     table: &mut HandleTable<'_, u64, H>,
     observers: &mut TableObservers<u64, H>,
@@ -87,20 +87,20 @@ const CALLS: [(On, Answer); 24] = [
     (On::Each, Answer::Field(1_010)),
 ];
 
-/// One more handle, and five are free.
-const NEAR: [(On, Answer); 5] = [
+const FULL: Answer = Answer::Not(Fault::Call(Refusal::Full));
+
+/// With four slots in use 6 handles are free, and one block is vacant. Then 5 are free.
+const NEAR: [(On, Answer); 9] = [
     (On::Table(Call::Copy(0, 1)), Answer::Done),
+    (On::Attach(0, 5), Answer::Done),
+    (On::Attach(0, 6), FULL),
+    (On::Each, Answer::Field(101_010)),
+    (On::Prune, Answer::Count(0)),
     (On::Table(Call::Copy(0, 4)), Answer::Done),
     (On::Attach(0, 5), LIMIT),
     (On::Each, LIMIT),
     (On::Prune, LIMIT),
 ];
-
-/// A leader that has the whole allowance, and a worker beside it that hasn't.
-#[derive(Drop)]
-struct Observing {
-    alloc: Global,
-}
 
 /// A prune beside another table, which goes through as far as that.
 const BESIDE: [(On, Answer); 2] = [
@@ -108,7 +108,44 @@ const BESIDE: [(On, Answer); 2] = [
     (On::Each, Answer::Field(1_010)),
 ];
 
-impl Observing {
+/// There are six blocks and nine handles. Three subjects get an observer each, 20 ends, and its node goes out, where
+/// just 6 handles are free.
+const PRUNED: [(On, Answer); 24] = [
+    (On::Table(Call::Make(0, [10; 4], false, 10)), Answer::Done),
+    (On::Table(Call::Make(1, [20; 4], false, 20)), Answer::Done),
+    (On::Table(Call::Make(2, [30; 4], false, 30)), Answer::Done),
+    (On::Attach(0, 9), Answer::Done),
+    (On::Attach(1, 9), Answer::Done),
+    (On::Attach(2, 9), Answer::Done),
+    (On::Each, Answer::Field(302_010)),
+    (On::Table(Call::Shelve(9)), Answer::Count(0)),
+    (On::Prune, Answer::Count(0)),
+    (On::Table(Call::Reset(1)), Answer::WasLast),
+    (On::Table(Call::EndNext), Answer::Value(Some(20))),
+    (On::Table(Call::Empty(1)), Answer::Done),
+    (On::Each, Answer::Field(3_010)),
+    (On::Table(Call::Shelve(9)), Answer::Count(0)),
+    (On::Prune, Answer::Count(1)),
+    (On::Each, Answer::Field(3_010)),
+    (On::Table(Call::Shelve(9)), Answer::Count(2)),
+    (On::Table(Call::Unshelve(9)), Answer::Count(2)),
+    (On::Prune, Answer::Count(0)),
+    (On::Table(Call::Reset(0)), Answer::WasLast),
+    (On::Table(Call::Reset(2)), Answer::WasLast),
+    (On::Table(Call::Settle), Answer::Done),
+    (On::Prune, Answer::Count(2)),
+    (On::Each, Answer::Field(0)),
+];
+
+/// A leader that has the whole allowance, and a worker beside it that hasn't: the leader's calls before the worker's,
+/// those, and the leader's after them.
+#[derive(Drop)]
+struct Observing<'a> {
+    alloc: Global,
+    calls: [&'a [(On, Answer)]; 3],
+}
+
+impl Observing<'_> {
     fn observe<R: Abort + Wait, H: Home>(
         &self,
         rt: &R,
@@ -125,13 +162,13 @@ impl Observing {
     }
 }
 
-impl<R: Abort + Threads + Wait + Sync> Program<u64, R> for Observing {
+impl<R: Abort + Threads + Wait + Sync> Program<u64, R> for Observing<'_> {
     fn work<H: Home>(&self, rt: &R, _number: usize, table: &mut HandleTable<'_, u64, H>) {
-        self.observe(rt, table, &BESIDE);
+        self.observe(rt, table, self.calls[1]);
     }
 }
 
-impl<R: Abort + Threads + Wait + Sync> Leader<u64, R> for Observing {
+impl<R: Abort + Threads + Wait + Sync> Leader<u64, R> for Observing<'_> {
     fn lead<H: Home>(
         &mut self,
         rt: &R,
@@ -139,7 +176,7 @@ impl<R: Abort + Threads + Wait + Sync> Leader<u64, R> for Observing {
         table: &mut HandleTable<'_, u64, H>,
     ) -> Option<Team> {
         if before.is_some() {
-            self.observe(rt, table, &NEAR);
+            self.observe(rt, table, self.calls[2]);
             return None;
         }
         match table.observers(self.alloc, 1) {
@@ -149,16 +186,42 @@ impl<R: Abort + Threads + Wait + Sync> Leader<u64, R> for Observing {
             }
             Err(why) => assert!(rt; why == Fault::Cell),
         }
-        self.observe(rt, table, &CALLS);
+        self.observe(rt, table, self.calls[0]);
         Some(alone(1, 6, 0))
     }
 }
 
+/// The calls in a domain of so many blocks and handles: how many blocks are vacant after them.
+fn vacant<R: Abort + Threads + Wait + Sync>(
+    rt: &R,
+    alloc: Global,
+    blocks: u32,
+    allowance: u32,
+    calls: [&[(On, Answer)]; 3],
+) -> Result<u32, Fail> {
+    let mut leader = Observing { alloc, calls };
+    let census = run_leader(rt, alloc, shape(blocks, 1, 0, allowance), 5, &mut leader)?;
+    Ok(census.vacant())
+}
+
 #[test]
 fn observers_are_told_and_pruned(rt: HostRuntime) -> Result<(), Fail> {
-    let mut leader = Observing { alloc: rt.alloc() };
-    let census = run_leader(&rt, rt.alloc(), shape(4, 1, 0, 10), 5, &mut leader)?;
-    // (two observers are left in the cell, and the block that they watch)
-    assert_eq!(rt; census.vacant(), 1);
+    // (three observers are left in the cell, and the block that they watch)
+    assert_eq!(rt;
+        vacant(&rt, rt.alloc(), 4, 10, [&CALLS, &BESIDE, &NEAR])?,
+        0
+    );
+    Ok(())
+}
+
+#[test]
+fn a_node_goes_when_its_subject_has_ended(rt: HostRuntime) -> Result<(), Fail> {
+    assert_eq!(rt; vacant(&rt, rt.alloc(), 6, 9, [&PRUNED, &[], &[]])?, 6);
+    Ok(())
+}
+
+#[test]
+fn no_call_is_made(rt: HostRuntime) -> Result<(), Fail> {
+    assert_eq!(rt; vacant(&rt, rt.alloc(), 6, 9, [&[], &[], &[]])?, 6);
     Ok(())
 }

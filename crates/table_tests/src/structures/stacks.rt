@@ -3,7 +3,9 @@ use crate::alone::ends;
 use crate::listed::{Answer, Call, agree, answer_of, handed, is};
 use crate::shapes::{alone, shape};
 use control_word::Refusal;
-use handle_table::{Fault, HandleTable, Home, Program, Share, TableStack, Work, run_workers};
+use handle_table::{
+    Cell, Fault, HandleTable, Home, Program, Share, SharedMember, TableStack, Work, run_workers,
+};
 use std::alloc::Global;
 use std::process::Abort;
 use std::sync::Wait;
@@ -61,13 +63,59 @@ const CALLS: [(On, Answer); 20] = [
     (On::Push(4), Answer::Done),
 ];
 
-/// A worker with a stack in cell 0, the only one.
+/// A push and a pop want 6 free handles: there are 6 handles, and one block.
+const LIMITS: [(On, Answer); 10] = [
+    (On::Push(7), Answer::Done),
+    (On::Push(9), Answer::Not(Fault::Call(Refusal::Full))),
+    (On::Pop(0), Answer::Is(true)),
+    (On::Table(Call::Read(0)), Answer::Field(7)),
+    (On::Table(Call::Reset(0)), Answer::WasLast),
+    (On::Table(Call::EndNext), Answer::Value(Some(7))),
+    (On::Push(7), Answer::Done),
+    (On::Table(Call::Empty(1)), Answer::Done),
+    (On::Push(9), LIMIT),
+    (On::Pop(0), LIMIT),
+];
+
+/// The member `next` of the node whose owner is in slot 0.
+const NEXT: Cell = Cell::Member {
+    of: 0,
+    which: SharedMember::Next,
+};
+
+/// Of three nodes the last comes first. The second is owned by the cell, by the `next` of the one that went out, and by
+/// slot 1.
+const LAST_FIRST: [(On, Answer); 20] = [
+    (On::Push(1), Answer::Done),
+    (On::Push(2), Answer::Done),
+    (On::Push(3), Answer::Done),
+    (On::Pop(0), Answer::Is(true)),
+    (On::Table(Call::Read(0)), Answer::Field(3)),
+    (On::Table(Call::Load(NEXT, 1)), Answer::Done),
+    (On::Table(Call::Read(1)), Answer::Field(2)),
+    (On::Table(Call::UseCount(1)), Answer::Count(3)),
+    (On::Table(Call::Reset(1)), Answer::OthersOwn),
+    (On::Pop(0), Answer::Is(true)),
+    (On::Table(Call::Read(0)), Answer::Field(2)),
+    (On::Table(Call::Settle), Answer::Done),
+    (On::Pop(0), Answer::Is(true)),
+    (On::Table(Call::Read(0)), Answer::Field(1)),
+    (On::Table(Call::Settle), Answer::Done),
+    (On::Pop(0), Answer::Is(false)),
+    (On::Table(Call::Reset(0)), Answer::WasLast),
+    (On::Table(Call::Settle), Answer::Done),
+    (On::Table(Call::Shelve(9)), Answer::Count(3)),
+    (On::Pop(0), Answer::Is(false)),
+];
+
+/// A worker with a stack in cell 0, the only one, on which it makes these calls.
 #[derive(Drop)]
-struct Stacks {
+struct Stacks<'a> {
     alloc: Global,
+    calls: &'a [(On, Answer)],
 }
 
-impl<R: Abort + Threads + Wait + Sync> Program<u64, R> for Stacks {
+impl<R: Abort + Threads + Wait + Sync> Program<u64, R> for Stacks<'_> {
     fn work<H: Home>(&self, rt: &R, _number: usize, table: &mut HandleTable<'_, u64, H>) {
         match table.stack(self.alloc, 1) {
             Ok(stack) => {
@@ -78,7 +126,7 @@ impl<R: Abort + Threads + Wait + Sync> Program<u64, R> for Stacks {
         }
         match table.stack(self.alloc, 0) {
             Ok(mut stack) => {
-                all_on(rt, table, &mut stack, &CALLS);
+                all_on(rt, table, &mut stack, self.calls);
                 stack.close();
             }
             Err(_) => assert!(rt; false),
@@ -86,18 +134,46 @@ impl<R: Abort + Threads + Wait + Sync> Program<u64, R> for Stacks {
     }
 }
 
+/// The calls are those of a worker with so many blocks and handles, and so many blocks are vacant after it.
+fn hold<R: Abort + Threads + Wait + Sync>(
+    rt: &R,
+    alloc: Global,
+    blocks: u32,
+    allowance: u32,
+    calls: &[(On, Answer)],
+    vacant: u32,
+) -> Result<(), Fail> {
+    let program = Stacks { alloc, calls };
+    let shape = shape(blocks, 1, 0, 16);
+    ends(
+        rt,
+        alloc,
+        shape,
+        alone(4, allowance, blocks),
+        &program,
+        vacant,
+    )
+}
+
 #[test]
 fn a_stack_takes_and_gives_nodes(rt: HostRuntime) -> Result<(), Fail> {
-    let program = Stacks { alloc: rt.alloc() };
     // (node 4 is left in the cell)
-    ends(
-        &rt,
-        rt.alloc(),
-        shape(2, 1, 0, 16),
-        alone(4, 8, 2),
-        &program,
-        1,
-    )
+    hold(&rt, rt.alloc(), 2, 8, &CALLS, 1)
+}
+
+#[test]
+fn six_handles_must_be_free(rt: HostRuntime) -> Result<(), Fail> {
+    hold(&rt, rt.alloc(), 1, 6, &LIMITS, 0)
+}
+
+#[test]
+fn the_last_comes_first(rt: HostRuntime) -> Result<(), Fail> {
+    hold(&rt, rt.alloc(), 3, 7, &LAST_FIRST, 3)
+}
+
+#[test]
+fn no_call_is_made(rt: HostRuntime) -> Result<(), Fail> {
+    hold(&rt, rt.alloc(), 3, 7, &[], 3)
 }
 
 /// Pushes 100 nodes, pops till none is found, and counts the nodes and adds up their fields.
@@ -147,14 +223,17 @@ impl<R: Threads + Wait + Sync> Work<u64, R> for Pusher {
     }
 }
 
-#[test]
-fn two_threads_pop_each_node_once(rt: HostRuntime) -> Result<(), Fail> {
-    let alloc = rt.alloc();
+/// So many threads push 100 nodes each, with numbers from 0 on, and pop them: how many came out, and their sum.
+fn popped<R: Abort + Threads + Wait + Sync>(
+    rt: &R,
+    alloc: Global,
+    threads: u32,
+) -> Result<(u64, u64), Fail> {
     let mut workers = Vec::new(alloc);
-    for first in [0, 100] {
+    for number in 0..threads {
         workers.push(Pusher {
             alloc,
-            first,
+            first: u64::from(number).wrapping_mul(100),
             popped: 0,
             sum: 0,
         })?;
@@ -164,13 +243,25 @@ fn two_threads_pop_each_node_once(rt: HostRuntime) -> Result<(), Fail> {
         allowance: 8,
         blocks: 100,
     };
-    let census = run_workers(&rt, alloc, shape(200, 1, 0, 20), share, &mut workers)?;
-    assert_eq!(rt; census.vacant(), 200);
+    let blocks = threads.wrapping_mul(100);
+    let census = run_workers(rt, alloc, shape(blocks, 1, 0, 100), share, &mut workers)?;
+    assert_eq!(rt; census.vacant(), blocks);
     let (mut popped, mut sum) = (0u64, 0u64);
     for worker in &workers {
         popped = popped.wrapping_add(worker.popped);
         sum = sum.wrapping_add(worker.sum);
     }
-    assert_eq!(rt; (popped, sum), (200, 19_900));
+    Ok((popped, sum))
+}
+
+#[test]
+fn two_threads_pop_each_node_once(rt: HostRuntime) -> Result<(), Fail> {
+    assert_eq!(rt; popped(&rt, rt.alloc(), 2)?, (200, 19_900));
+    Ok(())
+}
+
+#[test]
+fn ten_threads_pop_each_node_once(rt: HostRuntime) -> Result<(), Fail> {
+    assert_eq!(rt; popped(&rt, rt.alloc(), 10)?, (1_000, 499_500));
     Ok(())
 }

@@ -2,6 +2,9 @@
 use crate::alone::ends;
 use crate::listed::{Answer, Call, agree, answer_of, done, handed, is};
 use crate::shapes::{alone, shape};
+use crate::structures::families::{
+    BETWEEN, CHILDREN, FIRST, GENERATIONS, KEPT, LAST, MISPLACED, ORDER,
+};
 use control_word::Refusal;
 use handle_table::{Fault, HandleTable, Home, Program, TableScene};
 use std::alloc::Global;
@@ -12,7 +15,7 @@ use std::thread::Threads;
 
 /// A call on a scene, or another on its table.
 #[derive(Clone, Copy, Drop)]
-enum On {
+pub(crate) enum On {
     AddChild(usize, u64, usize),
     Parent(usize, usize),
     Detach(usize),
@@ -36,7 +39,7 @@ fn torn(told: Result<Vec<u64>, Fault>) -> Answer {
 }
 
 /// Calls, each of which answers what stands beside it.
-fn all_on<R: Abort + Wait, H: Home>(
+pub(crate) fn all_on<R: Abort + Wait, H: Home>(
     rt: &R,
     alloc: Global,
     table: &mut HandleTable<'_, u64, H>,
@@ -128,18 +131,20 @@ const ENDS: [(On, Answer); 22] = [
     (On::Table(Call::EndNext), Answer::Value(Some(10))),
 ];
 
-/// A worker with a scene.
+/// A worker with a scene, on which it makes the calls of each list.
 #[derive(Drop)]
-struct Trees {
+struct Trees<'a> {
     alloc: Global,
+    lists: &'a [&'a [(On, Answer)]],
 }
 
-impl<R: Abort + Threads + Wait + Sync> Program<u64, R> for Trees {
+impl<R: Abort + Threads + Wait + Sync> Program<u64, R> for Trees<'_> {
     fn work<H: Home>(&self, rt: &R, _number: usize, table: &mut HandleTable<'_, u64, H>) {
         match table.scene(self.alloc) {
             Ok(mut scene) => {
-                all_on(rt, self.alloc, table, &mut scene, &CALLS);
-                all_on(rt, self.alloc, table, &mut scene, &ENDS);
+                for calls in self.lists {
+                    all_on(rt, self.alloc, table, &mut scene, calls);
+                }
                 scene.close();
             }
             Err(_) => assert!(rt; false),
@@ -147,15 +152,33 @@ impl<R: Abort + Threads + Wait + Sync> Program<u64, R> for Trees {
     }
 }
 
+/// A worker with 4 blocks, 4 slots and 9 handles makes these calls.
+fn hold<R: Abort + Threads + Wait + Sync>(
+    rt: &R,
+    alloc: Global,
+    lists: &[&[(On, Answer)]],
+) -> Result<(), Fail> {
+    let program = Trees { alloc, lists };
+    ends(rt, alloc, shape(4, 0, 0, 16), alone(4, 9, 4), &program, 4)
+}
+
 #[test]
 fn a_tree_gains_and_loses_children(rt: HostRuntime) -> Result<(), Fail> {
-    let program = Trees { alloc: rt.alloc() };
-    ends(
+    hold(&rt, rt.alloc(), &[&MISPLACED, &GENERATIONS, &CALLS])
+}
+
+#[test]
+fn no_call_is_made(rt: HostRuntime) -> Result<(), Fail> {
+    hold(&rt, rt.alloc(), &[])
+}
+
+#[test]
+fn a_tree_ends_by_its_root(rt: HostRuntime) -> Result<(), Fail> {
+    hold(
         &rt,
         rt.alloc(),
-        shape(4, 0, 0, 16),
-        alone(4, 9, 4),
-        &program,
-        4,
+        &[
+            &CALLS, &ENDS, &ORDER, &CHILDREN, &KEPT, &BETWEEN, &LAST, &FIRST,
+        ],
     )
 }

@@ -1,0 +1,102 @@
+//! Four threads attach observers to one subject.
+use crate::listed::{Answer, Call, all};
+use crate::shapes::shape;
+use crate::structures::observers::{On, all_on};
+use handle_table::{Cell, HandleTable, Home, Leader, Manned, Program, Team, run_leader};
+use std::alloc::Global;
+use std::process::Abort;
+use std::sync::Wait;
+use std::test::Fail;
+use std::thread::Threads;
+
+/// The subject, for the workers.
+const SUBJECT: Cell = Cell::Shared(1);
+
+/// The leader's slot 0 has the subject too.
+const BEGIN: [(Call, Answer); 3] = [
+    (Call::Make(0, [7; 4], false, 7), Answer::Done),
+    (Call::Copy(0, 1), Answer::Done),
+    (Call::Store(1, SUBJECT), Answer::WasEmpty),
+];
+
+const LOAD: [(Call, Answer); 1] = [(Call::Load(SUBJECT, 0), Answer::Done)];
+
+const ATTACH: [(On, Answer); 1] = [(On::Attach(0, 9), Answer::Done)];
+
+const TEAM: Team = Team {
+    workers: 4,
+    slots: 1,
+    allowance: 8,
+    blocks: 250,
+};
+
+/// Each worker attaches 250 observers, and then the leader counts those that are told, and adds up what they are told.
+#[derive(Drop)]
+struct Attaching {
+    alloc: Global,
+    told: u64,
+    sum: u64,
+}
+
+impl<R: Abort + Threads + Wait + Sync> Program<u64, R> for Attaching {
+    fn work<H: Home>(&self, rt: &R, _number: usize, table: &mut HandleTable<'_, u64, H>) {
+        all(rt, table, &LOAD);
+        match table.observers(self.alloc, 0) {
+            Ok(mut observers) => {
+                for _ in 0..250 {
+                    all_on(rt, table, &mut observers, &ATTACH);
+                }
+                observers.close();
+            }
+            Err(_) => assert!(rt; false),
+        }
+    }
+}
+
+impl Attaching {
+    fn count<R: Abort + Wait, H: Home>(&mut self, rt: &R, table: &mut HandleTable<'_, u64, H>) {
+        let (mut told, mut sum) = (0u64, 0u64);
+        match table.observers(self.alloc, 0) {
+            Ok(mut observers) => {
+                let each = table.each(rt, &mut observers, |field: u64| {
+                    told = told.wrapping_add(1);
+                    sum = sum.wrapping_add(field);
+                });
+                assert!(rt; each.is_ok());
+                observers.close();
+            }
+            Err(_) => assert!(rt; false),
+        }
+        (self.told, self.sum) = (told, sum);
+    }
+}
+
+impl<R: Abort + Threads + Wait + Sync> Leader<u64, R> for Attaching {
+    fn lead<H: Home>(
+        &mut self,
+        rt: &R,
+        before: Option<Manned>,
+        table: &mut HandleTable<'_, u64, H>,
+    ) -> Option<Team> {
+        if before.is_none() {
+            all(rt, table, &BEGIN);
+            return Some(TEAM);
+        }
+        self.count(rt, table);
+        None
+    }
+}
+
+#[test]
+fn each_tells_of_all_that_four_threads_attached(rt: HostRuntime) -> Result<(), Fail> {
+    let mut leader = Attaching {
+        alloc: rt.alloc(),
+        told: 0,
+        sum: 0,
+    };
+    let census = run_leader(&rt, rt.alloc(), shape(1_001, 2, 0, 36), 2, &mut leader)?;
+    assert_eq!(rt; (leader.told, leader.sum), (1_000, 7_000));
+    // (the observers are left in their cell, and the subject)
+    assert_eq!(rt; census.vacant(), 0);
+    Ok(())
+}
