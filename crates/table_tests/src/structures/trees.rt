@@ -104,9 +104,9 @@ const CALLS: [(On, Answer); 32] = [
     (On::Table(Call::EndNext), Answer::Value(None)),
 ];
 
-/// A root in slot 0 with children 8 and 6, and 7 below 6; then a root whose child a slot owns too, and one beside what
-/// is left to end.
-const ENDS: [(On, Answer); 22] = [
+/// A root in slot 0 with children 8 and 6, and 7 below 6; then a root whose child a slot owns too, one beside what is
+/// left to end, and one where 5 handles are free.
+const ENDS: [(On, Answer); 33] = [
     (On::Teardown(4), Answer::Not(Fault::Slot)),
     (On::Teardown(0), Answer::Not(Fault::Vacant)),
     (On::Table(Call::Downgrade(2, 3)), Answer::Done),
@@ -129,6 +129,18 @@ const ENDS: [(On, Answer); 22] = [
     (On::Table(Call::Make(0, [11; 4], false, 11)), Answer::Done),
     (On::Teardown(0), Answer::Field(11)),
     (On::Table(Call::EndNext), Answer::Value(Some(10))),
+    (On::Table(Call::Make(0, [12; 4], false, 12)), Answer::Done),
+    (On::AddChild(0, 13, 1), Answer::Done),
+    (On::AddChild(0, 14, 2), Answer::Done),
+    (On::Table(Call::Downgrade(1, 3)), Answer::Done),
+    (On::Detach(1), LIMIT),
+    (On::Teardown(0), Answer::Field(12)),
+    (On::Table(Call::Reset(3)), Answer::OthersOwn),
+    // (14 owns 13 as the child beside it)
+    (On::Table(Call::Reset(1)), Answer::OthersOwn),
+    (On::Table(Call::Reset(2)), Answer::WasLast),
+    (On::Table(Call::EndNext), Answer::Value(Some(14))),
+    (On::Table(Call::EndNext), Answer::Value(Some(13))),
 ];
 
 /// A worker with a scene, on which it makes the calls of each list.
