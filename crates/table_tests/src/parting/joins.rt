@@ -36,15 +36,23 @@ const ALL: [(Call, Answer); 8] = [
     (Call::Copy(2, 5), Answer::Not(Fault::Call(Refusal::Limit))),
 ];
 
+/// Joins the other table; where that is refused, what comes back.
+pub(crate) fn try_join<'d, H: Home>(
+    table: &mut HandleTable<'d, u64, H>,
+    other: HandleTable<'d, u64, H>,
+) -> Option<Returned<HandleTable<'d, u64, H>>> {
+    table.join(other).err()
+}
+
 /// The other table is joined, which can't be refused.
 pub(crate) fn come_together<'d, R: Abort + Wait, H: Home>(
     rt: &R,
     table: &mut HandleTable<'d, u64, H>,
     other: HandleTable<'d, u64, H>,
 ) {
-    match table.join(other) {
-        Ok(()) => {}
-        Err(returned) => {
+    match try_join(table, other) {
+        None => {}
+        Some(returned) => {
             table.absorb(rt, returned.back);
             assert!(rt; false);
         }
@@ -58,9 +66,9 @@ fn clash_and_join<'d, R: Abort + Wait, H: Home>(
     table: &mut HandleTable<'d, u64, H>,
     other: HandleTable<'d, u64, H>,
 ) {
-    match table.join(other) {
-        Ok(()) => assert!(rt; false),
-        Err(returned) => {
+    match try_join(table, other) {
+        None => assert!(rt; false),
+        Some(returned) => {
             let Returned { why, mut back } = returned;
             assert!(rt; why == Fault::Taken);
             all(rt, table, &[(Call::Read(2), Answer::Field(1))]);

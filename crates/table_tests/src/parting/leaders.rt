@@ -3,6 +3,7 @@ use crate::listed::{Answer, Call, all};
 use crate::shapes::shape;
 use control_word::Refusal;
 use handle_table::{Cell, HandleTable, Home, Leader, Manned, Program, Team, run_leader};
+use std::alloc::Global;
 use std::process::Abort;
 use std::sync::Wait;
 use std::test::Fail;
@@ -140,21 +141,29 @@ impl<R: Threads + Wait + Sync> Leader<u64, R> for Alone {
     }
 }
 
+/// In a domain of so many blocks the leader has a table of so many slots: how many blocks are vacant then.
+fn vacant<R: Threads + Wait + Sync>(
+    rt: &R,
+    alloc: Global,
+    blocks: u32,
+    slots: usize,
+    leader: &mut Alone,
+) -> Result<u32, Refusal> {
+    let census = run_leader(rt, alloc, shape(blocks, 0, 0, 1), slots, leader)?;
+    Ok(census.vacant())
+}
+
 #[test]
 fn a_refused_leader_is_not_called(rt: HostRuntime) -> Result<(), Fail> {
-    let alloc = rt.alloc();
     let mut leader = Alone { calls: 0 };
-    match run_leader(&rt, alloc, shape(0, 0, 0, 1), 1, &mut leader) {
-        Ok(_) => assert!(rt; false),
-        Err(why) => assert_eq!(rt; why, Refusal::Shape),
+    let runs = [
+        (0, 1, Err(Refusal::Shape), 0),
+        (1, usize::MAX, Err(Refusal::Memory), 0),
+        (1, 1, Ok(1), 1),
+    ];
+    for (blocks, slots, wanted, calls) in runs {
+        let told = vacant(&rt, rt.alloc(), blocks, slots, &mut leader);
+        assert!(rt; told == wanted && leader.calls == calls, "{blocks} {slots}");
     }
-    match run_leader(&rt, alloc, shape(1, 0, 0, 1), usize::MAX, &mut leader) {
-        Ok(_) => assert!(rt; false),
-        Err(why) => assert_eq!(rt; why, Refusal::Memory),
-    }
-    assert_eq!(rt; leader.calls, 0);
-    let census = run_leader(&rt, alloc, shape(1, 0, 0, 1), 1, &mut leader)?;
-    assert_eq!(rt; leader.calls, 1);
-    assert_eq!(rt; census.vacant(), 1);
     Ok(())
 }

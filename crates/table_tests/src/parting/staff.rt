@@ -4,6 +4,7 @@ use control_block::census::close;
 use control_word::Refusal;
 use handle_table::{Fault, HandleTable, Home, Share, Work, run_workers, run_workers_open};
 use std::alloc::Global;
+use std::process::Abort;
 use std::sync::Wait;
 use std::test::Fail;
 use std::thread::Threads;
@@ -48,17 +49,33 @@ const SHARE: Share = Share {
     blocks: 2,
 };
 
+/// The workers work in a domain of so many blocks and handles: how many blocks are vacant then.
+fn vacant<R: Threads + Wait + Sync>(
+    rt: &R,
+    alloc: Global,
+    blocks: u32,
+    allowance: u32,
+    workers: &mut Vec<Maker>,
+) -> Result<u32, Refusal> {
+    let census = run_workers(rt, alloc, shape(blocks, 0, 0, allowance), SHARE, workers)?;
+    Ok(census.vacant())
+}
+
+/// Each worker wanted, made and was refused so many objects.
+fn have_made<R: Abort>(rt: &R, workers: &[Maker], wanted: &[(u32, u32, u32)]) {
+    assert_eq!(rt; workers.len(), wanted.len());
+    for (worker, wanted) in workers.iter().zip(wanted.iter()) {
+        assert_eq!(rt; (worker.wanted, worker.made, worker.refused), *wanted);
+    }
+}
+
 #[test]
 fn each_worker_is_back_in_its_place(rt: HostRuntime) -> Result<(), Fail> {
     let mut workers = makers(rt.alloc(), 4)?;
-    let census = run_workers(&rt, rt.alloc(), shape(8, 0, 0, 20), SHARE, &mut workers)?;
-    assert_eq!(rt; census.vacant(), 8);
-    assert_eq!(rt; workers.len(), 4);
-    for (at, worker) in workers.iter().enumerate() {
-        let number = at as u32;
-        assert_eq!(rt; (worker.wanted, worker.made), (number, number.min(2)));
-        assert_eq!(rt; worker.refused, number.saturating_sub(2));
-    }
+    let vacant = vacant(&rt, rt.alloc(), 8, 20, &mut workers)?;
+    assert_eq!(rt; vacant, 8);
+    let made = [(0, 0, 0), (1, 1, 0), (2, 2, 0), (3, 2, 1)];
+    have_made(&rt, workers.as_slice(), &made);
     Ok(())
 }
 
@@ -83,16 +100,16 @@ fn a_sole_desk_comes_out_and_closes(rt: HostRuntime) -> Result<(), Fail> {
 #[test]
 fn no_worker_works_where_one_has_no_share(rt: HostRuntime) -> Result<(), Fail> {
     let mut workers = makers(rt.alloc(), 3)?;
-    let few = run_workers(&rt, rt.alloc(), shape(8, 0, 0, 12), SHARE, &mut workers);
-    assert_eq!(rt; few.err(), Some(Refusal::Limit));
-    let full = run_workers(&rt, rt.alloc(), shape(5, 0, 0, 20), SHARE, &mut workers);
-    assert_eq!(rt; full.err(), Some(Refusal::Full));
-    let none = run_workers(&rt, rt.alloc(), shape(0, 0, 0, 20), SHARE, &mut workers);
-    assert_eq!(rt; none.err(), Some(Refusal::Shape));
-    assert_eq!(rt; workers.len(), 3);
-    for worker in &workers {
-        assert_eq!(rt; (worker.made, worker.refused), (0, 0));
+    let refusals = [
+        (8, 12, Refusal::Limit),
+        (5, 20, Refusal::Full),
+        (0, 20, Refusal::Shape),
+    ];
+    for (blocks, allowance, why) in refusals {
+        let told = vacant(&rt, rt.alloc(), blocks, allowance, &mut workers);
+        assert_eq!(rt; told, Err(why));
     }
+    have_made(&rt, workers.as_slice(), &[(0, 0, 0), (1, 0, 0), (2, 0, 0)]);
     Ok(())
 }
 

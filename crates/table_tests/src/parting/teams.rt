@@ -1,7 +1,7 @@
 //! Teams: how many workers have a table, why they are fewer, and a team within a worker's table.
 use crate::alone::ends;
 use crate::listed::{Answer, Call, all};
-use crate::parting::joins::come_together;
+use crate::parting::joins::{come_together, try_join};
 use crate::shapes::{alone, shape};
 use control_word::Refusal;
 use handle_table::{Crew, Fault, HandleTable, Home, Program, Returned, Team, run};
@@ -71,9 +71,9 @@ fn join_wider<'d, R: Abort + Wait, H: Home>(
         &mut wider,
         &[(Call::Make(3, [0; 4], false, 7), Answer::Done)],
     );
-    match table.join(wider) {
-        Ok(()) => assert!(rt; false),
-        Err(returned) => {
+    match try_join(table, wider) {
+        None => assert!(rt; false),
+        Some(returned) => {
             let Returned { why, mut back } = returned;
             assert!(rt; why == Fault::Slot);
             all(rt, &mut back, &[(Call::MoveTo(3, 2), Answer::Done)]);
