@@ -19,10 +19,10 @@ loop-assignment-preserved g c =
     let pushed = c.push_reserved.ensures.items in
     let many = inv.0 in
     let a : length c.loop-assignment.assignments.items ≡ length assignments + 1
-        = omega (arith, ap length popped, length-append assignments (assignment ∷ [])) in
+    = omega (arith, ap length popped, length-append assignments (assignment ∷ [])) in
     let b : length c.loop-assignment.shares.items ≡ length shares + 1 = omega (arith, ap length taken, length-append shares (share ∷ [])) in
     let room = same_room c.loop-assignment.assignments.items assignments assignment c.loop-assignment.workers.items
-        c.push_reserved.new.self.items c.worker_of.result _
+    c.push_reserved.new.self.items c.worker_of.result _
     popped pushed inv.2 in
     let capacity = c.push_reserved.ensures.capacity in (
       omega (arith, many, a, b),
