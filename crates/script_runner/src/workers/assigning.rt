@@ -53,7 +53,7 @@ fn assignment_for(
     })
 }
 
-/// A assignment for each thread.
+/// An assignment for each thread.
 fn assignments_for(
     alloc: Global,
     actors: &[Actor],
