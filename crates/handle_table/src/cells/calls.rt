@@ -5,8 +5,7 @@ ghost use Rattle.handle_table.specs.Cells.{ExchangesSlot, LoadsIntoSlot, StoresF
 use crate::cells::held::{exchange_held, load_held};
 use crate::cells::{Cell, find};
 use crate::fault::Fault;
-use crate::slots::assigning::{assign, assign_as_seen, let_go};
-use crate::slots::is_vacant;
+use crate::slots::assigning::{assign, let_go};
 use crate::slots::kinds::take_kind;
 use crate::table::{HandleTable, Home};
 use shared_handle::Gone;
@@ -27,17 +26,15 @@ impl<'d, V: Drop + Send, H: Home> HandleTable<'d, V, H> {
             Ok(at) => at,
             Err(why) => return Err(why),
         };
-        let vacant = is_vacant(&self.slots, to);
         match load_held(rt, self.domain, &mut self.desk, at) {
             Ok(found) => {
-                assign_as_seen(
+                assign(
                     self.domain,
                     &mut self.desk,
                     &mut self.slots,
                     &mut self.pile,
                     to,
                     found,
-                    vacant,
                 );
                 Ok(())
             }

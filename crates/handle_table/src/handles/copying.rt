@@ -8,8 +8,8 @@ ghost use Rattle.handle_table.specs.Calls.{WhyNotMoved};
 ghost use Rattle.handle_table.specs.declared.fault.Fault.TheVariants as fault;
 
 use crate::fault::Fault;
-use crate::slots::assigning::{assign, assign_as_seen};
-use crate::slots::{handle_at, is_vacant, owner_at, take_handle};
+use crate::slots::assigning::assign;
+use crate::slots::{handle_at, owner_at, take_handle};
 use crate::table::{HandleTable, Home};
 use control_block::desk::Desk;
 use control_block::domain::Domain;
@@ -55,21 +55,19 @@ impl<'d, V: Drop + Send, H: Home> HandleTable<'d, V, H> {
         if to >= self.slots.len() {
             return Err(Fault::Slot);
         }
-        let vacant = is_vacant(&self.slots, to);
         let copy = match handle_at(&self.slots, from) {
             Ok(handle) => copy_of(self.domain, &mut self.desk, handle),
             Err(why) => return Err(why),
         };
         match copy {
             Ok(copy) => {
-                assign_as_seen(
+                assign(
                     self.domain,
                     &mut self.desk,
                     &mut self.slots,
                     &mut self.pile,
                     to,
                     copy,
-                    vacant,
                 );
                 Ok(())
             }

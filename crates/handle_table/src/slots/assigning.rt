@@ -1,5 +1,5 @@
 //! Handles that leave their slots, and those that come in their places.
-ghost use Rattle.std.specs.Prelude.{◌≡◌, ◌+◌, ◌<◌, ◌∷◌, true, length, slice_get, None, Some};
+ghost use Rattle.std.specs.Prelude.{◌≡◌, ◌+◌, ◌<◌, ◌∷◌, length, Some};
 ghost use Rattle.control_block.specs.Desks.{bag_of};
 ghost use Rattle.control_block.specs.HandleLists.{IsHeldByDesk, without_held};
 ghost use Rattle.shared_handle.specs.Piles.{Bears};
@@ -59,33 +59,8 @@ pub(crate) fn assign<V: Drop + Send>(
         (on_pile pile.old) to handle desk.new slots.new.items (on_pile pile.new) }
     ensures many { length slots.new.items ≡ length slots.old.items }
 {
-    let vacant = is_vacant(slots, to);
-    assign_as_seen(domain, desk, slots, pile, to, handle, vacant);
-}
-
-/// The same, by a look at the slot that came before: a look waits for an atomic step that it comes after.
-#[inline(always)]
-pub(crate) fn assign_as_seen<V: Drop + Send>(
-    domain: &Domain<V>,
-    desk: &mut Desk<V>,
-    slots: &mut Vec<Option<Held>>,
-    pile: &mut Pile<V>,
-    to: usize,
-    handle: Held,
-    vacant: bool,
-)
-    requires bears { Bears domain.now desk.old pile.old }
-    requires fits { FitsSlots desk.old (Some handle ∷ slots.old.items) }
-    requires there { to < length slots.old.items }
-    requires seen { vacant ≡ true → slice_get slots.old.items to ≡ Some None }
-    ensures bears { Bears domain.now desk.new pile.new }
-    ensures fits { FitsSlots desk.new slots.new.items }
-    ensures assigns { Assigns desk.old slots.old.items
-        (on_pile pile.old) to handle desk.new slots.new.items (on_pile pile.new) }
-    ensures many { length slots.new.items ≡ length slots.old.items }
-{
     // apart, since a put reads what lay there
-    if vacant {
+    if is_vacant(slots, to) {
         fill(slots, to, handle);
         return;
     }

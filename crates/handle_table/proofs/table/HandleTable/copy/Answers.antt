@@ -9,22 +9,15 @@ pub copy_of-copy-requires-clause-held : goal.copy_of-copy-requires-clause-held
 copy_of-copy-requires-clause-held g c κs within =
     fits_at c.self.inside.desk c.self.inside.slots.items c.args.from c.in-Ok.handle.now c.self.invariant.fits c.in-Ok.ensures.found
 
-pub assign_as_seen-requires-clause-bears : goal.assign_as_seen-requires-clause-bears
-assign_as_seen-requires-clause-bears g c κs within =
+pub assign-requires-clause-bears : goal.assign-requires-clause-bears
+assign-requires-clause-bears g c κs within =
     kept c.self.inside.domain.now c.self.inside.desk c.copy_of-copy.new.desk c.self.inside.pile c.self.invariant.bears c.in-Ok-copy.ensures.keeps
 
 pub returns-in-Ok-copy-clause-copied : goal.returns-in-Ok-copy-clause-copied
 returns-in-Ok-copy-clause-copied g c =
-    let after = c.assign_as_seen in
-    subst (λ (t : TableNow g.row.V.Denot). Copies t c.args.from c.args.to (seen after.new.desk after.new.slots.items after.new.pile))
-    c.self.view_is
+    subst (λ (t : TableNow g.row.V.Denot). Copies t c.args.from c.args.to (seen c.assign.new.desk c.assign.new.slots.items c.assign.new.pile)) c.self.view_is
     record {
       of = c.in-Ok.handle.now;
       at = c.in-Ok.ensures.found;
-      copy = record {
-        handle = c.in-Ok-copy.copy;
-        between = c.copy_of-copy.new.desk;
-        comes = c.in-Ok-copy.ensures.copy;
-        assigns = after.ensures.assigns;
-      };
+      copy = record { handle = c.in-Ok-copy.copy; between = c.copy_of-copy.new.desk; comes = c.in-Ok-copy.ensures.copy; assigns = c.assign.ensures.assigns };
     }

@@ -15,12 +15,12 @@ pub returns-in-Err-clause-refused : goal.returns-in-Err-clause-refused
 returns-in-Err-clause-refused g c =
     (subst (λ (t : TableNow g.row.V.Denot). WhyNotLoaded t c.args.cell c.args.to c.in-Err.why) c.self.view_is (inr (inl c.in-Err.ensures.fault)), refl)
 
-pub assign_as_seen-requires-clause-bears : goal.assign_as_seen-requires-clause-bears
-assign_as_seen-requires-clause-bears g c κs within =
+pub assign-requires-clause-bears : goal.assign-requires-clause-bears
+assign-requires-clause-bears g c κs within =
     kept c.self.inside.domain.now c.self.inside.desk c.load_held.new.desk c.self.inside.pile c.self.invariant.bears c.in-Ok-load_held.ensures.keeps
 
-pub assign_as_seen-requires-clause-fits : goal.assign_as_seen-requires-clause-fits
-assign_as_seen-requires-clause-fits g c κs within =
+pub assign-requires-clause-fits : goal.assign-requires-clause-fits
+assign-requires-clause-fits g c κs within =
     let e = c.in-Ok-load_held.ensures in
     fits_more c.self.inside.desk c.load_held.new.desk c.self.inside.slots.items c.in-Ok-load_held.found c.self.invariant.fits e.bag e.held
 
@@ -28,8 +28,7 @@ pub returns-in-Ok-load_held-clause-loaded : goal.returns-in-Ok-load_held-clause-
 returns-in-Ok-load_held-clause-loaded g c =
     let at = c.in-Ok.at in let k = c.in-Ok.ensures.found.1 in let h = c.in-Ok-load_held.found in let e = c.in-Ok-load_held.ensures in
     let d = c.self.inside.desk in
-    let after = c.assign_as_seen in
-    subst (λ (t : TableNow g.row.V.Denot). LoadsIntoSlot t c.args.cell c.args.to (seen after.new.desk after.new.slots.items after.new.pile))
+    subst (λ (t : TableNow g.row.V.Denot). LoadsIntoSlot t c.args.cell c.args.to (seen c.assign.new.desk c.assign.new.slots.items c.assign.new.pile))
     c.self.view_is
     record {
       site = at.site;
@@ -42,7 +41,7 @@ returns-in-Ok-load_held-clause-loaded g c =
           subst (λ (z : Kind). cells.Loads d (cell_of_site d at.site) z (block_of_held h) (place_of_held h)
               c.load_held.new.desk) k e.event,
         );
-        assigns = c.assign_as_seen.ensures.assigns;
+        assigns = c.assign.ensures.assigns;
       };
     }
 

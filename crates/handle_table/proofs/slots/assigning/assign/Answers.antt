@@ -1,7 +1,7 @@
 use Rattle.std.proofs.Common.{Some, None, refl, subst, sym}
 use Rattle.handle_table.specs.Tables.{FitsSlots}
 use Rattle.handle_table.proofs.Filling.{fits_at, fits_less, fits_none, fits_swap}
-use Rattle.handle_table.proofs.slots.assigning.assign_as_seen.Goals as goal
+use Rattle.handle_table.proofs.slots.assigning.assign.Goals as goal
 
 pub let_go-requires-clause-held : goal.let_go-requires-clause-held
 let_go-requires-clause-held g c κs within =
@@ -29,8 +29,8 @@ pub returns-in-Some-clause-assigns : goal.returns-in-Some-clause-assigns
 returns-in-Some-clause-assigns g c =
     record { old = Some c.in-Some.old; was = c.in-Some.ensures.0; slots = c.put.ensures.1; leaves = (c.let_go.result, c.let_go.ensures.left) }
 
-pub returns-then-vacant-clause-fits : goal.returns-then-vacant-clause-fits
-returns-then-vacant-clause-fits g c =
+pub returns-then-is_vacant-clause-fits : goal.returns-then-is_vacant-clause-fits
+returns-then-is_vacant-clause-fits g c =
     subst (FitsSlots c.args.desk.now) (sym c.fill.ensures)
     (fits_none c.args.desk.now _
-    (fits_swap c.args.desk.now c.args.slots.now.items c.args.to (Some c.args.handle) None c.requires.fits (c.requires.seen c.if-vacant.true)))
+    (fits_swap c.args.desk.now c.args.slots.now.items c.args.to (Some c.args.handle) None c.requires.fits (c.is_vacant.ensures c.if-is_vacant.true)))
