@@ -1,16 +1,16 @@
 -- A word, cut at its first dot, and members spelled and read again.
-use Rattle.std.proofs.Common.{◌≡◌, ℕ, zero, suc, ◌+◌, ◌-◌, ◌<◌, ◌≤◌, Bool, true, false, not, cond, eqb, ltb, List}
+use Rattle.std.proofs.Common.{◌≡◌, ℕ, zero, suc, ◌+◌, ◌-◌, ◌<◌, ◌≤◌, Bool, true, false, not, cond, ltb, List}
 use Rattle.std.proofs.Common.{[], ◌∷◌, ◌++◌, length, take, drop, Some, None, Ok, Err, refl, arith, ◌∙◌}
 use Rattle.std.specs.List.{list_all, position, position_or_len}
-use Rattle.std.specs.Prelude.{codes, ◌&&◌, ◌||◌}
+use Rattle.std.specs.Prelude.{codes, ◌&&◌}
 use Rattle.std.specs.Str.{bytes_eq}
 use Rattle.std.proofs.lemmas.Bool.{ltb-true, ltb-false}
+use Rattle.std.proofs.lemmas.Bool.Decides.{nat_tests}
 use Rattle.std.proofs.lemmas.List.{take_rest}
 use Rattle.std.proofs.lemmas.List.Folds.{list_all-append}
 use Rattle.script_text.specs.declared.fault.Cause.TheVariants.{BadCell}
 use Rattle.script_text.specs.Words.{is_digit, is_lower, is_name, is_name_byte}
 use Rattle.script_text.specs.Cells.{is_dot, member_number_at, member_text, split_dot}
-use Rattle.script_text.proofs.ByteTests.{digit_bounds, is_other, left_of, name_bounds}
 use Rattle.script_text.proofs.LineLemmas.{none_by, some_by}
 use Rattle.script_text.proofs.ReadNames.{same_given}
 use Rattle.script_text.proofs.TidyWords.{IsTidy, both_true, is_tidy_byte, name_is_tidy}
@@ -60,13 +60,13 @@ dot_cut word i h =
 -- ---- words without a dot before it
 
 lower_name : (b : ℕ) → is_lower b ≡ true → is_name_byte b ≡ true
-lower_name b h = left_of (is_lower b || is_digit b) (eqb b 95) (left_of (is_lower b) (is_digit b) h)
+lower_name b h = grind (arith, nat_tests)
 
 name_dot : (b : ℕ) → is_name_byte b ≡ true → is_dot b ≡ false
-name_dot b h = let x = name_bounds b h in is_other b 46 (λ e. omega (arith, x.0, e))
+name_dot b h = grind (arith, nat_tests)
 
 pub digit_dot : (b : ℕ) → is_digit b ≡ true → is_dot b ≡ false
-digit_dot b h = let x = digit_bounds b h in is_other b 46 (λ e. omega (arith, x.0, e))
+digit_dot b h = grind (arith, nat_tests)
 
 -- bytes that pass a test that no dot passes aren't cut
 pub uncut : (p : ℕ → Bool) → ((b : ℕ) → p b ≡ true → is_dot b ≡ false) → (bs : List ℕ) → list_all p bs ≡ true

@@ -1,4 +1,3 @@
-pub mod ByteTests
 pub mod WordLemmas
 pub mod NameLemmas
 pub mod ShapeLemmas

@@ -1,9 +1,10 @@
 -- Words of visible characters, joined by single spaces, are read as they are.
-use Rattle.std.proofs.Common.{◌≡◌, ℕ, ◌-◌, ◌<◌, ◌⊎◌, inl, inr, Bool, true, false, cond, leb, ltb, eqb, List, [], ◌∷◌, ◌++◌}
-use Rattle.std.proofs.Common.{length, get_or, filter, refl, ap, subst, ◌∙◌, arith}
+use Rattle.std.proofs.Common.{◌≡◌, ℕ, ◌-◌, ◌<◌, Bool, true, false, cond, ltb, eqb, List, [], ◌∷◌, ◌++◌, length, get_or, filter, refl}
+use Rattle.std.proofs.Common.{ap, subst, ◌∙◌, arith}
 use Rattle.std.specs.Prelude.{◌&&◌, nat_le, nat_lt}
 use Rattle.std.specs.List.{list_all, slice_split, onto_first, join_with_byte, AllByRecursion}
 use Rattle.std.proofs.lemmas.Bool.{lt-ltb, ltb-true, eqb-true, false_from_ne_true}
+use Rattle.std.proofs.lemmas.Bool.Decides.{nat_tests}
 use Rattle.std.proofs.lemmas.List.Elements.{All-from_recursion}
 use Rattle.std.proofs.lemmas.List.Folds.{list_all-append}
 use Rattle.std.proofs.lemmas.List.Sums.{AllPass-from_list_all}
@@ -11,8 +12,6 @@ use Rattle.std.proofs.lemmas.List.Splits.{slice_split_at, slice_split_none}
 use Rattle.script_text.specs.Words.{is_space, is_clean_byte, is_name_byte, is_lower, is_digit, is_name, words_of, line_content}
 use Rattle.script_text.specs.Drafts.{Draft, after_line, after_words}
 use Rattle.script_text.specs.Grammar.{is_feed, HasNoFeed}
-use Rattle.script_text.proofs.ByteTests.{IsFrom, bounds_of, clean_cases, digit_bounds, is_other, left_of, lower_bounds}
-use Rattle.script_text.proofs.ByteTests.{name_bounds, neither, no_space, within_bounds}
 use Rattle.script_text.proofs.WordLemmas.{and_both}
 
 -- a character that can be seen
@@ -24,30 +23,22 @@ abbrev pub IsTidy : List ℕ → Type 0
 IsTidy w = (0 < length w) × (list_all is_tidy_byte w ≡ true)
 
 tidy_space : (b : ℕ) → is_tidy_byte b ≡ true → is_space b ≡ false
-tidy_space b h =
-    let x = bounds_of 33 126 b h in
-    neither (eqb b 32) (eqb b 9) (is_other b 32 (λ e. omega (arith, x.0, e))) (is_other b 9 (λ e. omega (arith, x.0, e)))
+tidy_space b h = grind (arith, nat_tests)
 
 tidy_clean : (b : ℕ) → is_tidy_byte b ≡ true → is_clean_byte b ≡ true
-tidy_clean b h =
-    let x = bounds_of 33 126 b h in
-    left_of (leb 32 b && leb b 126) (eqb b 9) (within_bounds 32 126 b (omega (arith, x.0)) x.1)
-
-no_feed_by : (b : ℕ) → IsFrom 32 126 b ⊎ (b ≡ 9) → b ≡ 10 → ⊥
-no_feed_by b (inl x) e = omega (arith, x.0, e)
-no_feed_by b (inr x) e = omega (arith, x, e)
+tidy_clean b h = grind (arith, nat_tests)
 
 clean_feed : (b : ℕ) → is_clean_byte b ≡ true → is_feed b ≡ false
-clean_feed b h = is_other b 10 (no_feed_by b (clean_cases b h))
+clean_feed b h = grind (arith, nat_tests)
 
 name_tidy : (b : ℕ) → is_name_byte b ≡ true → is_tidy_byte b ≡ true
-name_tidy b h = let x = name_bounds b h in within_bounds 33 126 b (omega (arith, x.0)) (omega (arith, x.1))
+name_tidy b h = grind (arith, nat_tests)
 
 lower_tidy : (b : ℕ) → is_lower b ≡ true → is_tidy_byte b ≡ true
-lower_tidy b h = let x = lower_bounds b h in within_bounds 33 126 b (omega (arith, x.0)) (omega (arith, x.1))
+lower_tidy b h = grind (arith, nat_tests)
 
 pub digit_tidy : (b : ℕ) → is_digit b ≡ true → is_tidy_byte b ≡ true
-digit_tidy b h = let x = digit_bounds b h in within_bounds 33 126 b (omega (arith, x.0)) (omega (arith, x.1))
+digit_tidy b h = grind (arith, nat_tests)
 
 pub both_true : (a b : Bool) → a ≡ true → b ≡ true → (a && b) ≡ true
 both_true true b h k = k
@@ -135,12 +126,8 @@ no_feed_in ws h = none_of is_clean_byte is_feed clean_feed (joined ws) (joined_c
 abbrev IsClear : List ℕ → Type 0
 IsClear w = list_all is_tidy_byte w ≡ true
 
-seen_by : (b : ℕ) → IsFrom 32 126 b ⊎ (b ≡ 9) → (b ≡ 32 → ⊥) → (b ≡ 9 → ⊥) → is_tidy_byte b ≡ true
-seen_by b (inl x) not_space not_tab = within_bounds 33 126 b (omega (arith, x.0, not_space)) x.1
-seen_by b (inr e) not_space not_tab = absurd (not_tab e)
-
 clean_tidy : (b : ℕ) → is_clean_byte b ≡ true → is_space b ≡ false → is_tidy_byte b ≡ true
-clean_tidy b h k = let other = no_space b k in seen_by b (clean_cases b h) other.0 other.1
+clean_tidy b h k = grind (arith, nat_tests)
 
 onto_clear : (b : ℕ) (parts : List (List ℕ)) → is_tidy_byte b ≡ true → AllByRecursion IsClear parts
     → AllByRecursion IsClear (onto_first b parts)

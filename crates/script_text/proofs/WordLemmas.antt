@@ -7,10 +7,10 @@ use Rattle.std.specs.Str.{IsAscii, IsUtf8}
 use Rattle.std.specs.Str.Parse.{digits_value, ParsesUnsigned}
 use Rattle.std.proofs.lemmas.Str.{IsUtf8-from_ascii}
 use Rattle.std.proofs.lemmas.Str.Parse.{IsNumeralModel, IsDigitsTest, numerals_by_value, parse_digits}
+use Rattle.std.proofs.lemmas.Bool.Decides.{nat_tests}
 use Rattle.std.proofs.lemmas.Bool.{ltb-true, false_from_ne_true}
 use Rattle.script_text.specs.declared.fault.Cause.TheVariants.{BadNumber}
 use Rattle.script_text.specs.Words.{number_at, is_lower, is_digit, is_name_byte, is_name, is_number}
-use Rattle.script_text.proofs.ByteTests.{digit_bounds, lower_bounds, name_bounds}
 
 pub and_both : (a b : Bool) → (a && b) ≡ true → (a ≡ true) × (b ≡ true)
 and_both true b h = (refl, h)
@@ -24,13 +24,13 @@ ascii_from_test p low (b ∷ bs) h zero = low b (and_both (p b) (list_all p bs) 
 ascii_from_test p low (b ∷ bs) h (suc i) = ascii_from_test p low bs (and_both (p b) (list_all p bs) h).1 i
 
 name_byte_low : (b : ℕ) → is_name_byte b ≡ true → b < 128
-name_byte_low b h = let x = name_bounds b h in omega (arith, x.1)
+name_byte_low b h = grind (arith, nat_tests)
 
 digit_low : (b : ℕ) → is_digit b ≡ true → b < 128
-digit_low b h = let x = digit_bounds b h in omega (arith, x.1)
+digit_low b h = grind (arith, nat_tests)
 
 lower_low : (b : ℕ) → is_lower b ≡ true → b < 128
-lower_low b h = let x = lower_bounds b h in omega (arith, x.1)
+lower_low b h = grind (arith, nat_tests)
 
 pub name_utf8 : (w : List ℕ) → is_name w ≡ true → IsUtf8 w
 name_utf8 [] h = absurd cc

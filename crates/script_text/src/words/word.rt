@@ -3,9 +3,8 @@
 ghost use Rattle.std.specs.Prelude.{◌≡◌, ◌||◌, map, IfOk};
 ghost use Rattle.std.specs.List.{list_all};
 ghost use Rattle.script_text.specs.Reading.{Gives};
-ghost use Rattle.script_text.specs.Words.{is_space, is_clean_byte, is_lower, is_digit, is_name_byte, words_of};
-ghost use Rattle.script_text.specs.Words.{line_content, is_name, name_at, number_at, cell_number_at, free_cell_at};
-ghost use Rattle.script_text.specs.Words.{field_numbered, field_of_word};
+ghost use Rattle.script_text.specs.Words.{is_space, is_clean_byte, is_name_byte, is_digit, words_of, line_content};
+ghost use Rattle.script_text.specs.Words.{is_name, name_at, number_at, cell_number_at, free_cell_at, field_of_word};
 
 use crate::fault::{Cause, Stop};
 use control_word::limits::{NAME_BYTES, SCRIPT_SHARED_CELLS};
@@ -25,22 +24,10 @@ fn is_clean_code(b: u8) -> bool
     matches!(b, b' '..=b'~' | b'\t')
 }
 
-fn is_lower_code(b: u8) -> bool
-    ensures { result ≡ is_lower b }
-{
-    matches!(b, b'a'..=b'z')
-}
-
-fn is_digit_code(b: u8) -> bool
-    ensures { result ≡ is_digit b }
-{
-    matches!(b, b'0'..=b'9')
-}
-
 fn is_name_code(b: u8) -> bool
     ensures { result ≡ is_name_byte b }
 {
-    is_lower_code(b) || is_digit_code(b) || b == b'_'
+    matches!(b, b'a'..=b'z' | b'0'..=b'9' | b'_')
 }
 
 /// A line without the carriage return at its end.
@@ -80,9 +67,9 @@ pub(crate) fn is_name_word(word: &[u8]) -> bool
 {
     match word {
         [] => false,
-        [first, rest @ ..] => {
-            is_lower_code(*first) && rest.len() < NAME_BYTES && is_name_tail(rest)
-        }
+        [first, rest @ ..] => matches!(*first, b'a'..=b'z')
+            && rest.len() < NAME_BYTES
+            && is_name_tail(rest),
     }
 }
 
@@ -102,7 +89,7 @@ pub(crate) fn name_of(word: &[u8]) -> Result<&str, Stop>
 fn is_all_digits(word: &[u8]) -> bool
     ensures { result ≡ list_all is_digit word.now }
 {
-    word.iter().all(|b| is_digit_code(*b))
+    word.iter().all(|b| matches!(*b, b'0'..=b'9'))
 }
 
 /// The number that a word is. Rust's `parse` would take a plus sign, so digits are asked for first.
@@ -121,27 +108,17 @@ pub(crate) fn number_of(word: &[u8]) -> Result<u64, Stop>
     }
 }
 
-/// The field with this number.
-fn field_numbered(number: u64) -> Result<Field, Stop>
-    ensures { Gives (λ f. f) result (field_numbered number) }
-{
-    match number {
-        0 => Ok(Field::Zero),
-        1 => Ok(Field::One),
-        2 => Ok(Field::Two),
-        3 => Ok(Field::Three),
-        _ => Err(Stop::Cause(Cause::BadField)),
-    }
-}
-
 /// The field that a word is.
 #[tactic(auto, unfolding(crate::specs::Words::field_of_word))]
 pub(crate) fn field_of(word: &[u8]) -> Result<Field, Stop>
     ensures { Gives (λ f. f) result (field_of_word word.now) }
 {
     match number_of(word) {
-        Ok(number) => field_numbered(number),
-        Err(Stop::Cause(_)) => Err(Stop::Cause(Cause::BadField)),
+        Ok(0) => Ok(Field::Zero),
+        Ok(1) => Ok(Field::One),
+        Ok(2) => Ok(Field::Two),
+        Ok(3) => Ok(Field::Three),
+        Ok(_) | Err(Stop::Cause(_)) => Err(Stop::Cause(Cause::BadField)),
         Err(Stop::Memory) => Err(Stop::Memory),
     }
 }
