@@ -9,112 +9,112 @@ pub returns-then-self-len-clause-fits : goal.returns-then-self-len-clause-fits
 returns-then-self-len-clause-fits c = grind (arith, common_steps)
 
 pub returns-in-Make-clause-stepped : goal.returns-in-Make-clause-stepped
-returns-in-Make-clause-stepped c = c.begin.ensures.stepped
+returns-in-Make-clause-stepped c = grind (arith, common_steps)
 
 pub returns-in-Make-clause-fits : goal.returns-in-Make-clause-fits
-returns-in-Make-clause-fits c = c.begin.ensures.fits
+returns-in-Make-clause-fits c = grind (arith, common_steps)
 
 pub returns-in-Share-clause-stepped : goal.returns-in-Share-clause-stepped
-returns-in-Share-clause-stepped c = c.share.ensures.stepped
+returns-in-Share-clause-stepped c = grind (arith, common_steps)
 
 pub returns-in-Share-clause-fits : goal.returns-in-Share-clause-fits
-returns-in-Share-clause-fits c = c.share.ensures.fits
+returns-in-Share-clause-fits c = grind (arith, common_steps)
 
 pub returns-in-Put-clause-stepped : goal.returns-in-Put-clause-stepped
-returns-in-Put-clause-stepped c = c.put.ensures.stepped
+returns-in-Put-clause-stepped c = grind (arith, common_steps)
 
 pub returns-in-Put-clause-fits : goal.returns-in-Put-clause-fits
-returns-in-Put-clause-fits c = c.put.ensures.fits
+returns-in-Put-clause-fits c = grind (arith, common_steps)
 
 pub returns-in-Count-clause-stepped : goal.returns-in-Count-clause-stepped
-returns-in-Count-clause-stepped c = c.count.ensures.stepped
+returns-in-Count-clause-stepped c = grind (arith, common_steps)
 
 pub returns-in-Count-clause-fits : goal.returns-in-Count-clause-fits
-returns-in-Count-clause-fits c = c.count.ensures.fits
+returns-in-Count-clause-fits c = grind (arith, common_steps)
 
 pub returns-in-Downgrade-clause-stepped : goal.returns-in-Downgrade-clause-stepped
-returns-in-Downgrade-clause-stepped c = c.downgrade.ensures.stepped
+returns-in-Downgrade-clause-stepped c = grind (arith, common_steps)
 
 pub returns-in-Downgrade-clause-fits : goal.returns-in-Downgrade-clause-fits
-returns-in-Downgrade-clause-fits c = c.downgrade.ensures.fits
+returns-in-Downgrade-clause-fits c = grind (arith, common_steps)
 
 pub returns-in-Lock-clause-stepped : goal.returns-in-Lock-clause-stepped
-returns-in-Lock-clause-stepped c = c.lock.ensures.stepped
+returns-in-Lock-clause-stepped c = grind (arith, common_steps)
 
 pub returns-in-Lock-clause-fits : goal.returns-in-Lock-clause-fits
-returns-in-Lock-clause-fits c = c.lock.ensures.fits
+returns-in-Lock-clause-fits c = grind (arith, common_steps)
 
 pub returns-in-Expired-clause-stepped : goal.returns-in-Expired-clause-stepped
-returns-in-Expired-clause-stepped c = c.expired.ensures.stepped
+returns-in-Expired-clause-stepped c = grind (arith, common_steps)
 
 pub returns-in-Expired-clause-fits : goal.returns-in-Expired-clause-fits
-returns-in-Expired-clause-fits c = c.expired.ensures.fits
+returns-in-Expired-clause-fits c = grind (arith, common_steps)
 
 pub returns-in-Read-clause-stepped : goal.returns-in-Read-clause-stepped
-returns-in-Read-clause-stepped c = c.read.ensures.stepped
+returns-in-Read-clause-stepped c = grind (arith, common_steps)
 
 pub returns-in-Read-clause-fits : goal.returns-in-Read-clause-fits
-returns-in-Read-clause-fits c = c.read.ensures.fits
+returns-in-Read-clause-fits c = grind (arith, common_steps)
 
 pub returns-in-FromThis-clause-stepped : goal.returns-in-FromThis-clause-stepped
-returns-in-FromThis-clause-stepped c = c.from_this.ensures.stepped
+returns-in-FromThis-clause-stepped c = grind (arith, common_steps)
 
 pub returns-in-FromThis-clause-fits : goal.returns-in-FromThis-clause-fits
-returns-in-FromThis-clause-fits c = c.from_this.ensures.fits
+returns-in-FromThis-clause-fits c = grind (arith, common_steps)
 
 pub returns-in-Alias-clause-stepped : goal.returns-in-Alias-clause-stepped
-returns-in-Alias-clause-stepped c = c.alias.ensures.stepped
+returns-in-Alias-clause-stepped c = grind (arith, common_steps)
 
 pub returns-in-Alias-clause-fits : goal.returns-in-Alias-clause-fits
-returns-in-Alias-clause-fits c = c.alias.ensures.fits
+returns-in-Alias-clause-fits c = grind (arith, common_steps)
 
 pub returns-in-Move-clause-stepped : goal.returns-in-Move-clause-stepped
-returns-in-Move-clause-stepped c = c.pull.ensures.stepped
+returns-in-Move-clause-stepped c = grind (arith, common_steps)
 
 pub returns-in-Move-clause-fits : goal.returns-in-Move-clause-fits
-returns-in-Move-clause-fits c = c.pull.ensures.fits
+returns-in-Move-clause-fits c = grind (arith, common_steps)
 
 pub returns-in-Ask-clause-stepped : goal.returns-in-Ask-clause-stepped
-returns-in-Ask-clause-stepped c = c.reply.ensures.stepped
+returns-in-Ask-clause-stepped c = grind (arith, common_steps)
 
 pub returns-in-Ask-clause-fits : goal.returns-in-Ask-clause-fits
-returns-in-Ask-clause-fits c = c.reply.ensures.fits
+returns-in-Ask-clause-fits c = grind (arith, common_steps)
 
 pub returns-in-Offer-clause-stepped : goal.returns-in-Offer-clause-stepped
-returns-in-Offer-clause-stepped c = c.offer.ensures.stepped
+returns-in-Offer-clause-stepped c = grind (arith, common_steps)
 
 pub returns-in-Offer-clause-fits : goal.returns-in-Offer-clause-fits
-returns-in-Offer-clause-fits c = c.offer.ensures.fits
+returns-in-Offer-clause-fits c = grind (arith, common_steps)
 
 pub returns-in-Swap-clause-stepped : goal.returns-in-Swap-clause-stepped
-returns-in-Swap-clause-stepped c = c.store.ensures.stepped
+returns-in-Swap-clause-stepped c = grind (arith, common_steps)
 
 pub returns-in-Swap-clause-fits : goal.returns-in-Swap-clause-fits
-returns-in-Swap-clause-fits c = c.store.ensures.fits
+returns-in-Swap-clause-fits c = grind (arith, common_steps)
 
 pub returns-in-Exchange-clause-stepped : goal.returns-in-Exchange-clause-stepped
-returns-in-Exchange-clause-stepped c = c.send.ensures.stepped
+returns-in-Exchange-clause-stepped c = grind (arith, common_steps)
 
 pub returns-in-Exchange-clause-fits : goal.returns-in-Exchange-clause-fits
-returns-in-Exchange-clause-fits c = c.send.ensures.fits
+returns-in-Exchange-clause-fits c = grind (arith, common_steps)
 
 pub returns-in-Load-clause-stepped : goal.returns-in-Load-clause-stepped
-returns-in-Load-clause-stepped c = c.load.ensures.stepped
+returns-in-Load-clause-stepped c = grind (arith, common_steps)
 
 pub returns-in-Load-clause-fits : goal.returns-in-Load-clause-fits
-returns-in-Load-clause-fits c = c.load.ensures.fits
+returns-in-Load-clause-fits c = grind (arith, common_steps)
 
 pub returns-in-Compare-clause-stepped : goal.returns-in-Compare-clause-stepped
-returns-in-Compare-clause-stepped c = c.compare.ensures.stepped
+returns-in-Compare-clause-stepped c = grind (arith, common_steps)
 
 pub returns-in-Compare-clause-fits : goal.returns-in-Compare-clause-fits
-returns-in-Compare-clause-fits c = c.compare.ensures.fits
+returns-in-Compare-clause-fits c = grind (arith, common_steps)
 
 pub returns-in-Drop-clause-stepped : goal.returns-in-Drop-clause-stepped
-returns-in-Drop-clause-stepped c = c.drop_other.ensures.stepped
+returns-in-Drop-clause-stepped c = grind (arith, common_steps)
 
 pub returns-in-Drop-clause-fits : goal.returns-in-Drop-clause-fits
-returns-in-Drop-clause-fits c = c.drop_other.ensures.fits
+returns-in-Drop-clause-fits c = grind (arith, common_steps)
 
 pub returns-in-Leave-clause-stepped : goal.returns-in-Leave-clause-stepped
 returns-in-Leave-clause-stepped c = grind (arith, common_steps)
@@ -123,7 +123,7 @@ pub returns-in-Leave-clause-fits : goal.returns-in-Leave-clause-fits
 returns-in-Leave-clause-fits c = grind (arith, common_steps)
 
 pub returns-in-OnShelf-clause-stepped : goal.returns-in-OnShelf-clause-stepped
-returns-in-OnShelf-clause-stepped c = c.on_shelf.ensures.stepped
+returns-in-OnShelf-clause-stepped c = grind (arith, common_steps)
 
 pub returns-in-OnShelf-clause-fits : goal.returns-in-OnShelf-clause-fits
-returns-in-OnShelf-clause-fits c = c.on_shelf.ensures.fits
+returns-in-OnShelf-clause-fits c = grind (arith, common_steps)

@@ -46,9 +46,3 @@ returns-clause-fits c =
     subst (λ (u : Story). FitsThread d (At t (Matched c.args.found)) u) (sym c.bring.ensures.table)
     (compare_brought d t v c.args.name c.args.cell c.args.weak c.args.found r.fits r.act p r.half r.alike
     (subst (λ (u : Story). pending u d ≡ owing_for (story_state u) (slot_value slots (hand slots)) 256) c.bring.ensures.table owes))
-
-pub returns-in_default-clause-stepped : goal.returns-in_default-clause-stepped
-returns-in_default-clause-stepped c = c.match_cell.ensures.stepped
-
-pub returns-in_default-clause-fits : goal.returns-in_default-clause-fits
-returns-in_default-clause-fits c = c.match_cell.ensures.fits

@@ -7,10 +7,10 @@ pub refuse-requires-clause-act : goal.refuse-requires-clause-act
 refuse-requires-clause-act c = inr (c.args.name, inr c.requires.act)
 
 pub returns-then-not-is_there-clause-stepped : goal.returns-then-not-is_there-clause-stepped
-returns-then-not-is_there-clause-stepped c = c.refuse.ensures.stepped
+returns-then-not-is_there-clause-stepped c = grind (arith, common_steps)
 
 pub returns-then-not-is_there-clause-fits : goal.returns-then-not-is_there-clause-fits
-returns-then-not-is_there-clause-fits c = c.refuse.ensures.fits
+returns-then-not-is_there-clause-fits c = grind (arith, common_steps)
 
 pub returns-then-not-may_go_in-clause-stepped : goal.returns-then-not-may_go_in-clause-stepped
 returns-then-not-may_go_in-clause-stepped c = grind (arith, common_steps)
@@ -19,10 +19,10 @@ pub returns-then-not-may_go_in-clause-fits : goal.returns-then-not-may_go_in-cla
 returns-then-not-may_go_in-clause-fits c = grind (arith, common_steps)
 
 pub returns-in_default-clause-stepped : goal.returns-in_default-clause-stepped
-returns-in_default-clause-stepped c = c.exchange.ensures.stepped
+returns-in_default-clause-stepped c = grind (arith, common_steps)
 
 pub returns-in_default-clause-fits : goal.returns-in_default-clause-fits
-returns-in_default-clause-fits c = c.exchange.ensures.fits
+returns-in_default-clause-fits c = grind (arith, common_steps)
 
 pub returns-clause-stepped : goal.returns-clause-stepped
 returns-clause-stepped c = grind (arith, common_steps)

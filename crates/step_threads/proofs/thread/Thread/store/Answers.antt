@@ -25,9 +25,3 @@ returns-clause-stepped c =
     (waits_act t v (Swap c.args.cell) c.requires.rest c.requires.none c.requires.within c.requires.act)
     (step_brings d t v (Swap c.args.cell) c.args.cell (hand slots) c.requires.none c.requires.within c.requires.act refl x c.requires.rest goes at)
     (ap (λ (s : Said). Quiet s) (c.silent.ensures ∙ ap silent c.statement-statement.ensures)) c.bring.ensures.table refl refl
-
-pub returns-in_default-clause-stepped : goal.returns-in_default-clause-stepped
-returns-in_default-clause-stepped c = c.swap.ensures.stepped
-
-pub returns-in_default-clause-fits : goal.returns-in_default-clause-fits
-returns-in_default-clause-fits c = c.swap.ensures.fits
