@@ -24,7 +24,7 @@ fn take_beside(filled: Filled<u64>, other: Vacant<u64>) -> [u64; 3] {
 fn a_value_stays_in_its_cell_until_it_is_taken(rt: HostRuntime) -> Result<(), Fail> {
     let mut tokens = Arena::new(rt.alloc(), 2)?;
     let (Some(other), Some(vacant)) = (tokens.pop(), tokens.pop()) else {
-        return Ok(());
+        return Err("fewer tokens than two".into());
     };
     let (filled, first) = fill_and_change(vacant);
     assert_eq!(rt; first, 7);
@@ -66,7 +66,7 @@ fn a_value_is_dropped_once(rt: HostRuntime) -> Result<(), Fail> {
     let drops = AtomicU64::new(0);
     let mut tokens = Arena::new(rt.alloc(), 2)?;
     let (Some(one), Some(other)) = (tokens.pop(), tokens.pop()) else {
-        return Ok(());
+        return Err("fewer tokens than two".into());
     };
     assert_eq!(rt; drop_in_cell(one, &drops), [0, 1]);
     assert_eq!(rt; drop_taken(other, &drops), [1, 2]);

@@ -90,7 +90,7 @@ const CALLS: [(On, Answer); 24] = [
 const FULL: Answer = Answer::Not(Fault::Call(Refusal::Full));
 
 /// With four slots in use 6 handles are free, and one block is vacant. Then 5 are free.
-const NEAR: [(On, Answer); 9] = [
+const NEAR: [(On, Answer); 10] = [
     (On::Table(Call::Copy(0, 1)), Answer::Done),
     (On::Attach(0, 5), Answer::Done),
     (On::Attach(0, 6), FULL),
@@ -100,6 +100,7 @@ const NEAR: [(On, Answer); 9] = [
     (On::Attach(0, 5), LIMIT),
     (On::Each, LIMIT),
     (On::Prune, LIMIT),
+    (On::Table(Call::Shelve(9)), Answer::Count(0)),
 ];
 
 /// A prune beside another table, which goes through as far as that.
