@@ -4,7 +4,7 @@ use Rattle.std.proofs.Common.{sym, ap, subst, ◌∙◌}
 use Rattle.std.proofs.Common.{⊎_elim, inl, inr, arith, eq-eqb, ne_eqb}
 use Rattle.std.proofs.lemmas.Bool.{cases_eq, cond_both, cond-true, cond-false}
 use Rattle.std.proofs.lemmas.List.Elements.{All-head, All-tail, All-cons}
-use Rattle.std.specs.Prelude.{All, Some}
+use Rattle.std.specs.Prelude.{All, None, Some}
 use Rattle.control_word.proofs.history.Legal.{sound}
 use Rattle.control_word.proofs.history.Moving.{counted_live, owner_counted}
 use Rattle.control_word.proofs.lists.Tallies.{put_cases}
@@ -26,8 +26,8 @@ use Rattle.step_table.specs.Holdings.{HoldsBag, Slots, plain}
 use Rattle.step_table.specs.Openings.{opening}
 use Rattle.step_table.specs.Stories.{Kept, Story, story_after_deed, object_of_block, story_state}
 use Rattle.step_threads.specs.Courses.{IsReady, hand, todo}
+use Rattle.step_threads.specs.Rows.{ending_as, with_end}
 use Rattle.step_threads.specs.Endings.{EndsAll, IsEndingAtStage, Stack, endings_in_block}
-use Rattle.step_threads.specs.Scenes.{begins_end_as}
 use Rattle.step_threads.specs.Stocks.{StoreView}
 use Rattle.step_threads.specs.Threads.{EndsFit, FitsThread, IsStocked, IsStockedBy}
 use Rattle.step_threads.proofs.Endings.{idle_left, left_ending, stocks_left}
@@ -84,7 +84,7 @@ owner_live d v x b kept kept' =
 -- the endings after it: the last owner's object is in one more
 pub ends_leaving : (d : ℕ) (v : Story) (x : Pointer) (k : Kind) (b : Bool) (n : ℕ) (es : List Ending) → Kept v
     → Kept (story_after_deed v d (leave_as k x b)) → EndsAll d es v
-    → EndsAll d (cond b (begins_end_as k n x es) es) (story_after_deed v d (leave_as k x b))
+    → EndsAll d (with_end n (cond b (ending_as k x) None) es) (story_after_deed v d (leave_as k x b))
 ends_leaving d v x Owner true n es kept kept' ends =
     let w = story_after_deed v d (leave_as Owner x true) in
     let e : Ending = record { block = x.block; stage = 0; statement = n } in
@@ -120,7 +120,7 @@ carried_room d c v w x last kept kept' fit is said at ended =
     go Owner e false q kept' = cc
     go Owner e true q kept' =
         let f : suc (length c.endings.list) ≤ v.extent.shape.blocks =
-        ends_few d (story_after_deed v d (leave_as Owner x true)) (begins_end_as Owner 0 x c.endings.list) kept'
+        ends_few d (story_after_deed v d (leave_as Owner x true)) (with_end 0 (ending_as Owner x) c.endings.list) kept'
         (ends_leaving d v x Owner true 0 c.endings.list kept kept' fit.all) in
         let r = fit.roomy in omega (arith, f, r)
 
@@ -129,7 +129,7 @@ carried_on : (d : ℕ) (t : Thread) (v : Story) (h : Holdings) (r : Stack) (s : 
     → Kept v → FitsThread d t v → t.half ≡ Rest → t.course.endings.list ≡ e ∷ es → Kept (story_after_deed v d (leave_as k x b))
     → HoldsBag d h.slots.items (story_after_deed v d (leave_as k x b))
     → h.slots.items ≡ set t.course.holdings.slots.items (hand t.course.holdings.slots.items) plain
-    → r.list ≡ cond b (begins_end_as k n x t.course.endings.list) t.course.endings.list → t.course.endings.room ≤ r.room
+    → r.list ≡ with_end n (cond b (ending_as k x) None) t.course.endings.list → t.course.endings.room ≤ r.room
     → IsStocked k x.block.0 b t.stock s
     → FitsThread d (record { course = record t.course { holdings = h; endings = r }; stock = s; half = Rest }) (story_after_deed v d (leave_as k x b))
 carried_on d t v h r s n x k b e es kept fits rests is kept' holds slots list room stock =
@@ -162,7 +162,7 @@ pub fits_carried : (d : ℕ) (t t' : Thread) (v w : Story) (h : Holdings) (n : �
     → last ≡ is_last (story_state v) x
     → HoldsBag d h.slots.items w → h.slots.items ≡ set t.course.holdings.slots.items (hand t.course.holdings.slots.items) plain
     → t'.course ≡ record t.course { holdings = h; endings = t'.course.endings }
-    → t'.course.endings.list ≡ cond last (begins_end_as x.kind n x t.course.endings.list) t.course.endings.list
+    → t'.course.endings.list ≡ with_end n (cond last (ending_as x.kind x) None) t.course.endings.list
     → t.course.endings.room ≤ t'.course.endings.room → t'.half ≡ t.half → IsStockedBy (Some x) last t.stock t'.stock → FitsThread d t' w
 fits_carried d t t' v w h n x last e es kept kept' fits rests is story said holds slots same list room half stock =
     let r = t'.course.endings in
@@ -173,5 +173,5 @@ fits_carried d t t' v w h n x last e es kept kept' fits rests is story said hold
     (subst (λ (u : Story). FitsThread d (record { course = record t.course { holdings = h; endings = r }; stock = t'.stock; half = Rest }) u) (sym story)
     (carried_on d t v h r t'.stock n x x.kind b e es kept fits rests is (subst Kept story kept')
     (subst (λ (u : Story). HoldsBag d h.slots.items u) story holds) slots
-    (list ∙ ap (λ (q : Bool). cond q (begins_end_as x.kind n x t.course.endings.list) t.course.endings.list) said) room
+    (list ∙ ap (λ (q : Bool). with_end n (cond q (ending_as x.kind x) None) t.course.endings.list) said) room
     (subst (λ (q : Bool). IsStocked x.kind x.block.0 q t.stock t'.stock) said stock))))

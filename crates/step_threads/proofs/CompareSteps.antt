@@ -32,7 +32,8 @@ use Rattle.step_table.specs.Stories.{Kept, Story, story_after_deed, event_of, st
 use Rattle.step_threads.specs.Courses.{Walk, cell_of_name, comparing, hand, is_there, rest, walk_settled, task_at, walk}
 use Rattle.step_threads.specs.Entries.{is_expected}
 use Rattle.step_threads.specs.Programs.{IsIn, kind_at}
-use Rattle.step_threads.specs.Scenes.{came, compared}
+use Rattle.step_threads.specs.Scenes.{came}
+use Rattle.step_threads.specs.Rows.{compared}
 use Rattle.step_threads.specs.NextSteps.{matched, matched_on, saw, saw_on, step_at, waits}
 use Rattle.step_threads.specs.Steps.{Step, step_of_act, fetches, gives_back, matches, missed, settles, silent, takes, within}
 use Rattle.step_threads.specs.Threads.{HasStepped}

@@ -20,10 +20,10 @@ use Rattle.control_word.specs.declared.model.handle.Kind.TheVariants.{Owner, Wea
 use Rattle.control_word.specs.declared.place.Place.{Place}
 use Rattle.step_table.specs.declared.memory.past.Deed.TheVariants.{Finish, Leave, WeakLeave}
 use Rattle.step_table.specs.Deeds.{is_last, leave, leave_as, on}
-use Rattle.step_threads.specs.Scenes.{begins_end_as}
 use Rattle.step_threads.specs.declared.thread.Thread.{Thread}
 use Rattle.step_threads.specs.Actors.{HalfFits, Stocks, in_store}
 use Rattle.step_threads.specs.Courses.{CourseReady, HasGoneOn, IsReady, done_on, task_at, todo}
+use Rattle.step_threads.specs.Rows.{ending_as, ending_by, with_end}
 use Rattle.step_threads.specs.Endings.{EndsAll, IsEndingAtStage, Stack}
 use Rattle.step_table.specs.Holdings.{HoldsBag}
 use Rattle.step_threads.specs.Stocks.{StoreView}
@@ -159,7 +159,7 @@ idle_left d t v x Weak b kept fits = own_pending v d (WeakLeave x.block x.place 
 
 -- the endings after it: none before, and at most its own
 ends_left : (d : ℕ) (v : Story) (x : Pointer) (k : Kind) (b : Bool) (n : ℕ)
-    → EndsAll d (cond b (begins_end_as k n x []) []) (story_after_deed v d (leave_as k x b))
+    → EndsAll d (with_end n (cond b (ending_as k x) None) []) (story_after_deed v d (leave_as k x b))
 ends_left d v x Owner true n =
     ends_one d (story_after_deed v d (Leave x.block x.place true)) (record { block = x.block; stage = 0; statement = n })
     (record { ending = left_ending v d x true refl; within = omega arith; cleared = λ m lt. absurd (omega arith) })
@@ -176,14 +176,14 @@ pub record HasLeft (d : ℕ) (c c' c'' : Course) (w : Story) (n : ℕ) (o : Opti
   pub gone : HasGoneOn d c c' w
   pub empty : c'.taken ≡ false
   pub same : c'' ≡ record c' { endings = c''.endings }
-  pub list : c''.endings.list ≡ on (λ x. cond last (begins_end_as x.kind n x c'.endings.list) c'.endings.list) c'.endings.list o
+  pub list : c''.endings.list ≡ with_end n (ending_by last o) c'.endings.list
   pub roomy : c'.endings.room ≤ c''.endings.room
 
 fits_leaving : (d : ℕ) (t : Thread) (v : Story) (c : Course) (r : Stack) (s : StoreView) (n : ℕ) (x : Pointer) (k : Kind) (b : Bool) → Kept v
     → FitsThread d t v
     → t.half ≡ Rest → t.course.endings.list ≡ [] → Kept (story_after_deed v d (leave_as k x b))
     → HasGoneOn d t.course c (story_after_deed v d (leave_as k x b))
-    → c.taken ≡ false → r.list ≡ cond b (begins_end_as k n x c.endings.list) c.endings.list → c.endings.room ≤ r.room
+    → c.taken ≡ false → r.list ≡ with_end n (cond b (ending_as k x) None) c.endings.list → c.endings.room ≤ r.room
     → IsStocked k x.block.0 b t.stock s
     → FitsThread d (record { course = record c { endings = r }; stock = s; half = Rest }) (story_after_deed v d (leave_as k x b))
 fits_leaving d t v c r s n x k b kept fits e none kept' on empty list room is =
@@ -200,7 +200,7 @@ fits_leaving d t v c r s n x k b kept fits e none kept' on empty list room is =
       stocks = stocks_left d t v x s k b kept fits e kept' is;
       endings =
           record {
-            all = subst (λ (l : List Ending). EndsAll d l w) (sym (list ∙ ap (λ (l : List Ending). cond b (begins_end_as k n x l) l) nothing))
+            all = subst (λ (l : List Ending). EndsAll d l w) (sym (list ∙ ap (λ (l : List Ending). with_end n (cond b (ending_as k x) None) l) nothing))
                 (ends_left d v x k b n);
             roomy = (let q = fits.endings.roomy in let z : c.endings.room ≡ t.course.endings.room = ap (λ (y : Stack). y.room) on.endings in
                 omega (arith, q, z, room));
@@ -240,8 +240,8 @@ fits_left d t t' v w c n None last kept kept' fits e none is said left half stoc
 fits_left d t t' v w c n (Some x) last kept kept' fits e none is said left half stock =
     let b = is_last (story_state v) x in
     let r = t'.course.endings in
-    let list : r.list ≡ cond b (begins_end_as x.kind n x c.endings.list) c.endings.list =
-    left.list ∙ ap (λ (q : Bool). cond q (begins_end_as x.kind n x c.endings.list) c.endings.list) said in
+    let list : r.list ≡ with_end n (cond b (ending_as x.kind x) None) c.endings.list =
+    left.list ∙ ap (λ (q : Bool). with_end n (cond q (ending_as x.kind x) None) c.endings.list) said in
     subst (λ (k : Course). FitsThread d (record { course = k; stock = t'.stock; half = t'.half }) w) (sym left.same)
     (subst (λ (h : Half). FitsThread d (record { course = record c { endings = r }; stock = t'.stock; half = h }) w) (sym (half ∙ e))
     (subst (λ (u : Story). FitsThread d (record { course = record c { endings = r }; stock = t'.stock; half = Rest }) u) (sym is)

@@ -5,22 +5,25 @@ use Rattle.control_word.proofs.lists.Tallies.{put_cases}
 use Rattle.control_word.specs.declared.model.handle.Kind.{Kind}
 use Rattle.control_word.specs.declared.model.handle.Kind.TheVariants.{Owner, Weak}
 use Rattle.control_word.specs.Events.{moved_to}
-use Rattle.control_word.specs.State.{Object, State, ending}
+use Rattle.control_word.specs.declared.place.Block.{Block}
+use Rattle.control_word.specs.State.{Object, ending}
 use Rattle.step_threads.specs.declared.programs.act.Act.{Act}
 use Rattle.step_threads.specs.declared.course.Course.{Course}
 use Rattle.step_threads.specs.declared.ending.Ending.{Ending}
 use Rattle.step_threads.specs.declared.half.Half.TheVariants.{Rest}
 use Rattle.step_table.specs.declared.slots.holdings.Pointer.{Pointer}
 use Rattle.step_table.specs.declared.memory.ended.Ended.{Ended}
+use Rattle.step_threads.specs.declared.said.Answer.{Answer}
 use Rattle.step_threads.specs.declared.said.Said.{Said}
 use Rattle.step_threads.specs.declared.said.Stepped.{Stepped}
 use Rattle.step_threads.specs.declared.said.Stepped.TheVariants.{Event, Quiet}
 use Rattle.step_threads.specs.declared.thread.Thread.{Thread}
 use Rattle.step_threads.specs.Courses.{Walk, done_on, rest, walk_settled, task_at, walk}
-use Rattle.step_table.specs.Deeds.{by_word, is_last, leave, leave_as, owned, on, remains}
+use Rattle.step_table.specs.Deeds.{by_word, exact, is_last, leave, leave_as, owned, on, remains}
 use Rattle.step_threads.specs.Endings.{Stack}
 use Rattle.step_table.specs.Holdings.{is_full}
-use Rattle.step_threads.specs.Scenes.{answer_of, begins_end, begins_end_as, ended_by, ended_of, hands, leaving_pointer, remains_as, went}
+use Rattle.step_threads.specs.Rows.{ending_by, said_by_row, with_end}
+use Rattle.step_threads.specs.Scenes.{ended_by, remains_as, row_in, went}
 use Rattle.step_threads.specs.NextSteps.{first, waits_on}
 use Rattle.step_threads.specs.Steps.{Step, step_of_act, with_endings}
 use Rattle.step_table.specs.Stories.{Story, story_after_deed, event_of, object_of_block, story_state}
@@ -60,26 +63,23 @@ ended_left v w d (Some x) last is said =
     cond b (remains_as x.kind ((story_state u).object (object_of_block u x.block))) None) said
     ∙ same_remains v d x x.kind (is_last (story_state v) x)
 
-pub begun_left : (s : State) (k : ℕ) (es : List Ending) (o : Option Pointer) (last : Bool) → last ≡ on (is_last s) false o
-    → on (λ x. cond last (begins_end_as x.kind k x es) es) es o ≡ on (λ x. begins_end s k x es) es o
-begun_left s k es None last said = refl
-begun_left s k es (Some x) last said = ap (λ (b : Bool). cond b (begins_end_as x.kind k x es) es) said
-
 -- where a thread is that left what a slot held
 pub went_left : (d : ℕ) (c c' c'' : Course) (v w : Story) (a : Act) (o : Option Pointer) (last : Bool) (k : ℕ)
-    → HasLeft d c c' c'' w k o last → leaving_pointer c.holdings.slots.items a ≡ o → last ≡ on (is_last (story_state v)) false o
-    → walk c' ≡ (let x = hands (story_state v) d c.holdings.slots.items c.taken a in walk_settled x.0 x.1 c.endings.list (rest c))
+    → HasLeft d c c' c'' w k o last
+    → (row_in exact (story_state v) d c.holdings.slots.items c.taken a).ending ≡ ending_by (on (is_last (story_state v)) false o) o
+    → last ≡ on (is_last (story_state v)) false o
+    → walk c' ≡ (let x = row_in exact (story_state v) d c.holdings.slots.items c.taken a in walk_settled x.slots x.taken c.endings.list (rest c))
     → walk c'' ≡ went (story_state v) d (walk c) k (rest c) a
-went_left d c c' c'' v w a o last k has leaves said walked =
-    let x = hands (story_state v) d c.holdings.slots.items c.taken a in
+went_left d c c' c'' v w a o last k has ends said walked =
+    let x = row_in exact (story_state v) d c.holdings.slots.items c.taken a in
     let es = c.endings.list in
     let l = c''.endings.list in
     let e : c'.endings.list ≡ es = ap (λ (z : Stack). z.list) has.gone.endings in
-    let list : l ≡ on (λ y. begins_end (story_state v) k y es) es (leaving_pointer c.holdings.slots.items a) =
-    has.list ∙ ap (λ (r : List Ending). on (λ y. cond last (begins_end_as y.kind k y r) r) r o) e ∙ begun_left (story_state v) k es o last said
-    ∙ ap (λ (q : Option Pointer). on (λ y. begins_end (story_state v) k y es) es q) (sym leaves) in
-    ap walk has.same ∙ ap (λ (z : Walk). with_endings z l) walked ∙ settled_with x.0 x.1 es l (rest c) ∙ ap
-    (λ (r : List Ending). walk_settled x.0 x.1 r (rest c)) list
+    let list : l ≡ with_end k x.ending es =
+    has.list ∙ ap (with_end k (ending_by last o)) e ∙ ap (λ (b : Bool). with_end k (ending_by b o) es) said
+    ∙ ap (λ (q : Option Block). with_end k q es) (sym ends) in
+    ap walk has.same ∙ ap (λ (z : Walk). with_endings z l) walked ∙ settled_with x.slots x.taken es l (rest c) ∙ ap
+    (λ (r : List Ending). walk_settled x.slots x.taken r (rest c)) list
 
 -- a step that left what a slot held, and what is said of it
 pub stepped_left : (d : ℕ) (t t' : Thread) (v w : Story) (r : Stepped) (a : Act) (o : Option Pointer) (last : Bool) (ended : Option Ended) (k : ℕ)
@@ -88,8 +88,8 @@ pub stepped_left : (d : ℕ) (t t' : Thread) (v w : Story) (r : Stepped) (a : Ac
     → waits_on v (walk t.course) a ≡ false
     → first v d (walk t.course) (task_at t.course).statement (rest t.course) a
     ≡ step_of_act v d (walk t.course) (task_at t.course).statement (rest t.course) a (option_map (leave (story_state v)) o) Rest
-    → answer_of (by_word v) (story_state v) d t.course.holdings.slots.items a ≡ None
-    → ended_of (story_state v) t.course.holdings.slots.items a ≡ ended_by (story_state v) o
+    → (row_in (by_word v) (story_state v) d t.course.holdings.slots.items t.course.taken a).answer ≡ None
+    → (row_in (by_word v) (story_state v) d t.course.holdings.slots.items t.course.taken a).ended ≡ ended_by (story_state v) o
     → w ≡ done_on (leave (story_state v)) v d o → last ≡ on (is_last (story_state v)) false o
     → ended ≡ on (λ x. cond last (remains_as x.kind ((story_state w).object (object_of_block w x.block))) None) None o
     → t'.half ≡ t.half → walk t'.course ≡ went (story_state v) d (walk t.course) k (rest t.course) a
@@ -97,16 +97,13 @@ pub stepped_left : (d : ℕ) (t t' : Thread) (v w : Story) (r : Stepped) (a : Ac
     → HasStepped d t v r t' w
 stepped_left d t t' v w r a o last ended k number rests none lt act goes one silent ends is said left half walked says =
     let n = (task_at t.course).statement in
-    let y : Said = record {
-      statement = n;
-      answer = answer_of (by_word v) (story_state v) d t.course.holdings.slots.items a;
-      ended = ended_of (story_state v) t.course.holdings.slots.items a;
-    } in
-    let e : ended ≡ ended_of (story_state v) t.course.holdings.slots.items a = left ∙ ended_left v w d o last is said ∙ sym ends in
+    let z = row_in (by_word v) (story_state v) d t.course.holdings.slots.items t.course.taken a in
+    let y = said_by_row n z in
+    let e : ended ≡ z.ended = left ∙ ended_left v w d o last is said ∙ sym ends in
     let same : ◌≡◌ {A = Said} (record { statement = k; answer = None; ended = ended }) y =
     ap (λ (m : ℕ). record { statement = m; answer = None; ended = ended }) number
-    ∙ ap (λ (z : Option Ended). record { statement = n; answer = None; ended = z }) e
-    ∙ ap (λ z. record { statement = n; answer = z; ended = ended_of (story_state v) t.course.holdings.slots.items a }) (sym silent) in
+    ∙ ap (λ (q : Option Ended). record { statement = n; answer = None; ended = q }) e
+    ∙ ap (λ (q : Option Answer). record { statement = n; answer = q; ended = z.ended }) (sym silent) in
     stepped_as d t v (step_of_act v d (walk t.course) n (rest t.course) a (option_map (leave (story_state v)) o) Rest) r t' w
     (waits_act t v a rests none lt act ∙ goes) (at_act d t v a rests none lt act ∙ ap (λ (x : Step). Some x) one)
     (says_on (leave (story_state v)) v o r _ y (is_some o) (λ x. left_event v x x.kind (is_last (story_state v) x)) says (some_full o) same)

@@ -12,7 +12,7 @@ use Rattle.step_threads.specs.declared.said.Answer.{Answer}
 use Rattle.step_threads.specs.declared.said.Said.{Said}
 use Rattle.step_table.specs.Holdings.{Slots, place_in}
 use Rattle.step_threads.specs.Courses.{MayComeNext, CourseReady, IsNamed, Walk, is_there, other, walk_settled, task_at}
-use Rattle.step_threads.specs.Scenes.{Hands, outside, refusal}
+use Rattle.step_threads.specs.Rows.{Hands, outside, refusal}
 use Rattle.step_threads.proofs.CellNames.{cell_named}
 use Rattle.step_threads.proofs.Courses.{ready_head}
 

@@ -15,7 +15,7 @@ use Rattle.step_threads.specs.Programs.{kind_at}
 use Rattle.step_threads.specs.Courses.{Going, done_on, fitting, going, hand, is_there, offered, on_going, rest, walk_settled, task_at, walk}
 use Rattle.step_table.specs.Deeds.{on, share, share_as}
 use Rattle.step_table.specs.Holdings.{is_full, slot_pointer, slot_value}
-use Rattle.step_threads.specs.Scenes.{refusal}
+use Rattle.step_threads.specs.Rows.{refusal}
 use Rattle.step_threads.specs.NextSteps.{first, step_at}
 use Rattle.step_threads.specs.Steps.{Step, step_of_act, brings, sends, silent, step_of_swap}
 use Rattle.step_table.specs.Stories.{Story, event_of, story_state}

@@ -20,7 +20,7 @@ use Rattle.step_table.specs.declared.slots.holdings.Pointer.{Pointer}
 use Rattle.step_table.specs.declared.slots.slot.Slot.{Slot}
 use Rattle.step_table.specs.CellDeeds.{cell_in, kind_in_state}
 use Rattle.step_table.specs.Contents.{slot_of, named_handle}
-use Rattle.step_table.specs.Deeds.{aliased, pointer_before, handle_of, is_enabled, owned}
+use Rattle.step_table.specs.Deeds.{aliased, handle_of, is_enabled, owned}
 use Rattle.step_table.specs.Holdings.{Slots, inside, is_full, owner_slot, place_in, slot_pointer, slot_value, weak_slot}
 use Rattle.step_threads.specs.declared.programs.act.Act.{Act}
 use Rattle.step_threads.specs.declared.programs.act.Act.TheVariants.{Make, Share, Downgrade, Lock, Put, Leave, Clear}
@@ -28,8 +28,6 @@ use Rattle.step_threads.specs.declared.programs.act.Act.TheVariants.{Count}
 use Rattle.step_threads.specs.declared.programs.act.Act.TheVariants.{Expired, Read, FromThis, Alias, Move, Ask, Offer}
 use Rattle.step_threads.specs.declared.programs.act.Act.TheVariants.{Swap}
 use Rattle.step_threads.specs.declared.programs.act.Act.TheVariants.{Exchange, Load, Compare, Drop, OnShelf}
-use Rattle.step_threads.specs.declared.programs.act.Question.{Question}
-use Rattle.step_threads.specs.declared.programs.act.Question.TheVariants as question
 use Rattle.step_threads.specs.declared.programs.act.Task.{Task}
 use Rattle.step_threads.specs.declared.programs.call.CellName.{CellName}
 use Rattle.step_threads.specs.declared.ending.Ending.{Ending}
@@ -39,7 +37,7 @@ use Rattle.step_threads.specs.Endings.{staged}
 use Rattle.step_threads.specs.Rows.{Reply, Plain, Found, Got, Told, Came, Compared, Left, walk_after_act, may_go, row}
 use Rattle.step_threads.specs.Rows.{said_by_row}
 use Rattle.step_threads.specs.declared.programs.act.ShelfAct.TheVariants.{Shelve, Unshelve}
-use Rattle.step_threads.specs.Scenes.{remains_as}
+use Rattle.step_threads.specs.Scenes.{answers_order, remains_as}
 use Rattle.step_threads.specs.Steps.{silent}
 
 -- what is so of a pointer, or else where there is none
@@ -50,11 +48,6 @@ On p none (Some x) = p x
 abbrev pub Where : Bool → Type 0 → Type 0 → Type 0
 Where true p q = p
 Where false p q = q
-
--- what comes before the other; other questions are answered by the slots
-abbrev pub answers_order : State → Slots → Question → Bool
-answers_order s l (question.Before i j) = pointer_before s (slot_pointer l i) (slot_pointer l j)
-answers_order s l _ = true
 
 -- what a thread says that has something to say, with its desk
 abbrev pub spoken : ℕ → Said → List (ℕ × Said)

@@ -1,18 +1,22 @@
 -- What a thread has, says and ends by an act, from what the act is replied. All of it is own.
-use Rattle.std.specs.Prelude.{ℕ, Bool, true, false, cond, ◌&&◌, List, ◌∷◌, slice_set, Option, Some, None}
+use Rattle.std.specs.Prelude.{ℕ, Bool, true, false, not, cond, ◌&&◌, List, ◌∷◌, slice_set, Option, Some, None}
 use Rattle.std.specs.Prelude.{option_map}
 use Rattle.control_word.specs.declared.model.handle.Kind.{Kind}
 use Rattle.control_word.specs.declared.model.handle.Kind.TheVariants.{Owner, Weak}
 use Rattle.control_word.specs.declared.place.Block.{Block}
-use Rattle.control_word.specs.declared.refusal.Refusal.TheVariants.{NotEnabled}
+use Rattle.control_word.specs.declared.place.Place.{Place}
+use Rattle.control_word.specs.declared.refusal.Refusal.TheVariants as refused
+use Rattle.control_word.specs.Events.{origin}
 use Rattle.control_word.specs.Handles.{same_place}
+use Rattle.step_table.specs.declared.memory.field.Field.{Field}
 use Rattle.step_table.specs.declared.memory.ended.Ended.{Ended}
 use Rattle.step_table.specs.declared.slots.holdings.Pointer.{Pointer}
 use Rattle.step_table.specs.declared.slots.slot.Slot.{Slot}
-use Rattle.step_table.specs.Contents.{is_of, slots_swapped}
-use Rattle.step_table.specs.Deeds.{as_owner, as_weak, this_as}
+use Rattle.step_table.specs.declared.slots.slot.Slot.TheVariants.{Full, Empty}
+use Rattle.step_table.specs.Contents.{differed, is_of, slots_swapped}
+use Rattle.step_table.specs.Deeds.{aliased, as_owner, as_weak, at_place, this_as}
 use Rattle.step_table.specs.Holdings.{Slots, filled, inside, is_full, place_in, plain, slot_pointer, slot_value}
-use Rattle.step_table.specs.Holdings.{weak_slot}
+use Rattle.step_table.specs.Holdings.{owner_slot, weak_slot}
 use Rattle.step_threads.specs.declared.programs.act.Act.{Act}
 use Rattle.step_threads.specs.declared.programs.act.Act.TheVariants.{Make, Share, Downgrade, Lock, Put, Leave, Clear}
 use Rattle.step_threads.specs.declared.programs.act.Act.TheVariants.{Count}
@@ -23,14 +27,13 @@ use Rattle.step_threads.specs.declared.programs.act.Question.{Question}
 use Rattle.step_threads.specs.declared.programs.act.Question.TheVariants as question
 use Rattle.step_threads.specs.declared.programs.act.Task.{Task}
 use Rattle.step_threads.specs.declared.programs.call.CellName.{CellName}
+use Rattle.step_threads.specs.declared.programs.call.CellName.TheVariants.{Member}
 use Rattle.step_threads.specs.declared.ending.Ending.{Ending}
 use Rattle.step_threads.specs.declared.said.Answer.{Answer}
 use Rattle.step_threads.specs.declared.said.Answer.TheVariants as answer
 use Rattle.step_threads.specs.declared.said.Said.{Said}
 use Rattle.step_threads.specs.Courses.{Walk, fitting, hand, is_there, other, slot_passed, placed, walk_settled}
 use Rattle.step_threads.specs.Programs.{kind_at}
-use Rattle.step_threads.specs.Scenes.{Hands, alias_in, compared, full_answer, holding, lock_answer, outside, refusal}
-use Rattle.step_threads.specs.Scenes.{taking}
 
 -- What an act is replied: nothing; the block of a make, if there was one; whether it is so; a number; what came out of
 -- a cell; whether a cell was swapped, and what it held; whether a pointer was the last, and what its object left
@@ -42,6 +45,59 @@ pub data Reply : Type 0 where
   Came : Slot → Reply
   Compared : Bool → Slot → Reply
   Left : Bool → Option Ended → Reply
+
+-- what a thread has in its slots, and whether something is in hand
+abbrev pub Hands : Type 0
+Hands = Slots × Bool
+
+-- a new object's owner is in hand, or the rest of the statement is passed over
+abbrev pub holding : Slots → Bool → Option ℕ → Hands
+holding slots null None = (slots, false)
+holding slots null (Some b) = (
+  slice_set slots (hand slots)
+      (Full (record { kind = Owner; block = record { 0 = b }; place = origin b null })),
+  true,
+)
+
+-- what was found is in hand; where nothing was and it must be, the rest of the statement is passed over
+abbrev pub taking : Slots → Bool → Option Pointer → Hands
+taking slots must None = (slots, not must)
+taking slots must (Some x) = (slice_set slots (hand slots) (Full x), true)
+
+-- an alias with this place: an owner, or an empty pointer, has it
+abbrev pub alias_of : Option Place → Option Pointer → Slot
+alias_of p None = Empty p
+alias_of p (Some x) = Full (at_place p x)
+
+abbrev pub alias_in : Slots → ℕ → ℕ → Option Field → Slot
+alias_in slots k j field = alias_of (aliased field (place_in slots j)) (owner_slot (slot_pointer slots k))
+
+-- what was in hand is in the cell, and what comes out is to be dropped; or what was in hand is, and what the cell holds
+-- is taken
+abbrev pub compared : Slots → Slot → Bool → Hands
+compared slots x true = (slots_swapped (hand slots) (other slots) slots x, false)
+compared slots x false = (differed (hand slots) (other slots) slots x, true)
+
+abbrev pub full_answer : Option ℕ → Option Answer
+full_answer None = Some (answer.Refused refused.Full)
+full_answer (Some b) = None
+
+-- a lock says whether it gave an owner; one that must is refused where it did not ([util.smartptr.shared.const],
+-- bad_weak_ptr)
+abbrev pub lock_answer : Bool → Bool → Answer
+lock_answer false got = answer.Locked got
+lock_answer true true = answer.Upgraded
+lock_answer true false = answer.Refused refused.BadWeak
+
+-- why there is no field and no object to ask: the place is null, or isn't in the object (own)
+abbrev pub outside : Option Place → Answer
+outside None = answer.Refused refused.Null
+outside (Some p) = answer.Refused refused.Outside
+
+-- an act on a member of no object is refused, by where the name points
+abbrev pub refusal : Slots → CellName → Option Answer
+refusal slots (Member k m) = cond (is_there slots (Member k m)) None (Some (outside (place_in slots k.0)))
+refusal slots _ = None
 
 -- what a thread has in its slots after an act, whether something is in hand, the block whose object is to end, if any;
 -- and what the act answers, and tells of an object that ends
@@ -75,7 +131,7 @@ asked slots (question.Before i j) b = answer.Before b
 
 -- why an object gives no pointer to itself: it isn't enabled, or there is none to ask
 abbrev pub not_given : Slots → ℕ → Answer
-not_given slots k = cond (is_full (inside (slot_pointer slots k))) (answer.Refused NotEnabled)
+not_given slots k = cond (is_full (inside (slot_pointer slots k))) (answer.Refused refused.NotEnabled)
     (outside (place_in slots k))
 
 -- the cell is there, and the value of slot k may go into it

@@ -7,7 +7,7 @@ use Rattle.control_word.specs.State.{kind_of_member, weak}
 use Rattle.control_word.specs.declared.model.handle.Kind.{Kind}
 use Rattle.step_threads.specs.declared.programs.act.Act.{Act}
 use Rattle.step_table.specs.declared.memory.form.Form.{Form}
-use Rattle.step_threads.specs.declared.programs.act.Act.TheVariants.{FromThis}
+use Rattle.step_threads.specs.declared.programs.act.Act.TheVariants.{FromThis, Make}
 use Rattle.step_threads.specs.declared.programs.act.Task.{Task}
 use Rattle.step_threads.specs.declared.programs.call.CellName.{CellName}
 use Rattle.step_table.specs.declared.cell_steps.cell_deed.CellDeed.TheVariants as cell_deed
@@ -35,7 +35,8 @@ use Rattle.step_table.specs.Refills.{is_drained, is_low, more_taken}
 use Rattle.step_table.specs.Deeds.{by_word, is_enabled, lock, owner_word, on}
 use Rattle.step_threads.specs.Endings.{staged}
 use Rattle.step_table.specs.Holdings.{slot_pointer, slot_value}
-use Rattle.step_threads.specs.Scenes.{answer_of, ended_of, full_answer, holding, went}
+use Rattle.step_threads.specs.Rows.{Found, full_answer, row, said_by_row, walk_after_act}
+use Rattle.step_threads.specs.Scenes.{row_in, went}
 use Rattle.step_table.specs.Stories.{Story, object_of_block, story_state}
 
 -- what a step does to the table, if anything; what the thread has begun and not ended after it; where it is then; what
@@ -56,11 +57,7 @@ step_of_act v d w k ts a x h =
       deed = x;
       half = h;
       walk = went (story_state v) d w k ts a;
-      said = record {
-        statement = k;
-        answer = answer_of (by_word v) (story_state v) d w.slots a;
-        ended = ended_of (story_state v) w.slots a;
-      };
+      said = said_by_row k (row_in (by_word v) (story_state v) d w.slots w.taken a);
     }
 
 -- a step on the way of statement k, which says nothing: what it does, and what is begun after it
@@ -214,11 +211,10 @@ prepares found want w k b i false =
 -- the object is made: its owner comes into the hand
 abbrev pub claims : Walk → ℕ → List Task → Block → Form → Step
 claims w k ts b form =
-    let x = holding w.slots form.null (Some b.0) in
     record {
       deed = Some (deed.Claim b form.enabled form.null form.fields);
       half = Rest;
-      walk = walk_settled x.0 x.1 w.endings ts;
+      walk = walk_after_act w k ts (row (Make form) w.slots w.taken (Found (Some b.0)));
       said = silent k;
     }
 

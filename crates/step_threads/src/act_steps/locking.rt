@@ -1,6 +1,6 @@
 //! How a thread locks a weak pointer, step by step.
 ghost use Rattle.std.specs.Prelude.{◌≡◌, ◌<◌, ◌==◌, cond, length, Some, None, []};
-ghost use Rattle.step_threads.specs.Scenes.{lock_answer};
+ghost use Rattle.step_threads.specs.Rows.{lock_answer};
 
 use crate::half::Half;
 use crate::programs::act::Act;

@@ -1,6 +1,6 @@
 //! How a thread reads the field that an owner points at.
 ghost use Rattle.std.specs.Prelude.{◌≡◌, ◌<◌, length, Some, None, []};
-ghost use Rattle.step_threads.specs.Scenes.{outside};
+ghost use Rattle.step_threads.specs.Rows.{outside};
 ghost use Rattle.step_threads.specs.declared.programs.act.Act.{Act};
 
 use crate::half::Half;

@@ -6,7 +6,8 @@ ghost use Rattle.step_table.specs.Deeds.{on};
 ghost use Rattle.step_table.specs.Holdings.{is_full, slot_pointer};
 ghost use Rattle.step_threads.specs.Courses.{hand};
 ghost use Rattle.step_threads.specs.Endings.{first_of};
-ghost use Rattle.step_threads.specs.Scenes.{begins_end_as, remains_as};
+ghost use Rattle.step_threads.specs.Rows.{ending_as, ending_by, with_end};
+ghost use Rattle.step_threads.specs.Scenes.{remains_as};
 ghost use Rattle.step_table.specs.Stories.{object_of_block, story_state};
 ghost use Rattle.step_threads.specs.declared.programs.act.Act.{Act};
 ghost use Rattle.step_threads.specs.declared.half.Half.{Half};
@@ -126,9 +127,8 @@ impl Thread {
         requires room { (x : Pointer) → held ≡ Some x → x.kind ≡ Weak → last ≡ true
             → length self.old.stock.blocks < self.old.stock.room }
         ensures course { self.new.course ≡ record self.old.course { endings = self.new.course.endings } }
-        ensures endings { self.new.course.endings.list ≡ on (λ x. cond last
-            (begins_end_as x.kind statement x self.old.course.endings.list) self.old.course.endings.list)
-            self.old.course.endings.list held }
+        ensures endings { self.new.course.endings.list
+            ≡ with_end statement (ending_by last held) self.old.course.endings.list }
         ensures roomy { self.old.course.endings.room ≤ self.new.course.endings.room }
         ensures stock { IsStockedBy held last self.old.stock self.new.stock }
         ensures half { self.new.half ≡ self.old.half }
@@ -141,7 +141,7 @@ impl Thread {
         }
     }
 
-    /// After the last leave of a kind, as `leaving_pointer` says.
+    /// After the last leave of a pointer, by its kind.
     fn close(
         &mut self,
         desk: usize,
@@ -156,7 +156,7 @@ impl Thread {
         requires room { pointer.kind ≡ Weak → length self.old.stock.blocks < self.old.stock.room }
         ensures course { self.new.course ≡ record self.old.course { endings = self.new.course.endings } }
         ensures endings { self.new.course.endings.list
-            ≡ begins_end_as pointer.kind statement pointer self.old.course.endings.list }
+            ≡ with_end statement (ending_as pointer.kind pointer) self.old.course.endings.list }
         ensures roomy { self.old.course.endings.room ≤ self.new.course.endings.room }
         ensures stock { IsStocked pointer.kind pointer.block.0 true self.old.stock self.new.stock }
         ensures half { self.new.half ≡ self.old.half }

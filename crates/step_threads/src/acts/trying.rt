@@ -8,7 +8,8 @@ ghost use Rattle.step_threads.specs.Courses.{CanAct, CourseReady, CourseStill, H
 ghost use Rattle.step_threads.specs.Courses.{cell_of_name};
 ghost use Rattle.step_threads.specs.Courses.{comparing, hand, is_compared, is_there, rest, walk_settled, task_at, walk};
 ghost use Rattle.step_table.specs.Holdings.{HoldsBag, slot_value};
-ghost use Rattle.step_threads.specs.Scenes.{came, compared};
+ghost use Rattle.step_threads.specs.Scenes.{came};
+ghost use Rattle.step_threads.specs.Rows.{compared};
 ghost use Rattle.step_table.specs.Stories.{story_after_deed, pending, story_state};
 
 use crate::course::Course;

@@ -2,7 +2,8 @@
 ghost use Rattle.std.specs.Prelude.{◌≡◌, ◌<◌, ℕ, length, slice_set, true, Some, None, []};
 ghost use Rattle.step_table.specs.Deeds.{alias, aliased, on};
 ghost use Rattle.step_table.specs.Holdings.{HoldsBag, is_full, owner_slot, place_in, slot_pointer};
-ghost use Rattle.step_threads.specs.Scenes.{alias_in, reply};
+ghost use Rattle.step_threads.specs.Rows.{alias_in, asked};
+ghost use Rattle.step_threads.specs.Scenes.{answers_order};
 ghost use Rattle.step_table.specs.Stories.{Story, story_state};
 ghost use Rattle.step_threads.specs.declared.programs.act.Act.{Act};
 ghost use Rattle.step_threads.specs.declared.half.Half.{Half};
@@ -23,7 +24,8 @@ impl Question {
     pub(crate) fn reply(self, desk: usize, table: &Table, holdings: &Holdings) -> Answer
         requires holds { HoldsBag desk holdings.now.slots.items table.now }
         requires about { IsAbout (length holdings.now.slots.items) self }
-        ensures { result ≡ reply (story_state table.now) holdings.now.slots.items self }
+        ensures { result ≡ asked holdings.now.slots.items self
+            (answers_order (story_state table.now) holdings.now.slots.items self) }
     {
         match self {
             Question::Place { name } => Answer::Place(holdings.place(usize::from(name))),
@@ -100,7 +102,8 @@ impl Course {
     pub(crate) fn reply(&mut self, desk: usize, table: &Table, question: Question) -> Answer
         requires can { CanAct desk self.old table.now }
         requires act { (task_at self.old).act ≡ Act.Ask question }
-        ensures answer { result ≡ reply (story_state table.now) self.old.holdings.slots.items question }
+        ensures answer { result ≡ asked self.old.holdings.slots.items question
+            (answers_order (story_state table.now) self.old.holdings.slots.items question) }
         ensures walk { walk self.new ≡ walk_settled self.old.holdings.slots.items self.old.taken
             self.old.endings.list (rest self.old) }
         ensures on { HasGoneOn desk self.old self.new table.now }

@@ -8,6 +8,7 @@ use Rattle.step_threads.specs.Steps.{step_of_act}
 use Rattle.step_threads.specs.declared.said.Stepped.TheVariants.{Event, Quiet}
 use Rattle.step_table.specs.Deeds.{is_last, leave, on}
 use Rattle.step_table.specs.Holdings.{plain, slot_pointer}
+use Rattle.step_threads.specs.Rows.{ending_by}
 use Rattle.step_threads.specs.Scenes.{ended_by}
 use Rattle.step_table.specs.Stories.{story_state}
 use Rattle.step_threads.proofs.Courses.{left_taken}
@@ -101,6 +102,7 @@ returns-clause-stepped c =
     refl (ap (λ (o : Option Pointer). ended_by (story_state v) o) (sym h)) is said
     c.left-ended.ensures.ended c.left-ended.ensures.half
     (went_left c.args.desk c.args.self.now.course c.drop_other-last.new.self c.left-ended.new.self.course v c.drop_other-last.new.table act.Drop
-    c.get-held.result c.drop_other-last.result c.statement-statement.result has (sym h) said c.drop_other-last.ensures.walk)
+    c.get-held.result c.drop_other-last.result c.statement-statement.result has
+    (ap (λ (o : Option Pointer). ending_by (on (is_last (story_state v)) false o) o) (sym h)) said c.drop_other-last.ensures.walk)
     (c.says.ensures ∙ ap (λ (b : Bool). cond b (Event (record { statement = c.statement-statement.result; answer = None; ended = c.left-ended.result }))
     (Quiet (record { statement = c.statement-statement.result; answer = None; ended = c.left-ended.result }))) c.is_some.ensures)
