@@ -43,8 +43,7 @@ use Rattle.step_table.specs.declared.slots.slot.Slot.{Slot}
 use Rattle.step_threads.specs.Courses.{block_at, cell_of_name, hand as hand_of, is_there}
 use Rattle.step_threads.specs.Doings.{IsLoadEvent, Where}
 use Rattle.step_threads.specs.Programs.{IsIn, kind_at}
-use Rattle.step_threads.specs.Rows.{Came}
-use Rattle.step_threads.specs.Scenes.{Hands}
+use Rattle.step_threads.specs.Rows.{Came, Hands}
 use Rattle.step_threads.specs.declared.programs.act.Act.TheVariants as act
 use Rattle.step_threads.specs.declared.programs.call.CellName.TheVariants as cell
 use Rattle.step_threads.specs.declared.programs.call.CellName.{CellName}

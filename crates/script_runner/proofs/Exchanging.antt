@@ -40,8 +40,7 @@ use Rattle.step_table.specs.declared.slots.slot.Slot.{Slot}
 use Rattle.step_threads.specs.Courses.{cell_of_name, fitting, hand as hand_of, offered}
 use Rattle.step_threads.specs.Doings.{IsSwapEvent, Where, copy}
 use Rattle.step_threads.specs.Programs.{kind_at}
-use Rattle.step_threads.specs.Rows.{Came, Plain, may_go}
-use Rattle.step_threads.specs.Scenes.{Hands}
+use Rattle.step_threads.specs.Rows.{Came, Plain, may_go, Hands}
 use Rattle.step_threads.specs.declared.programs.act.Act.TheVariants as act
 use Rattle.step_threads.specs.declared.programs.call.CellName.{CellName}
 

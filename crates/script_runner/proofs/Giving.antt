@@ -34,9 +34,8 @@ use Rattle.step_table.specs.Deeds.{handle_of, on, this_as}
 use Rattle.step_table.specs.Holdings.{slot_pointer}
 use Rattle.step_table.specs.declared.memory.form.Form.{Form}
 use Rattle.step_threads.specs.Courses.{hand as hand_of}
-use Rattle.step_threads.specs.Doings.{answers_order}
-use Rattle.step_threads.specs.Rows.{Got, row}
-use Rattle.step_threads.specs.Scenes.{taking}
+use Rattle.step_threads.specs.Rows.{Got, row, taking}
+use Rattle.step_threads.specs.Scenes.{answers_order}
 use Rattle.step_threads.specs.declared.programs.act.Act.TheVariants as act
 use Rattle.step_threads.specs.declared.programs.act.Question.TheVariants as question
 use Rattle.step_threads.specs.declared.programs.act.Question.{Question}

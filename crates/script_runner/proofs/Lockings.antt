@@ -31,8 +31,7 @@ use Rattle.step_table.specs.declared.memory.form.Form.{Form}
 use Rattle.step_table.specs.declared.slots.holdings.Pointer.{Pointer}
 use Rattle.step_threads.specs.Courses.{hand as hand_of}
 use Rattle.step_threads.specs.Doings.{On}
-use Rattle.step_threads.specs.Rows.{Found, Got}
-use Rattle.step_threads.specs.Scenes.{taking}
+use Rattle.step_threads.specs.Rows.{Found, Got, taking}
 use Rattle.step_threads.specs.declared.programs.act.Act.TheVariants as act
 
 module _ {V : Type 0} (worth : Form → V) (m i hand : ℕ) (taken : Bool) (t u : TableNow V) (is : IsHand m hand t) (lt : i < m) where

@@ -36,8 +36,7 @@ use Rattle.step_table.specs.Holdings.{inside, place_in, slot_pointer, is_full}
 use Rattle.step_table.specs.declared.memory.form.Form.{Form}
 use Rattle.step_table.specs.declared.slots.holdings.Pointer.{Pointer}
 use Rattle.step_threads.specs.Doings.{On, copies}
-use Rattle.step_threads.specs.Rows.{Got, Told}
-use Rattle.step_threads.specs.Scenes.{outside}
+use Rattle.step_threads.specs.Rows.{Got, Told, outside}
 use Rattle.step_threads.specs.declared.programs.act.Act.TheVariants as act
 use Rattle.step_threads.specs.declared.said.Answer.TheVariants as answer
 

@@ -28,8 +28,7 @@ use Rattle.script_runner.specs.Seats.{IsHand, IsSeated}
 use Rattle.step_table.specs.Holdings.{Slots, place_in, plain}
 use Rattle.step_threads.specs.Courses.{is_there}
 use Rattle.step_threads.specs.Programs.{IsIn, kind_at}
-use Rattle.step_threads.specs.Rows.{Came, Plain}
-use Rattle.step_threads.specs.Scenes.{Hands, outside, refusal}
+use Rattle.step_threads.specs.Rows.{Came, Plain, Hands, outside, refusal}
 use Rattle.step_threads.specs.declared.programs.act.Act.TheVariants as act
 use Rattle.step_threads.specs.declared.programs.call.CellName.TheVariants as cell
 use Rattle.step_threads.specs.declared.programs.call.CellName.{CellName}

@@ -29,8 +29,7 @@ use Rattle.step_table.specs.declared.memory.field.Field.{Field}
 use Rattle.step_table.specs.declared.memory.form.Form.{Form}
 use Rattle.step_table.specs.declared.slots.holdings.Pointer.{Pointer}
 use Rattle.step_threads.specs.Doings.{copy, copies}
-use Rattle.step_threads.specs.Rows.{Plain}
-use Rattle.step_threads.specs.Scenes.{alias_of}
+use Rattle.step_threads.specs.Rows.{Plain, alias_of}
 use Rattle.step_threads.specs.declared.programs.act.Act.TheVariants as act
 
 -- an empty weak handle points nowhere

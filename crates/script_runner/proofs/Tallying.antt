@@ -20,8 +20,8 @@ use Rattle.step_table.specs.declared.memory.form.Form.{Form}
 use Rattle.step_table.specs.declared.slots.holdings.Pointer.{Pointer}
 use Rattle.step_threads.specs.Courses.{hand, is_there, offered, other}
 use Rattle.step_threads.specs.Doings.{IsLeaveEvent, IsMakeEvent, IsLoadEvent, On, IsSwapEvent, Where, copies, copy, leaves_as}
-use Rattle.step_threads.specs.Rows.{Came, Compared, Found, Got, Left, Plain, Reply, Told, asked, may_go, not_given, row}
-use Rattle.step_threads.specs.Scenes.{lock_answer, outside, refusal, remains_as}
+use Rattle.step_threads.specs.Rows.{Came, Compared, Found, Got, Left, Plain, Reply, Told, asked, may_go, not_given, row, lock_answer, outside, refusal}
+use Rattle.step_threads.specs.Scenes.{remains_as}
 use Rattle.step_threads.specs.declared.programs.act.Act.{Act}
 use Rattle.step_threads.specs.declared.programs.act.Act.TheVariants as act
 use Rattle.step_threads.specs.declared.programs.act.Question.{Question}

@@ -23,8 +23,7 @@ use Rattle.step_table.specs.declared.memory.form.Form.{Form}
 use Rattle.step_threads.specs.Courses.{is_there, fitting, hand as hand_of}
 use Rattle.step_threads.specs.Doings.{copy, IsLoadEvent, IsSwapEvent, Where}
 use Rattle.step_threads.specs.Programs.{kind_at}
-use Rattle.step_threads.specs.Rows.{may_go}
-use Rattle.step_threads.specs.Scenes.{Hands, outside, refusal}
+use Rattle.step_threads.specs.Rows.{may_go, Hands, outside, refusal}
 use Rattle.step_threads.specs.declared.programs.call.CellName.TheVariants as cell
 use Rattle.step_threads.specs.declared.programs.call.CellName.{CellName}
 use Rattle.step_threads.specs.declared.programs.call.Name.{Name}

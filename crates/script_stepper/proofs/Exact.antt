@@ -9,16 +9,15 @@ use Rattle.step_threads.specs.declared.programs.act.Act.TheVariants.{Make, Share
 use Rattle.step_threads.specs.declared.programs.act.Act.TheVariants.{Read, Ask}
 use Rattle.step_threads.specs.declared.programs.act.Act.TheVariants.{Offer, Swap, Exchange, Load, Compare, Drop, OnShelf}
 use Rattle.step_threads.specs.declared.programs.act.Task.{Task}
-use Rattle.step_threads.specs.declared.said.Answer.{Answer}
-use Rattle.step_threads.specs.declared.said.Answer.TheVariants as answer
 use Rattle.step_table.specs.declared.slots.holdings.Pointer.{Pointer}
 use Rattle.step_threads.specs.Courses.{Walk}
 use Rattle.step_table.specs.Deeds.{Telling, exact, handle_of, on, tell_count}
 use Rattle.step_table.specs.Holdings.{Slots, slot_pointer}
 use Rattle.step_table.specs.Openings.{opening}
 use Rattle.step_threads.specs.Entries.{History, acted, does}
-use Rattle.step_threads.specs.Scenes.{Scene, answer_of, ended_of, next, play, play_from, play_with, put_walk, rest_of, rested_walk, said, said_from, said_with}
-use Rattle.step_threads.specs.Scenes.{state_in, walk_of, went}
+use Rattle.step_threads.specs.Rows.{Reply, Told, row, said_by_row}
+use Rattle.step_threads.specs.Scenes.{Scene, next, play, play_from, play_with, put_walk, rest_of, rested_walk, said, said_from, said_with}
+use Rattle.step_threads.specs.Scenes.{reply_in, state_in, walk_of, went}
 use Rattle.step_core.specs.Worlds.{NoneLoads, Sight, TellsAllCounts, is_loading}
 use Rattle.script_stepper.specs.Running.{AllRest}
 
@@ -37,7 +36,7 @@ counts_exact : (tell : Telling) (z : Opening) (d : ℕ) (h : History) (o : Optio
 counts_exact tell z d h None e = refl
 counts_exact tell z d h (Some x) e = ap (λ (n : ℕ). entry d (event.Count (handle_of (leads z h) x) n) ∷ h) (e x refl)
 
--- what an act of these slots adds to the history and answers
+-- what an act of these slots adds to the history, and its reply
 acted_exact : (tell : Telling) (z : Opening) (d : ℕ) (slots : Slots) (h : History) (a : Act) → IsExact tell (leads z h) slots
     → acted tell z d slots h a ≡ acted exact z d slots h a
 acted_exact tell z d slots h (Make form) e = refl
@@ -62,29 +61,10 @@ acted_exact tell z d slots h (Compare k c weak) e = refl
 acted_exact tell z d slots h Drop e = refl
 acted_exact tell z d slots h (OnShelf x) e = refl
 
-answer_exact : (tell : Telling) (s : State) (d : ℕ) (slots : Slots) (a : Act) → IsExact tell s slots
-    → answer_of tell s d slots a ≡ answer_of exact s d slots a
-answer_exact tell s d slots (Make form) e = refl
-answer_exact tell s d slots (Share k) e = refl
-answer_exact tell s d slots (Put k) e = refl
-answer_exact tell s d slots (Leave k) e = refl
-answer_exact tell s d slots (Clear k) e = refl
-answer_exact tell s d slots (Count k) e = ap (λ (n : ℕ). Some (answer.Count n)) (number_exact tell s (slot_pointer slots k) (e k))
-answer_exact tell s d slots (Downgrade k) e = refl
-answer_exact tell s d slots (Lock k must) e = refl
-answer_exact tell s d slots (Expired k) e = refl
-answer_exact tell s d slots (Read k) e = refl
-answer_exact tell s d slots (FromThis k kind) e = refl
-answer_exact tell s d slots (Alias k j field) e = refl
-answer_exact tell s d slots (Move k) e = refl
-answer_exact tell s d slots (Ask q) e = refl
-answer_exact tell s d slots (Offer k c) e = refl
-answer_exact tell s d slots (Swap c) e = refl
-answer_exact tell s d slots (Exchange k c) e = refl
-answer_exact tell s d slots (Load c) e = refl
-answer_exact tell s d slots (Compare k c weak) e = refl
-answer_exact tell s d slots Drop e = refl
-answer_exact tell s d slots (OnShelf x) e = refl
+reply_exact : (tell : Telling) (s : State) (d : ℕ) (slots : Slots) (a : Act) → IsExact tell s slots
+    → reply_in tell s d slots a ≡ reply_in exact s d slots a
+reply_exact tell s d slots (Count k) e = ap Told (number_exact tell s (slot_pointer slots k) (e k))
+reply_exact tell s d slots _ e = refl
 
 play_at : (tell : Telling) (c : Scene) (d : ℕ) (w : Walk) (o : Option Task) → IsExact tell (state_in c) w.slots
     → play_from tell c d w o ≡ play_from exact c d w o
@@ -93,12 +73,11 @@ play_at tell c d w (Some t) e =
     let w' = went (state_in c) d w t.statement (rest_of w.endings w.todo) t.act in
     ap (λ (h : History). put_walk c d w' (rested_walk (opening c.extent) d h w')) (acted_exact tell (opening c.extent) d w.slots c.history t.act e)
 
-said_at : (tell : Telling) (c : Scene) (d : ℕ) (slots : Slots) (o : Option Task) → IsExact tell (state_in c) slots
-    → said_from tell c d slots o ≡ said_from exact c d slots o
-said_at tell c d slots None e = refl
-said_at tell c d slots (Some t) e =
-    ap (λ (a : Option Answer). Some (record { statement = t.statement; answer = a; ended = ended_of (state_in c) slots t.act }))
-    (answer_exact tell (state_in c) d slots t.act e)
+said_at : (tell : Telling) (c : Scene) (d : ℕ) (w : Walk) (o : Option Task) → IsExact tell (state_in c) w.slots
+    → said_from tell c d w o ≡ said_from exact c d w o
+said_at tell c d w None e = refl
+said_at tell c d w (Some t) e =
+    ap (λ (r : Reply). Some (said_by_row t.statement (row t.act w.slots w.taken r))) (reply_exact tell (state_in c) d w.slots t.act e)
 
 none_loads : (u : Sight) (d : ℕ) → AllRest u → NoneLoads d u
 none_loads u d rests = λ e ne. ap is_loading (rests.halves e)
@@ -110,4 +89,4 @@ pub play_exact : (u : Sight) (d : ℕ) (c : Scene) (tell : Telling) → AllRest 
 play_exact u d c tell rests t = play_at tell c d (walk_of c d) (next (walk_of c d)) (is_exact u d c tell rests t)
 
 pub said_exact : (u : Sight) (d : ℕ) (c : Scene) (tell : Telling) → AllRest u → TellsAllCounts d u c tell → said_with tell d c ≡ said d c
-said_exact u d c tell rests t = said_at tell c d (walk_of c d).slots (next (walk_of c d)) (is_exact u d c tell rests t)
+said_exact u d c tell rests t = said_at tell c d (walk_of c d) (next (walk_of c d)) (is_exact u d c tell rests t)

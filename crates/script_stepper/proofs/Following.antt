@@ -28,6 +28,7 @@ use Rattle.step_threads.specs.Doings.{Ahead, AnAct, AnEnd, DoesNext, DoesAhead, 
 use Rattle.step_threads.specs.Endings.{staged}
 use Rattle.step_threads.specs.Entries.{History, acted}
 use Rattle.step_threads.specs.Scenes.{Scene, next, next_of, nowhere, play, play_from, rest_of, rested_walk, said, said_from, said_of, state_in, walk_of, went}
+use Rattle.step_threads.specs.Scenes.{reply_in}
 use Rattle.step_threads.specs.Unwinding.{Stop, Wound, history_clears, unwinds_on, stops, unwound}
 use Rattle.step_threads.specs.Steps.{silent}
 use Rattle.step_core.specs.Following.{no_worth}
@@ -198,20 +199,20 @@ ahead_next l (x ∷ es) ts t (inr full) e =
 act_on : (b c : Scene) (d : ℕ) (out : List (ℕ × Said)) (t : Task) → d < length c.walks → Waits (walk_of c d) → next (walk_of c d) ≡ Some t
     → Far (opening c.extent) b c.history c.walks out
     → let p = play_from exact c d (walk_of c d) (Some t) in
-    Far (opening c.extent) b p.history p.walks (out ++ spoken d (said_of exact (state_in c) d (walk_of c d).slots t))
+    Far (opening c.extent) b p.history p.walks (out ++ spoken d (said_of exact (state_in c) d (walk_of c d) t))
 act_on b c d out t lt waits is far =
     let w = walk_of c d in
     let z = opening c.extent in
     let ts = rest_of w.endings w.todo in
-    let q = replied exact z d c.history t.statement w ts t.act in
-    let x = said_of exact (state_in c) d w.slots t in
+    let q = replied exact z d c.history w t.act in
+    let x = said_of exact (state_in c) d w t in
     let u = went (state_in c) d w t.statement ts t.act in
     let begun : Far z b c.history (set c.walks d w) out =
     subst (λ (l : List Walk). Far z b c.history l out) (sym (set-get_or c.walks d nowhere)) far in
     let does : DoesNext no_worth (leads z c.history) w (done_by d q.event x) u =
     subst (λ (a : Ahead). DoesAhead no_worth (leads z c.history) w (done_by d q.event x) u a)
     (sym (ahead_next w.slots w.endings w.todo t waits.endings is))
-    (record { reply = q.reply; makes = q.makes; says = q.says; goes = q.goes }) in
+    (record { reply = reply_in exact (state_in c) d w.slots t.act; makes = q.makes; says = refl; goes = refl }) in
     let h = acted exact z d w.slots c.history t.act in
     let made : Far z b h (set c.walks d u) (out ++ spoken d x) =
     subst (λ (k : History). Far z b k (set c.walks d u) (out ++ spoken d x)) (sym q.history)
@@ -240,11 +241,11 @@ turn_on b c thread out waits far = go (next (walk_of c (thread - 1))) refl
         let d = thread - 1 in
         let w = walk_of c d in
         let lt = there c d t e in
-        let x = said_of exact (state_in c) d w.slots t in
+        let x = said_of exact (state_in c) d w t in
         let goes = act_on b c d out t lt (waits d lt) e far in
         let one : spoken d x ≡ flat_map spoken_of (heard thread (said d c)) =
         sym (flat_map-one spoken_of (thread, x))
-        ∙ ap (λ (o : Option Task). flat_map spoken_of (heard thread (said_from exact c d w.slots o))) (sym e) in
+        ∙ ap (λ (o : Option Task). flat_map spoken_of (heard thread (said_from exact c d w o))) (sym e) in
         subst (λ (o : Option Task). let p = play_from exact c d w o in
         Far (opening c.extent) b p.history p.walks (out ++ flat_map spoken_of (heard thread (said d c)))) (sym e)
         (let p = play_from exact c d w (Some t) in

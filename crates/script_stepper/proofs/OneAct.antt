@@ -31,7 +31,8 @@ use Rattle.step_threads.specs.Courses.{cell_of_name, hand, is_there, other, plac
 use Rattle.step_threads.specs.Doings.{IsLeaveEvent, IsLoadEvent, IsMakeEvent, On, IsSwapEvent, IsCompareEvent, Where, copies, leaves_as, put_on}
 use Rattle.step_threads.specs.Entries.{History}
 use Rattle.step_threads.specs.Rows.{Reply, Plain, Found, Got, Told, Came, Compared, Left, having, leaving, may_go, row}
-use Rattle.step_threads.specs.Scenes.{Hands, full_answer, holding, outside, refusal, remains_as}
+use Rattle.step_threads.specs.Rows.{Hands, full_answer, holding, outside, refusal}
+use Rattle.step_threads.specs.Scenes.{remains_as}
 use Rattle.step_core.specs.Following.{no_worth}
 use Rattle.script_text.specs.Traces.{IsChosen}
 use Rattle.script_stepper.proofs.LeastBlocks.{least_is_one, least_of_none}

@@ -1,6 +1,6 @@
 -- Turns by replies are the turns of the machine.
 use Rattle.step_threads.specs.declared.programs.act.ShelfAct.TheVariants.{Shelve, Unshelve}
-use Rattle.std.proofs.Common.{◌≡◌, ℕ, zero, suc, ◌-◌, Bool, true, false, cond, not, List, [], ◌∷◌, ◌++◌, refl, sym, ap, subst, ◌∙◌}
+use Rattle.std.proofs.Common.{◌≡◌, ℕ, zero, suc, ◌-◌, Bool, true, false, cond, List, [], ◌∷◌, ◌++◌, refl, sym, ap, subst, ◌∙◌}
 use Rattle.std.specs.Prelude.{Option, Some, None, option_map}
 use Rattle.std.proofs.lemmas.Bool.{cond_both}
 use Rattle.control_word.specs.declared.model.event.Event.{Event}
@@ -14,7 +14,7 @@ use Rattle.control_word.specs.State.{Opening, State}
 use Rattle.step_table.specs.declared.slots.holdings.Pointer.{Pointer}
 use Rattle.step_table.specs.declared.slots.slot.Slot.{Slot}
 use Rattle.step_table.specs.Contents.{slot_of}
-use Rattle.step_table.specs.Deeds.{exact, field_at, is_expired, last_as, owned}
+use Rattle.step_table.specs.Deeds.{exact, field_at, last_as, owned}
 use Rattle.step_table.specs.Holdings.{Slots, inside, is_full, owner_slot, slot_pointer, weak_slot}
 use Rattle.step_table.specs.Openings.{opening}
 use Rattle.step_table.specs.Stories.{Nothing}
@@ -29,9 +29,8 @@ use Rattle.step_threads.specs.Courses.{Walk, hand, is_there, offered, other}
 use Rattle.step_threads.specs.Doings.{copies, leaves_as, put_on}
 use Rattle.step_threads.specs.Entries.{History, acted, giving, least}
 use Rattle.step_threads.specs.Rows.{Row, walk_after_act, may_go, row, said_by_row}
-use Rattle.step_threads.specs.Scenes.{Scene, found, next, play, play_from, rest_of, rested_walk, said, said_from, said_of, state_in, walk_of, went}
+use Rattle.step_threads.specs.Scenes.{Scene, next, play, play_from, rest_of, rested_walk, said, said_from, said_of, reply_in, state_in, walk_of, went}
 use Rattle.step_threads.specs.Unwinding.{Stop, Wound, history_clears, unwinds_on, stops, unwound}
-use Rattle.step_core.proofs.following.Parts.{gave, locking}
 use Rattle.step_core.proofs.following.Replies.{replied}
 use Rattle.script_text.specs.Traces.{ActsNow, IsChosen, Item, TakeTurns, TakesTurn, scene_after}
 use Rattle.script_stepper.specs.Running.{heard, plays, items_told}
@@ -60,23 +59,18 @@ module _ (s : State) (d : ℕ) where
   of_test true e h = h
   of_test false e h = (tt, tt)
 
-module _ (z : Opening) (d : ℕ) (h : History) (n : ℕ) (w : Walk) (ts : List Task) where
+module _ (z : Opening) (d : ℕ) (h : History) (w : Walk) where
   abbrev now : State
   now = leads z h
 
   abbrev event_of_act : Act → Events
-  event_of_act a = (replied exact z d h n w ts a).event
+  event_of_act a = (replied exact z d h w a).event
 
   of_make : (o : Option ℕ) (f : ℕ → Event Nothing) → ((b : ℕ) → least d now.stores ≡ Some b → Fine now d (Some (f b)))
       → least d now.stores ≡ o
       → Fine now d (option_map f o)
   of_make None f g e = (tt, tt)
   of_make (Some b) f g e = g b e
-
-  of_lock : (o : Option Pointer) (f : Bool → Pointer → Event Nothing)
-      → ((x : Pointer) (b : Bool) → b ≡ not (is_expired now x) → Fine now d (Some (f b x))) → Fine now d (option_map (f (is_full (found now o))) o)
-  of_lock None f g = (tt, tt)
-  of_lock (Some x) f g = g x (is_full (found now (Some x))) (gave now x)
 
   fine : (a : Act) → Fine now d (event_of_act a)
   unfolding replied
@@ -90,7 +84,7 @@ module _ (z : Opening) (d : ℕ) (h : History) (n : ℕ) (w : Walk) (ts : List T
   fine (OnShelf (Unshelve b)) = of_test now d (now.shelved b.0) (event.Unshelve b) (tt, tt)
   fine (Count i) = of_map now d _ (λ x. (tt, refl)) (slot_pointer w.slots i)
   fine (Downgrade i) = of_map now d _ (λ x. (tt, tt)) (slot_pointer w.slots i)
-  fine (Lock i must) = of_lock (weak_slot (slot_pointer w.slots i)) (locking now) (λ x b e. (e, tt))
+  fine (Lock i must) = of_map now d _ (λ x. (refl, tt)) (weak_slot (slot_pointer w.slots i))
   fine (Expired i) = of_map now d _ (λ x. (refl, tt)) (slot_pointer w.slots i)
   fine (Read i) = of_map now d _ (λ x. (λ p e. ap (field_at (now.object (owned now x))) e, tt)) (inside (slot_pointer w.slots i))
   fine (FromThis i q) = of_map now d _ (λ x. of_copies now d q _ x) (giving now (inside (slot_pointer w.slots i)))
@@ -115,22 +109,20 @@ module _ (d : ℕ) (c : Scene) (t : Task) where
   abbrev opened : Opening
   opened = opening c.extent
 
-  played : let q = replied exact opened d c.history t.statement walk rest t.act in
-      play_from exact c d walk (Some t)
-      ≡ scene_after d c (put_on d q.event c.history) (walk_after_act walk t.statement rest (row t.act walk.slots walk.taken q.reply))
+  played : let q = replied exact opened d c.history walk t.act in
+      play_from exact c d walk (Some t) ≡ scene_after d c (put_on d q.event c.history) (went (state_in c) d walk t.statement rest t.act)
   played =
-      let q = replied exact opened d c.history t.statement walk rest t.act in
+      let q = replied exact opened d c.history walk t.act in
       ap (λ (h : History). scene_after d c h (went (state_in c) d walk t.statement rest t.act)) q.history
-      ∙ ap (λ (u : Walk). scene_after d c (put_on d q.event c.history) u) q.goes
 
-  act_is : (x : Said) (a : Scene) → ActsNow d c t x a → (x ≡ said_of exact (state_in c) d walk.slots t) × (a ≡ play_from exact c d walk (Some t))
+  act_is : (x : Said) (a : Scene) → ActsNow d c t x a → (x ≡ said_of exact (state_in c) d walk t) × (a ≡ play_from exact c d walk (Some t))
   act_is x a p =
-      let q = replied exact opened d c.history t.statement walk rest t.act in
-      let f = fine opened d c.history t.statement walk rest t.act in
+      let q = replied exact opened d c.history walk t.act in
+      let f = fine opened d c.history walk t.act in
       let r =
-      one_reply (state_in c) d walk.slots walk.taken t.act p.reply q.reply p.event q.event p.makes q.makes
+      one_reply (state_in c) d walk.slots walk.taken t.act p.reply (reply_in exact (state_in c) d walk.slots t.act) p.event q.event p.makes q.makes
       (comes opened d c.history p.event p.legal) f.0 p.chosen f.1 in (
-        p.says ∙ ap (said_by_row t.statement) r.0 ∙ sym q.says,
+        p.says ∙ ap (said_by_row t.statement) r.0,
         p.goes
             ∙ ap (λ (e : Events). scene_after d c (put_on d e c.history)
             (walk_after_act walk t.statement rest (row t.act walk.slots walk.taken p.reply))) r.1
@@ -139,7 +131,7 @@ module _ (d : ℕ) (c : Scene) (t : Task) where
 
 turn_is : (thread : ℕ) (c : Scene) (o : Option Task) (i : List Item) (a : Scene) → TakesTurn thread c o i a
     → let w = walk_of c (thread - 1) in
-    (i ≡ heard thread (said_from exact c (thread - 1) w.slots o)) × (a ≡ play_from exact c (thread - 1) w o)
+    (i ≡ heard thread (said_from exact c (thread - 1) w o)) × (a ≡ play_from exact c (thread - 1) w o)
 turn_is thread c None i a p = p
 turn_is thread c (Some t) i a p =
     let r = act_is (thread - 1) c t p.0 a p.1 in
@@ -194,28 +186,28 @@ abbrev Legal : Scene → Type 0
 Legal c = IsLegal (opening c.extent) c.history
 
 play_now : (d : ℕ) (c : Scene) (t : Task) → IsLegal (opening c.extent) (play_from exact c d (walk_of c d) (Some t)).history
-    → ActsNow d c t (said_of exact (state_in c) d (walk_of c d).slots t) (play_from exact c d (walk_of c d) (Some t))
+    → ActsNow d c t (said_of exact (state_in c) d (walk_of c d) t) (play_from exact c d (walk_of c d) (Some t))
 play_now d c t legal =
     let w = walk d c t in
     let ts = rest d c t in
     let z = opening c.extent in
-    let q = replied exact z d c.history t.statement w ts t.act in
+    let q = replied exact z d c.history w t.act in
     record {
-      reply = q.reply;
+      reply = reply_in exact (state_in c) d w.slots t.act;
       event = q.event;
       makes = q.makes;
       legal = subst (IsLegal z) q.history
           (rested_legal z d (acted exact z d w.slots c.history t.act) (went (state_in c) d w t.statement ts t.act) legal);
-      chosen = (fine z d c.history t.statement w ts t.act).1;
-      says = q.says;
+      chosen = (fine z d c.history w t.act).1;
+      says = refl;
       goes = played d c t;
     }
 
 play_turn : (thread : ℕ) (c : Scene) (o : Option Task) → let w = walk_of c (thread - 1) in
     IsLegal (opening c.extent) (play_from exact c (thread - 1) w o).history
-    → TakesTurn thread c o (heard thread (said_from exact c (thread - 1) w.slots o)) (play_from exact c (thread - 1) w o)
+    → TakesTurn thread c o (heard thread (said_from exact c (thread - 1) w o)) (play_from exact c (thread - 1) w o)
 play_turn thread c None legal = (refl, refl)
-play_turn thread c (Some t) legal = (said_of exact (state_in c) (thread - 1) (walk_of c (thread - 1)).slots t, play_now (thread - 1) c t legal, refl)
+play_turn thread c (Some t) legal = (said_of exact (state_in c) (thread - 1) (walk_of c (thread - 1)) t, play_now (thread - 1) c t legal, refl)
 
 before_play : (d : ℕ) (c : Scene) (o : Option Task) → IsLegal (opening c.extent) (play_from exact c d (walk_of c d) o).history → Legal c
 before_play d c None legal = legal

@@ -18,11 +18,12 @@ use Rattle.step_table.specs.declared.slots.holdings.Pointer.{Pointer}
 use Rattle.step_table.specs.declared.memory.past.Deed.{Deed}
 use Rattle.step_table.specs.Stories.{event_added, event_of}
 use Rattle.step_threads.specs.Courses.{Going, going, is_there, locked_pointer, offered, on_going, other}
-use Rattle.step_table.specs.Deeds.{alias, aliased, downgrade, exact, give, is_last, leave, leave_as, lock, on, read_deed, share, share_as, tell_count}
+use Rattle.step_table.specs.Deeds.{alias, aliased, downgrade, exact, give, is_last, leave, leave_as, lock, read_deed, share, share_as, tell_count}
 use Rattle.step_table.specs.Deeds.{tell_expired}
+use Rattle.step_threads.specs.Rows.{ending_as, with_end}
+use Rattle.step_core.proofs.telling.Leaves.{begun_by, leaves_by}
 use Rattle.step_table.specs.Holdings.{Slots, inside, owner_slot, place_in, slot_pointer}
 use Rattle.step_threads.specs.Entries.{History, acted, history_compares, does, giving, least, loads, make_deed, history_swaps}
-use Rattle.step_threads.specs.Scenes.{begins_end, begins_end_as, endings_by}
 use Rattle.step_core.specs.Totals.{ended_in, made_in}
 use Rattle.script_stepper.specs.Running.{parts_left}
 
@@ -77,14 +78,14 @@ given_ended d h s p Weak = refl
 
 -- a pointer leaves, and its object ends or not
 left_one : (d k : ℕ) (h : History) (es : List Ending) (s : State) (p : Pointer) (kind : Kind) (last : Bool)
-    → Tally 0 h es (event_added d (event_of s (leave_as kind p last)) h) (cond last (begins_end_as kind k p es) es)
+    → Tally 0 h es (event_added d (event_of s (leave_as kind p last)) h) (with_end k (cond last (ending_as kind p) None) es)
 left_one d k h es s p Owner true = record { made = omega arith; last = 1; ended = omega arith; parts = omega arith }
 left_one d k h es s p Owner false = record { made = omega arith; last = 0; ended = omega arith; parts = omega arith }
 left_one d k h es s p Weak true = record { made = omega arith; last = 0; ended = omega arith; parts = omega arith }
 left_one d k h es s p Weak false = record { made = omega arith; last = 0; ended = omega arith; parts = omega arith }
 
 left_tally : (z : Opening) (d k : ℕ) (h : History) (es : List Ending) (x : Option Pointer)
-    → Tally 0 h es (does z d h (option_map (leave (leads z h)) x)) (on (λ p. begins_end (leads z h) k p es) es x)
+    → Tally 0 h es (does z d h (option_map (leave (leads z h)) x)) (begun_by (leads z h) k es x)
 left_tally z d k h es None = same 0 h h es refl refl
 left_tally z d k h es (Some p) = left_one d k h es (leads z h) p p.kind (is_last (leads z h) p)
 
@@ -102,7 +103,7 @@ moved_tally z d h es (Unshelve c) None = same 0 h h es refl refl
 moved_tally z d h es (Unshelve c) (Some b) = same 0 h (does z d h (shelf_deed (Unshelve c) (Some b))) es refl refl
 
 pub tally : (z : Opening) (d k : ℕ) (slots : Slots) (h : History) (es : List Ending) (a : Act)
-    → Tally (may_make a) h es (acted exact z d slots h a) (endings_by (leads z h) k slots es a)
+    → Tally (may_make a) h es (acted exact z d slots h a) (begun_by (leads z h) k es (leaves_by slots a))
 tally z d k slots h es (Make form) = make_tally z d form h es (least d (leads z h).stores)
 tally z d k slots h es (Share i) =
     same_by z d h es share (slot_pointer slots i) (λ p. shared_made d h (leads z h) p p.kind) (λ p. shared_ended d h (leads z h) p p.kind)

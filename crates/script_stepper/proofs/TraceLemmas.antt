@@ -46,7 +46,7 @@ pub play_done : (d : ℕ) (c : Scene) → next (walk_of c d) ≡ None → play d
 play_done d c e = ap (play_from exact c d (walk_of c d)) e
 
 pub said_done : (d : ℕ) (c : Scene) → next (walk_of c d) ≡ None → said d c ≡ None
-said_done d c e = ap (said_from exact c d (walk_of c d).slots) e
+said_done d c e = ap (said_from exact c d (walk_of c d)) e
 
 pub idle_plays : (j thread : ℕ) (c : Scene) → next (walk_of c (thread - 1)) ≡ None → plays (replicate j thread) c ≡ c
 idle_plays zero thread c e = refl

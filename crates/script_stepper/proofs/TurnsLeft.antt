@@ -20,7 +20,8 @@ use Rattle.step_threads.specs.Unwinding.{Wound}
 use Rattle.step_threads.specs.Scenes.{state_in, walk_of, went}
 use Rattle.step_core.specs.Totals.{ended_in, made_in}
 use Rattle.script_stepper.specs.Running.{parts_left, turns_left, tasks_in}
-use Rattle.script_stepper.proofs.Acting.{went_endings, went_free, went_less}
+use Rattle.script_stepper.proofs.Acting.{went_free, went_less}
+use Rattle.step_core.proofs.telling.Leaves.{act_endings}
 use Rattle.script_stepper.proofs.Tallies.{Tally, may_make, tally}
 use Rattle.script_stepper.proofs.Unwinding.{rested_less, rested_parts, rested_totals}
 
@@ -63,7 +64,7 @@ tallied : (c : Scene) (d : ℕ) (w : Walk) (k : ℕ) (ts : List Task) (a : Act)
     → Tally (may_make a) c.history w.endings (acted exact (opening c.extent) d w.slots c.history a) (by_act c d w k ts a).endings
 tallied c d w k ts a =
     subst (λ (es : List Ending). Tally (may_make a) c.history w.endings (acted exact (opening c.extent) d w.slots c.history a) es)
-    (sym (went_endings (state_in c) d w k ts a)) (tally (opening c.extent) d k w.slots c.history w.endings a)
+    (sym (act_endings (state_in c) d k w ts a)) (tally (opening c.extent) d k w.slots c.history w.endings a)
 
 goes : (c : Scene) (d : ℕ) (w : Walk) (k : ℕ) (ts : List Task) (a : Act)
     → Goes (may_make a) 0 c w (by_act c d w k ts a) ts (wound_by c d w k ts a)
@@ -188,7 +189,7 @@ most_at c d e (Some t) q lt sound =
     ]
 
 less_at : (c : Scene) (d : ℕ) (o : Option Task) (x : Said) → o ≡ next (walk_of c d) → d < length c.walks
-    → Some x ≡ said_from exact c d (walk_of c d).slots o → InOrder (play_from exact c d (walk_of c d) o)
+    → Some x ≡ said_from exact c d (walk_of c d) o → InOrder (play_from exact c d (walk_of c d) o)
     → turns_left d (play_from exact c d (walk_of c d) o) < turns_left d c
 less_at c d None x q lt e sound = absurd cc
 less_at c d (Some t) x q lt e sound =

@@ -1,3 +1,4 @@
+pub mod Leaves
 pub mod Walking
 pub mod Tidying
 pub mod Names

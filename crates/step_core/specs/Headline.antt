@@ -18,7 +18,8 @@ use Rattle.step_core.specs.declared.trace.TraceStep.{TraceStep}
 use Rattle.step_table.specs.Openings.{opening}
 use Rattle.step_threads.specs.declared.programs.act.Act.TheVariants as act
 use Rattle.step_threads.specs.declared.programs.act.Task.{Task}
-use Rattle.step_threads.specs.Scenes.{lock_answer, walk_of}
+use Rattle.step_threads.specs.Scenes.{walk_of}
+use Rattle.step_threads.specs.Rows.{lock_answer}
 use Rattle.step_table.specs.Deeds.{remains}
 use Rattle.step_table.specs.Stories.{Nothing, story_state}
 use Rattle.step_core.specs.Sights.{AllHold, Sight, scene}

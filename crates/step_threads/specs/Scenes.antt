@@ -41,9 +41,9 @@ pub record Scene : Type 0 where
 abbrev pub came : State → Slots → CellName → Slot
 came s slots c = slot_of s (held_in s (cell_of_name s slots c))
 
--- a lock finds an owner, where there is a weak pointer and an owner is left
-abbrev pub is_left : State → Option Pointer → Bool
-is_left s x = on (λ y. not (is_expired s y)) false x
+-- a lock finds an owner, where there is a weak pointer and an owner is left ([util.smartptr.weak.obs], `lock`)
+abbrev pub finds_owner : State → Option Pointer → Bool
+finds_owner s x = on (λ y. not (is_expired s y)) false x
 
 -- what comes before the other; other questions are answered by the slots
 abbrev pub answers_order : State → Slots → Question → Bool
@@ -70,7 +70,7 @@ reply_in tell s d l (Leave k) = reply_to_leave s (slot_pointer l k)
 reply_in tell s d l (Clear k) = reply_to_leave s (slot_pointer l k)
 reply_in tell s d l Drop = reply_to_leave s (slot_pointer l (other l))
 reply_in tell s d l (Count k) = Told (on (tell s) 0 (slot_pointer l k))
-reply_in tell s d l (Lock k must) = Got (is_left s (weak_slot (slot_pointer l k)))
+reply_in tell s d l (Lock k must) = Got (finds_owner s (weak_slot (slot_pointer l k)))
 reply_in tell s d l (Expired k) = Got (on (is_expired s) true (slot_pointer l k))
 reply_in tell s d l (Read k) = Told (on (field_of s) 0 (inside (slot_pointer l k)))
 reply_in tell s d l (FromThis k kind) = Got (on (is_enabled s) false (inside (slot_pointer l k)))

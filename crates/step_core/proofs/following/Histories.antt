@@ -34,11 +34,6 @@ module _ (z : Opening) (d : ℕ) (h : History) (l : Slots) where
   swap_makes c i true = (held_in now (cell_of_name now l c), refl, refl)
   swap_makes c i false = refl
 
-  pub swap_slots : (c : CellName) (i : ℕ) (f : CellName → ℕ → Slots) (b : Bool)
-      → on_going f l (cond b (Some (c, i)) None) ≡ cond b (f c i) l
-  swap_slots c i f true = refl
-  swap_slots c i f false = refl
-
   pub load_history : (c : CellName) (b : Bool)
       → cond b (loads z d l h c) h ≡ put_on d (cond b (Some (load_of now (cell_of_name now l c))) None) h
   load_history c true = refl

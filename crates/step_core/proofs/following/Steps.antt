@@ -18,7 +18,7 @@ use Rattle.step_threads.specs.declared.said.Stepped.TheVariants.{Waited}
 use Rattle.step_threads.specs.Courses.{hand}
 use Rattle.step_threads.specs.Doings.{Ahead, AnAct, DoesAhead, ahead, ahead_of}
 use Rattle.step_threads.specs.Endings.{EndsAll}
-use Rattle.step_threads.specs.Scenes.{Scene, nowhere, walk_of, went}
+use Rattle.step_threads.specs.Scenes.{Scene, nowhere, reply_in, walk_of, went}
 use Rattle.step_threads.specs.NextSteps.{at_rest, emptied, first, step_at, stepped, story_after, waits}
 use Rattle.step_threads.specs.Steps.{Step, empties, ends_on, refills_on, returns, silent as silently}
 use Rattle.step_threads.specs.Threads.{IsClearingMember}
@@ -26,7 +26,7 @@ use Rattle.step_core.specs.Following.{Performs, no_worth}
 use Rattle.step_core.specs.Turning.{HasBegun, FundsAreHeld, IsTried, is_acting}
 use Rattle.step_core.specs.Worlds.{Sight, Steps, half_of, scene, sight_by, step_of}
 use Rattle.step_core.proofs.following.Ending.{doing_of, ends_next, made, passed, takes_out}
-use Rattle.step_core.proofs.following.Replies.{replied}
+use Rattle.step_core.proofs.following.Replies.{goes_told, replied}
 use Rattle.step_core.proofs.following.Silence.{first_said, refills_said}
 use Rattle.step_core.proofs.turning.Ending.{same_walks, scene_as, walk_after}
 use Rattle.step_core.proofs.turning.Firsts.{acts_so, first_same}
@@ -50,14 +50,20 @@ module _ (d : ℕ) (u : Sight) where
   acts_now t ts x next lt so =
       let w = walk_of (scene u) d in
       let v = u.story in
-      let q = replied (tell_of v t.act) (opening v.extent) d v.history t.statement w ts t.act in
+      let tell = tell_of v t.act in
+      let q = replied tell (opening v.extent) d v.history w t.act in
       let y = doing_of d x q.event in
       let here : x.walk ≡ went (story_state v) d w t.statement ts t.act =
       sym (walk_after d u (Some x) lt) ∙ ap (λ (c : Scene). walk_of c d) so.1
       ∙ get_or-set_same u.walks d (went (story_state v) d w t.statement ts t.act) nowhere lt in
       made d u x q.event lt (ap (λ (c : Scene). c.history) so.1 ∙ q.history)
       (subst (λ (a : Ahead). DoesAhead no_worth (story_state v) w y x.walk a) (sym next)
-      (record { reply = q.reply; makes = q.makes; says = so.0 ∙ q.says; goes = here ∙ q.goes }))
+      (record {
+        reply = reply_in tell (story_state v) d w.slots t.act;
+        makes = q.makes;
+        says = so.0;
+        goes = here ∙ goes_told tell (story_state v) d t.statement w ts t.act;
+      }))
 
   -- a step of an act that is under way
   trial_now : Trial d u → d < length u.walks → Now (step_of d u)

@@ -16,11 +16,12 @@ use Rattle.control_word.specs.declared.packed.cell.CellWord.{CellWord}
 use Rattle.step_core.specs.Bounds.{alone, lock_word, shows_next, spare, walk_steps}
 use Rattle.step_threads.specs.Courses.{Walk}
 use Rattle.step_table.specs.Deeds.{is_last, leave, leave_as, owned}
-use Rattle.step_threads.specs.Scenes.{ended_by, leaving_pointer as leaves_by, remains_as}
+use Rattle.step_threads.specs.Scenes.{ended_by, remains_as}
 use Rattle.step_threads.specs.NextSteps.{stepped as stepped_by, story_after}
 use Rattle.step_threads.specs.Steps.{Step, step_of_act}
 use Rattle.step_table.specs.Stories.{Story, story_state}
 use Rattle.step_core.specs.Told.{step_ends, is_prepared, step_makes}
+use Rattle.step_core.proofs.telling.Leaves.{leaves_by}
 use Rattle.step_core.proofs.telling.Walking.{ends_at, went_plain}
 
 pub alone_of_lock : (v : Story) (w : Walk) (word : ℕ) → (14 ≤ alone v w (Locking word)) × (alone v w (Locking word) ≤ 16)

@@ -2,13 +2,13 @@
 use Rattle.step_threads.specs.declared.programs.act.ShelfAct.{ShelfAct}
 use Rattle.step_threads.specs.declared.programs.act.ShelfAct.TheVariants.{Shelve, Unshelve}
 use Rattle.step_threads.specs.Shelving.{shelf_block, shelf_deed}
-use Rattle.std.proofs.Common.{◌≡◌, ℕ, ◌==◌, Bool, true, false, cond, List, [], ◌∷◌, get_or, refl, sym, ap, subst, ◌∙◌}
-use Rattle.std.specs.Prelude.{Option, Some, None, not, option_map}
+use Rattle.std.proofs.Common.{◌≡◌, ℕ, ◌==◌, Bool, true, false, cond, List, [], ◌∷◌, get_or, refl, sym, ap, subst}
+use Rattle.std.specs.Prelude.{Option, Some, None, option_map}
 use Rattle.std.proofs.lemmas.Bool.{cond_both}
 use Rattle.control_word.specs.declared.model.handle.Kind.{Kind}
 use Rattle.control_word.specs.declared.model.handle.Kind.TheVariants.{Owner, Weak}
 use Rattle.control_word.specs.declared.place.Block.{Block}
-use Rattle.control_word.specs.State.{State, weak}
+use Rattle.control_word.specs.State.{weak}
 use Rattle.step_threads.specs.declared.programs.act.Act.{Act}
 use Rattle.step_threads.specs.declared.programs.act.Act.TheVariants.{Make, Share, Downgrade, Lock, Put, Leave, Clear, Count, Expired, Read, FromThis, Alias}
 use Rattle.step_threads.specs.declared.programs.act.Act.TheVariants.{Move, Ask}
@@ -23,13 +23,14 @@ use Rattle.step_threads.specs.declared.said.Said.{Said}
 use Rattle.step_threads.specs.Actors.{wanted}
 use Rattle.step_threads.specs.declared.ending.Ending.{Ending}
 use Rattle.step_threads.specs.Courses.{Going, Walk, cell_of_name, comparing, form_of, going, hand, locked_pointer, offered, on_going, other}
-use Rattle.step_table.specs.Deeds.{is_enabled, read_deed, as_owner, downgrade, is_expired, is_last, leave, leave_as, lock, owner_word, share, share_as, tell}
+use Rattle.step_table.specs.Deeds.{is_enabled, read_deed, downgrade, is_last, leave, leave_as, lock, owner_word, share, share_as, tell}
 use Rattle.step_table.specs.Deeds.{tell_expired, alias, aliased, on}
 use Rattle.step_threads.specs.Endings.{staged}
 use Rattle.step_core.specs.Headline.{LocksNext}
 use Rattle.step_table.specs.Holdings.{inside, is_full, slot_pointer, owner_slot, place_in}
 use Rattle.step_threads.specs.Entries.{least}
-use Rattle.step_threads.specs.Scenes.{found, lock_answer}
+use Rattle.step_threads.specs.Rows.{lock_answer}
+use Rattle.step_threads.specs.Scenes.{finds_owner}
 use Rattle.step_threads.specs.NextSteps.{at_rest, emptied, given_step as given_by, begun, first, made_on}
 use Rattle.step_threads.specs.Steps.{asks, brings, Step, step_of_act, begins, claims, ends_on, looks}
 use Rattle.step_threads.specs.NextSteps.{sent, step_at, tried}
@@ -82,22 +83,13 @@ module _ (l : List Task) where
   begin_tells w k ts None = tt
   begin_tells w k ts (Some b) = tt
 
-  -- an owner is given where one is left
-  given : (s : State) (x : Pointer) → is_full (found s (Some x)) ≡ not (is_expired s x)
-  given s x = go (is_expired s x)
-    where
-      go : (b : Bool) → is_full (cond b None (Some (as_owner x))) ≡ not b
-      go true = refl
-      go false = refl
-
   lock_done : (v : Story) (d k i : ℕ) (w : Walk) (ts : List Task) (must : Bool) (x : Pointer)
       → locked_pointer w.slots (Lock i must) ≡ Some x
       → LocksNext k must l → Tells l (Some (step_of_act v d w k ts (Lock i must) (Some (lock (story_state v) x)) Rest))
   lock_done v d k i w ts must x at next = (
     must,
     next,
-    ap (λ (o : Option Pointer). Some (lock_answer must (is_full (found (story_state v) o)))) at ∙
-        ap (λ (b : Bool). Some (lock_answer must b)) (given (story_state v) x),
+    ap (λ (o : Option Pointer). Some (lock_answer must (finds_owner (story_state v) o))) at,
   )
 
   lock_tells : (v : Story) (d k i : ℕ) (w : Walk) (ts : List Task) (must : Bool) (o : Option Pointer)

@@ -29,7 +29,7 @@ use Rattle.step_table.specs.Deeds.{tell_expired, alias, aliased, on, remains}
 use Rattle.step_threads.specs.Endings.{staged}
 use Rattle.step_table.specs.Holdings.{inside, is_full, slot_pointer, owner_slot, place_in}
 use Rattle.step_threads.specs.Entries.{least}
-use Rattle.step_threads.specs.Scenes.{ended_by as ended_of, ended_of as ends_of, remains_as}
+use Rattle.step_threads.specs.Scenes.{ended_by as ended_of, remains_as}
 use Rattle.step_threads.specs.NextSteps.{at_rest, begun, emptied, first, given_step, made_on, sent, step_at, tried}
 use Rattle.step_threads.specs.Steps.{Step, step_of_act, asks, begins, brings, claims, ends_on, looks, prepares, sends, silent, step_of_swap, tries, trying}
 use Rattle.step_threads.specs.Steps.{with_endings}
@@ -41,6 +41,7 @@ use Rattle.step_table.specs.Cells.{word_of_cell}
 use Rattle.step_table.specs.Contents.{compared_in, seen}
 use Rattle.step_core.proofs.telling.Cases.{IsEach, IsEachAct, IsEachRefill, each_compares, each_load, each_matched, each_refill, each_saw}
 use Rattle.step_core.proofs.telling.Swapping.{swapping}
+use Rattle.step_core.proofs.telling.Leaves.{leaves_by, none_ends}
 
 -- what is left by a deed: it is the last owner's leave, or nothing
 abbrev pub left_by : Story → Option Deed → Option Ended
@@ -155,7 +156,7 @@ begin_tells v w k ts (Some b) = refl
 -- a value goes into a cell, or its funds are brought first
 send_tells : (v : Story) (d k : ℕ) (w : Walk) (ts : List Task) (a : Act) (x : Going) → going w.slots a ≡ Some x → (o : Option Pointer)
     → Tells v (Some (on (brings w k) (step_of_swap v d w k ts a x.0 x.1) o))
-send_tells v d k w ts a x goes None = (swapping (story_state v) w.slots a x goes).ends
+send_tells v d k w ts a x goes None = none_ends v d w a (swapping w.slots a x goes).stays
 send_tells v d k w ts a x goes (Some y) = refl
 
 going_tells : (v : Story) (d k : ℕ) (w : Walk) (ts : List Task) (a : Act) (o : Option Going) → going w.slots a ≡ o
@@ -170,12 +171,14 @@ sent_tells v d w (t ∷ ts) = go (going w.slots t.act) refl
   where
     go : (o : Option Going) → going w.slots t.act ≡ o → Tells v (option_map (λ (x : Going). step_of_swap v d w t.statement ts t.act x.0 x.1) o)
     go None goes = tt
-    go (Some x) goes = (swapping (story_state v) w.slots t.act x goes).ends
+    go (Some x) goes = none_ends v d w t.act (swapping w.slots t.act x goes).stays
 
 -- a step on a cell ends nothing, and neither does one on funds
-each_cell : (v : Story) (d : ℕ) (w : Walk) (k : ℕ) (ts : List Task) (a : Act) (c : Cell) → ends_of (story_state v) w.slots a ≡ None
+each_cell : (v : Story) (d : ℕ) (w : Walk) (k : ℕ) (ts : List Task) (a : Act) (c : Cell) → leaves_by w.slots a ≡ None
     → IsEach v d w k ts a c (λ (x : Step). Tells v (Some x))
-each_cell v d w k ts a c none = record { quiet = λ h. refl; look = λ x y. none; take = λ x y h. none; swap = λ x y h. none; bring = λ x p. refl }
+each_cell v d w k ts a c stays =
+    let none = none_ends v d w a stays in
+    record { quiet = λ h. refl; look = λ x y. none; take = λ x y h. none; swap = λ x y h. none; bring = λ x p. refl }
 
 each_act : (v : Story) (d : ℕ) (w : Walk) (k : ℕ) (ts : List Task) → IsEachAct v d w k ts (Tells v)
 each_act v d w k ts =

@@ -26,7 +26,8 @@ use Rattle.step_table.specs.Deeds.{alias, aliased, downgrade, give, is_enabled, 
 use Rattle.step_threads.specs.Endings.{EndsAll, IsEndingAtStage}
 use Rattle.step_table.specs.Holdings.{HoldsBag, inside, is_full, owner_slot, place_in, slot_pointer}
 use Rattle.step_threads.specs.Entries.{least}
-use Rattle.step_threads.specs.Scenes.{holding, leaving_pointer as leaves_by, went}
+use Rattle.step_threads.specs.Scenes.{went}
+use Rattle.step_threads.specs.Rows.{holding}
 use Rattle.step_threads.specs.NextSteps.{at_rest, begun, first, given_step, made_on}
 use Rattle.step_threads.specs.Steps.{Step, step_of_act, asks, begins, brings, claims, ends_on, looks, prepares}
 use Rattle.step_threads.specs.NextSteps.{sent, step_at, stepped as stepped_by, story_after, tried, waits, waits_at, waits_on}
@@ -36,6 +37,7 @@ use Rattle.step_core.specs.Told.{is_prepared}
 use Rattle.step_core.specs.Turning.{IsAlone, IsInShape, NextActLocks, FundsAreHeld, IsStill, IsSwap, IsTried, IsUnderWay}
 use Rattle.step_core.proofs.runs.Clearing.{end_less, out_less}
 use Rattle.step_core.proofs.runs.Trying.{alone_back}
+use Rattle.step_core.proofs.telling.Leaves.{leaves_by}
 use Rattle.step_core.proofs.telling.Walking.{carried_leaves, settled_alone, walk_alone, weight_two, went_less}
 use Rattle.step_core.proofs.telling.Swapping.{went_swap}
 use Rattle.step_core.proofs.runs.Alone.{IsLess, Lessens, alone_of_lock, alone_other, alone_same, left_less, none_made, one_made, plain_less}

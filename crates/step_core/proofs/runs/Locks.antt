@@ -14,7 +14,8 @@ use Rattle.step_threads.specs.declared.said.Stepped.{Stepped}
 use Rattle.step_threads.specs.declared.said.Stepped.TheVariants as stepped
 use Rattle.step_core.specs.declared.trace.TraceStep.{TraceStep}
 use Rattle.step_core.specs.Headline.{LocksNext, TellsLocks, Was, answer_by, statement_by}
-use Rattle.step_threads.specs.Scenes.{lock_answer, walk_of}
+use Rattle.step_threads.specs.Scenes.{walk_of}
+use Rattle.step_threads.specs.Rows.{lock_answer}
 use Rattle.step_threads.specs.NextSteps.{deed_is_event}
 use Rattle.step_threads.specs.Steps.{Step}
 use Rattle.step_threads.specs.NextSteps.{stepped as stepped_by, story_after, story_by}

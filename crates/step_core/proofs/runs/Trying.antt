@@ -27,13 +27,14 @@ use Rattle.step_table.specs.Holdings.{slot_pointer}
 use Rattle.step_table.specs.Refills.{is_drained, is_low, more_taken}
 use Rattle.step_table.specs.Stories.{Kept, Story, story_state}
 use Rattle.step_threads.specs.Courses.{Walk, hand}
-use Rattle.step_threads.specs.Scenes.{leaving_pointer as leaves_by, went}
+use Rattle.step_threads.specs.Scenes.{went}
 use Rattle.step_threads.specs.NextSteps.{stepped as stepped_by, story_after}
 use Rattle.step_threads.specs.Steps.{Step, step_of_act, step_of_compare, fetches, gives_back, matches, missed, refills_on, step_of_look, settles, takes, within}
 use Rattle.step_table.proofs.contained.Coming.{seen_found}
 use Rattle.step_core.specs.Bounds.{alone, refill_steps, shows_next, shows_on, spare, walk_steps, weight}
 use Rattle.step_core.proofs.runs.Alone.{IsLess, Lessens, alone_matched, alone_saw, none_made, plain_less}
 use Rattle.step_core.specs.Told.{is_prepared}
+use Rattle.step_core.proofs.telling.Leaves.{leaves_by}
 use Rattle.step_core.proofs.telling.Walking.{went_still}
 
 -- what a cell shows is what was seen of it

@@ -22,8 +22,8 @@ use Rattle.step_table.specs.Cells.{word_of_cell}
 use Rattle.step_table.specs.Contents.{compared_in, seen}
 use Rattle.step_table.specs.Holdings.{inside, is_full, owner_slot, place_in, slot_pointer}
 use Rattle.step_threads.specs.Entries.{least}
-use Rattle.step_table.specs.Deeds.{by_word, on, give, is_enabled, lock, owner_word, aliased}
-use Rattle.step_threads.specs.Scenes.{answer_of, ended_of, leaving_pointer as leaves_by, went}
+use Rattle.step_table.specs.Deeds.{on, give, is_enabled, lock, owner_word, aliased}
+use Rattle.step_threads.specs.Scenes.{went}
 use Rattle.step_threads.specs.NextSteps.{at_rest, begun, emptied, first, given_step, sent, step_at, tried}
 use Rattle.step_threads.specs.Steps.{Step, step_of_act, asks, begins, brings, empties, ends_on, looks, sends, silent, step_of_swap}
 use Rattle.step_threads.specs.Steps.{tries, trying, with_endings, within}
@@ -34,6 +34,7 @@ use Rattle.step_threads.specs.Threads.{IsClearingMember}
 use Rattle.step_core.specs.Told.{is_prepared}
 use Rattle.step_core.specs.Turning.{IsAlone, IsTried, IsUnderWay}
 use Rattle.step_core.proofs.telling.Walking.{IsFree, carried_leaves, carried_most, over_less, settled_alone, staged_most, taken_out, walk_alone, went_less}
+use Rattle.step_core.proofs.telling.Leaves.{ends_by, leaves_by, none_ends}
 use Rattle.step_core.proofs.telling.Walking.{went_plain}
 use Rattle.step_core.proofs.telling.Swapping.{swapping, went_swap}
 use Rattle.step_core.proofs.telling.Looking.{compares_one, counted_match, counted_refill, counted_saw, load_one}
@@ -61,13 +62,13 @@ plain v d k w t ts a none is stays = let l = went_plain (story_state v) d k w t 
 asked_one : (v : Story) (d k : ℕ) (w : Walk) (t : Task) (ts : List Task) (i : ℕ) (q : Kind) (o : Option Pointer) → w.endings ≡ []
     → w.todo ≡ t ∷ ts → IsCounted v d Rest w (Some (on (asks v d w k ts i q) (step_of_act v d w k ts (FromThis i q) None Rest) o))
 asked_one v d k w t ts i q None none is =
-    quiet v d k Rest Rest w (went (story_state v) d w k ts (FromThis i q)) (answer_of (by_word v) (story_state v) d w.slots (FromThis i q))
+    quiet v d k Rest Rest w (went (story_state v) d w k ts (FromThis i q)) _
     (plain v d k w t ts (FromThis i q) none is refl)
 asked_one v d k w t ts i q (Some y) none is =
     cond_both (is_enabled (story_state v) y) (record { deed = None; half = Giving i q y; walk = w; said = silent k })
     (step_of_act v d w k ts (FromThis i q) None Rest) (λ (x : Step). IsCounted v d Rest w (Some x))
     (λ b. quiet v d k Rest (Giving i q y) w w None (omega arith))
-    (λ b. quiet v d k Rest Rest w (went (story_state v) d w k ts (FromThis i q)) (answer_of (by_word v) (story_state v) d w.slots (FromThis i q))
+    (λ b. quiet v d k Rest Rest w (went (story_state v) d w k ts (FromThis i q)) _
     (plain v d k w t ts (FromThis i q) none is refl))
 
 given_one : (v : Story) (d i k : ℕ) (q r : Kind) (y : Pointer) (w x : Walk) (a : Option Answer) → walk_steps x ≤ walk_steps w
@@ -85,7 +86,7 @@ counted_give : (v : Story) (d i : ℕ) (q : Kind) (y : Pointer) (w : Walk) (ts :
 counted_give v d i q y w [] is none = record { made = plus_none _; ended = plus_none _; few = omega arith }
 counted_give v d i q y w (t ∷ ts) is none =
     given_one v d i t.statement q q y w (went (story_state v) d w t.statement ts (FromThis i q))
-    (answer_of (by_word v) (story_state v) d w.slots (FromThis i q))
+    _
     (plain v d t.statement w t ts (FromThis i q) none is refl)
 
 -- a lock is tried, or done
@@ -93,14 +94,14 @@ tried_or : (v : Story) (d k : ℕ) (h : Half) (w : Walk) (t : Task) (ts : List T
     → is_prepared h ≡ false → w.endings ≡ [] → w.todo ≡ t ∷ ts
     → IsCounted v d h w (Some (cond b (step_of_act v d w k ts (Lock i must) (Some (lock (story_state v) y)) Rest) (trying w k word)))
 tried_or v d k h w t ts word i must y true e none is =
-    locked_by v d k h w (went (story_state v) d w k ts (Lock i must)) (answer_of (by_word v) (story_state v) d w.slots (Lock i must)) y e
+    locked_by v d k h w (went (story_state v) d w k ts (Lock i must)) _ y e
     (plain v d k w t ts (Lock i must) none is refl)
 tried_or v d k h w t ts word i must y false e none is = quiet v d k h (cond (word == 0) Rest (Locking word)) w w None (omega arith)
 
 looked : (v : Story) (d k : ℕ) (w : Walk) (t : Task) (ts : List Task) (i : ℕ) (must : Bool) (o : Option Pointer) → w.endings ≡ []
     → w.todo ≡ t ∷ ts → IsCounted v d Rest w (Some (on (looks v d w k ts (Lock i must)) (step_of_act v d w k ts (Lock i must) None Rest) o))
 looked v d k w t ts i must None none is =
-    quiet v d k Rest Rest w (went (story_state v) d w k ts (Lock i must)) (answer_of (by_word v) (story_state v) d w.slots (Lock i must))
+    quiet v d k Rest Rest w (went (story_state v) d w k ts (Lock i must)) _
     (plain v d k w t ts (Lock i must) none is refl)
 looked v d k w t ts i must (Some y) none is = tried_or v d k Rest w t ts (owner_word v y) i must y (owner_word v y == 0) refl none is
 
@@ -109,8 +110,8 @@ swapped : (v : Story) (d k : ℕ) (h : Half) (w : Walk) (t : Task) (ts : List Ta
     → w.endings ≡ [] → w.todo ≡ t ∷ ts → t.act ≡ a → going w.slots a ≡ Some x → IsCounted v d h w (Some (step_of_swap v d w k ts a x.0 x.1))
 swapped v d k h w t ts a x e none is same goes =
     let z : ◌≡◌ {A = ℕ} (cond (is_prepared h) 1 0) 0 = ap (λ (b : Bool). cond b 1 0) e in
-    let y = swapping (story_state v) w.slots a x goes in
-    let n : ◌≡◌ {A = ℕ} (cond (is_some (ended_of (story_state v) w.slots a)) 1 0) 0 = ap (λ (o : Option Ended). cond (is_some o) 1 0) y.ends in
+    let y = swapping w.slots a x goes in
+    let n : ◌≡◌ {A = ℕ} (cond (is_some (ends_by v d w a)) 1 0) 0 = ap (λ (o : Option Ended). cond (is_some o) 1 0) (none_ends v d w a y.stays) in
     let l = went_swap (story_state v) d k w t ts a x none is same goes in
     record { made = omega (arith, z); ended = omega (arith, n); few = omega (arith, l, z, n) }
 
@@ -148,7 +149,7 @@ counted_act v d k w t ts (Leave i) none is same =
 counted_act v d k w t ts (Clear i) none is same =
     left v d k w (went (story_state v) d w k ts (Clear i)) (slot_pointer w.slots i) (went_less (story_state v) d k w t ts (Clear i) none is)
 counted_act v d k w t ts (Count i) none is same =
-    told v d k w (went (story_state v) d w k ts (Count i)) (answer_of (by_word v) (story_state v) d w.slots (Count i))
+    told v d k w (went (story_state v) d w k ts (Count i)) _
     (plain v d k w t ts (Count i) none is refl)
     (slot_pointer w.slots i)
 counted_act v d k w t ts (Downgrade i) none is same =
@@ -160,31 +161,31 @@ counted_act v d k w t ts (Alias i j field) none is same =
 counted_act v d k w t ts (Move i) none is same =
     quiet v d k Rest Rest w (went (story_state v) d w k ts (Move i)) None (plain v d k w t ts (Move i) none is refl)
 counted_act v d k w t ts (Ask q) none is same =
-    quiet v d k Rest Rest w (went (story_state v) d w k ts (Ask q)) (answer_of (by_word v) (story_state v) d w.slots (Ask q))
+    quiet v d k Rest Rest w (went (story_state v) d w k ts (Ask q)) _
     (plain v d k w t ts (Ask q) none is refl)
 counted_act v d k w t ts (Expired i) none is same =
-    expired v d k w (went (story_state v) d w k ts (Expired i)) (answer_of (by_word v) (story_state v) d w.slots (Expired i))
+    expired v d k w (went (story_state v) d w k ts (Expired i)) _
     (plain v d k w t ts (Expired i) none is refl) (slot_pointer w.slots i)
 counted_act v d k w t ts (Read i) none is same =
-    read_one v d k w (went (story_state v) d w k ts (Read i)) (answer_of (by_word v) (story_state v) d w.slots (Read i))
+    read_one v d k w (went (story_state v) d w k ts (Read i)) _
     (plain v d k w t ts (Read i) none is refl)
     (inside (slot_pointer w.slots i))
 counted_act v d k w t ts (FromThis i kind) none is same = asked_one v d k w t ts i kind (inside (slot_pointer w.slots i)) none is
 counted_act v d k w t ts (Offer i c) none is same =
-    shared v d k w (went (story_state v) d w k ts (Offer i c)) (answer_of (by_word v) (story_state v) d w.slots (Offer i c))
+    shared v d k w (went (story_state v) d w k ts (Offer i c)) _
     (plain v d k w t ts (Offer i c) none is refl) (offered w.slots i c)
 counted_act v d k w t ts (Swap c) none is same =
     going_in v d k w t ts (Swap c) (going w.slots (Swap c)) none is same refl
     (quiet v d k Rest Rest w (went (story_state v) d w k ts (Swap c)) None (plain v d k w t ts (Swap c) none is refl))
 counted_act v d k w t ts (Exchange i c) none is same =
     going_in v d k w t ts (Exchange i c) (going w.slots (Exchange i c)) none is same refl
-    (quiet v d k Rest Rest w (went (story_state v) d w k ts (Exchange i c)) (answer_of (by_word v) (story_state v) d w.slots (Exchange i c))
+    (quiet v d k Rest Rest w (went (story_state v) d w k ts (Exchange i c)) _
     (plain v d k w t ts (Exchange i c) none is refl))
 counted_act v d k w t ts (Load c) none is same = load_one v d k w t ts c none is
 counted_act v d k w t ts (Compare i c weak) none is same =
     compares_one v d k w t ts (Compare i c weak) (cell_of_name (story_state v) w.slots c) (compared_in w.slots (comparing w.slots i weak))
     (seen v (cell_of_name (story_state v) w.slots c))
-    none is refl refl
+    none is refl
 counted_act v d k w t ts Drop none is same =
     left v d k w (went (story_state v) d w k ts Drop) (slot_pointer w.slots (other w.slots)) (went_less (story_state v) d k w t ts Drop none is)
 counted_act v d k w t ts (OnShelf x) none is same =

@@ -32,19 +32,20 @@ use Rattle.step_table.specs.declared.cell_steps.cell_deed.CellDeed.TheVariants a
 use Rattle.step_table.specs.Cells.{word_of_cell}
 use Rattle.step_table.specs.Contents.{compared_in, seen}
 use Rattle.step_threads.specs.Courses.{Walk, cell_of_name, comparing, form_of, going, hand, locked_pointer, offered, other}
-use Rattle.step_table.specs.Deeds.{alias, aliased, downgrade, is_last, leave, leave_as, read_deed, share, tell, tell_expired, on}
+use Rattle.step_table.specs.Deeds.{alias, aliased, downgrade, is_last, leave, leave_as, read_deed, share, tell, tell_expired}
 use Rattle.step_threads.specs.Endings.{endings_in_block, staged}
 use Rattle.step_table.specs.Holdings.{inside, is_full, owner_slot, place_in, slot_pointer}
 use Rattle.step_table.specs.Openings.{opening}
 use Rattle.step_threads.specs.Entries.{least}
-use Rattle.step_threads.specs.Scenes.{begins_end, begins_end_as, endings_by, hands, holding, went}
+use Rattle.step_threads.specs.Scenes.{went}
+use Rattle.step_threads.specs.Rows.{ending_as, holding, with_end}
 use Rattle.step_threads.specs.NextSteps.{at_rest, begun, emptied, first, made_on, step_at, story_by}
 use Rattle.step_threads.specs.Steps.{Step, begins, claims, empties, ends_on, prepares, silent, with_endings, within}
 use Rattle.step_table.specs.Stories.{Kept, Story, story_after_deed, known_words, object_of_block, pending, story_state}
 use Rattle.step_core.specs.Told.{AllEndInThreads}
 use Rattle.step_table.proofs.tables.Places.{owner_busy, there}
 use Rattle.step_core.proofs.telling.Trying.{compares_on, load_on, matched_on, refill_on, saw_on}
-use Rattle.step_core.proofs.telling.Walking.{settled_endings}
+use Rattle.step_core.proofs.telling.Leaves.{act_endings, begun_by, settled_endings}
 use Rattle.step_core.proofs.telling.Still.{IsAlike, Lists, Right, alike, asked, done_on, end_put, given_on, going_in, looked, passes, plain, put_alike, same}
 use Rattle.step_core.proofs.telling.Still.{sent_on, shared, tried_on}
 use Rattle.step_core.proofs.telling.Still.{within as on_the_way}
@@ -52,7 +53,7 @@ use Rattle.step_core.proofs.telling.Still.{within as on_the_way}
 -- an owner leaves
 left_by : (v : Story) (d k : ℕ) (w x : Walk) (a : Said) (f : Lists) → f d ≡ w.endings → AllEndInThreads (story_state v) f → Kept v
     → (y : Pointer) (last : Bool)
-    → x.endings ≡ cond last (begins_end_as Owner k y w.endings) w.endings
+    → x.endings ≡ with_end k (cond last (ending_as Owner y) None) w.endings
     → Right v d w f (Some (record { deed = Some (deed.Leave y.block y.place last); half = Rest; walk = x; said = a }))
 left_by v d k w x a f at all kept y true is = record {
   right = λ g after now else.
@@ -84,7 +85,7 @@ left_by v d k w x a f at all kept y false is = record {
 
 left_as : (v : Story) (d k : ℕ) (w x : Walk) (a : Said) (f : Lists) → f d ≡ w.endings → AllEndInThreads (story_state v) f → Kept v
     → (y : Pointer) (q : Kind) (last : Bool)
-    → x.endings ≡ cond last (begins_end_as q k y w.endings) w.endings
+    → x.endings ≡ with_end k (cond last (ending_as q y) None) w.endings
     → Right v d w f (Some (record { deed = Some (leave_as q y last); half = Rest; walk = x; said = a }))
 left_as v d k w x a f at all kept y Owner last is = left_by v d k w x a f at all kept y last is
 left_as v d k w x a f at all kept y Weak true is = same v d w f _ refl is at all
@@ -92,16 +93,10 @@ left_as v d k w x a f at all kept y Weak false is = same v d w f _ refl is at al
 
 left : (v : Story) (d k : ℕ) (w x : Walk) (a : Said) (f : Lists) → f d ≡ w.endings → AllEndInThreads (story_state v) f → Kept v
     → (y : Option Pointer)
-    → x.endings ≡ on (λ z. begins_end (story_state v) k z w.endings) w.endings y
+    → x.endings ≡ begun_by (story_state v) k w.endings y
     → Right v d w f (Some (record { deed = option_map (leave (story_state v)) y; half = Rest; walk = x; said = a }))
 left v d k w x a f at all kept None is = same v d w f _ refl is at all
 left v d k w x a f at all kept (Some y) is = left_as v d k w x a f at all kept y y.kind (is_last (story_state v) y) is
-
--- where the thread's endings are after an act
-act_endings : (v : Story) (d k : ℕ) (w : Walk) (ts : List Task) (a : Act)
-    → (went (story_state v) d w k ts a).endings ≡ endings_by (story_state v) k w.slots w.endings a
-act_endings v d k w ts a =
-    let y = hands (story_state v) d w.slots w.taken a in settled_endings y.0 y.1 (endings_by (story_state v) k w.slots w.endings a) ts
 
 begun_in : (v : Story) (d k : ℕ) (w : Walk) (ts : List Task) (f : Lists) → f d ≡ w.endings → AllEndInThreads (story_state v) f → (o : Option ℕ)
     → Right v d w f (Some (begins w k ts o))
@@ -114,11 +109,11 @@ acted v d k w ts f at all kept (Make form) = begun_in v d k w ts f at all (least
 acted v d k w ts f at all kept (Share i) =
     plain v d k w ts (Share i) _ Rest f refl (done_on v d share (slot_pointer w.slots i) (λ x. shared v d x.kind x)) at all
 acted v d k w ts f at all kept (Put i) =
-    left v d k w (went (story_state v) d w k ts (Put i)) _ f at all kept (slot_pointer w.slots i) (act_endings v d k w ts (Put i))
+    left v d k w (went (story_state v) d w k ts (Put i)) _ f at all kept (slot_pointer w.slots i) (act_endings (story_state v) d k w ts (Put i))
 acted v d k w ts f at all kept (Leave i) =
-    left v d k w (went (story_state v) d w k ts (Leave i)) _ f at all kept (slot_pointer w.slots i) (act_endings v d k w ts (Leave i))
+    left v d k w (went (story_state v) d w k ts (Leave i)) _ f at all kept (slot_pointer w.slots i) (act_endings (story_state v) d k w ts (Leave i))
 acted v d k w ts f at all kept (Clear i) =
-    left v d k w (went (story_state v) d w k ts (Clear i)) _ f at all kept (slot_pointer w.slots i) (act_endings v d k w ts (Clear i))
+    left v d k w (went (story_state v) d w k ts (Clear i)) _ f at all kept (slot_pointer w.slots i) (act_endings (story_state v) d k w ts (Clear i))
 acted v d k w ts f at all kept (Count i) =
     plain v d k w ts (Count i) _ Rest f refl (done_on v d (tell v) (slot_pointer w.slots i) (λ x. refl)) at all
 acted v d k w ts f at all kept (Downgrade i) =
@@ -142,7 +137,7 @@ acted v d k w ts f at all kept (Load c) = load_on v d k w ts c f at all
 acted v d k w ts f at all kept (Compare i c weak) =
     compares_on v d k w ts (Compare i c weak) c (compared_in w.slots (comparing w.slots i weak)) (seen v (cell_of_name (story_state v) w.slots c)) f refl at all
 acted v d k w ts f at all kept Drop =
-    left v d k w (went (story_state v) d w k ts Drop) _ f at all kept (slot_pointer w.slots (other w.slots)) (act_endings v d k w ts Drop)
+    left v d k w (went (story_state v) d w k ts Drop) _ f at all kept (slot_pointer w.slots (other w.slots)) (act_endings (story_state v) d k w ts Drop)
 acted v d k w ts f at all kept (OnShelf x) =
     plain v d k w ts (OnShelf x) _ Rest f refl (done_shelf v d x (shelf_block (story_state v) d x)) at all
 

@@ -11,7 +11,7 @@ use Rattle.step_threads.specs.Actors.{wanted}
 use Rattle.step_threads.specs.declared.ending.Ending.{Ending}
 use Rattle.step_core.specs.Bounds.{walk_steps, weight}
 use Rattle.step_threads.specs.Courses.{Walk, form_of, walk_settled}
-use Rattle.step_threads.specs.Scenes.{holding}
+use Rattle.step_threads.specs.Rows.{holding}
 use Rattle.step_threads.specs.NextSteps.{made_on}
 use Rattle.step_threads.specs.Steps.{Step, claims, prepares}
 use Rattle.step_table.specs.Stories.{Story, known_words, pending}

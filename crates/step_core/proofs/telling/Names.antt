@@ -28,7 +28,8 @@ use Rattle.step_threads.specs.Actors.{wanted}
 use Rattle.step_threads.specs.Courses.{Going, Walk, cell_of_name, comparing, form_of, going, hand, locked_pointer, on_going, other, walk_settled}
 use Rattle.step_threads.specs.Endings.{staged}
 use Rattle.step_threads.specs.Entries.{least}
-use Rattle.step_threads.specs.Scenes.{holding, nowhere, walk_of, went}
+use Rattle.step_threads.specs.Scenes.{nowhere, walk_of, went}
+use Rattle.step_threads.specs.Rows.{holding}
 use Rattle.step_threads.specs.NextSteps.{at_rest, begun, emptied, first, given_step, made_on, matched, matched_on, saw, saw_on, sent, step_at, tried, walk_by}
 use Rattle.step_threads.specs.Steps.{Step, step_of_act, asks, begins, brings, claims, ends_on, looks, prepares, sends, silent, step_of_swap, tries, trying}
 use Rattle.step_threads.specs.Steps.{with_endings}

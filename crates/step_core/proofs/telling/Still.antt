@@ -33,12 +33,12 @@ use Rattle.step_threads.specs.Courses.{Going, Walk, cell_of_name, going, locked_
 use Rattle.step_table.specs.Deeds.{give, is_enabled, lock, owner_word, share_as, on}
 use Rattle.step_threads.specs.Endings.{endings_in_block}
 use Rattle.step_table.specs.Holdings.{slot_pointer, slot_value}
-use Rattle.step_threads.specs.Scenes.{begins_end, endings_by, hands, leaving_pointer as leaves_by, went}
+use Rattle.step_threads.specs.Scenes.{went}
 use Rattle.step_threads.specs.NextSteps.{given_step, sent, story_after, story_by, tried, walk_by}
 use Rattle.step_threads.specs.Steps.{Step, step_of_act, asks, brings, gives_back, looks, sends, silent, step_of_swap, tries, trying}
 use Rattle.step_table.specs.Stories.{Kept, Story, story_state}
 use Rattle.step_core.specs.Told.{AllEndInThreads}
-use Rattle.step_core.proofs.telling.Walking.{settled_endings}
+use Rattle.step_core.proofs.telling.Leaves.{act_endings, begun_by, leaves_by}
 use Rattle.step_core.proofs.telling.Swapping.{swapping}
 
 abbrev pub Lists : Type 0
@@ -138,10 +138,8 @@ pub plain_alike : (v : Story) (d k : ℕ) (w : Walk) (ts : List Task) (a : Act) 
     → IsAlike (story_state v).object (story_state (story_after v d x)).object → f d ≡ w.endings → AllEndInThreads (story_state v) f
     → Right v d w f (Some (step_of_act v d w k ts a x h))
 plain_alike v d k w ts a x h f stays is at all =
-    let y = hands (story_state v) d w.slots w.taken a in
-    let e = settled_endings y.0 y.1 (endings_by (story_state v) k w.slots w.endings a) ts in
-    let n = ap (λ (o : Option Pointer). on (λ z. begins_end (story_state v) k z w.endings) w.endings o) stays in
-    alike v d w f (Some (step_of_act v d w k ts a x h)) is (follows_same w.endings (went (story_state v) d w k ts a).endings (e ∙ n)) at all
+    let e = act_endings (story_state v) d k w ts a ∙ ap (begun_by (story_state v) k w.endings) stays in
+    alike v d w f (Some (step_of_act v d w k ts a x h)) is (follows_same w.endings (went (story_state v) d w k ts a).endings e) at all
 
 pub plain : (v : Story) (d k : ℕ) (w : Walk) (ts : List Task) (a : Act) (x : Option Deed) (h : Half) (f : Lists) → leaves_by w.slots a ≡ None
     → (story_state (story_after v d x)).object ≡ (story_state v).object → f d ≡ w.endings → AllEndInThreads (story_state v) f
@@ -222,7 +220,7 @@ swapped v d k w ts a x f at all goes =
     let found = seen v c in
     let new = as_word (slot_value w.slots x.1) in
     plain_alike v d k w ts a (Some (deed.OnCell (cell_deed.Swap c new found))) (gives_back (kind_at x.0) k found found.owned) f
-    (swapping (story_state v) w.slots a x goes).stays
+    (swapping w.slots a x goes).stays
     (fills_alike (story_state v) d (cell_in (story_state v) c) (handle_told (story_state v) c new) (handle_told (story_state v) c found)) at all
 
 -- its funds are brought first, where it has an object

@@ -10,42 +10,42 @@ use Rattle.step_threads.specs.declared.programs.act.Task.{Task}
 use Rattle.step_core.specs.Bounds.{walk_steps, weight}
 use Rattle.step_threads.specs.Courses.{Going, Walk, going}
 use Rattle.step_table.specs.Holdings.{Slots}
-use Rattle.step_threads.specs.Scenes.{ended_of, leaving_pointer, went}
+use Rattle.step_threads.specs.Scenes.{went}
+use Rattle.step_core.proofs.telling.Leaves.{leaves_by}
 use Rattle.step_core.proofs.telling.Walking.{went_still}
 
 -- a value goes into a cell by the act: it takes three steps, and nothing leaves
-pub record IsSwapping (s : State) (slots : Slots) (a : Act) : Type 0 where
+pub record IsSwapping (slots : Slots) (a : Act) : Type 0 where
   pub weight : weight a ≡ 3
-  pub stays : leaving_pointer slots a ≡ None
-  pub ends : ended_of s slots a ≡ None
+  pub stays : leaves_by slots a ≡ None
 
-pub swapping : (s : State) (slots : Slots) (a : Act) (x : Going) → going slots a ≡ Some x → IsSwapping s slots a
-swapping s slots (Swap c) x e = record { weight = refl; stays = refl; ends = refl }
-swapping s slots (Exchange k c) x e = record { weight = refl; stays = refl; ends = refl }
-swapping s slots (Make form) x e = cc
-swapping s slots (Share k) x e = cc
-swapping s slots (Downgrade k) x e = cc
-swapping s slots (Lock k must) x e = cc
-swapping s slots (Put k) x e = cc
-swapping s slots (Leave k) x e = cc
-swapping s slots (Clear k) x e = cc
-swapping s slots (Count k) x e = cc
-swapping s slots (Expired k) x e = cc
-swapping s slots (Read k) x e = cc
-swapping s slots (FromThis k kind) x e = cc
-swapping s slots (Alias k j field) x e = cc
-swapping s slots (Move k) x e = cc
-swapping s slots (Ask q) x e = cc
-swapping s slots (Offer k c) x e = cc
-swapping s slots (Load c) x e = cc
-swapping s slots (Compare k c weak) x e = cc
-swapping s slots Drop x e = cc
-swapping s slots (OnShelf y) x e = cc
+pub swapping : (slots : Slots) (a : Act) (x : Going) → going slots a ≡ Some x → IsSwapping slots a
+swapping slots (Swap c) x e = record { weight = refl; stays = refl }
+swapping slots (Exchange k c) x e = record { weight = refl; stays = refl }
+swapping slots (Make form) x e = cc
+swapping slots (Share k) x e = cc
+swapping slots (Downgrade k) x e = cc
+swapping slots (Lock k must) x e = cc
+swapping slots (Put k) x e = cc
+swapping slots (Leave k) x e = cc
+swapping slots (Clear k) x e = cc
+swapping slots (Count k) x e = cc
+swapping slots (Expired k) x e = cc
+swapping slots (Read k) x e = cc
+swapping slots (FromThis k kind) x e = cc
+swapping slots (Alias k j field) x e = cc
+swapping slots (Move k) x e = cc
+swapping slots (Ask q) x e = cc
+swapping slots (Offer k c) x e = cc
+swapping slots (Load c) x e = cc
+swapping slots (Compare k c weak) x e = cc
+swapping slots Drop x e = cc
+swapping slots (OnShelf y) x e = cc
 
 pub went_swap : (s : State) (d k : ℕ) (w : Walk) (t : Task) (ts : List Task) (a : Act) (x : Going) → w.endings ≡ [] → w.todo ≡ t ∷ ts
     → t.act ≡ a → going w.slots a ≡ Some x → walk_steps (went s d w k ts a) + 3 ≤ walk_steps w
 went_swap s d k w t ts a x none is same goes =
-    let y = swapping s w.slots a x goes in
+    let y = swapping w.slots a x goes in
     let l = went_still s d k w t ts a none is y.stays in
     let j : weight t.act ≡ 3 = ap weight same ∙ y.weight in
     omega (arith, l, j)

@@ -14,10 +14,13 @@ use Rattle.step_threads.specs.declared.ending.Ending.{Ending}
 use Rattle.step_table.specs.declared.memory.form.Form.{Form}
 use Rattle.step_table.specs.declared.slots.holdings.Pointer.{Pointer}
 use Rattle.step_table.specs.declared.slots.slot.Slot.{Slot}
+use Rattle.step_table.specs.Contents.{slots_swapped}
+use Rattle.step_table.specs.Deeds.{exact}
 use Rattle.step_table.specs.Holdings.{Slots, is_full, plain, pointer_of, slot_pointer, slot_value}
-use Rattle.step_threads.specs.Courses.{Going, Walk, going, hand, idle, is_there, on_going, other, placed, walk_settled, slots_idle, taken_idle}
+use Rattle.step_threads.specs.Courses.{Walk, hand, idle, is_there, other, placed, walk_settled, slots_idle, taken_idle}
 use Rattle.step_threads.specs.Entries.{is_expected, least}
-use Rattle.step_threads.specs.Scenes.{Hands, came, compared, endings_by, hands, holding, taking, went}
+use Rattle.step_threads.specs.Scenes.{came, row_in, went}
+use Rattle.step_threads.specs.Rows.{Hands, compared, holding, may_go, taking, with_end}
 use Rattle.step_core.specs.Told.{IsTidy, LeavesName, LeavesAll}
 
 set_twice : (slots : Slots) (i j : ℕ) (x y : Slot) → length (slice_set (slice_set slots i x) j y) ≡ length slots
@@ -27,7 +30,7 @@ kept_or : (b : Bool) (slots x : Slots) → length x ≡ length slots → length 
 kept_or b slots x same = cond_both b x slots (λ (l : Slots). length l ≡ length slots) (λ _. same) (λ _. refl)
 
 -- an idle task leaves as many slots
-idle_size : (a : Act) (slots : Slots) (taken : Bool) → length (slots_idle a slots taken) ≡ length slots
+pub idle_size : (a : Act) (slots : Slots) (taken : Bool) → length (slots_idle a slots taken) ≡ length slots
 idle_size (Put k) slots taken =
     kept_or taken slots (placed k slots) (set_twice slots k (hand slots) (slot_value slots (hand slots)) plain)
 idle_size (Swap c) slots taken =
@@ -48,45 +51,38 @@ taking_size slots must None = refl
 taking_size slots must (Some x) = length-set slots (hand slots) _
 
 -- and so does an act
-hands_size : (s : State) (d : ℕ) (slots : Slots) (taken : Bool) (a : Act)
-    → length (hands s d slots taken a).0 ≡ length slots
-hands_size s d slots taken (Make form) = holding_size slots form.null (least d s.stores)
-hands_size s d slots taken (Share k) = length-set slots (hand slots) _
-hands_size s d slots taken (Put k) = set_twice (slice_set slots k plain) k _ _ plain ∙ length-set slots k plain
-hands_size s d slots taken (Leave k) = length-set slots k plain
-hands_size s d slots taken (Clear k) = length-set slots k plain
-hands_size s d slots taken (Downgrade k) = length-set slots (hand slots) _
-hands_size s d slots taken (Lock k must) = taking_size slots must _
-hands_size s d slots taken (FromThis k kind) = taking_size slots true _
-hands_size s d slots taken (Alias k j field) = length-set slots (hand slots) _
-hands_size s d slots taken (Move k) = set_twice slots (hand slots) k (slot_value slots k) plain
-hands_size s d slots taken (Offer k c) =
+pub row_size : (s : State) (d : ℕ) (slots : Slots) (taken : Bool) (a : Act)
+    → length (row_in exact s d slots taken a).slots ≡ length slots
+row_size s d slots taken (Make form) = holding_size slots form.null (least d s.stores)
+row_size s d slots taken (Share k) = length-set slots (hand slots) _
+row_size s d slots taken (Put k) = set_twice (slice_set slots k plain) k _ _ plain ∙ length-set slots k plain
+row_size s d slots taken (Leave k) = length-set slots k plain
+row_size s d slots taken (Clear k) = length-set slots k plain
+row_size s d slots taken (Downgrade k) = length-set slots (hand slots) _
+row_size s d slots taken (Lock k must) = taking_size slots must _
+row_size s d slots taken (FromThis k kind) = taking_size slots true _
+row_size s d slots taken (Alias k j field) = length-set slots (hand slots) _
+row_size s d slots taken (Move k) = set_twice slots (hand slots) k (slot_value slots k) plain
+row_size s d slots taken (Offer k c) =
     cond_both (is_there slots c) (slice_set slots (hand slots) _, true) (slots, taken)
     (λ (x : Hands). length x.0 ≡ length slots)
     (λ _. length-set slots (hand slots) _) (λ _. refl)
-hands_size s d slots taken (Swap c) = go (going slots (Swap c))
-  where
-    go : (o : Option Going)
-        → length (on_going (λ x k. slice_set (slice_set slots (other slots) (came s slots x)) k plain) slots o) ≡
-        length slots
-    go None = refl
-    go (Some g) = set_twice slots (other slots) g.1 (came s slots g.0) plain
-hands_size s d slots taken (Exchange k c) = go (going slots (Exchange k c))
-  where
-    go : (o : Option Going) → length (on_going (λ x i. slice_set slots i (came s slots x)) slots o) ≡ length slots
-    go None = refl
-    go (Some g) = length-set slots g.1 (came s slots g.0)
-hands_size s d slots taken (Load c) =
+row_size s d slots taken (Swap c) =
+    kept_or (may_go slots c (hand slots)) slots (slots_swapped (hand slots) (other slots) slots (came s slots c))
+    (set_twice slots (other slots) (hand slots) (came s slots c) plain)
+row_size s d slots taken (Exchange k c) =
+    kept_or (may_go slots c k) slots (slice_set slots k (came s slots c)) (length-set slots k (came s slots c))
+row_size s d slots taken (Load c) =
     cond_both (is_there slots c) (slice_set slots (hand slots) (came s slots c), true) (slots, taken)
     (λ (x : Hands). length x.0 ≡ length slots)
     (λ _. length-set slots (hand slots) (came s slots c)) (λ _. refl)
-hands_size s d slots taken (Compare k c weak) = go (is_expected s slots k c)
+row_size s d slots taken (Compare k c weak) = go (is_expected s slots k c)
   where
     go : (b : Bool) → length (compared slots (came s slots c) b).0 ≡ length slots
     go true = set_twice slots (other slots) (hand slots) (came s slots c) plain
     go false = set_twice slots (other slots) (hand slots) (slot_value slots (hand slots)) (came s slots c)
-hands_size s d slots taken Drop = length-set slots (other slots) plain
-hands_size s d slots taken _ = refl
+row_size s d slots taken Drop = length-set slots (other slots) plain
+row_size s d slots taken _ = refl
 
 abbrev name_of : Act → ℕ
 name_of (Clear i) = i
@@ -146,9 +142,9 @@ pub any_tidy : (s : State) (d k : ℕ) (w : Walk) (ts : List Task) (a : Act)
     → ((i : ℕ) → i < other w.slots → LeavesName i ts) → LeavesAll (other w.slots) ts
     → IsTidy (went s d w k ts a)
 any_tidy s d k w ts a left all =
-    let x = hands s d w.slots w.taken a in
-    let l = hands_size s d w.slots w.taken a in
-    settled_tidy (other w.slots) x.0 x.1 (endings_by s k w.slots w.endings a) ts (omega (arith, l))
+    let x = row_in exact s d w.slots w.taken a in
+    let l = row_size s d w.slots w.taken a in
+    settled_tidy (other w.slots) x.slots x.taken (with_end k x.ending w.endings) ts (omega (arith, l))
     (λ i lt full. left i lt) all
 
 -- a name that is left holds nothing
@@ -178,7 +174,7 @@ went_tidy s d k w t ts is tidy = go all.0
         let l = length-set w.slots p.0 plain in
         subst (λ (a : Act). IsTidy (went s d w k ts a)) (sym p.1)
         (settled_tidy (other w.slots) (slice_set w.slots p.0 plain) w.taken
-        (endings_by s k w.slots w.endings (Clear p.0)) ts (omega (arith, l))
+        _ ts (omega (arith, l))
         (cleared p.0 p.1) all.1)
 
 -- a make comes into the hand, or is refused
@@ -213,7 +209,7 @@ pub left_tidy : (s : State) (d k : ℕ) (w : Walk) → IsTidy w → IsTidy (went
 left_tidy s d k w tidy =
     let l = length-set w.slots (hand w.slots) plain in
     settled_tidy (other w.slots) (slice_set w.slots (hand w.slots) plain) w.taken
-    (endings_by s k w.slots w.endings (Leave (hand w.slots))) w.todo
+    _ w.todo
     (omega (arith, l)) (held_names w plain tidy) tidy.all
 
 -- a thread begins so, with all names empty

@@ -15,11 +15,11 @@ use Rattle.step_threads.specs.declared.half.Half.TheVariants.{Rest, Matched, Ref
 use Rattle.step_table.specs.CellDeeds.{cell_in, handle_told}
 use Rattle.step_table.specs.Stories.{Story, story_state}
 use Rattle.step_threads.specs.Courses.{Walk, cell_of_name}
-use Rattle.step_threads.specs.Scenes.{leaving_pointer}
 use Rattle.step_threads.specs.NextSteps.{first, matched, saw, step_at, story_after}
 use Rattle.step_threads.specs.Steps.{Step, step_of_compare}
 use Rattle.step_core.specs.Told.{AllEndInThreads}
 use Rattle.step_core.proofs.telling.Cases.{IsEach, IsEachAct, each_compares, each_load, each_matched, each_refill, each_saw}
+use Rattle.step_core.proofs.telling.Leaves.{leaves_by}
 use Rattle.step_core.proofs.telling.Still.{Lists, Right, fills_alike, plain, plain_alike, same, within}
 
 still_looked : (v : Story) (d : ℕ) (c : Cell) (x : CellWord) (y : Option Compared)
@@ -32,7 +32,7 @@ still_taken : (v : Story) (d : ℕ) (c : Cell) (x : CellWord) (y : Option Compar
 still_taken v d c x None = refl
 still_taken v d c x (Some y) = refl
 
-each_right : (v : Story) (d k : ℕ) (w : Walk) (ts : List Task) (a : Act) (c : CellName) (f : Lists) → leaving_pointer w.slots a ≡ None
+each_right : (v : Story) (d k : ℕ) (w : Walk) (ts : List Task) (a : Act) (c : CellName) (f : Lists) → leaves_by w.slots a ≡ None
     → f d ≡ w.endings
     → AllEndInThreads (story_state v) f → IsEach v d w k ts a (cell_of_name (story_state v) w.slots c) (λ (x : Step). Right v d w f (Some x))
 each_right v d k w ts a c f stays at all =
@@ -54,7 +54,7 @@ load_on v d k w ts c f at all =
     (plain v d k w ts (Load c) None Rest f refl refl at all)
 
 pub compares_on : (v : Story) (d k : ℕ) (w : Walk) (ts : List Task) (a : Act) (c : CellName) (y : Compared) (x : CellWord) (f : Lists)
-    → leaving_pointer w.slots a ≡ None → f d ≡ w.endings → AllEndInThreads (story_state v) f
+    → leaves_by w.slots a ≡ None → f d ≡ w.endings → AllEndInThreads (story_state v) f
     → Right v d w f (Some (step_of_compare v d w k ts a (cell_of_name (story_state v) w.slots c) y x))
 compares_on v d k w ts a c y x f stays at all =
     each_compares v d w k ts a (cell_of_name (story_state v) w.slots c) (λ (s : Step). Right v d w f (Some s)) (each_right v d k w ts a c f stays at all) y x

@@ -17,11 +17,13 @@ use Rattle.step_table.specs.declared.slots.holdings.Pointer.{Pointer}
 use Rattle.step_core.specs.Bounds.{carried, task_steps, walk_steps, weight}
 use Rattle.step_threads.specs.Endings.{ending_steps, staged}
 use Rattle.step_threads.specs.Courses.{Walk, hand, idle, other, placed, walk_settled, slots_idle, taken_idle}
-use Rattle.step_table.specs.Deeds.{is_last, owned, on}
+use Rattle.step_table.specs.Deeds.{exact, is_last, owned}
 use Rattle.step_table.specs.declared.slots.slot.Slot.{Slot}
 use Rattle.step_threads.specs.Steps.{with_endings}
 use Rattle.step_table.specs.Holdings.{Slots, is_full, plain, pointer_of, slot_pointer, slot_value}
-use Rattle.step_threads.specs.Scenes.{begins_end, begins_end_as, ended_by, endings_by, hands, leaving_pointer, remains_as, went}
+use Rattle.step_threads.specs.Rows.{ending_as, with_end}
+use Rattle.step_threads.specs.Scenes.{ended_by, remains_as, row_in, went}
+use Rattle.step_core.proofs.telling.Leaves.{act_endings, begun_by, leaves_by, settled_endings}
 
 -- what settling passes over has no steps left
 pub settled_steps : (slots : Slots) (taken : Bool) (es : List Ending) (ts : List Task) → task_steps (walk_settled slots taken es ts).todo ≤ task_steps ts
@@ -32,13 +34,6 @@ settled_steps slots taken es (t ∷ ts) =
     cond_both (idle t.act slots taken) (walk_settled (slots_idle t.act slots taken) (taken_idle t.act taken) es ts)
     (record { slots = slots; taken = taken; endings = es; todo = t ∷ ts }) (λ (w : Walk). task_steps w.todo ≤ task_steps (t ∷ ts))
     (λ e. omega (arith, r, s)) (λ e. omega arith)
-
-pub settled_endings : (slots : Slots) (taken : Bool) (es : List Ending) (ts : List Task) → (walk_settled slots taken es ts).endings ≡ es
-settled_endings slots taken es [] = refl
-settled_endings slots taken es (t ∷ ts) =
-    let r = settled_endings (slots_idle t.act slots taken) (taken_idle t.act taken) es ts in
-    cond_both (idle t.act slots taken) (walk_settled (slots_idle t.act slots taken) (taken_idle t.act taken) es ts)
-    (record { slots = slots; taken = taken; endings = es; todo = t ∷ ts }) (λ (w : Walk). w.endings ≡ es) (λ e. r) (λ e. refl)
 
 -- nothing is in hand
 abbrev pub IsFree : Slots → Type 0
@@ -115,11 +110,11 @@ abbrev pub ends_at : State → Option Pointer → ℕ
 ends_at s o = cond (is_some (ended_by s o)) 1 0
 
 begun_steps : (s : State) (k : ℕ) (es : List Ending) (o : Option Pointer)
-    → sum_by ending_steps (on (λ x. begins_end s k x es) es o) ≡ sum_by ending_steps es + 13 * ends_at s o
+    → sum_by ending_steps (begun_by s k es o) ≡ sum_by ending_steps es + 13 * ends_at s o
 begun_steps s k es None = omega arith
 begun_steps s k es (Some x) = go x.kind (is_last s x)
   where
-    go : (q : Kind) (b : Bool) → sum_by ending_steps (cond b (begins_end_as q k x es) es)
+    go : (q : Kind) (b : Bool) → sum_by ending_steps (with_end k (cond b (ending_as q x) None) es)
         ≡ sum_by ending_steps es + 13 * cond (is_some (cond b (remains_as q (s.object (owned s x))) None)) 1 0
     go Owner true = let a = sum_by-cons ending_steps (record { block = x.block; stage = 0; statement = k }) es in omega (arith, a)
     go Owner false = omega arith
@@ -130,11 +125,11 @@ carried_one : (b : Bool) → cond b 1 0 ≤ 1
 carried_one true = omega arith
 carried_one false = omega arith
 
-begun_carried : (s : State) (k : ℕ) (slots : Slots) (o : Option Pointer) → carried (on (λ x. begins_end s k x []) [] o) slots ≤ ends_at s o
+begun_carried : (s : State) (k : ℕ) (slots : Slots) (o : Option Pointer) → carried (begun_by s k [] o) slots ≤ ends_at s o
 begun_carried s k slots None = omega arith
 begun_carried s k slots (Some x) = go x.kind (is_last s x)
   where
-    go : (q : Kind) (b : Bool) → carried (cond b (begins_end_as q k x []) []) slots
+    go : (q : Kind) (b : Bool) → carried (with_end k (cond b (ending_as q x) None) []) slots
         ≤ cond (is_some (cond b (remains_as q (s.object (owned s x))) None)) 1 0
     go Owner true = carried_one (is_full (slot_pointer slots (hand slots)))
     go Owner false = omega arith
@@ -184,18 +179,15 @@ walk_alone w t ts none is =
 
 -- an act of a statement takes its steps, and brings those of the object that it ends
 pub went_steps : (s : State) (d k : ℕ) (w : Walk) (t : Task) (ts : List Task) (a : Act) → w.endings ≡ [] → w.todo ≡ t ∷ ts
-    → walk_steps (went s d w k ts a) + weight t.act ≤ walk_steps w + 14 * ends_at s (leaving_pointer w.slots a)
+    → walk_steps (went s d w k ts a) + weight t.act ≤ walk_steps w + 14 * ends_at s (leaves_by w.slots a)
 went_steps s d k w t ts a none is =
-    let x = hands s d w.slots w.taken a in
-    let es = endings_by s k w.slots w.endings a in
-    let r = settled_steps x.0 x.1 es ts in
-    let e : es ≡ on (λ p. begins_end s k p []) [] (leaving_pointer w.slots a) =
-    ap (λ (l : List Ending). on (λ p. begins_end s k p l) l (leaving_pointer w.slots a)) none in
-    let f = settled_endings x.0 x.1 es ts ∙ e in
+    let x = row_in exact s d w.slots w.taken a in
+    let r = settled_steps x.slots x.taken (with_end k x.ending w.endings) ts in
+    let f = act_endings s d k w ts a ∙ ap (λ (l : List Ending). begun_by s k l (leaves_by w.slots a)) none in
     let b = ap (λ (l : List Ending). sum_by ending_steps l) f in
-    let c = begun_steps s k [] (leaving_pointer w.slots a) in
+    let c = begun_steps s k [] (leaves_by w.slots a) in
     let g = ap (λ (l : List Ending). carried l (went s d w k ts a).slots) f in
-    let h = begun_carried s k (went s d w k ts a).slots (leaving_pointer w.slots a) in
+    let h = begun_carried s k (went s d w k ts a).slots (leaves_by w.slots a) in
     let i = walk_alone w t ts none is in
     omega (arith, r, b, c, g, h, i)
 
@@ -205,7 +197,7 @@ pub carried_leaves : (s : State) (d k : ℕ) (w : Walk) (e : Ending) (es : List 
     → walk_steps (went s d w k w.todo (Leave (hand w.slots))) + 1 ≤ walk_steps w + 13 * ends_at s (slot_pointer w.slots (hand w.slots))
 carried_leaves s d k w e es is full =
     let slots = slice_set w.slots (hand w.slots) plain in
-    let new = endings_by s k w.slots w.endings (Leave (hand w.slots)) in
+    let new = begun_by s k w.endings (slot_pointer w.slots (hand w.slots)) in
     let r = settled_steps slots w.taken new w.todo in
     let f = settled_endings slots w.taken new w.todo in
     let b = ap (λ (l : List Ending). sum_by ending_steps l) f in
@@ -218,23 +210,23 @@ carried_leaves s d k w e es is full =
 
 -- an act of a statement that nothing leaves by
 pub went_still : (s : State) (d k : ℕ) (w : Walk) (t : Task) (ts : List Task) (a : Act) → w.endings ≡ [] → w.todo ≡ t ∷ ts
-    → leaving_pointer w.slots a ≡ None → walk_steps (went s d w k ts a) + weight t.act ≤ walk_steps w
+    → leaves_by w.slots a ≡ None → walk_steps (went s d w k ts a) + weight t.act ≤ walk_steps w
 went_still s d k w t ts a none is stays =
     let l = went_steps s d k w t ts a none is in
-    let z : ends_at s (leaving_pointer w.slots a) ≡ 0 = ap (ends_at s) stays in
+    let z : ends_at s (leaves_by w.slots a) ≡ 0 = ap (ends_at s) stays in
     omega (arith, l, z)
 
 pub went_plain : (s : State) (d k : ℕ) (w : Walk) (t : Task) (ts : List Task) (a : Act) → w.endings ≡ [] → w.todo ≡ t ∷ ts
-    → leaving_pointer w.slots a ≡ None → walk_steps (went s d w k ts a) + 2 ≤ walk_steps w
+    → leaves_by w.slots a ≡ None → walk_steps (went s d w k ts a) + 2 ≤ walk_steps w
 went_plain s d k w t ts a none is stays =
     let l = went_still s d k w t ts a none is stays in let j = weight_two t.act in omega (arith, l, j)
 
 -- any act of a statement
 pub went_less : (s : State) (d k : ℕ) (w : Walk) (t : Task) (ts : List Task) (a : Act) → w.endings ≡ [] → w.todo ≡ t ∷ ts
-    → walk_steps (went s d w k ts a) + 1 ≤ walk_steps w + 13 * ends_at s (leaving_pointer w.slots a)
+    → walk_steps (went s d w k ts a) + 1 ≤ walk_steps w + 13 * ends_at s (leaves_by w.slots a)
 went_less s d k w t ts a none is =
     let l = went_steps s d k w t ts a none is in
-    let z = carried_one (is_some (ended_by s (leaving_pointer w.slots a))) in
+    let z = carried_one (is_some (ended_by s (leaves_by w.slots a))) in
     let j = weight_two t.act in
     omega (arith, l, z, j)
 

@@ -13,7 +13,8 @@ use Rattle.step_table.specs.Openings.{opening}
 use Rattle.step_threads.specs.Actors.{wanted}
 use Rattle.step_threads.specs.Courses.{form_of, walk_settled}
 use Rattle.step_threads.specs.Entries.{does, least, make_deed}
-use Rattle.step_threads.specs.Scenes.{full_answer, holding, walk_of}
+use Rattle.step_threads.specs.Scenes.{walk_of}
+use Rattle.step_threads.specs.Rows.{full_answer, holding}
 use Rattle.step_threads.specs.NextSteps.{made_on}
 use Rattle.step_threads.specs.Steps.{claims, prepares}
 use Rattle.step_table.specs.Stories.{known_words, pending, story_state}

@@ -14,7 +14,7 @@ use Rattle.step_table.specs.Deeds.{exact}
 use Rattle.step_table.specs.Holdings.{is_full, slot_pointer}
 use Rattle.step_threads.specs.Scenes.{next, next_of, play_from, rest_of, rested, said_from, walk_of}
 use Rattle.step_threads.specs.NextSteps.{at_rest, begun, first, step_at, stepped, waits}
-use Rattle.step_threads.specs.Steps.{Step, step_of_act, ends_on}
+use Rattle.step_threads.specs.Steps.{Step, ends_on}
 use Rattle.step_core.specs.Turning.{HasBegun, Plays, has_rest, is_acting, is_clearing, is_ending, is_refilling, is_returning, returned, turned, turned_by}
 use Rattle.step_core.specs.Worlds.{Sight, Steps, half_of, scene, sight_by, step_of}
 use Rattle.step_core.proofs.turning.Ending.{half_after, halves_after, rested_none, same_walks, scene_as}
@@ -37,7 +37,7 @@ plays_none d u r none todo rest is answer lt =
     (λ e. record {
       tell = exact;
       tells = exact_told d u;
-      answer = ap turned_by e ∙ ap (λ (o : Option Task). turned (said_from exact (scene u) d w.slots o)) (sym n);
+      answer = ap turned_by e ∙ ap (λ (o : Option Task). turned (said_from exact (scene u) d w o)) (sym n);
       scene = ap (rested d) same ∙ rested_none (scene u) d none ∙ ap (λ (o : Option Task). play_from exact (scene u) d w o) (sym n);
       done = ap is_acting h;
       halves = halves_after d u None lt;

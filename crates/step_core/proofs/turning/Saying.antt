@@ -22,7 +22,8 @@ use Rattle.step_table.specs.Deeds.{give, is_enabled, lock, on, owner_word}
 use Rattle.step_table.specs.Holdings.{inside, slot_pointer}
 use Rattle.step_table.specs.Openings.{opening}
 use Rattle.step_threads.specs.Entries.{acted, does, giving, least, make_deed}
-use Rattle.step_threads.specs.Scenes.{Scene, full_answer, holding, next, next_of, play_from, play_with, put_walk, rest_of, rested, rested_walk, said_from}
+use Rattle.step_threads.specs.Scenes.{Scene, next, next_of, play_from, play_with, put_walk, rest_of, rested, rested_walk, said_from}
+use Rattle.step_threads.specs.Rows.{full_answer, holding}
 use Rattle.step_threads.specs.Scenes.{said_of, walk_of, went}
 use Rattle.step_threads.specs.NextSteps.{deed_is_event, stepped, story_after}
 use Rattle.step_threads.specs.Steps.{Step, step_of_act, asks, begins, looks, silent, trying}
@@ -44,7 +45,7 @@ acted_scene d u k ts a =
     moved (scene u) d (went (story_state u.story) d w k ts a) (acted (tell_of u.story a) (opening u.story.extent) d w.slots u.story.history a)
 
 abbrev pub acted_said : ℕ → Sight → ℕ → Act → Said
-acted_said d u k a = said_of (tell_of u.story a) (story_state u.story) d (walk_of (scene u) d).slots (record { statement = k; act = a })
+acted_said d u k a = said_of (tell_of u.story a) (story_state u.story) d (walk_of (scene u) d) (record { statement = k; act = a })
 
 -- a step of an act that is none of a make says what the act says, and leaves what the act makes
 abbrev pub Acts : ℕ → Sight → ℕ → List Task → Act → Step → Type 0
@@ -191,7 +192,7 @@ plays_next d u t ts x r now after is answer so tells rest lt walks =
       tell = tell_of u.story t.act;
       tells = tells;
       answer = ap turned_by e ∙ said_on (deed_is_event u.story x.deed) x.said ∙ ap Acted so.0
-          ∙ ap (λ (o : Option Task). turned (said_from (tell_of u.story t.act) (scene u) d w.slots o)) (sym now);
+          ∙ ap (λ (o : Option Task). turned (said_from (tell_of u.story t.act) (scene u) d w o)) (sym now);
       scene = ap (rested d) so.1 ∙ played d u t ts now after walks;
       done = ap is_acting h ∙ rest;
       halves = halves_after d u (Some x) lt;

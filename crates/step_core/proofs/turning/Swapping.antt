@@ -19,7 +19,6 @@ use Rattle.step_table.specs.declared.cell_steps.cell_deed.CellDeed.TheVariants a
 use Rattle.step_threads.specs.declared.half.Half.TheVariants.{Rest}
 use Rattle.step_table.specs.declared.slots.holdings.Pointer.{Pointer}
 use Rattle.step_table.specs.declared.memory.past.Deed.TheVariants as deed
-use Rattle.step_threads.specs.declared.said.Answer.{Answer}
 use Rattle.step_table.specs.Contents.{as_word, is_of, seen}
 use Rattle.step_threads.specs.Courses.{Going, HasCell, cell_of_name, going, going_from, hand, is_there, on_going}
 use Rattle.step_threads.specs.Entries.{History, acted, history_swaps as swaps_in}
@@ -27,7 +26,8 @@ use Rattle.step_table.specs.Deeds.{Telling, on}
 use Rattle.step_table.specs.Holdings.{HoldsBag, Slots, slot_pointer, slot_value}
 use Rattle.step_table.specs.Openings.{opening}
 use Rattle.step_threads.specs.Programs.{IsIn, kind_at}
-use Rattle.step_threads.specs.Scenes.{ended_of, walk_of, went}
+use Rattle.step_threads.specs.Rows.{Reply, row, said_by_row}
+use Rattle.step_threads.specs.Scenes.{walk_of, went}
 use Rattle.step_threads.specs.Steps.{step_of_act, brings, gives_back, sends, step_of_swap}
 use Rattle.step_table.specs.Stories.{Kept, Nothing, Story, event_added, history_after, story_state}
 use Rattle.step_core.specs.Turning.{is_acting}
@@ -37,7 +37,7 @@ use Rattle.step_table.proofs.contained.Coming.{seen_found}
 use Rattle.step_table.proofs.contained.Telling.{swap_tells}
 use Rattle.step_core.proofs.turning.Ending.{same_walks, scene_as}
 use Rattle.step_core.proofs.turning.Saying.{Acts}
-use Rattle.step_core.proofs.turning.Telling.{tell_of, told_answer}
+use Rattle.step_core.proofs.turning.Telling.{tell_of, told_reply}
 
 -- the cell is there, and the value may go into it
 abbrev Goes : Shape → Slots → CellName → ℕ → Type 0
@@ -119,7 +119,7 @@ swaps_so d u k ts a c i can e =
     let w = walk_of (scene u) d in
     let v = u.story in
     let p = puts_as (tell_of v a) (opening v.extent) d w.slots v.history v.extent.shape a c i e can.2 in (
-      ap (λ (q : Option Answer). record { statement = k; answer = q; ended = ended_of (story_state v) w.slots a }) (told_answer v (story_state v) d w.slots a),
+      ap (λ (r : Reply). said_by_row k (row a w.slots w.taken r)) (told_reply v (story_state v) d w.slots a),
       ap (λ (h : History). record { extent = v.extent; history = h; walks = set u.walks d (went (story_state v) d w k ts a) })
           (swap_told v d w.slots c i can.1 can.0 can.3 p.1 ∙ sym p.0),
     )
@@ -140,7 +140,7 @@ pub goes_so : (d : ℕ) (u : Sight) (k : ℕ) (ts : List Task) (a : Act) (g : Op
 goes_so d u k ts a None can e by is =
     let w = walk_of (scene u) d in
     let v = u.story in (
-      ap (λ (q : Option Answer). record { statement = k; answer = q; ended = ended_of (story_state v) w.slots a }) (told_answer v (story_state v) d w.slots a),
+      ap (λ (r : Reply). said_by_row k (row a w.slots w.taken r)) (told_reply v (story_state v) d w.slots a),
       ap (λ (h : History). record { extent = v.extent; history = h; walks = set u.walks d (went (story_state v) d w k ts a) })
           (sym (by ∙ ap (on_going (swaps_in (opening v.extent) d w.slots v.history) v.history) e)),
     )

@@ -24,7 +24,7 @@ use Rattle.step_threads.specs.declared.half.Half.{Half}
 use Rattle.step_threads.specs.declared.half.Half.TheVariants.{Rest}
 use Rattle.step_threads.specs.declared.said.Stepped.{Stepped}
 use Rattle.step_threads.specs.declared.said.Stepped.TheVariants.{Waited}
-use Rattle.step_threads.specs.Scenes.{Scene, answer_of, walk_of}
+use Rattle.step_threads.specs.Scenes.{Scene, reply_in, walk_of}
 use Rattle.step_threads.specs.NextSteps.{stepped, story_after, story_by, waits}
 use Rattle.step_threads.specs.Steps.{Step}
 use Rattle.step_core.specs.Turning.{HasBegun, IsProperHalf}
@@ -35,29 +35,10 @@ abbrev pub tell_of : Story → Act → Telling
 tell_of v (Count i) = by_word v
 tell_of v _ = exact
 
--- so a step answers as the act does
-pub told_answer : (v : Story) (s : State) (d : ℕ) (slots : Slots) (a : Act) → answer_of (by_word v) s d slots a ≡ answer_of (tell_of v a) s d slots a
-told_answer v s d slots (Make form) = refl
-told_answer v s d slots (Share k) = refl
-told_answer v s d slots (Downgrade k) = refl
-told_answer v s d slots (Lock k must) = refl
-told_answer v s d slots (Put k) = refl
-told_answer v s d slots (Leave k) = refl
-told_answer v s d slots (Clear k) = refl
-told_answer v s d slots (Count k) = refl
-told_answer v s d slots (Expired k) = refl
-told_answer v s d slots (Read k) = refl
-told_answer v s d slots (FromThis k kind) = refl
-told_answer v s d slots (Alias k j field) = refl
-told_answer v s d slots (Move k) = refl
-told_answer v s d slots (Ask q) = refl
-told_answer v s d slots (Offer k c) = refl
-told_answer v s d slots (Swap c) = refl
-told_answer v s d slots (Exchange k c) = refl
-told_answer v s d slots (Load c) = refl
-told_answer v s d slots (Compare k c weak) = refl
-told_answer v s d slots Drop = refl
-told_answer v s d slots (OnShelf x) = refl
+-- so a step is replied as the act is
+pub told_reply : (v : Story) (s : State) (d : ℕ) (slots : Slots) (a : Act) → reply_in (by_word v) s d slots a ≡ reply_in (tell_of v a) s d slots a
+told_reply v s d slots (Count k) = refl
+told_reply v s d slots _ = refl
 
 count_or : (v : Story) (a : Act) → ((i : ℕ) × (a ≡ Count i)) ⊎ (tell_of v a ≡ exact)
 count_or v (Make form) = inr refl

@@ -28,7 +28,7 @@ plays_on d u v w r goes same halves plays =
       halves = plays.halves ∙ ap (λ (l : List Half). set l d (half_of w d)) halves ∙ set-set u.halves d (half_of v d) _;
     }
 
-no_next : (tell : Telling) (c : Scene) (d : ℕ) (o : Option Task) → said_from tell c d (walk_of c d).slots o ≡ None
+no_next : (tell : Telling) (c : Scene) (d : ℕ) (o : Option Task) → said_from tell c d (walk_of c d) o ≡ None
     → o ≡ None
 no_next tell c d None e = refl
 no_next tell c d (Some t) e = cc

@@ -1,0 +1,61 @@
+-- What leaves and what ends by an act.
+use Rattle.std.proofs.Common.{◌≡◌, ℕ, Bool, false, List, [], ◌∷◌, refl, ap}
+use Rattle.std.proofs.Common.{◌∙◌}
+use Rattle.std.specs.Prelude.{Option, None}
+use Rattle.std.proofs.lemmas.Bool.{cond_both}
+use Rattle.control_word.specs.declared.place.Block.{Block}
+use Rattle.control_word.specs.State.{State}
+use Rattle.step_table.specs.Stories.{Story, story_state}
+use Rattle.step_threads.specs.declared.programs.act.Act.{Act}
+use Rattle.step_threads.specs.declared.programs.act.Act.TheVariants.{Put, Leave, Clear}
+use Rattle.step_threads.specs.declared.programs.act.Act.TheVariants.{Drop}
+use Rattle.step_threads.specs.declared.programs.act.Task.{Task}
+use Rattle.step_threads.specs.declared.ending.Ending.{Ending}
+use Rattle.step_table.specs.declared.slots.holdings.Pointer.{Pointer}
+use Rattle.step_threads.specs.Courses.{Walk, idle, other, walk_settled, slots_idle, taken_idle}
+use Rattle.step_table.specs.declared.memory.ended.Ended.{Ended}
+use Rattle.step_table.specs.Deeds.{Telling, by_word, exact, is_last, on}
+use Rattle.step_table.specs.Holdings.{Slots, slot_pointer}
+use Rattle.step_threads.specs.Rows.{ending_by, with_end}
+use Rattle.step_threads.specs.Scenes.{ended_by, row_in, went}
+
+pub settled_endings : (slots : Slots) (taken : Bool) (es : List Ending) (ts : List Task) → (walk_settled slots taken es ts).endings ≡ es
+settled_endings slots taken es [] = refl
+settled_endings slots taken es (t ∷ ts) =
+    let r = settled_endings (slots_idle t.act slots taken) (taken_idle t.act taken) es ts in
+    cond_both (idle t.act slots taken) (walk_settled (slots_idle t.act slots taken) (taken_idle t.act taken) es ts)
+    (record { slots = slots; taken = taken; endings = es; todo = t ∷ ts }) (λ (w : Walk). w.endings ≡ es) (λ e. r) (λ e. refl)
+
+-- the pointer that leaves by an act
+abbrev pub leaves_by : Slots → Act → Option Pointer
+leaves_by slots (Put k) = slot_pointer slots k
+leaves_by slots (Leave k) = slot_pointer slots k
+leaves_by slots (Clear k) = slot_pointer slots k
+leaves_by slots Drop = slot_pointer slots (other slots)
+leaves_by slots _ = None
+
+-- the endings where a pointer left by statement k
+abbrev pub begun_by : State → ℕ → List Ending → Option Pointer → List Ending
+begun_by s k es o = with_end k (ending_by (on (is_last s) false o) o) es
+
+-- what the step of an act tells of an object that ends
+abbrev pub ends_by : Story → ℕ → Walk → Act → Option Ended
+ends_by v d w a = (row_in (by_word v) (story_state v) d w.slots w.taken a).ended
+
+leaves_so : (tell : Telling) (s : State) (d : ℕ) (slots : Slots) (taken : Bool) (a : Act)
+    → let y = row_in tell s d slots taken a in
+    let o = leaves_by slots a in
+    (y.ending ≡ ending_by (on (is_last s) false o) o) × (y.ended ≡ ended_by s o)
+leaves_so tell s d slots taken (Put k) = (refl, refl)
+leaves_so tell s d slots taken _ = (refl, refl)
+
+pub none_ends : (v : Story) (d : ℕ) (w : Walk) (a : Act) → leaves_by w.slots a ≡ None → ends_by v d w a ≡ None
+none_ends v d w a stays = (leaves_so (by_word v) (story_state v) d w.slots w.taken a).1 ∙ ap (ended_by (story_state v)) stays
+
+-- where the thread's endings are after an act
+pub act_endings : (s : State) (d k : ℕ) (w : Walk) (ts : List Task) (a : Act)
+    → (went s d w k ts a).endings ≡ begun_by s k w.endings (leaves_by w.slots a)
+act_endings s d k w ts a =
+    let y = row_in exact s d w.slots w.taken a in
+    settled_endings y.slots y.taken (with_end k y.ending w.endings) ts
+    ∙ ap (λ (b : Option Block). with_end k b w.endings) (leaves_so exact s d w.slots w.taken a).0
