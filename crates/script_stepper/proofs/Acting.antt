@@ -20,7 +20,7 @@ use Rattle.step_threads.specs.Rows.{with_end}
 use Rattle.step_threads.specs.Scenes.{row_in, went}
 use Rattle.step_core.proofs.telling.Tidying.{idle_size, row_size}
 
--- ---- the tasks and endings of a settled thread
+-- ---- the tasks of a settled thread
 
 settled_less : (ts : List Task) (slots : Slots) (taken : Bool) (es : List Ending) → length (walk_settled slots taken es ts).todo ≤ length ts
 settled_less [] slots taken es = omega arith
@@ -29,14 +29,6 @@ settled_less (t ∷ ts) slots taken es =
     (record { slots = slots; taken = taken; endings = es; todo = t ∷ ts })
     (λ (w : Walk). length w.todo ≤ suc (length ts))
     (λ _. let k = settled_less ts (slots_idle t.act slots taken) (taken_idle t.act taken) es in omega (arith, k)) (λ _. omega arith)
-
-pub settled_endings : (ts : List Task) (slots : Slots) (taken : Bool) (es : List Ending) → (walk_settled slots taken es ts).endings ≡ es
-settled_endings [] slots taken es = refl
-settled_endings (t ∷ ts) slots taken es =
-    cond_both (idle t.act slots taken) (walk_settled (slots_idle t.act slots taken) (taken_idle t.act taken) es ts)
-    (record { slots = slots; taken = taken; endings = es; todo = t ∷ ts })
-    (λ (w : Walk). w.endings ≡ es)
-    (λ _. settled_endings ts (slots_idle t.act slots taken) (taken_idle t.act taken) es) (λ _. refl)
 
 -- ---- as many slots as before
 

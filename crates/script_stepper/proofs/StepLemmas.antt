@@ -23,7 +23,8 @@ use Rattle.script_stepper.specs.declared.runs.stepping.Pace.{Pace}
 use Rattle.script_stepper.specs.Runs.{IsShown, IsTextBy, IsTurnText}
 use Rattle.script_stepper.specs.Lines.{closing_lines, item_lines}
 use Rattle.script_stepper.specs.Running.{AllOver, AllRest, HasRun, RunsOut, Waits}
-use Rattle.script_stepper.proofs.Acting.{settled_endings, settled_size}
+use Rattle.step_core.proofs.telling.Leaves.{settled_endings}
+use Rattle.script_stepper.proofs.Acting.{settled_size}
 use Rattle.control_word.specs.Histories.{IsLegal}
 use Rattle.step_table.specs.Openings.{opening}
 use Rattle.step_table.specs.Stories.{Kept}
@@ -81,7 +82,7 @@ first_waits (part ∷ parts) zero lt =
     let m : length (no_slots (length part.kinds)) ≡ length part.kinds + 2 = length-replicate (length part.kinds + 2) plain in
     record {
       some = omega (arith, n, m);
-      endings = inl (settled_endings (tasks_from 1 part.calls (length part.kinds)) (no_slots (length part.kinds)) false []);
+      endings = inl (settled_endings (no_slots (length part.kinds)) false [] (tasks_from 1 part.calls (length part.kinds)));
     }
 first_waits (part ∷ parts) (suc d) lt = first_waits parts d (omega (arith, lt))
 
