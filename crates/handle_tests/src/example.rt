@@ -4,6 +4,7 @@ ghost use Rattle.shared_handle.specs.Prelude.{Owner, Weak, Block, Belongs, IsSam
 ghost use Rattle.shared_handle.specs.Prelude.{HoldsHandle, with_handle, without_handle};
 
 use crate::parts::{end, hand_over, shape, shut, spent};
+use crate::same::same;
 use control_block::desk::Desk;
 use control_block::domain::{Domain, open};
 use control_block::handles;
@@ -98,6 +99,6 @@ fn an_object_of_two_threads(rt: HostRuntime) -> Result<(), Fail> {
     let seen = two_threads(&rt, rt.alloc(), &domain, &mut desk);
     let stock = shut(domain, desk);
     let (owners, gone) = seen.ok_or("memory")?;
-    assert_eq!(rt; (owners, gone, stock), (2, true, 4));
+    same(&rt, (owners, gone, stock), (2, true, 4));
     Ok(())
 }

@@ -15,4 +15,6 @@ mod laws;
 mod memory;
 #[cfg(test)]
 mod parts;
+#[cfg(test)]
+mod same;
 pub mod shapes;

@@ -3,6 +3,7 @@
 //! it.
 use crate::desks::splits::{abandon, numbers, refusal};
 use crate::parts::shut;
+use crate::same::same;
 use crate::shapes::shape;
 use control_block::domain::open;
 use control_word::Refusal;
@@ -22,11 +23,11 @@ fn a_refused_opening_leaves_nothing(rt: HostRuntime) -> Result<(), Fail> {
     let all = match opened(rt.alloc()) {
         Ok(all) => all,
         Err(why) => {
-            assert_eq!(rt; why, Refusal::Memory);
+            same(&rt, why, Refusal::Memory);
             opened(rt.alloc())?
         }
     };
-    assert!(rt; all == (8, 0, 4));
+    same(&rt, all, (8, 0, 4));
     Ok(())
 }
 
@@ -47,8 +48,8 @@ fn a_refused_split_changes_nothing(rt: HostRuntime) -> Result<(), Fail> {
         return Err(Refusal::Memory.into());
     }
     assert!(rt; first == 0 || first == Refusal::Memory.number());
-    assert!(rt; between == (8, 0, 4));
-    assert_eq!(rt; second, 0);
+    same(&rt, between, (8, 0, 4));
+    same(&rt, second, 0);
     Ok(())
 }
 
@@ -60,18 +61,18 @@ fn vacant_of(alloc: Global, blocks: u32) -> Result<u32, Refusal> {
 
 #[test]
 fn one_block_is_opened_and_closed(rt: HostRuntime) -> Result<(), Fail> {
-    assert_eq!(rt; vacant_of(rt.alloc(), 1)?, 1);
+    same(&rt, vacant_of(rt.alloc(), 1)?, 1);
     Ok(())
 }
 
 #[test]
 fn two_blocks_are_opened_and_closed(rt: HostRuntime) -> Result<(), Fail> {
-    assert_eq!(rt; vacant_of(rt.alloc(), 2)?, 2);
+    same(&rt, vacant_of(rt.alloc(), 2)?, 2);
     Ok(())
 }
 
 #[test]
 fn four_blocks_are_opened_and_closed(rt: HostRuntime) -> Result<(), Fail> {
-    assert_eq!(rt; vacant_of(rt.alloc(), 4)?, 4);
+    same(&rt, vacant_of(rt.alloc(), 4)?, 4);
     Ok(())
 }

@@ -10,6 +10,8 @@ mod machine;
 #[cfg(test)]
 mod memory;
 #[cfg(test)]
+mod same;
+#[cfg(test)]
 mod texts;
 #[cfg(test)]
 mod workers;

@@ -4,6 +4,7 @@ ghost use Rattle.std.specs.Prelude.{◌≡◌, false};
 ghost use Rattle.script_stepper.specs.Runs.{is_output};
 
 use crate::machine::worlds::TestWorld;
+use crate::same::same;
 use control_word::{Block, Place, Refusal};
 use script_stepper::{Output, Sink, fine_text, step_text, write_lines};
 use script_text::{Fault, Script, convert, parse, print};
@@ -49,7 +50,7 @@ fn chain(alloc: Global) -> Result<Vec<Call>, AllocError> {
 fn a_world_of_a_chain_is_made(rt: HostRuntime) -> Result<(), Fail> {
     let calls = chain(rt.alloc())?;
     let world = TestWorld::new(rt.alloc(), OBJECTS, calls.as_slice())?;
-    assert_eq!(rt; world.totals(), (0, 0));
+    same(&rt, world.totals(), (0, 0));
     Ok(())
 }
 
@@ -62,7 +63,7 @@ fn a_chain_of_all_blocks_ends(rt: HostRuntime) -> Result<(), Fail> {
             break;
         }
     }
-    assert_eq!(rt; world.totals(), (OBJECTS, OBJECTS));
+    same(&rt, world.totals(), (OBJECTS, OBJECTS));
     Ok(())
 }
 
@@ -72,11 +73,11 @@ fn a_refused_run_leaves_its_world(rt: HostRuntime) -> Result<(), Fail> {
     let calls = [make(A, 1), Call::Count { name: A }];
     let mut world = TestWorld::new(rt.alloc(), 1, &calls)?;
     if let Err(why) = world.run(rt.alloc(), &[1, 1]) {
-        assert_eq!(rt; why, RunRefusal::Memory);
-        assert_eq!(rt; world.totals(), (0, 0));
+        same(&rt, why, RunRefusal::Memory);
+        same(&rt, world.totals(), (0, 0));
         world.run(rt.alloc(), &[1, 1])?;
     }
-    assert_eq!(rt; world.totals(), (1, 1));
+    same(&rt, world.totals(), (1, 1));
     Ok(())
 }
 
@@ -116,11 +117,11 @@ fn refused_lines_are_not_begun(rt: HostRuntime) -> Result<(), Fail> {
     let mut taken = Vec::with_capacity(rt.alloc(), 100)?;
     let mut sink = Output::new(&mut taken);
     if let Err(fault) = write_lines(rt.alloc(), 16, &ACTS, &mut sink) {
-        assert_eq!(rt; fault, Fault::Memory);
+        same(&rt, fault, Fault::Memory);
         assert!(rt; !sink.failed());
         write_lines(rt.alloc(), 16, &ACTS, &mut sink)?;
     }
-    assert_eq!(rt; taken.as_slice(), TOLD);
+    same(&rt, taken.as_slice(), TOLD);
     Ok(())
 }
 
@@ -132,7 +133,7 @@ fn read<R: Abort>(rt: &R, alloc: Global) -> Result<Script, Fail> {
     match parse(alloc, SCRIPT) {
         Ok(script) => Ok(script),
         Err(fault) => {
-            assert_eq!(rt; fault, Fault::Memory);
+            same(rt, fault, Fault::Memory);
             Ok(parse(alloc, SCRIPT)?)
         }
     }
@@ -143,7 +144,7 @@ fn text_of<R: Abort>(rt: &R, alloc: Global, script: &Script) -> Result<String, F
     match print(alloc, script) {
         Ok(text) => Ok(text),
         Err(why) => {
-            assert_eq!(rt; why, Refusal::Memory);
+            same(rt, why, Refusal::Memory);
             Ok(print(alloc, script)?)
         }
     }
@@ -154,7 +155,7 @@ fn converted<R: Abort>(rt: &R, alloc: Global, script: &Script) -> Result<Script,
     match convert(alloc, script) {
         Ok(converted) => Ok(converted),
         Err(why) => {
-            assert_eq!(rt; why, Refusal::Memory);
+            same(rt, why, Refusal::Memory);
             Ok(convert(alloc, script)?)
         }
     }
@@ -165,7 +166,7 @@ fn program_of<R: Abort>(rt: &R, alloc: Global, script: &Script) -> Result<Progra
     match script.program(alloc) {
         Ok(program) => Ok(program),
         Err(why) => {
-            assert_eq!(rt; why, Refusal::Memory);
+            same(rt, why, Refusal::Memory);
             Ok(script.program(alloc)?)
         }
     }
@@ -179,9 +180,13 @@ fn a_refused_script_is_read_again(rt: HostRuntime) -> Result<(), Fail> {
     let text = text_of(&rt, rt.alloc(), &script)?;
     let converted = converted(&rt, rt.alloc(), &script)?;
     let program = program_of(&rt, rt.alloc(), &script)?;
-    assert_eq!(rt; text.as_bytes(), SCRIPT);
-    assert_eq!(rt; (converted.blocks(), converted.statements()), (4_095, 5));
-    assert_eq!(rt; program.actors.len(), 2);
+    same(&rt, text.as_bytes(), SCRIPT);
+    same(
+        &rt,
+        (converted.blocks(), converted.statements()),
+        (4_095, 5),
+    );
+    same(&rt, program.actors.len(), 2);
     Ok(())
 }
 
@@ -207,7 +212,7 @@ fn written<R: Abort>(rt: &R, alloc: Global, by_steps: bool) -> Result<Vec<u8>, F
     let mut taken = Vec::with_capacity(alloc, 100)?;
     let mut sink = Output::new(&mut taken);
     if let Err(fault) = run(alloc, by_steps, &mut sink) {
-        assert_eq!(rt; fault, Fault::Memory);
+        same(rt, fault, Fault::Memory);
         assert!(rt; !sink.failed());
         run(alloc, by_steps, &mut sink)?;
     }
@@ -219,7 +224,7 @@ fn written<R: Abort>(rt: &R, alloc: Global, by_steps: bool) -> Result<Vec<u8>, F
 fn a_refused_run_of_a_text_is_not_begun(rt: HostRuntime) -> Result<(), Fail> {
     let by_turns = written(&rt, rt.alloc(), false)?;
     let by_steps = written(&rt, rt.alloc(), true)?;
-    assert_eq!(rt; by_turns.as_slice(), LINES);
-    assert_eq!(rt; by_steps.as_slice(), LINES);
+    same(&rt, by_turns.as_slice(), LINES);
+    same(&rt, by_steps.as_slice(), LINES);
     Ok(())
 }

@@ -1,5 +1,6 @@
 //! Scripts on real workers.
 
+use crate::same::same;
 use control_block::census::close;
 use control_word::Refusal;
 use ownership_ledger::Totals;
@@ -110,13 +111,17 @@ fn a_refused_run_leaves_nothing(rt: HostRuntime) -> Result<(), Fail> {
     let (report, vacant) = match run_and_close(&rt, rt.alloc(), &script, &gate) {
         Ok(ran) => ran,
         Err(why) => {
-            assert_eq!(rt; why, Refusal::Memory);
-            assert!(rt; gate.begun.load(Ordering::SeqCst) == gate.run.load(Ordering::SeqCst));
+            same(&rt, why, Refusal::Memory);
+            same(
+                &rt,
+                gate.begun.load(Ordering::SeqCst),
+                gate.run.load(Ordering::SeqCst),
+            );
             run_and_close(&rt, rt.alloc(), &script, &gate)?
         }
     };
-    assert_eq!(rt; report.totals, Totals { made: 2, ended: 2 });
-    assert_eq!(rt; vacant, 4094);
+    same(&rt, report.totals, Totals { made: 2, ended: 2 });
+    same(&rt, vacant, 4094);
     Ok(())
 }
 

@@ -1,5 +1,6 @@
 //! A program of one worker.
 use crate::listed::{Answer, Call, all};
+use crate::same::same;
 use control_word::Shape;
 use handle_table::{HandleTable, Home, Program, Team, run};
 use std::alloc::Global;
@@ -35,7 +36,7 @@ pub(crate) fn ends<R: Abort + Threads + Wait + Sync, P: Program<u64, R> + Sync>(
     if let Some(why) = ran.fewer {
         return Err(why.into());
     }
-    assert_eq!(rt; ran.workers, 1);
-    assert_eq!(rt; ran.census.vacant(), vacant);
+    same(rt, ran.workers, 1);
+    same(rt, ran.census.vacant(), vacant);
     Ok(())
 }

@@ -13,6 +13,8 @@ mod listed;
 mod memory;
 #[cfg(test)]
 mod parting;
+#[cfg(test)]
+mod same;
 pub mod shapes;
 #[cfg(test)]
 mod shelf;

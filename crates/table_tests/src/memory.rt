@@ -3,6 +3,7 @@ use crate::alone::{Listed, ends};
 use crate::handles::telling::hold;
 use crate::listed::{Answer, Call, all};
 use crate::parting::joins::come_together;
+use crate::same::same;
 use crate::shapes::{alone, shape};
 use control_word::Refusal;
 use handle_table::{Fault, HandleTable, Home, Leader, Manned, Program, Team, run, run_leader};
@@ -104,11 +105,11 @@ fn a_first_table_is_refused(rt: HostRuntime) -> Result<(), Fail> {
     };
     match run(&rt, rt.alloc(), shape, team, &IDLE) {
         Ok(_) => assert!(rt; false),
-        Err(why) => assert_eq!(rt; why, Refusal::Memory),
+        Err(why) => same(&rt, why, Refusal::Memory),
     }
     team.slots = 1;
     let ran = run(&rt, rt.alloc(), shape, team, &IDLE)?;
-    assert_eq!(rt; ran.census.vacant(), 1);
+    same(&rt, ran.census.vacant(), 1);
     Ok(())
 }
 
@@ -153,8 +154,8 @@ impl<R: Abort + Threads + Wait + Sync> Leader<u64, R> for Tries {
 fn a_leader_is_told_that_its_team_was_refused(rt: HostRuntime) -> Result<(), Fail> {
     let mut leader = Tries { left: 2 };
     let census = run_leader(&rt, rt.alloc(), shape(3, 0, 0, 4), 5, &mut leader)?;
-    assert_eq!(rt; leader.left, 0);
-    assert_eq!(rt; census.vacant(), 3);
+    same(&rt, leader.left, 0);
+    same(&rt, census.vacant(), 3);
     Ok(())
 }
 

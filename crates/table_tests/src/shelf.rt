@@ -1,6 +1,7 @@
 //! The shelf: what goes there, what a make takes from it, and when it is left alone.
 use crate::alone::{Listed, ends};
 use crate::listed::{Answer, Call, all};
+use crate::same::same;
 use crate::shapes::{alone, shape};
 use control_word::Refusal;
 use handle_table::{Fault, HandleTable, Home, Leader, Manned, Program, Team, run, run_leader};
@@ -103,8 +104,8 @@ fn a_thread_makes_in_anothers_block(rt: HostRuntime) -> Result<(), Fail> {
         blocks: 1,
     };
     let ran = run(&rt, rt.alloc(), shape(2, 0, 0, 6), team, &Lends)?;
-    assert!(rt; ran.fewer == None);
-    assert_eq!(rt; (ran.workers, ran.census.vacant()), (2, 2));
+    same(&rt, ran.fewer, None);
+    same(&rt, (ran.workers, ran.census.vacant()), (2, 2));
     Ok(())
 }
 
@@ -144,6 +145,6 @@ impl<R: Abort + Threads + Wait + Sync> Leader<u64, R> for Sole {
 fn a_sole_table_finds_all_that_is_shelved(rt: HostRuntime) -> Result<(), Fail> {
     let mut sole = Sole;
     let census = run_leader(&rt, rt.alloc(), shape(2, 0, 0, 4), 3, &mut sole)?;
-    assert_eq!(rt; census.vacant(), 2);
+    same(&rt, census.vacant(), 2);
     Ok(())
 }

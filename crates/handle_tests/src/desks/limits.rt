@@ -1,5 +1,6 @@
 //! The largest and the least domain, and those just beyond.
 use crate::desks::splits::abandon;
+use crate::same::same;
 use crate::shapes::{shape, shape_with_cells};
 use control_block::domain::open;
 use control_word::Shape;
@@ -20,15 +21,16 @@ fn answer(alloc: Global, shape: Shape) -> u8 {
 #[test]
 fn a_domain_has_limits(rt: HostRuntime) -> Result<(), Fail> {
     let alloc = rt.alloc();
-    assert_eq!(rt;
+    same(
+        &rt,
         answer(alloc, shape_with_cells(65_535, 200, 56, 4_194_304)),
-        0
+        0,
     );
-    assert_eq!(rt; answer(alloc, shape(1, 1)), 0);
-    assert_eq!(rt; answer(alloc, shape(65_536, 1)), 2);
-    assert_eq!(rt; answer(alloc, shape(0, 1)), 2);
-    assert_eq!(rt; answer(alloc, shape_with_cells(1, 200, 57, 1)), 2);
-    assert_eq!(rt; answer(alloc, shape(1, 4_194_305)), 2);
-    assert_eq!(rt; answer(alloc, shape(1, 0)), 2);
+    same(&rt, answer(alloc, shape(1, 1)), 0);
+    same(&rt, answer(alloc, shape(65_536, 1)), 2);
+    same(&rt, answer(alloc, shape(0, 1)), 2);
+    same(&rt, answer(alloc, shape_with_cells(1, 200, 57, 1)), 2);
+    same(&rt, answer(alloc, shape(1, 4_194_305)), 2);
+    same(&rt, answer(alloc, shape(1, 0)), 2);
     Ok(())
 }

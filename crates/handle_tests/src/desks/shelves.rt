@@ -4,6 +4,7 @@ ghost use Rattle.control_block.specs.Desks.{Belongs, IsSameDesk};
 
 use crate::desks::splits::{abandon, all_vacant, cut};
 use crate::parts::{end, shape};
+use crate::same::same;
 use control_block::desk::Desk;
 use control_block::domain::{Domain, open};
 use control_word::Refused;
@@ -53,9 +54,9 @@ fn shelve_and_make(alloc: Global) -> Option<Shelved> {
 #[test]
 fn spare_blocks_go_to_the_shelf_and_come_back(rt: HostRuntime) -> Result<(), Fail> {
     let (counts, makes, vacant) = shelve_and_make(rt.alloc()).ok_or("memory")?;
-    assert_eq!(rt; counts, [2, 2, 2, 0, 1, 3, 0, 3]);
-    assert_eq!(rt; makes, [3, 0]);
-    assert!(rt; vacant == Some(true));
+    same(&rt, counts, [2, 2, 2, 0, 1, 3, 0, 3]);
+    same(&rt, makes, [3, 0]);
+    same(&rt, vacant, Some(true));
     Ok(())
 }
 
@@ -73,7 +74,7 @@ fn there_and_back(rt: &HostRuntime, blocks: u32) -> Option<(u32, u32, u32)> {
 fn the_blocks_at_the_ends_of_words_come_back(rt: HostRuntime) -> Result<(), Fail> {
     for blocks in [1, 63, 64, 65, 128, 65_535] {
         let all = there_and_back(&rt, blocks).ok_or("memory")?;
-        assert!(rt; all == (blocks, blocks, blocks));
+        same(&rt, all, (blocks, blocks, blocks));
     }
     Ok(())
 }
@@ -119,6 +120,6 @@ fn each_block_is_taken_once(rt: HostRuntime) -> Result<(), Fail> {
     one.join(&domain, two);
     let stock = one.stock();
     abandon(domain, one);
-    assert_eq!(rt; [shelved, taken, stock], [8, 8, 8]);
+    same(&rt, [shelved, taken, stock], [8, 8, 8]);
     Ok(())
 }

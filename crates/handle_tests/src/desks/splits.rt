@@ -4,6 +4,7 @@ ghost use Rattle.std.specs.Prelude.{IfErr, IfSome, IsTrue, None, Some};
 ghost use Rattle.control_block.specs.Desks.{Belongs, allowance_of, bag_of, stock_of};
 ghost use Rattle.control_block.specs.Parting.{listed};
 
+use crate::same::same;
 use crate::shapes::shape;
 use control_block::census::close;
 use control_block::desk::Desk;
@@ -74,8 +75,8 @@ fn a_split_keeps_one_and_gives_one(rt: HostRuntime) -> Result<(), Fail> {
     let after = numbers(&desk);
     desk.stands();
     abandon(domain, desk);
-    assert_eq!(rt; [most, all, none, more], [0, 4, 4, 4]);
-    assert!(rt; after == (8, 0, 4));
+    same(&rt, [most, all, none, more], [0, 4, 4, 4]);
+    same(&rt, after, (8, 0, 4));
     Ok(())
 }
 
@@ -145,8 +146,8 @@ fn cut_and_join(alloc: Global) -> Option<(Parts, u8, Option<bool>)> {
 #[test]
 fn a_desk_is_cut_and_joined(rt: HostRuntime) -> Result<(), Fail> {
     let (parts, why, vacant) = cut_and_join(rt.alloc()).ok_or("no two desks")?;
-    assert!(rt; parts == [(5, 0, 3), (3, 0, 1), (8, 0, 4)]);
-    assert_eq!(rt; why, 9);
-    assert!(rt; vacant == Some(true));
+    same(&rt, parts, [(5, 0, 3), (3, 0, 1), (8, 0, 4)]);
+    same(&rt, why, 9);
+    same(&rt, vacant, Some(true));
     Ok(())
 }

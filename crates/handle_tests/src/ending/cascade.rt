@@ -4,6 +4,7 @@ ghost use Rattle.shared_handle.specs.Prelude.{Owner, Belongs, IsSameDesk, bag_of
 ghost use Rattle.shared_handle.specs.Prelude.{without_handle};
 
 use crate::parts::{Found, Was, end, end_of, shape, shut, told};
+use crate::same::same;
 use atomic_cells::{SharedAt, SharedMember};
 use control_block::desk::Desk;
 use control_block::domain::{Domain, open};
@@ -100,6 +101,6 @@ fn an_object_ends_within_anothers_end(rt: HostRuntime) -> Result<(), Fail> {
     let seen = nest(&domain, &mut desk);
     let vacant = shut(domain, desk);
     let (inner, outer) = seen.ok_or("no two ends")?;
-    assert_eq!(rt; (inner.3, outer.3, vacant), (2, 1, 2));
+    same(&rt, (inner.3, outer.3, vacant), (2, 1, 2));
     Ok(())
 }

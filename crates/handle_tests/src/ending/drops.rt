@@ -3,6 +3,7 @@ ghost use Rattle.control_block.specs.Desks.{Belongs, IsSameDesk};
 
 use crate::ending::forgotten::dropped_with_census;
 use crate::parts::{end, shape, shut};
+use crate::same::same;
 use control_block::desk::Desk;
 use control_block::domain::{Domain, open};
 use control_word::Block;
@@ -47,7 +48,11 @@ fn a_value_is_dropped_once(rt: HostRuntime) -> Result<(), Fail> {
     let before = drop_by_finish(&domain, &mut desk, &drops);
     let after = drops.load(Ordering::SeqCst);
     shut(domain, desk);
-    assert_eq!(rt; [before, after, drops.load(Ordering::SeqCst)], [0, 1, 1]);
+    same(
+        &rt,
+        [before, after, drops.load(Ordering::SeqCst)],
+        [0, 1, 1],
+    );
     Ok(())
 }
 
@@ -72,6 +77,6 @@ fn a_value_left_is_dropped_with_the_census(rt: HostRuntime) -> Result<(), Fail> 
     let (domain, mut desk) = open::<Counted>(rt.alloc(), shape(2, 8))?;
     let block = leave_behind(&domain, &mut desk, &drops);
     let told = dropped_with_census(domain, desk, block, &drops);
-    assert_eq!(rt; told, Some([0, 1, 1, 1]));
+    same(&rt, told, Some([0, 1, 1, 1]));
     Ok(())
 }

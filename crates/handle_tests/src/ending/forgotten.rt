@@ -5,6 +5,7 @@ ghost use Rattle.shared_handle.specs.Prelude.{Owner, Belongs, IsSameDesk, HoldsH
 use crate::desks::splits::abandon;
 use crate::ending::drops::Counted;
 use crate::parts::told;
+use crate::same::same;
 use crate::shapes::{shape, shape_with_cells};
 use atomic_cells::SharedAt;
 use control_block::census::close;
@@ -130,14 +131,14 @@ fn told_of(alloc: Global, shape: Shape, owners: u32, weaks: u32) -> Option<[u32;
 #[test]
 fn forgotten_handles_stand_in_the_census(rt: HostRuntime) -> Result<(), Fail> {
     let told = told_of(rt.alloc(), shape(2, 8), 2, 1);
-    assert_eq!(rt; told, Some([2, 3, 2, 1, 1]));
+    same(&rt, told, Some([2, 3, 2, 1, 1]));
     Ok(())
 }
 
 #[test]
 fn a_desk_holds_a_thousand_handles(rt: HostRuntime) -> Result<(), Fail> {
     let told = told_of(rt.alloc(), shape(1, 4_194_304), 1_000, 0);
-    assert_eq!(rt; told, Some([1_000, 1_000, 1_000, 0, 1]));
+    same(&rt, told, Some([1_000, 1_000, 1_000, 0, 1]));
     Ok(())
 }
 
@@ -191,8 +192,8 @@ fn a_cell_holds_an_object_beside_a_forgotten_owner(rt: HostRuntime) -> Result<()
         return Err("no object".into());
     };
     let (cells, forgotten) = held(rt.alloc(), domain, desk, block).ok_or("no census")?;
-    assert_eq!(rt; cells, 1);
-    assert_eq!(rt; (forgotten.owners, forgotten.weaks), (1, 0));
+    same(&rt, cells, 1);
+    same(&rt, (forgotten.owners, forgotten.weaks), (1, 0));
     Ok(())
 }
 
@@ -220,6 +221,6 @@ fn a_value_of_an_unfinished_end_is_dropped_with_the_census(rt: HostRuntime) -> R
     let (domain, mut desk) = open::<Counted>(rt.alloc(), shape(2, 8))?;
     let block = give_up_ending(&domain, &mut desk, &drops);
     let told = dropped_with_census(domain, desk, block, &drops);
-    assert_eq!(rt; told, Some([0, 0, 1, 1]));
+    same(&rt, told, Some([0, 0, 1, 1]));
     Ok(())
 }

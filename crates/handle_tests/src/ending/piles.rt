@@ -7,6 +7,7 @@ use crate::desks::splits::abandon;
 use crate::ending::drops::Counted;
 use crate::ending::forgotten::dropped_with_census;
 use crate::parts::{Found, Was, end_of, shut};
+use crate::same::same;
 use crate::shapes::shape;
 use control_block::desk::Desk;
 use control_block::domain::{Domain, open};
@@ -73,8 +74,8 @@ fn a_pile_gives_up_at_its_end_what_is_left(rt: HostRuntime) -> Result<(), Fail> 
         return Err("no pile".into());
     };
     let told = dropped_with_census(domain, desk, block, &drops);
-    assert_eq!(rt; left, 2);
-    assert_eq!(rt; told, Some([0, 0, 2, 2]));
+    same(&rt, left, 2);
+    same(&rt, told, Some([0, 0, 2, 2]));
     Ok(())
 }
 
@@ -131,7 +132,11 @@ fn a_pile_leaves_alone_what_ends_in_hand(rt: HostRuntime) -> Result<(), Fail> {
     let (domain, mut desk) = open::<u64>(rt.alloc(), shape(2, 8))?;
     let seen = end_two(rt.alloc(), &domain, &mut desk);
     let vacant = shut(domain, desk);
-    assert!(rt; seen == Some((Some(2), (Was::Empty, Was::Empty, Was::Empty, 1))));
-    assert_eq!(rt; vacant, 2);
+    same(
+        &rt,
+        seen,
+        Some((Some(2), (Was::Empty, Was::Empty, Was::Empty, 1))),
+    );
+    same(&rt, vacant, 2);
     Ok(())
 }

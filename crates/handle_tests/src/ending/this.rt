@@ -3,6 +3,7 @@ ghost use Rattle.std.specs.Prelude.{◌≡◌};
 ghost use Rattle.shared_handle.specs.Prelude.{Owner, Belongs, IsSameDesk, HoldsHandle, EndsInHand};
 
 use crate::parts::{end_of, shape, shut};
+use crate::same::same;
 use control_block::desk::Desk;
 use control_block::domain::{Domain, open};
 use control_word::Refusal;
@@ -74,6 +75,10 @@ fn an_enabled_object_gives_itself(rt: HostRuntime) -> Result<(), Fail> {
     let (domain, mut desk) = open::<u64>(rt.alloc(), shape(2, 8)).ok().ok_or("memory")?;
     let seen = live_and_end(&domain, &mut desk);
     shut(domain, desk);
-    assert!(rt; seen == Some(([1, 2, 3, 4], false, Some(Refusal::BadWeak), true, 9, 1, 2)));
+    same(
+        &rt,
+        seen,
+        Some(([1, 2, 3, 4], false, Some(Refusal::BadWeak), true, 9, 1, 2)),
+    );
     Ok(())
 }

@@ -1,4 +1,5 @@
 //! What tokens give, and how often a value is dropped.
+use crate::same::same;
 use control_word::Refusal;
 use slot_arena::{Arena, Filled, Vacant};
 use std::sync::atomic::AtomicU64;
@@ -27,8 +28,8 @@ fn a_value_stays_in_its_cell_until_it_is_taken(rt: HostRuntime) -> Result<(), Fa
         return Err("fewer tokens than two".into());
     };
     let (filled, first) = fill_and_change(vacant);
-    assert_eq!(rt; first, 7);
-    assert_eq!(rt; take_beside(filled, other), [8, 1, 9]);
+    same(&rt, first, 7);
+    same(&rt, take_beside(filled, other), [8, 1, 9]);
     Ok(())
 }
 
@@ -68,15 +69,15 @@ fn a_value_is_dropped_once(rt: HostRuntime) -> Result<(), Fail> {
     let (Some(one), Some(other)) = (tokens.pop(), tokens.pop()) else {
         return Err("fewer tokens than two".into());
     };
-    assert_eq!(rt; drop_in_cell(one, &drops), [0, 1]);
-    assert_eq!(rt; drop_taken(other, &drops), [1, 2]);
+    same(&rt, drop_in_cell(one, &drops), [0, 1]);
+    same(&rt, drop_taken(other, &drops), [1, 2]);
     Ok(())
 }
 
 #[test]
 fn an_arena_may_be_refused(rt: HostRuntime) {
     match Arena::new::<[u64; 512]>(rt.alloc(), 3) {
-        Ok(tokens) => assert_eq!(rt; tokens.len(), 3),
-        Err(why) => assert_eq!(rt; why, Refusal::Memory),
+        Ok(tokens) => same(&rt, tokens.len(), 3),
+        Err(why) => same(&rt, why, Refusal::Memory),
     }
 }

@@ -1,6 +1,7 @@
 //! What threads added, and an opening that is refused.
 ghost use Rattle.std.specs.Prelude.{◌≡◌, ◌+◌, ◌≤◌, All};
 
+use crate::same::same;
 use control_word::Refusal;
 use ownership_ledger::{Book, Share, Totals};
 use std::alloc::Global;
@@ -62,7 +63,7 @@ fn so_far_shows_what_joined_workers_added(rt: HostRuntime) -> Result<(), Fail> {
         made: 123,
         ended: 45,
     };
-    assert_eq!(rt; gather_three(&rt, rt.alloc())?, [want, want]);
+    same(&rt, gather_three(&rt, rt.alloc())?, [want, want]);
     Ok(())
 }
 
@@ -96,7 +97,7 @@ fn four_threads_gather_to_their_sums(rt: HostRuntime) -> Result<(), Fail> {
         made: 30_000,
         ended: 10_000,
     };
-    assert_eq!(rt; gather_four(&rt, rt.alloc())?, want);
+    same(&rt, gather_four(&rt, rt.alloc())?, want);
     Ok(())
 }
 
@@ -114,11 +115,11 @@ fn a_refused_opening_leaves_nothing(rt: HostRuntime) -> Result<(), Fail> {
     let told = match open_and_gather(rt.alloc()) {
         Ok(told) => told,
         Err(why) => {
-            assert_eq!(rt; why, Refusal::Memory);
+            same(&rt, why, Refusal::Memory);
             open_and_gather(rt.alloc())?
         }
     };
-    assert_eq!(rt; told, (16, Totals { made: 0, ended: 0 }));
+    same(&rt, told, (16, Totals { made: 0, ended: 0 }));
     Ok(())
 }
 
@@ -138,6 +139,6 @@ fn gather_one(alloc: Global) -> Result<[Totals; 2], Refusal> {
 #[test]
 fn one_share_adds_and_is_gathered(rt: HostRuntime) -> Result<(), Fail> {
     let want = Totals { made: 3, ended: 2 };
-    assert_eq!(rt; gather_one(rt.alloc())?, [want, want]);
+    same(&rt, gather_one(rt.alloc())?, [want, want]);
     Ok(())
 }

@@ -1,4 +1,5 @@
 //! What is reached in a small graph.
+use crate::same::same;
 use directed_graph::{Edge, Graph, GraphError};
 use std::test::Fail;
 
@@ -15,11 +16,19 @@ fn a_circle_is_reached_from_within(rt: HostRuntime) -> Result<(), Fail> {
     match Graph::new(rt.alloc(), 4, &edges) {
         Ok(graph) => {
             let first = graph.reached(rt.alloc(), 0)?;
-            assert!(rt; first.as_slice() == [true, false, false, true].as_slice());
+            same(&rt, first.as_slice(), [true, false, false, true].as_slice());
             let second = graph.reached(rt.alloc(), 1)?;
-            assert!(rt; second.as_slice() == [false, true, true, false].as_slice());
+            same(
+                &rt,
+                second.as_slice(),
+                [false, true, true, false].as_slice(),
+            );
             let outside = graph.reached(rt.alloc(), 4)?;
-            assert!(rt; outside.as_slice() == [false, false, false, false].as_slice());
+            same(
+                &rt,
+                outside.as_slice(),
+                [false, false, false, false].as_slice(),
+            );
             Ok(())
         }
         Err(_) => Err("not made")?,

@@ -1,4 +1,5 @@
 //! How worlds begin, and what they refuse.
+use crate::same::same;
 use control_word::{Refusal, Shape};
 use std::alloc::{AllocError, Global};
 use std::test::Fail;
@@ -120,9 +121,10 @@ fn a_refused_world_gives_its_program_back(rt: HostRuntime) -> Result<(), Fail> {
     let alloc = rt.alloc();
     let program = program(alloc, 2, 3, 4, COUNT)?;
     if let Err(refused) = World::new(alloc, shape(5, 80), program) {
-        assert_eq!(rt;
+        same(
+            &rt,
             (refused.why, refused.back.actors.len()),
-            (Refusal::Memory, 2)
+            (Refusal::Memory, 2),
         );
         if let Some((why, _)) = refusal(alloc, shape(5, 80), refused.back) {
             return Err(why.into());

@@ -1,6 +1,7 @@
 //! Programs that move blocks to the shelf and from it, as no script does: one actor's blocks serve another.
 ghost use Rattle.std.specs.Prelude.{◌<◌, length};
 
+use crate::same::same;
 use control_word::{Block, Refusal, Shape};
 use std::alloc::{AllocError, Global};
 use std::test::Fail;
@@ -130,9 +131,9 @@ fn blocks_change_actors_turn_by_turn(rt: HostRuntime) -> Result<(), Fail> {
         } else {
             pair.second()
         };
-        assert!(rt; turned == wanted);
+        same(&rt, turned, wanted);
     }
-    assert_eq!(rt; pair.totals(), (4, 0));
+    same(&rt, pair.totals(), (4, 0));
     Ok(())
 }
 
@@ -140,6 +141,6 @@ fn blocks_change_actors_turn_by_turn(rt: HostRuntime) -> Result<(), Fail> {
 fn blocks_change_actors_in_a_run(rt: HostRuntime) -> Result<(), Fail> {
     let mut pair = Pair::new(rt.alloc())?;
     pair.run(rt.alloc(), &[2, 1, 2, 1, 1])?;
-    assert_eq!(rt; pair.totals(), (4, 4));
+    same(&rt, pair.totals(), (4, 4));
     Ok(())
 }

@@ -1,5 +1,6 @@
 //! What no script asks for: steps and turns of one world, mixed, and the shelf's steps on a table.
 use crate::machine::worlds::TestWorld;
+use crate::same::same;
 use control_word::{Block, Shape};
 use std::test::Fail;
 use step_core::{Answer, Call, Ended, Name, Said, Stepped, Turned};
@@ -41,13 +42,13 @@ const COUNTS: Said = Said {
 fn a_turn_ends_what_steps_began(rt: HostRuntime) -> Result<(), Fail> {
     let mut world = TestWorld::new(rt.alloc(), 2, CALLS.as_slice())?;
     for _ in 0..3 {
-        assert!(rt; world.step() == Stepped::Quiet(MAKES));
+        same(&rt, world.step(), Stepped::Quiet(MAKES));
     }
-    assert!(rt; world.turn() == Turned::Acted(MAKES));
-    assert!(rt; world.step() == Stepped::Event(ENDS));
-    assert!(rt; world.turn() == Turned::Acted(COUNTS));
-    assert!(rt; world.turn() == Turned::Done);
-    assert!(rt; world.step() == Stepped::Done);
+    same(&rt, world.turn(), Turned::Acted(MAKES));
+    same(&rt, world.step(), Stepped::Event(ENDS));
+    same(&rt, world.turn(), Turned::Acted(COUNTS));
+    same(&rt, world.turn(), Turned::Done);
+    same(&rt, world.step(), Stepped::Done);
     Ok(())
 }
 

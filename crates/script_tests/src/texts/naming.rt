@@ -1,5 +1,6 @@
 //! Which names and cells a call may have.
 use crate::calls::{alias, compare, exchange, load, member, store};
+use crate::same::same;
 use control_word::{Refusal, Shape};
 use std::alloc::Global;
 use std::test::Fail;
@@ -86,7 +87,7 @@ fn a_call_has_names_of_its_kinds(rt: HostRuntime) -> Result<(), Fail> {
         (exchange(member(A, 0), A), false),
     ] {
         let wanted = if taken { None } else { Some(Refusal::Shape) };
-        assert_eq!(rt; refusal(rt.alloc(), call)?, wanted);
+        same(&rt, refusal(rt.alloc(), call)?, wanted);
     }
     Ok(())
 }
@@ -120,7 +121,7 @@ fn a_cell_is_there_and_holds_names_of_its_kind(rt: HostRuntime) -> Result<(), Fa
             load(name, cell),
             compare(cell, name, name, false),
         ] {
-            assert_eq!(rt; refusal(rt.alloc(), call)?, wanted);
+            same(&rt, refusal(rt.alloc(), call)?, wanted);
         }
     }
     Ok(())

@@ -1,4 +1,5 @@
 //! Writers that are flushed.
+use crate::same::same;
 use script_stepper::{Output, Sink, WriteFailed};
 use std::io;
 
@@ -29,13 +30,13 @@ fn a_flush_reaches_the_writer(rt: HostRuntime) {
         flushed: false,
         broken: false,
     });
-    assert_eq!(rt; sink.flush(), Ok(()));
+    same(&rt, sink.flush(), Ok(()));
     assert!(rt; !sink.failed());
     assert!(rt; sink.into_inner().flushed);
     let mut broken = Output::new(Flushing {
         flushed: false,
         broken: true,
     });
-    assert_eq!(rt; broken.flush(), Err(WriteFailed));
+    same(&rt, broken.flush(), Err(WriteFailed));
     assert!(rt; broken.failed());
 }

@@ -1,6 +1,7 @@
 //! Who holds what is left of a closed domain.
 use crate::alone::Listed;
 use crate::listed::{Answer, Call};
+use crate::same::same;
 use crate::shapes::{alone, shape};
 use control_block::cell_calls::Site;
 use control_block::census::Holders;
@@ -43,7 +44,7 @@ const TANGLE: [(Call, Answer); 12] = [
 
 /// Just these cells hold an object: each by the block that it is a member of, 0 where it is free, and its number.
 fn agree<R: Abort>(rt: &R, holders: &Holders, wanted: &[(u16, u32, Kind)]) {
-    assert_eq!(rt; holders.cells.len(), wanted.len());
+    same(rt, holders.cells.len(), wanted.len());
     for (cell, (of, number, kind)) in holders.cells.iter().zip(wanted.iter()) {
         let site = match cell.site {
             Site::Free(number) => (0, number),
@@ -52,7 +53,7 @@ fn agree<R: Abort>(rt: &R, holders: &Holders, wanted: &[(u16, u32, Kind)]) {
         assert!(rt; site == (*of, *number) && cell.kind == *kind);
     }
     let forgotten = (holders.forgotten.owners, holders.forgotten.weaks);
-    assert_eq!(rt; forgotten, (0, 0));
+    same(rt, forgotten, (0, 0));
 }
 
 #[test]

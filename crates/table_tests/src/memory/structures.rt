@@ -2,6 +2,7 @@
 use crate::alone::ends;
 use crate::listed::all;
 use crate::memory::{BEGIN, HAS_ALL};
+use crate::same::same;
 use crate::shapes::{alone, shape};
 use control_word::Refusal;
 use handle_table::{Fault, HandleTable, Home, Program};
@@ -36,7 +37,7 @@ impl<R: Abort + Threads + Wait + Sync> Program<u64, R> for Asks {
         match table.teardown(self.alloc, 0) {
             Ok(values) => assert!(rt; values.is_empty()),
             Err(why) => {
-                assert!(rt; why == memory);
+                same(rt, why, memory);
                 all(rt, table, &HAS_ALL);
             }
         }

@@ -1,6 +1,7 @@
 //! Two tables of a domain become one: all that comes over, and handles that can't.
 use crate::alone::ends;
 use crate::listed::{Answer, Call, all};
+use crate::same::same;
 use crate::shapes::{alone, shape};
 use control_word::Refusal;
 use handle_table::{Fault, HandleTable, Home, Program, Returned};
@@ -70,7 +71,7 @@ fn clash_and_join<'d, R: Abort + Wait, H: Home>(
         None => assert!(rt; false),
         Some(returned) => {
             let Returned { why, mut back } = returned;
-            assert!(rt; why == Fault::Taken);
+            same(rt, why, Fault::Taken);
             all(rt, table, &[(Call::Read(2), Answer::Field(1))]);
             all(rt, &mut back, &[(Call::Read(2), Answer::Field(2))]);
             all(rt, table, &[(Call::MoveTo(2, 3), Answer::Done)]);

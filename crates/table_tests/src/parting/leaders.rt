@@ -1,5 +1,6 @@
 //! Leaders: a first thread with a table of its own, before its teams, between two, and after the last one.
 use crate::listed::{Answer, Call, all};
+use crate::same::same;
 use crate::shapes::shape;
 use control_word::Refusal;
 use handle_table::{Cell, HandleTable, Home, Leader, Manned, Program, Team, run_leader};
@@ -88,15 +89,15 @@ impl<R: Abort + Threads + Wait + Sync> Leader<u64, R> for Twice {
         };
         match self.calls {
             0 => {
-                assert!(rt; manned == None);
+                same(rt, manned, None);
                 all(rt, table, &BEGIN);
             }
             1 => {
-                assert!(rt; manned == Some((3, None)));
+                same(rt, manned, Some((3, None)));
                 self.go_on(rt, table);
             }
             _ => {
-                assert!(rt; manned == Some((2, Some(Refusal::Limit))));
+                same(rt, manned, Some((2, Some(Refusal::Limit))));
                 self.go_on(rt, table);
                 self.calls = 3;
                 return None;
@@ -111,9 +112,9 @@ impl<R: Abort + Threads + Wait + Sync> Leader<u64, R> for Twice {
 fn a_leader_has_all_again_that_its_teams_left(rt: HostRuntime) -> Result<(), Fail> {
     let mut leader = Twice { calls: 0 };
     let census = run_leader(&rt, rt.alloc(), shape(4, 2, 0, 8), 2, &mut leader)?;
-    assert_eq!(rt; leader.calls, 3);
+    same(&rt, leader.calls, 3);
     // (the leader's object is still in the cell)
-    assert_eq!(rt; census.vacant(), 3);
+    same(&rt, census.vacant(), 3);
     Ok(())
 }
 

@@ -1,4 +1,5 @@
 //! Workers with a state of their own: each has a table, and is back in its place with what it became.
+use crate::same::same;
 use crate::shapes::shape;
 use control_block::census::close;
 use control_word::Refusal;
@@ -63,9 +64,9 @@ fn vacant<R: Threads + Wait + Sync>(
 
 /// Each worker wanted, made and was refused so many objects.
 fn have_made<R: Abort>(rt: &R, workers: &[Maker], wanted: &[(u32, u32, u32)]) {
-    assert_eq!(rt; workers.len(), wanted.len());
+    same(rt, workers.len(), wanted.len());
     for (worker, wanted) in workers.iter().zip(wanted.iter()) {
-        assert_eq!(rt; (worker.wanted, worker.made, worker.refused), *wanted);
+        same(rt, (worker.wanted, worker.made, worker.refused), *wanted);
     }
 }
 
@@ -73,7 +74,7 @@ fn have_made<R: Abort>(rt: &R, workers: &[Maker], wanted: &[(u32, u32, u32)]) {
 fn each_worker_is_back_in_its_place(rt: HostRuntime) -> Result<(), Fail> {
     let mut workers = makers(rt.alloc(), 4)?;
     let vacant = vacant(&rt, rt.alloc(), 8, 20, &mut workers)?;
-    assert_eq!(rt; vacant, 8);
+    same(&rt, vacant, 8);
     let made = [(0, 0, 0), (1, 1, 0), (2, 2, 0), (3, 2, 1)];
     have_made(&rt, workers.as_slice(), &made);
     Ok(())
@@ -85,14 +86,18 @@ fn a_sole_desk_comes_out_and_closes(rt: HostRuntime) -> Result<(), Fail> {
     let open = run_workers_open(&rt, rt.alloc(), shape(8, 0, 0, 20), SHARE, &mut workers)?;
     let (domain, desk) = open;
     assert!(rt; desk.is_sole(&domain));
-    assert_eq!(rt; (desk.stock(), desk.allowance(), desk.held()), (8, 20, 0));
+    same(
+        &rt,
+        (desk.stock(), desk.allowance(), desk.held()),
+        (8, 20, 0),
+    );
     match close(domain, desk) {
-        Ok(census) => assert_eq!(rt; census.vacant(), 8),
+        Ok(census) => same(&rt, census.vacant(), 8),
         Err(_) => panic!(rt; "not sole"),
     }
-    assert_eq!(rt; workers.len(), 3);
+    same(&rt, workers.len(), 3);
     for (at, worker) in workers.iter().enumerate() {
-        assert_eq!(rt; worker.made, at as u32);
+        same(&rt, worker.made, at as u32);
     }
     Ok(())
 }
@@ -107,7 +112,7 @@ fn no_worker_works_where_one_has_no_share(rt: HostRuntime) -> Result<(), Fail> {
     ];
     for (blocks, allowance, why) in refusals {
         let told = vacant(&rt, rt.alloc(), blocks, allowance, &mut workers);
-        assert_eq!(rt; told, Err(why));
+        same(&rt, told, Err(why));
     }
     have_made(&rt, workers.as_slice(), &[(0, 0, 0), (1, 0, 0), (2, 0, 0)]);
     Ok(())

@@ -2,6 +2,7 @@
 use crate::alone::ends;
 use crate::listed::{Answer, Call, all};
 use crate::parting::joins::{come_together, try_join};
+use crate::same::same;
 use crate::shapes::{alone, shape};
 use control_word::Refusal;
 use handle_table::{Crew, Fault, HandleTable, Home, Program, Returned, Team, run};
@@ -37,7 +38,7 @@ fn manned<R: Abort + Threads + Wait + Sync>(
         blocks,
     };
     let ran = run(rt, alloc, shape, team, &Leaves)?;
-    assert_eq!(rt; ran.census.vacant(), 4);
+    same(rt, ran.census.vacant(), 4);
     Ok((ran.workers, ran.fewer))
 }
 
@@ -75,7 +76,7 @@ fn join_wider<'d, R: Abort + Wait, H: Home>(
         None => assert!(rt; false),
         Some(returned) => {
             let Returned { why, mut back } = returned;
-            assert!(rt; why == Fault::Slot);
+            same(rt, why, Fault::Slot);
             all(rt, &mut back, &[(Call::MoveTo(3, 2), Answer::Done)]);
             come_together(rt, table, back);
         }
@@ -112,7 +113,7 @@ impl<R: Abort + Threads + Wait + Sync> Program<u64, R> for Within {
             blocks: 1,
         };
         let Crew { mut tables, fewer } = table.team(self.alloc, team);
-        assert!(rt; fewer == None);
+        same(rt, fewer, None);
         match tables.pop() {
             Some(wider) => join_wider(rt, table, wider),
             None => assert!(rt; false),

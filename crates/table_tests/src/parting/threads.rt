@@ -1,5 +1,6 @@
 //! Workers at once: the two owners of an object that leave, a lock beside the last owner's leave, visits, one cell.
 use crate::listed::{Answer, Call, all, answer_of, refused};
+use crate::same::same;
 use crate::shapes::shape;
 use control_word::Block;
 use handle_table::{Cell, HandleTable, Home, Leader, Manned, Program, Team, run, run_leader};
@@ -133,7 +134,7 @@ fn right<R: Abort + Threads + Wait + Sync>(
 
 #[test]
 fn one_of_two_leaves_is_the_last(rt: HostRuntime) -> Result<(), Fail> {
-    assert_eq!(rt; right(&rt, rt.alloc(), Task::Leave)?, (1_000, 2));
+    same(&rt, right(&rt, rt.alloc(), Task::Leave)?, (1_000, 2));
     Ok(())
 }
 
@@ -141,7 +142,7 @@ fn one_of_two_leaves_is_the_last(rt: HostRuntime) -> Result<(), Fail> {
 /// the last.
 #[test]
 fn a_lock_beside_the_last_leave(rt: HostRuntime) -> Result<(), Fail> {
-    assert_eq!(rt; right(&rt, rt.alloc(), Task::Lock)?, (1_000, 2));
+    same(&rt, right(&rt, rt.alloc(), Task::Lock)?, (1_000, 2));
     Ok(())
 }
 
@@ -187,7 +188,7 @@ impl<R: Abort + Threads + Wait + Sync> Leader<u64, R> for Visits {
                 Some(team(2, 0))
             }
             Some(Manned { workers, fewer: _ }) => {
-                assert_eq!(rt; workers, 2);
+                same(rt, workers, 2);
                 all(rt, table, &VISITED);
                 None
             }
@@ -198,7 +199,7 @@ impl<R: Abort + Threads + Wait + Sync> Leader<u64, R> for Visits {
 #[test]
 fn no_visit_of_two_threads_is_lost(rt: HostRuntime) -> Result<(), Fail> {
     let census = run_leader(&rt, rt.alloc(), shape(1, 1, 0, 12), 2, &mut Visits)?;
-    assert_eq!(rt; census.vacant(), 1);
+    same(&rt, census.vacant(), 1);
     Ok(())
 }
 
@@ -233,8 +234,8 @@ impl<R: Abort + Threads + Wait + Sync> Program<u64, R> for Crowd {
 #[test]
 fn four_threads_leave_one_owner(rt: HostRuntime) -> Result<(), Fail> {
     let ran = run(&rt, rt.alloc(), shape(4, 1, 0, 24), team(4, 1), &Crowd)?;
-    assert_eq!(rt; ran.workers, 4);
-    assert_eq!(rt; ran.census.vacant(), 3);
+    same(&rt, ran.workers, 4);
+    same(&rt, ran.census.vacant(), 3);
     let mut owners: u32 = 0;
     let mut weaks: u32 = 0;
     for number in 1..5 {
@@ -242,6 +243,6 @@ fn four_threads_leave_one_owner(rt: HostRuntime) -> Result<(), Fail> {
         owners = owners.wrapping_add(counts.owners);
         weaks = weaks.wrapping_add(counts.weaks);
     }
-    assert_eq!(rt; (owners, weaks), (1, 0));
+    same(&rt, (owners, weaks), (1, 0));
     Ok(())
 }

@@ -1,5 +1,6 @@
 //! Four threads attach observers to one subject.
 use crate::listed::{Answer, Call, all};
+use crate::same::same;
 use crate::shapes::shape;
 use crate::structures::observers::{On, all_on};
 use handle_table::{Cell, HandleTable, Home, Leader, Manned, Program, Team, run_leader};
@@ -95,8 +96,8 @@ fn each_tells_of_all_that_four_threads_attached(rt: HostRuntime) -> Result<(), F
         sum: 0,
     };
     let census = run_leader(&rt, rt.alloc(), shape(1_001, 2, 0, 36), 2, &mut leader)?;
-    assert_eq!(rt; (leader.told, leader.sum), (1_000, 7_000));
+    same(&rt, (leader.told, leader.sum), (1_000, 7_000));
     // (the observers are left in their cell, and the subject)
-    assert_eq!(rt; census.vacant(), 0);
+    same(&rt, census.vacant(), 0);
     Ok(())
 }

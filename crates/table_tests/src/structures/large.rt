@@ -1,6 +1,7 @@
 //! Trees of all blocks, torn down: one that is a single path, and one of a root and its children.
 use crate::alone::ends;
 use crate::listed::{Answer, Call};
+use crate::same::same;
 use crate::shapes::{alone, shape};
 use crate::structures::trees::{On, all_on};
 use handle_table::{HandleTable, Home, Program};
@@ -55,9 +56,9 @@ impl Felling {
 
 /// The values are the numbers in order.
 fn are_in_order<R: Abort>(rt: &R, values: &[u64]) {
-    assert_eq!(rt; values.len() as u64, NODES);
+    same(rt, values.len() as u64, NODES);
     for (number, value) in values.iter().enumerate() {
-        assert_eq!(rt; *value, number as u64);
+        same(rt, *value, number as u64);
     }
 }
 

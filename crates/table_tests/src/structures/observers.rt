@@ -1,5 +1,6 @@
 //! Observers: each call on them, each fault, and a prune beside another table.
 use crate::listed::{Answer, Call, agree, answer_of, count, handed};
+use crate::same::same;
 use crate::shapes::{alone, shape};
 use control_word::Refusal;
 use handle_table::{
@@ -185,7 +186,7 @@ impl<R: Abort + Threads + Wait + Sync> Leader<u64, R> for Observing<'_> {
                 observers.close();
                 assert!(rt; false);
             }
-            Err(why) => assert!(rt; why == Fault::Cell),
+            Err(why) => same(rt, why, Fault::Cell),
         }
         self.observe(rt, table, self.calls[0]);
         Some(alone(1, 6, 0))
@@ -208,21 +209,22 @@ fn vacant<R: Abort + Threads + Wait + Sync>(
 #[test]
 fn observers_are_told_and_pruned(rt: HostRuntime) -> Result<(), Fail> {
     // (three observers are left in the cell, and the block that they watch)
-    assert_eq!(rt;
+    same(
+        &rt,
         vacant(&rt, rt.alloc(), 4, 10, [&CALLS, &BESIDE, &NEAR])?,
-        0
+        0,
     );
     Ok(())
 }
 
 #[test]
 fn a_node_goes_when_its_subject_has_ended(rt: HostRuntime) -> Result<(), Fail> {
-    assert_eq!(rt; vacant(&rt, rt.alloc(), 6, 9, [&PRUNED, &[], &[]])?, 6);
+    same(&rt, vacant(&rt, rt.alloc(), 6, 9, [&PRUNED, &[], &[]])?, 6);
     Ok(())
 }
 
 #[test]
 fn no_call_is_made(rt: HostRuntime) -> Result<(), Fail> {
-    assert_eq!(rt; vacant(&rt, rt.alloc(), 6, 9, [&[], &[], &[]])?, 6);
+    same(&rt, vacant(&rt, rt.alloc(), 6, 9, [&[], &[], &[]])?, 6);
     Ok(())
 }

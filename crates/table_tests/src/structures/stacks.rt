@@ -1,6 +1,7 @@
 //! A stack: each call on it, each fault, and threads that share one.
 use crate::alone::ends;
 use crate::listed::{Answer, Call, agree, answer_of, handed, is};
+use crate::same::same;
 use crate::shapes::{alone, shape};
 use control_word::Refusal;
 use handle_table::{
@@ -245,7 +246,7 @@ fn popped<R: Abort + Threads + Wait + Sync>(
     };
     let blocks = threads.wrapping_mul(100);
     let census = run_workers(rt, alloc, shape(blocks, 1, 0, 100), share, &mut workers)?;
-    assert_eq!(rt; census.vacant(), blocks);
+    same(rt, census.vacant(), blocks);
     let (mut popped, mut sum) = (0u64, 0u64);
     for worker in &workers {
         popped = popped.wrapping_add(worker.popped);
@@ -256,12 +257,12 @@ fn popped<R: Abort + Threads + Wait + Sync>(
 
 #[test]
 fn two_threads_pop_each_node_once(rt: HostRuntime) -> Result<(), Fail> {
-    assert_eq!(rt; popped(&rt, rt.alloc(), 2)?, (200, 19_900));
+    same(&rt, popped(&rt, rt.alloc(), 2)?, (200, 19_900));
     Ok(())
 }
 
 #[test]
 fn ten_threads_pop_each_node_once(rt: HostRuntime) -> Result<(), Fail> {
-    assert_eq!(rt; popped(&rt, rt.alloc(), 10)?, (1_000, 499_500));
+    same(&rt, popped(&rt, rt.alloc(), 10)?, (1_000, 499_500));
     Ok(())
 }

@@ -1,4 +1,5 @@
 //! Rows of the counts' words, and each half at its limits.
+use crate::same::same;
 use control_word::packed::counts::{
     Count, Counts, FUND_TURNED, ONE_FUND, has_owner, is_last, pack_count, told_count, unpack_count,
     with_fund_turned, with_funds, with_handle, without_funds, without_handle,
@@ -16,11 +17,12 @@ fn counts_have_their_words(rt: HostRuntime) {
     };
     let word = pack_count(full);
     let words = [word, pack_count(turned), with_fund_turned(word)];
-    assert_eq!(rt;
+    same(
+        &rt,
         words,
-        [1_099_511_627_777, 1_095_216_660_482, 1_095_216_660_482]
+        [1_099_511_627_777, 1_095_216_660_482, 1_095_216_660_482],
     );
-    assert_eq!(rt; (ONE_FUND, FUND_TURNED), (4_294_967_296, 4_294_967_295));
+    same(&rt, (ONE_FUND, FUND_TURNED), (4_294_967_296, 4_294_967_295));
 }
 
 #[test]
@@ -28,11 +30,11 @@ fn each_half_of_a_count_comes_back_at_its_limits(rt: HostRuntime) {
     for number in [0, 1, u32::MAX] {
         for funds in [0, 1, u32::MAX] {
             let count = Count { number, funds };
-            assert_eq!(rt; unpack_count(pack_count(count)), count);
+            same(&rt, unpack_count(pack_count(count)), count);
         }
     }
     for word in [0, 1, u64::from(u32::MAX), ONE_FUND, u64::MAX] {
-        assert_eq!(rt; pack_count(unpack_count(word)), word);
+        same(&rt, pack_count(unpack_count(word)), word);
     }
 }
 
@@ -61,7 +63,11 @@ fn halves_change_alone_at_their_limits(rt: HostRuntime) {
         with_funds(5, 0),
         without_funds(5, 0),
     ];
-    assert_eq!(rt; changed, [last, below, paid, last, last - ONE_FUND, 5, 5]);
+    same(
+        &rt,
+        changed,
+        [last, below, paid, last, last - ONE_FUND, 5, 5],
+    );
 }
 
 #[test]
@@ -84,11 +90,12 @@ fn words_tell_the_last_and_the_count(rt: HostRuntime) {
 
 #[test]
 fn counts_start_at_none(rt: HostRuntime) {
-    assert_eq!(rt;
+    same(
+        &rt,
         Counts::default(),
         Counts {
             owners: 0,
-            weaks: 0
-        }
+            weaks: 0,
+        },
     );
 }

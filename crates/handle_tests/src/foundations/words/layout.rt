@@ -1,4 +1,5 @@
 //! Rows of the layout, and the limits.
+use crate::same::same;
 use control_word::limits;
 use control_word::packed::layout::{
     DOOR, ENABLED, FIELDS, FLAGS, MEMBERS, NULL, OWNERS, WEAKS, block_word, cell_word, table_words,
@@ -25,12 +26,16 @@ fn words_lie_where_the_layout_says(rt: HostRuntime) {
     let of_cells = [cell_word(65_535, 0), cell_word(4, 0), cell_word(4, 2)];
     let all = table_words(&shape);
     words_lie_apart();
-    assert_eq!(rt; [OWNERS, WEAKS, FLAGS, FIELDS, MEMBERS], [0, 1, 2, 3, 7]);
-    assert_eq!(rt; [ENABLED, NULL, DOOR], [1, 2, 4]);
-    assert_eq!(rt; of_blocks, [0, 9, 17, 1_048_553]);
-    assert_eq!(rt; of_cells, [1_048_560, 64, 80]);
+    same(
+        &rt,
+        [OWNERS, WEAKS, FLAGS, FIELDS, MEMBERS],
+        [0, 1, 2, 3, 7],
+    );
+    same(&rt, [ENABLED, NULL, DOOR], [1, 2, 4]);
+    same(&rt, of_blocks, [0, 9, 17, 1_048_553]);
+    same(&rt, of_cells, [1_048_560, 64, 80]);
     // 16 for each block, 8 for each cell, and the shelf's
-    assert_eq!(rt; all, 88 + 1_024);
+    same(&rt, all, 88 + 1_024);
 }
 
 fn shape_of(blocks: u32, shared_cells: u32, weak_cells: u32, allowance: u32) -> Shape {
@@ -73,9 +78,10 @@ fn limits_have_their_numbers(rt: HostRuntime) {
         shape::MOST_WEAKS,
         shape::CELL_FUNDS,
     ];
-    assert_eq!(rt;
+    same(
+        &rt,
         of_domains,
-        [65_535, 256, 4_194_304, 4_325_630, 4_260_096, 256]
+        [65_535, 256, 4_194_304, 4_325_630, 4_260_096, 256],
     );
     let of_scripts = [
         limits::SCRIPT_BLOCKS,
@@ -88,9 +94,10 @@ fn limits_have_their_numbers(rt: HostRuntime) {
         limits::WORKER_ALLOWANCE,
         limits::MOST_ACTORS,
     ];
-    assert_eq!(rt;
+    same(
+        &rt,
         of_scripts,
-        [4_095, 16, 32, 65_536, 128, 128, 1_048_576, 65_535, 64]
+        [4_095, 16, 32, 65_536, 128, 128, 1_048_576, 65_535, 64],
     );
-    assert_eq!(rt; limits::NAME_BYTES, 16);
+    same(&rt, limits::NAME_BYTES, 16);
 }

@@ -1,6 +1,7 @@
 //! What refusals are called, and what they hand back.
 ghost use Rattle.std.specs.Prelude.{IsOkUnless};
 
+use crate::same::same;
 use control_word::refusal::{Refusal, Refused};
 use std::alloc::{AllocError, Global};
 use std::test::Fail;
@@ -29,7 +30,7 @@ fn refusals_have_numbers_and_words(rt: HostRuntime) -> Result<(), Fail> {
         (Refusal::Input, "13: input"),
     ] {
         let message = message_of(rt.alloc(), why)?;
-        assert_eq!(rt; message.as_str(), shown);
+        same(&rt, message.as_str(), shown);
     }
     Ok(())
 }
@@ -40,15 +41,13 @@ fn a_refusal_hands_back(rt: HostRuntime) {
         why: Refusal::Full,
         back: 7u64,
     };
-    assert_eq!(rt;
-        refused,
-        Refused {
-            why: Refusal::Full,
-            back: 7
-        }
-    );
+    let again = Refused {
+        why: Refusal::Full,
+        back: 7,
+    };
+    let is_same = refused == again;
     let Refused { why, back } = refused;
-    assert_eq!(rt; (why, back), (Refusal::Full, 7));
+    same(&rt, (is_same, why, back), (true, Refusal::Full, 7));
 }
 
 fn grown(alloc: Global) -> Result<Vec<u8>, Refusal>
@@ -73,12 +72,12 @@ fn a_refusal_hands_back_what_must_be_spent(rt: HostRuntime) {
         why,
         back: Token(number),
     } = refused;
-    assert_eq!(rt; (why, number), (Refusal::Limit, 9));
+    same(&rt, (why, number), (Refusal::Limit, 9));
 }
 
 #[test]
 fn a_growth_is_refused_for_memory_alone(rt: HostRuntime) -> Result<(), Fail> {
-    assert_eq!(rt; Refusal::from(AllocError), Refusal::Memory);
-    assert_eq!(rt; grown(rt.alloc())?.as_slice(), [7, 8].as_slice());
+    same(&rt, Refusal::from(AllocError), Refusal::Memory);
+    same(&rt, grown(rt.alloc())?.as_slice(), [7, 8].as_slice());
     Ok(())
 }

@@ -1,0 +1,8 @@
+//! What a test compares: one assertion, which all tests call.
+use std::fmt::Debug;
+use std::process::Abort;
+
+/// What was found is what was wanted, or the test fails with both.
+pub(crate) fn same<T: PartialEq + Debug + Drop>(rt: &impl Abort, found: T, wanted: T) {
+    assert_eq!(rt; found, wanted);
+}
