@@ -28,7 +28,7 @@ use Rattle.step_table.specs.declared.slots.holdings.Pointer.{Pointer}
 use Rattle.step_threads.specs.Courses.{idle}
 use Rattle.step_threads.specs.Doings.{On}
 use Rattle.step_threads.specs.Rows.{Found, Got, Plain, Reply, row}
-use Rattle.step_threads.specs.Scenes as scenes
+use Rattle.step_threads.specs.Rows as rows
 use Rattle.step_threads.specs.declared.programs.act.Act.TheVariants as act
 use Rattle.step_threads.specs.declared.programs.act.Act.{Act}
 use Rattle.step_threads.specs.declared.said.Answer.TheVariants as answer
@@ -64,13 +64,13 @@ pub acted_as : (hand : ℕ) (t u : TableNow ℕ) (taken : Bool) (a : Act) (r : R
 acted_as hand t u taken a r x busy acts takes says tells = record { busy = busy; reply = r; acts = acts; takes = takes; says = says; tells = tells }
 
 -- a lock that needn't succeed takes something
-taking_any : (l : Slots) (x : Option Pointer) → (scenes.taking l false x).1 ≡ true
+taking_any : (l : Slots) (x : Option Pointer) → (rows.taking l false x).1 ≡ true
 taking_any l None = refl
 taking_any l (Some x) = refl
 
 -- what came was there
 came_with : (f : Pointer → Pointer) (l : Slots) (g : Pointer → Type 0) (n : Type 0) (w : Option Pointer) → On g ((true ≡ false) × n) w
-    → (scenes.taking l true (option_map f w)).1 ≡ true
+    → (rows.taking l true (option_map f w)).1 ≡ true
 came_with f l g n None on = absurd cc
 came_with f l g n (Some x) on = refl
 
@@ -96,7 +96,7 @@ module _ (hand i : ℕ) (t u : TableNow ℕ) (is : IsHand (hand + 1) hand t) (lt
       (sym (taking_any (thread_slots hand t) _)) refl refl
 
   got_one : Done field_0 t.desk (thread_slots hand t) (act.Lock i true) (Got true) u.desk
-      → (scenes.taking (thread_slots hand t) true (option_map as_owner (weak_slot (slot_pointer (thread_slots hand t) i)))).1 ≡ true
+      → (rows.taking (thread_slots hand t) true (option_map as_owner (weak_slot (slot_pointer (thread_slots hand t) i)))).1 ≡ true
   got_one (inl x) = came_with as_owner (thread_slots hand t) _ _ (weak_slot (slot_pointer (thread_slots hand t) i)) x.1
   got_one (inr x) = came_with as_owner (thread_slots hand t) _ _ (weak_slot (slot_pointer (thread_slots hand t) i)) x.2
 
@@ -112,7 +112,7 @@ module _ (hand i : ℕ) (t u : TableNow ℕ) (is : IsHand (hand + 1) hand t) (lt
       (locking.upgrades_not field_0 (hand + 1) i hand false t u is (below hand i lt) c)
 
   got_this : (k : Kind) → Done field_0 t.desk (thread_slots hand t) (act.FromThis i k) (Got true) u.desk
-      → (scenes.taking (thread_slots hand t) true (option_map (this_as k) (inside (slot_pointer (thread_slots hand t) i)))).1 ≡ true
+      → (rows.taking (thread_slots hand t) true (option_map (this_as k) (inside (slot_pointer (thread_slots hand t) i)))).1 ≡ true
   got_this k (inl x) = came_with (this_as k) (thread_slots hand t) _ _ (inside (slot_pointer (thread_slots hand t) i)) x.1
   got_this k (inr x) = came_with (this_as k) (thread_slots hand t) _ _ (inside (slot_pointer (thread_slots hand t) i)) x.2
 
