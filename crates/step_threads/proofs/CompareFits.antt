@@ -23,7 +23,8 @@ use Rattle.step_table.specs.Contents.{as_word, owing_for, same_value}
 use Rattle.step_table.specs.Holdings.{pointer_of, slot_pointer, slot_value}
 use Rattle.step_table.specs.Refills.{more_taken}
 use Rattle.step_table.specs.Stories.{Kept, Story, story_after_deed, pending, story_state}
-use Rattle.step_threads.specs.Courses.{HasCell, HasGoneOn, cell_of_name, hand, new_of, task_at}
+use Rattle.step_threads.specs.Courses.{HasCell, cell_of_name, hand, new_of, task_at}
+use Rattle.step_threads.specs.Passing.{HasGoneOn}
 use Rattle.step_threads.specs.Programs.{IsIn}
 use Rattle.step_threads.specs.Steps.{gives_back, missed}
 use Rattle.step_threads.specs.Threads.{FitsThread, IsLoaded, IsMatchedBy, IsSeenBy}

@@ -22,7 +22,8 @@ use Rattle.step_table.specs.declared.memory.past.Deed.TheVariants.{Finish, Leave
 use Rattle.step_table.specs.Deeds.{is_last, leave, leave_as, on}
 use Rattle.step_threads.specs.declared.thread.Thread.{Thread}
 use Rattle.step_threads.specs.Actors.{HalfFits, Stocks, in_store}
-use Rattle.step_threads.specs.Courses.{CourseReady, HasGoneOn, IsReady, done_on, task_at, todo}
+use Rattle.step_threads.specs.Courses.{CourseReady, IsReady, done_on, task_at, todo}
+use Rattle.step_threads.specs.Passing.{HasGoneOn}
 use Rattle.step_threads.specs.Rows.{ending_as, ending_by, with_end}
 use Rattle.step_threads.specs.Endings.{EndsAll, IsEndingAtStage, Stack}
 use Rattle.step_table.specs.Holdings.{HoldsBag}

@@ -13,7 +13,8 @@ use Rattle.step_table.specs.declared.memory.past.Deed.TheVariants.{OnCell}
 use Rattle.step_table.specs.declared.cell_steps.refill.Stage.TheVariants.{Turning}
 use Rattle.step_threads.specs.declared.thread.Thread.{Thread}
 use Rattle.step_table.specs.Refills.{more_taken}
-use Rattle.step_threads.specs.Courses.{HasCell, HasGoneOn, cell_of_name, is_there, task_at}
+use Rattle.step_threads.specs.Courses.{HasCell, cell_of_name, is_there, task_at}
+use Rattle.step_threads.specs.Passing.{HasGoneOn}
 use Rattle.step_threads.specs.Programs.{IsIn}
 use Rattle.step_table.specs.Stories.{Kept, Story, story_after_deed, story_state}
 use Rattle.step_threads.specs.Threads.{FitsThread, IsLoaded, IsNext, IsSeenBy}

@@ -11,7 +11,8 @@ use Rattle.step_threads.specs.declared.half.Half.{Half}
 use Rattle.step_table.specs.declared.memory.past.Deed.{Deed}
 use Rattle.step_threads.specs.declared.thread.Thread.{Thread}
 use Rattle.step_threads.specs.Actors.{HalfFits, Stocks, claimed}
-use Rattle.step_threads.specs.Courses.{HasGoneOn, task_at}
+use Rattle.step_threads.specs.Courses.{task_at}
+use Rattle.step_threads.specs.Passing.{HasGoneOn}
 use Rattle.step_table.specs.Openings.{opening}
 use Rattle.step_table.specs.Stories.{Nothing, Story, event_added, story_after_deed, event_of, story_state}
 use Rattle.step_threads.specs.Threads.{FitsThread, IsNext}

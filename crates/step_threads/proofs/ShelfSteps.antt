@@ -13,7 +13,8 @@ use Rattle.step_table.specs.declared.memory.past.Deed.TheVariants as deed
 use Rattle.step_table.specs.declared.memory.shelf.ShelfDeed.{ShelfDeed}
 use Rattle.step_table.specs.declared.memory.shelf.ShelfDeed.TheVariants as shelf
 use Rattle.step_threads.specs.Actors.{Stocks}
-use Rattle.step_threads.specs.Courses.{CourseReady, HasGoneOn, IsReady, TasksMayCome, other, rest, walk_settled, taken_after, task_at, walk}
+use Rattle.step_threads.specs.Courses.{CourseReady, IsReady, TasksMayCome, other, rest, walk_settled, taken_after, task_at, walk}
+use Rattle.step_threads.specs.Passing.{HasGoneOn}
 use Rattle.step_threads.specs.NextSteps.{first, deed_is_event, story_after}
 use Rattle.step_threads.specs.Shelving.{shelf_block, shelf_deed}
 use Rattle.step_threads.specs.Steps.{silent}

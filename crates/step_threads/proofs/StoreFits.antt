@@ -25,7 +25,8 @@ use Rattle.step_threads.specs.declared.thread.Thread.{Thread}
 use Rattle.step_threads.specs.Actors.{HalfFits, Stocks, claimed, in_store}
 use Rattle.step_table.specs.CellDeeds.{owing_funds}
 use Rattle.step_table.specs.Contents.{is_of}
-use Rattle.step_threads.specs.Courses.{MayComeNext, CourseReady, Going, HasCell, HasGoneOn, cell_of_name, going_from, hand, idle, is_there, done_on, other}
+use Rattle.step_threads.specs.Courses.{MayComeNext, CourseReady, Going, HasCell, cell_of_name, going_from, hand, idle, is_there, done_on, other}
+use Rattle.step_threads.specs.Passing.{HasGoneOn}
 use Rattle.step_threads.specs.Courses.{task_at}
 use Rattle.step_table.specs.Deeds.{share_as, on}
 use Rattle.step_table.specs.Holdings.{Slots, slot_value}

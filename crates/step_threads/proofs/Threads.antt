@@ -25,7 +25,8 @@ use Rattle.step_table.specs.declared.memory.past.Deed.{Deed}
 use Rattle.step_table.specs.declared.memory.past.Deed.TheVariants as deed
 use Rattle.step_threads.specs.declared.thread.Thread.{Thread}
 use Rattle.step_threads.specs.Actors.{HalfFits, IsPreparedSoFar, Stocks, in_list, wanted}
-use Rattle.step_threads.specs.Courses.{MayComeNext, CourseReady, HasCell, HasGoneOn, IsReady, TasksMayCome, form_of, no_task, other, rest, taken_after, task_at}
+use Rattle.step_threads.specs.Courses.{MayComeNext, CourseReady, HasCell, IsReady, TasksMayCome, form_of, no_task, other, rest, taken_after, task_at}
+use Rattle.step_threads.specs.Passing.{HasGoneOn}
 use Rattle.step_threads.specs.Entries.{least}
 use Rattle.step_threads.specs.Stocks.{StoreView}
 use Rattle.step_table.specs.Stories.{Kept, Nothing, Story, story_after_deed, known_words, pending, pending_after, story_state}

@@ -1,5 +1,4 @@
 -- How a thread goes on from act to act. All of it is own.
-use Rattle.std.specs.Global.{Vec}
 use Rattle.std.specs.Prelude.{◌≡◌, ℕ, ◌+◌, ◌-◌, ◌<◌, ◌≤◌, ◌⊎◌, Bool, true, false, cond}
 use Rattle.std.specs.Prelude.{not, ◌&&◌, List, [], ◌∷◌, length, drop, get_or, slice_set, Option, Some, None}
 use Rattle.control_word.specs.declared.model.handle.Kind.{Kind}
@@ -23,7 +22,6 @@ use Rattle.step_threads.specs.declared.course.Course.{Course}
 use Rattle.step_table.specs.declared.cell_steps.comparing.Comparing.{Comparing}
 use Rattle.step_table.specs.Contents.{is_of}
 use Rattle.step_threads.specs.declared.ending.Ending.{Ending}
-use Rattle.step_threads.specs.declared.ending.Endings.{Endings}
 use Rattle.step_table.specs.Deeds.{on}
 use Rattle.step_table.specs.Holdings.{HoldsBag, Slots, inside, is_full, plain, pointer_of, slot_pointer, slot_value}
 use Rattle.step_table.specs.Holdings.{weak_slot}
@@ -281,19 +279,6 @@ pub record CanAct (d : ℕ) (c : Course) (v : Story) : Type 0 where
   pub still : CourseStill c
   pub ended : c.endings.list ≡ []
   pub cell : HasCell v.extent.shape (task_at c).act
-
--- of these tasks the thread has done more than the first n, and is at a later act, or at its end
-pub record IsFurther (d : ℕ) (all : Vec Task) (n : ℕ) (ends : Endings) (c : Course) (v : Story) : Type 0 where
-  pub holds : HoldsBag d c.holdings.slots.items v
-  pub tasks : c.tasks ≡ all
-  pub endings : c.endings ≡ ends
-  pub within : c.at ≤ length c.tasks.items
-  pub onward : n < c.at
-  pub ready : CourseReady c
-  pub still : CourseStill c
-
-abbrev pub HasGoneOn : ℕ → Course → Course → Story → Type 0
-HasGoneOn d c c' v = IsFurther d c.tasks c.at c.endings c' v
 
 -- the tasks after the next one
 abbrev pub rest : Course → List Task

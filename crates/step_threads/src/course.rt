@@ -35,10 +35,10 @@ pub struct Course {
 
 impl Course {
     ghost use Rattle.step_table.specs.Deeds.{on};
-    ghost use Rattle.step_threads.specs.Courses.{CanAct, CourseReady, HasGoneOn, IsReady, done_on, hand, idle};
+    ghost use Rattle.step_threads.specs.Courses.{CanAct, CourseReady, IsReady, done_on, hand, idle};
     ghost use Rattle.step_threads.specs.Courses.{slot_passed};
     ghost use Rattle.step_threads.specs.Courses.{placed, rest, walk_settled, task_at, todo, walk};
-    ghost use Rattle.step_threads.specs.Passing.{IsPassed};
+    ghost use Rattle.step_threads.specs.Passing.{HasGoneOn, IsPassed};
 
     /// Whether the next task is no act where it comes.
     fn is_idle(&self) -> bool

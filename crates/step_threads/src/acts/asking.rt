@@ -9,7 +9,8 @@ use crate::course::Course;
 use step_table::memory::table::Table;
 
 impl Course {
-    ghost use Rattle.step_threads.specs.Courses.{CanAct, HasGoneOn, done_on, rest, walk_settled, task_at, walk};
+    ghost use Rattle.step_threads.specs.Courses.{CanAct, done_on, rest, walk_settled, task_at, walk};
+    ghost use Rattle.step_threads.specs.Passing.{HasGoneOn};
 
     /// How many owners the object has that a name holds, as its word tells; 0 where it is empty.
     pub(crate) fn count(&mut self, desk: usize, table: &mut Table, name: u8) -> u32

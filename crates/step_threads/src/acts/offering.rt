@@ -2,7 +2,8 @@
 ghost use Rattle.std.specs.Prelude.{◌≡◌, ◌<◌, ◌≤◌, true, false, length, slice_set};
 ghost use Rattle.step_table.specs.Contents.{as_word, is_of, owing_for, seen, slots_swapped};
 ghost use Rattle.step_threads.specs.Programs.{kind_at};
-ghost use Rattle.step_threads.specs.Courses.{CanAct, CourseReady, HasCell, HasGoneOn, IsNamed, cell_of_name, done_on};
+ghost use Rattle.step_threads.specs.Courses.{CanAct, CourseReady, HasCell, IsNamed, cell_of_name, done_on};
+ghost use Rattle.step_threads.specs.Passing.{HasGoneOn};
 ghost use Rattle.step_threads.specs.Courses.{fitting, hand, is_offered, is_there, offered, other, rest, walk_settled};
 ghost use Rattle.step_threads.specs.Courses.{task_at, walk};
 ghost use Rattle.step_table.specs.Deeds.{is_last, leave, share, on};

@@ -40,7 +40,8 @@ impl Question {
 }
 
 impl Course {
-    ghost use Rattle.step_threads.specs.Courses.{CanAct, CourseReady, HasGoneOn, done_on, hand, slot_passed, rest};
+    ghost use Rattle.step_threads.specs.Courses.{CanAct, CourseReady, done_on, hand, slot_passed, rest};
+    ghost use Rattle.step_threads.specs.Passing.{HasGoneOn};
     ghost use Rattle.step_threads.specs.Courses.{walk_settled};
     ghost use Rattle.step_threads.specs.Courses.{task_at, walk};
 

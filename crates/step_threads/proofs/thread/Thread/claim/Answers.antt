@@ -1,6 +1,6 @@
 use Rattle.step_threads.specs.declared.half.Half.TheVariants.{Making, Rest}
 use Rattle.std.proofs.Common.{sym, subst}
-use Rattle.step_threads.specs.Courses.{HasGoneOn}
+use Rattle.step_threads.specs.Passing.{HasGoneOn}
 use Rattle.step_table.specs.Stories.{Story}
 use Rattle.step_threads.specs.declared.half.Half.{Half}
 use Rattle.step_threads.specs.Threads.{FitsThread, IsNext}

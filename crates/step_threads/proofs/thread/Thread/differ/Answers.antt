@@ -11,7 +11,8 @@ use Rattle.step_threads.specs.declared.half.Half.{Half}
 use Rattle.step_threads.specs.declared.half.Half.TheVariants.{Refill}
 use Rattle.step_threads.specs.declared.said.Said.{Said}
 use Rattle.step_threads.specs.declared.said.Stepped.TheVariants.{Event}
-use Rattle.step_threads.specs.Courses.{HasGoneOn, cell_of_name, comparing, task_at}
+use Rattle.step_threads.specs.Courses.{cell_of_name, comparing, task_at}
+use Rattle.step_threads.specs.Passing.{HasGoneOn}
 use Rattle.step_threads.specs.Threads.{FitsThread}
 use Rattle.step_threads.proofs.CompareFits.{compare_taken, saw_other}
 use Rattle.step_threads.proofs.CompareSteps.{answers, differs_taken}

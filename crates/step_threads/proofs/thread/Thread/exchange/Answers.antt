@@ -3,7 +3,7 @@ use Rattle.std.proofs.Common.{arith}
 use Rattle.std.proofs.Common.{sym, subst, ap, ◌∙◌}
 use Rattle.control_word.specs.declared.model.handle.Kind.{Kind}
 use Rattle.step_table.specs.Contents.{as_word}
-use Rattle.step_threads.specs.Courses.{HasGoneOn}
+use Rattle.step_threads.specs.Passing.{HasGoneOn}
 use Rattle.step_table.specs.Holdings.{slot_value}
 use Rattle.step_threads.specs.Steps.{gives_back}
 use Rattle.step_table.specs.Stories.{Story}

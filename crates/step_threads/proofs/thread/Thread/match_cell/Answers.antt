@@ -9,7 +9,8 @@ use Rattle.step_threads.specs.declared.course.Course.{Course}
 use Rattle.step_threads.specs.declared.half.Half.{Half}
 use Rattle.step_threads.specs.declared.said.Said.{Said}
 use Rattle.step_threads.specs.declared.said.Stepped.TheVariants.{Event, Quiet}
-use Rattle.step_threads.specs.Courses.{HasGoneOn, cell_of_name, comparing, hand, walk}
+use Rattle.step_threads.specs.Courses.{cell_of_name, comparing, hand, walk}
+use Rattle.step_threads.specs.Passing.{HasGoneOn}
 use Rattle.step_threads.specs.Steps.{gives_back, missed, silent}
 use Rattle.step_threads.specs.Threads.{FitsThread}
 use Rattle.step_threads.proofs.CompareFits.{compare_missed, compare_swapped, looking_claims}

@@ -9,7 +9,8 @@ use Rattle.std.specs.Prelude.{None}
 use Rattle.step_table.specs.declared.memory.past.Deed.TheVariants.{OnCell}
 use Rattle.step_table.specs.declared.cell_steps.refill.Stage.TheVariants.{Turning}
 use Rattle.step_table.specs.Refills.{more_taken}
-use Rattle.step_threads.specs.Courses.{HasGoneOn, cell_of_name}
+use Rattle.step_threads.specs.Courses.{cell_of_name}
+use Rattle.step_threads.specs.Passing.{HasGoneOn}
 use Rattle.step_table.specs.Stories.{Story, story_after_deed, story_state}
 use Rattle.step_threads.specs.Threads.{FitsThread}
 use Rattle.step_threads.proofs.LoadFits.{fits_taken, saw_next, saw_there}
