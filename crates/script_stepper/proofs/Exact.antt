@@ -5,9 +5,7 @@ use Rattle.control_word.specs.declared.model.event.Event.TheVariants as event
 use Rattle.control_word.specs.Histories.{entry, leads}
 use Rattle.control_word.specs.State.{Opening, State}
 use Rattle.step_threads.specs.declared.programs.act.Act.{Act}
-use Rattle.step_threads.specs.declared.programs.act.Act.TheVariants.{Make, Share, Downgrade, Alias, Move, FromThis, Lock, Put, Leave, Clear, Count, Expired}
-use Rattle.step_threads.specs.declared.programs.act.Act.TheVariants.{Read, Ask}
-use Rattle.step_threads.specs.declared.programs.act.Act.TheVariants.{Offer, Swap, Exchange, Load, Compare, Drop, OnShelf}
+use Rattle.step_threads.specs.declared.programs.act.Act.TheVariants.{Count}
 use Rattle.step_threads.specs.declared.programs.act.Task.{Task}
 use Rattle.step_table.specs.declared.slots.holdings.Pointer.{Pointer}
 use Rattle.step_threads.specs.Courses.{Walk}
@@ -39,27 +37,8 @@ counts_exact tell z d h (Some x) e = ap (λ (n : ℕ). entry d (event.Count (han
 -- what an act of these slots adds to the history, and its reply
 acted_exact : (tell : Telling) (z : Opening) (d : ℕ) (slots : Slots) (h : History) (a : Act) → IsExact tell (leads z h) slots
     → acted tell z d slots h a ≡ acted exact z d slots h a
-acted_exact tell z d slots h (Make form) e = refl
-acted_exact tell z d slots h (Share k) e = refl
-acted_exact tell z d slots h (Put k) e = refl
-acted_exact tell z d slots h (Leave k) e = refl
-acted_exact tell z d slots h (Clear k) e = refl
 acted_exact tell z d slots h (Count k) e = counts_exact tell z d h (slot_pointer slots k) (e k)
-acted_exact tell z d slots h (Downgrade k) e = refl
-acted_exact tell z d slots h (Lock k must) e = refl
-acted_exact tell z d slots h (Expired k) e = refl
-acted_exact tell z d slots h (Read k) e = refl
-acted_exact tell z d slots h (FromThis k kind) e = refl
-acted_exact tell z d slots h (Alias k j field) e = refl
-acted_exact tell z d slots h (Move k) e = refl
-acted_exact tell z d slots h (Ask q) e = refl
-acted_exact tell z d slots h (Offer k c) e = refl
-acted_exact tell z d slots h (Swap c) e = refl
-acted_exact tell z d slots h (Exchange k c) e = refl
-acted_exact tell z d slots h (Load c) e = refl
-acted_exact tell z d slots h (Compare k c weak) e = refl
-acted_exact tell z d slots h Drop e = refl
-acted_exact tell z d slots h (OnShelf x) e = refl
+acted_exact tell z d slots h _ e = refl
 
 reply_exact : (tell : Telling) (s : State) (d : ℕ) (slots : Slots) (a : Act) → IsExact tell s slots
     → reply_in tell s d slots a ≡ reply_in exact s d slots a

@@ -1,4 +1,4 @@
--- What pointers, places and questions tell in a state, as replies do.
+-- What stores and pointers tell in a state, as replies do.
 use Rattle.std.proofs.Common.{◌≡◌, ℕ, ◌==◌, Bool, true, false, cond, List, [], ◌∷◌, refl}
 use Rattle.std.specs.Prelude.{Option, Some, None, option_map}
 use Rattle.std.specs.List.{filter}

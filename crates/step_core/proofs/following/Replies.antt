@@ -1,4 +1,4 @@
--- What acts make and leave is what their replies say.
+-- What acts make of the history is what the replies that they get in the state say.
 use Rattle.step_threads.specs.declared.programs.act.ShelfAct.TheVariants.{Shelve, Unshelve}
 use Rattle.std.proofs.Common.{◌≡◌, ℕ, true, false, cond, List, refl, ap}
 use Rattle.std.specs.Prelude.{Option, Some, None, not, option_map}

@@ -17,9 +17,7 @@ use Rattle.step_table.specs.Stories.{Nothing, Story, pending}
 use Rattle.step_table.proofs.holding.Counting.{tells}
 use Rattle.step_table.proofs.holding.Keeping.{same_pending}
 use Rattle.step_threads.specs.declared.programs.act.Act.{Act}
-use Rattle.step_threads.specs.declared.programs.act.Act.TheVariants.{Make, Share, Downgrade, Lock, Put, Leave, Clear, Count, Expired, Read, FromThis, Alias}
-use Rattle.step_threads.specs.declared.programs.act.Act.TheVariants.{Move, Ask}
-use Rattle.step_threads.specs.declared.programs.act.Act.TheVariants.{Offer, Swap, Exchange, Load, Compare, Drop, OnShelf}
+use Rattle.step_threads.specs.declared.programs.act.Act.TheVariants.{Count}
 use Rattle.step_threads.specs.declared.half.Half.{Half}
 use Rattle.step_threads.specs.declared.half.Half.TheVariants.{Rest}
 use Rattle.step_threads.specs.declared.said.Stepped.{Stepped}
@@ -41,27 +39,8 @@ told_reply v s d slots (Count k) = refl
 told_reply v s d slots _ = refl
 
 count_or : (v : Story) (a : Act) → ((i : ℕ) × (a ≡ Count i)) ⊎ (tell_of v a ≡ exact)
-count_or v (Make form) = inr refl
-count_or v (Share k) = inr refl
-count_or v (Downgrade k) = inr refl
-count_or v (Lock k must) = inr refl
-count_or v (Put k) = inr refl
-count_or v (Leave k) = inr refl
-count_or v (Clear k) = inr refl
 count_or v (Count k) = inl (k, refl)
-count_or v (Expired k) = inr refl
-count_or v (Read k) = inr refl
-count_or v (FromThis k kind) = inr refl
-count_or v (Alias k j field) = inr refl
-count_or v (Move k) = inr refl
-count_or v (Ask q) = inr refl
-count_or v (Offer k c) = inr refl
-count_or v (Swap c) = inr refl
-count_or v (Exchange k c) = inr refl
-count_or v (Load c) = inr refl
-count_or v (Compare k c weak) = inr refl
-count_or v Drop = inr refl
-count_or v (OnShelf x) = inr refl
+count_or v _ = inr refl
 
 pub exact_told : (d : ℕ) (u : Sight) → TellsAllCounts d u (scene u) exact
 exact_told d u =
