@@ -95,7 +95,7 @@ fn a_sole_desk_comes_out_and_closes(rt: HostRuntime) -> Result<(), Fail> {
         Ok(census) => same(&rt, census.vacant(), 8),
         Err(_) => panic!(rt; "not sole"),
     }
-    same(&rt, workers.len(), 3);
+    assert_eq!(rt; workers.len(), 3);
     for (at, worker) in workers.iter().enumerate() {
         same(&rt, worker.made, at as u32);
     }
