@@ -11,4 +11,5 @@ pub mod Letting
 pub mod Absorbing
 pub mod Crews
 pub mod Manning
+pub mod Sharing
 pub mod Structured

@@ -2,8 +2,8 @@
 use Rattle.std.proofs.Common.{◌≡◌, ℕ, suc, ◌<◌, List, [], ◌∷◌, ◌++◌, length, map, reverse, ap, sym, ◌∙◌, subst, arith, refl}
 use Rattle.std.specs.Prelude.{All, slice_index_or}
 use Rattle.std.specs.List.{AllZip}
-use Rattle.std.proofs.lemmas.List.{append_assoc, map-append, reverse-append}
-use Rattle.std.proofs.lemmas.List.Elements.{AllZip-push}
+use Rattle.std.proofs.lemmas.List.{append_assoc, length-map, length-reverse, map-append, reverse-append}
+use Rattle.std.proofs.lemmas.List.Elements.{AllZip-push, length_all_zip}
 use Rattle.control_word.specs.declared.shape.Shape.{Shape}
 use Rattle.control_block.specs.Census.{CensusNow}
 use Rattle.control_block.specs.Desks.{IsFirstDesk, DeskNow, DomainNow}
@@ -64,6 +64,12 @@ map_reversed f (x ∷ xs) =
     ap (map f) (reversed x xs)
     ∙ (map-append f (reverse xs) (x ∷ [])
     ∙ (ap (λ l. l ++ f x ∷ []) (map_reversed f xs) ∙ sym (reversed (f x) (map f xs))))
+
+-- as many come back as were put together
+pub as_many : {X B : Type 0} (R : X → X → Type 0) (f : X → B) (all : List B) (posts after : List X) → all ≡ reverse (map f posts)
+    → AllZip R posts after → length after ≡ length all
+as_many R f all posts after is zip =
+    sym (length_all_zip R posts after zip) ∙ (sym (length-reverse (map f posts) ∙ length-map posts f) ∙ ap length (sym is))
 
 module _ {V W X : Type 0} (worker : X → W) (table : X → TableNow V) (does : WorkerRelation V W) where
   each_of : (xs ys : List X) → AllZip (λ p q. does (worker p) (table p) (worker q) (table q)) xs ys

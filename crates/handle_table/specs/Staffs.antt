@@ -1,9 +1,10 @@
 -- What is said of workers that have a state of their own, each with a table (own).
-use Rattle.std.specs.Prelude.{◌≡◌, All, List, [], ◌∷◌}
+use Rattle.std.specs.Prelude.{◌≡◌, ℕ, ◌*◌, ◌<◌, ◌≤◌, All, List, [], ◌∷◌, length}
 use Rattle.control_word.specs.declared.shape.Shape.{Shape}
 use Rattle.control_block.specs.Census.{CensusNow}
-use Rattle.control_block.specs.Desks.{Belongs, IsFirstDesk, DeskNow, DomainNow}
+use Rattle.control_block.specs.Desks.{Belongs, IsFirstDesk, DeskNow, DomainNow, stock_of}
 use Rattle.control_block.specs.Own.{IsSole}
+use Rattle.control_block.specs.Parting.{free_of}
 use Rattle.handle_table.specs.Parting.{AbsorbsAll, IsNew, IsPartedInto, WindsUp}
 use Rattle.handle_table.specs.Programs.{CanClose, IsClosed}
 use Rattle.handle_table.specs.Tables.{TableNow}
@@ -12,6 +13,15 @@ use Rattle.handle_table.specs.declared.staff.Share.{Share}
 -- what is said of a worker's work, by the worker and its table before and after
 abbrev pub WorkerRelation : Type 0 → Type 0 → Type 1
 WorkerRelation V W = W → TableNow V → W → TableNow V → Type 0
+
+-- a domain of this shape has such a share for each of n workers, and a handle's allowance more for its first desk
+abbrev pub HasShares : Shape → Share → ℕ → Type 0
+HasShares z share n = (0 < share.allowance) × (n * share.allowance < z.allowance) × (n * share.blocks ≤ z.blocks)
+
+-- a desk has one for each, and an allowance for the handles that it keeps, 1 at least
+abbrev pub CanShare : {V : Type 0} → DeskNow V → Share → ℕ → Type 0
+CanShare d share n =
+    (0 < share.allowance) × (n * share.allowance ≤ free_of d 0) × (n * share.blocks ≤ length (stock_of d))
 
 module _ {V W : Type 0} where
   -- it is so of each worker, with the table of its number

@@ -7,7 +7,8 @@ ghost use Rattle.control_word.specs.Layout.{IsWithinLimits};
 ghost use Rattle.control_block.specs.Desks.{IsFirstDesk, Belongs, DeskNow, endings_of};
 ghost use Rattle.shared_handle.specs.Piles.{Bears};
 ghost use Rattle.handle_table.specs.Parting.{IsRefusedPart};
-ghost use Rattle.handle_table.specs.Staffs.{IsParted, Shifts, Staffs, StaffsIn, StaffsOpen, StaffsOut};
+ghost use Rattle.handle_table.specs.Staffs.{CanShare, HasShares, IsParted, Shifts, Staffs};
+ghost use Rattle.handle_table.specs.Staffs.{StaffsIn, StaffsOpen, StaffsOut};
 ghost use Rattle.handle_table.specs.Tables.{AllVacant, FitsSlots, on_pile};
 
 use crate::closing::{close_bare, close_sole, keep_sole};
@@ -119,6 +120,8 @@ impl<'d, V: Drop + Send, H: Home + Send + Sync> HandleTable<'d, V, H> {
     ) -> Option<Refusal>
         ensures staffs { IfNone result (Staffs W.does self.old share workers.old.items workers.new.items self.new) }
         ensures refused { IfSome result (λ why. IsRefusedPart why × (workers.new.items ≡ workers.old.items)) }
+        ensures shared { CanShare self.old.desk share (length workers.old.items)
+            → IfSome result (λ why. why ≡ Refusal.Memory) }
     {
         let many = workers.len();
         let Ok(mut posts) = Vec::with_capacity(alloc, many) else {
@@ -165,6 +168,8 @@ fn staff_at<V: Drop + Send, H: Home + Send + Sync, R: Threads + Wait + Sync, W: 
     ensures works { IfNone result.1
         (StaffsOut W.does table.entry share workers.old.items workers.new.items result.0) }
     ensures refused { IfSome result.1 (λ why. IsRefusedPart why × (workers.new.items ≡ workers.old.items)) }
+    ensures shared { CanShare table.entry.desk share (length workers.old.items)
+        → IfSome result.1 (λ why. why ≡ Refusal.Memory) }
 {
     let mut table = table;
     let refused = table.staff::<R, W>(rt, alloc, share, workers);
@@ -192,6 +197,8 @@ fn staff_in<V: Drop + Send, H: Home + Send + Sync, R: Threads + Wait + Sync, W: 
     ensures works { IfNone result.1
         (StaffsIn W.does domain.now share workers.old.items workers.new.items result.0) }
     ensures refused { IfSome result.1 (λ why. IsRefusedPart why × (workers.new.items ≡ workers.old.items)) }
+    ensures shared { HasShares domain.now.shape share (length workers.old.items)
+        → IfSome result.1 (λ why. why ≡ Refusal.Memory) }
 {
     let table = first_table::<V, H>(domain, desk, slots, pile);
     staff_at::<V, H, R, W>(rt, alloc, table, share, workers)
@@ -220,6 +227,8 @@ pub fn run_workers_open<V: Drop + Send, R: Threads + Wait + Sync, W: Work<V, R> 
     ensures shape { IfErr result (λ why. why ≡ Refusal.Shape ↔ (IsWithinLimits shape → ⊥)) }
     ensures refused { IfErr result
         (λ why. (why ≡ Refusal.Shape) ⊎ ((why ≡ Refusal.NotSole) ⊎ IsRefusedPart why)) }
+    ensures shared { HasShares shape share (length workers.old.items) → IfErr result
+        (λ why. (why ≡ Refusal.Shape) ⊎ ((why ≡ Refusal.NotSole) ⊎ (why ≡ Refusal.Memory))) }
     ensures kept { IfErr result
         (λ why. (why ≡ Refusal.NotSole) ⊎ (workers.new.items ≡ workers.old.items)) }
     ensures parted { IfErr result
@@ -263,6 +272,8 @@ pub fn run_workers<V: Drop + Send, R: Threads + Wait + Sync, W: Work<V, R> + Sen
     ensures shape { IfErr result (λ why. why ≡ Refusal.Shape ↔ (IsWithinLimits shape → ⊥)) }
     ensures refused { IfErr result
         (λ why. (why ≡ Refusal.Shape) ⊎ ((why ≡ Refusal.NotSole) ⊎ IsRefusedPart why)) }
+    ensures shared { HasShares shape share (length workers.old.items) → IfErr result
+        (λ why. (why ≡ Refusal.Shape) ⊎ ((why ≡ Refusal.NotSole) ⊎ (why ≡ Refusal.Memory))) }
     ensures kept { IfErr result
         (λ why. (why ≡ Refusal.NotSole) ⊎ (workers.new.items ≡ workers.old.items)) }
     ensures parted { IfErr result
