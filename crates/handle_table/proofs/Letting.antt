@@ -1,7 +1,7 @@
 -- Handles leave their slots one after the other, the last first.
 use Rattle.std.proofs.Common.{◌≡◌, ◌+◌, List, [], ◌∷◌, ◌++◌, None, Some, append_assoc, ap, refl, subst, sym, ◌∙◌}
 use Rattle.std.proofs.lemmas.List.{append-nil}
-use Rattle.control_block.specs.Desks.{DeskNow, DomainNow, bag_of}
+use Rattle.control_block.specs.Desks.{DeskNow, DomainNow, allowance_of, bag_of}
 use Rattle.control_block.specs.HandleLists.{IsHeldByDesk, without_held}
 use Rattle.control_block.specs.declared.handles.Held.{Held}
 use Rattle.shared_handle.specs.Piles.{Bears}
@@ -25,9 +25,10 @@ module _ {V : Type 0} where
     pub out : List Slot
     pub parts : all ≡ rest ++ out
     pub gone : LeaveSlots before (on_pile from) out d (on_pile p)
+    pub allowance : allowance_of d ≡ allowance_of before
 
   pub begins : (domain : DomainNow) (d : DeskNow V) (p : Pile V) (ss : List Slot) → Bears domain d p → FitsSlots d ss → Letting domain d d p p ss ss
-  begins domain d p ss bears fits = record { bears = bears; fits = fits; out = []; parts = sym (append-nil ss); gone = (refl, refl) }
+  begins domain d p ss bears fits = record { bears = bears; fits = fits; out = []; parts = sym (append-nil ss); gone = (refl, refl); allowance = refl }
 
   pub passes : (domain : DomainNow) (before d : DeskNow V) (from p : Pile V) (all now rest : List Slot) (x : Slot) → Letting domain before d from p all now
       → now ≡ rest ++ x ∷ [] → x ≡ None → Letting domain before d from p all rest
@@ -38,6 +39,7 @@ module _ {V : Type 0} where
         out = None ∷ l.out;
         parts = longer all rest now l.out x None l.parts is none;
         gone = (d, on_pile p, l.gone, (refl, refl));
+        allowance = l.allowance;
       }
 
   pub held_last : (domain : DomainNow) (before d : DeskNow V) (from p : Pile V) (all now rest : List Slot) (x : Slot) (h : Held)
@@ -47,14 +49,15 @@ module _ {V : Type 0} where
   pub goes : (domain : DomainNow) (before d e : DeskNow V) (from p q : Pile V) (all now rest : List Slot) (x : Slot) (h : Held) (gone : Gone)
       → Letting domain before d from p all now → now ≡ rest ++ x ∷ [] → x ≡ Some h → Bears domain e q
       → LetsGo d (on_pile p) h gone e (on_pile q) → bag_of e ≡ without_held h (bag_of d) → e.held + 1 ≡ d.held
-      → Letting domain before e from q all rest
-  goes domain before d e from p q all now rest x h gone l is some bears left bag held =
+      → allowance_of e ≡ allowance_of d → Letting domain before e from q all rest
+  goes domain before d e from p q all now rest x h gone l is some bears left bag held allowance =
       record {
         bears = bears;
         fits = fits_less d e rest h (last_out d now rest x (Some h) is some l.fits) bag held;
         out = Some h ∷ l.out;
         parts = longer all rest now l.out x (Some h) l.parts is some;
         gone = (d, on_pile p, l.gone, (gone, left));
+        allowance = allowance ∙ l.allowance;
       }
 
   pub all_gone : (domain : DomainNow) (before d : DeskNow V) (from p : Pile V) (all now : List Slot) → Letting domain before d from p all now → now ≡ []

@@ -12,4 +12,5 @@ pub mod Absorbing
 pub mod Crews
 pub mod Manning
 pub mod Sharing
+pub mod Regained
 pub mod Structured

@@ -88,19 +88,22 @@ module _ {V : Type 0} where
   LeaveSlots d xs (s ∷ ss) e ys = (m : DeskNow V) × (zs : List (Ending V)) × LeaveSlots d xs ss m zs
       × LeavesSlot m zs s e ys
 
-  -- all handles left, and then all that was left to end did so
+  -- all handles left, and then all that was left to end did so; the allowance stayed
   pub record WindsUp (t : TableNow V) (e : DeskNow V) : Type 0 where
     pub between : DeskNow V
     pub pile : List (Ending V)
     pub handles : LeaveSlots t.desk t.endings t.slots between pile
     pub rounds : List (Past V)
     pub ends : AreRounds between pile rounds e []
+    pub shape : e.shape ≡ t.desk.shape
+    pub allowance : allowance_of e ≡ allowance_of t.desk
 
   -- another table was wound up, and its part came
   pub record Absorbs (t other u : TableNow V) : Type 0 where
     pub bare : DeskNow V
     pub winds_up : WindsUp other bare
     pub desks : JoinsWith t.desk bare u.desk
+    pub allowance : allowance_of u.desk ≡ allowance_of t.desk + allowance_of other.desk
     pub rest : (u.slots ≡ t.slots) × (u.endings ≡ t.endings)
 
   -- a desk gave parts to new tables, one after the other, none with a handle

@@ -2,7 +2,7 @@
 use Rattle.std.specs.Prelude.{◌≡◌, ℕ, ◌*◌, ◌<◌, ◌≤◌, All, List, [], ◌∷◌, length}
 use Rattle.control_word.specs.declared.shape.Shape.{Shape}
 use Rattle.control_block.specs.Census.{CensusNow}
-use Rattle.control_block.specs.Desks.{Belongs, IsFirstDesk, DeskNow, DomainNow, stock_of}
+use Rattle.control_block.specs.Desks.{Belongs, IsFirstDesk, DeskNow, DomainNow, allowance_of, stock_of}
 use Rattle.control_block.specs.Own.{IsSole}
 use Rattle.control_block.specs.Parting.{free_of}
 use Rattle.handle_table.specs.Parting.{AbsorbsAll, IsNew, IsPartedInto, WindsUp}
@@ -24,6 +24,10 @@ CanShare d share n =
     (0 < share.allowance) × (n * share.allowance ≤ free_of d 0) × (n * share.blocks ≤ length (stock_of d))
 
 module _ {V W : Type 0} where
+  -- whoever works so leaves its table the allowance that it had
+  abbrev pub KeepsAllowance : WorkerRelation V W → Type 0
+  KeepsAllowance does = (w x : W) (t u : TableNow V) → does w t x u → allowance_of u.desk ≡ allowance_of t.desk
+
   -- it is so of each worker, with the table of its number
   abbrev pub EachDoes : WorkerRelation V W → List W → List (TableNow V) → List W → List (TableNow V) → Type 0
   EachDoes does [] [] [] [] = Unit {0}

@@ -1,6 +1,6 @@
 //! A second table of the domain, for another thread, and its end.
 ghost use Rattle.std.specs.Prelude.{◌≡◌, ◌≤◌, ◌++◌, [], drop, length, take, IfErr, IfOk};
-ghost use Rattle.control_block.specs.Desks.{Belongs, DeskNow, endings_of};
+ghost use Rattle.control_block.specs.Desks.{Belongs, DeskNow, allowance_of, endings_of};
 ghost use Rattle.control_block.specs.Parting.{HoldsAll, IsTooMuch, SplitsOff};
 ghost use Rattle.control_block.specs.SlotLists.{handles_in};
 ghost use Rattle.shared_handle.specs.Piles.{Bears};
@@ -35,6 +35,7 @@ fn let_all_go<V: Drop + Send>(
     ensures bears { Bears domain.now desk.new pile.new }
     ensures none { FitsSlots desk.new [] }
     ensures left { LeaveSlots desk.old (on_pile pile.old) slots.items desk.new (on_pile pile.new) }
+    ensures allowance { allowance_of desk.new ≡ allowance_of desk.old }
 {
     let mut slots = slots;
     while let Some(slot) = slots.pop() {

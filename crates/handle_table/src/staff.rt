@@ -7,8 +7,8 @@ ghost use Rattle.control_word.specs.Layout.{IsWithinLimits};
 ghost use Rattle.control_block.specs.Desks.{IsFirstDesk, Belongs, DeskNow, endings_of};
 ghost use Rattle.shared_handle.specs.Piles.{Bears};
 ghost use Rattle.handle_table.specs.Parting.{IsRefusedPart};
-ghost use Rattle.handle_table.specs.Staffs.{CanShare, HasShares, IsParted, Shifts, Staffs};
-ghost use Rattle.handle_table.specs.Staffs.{StaffsIn, StaffsOpen, StaffsOut};
+ghost use Rattle.handle_table.specs.Staffs.{CanShare, HasShares, IsParted, KeepsAllowance, Shifts};
+ghost use Rattle.handle_table.specs.Staffs.{Staffs, StaffsIn, StaffsOpen, StaffsOut};
 ghost use Rattle.handle_table.specs.Tables.{AllVacant, FitsSlots, on_pile};
 
 use crate::closing::{close_bare, close_sole, keep_sole};
@@ -229,6 +229,7 @@ pub fn run_workers_open<V: Drop + Send, R: Threads + Wait + Sync, W: Work<V, R> 
         (λ why. (why ≡ Refusal.Shape) ⊎ ((why ≡ Refusal.NotSole) ⊎ IsRefusedPart why)) }
     ensures shared { HasShares shape share (length workers.old.items) → IfErr result
         (λ why. (why ≡ Refusal.Shape) ⊎ ((why ≡ Refusal.NotSole) ⊎ (why ≡ Refusal.Memory))) }
+    ensures sole { KeepsAllowance W.does → IfErr result (λ why. why ≡ Refusal.NotSole → ⊥) }
     ensures kept { IfErr result
         (λ why. (why ≡ Refusal.NotSole) ⊎ (workers.new.items ≡ workers.old.items)) }
     ensures parted { IfErr result
@@ -274,6 +275,7 @@ pub fn run_workers<V: Drop + Send, R: Threads + Wait + Sync, W: Work<V, R> + Sen
         (λ why. (why ≡ Refusal.Shape) ⊎ ((why ≡ Refusal.NotSole) ⊎ IsRefusedPart why)) }
     ensures shared { HasShares shape share (length workers.old.items) → IfErr result
         (λ why. (why ≡ Refusal.Shape) ⊎ ((why ≡ Refusal.NotSole) ⊎ (why ≡ Refusal.Memory))) }
+    ensures sole { KeepsAllowance W.does → IfErr result (λ why. why ≡ Refusal.NotSole → ⊥) }
     ensures kept { IfErr result
         (λ why. (why ≡ Refusal.NotSole) ⊎ (workers.new.items ≡ workers.old.items)) }
     ensures parted { IfErr result

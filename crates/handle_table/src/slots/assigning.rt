@@ -1,6 +1,6 @@
 //! Handles that leave their slots, and those that come in their places.
 ghost use Rattle.std.specs.Prelude.{◌≡◌, ◌+◌, ◌<◌, ◌∷◌, length, Some};
-ghost use Rattle.control_block.specs.Desks.{bag_of};
+ghost use Rattle.control_block.specs.Desks.{allowance_of, bag_of};
 ghost use Rattle.control_block.specs.HandleLists.{IsHeldByDesk, without_held};
 ghost use Rattle.shared_handle.specs.Piles.{Bears};
 ghost use Rattle.handle_table.specs.Calls.{Assigns, LetsGo};
@@ -26,6 +26,7 @@ pub(crate) fn let_go<V: Drop + Send>(
     ensures left { LetsGo desk.old (on_pile pile.old) handle result desk.new (on_pile pile.new) }
     ensures bag { bag_of desk.new ≡ without_held handle (bag_of desk.old) }
     ensures held { desk.new.held + 1 ≡ desk.old.held }
+    ensures allowance { allowance_of desk.new ≡ allowance_of desk.old }
 {
     match handle {
         Held::Owner(owner) => drop_shared(domain, desk, pile, owner),

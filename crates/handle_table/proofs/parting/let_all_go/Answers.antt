@@ -16,6 +16,7 @@ pub loop-slot-preserved : goal.loop-slot-preserved
 loop-slot-preserved g c =
     let e = c.let_go.ensures in
     goes _ _ _ _ _ _ _ _ _ _ _ c.in-Some-slot.handle c.let_go.result c.loop-slot.invariant c.in-Some.ensures.items c.in-Some-slot.is e.bears e.left e.bag e.held
+    e.allowance
 
 pub returns-clause-left : goal.returns-clause-left
 returns-clause-left g c =

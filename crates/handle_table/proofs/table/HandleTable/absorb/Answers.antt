@@ -1,4 +1,5 @@
-use Rattle.std.proofs.Common.{refl, subst}
+use Rattle.std.proofs.Common.{◌∙◌, ◌+◌, refl, subst}
+use Rattle.control_block.specs.Desks.{allowance_of}
 use Rattle.handle_table.specs.Parting.{Absorbs}
 use Rattle.handle_table.specs.Tables.{TableNow}
 use Rattle.handle_table.proofs.Wholes.{absorb_whole, seen}
@@ -13,4 +14,10 @@ invariant_of-self g c =
 pub returns : goal.returns
 returns g c =
     subst (λ (t : TableNow g.row.V.Denot). Absorbs t c.args.other (seen c.join.new.self c.self.inside.slots.items c.self.inside.pile)) c.self.view_is
-    record { bare = c.into_desk-desk.result; winds_up = c.into_desk-desk.ensures.wound; desks = c.join.ensures.event; rest = (refl, refl) }
+    record {
+      bare = c.into_desk-desk.result;
+      winds_up = c.into_desk-desk.ensures.wound;
+      desks = c.join.ensures.event;
+      allowance = c.join.ensures.allowance ∙ λ i. allowance_of c.self.inside.desk + c.into_desk-desk.ensures.wound.allowance i;
+      rest = (refl, refl);
+    }

@@ -1,4 +1,4 @@
-use Rattle.std.proofs.Common.{subst, List}
+use Rattle.std.proofs.Common.{◌∙◌, sym, subst, List}
 use Rattle.shared_handle.specs.Piles.{AreRounds}
 use Rattle.shared_handle.specs.declared.endings.Ending.{Ending}
 use Rattle.handle_table.specs.Parting.{WindsUp}
@@ -16,4 +16,6 @@ returns-clause-wound g c =
       rounds = s.rounds.0;
       ends = subst (λ (xs : List (Ending g.row.V.Denot)). AreRounds c.let_all_go.new.desk (on_pile c.let_all_go.new.pile) s.rounds.0 c.settle.new.desk xs)
           s.none s.rounds.1;
+      shape = s.desk.shape ∙ (c.let_all_go.ensures.bears.carries.belongs.shape ∙ sym c.self.invariant.bears.carries.belongs.shape);
+      allowance = s.desk.allowance ∙ c.let_all_go.ensures.allowance;
     }
