@@ -1,5 +1,6 @@
 -- What the calls that give pointers to an object itself say, and the aliasing constructor.
 use Rattle.std.specs.Prelude.{◌≡◌, ◌⊎◌, ℕ, Option}
+use Rattle.control_word.specs.Handles.{IsPointer}
 use Rattle.control_word.specs.declared.place.Place.{Place}
 use Rattle.control_word.specs.declared.refusal.Refusal.{Refusal}
 use Rattle.control_block.specs.declared.handles.Held.TheVariants.{Owner}
@@ -10,6 +11,10 @@ use Rattle.handle_table.specs.Calls.{Comes, IsAtLimit, IsNoSlot, IsOwner, IsWeak
 use Rattle.handle_table.specs.Tables.{IsAt, TableNow}
 use Rattle.handle_table.specs.declared.fault.Fault.{Fault}
 use Rattle.handle_table.specs.declared.fault.Fault.TheVariants as fault
+
+-- the place is none of a block's fields, and not null either
+abbrev pub IsNoPlace : Option Place → Fault → Type 0
+IsNoPlace p why = (why ≡ fault.Place) × (IsPointer p → ⊥)
 
 module _ {V : Type 0} where
   -- an owner of the object that points at its first field ([util.smartptr.enab])
@@ -44,6 +49,6 @@ module _ {V : Type 0} where
         (IsOwner (λ d k e. (k.block ≡ of.block) × (k.place ≡ p)
         × inner.SharesOwner d of.block of.place p e)) t to u
 
-  abbrev pub WhyNoAlias : TableNow V → ℕ → ℕ → Fault → Type 0
-  WhyNoAlias t of to why = IsNoSlot t.slots to why
-      ⊎ ((why ≡ fault.Place) ⊎ (WhyNoOwner t.slots of why ⊎ IsAtLimit t why))
+  abbrev pub WhyNoAlias : TableNow V → ℕ → Option Place → ℕ → Fault → Type 0
+  WhyNoAlias t of p to why = IsNoSlot t.slots to why
+      ⊎ (IsNoPlace p why ⊎ (WhyNoOwner t.slots of why ⊎ IsAtLimit t why))

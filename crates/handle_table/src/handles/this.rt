@@ -1,5 +1,5 @@
 //! Pointers that an object gives to itself, and owners that point elsewhere.
-ghost use Rattle.std.specs.Prelude.{◌≡◌, IfErr, OnOk, true};
+ghost use Rattle.std.specs.Prelude.{◌≡◌, Decides, IfErr, OnOk};
 ghost use Rattle.control_word.specs.Handles.{IsPointer};
 ghost use Rattle.handle_table.specs.This.{Aliases, SharesThis, SharesThisWeakly, WhyNoAlias, WhyNoThis};
 
@@ -12,7 +12,7 @@ use shared_handle::{Held, alias, shared_from_this, weak_from_this};
 
 /// Whether it is null, or one of a block's fields.
 fn is_pointer(place: Option<Place>) -> bool
-    ensures { result ≡ true → IsPointer place }
+    ensures { Decides result (IsPointer place) }
 {
     match place {
         None => true,
@@ -86,7 +86,8 @@ impl<'d, V: Drop + Send, H: Home> HandleTable<'d, V, H> {
     /// fields.
     pub fn alias(&mut self, of: usize, place: Option<Place>, to: usize) -> Result<(), Fault>
         ensures aliased { OnOk result (Aliases self.old of place to self.new) }
-        ensures refused { IfErr result (λ why. WhyNoAlias self.old of to why × (self.new ≡ self.old)) }
+        ensures refused { IfErr result
+            (λ why. WhyNoAlias self.old of place to why × (self.new ≡ self.old)) }
     {
         if to >= self.slots.len() {
             return Err(Fault::Slot);
