@@ -35,6 +35,8 @@ impl Script {
     ghost use Rattle.control_word.specs.declared.shape.Shape.{Shape};
     ghost use Rattle.control_word.specs.declared.refusal.Refusal.TheVariants.{Memory};
     ghost use Rattle.step_threads.specs.Programs.{AllHaveCells, parts_of, IsProgram};
+    ghost use Rattle.script_text.specs.Canonical.{canonical};
+    ghost use Rattle.script_text.specs.Grammar.{ReadsAs};
     ghost use Rattle.script_text.specs.Scripts.{HasTextCells, program_in, statement_count};
     ghost use Rattle.script_text.specs.Versions.{blocks_in, most_threads};
 
@@ -67,7 +69,8 @@ impl Script {
 
     /// The program of the script (own): for each thread, in order, an actor with the kinds of its names
     /// and its calls in order. It is within the limits of a program, its calls are well named and exchange no name with
-    /// a member of its own object, and a shape with 128 cells of each kind has their cells.
+    /// a member of its own object, and a shape with 128 cells of each kind has their cells. The script's canonical text
+    /// spells it.
     ///
     /// Refused by 1 alone, where a growth is refused; the script is as it was.
     pub fn program(&self, alloc: Global) -> Result<Program, Refusal>
@@ -75,6 +78,7 @@ impl Script {
         ensures sound { IfOk result (λ p. IsProgram (parts_of p)) }
         ensures cells { IfOk result
             (λ p. (shape : Shape) → HasTextCells shape → All (AllHaveCells shape) (parts_of p)) }
+        ensures reads { ReadsAs (canonical self.now) self.now }
         ensures memory { IsOkUnless result Memory }
     {
         match program_of(alloc, self.threads.as_slice()) {
