@@ -82,14 +82,6 @@ module _ {V : Type 0} where
           (law.held_latest t.desk e v adds (kind_of_held h) (place_of_held h) b.0 (seating.has_object t.desk t.slots i h b fits at some))
 
 module _ {V : Type 0} (worth : Form → V) (m i hand : ℕ) (taken : Bool) (t u : TableNow V) (c : CellName) where
-  -- what the slot has may go into the cell
-  pub may_exchange : IsSeated m hand t → i < m → (x : ExchangesSlot t i (as_cell c) u) → IsFound t (shown_slots m t.slots) c x.swaps.site
-      → may_go (shown_slots m t.slots) c i ≡ true
-  may_exchange is below x found =
-      (λ j. found.there j && is_of (kind_at c) (slot_value (shown_slots m t.slots) i))
-      ∙ (ap (λ y. is_of (kind_at c) y) (seating.shown_at m t.slots i (Some x.swaps.of) below x.swaps.at)
-      ∙ is_of_own x.swaps.of (kind_at c) (x.swaps.kinds.0 ∙ found.kind))
-
   pub exchanges_in : IsSeated m hand t → IsSeated m hand u → i < m → (x : ExchangesSlot t i (as_cell c) u)
       → IsFound t (shown_slots m t.slots) c x.swaps.site
       → (y : Slot) × Acts worth m t taken (act.Exchange i c) (Came y) u

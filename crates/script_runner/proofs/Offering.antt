@@ -96,18 +96,18 @@ module _ (hand : ℕ) (t u : TableNow ℕ) (c : CellName) (of : IsOfName hand c)
     refused : RefusesCell ℕ field_0 (hand + 1) t taken c r
     refused = cells_not field_0 (hand + 1) hand taken t c r is (named_below hand c of) why
 
-    none : is_there (thread_slots hand t) c ≡ false
-    none = not_there (thread_slots hand t) c (answer.Refused r) refused.load.says
+    pub absent : is_there (thread_slots hand t) c ≡ false
+    absent = not_there (thread_slots hand t) c (answer.Refused r) refused.load.says
 
     pub offer_not : (i : ℕ) → IsActed hand t taken (act.Offer i c) (went taken (Some (answer.Refused r))) t
     offer_not i =
         marked hand t taken (act.Offer i c) Plain (answer.Refused r) taken refl (refused.offer i)
-        (sym (hands_by (is_there (thread_slots hand t) c) false _ _ none)) refl
+        (sym (hands_by (is_there (thread_slots hand t) c) false _ _ absent)) refl
 
     pub load_not : IsActed hand t taken (act.Load c) (went taken (Some (answer.Refused r))) t
     load_not =
         marked hand t taken (act.Load c) (Came plain) (answer.Refused r) taken refl refused.load
-        (sym (hands_by (is_there (thread_slots hand t) c) false _ _ none)) refl
+        (sym (hands_by (is_there (thread_slots hand t) c) false _ _ absent)) refl
 
     pub exchange_not : (i : ℕ) → IsActed hand t taken (act.Exchange i c) (went taken (Some (answer.Refused r))) t
     exchange_not i =

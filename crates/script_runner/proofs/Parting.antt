@@ -108,11 +108,6 @@ module _ (hand : ℕ) (t u : TableNow ℕ) (is : IsSeated (hand + 1) hand t) (no
       (λ last l. refl) (λ last l. refl) (λ last l. refl) none
       (law.resets field_0 (hand + 1) hand i taken t u is (omega (arith, at)) gone c) bare some)
 
-pub clear_free : (hand i : ℕ) (t : TableNow ℕ) (taken : Bool) → is_full (slot_pointer (thread_slots hand t) i) ≡ false
-    → IsDealt hand t taken (act.Clear i) (left taken None) t
-clear_free hand i t taken free =
-    inr (record { free = ap not free; quiet = stays t; slots = refl; endings = refl; takes = refl; silent = (refl, refl) })
-
 -- a slot that is empty is made so
 pub plain_again : (l : Slots) (i : ℕ) → slot_value l i ≡ plain → slice_set l i plain ≡ l
 plain_again [] i e = refl

@@ -1,5 +1,5 @@
 -- What workers of a script leave is the script's report.
-use Rattle.std.proofs.Common.{◌≡◌, ◌⊎◌, inl, inr, ℕ, ◌*◌, false, List, [], ◌∷◌, length, map, None}
+use Rattle.std.proofs.Common.{◌≡◌, ◌⊎◌, inl, inr, ℕ, ◌*◌, ◌≤◌, List, [], ◌∷◌, length, map, None}
 use Rattle.std.proofs.Common.{refl, sym, ap, subst, ◌∙◌, arith}
 use Rattle.std.proofs.lemmas.List.{length-map}
 use Rattle.std.proofs.lemmas.List.Elements.{All-from_recursion, recursion_from_All}
@@ -17,13 +17,15 @@ use Rattle.control_word.specs.declared.refusal.Refusal.{Refusal}
 use Rattle.control_word.specs.declared.refusal.Refusal.TheVariants.{NotSole}
 use Rattle.control_word.specs.declared.shape.Shape.{Shape}
 use Rattle.handle_table.specs.Parting.{IsNew}
-use Rattle.handle_table.specs.Staffs.{IsParted, StaffsOpen}
+use Rattle.handle_table.specs.Staffs.{StaffsOpen}
 use Rattle.handle_table.specs.declared.staff.Share.{Share}
 use Rattle.ownership_ledger.specs.Now.{ShareNow}
-use Rattle.script_runner.proofs.Assigning.{AllShare, Does, all_added, all_play, all_said, all_share, as_many, same_many, still_share}
+use Rattle.script_runner.proofs.Assigning.{AllShare, Does, all_play, all_share, as_many, same_many, still_share}
+use Rattle.script_runner.proofs.Lending.{all_fit}
+use Rattle.script_runner.proofs.Rooms.{all_added, all_say_few}
 use Rattle.script_runner.proofs.Summing.{all_ended, all_made, sum_ended, sum_made}
 use Rattle.script_runner.proofs.Weaving.{teams_interleave}
-use Rattle.script_runner.specs.Assignments.{HasAssignment, IsReadyFor}
+use Rattle.script_runner.specs.Assignments.{HasAssignment, IsReadyFor, asked_by_all}
 use Rattle.script_runner.specs.Deals.{field_0}
 use Rattle.script_runner.specs.Reports.{HasAdded, IsGathered, IsPerformed, IsReport, domain_shape}
 use Rattle.script_runner.specs.Teams.{IsInterleaved}
@@ -32,7 +34,7 @@ use Rattle.script_runner.specs.declared.workers.assignment.Assignment.{Assignmen
 use Rattle.script_runner.specs.declared.workers.worker.Worker.{Worker}
 use Rattle.script_text.specs.Beginnings.{shape_for}
 use Rattle.script_text.specs.Drafts.{ScriptView}
-use Rattle.script_text.specs.Scripts.{part_in, program_in}
+use Rattle.script_text.specs.Scripts.{HasTextCells, part_in, program_in}
 use Rattle.script_text.specs.Versions.{blocks_in}
 use Rattle.step_threads.specs.Interleavings.{IsSplitOrJoin}
 use Rattle.step_threads.specs.declared.said.Said.{Said}
@@ -48,13 +50,13 @@ in_shape script blocks threads shape is all many =
 
 module _ {G : Type 0} where
   -- what those said is told of so many threads
-  line_count : (script : ScriptView) (had has : List (Worker G)) → length has ≡ length had
-      → AllZip IsReadyFor (program_in script.threads) had
+  line_count : (objects : ℕ) (script : ScriptView) (had has : List (Worker G)) → length has ≡ length had
+      → AllZip (IsReadyFor objects) (program_in script.threads) had
       → length (map (λ (v : Vec Said). v.items) (map (λ (w : Worker G). w.log.said) has)) ≡ length script.threads
-  line_count script had has many ready =
+  line_count objects script had has many ready =
       length-map (map (λ (w : Worker G). w.log.said) has) (λ (v : Vec Said). v.items)
       ∙ (length-map has (λ (w : Worker G). w.log.said)
-      ∙ (many ∙ (same_many IsReadyFor (program_in script.threads) had ready ∙ length-map script.threads part_in)))
+      ∙ (many ∙ (same_many (IsReadyFor objects) (program_in script.threads) had ready ∙ length-map script.threads part_in)))
 
   -- as many workers are left, each with a share of its book, also where they are refused
   pub record AreStill (book : TableId) (had has : List (Worker G)) : Type 0 where
@@ -64,14 +66,12 @@ module _ {G : Type 0} where
   pub still : (book : TableId) (shape : Shape) (share : Share) (had has : List (Worker G)) (r : Result (DomainNow × DeskNow ℕ) Refusal)
       → AllShare book had
       → IfOk r (λ x. StaffsOpen Does shape share had has x.0 x.1) → IfErr r (λ why. (why ≡ NotSole) ⊎ (has ≡ had))
-      → IfErr r (λ why. why ≡ NotSole → IsParted ℕ Does shape share had has) → AreStill book had has
-  still book shape share had has (Ok x) all works kept parted =
+      → IfErr r (λ why. why ≡ NotSole → ⊥) → AreStill book had has
+  still book shape share had has (Ok x) all works kept sole =
       let st = works.works.out.staffs in
       record { many = (as_many had st.lent has st.left st.each).2; share = still_share book had st.lent has st.left st.each all }
-  still book shape share had has (Err why) all works (inl not) parted =
-      let st = (parted not).works.out.staffs in
-      record { many = (as_many had st.lent has st.left st.each).2; share = still_share book had st.lent has st.left st.each all }
-  still book shape share had has (Err why) all works (inr same) parted =
+  still book shape share had has (Err why) all works (inl not) sole = absurd (sole not)
+  still book shape share had has (Err why) all works (inr same) sole =
       subst (AreStill book had) (sym same) (record { many = refl; share = all })
 
   -- and so are their shares
@@ -90,47 +90,51 @@ module _ {G : Type 0} where
   module _ (book : TableId) (assignments : List Assignment) (shape : Shape) (share : Share) (had has : List (Worker G))
       (r : Result (DomainNow × DeskNow ℕ) Refusal)
       (each : AllZip (HasAssignment book) assignments had) (works : IfOk r (λ x. StaffsOpen Does shape share had has x.0 x.1))
-      (kept : IfErr r (λ why. (why ≡ NotSole) ⊎ (has ≡ had))) (parted : IfErr r (λ why. why ≡ NotSole → IsParted ℕ Does shape share had has))
+      (kept : IfErr r (λ why. (why ≡ NotSole) ⊎ (has ≡ had))) (sole : IfErr r (λ why. why ≡ NotSole → ⊥))
     where
       pub workers_left : length has ≡ length assignments
       workers_left =
-          (still book shape share had has r (all_share book assignments had each) works kept parted).many
+          (still book shape share had has r (all_share book assignments had each) works kept sole).many
           ∙ same_many (HasAssignment book) assignments had each
 
       pub shares_left : (ss : List ShareNow) → ss ≡ map (λ (w : Worker G). w.log.share) has
           → All (λ (s : ShareNow). s.book ≡ book) ss × (length ss ≡ length assignments)
       shares_left ss is = (
-        shares_still book has ss is (still book shape share had has r (all_share book assignments had each) works kept parted).share,
+        shares_still book has ss is (still book shape share had has r (all_share book assignments had each) works kept sole).share,
         ap length is ∙ (length-map has (λ (w : Worker G). w.log.share) ∙ workers_left),
       )
 
-  -- the workers were ready for their threads, came to their ends, and had the slots that these need
-  pub performed : (script : ScriptView) (domain : DomainNow) (desk : DeskNow ℕ) (shape : Shape) (share : Share) (had has : List (Worker G))
-      → shape ≡ domain_shape script → AllZip IsReadyFor (program_in script.threads) had
-      → StaffsOpen Does shape share had has domain desk → AllByRecursion (λ (w : Worker G). w.log.lost ≡ false) has → share.slots ≡ 34
+  -- the workers were ready for their threads, and had the slots and the allowance that these need
+  performed : (script : ScriptView) (domain : DomainNow) (desk : DeskNow ℕ) (shape : Shape) (share : Share) (had has : List (Worker G))
+      → shape ≡ domain_shape script → asked_by_all (program_in script.threads) ≤ 65536
+      → AllZip (IsReadyFor (asked_by_all (program_in script.threads))) (program_in script.threads) had
+      → StaffsOpen Does shape share had has domain desk → share.slots ≡ 36 → 36 ≤ share.allowance
       → IsPerformed script (map (λ (v : Vec Said). v.items) (map (λ (w : Worker G). w.log.said) has)) domain desk
       (map (λ (w : Worker G). w.log.share) has)
-  performed script domain desk given share had has same ready works kept slots =
+  performed script domain desk given share had has same few ready works slots allowance =
       let shape = domain_shape script in
       let s = subst (λ (k : Shape). StaffsOpen Does k share had has domain desk) same works in
       let st = s.works.out.staffs in
       let first = s.works.first in
       let ps = program_in script.threads in
-      let vs = map (λ (w : Worker G). w.log.said) has in
-      let ls = map (λ (v : Vec Said). v.items) vs in
-      let said = all_said has kept in
+      let objects = asked_by_all ps in
       let many = as_many had st.lent has st.left st.each in
-      let new : AllByRecursion (IsNew 34) st.lent =
-      recursion_from_All (IsNew 34) st.lent (subst (λ n. All (IsNew n) st.lent) slots st.new) in
-      let play = all_play ps had st.lent has st.left vs ready new st.each said in
+      let new : AllByRecursion (IsNew 36) st.lent =
+      recursion_from_All (IsNew 36) st.lent (subst (λ n. All (IsNew n) st.lent) slots st.new) in
       let at : first.desk.shape ≡ shape = s.works.begins.shape ∙ s.of in
+      let cells : HasTextCells first.desk.shape = subst HasTextCells (sym at) (omega arith, omega arith) in
+      let fit = all_fit first.desk st.between share.allowance share.blocks st.lent allowance cells st.parts new in
+      let played = all_play objects ps had st.lent has st.left ready fit st.each in
+      let ls = played.lines in
       let legal = subst (λ (k : Shape). IsLegal (opening_of k) desk.seen) (sym at) s.can_close.legal in
       let woven : IsInterleaved field_0 (opening_of shape) desk.seen ps ls =
       subst (λ (k : Shape). IsInterleaved field_0 (opening_of k) desk.seen ps ls) at
       (teams_interleave {V = ℕ} field_0 ps ls domain share.slots first s.works.out.after st.between desk st.lent st.left share.allowance
-      share.blocks s.works.begins s.works.new st.parts play st.absorbs s.works.out.winds_up legal) in
-      record {
-        many = line_count script had has many.2 ready;
+      share.blocks s.works.begins s.works.new st.parts played.play st.absorbs s.works.out.winds_up legal) in
+      let have = all_added (opening_of shape) desk.seen objects few woven.names ps had has ls ready played.note woven.each
+      (all_say_few (opening_of shape) desk.seen ps ls woven) in
+      subst (λ (l : List (List Said)). IsPerformed script l domain desk (map (λ (w : Worker G). w.log.share) has)) (sym have.said) (record {
+        many = ap length (sym have.said) ∙ line_count objects script had has many.2 ready;
         of = s.of;
         here = s.here;
         can_close = s.can_close;
@@ -156,18 +160,22 @@ module _ {G : Type 0} where
           };
         };
         interleaved = woven;
-        added = all_added (opening_of shape) desk.seen woven.names ps had st.lent has st.left vs ready st.each said woven.each;
-      }
+        added = have.added;
+      })
 
-  pub performed_as : (script : ScriptView) (domain : DomainNow) (desk : DeskNow ℕ) (has : List (Worker G)) (lines : List (Vec Said))
-      (shares : List ShareNow)
+  -- so what the workers leave, with their lines and shares, is a run of the script
+  pub performed_as : (script : ScriptView) (shape : Shape) (share : Share) (had has : List (Worker G))
+      (r : Result (DomainNow × DeskNow ℕ) Refusal) (lines : List (Vec Said)) (shares : List ShareNow)
+      → shape ≡ domain_shape script → asked_by_all (program_in script.threads) ≤ 65536
+      → AllZip (IsReadyFor (asked_by_all (program_in script.threads))) (program_in script.threads) had
+      → IfOk r (λ x. StaffsOpen Does shape share had has x.0 x.1) → share.slots ≡ 36 → 36 ≤ share.allowance
       → lines ≡ map (λ (w : Worker G). w.log.said) has → shares ≡ map (λ (w : Worker G). w.log.share) has
-      → IsPerformed script (map (λ (v : Vec Said). v.items) (map (λ (w : Worker G). w.log.said) has)) domain desk
-      (map (λ (w : Worker G). w.log.share) has)
-      → IsPerformed script (map (λ (v : Vec Said). v.items) lines) domain desk shares
-  performed_as script domain desk has lines shares said added is =
-      subst (λ (l : List (Vec Said)). IsPerformed script (map (λ (v : Vec Said). v.items) l) domain desk shares) (sym said)
-      (subst (IsPerformed script (map (λ (v : Vec Said). v.items) (map (λ (w : Worker G). w.log.said) has)) domain desk) (sym added) is)
+      → IfOk r (λ x. IsPerformed script (map (λ (v : Vec Said). v.items) lines) x.0 x.1 shares)
+  performed_as script shape share had has (Err why) lines shares same few ready works slots allowance said added = tt
+  performed_as script shape share had has (Ok x) lines shares same few ready works slots allowance said added =
+      subst (λ (l : List (Vec Said)). IsPerformed script (map (λ (v : Vec Said). v.items) l) x.0 x.1 shares) (sym said)
+      (subst (IsPerformed script (map (λ (v : Vec Said). v.items) (map (λ (w : Worker G). w.log.said) has)) x.0 x.1) (sym added)
+      (performed script x.0 x.1 shape share had has same few ready works slots allowance))
 
 -- the sums of what was added to shares are what all names make and end
 sum_shares : (h : List (Entry ℕ)) (ns : List ℕ) (ss : List ShareNow) → AllZip (HasAdded h) ns ss

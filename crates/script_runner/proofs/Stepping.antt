@@ -1,11 +1,11 @@
 -- A worker's acts, one after another.
-use Rattle.std.proofs.Common.{◌≡◌, ◌⊎◌, ℕ, zero, suc, ◌+◌, Bool, true, false, List, [], ◌∷◌, ◌++◌, Option, Some, None, refl, sym}
+use Rattle.std.proofs.Common.{◌≡◌, ◌⊎◌, ℕ, zero, suc, ◌+◌, Bool, true, false, List, [], ◌∷◌, ◌++◌, Option, Some, None, sym}
 use Rattle.std.proofs.Common.{ap, subst, ◌∙◌, inl, inr, arith}
-use Rattle.std.specs.Prelude.{IfNone, IfSome, drop, not, slice_get}
+use Rattle.std.specs.Prelude.{IfNone, IfSome, drop, slice_get}
 use Rattle.handle_table.specs.Tables.{TableNow}
 use Rattle.script_runner.proofs.Onward.{compared_on, deal_on, differs_on, line}
 use Rattle.script_runner.proofs.Settles.{then_settled}
-use Rattle.script_runner.specs.Deals.{GoesOnWith, IsActed, IsCompared, IsDealt, IsSettledBy, IsTop, statement_says}
+use Rattle.script_runner.specs.Deals.{GoesOnWith, IsCompared, IsDealt, IsSettledBy, IsTop, statement_says}
 use Rattle.script_runner.specs.Goings.{task}
 use Rattle.script_runner.specs.Logs.{told_line}
 use Rattle.script_runner.specs.declared.acts.went.Went.{Went}
@@ -20,33 +20,6 @@ use Rattle.step_threads.specs.declared.said.Said.{Said}
 pub or_then : {A B C : Type 0} → A ⊎ B → (B → C) → A ⊎ C
 or_then (inl a) f = inl a
 or_then (inr b) f = inr (f b)
-
-pub both_then : {A B C D : Type 0} → A ⊎ B → A ⊎ C → (B → C → D) → A ⊎ D
-both_then (inl a) c f = inl a
-both_then (inr b) (inl a) f = inl a
-both_then (inr b) (inr c) f = inr (f b c)
-
-pub not_lost : {A : Type 0} (b : Bool) → (b ≡ true) ⊎ A → b ≡ false → A
-not_lost b (inl e) f = absurd cc
-not_lost b (inr a) f = a
-
-pub still : {A : Type 0} (b : Bool) → (b ≡ true) ⊎ (not b ≡ false → A)
-still true = inl refl
-still false = inr (λ e. absurd cc)
-
-pub goes_on : (b : Bool) → not b ≡ true → b ≡ false
-goes_on true e = absurd cc
-goes_on false e = refl
-
--- what comes of an act, where the act is this one
-pub dealt : (hand : ℕ) (t u : TableNow ℕ) (taken : Bool) (a b : Act) (x : Option Went) → a ≡ b
-    → IfSome x (λ y. IsActed hand t taken b y u) → IfSome x (λ y. IsDealt hand t taken a y u)
-dealt hand t u taken a b None same some = tt
-dealt hand t u taken a b (Some x) same some = subst (λ c. IsDealt hand t taken c x u) (sym same) (inl some)
-
-pub dealt_so : (hand : ℕ) (t u : TableNow ℕ) (taken : Bool) (a b : Act) (x : Option Went) → a ≡ b
-    → IfSome x (λ y. IsDealt hand t taken b y u) → IfSome x (λ y. IsDealt hand t taken a y u)
-dealt_so hand t u taken a b x same some = subst (λ c. IfSome x (λ y. IsDealt hand t taken c y u)) (sym same) some
 
 pub drop_at : {A : Type 0} (xs : List A) (n : ℕ) (x : A) → slice_get xs n ≡ Some x → drop n xs ≡ x ∷ drop (n + 1) xs
 drop_at [] n x e = absurd cc

@@ -1,5 +1,5 @@
 -- What was in hand goes into a cell, and what that held is to be dropped.
-use Rattle.std.proofs.Common.{◌≡◌, ◌≢◌, ℕ, ◌<◌, ◌+◌, Bool, true, false, ◌&&◌, cond, length, Some, None, refl, sym, ap, subst}
+use Rattle.std.proofs.Common.{◌≡◌, ◌≢◌, ℕ, ◌<◌, ◌+◌, true, false, ◌&&◌, cond, length, Some, None, refl, sym, ap, subst}
 use Rattle.std.proofs.Common.{◌∙◌, inl, inr, arith}
 use Rattle.std.proofs.lemmas.List.{get_or-set_same, set-set, set_comm}
 use Rattle.std.specs.Prelude.{not, slice_get, slice_set}
@@ -32,10 +32,6 @@ stays t = record { shape = refl; name = refl; seen = refl }
 -- with nothing in hand there is nothing to swap, and nothing to compare
 pub swap_none : (hand : ℕ) (t : TableNow ℕ) (c : CellName) → IsDealt hand t false (act.Swap c) (went false None) t
 swap_none hand t c =
-    inr (record { free = refl; quiet = stays t; slots = refl; endings = refl; takes = refl; silent = (refl, refl) })
-
-pub compare_none : (hand i : ℕ) (t : TableNow ℕ) (c : CellName) (weak : Bool) → IsDealt hand t false (act.Compare i c weak) (went false None) t
-compare_none hand i t c weak =
     inr (record { free = refl; quiet = stays t; slots = refl; endings = refl; takes = refl; silent = (refl, refl) })
 
 module _ (hand other : ℕ) (t v u : TableNow ℕ) (c : CellName) (of : IsOfName hand c) (third : IsThird c) (at : other + 1 ≡ hand)

@@ -4,10 +4,9 @@ ghost use Rattle.std.specs.List.{AllZip};
 ghost use Rattle.control_word.specs.Layout.{IsWithinLimits};
 ghost use Rattle.script_text.specs.Beginnings.{shape_for};
 ghost use Rattle.script_text.specs.Scripts.{program_in};
-ghost use Rattle.script_runner.specs.Assignments.{IsNewShare, IsAssignmentFor};
+ghost use Rattle.script_runner.specs.Assignments.{IsNewShare, IsAssignmentFor, asked_by_all};
 ghost use Rattle.script_runner.specs.Reports.{IsReport, IsPerformed};
 
-use crate::closing::close_sole;
 use crate::gate::Gate;
 use crate::reports::report::Report;
 use crate::workers::assigning::{assign, assignments_of, collect};
@@ -43,8 +42,9 @@ fn shape_of(blocks: u32, threads: u32) -> Shape
 }
 
 /// Workers with these assignments do a script's threads, each with a share of the book. What each said goes into a
-/// list, the shares come back, and the domain comes out with its sole desk. It is refused where a growth was, or where
-/// a worker couldn't go on.
+/// list, the shares come back, and the domain comes out with its sole desk. It is refused only where a growth was,
+/// before the first worker starts: the domain has a share for each thread, and each worker leaves its table the
+/// allowance that it had. No log is full: by the history of all, no thread says more than its worker has room for.
 fn perform<'a, R: Threads + Wait + Sync, G: Gate + Sync>(
     rt: &R,
     alloc: Global,
@@ -55,7 +55,9 @@ fn perform<'a, R: Threads + Wait + Sync, G: Gate + Sync>(
     shares: &mut Vec<Share>,
     lines: &mut Vec<Vec<Said>>,
 ) -> Result<(Domain<u64>, Desk<u64>), Refusal>
-    requires assignments { AllZip IsAssignmentFor (program_in script.now.threads) assignments.items }
+    requires assignments { AllZip (IsAssignmentFor (asked_by_all (program_in script.now.threads)))
+        (program_in script.now.threads) assignments.items }
+    requires objects { asked_by_all (program_in script.now.threads) ≤ 65536 }
     requires shares { All (IsNewShare book.now.id) shares.old.items }
     requires many { length shares.old.items ≡ length assignments.items }
     requires room { (lines.old.items ≡ []) × (length assignments.items ≤ vec_capacity lines.old)
@@ -79,17 +81,9 @@ fn perform<'a, R: Threads + Wait + Sync, G: Gate + Sync>(
     };
     let shape = shape_of(script.blocks(), threads);
     let worked = run_workers_open::<u64, R, Worker<'a, G>>(rt, alloc, shape, share, &mut workers);
-    let lost = collect(&mut workers, shares, lines);
+    collect(&mut workers, shares, lines);
     workers.destroy_empty();
-    let (domain, desk) = match worked {
-        Ok(open) => open,
-        Err(_) => return Err(Refusal::Memory),
-    };
-    if lost {
-        drop(close_sole(domain, desk));
-        return Err(Refusal::Memory);
-    }
-    Ok((domain, desk))
+    worked
 }
 
 /// Runs a script on real workers, one a thread, each with a table of its own: `gate` is told of each statement in its
@@ -98,9 +92,10 @@ fn perform<'a, R: Threads + Wait + Sync, G: Gate + Sync>(
 /// sole desk, which has seen all that the workers did, and has no handle and nothing to end. `close` by it isn't
 /// refused.
 ///
-/// It is refused `Memory` and nothing else: where a growth was refused, all of which come before the first worker
-/// starts; or where a worker found in its table what can't be, or has no room for more in its share, after which it
-/// does and adds no more. All workers that were started have ended then, and there is no report.
+/// It is refused `Memory` and nothing else, and only where a growth was refused. All growths come before the first
+/// worker starts: no worker has worked then, and there is no report. Where the workers start, it answers once all of
+/// them have ended. There is memory for all that a thread may say, and a share has room for all that may be added to
+/// it.
 pub fn run_script<R: Threads + Wait + Sync, G: Gate + Sync>(
     rt: &R,
     alloc: Global,

@@ -1,8 +1,12 @@
 //! Acts that only tell something.
-ghost use Rattle.std.specs.Prelude.{◌≡◌, ◌+◌, IfSome};
+ghost use Rattle.std.specs.Prelude.{◌≡◌, ◌<◌, ◌+◌};
+ghost use Rattle.control_word.specs.declared.model.handle.Kind.{Kind};
+ghost use Rattle.control_word.specs.declared.model.handle.Kind.TheVariants.{Owner, Weak};
 ghost use Rattle.step_threads.specs.declared.programs.act.Act.TheVariants as act;
 ghost use Rattle.step_threads.specs.declared.programs.act.Question.TheVariants as question;
+ghost use Rattle.script_runner.specs.Asked.{AsksBelow, HasAsked};
 ghost use Rattle.script_runner.specs.Deals.{IsActed};
+ghost use Rattle.script_runner.specs.Kinds.{HasKind};
 ghost use Rattle.script_runner.specs.Seats.{IsSeated};
 
 use crate::acts::went::Went;
@@ -16,20 +20,21 @@ pub(crate) fn count<H: Home>(
     hand: usize,
     taken: bool,
     name: u8,
-) -> Option<Went>
-    requires { IsSeated (hand + 1) hand table.old }
-    ensures { IfSome result (λ x. IsActed hand table.old taken (act.Count name) x table.new) }
+) -> Went
+    requires seated { IsSeated (hand + 1) hand table.old }
+    requires name { name < hand }
+    requires kind { (k : Kind) × HasKind table.old.slots name k }
+    ensures acts { IsActed hand table.old taken (act.Count name) result table.new }
+    ensures taken { result.taken ≡ taken }
+    ensures same { table.new.slots ≡ table.old.slots }
 {
-    if usize::from(name) >= hand {
-        return None;
-    }
     match table.use_count(usize::from(name)) {
-        Ok(owners) => Some(Went {
+        Ok(owners) => Went {
             taken,
             answer: Some(Answer::Count(owners)),
             ended: None,
-        }),
-        Err(_) => None,
+        },
+        Err(_) => unreachable!(),
     }
 }
 
@@ -39,20 +44,21 @@ pub(crate) fn expire<H: Home>(
     hand: usize,
     taken: bool,
     name: u8,
-) -> Option<Went>
-    requires { IsSeated (hand + 1) hand table.old }
-    ensures { IfSome result (λ x. IsActed hand table.old taken (act.Expired name) x table.new) }
+) -> Went
+    requires seated { IsSeated (hand + 1) hand table.old }
+    requires name { name < hand }
+    requires kind { HasKind table.old.slots name Weak }
+    ensures acts { IsActed hand table.old taken (act.Expired name) result table.new }
+    ensures taken { result.taken ≡ taken }
+    ensures same { table.new.slots ≡ table.old.slots }
 {
-    if usize::from(name) >= hand {
-        return None;
-    }
     match table.expired(usize::from(name)) {
-        Ok(expired) => Some(Went {
+        Ok(expired) => Went {
             taken,
             answer: Some(Answer::Expired(expired)),
             ended: None,
-        }),
-        Err(_) => None,
+        },
+        Err(_) => unreachable!(),
     }
 }
 
@@ -62,25 +68,28 @@ pub(crate) fn read<H: Home>(
     hand: usize,
     taken: bool,
     name: u8,
-) -> Option<Went>
-    requires { IsSeated (hand + 1) hand table.old }
-    ensures { IfSome result (λ x. IsActed hand table.old taken (act.Read name) x table.new) }
+) -> Went
+    requires seated { IsSeated (hand + 1) hand table.old }
+    requires name { name < hand }
+    requires kind { HasKind table.old.slots name Owner }
+    ensures acts { IsActed hand table.old taken (act.Read name) result table.new }
+    ensures taken { result.taken ≡ taken }
+    ensures same { table.new.slots ≡ table.old.slots }
 {
-    if usize::from(name) >= hand {
-        return None;
-    }
     match table.read(usize::from(name)) {
-        Ok(field) => Some(Went {
+        Ok(field) => Went {
             taken,
             answer: Some(Answer::Read(field)),
             ended: None,
-        }),
-        Err(Fault::Call(why)) => Some(Went {
-            taken,
-            answer: Some(Answer::Refused(why)),
-            ended: None,
-        }),
-        Err(_) => None,
+        },
+        Err(why) => match why {
+            Fault::Call(why) => Went {
+                taken,
+                answer: Some(Answer::Refused(why)),
+                ended: None,
+            },
+            _ => unreachable!(),
+        },
     }
 }
 
@@ -90,9 +99,13 @@ pub(crate) fn ask<H: Home>(
     hand: usize,
     taken: bool,
     question: Question,
-) -> Option<Went>
-    requires { IsSeated (hand + 1) hand table.old }
-    ensures { IfSome result (λ x. IsActed hand table.old taken (act.Ask question) x table.new) }
+) -> Went
+    requires seated { IsSeated (hand + 1) hand table.old }
+    requires names { AsksBelow hand question }
+    requires kinds { HasAsked table.old.slots question }
+    ensures acts { IsActed hand table.old taken (act.Ask question) result table.new }
+    ensures taken { result.taken ≡ taken }
+    ensures same { table.new.slots ≡ table.old.slots }
 {
     match question {
         Question::Place { name } => place(table, hand, taken, name),
@@ -102,25 +115,21 @@ pub(crate) fn ask<H: Home>(
 }
 
 /// Where a name points.
-fn place<H: Home>(
-    table: &mut HandleTable<'_, u64, H>,
-    hand: usize,
-    taken: bool,
-    name: u8,
-) -> Option<Went>
-    requires { IsSeated (hand + 1) hand table.old }
-    ensures { IfSome result (λ x. IsActed hand table.old taken (act.Ask (question.Place name)) x table.new) }
+fn place<H: Home>(table: &mut HandleTable<'_, u64, H>, hand: usize, taken: bool, name: u8) -> Went
+    requires seated { IsSeated (hand + 1) hand table.old }
+    requires name { name < hand }
+    requires kind { HasKind table.old.slots name Owner }
+    ensures acts { IsActed hand table.old taken (act.Ask (question.Place name)) result table.new }
+    ensures taken { result.taken ≡ taken }
+    ensures same { table.new.slots ≡ table.old.slots }
 {
-    if usize::from(name) >= hand {
-        return None;
-    }
     match table.place(usize::from(name)) {
-        Ok(place) => Some(Went {
+        Ok(place) => Went {
             taken,
             answer: Some(Answer::Place(place)),
             ended: None,
-        }),
-        Err(_) => None,
+        },
+        Err(_) => unreachable!(),
     }
 }
 
@@ -131,20 +140,21 @@ fn same<H: Home>(
     taken: bool,
     first: u8,
     second: u8,
-) -> Option<Went>
-    requires { IsSeated (hand + 1) hand table.old }
-    ensures { IfSome result (λ x. IsActed hand table.old taken (act.Ask (question.Same first second)) x table.new) }
+) -> Went
+    requires seated { IsSeated (hand + 1) hand table.old }
+    requires names { (first < hand) × (second < hand) }
+    requires kinds { HasKind table.old.slots first Owner × HasKind table.old.slots second Owner }
+    ensures acts { IsActed hand table.old taken (act.Ask (question.Same first second)) result table.new }
+    ensures taken { result.taken ≡ taken }
+    ensures same { table.new.slots ≡ table.old.slots }
 {
-    if usize::from(first) >= hand || usize::from(second) >= hand {
-        return None;
-    }
     match table.same_place(usize::from(first), usize::from(second)) {
-        Ok(same) => Some(Went {
+        Ok(same) => Went {
             taken,
             answer: Some(Answer::Same(same)),
             ended: None,
-        }),
-        Err(_) => None,
+        },
+        Err(_) => unreachable!(),
     }
 }
 
@@ -155,19 +165,21 @@ fn before<H: Home>(
     taken: bool,
     first: u8,
     second: u8,
-) -> Option<Went>
-    requires { IsSeated (hand + 1) hand table.old }
-    ensures { IfSome result (λ x. IsActed hand table.old taken (act.Ask (question.Before first second)) x table.new) }
+) -> Went
+    requires seated { IsSeated (hand + 1) hand table.old }
+    requires names { (first < hand) × (second < hand) }
+    requires kinds { ((k : Kind) × HasKind table.old.slots first k)
+        × ((k : Kind) × HasKind table.old.slots second k) }
+    ensures acts { IsActed hand table.old taken (act.Ask (question.Before first second)) result table.new }
+    ensures taken { result.taken ≡ taken }
+    ensures same { table.new.slots ≡ table.old.slots }
 {
-    if usize::from(first) >= hand || usize::from(second) >= hand {
-        return None;
-    }
     match table.owner_before(usize::from(first), usize::from(second)) {
-        Ok(before) => Some(Went {
+        Ok(before) => Went {
             taken,
             answer: Some(Answer::Before(before)),
             ended: None,
-        }),
-        Err(_) => None,
+        },
+        Err(_) => unreachable!(),
     }
 }

@@ -1,96 +1,68 @@
 //! Acts on cells.
-ghost use Rattle.std.specs.Prelude.{◌≡◌, ◌+◌, false, true, [], IfSome};
+ghost use Rattle.std.specs.Prelude.{◌≡◌, ◌<◌, ◌+◌, ◌-◌, false, true};
+ghost use Rattle.control_word.specs.declared.model.handle.Kind.{Kind as KindOf};
+ghost use Rattle.control_word.specs.declared.refusal.Refusal.{Refusal as RefusalOf};
+ghost use Rattle.handle_table.specs.Calls.{IsBelow, MovesSlot};
+ghost use Rattle.handle_table.specs.declared.fault.Fault.TheVariants as fault;
 ghost use Rattle.step_threads.specs.declared.programs.act.Act.TheVariants as act;
 ghost use Rattle.step_threads.specs.Programs.{kind_at};
-ghost use Rattle.handle_table.specs.Ends.{NamesCell};
 ghost use Rattle.script_runner.specs.CellCalls.{IsOfName, as_cell};
-ghost use Rattle.script_runner.specs.Deals.{IsActed, IsDealt, IsThird};
+ghost use Rattle.script_runner.specs.Deals.{IsActed, IsDealt};
+ghost use Rattle.script_runner.specs.Kinds.{HasKind, IsVacant, KeepsKinds, TakesKind};
+ghost use Rattle.script_runner.specs.Reached.{IsReachable, SetsAside, nothing};
 ghost use Rattle.script_runner.specs.Seats.{IsHand, IsSeated};
 
-use crate::acts::went::Went;
-use crate::workers::seats::seen;
+use crate::acts::went::{Went, refused};
+use control_word::Refusal;
 use handle_table::{Cell, Fault, HandleTable, Home, SharedMember};
 use std::sync::Wait;
-use step_core::{Answer, CellName, Kind};
+use step_core::{Answer, CellName};
 
-/// The cell of a table that a script's cell is, where its name is one before the hand.
-pub(crate) fn cell_of(cell: CellName, hand: usize) -> Option<Cell>
-    ensures { IfSome result (λ x. (x ≡ as_cell cell) × IsOfName hand cell × IsThird cell) }
+/// The cell of a table that a script's cell is.
+pub(crate) fn cell_of(cell: CellName) -> Cell
+    ensures { result ≡ as_cell cell }
 {
     match cell {
-        CellName::Shared(number) => Some(Cell::Shared(u32::from(number))),
-        CellName::Weak(number) => Some(Cell::Weak(u32::from(number))),
+        CellName::Shared(number) => Cell::Shared(u32::from(number)),
+        CellName::Weak(number) => Cell::Weak(u32::from(number)),
         CellName::Member { name, member } => {
             let of = usize::from(name.0);
-            if of >= hand {
-                return None;
-            }
             match member {
-                0 => Some(Cell::Member {
+                0 => Cell::Member {
                     of,
                     which: SharedMember::First,
-                }),
-                1 => Some(Cell::Member {
+                },
+                1 => Cell::Member {
                     of,
                     which: SharedMember::Next,
-                }),
-                2 => Some(Cell::Up { of }),
-                _ => None,
+                },
+                _ => Cell::Up { of },
             }
         }
     }
 }
 
-/// The kind of what a cell holds.
-fn kind_of(cell: CellName) -> Kind
-    ensures { result ≡ kind_at cell }
+/// The refusal that a table tells of a cell that isn't there.
+fn refusal_of(why: Fault) -> Refusal
+    requires { (r : RefusalOf) × (why ≡ fault.Call r) }
+    ensures { why ≡ fault.Call result }
 {
-    match cell {
-        CellName::Shared(_) => Kind::Owner,
-        CellName::Weak(_) => Kind::Weak,
-        CellName::Member { name: _, member } => {
-            if member == 2 { Kind::Weak } else { Kind::Owner }
-        }
+    match why {
+        Fault::Call(refusal) => refusal,
+        _ => unreachable!(),
     }
 }
 
-/// Whether a handle of this kind may go into the cell.
-fn fits(kind: Kind, cell: CellName) -> bool
-    ensures { result ≡ true → kind ≡ kind_at cell }
+/// What is in hand is to be dropped.
+pub(crate) fn set_aside<H: Home>(table: &mut HandleTable<'_, u64, H>, hand: usize)
+    requires hand { 0 < hand }
+    requires full { (k : KindOf) × HasKind table.old.slots hand k }
+    ensures moved { MovesSlot table.old hand (hand - 1) table.new }
+    ensures kinds { SetsAside hand table.old table.new }
 {
-    kind == kind_of(cell)
-}
-
-/// A copy of what a name holds, which is of the cell's kind.
-fn offer_to<H: Home>(
-    table: &mut HandleTable<'_, u64, H>,
-    hand: usize,
-    name: u8,
-    cell: CellName,
-) -> Option<Went>
-    requires hand { IsHand (hand + 1) hand table.old }
-    requires there { NamesCell table.old (as_cell cell) }
-    requires named { IsOfName hand cell × IsThird cell }
-    ensures { IfSome result (λ x. IsActed hand table.old false (act.Offer name cell) x table.new) }
-{
-    if usize::from(name) >= hand {
-        return None;
-    }
-    match table.peek(usize::from(name)) {
-        Ok(x) => {
-            if !fits(x.kind, cell) {
-                return None;
-            }
-        }
-        Err(_) => return None,
-    }
-    match table.copy(usize::from(name), hand) {
-        Ok(()) => Some(Went {
-            taken: true,
-            answer: None,
-            ended: None,
-        }),
-        Err(_) => None,
+    match table.move_to(hand, hand - 1) {
+        Ok(()) => {}
+        Err(_) => unreachable!(),
     }
 }
 
@@ -100,22 +72,27 @@ pub(crate) fn offer<H: Home>(
     hand: usize,
     name: u8,
     cell: CellName,
-) -> Option<Went>
-    requires { IsHand (hand + 1) hand table.old }
-    ensures { IfSome result (λ x. IsActed hand table.old false (act.Offer name cell) x table.new) }
+) -> Went
+    requires hand { IsHand (hand + 1) hand table.old }
+    requires name { name < hand }
+    requires named { IsOfName hand cell }
+    requires reached { IsReachable table.old cell }
+    requires kind { HasKind table.old.slots name (kind_at cell) }
+    requires below { IsBelow table.old.desk }
+    ensures acts { IsActed hand table.old false (act.Offer name cell) result table.new }
+    ensures kinds { TakesKind hand (kind_at cell) result.taken table.old table.new }
 {
-    let to = match cell_of(cell, hand) {
-        Some(to) => to,
-        None => return None,
-    };
-    match table.reaches(to) {
-        Ok(()) => offer_to(table, hand, name, cell),
-        Err(Fault::Call(why)) => Some(Went {
-            taken: false,
-            answer: Some(Answer::Refused(why)),
+    match table.reaches(cell_of(cell)) {
+        Ok(()) => {}
+        Err(why) => return refused(refusal_of(why)),
+    }
+    match table.copy(usize::from(name), hand) {
+        Ok(()) => Went {
+            taken: true,
+            answer: None,
             ended: None,
-        }),
-        Err(_) => None,
+        },
+        Err(_) => unreachable!(),
     }
 }
 
@@ -125,36 +102,24 @@ pub(crate) fn load<H: Home, R: Wait>(
     table: &mut HandleTable<'_, u64, H>,
     hand: usize,
     cell: CellName,
-) -> Option<Went>
-    requires { IsHand (hand + 1) hand table.old }
-    ensures { IfSome result (λ x. IsActed hand table.old false (act.Load cell) x table.new) }
+) -> Went
+    requires hand { IsHand (hand + 1) hand table.old }
+    requires named { IsOfName hand cell }
+    requires reached { IsReachable table.old cell }
+    requires below { IsBelow table.old.desk }
+    ensures acts { IsActed hand table.old false (act.Load cell) result table.new }
+    ensures kinds { TakesKind hand (kind_at cell) result.taken table.old table.new }
 {
-    let from = match cell_of(cell, hand) {
-        Some(from) => from,
-        None => return None,
-    };
-    match table.reaches(from) {
-        Ok(()) => {}
-        Err(Fault::Call(why)) => {
-            return Some(Went {
-                taken: false,
-                answer: Some(Answer::Refused(why)),
+    match table.load(rt, cell_of(cell), hand) {
+        Ok(()) => {
+            table.stands();
+            Went {
+                taken: true,
+                answer: None,
                 ended: None,
-            });
+            }
         }
-        Err(_) => return None,
-    }
-    match table.load(rt, from, hand) {
-        Ok(()) => {}
-        Err(_) => return None,
-    }
-    match seen(table, hand) {
-        Some(_) => Some(Went {
-            taken: true,
-            answer: None,
-            ended: None,
-        }),
-        None => None,
+        Err(why) => refused(refusal_of(why)),
     }
 }
 
@@ -165,84 +130,83 @@ pub(crate) fn exchange<H: Home>(
     taken: bool,
     name: u8,
     cell: CellName,
-) -> Option<Went>
-    requires { IsSeated (hand + 1) hand table.old }
-    ensures { IfSome result (λ x. IsActed hand table.old taken (act.Exchange name cell) x table.new) }
+) -> Went
+    requires seated { IsSeated (hand + 1) hand table.old }
+    requires name { name < hand }
+    requires named { IsOfName hand cell }
+    requires reached { IsReachable table.old cell }
+    requires kind { HasKind table.old.slots name (kind_at cell) }
+    ensures acts { IsActed hand table.old taken (act.Exchange name cell) result table.new }
+    ensures taken { result.taken ≡ taken }
+    ensures kinds { KeepsKinds table.old table.new }
 {
-    let to = match cell_of(cell, hand) {
-        Some(to) => to,
-        None => return None,
-    };
-    if usize::from(name) >= hand {
-        return None;
-    }
-    match table.reaches(to) {
-        Ok(()) => {}
-        Err(Fault::Call(why)) => {
-            return Some(Went {
+    match table.exchange(usize::from(name), cell_of(cell)) {
+        Ok(()) => {
+            table.stands();
+            Went {
                 taken,
-                answer: Some(Answer::Refused(why)),
+                answer: None,
                 ended: None,
-            });
+            }
         }
-        Err(_) => return None,
-    }
-    match table.exchange(usize::from(name), to) {
-        Ok(()) => {}
-        Err(_) => return None,
-    }
-    match seen(table, hand) {
-        Some(_) => Some(Went {
+        Err(why) => Went {
             taken,
-            answer: None,
+            answer: Some(Answer::Refused(refusal_of(why))),
             ended: None,
-        }),
-        None => None,
+        },
     }
 }
 
-/// What is in hand goes into a cell, and what that held is to be dropped.
+/// What is in hand goes into a cell, and what that held is to be dropped; or what was in hand is, where the cell isn't
+/// there.
+fn swap_taken<H: Home>(table: &mut HandleTable<'_, u64, H>, hand: usize, cell: CellName)
+    requires seated { IsSeated (hand + 1) hand table.old }
+    requires hand { 0 < hand }
+    requires named { IsOfName hand cell }
+    requires reached { IsReachable table.old cell }
+    requires full { HasKind table.old.slots hand (kind_at cell) }
+    requires other { IsVacant table.old.slots (hand - 1) }
+    ensures acts { IsDealt hand table.old true (act.Swap cell) nothing table.new }
+    ensures kinds { SetsAside hand table.old table.new }
+{
+    match table.exchange(hand, cell_of(cell)) {
+        Ok(()) => {
+            table.stands();
+            set_aside(table, hand);
+        }
+        Err(_) => set_aside(table, hand),
+    }
+}
+
+/// The same, where something is in hand.
 pub(crate) fn swap<H: Home>(
     table: &mut HandleTable<'_, u64, H>,
     hand: usize,
     taken: bool,
     cell: CellName,
-) -> Option<Went>
-    requires { IsSeated (hand + 1) hand table.old }
-    ensures { IfSome result (λ x. IsDealt hand table.old taken (act.Swap cell) x table.new) }
+) -> Went
+    requires seated { IsSeated (hand + 1) hand table.old }
+    requires hand { 0 < hand }
+    requires named { IsOfName hand cell }
+    requires reached { IsReachable table.old cell }
+    requires full { taken ≡ true → HasKind table.old.slots hand (kind_at cell) }
+    requires other { IsVacant table.old.slots (hand - 1) }
+    ensures acts { IsDealt hand table.old taken (act.Swap cell) result table.new }
+    ensures taken { result.taken ≡ false }
+    ensures kept { taken ≡ false → KeepsKinds table.old table.new }
+    ensures aside { taken ≡ true → SetsAside hand table.old table.new }
 {
     if !taken {
-        return Some(Went {
+        return Went {
             taken,
             answer: None,
             ended: None,
-        });
+        };
     }
-    let to = match cell_of(cell, hand) {
-        Some(to) => to,
-        None => return None,
-    };
-    if hand == 0 {
-        return None;
-    }
-    match table.exchange(hand, to) {
-        Ok(()) => {}
-        Err(_) => return None,
-    }
-    match seen(table, hand) {
-        Some(_) => {}
-        None => return None,
-    }
-    match table.peek(hand - 1) {
-        Err(Fault::Vacant) => {}
-        _ => return None,
-    }
-    match table.move_to(hand, hand - 1) {
-        Ok(()) => Some(Went {
-            taken: false,
-            answer: None,
-            ended: None,
-        }),
-        Err(_) => None,
+    swap_taken(table, hand, cell);
+    Went {
+        taken: false,
+        answer: None,
+        ended: None,
     }
 }

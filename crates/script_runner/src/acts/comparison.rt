@@ -1,10 +1,17 @@
 //! A comparison of a cell with what a name holds.
-ghost use Rattle.std.specs.Prelude.{◌≡◌, ◌+◌, IfSome};
-ghost use Rattle.handle_table.specs.Compares.{ComparesSlots};
-ghost use Rattle.script_runner.specs.Deals.{IsCompared};
+ghost use Rattle.std.specs.Prelude.{◌≡◌, ◌≢◌, ◌<◌, ◌+◌, ◌-◌, true, IfErr, IfNone};
+ghost use Rattle.std.specs.Prelude.{IfOk, IfSome, None, Some};
+ghost use Rattle.handle_table.specs.Calls.{IsBelow};
+ghost use Rattle.handle_table.specs.Compares.{ComparesSlots, WhyNotCompared};
+ghost use Rattle.step_threads.specs.declared.programs.act.Act.TheVariants as act;
+ghost use Rattle.step_threads.specs.Programs.{kind_at};
+ghost use Rattle.script_runner.specs.CellCalls.{IsOfName};
+ghost use Rattle.script_runner.specs.Deals.{IsCompared, IsPassedOver};
+ghost use Rattle.script_runner.specs.Kinds.{HasKind, IsVacant, SetsKind};
+ghost use Rattle.script_runner.specs.Reached.{IsReachable, SetsAside, nothing};
 ghost use Rattle.script_runner.specs.Seats.{IsSeated};
 
-use crate::acts::cells::cell_of;
+use crate::acts::cells::{cell_of, set_aside};
 use handle_table::{Cell, Fault, HandleTable, Home};
 use std::sync::Wait;
 use step_core::CellName;
@@ -17,17 +24,20 @@ fn compare_either<H: Home, R: Wait>(
     name: usize,
     hand: usize,
     weak: bool,
-) -> Option<bool>
-    ensures { IfSome result (λ swapped. ComparesSlots weak table.old cell name hand swapped table.new) }
+) -> Result<bool, Fault>
+    ensures compared { IfOk result (λ swapped. ComparesSlots weak table.old cell name hand swapped table.new) }
+    ensures refused { IfErr result
+        (λ why. WhyNotCompared table.old cell name hand why × (table.new ≡ table.old)) }
 {
     if weak {
-        return table.compare_exchange_weak(rt, cell, name, hand).ok();
+        return table.compare_exchange_weak(rt, cell, name, hand);
     }
-    table.compare_exchange_strong(rt, cell, name, hand).ok()
+    table.compare_exchange_strong(rt, cell, name, hand)
 }
 
 /// What is in hand goes into a cell that is equivalent to a name, and what that held leaves: true. Or else the name
-/// gets what the cell holds, and what was in hand is to be dropped.
+/// gets what the cell holds, and what was in hand is to be dropped: false. Where the cell isn't there it is to be
+/// dropped as well, and there is no answer.
 pub(crate) fn compare<H: Home, R: Wait>(
     rt: &R,
     table: &mut HandleTable<'_, u64, H>,
@@ -36,26 +46,28 @@ pub(crate) fn compare<H: Home, R: Wait>(
     cell: CellName,
     weak: bool,
 ) -> Option<bool>
-    requires { IsSeated (hand + 1) hand table.old }
-    ensures { IfSome result (λ swapped. IsCompared hand table.old name cell weak swapped table.new) }
+    requires seated { IsSeated (hand + 1) hand table.old }
+    requires name { name + 1 < hand }
+    requires named { IsOfName hand cell }
+    requires reached { IsReachable table.old cell }
+    requires kinds { HasKind table.old.slots name (kind_at cell) × HasKind table.old.slots hand (kind_at cell) }
+    requires other { IsVacant table.old.slots (hand - 1) }
+    requires below { IsBelow table.old.desk }
+    ensures compared { IfSome result (λ swapped. IsCompared hand table.old name cell weak swapped table.new) }
+    ensures missing { IfNone result
+        (IsPassedOver hand table.old true (act.Compare name cell weak) nothing table.new) }
+    ensures swapped { result ≡ Some true → SetsKind hand None table.old table.new }
+    ensures aside { result ≢ Some true → SetsAside hand table.old table.new }
 {
-    let to = match cell_of(cell, hand) {
-        Some(to) => to,
-        None => return None,
-    };
-    if usize::from(name) + 1 >= hand {
-        return None;
-    }
-    match table.peek(hand - 1) {
-        Err(Fault::Vacant) => {}
-        _ => return None,
-    }
-    match compare_either(rt, table, to, usize::from(name), hand, weak) {
-        Some(true) => Some(true),
-        Some(false) => match table.move_to(hand, hand - 1) {
-            Ok(()) => Some(false),
-            Err(_) => None,
-        },
-        None => None,
+    match compare_either(rt, table, cell_of(cell), usize::from(name), hand, weak) {
+        Ok(true) => Some(true),
+        Ok(false) => {
+            set_aside(table, hand);
+            Some(false)
+        }
+        Err(_) => {
+            set_aside(table, hand);
+            None
+        }
     }
 }

@@ -1,48 +1,47 @@
 //! What a worker does for an act of its thread.
-ghost use Rattle.std.specs.Prelude.{◌≡◌, ◌+◌, [], true, false, IfSome};
-ghost use Rattle.step_threads.specs.declared.programs.act.Act.TheVariants as act;
-ghost use Rattle.script_runner.specs.Deals.{IsActed, IsDealt, IsHandOfTable};
-ghost use Rattle.script_runner.specs.Seats.{IsHand};
+ghost use Rattle.std.specs.Prelude.{◌≡◌, [], None};
+ghost use Rattle.handle_table.specs.Calls.{IsBelow};
+ghost use Rattle.script_runner.specs.Deals.{IsDealt, IsHandOfTable};
+ghost use Rattle.script_runner.specs.Handling.{Asks, Changes, IsAlone, MayDo, MaySettle};
+ghost use Rattle.script_runner.specs.Handling.{StaysArranged};
 
 use crate::acts::asking::{ask, count, expire, read};
 use crate::acts::cells::{exchange, load, offer, swap};
 use crate::acts::leaving::{clear, leave, let_drop, put};
 use crate::acts::making::make_any;
-use crate::acts::taking::{
-    alias, downgrade, lock, move_out, share, shared_this, upgrade, weak_this,
-};
+use crate::acts::taking::{alias, downgrade, from_this, lock, move_out, share, upgrade};
 use crate::acts::went::Went;
 use handle_table::{HandleTable, Home};
 use std::sync::Wait;
 use step_core::Kind;
 use step_threads::programs::act::Act;
 
-/// A pointer of either kind from the object that a name owns and points into.
-fn from_this<H: Home>(
-    table: &mut HandleTable<'_, u64, H>,
-    hand: usize,
-    name: u8,
-    kind: Kind,
-) -> Option<Went>
-    requires { IsHand (hand + 1) hand table.old }
-    ensures { IfSome result (λ x. IsActed hand table.old false (act.FromThis name kind) x table.new) }
+/// What is not to be done.
+fn nothing(taken: bool) -> Went
+    ensures { result ≡ record { taken = taken; answer = None; ended = None } }
 {
-    match kind {
-        Kind::Owner => shared_this(table, hand, name),
-        Kind::Weak => weak_this(table, hand, name),
+    Went {
+        taken,
+        answer: None,
+        ended: None,
     }
 }
 
-/// An act that takes something into the hand, which is vacant.
-fn take<H: Home, R: Wait>(
+/// The act, which finds what it asks for; a comparison is passed over here.
+fn carry_out<H: Home, R: Wait>(
     rt: &R,
     table: &mut HandleTable<'_, u64, H>,
     hand: usize,
+    taken: bool,
     kinds: &Vec<Kind>,
     act: Act,
-) -> Option<Went>
-    requires { IsHandOfTable hand table.old false }
-    ensures { IfSome result (λ x. IsDealt hand table.old false act x table.new) }
+) -> Went
+    requires seen { IsHandOfTable hand table.old taken }
+    requires settled { table.old.endings ≡ [] }
+    requires below { IsBelow table.old.desk }
+    requires asks { Asks kinds.now.items hand taken table.old act }
+    ensures dealt { IsDealt hand table.old taken act result table.new }
+    ensures changes { Changes hand taken act table.old result.taken table.new }
 {
     match act {
         Act::Make { form } => make_any(table, hand, form),
@@ -55,24 +54,6 @@ fn take<H: Home, R: Wait>(
         Act::FromThis { name, kind } => from_this(table, hand, name, kind),
         Act::Offer { name, cell } => offer(table, hand, name, cell),
         Act::Load { cell } => load(rt, table, hand, cell),
-        _ => None,
-    }
-}
-
-/// Any act but a comparison of what is in hand, which goes on at once.
-pub(crate) fn deal<H: Home, R: Wait>(
-    rt: &R,
-    table: &mut HandleTable<'_, u64, H>,
-    hand: usize,
-    taken: bool,
-    kinds: &Vec<Kind>,
-    act: Act,
-) -> Option<Went>
-    requires seen { IsHandOfTable hand table.old taken }
-    requires settled { table.old.endings ≡ [] }
-    ensures { IfSome result (λ x. IsDealt hand table.old taken act x table.new) }
-{
-    match act {
         Act::Put { name } => put(table, hand, taken, name),
         Act::Leave { name } => leave(table, hand, taken, kinds, name),
         Act::Clear { name } => clear(table, hand, taken, kinds, name),
@@ -83,30 +64,29 @@ pub(crate) fn deal<H: Home, R: Wait>(
         Act::Ask { question } => ask(table, hand, taken, question),
         Act::Exchange { name, cell } => exchange(table, hand, taken, name, cell),
         Act::Swap { cell } => swap(table, hand, taken, cell),
-        act => match taken {
-            false => take_or_pass(rt, table, hand, kinds, act),
-            true => None,
-        },
+        Act::Compare { .. } => nothing(taken),
+        Act::OnShelf { .. } => unreachable!(),
     }
 }
 
-/// The acts that come with nothing in hand; a comparison is passed over then.
-fn take_or_pass<H: Home, R: Wait>(
+/// Any act that suits the thread's names but a comparison of what is in hand, which goes on at once.
+pub(crate) fn deal<H: Home, R: Wait>(
     rt: &R,
     table: &mut HandleTable<'_, u64, H>,
     hand: usize,
+    taken: bool,
     kinds: &Vec<Kind>,
     act: Act,
-) -> Option<Went>
-    requires { IsHandOfTable hand table.old false }
-    ensures { IfSome result (λ x. IsDealt hand table.old false act x table.new) }
+) -> Went
+    requires settled { table.old.endings ≡ [] }
+    requires alone { IsAlone taken act }
+    requires suits { MayDo kinds.now.items hand taken table.old act }
+    ensures dealt { IsDealt hand table.old taken act result table.new }
+    ensures arranged { StaysArranged kinds.now.items hand taken act table.old result.taken table.new }
+    ensures hand { MaySettle hand table.new }
 {
-    match act {
-        Act::Compare { .. } => Some(Went {
-            taken: false,
-            answer: None,
-            ended: None,
-        }),
-        act => take(rt, table, hand, kinds, act),
-    }
+    table.stands();
+    let went = carry_out(rt, table, hand, taken, kinds, act);
+    table.stands();
+    went
 }

@@ -1,69 +1,51 @@
-//! Acts that make an object, whose owner is in the hand then.
-ghost use Rattle.std.specs.Prelude.{◌≡◌, ◌+◌, true, false, IfSome, None, Some};
-ghost use Rattle.control_word.specs.declared.refusal.Refusal.TheVariants.{Full as NoBlock};
+//! Acts that make an object, whose owner is in the hand then. The desk has room for a handle, so what the table refuses
+//! is for want of a block.
+ghost use Rattle.std.specs.Prelude.{◌≡◌, ◌+◌, true, false};
+ghost use Rattle.control_word.specs.declared.model.handle.Kind.TheVariants as kind;
+ghost use Rattle.handle_table.specs.Calls.{IsBelow};
 ghost use Rattle.step_threads.specs.declared.programs.act.Act.TheVariants as act;
-ghost use Rattle.step_threads.specs.declared.said.Answer.TheVariants as says;
-ghost use Rattle.script_runner.specs.TableCalls.{null_form};
-ghost use Rattle.handle_table.specs.declared.fault.Fault.TheVariants as fault;
 ghost use Rattle.script_runner.specs.Deals.{IsActed};
+ghost use Rattle.script_runner.specs.Kinds.{TakesKind};
 ghost use Rattle.script_runner.specs.Seats.{IsHand};
+ghost use Rattle.script_runner.specs.TableCalls.{null_form};
 
 use crate::acts::went::{Went, refused};
 use control_word::Refusal;
-use handle_table::{Fault, HandleTable, Home};
+use handle_table::{HandleTable, Home};
 use step_table::memory::form::Form;
 
-/// There is no vacant block.
-fn no_block(why: Fault) -> Option<Went>
-    ensures { IfSome result (λ x. (why ≡ fault.Call NoBlock)
-        × (x ≡ record { taken = false; answer = Some (says.Refused NoBlock); ended = None })) }
-{
-    match why {
-        Fault::Call(Refusal::Full) => Some(refused(Refusal::Full)),
-        _ => None,
-    }
-}
-
-/// The form of an owner of the null pointer.
-fn is_null_form(form: Form) -> bool
-    ensures { result ≡ true → form ≡ null_form }
-{
-    let Form {
-        fields: [a, b, c, d],
-        enabled,
-        null,
-    } = form;
-    null && !enabled && a == 0 && b == 0 && c == 0 && d == 0
-}
-
 /// A new object, or there is no vacant block for it.
-fn make<H: Home>(table: &mut HandleTable<'_, u64, H>, hand: usize, form: Form) -> Option<Went>
+fn make<H: Home>(table: &mut HandleTable<'_, u64, H>, hand: usize, form: Form) -> Went
     requires hand { IsHand (hand + 1) hand table.old }
+    requires below { IsBelow table.old.desk }
     requires null { form.null ≡ false }
-    ensures { IfSome result (λ x. IsActed hand table.old false (act.Make form) x table.new) }
+    ensures acts { IsActed hand table.old false (act.Make form) result table.new }
+    ensures kinds { TakesKind hand kind.Owner result.taken table.old table.new }
 {
     match table.make_from_stock(hand, form.fields, form.enabled, form.fields[0]) {
-        Ok(()) => Some(Went {
+        Ok(()) => Went {
             taken: true,
             answer: None,
             ended: None,
-        }),
-        Err(returned) => no_block(returned.why),
+        },
+        Err(_) => refused(Refusal::Full),
     }
 }
 
 /// A new owner of the null pointer, or there is no vacant block for it.
-fn make_null<H: Home>(table: &mut HandleTable<'_, u64, H>, hand: usize) -> Option<Went>
-    requires { IsHand (hand + 1) hand table.old }
-    ensures { IfSome result (λ x. IsActed hand table.old false (act.Make null_form) x table.new) }
+fn make_null<H: Home>(table: &mut HandleTable<'_, u64, H>, hand: usize) -> Went
+    requires hand { IsHand (hand + 1) hand table.old }
+    requires below { IsBelow table.old.desk }
+    ensures acts { IsActed hand table.old false (act.Make null_form) result table.new }
+    ensures kinds { TakesKind hand kind.Owner result.taken table.old table.new }
 {
     match table.make_null_from_stock(hand, 0) {
-        Ok(()) => Some(Went {
+        Ok(()) => Went {
             taken: true,
             answer: None,
             ended: None,
-        }),
-        Err(returned) => no_block(returned.why),
+        },
+        Err(_) => refused(Refusal::Full),
     }
 }
 
@@ -72,15 +54,15 @@ pub(crate) fn make_any<H: Home>(
     table: &mut HandleTable<'_, u64, H>,
     hand: usize,
     form: Form,
-) -> Option<Went>
-    requires { IsHand (hand + 1) hand table.old }
-    ensures { IfSome result (λ x. IsActed hand table.old false (act.Make form) x table.new) }
+) -> Went
+    requires hand { IsHand (hand + 1) hand table.old }
+    requires below { IsBelow table.old.desk }
+    requires null { form.null ≡ true → form ≡ null_form }
+    ensures acts { IsActed hand table.old false (act.Make form) result table.new }
+    ensures kinds { TakesKind hand kind.Owner result.taken table.old table.new }
 {
-    if !form.null {
-        return make(table, hand, form);
+    match form.null {
+        false => make(table, hand, form),
+        true => make_null(table, hand),
     }
-    if !is_null_form(form) {
-        return None;
-    }
-    make_null(table, hand)
 }

@@ -1,9 +1,16 @@
-//! Acts that take something into the hand, which is vacant before.
-ghost use Rattle.std.specs.Prelude.{◌≡◌, ◌+◌, true, false, IfSome};
+//! Acts that take something into the hand, which is vacant before. The desk has room for a handle, and each name has
+//! one of the kind that the act asks for: so the table refuses only what is told.
+ghost use Rattle.std.specs.Prelude.{◌≡◌, ◌≢◌, ◌+◌, ◌<◌, true, false, slice_get, Some};
+ghost use Rattle.control_word.specs.declared.model.handle.Kind.{Kind};
 ghost use Rattle.control_word.specs.declared.model.handle.Kind.TheVariants as kind;
+ghost use Rattle.control_word.specs.declared.refusal.Refusal.{Refusal};
+ghost use Rattle.control_word.specs.declared.refusal.Refusal.TheVariants.{Limit};
+ghost use Rattle.handle_table.specs.Calls.{IsBelow};
+ghost use Rattle.handle_table.specs.declared.fault.Fault.TheVariants as fault;
 ghost use Rattle.step_threads.specs.declared.programs.act.Act.TheVariants as act;
 ghost use Rattle.step_table.specs.Deeds.{aliased as alias_place};
 ghost use Rattle.script_runner.specs.Deals.{IsActed, NotGiven};
+ghost use Rattle.script_runner.specs.Kinds.{HasKind, TakesKind};
 ghost use Rattle.script_runner.specs.Seats.{IsHand};
 
 use crate::acts::went::{Went, refused};
@@ -14,46 +21,41 @@ use std::sync::Wait;
 use step_core::{Answer, Field, Kind};
 
 /// A copy of what a name holds.
-pub(crate) fn share<H: Home>(
-    table: &mut HandleTable<'_, u64, H>,
-    hand: usize,
-    name: u8,
-) -> Option<Went>
-    requires { IsHand (hand + 1) hand table.old }
-    ensures { IfSome result (λ x. IsActed hand table.old false (act.Share name) x table.new) }
+pub(crate) fn share<H: Home>(table: &mut HandleTable<'_, u64, H>, hand: usize, name: u8) -> Went
+    requires hand { IsHand (hand + 1) hand table.old }
+    requires name { name < hand }
+    requires below { IsBelow table.old.desk }
+    requires kind { (k : Kind) × HasKind table.old.slots name k }
+    ensures acts { IsActed hand table.old false (act.Share name) result table.new }
+    ensures kinds { (k : Kind) → HasKind table.old.slots name k
+        → TakesKind hand k result.taken table.old table.new }
 {
-    if usize::from(name) >= hand {
-        return None;
-    }
     match table.copy(usize::from(name), hand) {
-        Ok(()) => Some(Went {
+        Ok(()) => Went {
             taken: true,
             answer: None,
             ended: None,
-        }),
-        Err(_) => None,
+        },
+        Err(_) => unreachable!(),
     }
 }
 
 /// A weak handle of the object of what a name holds.
-pub(crate) fn downgrade<H: Home>(
-    table: &mut HandleTable<'_, u64, H>,
-    hand: usize,
-    name: u8,
-) -> Option<Went>
-    requires { IsHand (hand + 1) hand table.old }
-    ensures { IfSome result (λ x. IsActed hand table.old false (act.Downgrade name) x table.new) }
+pub(crate) fn downgrade<H: Home>(table: &mut HandleTable<'_, u64, H>, hand: usize, name: u8) -> Went
+    requires hand { IsHand (hand + 1) hand table.old }
+    requires name { name < hand }
+    requires below { IsBelow table.old.desk }
+    requires kind { HasKind table.old.slots name kind.Owner }
+    ensures acts { IsActed hand table.old false (act.Downgrade name) result table.new }
+    ensures kinds { TakesKind hand kind.Weak result.taken table.old table.new }
 {
-    if usize::from(name) >= hand {
-        return None;
-    }
     match table.downgrade(usize::from(name), hand) {
-        Ok(()) => Some(Went {
+        Ok(()) => Went {
             taken: true,
             answer: None,
             ended: None,
-        }),
-        Err(_) => None,
+        },
+        Err(_) => unreachable!(),
     }
 }
 
@@ -63,25 +65,26 @@ pub(crate) fn move_out<H: Home>(
     hand: usize,
     kinds: &Vec<Kind>,
     name: u8,
-) -> Option<Went>
-    requires { IsHand (hand + 1) hand table.old }
-    ensures { IfSome result (λ x. IsActed hand table.old false (act.Move name) x table.new) }
+) -> Went
+    requires hand { IsHand (hand + 1) hand table.old }
+    requires name { name < hand }
+    requires below { IsBelow table.old.desk }
+    requires kind { (k : Kind) × (slice_get kinds.now.items name ≡ Some k)
+        × HasKind table.old.slots name k }
+    ensures acts { IsActed hand table.old false (act.Move name) result table.new }
+    ensures kinds { (k : Kind) → HasKind table.old.slots name k
+        → TakesKind hand k result.taken table.old table.new }
 {
-    if usize::from(name) >= hand {
-        return None;
-    }
     match table.move_to(usize::from(name), hand) {
         Ok(()) => {}
-        Err(_) => return None,
+        Err(_) => unreachable!(),
     }
-    if !empty(table, kinds, usize::from(name)) {
-        return None;
-    }
-    Some(Went {
+    empty(table, kinds, usize::from(name));
+    Went {
         taken: true,
         answer: None,
         ended: None,
-    })
+    }
 }
 
 /// The place of a field in the block into which a pointer points; null where it does, or no field is named.
@@ -107,47 +110,49 @@ pub(crate) fn alias<H: Home>(
     name: u8,
     of: u8,
     field: Option<Field>,
-) -> Option<Went>
-    requires { IsHand (hand + 1) hand table.old }
-    ensures { IfSome result (λ x. IsActed hand table.old false (act.Alias name of field) x table.new) }
+) -> Went
+    requires hand { IsHand (hand + 1) hand table.old }
+    requires name { (name < hand) × (of < hand) }
+    requires below { IsBelow table.old.desk }
+    requires kind { HasKind table.old.slots name kind.Owner × HasKind table.old.slots of kind.Owner }
+    ensures acts { IsActed hand table.old false (act.Alias name of field) result table.new }
+    ensures kinds { TakesKind hand kind.Owner result.taken table.old table.new }
 {
-    if usize::from(name) >= hand || usize::from(of) >= hand {
-        return None;
-    }
     let place = match table.place(usize::from(of)) {
         Ok(place) => place,
-        Err(_) => return None,
+        Err(_) => unreachable!(),
     };
     match table.alias(usize::from(name), aliased(place, field), hand) {
-        Ok(()) => Some(Went {
+        Ok(()) => Went {
             taken: true,
             answer: None,
             ended: None,
-        }),
-        Err(_) => None,
+        },
+        Err(_) => unreachable!(),
     }
 }
 
-/// An owner of what a weak name watches, if one is left.
+/// An owner of what a weak name watches, if one is left; or else an empty one.
 pub(crate) fn lock<H: Home, R: Wait>(
     rt: &R,
     table: &mut HandleTable<'_, u64, H>,
     hand: usize,
     name: u8,
-) -> Option<Went>
-    requires { IsHand (hand + 1) hand table.old }
-    ensures { IfSome result (λ x. IsActed hand table.old false (act.Lock name false) x table.new) }
+) -> Went
+    requires hand { IsHand (hand + 1) hand table.old }
+    requires name { name < hand }
+    requires below { IsBelow table.old.desk }
+    requires kind { HasKind table.old.slots name kind.Weak }
+    ensures acts { IsActed hand table.old false (act.Lock name false) result table.new }
+    ensures kinds { TakesKind hand kind.Owner result.taken table.old table.new }
 {
-    if usize::from(name) >= hand {
-        return None;
-    }
     match table.lock(rt, usize::from(name), hand) {
-        Ok(got) => Some(Went {
+        Ok(got) => Went {
             taken: true,
             answer: Some(Answer::Locked(got)),
             ended: None,
-        }),
-        Err(_) => None,
+        },
+        Err(_) => unreachable!(),
     }
 }
 
@@ -157,80 +162,89 @@ pub(crate) fn upgrade<H: Home, R: Wait>(
     table: &mut HandleTable<'_, u64, H>,
     hand: usize,
     name: u8,
-) -> Option<Went>
-    requires { IsHand (hand + 1) hand table.old }
-    ensures { IfSome result (λ x. IsActed hand table.old false (act.Lock name true) x table.new) }
+) -> Went
+    requires hand { IsHand (hand + 1) hand table.old }
+    requires name { name < hand }
+    requires below { IsBelow table.old.desk }
+    requires kind { HasKind table.old.slots name kind.Weak }
+    ensures acts { IsActed hand table.old false (act.Lock name true) result table.new }
+    ensures kinds { TakesKind hand kind.Owner result.taken table.old table.new }
 {
-    if usize::from(name) >= hand {
-        return None;
-    }
     match table.upgrade(rt, usize::from(name), hand) {
-        Ok(()) => Some(Went {
+        Ok(()) => Went {
             taken: true,
             answer: Some(Answer::Upgraded),
             ended: None,
-        }),
-        Err(Fault::Call(Refusal::BadWeak)) => Some(Went {
-            taken: false,
-            answer: Some(Answer::Refused(Refusal::BadWeak)),
-            ended: None,
-        }),
-        Err(_) => None,
+        },
+        Err(_) => refused(Refusal::BadWeak),
     }
 }
 
-/// Why an object gives no pointer to itself; not where there is no room for it.
-fn not_given(why: Fault) -> Option<Went>
-    ensures { IfSome result (NotGiven why) }
+/// What is said where an object gives no pointer to itself.
+fn not_given(why: Fault) -> Went
+    requires { (r : Refusal) × (why ≡ fault.Call r) × (r ≢ Limit) }
+    ensures { NotGiven why result }
 {
     match why {
-        Fault::Call(Refusal::Null) => Some(refused(Refusal::Null)),
-        Fault::Call(Refusal::Outside) => Some(refused(Refusal::Outside)),
-        Fault::Call(Refusal::NotEnabled) => Some(refused(Refusal::NotEnabled)),
-        _ => None,
+        Fault::Call(why) => refused(why),
+        _ => unreachable!(),
     }
 }
 
 /// A pointer from the object that a name owns and points into.
-pub(crate) fn shared_this<H: Home>(
-    table: &mut HandleTable<'_, u64, H>,
-    hand: usize,
-    name: u8,
-) -> Option<Went>
-    requires { IsHand (hand + 1) hand table.old }
-    ensures { IfSome result (λ x. IsActed hand table.old false (act.FromThis name kind.Owner) x table.new) }
+fn shared_this<H: Home>(table: &mut HandleTable<'_, u64, H>, hand: usize, name: u8) -> Went
+    requires hand { IsHand (hand + 1) hand table.old }
+    requires name { name < hand }
+    requires below { IsBelow table.old.desk }
+    requires kind { HasKind table.old.slots name kind.Owner }
+    ensures acts { IsActed hand table.old false (act.FromThis name kind.Owner) result table.new }
+    ensures kinds { TakesKind hand kind.Owner result.taken table.old table.new }
 {
-    if usize::from(name) >= hand {
-        return None;
-    }
     match table.shared_from_this(usize::from(name), hand) {
-        Ok(()) => Some(Went {
+        Ok(()) => Went {
             taken: true,
             answer: None,
             ended: None,
-        }),
+        },
         Err(why) => not_given(why),
     }
 }
 
 /// And a weak one.
-pub(crate) fn weak_this<H: Home>(
-    table: &mut HandleTable<'_, u64, H>,
-    hand: usize,
-    name: u8,
-) -> Option<Went>
-    requires { IsHand (hand + 1) hand table.old }
-    ensures { IfSome result (λ x. IsActed hand table.old false (act.FromThis name kind.Weak) x table.new) }
+fn weak_this<H: Home>(table: &mut HandleTable<'_, u64, H>, hand: usize, name: u8) -> Went
+    requires hand { IsHand (hand + 1) hand table.old }
+    requires name { name < hand }
+    requires below { IsBelow table.old.desk }
+    requires kind { HasKind table.old.slots name kind.Owner }
+    ensures acts { IsActed hand table.old false (act.FromThis name kind.Weak) result table.new }
+    ensures kinds { TakesKind hand kind.Weak result.taken table.old table.new }
 {
-    if usize::from(name) >= hand {
-        return None;
-    }
     match table.weak_from_this(usize::from(name), hand) {
-        Ok(()) => Some(Went {
+        Ok(()) => Went {
             taken: true,
             answer: None,
             ended: None,
-        }),
+        },
         Err(why) => not_given(why),
+    }
+}
+
+/// A pointer of either kind.
+pub(crate) fn from_this<H: Home>(
+    table: &mut HandleTable<'_, u64, H>,
+    hand: usize,
+    name: u8,
+    which: Kind,
+) -> Went
+    requires hand { IsHand (hand + 1) hand table.old }
+    requires name { name < hand }
+    requires below { IsBelow table.old.desk }
+    requires kind { HasKind table.old.slots name kind.Owner }
+    ensures acts { IsActed hand table.old false (act.FromThis name which) result table.new }
+    ensures kinds { TakesKind hand which result.taken table.old table.new }
+{
+    match which {
+        Kind::Owner => shared_this(table, hand, name),
+        Kind::Weak => weak_this(table, hand, name),
     }
 }

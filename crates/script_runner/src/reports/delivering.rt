@@ -50,7 +50,7 @@ fn deliver<R: Threads + Wait + Sync, S: Sink>(
 /// thread 1, then of thread 2 and so on, the census and the totals, as [`crate::Report::text`] has them. The whole text
 /// is made before the first byte goes out.
 ///
-/// Refused by 1 where a growth was refused or a worker had no table, by 10 just where a line of the script is faulty,
+/// Refused by 1 where a growth was refused, by 10 just where a line of the script is faulty,
 /// with nothing written; by 12 just where the writer has failed, which then took a beginning of the text. The writer
 /// hasn't failed before.
 pub fn run_text<R: Threads + Wait + Sync, S: Sink>(

@@ -1,10 +1,13 @@
 //! What a script's workers need before they start, and what they leave.
-ghost use Rattle.std.specs.Prelude.{◌≡◌, ◌<◌, ◌≤◌, ◌^◌, [], All, length, map, false, vec_capacity};
+ghost use Rattle.std.specs.Prelude.{◌≡◌, ◌<◌, ◌≤◌, ◌^◌, [], All, length, map, vec_capacity};
 ghost use Rattle.std.specs.Prelude.{IfErr, IfOk};
-ghost use Rattle.std.specs.List.{AllByRecursion, AllZip};
+ghost use Rattle.std.specs.List.{AllZip};
+ghost use Rattle.step_threads.specs.Acts.{acts};
 ghost use Rattle.step_threads.specs.Programs.{IsProgram, part_of};
 ghost use Rattle.script_text.specs.Scripts.{program_in};
 ghost use Rattle.script_runner.specs.Assignments.{HasAssignment, IsNewShare, IsAssignmentFor};
+ghost use Rattle.script_runner.specs.Assignments.{asked_by, asked_by_all, asked_by_calls};
+ghost use Rattle.script_runner.specs.Unshelved.{IsSuited};
 
 use crate::workers::assignment::Assignment;
 use crate::workers::log::Log;
@@ -16,18 +19,39 @@ use std::alloc::{AllocError, Global};
 use step_core::{Actor, Call, Said};
 use step_threads::programs::statement::tasks;
 
-/// How many objects the calls ask for.
-fn makes(calls: &[Call]) -> usize {
-    let mut makes: usize = 0;
-    for call in calls {
-        match call {
-            Call::Make { .. } | Call::MakeThis { .. } | Call::Null { .. } => {
-                makes = makes.saturating_add(1)
-            }
-            _ => {}
-        }
+/// How many objects the call asks for.
+fn asks_for(call: Call) -> usize
+    ensures is { result ≡ asked_by (acts call) }
+    ensures few { result ≤ 1 }
+{
+    match call {
+        Call::Make { .. } | Call::MakeThis { .. } | Call::Null { .. } => 1,
+        _ => 0,
     }
-    makes
+}
+
+/// How many objects the calls ask for.
+fn objects_for(calls: &[Call]) -> usize
+    ensures { result ≡ asked_by_calls calls.now }
+{
+    let mut objects: usize = 0;
+    for at in 0..calls.len() {
+        objects += asks_for(calls[at]);
+    }
+    objects
+}
+
+/// How many objects the actors ask for together.
+fn all_objects(actors: &[Actor]) -> usize
+    requires program { IsProgram (map part_of actors.now) }
+    ensures is { result ≡ asked_by_all (map part_of actors.now) }
+    ensures few { result ≤ 65536 }
+{
+    let mut objects: usize = 0;
+    for at in 0..actors.len() {
+        objects += objects_for(actors[at].calls.as_slice());
+    }
+    objects
 }
 
 /// A thread's assignment, with room for all that it may say: each act answers once at most, and no more objects end
@@ -40,11 +64,13 @@ fn assignment_for(
 ) -> Result<Assignment, AllocError>
     requires calls { length actor.now.calls.items < 2 ^ 31 }
     requires names { length actor.now.kinds.items ≤ 32 }
-    ensures { IfOk result (IsAssignmentFor (part_of actor.now)) }
+    requires suits { IsSuited (part_of actor.now) }
+    requires objects { objects ≤ 65536 }
+    ensures { IfOk result (IsAssignmentFor objects (part_of actor.now)) }
 {
     let tasks = tasks(alloc, actor.calls.as_slice(), actor.kinds.len() as u8)?;
     let kinds = Vec::from_slice(alloc, actor.kinds.as_slice())?;
-    let said = Vec::with_capacity(alloc, tasks.len().saturating_add(objects))?;
+    let said = Vec::with_capacity(alloc, tasks.len() + objects)?;
     Ok(Assignment {
         number,
         kinds,
@@ -60,7 +86,9 @@ fn assignments_for(
     objects: usize,
 ) -> Result<Vec<Assignment>, AllocError>
     requires program { IsProgram (map part_of actors.now) }
-    ensures { IfOk result (λ v. AllZip IsAssignmentFor (map part_of actors.now) v.items) }
+    requires suits { All IsSuited (map part_of actors.now) }
+    requires objects { objects ≤ 65536 }
+    ensures { IfOk result (λ v. AllZip (IsAssignmentFor objects) (map part_of actors.now) v.items) }
 {
     let mut assignments = Vec::with_capacity(alloc, actors.len())?;
     for (at, actor) in actors.iter().enumerate() {
@@ -72,14 +100,13 @@ fn assignments_for(
 
 /// The assignments of a script's threads.
 pub(crate) fn assignments_of(alloc: Global, script: &Script) -> Result<Vec<Assignment>, Refusal>
-    ensures each { IfOk result (λ v. AllZip IsAssignmentFor (program_in script.now.threads) v.items) }
+    ensures each { IfOk result (λ v. AllZip (IsAssignmentFor (asked_by_all (program_in script.now.threads)))
+        (program_in script.now.threads) v.items) }
+    ensures objects { IfOk result (λ v. asked_by_all (program_in script.now.threads) ≤ 65536) }
     ensures refused { IfErr result (λ why. why ≡ Refusal.Memory) }
 {
     let program = script.program(alloc)?;
-    let mut objects: usize = 0;
-    for actor in &program.actors {
-        objects = objects.saturating_add(makes(actor.calls.as_slice()));
-    }
+    let objects = all_objects(program.actors.as_slice());
     match assignments_for(alloc, program.actors.as_slice(), objects) {
         Ok(assignments) => Ok(assignments),
         Err(_) => Err(Refusal::Memory),
@@ -110,10 +137,10 @@ fn worker_of<'a, G>(
         log: Log {
             taken: false,
             said,
-            lost: false,
+            full: false,
             book,
             share,
-            asked: 0,
+            room: u32::MAX,
         },
     }
 }
@@ -142,20 +169,18 @@ pub(crate) fn assign<'a, G>(
     workers.reverse();
 }
 
-/// What the workers said goes into one list, and their shares into another. Whether one of them couldn't go on.
+/// What the workers said goes into one list, and their shares into another.
 pub(crate) fn collect<G>(
     workers: &mut Vec<Worker<'_, G>>,
     shares: &mut Vec<Share>,
     lines: &mut Vec<Vec<Said>>,
-) -> bool
+)
     requires shares { (shares.old.items ≡ []) × (length workers.old.items ≤ vec_capacity shares.old) }
     requires lines { (lines.old.items ≡ []) × (length workers.old.items ≤ vec_capacity lines.old) }
     ensures shares { shares.new.items ≡ map (λ w. w.log.share) workers.old.items }
     ensures lines { lines.new.items ≡ map (λ w. w.log.said) workers.old.items }
-    ensures kept { result ≡ false → AllByRecursion (λ w. w.log.lost ≡ false) workers.old.items }
     ensures none { workers.new.items ≡ [] }
 {
-    let mut one_lost = false;
     while let Some(worker) = workers.pop() {
         let Worker {
             number: _,
@@ -167,16 +192,14 @@ pub(crate) fn collect<G>(
         let Log {
             taken: _,
             said,
-            lost,
+            full: _,
             book: _,
             share,
-            asked: _,
+            room: _,
         } = log;
         shares.push_reserved(share);
         lines.push_reserved(said);
-        one_lost |= lost;
     }
     shares.reverse();
     lines.reverse();
-    one_lost
 }

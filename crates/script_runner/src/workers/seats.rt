@@ -1,34 +1,18 @@
 //! What a worker sees of its table.
 ghost use Rattle.std.specs.Prelude.{◌≡◌, ◌<◌, ◌+◌, ℕ, [], true, false, length, IfNone, IfSome};
+ghost use Rattle.std.specs.Prelude.{slice_get, slice_set, None, Some};
+ghost use Rattle.control_block.specs.declared.handles.Held.{Held};
+ghost use Rattle.control_word.specs.declared.model.handle.Kind.{Kind};
+ghost use Rattle.handle_table.specs.Calls.{IsBelow};
+ghost use Rattle.handle_table.specs.Parts.{block_of_held};
 ghost use Rattle.step_table.specs.declared.memory.ended.Ended.TheVariants as ended;
 ghost use Rattle.step_table.specs.Holdings.{is_full as has, slot_pointer};
 ghost use Rattle.script_runner.specs.Deals.{IsEmptied, IsRoundTold, IsHandOfTable, IsTop};
+ghost use Rattle.script_runner.specs.Kinds.{SetsKind};
 ghost use Rattle.script_runner.specs.Seats.{IsSeated, shown_slots};
 
 use handle_table::{Fault, Gone, HandleTable, Home, Remains, Round};
 use step_core::{Ended, Kind};
-
-/// Whether the hand is full, if it is one of the table's slots.
-pub(crate) fn seen<H: Home>(table: &HandleTable<'_, u64, H>, hand: usize) -> Option<bool>
-    ensures { IfSome result (IsHandOfTable hand table.now) }
-{
-    table.stands();
-    match table.peek(hand) {
-        Ok(_) => Some(true),
-        Err(Fault::Vacant) => Some(false),
-        Err(_) => None,
-    }
-}
-
-/// Whether the hand is one of the table's slots.
-pub(crate) fn is_seated<H: Home>(table: &HandleTable<'_, u64, H>, hand: usize) -> bool
-    ensures { result ≡ true → IsSeated (hand + 1) hand table.now }
-{
-    match seen(table, hand) {
-        Some(_) => true,
-        None => false,
-    }
-}
 
 /// Whether the slot has an object's handle.
 pub(crate) fn is_full<H: Home>(table: &HandleTable<'_, u64, H>, at: usize) -> bool
@@ -54,35 +38,6 @@ pub(crate) fn top_of<H: Home>(table: &mut HandleTable<'_, u64, H>) -> Option<End
     }
 }
 
-/// Whether the hand is a vacant slot.
-pub(crate) fn is_vacant<H: Home>(table: &HandleTable<'_, u64, H>, hand: usize) -> bool
-    ensures { result ≡ true → IsHandOfTable hand table.now false }
-{
-    match seen(table, hand) {
-        Some(full) => !full,
-        None => false,
-    }
-}
-
-/// Whether an act may come: nothing is left to end, and the hand is full where something was taken.
-pub(crate) fn is_ready<H: Home>(
-    table: &mut HandleTable<'_, u64, H>,
-    hand: usize,
-    taken: bool,
-) -> bool
-    ensures ready { result ≡ true → IsHandOfTable hand table.old taken × (table.old.endings ≡ []) }
-    ensures same { table.new ≡ table.old }
-{
-    match top_of(table) {
-        Some(_) => return false,
-        None => {}
-    }
-    match seen(table, hand) {
-        Some(full) => full == taken,
-        None => false,
-    }
-}
-
 /// What is told of an object that is left to end by a round.
 pub(crate) fn told_of<H: Home>(
     table: &mut HandleTable<'_, u64, H>,
@@ -104,16 +59,26 @@ fn as_fields(fields: [u64; 4]) -> Ended
     Ended::Fields(fields)
 }
 
-/// A name becomes empty, and what it held leaves.
-pub(crate) fn empty<H: Home>(
-    table: &mut HandleTable<'_, u64, H>,
-    kinds: &Vec<Kind>,
-    name: usize,
-) -> bool
-    ensures { result ≡ true → IsEmptied table.old name table.new }
+/// A name becomes empty, of its kind, and what it held leaves.
+pub(crate) fn empty<H: Home>(table: &mut HandleTable<'_, u64, H>, kinds: &Vec<Kind>, name: usize)
+    requires below { IsBelow table.old.desk }
+    requires slot { name < length table.old.slots }
+    requires kind { (k : Kind) × (slice_get kinds.now.items name ≡ Some k) }
+    ensures emptied { IsEmptied table.old name table.new }
+    ensures kinds { (k : Kind) → slice_get kinds.now.items name ≡ Some k
+        → SetsKind name (Some k) table.old table.new }
+    ensures bare { (h : Held) × (table.new.slots ≡ slice_set table.old.slots name (Some h))
+        × (block_of_held h ≡ None) }
 {
     match kinds.get(name) {
-        Some(Kind::Weak) => table.empty_weak(name).is_ok(),
-        _ => table.empty(name).is_ok(),
+        Some(Kind::Owner) => match table.empty(name) {
+            Ok(()) => {}
+            Err(_) => unreachable!(),
+        },
+        Some(Kind::Weak) => match table.empty_weak(name) {
+            Ok(()) => {}
+            Err(_) => unreachable!(),
+        },
+        None => unreachable!(),
     }
 }

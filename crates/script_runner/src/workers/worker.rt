@@ -1,14 +1,13 @@
 //! A thread of a script on a real worker: its names are slots of a handle table.
-ghost use Rattle.std.specs.Prelude.{◌≡◌, ◌⊎◌, ◌+◌, [], true, length, slice_get, Some};
-ghost use Rattle.handle_table.specs.Tables.{Slot};
-ghost use Rattle.script_runner.specs.Teams.{AllBare, HasNoObject};
-ghost use Rattle.script_runner.specs.Deals.{GoesOnWith};
-ghost use Rattle.script_runner.specs.Works.{IsBegun, HasAskedAll};
+ghost use Rattle.std.specs.Prelude.{◌≤◌, length};
+ghost use Rattle.script_runner.specs.Facts.{suit_fact};
+ghost use Rattle.script_runner.specs.Kinds.{AllSuit, first_stance};
 
 use crate::gate::Gate;
+use crate::workers::beginning::begin;
 use crate::workers::log::Log;
-use crate::workers::seats::{empty, is_seated, top_of};
-use handle_table::{Fault, HandleTable, Home, Work};
+use crate::workers::playing::play;
+use handle_table::{HandleTable, Home, Work};
 use std::sync::Wait;
 use std::thread::Threads;
 use step_core::Kind;
@@ -17,8 +16,10 @@ use step_threads::programs::act::Task;
 /// Most names of a thread: the first slots of its worker's table.
 pub(crate) const NAMES: usize = 32;
 
-/// All slots of a worker's table: behind the names, one for what is to be dropped and one for what is in hand.
-pub(crate) const SLOTS: usize = NAMES + 2;
+/// All slots of a worker's table: behind the names, one for what is to be dropped and one for what is in hand, and two
+/// that stay vacant, so that its desk always has room for one handle more and for what a member held of an object that
+/// ends.
+pub(crate) const SLOTS: usize = NAMES + 4;
 
 /// A thread of a script, by its number from 1: the kinds of its names, its tasks, and what came of them.
 pub(crate) struct Worker<'a, G> {
@@ -27,126 +28,27 @@ pub(crate) struct Worker<'a, G> {
     pub kinds: Vec<Kind>,
     pub tasks: Vec<Task>,
     pub log: Log<'a>,
-}
-
-/// Each name becomes empty; or the table has too few slots.
-fn begin<H: Home>(table: &mut HandleTable<'_, u64, H>, hand: usize, kinds: &Vec<Kind>) -> bool
-    ensures { result ≡ true → hand ≡ length kinds.now.items + 1
-        → IsBegun hand (length kinds.now.items) table.old table.new }
-{
-    for name in 0..kinds.len() {
-        if !is_seated(table, hand) || !empty(table, kinds, name) {
-            return false;
-        }
-    }
-    is_seated(table, hand)
-}
-
-/// Whether the slot, if there is one, has no object's handle.
-fn is_bare_at<H: Home>(table: &HandleTable<'_, u64, H>, at: usize) -> bool
-    ensures { result ≡ true → (s : Slot) → slice_get table.now.slots at ≡ Some s → HasNoObject s }
-{
-    match table.peek(at) {
-        Ok(x) => x.block.is_none(),
-        Err(_) => true,
-    }
-}
-
-/// Whether no slot has an object's handle.
-fn is_bare<H: Home>(table: &HandleTable<'_, u64, H>) -> bool
-    ensures { result ≡ true → AllBare table.now.slots }
-{
-    for at in 0..SLOTS {
-        if !is_bare_at(table, at) {
-            return false;
-        }
-    }
-    match table.peek(SLOTS) {
-        Err(Fault::Slot) => true,
-        _ => false,
-    }
-}
-
-/// Whether the table is left bare: with no object's handle, and nothing to end.
-fn is_over<H: Home>(table: &mut HandleTable<'_, u64, H>) -> bool
-    ensures over { result ≡ true → AllBare table.old.slots × (table.old.endings ≡ []) }
-    ensures same { table.new ≡ table.old }
-{
-    match top_of(table) {
-        Some(_) => return false,
-        None => {}
-    }
-    is_bare(table)
-}
-
-/// Tells the gate that the one statement has run and the other begins; 0 is none.
-fn tell<G: Gate>(gate: &G, number: usize, last: u32, next: u32) {
-    if last == next {
-        return;
-    }
-    if last != 0 {
-        gate.after(number, last);
-    }
-    if next != 0 {
-        gate.before(number, next);
-    }
-}
-
-/// Runs a thread from its first task to its end.
-fn play<H: Home, R: Wait, G: Gate>(
-    rt: &R,
-    table: &mut HandleTable<'_, u64, H>,
-    hand: usize,
-    kinds: &Vec<Kind>,
-    tasks: &Vec<Task>,
-    log: &mut Log<'_>,
-    number: usize,
-    gate: &G,
-)
-    ensures goes { (log.new.lost ≡ true)
-        ⊎ GoesOnWith hand table.old log.old.taken tasks.now.items log.old.said.items
-        table.new log.new.taken [] log.new.said.items }
-    ensures counted { HasAskedAll tasks.now.items log.old log.new }
-{
-    let mut at = 0;
-    let mut statement = 0;
-    for _ in 0..tasks.len() {
-        if log.lost {
-            return;
-        }
-        let next = match tasks.get(at) {
-            Some(task) => task.statement,
-            None => 0,
-        };
-        tell(gate, number, statement, next);
-        statement = next;
-        at = log.step(rt, table, hand, kinds, tasks, at);
-    }
-    tell(gate, number, statement, 0);
-    if at >= tasks.len() {
-        return;
-    }
-    log.lost = true;
+    ghost few: { length kinds.items ≤ 32 },
+    ghost suits: { AllSuit kinds.items (first_stance kinds.items) tasks.items } by { suit_fact _ _ _ },
 }
 
 impl<'a, R: Threads + Wait + Sync, G: Gate + Sync> Work<u64, R> for Worker<'a, G> {
     ghost use Rattle.std.specs.Prelude.{◌≡◌};
-    ghost use Rattle.script_runner.specs.Works.{HasAskedAll, IsWorked};
+    ghost use Rattle.control_block.specs.Desks.{allowance_of};
+    ghost use Rattle.script_runner.specs.Works.{IsWorked};
 
-    ghost does = { λ w t w' u. (w'.tasks ≡ w.tasks) × HasAskedAll w.tasks.items w.log w'.log
+    ghost does = { λ w t w' u. (w'.log.share.book ≡ w.log.share.book)
+        × (allowance_of u.desk ≡ allowance_of t.desk)
         × IsWorked w.kinds.items w.tasks.items w.log t w'.log u };
 
     fn work<H: Home>(&mut self, rt: &R, table: &mut HandleTable<'_, u64, H>) {
         table.stands();
-        let hand = self.kinds.len() + 1;
-        if !begin(table, hand, &self.kinds) {
-            self.log.lost = true;
+        if self.log.taken || !begin(table, &self.kinds) {
             return;
         }
         play(
             rt,
             table,
-            hand,
             &self.kinds,
             &self.tasks,
             &mut self.log,
@@ -154,9 +56,5 @@ impl<'a, R: Threads + Wait + Sync, G: Gate + Sync> Work<u64, R> for Worker<'a, G
             self.gate,
         );
         table.stands();
-        if is_over(table) {
-            return;
-        }
-        self.log.lost = true;
     }
 }

@@ -3,24 +3,27 @@ use Rattle.std.proofs.lemmas.List.{length-map, length-replicate}
 use Rattle.ownership_ledger.specs.Now.{IsLast, new_share}
 use Rattle.script_runner.proofs.Assigning.{same_many}
 use Rattle.script_runner.proofs.Reporting.{reported}
-use Rattle.script_runner.specs.Assignments.{IsAssignmentFor}
+use Rattle.script_runner.specs.Assignments.{IsAssignmentFor, asked_by_all}
 use Rattle.script_text.specs.Scripts.{part_in, program_in}
 use Rattle.script_runner.proofs.running.run_script.Goals as goal
 
 pub perform-worked-requires-clause-many : goal.perform-worked-requires-clause-many
 perform-worked-requires-clause-many g c κs within =
     let threads = c.args.script.now.threads in
+    let parts = program_in threads in
     ap length c.in_ok-book.ensures.shares
     ∙ (length-replicate c.threads.result (new_share c.in_ok-book.book.id c.threads.result)
     ∙ (c.threads.ensures.number
-    ∙ sym (same_many IsAssignmentFor (program_in threads) c.in_ok-assignments.assignments.items c.in_ok-assignments.ensures.each
+    ∙ sym (same_many (IsAssignmentFor (asked_by_all parts)) parts c.in_ok-assignments.assignments.items c.in_ok-assignments.ensures.each
     ∙ length-map threads part_in)))
 
 pub perform-worked-requires-clause-room : goal.perform-worked-requires-clause-room
 perform-worked-requires-clause-room g c κs within =
     let threads = c.args.script.now.threads in
+    let parts = program_in threads in
     let many : length c.in_ok-assignments.assignments.items ≡ length threads =
-    same_many IsAssignmentFor (program_in threads) c.in_ok-assignments.assignments.items c.in_ok-assignments.ensures.each ∙ length-map threads part_in in
+    same_many (IsAssignmentFor (asked_by_all parts)) parts c.in_ok-assignments.assignments.items c.in_ok-assignments.ensures.each
+    ∙ length-map threads part_in in
     let items = c.in_ok-assignments.assignments.ok.0 in
     let long = c.len.ensures in
     let lines = c.in-Ok.ensures.capacity in

@@ -1,27 +1,28 @@
-use Rattle.std.proofs.Common.{◌+◌, false, Some, sym, subst}
-use Rattle.handle_table.specs.Cells as cells
-use Rattle.script_runner.specs.CellCalls.{as_cell}
-use Rattle.script_runner.specs.Deals.{IsActed}
-use Rattle.script_runner.proofs.Acting.{went}
-use Rattle.script_runner.proofs.Offering as law
-use Rattle.script_runner.proofs.TableLaws.{as_seated}
-use Rattle.step_threads.specs.declared.programs.act.Act.TheVariants as act
-use Rattle.step_threads.specs.declared.said.Answer.TheVariants as says
+use Rattle.step_threads.specs.Programs.{kind_at}
+use Rattle.script_runner.proofs.CellActs as law
 use Rattle.script_runner.proofs.acts.cells.load.Goals as goal
 
-pub returns-in-Err-Call : goal.returns-in-Err-Call
-returns-in-Err-Call g c =
-    let e = c.in-Err-Call in
-    let t = c.args.table.now in
-    let n = c.in-Some.ensures in
-    subst (λ w. IsActed c.args.hand t false (act.Load c.args.cell) (went false (Some (says.Refused w))) t) (sym e.why-is)
-    (law.load_not c.args.hand t t c.args.cell n.1 n.2 false (as_seated (c.args.hand + 1) c.args.hand c.args.table.now c.requires) e.why
-    (subst (λ f. cells.WhyNoCell t.desk.shape t.slots (as_cell c.args.cell) f) e.field-0-is
-    (subst (λ k. cells.WhyNoCell t.desk.shape t.slots k e.field-0) n.0 e.ensures.fault)))
+pub refusal_of-requires : goal.refusal_of-requires
+refusal_of-requires g c =
+    law.load_fault c.args.hand c.args.table.now c.args.cell c.requires.named c.requires.reached c.cell_of.result c.cell_of.ensures c.in-Err.why
+    c.requires.hand c.requires.below c.in-Err.ensures.refused.0
 
-pub returns-in-Some-seen : goal.returns-in-Some-seen
-returns-in-Some-seen g c =
-    let t = c.args.table.now in
-    let n = c.in-Some.ensures in
-    law.loaded c.args.hand t c.load.new.self c.args.cell n.1 n.2 c.requires c.in-Some-seen.ensures.seated
-    (subst (λ k. cells.LoadsIntoSlot t k c.args.hand c.load.new.self) n.0 c.in-Ok-load.ensures.loaded)
+pub returns-in-Err-clause-acts : goal.returns-in-Err-clause-acts
+returns-in-Err-clause-acts g c =
+    law.load_refused c.args.hand c.args.table.now c.args.cell c.requires.named c.requires.reached c.cell_of.result c.cell_of.ensures c.in-Err.why
+    c.refusal_of.result c.refused.result c.load.new.self c.requires.hand c.requires.below c.in-Err.ensures.refused c.refusal_of.ensures c.refused.ensures
+
+pub returns-in-Err-clause-kinds : goal.returns-in-Err-clause-kinds
+returns-in-Err-clause-kinds g c =
+    law.refused_kinds c.args.hand (kind_at c.args.cell) c.args.table.now c.load.new.self c.refused.result c.refusal_of.result c.refused.ensures
+    c.in-Err.ensures.refused.1
+
+pub returns-in-Ok-clause-acts : goal.returns-in-Ok-clause-acts
+returns-in-Ok-clause-acts g c =
+    law.load_taken c.args.hand c.args.table.now c.args.cell c.requires.named c.requires.reached c.cell_of.result c.cell_of.ensures c.load.new.self
+    c.requires.hand c.in-Ok.ensures.loaded c.stands.ensures.fits c.stands.ensures.stands
+
+pub returns-in-Ok-clause-kinds : goal.returns-in-Ok-clause-kinds
+returns-in-Ok-clause-kinds g c =
+    law.load_kind c.args.hand c.args.table.now c.args.cell c.requires.named c.requires.reached c.cell_of.result c.cell_of.ensures c.load.new.self
+    c.in-Ok.ensures.loaded

@@ -1,27 +1,39 @@
-use Rattle.std.proofs.Common.{◌+◌, false, Some, sym, subst}
-use Rattle.handle_table.specs.Cells as cells
-use Rattle.handle_table.specs.Ends.{NamesCell}
-use Rattle.script_runner.specs.CellCalls.{as_cell}
-use Rattle.script_runner.specs.Deals.{IsActed}
-use Rattle.script_runner.proofs.Acting.{went}
-use Rattle.script_runner.proofs.Offering as law
-use Rattle.script_runner.proofs.TableLaws.{as_seated}
-use Rattle.step_threads.specs.declared.programs.act.Act.TheVariants as act
-use Rattle.step_threads.specs.declared.said.Answer.TheVariants as says
+use Rattle.std.proofs.Common.{◌<◌, refl, subst, arith, length}
+use Rattle.handle_table.specs.Calls.{WhyNoCopy}
+use Rattle.step_threads.specs.Programs.{kind_at}
+use Rattle.script_runner.proofs.CellActs as law
+use Rattle.script_runner.proofs.Reaching.{no_copy}
 use Rattle.script_runner.proofs.acts.cells.offer.Goals as goal
 
-pub offer_to-requires-clause-there : goal.offer_to-requires-clause-there
-offer_to-requires-clause-there g c = subst (λ k. NamesCell c.args.table.now k) c.in-Some.ensures.0 c.in-Ok.ensures.there
+pub refusal_of-requires : goal.refusal_of-requires
+refusal_of-requires g c =
+    law.offer_why c.args.hand c.args.table.now c.args.cell c.requires.named c.requires.reached c.cell_of.result c.cell_of.ensures c.in-Err.why
+    c.in-Err.ensures.fault
 
-pub offer_to-requires-clause-named : goal.offer_to-requires-clause-named
-offer_to-requires-clause-named g c = (c.in-Some.ensures.1, c.in-Some.ensures.2)
+pub returns-in-Err-clause-acts : goal.returns-in-Err-clause-acts
+returns-in-Err-clause-acts g c =
+    law.offer_refused c.args.hand c.args.table.now c.args.cell c.requires.named c.requires.reached c.cell_of.result c.cell_of.ensures c.args.name
+    c.in-Err.why c.refusal_of.result c.refused.result c.requires.hand c.in-Err.ensures.fault c.refusal_of.ensures c.refused.ensures
 
-pub returns-in-Err-Call : goal.returns-in-Err-Call
-returns-in-Err-Call g c =
-    let e = c.in-Err-Call in
+pub returns-in-Err-clause-kinds : goal.returns-in-Err-clause-kinds
+returns-in-Err-clause-kinds g c =
+    law.refused_kinds c.args.hand (kind_at c.args.cell) c.args.table.now c.args.table.now c.refused.result c.refusal_of.result c.refused.ensures refl
+
+pub returns-clause-acts : goal.returns-clause-acts
+returns-clause-acts g c =
+    (law.offer_taken c.args.hand c.args.table.now c.args.cell c.requires.named c.requires.reached c.cell_of.result c.cell_of.ensures c.args.name
+    c.from.result c.copy.new.self c.requires.hand c.requires.name c.requires.kind c.in-Ok.ensures.there c.from.ensures
+    c.in-Ok-copy.ensures.copied).0
+
+pub returns-clause-kinds : goal.returns-clause-kinds
+returns-clause-kinds g c =
+    (law.offer_taken c.args.hand c.args.table.now c.args.cell c.requires.named c.requires.reached c.cell_of.result c.cell_of.ensures c.args.name
+    c.from.result c.copy.new.self c.requires.hand c.requires.name c.requires.kind c.in-Ok.ensures.there c.from.ensures
+    c.in-Ok-copy.ensures.copied).1
+
+pub unreachable-requires : goal.unreachable-requires
+unreachable-requires g c =
     let t = c.args.table.now in
-    let n = c.in-Some.ensures in
-    subst (λ w. IsActed c.args.hand t false (act.Offer c.args.name c.args.cell) (went false (Some (says.Refused w))) t) (sym e.why-is)
-    (law.offer_not c.args.hand t t c.args.cell n.1 n.2 false (as_seated (c.args.hand + 1) c.args.hand c.args.table.now c.requires) e.why
-    (subst (λ f. cells.WhyNoCell t.desk.shape t.slots (as_cell c.args.cell) f) e.field-0-is
-    (subst (λ k. cells.WhyNoCell t.desk.shape t.slots k e.field-0) n.0 e.ensures.fault)) c.args.name)
+    let lt : c.args.hand < length t.slots = let many = c.requires.hand.many in omega (arith, many) in
+    no_copy t c.args.name c.args.hand (kind_at c.args.cell) c.in-Err-copy.field-0 c.requires.kind lt c.requires.below
+    (subst (λ j. WhyNoCopy t j c.args.hand c.in-Err-copy.field-0) c.from.ensures c.in-Err-copy.ensures.refused.0)

@@ -1,34 +1,54 @@
-use Rattle.std.proofs.Common.{◌≡◌, ◌<◌, ◌+◌, ◌-◌, true, false, subst, arith}
-use Rattle.handle_table.specs.Calls as calls
-use Rattle.handle_table.specs.Compares as compares
-use Rattle.script_runner.proofs.Offering as law
+use Rattle.std.proofs.Common.{◌<◌, arith}
+use Rattle.step_threads.specs.Programs.{kind_at}
+use Rattle.script_runner.proofs.CellActs as law
+use Rattle.script_runner.proofs.CellKinds.{kept_aside, kept_kind}
 use Rattle.script_runner.proofs.acts.comparison.compare.Goals as goal
 
-pub returns-in-Some-true : goal.returns-in-Some-true
-returns-in-Some-true g c =
+pub set_aside-requires-clause-full : goal.set_aside-requires-clause-full
+set_aside-requires-clause-full g c =
     let t = c.args.table.now in
-    let n = c.in-Some.ensures in
-    let e = c.in-Err-Vacant in
-    let at : (c.args.hand - 1) + 1 ≡ c.args.hand = let a = c.if-from-hand.false in omega (arith, a) in
-    let lt : c.args.name < c.args.hand - 1 = let a = c.if-from-hand.false in let b = c.from.ensures in omega (arith, a, b) in
-    let vacant = subst (λ f. calls.WhyNoHandle t.slots (c.args.hand - 1) f) e.field-0-is e.ensures.fault in
-    law.compared c.args.hand t c.compare_either.new.table c.args.cell n.1 n.2 c.args.name (c.args.hand - 1) c.args.weak c.requires at lt vacant
-    (subst (λ k. compares.ComparesSlots c.args.weak t k c.args.name c.args.hand true c.compare_either.new.table) n.0
-    (subst (λ j. compares.ComparesSlots c.args.weak t c.in-Some.to j c.args.hand true c.compare_either.new.table) c.from-2.ensures
-    (subst (λ b. compares.ComparesSlots c.args.weak t c.in-Some.to c.from-2.result c.args.hand b c.compare_either.new.table) c.in-Some-true.field-0-test
-    c.in-Some-true.ensures)))
+    let some : 0 < c.args.hand = let lt = c.requires.name in omega (arith, lt) in (
+      kind_at c.args.cell,
+      kept_kind t c.compare_either.new.table c.args.hand (kind_at c.args.cell)
+          (law.compare_kinds c.args.hand t c.args.cell c.requires.named c.requires.reached c.cell_of.result c.cell_of.ensures c.requires.seated some
+          c.requires.kinds.1 c.requires.other c.args.name c.from.result c.from.ensures c.requires.name c.requires.kinds.0 c.args.weak
+          c.compare_either.new.table c.in-Ok-false.field-0 c.in-Ok-false.ensures.compared c.in-Ok-false.field-0-test)
+          c.requires.kinds.1,
+    )
 
-pub returns-in-Ok : goal.returns-in-Ok
-returns-in-Ok g c =
+pub returns-in-Ok-true-clause-compared : goal.returns-in-Ok-true-clause-compared
+returns-in-Ok-true-clause-compared g c =
+    let some : 0 < c.args.hand = let lt = c.requires.name in omega (arith, lt) in
+    law.compare_swapped c.args.hand c.args.table.now c.args.cell c.requires.named c.requires.reached c.cell_of.result c.cell_of.ensures c.requires.seated some
+    c.requires.kinds.1 c.requires.other c.args.name c.from.result c.from.ensures c.requires.name c.requires.kinds.0 c.args.weak c.compare_either.new.table
+    c.in-Ok-true.field-0 c.in-Ok-true.ensures.compared c.in-Ok-true.field-0-test
+
+pub returns-in-Ok-true-clause-swapped : goal.returns-in-Ok-true-clause-swapped
+returns-in-Ok-true-clause-swapped g c e =
+    let some : 0 < c.args.hand = let lt = c.requires.name in omega (arith, lt) in
+    law.compare_kind c.args.hand c.args.table.now c.args.cell c.requires.named c.requires.reached c.cell_of.result c.cell_of.ensures c.requires.seated some
+    c.requires.kinds.1 c.requires.other c.args.name c.from.result c.from.ensures c.requires.name c.requires.kinds.0 c.args.weak c.compare_either.new.table
+    c.in-Ok-true.field-0 c.in-Ok-true.ensures.compared c.in-Ok-true.field-0-test
+
+pub returns-in-Ok-false-clause-compared : goal.returns-in-Ok-false-clause-compared
+returns-in-Ok-false-clause-compared g c =
+    let some : 0 < c.args.hand = let lt = c.requires.name in omega (arith, lt) in
+    law.compare_differed c.args.hand c.args.table.now c.args.cell c.requires.named c.requires.reached c.cell_of.result c.cell_of.ensures c.requires.seated some
+    c.requires.kinds.1 c.requires.other c.args.name c.from.result c.from.ensures c.requires.name c.requires.kinds.0 c.args.weak c.compare_either.new.table
+    c.in-Ok-false.field-0 c.in-Ok-false.ensures.compared c.set_aside.new.table c.in-Ok-false.field-0-test c.set_aside.ensures.moved
+
+pub returns-in-Ok-false-clause-aside : goal.returns-in-Ok-false-clause-aside
+returns-in-Ok-false-clause-aside g c n =
     let t = c.args.table.now in
-    let n = c.in-Some.ensures in
-    let e = c.in-Err-Vacant in
-    let at : (c.args.hand - 1) + 1 ≡ c.args.hand = let a = c.if-from-hand.false in omega (arith, a) in
-    let lt : c.args.name < c.args.hand - 1 = let a = c.if-from-hand.false in let b = c.from.ensures in omega (arith, a, b) in
-    let vacant = subst (λ f. calls.WhyNoHandle t.slots (c.args.hand - 1) f) e.field-0-is e.ensures.fault in
-    law.differed c.args.hand t c.move_to.new.self c.args.cell n.1 n.2 c.args.name (c.args.hand - 1) c.args.weak c.compare_either.new.table c.requires
-    at lt vacant
-    (subst (λ k. compares.ComparesSlots c.args.weak t k c.args.name c.args.hand false c.compare_either.new.table) n.0
-    (subst (λ j. compares.ComparesSlots c.args.weak t c.in-Some.to j c.args.hand false c.compare_either.new.table) c.from-2.ensures
-    (subst (λ b. compares.ComparesSlots c.args.weak t c.in-Some.to c.from-2.result c.args.hand b c.compare_either.new.table) c.in-Some-false.field-0-test
-    c.in-Some-false.ensures))) c.in-Ok.ensures.moved
+    let some : 0 < c.args.hand = let lt = c.requires.name in omega (arith, lt) in
+    kept_aside t c.compare_either.new.table c.set_aside.new.table c.args.hand
+    (law.compare_kinds c.args.hand t c.args.cell c.requires.named c.requires.reached c.cell_of.result c.cell_of.ensures c.requires.seated some
+    c.requires.kinds.1 c.requires.other c.args.name c.from.result c.from.ensures c.requires.name c.requires.kinds.0 c.args.weak
+    c.compare_either.new.table c.in-Ok-false.field-0 c.in-Ok-false.ensures.compared c.in-Ok-false.field-0-test) c.set_aside.ensures.kinds
+
+pub returns-in-Err-clause-missing : goal.returns-in-Err-clause-missing
+returns-in-Err-clause-missing g c =
+    let some : 0 < c.args.hand = let lt = c.requires.name in omega (arith, lt) in
+    law.compare_missed c.args.hand c.args.table.now c.args.cell c.requires.named c.requires.reached c.cell_of.result c.cell_of.ensures c.requires.seated some
+    c.requires.kinds.1 c.requires.other c.args.name c.from.result c.from.ensures c.requires.name c.requires.kinds.0 c.args.weak c.in-Err.field-0
+    c.compare_either.new.table c.set_aside-in-Err.new.table c.requires.below c.in-Err.ensures.refused c.set_aside-in-Err.ensures.moved

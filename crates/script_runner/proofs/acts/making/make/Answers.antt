@@ -1,11 +1,19 @@
 use Rattle.std.proofs.Common.{refl}
 use Rattle.script_runner.proofs.Acting as law
+use Rattle.script_runner.proofs.Granting as granting
 use Rattle.script_runner.proofs.acts.making.make.Goals as goal
 
 pub returns-in-Ok : goal.returns-in-Ok
-returns-in-Ok g c = law.made c.args.hand c.args.table.now c.make_from_stock.new.self c.requires.hand c.args.form _ c.requires.null refl c.in-Ok.ensures.made
+returns-in-Ok g c =
+    let t = c.args.table.now in let u = c.make_from_stock.new.self in
+    record {
+      acts = law.made c.args.hand t u c.requires.hand c.args.form _ c.requires.null refl c.in-Ok.ensures.made;
+      kinds = granting.owner_kind _ t u c.args.hand c.in-Ok.ensures.made;
+    }
 
 pub returns-in-Err : goal.returns-in-Err
 returns-in-Err g c =
-    law.no_room c.args.hand c.args.table.now c.make_from_stock.new.self c.args.form c.in-Err.returned.why c.no_block.result c.no_block.ensures
-    c.in-Err.ensures.refused.0 c.in-Err.ensures.refused.2
+    let t = c.args.table.now in let u = c.make_from_stock.new.self in
+    let did = granting.not_made c.args.hand t u c.requires.hand c.requires.below c.in-Err.field-0.why c.refused.result c.args.form
+    c.in-Err.ensures.refused.0 c.in-Err.ensures.refused.2 c.refused.ensures in
+    record { acts = did.0; kinds = did.1 }

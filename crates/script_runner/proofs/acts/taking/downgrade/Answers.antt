@@ -1,10 +1,17 @@
-use Rattle.std.proofs.Common.{subst, arith}
+use Rattle.std.proofs.Common.{subst}
 use Rattle.handle_table.specs.Calls as calls
 use Rattle.script_runner.proofs.Acting as law
+use Rattle.script_runner.proofs.Granting as granting
 use Rattle.script_runner.proofs.acts.taking.downgrade.Goals as goal
 
-pub returns-in-Ok : goal.returns-in-Ok
-returns-in-Ok g c =
-    law.downgraded c.args.hand c.args.name c.args.table.now c.downgrade.new.self c.requires
-    (let a = c.if-from-hand.false in let b = c.from.ensures in omega (arith, a, b))
-    (subst (λ j. calls.Downgrades c.args.table.now j c.args.hand c.downgrade.new.self) c.from-2.ensures c.in-Ok.ensures.downgraded)
+pub returns : goal.returns
+returns g c =
+    let t = c.args.table.now in let u = c.downgrade.new.self in
+    let did : calls.Downgrades t c.args.name c.args.hand u = subst (λ j. calls.Downgrades t j c.args.hand u) c.from.ensures c.in-Ok.ensures.downgraded in
+    record { acts = law.downgraded c.args.hand c.args.name t u c.requires.hand c.requires.name did; kinds = granting.weak_kind _ t u c.args.hand did.weak }
+
+pub unreachable-requires : goal.unreachable-requires
+unreachable-requires g c =
+    let t = c.args.table.now in let why = c.in-Err.field-0 in
+    granting.downgrade_granted c.args.hand t c.requires.hand c.requires.below why c.args.name c.requires.kind
+    (subst (λ j. calls.WhyNotDowngraded t j c.args.hand why) c.from.ensures c.in-Err.ensures.refused.0)

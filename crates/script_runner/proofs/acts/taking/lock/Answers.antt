@@ -1,10 +1,17 @@
-use Rattle.std.proofs.Common.{subst, arith}
+use Rattle.std.proofs.Common.{subst}
 use Rattle.handle_table.specs.Calls as calls
 use Rattle.script_runner.proofs.Acting as law
+use Rattle.script_runner.proofs.Granting as granting
 use Rattle.script_runner.proofs.acts.taking.lock.Goals as goal
 
-pub returns-in-Ok : goal.returns-in-Ok
-returns-in-Ok g c =
-    law.locked c.args.hand c.args.name c.args.table.now c.lock.new.self c.requires
-    (let a = c.if-from-hand.false in let b = c.from.ensures in omega (arith, a, b)) c.in-Ok.got
-    (subst (λ j. calls.LocksSlot c.args.table.now j c.args.hand c.in-Ok.got c.lock.new.self) c.from-2.ensures c.in-Ok.ensures.locked)
+pub returns : goal.returns
+returns g c =
+    let t = c.args.table.now in let u = c.lock.new.self in let got = c.in-Ok.got in
+    let did : calls.LocksSlot t c.args.name c.args.hand got u = subst (λ j. calls.LocksSlot t j c.args.hand got u) c.from.ensures c.in-Ok.ensures.locked in
+    record { acts = law.locked c.args.hand c.args.name t u c.requires.hand c.requires.name got did; kinds = granting.owner_kind _ t u c.args.hand did.owner }
+
+pub unreachable-requires : goal.unreachable-requires
+unreachable-requires g c =
+    let t = c.args.table.now in let why = c.in-Err.field-0 in
+    granting.lock_granted c.args.hand t c.requires.hand c.requires.below why c.args.name c.requires.kind
+    (subst (λ j. calls.WhyNotLocked t j c.args.hand why) c.from.ensures c.in-Err.ensures.refused.0)

@@ -5,4 +5,4 @@ use Rattle.step_threads.specs.Programs.{part_of}
 use Rattle.script_runner.proofs.workers.assigning.assignments_for.Given as goal
 
 abbrev pub invariant-loop-at : goal.invariant-loop-at
-invariant-loop-at l = AllZip IsAssignmentFor (map part_of (take l.at l.actors)) l.assignments.items
+invariant-loop-at l = AllZip (IsAssignmentFor l.fn.objects) (map part_of (take l.at l.actors)) l.assignments.items

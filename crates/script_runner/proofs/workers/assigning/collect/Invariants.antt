@@ -1,5 +1,4 @@
-use Rattle.std.proofs.Common.{◌≡◌, ◌≤◌, ◌+◌, ◌++◌, false, List, length, map, reverse, vec_capacity}
-use Rattle.std.specs.List.{AllByRecursion}
+use Rattle.std.proofs.Common.{◌≡◌, ◌≤◌, ◌+◌, ◌++◌, List, length, map, reverse, vec_capacity}
 use Rattle.script_runner.specs.declared.workers.worker.Worker.{Worker}
 use Rattle.script_runner.proofs.workers.assigning.collect.Given as goal
 
@@ -8,8 +7,7 @@ invariant-loop-worker g l =
     (length l.workers.items + length l.shares.items ≤ vec_capacity l.shares)
     × (length l.workers.items + length l.lines.items ≤ vec_capacity l.lines)
     × ((done : List (Worker g.row.G.Denot)) × (l.initial.workers.items ≡ l.workers.items ++ done)
-    × (reverse l.shares.items ≡ map (λ w. w.log.share) done) × (reverse l.lines.items ≡ map (λ w. w.log.said) done)
-    × (l.one_lost ≡ false → AllByRecursion (λ w. w.log.lost ≡ false) done))
+    × (reverse l.shares.items ≡ map (λ w. w.log.share) done) × (reverse l.lines.items ≡ map (λ w. w.log.said) done))
 
 abbrev pub decreases-loop-worker : goal.decreases-loop-worker
 decreases-loop-worker g l = length l.workers.items

@@ -1,33 +1,43 @@
-use Rattle.std.proofs.Common.{◌≡◌, ◌+◌, length, Some, refl, sym, subst, inr, arith}
-use Rattle.std.proofs.lemmas.Option.{slice_get_read}
-use Rattle.std.specs.Prelude.{drop, slice_get}
-use Rattle.script_runner.specs.Deals.{GoesOnWith}
-use Rattle.script_runner.proofs.Noting as noting
+use Rattle.std.proofs.Common.{◌+◌, sym, subst, arith}
+use Rattle.std.proofs.lemmas.Option.{slice_get_within}
+use Rattle.std.specs.Prelude.{drop}
 use Rattle.script_runner.proofs.Stepping as steps
+use Rattle.script_runner.proofs.Suffixes.{suits_at}
+use Rattle.script_runner.specs.Kinds.{stance_after}
+use Rattle.script_runner.specs.Notes.{PlaysOn}
 use Rattle.script_runner.proofs.workers.log.Log.act_at.Goals as goal
 
-pub returns-in-None-clause-goes : goal.returns-in-None-clause-goes
-returns-in-None-clause-goes g c = inr (λ part n tells. tells)
+pub act-requires-clause-suits : goal.act-requires-clause-suits
+act-requires-clause-suits g c =
+    let may = c.requires.going in
+    record {
+      stance = may.stance;
+      arranged = may.arranged;
+      suits = (suits_at c.args.kinds.now.items c.args.tasks.now.items may.stance c.args.at c.args.task c.requires.is may.suits).0;
+    }
 
-pub returns-in-None-clause-asked : goal.returns-in-None-clause-asked
-returns-in-None-clause-asked g c = inr refl
+pub overflow_add-result : goal.overflow_add-result
+overflow_add-result g c =
+    let v = c.args.tasks.now in
+    let low = slice_get_within v.items c.args.at c.args.task c.requires.is in
+    let long = v.ok in
+    let small = v.small in
+    omega (arith, low, long, small)
 
-pub returns-in-Some-clause-goes : goal.returns-in-Some-clause-goes
-returns-in-Some-clause-goes g c =
-    let l = c.in-Some.ensures.lookup in
-    let is : slice_get c.args.tasks.now.items c.args.at ≡ Some c.in-Some.task.now =
-    subst (λ xs. slice_get xs c.args.at ≡ Some c.in-Some.task.now) c.deref.ensures.value
-    (slice_get_read c.deref.result.now (length c.deref.result.now) c.args.at c.in-Some.task.now refl l.3.0 l.1) in
-    steps.or_then c.act.ensures.goes (λ f.
-    subst (λ l. GoesOnWith c.args.hand c.args.table.now c.args.self.now.taken l c.args.self.now.said.items c.act.new.table c.act.new.self.taken
-    (drop (c.args.at + 1) c.args.tasks.now.items) c.act.new.self.said.items)
-    (sym (steps.drop_at c.args.tasks.now.items c.args.at c.in-Some.task.now is)) (f (drop (c.args.at + 1) c.args.tasks.now.items)))
+pub returns-clause-goes : goal.returns-clause-goes
+returns-clause-goes g c =
+    let xs = c.args.tasks.now.items in
+    subst (λ l. PlaysOn c.args.hand c.args.table.now l c.args.self.now c.act.new.table (drop (c.args.at + 1) xs) c.act.new.self)
+    (sym (steps.drop_at xs c.args.at c.args.task c.requires.is)) (c.act.ensures.goes (drop (c.args.at + 1) xs))
 
-pub returns-in-Some-clause-asked : goal.returns-in-Some-clause-asked
-returns-in-Some-clause-asked g c =
-    let l = c.in-Some.ensures.lookup in
-    let is : slice_get c.args.tasks.now.items c.args.at ≡ Some c.in-Some.task.now =
-    subst (λ xs. slice_get xs c.args.at ≡ Some c.in-Some.task.now) c.deref.ensures.value
-    (slice_get_read c.deref.result.now (length c.deref.result.now) c.args.at c.in-Some.task.now refl l.3.0 l.1) in
-    let one = noting.asked_one c.args.tasks.now.items c.args.at c.in-Some.task.now is in
-    steps.or_then c.act.ensures.asked (λ more. omega (arith, one, more))
+pub returns-clause-going : goal.returns-clause-going
+returns-clause-going g c =
+    let may = c.requires.going in
+    let ks = c.args.kinds.now.items in
+    let suits = suits_at ks c.args.tasks.now.items may.stance c.args.at c.args.task c.requires.is may.suits in
+    record {
+      stance = stance_after ks may.stance c.args.task.act;
+      arranged = c.act.ensures.arranged may.stance may.arranged suits.0;
+      suits = suits.2;
+      settled = c.act.ensures.over;
+    }

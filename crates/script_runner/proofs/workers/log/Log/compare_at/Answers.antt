@@ -1,47 +1,41 @@
-use Rattle.std.proofs.Common.{◌+◌, true, refl, sym, subst, arith}
+use Rattle.std.proofs.Common.{◌+◌, sym, subst}
 use Rattle.std.specs.Prelude.{drop}
-use Rattle.script_runner.specs.Deals.{GoesOnWith}
-use Rattle.script_runner.proofs.Noting as noting
-use Rattle.script_runner.proofs.Stepping as steps
+use Rattle.script_runner.proofs.Comparisons as comparisons
+use Rattle.script_runner.proofs.Suffixes.{suits_at}
+use Rattle.script_runner.specs.Handling.{MayGoOn}
+use Rattle.script_runner.specs.Kinds.{AllSuit, IsArranged}
+use Rattle.script_runner.specs.Notes.{PlaysOn}
 use Rattle.script_runner.proofs.workers.log.Log.compare_at.Goals as goal
 
-pub compare-requires : goal.compare-requires
-compare-requires g c = c.requires.taken
-
-pub returns-then-not-compare-clause-goes : goal.returns-then-not-compare-clause-goes
-returns-then-not-compare-clause-goes g c =
-    let s = c.args.self.now in
-    let xs = c.args.tasks.now.items in
-    let r = c.if-not-compare.ensures in
-    steps.or_then r.differs (λ f.
-    subst (λ b. GoesOnWith c.args.hand c.args.table.now b (drop c.args.at xs) s.said.items c.compare.new.table c.compare.new.self.taken
-    (drop (c.args.at + 2) xs) c.compare.new.self.said.items) (sym c.requires.taken)
-    (subst (λ l. GoesOnWith c.args.hand c.args.table.now true l s.said.items c.compare.new.table c.compare.new.self.taken
-    (drop (c.args.at + 2) xs) c.compare.new.self.said.items)
-    (sym (steps.two_at xs c.args.at _ _ c.requires.is (c.if-not-is_put.ensures refl))) (f refl (drop (c.args.at + 2) xs))))
+pub compare-requires-clause-suits : goal.compare-requires-clause-suits
+compare-requires-clause-suits g c =
+    let may = c.requires.going in
+    let ks = c.args.kinds.now.items in
+    record {
+      stance = may.stance;
+      arranged = subst (λ b. IsArranged ks may.stance c.args.hand b c.args.table.now) c.requires.taken may.arranged;
+      suits = (suits_at ks c.args.tasks.now.items may.stance c.args.at _ c.requires.is may.suits).0;
+    }
 
 pub returns-clause-goes : goal.returns-clause-goes
 returns-clause-goes g c =
-    let s = c.args.self.now in
+    let may = c.requires.going in
+    let ks = c.args.kinds.now.items in
     let xs = c.args.tasks.now.items in
-    let r = c.if-not-compare.ensures in
-    steps.or_then r.swapped (λ f.
-    subst (λ b. GoesOnWith c.args.hand c.args.table.now b (drop c.args.at xs) s.said.items c.compare.new.table c.compare.new.self.taken
-    (drop (c.args.at + 3) xs) c.compare.new.self.said.items) (sym c.requires.taken)
-    (subst (λ l. GoesOnWith c.args.hand c.args.table.now true l s.said.items c.compare.new.table c.compare.new.self.taken
-    (drop (c.args.at + 3) xs) c.compare.new.self.said.items)
-    (sym (steps.three_at xs c.args.at _ _ _ c.requires.is (c.if-not-is_put.ensures refl) (c.if-not-is_drop.ensures refl)))
-    (f refl (drop (c.args.at + 3) xs))))
+    let tasks = comparisons.three_left ks may.stance xs c.args.at c.args.statement c.args.name c.args.cell c.args.weak c.requires.is may.suits in
+    subst (λ l. PlaysOn c.args.hand c.args.table.now (drop c.args.at xs) c.args.self.now c.compare.new.table l c.compare.new.self)
+    (comparisons.drop_more c.args.at c.compare.result xs)
+    (subst (λ l. PlaysOn c.args.hand c.args.table.now l c.args.self.now c.compare.new.table (drop c.compare.result l) c.compare.new.self) (sym tasks)
+    (c.compare.ensures.goes (drop (c.args.at + 3) xs)))
 
-pub returns-then-not-compare-clause-asked : goal.returns-then-not-compare-clause-asked
-returns-then-not-compare-clause-asked g c =
+pub returns-clause-going : goal.returns-clause-going
+returns-clause-going g c =
+    let may = c.requires.going in
+    let ks = c.args.kinds.now.items in
     let xs = c.args.tasks.now.items in
-    let two = noting.asked_two xs c.args.at c.args.statement c.args.name c.args.cell c.args.weak c.requires.is (c.if-not-is_put.ensures refl) in
-    steps.or_then c.if-not-compare.ensures.asked (λ same. omega (arith, two, same))
-
-pub returns-clause-asked : goal.returns-clause-asked
-returns-clause-asked g c =
-    let xs = c.args.tasks.now.items in
-    let three = noting.asked_three xs c.args.at c.args.statement c.args.name c.args.cell c.args.weak c.requires.is (c.if-not-is_put.ensures refl)
-    (c.if-not-is_drop.ensures refl) in
-    steps.or_then c.if-not-compare.ensures.asked (λ same. omega (arith, three, same))
+    let tasks = comparisons.three_left ks may.stance xs c.args.at c.args.statement c.args.name c.args.cell c.args.weak c.requires.is may.suits in
+    subst (λ l. MayGoOn ks c.args.hand c.compare.new.self.taken c.compare.new.table l) (comparisons.drop_more c.args.at c.compare.result xs)
+    (subst (λ l. MayGoOn ks c.args.hand c.compare.new.self.taken c.compare.new.table (drop c.compare.result l)) (sym tasks)
+    (c.compare.ensures.going may.stance (subst (λ b. IsArranged ks may.stance c.args.hand b c.args.table.now) c.requires.taken may.arranged) (drop
+    (c.args.at + 3) xs)
+    (subst (λ l. AllSuit ks may.stance l) tasks may.suits)))

@@ -1,36 +1,38 @@
-use Rattle.std.proofs.Common.{ℕ, refl, sym, ap, subst, ◌∙◌, inr, arith}
+use Rattle.std.proofs.Common.{ℕ, sym, subst}
 use Rattle.handle_table.specs.Tables.{TableNow}
-use Rattle.script_runner.specs.Deals.{IsPartlySettled}
-use Rattle.script_runner.proofs.Settles as settles
-use Rattle.script_runner.proofs.Stepping as steps
+use Rattle.script_runner.proofs.Allowances.{stays_round}
+use Rattle.script_runner.proofs.Comparisons as comparisons
+use Rattle.script_runner.proofs.Noted as noted
+use Rattle.script_runner.specs.Kinds.{IsVacant}
+use Rattle.script_runner.specs.Notes.{SettlesPartly}
 use Rattle.script_runner.proofs.workers.log.Log.round.Goals as goal
 
 pub returns-in-None-clause-goes : goal.returns-in-None-clause-goes
 returns-in-None-clause-goes g c =
     let s = c.args.self.now in
-    inr (subst (λ u. IsPartlySettled c.args.hand c.args.statement s.taken c.args.table.now s.said.items u s.said.items) (sym c.in-None.ensures.same)
-    (settles.no_round c.args.hand c.args.statement c.args.table.now s.taken s.said.items))
-
-pub returns-in-None-clause-over : goal.returns-in-None-clause-over
-returns-in-None-clause-over g c = inr (λ e. ap (λ (t : TableNow ℕ). t.endings) c.in-None.ensures.same ∙ c.in-None.ensures.none)
+    subst (λ u. SettlesPartly c.args.hand c.args.statement c.args.table.now s u s) (sym c.in-None.ensures.same)
+    (noted.none_settled c.args.hand c.args.statement c.args.table.now s)
 
 pub returns-clause-goes : goal.returns-clause-goes
 returns-clause-goes g c =
     let s = c.args.self.now in
+    let x = c.note.new.self in
     let t = c.top_of.new.table in
     let u = c.round-round.new.self in
-    steps.or_then c.note.ensures.said (λ m.
-    subst (λ q. IsPartlySettled c.args.hand c.args.statement s.taken q s.said.items c.told_of-ended.new.table c.note.new.self.said.items)
-    c.in-Some.ensures.same
-    (subst (λ q. IsPartlySettled c.args.hand c.args.statement s.taken t s.said.items q c.note.new.self.said.items) (sym c.told_of-ended.ensures.same)
-    (settles.round_on c.args.hand c.args.statement t u s.taken (c.if-not-is_vacant.ensures refl) c.round-round.ensures.slots
-    c.round-round.result c.round-round.ensures.round c.told_of-ended.result c.told_of-ended.ensures.told s.said.items c.note.new.self.said.items m)))
+    let told = c.in-Some.ensures in
+    let vacant : IsVacant t.slots c.args.hand =
+    subst (λ (q : TableNow ℕ). IsVacant q.slots c.args.hand) (sym told.same)
+    (comparisons.must_settle c.args.hand c.args.table.now c.in-Some.field-0 told.told c.requires.vacant) in
+    let stands = c.stands.ensures in
+    subst (λ q. SettlesPartly c.args.hand c.args.statement q s c.told_of-ended.new.table x) told.same
+    (subst (λ q. SettlesPartly c.args.hand c.args.statement t s q x) (sym c.told_of-ended.ensures.same)
+    (noted.round_noted c.args.hand c.args.statement t s u x (comparisons.hand_vacant c.args.hand t stands.fits stands.stands stands.ends vacant)
+    c.round-round.ensures.slots c.round-round.result c.round-round.ensures.round c.told_of-ended.result c.told_of-ended.ensures.told
+    c.note.ensures.notes))
 
-pub returns-clause-over : goal.returns-clause-over
-returns-clause-over g c = steps.still c.note.new.self.lost
-
-pub returns-clause-on : goal.returns-clause-on
-returns-clause-on g c = steps.goes_on c.note.new.self.lost
-
-pub returns-clause-asked : goal.returns-clause-asked
-returns-clause-asked g c = steps.or_then c.note.ensures.asked (λ more. omega (arith, more))
+pub returns-clause-limits : goal.returns-clause-limits
+returns-clause-limits g c =
+    let t = c.top_of.new.table in
+    let u = c.round-round.new.self in
+    comparisons.limits_over c.args.table.now t u c.told_of-ended.new.table c.in-Some.ensures.same c.told_of-ended.ensures.same
+    (stays_round t.desk t.endings c.round-round.result u.desk u.endings c.round-round.ensures.round)

@@ -1,0 +1,210 @@
+-- What an act takes into the hand: the table doesn't refuse it, and of which kind it is.
+use Rattle.std.proofs.Common.{◌≡◌, ◌≢◌, ◌⊎◌, ℕ, zero, suc, ◌+◌, ◌<◌, true, false, List, [], ◌∷◌, length, Option, Some}
+use Rattle.std.proofs.Common.{None, Err, inl, inr}
+use Rattle.std.proofs.Common.{refl, sym, ap, subst, ◌∙◌, arith}
+use Rattle.std.proofs.lemmas.List.{length-set, set-set, set_comm}
+use Rattle.std.specs.Prelude.{slice_get, slice_set}
+use Rattle.control_block.specs.Desks.{DeskNow}
+use Rattle.control_block.specs.declared.handles.Held.TheVariants.{Owner, Weak}
+use Rattle.control_block.specs.declared.handles.Held.{Held}
+use Rattle.control_block.specs.declared.handles.Shared.{Shared}
+use Rattle.control_block.specs.declared.handles.Weak as weak_handle
+use Rattle.control_word.specs.Handles.{IsPointer}
+use Rattle.control_word.specs.declared.model.handle.Kind.TheVariants as kind
+use Rattle.control_word.specs.declared.model.handle.Kind.{Kind}
+use Rattle.control_word.specs.declared.place.Block.{Block}
+use Rattle.control_word.specs.declared.place.Place.{Place}
+use Rattle.control_word.specs.declared.refusal.Refusal.TheVariants.{BadWeak, Full, Limit}
+use Rattle.control_word.specs.declared.refusal.Refusal.{Refusal}
+use Rattle.handle_table.proofs.Filling.{fits_at}
+use Rattle.handle_table.specs.Calls as calls
+use Rattle.handle_table.specs.Calls.{Comes, IsBelow, IsCopy, IsNoSlot, IsOwner, IsWeak, LeavesSlot, WhyNoWeak}
+use Rattle.handle_table.specs.Handles as handles
+use Rattle.handle_table.specs.Parts.{kind_of_held}
+use Rattle.handle_table.specs.Tables.{TableNow}
+use Rattle.handle_table.specs.This as this
+use Rattle.handle_table.specs.declared.fault.Fault.TheVariants as fault
+use Rattle.handle_table.specs.declared.fault.Fault.{Fault}
+use Rattle.script_runner.proofs.Acting as law
+use Rattle.script_runner.proofs.Inquiring as inquiring
+use Rattle.script_runner.proofs.Putting.{slice_get-set_other}
+use Rattle.script_runner.proofs.Refusals.{comes_kind, kinds_kept, kind_of_slot, kind_within, kinds_set, no_handle, no_limit, no_owner, no_slot, no_weak}
+use Rattle.script_runner.proofs.Seating.{same_some}
+use Rattle.script_runner.proofs.TableLaws.{as_seated}
+use Rattle.script_runner.specs.Deals.{IsActed, NotGiven}
+use Rattle.script_runner.specs.Kinds.{HasKind, KeepsKinds, SetsKind, TakesKind, slot_kinds}
+use Rattle.script_runner.specs.Seats.{IsHand}
+use Rattle.script_runner.specs.declared.acts.went.Went.{Went}
+use Rattle.shared_handle.proofs.Owned.{points_well}
+use Rattle.shared_handle.specs.Endings.{WhyNotThis}
+use Rattle.shared_handle.specs.Locks.{IsUpgrade}
+use Rattle.step_table.specs.Deeds.{aliased, field_number}
+use Rattle.step_table.specs.declared.memory.field.Field.TheVariants.{Zero, One, Two, Three}
+use Rattle.step_table.specs.declared.memory.field.Field.{Field}
+use Rattle.step_table.specs.declared.memory.form.Form.{Form}
+use Rattle.step_threads.specs.declared.programs.act.Act.TheVariants as act
+use Rattle.step_threads.specs.declared.said.Answer.TheVariants as answer
+
+-- an owner came, or a weak handle
+pub owner_kind : (by : DeskNow ℕ → Shared → DeskNow ℕ → Type 0) (t u : TableNow ℕ) (to : ℕ) → Comes (IsOwner by) t to u
+    → SetsKind to (Some kind.Owner) t u
+owner_kind by t u to c = comes_kind (IsOwner by) t u to kind.Owner c (ap kind_of_held c.comes.is)
+
+pub weak_kind : (by : DeskNow ℕ → weak_handle.Weak → DeskNow ℕ → Type 0) (t u : TableNow ℕ) (to : ℕ) → Comes (IsWeak by) t to u
+    → SetsKind to (Some kind.Weak) t u
+weak_kind by t u to c = comes_kind (IsWeak by) t u to kind.Weak c (ap kind_of_held c.comes.is)
+
+-- a copy is of the kind of what it copies
+copy_kind : (of h : Held) (d e : DeskNow ℕ) → IsCopy of d h e → kind_of_held h ≡ kind_of_held of
+copy_kind (Owner x) h d e c = ap kind_of_held c.is
+copy_kind (Weak x) h d e c = ap kind_of_held c.is
+
+pub copied_kind : (i to : ℕ) (t u : TableNow ℕ) (k : Kind) → HasKind t.slots i k → calls.Copies t i to u → SetsKind to (Some k) t u
+copied_kind i to t u k has c =
+    comes_kind (IsCopy c.of) t u to k c.copy
+    (copy_kind c.of c.copy.handle t.desk c.copy.between c.copy.comes ∙ kind_of_slot t.slots i c.of k c.at has)
+
+-- what was taken out of a list and is put back
+set_own : {A : Type 0} (l : List A) (i : ℕ) (x : A) → slice_get l i ≡ Some x → slice_set l i x ≡ l
+set_own [] i x at = refl
+set_own (y ∷ l) zero x at = ap (λ z. z ∷ l) (sym (same_some y x at))
+set_own (y ∷ l) (suc i) x at = ap (λ m. y ∷ m) (set_own l i x at)
+
+put_back : {A : Type 0} (l : List A) (i j : ℕ) (x y z : A) → i ≢ j → slice_get l i ≡ Some x
+    → slice_set (slice_set (slice_set l i y) j z) i x ≡ slice_set l j z
+put_back l i j x y z apart at =
+    set_comm (slice_set l i y) j i z x (λ e. apart (sym e)) ∙ ap (λ m. slice_set m j z) (set-set l i y x ∙ set_own l i x at)
+
+-- a name's handle went into the hand, and the name has an empty one of its kind
+pub moved_kind : (i to : ℕ) (t v u : TableNow ℕ) (k : Kind) → i < to → HasKind t.slots i k → calls.MovesSlot t i to v
+    → SetsKind i (Some k) v u → SetsKind to (Some k) t u
+moved_kind i to t v u k lt has m sets =
+    let l = slot_kinds t.slots in
+    let moved : slot_kinds v.slots ≡ slice_set (slice_set l i None) to (Some k) =
+    ap slot_kinds m.assigns.slots
+    ∙ (kinds_set (slice_set t.slots i None) to (Some m.of)
+    ∙ (λ q. slice_set (kinds_set t.slots i None q) to (Some (kind_of_slot t.slots i m.of k m.at has q)))) in
+    let apart : i ≢ to = λ e. let lt : i < to = lt in omega (arith, lt, e) in
+    sets ∙ (ap (λ x. slice_set x i (Some k)) moved ∙ put_back l i to (Some k) None (Some k) apart has)
+
+-- what lay in the hand was vacant, and the name has a slot
+pub moved_desk : (i to : ℕ) (t v : TableNow ℕ) → i < to → slice_get t.slots to ≡ Some None → calls.MovesSlot t i to v
+    → v.desk ≡ t.desk
+moved_desk i to t v lt vacant m =
+    let a = m.assigns in
+    let none : a.old ≡ None =
+    same_some a.old None (sym a.was ∙ (slice_get-set_other t.slots i to None (λ e. let lt : i < to = lt in omega (arith, lt, e)) ∙ vacant)) in
+    (subst (λ s. LeavesSlot t.desk t.endings s v.desk v.endings) none a.leaves).0
+
+pub moved_within : (i to : ℕ) (t v : TableNow ℕ) (k : Kind) → HasKind t.slots i k → calls.MovesSlot t i to v → i < length v.slots
+moved_within i to t v k has m =
+    subst (λ n. i < n)
+    (sym (ap length m.assigns.slots ∙ (length-set (slice_set t.slots i None) to (Some m.of) ∙ length-set t.slots i None)))
+    (kind_within t.slots i k has)
+
+-- nothing was taken
+pub kept_kind : (to : ℕ) (k : Kind) (t u : TableNow ℕ) (x : Went) → x.taken ≡ false → KeepsKinds t u → TakesKind to k x.taken t u
+kept_kind to k t u x none keeps = subst (λ b. TakesKind to k b t u) (sym none) keeps
+
+-- with room for a handle a weak one gives none only since it is expired
+bad_weak : (d e : DeskNow ℕ) (b : Option Block) (p : Option Place) (r : Refusal) → IsBelow d → IsUpgrade d b p (Err r) e → r ≡ BadWeak
+bad_weak d e None p Limit below up = absurd (below up.0)
+bad_weak d e None p BadWeak below up = refl
+bad_weak d e None p r below up = absurd up
+bad_weak d e (Some b) p Limit below up = absurd (below up.0)
+bad_weak d e (Some b) p BadWeak below up = refl
+bad_weak d e (Some b) p r below up = absurd up
+
+module _ (hand : ℕ) (t : TableNow ℕ) (is : IsHand (hand + 1) hand t) (below : IsBelow t.desk) (why : Fault) where
+  there : hand < length t.slots
+  there = let many = is.many in omega (arith, many)
+
+  module _ (i : ℕ) where
+    pub copy_granted : (k : Kind) → HasKind t.slots i k → calls.WhyNoCopy t i hand why → ⊥
+    copy_granted k has (inl x) = no_slot t.slots hand why there x
+    copy_granted k has (inr (inl x)) = no_handle t.slots i k why has x
+    copy_granted k has (inr (inr x)) = no_limit t why below x
+
+    pub move_granted : (k : Kind) → HasKind t.slots i k → calls.WhyNotMoved t i hand why → ⊥
+    move_granted k has (inl x) = no_slot t.slots hand why there x
+    move_granted k has (inr x) = no_handle t.slots i k why has x
+
+    pub downgrade_granted : HasKind t.slots i kind.Owner → calls.WhyNotDowngraded t i hand why → ⊥
+    downgrade_granted has (inl x) = no_slot t.slots hand why there x
+    downgrade_granted has (inr (inl x)) = no_owner t.slots i why has x
+    downgrade_granted has (inr (inr x)) = no_limit t why below x
+
+    pub lock_granted : HasKind t.slots i kind.Weak → calls.WhyNotLocked t i hand why → ⊥
+    lock_granted has (inl x) = no_slot t.slots hand why there x
+    lock_granted has (inr (inl x)) = no_weak t.slots i why has x
+    lock_granted has (inr (inr x)) = no_limit t why below x
+
+    pub alias_granted : (p : Option Place) → HasKind t.slots i kind.Owner → IsPointer p → this.WhyNoAlias t i p hand why → ⊥
+    alias_granted p has points (inl x) = no_slot t.slots hand why there x
+    alias_granted p has points (inr (inl x)) = x.1 points
+    alias_granted p has points (inr (inr (inl x))) = no_owner t.slots i why has x
+    alias_granted p has points (inr (inr (inr x))) = no_limit t why below x
+
+    no_such : HasKind t.slots i kind.Weak → IsNoSlot t.slots hand why ⊎ WhyNoWeak t.slots i why → ⊥
+    no_such has (inl x) = no_slot t.slots hand why there x
+    no_such has (inr x) = no_weak t.slots i why has x
+
+    -- why these may be refused all the same
+    pub upgrade_refused : (u : TableNow ℕ) → HasKind t.slots i kind.Weak → handles.WhyNotUpgraded t i hand why u
+        → (why ≡ fault.Call BadWeak) × (u.slots ≡ t.slots)
+    upgrade_refused u has (inl x) = absurd (no_such has x.0)
+    upgrade_refused u has (inr x) =
+        (x.is ∙ ap fault.Call (bad_weak t.desk u.desk x.of.block x.of.place x.refusal below x.event), x.rest.0)
+
+    pub this_refused : HasKind t.slots i kind.Owner → this.WhyNoThis t i hand why → (r : Refusal) × (why ≡ fault.Call r) × (r ≢ Limit)
+    this_refused has (inl x) = absurd (no_slot t.slots hand why there x)
+    this_refused has (inr (inl x)) = absurd (no_owner t.slots i why has x)
+    this_refused has (inr (inr x)) =
+        (x.2.0, x.2.1, λ e. below (subst (λ r. WhyNotThis t.desk x.0.block x.0.place r) e x.2.2))
+
+  pub make_refused : calls.WhyNotMade t hand why → why ≡ fault.Call Full
+  make_refused (inl x) = absurd (no_slot t.slots hand why there x)
+  make_refused (inr (inl x)) = absurd (no_limit t why below x)
+  make_refused (inr (inr x)) = x.0.0
+
+-- and what is done then
+module _ (hand : ℕ) (t u : TableNow ℕ) (is : IsHand (hand + 1) hand t) (below : IsBelow t.desk) (why : Fault) (x : Went) where
+  pub not_upgraded : (i : ℕ) → i < hand → HasKind t.slots i kind.Weak → handles.WhyNotUpgraded t i hand why u
+      → x ≡ law.went false (Some (answer.Refused BadWeak))
+      → IsActed hand t false (act.Lock i true) x u × TakesKind hand kind.Owner x.taken t u
+  not_upgraded i lt has c says =
+      let r = upgrade_refused hand t is below why i u has c in (
+        subst (λ y. IsActed hand t false (act.Lock i true) y u) (sym says)
+            (law.upgraded_not hand i t u is lt (subst (λ w. handles.WhyNotUpgraded t i hand w u) r.0 c)),
+        kept_kind hand kind.Owner t u x (ap (λ (y : Went). y.taken) says) (kinds_kept t u r.1),
+      )
+
+  pub not_given : (i : ℕ) (k : Kind) → i < hand → this.WhyNoThis t i hand why → u ≡ t → NotGiven why x
+      → IsActed hand t false (act.FromThis i k) x u × TakesKind hand k x.taken t u
+  not_given i k lt c same says = (
+    inquiring.not_given hand i t (as_seated (hand + 1) hand t is) k why (Some x) u lt says c same,
+    kept_kind hand k t u x (ap (λ (y : Went). y.taken) says.says) (kinds_kept t u (ap (λ (v : TableNow ℕ). v.slots) same)),
+  )
+
+  pub not_made : (form : Form) → calls.WhyNotMade t hand why → u ≡ t → x ≡ law.went false (Some (answer.Refused Full))
+      → IsActed hand t false (act.Make form) x u × TakesKind hand kind.Owner x.taken t u
+  not_made form c same says = (
+    law.no_room hand t u form why (Some x) (make_refused hand t is below why c, says) c same,
+    kept_kind hand kind.Owner t u x (ap (λ (y : Went). y.taken) says) (kinds_kept t u (ap (λ (v : TableNow ℕ). v.slots) same)),
+  )
+
+-- an owner points at one of a block's fields or nowhere, and so does an alias
+pub points_in : (m hand j : ℕ) (t : TableNow ℕ) (p : Option Place) → IsHand m hand t → calls.PointsTo t j p → IsPointer p
+points_in m hand j t p is c =
+    subst IsPointer (sym c.2) (points_well t.desk c.0.block c.0.place is.stands c.0.proper (fits_at t.desk t.slots j (Owner c.0) is.fits c.1))
+
+number_below : (field : Field) → field_number field < 4
+number_below Zero = omega arith
+number_below One = omega arith
+number_below Two = omega arith
+number_below Three = omega arith
+
+pub alias_in : (field : Option Field) (p : Option Place) → IsPointer p → IsPointer (aliased field p)
+alias_in None p is = tt
+alias_in (Some field) None is = tt
+alias_in (Some field) (Some p) is = (is.0, is.1, number_below field)

@@ -1,0 +1,108 @@
+-- A call on a slot that has a handle of the asked kind isn't refused for want of one; and how calls change the kinds of
+-- what slots have.
+use Rattle.std.proofs.Common.{◌≡◌, ℕ, zero, suc, ◌<◌, ◌≤◌, List, [], ◌∷◌, length, Some, None, inl, inr}
+use Rattle.std.proofs.Common.{refl, sym, ap, subst, ◌∙◌, arith}
+use Rattle.std.proofs.lemmas.Option.{slice_get-map, slice_get_within}
+use Rattle.std.specs.Prelude.{option_map, slice_get, slice_set}
+use Rattle.control_block.specs.Desks.{DeskNow}
+use Rattle.control_block.specs.declared.handles.Held.TheVariants.{Owner, Weak}
+use Rattle.control_block.specs.declared.handles.Held.{Held}
+use Rattle.control_word.specs.declared.model.handle.Kind.TheVariants as kind
+use Rattle.control_word.specs.declared.model.handle.Kind.{Kind}
+use Rattle.handle_table.specs.Calls.{Comes, IsAtLimit, IsBelow, IsNoSlot, WhyNoHandle, WhyNoOwner, WhyNoWeak}
+use Rattle.handle_table.specs.Cells.{WhyNoneOf}
+use Rattle.handle_table.specs.Parts.{kind_of_held}
+use Rattle.handle_table.specs.Tables as table
+use Rattle.handle_table.specs.Tables.{TableNow}
+use Rattle.handle_table.specs.declared.fault.Fault.TheVariants as fault
+use Rattle.handle_table.specs.declared.fault.Fault.{Fault}
+use Rattle.script_runner.proofs.Seating.{same_some}
+use Rattle.script_runner.specs.Kinds.{HasKind, IsVacant, KeepsKinds, SetsKind, kind_in, slot_kinds}
+
+-- the kinds of what slots have, by the slots and back
+pub kind_at_handle : (ss : List table.Slot) (i : ℕ) (s : table.Slot) → slice_get ss i ≡ Some s → slice_get (slot_kinds ss) i ≡ Some (kind_in s)
+kind_at_handle ss i s at = slice_get-map kind_in ss i ∙ ap (option_map kind_in) at
+
+pub handle_of_kind : (ss : List table.Slot) (i : ℕ) (k : Kind) → HasKind ss i k
+    → (h : Held) × (slice_get ss i ≡ Some (Some h)) × (kind_of_held h ≡ k)
+handle_of_kind [] i k has = absurd cc
+handle_of_kind (None ∷ ss) zero k has = let e = same_some None (Some k) has in absurd cc
+handle_of_kind (Some h ∷ ss) zero k has =
+    (h, refl, same_some (kind_of_held h) k (same_some (Some (kind_of_held h)) (Some k) has))
+handle_of_kind (s ∷ ss) (suc i) k has = handle_of_kind ss i k has
+
+pub vacant_slot : (ss : List table.Slot) (i : ℕ) → IsVacant ss i → slice_get ss i ≡ Some None
+vacant_slot [] i none = absurd cc
+vacant_slot (None ∷ ss) zero none = refl
+vacant_slot (Some h ∷ ss) zero none = let e = same_some (Some (kind_of_held h)) None none in absurd cc
+vacant_slot (s ∷ ss) (suc i) none = vacant_slot ss i none
+
+pub vacant_kind : (ss : List table.Slot) (i : ℕ) → slice_get ss i ≡ Some None → IsVacant ss i
+vacant_kind ss i at = kind_at_handle ss i None at
+
+pub kind_within : (ss : List table.Slot) (i : ℕ) (k : Kind) → HasKind ss i k → i < length ss
+kind_within ss i k has = let h = handle_of_kind ss i k has in slice_get_within ss i (Some h.0) h.1
+
+-- a slot's kind is one
+pub same_kind : (ss : List table.Slot) (i : ℕ) (k l : Kind) → HasKind ss i k → HasKind ss i l → k ≡ l
+same_kind ss i k l has too = same_some k l (same_some (Some k) (Some l) (sym has ∙ too))
+
+-- the slot has a handle of the kind
+pub kind_of_slot : (ss : List table.Slot) (i : ℕ) (h : Held) (k : Kind) → slice_get ss i ≡ Some (Some h) → HasKind ss i k → kind_of_held h ≡ k
+kind_of_slot ss i h k at has = same_kind ss i (kind_of_held h) k (kind_at_handle ss i (Some h) at) has
+
+pub kinds_set : (ss : List table.Slot) (i : ℕ) (s : table.Slot) → slot_kinds (slice_set ss i s) ≡ slice_set (slot_kinds ss) i (kind_in s)
+kinds_set [] i s = refl
+kinds_set (x ∷ ss) zero s = refl
+kinds_set (x ∷ ss) (suc i) s = ap (λ l. kind_in x ∷ l) (kinds_set ss i s)
+
+-- there is a handle, an owner, a weak handle, one of the kind
+pub no_handle : (ss : List table.Slot) (i : ℕ) (k : Kind) (why : Fault) → HasKind ss i k → WhyNoHandle ss i why → ⊥
+no_handle ss i k fault.Slot has x =
+    let lt : i < length ss = kind_within ss i k has in
+    let le : length ss ≤ i = x in
+    omega (arith, lt, le)
+no_handle ss i k fault.Vacant has x =
+    let e = same_some (Some k) None (sym has ∙ vacant_kind ss i x) in cc
+no_handle ss i k why has x = x
+
+pub no_owner : (ss : List table.Slot) (i : ℕ) (why : Fault) → HasKind ss i kind.Owner → WhyNoOwner ss i why → ⊥
+no_owner ss i why has (inl x) = no_handle ss i kind.Owner why has x
+no_owner ss i why has (inr x) =
+    let e = same_kind ss i kind.Owner kind.Weak has (kind_at_handle ss i (Some (Weak x.1.0)) x.1.1) in cc
+
+pub no_weak : (ss : List table.Slot) (i : ℕ) (why : Fault) → HasKind ss i kind.Weak → WhyNoWeak ss i why → ⊥
+no_weak ss i why has (inl x) = no_handle ss i kind.Weak why has x
+no_weak ss i why has (inr x) =
+    let e = same_kind ss i kind.Weak kind.Owner has (kind_at_handle ss i (Some (Owner x.1.0)) x.1.1) in cc
+
+pub none_of : (ss : List table.Slot) (i : ℕ) (k : Kind) (why : Fault) → HasKind ss i k → WhyNoneOf k ss i why → ⊥
+none_of ss i kind.Owner why has x = no_owner ss i why has x
+none_of ss i kind.Weak why has x = no_weak ss i why has x
+
+-- there is the slot
+pub no_slot : (ss : List table.Slot) (i : ℕ) (why : Fault) → i < length ss → IsNoSlot ss i why → ⊥
+no_slot ss i why lt x = let le : length ss ≤ i = x.1 in omega (arith, lt, le)
+
+module _ {V : Type 0} where
+  -- the desk isn't at its allowance
+  pub no_limit : (t : TableNow V) (why : Fault) → IsBelow t.desk → IsAtLimit t why → ⊥
+  no_limit t why below at = below at.1
+
+  pub below_same : (t u : TableNow V) → u.desk ≡ t.desk → IsBelow t.desk → IsBelow u.desk
+  below_same t u same below = subst (λ (d : DeskNow V). IsBelow d) (sym same) below
+
+-- a handle went into a slot
+pub handle_kind : (t u : TableNow ℕ) (to : ℕ) (h : Held) (k : Kind) → u.slots ≡ slice_set t.slots to (Some h) → kind_of_held h ≡ k
+    → SetsKind to (Some k) t u
+handle_kind t u to h k set is =
+    ap slot_kinds set ∙ (kinds_set t.slots to (Some h) ∙ ap (λ x. slice_set (slot_kinds t.slots) to (Some x)) is)
+
+-- or into any
+pub comes_kind : (came : DeskNow ℕ → Held → DeskNow ℕ → Type 0) (t u : TableNow ℕ) (to : ℕ) (k : Kind) (c : Comes came t to u)
+    → kind_of_held c.handle ≡ k → SetsKind to (Some k) t u
+comes_kind came t u to k c is = handle_kind t u to c.handle k c.assigns.slots is
+
+-- the slots are as they were
+pub kinds_kept : (t u : TableNow ℕ) → u.slots ≡ t.slots → KeepsKinds t u
+kinds_kept t u same = ap slot_kinds same
