@@ -25,3 +25,4 @@ pub mod Laws
 pub mod Shelf
 pub mod SlotLists
 pub mod HandleLists
+pub mod Stepping

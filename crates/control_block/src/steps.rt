@@ -23,6 +23,7 @@ pub mod leaving;
 pub mod locks;
 pub mod making;
 pub mod shelf;
+mod words;
 
 use crate::board::{Board, Chair};
 use crate::in_place::InPlace;
@@ -46,7 +47,7 @@ pub fn share<V, M: StepArgs>(board: &Board<V>, chair: &mut Chair<V>, block: Bloc
         × (chair.new.me.1 ≡ chair.old.me.1) }
     ensures event { tells (Share (owner M.object M.place) M.wanted) chair.old.me.0 chair.new.me.0 }
 {
-    board.fetch_add::<Shares<M>>(chair, block_word(block, OWNERS), 1);
+    words::fetch_add::<V, Shares<M>>(board, chair, block_word(block, OWNERS), 1);
 }
 
 /// Weak share: one weak handle more, under a handle of the desk or an ending ([util.smartptr.weak.const],
@@ -61,7 +62,7 @@ pub fn share_weak<V, M: StepArgs>(board: &Board<V>, chair: &mut Chair<V>, block:
         × (chair.new.me.1 ≡ chair.old.me.1) }
     ensures event { tells (WeakShare M.object M.wanted) chair.old.me.0 chair.new.me.0 }
 {
-    board.fetch_add::<WeakShares<M>>(chair, block_word(block, WEAKS), 1);
+    words::fetch_add::<V, WeakShares<M>>(board, chair, block_word(block, WEAKS), 1);
 }
 
 /// Weak leave: one weak handle less ([util.smartptr.weak.dest]). True where the block is vacant now.
@@ -90,7 +91,7 @@ pub fn count<V, M: StepArgs>(board: &Board<V>, chair: &mut Chair<V>, block: Bloc
     ensures sole { (known chair.new.me.0).allowance chair.old.me.0.view.name ≡ chair.old.me.0.shape.allowance
         → result ≡ count (known chair.new.me.0) M.object }
 {
-    told_count(board.load::<Counts<M>>(chair, block_word(block, OWNERS)))
+    told_count(words::load::<V, Counts<M>>(board, chair, block_word(block, OWNERS)))
 }
 
 /// Look: whether no owner is left ([util.smartptr.weak.obs]).
@@ -103,7 +104,7 @@ pub fn is_expired<V, M: StepArgs>(board: &Board<V>, chair: &mut Chair<V>, block:
         × (chair.new.me.1 ≡ chair.old.me.1) }
     ensures event { tells (Expired (weak_of M.object M.place) result) chair.old.me.0 chair.new.me.0 }
 {
-    board.load::<FindsExpired<M>>(chair, block_word(block, OWNERS)) == 0
+    words::load::<V, FindsExpired<M>>(board, chair, block_word(block, OWNERS)) == 0
 }
 
 /// Look: the field at a place in the object that an owner owns (own).
@@ -119,7 +120,7 @@ pub fn read<V, M: StepArgs>(board: &Board<V>, chair: &mut Chair<V>, place: Place
     ensures event { tells (Read (owner M.object M.place) result) chair.old.me.0 chair.new.me.0 }
 {
     let word = FIELDS + usize::from(place.field);
-    board.load::<Reads<M>>(chair, block_word(place.block, word))
+    words::load::<V, Reads<M>>(board, chair, block_word(place.block, word))
 }
 
 /// Look, which is no event (own): the flags, as word 0, or a field, as words 1 to 4, of an object that the desk has a
@@ -139,7 +140,7 @@ pub fn peek<V, M: StepArgs>(
         × (chair.new.me ≡ chair.old.me) }
     ensures told { IsTold word ((known chair.old.me.0).object M.object) result }
 {
-    board.load::<Peeks<M>>(chair, block_word(block, FLAGS + word))
+    words::load::<V, Peeks<M>>(board, chair, block_word(block, FLAGS + word))
 }
 
 /// Leave: one owner less. Of the last one ([util.smartptr.shared.dest]) the value comes out, and its object ends in the
@@ -184,8 +185,8 @@ pub fn finish<V: Drop + Send, M: StepArgs>(
         → tells (Finish M.object result.1 x) chair.old.me.0 chair.new.me.0 }
 {
     let word = block_word(block, WEAKS);
-    board.load::<Fetches<M>>(chair, word);
+    words::load::<V, Fetches<M>>(board, chair, word);
     let value = in_hand::take(board, chair, block);
-    let found = board.fetch_sub::<Finishes<M>>(chair, word, 1);
+    let found = words::fetch_sub::<V, Finishes<M>>(board, chair, word, 1);
     (value, found == 1)
 }

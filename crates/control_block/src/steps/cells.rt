@@ -16,6 +16,7 @@ use crate::plays::cells::{
     Aimed, CompareSwaps, DiffersEmpty, LoadsEmpty, Peeks, Refills, Swaps, TakesToCompare,
     TakesToLoad,
 };
+use crate::steps::words;
 use control_word::CellWord;
 use control_word::packed::cell::{ONE_TAKEN, pack, unpack};
 
@@ -30,7 +31,7 @@ pub fn peek<V, A: Aimed>(board: &Board<V>, chair: &mut Chair<V>, word: usize) ->
     ensures cell { IsCellWord result }
     ensures held { IsHeld A.cell chair.old.me.0 result }
 {
-    unpack(board.load::<Peeks<A>>(chair, word))
+    unpack(words::load::<V, Peeks<A>>(board, chair, word))
 }
 
 /// Look: what a cell holds at this step. Where it shows no object, this is its load ([util.smartptr.atomic.shared],
@@ -48,7 +49,7 @@ pub fn look<V, A: Aimed>(board: &Board<V>, chair: &mut Chair<V>, word: usize) ->
         (Load A.cell (handle (kind_in chair.old.me.0.shape A.cell) None result.place)) chair.old.me.0 chair.new.me.0 }
     ensures same { result.owned ≢ None → chair.new.me ≡ chair.old.me }
 {
-    unpack(board.load::<LoadsEmpty<A>>(chair, word))
+    unpack(words::load::<V, LoadsEmpty<A>>(board, chair, word))
 }
 
 /// Look: what a cell holds at this step. Where it shows no object and isn't equivalent to what is expected, this is a
@@ -73,7 +74,7 @@ pub fn look_differing<V, A: Aimed>(board: &Board<V>, chair: &mut Chair<V>, word:
         → chair.new.me ≡ chair.old.me }
     ensures same { result.owned ≢ None → chair.new.me ≡ chair.old.me }
 {
-    unpack(board.load::<DiffersEmpty<A>>(chair, word))
+    unpack(words::load::<V, DiffersEmpty<A>>(board, chair, word))
 }
 
 /// Take a fund, where the cell still shows what was seen: the load of a cell with an object
@@ -98,7 +99,8 @@ pub fn take<V, A: Aimed>(
     ensures missed { result ≡ false → chair.new.me ≡ chair.old.me }
 {
     let found = pack(seen);
-    board.compare_exchange::<TakesToLoad<A>>(chair, word, found, found + ONE_TAKEN) == found
+    words::compare_exchange::<V, TakesToLoad<A>>(board, chair, word, found, found + ONE_TAKEN)
+        == found
 }
 
 /// Take a fund, where the cell still shows what was seen: a compare that differs, of a cell with an object
@@ -127,7 +129,8 @@ pub fn take_differing<V, A: Aimed>(
     ensures missed { result ≡ false → chair.new.me ≡ chair.old.me }
 {
     let found = pack(seen);
-    board.compare_exchange::<TakesToCompare<A>>(chair, word, found, found + ONE_TAKEN) == found
+    words::compare_exchange::<V, TakesToCompare<A>>(board, chair, word, found, found + ONE_TAKEN)
+        == found
 }
 
 /// Refill: where the cell still shows what was seen, the funds that were brought, as many as were taken, go into it
@@ -151,7 +154,7 @@ pub fn refill<V, A: Aimed>(
 {
     let found = pack(seen);
     let full = pack(CellWord { taken: 0, ..seen });
-    board.compare_exchange::<Refills>(chair, word, found, full) == found
+    words::compare_exchange::<V, Refills>(board, chair, word, found, full) == found
 }
 
 /// Swap: the new handle, for which 256 funds were brought where it has an object, goes into the cell, and what the cell
@@ -176,7 +179,7 @@ pub fn swap<V, A: Aimed>(
     ensures gave { Gave (λ h. Swap A.cell A.new h)
         (kind_in chair.old.me.0.shape A.cell) chair.old.me.0 result chair.new.me.0 }
 {
-    unpack(board.swap::<Swaps<A>>(chair, word, pack(new)))
+    unpack(words::swap::<V, Swaps<A>>(board, chair, word, pack(new)))
 }
 
 /// Compare and swap: where the cell still shows what was seen, which is what is expected, this is a swap
@@ -205,5 +208,5 @@ pub fn compare_and_swap<V, A: Aimed>(
     ensures missed { result ≡ false → chair.new.me ≡ chair.old.me }
 {
     let found = pack(seen);
-    board.compare_exchange::<CompareSwaps<A>>(chair, word, found, pack(new)) == found
+    words::compare_exchange::<V, CompareSwaps<A>>(board, chair, word, found, pack(new)) == found
 }

@@ -7,6 +7,7 @@ ghost use Rattle.control_block.specs.declared.board.Sight.{Sight};
 
 use crate::board::{Board, Chair};
 use crate::plays::{Cut, Given, Glue, Joins, Splits};
+use crate::steps::words;
 
 /// Split: the look at which a new desk gets its name and what it is given (own).
 pub fn note_split<V, G: Given>(board: &Board<V>, chair: &mut Chair<V>)
@@ -19,7 +20,7 @@ pub fn note_split<V, G: Given>(board: &Board<V>, chair: &mut Chair<V>)
     ensures event { (to : ℕ) × Added chair.old.me.0 (Parting to) None
         (Split to G.allowance G.handles G.blocks) chair.new.me.0 }
 {
-    board.load::<Splits<G>>(chair, 0);
+    words::load::<V, Splits<G>>(board, chair, 0);
 }
 
 /// The cut that follows: the new desk's chair. Both have seen the same.
@@ -46,5 +47,5 @@ pub fn join<V>(board: &Board<V>, chair: &mut Chair<V>, other: Chair<V>)
     ensures event { JoinsUp chair.old.me.0 other.me.0 chair.new.me.0 }
 {
     board.join_seat::<Glue>(chair, other);
-    board.load::<Joins>(chair, 0);
+    words::load::<V, Joins>(board, chair, 0);
 }

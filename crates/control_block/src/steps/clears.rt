@@ -16,7 +16,7 @@ use crate::board::{Board, Chair};
 use crate::in_place::InPlace;
 use crate::plays::StepArgs;
 use crate::plays::clears::{Clears, LooksClear};
-use crate::steps::leaving;
+use crate::steps::{leaving, words};
 use control_word::packed::cell::unpack;
 use control_word::packed::layout::{MEMBERS, block_word};
 use control_word::{Block, CellWord};
@@ -48,7 +48,7 @@ fn is_empty<V, M: StepArgs>(
         chair.old.me.0 chair.new.me.0 × (chair.new.me.1 ≡ chair.old.me.1) }
     ensures same { result ≡ false → chair.new.me ≡ chair.old.me }
 {
-    board.load::<LooksClear<M>>(chair, block_word(block, MEMBERS + member as usize)) == 0
+    words::load::<V, LooksClear<M>>(board, chair, block_word(block, MEMBERS + member as usize)) == 0
 }
 
 /// Clear: what a member of an object that ends in the desk's hands holds comes out, and its funds that were not taken
@@ -71,7 +71,12 @@ fn swap_out<V, M: StepArgs>(
     ensures gave { Gave (λ h. ClearMember M.object M.word h)
         (kind_of_member M.word) chair.old.me.0 result chair.new.me.0 }
 {
-    unpack(board.swap::<Clears<M>>(chair, block_word(block, MEMBERS + member as usize), 0))
+    unpack(words::swap::<V, Clears<M>>(
+        board,
+        chair,
+        block_word(block, MEMBERS + member as usize),
+        0,
+    ))
 }
 
 /// Clear: a shared member of an object that ends in the desk's hands holds nothing afterwards, and what it held comes

@@ -12,6 +12,7 @@ use crate::board::{Board, Chair};
 use crate::pause::Pause;
 use crate::plays::doors::{Opens, Shuts};
 use crate::plays::{Peeks, StepArgs};
+use crate::steps::words;
 use control_word::Block;
 use control_word::packed::layout::{DOOR, FLAGS, block_word};
 use std::sync::Wait;
@@ -36,10 +37,10 @@ pub fn shut<V: Drop + Send, M: StepArgs, R: Wait>(
     let word = block_word(block, FLAGS);
     let mut pause = Pause::new();
     for _ in rt.forever() {
-        let found = board.load::<Peeks<M>>(chair, word);
+        let found = words::load::<V, Peeks<M>>(board, chair, word);
         if found < DOOR {
             let shut = found + DOOR;
-            if board.compare_exchange::<Shuts<M>>(chair, word, found, shut) == found {
+            if words::compare_exchange::<V, Shuts<M>>(board, chair, word, found, shut) == found {
                 return;
             }
         }
@@ -59,5 +60,5 @@ pub fn open<V: Drop + Send, M: StepArgs>(board: &Board<V>, chair: &mut Chair<V>,
     ensures event { (v : Sight V) (was becomes : V) → IsVisiting v block M.object M.place (spot block.0 2) was
         (Some becomes) chair.old.me → tells (Visit (owner M.object M.place) was becomes) v chair.new.me.0 }
 {
-    board.fetch_sub::<Opens<M>>(chair, block_word(block, FLAGS), DOOR);
+    words::fetch_sub::<V, Opens<M>>(board, chair, block_word(block, FLAGS), DOOR);
 }

@@ -9,6 +9,7 @@ ghost use Rattle.control_block.specs.FundPlays.{Owes, owing};
 use crate::board::{Board, Chair};
 use crate::plays::StepArgs;
 use crate::plays::funds::{Brings, Settles};
+use crate::steps::words;
 use control_word::Block;
 use control_word::model::handle::Kind;
 use control_word::packed::counts::{FUND_TURNED, ONE_FUND};
@@ -44,7 +45,12 @@ pub fn bring<V, M: StepArgs>(
         × (chair.new.me.1 ≡ []) }
     ensures brought { chair.new.me.0 ≡ in_call chair.old.me.0 (owing M.kind M.object M.place block.0 funds 0) }
 {
-    board.fetch_add::<Brings<M>>(chair, count_word(block, kind), u64::from(funds) * ONE_FUND);
+    words::fetch_add::<V, Brings<M>>(
+        board,
+        chair,
+        count_word(block, kind),
+        u64::from(funds) * ONE_FUND,
+    );
 }
 
 /// Give back: the funds that a half-done cell call owes leave the count (own). The call is over, and the desk has
@@ -57,7 +63,12 @@ pub fn give_back<V>(board: &Board<V>, chair: &mut Chair<V>, kind: Kind, block: B
         × (chair.new.me.1 ≡ []) }
     ensures settled { chair.new.me.0 ≡ goes_on chair.old.me.0 }
 {
-    board.fetch_sub::<Settles>(chair, count_word(block, kind), u64::from(funds) * ONE_FUND);
+    words::fetch_sub::<V, Settles>(
+        board,
+        chair,
+        count_word(block, kind),
+        u64::from(funds) * ONE_FUND,
+    );
 }
 
 /// Turn: the fund that a load took becomes a handle in the number (own). The load is over, and the desk has seen
@@ -70,5 +81,5 @@ pub fn turn<V>(board: &Board<V>, chair: &mut Chair<V>, kind: Kind, block: Block)
         × (chair.new.me.1 ≡ []) }
     ensures settled { chair.new.me.0 ≡ goes_on chair.old.me.0 }
 {
-    board.fetch_sub::<Settles>(chair, count_word(block, kind), FUND_TURNED);
+    words::fetch_sub::<V, Settles>(board, chair, count_word(block, kind), FUND_TURNED);
 }

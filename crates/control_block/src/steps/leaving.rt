@@ -15,7 +15,7 @@ ghost use Rattle.control_block.specs.Rule.{opening_of};
 use crate::board::{Board, Chair};
 use crate::in_place::InPlace;
 use crate::plays::{GivesBack, Leaves, StepArgs, WeakLeaves};
-use crate::steps::in_hand;
+use crate::steps::{in_hand, words};
 use control_word::packed::counts::ONE_FUND;
 use control_word::packed::layout::{OWNERS, WEAKS, block_word};
 use control_word::shape::CELL_FUNDS;
@@ -42,12 +42,12 @@ pub fn leave<V: Drop + Send, M: StepArgs>(
 {
     let word = block_word(block, OWNERS);
     let all = u64::from(funds) * ONE_FUND + 1;
-    let found = board.fetch_sub::<Leaves<M>>(chair, word, all);
+    let found = words::fetch_sub::<V, Leaves<M>>(board, chair, word, all);
     if found != all {
         return None;
     }
     let value = in_hand::remember(board, chair, block);
-    board.load::<GivesBack>(chair, word);
+    words::load::<V, GivesBack>(board, chair, word);
     Some(value)
 }
 
@@ -67,7 +67,7 @@ pub fn leave_weak<V, M: StepArgs>(
     ensures event { tells (WeakLeave (weak_of M.object M.place) result) chair.old.me.0 chair.new.me.0 }
 {
     let all = u64::from(funds) * ONE_FUND + 1;
-    board.fetch_sub::<WeakLeaves<M>>(chair, block_word(block, WEAKS), all) == all
+    words::fetch_sub::<V, WeakLeaves<M>>(board, chair, block_word(block, WEAKS), all) == all
 }
 
 /// What came out of a shared cell leaves, with its funds that were not taken; an empty handle by no step.

@@ -11,6 +11,7 @@ use crate::board::{Board, Chair};
 use crate::pause::Pause;
 use crate::plays::StepArgs;
 use crate::plays::locks::{Locks, SeeksOwner};
+use crate::steps::words;
 use control_word::Block;
 use control_word::packed::counts::with_handle;
 use control_word::packed::layout::{OWNERS, block_word};
@@ -38,12 +39,12 @@ pub fn lock<V, M: StepArgs, R: Wait>(
     let word = block_word(block, OWNERS);
     let mut pause = Pause::new();
     for _ in rt.forever() {
-        let found = board.load::<SeeksOwner<M>>(chair, word);
+        let found = words::load::<V, SeeksOwner<M>>(board, chair, word);
         if found == 0 {
             return false;
         }
         let more = with_handle(found);
-        if board.compare_exchange::<Locks<M>>(chair, word, found, more) == found {
+        if words::compare_exchange::<V, Locks<M>>(board, chair, word, found, more) == found {
             return true;
         }
         pause.wait();

@@ -11,7 +11,7 @@ ghost use Rattle.control_block.specs.declared.board.Sight.{Sight};
 
 use crate::board::{Board, Chair};
 use crate::plays::{Begins, Claims, MakeArgs, StepArgs, Writes};
-use crate::steps::in_hand;
+use crate::steps::{in_hand, words};
 use control_word::Block;
 use control_word::packed::layout::{ENABLED, FLAGS, NULL, OWNERS, WEAKS, block_word};
 use std::marker::Brand;
@@ -27,7 +27,7 @@ fn begin<V, M: StepArgs>(board: &Board<V>, chair: &mut Chair<V>, block: Block)
     ensures chair { (chair.new.table_id ≡ chair.old.table_id) × (chair.new.id ≡ chair.old.id) }
     ensures prepared { (l : List ℕ) × IsPrepared chair.old.me.0 block chair.new.me l None }
 {
-    board.store::<Begins<M>>(chair, block_word(block, WEAKS), 1);
+    words::store::<V, Begins<M>>(board, chair, block_word(block, WEAKS), 1);
 }
 
 /// A further write of a make: flags are word 0, fields words 1 to 4. A word that has its value is only looked at.
@@ -49,8 +49,8 @@ fn write<V, M: StepArgs>(
         → IsPrepared v block chair.old.me l x → IsPrepared v block chair.new.me (slice_set l word value) x }
 {
     let place = block_word(block, FLAGS + word);
-    if board.load::<Writes<M>>(chair, place) != value {
-        board.store::<Writes<M>>(chair, place, value);
+    if words::load::<V, Writes<M>>(board, chair, place) != value {
+        words::store::<V, Writes<M>>(board, chair, place, value);
     }
 }
 
@@ -86,7 +86,7 @@ fn claim<V, M: MakeArgs>(board: &Board<V>, chair: &mut Chair<V>, block: Block)
     ensures event { (v : Sight V) (x : V) → IsPrepared v block chair.old.me (flags_of M.enabled M.null ∷ M.fields)
         (Some x) → tells (Make block M.enabled M.null M.fields x) v chair.new.me.0 }
 {
-    board.swap::<Claims<M>>(chair, block_word(block, OWNERS), 1);
+    words::swap::<V, Claims<M>>(board, chair, block_word(block, OWNERS), 1);
 }
 
 /// Make: an object in an own vacant block, with one owner ([util.smartptr.shared.create]; for an owned null pointer

@@ -8,6 +8,7 @@ ghost use Rattle.control_block.specs.ShelfPlays.{IsOff, IsShelfWord, IsSo, shelf
 use crate::board::{Board, Chair};
 use crate::plays::StepArgs;
 use crate::plays::shelf::{LooksOnShelf, Shelves, Unshelves};
+use crate::steps::words;
 use control_word::Block;
 use control_word::packed::layout::shelf_bit;
 
@@ -20,7 +21,7 @@ pub fn look<V, M: StepArgs>(board: &Board<V>, chair: &mut Chair<V>, place: usize
         × (chair.new.me ≡ chair.old.me) }
     ensures told { IsSo chair.old.me.0 (IsShelfWord M.word result) }
 {
-    board.load::<LooksOnShelf<M>>(chair, place)
+    words::load::<V, LooksOnShelf<M>>(board, chair, place)
 }
 
 /// Shelve: the bit of a block of the own store is set (own).
@@ -35,7 +36,7 @@ pub fn shelve<V, M: StepArgs>(board: &Board<V>, chair: &mut Chair<V>, place: usi
         × (chair.new.me.1 ≡ chair.old.me.1) }
     ensures event { tells (Shelve block) chair.old.me.0 chair.new.me.0 }
 {
-    board.fetch_or::<Shelves<M>>(chair, place, shelf_bit(block));
+    words::fetch_or::<V, Shelves<M>>(board, chair, place, shelf_bit(block));
 }
 
 /// Unshelve: a block's bit is cleared (own). True where it was found set: just then the block was on the shelf, and is
@@ -58,5 +59,5 @@ pub fn unshelve<V, M: StepArgs>(
         → (chair.new.me ≡ chair.old.me) × IsSo chair.old.me.0 (IsOff block.0) }
 {
     let bit = shelf_bit(block);
-    board.fetch_and::<Unshelves<M>>(chair, place, !bit) & bit != 0
+    words::fetch_and::<V, Unshelves<M>>(board, chair, place, !bit) & bit != 0
 }

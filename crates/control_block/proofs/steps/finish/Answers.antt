@@ -19,9 +19,11 @@ load-requires g c =
     let chair = c.args.chair.now in let o = g.M.StepArgs.object in (
       r.board,
       subst (λ x. x < board.table_id.words) (sym e) r.word.2,
-      subst (λ (b : Block). Allows (Ruled board.key) board.table_id.slots chair.id chair.me i (λ n. n)
-          (fetched b o (step board.table_id.slots i 0 0 none) chair.me)) (sym r.ends.0)
-          (allows_fetch board.key board.table_id.slots chair.id i o c.args.block r.value.0 chair.me r.rests (r.word.0, r.word.1) r.ends.1 r.value.1),
+      record {
+        allows = subst (λ (b : Block). Allows (Ruled board.key) board.table_id.slots chair.id chair.me i (λ n. n)
+            (fetched b o (step board.table_id.slots i 0 0 none) chair.me)) (sym r.ends.0)
+            (allows_fetch board.key board.table_id.slots chair.id i o c.args.block r.value.0 chair.me r.rests (r.word.0, r.word.1) r.ends.1 r.value.1);
+      },
     )
 
 pub take-value-requires-clause-hand : goal.take-value-requires-clause-hand
@@ -35,11 +37,13 @@ fetch_sub-found-requires g c =
     let now = ap (λ m. m.0) x.emptied ∙ f.2 in (
       x.chair.0 ∙ (c.load.ensures.0 ∙ r.board),
       subst (λ y. y < board.table_id.words) (sym e) r.word.2,
-      allows_finish board.key board.table_id.slots chair.id o i c.args.block f.0 chair.me (ap (λ w. w.view.spent) now ∙ r.rests.awake)
-          (ap (λ w. w.view.pending) now) (ap (λ w. w.hand) now ∙ ap Some r.ends.0) (ap (λ m. m.1) x.emptied) (r.word.0, r.word.1)
-          (subst (λ (w : Sight g.row.V.Denot). Ends w o c.args.block.0) (sym now) r.ends.1)
-          (subst (λ (w : Sight g.row.V.Denot). IsClear w o) (sym now) r.clear)
-          (subst (λ (w : Sight g.row.V.Denot). value (opening_of w.shape) w.view.seen o ≡ Some f.0) (sym now) f.1) e,
+      record {
+        allows = allows_finish board.key board.table_id.slots chair.id o i c.args.block f.0 chair.me (ap (λ w. w.view.spent) now ∙ r.rests.awake)
+            (ap (λ w. w.view.pending) now) (ap (λ w. w.hand) now ∙ ap Some r.ends.0) (ap (λ m. m.1) x.emptied) (r.word.0, r.word.1)
+            (subst (λ (w : Sight g.row.V.Denot). Ends w o c.args.block.0) (sym now) r.ends.1)
+            (subst (λ (w : Sight g.row.V.Denot). IsClear w o) (sym now) r.clear)
+            (subst (λ (w : Sight g.row.V.Denot). value (opening_of w.shape) w.view.seen o ≡ Some f.0) (sym now) f.1) e;
+      },
     )
 
 pub returns-clause-value : goal.returns-clause-value

@@ -12,10 +12,12 @@ load-requires g c =
     let e = c.block_word.ensures in (
       r.board,
       subst (λ x. x < board.table_id.words) (sym e) r.word.3,
-      subst (λ (j : ℕ). Allows (Ruled board.key) board.table_id.slots chair.id chair.me c.block_word.result (λ n. n)
-          (peeked g.M.StepArgs.object j (step board.table_id.slots c.block_word.result 0 0 none) chair.me)) (sym r.word.2)
-          (allows_peek board.key board.table_id.slots chair.id b g.M.StepArgs.object c.block_word.result c.args.word chair.me r.rests.awake r.near
-          r.word.1 e),
+      record {
+        allows = subst (λ (j : ℕ). Allows (Ruled board.key) board.table_id.slots chair.id chair.me c.block_word.result (λ n. n)
+            (peeked g.M.StepArgs.object j (step board.table_id.slots c.block_word.result 0 0 none) chair.me)) (sym r.word.2)
+            (allows_peek board.key board.table_id.slots chair.id b g.M.StepArgs.object c.block_word.result c.args.word chair.me r.rests.awake r.near
+            r.word.1 e);
+      },
     )
 
 pub returns-clause-told : goal.returns-clause-told

@@ -9,6 +9,8 @@ load-requires g c =
     let e = c.block_word.ensures ∙ ap (λ x. spot place.block.0 (3 + x)) c.from-word.ensures in (
       r.board,
       subst (λ x. x < board.table_id.words) (sym e) r.word.2,
-      allows_read board.key board.table_id.slots chair.id c.block_word.result g.M.StepArgs.object place g.M.StepArgs.place chair.me r.rests
-          r.place r.holds r.word.1 e,
+      record {
+        allows = allows_read board.key board.table_id.slots chair.id c.block_word.result g.M.StepArgs.object place g.M.StepArgs.place chair.me r.rests
+            r.place r.holds r.word.1 e;
+      },
     )

@@ -7,6 +7,8 @@ compare_exchange-requires g c =
     let i = c.args.word in let found = c.pack-found.result in let n = c.pack.result in let me = chair.me in (
       r.board,
       r.word,
-      allows_compare_swap board.key slots chair.id i found n a.cell a.expected a.new a.weak c.args.seen c.args.new me r.owes r.cell r.seen.0
-          c.pack-found.ensures r.seen.1 r.expected r.new.2 r.new.1 r.hand r.room c.pack.ensures,
+      record {
+        allows = allows_compare_swap board.key slots chair.id i found n a.cell a.expected a.new a.weak c.args.seen c.args.new me r.owes r.cell r.seen.0
+            c.pack-found.ensures r.seen.1 r.expected r.new.2 r.new.1 r.hand r.room c.pack.ensures;
+      },
     )

@@ -9,8 +9,10 @@ load-requires g c =
     let r = c.requires in let board = c.args.board.now in let chair = c.args.chair.now in let a = g.A.Aimed in (
       r.board,
       r.word,
-      allows_differ_empty board.key board.table_id.slots chair.id c.args.word a.cell a.expected a.new a.weak chair.me r.rests
-          r.cell r.expected r.hand,
+      record {
+        allows = allows_differ_empty board.key board.table_id.slots chair.id c.args.word a.cell a.expected a.new a.weak chair.me r.rests
+            r.cell r.expected r.hand;
+      },
     )
 
 pub unpack-requires : goal.unpack-requires

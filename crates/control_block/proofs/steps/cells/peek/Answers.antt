@@ -5,7 +5,7 @@ use Rattle.control_block.proofs.steps.cells.peek.Goals as goal
 pub load-requires : goal.load-requires
 load-requires g c =
     let r = c.requires in let board = c.args.board.now in let chair = c.args.chair.now in
-    (r.board, r.word, allows_peek board.key board.table_id.slots chair.id c.args.word g.A.Aimed.cell chair.me r.awake r.cell)
+    (r.board, r.word, record { allows = allows_peek board.key board.table_id.slots chair.id c.args.word g.A.Aimed.cell chair.me r.awake r.cell })
 
 pub unpack-requires : goal.unpack-requires
 unpack-requires g c = c.load.ensures.2.0

@@ -8,7 +8,7 @@ swap-requires g c =
     let i = c.args.word in let n = c.pack.result in let me = chair.me in (
       r.board,
       r.word,
-      allows_swap board.key slots chair.id i n a.cell a.new c.args.new me r.owes r.cell r.new.2 r.new.1 r.hand r.room c.pack.ensures,
+      record { allows = allows_swap board.key slots chair.id i n a.cell a.new c.args.new me r.owes r.cell r.new.2 r.new.1 r.hand r.room c.pack.ensures },
     )
 
 pub unpack-requires : goal.unpack-requires

@@ -6,6 +6,8 @@ compare_exchange-requires g c =
     let r = c.requires in let board = c.args.board.now in let chair = c.args.chair.now in let x = r.seen in (
       r.board,
       r.word,
-      allows_load board.key board.table_id.slots chair.id c.args.word c.pack-found.result g.A.Aimed.cell c.args.seen chair.me r.rests r.cell x.0
-          c.pack-found.ensures x.1 x.2 r.room,
+      record {
+        allows = allows_load board.key board.table_id.slots chair.id c.args.word c.pack-found.result g.A.Aimed.cell c.args.seen chair.me r.rests r.cell x.0
+            c.pack-found.ensures x.1 x.2 r.room;
+      },
     )

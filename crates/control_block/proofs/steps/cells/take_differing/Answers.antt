@@ -6,7 +6,9 @@ compare_exchange-requires g c =
     let r = c.requires in let board = c.args.board.now in let chair = c.args.chair.now in let x = r.seen in let a = g.A.Aimed in (
       r.board,
       r.word,
-      allows_differ board.key board.table_id.slots chair.id c.args.word c.pack-found.result a.cell a.expected a.new a.weak c.args.seen
-          chair.me r.rests r.cell x.0
-          c.pack-found.ensures x.1 x.2 r.room r.expected r.hand r.differs,
+      record {
+        allows = allows_differ board.key board.table_id.slots chair.id c.args.word c.pack-found.result a.cell a.expected a.new a.weak c.args.seen
+            chair.me r.rests r.cell x.0
+            c.pack-found.ensures x.1 x.2 r.room r.expected r.hand r.differs;
+      },
     )

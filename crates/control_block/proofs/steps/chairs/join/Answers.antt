@@ -16,9 +16,11 @@ load-requires g c =
     let r = c.requires in let board = c.args.board.now in let chair = c.args.chair.now in let other = c.args.other in let j = c.join_seat.ensures in (
       j.0 ∙ r.board.0,
       r.word,
-      allows_join board.key board.table_id.slots c.join_seat.new.seat.id 0 other.me.0.view.name chair.me.0.view.seen
-          other.me.0.view.seen c.join_seat.new.seat.me
-          (ap (λ m. m.0.view.spent) j.2 ∙ r.rests.0.awake) (ap (λ m. m.0.view.pending) j.2) (ap (λ m. m.0.hand) j.2),
+      record {
+        allows = allows_join board.key board.table_id.slots c.join_seat.new.seat.id 0 other.me.0.view.name chair.me.0.view.seen
+            other.me.0.view.seen c.join_seat.new.seat.me
+            (ap (λ m. m.0.view.spent) j.2 ∙ r.rests.0.awake) (ap (λ m. m.0.view.pending) j.2) (ap (λ m. m.0.hand) j.2);
+      },
     )
 
 pub returns-clause-event : goal.returns-clause-event

@@ -19,12 +19,14 @@ fetch_sub-requires g c =
     let t = r.visiting.4 in let me = chair.me in let o = g.M.StepArgs.object in let p = g.M.StepArgs.place in (
       r.board,
       subst (λ y. y < board.table_id.words) (sym e) r.word.2,
-      subst (λ (b : Block). Allows (Ruled board.key) board.table_id.slots chair.id me i (λ n. (n + (2 ^ 64 - 4)) % 2 ^ 64)
-          (opened b o p (step board.table_id.slots i 4 0 none) me)) (sym r.word.1)
-          (allows_open board.key board.table_id.slots chair.id o i c.args.block p r.visiting.1 r.visiting.2 me
-          (ap (λ w. w.view.spent) t.moved.now ∙ r.visiting.3)
-          (ap (λ w. w.view.pending) t.moved.now ∙ ap (λ y. Visiting o p y r.visiting.1) (sym e))
-          (ap (λ w. w.hand) t.moved.now) t.carried r.word.0 e),
+      record {
+        allows = subst (λ (b : Block). Allows (Ruled board.key) board.table_id.slots chair.id me i (λ n. (n + (2 ^ 64 - 4)) % 2 ^ 64)
+            (opened b o p (step board.table_id.slots i 4 0 none) me)) (sym r.word.1)
+            (allows_open board.key board.table_id.slots chair.id o i c.args.block p r.visiting.1 r.visiting.2 me
+            (ap (λ w. w.view.spent) t.moved.now ∙ r.visiting.3)
+            (ap (λ w. w.view.pending) t.moved.now ∙ ap (λ y. Visiting o p y r.visiting.1) (sym e))
+            (ap (λ w. w.hand) t.moved.now) t.carried r.word.0 e);
+      },
     )
 
 pub returns-clause-event : goal.returns-clause-event

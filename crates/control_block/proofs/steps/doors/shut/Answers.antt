@@ -18,10 +18,12 @@ load-found-requires g c =
     let l = c.loop.invariant in let slots = board.table_id.slots in let o = g.M.StepArgs.object in (
       l.2 ∙ r.board,
       subst (λ x. x < board.table_id.words) (sym e) r.word.1,
-      subst (λ (m : At g.row.V.Denot × ℕ). Allows (Ruled board.key) slots c.loop.chair.id m.0 i (λ n. n) (peeked o m.1 (step slots i 0 0 none) m.0))
-          (λ j. (sym l.4 j, sym r.holds.1 j))
-          (allows_peek board.key slots c.loop.chair.id c.args.block.0 o i 0 c.args.chair.now.me r.rests.awake
-          (inl (Owner, g.M.StepArgs.place, r.holds.2)) (omega arith) e),
+      record {
+        allows = subst (λ (m : At g.row.V.Denot × ℕ). Allows (Ruled board.key) slots c.loop.chair.id m.0 i (λ n. n) (peeked o m.1 (step slots i 0 0 none) m.0))
+            (λ j. (sym l.4 j, sym r.holds.1 j))
+            (allows_peek board.key slots c.loop.chair.id c.args.block.0 o i 0 c.args.chair.now.me r.rests.awake
+            (inl (Owner, g.M.StepArgs.place, r.holds.2)) (omega arith) e);
+      },
     )
 
 pub compare_exchange-requires : goal.compare_exchange-requires
@@ -31,10 +33,12 @@ compare_exchange-requires g c =
     let t = c.load-found.ensures in let found : ℕ = c.load-found.result in let id = c.load-found.new.seat.id in (
       t.0 ∙ (l.2 ∙ r.board),
       subst (λ x. x < board.table_id.words) (sym e) r.word.1,
-      subst (λ (m : At g.row.V.Denot × Block). Allows (Ruled board.key) slots id m.0 i (λ n. either (n == found) (found + 4) n)
-          (shut m.1 o p (step slots i found (found + 4) none) m.0))
-          (λ j. (sym (t.2.0 ∙ l.4) j, sym r.holds.0 j))
-          (allows_shut board.key slots id o i found c.args.block p c.args.chair.now.me r.rests r.holds.2 e c.if-found-lt-DOOR.true),
+      record {
+        allows = subst (λ (m : At g.row.V.Denot × Block). Allows (Ruled board.key) slots id m.0 i (λ n. either (n == found) (found + 4) n)
+            (shut m.1 o p (step slots i found (found + 4) none) m.0))
+            (λ j. (sym (t.2.0 ∙ l.4) j, sym r.holds.0 j))
+            (allows_shut board.key slots id o i found c.args.block p c.args.chair.now.me r.rests r.holds.2 e c.if-found-lt-DOOR.true);
+      },
     )
 
 pub returns-then-compare_exchange-found-clause-visiting : goal.returns-then-compare_exchange-found-clause-visiting

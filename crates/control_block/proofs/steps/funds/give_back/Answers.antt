@@ -9,6 +9,8 @@ fetch_sub-requires g c =
     let k = c.args.kind in let b = c.args.block.0 in (
       r.board,
       subst (λ x. x < board.table_id.words) (sym e) r.word.1,
-      allows_give board.key board.table_id.slots chair.id b q.0 c.count_word.result c.from.result k q.1 chair.me
-          (subst (λ f. Owes (owing k q.0 q.1 b f 0) chair.me) (sym c.from.ensures) q.2) e,
+      record {
+        allows = allows_give board.key board.table_id.slots chair.id b q.0 c.count_word.result c.from.result k q.1 chair.me
+            (subst (λ f. Owes (owing k q.0 q.1 b f 0) chair.me) (sym c.from.ensures) q.2) e;
+      },
     )

@@ -7,5 +7,5 @@ fetch_sub-requires g c =
     let r = c.requires in let e = c.count_word.ensures in let board = c.args.board.now in let chair = c.args.chair.now in let q = r.owes in (
       r.board,
       subst (λ x. x < board.table_id.words) (sym e) r.word.1,
-      allows_turn board.key board.table_id.slots chair.id c.args.block.0 q.0 c.count_word.result c.args.kind q.1 chair.me q.2 e,
+      record { allows = allows_turn board.key board.table_id.slots chair.id c.args.block.0 q.0 c.count_word.result c.args.kind q.1 chair.me q.2 e },
     )

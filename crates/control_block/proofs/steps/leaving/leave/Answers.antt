@@ -21,10 +21,12 @@ fetch_sub-found-requires g c =
     let amount : a ≡ c.args.funds * 4294967296 + 1 = ap (λ (n : ℕ). n * 4294967296 + 1) c.from.ensures in (
       r.board,
       subst (λ x. x < board.table_id.words) (sym e) r.word.2,
-      subst (λ (b : Block). Allows (Ruled board.key) board.table_id.slots chair.id chair.me i
-          (λ n. (n + (2 ^ 64 - a)) % 2 ^ 64) (left b m.object m.place (step board.table_id.slots i a 0 none) chair.me))
-          (sym r.may.0) (allows_leave board.key board.table_id.slots chair.id m.object i a c.args.funds c.args.block m.place chair.me
-          r.word.0 r.may.1 e amount),
+      record {
+        allows = subst (λ (b : Block). Allows (Ruled board.key) board.table_id.slots chair.id chair.me i
+            (λ n. (n + (2 ^ 64 - a)) % 2 ^ 64) (left b m.object m.place (step board.table_id.slots i a 0 none) chair.me))
+            (sym r.may.0) (allows_leave board.key board.table_id.slots chair.id m.object i a c.args.funds c.args.block m.place chair.me
+            r.word.0 r.may.1 e amount);
+      },
     )
 
 pub remember-value-requires-clause-hand : goal.remember-value-requires-clause-hand
@@ -46,11 +48,13 @@ load-requires g c =
     let val = (λ j. value (opening_of (shape j)) (seen j) m.object) ∙ l.1.1 in (
       x.chair.0 ∙ (c.fetch_sub-found.ensures.0 ∙ r.board),
       subst (λ y. y < board.table_id.words) (sym c.block_word-word.ensures) r.word.2,
-      allows_give_back board.key board.table_id.slots c.remember-value.new.chair.id i m.object c.args.block l.1.0 me
-          (ap (λ m. m.0.view.spent) x.same ∙ (ap (λ w. w.view.spent) l.0.now ∙ awake))
-          (ap (λ m. m.0.view.pending) x.same ∙ ap (λ w. w.view.pending) l.0.now)
-          (ap (λ m. m.0.hand) x.same ∙ (ap (λ w. w.hand) l.0.now ∙ ap Some r.may.0))
-          (ap (λ m. m.1) x.same ∙ carried) (r.word.0, r.word.1) ends val,
+      record {
+        allows = allows_give_back board.key board.table_id.slots c.remember-value.new.chair.id i m.object c.args.block l.1.0 me
+            (ap (λ m. m.0.view.spent) x.same ∙ (ap (λ w. w.view.spent) l.0.now ∙ awake))
+            (ap (λ m. m.0.view.pending) x.same ∙ ap (λ w. w.view.pending) l.0.now)
+            (ap (λ m. m.0.hand) x.same ∙ (ap (λ w. w.hand) l.0.now ∙ ap Some r.may.0))
+            (ap (λ m. m.1) x.same ∙ carried) (r.word.0, r.word.1) ends val;
+      },
     )
 
 pub returns-clause-event : goal.returns-clause-event

@@ -9,6 +9,8 @@ fetch_sub-requires g c =
     let amount : a ≡ c.args.funds * 4294967296 + 1 = ap (λ (n : ℕ). n * 4294967296 + 1) c.from.ensures in (
       r.board,
       subst (λ x. x < board.table_id.words) (sym e) r.word.1,
-      allows_weak_leave board.key board.table_id.slots chair.id c.args.block.0 m.object c.block_word.result a c.args.funds m.place chair.me
-          r.word.0 r.may e amount,
+      record {
+        allows = allows_weak_leave board.key board.table_id.slots chair.id c.args.block.0 m.object c.block_word.result a c.args.funds m.place chair.me
+            r.word.0 r.may e amount;
+      },
     )

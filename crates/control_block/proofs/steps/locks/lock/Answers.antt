@@ -14,8 +14,10 @@ load-found-requires g c =
     let l = c.loop.invariant in let slots = board.table_id.slots in let o = g.M.StepArgs.object in let p = g.M.StepArgs.place in (
       l.2 ∙ r.board,
       subst (λ x. x < board.table_id.words) (sym e) r.word.1,
-      subst (λ (m : At g.row.V.Denot). Allows (Ruled board.key) slots c.loop.chair.id m i (λ n. n) (sought_owner o p (step slots i 0 0 none) m)) (sym l.4)
-          (allows_seek board.key slots c.loop.chair.id c.args.block.0 o i p c.args.chair.now.me r.rests r.holds e),
+      record {
+        allows = subst (λ (m : At g.row.V.Denot). Allows (Ruled board.key) slots c.loop.chair.id m i (λ n. n) (sought_owner o p (step slots i 0 0 none) m)) (sym l.4)
+            (allows_seek board.key slots c.loop.chair.id c.args.block.0 o i p c.args.chair.now.me r.rests r.holds e);
+      },
     )
 
 pub compare_exchange-requires : goal.compare_exchange-requires
@@ -26,8 +28,10 @@ compare_exchange-requires g c =
     let more : c.with_handle-more.result ≡ suc found = omega (arith, c.with_handle-more.ensures.word) in (
       t.0 ∙ (l.2 ∙ r.board),
       subst (λ x. x < board.table_id.words) (sym e) r.word.1,
-      subst (λ (m : At g.row.V.Denot × ℕ). Allows (Ruled board.key) slots id m.0 i (λ n. either (n == found) m.1 n)
-          (locked o p (step slots i found m.1 none) m.0))
-          (λ j. (sym ((t.2.1 c.if-found-eq0.false).0 ∙ l.4) j, sym more j))
-          (allows_lock board.key slots id c.args.block.0 o i found p c.args.chair.now.me r.rests r.holds r.room c.if-found-eq0.false e),
+      record {
+        allows = subst (λ (m : At g.row.V.Denot × ℕ). Allows (Ruled board.key) slots id m.0 i (λ n. either (n == found) m.1 n)
+            (locked o p (step slots i found m.1 none) m.0))
+            (λ j. (sym ((t.2.1 c.if-found-eq0.false).0 ∙ l.4) j, sym more j))
+            (allows_lock board.key slots id c.args.block.0 o i found p c.args.chair.now.me r.rests r.holds r.room c.if-found-eq0.false e);
+      },
     )

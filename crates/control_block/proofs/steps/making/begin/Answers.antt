@@ -13,9 +13,11 @@ store-requires g c =
     let r = c.requires in let i = c.block_word.result in let e = c.block_word.ensures in let board = c.args.board.now in let chair = c.args.chair.now in (
       r.board,
       subst (λ x. x < board.table_id.words) (sym e) r.word.1,
-      subst (λ (b : Block). Allows (Ruled board.key) board.table_id.slots chair.id chair.me i (λ _. 1)
-          (λ _. began b (step board.table_id.slots i 1 0 none) chair.me 1))
-          (sym r.stored.0) (allows_begin board.key board.table_id.slots chair.id i c.args.block chair.me r.rests r.stored.1 e),
+      record {
+        allows = subst (λ (b : Block). Allows (Ruled board.key) board.table_id.slots chair.id chair.me i (λ _. 1)
+            (λ _. began b (step board.table_id.slots i 1 0 none) chair.me 1))
+            (sym r.stored.0) (allows_begin board.key board.table_id.slots chair.id i c.args.block chair.me r.rests r.stored.1 e);
+      },
     )
 
 pub returns-clause-prepared : goal.returns-clause-prepared

@@ -18,12 +18,14 @@ swap-requires g c =
     let b = c.args.block in let m = g.M.MakeArgs in let l = flags_of m.enabled m.null ∷ m.fields in let t = q.4 in let x = Some q.1 in (
       r.board,
       subst (λ y. y < board.table_id.words) (sym e) r.word.1,
-      subst (λ (y : Block). Allows (Ruled board.key) board.table_id.slots chair.id chair.me i (λ _. 1)
-          (made y m.enabled m.null m.fields (step board.table_id.slots i 1 0 none) chair.me))
-          (sym r.planned.0)
-          (allows_claim board.key board.table_id.slots chair.id i b m.enabled m.null m.fields chair.me q.1 (stays_awake q.0 b chair.me l x t q.2)
-          (makes q.0 b chair.me l x t)
-          (has_hand q.0 b chair.me l x t) t.carried r.planned.1 (room_moved q.0 chair.me.0 (Making b l) (Some b) t.moved q.3) e),
+      record {
+        allows = subst (λ (y : Block). Allows (Ruled board.key) board.table_id.slots chair.id chair.me i (λ _. 1)
+            (made y m.enabled m.null m.fields (step board.table_id.slots i 1 0 none) chair.me))
+            (sym r.planned.0)
+            (allows_claim board.key board.table_id.slots chair.id i b m.enabled m.null m.fields chair.me q.1 (stays_awake q.0 b chair.me l x t q.2)
+            (makes q.0 b chair.me l x t)
+            (has_hand q.0 b chair.me l x t) t.carried r.planned.1 (room_moved q.0 chair.me.0 (Making b l) (Some b) t.moved q.3) e);
+      },
     )
 
 pub returns-clause-event : goal.returns-clause-event

@@ -16,11 +16,13 @@ load-requires g c =
     let chair = c.args.chair.now in let b = c.args.block in let me = chair.me in (
       r.board,
       subst (λ x. x < board.table_id.words) (sym e) (omega (arith, r.word)),
-      subst (λ (y : Block × ℕ). Allows (Ruled board.key) board.table_id.slots chair.id me i
-          (λ n. n) (wrote y.0 y.1 (step board.table_id.slots i 0 0 none) me))
-          (λ k. (sym r.meant.0 k, sym r.meant.1 k))
-          (allows_look board.key board.table_id.slots chair.id i c.args.word b me (stays_awake q.0 b me q.1 q.2 q.4 q.3) q.1
-          (makes q.0 b me q.1 q.2 q.4) (has_hand q.0 b me q.1 q.2 q.4) q.4.sized r.word.2 e),
+      record {
+        allows = subst (λ (y : Block × ℕ). Allows (Ruled board.key) board.table_id.slots chair.id me i
+            (λ n. n) (wrote y.0 y.1 (step board.table_id.slots i 0 0 none) me))
+            (λ k. (sym r.meant.0 k, sym r.meant.1 k))
+            (allows_look board.key board.table_id.slots chair.id i c.args.word b me (stays_awake q.0 b me q.1 q.2 q.4 q.3) q.1
+            (makes q.0 b me q.1 q.2 q.4) (has_hand q.0 b me q.1 q.2 q.4) q.4.sized r.word.2 e);
+      },
     )
 
 pub store-requires : goal.store-requires
@@ -33,11 +35,13 @@ store-requires g c =
     c.load.ensures.2 in (
       c.load.ensures.0 ∙ r.board,
       subst (λ x. x < board.table_id.words) (sym e) (omega (arith, r.word)),
-      subst (λ (y : Block × ℕ). Allows (Ruled board.key) board.table_id.slots seat.id seat.me i (λ _. n)
-          (λ _. wrote y.0 y.1 (step board.table_id.slots i n 0 none) seat.me n))
-          (λ k. (sym r.meant.0 k, sym r.meant.1 k))
-          (allows_write board.key board.table_id.slots seat.id i c.args.word b seat.me (stays_awake q.0 b seat.me l q.2 t q.3) l
-          (makes q.0 b seat.me l q.2 t) (has_hand q.0 b seat.me l q.2 t) t.sized r.word.2 e n),
+      record {
+        allows = subst (λ (y : Block × ℕ). Allows (Ruled board.key) board.table_id.slots seat.id seat.me i (λ _. n)
+            (λ _. wrote y.0 y.1 (step board.table_id.slots i n 0 none) seat.me n))
+            (λ k. (sym r.meant.0 k, sym r.meant.1 k))
+            (allows_write board.key board.table_id.slots seat.id i c.args.word b seat.me (stays_awake q.0 b seat.me l q.2 t q.3) l
+            (makes q.0 b seat.me l q.2 t) (has_hand q.0 b seat.me l q.2 t) t.sized r.word.2 e n);
+      },
     )
 
 pub returns-then-load-value-clause-wrote : goal.returns-then-load-value-clause-wrote

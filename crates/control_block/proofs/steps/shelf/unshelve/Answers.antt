@@ -16,10 +16,12 @@ fetch_and-requires g c =
     let low : c.args.block.0 < 65536 = omega arith in (
       r.board,
       r.place.1,
-      subst (λ (x : Block). Allows (Ruled board.key) board.table_id.slots chair.id chair.me i (λ n. bit_and n a)
-          (unshelved x (step board.table_id.slots i a 0 none) chair.me)) (sym r.meant)
-          (allows_unshelve board.key board.table_id.slots chair.id i a c.args.block chair.me r.rests r.place.0
-          (ap (bit_not w64) c.shelf_bit-bit.ensures) low),
+      record {
+        allows = subst (λ (x : Block). Allows (Ruled board.key) board.table_id.slots chair.id chair.me i (λ n. bit_and n a)
+            (unshelved x (step board.table_id.slots i a 0 none) chair.me)) (sym r.meant)
+            (allows_unshelve board.key board.table_id.slots chair.id i a c.args.block chair.me r.rests r.place.0
+            (ap (bit_not w64) c.shelf_bit-bit.ensures) low);
+      },
     )
 
 pub returns-clause-event : goal.returns-clause-event
