@@ -8,8 +8,9 @@ use Rattle.control_word.specs.declared.model.handle.Kind.TheVariants.{Owner}
 use Rattle.control_word.specs.declared.shape.Shape.{Shape}
 use Rattle.control_block.specs.CellCalls.{IsOpenAt, IsSite, cell_of_site, word_at}
 use Rattle.control_block.specs.CellPlays.{IsCellAt, kind_in}
+use Rattle.control_block.specs.CellRounds.{IsAim}
 use Rattle.control_block.specs.Desks.{DeskNow}
-use Rattle.control_block.specs.Inside.{IsDesk, desk_now}
+use Rattle.control_block.specs.Inside.{IsDesk, IsSized, desk_now}
 use Rattle.control_block.specs.declared.cell_calls.Site.{Site}
 use Rattle.control_block.specs.declared.cell_calls.Site.TheVariants.{Free, Member}
 use Rattle.control_block.specs.declared.desk.Desk.TheInside.{Inside}
@@ -47,3 +48,17 @@ module _ {V : Type 0} where
     cell_there y z s c is shape cell named at =
         subst (λ (x : Cell). IsCellAt d.seat.me.0 x i × (k ≡ kind_in d.seat.me.0.shape x)) (ap (λ (u : DeskNow V). cell_of_site u s) is ∙ sym named)
         (own_cell z s shape (subst (λ (u : DeskNow V). IsOpenAt u s k) (sym is) cell) at)
+
+    -- and so a call on it may begin
+    pub aim_of : (y : DeskNow V) (id : TableId) (z : Shape) (s : Site) (c : Cell) → desk_now d ≡ y → d.seat.table_id ≡ id → d.seat.me.0.shape ≡ z
+        → IsOpenAt y s k → c ≡ cell_of_site y s → i ≡ word_at z.blocks s → IsAim c k i id d.seat.table_id d.seat.me
+    aim_of y id z s c is table shape cell named at =
+        let there = cell_there y z s c is shape cell named at in
+        record {
+          table = table;
+          sized = subst (λ (u : TableId). IsSized u d.seat.me.0.shape) table h.sized;
+          rests = h.rests;
+          word = (word_there y id z s is table shape cell at).1;
+          cell = there.0;
+          kind = there.1;
+        }

@@ -16,6 +16,7 @@ pub mod Endings
 pub mod Passage
 pub mod Unseen
 pub mod CellRounds
+pub mod CellTries
 pub mod CellSites
 pub mod CellTrades
 pub mod LetGo

@@ -8,7 +8,7 @@ ghost use Rattle.control_word.specs.Events.{InHand};
 ghost use Rattle.control_word.specs.Packing.{IsCellWord};
 ghost use Rattle.control_word.specs.declared.model.event.Event.TheVariants.{Compare, Load, Swap};
 ghost use Rattle.control_block.specs.CellPlays.{Gave, IsCellAt, IsWordOf, debt, kind_in};
-ghost use Rattle.control_block.specs.CellRounds.{CameOut, IsCounted};
+ghost use Rattle.control_block.specs.CellRounds.{CameOut, IsAim, IsCounted, IsOut};
 ghost use Rattle.control_block.specs.FundPlays.{Owes};
 ghost use Rattle.control_block.specs.Inside.{IsSized};
 ghost use Rattle.control_block.specs.Plays.{HasRoomFor, HoldingInBlock, Rests, goes_on, in_call, known};
@@ -33,10 +33,40 @@ fn is_drained(seen: CellWord, block: Block, place: Option<Place>) -> bool
     seen.owned == Some(block) && seen.place == place && seen.taken >= MANY_TAKEN
 }
 
+/// One try at a refill: where a cell holds what a handle of the desk's holds, and many of its funds are taken, as many
+/// are brought and put into it. True where nothing is left to do. Nobody sees a difference but the words.
+#[inline(always)]
+fn try_refill<V, A: Aimed, M: StepArgs>(
+    board: &Board<V>,
+    chair: &mut Chair<V>,
+    word: usize,
+    kind: Kind,
+    block: Block,
+    place: Option<Place>,
+) -> bool
+    requires aim { IsAim A.cell kind word board.now.table_id chair.old.table_id chair.old.me }
+    requires holds { (M.kind ≡ kind) × HoldingInBlock chair.old.me.0 M.kind M.object M.place block.0 }
+    requires count { IsCounted kind block board.now.table_id }
+    ensures table { chair.new.table_id ≡ chair.old.table_id }
+    ensures same { chair.new.me ≡ chair.old.me }
+{
+    let seen = cells::peek::<V, A>(board, chair, word);
+    if !is_drained(seen, block, place) {
+        return true;
+    }
+    let taken = u32::from(seen.taken);
+    funds::bring::<V, M>(board, chair, kind, block, taken);
+    if cells::refill::<V, A>(board, chair, word, seen) {
+        return true;
+    }
+    funds::give_back(board, chair, kind, block, taken);
+    false
+}
+
 /// Refill: while a cell holds what a handle of the desk's holds, and many of its funds are taken, as many are brought
 /// and put into it (own). Nobody sees a difference but the words.
 #[inline(never)]
-pub fn refill<V, A: Aimed, M: StepArgs, R: Wait>(
+fn refill<V, A: Aimed, M: StepArgs, R: Wait>(
     rt: &R,
     board: &Board<V>,
     chair: &mut Chair<V>,
@@ -45,26 +75,16 @@ pub fn refill<V, A: Aimed, M: StepArgs, R: Wait>(
     block: Block,
     place: Option<Place>,
 )
-    requires board { (chair.old.table_id ≡ board.now.table_id) × IsSized chair.old.table_id chair.old.me.0.shape }
-    requires rests { Rests chair.old.me }
-    requires word { word < board.now.table_id.words }
-    requires cell { IsCellAt chair.old.me.0 A.cell word × (kind ≡ kind_in chair.old.me.0.shape A.cell) }
+    requires aim { IsAim A.cell kind word board.now.table_id chair.old.table_id chair.old.me }
     requires holds { (M.kind ≡ kind) × HoldingInBlock chair.old.me.0 M.kind M.object M.place block.0 }
     requires count { IsCounted kind block board.now.table_id }
-    ensures chair { (chair.new.table_id ≡ chair.old.table_id) × (chair.new.id ≡ chair.old.id)
-        × (chair.new.me ≡ chair.old.me) }
+    ensures table { chair.new.table_id ≡ chair.old.table_id }
+    ensures same { chair.new.me ≡ chair.old.me }
 {
     for _ in rt.forever() {
-        let seen = cells::peek::<V, A>(board, chair, word);
-        if !is_drained(seen, block, place) {
+        if try_refill::<V, A, M>(board, chair, word, kind, block, place) {
             return;
         }
-        let taken = u32::from(seen.taken);
-        funds::bring::<V, M>(board, chair, kind, block, taken);
-        if cells::refill::<V, A>(board, chair, word, seen) {
-            return;
-        }
-        funds::give_back(board, chair, kind, block, taken);
     }
     unreachable!()
 }
@@ -77,29 +97,51 @@ pub(crate) fn top_up<V, A: Aimed, R: Wait>(
     chair: &mut Chair<V>,
     word: usize,
     kind: Kind,
+    block: Block,
     seen: CellWord,
 )
-    requires board { (chair.old.table_id ≡ board.now.table_id) × IsSized chair.old.table_id chair.old.me.0.shape }
-    requires rests { Rests chair.old.me }
-    requires word { word < board.now.table_id.words }
-    requires cell { IsCellAt chair.old.me.0 A.cell word × (kind ≡ kind_in chair.old.me.0.shape A.cell) }
+    requires aim { IsAim A.cell kind word board.now.table_id chair.old.table_id chair.old.me }
     requires seen { seen.taken < 256 }
-    requires holds { IfSome seen.owned
-        (λ b. HoldingInBlock chair.old.me.0 kind ((known chair.old.me.0).latest b.0) seen.place b.0) }
-    requires count { IfSome seen.owned (λ b. IsCounted kind b board.now.table_id) }
-    ensures chair { (chair.new.table_id ≡ chair.old.table_id) × (chair.new.id ≡ chair.old.id)
-        × (chair.new.me ≡ chair.old.me) }
+    requires holds { HoldingInBlock chair.old.me.0 kind ((known chair.old.me.0).latest block.0) seen.place block.0 }
+    requires count { IsCounted kind block board.now.table_id }
+    ensures table { chair.new.table_id ≡ chair.old.table_id }
+    ensures same { chair.new.me ≡ chair.old.me }
 {
     if seen.taken + 1 < MANY_TAKEN {
         return;
     }
-    if let Some(block) = seen.owned {
-        refill::<V, A, Brand, R>(rt, board, chair, word, kind, block, seen.place);
-    }
+    refill::<V, A, Brand, R>(rt, board, chair, word, kind, block, seen.place);
 }
 
-/// One try at the load of a cell with an object: a fund is taken and turned into a handle, where the cell still shows
-/// what was seen. Else nothing changes.
+/// What a cell with an object shows comes out, by a load: a fund is taken and turned into a handle, where the cell still
+/// shows what was seen. Else nothing changes.
+#[inline(always)]
+fn take_out<V, A: Aimed, R: Wait>(
+    rt: &R,
+    board: &Board<V>,
+    chair: &mut Chair<V>,
+    word: usize,
+    kind: Kind,
+    block: Block,
+    seen: CellWord,
+) -> bool
+    requires aim { IsAim A.cell kind word board.now.table_id chair.old.table_id chair.old.me }
+    requires seen { IsCellWord seen × (seen.owned ≡ Some block) × (seen.taken < 256) }
+    requires room { HasRoomFor chair.old.me.0 }
+    ensures table { chair.new.table_id ≡ chair.old.table_id }
+    ensures loaded { result ≡ true → IsOut (λ h. Load A.cell h) kind chair.old.me.0 seen chair.new.me }
+    ensures missed { result ≡ false → chair.new.me ≡ chair.old.me }
+{
+    if !cells::take::<V, A>(board, chair, word, seen) {
+        return false;
+    }
+    funds::turn(board, chair, kind, block);
+    top_up::<V, A, R>(rt, board, chair, word, kind, block, seen);
+    true
+}
+
+/// One try at a load: what a cell holds comes out as a handle more. None where others change the cell meanwhile, and
+/// while all its funds are taken: then nothing changes.
 #[inline(always)]
 fn try_load<V, A: Aimed, R: Wait>(
     rt: &R,
@@ -107,28 +149,24 @@ fn try_load<V, A: Aimed, R: Wait>(
     chair: &mut Chair<V>,
     word: usize,
     kind: Kind,
-    seen: CellWord,
-) -> bool
-    requires board { (chair.old.table_id ≡ board.now.table_id) × IsSized chair.old.table_id chair.old.me.0.shape }
-    requires rests { Rests chair.old.me }
-    requires word { word < board.now.table_id.words }
-    requires cell { IsCellAt chair.old.me.0 A.cell word × (kind ≡ kind_in chair.old.me.0.shape A.cell) }
-    requires seen { IsCellWord seen × (seen.owned ≢ None) × (seen.taken < 256) }
+) -> Option<CellWord>
+    requires aim { IsAim A.cell kind word board.now.table_id chair.old.table_id chair.old.me }
     requires room { HasRoomFor chair.old.me.0 }
-    ensures chair { (chair.new.table_id ≡ chair.old.table_id)
-        × (chair.new.id ≡ chair.old.id) × Rests chair.new.me }
-    ensures loaded { result ≡ true → CameOut (λ h. Load A.cell h) kind chair.old.me.0 seen chair.new.me.0 }
-    ensures missed { result ≡ false → chair.new.me ≡ chair.old.me }
+    ensures table { chair.new.table_id ≡ chair.old.table_id }
+    ensures loaded { IfSome result (λ x. IsOut (λ h. Load A.cell h) kind chair.old.me.0 x chair.new.me) }
+    ensures missed { result ≡ None → chair.new.me ≡ chair.old.me }
 {
+    let seen = cells::look::<V, A>(board, chair, word);
     let Some(block) = seen.owned else {
-        unreachable!()
+        return Some(seen);
     };
-    if !cells::take::<V, A>(board, chair, word, seen) {
-        return false;
+    if u32::from(seen.taken) >= CELL_FUNDS {
+        return None;
     }
-    funds::turn(board, chair, kind, block);
-    top_up::<V, A, R>(rt, board, chair, word, kind, seen);
-    true
+    if take_out::<V, A, R>(rt, board, chair, word, kind, block, seen) {
+        return Some(seen);
+    }
+    None
 }
 
 /// Load: what a cell holds comes out as a handle more ([util.smartptr.atomic.shared], [util.smartptr.atomic.weak]). It
@@ -141,24 +179,13 @@ pub fn load<V, A: Aimed, R: Wait>(
     word: usize,
     kind: Kind,
 ) -> CellWord
-    requires board { (chair.old.table_id ≡ board.now.table_id) × IsSized chair.old.table_id chair.old.me.0.shape }
-    requires rests { Rests chair.old.me }
-    requires word { word < board.now.table_id.words }
-    requires cell { IsCellAt chair.old.me.0 A.cell word × (kind ≡ kind_in chair.old.me.0.shape A.cell) }
+    requires aim { IsAim A.cell kind word board.now.table_id chair.old.table_id chair.old.me }
     requires room { HasRoomFor chair.old.me.0 }
-    ensures chair { (chair.new.table_id ≡ chair.old.table_id)
-        × (chair.new.id ≡ chair.old.id) × Rests chair.new.me }
-    ensures cell { IsCellWord result }
-    ensures loaded { CameOut (λ h. Load A.cell h) kind chair.old.me.0 result chair.new.me.0 }
+    ensures table { chair.new.table_id ≡ chair.old.table_id }
+    ensures loaded { IsOut (λ h. Load A.cell h) kind chair.old.me.0 result chair.new.me }
 {
     for _ in rt.forever() {
-        let seen = cells::look::<V, A>(board, chair, word);
-        if seen.owned.is_none() {
-            return seen;
-        }
-        if u32::from(seen.taken) < CELL_FUNDS
-            && try_load::<V, A, R>(rt, board, chair, word, kind, seen)
-        {
+        if let Some(seen) = try_load::<V, A, R>(rt, board, chair, word, kind) {
             return seen;
         }
     }

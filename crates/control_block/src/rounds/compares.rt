@@ -1,24 +1,21 @@
 //! The steps of one compare-and-swap of a cell. It looks first, and brings funds only where what it sees is what it
 //! expects.
-ghost use Rattle.std.specs.Prelude.{◌≡◌, ◌≢◌, ◌⊎◌, ℕ, ◌<◌, true, false, Option, None, Some};
-ghost use Rattle.std.specs.Prelude.{IfSome};
+ghost use Rattle.std.specs.Prelude.{◌≡◌, ◌<◌, true, false, None, Some, IfSome};
 ghost use Rattle.control_word.specs.Events.{InHand};
-ghost use Rattle.control_word.specs.Handles.{object_of};
 ghost use Rattle.control_word.specs.Packing.{IsCellWord};
 ghost use Rattle.control_word.specs.declared.model.event.Event.TheVariants.{Compare};
-ghost use Rattle.control_block.specs.CellPlays.{IsCellAt, IsWordOf, kind_in};
-ghost use Rattle.control_block.specs.CellRounds.{CameOut, IsCounted};
-ghost use Rattle.control_block.specs.Inside.{IsSized};
-ghost use Rattle.control_block.specs.Plays.{HasRoomFor, HoldingInBlock, Rests, known};
+ghost use Rattle.control_block.specs.CellPlays.{IsWordOf};
+ghost use Rattle.control_block.specs.CellRounds.{IsAim, IsOffer, IsOut};
+ghost use Rattle.control_block.specs.Plays.{HasRoomFor, known};
 
 use crate::board::{Board, Chair};
 use crate::pause::Pause;
 use crate::plays::cells::Aimed;
 use crate::rounds::cells::{bring_for, settle, top_up};
 use crate::steps::{cells, funds};
-use control_word::CellWord;
 use control_word::model::handle::Kind;
 use control_word::shape::CELL_FUNDS;
+use control_word::{Block, CellWord};
 use std::sync::Wait;
 
 /// Whether two words of cells show equivalent handles ([util.smartptr.atomic.shared]): the same place, and the same
@@ -30,39 +27,33 @@ fn is_alike(seen: CellWord, expected: CellWord) -> bool
     seen.owned == expected.owned && seen.place == expected.place
 }
 
-/// One try at handing out what a cell with an object holds, where it differs: a fund is taken and turned into a handle,
-/// where the cell still shows what was seen. Else nothing changes.
-fn try_differ<V, A: Aimed, R: Wait>(
+/// What a cell with an object shows comes out, by a compare that differs: a fund is taken and turned into a handle, where
+/// the cell still shows what was seen. Else nothing changes.
+fn take_out<V, A: Aimed, R: Wait>(
     rt: &R,
     board: &Board<V>,
     chair: &mut Chair<V>,
     word: usize,
     kind: Kind,
+    block: Block,
     seen: CellWord,
 ) -> bool
-    requires board { (chair.old.table_id ≡ board.now.table_id) × IsSized chair.old.table_id chair.old.me.0.shape }
-    requires rests { Rests chair.old.me }
-    requires word { word < board.now.table_id.words }
-    requires cell { IsCellAt chair.old.me.0 A.cell word × (kind ≡ kind_in chair.old.me.0.shape A.cell) }
-    requires seen { IsCellWord seen × (seen.owned ≢ None) × (seen.taken < 256) }
+    requires aim { IsAim A.cell kind word board.now.table_id chair.old.table_id chair.old.me }
+    requires seen { IsCellWord seen × (seen.owned ≡ Some block) × (seen.taken < 256) }
     requires room { HasRoomFor chair.old.me.0 }
     requires hands { InHand (known chair.old.me.0) chair.old.me.0.view.name kind A.expected
         × InHand (known chair.old.me.0) chair.old.me.0.view.name kind A.new }
     requires differs { IsWordOf chair.old.me.0 A.expected seen → ⊥ }
-    ensures chair { (chair.new.table_id ≡ chair.old.table_id)
-        × (chair.new.id ≡ chair.old.id) × Rests chair.new.me }
+    ensures table { chair.new.table_id ≡ chair.old.table_id }
     ensures differed { result ≡ true
-        → CameOut (λ h. Compare A.cell A.expected A.new h false A.weak) kind chair.old.me.0 seen chair.new.me.0 }
+        → IsOut (λ h. Compare A.cell A.expected A.new h false A.weak) kind chair.old.me.0 seen chair.new.me }
     ensures missed { result ≡ false → chair.new.me ≡ chair.old.me }
 {
-    let Some(block) = seen.owned else {
-        unreachable!()
-    };
     if !cells::take_differing::<V, A>(board, chair, word, seen) {
         return false;
     }
     funds::turn(board, chair, kind, block);
-    top_up::<V, A, R>(rt, board, chair, word, kind, seen);
+    top_up::<V, A, R>(rt, board, chair, word, kind, block, seen);
     true
 }
 
@@ -76,22 +67,12 @@ fn try_swap<V, A: Aimed>(
     seen: CellWord,
     new: CellWord,
 ) -> bool
-    requires board { (chair.old.table_id ≡ board.now.table_id) × IsSized chair.old.table_id chair.old.me.0.shape }
-    requires rests { Rests chair.old.me }
-    requires word { word < board.now.table_id.words }
-    requires cell { IsCellAt chair.old.me.0 A.cell word × (kind ≡ kind_in chair.old.me.0.shape A.cell) }
+    requires aim { IsAim A.cell kind word board.now.table_id chair.old.table_id chair.old.me }
     requires seen { IsCellWord seen × IsWordOf chair.old.me.0 A.expected seen }
-    requires new { IsCellWord new × (new.taken ≡ 0) × IsWordOf chair.old.me.0 A.new new }
-    requires hands { InHand (known chair.old.me.0) chair.old.me.0.view.name kind A.expected
-        × InHand (known chair.old.me.0) chair.old.me.0.view.name kind A.new }
-    requires holds { IfSome new.owned (λ b. HoldingInBlock chair.old.me.0 A.new.kind (object_of A.new)
-        A.new.place b.0) }
-    requires count { IfSome new.owned (λ b. IsCounted kind b board.now.table_id) }
-    requires room { HasRoomFor chair.old.me.0 }
-    ensures chair { (chair.new.table_id ≡ chair.old.table_id)
-        × (chair.new.id ≡ chair.old.id) × Rests chair.new.me }
+    requires offer { IsOffer kind A.expected A.new new board.now.table_id chair.old.me.0 }
+    ensures table { chair.new.table_id ≡ chair.old.table_id }
     ensures swapped { result ≡ true
-        → CameOut (λ h. Compare A.cell A.expected A.new h true A.weak) kind chair.old.me.0 seen chair.new.me.0 }
+        → IsOut (λ h. Compare A.cell A.expected A.new h true A.weak) kind chair.old.me.0 seen chair.new.me }
     ensures missed { result ≡ false → chair.new.me ≡ chair.old.me }
 {
     bring_for::<V, A>(board, chair, kind, new.owned);
@@ -102,6 +83,47 @@ fn try_swap<V, A: Aimed>(
     }
     settle(board, chair, kind, new.owned, CELL_FUNDS);
     false
+}
+
+/// One try at a compare, of what is expected and what is to go in. None where others change the cell meanwhile, and
+/// while all its funds are taken: then nothing changes.
+#[inline(always)]
+fn try_compare<V, A: Aimed, R: Wait>(
+    rt: &R,
+    board: &Board<V>,
+    chair: &mut Chair<V>,
+    pause: &mut Pause,
+    word: usize,
+    kind: Kind,
+    offer: (CellWord, CellWord),
+) -> Option<(bool, CellWord)>
+    requires aim { IsAim A.cell kind word board.now.table_id chair.old.table_id chair.old.me }
+    requires expected { IsWordOf chair.old.me.0 A.expected offer.0 }
+    requires offer { IsOffer kind A.expected A.new offer.1 board.now.table_id chair.old.me.0 }
+    ensures table { chair.new.table_id ≡ chair.old.table_id }
+    ensures compared { IfSome result (λ r. IsOut (λ h. Compare A.cell A.expected A.new h r.0 A.weak) kind
+        chair.old.me.0 r.1 chair.new.me) }
+    ensures missed { result ≡ None → chair.new.me ≡ chair.old.me }
+{
+    let (expected, new) = offer;
+    let seen = cells::look_differing::<V, A>(board, chair, word);
+    if is_alike(seen, expected) {
+        if try_swap::<V, A>(board, chair, word, kind, seen, new) {
+            return Some((true, seen));
+        }
+        pause.wait();
+        return None;
+    }
+    let Some(block) = seen.owned else {
+        return Some((false, seen));
+    };
+    if u32::from(seen.taken) >= CELL_FUNDS {
+        return None;
+    }
+    if take_out::<V, A, R>(rt, board, chair, word, kind, block, seen) {
+        return Some((false, seen));
+    }
+    None
 }
 
 /// Compare and swap: where what a cell holds is equivalent to what is expected, the new handle goes in, and what the
@@ -116,38 +138,25 @@ pub fn compare<V, A: Aimed, R: Wait>(
     expected: CellWord,
     new: CellWord,
 ) -> (bool, CellWord)
-    requires board { (chair.old.table_id ≡ board.now.table_id) × IsSized chair.old.table_id chair.old.me.0.shape }
-    requires rests { Rests chair.old.me }
-    requires word { word < board.now.table_id.words }
-    requires cell { IsCellAt chair.old.me.0 A.cell word × (kind ≡ kind_in chair.old.me.0.shape A.cell) }
+    requires aim { IsAim A.cell kind word board.now.table_id chair.old.table_id chair.old.me }
     requires expected { IsWordOf chair.old.me.0 A.expected expected }
-    requires new { IsCellWord new × (new.taken ≡ 0) × IsWordOf chair.old.me.0 A.new new }
-    requires hands { InHand (known chair.old.me.0) chair.old.me.0.view.name kind A.expected
-        × InHand (known chair.old.me.0) chair.old.me.0.view.name kind A.new }
-    requires holds { IfSome new.owned (λ b. HoldingInBlock chair.old.me.0 A.new.kind (object_of A.new)
-        A.new.place b.0) }
-    requires count { IfSome new.owned (λ b. IsCounted kind b board.now.table_id) }
-    requires room { HasRoomFor chair.old.me.0 }
-    ensures chair { (chair.new.table_id ≡ chair.old.table_id)
-        × (chair.new.id ≡ chair.old.id) × Rests chair.new.me }
-    ensures cell { IsCellWord result.1 }
-    ensures compared { CameOut (λ h. Compare A.cell A.expected A.new h result.0 A.weak) kind chair.old.me.0
-        result.1 chair.new.me.0 }
+    requires offer { IsOffer kind A.expected A.new new board.now.table_id chair.old.me.0 }
+    ensures table { chair.new.table_id ≡ chair.old.table_id }
+    ensures compared { IsOut (λ h. Compare A.cell A.expected A.new h result.0 A.weak) kind
+        chair.old.me.0 result.1 chair.new.me }
 {
     let mut pause = Pause::new();
     for _ in rt.forever() {
-        let seen = cells::look_differing::<V, A>(board, chair, word);
-        if is_alike(seen, expected) {
-            if try_swap::<V, A>(board, chair, word, kind, seen, new) {
-                return (true, seen);
-            }
-            pause.wait();
-        } else if seen.owned.is_none() {
-            return (false, seen);
-        } else if u32::from(seen.taken) < CELL_FUNDS
-            && try_differ::<V, A, R>(rt, board, chair, word, kind, seen)
-        {
-            return (false, seen);
+        if let Some(done) = try_compare::<V, A, R>(
+            rt,
+            board,
+            chair,
+            &mut pause,
+            word,
+            kind,
+            (expected, new),
+        ) {
+            return done;
         }
     }
     unreachable!()

@@ -11,7 +11,7 @@ use Rattle.std.proofs.lemmas.List.{length-map}
 use Rattle.control_word.specs.State.{bag}
 use Rattle.control_block.specs.Plays.{known}
 use Rattle.control_block.proofs.CellTrades.{load_trades}
-use Rattle.control_block.proofs.CellSites.{cell_there, word_there}
+use Rattle.control_block.proofs.CellSites.{aim_of, word_there}
 use Rattle.control_block.proofs.DeskBags.{not_full, adds_of, calm, keeps_quietly, now_of}
 use Rattle.control_block.proofs.Passage.{plain}
 use Rattle.control_block.proofs.DeskSteps.{came, ending_same, quiet_desk}
@@ -25,29 +25,23 @@ word_of-word-requires g c =
     (ap (λ z. z.domain) c.desk.view_is ∙ (r.domain.table ∙ sym (ap (λ z. z.id) c.domain.view_is)))
     (ap (λ z. z.shape) c.desk.view_is ∙ (r.domain.shape ∙ sym (ap (λ z. z.shape) c.domain.view_is))) r.cell.0 refl).0
 
-pub load-seen-requires-clause-word : goal.load-seen-requires-clause-word
-load-seen-requires-clause-word g c =
-    let r = c.requires in
-    (word_there c.desk.inside c.desk.invariant c.args.cell.kind c.word_of-word.result c.args.desk.now
-    c.domain.inside.table.shared.table_id c.domain.inside.shape c.args.cell.site c.desk.view_is
-    (ap (λ z. z.domain) c.desk.view_is ∙ (r.domain.table ∙ sym (ap (λ z. z.id) c.domain.view_is)))
-    (ap (λ z. z.shape) c.desk.view_is ∙ (r.domain.shape ∙ sym (ap (λ z. z.shape) c.domain.view_is))) r.cell.0 c.word_of-word.ensures).1
-
-pub load-seen-requires-clause-cell : goal.load-seen-requires-clause-cell
-load-seen-requires-clause-cell g c =
-    let r = c.requires in
-    cell_there c.desk.inside c.desk.invariant c.args.cell.kind c.word_of-word.result c.args.desk.now c.domain.inside.shape c.args.cell.site
-    g.A.Aimed.cell c.desk.view_is (ap (λ z. z.shape) c.desk.view_is ∙ (r.domain.shape ∙ sym (ap (λ z. z.shape) c.domain.view_is))) r.cell.0 r.cell.1
-    c.word_of-word.ensures
+pub load-seen-requires-clause-aim : goal.load-seen-requires-clause-aim
+load-seen-requires-clause-aim g c =
+    let r = c.requires in let d = c.desk.inside in let h = c.desk.invariant in let k = c.args.cell.kind in let y = c.args.desk.now in
+    let id = c.domain.inside.table.shared.table_id in let z = c.domain.inside.shape in let site = c.args.cell.site in
+    let table = ap (λ z. z.domain) c.desk.view_is ∙ (r.domain.table ∙ sym (ap (λ z. z.id) c.domain.view_is)) in
+    let shape = ap (λ z. z.shape) c.desk.view_is ∙ (r.domain.shape ∙ sym (ap (λ z. z.shape) c.domain.view_is)) in
+    let i = c.word_of-word.result in
+    aim_of d h k i y id z site g.A.Aimed.cell c.desk.view_is table shape r.cell.0 r.cell.1 c.word_of-word.ensures
 
 pub invariant_of-desk : goal.invariant_of-desk
 invariant_of-desk g c =
     let d = c.desk.inside in let h = c.desk.invariant in let w = c.load-seen.new.chair.me.0 in let x = c.load-seen.result in let k = c.args.cell.kind in
     let e : Handle → Event g.row.V.Denot = λ y. Load g.A.Aimed.cell y in let t = c.load-seen.ensures in
     let trades = load_trades g.row.V.Denot g.A.Aimed.cell k in
-    let a = event_is d h w e k x None None trades t.loaded tt in let size = size_is d h w e k x None None trades t.loaded tt (inr refl) in
+    let a = event_is d h w e k x None None trades t.loaded.out tt in let size = size_is d h w e k x None None trades t.loaded.out tt (inr refl) in
     let ne = (not_full c.desk.inside c.args.desk.now _ c.desk.invariant c.desk.view_is c.if-is_full.ensures refl) in let few = one_few x.owned in
-    quiet_desk d _ (e (in_seat w k x.owned x.place)) h a t.chair.0 t.chair.2.none (λ y n. refl) (λ y n. refl) refl refl
+    quiet_desk d _ (e (in_seat w k x.owned x.place)) h a t.table t.loaded.rests.none (λ y n. refl) (λ y n. refl) refl refl
     (omega (arith, size, few, h.holding)) (omega (arith, h.within, ne))
     (let v = d.seat.me.0 in h.ended ∙ sym
     (ending_same v w (e (in_seat w k x.owned x.place)) (came v w _ _ _ a) (plain (λ y x. refl) (λ y x. refl) (λ y f. refl))))
@@ -57,23 +51,23 @@ returns-clause-event g c =
     let d = c.desk.inside in let h = c.desk.invariant in let w = c.load-seen.new.chair.me.0 in let x = c.load-seen.result in let k = c.args.cell.kind in
     let e : Handle → Event g.row.V.Denot = λ y. Load g.A.Aimed.cell y in let t = c.load-seen.ensures in
     let trades = load_trades g.row.V.Denot g.A.Aimed.cell k in
-    adds_of d c.args.desk.now w _ _ (λ z. e (in_seat w k x.owned x.place)) c.desk.view_is t.chair.0
-    (event_is d h w e k x None None trades t.loaded tt)
+    adds_of d c.args.desk.now w _ _ (λ z. e (in_seat w k x.owned x.place)) c.desk.view_is t.table
+    (event_is d h w e k x None None trades t.loaded.out tt)
 
 pub returns-clause-bag : goal.returns-clause-bag
 returns-clause-bag g c =
     let d = c.desk.inside in let h = c.desk.invariant in let w = c.load-seen.new.chair.me.0 in let x = c.load-seen.result in let k = c.args.cell.kind in
     let e : Handle → Event g.row.V.Denot = λ y. Load g.A.Aimed.cell y in let t = c.load-seen.ensures in
     let trades = load_trades g.row.V.Denot g.A.Aimed.cell k in
-    bag_is d h w e k x None None trades t.loaded tt ∙ ap (λ z. with_handle k x.owned x.place (bag_of z)) c.desk.view_is
+    bag_is d h w e k x None None trades t.loaded.out tt ∙ ap (λ z. with_handle k x.owned x.place (bag_of z)) c.desk.view_is
 
 pub returns-clause-holds : goal.returns-clause-holds
 returns-clause-holds g c =
     let d = c.desk.inside in let h = c.desk.invariant in let w = c.load-seen.new.chair.me.0 in let x = c.load-seen.result in let k = c.args.cell.kind in
     let e : Handle → Event g.row.V.Denot = λ y. Load g.A.Aimed.cell y in let t = c.load-seen.ensures in
     let trades = load_trades g.row.V.Denot g.A.Aimed.cell k in
-    let is = bag_is d h w e k x None None trades t.loaded tt in
-    let size = size_is d h w e k x None None trades t.loaded tt (inr refl) in
+    let is = bag_is d h w e k x None None trades t.loaded.out tt in
+    let size = size_is d h w e k x None None trades t.loaded.out tt (inr refl) in
     let n = length-map (bag (known w) w.view.name) (seen_as (known w)) in
     holds_after (now_of c.load-seen.new.chair.table_id w (d.held + 1)) k x.owned x.place (bag_of (desk_now d)) is
     (λ none. let m = ap one none in omega (arith, size, n, m, h.holding))
@@ -85,7 +79,7 @@ invariant_of-result g c =
     let trades = load_trades g.row.V.Denot g.A.Aimed.cell k in
     record {
       proper = formed_out d w g.A.Aimed.cell (e (in_seat w k x.owned x.place)) k x.owned x.place
-          (event_is d h w e k x None None trades t.loaded tt) (λ asks. asks);
+          (event_is d h w e k x None None trades t.loaded.out tt) (λ asks. asks);
     }
 
 pub returns-clause-keeps : goal.returns-clause-keeps
@@ -93,5 +87,5 @@ returns-clause-keeps g c =
     let d = c.desk.inside in let h = c.desk.invariant in let w = c.load-seen.new.chair.me.0 in let x = c.load-seen.result in let k = c.args.cell.kind in
     let e : Handle → Event g.row.V.Denot = λ y. Load g.A.Aimed.cell y in let t = c.load-seen.ensures in
     let trades = load_trades g.row.V.Denot g.A.Aimed.cell k in
-    keeps_quietly d w (e (in_seat w k x.owned x.place)) h (event_is d h w e k x None None trades t.loaded tt) _ _ c.args.desk.now c.desk.view_is
-    t.chair.0 (calm (λ y n. refl) (λ y n. refl) (λ y f. refl)) (λ y n. refl) (λ y n. refl)
+    keeps_quietly d w (e (in_seat w k x.owned x.place)) h (event_is d h w e k x None None trades t.loaded.out tt) _ _ c.args.desk.now c.desk.view_is
+    t.table (calm (λ y n. refl) (λ y n. refl) (λ y f. refl)) (λ y n. refl) (λ y n. refl)

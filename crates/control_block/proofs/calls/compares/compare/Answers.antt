@@ -18,7 +18,7 @@ use Rattle.control_block.proofs.Bags.{seen_as}
 use Rattle.control_block.proofs.CellChoices.{allowances_of, bag_of_choice, counted_of, few_of, fits_of, has_of, mine_of, stores_of, trades_of, within_of}
 use Rattle.control_block.proofs.CellDesks.{bag_is, event_is, fits, formed_out, holds_after, in_seat, lost_counted, lost_hand, lost_holding}
 use Rattle.control_block.proofs.CellDesks.{lost_mine, lost_shows, lost_word, one, one_few, size_is}
-use Rattle.control_block.proofs.CellSites.{cell_there, word_there}
+use Rattle.control_block.proofs.CellSites.{aim_of, word_there}
 use Rattle.control_block.proofs.DeskBags.{not_full, adds_of, calm_compare, keeps_quietly, now_of, room_left}
 use Rattle.control_block.proofs.Passage.{quiet_compare}
 use Rattle.control_block.proofs.DeskSteps.{came as came_at, ending_same, quiet_desk}
@@ -32,20 +32,13 @@ word_of-word-requires g c =
     (ap (λ z. z.domain) c.desk.view_is ∙ (r.domain.table ∙ sym (ap (λ z. z.id) c.domain.view_is)))
     (ap (λ z. z.shape) c.desk.view_is ∙ (r.domain.shape ∙ sym (ap (λ z. z.shape) c.domain.view_is))) r.cell.0 refl).0
 
-pub compare-swapped-requires-clause-word : goal.compare-swapped-requires-clause-word
-compare-swapped-requires-clause-word g c =
-    let r = c.requires in
-    (word_there c.desk.inside c.desk.invariant c.args.offer.new.kind c.word_of-word.result c.args.desk.now
-    c.domain.inside.table.shared.table_id c.domain.inside.shape c.args.site c.desk.view_is
-    (ap (λ z. z.domain) c.desk.view_is ∙ (r.domain.table ∙ sym (ap (λ z. z.id) c.domain.view_is)))
-    (ap (λ z. z.shape) c.desk.view_is ∙ (r.domain.shape ∙ sym (ap (λ z. z.shape) c.domain.view_is))) r.cell.0 c.word_of-word.ensures).1
-
-pub compare-swapped-requires-clause-cell : goal.compare-swapped-requires-clause-cell
-compare-swapped-requires-clause-cell g c =
-    let r = c.requires in
-    cell_there c.desk.inside c.desk.invariant c.args.offer.new.kind c.word_of-word.result c.args.desk.now c.domain.inside.shape c.args.site
-    g.A.Aimed.cell c.desk.view_is (ap (λ z. z.shape) c.desk.view_is ∙ (r.domain.shape ∙ sym (ap (λ z. z.shape) c.domain.view_is))) r.cell.0 r.cell.1
-    c.word_of-word.ensures
+pub compare-swapped-requires-clause-aim : goal.compare-swapped-requires-clause-aim
+compare-swapped-requires-clause-aim g c =
+    let r = c.requires in let d = c.desk.inside in let h = c.desk.invariant in let k = c.args.offer.new.kind in let y = c.args.desk.now in
+    let id = c.domain.inside.table.shared.table_id in let z = c.domain.inside.shape in let site = c.args.site in
+    let table = ap (λ z. z.domain) c.desk.view_is ∙ (r.domain.table ∙ sym (ap (λ z. z.id) c.domain.view_is)) in
+    let shape = ap (λ z. z.shape) c.desk.view_is ∙ (r.domain.shape ∙ sym (ap (λ z. z.shape) c.domain.view_is)) in
+    aim_of d h k c.word_of-word.result y id z site g.A.Aimed.cell c.desk.view_is table shape r.cell.0 r.cell.1 c.word_of-word.ensures
 
 pub compare-swapped-requires-clause-expected : goal.compare-swapped-requires-clause-expected
 compare-swapped-requires-clause-expected g c =
@@ -56,47 +49,29 @@ compare-swapped-requires-clause-expected g c =
     let there_is : there ≡ in_seat v k q o = r.expected ∙ ap (λ (z : DeskNow g.row.V.Denot). handle_in z k q o) (sym c.desk.view_is) in
     subst (λ (z : Handle). IsWordOf v z record { owned = q; place = o; taken = 0 }) (sym there_is) (lost_shows d y k o h c.desk.view_is q r.holds.0)
 
-pub compare-swapped-requires-clause-new : goal.compare-swapped-requires-clause-new
-compare-swapped-requires-clause-new g c =
-    let r = c.requires in let d = c.desk.inside in let h = c.desk.invariant in let v = d.seat.me.0 in let k = c.args.offer.new.kind in
-    let b = c.args.offer.new.block in let p = c.args.offer.new.place in let y = c.args.desk.now in let lost = g.A.Aimed.new in
-    let new_is : lost ≡ in_seat v k b p = r.new ∙ ap (λ (z : DeskNow g.row.V.Denot). handle_in z k b p) (sym c.desk.view_is) in (
-      lost_word d y k p h c.desk.view_is b r.holds.1 c.args.offer.new.proper,
-      refl,
-      subst (λ (z : Handle). IsWordOf v z record { owned = b; place = p; taken = 0 }) (sym new_is) (lost_shows d y k p h c.desk.view_is b r.holds.1),
-    )
-
-pub compare-swapped-requires-clause-hands : goal.compare-swapped-requires-clause-hands
-compare-swapped-requires-clause-hands g c =
+pub compare-swapped-requires-clause-offer : goal.compare-swapped-requires-clause-offer
+compare-swapped-requires-clause-offer g c =
     let r = c.requires in let d = c.desk.inside in let h = c.desk.invariant in let v = d.seat.me.0 in let k = c.args.offer.new.kind in
     let b = c.args.offer.new.block in let p = c.args.offer.new.place in let y = c.args.desk.now in let lost = g.A.Aimed.new in
     let new_is : lost ≡ in_seat v k b p = r.new ∙ ap (λ (z : DeskNow g.row.V.Denot). handle_in z k b p) (sym c.desk.view_is) in
     let there = g.A.Aimed.expected in let q = c.args.offer.expected.block in let o = c.args.offer.expected.place in
-    let there_is : there ≡ in_seat v k q o = r.expected ∙ ap (λ (z : DeskNow g.row.V.Denot). handle_in z k q o) (sym c.desk.view_is) in (
-      subst (λ (z : Handle). InHand (known v) v.view.name k z) (sym there_is)
+    let there_is : there ≡ in_seat v k q o = r.expected ∙ ap (λ (z : DeskNow g.row.V.Denot). handle_in z k q o) (sym c.desk.view_is) in
+    let table = ap (λ z. z.domain) c.desk.view_is ∙ (r.domain.table ∙ sym (ap (λ z. z.id) c.domain.view_is)) in
+    record {
+      valid = lost_word d y k p h c.desk.view_is b r.holds.1 c.args.offer.new.proper;
+      taken = refl;
+      shows = subst (λ (z : Handle). IsWordOf v z record { owned = b; place = p; taken = 0 }) (sym new_is)
+          (lost_shows d y k p h c.desk.view_is b r.holds.1);
+      expected_hand = subst (λ (z : Handle). InHand (known v) v.view.name k z) (sym there_is)
           (lost_hand d y k o h c.desk.view_is q r.holds.0
-          (subst (λ z. IsProper z q o) (same_kind_true c.args.offer.expected.kind k c.args.offer.alike) c.args.offer.expected.proper)),
-      subst (λ (z : Handle). InHand (known v) v.view.name k z) (sym new_is)
-          (lost_hand d y k p h c.desk.view_is b r.holds.1 c.args.offer.new.proper),
-    )
-
-pub compare-swapped-requires-clause-holds : goal.compare-swapped-requires-clause-holds
-compare-swapped-requires-clause-holds g c =
-    let r = c.requires in let d = c.desk.inside in let h = c.desk.invariant in let v = d.seat.me.0 in let k = c.args.offer.new.kind in
-    let b = c.args.offer.new.block in let p = c.args.offer.new.place in let y = c.args.desk.now in let lost = g.A.Aimed.new in
-    let new_is : lost ≡ in_seat v k b p = r.new ∙ ap (λ (z : DeskNow g.row.V.Denot). handle_in z k b p) (sym c.desk.view_is) in
-    subst (λ (z : Handle). IfSome b (λ a. HoldingInBlock v z.kind (object_of z) z.place a.0)) (sym new_is)
-    (lost_holding d y k p h c.desk.view_is b r.holds.1)
-
-pub compare-swapped-requires-clause-count : goal.compare-swapped-requires-clause-count
-compare-swapped-requires-clause-count g c =
-    let r = c.requires in
-    lost_counted c.desk.inside c.args.desk.now c.args.offer.new.kind c.args.offer.new.place c.desk.invariant c.desk.view_is c.args.offer.new.block
-    c.domain.inside.table.shared.table_id (ap (λ z. z.domain) c.desk.view_is ∙ (r.domain.table ∙ sym (ap (λ z. z.id) c.domain.view_is))) r.holds.1
-
-pub compare-swapped-requires-clause-room : goal.compare-swapped-requires-clause-room
-compare-swapped-requires-clause-room g c =
-    room_left c.desk.inside c.desk.invariant (not_full c.desk.inside c.args.desk.now _ c.desk.invariant c.desk.view_is c.if-is_full.ensures refl)
+          (subst (λ z. IsProper z q o) (same_kind_true c.args.offer.expected.kind k c.args.offer.alike) c.args.offer.expected.proper));
+      new_hand = subst (λ (z : Handle). InHand (known v) v.view.name k z) (sym new_is)
+          (lost_hand d y k p h c.desk.view_is b r.holds.1 c.args.offer.new.proper);
+      holds = subst (λ (z : Handle). IfSome b (λ a. HoldingInBlock v z.kind (object_of z) z.place a.0)) (sym new_is)
+          (lost_holding d y k p h c.desk.view_is b r.holds.1);
+      count = lost_counted d y k p h c.desk.view_is b c.domain.inside.table.shared.table_id table r.holds.1;
+      room = room_left d h (not_full d y _ h c.desk.view_is c.if-is_full.ensures refl);
+    }
 
 pub invariant_of-desk : goal.invariant_of-desk
 invariant_of-desk g c =
@@ -107,12 +82,12 @@ invariant_of-desk g c =
     let new_is : a.new ≡ in_seat v k b p = r.new ∙ ap (λ (z : DeskNow g.row.V.Denot). handle_in z k b p) (sym c.desk.view_is) in
     let trades = trades_of v k b p cl a.expected a.new a.weak new_is s in
     let mine = mine_of v k b p s (lost_mine v k p b (lost_holding d y k p h c.desk.view_is b r.holds.1)) in
-    let came = c.compare-swapped.ensures.compared in
+    let came = c.compare-swapped.ensures.compared.out in
     let has = subst (λ (z : DeskNow g.row.V.Denot). HoldsHandle z k b p) (sym c.desk.view_is) r.holds.1 in
     let size = size_is d h w e k x (cond s b None) (cond s p None) trades came mine (has_of (desk_now d) k b p s has) in
     let fit = fits d k p b h has in let more = counted_of s c.from.result c.from.ensures in
     let t = c.compare-swapped.ensures in let few = one_few x.owned in let z = in_seat w k x.owned x.place in
-    quiet_desk d _ (e z) h (event_is d h w e k x (cond s b None) (cond s p None) trades came mine) t.chair.0 t.chair.2.none
+    quiet_desk d _ (e z) h (event_is d h w e k x (cond s b None) (cond s p None) trades came mine) t.table t.compared.rests.none
     (λ q m. stores_of g.row.V.Denot cl a.expected a.new z a.weak s q m)
     (λ q m. allowances_of g.row.V.Denot cl a.expected a.new z a.weak s q m) refl refl
     (subst (λ (q : ℕ). bag_size (known w) w.view.name ≤ (d.held + q)) (sym more)
@@ -131,8 +106,8 @@ returns-clause-event g c =
     let new_is : a.new ≡ in_seat v k b p = r.new ∙ ap (λ (z : DeskNow g.row.V.Denot). handle_in z k b p) (sym c.desk.view_is) in
     let trades = trades_of v k b p cl a.expected a.new a.weak new_is s in
     let mine = mine_of v k b p s (lost_mine v k p b (lost_holding d y k p h c.desk.view_is b r.holds.1)) in
-    let came = c.compare-swapped.ensures.compared in
-    adds_of d y w _ _ (λ z. e (in_seat w k x.owned x.place)) c.desk.view_is c.compare-swapped.ensures.chair.0
+    let came = c.compare-swapped.ensures.compared.out in
+    adds_of d y w _ _ (λ z. e (in_seat w k x.owned x.place)) c.desk.view_is c.compare-swapped.ensures.table
     (event_is d h w e k x (cond s b None) (cond s p None) trades came mine)
 
 pub returns-clause-bag : goal.returns-clause-bag
@@ -144,7 +119,7 @@ returns-clause-bag g c =
     let new_is : a.new ≡ in_seat v k b p = r.new ∙ ap (λ (z : DeskNow g.row.V.Denot). handle_in z k b p) (sym c.desk.view_is) in
     let trades = trades_of v k b p cl a.expected a.new a.weak new_is s in
     let mine = mine_of v k b p s (lost_mine v k p b (lost_holding d y k p h c.desk.view_is b r.holds.1)) in
-    let came = c.compare-swapped.ensures.compared in
+    let came = c.compare-swapped.ensures.compared.out in
     bag_is d h w e k x (cond s b None) (cond s p None) trades came mine
     ∙ (ap (with_handle k x.owned x.place) (bag_of_choice s k b p (bag_of (desk_now d)))
     ∙ ap (λ (z : DeskNow g.row.V.Denot). with_handle k x.owned x.place (cond s (without_handle k b p (bag_of z)) (bag_of z))) c.desk.view_is)
@@ -158,7 +133,7 @@ returns-clause-holds g c =
     let new_is : a.new ≡ in_seat v k b p = r.new ∙ ap (λ (z : DeskNow g.row.V.Denot). handle_in z k b p) (sym c.desk.view_is) in
     let trades = trades_of v k b p cl a.expected a.new a.weak new_is s in
     let mine = mine_of v k b p s (lost_mine v k p b (lost_holding d y k p h c.desk.view_is b r.holds.1)) in
-    let came = c.compare-swapped.ensures.compared in
+    let came = c.compare-swapped.ensures.compared.out in
     let has = subst (λ (z : DeskNow g.row.V.Denot). HoldsHandle z k b p) (sym c.desk.view_is) r.holds.1 in
     let size = size_is d h w e k x (cond s b None) (cond s p None) trades came mine (has_of (desk_now d) k b p s has) in
     let fit = fits d k p b h has in let more = counted_of s c.from.result c.from.ensures in
@@ -179,7 +154,7 @@ invariant_of-result g c =
     let new_is : a.new ≡ in_seat v k b p = r.new ∙ ap (λ (z : DeskNow g.row.V.Denot). handle_in z k b p) (sym c.desk.view_is) in
     let trades = trades_of v k b p cl a.expected a.new a.weak new_is s in
     let mine = mine_of v k b p s (lost_mine v k p b (lost_holding d y k p h c.desk.view_is b r.holds.1)) in
-    let came = c.compare-swapped.ensures.compared in
+    let came = c.compare-swapped.ensures.compared.out in
     record {
       proper = formed_out d w cl (e (in_seat w k x.owned x.place)) k x.owned x.place
           (event_is d h w e k x (cond s b None) (cond s p None) trades came mine) (λ asks. (asks.0, asks.3));
@@ -194,8 +169,8 @@ returns-clause-keeps g c =
     let new_is : a.new ≡ in_seat v k b p = r.new ∙ ap (λ (z : DeskNow g.row.V.Denot). handle_in z k b p) (sym c.desk.view_is) in
     let trades = trades_of v k b p cl a.expected a.new a.weak new_is s in
     let mine = mine_of v k b p s (lost_mine v k p b (lost_holding d y k p h c.desk.view_is b r.holds.1)) in
-    let came = c.compare-swapped.ensures.compared in
+    let came = c.compare-swapped.ensures.compared.out in
     let z = in_seat w k x.owned x.place in
-    keeps_quietly d w (e z) h (event_is d h w e k x (cond s b None) (cond s p None) trades came mine) _ _ y c.desk.view_is c.compare-swapped.ensures.chair.0
+    keeps_quietly d w (e z) h (event_is d h w e k x (cond s b None) (cond s p None) trades came mine) _ _ y c.desk.view_is c.compare-swapped.ensures.table
     (calm_compare cl a.expected a.new z s a.weak) (λ q m. stores_of g.row.V.Denot cl a.expected a.new z a.weak s q m)
     (λ q m. allowances_of g.row.V.Denot cl a.expected a.new z a.weak s q m)

@@ -1,14 +1,22 @@
-use Rattle.std.proofs.Common.{◌≡◌, sym, subst, ◌∙◌}
-use Rattle.control_block.specs.CellPlays.{kind_in}
-use Rattle.control_block.specs.Plays.{At, Rests}
-use Rattle.control_block.proofs.CellRounds.{refill_owes}
+use Rattle.std.proofs.Common.{rules, ◌∙◌}
+use Rattle.control_block.proofs.CellTries.{aim_at, holding_at}
 use Rattle.control_block.proofs.rounds.cells.refill.Goals as goal
 
-pub refill-requires-clause-owes : goal.refill-requires-clause-owes
-refill-requires-clause-owes g c =
-    let r = c.requires in let m = g.M.StepArgs in let a = g.A.Aimed in let me = c.peek-seen.new.chair.me in let me' = c.bring.new.chair.me in
-    let same = c.peek-seen.ensures.chair.2 ∙ c.loop.invariant.4 in
-    refill_owes me me' m.kind c.args.kind m.object m.place c.args.block c.peek-seen.result c.from-taken.result a.cell
-    (subst (λ (y : At g.row.V.Denot). Rests y) (sym same) r.rests) r.holds.0
-    (subst (λ (y : At g.row.V.Denot). c.args.kind ≡ kind_in y.0.shape a.cell) (sym same) r.cell.1)
-    (c.is_drained.ensures c.if-not-is_drained.false) c.from-taken.ensures c.bring.ensures.brought c.bring.ensures.chair.2
+pub try_refill-requires-clause-aim : goal.try_refill-requires-clause-aim
+try_refill-requires-clause-aim g c = let l = c.loop.invariant in aim_at c.requires.aim l.2 l.3
+
+pub try_refill-requires-clause-holds : goal.try_refill-requires-clause-holds
+try_refill-requires-clause-holds g c = let r = c.requires in (r.holds.0, holding_at r.holds.1 c.loop.invariant.3)
+
+pub try_refill-requires-clause-count : goal.try_refill-requires-clause-count
+try_refill-requires-clause-count g c = c.requires.count
+
+pub returns-then-try_refill-clause-table : goal.returns-then-try_refill-clause-table
+returns-then-try_refill-clause-table g c = c.try_refill.ensures.table ∙ c.loop.invariant.2
+
+pub returns-then-try_refill-clause-same : goal.returns-then-try_refill-clause-same
+returns-then-try_refill-clause-same g c = c.try_refill.ensures.same ∙ c.loop.invariant.3
+
+pub loop-preserved : goal.loop-preserved
+loop-preserved g c =
+    let t = c.try_refill.ensures in let l = c.loop.invariant in (search rules, search rules, t.table ∙ l.2, t.same ∙ l.3)

@@ -1,57 +1,72 @@
-use Rattle.std.proofs.Common.{refl, sym, subst}
-use Rattle.atomic_table.specs.Seated.{TableId}
-use Rattle.control_word.specs.Handles.{empty}
-use Rattle.control_word.specs.declared.model.event.Event.{Event}
+use Rattle.std.proofs.Common.{◌<◌, None, sym, subst, ◌∙◌}
+use Rattle.control_word.specs.Handles.{handle}
 use Rattle.control_word.specs.declared.model.event.Event.TheVariants.{Load}
-use Rattle.control_word.specs.declared.model.handle.Handle.{Handle}
-use Rattle.control_word.specs.declared.model.handle.Kind.{Kind}
-use Rattle.control_block.specs.CellPlays.{Took}
-use Rattle.control_block.specs.CellRounds.{CameOut, IsCounted}
-use Rattle.control_block.specs.Inside.{IsSized}
-use Rattle.control_block.specs.Plays.{At}
-use Rattle.control_block.proofs.CellRounds.{came_counted, came_holding, took_inside, took_owes, turned}
-use Rattle.control_block.proofs.CellTrades.{cell_still, load_keeps, load_trades}
+use Rattle.control_block.specs.Plays.{At, HasRoomFor, tells}
+use Rattle.control_block.proofs.CellTries.{aim_at, none_shown, out_empty, out_since}
 use Rattle.control_block.proofs.rounds.cells.try_load.Goals as goal
 
-pub turn-requires-clause-word : goal.turn-requires-clause-word
-turn-requires-clause-word g c =
-    let r = c.requires in let k = c.args.kind in let v = c.args.chair.now.me.0 in let e : Handle → Event g.row.V.Denot = λ h. Load g.A.Aimed.cell h in
-    let t = subst (λ (y : Kind). Took e y v c.args.seen c.take.new.chair.me.0) (sym r.cell.1) (c.if-not-take.ensures.took refl) in
-    subst (λ (y : TableId). IsCounted k c.in-Some.block y) r.board.0
-    (took_inside e k v c.take.new.chair.me.0 c.args.seen (empty k) c.in-Some.block c.args.chair.now.table_id
-    (load_trades g.row.V.Denot g.A.Aimed.cell k) t c.in-Some.is r.board.1)
+pub look-seen-requires-clause-board : goal.look-seen-requires-clause-board
+look-seen-requires-clause-board g c = c.requires.aim.table
 
-pub turn-requires-clause-owes : goal.turn-requires-clause-owes
-turn-requires-clause-owes g c =
-    let r = c.requires in let k = c.args.kind in let v = c.args.chair.now.me.0 in let e : Handle → Event g.row.V.Denot = λ h. Load g.A.Aimed.cell h in
-    let t = subst (λ (y : Kind). Took e y v c.args.seen c.take.new.chair.me.0) (sym r.cell.1) (c.if-not-take.ensures.took refl) in
-    took_owes e k v c.take.new.chair.me c.args.seen c.in-Some.block t c.in-Some.is r.rests.awake c.take.ensures.chair.2
+pub look-seen-requires-clause-rests : goal.look-seen-requires-clause-rests
+look-seen-requires-clause-rests g c = c.requires.aim.rests
 
-pub top_up-requires-clause-cell : goal.top_up-requires-clause-cell
-top_up-requires-clause-cell g c =
-    let r = c.requires in let k = c.args.kind in let v = c.args.chair.now.me.0 in let e : Handle → Event g.row.V.Denot = λ h. Load g.A.Aimed.cell h in
-    let t = subst (λ (y : Kind). Took e y v c.args.seen c.take.new.chair.me.0) (sym r.cell.1) (c.if-not-take.ensures.took refl) in
-    let came = turned e k v c.take.new.chair.me.0 c.turn.new.chair.me.0 c.args.seen t c.turn.ensures.settled in
-    cell_still v c.turn.new.chair.me.0 (e came.handle) g.A.Aimed.cell c.args.word k (load_keeps g.row.V.Denot g.A.Aimed.cell came.handle) came.event r.cell
+pub look-seen-requires-clause-word : goal.look-seen-requires-clause-word
+look-seen-requires-clause-word g c = c.requires.aim.word
 
-pub top_up-requires-clause-holds : goal.top_up-requires-clause-holds
-top_up-requires-clause-holds g c =
-    let r = c.requires in let k = c.args.kind in let v = c.args.chair.now.me.0 in let e : Handle → Event g.row.V.Denot = λ h. Load g.A.Aimed.cell h in
-    let t = subst (λ (y : Kind). Took e y v c.args.seen c.take.new.chair.me.0) (sym r.cell.1) (c.if-not-take.ensures.took refl) in
-    let came = turned e k v c.take.new.chair.me.0 c.turn.new.chair.me.0 c.args.seen t c.turn.ensures.settled in
-    came_holding e k v c.turn.new.chair.me.0 c.args.seen (empty k) (load_trades g.row.V.Denot g.A.Aimed.cell k) came
+pub look-seen-requires-clause-cell : goal.look-seen-requires-clause-cell
+look-seen-requires-clause-cell g c = c.requires.aim.cell
 
-pub top_up-requires-clause-count : goal.top_up-requires-clause-count
-top_up-requires-clause-count g c =
-    let r = c.requires in let k = c.args.kind in let v = c.args.chair.now.me.0 in let e : Handle → Event g.row.V.Denot = λ h. Load g.A.Aimed.cell h in
-    let t = subst (λ (y : Kind). Took e y v c.args.seen c.take.new.chair.me.0) (sym r.cell.1) (c.if-not-take.ensures.took refl) in
-    let came = turned e k v c.take.new.chair.me.0 c.turn.new.chair.me.0 c.args.seen t c.turn.ensures.settled in
-    came_counted e k v c.turn.new.chair.me.0 c.args.seen (empty k) c.args.board.now.table_id (load_trades g.row.V.Denot g.A.Aimed.cell k) came
-    (subst (λ (y : TableId). IsSized y v.shape) r.board.0 r.board.1)
+pub returns-in_default-clause-table : goal.returns-in_default-clause-table
+returns-in_default-clause-table g c = c.look-seen.ensures.chair.0
+
+pub returns-in_default-clause-loaded : goal.returns-in_default-clause-loaded
+returns-in_default-clause-loaded g c =
+    let l = c.look-seen.ensures in let k = c.args.kind in let r = c.requires in let none = c.in_default.is in
+    let told = subst (λ y. tells (Load g.A.Aimed.cell (handle y None c.look-seen.result.place)) c.args.chair.now.me.0 c.look-seen.new.chair.me.0)
+    (sym r.aim.kind) (l.event none) in
+    out_empty (λ h. Load g.A.Aimed.cell h) k c.args.chair.now.me.0 c.look-seen.result c.look-seen.new.chair.me l.cell none told r.aim.rests.awake
+    l.chair.2
+
+pub returns-in_default-clause-missed : goal.returns-in_default-clause-missed
+returns-in_default-clause-missed g c = λ none. absurd (cc none)
+
+pub take_out-requires-clause-aim : goal.take_out-requires-clause-aim
+take_out-requires-clause-aim g c =
+    let l = c.look-seen.ensures in aim_at c.requires.aim l.chair.0 (l.same (none_shown c.in-Some.is))
+
+pub take_out-requires-clause-seen : goal.take_out-requires-clause-seen
+take_out-requires-clause-seen g c =
+    (c.look-seen.ensures.cell, c.in-Some.is, subst (λ n. n < 256) c.from.ensures c.if-from-ge-CELL_FUNDS.false)
+
+pub take_out-requires-clause-room : goal.take_out-requires-clause-room
+take_out-requires-clause-room g c =
+    subst (λ (y : At g.row.V.Denot). HasRoomFor y.0) (sym (c.look-seen.ensures.same (none_shown c.in-Some.is))) c.requires.room
+
+pub returns-then-take_out-clause-table : goal.returns-then-take_out-clause-table
+returns-then-take_out-clause-table g c = c.take_out.ensures.table ∙ c.look-seen.ensures.chair.0
+
+pub returns-then-take_out-clause-loaded : goal.returns-then-take_out-clause-loaded
+returns-then-take_out-clause-loaded g c =
+    out_since (c.take_out.ensures.loaded c.if-take_out.true) (c.look-seen.ensures.same (none_shown c.in-Some.is))
+
+pub returns-then-take_out-clause-missed : goal.returns-then-take_out-clause-missed
+returns-then-take_out-clause-missed g c = λ none. absurd (cc none)
+
+pub returns-then-from-ge-CELL_FUNDS-clause-table : goal.returns-then-from-ge-CELL_FUNDS-clause-table
+returns-then-from-ge-CELL_FUNDS-clause-table g c = c.look-seen.ensures.chair.0
+
+pub returns-then-from-ge-CELL_FUNDS-clause-loaded : goal.returns-then-from-ge-CELL_FUNDS-clause-loaded
+returns-then-from-ge-CELL_FUNDS-clause-loaded g c = tt
+
+pub returns-then-from-ge-CELL_FUNDS-clause-missed : goal.returns-then-from-ge-CELL_FUNDS-clause-missed
+returns-then-from-ge-CELL_FUNDS-clause-missed g c = λ _. c.look-seen.ensures.same (none_shown c.in-Some.is)
+
+pub returns-clause-table : goal.returns-clause-table
+returns-clause-table g c = c.take_out.ensures.table ∙ c.look-seen.ensures.chair.0
 
 pub returns-clause-loaded : goal.returns-clause-loaded
-returns-clause-loaded g c = λ _.
-    let r = c.requires in let k = c.args.kind in let v = c.args.chair.now.me.0 in let e : Handle → Event g.row.V.Denot = λ h. Load g.A.Aimed.cell h in
-    let t = subst (λ (y : Kind). Took e y v c.args.seen c.take.new.chair.me.0) (sym r.cell.1) (c.if-not-take.ensures.took refl) in
-    let came = turned e k v c.take.new.chair.me.0 c.turn.new.chair.me.0 c.args.seen t c.turn.ensures.settled in
-    subst (λ (y : At g.row.V.Denot). CameOut e k v c.args.seen y.0) (sym c.top_up.ensures.chair.2) came
+returns-clause-loaded g c = tt
+
+pub returns-clause-missed : goal.returns-clause-missed
+returns-clause-missed g c = λ _. c.take_out.ensures.missed c.if-take_out.false ∙ c.look-seen.ensures.same (none_shown c.in-Some.is)

@@ -5,4 +5,4 @@ use Rattle.control_block.proofs.rounds.compares.compare.Given as goal
 abbrev pub invariant-loop : goal.invariant-loop
 invariant-loop g l =
     (goal.iterator-loop g).can_next l.iterator' × (goal.iterator-loop g).is_finite l.iterator' × (l.chair.table_id ≡ l.fn.chair.table_id)
-    × (l.chair.id ≡ l.fn.chair.id) × (l.chair.me ≡ l.fn.chair.me)
+    × (l.chair.me ≡ l.fn.chair.me)
