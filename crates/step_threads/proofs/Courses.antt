@@ -105,7 +105,7 @@ placed_hand k slots lt =
     (hand slots)) in omega (arith, l))
 
 -- the slots behind the names stay where the length does
-other_same : (slots slots' : Slots) → length slots' ≡ length slots → other slots' ≡ other slots
+pub other_same : (slots slots' : Slots) → length slots' ≡ length slots → other slots' ≡ other slots
 other_same slots slots' e = ap (λ (n : ℕ). n - 2) e
 
 placed_other : (k : ℕ) (slots : Slots) → 1 < length slots → k < other slots → slot_value slots (other slots) ≡ plain
@@ -116,7 +116,7 @@ placed_other k slots lt below e =
     ∙ get_or-set_other slots k (other slots) (slot_value slots (hand slots)) plain (omega (arith, below))
     ∙ e
 
-ready_same : (slots slots' : Slots) (taken : Bool) (ts : List Task) → length slots' ≡ length slots → TasksMayCome (other slots) taken ts
+pub ready_same : (slots slots' : Slots) (taken : Bool) (ts : List Task) → length slots' ≡ length slots → TasksMayCome (other slots) taken ts
     → TasksMayCome (other slots') taken ts
 ready_same slots slots' taken ts e r = subst (λ (n : ℕ). TasksMayCome n taken ts) (sym (other_same slots slots' e)) r
 
@@ -129,7 +129,7 @@ carried_same : (slots slots' : Slots) (es : List Ending) → slot_value slots' (
 carried_same slots slots' [] e c = c
 carried_same slots slots' (x ∷ es) e c = ap (λ (y : Slot). is_full (pointer_of y)) e ∙ c
 
-free_same : (slots slots' : Slots) (es : List Ending) → slot_value slots' (hand slots') ≡ slot_value slots (hand slots) → IsFree slots es
+pub free_same : (slots slots' : Slots) (es : List Ending) → slot_value slots' (hand slots') ≡ slot_value slots (hand slots) → IsFree slots es
     → IsFree slots' es
 free_same slots slots' es e (inl f) = inl (e ∙ f)
 free_same slots slots' es e (inr c) = inr (carried_same slots slots' es e c)
@@ -157,7 +157,7 @@ placed_ready k slots es ts lt r owes =
       ready = ready_same slots (placed k slots) false ts e r;
     }
 
-put_ready : (k : ℕ) (slots : Slots) (taken : Bool) (es : List Ending) (ts : List Task) → 1 < length slots → k < other slots
+pub put_ready : (k : ℕ) (slots : Slots) (taken : Bool) (es : List Ending) (ts : List Task) → 1 < length slots → k < other slots
     → (taken ≡ false → IsFree slots es) → (slot_value slots (other slots) ≡ plain) ⊎ DropsInTime ts → TasksMayCome (other slots) false ts
     → IsReady (cond taken (placed k slots) slots) false es ts
 put_ready k slots true es ts lt below free (inl e) r = placed_ready k slots es ts lt r (inl (placed_other k slots lt below e))
@@ -170,7 +170,7 @@ swap_ready : (slots : Slots) (taken : Bool) (es : List Ending) (ts : List Task) 
 swap_ready slots true es ts lt free drops r = placed_ready (other slots) slots es ts lt r (inr drops)
 swap_ready slots false es ts lt free drops r = record { some = lt; free = free; owes = inr drops; ready = r }
 
-drop_ready : (slots : Slots) (taken : Bool) (es : List Ending) (ts : List Task) → 1 < length slots → (taken ≡ false → IsFree slots es)
+pub drop_ready : (slots : Slots) (taken : Bool) (es : List Ending) (ts : List Task) → 1 < length slots → (taken ≡ false → IsFree slots es)
     → TasksMayCome (other slots) taken ts → IsReady (set slots (other slots) plain) taken es ts
 drop_ready slots taken es ts lt free r =
     let x = set slots (other slots) plain in

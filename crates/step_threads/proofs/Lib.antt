@@ -1,6 +1,7 @@
 pub mod Stocks
 pub mod Courses
 pub mod Hands
+pub mod Going
 pub mod CellNames
 pub mod Named
 pub mod Threads

@@ -86,6 +86,19 @@ impl Thread {
         if self.course.at == self.course.tasks.len() {
             return Stepped::Done;
         }
+        self.begin_act(desk, table)
+    }
+
+    /// The next act, or the first step of it, where there is one.
+    #[inline(always)]
+    fn begin_act(&mut self, desk: usize, table: &mut Table) -> Stepped
+        requires fits { FitsThread desk self.old table.old }
+        requires rest { self.old.half ≡ Half.Rest }
+        requires none { self.old.course.endings.list ≡ [] }
+        requires within { self.old.course.at < length self.old.course.tasks.items }
+        ensures stepped { HasStepped desk self.old table.old result self.new table.new }
+        ensures fits { FitsThread desk self.new table.new }
+    {
         match self.course.tasks[self.course.at].act {
             Act::Make { form } => self.begin(desk, table, form),
             Act::Share { name } => self.share(desk, table, name),
