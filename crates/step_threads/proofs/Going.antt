@@ -1,9 +1,9 @@
 -- What the course of a thread relies on after an act, by what the act did to its slots.
-use Rattle.std.proofs.Common.{◌≡◌, ◌≢◌, ℕ, ◌-◌, ◌<◌, ◌⊎◌, Bool, true, false, cond, List, [], length, set, refl, sym, ap, subst, ◌∙◌}
+use Rattle.std.proofs.Common.{◌≡◌, ◌≢◌, ℕ, ◌-◌, ◌<◌, ◌⊎◌, Bool, true, false, cond, [], length, set, refl, sym, ap, subst, ◌∙◌}
 use Rattle.std.proofs.Common.{⊎_elim, inl, inr, arith, get_or-set_same, get_or-set_other, length-set}
-use Rattle.std.specs.Prelude.{None, Option, Some, option_map}
+use Rattle.std.specs.Prelude.{None, Option, Some, option_map, ◌||◌}
 use Rattle.step_table.specs.Deeds.{aliased, as_weak}
-use Rattle.step_table.specs.Contents.{is_of}
+use Rattle.step_table.specs.Contents.{differed, is_of, slots_swapped}
 use Rattle.step_table.specs.declared.memory.field.Field.{Field}
 use Rattle.control_word.specs.declared.model.handle.Kind.{Kind}
 use Rattle.step_threads.specs.declared.programs.call.CellName.{CellName}
@@ -11,20 +11,18 @@ use Rattle.step_threads.specs.Programs.{kind_at}
 use Rattle.std.proofs.lemmas.Bool.{cond_both, cond-true, cond-false, false≢true}
 use Rattle.std.proofs.lemmas.List.{set-get_or}
 use Rattle.step_threads.specs.declared.programs.act.Act.{Act}
-use Rattle.step_threads.specs.declared.programs.act.Act.TheVariants.{Put, Leave, Clear, Drop}
-use Rattle.step_threads.specs.declared.programs.act.Task.{Task}
+use Rattle.step_threads.specs.declared.programs.act.Act.TheVariants.{Put, Leave, Clear, Drop, Swap, Compare}
 use Rattle.step_threads.specs.declared.course.Course.{Course}
-use Rattle.step_threads.specs.declared.ending.Ending.{Ending}
 use Rattle.step_table.specs.declared.slots.slot.Slot.{Slot}
 use Rattle.step_table.specs.declared.slots.slot.Slot.TheVariants.{Empty, Full}
 use Rattle.control_word.specs.declared.place.Place.{Place}
 use Rattle.step_table.specs.declared.slots.holdings.Pointer.{Pointer}
 use Rattle.step_table.specs.Holdings.{Slots, filled, owner_slot, place_in, place_of, plain, pointer_of, slot_pointer, slot_value}
 use Rattle.step_table.proofs.holding.Slots.{full_is}
-use Rattle.step_threads.specs.Courses.{CourseReady, DropsInTime, IsReady, MayComeNext, TasksMayCome, dropping, fitting}
+use Rattle.step_threads.specs.Courses.{CourseReady, DropsInTime, IsReady, MayComeNext, MayFollow, TasksMayCome, dropping, fitting}
 use Rattle.step_threads.specs.Courses.{hand, is_there, offered, other, placed, rest, taken_after}
 use Rattle.step_threads.specs.Courses.{task_at}
-use Rattle.step_threads.proofs.Courses.{IsFree, drop_ready, free_same, hand_plain, other_same, owed_by, owes_head, put_ready, ready_head, ready_same}
+use Rattle.step_threads.proofs.Courses.{drop_ready, free_same, hand_plain, owed_by, owes_head, put_ready, ready_head, ready_same}
 use Rattle.step_threads.proofs.Hands.{hand_ready}
 
 module _ (slots : Slots) (k : ℕ) (x : Slot) (some : 1 < length slots) (below : k < other slots) where
@@ -100,6 +98,10 @@ owner_at slots k n o o' found is same = ap (λ (i : ℕ). owner_slot (slot_point
 pub place_as : (slots : Slots) (j n : ℕ) (p q : Option Place) (field : Option Field) → q ≡ aliased field p → p ≡ place_in slots n → n ≡ j
     → q ≡ aliased field (place_in slots j)
 place_as slots j n p q field made at is = made ∙ ap (aliased field) (at ∙ ap (place_in slots) is)
+
+pub or_right : (a b : Bool) → b ≡ true → (a || b) ≡ true
+or_right true b e = refl
+or_right false b e = e
 
 -- a slot became another, and all are there still
 pub kept_slot : (slots l : Slots) (i n : ℕ) (x : Slot) → l ≡ set slots i x → n < length slots → n < length l
@@ -206,6 +208,51 @@ puts_ready c k lt ready act =
     put_ready k l true c.endings.list (rest c) (omega (arith, n, some)) (omega (arith, n, below)) (λ t. absurd (false≢true (sym t)))
     (⊎_elim (λ (e : slot_value slots (other slots) ≡ plain). inl (set_other slots k plain some below ∙ e)) inr owes)
     (ready_same slots l false (rest c) n (follows c (Put k) lt ready act))
+
+-- the slot behind the names is one, is not the hand, and is empty before an act that drops nothing
+pub other_in : (c : Course) → CourseReady c → (o : ℕ) → o ≡ other c.holdings.slots.items → o < length c.holdings.slots.items
+other_in c ready o is = let some = ready.some in omega (arith, some, is)
+
+pub apart_other : (c : Course) → CourseReady c → (h o : ℕ) → h ≡ hand c.holdings.slots.items → o ≡ other c.holdings.slots.items → h ≢ o
+apart_other c ready h o held is e = let some = ready.some in absurd (omega (arith, some, held, is, e))
+
+pub other_bare : (c : Course) (a : Act) → c.at < length c.tasks.items → CourseReady c → (task_at c).act ≡ a → (dropping (DropsInTime (rest c)) a → ⊥)
+    → (o : ℕ) → o ≡ other c.holdings.slots.items → slot_pointer c.holdings.slots.items o ≡ None
+other_bare c a lt ready act never o is = ap (slot_pointer c.holdings.slots.items) is ∙ ap pointer_of (owed_by c a lt ready act never)
+
+-- what comes out of a cell is to be dropped
+pub swaps_ready : (c : Course) (x : CellName) (y : Slot) → c.at < length c.tasks.items → CourseReady c → (task_at c).act ≡ Swap x
+    → IsReady (slots_swapped (hand c.holdings.slots.items) (other c.holdings.slots.items) c.holdings.slots.items y) false c.endings.list (rest c)
+swaps_ready c x y lt ready act =
+    let slots = c.holdings.slots.items in
+    let n = other slots in
+    let l = slots_swapped (hand slots) n slots y in
+    let m = length-set slots n y in
+    let e : length l ≡ length slots = length-set (set slots n y) (hand slots) plain ∙ m in
+    let some = ready.some in
+    record {
+      some = omega (arith, e, some);
+      free = λ t. inl (ap (λ (i : ℕ). slot_value l (i - 1)) e ∙ get_or-set_same (set slots n y) (hand slots) plain plain (omega (arith, m, some)));
+      owes = inr (subst (λ (a : Act). MayFollow a (rest c)) act (ready_head c lt ready).1);
+      ready = ready_same slots l false (rest c) e (follows c (Swap x) lt ready act);
+    }
+
+-- what is in hand is to be dropped, and another value in its place
+pub differs_ready : (c : Course) (k : ℕ) (x : CellName) (weak : Bool) (y : Slot) → c.at < length c.tasks.items → CourseReady c
+    → (task_at c).act ≡ Compare k x weak
+    → IsReady (differed (hand c.holdings.slots.items) (other c.holdings.slots.items) c.holdings.slots.items y) true c.endings.list (rest c)
+differs_ready c k x weak y lt ready act =
+    let slots = c.holdings.slots.items in
+    let z = slot_value slots (hand slots) in
+    let l = differed (hand slots) (other slots) slots y in
+    let e : length l ≡ length slots = length-set (set slots (other slots) z) (hand slots) y ∙ length-set slots (other slots) z in
+    let some = ready.some in
+    record {
+      some = omega (arith, e, some);
+      free = λ t. absurd (false≢true (sym t));
+      owes = inr (subst (λ (a : Act). MayFollow a (rest c)) act (ready_head c lt ready).1);
+      ready = ready_same slots l true (rest c) e (follows c (Compare k x weak) lt ready act);
+    }
 
 -- what is to be dropped leaves
 pub drops_ready : (c : Course) → c.at < length c.tasks.items → CourseReady c → (task_at c).act ≡ Drop

@@ -23,6 +23,7 @@ pub mod CompareTells
 pub mod LookFits
 pub mod LookSteps
 pub mod LoadFits
+pub mod Acting
 pub mod RefillFits
 pub mod holding
 pub mod ShelfSteps

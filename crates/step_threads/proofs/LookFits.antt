@@ -26,7 +26,7 @@ ClaimsNone h = (b : ℕ) → claimed h b ≡ 0
 
 module _ (d : ℕ) (t : Thread) (v : Story) (h h' : Half) (fits : FitsThread d t v) (was : t.half ≡ h) (none : ClaimsNone h) (none' : ClaimsNone h') where
   -- the stock is that of the same store
-  stocks_as : (w : Story) → (story_state w).stores ≡ (story_state v).stores → w.extent ≡ v.extent → Stocks d t.stock.blocks t.stock.room h' w
+  pub stocks_as : (w : Story) → (story_state w).stores ≡ (story_state v).stores → w.extent ≡ v.extent → Stocks d t.stock.blocks t.stock.room h' w
   stocks_as w same e =
       let s = fits.stocks in
       record {

@@ -1,8 +1,7 @@
-use Rattle.std.proofs.Common.{◌≡◌, ◌∙◌, ℕ, true, set, refl, sym, ap, subst}
+use Rattle.std.proofs.Common.{◌∙◌, ℕ, true, set, refl, sym, ap, subst}
 use Rattle.std.specs.Prelude.{None, Option, Some}
 use Rattle.control_word.specs.declared.place.Place.{Place}
 use Rattle.step_table.specs.Deeds.{alias, aliased, at_place}
-use Rattle.step_table.specs.declared.slots.holdings.Pointer.{Pointer}
 use Rattle.step_table.specs.declared.slots.slot.Slot.TheVariants.{Empty, Full}
 use Rattle.step_table.specs.Holdings.{Slots, is_full, place_in, slot_pointer}
 use Rattle.step_table.specs.Stories.{story_after_deed}

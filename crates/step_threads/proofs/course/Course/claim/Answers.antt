@@ -1,4 +1,4 @@
-use Rattle.std.proofs.Common.{◌≡◌, ◌∙◌, ℕ, true, set, refl, sym, ap, subst}
+use Rattle.std.proofs.Common.{◌∙◌, ℕ, true, set, refl, sym, ap, subst}
 use Rattle.control_word.specs.declared.model.handle.Kind.TheVariants.{Owner}
 use Rattle.control_word.specs.Events.{origin}
 use Rattle.step_table.specs.declared.slots.slot.Slot.TheVariants.{Full}

@@ -1,7 +1,6 @@
-use Rattle.std.proofs.Common.{◌≡◌, ◌∙◌, refl, sym, ap}
+use Rattle.std.proofs.Common.{◌∙◌, refl, sym, ap}
 use Rattle.std.specs.Prelude.{None, Some}
 use Rattle.step_table.specs.Deeds.{by_word, on, tell}
-use Rattle.step_table.specs.Holdings.{slot_pointer}
 use Rattle.step_table.specs.Stories.{story_state}
 use Rattle.step_threads.specs.declared.programs.act.Act.TheVariants.{Count}
 use Rattle.step_threads.specs.Courses.{done_on}

@@ -1,5 +1,5 @@
-use Rattle.std.proofs.Common.{◌≡◌, ◌∙◌, true, set, refl, sym, ap, subst}
-use Rattle.std.specs.Prelude.{None, Option, Some, option_map}
+use Rattle.std.proofs.Common.{◌∙◌, true, set, refl, sym, ap, subst}
+use Rattle.std.specs.Prelude.{None, Option, option_map}
 use Rattle.step_table.specs.declared.slots.holdings.Pointer.{Pointer}
 use Rattle.step_table.specs.Deeds.{as_weak, downgrade}
 use Rattle.step_table.specs.Holdings.{Slots, filled, is_full, slot_pointer}

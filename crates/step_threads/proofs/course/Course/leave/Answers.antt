@@ -1,4 +1,4 @@
-use Rattle.std.proofs.Common.{◌≡◌, ◌∙◌, ℕ, false, set, sym, ap, subst}
+use Rattle.std.proofs.Common.{◌∙◌, ℕ, false, set, sym, ap, subst}
 use Rattle.std.specs.Prelude.{None}
 use Rattle.step_table.specs.Deeds.{is_last, leave, on}
 use Rattle.step_table.specs.Holdings.{Slots, plain}

@@ -1,5 +1,5 @@
-use Rattle.std.proofs.Common.{◌≡◌, ◌∙◌, true, set, refl, sym, ap, subst}
-use Rattle.std.specs.Prelude.{None, Some}
+use Rattle.std.proofs.Common.{◌∙◌, true, set, refl, sym, ap, subst}
+use Rattle.std.specs.Prelude.{None}
 use Rattle.step_table.specs.Deeds.{share}
 use Rattle.step_table.specs.declared.slots.slot.Slot.{Slot}
 use Rattle.step_table.specs.Holdings.{Slots, is_full, slot_pointer, slot_value}

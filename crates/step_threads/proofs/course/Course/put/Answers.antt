@@ -1,4 +1,4 @@
-use Rattle.std.proofs.Common.{◌≡◌, ◌∙◌, false, sym, ap, subst}
+use Rattle.std.proofs.Common.{◌∙◌, false, sym, ap, subst}
 use Rattle.step_table.specs.Deeds.{is_last, leave, on}
 use Rattle.step_table.specs.Holdings.{Slots, is_full}
 use Rattle.step_table.specs.Stories.{story_state}

@@ -1,9 +1,9 @@
-use Rattle.std.proofs.Common.{◌≡◌, ◌∙◌, true, refl, sym, ap, subst}
-use Rattle.std.specs.Prelude.{None, Some}
+use Rattle.std.proofs.Common.{◌∙◌, true, refl, sym, ap, subst}
+use Rattle.std.specs.Prelude.{None}
 use Rattle.step_table.specs.Deeds.{share}
 use Rattle.step_table.specs.Holdings.{Slots, is_full, slot_pointer}
 use Rattle.step_threads.specs.declared.programs.act.Act.TheVariants.{Share}
-use Rattle.step_threads.specs.Courses.{IsReady, done_on, hand, rest, walk_settled}
+use Rattle.step_threads.specs.Courses.{IsReady, done_on, rest, walk_settled}
 use Rattle.step_threads.proofs.Going.{comes, empty_copy, found_at, full_copy, hand_bare, hand_in, named_slot, takes_ready}
 use Rattle.step_threads.proofs.course.Course.share.Goals as goal
 

@@ -1,15 +1,23 @@
-use Rattle.std.proofs.Common.{sym, ap, subst}
+use Rattle.std.proofs.Common.{sym, ap, subst, ◌≡◌, ◌∙◌, true, false, ◌==◌, cond}
 use Rattle.step_table.specs.declared.cell_steps.cell_deed.Cell.{Cell}
 use Rattle.step_table.specs.declared.cell_steps.comparing.Comparing.{Comparing}
 use Rattle.step_table.specs.declared.slots.holdings.Holdings.{Holdings}
 use Rattle.step_table.specs.CellDeeds.{kind_in_state}
-use Rattle.step_table.specs.Cells.{IsOpenTo}
-use Rattle.step_table.specs.Contents.{CanCompare}
-use Rattle.step_table.specs.Stories.{story_state}
-use Rattle.step_threads.specs.Courses.{HasCell, cell_of_name}
+use Rattle.step_table.specs.Cells.{IsOpenTo, word_of_cell}
+use Rattle.step_table.specs.Contents.{CanCompare, as_word, held_in, slot_of, compared_in, same_value, differed}
+use Rattle.step_table.specs.Stories.{story_state, story_after_deed}
+use Rattle.step_threads.specs.Courses.{HasCell, cell_of_name, IsReady, hand, other, rest, walk_settled}
 use Rattle.step_threads.specs.Programs.{IsIn}
-use Rattle.step_threads.proofs.CellNames.{cell_open}
+use Rattle.step_threads.proofs.CellNames.{cell_open, cell_named}
 use Rattle.step_threads.proofs.Compares.{can_compare, may_compare}
+use Rattle.step_table.specs.declared.memory.past.Deed.TheVariants.{OnCell}
+use Rattle.step_table.specs.Holdings.{Slots, slot_value}
+use Rattle.std.proofs.lemmas.Bool.{cond-true, false≢true}
+use Rattle.std.specs.Prelude.{Some}
+use Rattle.step_threads.specs.declared.programs.act.Act.TheVariants.{Compare}
+use Rattle.step_threads.proofs.Going.{comes, differs_ready}
+use Rattle.control_word.specs.Packing.{cell_bits}
+use Rattle.step_table.specs.declared.cell_steps.cell_deed.CellDeed.TheVariants.{Take}
 use Rattle.step_threads.proofs.course.Course.take_differing.Goals as goal
 
 pub take_differing-took-requires-clause-open : goal.take_differing-took-requires-clause-open
@@ -36,3 +44,92 @@ pub returns-else-took-clause-stays : goal.returns-else-took-clause-stays
 returns-else-took-clause-stays c = λ e.
     let t = c.args.self.now in
     ap (λ (h : Holdings). record { tasks = t.tasks; at = t.at; holdings = h; taken = t.taken; endings = t.endings }) (c.take_differing-took.ensures.stays e)
+
+pub cell-cell-requires-clause-named : goal.cell-cell-requires-clause-named
+cell-cell-requires-clause-named c =
+    let t = c.args.self.now in
+    let can = c.requires.can in
+    cell_named t.holdings.slots.items c.args.cell
+    (comes t (Compare c.args.name c.args.cell c.args.weak) can.within can.ready c.requires.act).1
+
+pub cell-cell-requires-clause-there : goal.cell-cell-requires-clause-there
+cell-cell-requires-clause-there c =
+    let can = c.requires.can in
+    (may_compare c.args.self.now c.args.name c.args.cell c.args.weak can.within can.ready c.requires.act can.still).0
+
+pub take_differing-took-requires-clause-differs : goal.take_differing-took-requires-clause-differs
+take_differing-took-requires-clause-differs c =
+    let v = c.args.table.now in
+    let t = c.args.self.now in
+    let slots = t.holdings.slots.items in
+    subst (λ (y : Comparing). same_value c.args.seen (as_word (slot_value slots y.expected)) ≡ false) (sym c.comparing-comparing.ensures) c.requires.differs
+
+pub take-requires-clause-ready : goal.take-requires-clause-ready
+take-requires-clause-ready c =
+    let v = c.args.table.now in
+    let t = c.args.self.now in
+    let slots = t.holdings.slots.items in
+    let s = story_state v in
+    let x = slot_of s (held_in s c.cell-cell.result) in
+    let e = c.take_differing-took.ensures.slots ∙ cond-true c.take_differing-took.result _ _ c.if-took.true
+    ∙ ap (λ (y : Comparing). differed y.new y.other slots x) c.comparing-comparing.ensures
+    ∙ ap (λ (y : Cell). differed (hand slots) (other slots) slots (slot_of s (held_in s y))) c.cell-cell.ensures in
+    subst (λ (l : Slots). IsReady l true t.endings.list (rest t)) (sym e)
+    (differs_ready t c.args.name c.args.cell c.args.weak _ c.requires.can.within c.requires.can.ready c.requires.act)
+
+pub returns-then-took-clause-same : goal.returns-then-took-clause-same
+returns-then-took-clause-same c = c.take_differing-took.ensures.same ∙ ap (λ (y : Cell). word_of_cell c.args.table.now y == cell_bits c.args.seen)
+    c.cell-cell.ensures
+
+pub returns-then-took-clause-table : goal.returns-then-took-clause-table
+returns-then-took-clause-table c =
+    let v = c.args.table.now in
+    let t = c.args.self.now in
+    let slots = t.holdings.slots.items in
+    let at = cell_of_name (story_state v) slots c.args.cell in
+    c.take_differing-took.ensures.table
+    ∙ ap (λ (y : Cell). cond c.take_differing-took.result (story_after_deed v c.args.desk (OnCell (Take y c.args.seen (Some (compared_in slots
+    c.comparing-comparing.result))))) v) c.cell-cell.ensures
+    ∙ ap (λ (y : Comparing). cond c.take_differing-took.result (story_after_deed v c.args.desk (OnCell (Take at c.args.seen (Some (compared_in slots
+    y))))) v) c.comparing-comparing.ensures
+
+pub returns-then-took-clause-stays : goal.returns-then-took-clause-stays
+returns-then-took-clause-stays c = λ q. absurd (false≢true (sym q ∙ c.if-took.true))
+
+pub returns-then-took-clause-walk : goal.returns-then-took-clause-walk
+returns-then-took-clause-walk c =
+    λ q.
+    let v = c.args.table.now in
+    let t = c.args.self.now in
+    let slots = t.holdings.slots.items in
+    let s = story_state v in
+    let x = slot_of s (held_in s c.cell-cell.result) in
+    let e = c.take_differing-took.ensures.slots ∙ cond-true c.take_differing-took.result _ _ c.if-took.true
+    ∙ ap (λ (y : Comparing). differed y.new y.other slots x) c.comparing-comparing.ensures
+    ∙ ap (λ (y : Cell). differed (hand slots) (other slots) slots (slot_of s (held_in s y))) c.cell-cell.ensures in
+    c.take.ensures.walk ∙ ap (λ (l : Slots). walk_settled l true t.endings.list (rest t)) e
+
+pub returns-then-took-clause-on : goal.returns-then-took-clause-on
+returns-then-took-clause-on c = λ q. c.take.ensures.on c.args.desk c.take_differing-took.new.table c.take_differing-took.ensures.holds
+
+pub returns-else-took-clause-same : goal.returns-else-took-clause-same
+returns-else-took-clause-same c = c.take_differing-took.ensures.same ∙ ap (λ (y : Cell). word_of_cell c.args.table.now y == cell_bits c.args.seen)
+    c.cell-cell.ensures
+
+pub returns-else-took-clause-table : goal.returns-else-took-clause-table
+returns-else-took-clause-table c =
+    let v = c.args.table.now in
+    let t = c.args.self.now in
+    let slots = t.holdings.slots.items in
+    let at = cell_of_name (story_state v) slots c.args.cell in
+    c.take_differing-took.ensures.table
+    ∙ ap (λ (y : Cell). cond c.take_differing-took.result (story_after_deed v c.args.desk (OnCell (Take y c.args.seen (Some (compared_in slots
+    c.comparing-comparing.result))))) v) c.cell-cell.ensures
+    ∙ ap (λ (y : Comparing). cond c.take_differing-took.result (story_after_deed v c.args.desk (OnCell (Take at c.args.seen (Some (compared_in slots
+    y))))) v) c.comparing-comparing.ensures
+
+pub returns-else-took-clause-walk : goal.returns-else-took-clause-walk
+returns-else-took-clause-walk c = λ q. absurd (false≢true (sym c.if-took.false ∙ q))
+
+pub returns-else-took-clause-on : goal.returns-else-took-clause-on
+returns-else-took-clause-on c = λ q. absurd (false≢true (sym c.if-took.false ∙ q))
