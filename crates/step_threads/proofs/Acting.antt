@@ -1,7 +1,7 @@
 -- How a thread makes the act that it is at, with no object that ends in its hands.
 use Rattle.std.proofs.Common.{◌≡◌, ℕ, ◌<◌, ◌==◌, Bool, true, false, cond, not, ◌&&◌, [], length, set, refl, sym, ap, subst, ◌∙◌, arith}
 use Rattle.std.proofs.lemmas.Bool.{cond-true, cond-false, eqb-false}
-use Rattle.std.specs.Prelude.{Option, Some, None, is_some, All}
+use Rattle.std.specs.Prelude.{Option, Some, None, is_some, option_map, All}
 use Rattle.control_word.specs.declared.packed.cell.CellWord.{CellWord}
 use Rattle.control_word.specs.declared.place.Block.{Block}
 use Rattle.control_word.specs.declared.model.view.Pending.TheVariants.{Idle}
@@ -12,9 +12,10 @@ use Rattle.step_table.specs.declared.cell_steps.cell_deed.Compared.{Compared}
 use Rattle.step_table.specs.declared.memory.past.Deed.{Deed}
 use Rattle.step_table.specs.declared.memory.past.Deed.TheVariants.{OnCell}
 use Rattle.step_table.specs.Contents.{as_word, compared_in, is_spent, same_value, seen}
-use Rattle.step_table.specs.Holdings.{slot_value}
+use Rattle.step_table.specs.Holdings.{is_full, slot_value}
 use Rattle.step_table.specs.Deeds.{by_word}
-use Rattle.step_table.specs.Stories.{Kept, Story, story_after_deed, pending, story_state}
+use Rattle.step_table.specs.Stories.{Kept, Story, event_of, story_after_deed, pending, story_state}
+use Rattle.step_table.specs.declared.slots.holdings.Pointer.{Pointer}
 use Rattle.step_threads.specs.declared.programs.act.Act.{Act}
 use Rattle.step_threads.specs.declared.programs.act.Act.TheVariants.{Compare, Load}
 use Rattle.step_threads.specs.declared.programs.call.CellName.{CellName}
@@ -27,7 +28,7 @@ use Rattle.step_threads.specs.declared.said.Stepped.{Stepped}
 use Rattle.step_threads.specs.declared.said.Stepped.TheVariants.{Event, Quiet, Waited}
 use Rattle.step_threads.specs.declared.thread.Thread.{Thread}
 use Rattle.step_threads.specs.Actors.{HalfFits}
-use Rattle.step_threads.specs.Courses.{CanAct, HasCell, cell_of_name, comparing, hand, is_there, rest, task_at, walk, walk_settled}
+use Rattle.step_threads.specs.Courses.{CanAct, HasCell, cell_of_name, comparing, done_on, hand, is_there, rest, task_at, walk, walk_settled}
 use Rattle.step_threads.specs.NextSteps.{deed_is_event, first, half_by, step_at, stepped, story_after, story_by, waits, waits_on, walk_by}
 use Rattle.step_threads.specs.Passing.{HasGoneOn}
 use Rattle.step_threads.specs.Rows.{Hands, said_by_row}
@@ -40,7 +41,7 @@ use Rattle.step_threads.proofs.CompareSteps.{answers, compared_walk, expected_to
 use Rattle.step_threads.proofs.Compares.{may_compare}
 use Rattle.step_threads.proofs.LookFits.{fits_half, stocks_as}
 use Rattle.step_threads.proofs.Named.{refusal_none, told_as, walked_by}
-use Rattle.step_threads.proofs.Steps.{at_act, stepped_as, waits_act}
+use Rattle.step_threads.proofs.Steps.{at_act, on_slot, says_on, stepped_as, waits_act}
 use Rattle.step_threads.proofs.Threads.{cell_here, cells_on, own_pending}
 use Rattle.step_threads.proofs.holding.Ends.{ends_gone}
 
@@ -222,6 +223,15 @@ module _ (d : ℕ) (t : Thread) (v : Story) (fits : FitsThread d t v) (rests : t
         → waits_on v (walk t.course) a ≡ false → r ≡ cond (deed_is_event v x) (Event said) (Quiet said) → v' ≡ story_after v d x
         → walk t'.course ≡ went (story_state v) d (walk t.course) number (rest t.course) a → t'.half ≡ h → HasStepped d t v r t' v'
     acts_as x h r t' v' = steps_as (step_of_act v d (walk t.course) number (rest t.course) a x h) r t' v'
+
+    -- the whole of an act on what a slot holds, by a deed that is an event
+    pub acts_on : (f : Pointer → Deed) (o : Option Pointer) (b : Bool) (y : Said) (r : Stepped) (t' : Thread) (v' : Story)
+        → first v d (walk t.course) number (rest t.course) a ≡ step_of_act v d (walk t.course) number (rest t.course) a (option_map f o) Rest
+        → waits_on v (walk t.course) a ≡ false → ((p : Pointer) → is_some (event_of (story_state v) (f p)) ≡ true)
+        → r ≡ cond b (Event y) (Quiet y) → b ≡ is_full o → y ≡ said → v' ≡ done_on f v d o
+        → walk t'.course ≡ went (story_state v) d (walk t.course) number (rest t.course) a → t'.half ≡ Rest → HasStepped d t v r t' v'
+    acts_on f o b y r t' v' is goes event answer full says story =
+        acts_as (option_map f o) Rest r t' v' is goes (says_on f v o r y said b event answer full says) (story ∙ on_slot f v d o)
 
     -- it waits
     pub waits_here : (s : Step) (t' : Thread) (v' : Story) → first v d (walk t.course) number (rest t.course) a ≡ s

@@ -24,6 +24,7 @@ pub mod LookFits
 pub mod LookSteps
 pub mod LoadFits
 pub mod Acting
+pub mod LockSteps
 pub mod RefillFits
 pub mod holding
 pub mod ShelfSteps

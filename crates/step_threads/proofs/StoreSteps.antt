@@ -47,7 +47,7 @@ module _ (d : ℕ) (t : Thread) (v : Story) (a : Act) (c : CellName) (i : ℕ) (
       let ts = rest t.course in
       step_sends e goes ∙ ap (λ (o : Option Pointer). Some (on (brings w n) (step_of_swap v d w n ts a c i) o)) at
 
-share_event : (v : Story) (x : Pointer) (k : Kind) → is_some (event_of (story_state v) (share_as k x)) ≡ true
+pub share_event : (v : Story) (x : Pointer) (k : Kind) → is_some (event_of (story_state v) (share_as k x)) ≡ true
 share_event v x Owner = refl
 share_event v x Weak = refl
 

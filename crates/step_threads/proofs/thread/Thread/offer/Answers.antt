@@ -9,6 +9,7 @@ use Rattle.step_threads.specs.declared.said.Stepped.TheVariants.{Event, Quiet}
 use Rattle.step_threads.specs.declared.said.Stepped.{Stepped}
 use Rattle.step_threads.specs.Steps.{silent}
 use Rattle.step_threads.proofs.StoreSteps.{step_offers}
+use Rattle.step_threads.proofs.Acting.{can_act}
 use Rattle.step_threads.proofs.thread.Thread.offer.Goals as goal
 
 pub returns-clause-fits : goal.returns-clause-fits
@@ -33,3 +34,13 @@ returns-clause-stepped c =
 
 pub refuse-requires-clause-act : goal.refuse-requires-clause-act
 refuse-requires-clause-act c = inr (c.args.name, inl c.requires.act)
+
+pub offer-event-requires-clause-can : goal.offer-event-requires-clause-can
+offer-event-requires-clause-can c =
+    let r = c.requires in can_act c.args.desk c.args.self.now c.args.table.now r.fits r.rest r.none r.within
+
+pub returns-then-not-is_there-clause-stepped : goal.returns-then-not-is_there-clause-stepped
+returns-then-not-is_there-clause-stepped c = c.refuse.ensures.stepped
+
+pub returns-then-not-is_there-clause-fits : goal.returns-then-not-is_there-clause-fits
+returns-then-not-is_there-clause-fits c = c.refuse.ensures.fits
