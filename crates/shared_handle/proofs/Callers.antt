@@ -8,7 +8,7 @@ use Rattle.control_word.specs.declared.model.handle.Handle.{Handle}
 use Rattle.control_word.specs.declared.model.handle.Kind.{Kind}
 use Rattle.control_word.specs.declared.place.Block.{Block}
 use Rattle.control_word.specs.declared.place.Place.{Place}
-use Rattle.control_block.specs.Desks.{DeskNow, KeepsEndings, bag_of}
+use Rattle.control_block.specs.Desks.{DeskNow, Keeps, KeepsEndings, bag_of}
 use Rattle.control_block.specs.Parting.{AreIn}
 use Rattle.control_block.specs.CellCalls.{HoldsHandle, with_handle, without_handle}
 use Rattle.shared_handle.specs.Endings.{EndsInHand}
@@ -72,3 +72,17 @@ module _ {V : Type 0} where
   ends_kept d e x keeps h =
       let s = keeps x.block.0 x.value h.ends in
       record { ends = s.ends; first = λ t. s.members 0 ∙ h.first t; next = λ t. s.members 1 ∙ h.next t; up = λ t. s.members 2 ∙ h.up t }
+
+  -- one call after another
+  pub kept_twice : (d e f : DeskNow V) → Keeps d e → Keeps e f → Keeps d f
+  kept_twice d e f a b =
+      record {
+        domain = b.domain ∙ a.domain;
+        shape = b.shape ∙ a.shape;
+        name = b.name ∙ a.name;
+        allowance = b.allowance ∙ a.allowance;
+        stock = b.stock ∙ a.stock;
+        endings = λ c x ends.
+            let s = a.endings c x ends in let t = b.endings c x s.ends in record { ends = t.ends; members = λ m. t.members m ∙ s.members m };
+        count = b.count ∙ a.count;
+      }

@@ -5,6 +5,7 @@ ghost use Rattle.control_block.specs.Desks.{Belongs, Keeps, allowance_of, bag_of
 ghost use Rattle.shared_handle.specs.Calls.{SharesWeakly, weak_place};
 ghost use Rattle.control_block.specs.CellCalls.{HoldsHandle, with_handle};
 
+use crate::making::no_object;
 use control_block::desk::Desk;
 use control_block::domain::Domain;
 use control_block::handles::Shared;
@@ -34,8 +35,7 @@ pub fn downgrade<V: Drop + Send>(
     ensures keeps { OnOk result (Keeps desk.old desk.new) }
 {
     let Some(block) = handle.block() else {
-        calls::count_empty(desk)?;
-        return Ok(handles::Weak::of_parts(None, None));
+        return no_object(desk);
     };
     calls::share_weak::<V, Brand>(domain, desk, block, handle.place())
 }

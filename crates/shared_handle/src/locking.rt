@@ -5,11 +5,12 @@ ghost use Rattle.control_block.specs.Desks.{Belongs, Keeps, allowance_of, bag_of
 ghost use Rattle.control_block.specs.CellCalls.{HoldsHandle, with_handle};
 ghost use Rattle.shared_handle.specs.Locks.{HasOwner, IsOwnerOf, IsUpgrade, LocksHandle, SawNoOwner};
 
+use crate::making::empty_at;
 use crate::pointers::weak_pointer;
 use control_block::desk::Desk;
 use control_block::domain::Domain;
 use control_block::handles::Shared;
-use control_block::{calls, handles, lock_calls};
+use control_block::{handles, lock_calls};
 use control_word::Refusal;
 use std::marker::Brand;
 use std::sync::Wait;
@@ -41,14 +42,15 @@ pub fn lock<V: Drop + Send, R: Wait>(
     ensures keeps { OnOk result (Keeps desk.old desk.new) }
 {
     let Some(of) = weak_pointer(handle) else {
-        calls::count_empty(desk)?;
-        return Ok(Shared::of_parts(None, None));
+        return empty_at(desk, None);
     };
     match lock_calls::lock::<V, Brand, R>(rt, domain, desk, of)? {
         Some(owner) => Ok(owner),
         None => {
-            calls::count_empty(desk)?;
-            Ok(Shared::of_parts(None, None))
+            let Ok(nothing) = empty_at(desk, None) else {
+                unreachable!()
+            };
+            Ok(nothing)
         }
     }
 }

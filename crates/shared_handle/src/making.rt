@@ -1,9 +1,10 @@
 //! Empty handles, and owners of new objects.
 ghost use Rattle.std.specs.Prelude.{◌≡◌, ◌↔◌, ◌+◌, [], ◌∷◌, false, length, true, IfErr, IfOk};
 ghost use Rattle.std.specs.Prelude.{IsErr, OnOk, None};
+ghost use Rattle.control_word.specs.Handles.{IsPointer};
 ghost use Rattle.control_word.specs.declared.model.handle.Kind.TheVariants.{Owner};
 ghost use Rattle.control_word.specs.declared.model.handle.Kind.TheVariants as kind;
-ghost use Rattle.control_block.specs.Desks.{Belongs, IsSameDesk, KeepsEndings, allowance_of, bag_of, endings_of};
+ghost use Rattle.control_block.specs.Desks.{Belongs, IsSameDesk, Keeps, KeepsEndings, allowance_of, bag_of, endings_of};
 ghost use Rattle.control_block.specs.Desks.{held_of, stock_of};
 ghost use Rattle.control_block.specs.Refusals.{IsFullOrLimit};
 ghost use Rattle.shared_handle.specs.Calls.{Makes, counting};
@@ -13,7 +14,7 @@ use control_block::calls;
 use control_block::desk::Desk;
 use control_block::domain::Domain;
 use control_block::handles::{Shared, Weak};
-use control_word::{Refusal, Refused};
+use control_word::{Place, Refusal, Refused};
 
 /// An empty shared pointer with a null place ([util.smartptr.shared.const]). It touches no word. It is refused `Limit`
 /// just where the desk is at its allowance, and then nothing changes.
@@ -25,8 +26,7 @@ pub fn empty<V: Drop + Send>(_domain: &Domain<V>, desk: &mut Desk<V>) -> Result<
     ensures counted { OnOk result (desk.new ≡ counting (desk.old.held + 1) desk.old) }
     ensures holds { IfOk result (λ h. HoldsHandle desk.new Owner h.block h.place) }
 {
-    calls::count_empty(desk)?;
-    Ok(Shared::of_parts(None, None))
+    empty_at(desk, None)
 }
 
 /// An empty weak pointer ([util.smartptr.weak.const]). It touches no word. It is refused `Limit` just where the desk is
@@ -38,6 +38,41 @@ pub fn empty_weak<V: Drop + Send>(_domain: &Domain<V>, desk: &mut Desk<V>) -> Re
     ensures handle { IfOk result (λ h. (h.block ≡ None) × (h.place ≡ None)) }
     ensures counted { OnOk result (desk.new ≡ counting (desk.old.held + 1) desk.old) }
     ensures holds { IfOk result (λ h. HoldsHandle desk.new kind.Weak h.block h.place) }
+{
+    no_object(desk)
+}
+
+/// An empty owner that points at a place. It touches no word.
+#[inline(always)]
+pub(crate) fn empty_at<V: Drop + Send>(
+    desk: &mut Desk<V>,
+    place: Option<Place>,
+) -> Result<Shared, Refusal>
+    requires place { IsPointer place }
+    ensures limit { IsErr result ↔ (held_of desk.old ≡ allowance_of desk.old) }
+    ensures refused { IfErr result (λ why. (why ≡ Refusal.Limit) × (desk.new ≡ desk.old)) }
+    ensures handle { IfOk result (λ h. (h.block ≡ None) × (h.place ≡ place)) }
+    ensures counted { OnOk result (desk.new ≡ counting (desk.old.held + 1) desk.old) }
+    ensures bag { OnOk result (bag_of desk.new ≡ bag_of desk.old) }
+    ensures held { OnOk result (desk.new.held ≡ desk.old.held + 1) }
+    ensures holds { IfOk result (λ h. HoldsHandle desk.new Owner h.block h.place) }
+    ensures keeps { OnOk result (Keeps desk.old desk.new) }
+{
+    calls::count_empty(desk)?;
+    Ok(Shared::of_parts(None, place))
+}
+
+/// A weak handle of no object, with a null place. It touches no word.
+#[inline(always)]
+pub(crate) fn no_object<V: Drop + Send>(desk: &mut Desk<V>) -> Result<Weak, Refusal>
+    ensures limit { IsErr result ↔ (held_of desk.old ≡ allowance_of desk.old) }
+    ensures refused { IfErr result (λ why. (why ≡ Refusal.Limit) × (desk.new ≡ desk.old)) }
+    ensures handle { IfOk result (λ h. (h.block ≡ None) × (h.place ≡ None)) }
+    ensures counted { OnOk result (desk.new ≡ counting (desk.old.held + 1) desk.old) }
+    ensures bag { OnOk result (bag_of desk.new ≡ bag_of desk.old) }
+    ensures held { OnOk result (desk.new.held ≡ desk.old.held + 1) }
+    ensures holds { IfOk result (λ h. HoldsHandle desk.new kind.Weak h.block h.place) }
+    ensures keeps { OnOk result (Keeps desk.old desk.new) }
 {
     calls::count_empty(desk)?;
     Ok(Weak::of_parts(None, None))

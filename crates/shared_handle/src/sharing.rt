@@ -7,6 +7,7 @@ ghost use Rattle.control_block.specs.CellCalls.{HoldsHandle, with_handle, withou
 ghost use Rattle.shared_handle.specs.Endings.{IsApart, IsLeft, more_ending};
 
 use crate::endings::{Ending, Left};
+use crate::making::empty_at;
 use crate::pointers::{owner_pointer, pointed};
 use control_block::calls;
 use control_block::desk::Desk;
@@ -36,8 +37,7 @@ pub(crate) fn share_to<V: Drop + Send>(
     ensures keeps { OnOk result (Keeps desk.old desk.new) }
 {
     let Some(of) = owner_pointer(handle) else {
-        calls::count_empty(desk)?;
-        return Ok(Shared::of_parts(None, place));
+        return empty_at(desk, place);
     };
     calls::share::<V, Brand>(domain, desk, of, place)
 }

@@ -27,16 +27,7 @@ impl<V: Drop + Send> Pile<V> {
         ensures held { desk.new.held ≡ desk.old.held }
         ensures desk { IsSameDesk desk.old desk.new }
     {
-        for _ in rt.forever() {
-            let Some(top) = self.endings.pop() else {
-                return;
-            };
-            match self.work_off(domain, desk, top) {
-                Some(value) => drop(value),
-                None => {}
-            }
-        }
-        unreachable!()
+        self.settle_with(rt, domain, desk, |value| drop(value));
     }
 
     /// The same, and `take` gets each value as it comes out (own).
