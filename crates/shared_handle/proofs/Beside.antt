@@ -1,5 +1,6 @@
 -- Objects that end beside each other in a desk's hands, one out of the other's member.
-use Rattle.std.proofs.Common.{◌≡◌, ◌≢◌, ◌++◌, ℕ, true, Option, None, Some, refl, sym, ap, subst, ◌∙◌}
+use Rattle.std.proofs.Common.{◌≡◌, ◌≢◌, ◌++◌, ℕ, true, cond, Option, None, Some, refl, sym, ap, subst, ◌∙◌}
+use Rattle.std.specs.Prelude.{is_some}
 use Rattle.control_word.proofs.history.Legal.{sound}
 use Rattle.control_word.proofs.lists.Tallies.{put_cases}
 use Rattle.control_word.specs.Events.{after, loses}
@@ -14,10 +15,10 @@ use Rattle.control_word.specs.declared.model.handle.Kind.TheVariants.{Owner}
 use Rattle.control_word.specs.declared.place.Block.{Block}
 use Rattle.control_word.specs.declared.place.Place.{Place}
 use Rattle.control_block.proofs.Endings.{fills_latest, fills_phase, not_live, still_ends}
-use Rattle.control_block.specs.Clearing.{Empties}
-use Rattle.control_block.specs.Desks.{AddsEvent, DeskNow, KeepsOtherEndings, latest_of, object_in, on_latest, state_of}
+use Rattle.control_block.specs.Clearing.{Empties, Lets}
+use Rattle.control_block.specs.Desks.{AddsEvent, DeskNow, IsEnding, KeepsOtherEndings, latest_of, object_in, on_latest, state_of}
 use Rattle.control_block.specs.Rule.{opening_of}
-use Rattle.shared_handle.specs.Endings.{ClearsUp, EndsInHand, IsApart, IsBeside, IsLeft}
+use Rattle.shared_handle.specs.Endings.{ClearsUp, EndsInHand, IsApart, IsBeside, IsLeft, IsLeftOf, more_ending}
 use Rattle.shared_handle.specs.declared.endings.Ending.{Ending}
 use Rattle.shared_handle.specs.declared.endings.Left.{Left}
 use Rattle.shared_handle.specs.declared.endings.Left.TheVariants.{Empty, Last, Others}
@@ -70,15 +71,47 @@ module _ {V : Type 0} where
   left_apart d e h p Others is b ends = _
   left_apart d e h p (Last x) is b ends = λ same. apart d e b x.block.0 p ends is.1 (sym same)
 
-  -- nor does what ends when a member is cleared
-  pub out_apart : (d e : DeskNow V) (b m : ℕ) (h : Option Block) (p : Option Place) (r : Option V) (c y : Block) (v : V)
-      → Empties d b m h p r e → h ≡ Some c → r ≡ Some v → y ≡ c → (k : ℕ) → (object_in d k).phase ≡ ending d.name → y.0 ≢ k
-  out_apart d e b m None p r c y v out is last same k ends = absurd (cc is)
-  out_apart d e b m (Some a) p None c y v out is last same k ends = absurd (cc last)
-  out_apart d e b m (Some a) p (Some w) c y v out is last same k ends =
-      let between = out.between in let one : y ≡ a = same ∙ sym (cc is) in
-      λ here. apart between e k a.0 p (ends_through_clear d between k _ m _ ends out.takes.event) out.lets.0
-      (sym here ∙ ap (λ (i : Block). i.0) one)
+  -- what came of an owner that left, by the value that came out
+  pub left_of : (d e : DeskNow V) (h : Option Block) (p : Option Place) (r : Option V) (left : Left V) → Lets d h p r e → IsLeftOf h r left
+      → IsLeft d h p left e
+  left_of d e None p r Empty lets is = (refl, lets.1)
+  left_of d e None p r Others lets is = absurd (cc is.1)
+  left_of d e None p r (Last x) lets is = absurd (cc is.0)
+  left_of d e (Some c) p r Empty lets is = absurd (cc is)
+  left_of d e (Some c) p None Others lets is = (c, refl, lets.0)
+  left_of d e (Some c) p (Some v) Others lets is = absurd (cc is.2)
+  left_of d e (Some c) p None (Last x) lets is = absurd (cc is.1)
+  left_of d e (Some c) p (Some v) (Last x) lets (one, two, un) =
+      let same : c ≡ x.block = cc one in let value : v ≡ x.value = cc two in (
+        one,
+        subst (λ (k : Block). AddsEvent d (Leave (on_latest d Owner p k.0) true) e) same lets.0,
+        record {
+          ends = subst (λ (k : Block). IsEnding e k.0 x.value) same (subst (IsEnding e c.0) value lets.1);
+          first = λ t. let n = un.0 in absurd (cc);
+          next = λ t. let n = un.1 in absurd (cc);
+          up = λ t. let n = un.2 in absurd (cc);
+        },
+        un,
+      )
+
+  -- and how many more end for it
+  pub more_of : (d e : DeskNow V) (h : Option Block) (p : Option Place) (r : Option V) (left : Left V) → Lets d h p r e → IsLeftOf h r left
+      → cond (is_some r) 1 0 ≡ more_ending left
+  more_of d e None p r Empty lets is = ap (λ (x : Option V). cond (is_some x) 1 0) lets.0
+  more_of d e None p r Others lets is = absurd (cc is.1)
+  more_of d e None p r (Last x) lets is = absurd (cc is.0)
+  more_of d e (Some c) p r Empty lets is = absurd (cc is)
+  more_of d e (Some c) p None Others lets is = refl
+  more_of d e (Some c) p (Some v) Others lets is = absurd (cc is.2)
+  more_of d e (Some c) p None (Last x) lets is = absurd (cc is.1)
+  more_of d e (Some c) p (Some v) (Last x) lets is = refl
+
+  -- what ends when a member is cleared lies in no such block either
+  pub out_apart : (d e : DeskNow V) (b m : ℕ) (h : Option Block) (p : Option Place) (r : Option V) (left : Left V) → Empties d b m h p r e
+      → IsLeftOf h r left → IsApart d left
+  out_apart d e b m h p r left out is k ends =
+      left_apart out.between e h p left (left_of out.between e h p r left out.lets is) k
+      (ends_through_clear d out.between k _ m _ ends out.takes.event)
 
   -- and a weak pointer was no owner
   pub up_beside : (d e : DeskNow V) (x : Ending V) (left : Left V) → ClearsUp d x left e → (b : ℕ) → IsBeside b left

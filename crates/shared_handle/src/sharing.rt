@@ -6,7 +6,7 @@ ghost use Rattle.shared_handle.specs.Calls.{MayGive, SharesOwner, pointed};
 ghost use Rattle.control_block.specs.CellCalls.{HoldsHandle, with_handle, without_handle};
 ghost use Rattle.shared_handle.specs.Endings.{IsApart, IsLeft, more_ending};
 
-use crate::endings::{Ending, Left};
+use crate::endings::Left;
 use crate::making::empty_at;
 use crate::pointers::{owner_pointer, pointed};
 use control_block::calls;
@@ -115,8 +115,6 @@ pub fn release<V: Drop + Send>(domain: &Domain<V>, desk: &mut Desk<V>, handle: S
         block,
         place,
     };
-    match calls::leave::<V, Brand>(domain, desk, of) {
-        None => Left::Others,
-        Some(value) => Left::Last(Ending::begin(block, value)),
-    }
+    let value = calls::leave::<V, Brand>(domain, desk, of);
+    Left::of_parts(Some(block), value)
 }

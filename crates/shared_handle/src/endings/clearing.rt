@@ -30,13 +30,7 @@ impl<V: Drop + Send> Ending<V> {
         ensures apart { IsApart desk.old result }
     {
         let (held, value) = clear_calls::clear_shared(domain, desk, self.block, member);
-        let Some(block) = held.block else {
-            return Left::Empty;
-        };
-        match value {
-            None => Left::Others,
-            Some(value) => Left::Last(Ending::begin(block, value)),
-        }
+        Left::of_parts(held.block, value)
     }
 
     // The weak member is emptied.

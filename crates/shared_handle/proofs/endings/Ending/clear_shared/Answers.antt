@@ -1,11 +1,30 @@
-use Rattle.shared_handle.proofs.Beside.{out_apart}
+use Rattle.std.proofs.Common.{ap, ◌+◌, ◌∙◌}
+use Rattle.control_block.specs.Desks.{endings_of}
+use Rattle.shared_handle.proofs.Beside.{left_of, more_of, out_apart}
 use Rattle.shared_handle.proofs.endings.Ending.clear_shared.Goals as goal
 
-pub returns-in-Some-value-clause-apart : goal.returns-in-Some-value-clause-apart
-returns-in-Some-value-clause-apart g c =
-    let out = c.clear_shared-value in
-    out_apart c.args.desk.now out.new.desk c.args.self.now.block.0 c.args.member out.result.0.block out.result.0.place out.result.1 c.in-Some.block
-    c.begin.result.block c.in-Some-value.value out.ensures.emptied c.in-Some.is c.in-Some-value.is c.begin.ensures.0
+pub returns-clause-clears : goal.returns-clause-clears
+returns-clause-clears g c =
+    let out = c.clear_shared-value in let r = out.result in let e = out.ensures.emptied in
+    record {
+      block = r.0.block;
+      place = r.0.place;
+      between = e.between;
+      takes = e.takes;
+      leaves = left_of e.between out.new.desk r.0.block r.0.place r.1 c.of_parts.result e.lets c.of_parts.ensures;
+    }
 
-pub returns-in-Some-value-clause-beside : goal.returns-in-Some-value-clause-beside
-returns-in-Some-value-clause-beside g c = returns-in-Some-value-clause-apart g c c.args.self.now.block.0 c.requires.ends.ends.phase
+pub returns-clause-count : goal.returns-clause-count
+returns-clause-count g c =
+    let out = c.clear_shared-value in let r = out.result in let e = out.ensures.emptied in
+    out.ensures.count ∙ ap (λ n. endings_of c.args.desk.now + n)
+    (more_of e.between out.new.desk r.0.block r.0.place r.1 c.of_parts.result e.lets c.of_parts.ensures)
+
+pub returns-clause-apart : goal.returns-clause-apart
+returns-clause-apart g c =
+    let out = c.clear_shared-value in let r = out.result in
+    out_apart c.args.desk.now out.new.desk c.args.self.now.block.0 c.args.member r.0.block r.0.place r.1 c.of_parts.result out.ensures.emptied
+    c.of_parts.ensures
+
+pub returns-clause-beside : goal.returns-clause-beside
+returns-clause-beside g c = returns-clause-apart g c c.args.self.now.block.0 c.requires.ends.ends.phase
