@@ -2,6 +2,7 @@ pub mod Others
 pub mod Hands
 pub mod Latest
 pub mod Sites
+pub mod Kept
 pub mod Rows
 pub mod Frames
 pub mod Lives

@@ -11,6 +11,8 @@ use Rattle.scene_structures.proofs.Adopting.{these_node}
 use Rattle.scene_structures.proofs.Detached.{sought_later}
 use Rattle.scene_structures.proofs.Sites.{cell_these, open_same, these_both}
 use Rattle.scene_structures.proofs.Others.{others_both, others_none}
+use Rattle.std.proofs.Common.{arith}
+use Rattle.scene_structures.proofs.Kept.{same_then, held_from}
 use Rattle.scene_structures.proofs.lists.cutting.cut.Goals as goal
 
 pub loop-init : goal.loop-init
@@ -58,3 +60,37 @@ returns-in-Some-try_cut-clause-own g c =
 
 pub returns-in-Some-try_cut-clause-others : goal.returns-in-Some-try_cut-clause-others
 returns-in-Some-try_cut-clause-others g c = others_both c.loop.invariant.others c.try_cut.ensures.others
+
+pub try_cut-requires-clause-room : goal.try_cut-requires-clause-room
+try_cut-requires-clause-room g c κs within =
+    let room = c.requires.room in let held = c.loop.invariant.held in let same = c.loop.invariant.same.allowance in omega arith
+
+pub try_cut-requires-clause-carries : goal.try_cut-requires-clause-carries
+try_cut-requires-clause-carries g c κs within = c.loop.invariant.carries
+
+pub try_cut-requires-clause-empty : goal.try_cut-requires-clause-empty
+try_cut-requires-clause-empty g c κs within = c.loop.invariant.none
+
+pub try_cut-requires-clause-node : goal.try_cut-requires-clause-node
+try_cut-requires-clause-node g c κs within = c.requires.node
+
+pub returns-in-Some-try_cut-clause-carries : goal.returns-in-Some-try_cut-clause-carries
+returns-in-Some-try_cut-clause-carries g c = c.in-Some-try_cut.ensures.carries
+
+pub returns-in-Some-try_cut-clause-none : goal.returns-in-Some-try_cut-clause-none
+returns-in-Some-try_cut-clause-none g c = c.in-Some-try_cut.ensures.none
+
+pub returns-in-Some-try_cut-clause-desk : goal.returns-in-Some-try_cut-clause-desk
+returns-in-Some-try_cut-clause-desk g c = same_then c.loop.invariant.same c.in-Some-try_cut.ensures.desk
+
+pub returns-in-Some-try_cut-clause-held : goal.returns-in-Some-try_cut-clause-held
+returns-in-Some-try_cut-clause-held g c =
+    held_from c.args.desk.now c.loop.desk c.try_cut.new.desk c.in-Some-try_cut.sought c.loop.invariant.held c.in-Some-try_cut.ensures.held
+
+pub returns-in-Some-try_cut-clause-bag : goal.returns-in-Some-try_cut-clause-bag
+returns-in-Some-try_cut-clause-bag g c base has = c.in-Some-try_cut.ensures.bag base (c.loop.invariant.bag base has)
+
+pub returns-in-Some-try_cut-clause-latest : goal.returns-in-Some-try_cut-clause-latest
+returns-in-Some-try_cut-clause-latest g c base has =
+    let i = c.loop.invariant in
+    these_both c.args.desk.now c.loop.desk c.try_cut.new.desk base (i.latest base has) (c.in-Some-try_cut.ensures.latest base (i.bag base has))

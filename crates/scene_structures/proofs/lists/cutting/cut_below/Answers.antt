@@ -12,6 +12,8 @@ use Rattle.scene_structures.proofs.Hands.{first_lists, hands_second, lists_under
 use Rattle.scene_structures.proofs.Pruned.{Left, hands_below, left_holds, open_next}
 use Rattle.scene_structures.proofs.Pushes.{same_left}
 use Rattle.scene_structures.proofs.Others.{others_both, others_none}
+use Rattle.scene_structures.proofs.Kept.{same_then}
+use Rattle.scene_structures.proofs.Looks.{no_member}
 use Rattle.scene_structures.proofs.lists.cutting.cut_below.Goals as goal
 
 pub loop-init : goal.loop-init
@@ -133,3 +135,54 @@ returns-in-Cut-clause-others g c = others_both c.loop.invariant.others (others_b
 
 pub returns-in-End-clause-others : goal.returns-in-End-clause-others
 returns-in-End-clause-others g c = others_both c.loop.invariant.others (others_both c.cut-sought.ensures.others c.let_go.ensures.others)
+
+pub cut-sought-requires-clause-room : goal.cut-sought-requires-clause-room
+cut-sought-requires-clause-room g c κs within =
+    let room = c.requires.room in let held = c.loop.invariant.held in let same = c.loop.invariant.same.allowance in omega arith
+
+pub cut-sought-requires-clause-carries : goal.cut-sought-requires-clause-carries
+cut-sought-requires-clause-carries g c κs within = c.loop.invariant.carries
+
+pub cut-sought-requires-clause-empty : goal.cut-sought-requires-clause-empty
+cut-sought-requires-clause-empty g c κs within = c.loop.invariant.none
+
+pub cut-sought-requires-clause-node : goal.cut-sought-requires-clause-node
+cut-sought-requires-clause-node g c κs within = c.requires.node
+
+pub let_go-requires-clause-carries : goal.let_go-requires-clause-carries
+let_go-requires-clause-carries g c κs within = c.cut-sought.ensures.carries
+
+pub unreachable-requires : goal.unreachable-requires
+unreachable-requires g c =
+    let before = c.loop.before in
+    no_member _ before.block before.place c.member.result c.member.ensures c.in_default.not-Ok c.loop.invariant.node
+
+pub returns-in-Cut-clause-carries : goal.returns-in-Cut-clause-carries
+returns-in-Cut-clause-carries g c = c.let_go.ensures.carries
+
+pub returns-in-Cut-clause-none : goal.returns-in-Cut-clause-none
+returns-in-Cut-clause-none g c = c.let_go.ensures.none
+
+pub returns-in-Cut-clause-desk : goal.returns-in-Cut-clause-desk
+returns-in-Cut-clause-desk g c = same_then c.loop.invariant.same (same_then c.cut-sought.ensures.desk c.let_go.ensures.desk)
+
+pub returns-in-Cut-clause-held : goal.returns-in-Cut-clause-held
+returns-in-Cut-clause-held g c =
+    let l = c.loop.desk in let m = c.cut-sought in let t = m.new.desk in
+    let one = subst (λ (s : Sought). HeldSought l s t) c.in-Cut.is m.ensures.held in let two = c.let_go.ensures.held in let three = c.loop.invariant.held in
+    omega arith
+
+pub returns-in-End-clause-carries : goal.returns-in-End-clause-carries
+returns-in-End-clause-carries g c = c.let_go.ensures.carries
+
+pub returns-in-End-clause-none : goal.returns-in-End-clause-none
+returns-in-End-clause-none g c = c.let_go.ensures.none
+
+pub returns-in-End-clause-desk : goal.returns-in-End-clause-desk
+returns-in-End-clause-desk g c = same_then c.loop.invariant.same (same_then c.cut-sought.ensures.desk c.let_go.ensures.desk)
+
+pub returns-in-End-clause-held : goal.returns-in-End-clause-held
+returns-in-End-clause-held g c =
+    let l = c.loop.desk in let m = c.cut-sought in let t = m.new.desk in
+    let one = subst (λ (s : Sought). HeldSought l s t) c.in-End.is m.ensures.held in let two = c.let_go.ensures.held in let three = c.loop.invariant.held in
+    omega arith

@@ -15,6 +15,13 @@ use Rattle.scene_structures.proofs.Hands.{first_lists, hands_first, hands_given,
 use Rattle.scene_structures.proofs.Pushes.{differs_back, differs_bag, differs_event, differs_held, same_node, swapped_bag, swapped_event, swapped_held}
 use Rattle.scene_structures.proofs.Sites.{cell_these, open_now, these_after, these_both, these_over}
 use Rattle.scene_structures.proofs.Others.{others_both, others_call}
+use Rattle.std.proofs.Common.{refl, sym, arith}
+use Rattle.scene_structures.proofs.Kept.{same_call, same_then, carries_call, granted, unrefused}
+use Rattle.scene_structures.proofs.Hands.{holds_second}
+use Rattle.scene_structures.proofs.Pruned.{hands_below, open_next}
+use Rattle.scene_structures.proofs.Looks.{no_member}
+use Rattle.scene_structures.specs.Hands.{stacked}
+use Rattle.control_block.specs.CellCalls.{HoldsHandle}
 use Rattle.scene_structures.proofs.lists.cutting.skip.Goals as goal
 
 pub compare_exchange_weak-requires-clause-cell : goal.compare_exchange_weak-requires-clause-cell
@@ -117,3 +124,140 @@ returns-in-Ok-Differs-clause-others g c =
     (others_both (others_call _ c.in-Ok-Differs.ensures.keeps)
     (others_both c.let_go-in-Ok-Differs.ensures.others
     (others_both c.let_go-in-Ok-Differs-2.ensures.others c.let_go-in-Ok-Differs-3.ensures.others)))
+
+pub compare_exchange_weak-requires-clause-holds : goal.compare_exchange_weak-requires-clause-holds
+compare_exchange_weak-requires-clause-holds g c κs within =
+    let d = c.args.desk.now in let m = c.load.new.desk in let t = c.in-Ok-load.ensures in let below = c.in-Ok-load.below in let node = c.args.node in
+    let base = c.requires.bag.0 in
+    let h = hands_got d m base below (node ∷ []) c.requires.bag.1 t.bag t.held in
+    (holds_second m base below node [] h, holds_first m base below (node ∷ []) h)
+
+pub let_go-requires-clause-carries : goal.let_go-requires-clause-carries
+let_go-requires-clause-carries g c κs within =
+    carries_call (carries_call c.requires.carries c.in-Ok-load.ensures.keeps) c.in-Ok-Swapped.ensures.keeps
+
+pub let_go-requires-clause-holds : goal.let_go-requires-clause-holds
+let_go-requires-clause-holds g c κs within =
+    let d = c.args.desk.now in let m = c.load.new.desk in let u = c.compare_exchange_weak.new.desk in
+    let t = c.in-Ok-load.ensures in let below = c.in-Ok-load.below in let node = c.args.node in let x = c.in-Ok-Swapped in
+    let base = c.requires.bag.0 in
+    let h = hands_got d m base below (node ∷ []) c.requires.bag.1 t.bag t.held in
+    holds_first u base x.old (node ∷ []) (hands_given m u base below x.old (node ∷ []) h
+    (swapped_bag m u below x.field-0 x.old x.field-0-is x.ensures.bag) (swapped_held m u below x.field-0 x.old x.field-0-is x.ensures.held))
+
+pub let_go-requires-in-Ok-Swapped-clause-carries : goal.let_go-requires-in-Ok-Swapped-clause-carries
+let_go-requires-in-Ok-Swapped-clause-carries g c κs within = c.let_go.ensures.carries
+
+pub returns-in-Ok-Swapped-clause-carries : goal.returns-in-Ok-Swapped-clause-carries
+returns-in-Ok-Swapped-clause-carries g c = c.let_go-in-Ok-Swapped.ensures.carries
+
+pub returns-in-Ok-Swapped-clause-none : goal.returns-in-Ok-Swapped-clause-none
+returns-in-Ok-Swapped-clause-none g c = c.let_go-in-Ok-Swapped.ensures.none
+
+pub returns-in-Ok-Swapped-clause-desk : goal.returns-in-Ok-Swapped-clause-desk
+returns-in-Ok-Swapped-clause-desk g c =
+    same_then (same_call c.in-Ok-load.ensures.keeps)
+    (same_then (same_call c.in-Ok-Swapped.ensures.keeps) (same_then c.let_go.ensures.desk c.let_go-in-Ok-Swapped.ensures.desk))
+
+pub returns-in-Ok-Swapped-clause-held : goal.returns-in-Ok-Swapped-clause-held
+returns-in-Ok-Swapped-clause-held g c =
+    let x = c.in-Ok-Swapped in
+    let one = c.in-Ok-load.ensures.held in
+    let two = swapped_held c.load.new.desk c.compare_exchange_weak.new.desk c.in-Ok-load.below x.field-0 x.old x.field-0-is x.ensures.held in
+    let three = c.let_go.ensures.held in let four = c.let_go-in-Ok-Swapped.ensures.held in omega arith
+
+pub returns-in-Ok-Swapped-clause-bag : goal.returns-in-Ok-Swapped-clause-bag
+returns-in-Ok-Swapped-clause-bag g c base has =
+    let d = c.args.desk.now in let m = c.load.new.desk in let u = c.compare_exchange_weak.new.desk in let f = c.let_go.new.desk in
+    let t = c.in-Ok-load.ensures in let below = c.in-Ok-load.below in let node = c.args.node in let x = c.in-Ok-Swapped in
+    let h = hands_got d m base below (node ∷ []) has t.bag t.held in
+    let i = hands_given m u base below x.old (node ∷ []) h (swapped_bag m u below x.field-0 x.old x.field-0-is x.ensures.bag)
+    (swapped_held m u below x.field-0 x.old x.field-0-is x.ensures.held) in
+    let j = hands_first u f base x.old (node ∷ []) i c.let_go.ensures.bag c.let_go.ensures.held in
+    hands_first f c.let_go-in-Ok-Swapped.new.desk base node [] j c.let_go-in-Ok-Swapped.ensures.bag c.let_go-in-Ok-Swapped.ensures.held
+
+pub let_go-requires-in-Ok-Differs-clause-carries : goal.let_go-requires-in-Ok-Differs-clause-carries
+let_go-requires-in-Ok-Differs-clause-carries g c κs within =
+    carries_call (carries_call c.requires.carries c.in-Ok-load.ensures.keeps) c.in-Ok-Differs.ensures.keeps
+
+pub let_go-requires-in-Ok-Differs-clause-holds : goal.let_go-requires-in-Ok-Differs-clause-holds
+let_go-requires-in-Ok-Differs-clause-holds g c κs within =
+    let d = c.args.desk.now in let m = c.load.new.desk in let u = c.compare_exchange_weak.new.desk in
+    let t = c.in-Ok-load.ensures in let below = c.in-Ok-load.below in let node = c.args.node in let x = c.in-Ok-Differs in
+    let base = c.requires.bag.0 in
+    let h = hands_got d m base below (node ∷ []) c.requires.bag.1 t.bag t.held in
+    let i = hands_got m u base x.held (below ∷ node ∷ []) h (differs_bag m u below x.field-0 x.held x.desired x.field-0-is x.ensures.bag)
+    (differs_held m u below x.field-0 x.held x.desired x.field-0-is x.ensures.held) in
+    subst (λ (n : Shared). HoldsHandle u Owner n.block n.place) (sym (differs_back m u below x.field-0 x.held x.desired x.field-0-is x.ensures.back))
+    (holds_second u base x.held below (node ∷ []) i)
+
+pub let_go-requires-in-Ok-Differs-2-clause-carries : goal.let_go-requires-in-Ok-Differs-2-clause-carries
+let_go-requires-in-Ok-Differs-2-clause-carries g c κs within = c.let_go-in-Ok-Differs.ensures.carries
+
+pub let_go-requires-in-Ok-Differs-2-clause-holds : goal.let_go-requires-in-Ok-Differs-2-clause-holds
+let_go-requires-in-Ok-Differs-2-clause-holds g c κs within =
+    let d = c.args.desk.now in let m = c.load.new.desk in let u = c.compare_exchange_weak.new.desk in let e = c.let_go-in-Ok-Differs in
+    let t = c.in-Ok-load.ensures in let below = c.in-Ok-load.below in let node = c.args.node in let x = c.in-Ok-Differs in
+    let base = c.requires.bag.0 in
+    let h = hands_got d m base below (node ∷ []) c.requires.bag.1 t.bag t.held in
+    let i = hands_got m u base x.held (below ∷ node ∷ []) h (differs_bag m u below x.field-0 x.held x.desired x.field-0-is x.ensures.bag)
+    (differs_held m u below x.field-0 x.held x.desired x.field-0-is x.ensures.held) in
+    let back = differs_back m u below x.field-0 x.held x.desired x.field-0-is x.ensures.back in
+    let bag = subst (λ (n : Shared). bag_of e.new.desk ≡ without_handle Owner n.block n.place (bag_of u)) back e.ensures.bag in
+    holds_first e.new.desk base x.held (node ∷ []) (hands_second u e.new.desk base x.held below (node ∷ []) i bag e.ensures.held)
+
+pub let_go-requires-in-Ok-Differs-3-clause-carries : goal.let_go-requires-in-Ok-Differs-3-clause-carries
+let_go-requires-in-Ok-Differs-3-clause-carries g c κs within = c.let_go-in-Ok-Differs-2.ensures.carries
+
+pub returns-in-Ok-Differs-clause-carries : goal.returns-in-Ok-Differs-clause-carries
+returns-in-Ok-Differs-clause-carries g c = c.let_go-in-Ok-Differs-3.ensures.carries
+
+pub returns-in-Ok-Differs-clause-none : goal.returns-in-Ok-Differs-clause-none
+returns-in-Ok-Differs-clause-none g c = c.let_go-in-Ok-Differs-3.ensures.none
+
+pub returns-in-Ok-Differs-clause-desk : goal.returns-in-Ok-Differs-clause-desk
+returns-in-Ok-Differs-clause-desk g c =
+    same_then (same_call c.in-Ok-load.ensures.keeps)
+    (same_then (same_call c.in-Ok-Differs.ensures.keeps)
+    (same_then c.let_go-in-Ok-Differs.ensures.desk (same_then c.let_go-in-Ok-Differs-2.ensures.desk c.let_go-in-Ok-Differs-3.ensures.desk)))
+
+pub returns-in-Ok-Differs-clause-held : goal.returns-in-Ok-Differs-clause-held
+returns-in-Ok-Differs-clause-held g c =
+    let x = c.in-Ok-Differs in
+    let one = c.in-Ok-load.ensures.held in
+    let two = differs_held c.load.new.desk c.compare_exchange_weak.new.desk c.in-Ok-load.below x.field-0 x.held x.desired x.field-0-is x.ensures.held in
+    let three = c.let_go-in-Ok-Differs.ensures.held in let four = c.let_go-in-Ok-Differs-2.ensures.held in
+    let five = c.let_go-in-Ok-Differs-3.ensures.held in omega arith
+
+pub returns-in-Ok-Differs-clause-bag : goal.returns-in-Ok-Differs-clause-bag
+returns-in-Ok-Differs-clause-bag g c base has =
+    let d = c.args.desk.now in let m = c.load.new.desk in let u = c.compare_exchange_weak.new.desk in
+    let e = c.let_go-in-Ok-Differs in let f = c.let_go-in-Ok-Differs-2 in let v = c.let_go-in-Ok-Differs-3 in
+    let t = c.in-Ok-load.ensures in let below = c.in-Ok-load.below in let node = c.args.node in let x = c.in-Ok-Differs in
+    let h = hands_got d m base below (node ∷ []) has t.bag t.held in
+    let i = hands_got m u base x.held (below ∷ node ∷ []) h (differs_bag m u below x.field-0 x.held x.desired x.field-0-is x.ensures.bag)
+    (differs_held m u below x.field-0 x.held x.desired x.field-0-is x.ensures.held) in
+    let back = differs_back m u below x.field-0 x.held x.desired x.field-0-is x.ensures.back in
+    let bag = subst (λ (n : Shared). bag_of e.new.desk ≡ without_handle Owner n.block n.place (bag_of u)) back e.ensures.bag in
+    let j = hands_second u e.new.desk base x.held below (node ∷ []) i bag e.ensures.held in
+    let k = hands_first e.new.desk f.new.desk base x.held (node ∷ []) j f.ensures.bag f.ensures.held in
+    hands_first f.new.desk v.new.desk base node [] k v.ensures.bag v.ensures.held
+
+pub load-requires-clause-cell : goal.load-requires-clause-cell
+load-requires-clause-cell g c κs within =
+    let b = c.requires.bag in let node = c.args.node in
+    open_now c.args.desk.now c.args.desk.now.shape (stacked (node ∷ []) b.0) [] c.in-Ok.member.site refl
+    (hands_below c.args.desk.now b.0 node b.1) (open_next b.0 node c.in-Ok.member c.args.desk.now.shape c.in-Ok.ensures)
+
+pub unreachable-requires : goal.unreachable-requires
+unreachable-requires g c =
+    let node = c.args.node in no_member _ node.block node.place c.member.result c.member.ensures c.in_default.not-Ok c.requires.node
+
+pub unreachable-requires-in_default-load : goal.unreachable-requires-in_default-load
+unreachable-requires-in_default-load g c =
+    let room = c.requires.room in granted c.args.desk.now c.load.result c.load.ensures.limit (omega arith) c.in_default-load.not-Ok
+
+pub unreachable-requires-in-Err : goal.unreachable-requires-in-Err
+unreachable-requires-in-Err g c =
+    let room = c.requires.room in let held = c.in-Ok-load.ensures.held in let same = c.in-Ok-load.ensures.keeps.allowance in
+    unrefused c.load.new.desk c.compare_exchange_weak.result _ c.compare_exchange_weak.ensures.limit (omega arith) c.in-Err.is

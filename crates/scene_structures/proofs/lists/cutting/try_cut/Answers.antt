@@ -11,6 +11,9 @@ use Rattle.scene_structures.proofs.Hands.{first_lists, lists_under}
 use Rattle.scene_structures.proofs.Looks.{legal_after}
 use Rattle.scene_structures.proofs.Sites.{cell_these}
 use Rattle.scene_structures.proofs.Others.{others_both}
+use Rattle.std.proofs.Common.{arith}
+use Rattle.scene_structures.proofs.Kept.{same_then}
+use Rattle.scene_structures.proofs.Sites.{open_same, these_both}
 use Rattle.scene_structures.proofs.lists.cutting.try_cut.Goals as goal
 
 pub returns-then-not-is_same-clause-own : goal.returns-then-not-is_same-clause-own
@@ -45,3 +48,64 @@ returns-then-skip-clause-others g c = others_both c.find.ensures.others c.skip.e
 
 pub returns-else-skip-clause-others : goal.returns-else-skip-clause-others
 returns-else-skip-clause-others g c = others_both c.find.ensures.others c.skip.ensures.others
+
+pub skip-requires-clause-bag : goal.skip-requires-clause-bag
+skip-requires-clause-bag g c κs within =
+    let b = c.requires.bag in let f = c.in-Some.ensures in
+    (b.0, f.bag b.0 b.1, open_same c.args.desk.now c.find.new.desk b.0 c.args.at.now.site f.desk.shape b.2)
+
+pub skip-requires-clause-room : goal.skip-requires-clause-room
+skip-requires-clause-room g c κs within =
+    let room = c.requires.room in let held = c.in-Some.ensures.held in let same = c.in-Some.ensures.desk.allowance in omega arith
+
+pub returns-in-None-clause-latest : goal.returns-in-None-clause-latest
+returns-in-None-clause-latest g c base has = c.in-None.ensures.latest base has
+
+pub returns-then-not-is_same-clause-latest : goal.returns-then-not-is_same-clause-latest
+returns-then-not-is_same-clause-latest g c base has = c.in-Some.ensures.latest base has
+
+pub returns-then-not-is_same-clause-bag : goal.returns-then-not-is_same-clause-bag
+returns-then-not-is_same-clause-bag g c base has = c.in-Some.ensures.bag base has
+
+pub returns-then-not-is_same-clause-held : goal.returns-then-not-is_same-clause-held
+returns-then-not-is_same-clause-held g c = c.in-Some.ensures.held
+
+pub returns-then-skip-clause-carries : goal.returns-then-skip-clause-carries
+returns-then-skip-clause-carries g c = c.skip.ensures.carries
+
+pub returns-then-skip-clause-none : goal.returns-then-skip-clause-none
+returns-then-skip-clause-none g c = c.skip.ensures.none
+
+pub returns-then-skip-clause-desk : goal.returns-then-skip-clause-desk
+returns-then-skip-clause-desk g c = same_then c.in-Some.ensures.desk c.skip.ensures.desk
+
+pub returns-then-skip-clause-held : goal.returns-then-skip-clause-held
+returns-then-skip-clause-held g c = let one = c.in-Some.ensures.held in let two = c.skip.ensures.held in omega arith
+
+pub returns-then-skip-clause-bag : goal.returns-then-skip-clause-bag
+returns-then-skip-clause-bag g c base has = c.skip.ensures.bag base (c.in-Some.ensures.bag base has)
+
+pub returns-then-skip-clause-latest : goal.returns-then-skip-clause-latest
+returns-then-skip-clause-latest g c base has =
+    let f = c.in-Some.ensures in let s = c.skip in
+    these_both c.args.desk.now c.find.new.desk s.new.desk base (f.latest base has) (s.ensures.latest base (f.bag base has))
+
+pub returns-else-skip-clause-carries : goal.returns-else-skip-clause-carries
+returns-else-skip-clause-carries g c = c.skip.ensures.carries
+
+pub returns-else-skip-clause-none : goal.returns-else-skip-clause-none
+returns-else-skip-clause-none g c = c.skip.ensures.none
+
+pub returns-else-skip-clause-desk : goal.returns-else-skip-clause-desk
+returns-else-skip-clause-desk g c = same_then c.in-Some.ensures.desk c.skip.ensures.desk
+
+pub returns-else-skip-clause-held : goal.returns-else-skip-clause-held
+returns-else-skip-clause-held g c = let one = c.in-Some.ensures.held in let two = c.skip.ensures.held in omega arith
+
+pub returns-else-skip-clause-bag : goal.returns-else-skip-clause-bag
+returns-else-skip-clause-bag g c base has = c.skip.ensures.bag base (c.in-Some.ensures.bag base has)
+
+pub returns-else-skip-clause-latest : goal.returns-else-skip-clause-latest
+returns-else-skip-clause-latest g c base has =
+    let f = c.in-Some.ensures in let s = c.skip in
+    these_both c.args.desk.now c.find.new.desk s.new.desk base (f.latest base has) (s.ensures.latest base (f.bag base has))

@@ -1,6 +1,10 @@
 use Rattle.std.proofs.Common.{refl, ◌∙◌}
 use Rattle.shared_handle.proofs.Piles.{same_both, same_desk}
 use Rattle.scene_structures.proofs.Others.{others_both, others_none}
+use Rattle.std.proofs.Common.{◌<◌}
+use Rattle.control_word.specs.declared.shape.Shape.{Shape}
+use Rattle.std.proofs.Common.{sym, subst, arith}
+use Rattle.scene_structures.proofs.Kept.{same_then}
 use Rattle.scene_structures.proofs.lists.popping.take.Goals as goal
 
 pub loop-init : goal.loop-init
@@ -31,11 +35,42 @@ loop-preserved g c =
 pub try_pop-requires-clause-bag : goal.try_pop-requires-clause-bag
 try_pop-requires-clause-bag g c κs within = (c.requires.bag.0, c.loop.invariant.bag c.requires.bag.0 c.requires.bag.1)
 
-pub returns-in-Found-clause-own : goal.returns-in-Found-clause-own
-returns-in-Found-clause-own g c = λ d l. c.in-Found.ensures.own d (c.loop.invariant.own d l)
+pub try_pop-requires-clause-cell : goal.try_pop-requires-clause-cell
+try_pop-requires-clause-cell g c κs within =
+    subst (λ (z : Shape). c.args.cell < z.shared_cells) (sym c.loop.invariant.same.shape) c.requires.cell
 
-pub returns-in-Took-clause-others : goal.returns-in-Took-clause-others
-returns-in-Took-clause-others g c = others_both c.loop.invariant.others c.try_pop.ensures.others
+pub try_pop-requires-clause-carries : goal.try_pop-requires-clause-carries
+try_pop-requires-clause-carries g c κs within = c.loop.invariant.carries
 
-pub returns-in-Found-clause-others : goal.returns-in-Found-clause-others
-returns-in-Found-clause-others g c = others_both c.loop.invariant.others c.try_pop.ensures.others
+pub try_pop-requires-clause-empty : goal.try_pop-requires-clause-empty
+try_pop-requires-clause-empty g c κs within = c.loop.invariant.none
+
+pub try_pop-requires-clause-room : goal.try_pop-requires-clause-room
+try_pop-requires-clause-room g c κs within =
+    let room = c.requires.room in let held = c.loop.invariant.held in let same = c.loop.invariant.same.allowance in omega arith
+
+pub returns-in-Found : goal.returns-in-Found
+returns-in-Found g c =
+    let i = c.loop.invariant in let e = c.in-Found.ensures in
+    record {
+      carries = e.carries;
+      others = others_both i.others e.others;
+      none = e.none;
+      desk = same_then i.same e.desk;
+      bag = λ base has. e.bag base (i.bag base has);
+      held = e.held ∙ i.held;
+      own = λ d l. e.own d (i.own d l);
+    }
+
+pub returns-in-Took : goal.returns-in-Took
+returns-in-Took g c =
+    let i = c.loop.invariant in let e = c.in-Took.ensures in
+    record {
+      carries = e.carries;
+      others = others_both i.others e.others;
+      none = e.none;
+      desk = same_then i.same e.desk;
+      bag = λ base has. e.bag base (i.bag base has);
+      held = e.held ∙ i.held;
+      own = λ d l. e.own d (i.own d l);
+    }

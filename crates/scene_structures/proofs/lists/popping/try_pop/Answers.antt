@@ -17,6 +17,12 @@ use Rattle.scene_structures.proofs.Pushes.{differs_back, differs_bag, differs_ev
 use Rattle.scene_structures.proofs.Pushes.{swapped_held}
 use Rattle.shared_handle.proofs.Goings.{does_both}
 use Rattle.scene_structures.proofs.Others.{others_both, others_call}
+use Rattle.std.proofs.Common.{◌<◌, sym, arith}
+use Rattle.scene_structures.proofs.Kept.{same_call, same_then, carries_call, granted, unrefused, open_held}
+use Rattle.scene_structures.proofs.Hands.{holds_first}
+use Rattle.control_block.specs.CellCalls.{HoldsHandle}
+use Rattle.atomic_cells.specs.Sites.{IsOpenSite}
+use Rattle.control_word.specs.declared.shape.Shape.{Shape}
 use Rattle.scene_structures.proofs.lists.popping.try_pop.Goals as goal
 
 pub returns-in_default-clause-own : goal.returns-in_default-clause-own
@@ -94,3 +100,106 @@ returns-in-Ok-Differs-clause-others g c =
     others_both (others_call _ c.in-Ok-load.ensures.keeps)
     (others_both (others_call _ c.in-Ok-Differs.ensures.keeps)
     (others_both c.let_go-in-Ok-Differs.ensures.others c.let_go-in-Ok-Differs-2.ensures.others))
+
+pub load-requires-clause-cell : goal.load-requires-clause-cell
+load-requires-clause-cell g c κs within =
+    let base = c.requires.bag in
+    open_held c.args.desk.now c.args.top c.in-Ok.next _ c.in-Ok.ensures (holds_first c.args.desk.now base.0 c.args.top [] base.1)
+
+pub let_go-requires-clause-holds : goal.let_go-requires-clause-holds
+let_go-requires-clause-holds g c κs within = holds_first c.args.desk.now c.requires.bag.0 c.args.top [] c.requires.bag.1
+
+pub compare_exchange_weak-requires-clause-cell : goal.compare_exchange_weak-requires-clause-cell
+compare_exchange_weak-requires-clause-cell g c κs within =
+    subst (IsOpenSite c.load.new.desk) (sym c.free-at.ensures)
+    (subst (λ (z : Shape). c.args.cell < z.shared_cells) (sym c.in-Ok-load.ensures.keeps.shape) c.requires.cell)
+
+pub compare_exchange_weak-requires-clause-holds : goal.compare_exchange_weak-requires-clause-holds
+compare_exchange_weak-requires-clause-holds g c κs within =
+    let d = c.args.desk.now in let m = c.load.new.desk in let t = c.in-Ok-load.ensures in let b = c.in-Ok-load.below in let top = c.args.top in
+    let base = c.requires.bag.0 in let h = hands_got d m base b (top ∷ []) c.requires.bag.1 t.bag t.held in
+    (holds_second m base b top [] h, holds_first m base b (top ∷ []) h)
+
+pub let_go-requires-in-Ok-Swapped-clause-carries : goal.let_go-requires-in-Ok-Swapped-clause-carries
+let_go-requires-in-Ok-Swapped-clause-carries g c κs within =
+    carries_call (carries_call c.requires.carries c.in-Ok-load.ensures.keeps) c.in-Ok-Swapped.ensures.keeps
+
+pub let_go-requires-in-Ok-Swapped-clause-holds : goal.let_go-requires-in-Ok-Swapped-clause-holds
+let_go-requires-in-Ok-Swapped-clause-holds g c κs within =
+    let d = c.args.desk.now in let m = c.load.new.desk in let t = c.in-Ok-load.ensures in let b = c.in-Ok-load.below in let top = c.args.top in
+    let u = c.compare_exchange_weak.new.desk in let x = c.in-Ok-Swapped in let base = c.requires.bag.0 in
+    let h = hands_got d m base b (top ∷ []) c.requires.bag.1 t.bag t.held in
+    holds_first u base x.old (top ∷ []) (hands_given m u base b x.old (top ∷ []) h (swapped_bag m u b x.field-0 x.old x.field-0-is x.ensures.bag)
+    (swapped_held m u b x.field-0 x.old x.field-0-is x.ensures.held))
+
+pub let_go-requires-in-Ok-Differs-clause-carries : goal.let_go-requires-in-Ok-Differs-clause-carries
+let_go-requires-in-Ok-Differs-clause-carries g c κs within =
+    carries_call (carries_call c.requires.carries c.in-Ok-load.ensures.keeps) c.in-Ok-Differs.ensures.keeps
+
+pub let_go-requires-in-Ok-Differs-clause-holds : goal.let_go-requires-in-Ok-Differs-clause-holds
+let_go-requires-in-Ok-Differs-clause-holds g c κs within =
+    let d = c.args.desk.now in let m = c.load.new.desk in let t = c.in-Ok-load.ensures in let b = c.in-Ok-load.below in let top = c.args.top in
+    let u = c.compare_exchange_weak.new.desk in let x = c.in-Ok-Differs in let base = c.requires.bag.0 in
+    let h = hands_got d m base b (top ∷ []) c.requires.bag.1 t.bag t.held in
+    let i = hands_got m u base x.held (b ∷ top ∷ []) h (differs_bag m u b x.field-0 x.held x.desired x.field-0-is x.ensures.bag)
+    (differs_held m u b x.field-0 x.held x.desired x.field-0-is x.ensures.held) in
+    subst (λ (n : Shared). HoldsHandle u Owner n.block n.place) (sym (differs_back m u b x.field-0 x.held x.desired x.field-0-is x.ensures.back))
+    (holds_second u base x.held b (top ∷ []) i)
+
+pub let_go-requires-in-Ok-Differs-2-clause-carries : goal.let_go-requires-in-Ok-Differs-2-clause-carries
+let_go-requires-in-Ok-Differs-2-clause-carries g c κs within = c.let_go-in-Ok-Differs.ensures.carries
+
+pub returns-in_default-clause-bag : goal.returns-in_default-clause-bag
+returns-in_default-clause-bag g c base has =
+    hands_first c.args.desk.now c.let_go.new.desk base c.args.top [] has c.let_go.ensures.bag c.let_go.ensures.held
+
+pub returns-in-Ok-Swapped-clause-carries : goal.returns-in-Ok-Swapped-clause-carries
+returns-in-Ok-Swapped-clause-carries g c = c.let_go-in-Ok-Swapped.ensures.carries
+
+pub returns-in-Ok-Swapped-clause-none : goal.returns-in-Ok-Swapped-clause-none
+returns-in-Ok-Swapped-clause-none g c = c.let_go-in-Ok-Swapped.ensures.none
+
+pub returns-in-Ok-Swapped-clause-desk : goal.returns-in-Ok-Swapped-clause-desk
+returns-in-Ok-Swapped-clause-desk g c =
+    same_then (same_call c.in-Ok-load.ensures.keeps) (same_then (same_call c.in-Ok-Swapped.ensures.keeps) c.let_go-in-Ok-Swapped.ensures.desk)
+
+pub returns-in-Ok-Swapped-clause-held : goal.returns-in-Ok-Swapped-clause-held
+returns-in-Ok-Swapped-clause-held g c =
+    let x = c.in-Ok-Swapped in let m = c.load.new.desk in let u = c.compare_exchange_weak.new.desk in
+    let one = c.in-Ok-load.ensures.held in let two = swapped_held m u c.in-Ok-load.below x.field-0 x.old x.field-0-is x.ensures.held in
+    let three = c.let_go-in-Ok-Swapped.ensures.held in omega arith
+
+pub returns-in-Ok-Swapped-clause-bag : goal.returns-in-Ok-Swapped-clause-bag
+returns-in-Ok-Swapped-clause-bag g c base has =
+    let d = c.args.desk.now in let m = c.load.new.desk in let t = c.in-Ok-load.ensures in let b = c.in-Ok-load.below in let top = c.args.top in
+    let u = c.compare_exchange_weak.new.desk in let x = c.in-Ok-Swapped in let f = c.let_go-in-Ok-Swapped in
+    let h = hands_got d m base b (top ∷ []) has t.bag t.held in
+    let i = hands_given m u base b x.old (top ∷ []) h (swapped_bag m u b x.field-0 x.old x.field-0-is x.ensures.bag)
+    (swapped_held m u b x.field-0 x.old x.field-0-is x.ensures.held) in
+    hands_first u f.new.desk base x.old (top ∷ []) i f.ensures.bag f.ensures.held
+
+pub returns-in-Ok-Differs-clause-carries : goal.returns-in-Ok-Differs-clause-carries
+returns-in-Ok-Differs-clause-carries g c = c.let_go-in-Ok-Differs-2.ensures.carries
+
+pub returns-in-Ok-Differs-clause-none : goal.returns-in-Ok-Differs-clause-none
+returns-in-Ok-Differs-clause-none g c = c.let_go-in-Ok-Differs-2.ensures.none
+
+pub returns-in-Ok-Differs-clause-desk : goal.returns-in-Ok-Differs-clause-desk
+returns-in-Ok-Differs-clause-desk g c =
+    same_then (same_call c.in-Ok-load.ensures.keeps)
+    (same_then (same_call c.in-Ok-Differs.ensures.keeps) (same_then c.let_go-in-Ok-Differs.ensures.desk c.let_go-in-Ok-Differs-2.ensures.desk))
+
+pub returns-in-Ok-Differs-clause-held : goal.returns-in-Ok-Differs-clause-held
+returns-in-Ok-Differs-clause-held g c =
+    let x = c.in-Ok-Differs in let m = c.load.new.desk in let u = c.compare_exchange_weak.new.desk in
+    let one = c.in-Ok-load.ensures.held in let two = differs_held m u c.in-Ok-load.below x.field-0 x.held x.desired x.field-0-is x.ensures.held in
+    let three = c.let_go-in-Ok-Differs.ensures.held in let four = c.let_go-in-Ok-Differs-2.ensures.held in omega arith
+
+pub unreachable-requires : goal.unreachable-requires
+unreachable-requires g c =
+    let room = c.requires.room in granted c.args.desk.now c.load.result c.load.ensures.limit (omega arith) c.in_default-load.not-Ok
+
+pub unreachable-requires-in-Err : goal.unreachable-requires-in-Err
+unreachable-requires-in-Err g c =
+    let room = c.requires.room in let held = c.in-Ok-load.ensures.held in let same = c.in-Ok-load.ensures.keeps.allowance in
+    unrefused c.load.new.desk c.compare_exchange_weak.result _ c.compare_exchange_weak.ensures.limit (omega arith) c.in-Err.is

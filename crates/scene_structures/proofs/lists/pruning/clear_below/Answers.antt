@@ -9,6 +9,8 @@ use Rattle.scene_structures.proofs.Hands.{first_lists, hands_first, hands_second
 use Rattle.scene_structures.proofs.Pushes.{same_left}
 use Rattle.scene_structures.proofs.Pruned.{Left, descends, hands_below, left_holds, left_in_hand, open_next}
 use Rattle.scene_structures.proofs.Others.{others_both, others_none}
+use Rattle.scene_structures.proofs.Kept.{same_then}
+use Rattle.scene_structures.proofs.Looks.{no_member}
 use Rattle.scene_structures.proofs.lists.pruning.clear_below.Goals as goal
 
 pub loop-init : goal.loop-init
@@ -105,3 +107,35 @@ loop-preserved g c =
 
 pub returns-in-None-last-clause-others : goal.returns-in-None-last-clause-others
 returns-in-None-last-clause-others g c = others_both c.loop.invariant.others (others_both c.clear_front-more.ensures.others c.let_go.ensures.others)
+
+pub clear_front-more-requires-clause-room : goal.clear_front-more-requires-clause-room
+clear_front-more-requires-clause-room g c κs within =
+    let room = c.requires.room in let held = c.loop.invariant.held in let same = c.loop.invariant.same.allowance in omega arith
+
+pub clear_front-more-requires-clause-carries : goal.clear_front-more-requires-clause-carries
+clear_front-more-requires-clause-carries g c κs within = c.loop.invariant.carries
+
+pub clear_front-more-requires-clause-empty : goal.clear_front-more-requires-clause-empty
+clear_front-more-requires-clause-empty g c κs within = c.loop.invariant.none
+
+pub let_go-requires-clause-carries : goal.let_go-requires-clause-carries
+let_go-requires-clause-carries g c κs within = c.clear_front-more.ensures.carries
+
+pub unreachable-requires : goal.unreachable-requires
+unreachable-requires g c =
+    let node = c.loop.node in no_member _ node.block node.place c.member.result c.member.ensures c.in_default.not-Ok c.loop.invariant.node
+
+pub returns-in-None-last-clause-carries : goal.returns-in-None-last-clause-carries
+returns-in-None-last-clause-carries g c = c.let_go.ensures.carries
+
+pub returns-in-None-last-clause-none : goal.returns-in-None-last-clause-none
+returns-in-None-last-clause-none g c = c.let_go.ensures.none
+
+pub returns-in-None-last-clause-desk : goal.returns-in-None-last-clause-desk
+returns-in-None-last-clause-desk g c = same_then c.loop.invariant.same (same_then c.clear_front-more.ensures.desk c.let_go.ensures.desk)
+
+pub returns-in-None-last-clause-held : goal.returns-in-None-last-clause-held
+returns-in-None-last-clause-held g c =
+    let l = c.loop.desk in let m = c.clear_front-more in let t = m.new.desk in
+    let one = subst (λ (h : Option Shared). MatchOption h (t.held ≡ l.held) (λ k. t.held ≡ l.held + 1)) c.in-None-last.is m.ensures.held in
+    let two = c.let_go.ensures.held in let three = c.loop.invariant.held in omega arith

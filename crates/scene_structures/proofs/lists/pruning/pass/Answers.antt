@@ -11,6 +11,9 @@ use Rattle.scene_structures.proofs.Hands.{hands_first, hands_given, hands_got}
 use Rattle.scene_structures.proofs.Pruned.{passes}
 use Rattle.scene_structures.proofs.Sites.{cell_these, open_now, these_after, these_both, these_over}
 use Rattle.scene_structures.proofs.Others.{others_both, others_call}
+use Rattle.std.proofs.Common.{arith}
+use Rattle.scene_structures.proofs.Kept.{same_call, same_then, carries_call, granted, open_held}
+use Rattle.scene_structures.proofs.Hands.{holds_first}
 use Rattle.scene_structures.proofs.lists.pruning.pass.Goals as goal
 
 pub exchange-old-requires-clause-cell : goal.exchange-old-requires-clause-cell
@@ -56,3 +59,43 @@ returns-clause-others g c =
     others_both (others_call _ c.in-Ok-load.ensures.keeps)
     (others_both (others_call _ c.exchange-old.ensures.keeps)
     (others_both c.let_go.ensures.others c.let_go-2.ensures.others))
+
+pub load-requires-clause-cell : goal.load-requires-clause-cell
+load-requires-clause-cell g c κs within =
+    let b = c.requires.bag in let node = c.args.node in
+    open_held c.args.desk.now node c.in-Ok.member _ c.in-Ok.ensures (holds_first c.args.desk.now b.0 node [] b.1)
+
+pub let_go-requires-clause-carries : goal.let_go-requires-clause-carries
+let_go-requires-clause-carries g c κs within =
+    carries_call (carries_call c.requires.carries c.in-Ok-load.ensures.keeps) c.exchange-old.ensures.keeps
+
+pub let_go-requires-2-clause-carries : goal.let_go-requires-2-clause-carries
+let_go-requires-2-clause-carries g c κs within = c.let_go.ensures.carries
+
+pub let_go-requires-2-clause-holds : goal.let_go-requires-2-clause-holds
+let_go-requires-2-clause-holds g c κs within =
+    let d = c.args.desk.now in let m = c.load.new.desk in let u = c.exchange-old.new.desk in let f = c.let_go.new.desk in
+    let t = c.in-Ok-load.ensures in let next = c.in-Ok-load.next in let old = c.exchange-old.result in let node = c.args.node in
+    let x = c.exchange-old.ensures in let base = c.requires.bag.0 in
+    let h = hands_given m u base next old (node ∷ []) (hands_got d m base next (node ∷ []) c.requires.bag.1 t.bag t.held) x.bag x.held in
+    holds_first f base node [] (hands_first u f base old (node ∷ []) h c.let_go.ensures.bag c.let_go.ensures.held)
+
+pub returns-clause-carries : goal.returns-clause-carries
+returns-clause-carries g c = c.let_go-2.ensures.carries
+
+pub returns-clause-none : goal.returns-clause-none
+returns-clause-none g c = c.let_go-2.ensures.none
+
+pub returns-clause-desk : goal.returns-clause-desk
+returns-clause-desk g c =
+    same_then (same_call c.in-Ok-load.ensures.keeps)
+    (same_then (same_call c.exchange-old.ensures.keeps) (same_then c.let_go.ensures.desk c.let_go-2.ensures.desk))
+
+pub returns-clause-held : goal.returns-clause-held
+returns-clause-held g c =
+    let one = c.in-Ok-load.ensures.held in let two = c.exchange-old.ensures.held in let three = c.let_go.ensures.held in
+    let four = c.let_go-2.ensures.held in omega arith
+
+pub unreachable-requires-in_default-load : goal.unreachable-requires-in_default-load
+unreachable-requires-in_default-load g c =
+    let room = c.requires.room in granted c.args.desk.now c.load.result c.load.ensures.limit (omega arith) c.in_default-load.not-Ok

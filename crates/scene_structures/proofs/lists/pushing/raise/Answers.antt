@@ -14,6 +14,8 @@ use Rattle.scene_structures.proofs.Sites.{cell_these, open_same, these_both}
 use Rattle.shared_handle.proofs.Goings.{does_both, does_none}
 use Rattle.shared_handle.proofs.Piles.{same_both, same_desk}
 use Rattle.scene_structures.proofs.Others.{others_both, others_none}
+use Rattle.std.proofs.Common.{arith}
+use Rattle.scene_structures.proofs.Kept.{same_then}
 use Rattle.scene_structures.proofs.lists.pushing.raise.Goals as goal
 
 pub loop-init : goal.loop-init
@@ -73,3 +75,25 @@ returns-in-None-try_push-clause-latest g c base has =
 
 pub returns-in-None-try_push-clause-others : goal.returns-in-None-try_push-clause-others
 returns-in-None-try_push-clause-others g c = others_both c.loop.invariant.others c.try_push.ensures.others
+
+pub try_push-requires-clause-room : goal.try_push-requires-clause-room
+try_push-requires-clause-room g c κs within =
+    let room = c.requires.room in let held = c.loop.invariant.held in let same = c.loop.invariant.same.allowance in omega arith
+
+pub try_push-requires-clause-carries : goal.try_push-requires-clause-carries
+try_push-requires-clause-carries g c κs within = c.loop.invariant.carries
+
+pub returns-in-None-try_push-clause-carries : goal.returns-in-None-try_push-clause-carries
+returns-in-None-try_push-clause-carries g c = c.in-None-try_push.ensures.carries
+
+pub returns-in-None-try_push-clause-none : goal.returns-in-None-try_push-clause-none
+returns-in-None-try_push-clause-none g c = c.in-None-try_push.ensures.none
+
+pub returns-in-None-try_push-clause-desk : goal.returns-in-None-try_push-clause-desk
+returns-in-None-try_push-clause-desk g c = same_then c.loop.invariant.same c.in-None-try_push.ensures.desk
+
+pub returns-in-None-try_push-clause-held : goal.returns-in-None-try_push-clause-held
+returns-in-None-try_push-clause-held g c = let one = c.in-None-try_push.ensures.held in let two = c.loop.invariant.held in omega arith
+
+pub returns-in-None-try_push-clause-bag : goal.returns-in-None-try_push-clause-bag
+returns-in-None-try_push-clause-bag g c base has = c.in-None-try_push.ensures.bag base (c.loop.invariant.bag base has)

@@ -5,6 +5,8 @@ use Rattle.scene_structures.specs.Walks.{told_of}
 use Rattle.scene_structures.proofs.Hands.{holds_first}
 use Rattle.scene_structures.proofs.Walks.{folded, looked_none, walks_on}
 use Rattle.scene_structures.proofs.Others.{others_both, others_none}
+use Rattle.std.proofs.Common.{◌+◌, arith}
+use Rattle.scene_structures.proofs.Kept.{same_then}
 use Rattle.scene_structures.proofs.lists.walking.walk.Goals as goal
 
 pub loop-init : goal.loop-init
@@ -92,3 +94,28 @@ returns-in-End-clause-own g c =
 
 pub returns-in-End-clause-others : goal.returns-in-End-clause-others
 returns-in-End-clause-others g c = others_both c.loop.invariant.others c.visit.ensures.others
+
+pub visit-requires-clause-room : goal.visit-requires-clause-room
+visit-requires-clause-room g c κs within =
+    let room = c.requires.room in let held = c.loop.invariant.held in let same = c.loop.invariant.same.allowance in omega arith
+
+pub visit-requires-clause-carries : goal.visit-requires-clause-carries
+visit-requires-clause-carries g c κs within = c.loop.invariant.carries
+
+pub visit-requires-clause-empty : goal.visit-requires-clause-empty
+visit-requires-clause-empty g c κs within = c.loop.invariant.none
+
+pub returns-in-End-clause-carries : goal.returns-in-End-clause-carries
+returns-in-End-clause-carries g c = c.in-End.ensures.carries
+
+pub returns-in-End-clause-none : goal.returns-in-End-clause-none
+returns-in-End-clause-none g c = c.in-End.ensures.none
+
+pub returns-in-End-clause-desk : goal.returns-in-End-clause-desk
+returns-in-End-clause-desk g c = same_then c.loop.invariant.same c.in-End.ensures.desk
+
+pub returns-in-End-clause-held : goal.returns-in-End-clause-held
+returns-in-End-clause-held g c = let one = c.in-End.ensures.held in let two = c.loop.invariant.held in omega arith
+
+pub returns-in-End-clause-bag : goal.returns-in-End-clause-bag
+returns-in-End-clause-bag g c base has = c.in-End.ensures.bag base (c.loop.invariant.bag base has)

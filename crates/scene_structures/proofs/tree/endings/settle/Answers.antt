@@ -4,6 +4,7 @@ use Rattle.shared_handle.proofs.Piles.{same_both, same_desk}
 use Rattle.scene_structures.proofs.Others.{others_both, others_none, others_round}
 use Rattle.shared_handle.specs.Piles.{IsParting}
 use Rattle.scene_structures.proofs.Latest.{held_both, held_here, keeps_same, round_latest}
+use Rattle.scene_structures.proofs.Kept.{same_then}
 use Rattle.scene_structures.proofs.tree.endings.settle.Goals as goal
 
 pub loop-init : goal.loop-init
@@ -54,3 +55,25 @@ pub returns-in-Settled-clause-others : goal.returns-in-Settled-clause-others
 returns-in-Settled-clause-others g c =
     let r = c.round in let e = r.ensures in let i = c.loop.invariant in let l = c.loop.desk in
     others_both i.others (others_round l r.new.desk _ _ r.result i.carries.ends e.elsewhere e.round)
+
+pub round-requires-clause-carries : goal.round-requires-clause-carries
+round-requires-clause-carries g c κs within = c.loop.invariant.carries
+
+pub returns-in-Settled-clause-carries : goal.returns-in-Settled-clause-carries
+returns-in-Settled-clause-carries g c = c.round.ensures.carries
+
+pub returns-in-Settled-clause-none : goal.returns-in-Settled-clause-none
+returns-in-Settled-clause-none g c = c.in-Settled.ensures.round.1
+
+pub returns-in-Settled-clause-bag : goal.returns-in-Settled-clause-bag
+returns-in-Settled-clause-bag g c = c.round.ensures.bag ∙ c.loop.invariant.bag
+
+pub returns-in-Settled-clause-held : goal.returns-in-Settled-clause-held
+returns-in-Settled-clause-held g c = c.round.ensures.held ∙ c.loop.invariant.held
+
+pub returns-in-Settled-clause-desk : goal.returns-in-Settled-clause-desk
+returns-in-Settled-clause-desk g c = same_then c.loop.invariant.same c.round.ensures.desk
+
+pub returns-in-Settled-clause-own : goal.returns-in-Settled-clause-own
+returns-in-Settled-clause-own g c =
+    does_both IsParting c.args.desk.now c.loop.desk c.round.new.desk c.loop.invariant.own c.round.ensures.parting
