@@ -3,6 +3,7 @@ pub mod Hands
 pub mod Latest
 pub mod Sites
 pub mod Kept
+pub mod Rooms
 pub mod Rows
 pub mod Frames
 pub mod Lives

@@ -16,6 +16,11 @@ use Rattle.scene_structures.proofs.Watches.{attaches}
 use Rattle.control_block.specs.Desks.{KeepsEndings, endings_of}
 use Rattle.scene_structures.proofs.Others.{all_others, others_both, others_call, others_kept}
 use Rattle.scene_structures.proofs.observers.Observers.attach.Given.{Over}
+use Rattle.scene_structures.proofs.Kept.{same_call, same_then, carries_call, carries_over, granted}
+use Rattle.atomic_cells.specs.Sites.{IsOpenSite}
+use Rattle.scene_structures.proofs.Rooms.{far, made_within, serves, holds_more}
+use Rattle.std.proofs.lemmas.Bool.{iff_false}
+use Rattle.std.proofs.Common.{◌≤◌}
 use Rattle.scene_structures.proofs.observers.Observers.attach.Goals as goal
 
 pub returns-clause-own : goal.returns-clause-own
@@ -64,3 +69,74 @@ returns-clause-endings g c = (others g c).0
 
 pub returns-clause-count : goal.returns-clause-count
 returns-clause-count g c = (others g c).1
+
+pub returns-clause-stands : goal.returns-clause-stands
+returns-clause-stands g c =
+    let same : c.self.inside.cell ≡ c.args.self.now.cell = ap (λ (s : StackNow). s.cell) c.self.view_is in
+    let there = subst (λ n. n < c.args.domain.now.shape.shared_cells) (sym same) c.requires.stands.cell in
+    (same, record { cell = there; room = c.raise.ensures.carries.room })
+
+pub returns-clause-refusals : goal.returns-clause-refusals
+returns-clause-refusals g c = (iff_false c.is_near_limit.ensures c.if-is_near_limit.false, c.in_ok-node.ensures.refusals.1)
+
+pub returns-clause-bag : goal.returns-clause-bag
+returns-clause-bag g c =
+    let d = c.args.desk.now in let w = c.watch in let l = c.load.new.desk in let e = c.in_ok-node.ensures in let node = c.in_ok-node.node in
+    let t = c.in-Ok.ensures in
+    let h = hands_one d w.new.desk node c.stands.ensures.bag (w.ensures.bag ∙ e.bag) (w.ensures.held ∙ e.held) in
+    (c.raise.ensures.bag (bag_of d) (hands_got w.new.desk l (bag_of d) c.in-Ok.top (node ∷ []) h t.bag t.held)).bag
+
+pub returns-clause-desk : goal.returns-clause-desk
+returns-clause-desk g c =
+    same_then c.in_ok-node.ensures.desk (same_then c.watch.ensures.desk (same_then (same_call c.in-Ok.ensures.keeps) c.raise.ensures.desk))
+
+pub returns-clause-held : goal.returns-clause-held
+returns-clause-held g c =
+    let one = c.in_ok-node.ensures.held in let two = c.watch.ensures.held in let three = c.in-Ok.ensures.held in let four = c.raise.ensures.held in
+    omega arith
+
+pub load-requires-clause-cell : goal.load-requires-clause-cell
+load-requires-clause-cell g c κs within =
+    let same : c.self.inside.cell ≡ c.args.self.now.cell = ap (λ (s : StackNow). s.cell) c.self.view_is in
+    let there = subst (λ n. n < c.args.domain.now.shape.shared_cells) (sym same) c.requires.stands.cell in
+    let shape = c.watch.ensures.desk.shape ∙ (c.in_ok-node.ensures.desk.shape ∙ c.requires.domain.shape) in
+    subst (IsOpenSite c.watch.new.desk) (sym c.free-at.ensures) (subst (λ (z : Shape). c.self.inside.cell < z.shared_cells) (sym shape) there)
+
+pub watch-requires-clause-room : goal.watch-requires-clause-room
+watch-requires-clause-room g c κs within =
+    let far' = far c.is_near_limit.ensures c.if-is_near_limit.false in
+    let one = c.in_ok-node.ensures.held in let a = c.in_ok-node.ensures.desk.allowance in omega arith
+
+pub watch-requires-clause-node : goal.watch-requires-clause-node
+watch-requires-clause-node g c κs within =
+    let node = c.in_ok-node.node in
+    made_within c.args.desk.now c.make.new.desk (0 ∷ 0 ∷ 0 ∷ 0 ∷ []) c.args.value node.block node.place c.in_ok-node.ensures.event
+
+pub watch-requires-clause-holds : goal.watch-requires-clause-holds
+watch-requires-clause-holds g c κs within =
+    let e = c.in_ok-node.ensures in let s = c.args.subject.now in
+    (e.holds, holds_more c.args.desk.now c.make.new.desk s.block s.place c.in_ok-node.node c.requires.holds e.bag e.held)
+
+pub raise-requires-clause-carries : goal.raise-requires-clause-carries
+raise-requires-clause-carries g c κs within =
+    let room = subst (λ n. c.args.domain.now.shape.blocks ≤ n) (sym (ap (λ (s : StackNow). s.room) c.self.view_is)) c.requires.stands.room in
+    carries_call (carries_over (carries_over (serves c.args.domain.now c.args.desk.now c.self.inside.pile c.requires.domain c.self.invariant room)
+    c.in_ok-node.ensures.desk c.in_ok-node.ensures.endings) c.watch.ensures.desk c.watch.ensures.endings) c.in-Ok.ensures.keeps
+
+pub raise-requires-clause-node : goal.raise-requires-clause-node
+raise-requires-clause-node g c κs within =
+    let node = c.in_ok-node.node in
+    made_within c.args.desk.now c.make.new.desk (0 ∷ 0 ∷ 0 ∷ 0 ∷ []) c.args.value node.block node.place c.in_ok-node.ensures.event
+
+pub raise-requires-clause-room : goal.raise-requires-clause-room
+raise-requires-clause-room g c κs within =
+    let far' = far c.is_near_limit.ensures c.if-is_near_limit.false in
+    let one = c.in_ok-node.ensures.held in let two = c.in-Ok.ensures.held in let more = c.watch.ensures.held in
+    let a = c.in_ok-node.ensures.desk.allowance in let b = c.in-Ok.ensures.keeps.allowance in let e = c.watch.ensures.desk.allowance in omega arith
+
+pub unreachable-requires : goal.unreachable-requires
+unreachable-requires g c =
+    let far' = far c.is_near_limit.ensures c.if-is_near_limit.false in
+    let one = c.in_ok-node.ensures.held in let a = c.in_ok-node.ensures.desk.allowance in let two = c.watch.ensures.held in
+    let b = c.watch.ensures.desk.allowance in
+    granted c.watch.new.desk c.load.result c.load.ensures.limit (omega arith) c.in_default.not-Ok

@@ -15,6 +15,10 @@ use Rattle.scene_structures.proofs.Looks.{looks_first}
 use Rattle.control_block.specs.Desks.{KeepsEndings, endings_of}
 use Rattle.scene_structures.proofs.Others.{all_others, others_both, others_call}
 use Rattle.scene_structures.proofs.stack.Stack.pop.Given.{Over}
+use Rattle.scene_structures.proofs.Kept.{same_call, same_then, carries_call, granted}
+use Rattle.atomic_cells.specs.Sites.{IsOpenSite}
+use Rattle.scene_structures.proofs.Rooms.{far, serves, bag_taken, holds_taken, held_taken}
+use Rattle.std.proofs.Common.{◌≤◌}
 use Rattle.scene_structures.proofs.stack.Stack.pop.Goals as goal
 
 pub returns-clause-own : goal.returns-clause-own
@@ -46,3 +50,64 @@ returns-clause-endings g c = (others g c).0
 
 pub returns-clause-count : goal.returns-clause-count
 returns-clause-count g c = (others g c).1
+
+pub returns-clause-stands : goal.returns-clause-stands
+returns-clause-stands g c =
+    let same : c.self.inside.cell ≡ c.args.self.now.cell = ap (λ (s : StackNow). s.cell) c.self.view_is in
+    let there = subst (λ n. n < c.args.domain.now.shape.shared_cells) (sym same) c.requires.stands.cell in
+    (same, record { cell = there; room = c.take.ensures.carries.room })
+
+pub returns-clause-bag : goal.returns-clause-bag
+returns-clause-bag g c =
+    let d = c.args.desk.now in let e = c.in-Ok.ensures in
+    let has = c.take.ensures.bag (bag_of d) (hands_one d c.load.new.desk c.in-Ok.top c.stands.ensures.bag e.bag e.held) in
+    bag_taken c.take.new.desk (bag_of d) c.take.result has
+
+pub returns-clause-holds : goal.returns-clause-holds
+returns-clause-holds g c =
+    let d = c.args.desk.now in let e = c.in-Ok.ensures in
+    let has = c.take.ensures.bag (bag_of d) (hands_one d c.load.new.desk c.in-Ok.top c.stands.ensures.bag e.bag e.held) in
+    holds_taken c.take.new.desk (bag_of d) c.take.result has
+
+pub returns-clause-held : goal.returns-clause-held
+returns-clause-held g c =
+    held_taken c.args.desk.now c.load.new.desk c.take.new.desk c.take.result c.in-Ok.ensures.held c.take.ensures.held
+
+pub returns-clause-desk : goal.returns-clause-desk
+returns-clause-desk g c = same_then (same_call c.in-Ok.ensures.keeps) c.take.ensures.desk
+
+pub load-requires-clause-cell : goal.load-requires-clause-cell
+load-requires-clause-cell g c κs within =
+    let same : c.self.inside.cell ≡ c.args.self.now.cell = ap (λ (s : StackNow). s.cell) c.self.view_is in
+    let there = subst (λ n. n < c.args.domain.now.shape.shared_cells) (sym same) c.requires.stands.cell in
+    subst (IsOpenSite c.args.desk.now) (sym c.free.ensures)
+    (subst (λ (z : Shape). c.self.inside.cell < z.shared_cells) (sym c.requires.domain.shape) there)
+
+pub take-requires-clause-cell : goal.take-requires-clause-cell
+take-requires-clause-cell g c κs within =
+    let same : c.self.inside.cell ≡ c.args.self.now.cell = ap (λ (s : StackNow). s.cell) c.self.view_is in
+    let there = subst (λ n. n < c.args.domain.now.shape.shared_cells) (sym same) c.requires.stands.cell in
+    subst (λ (z : Shape). c.self.inside.cell < z.shared_cells) (sym (c.in-Ok.ensures.keeps.shape ∙ c.requires.domain.shape)) there
+
+pub take-requires-clause-bag : goal.take-requires-clause-bag
+take-requires-clause-bag g c κs within =
+    let d = c.args.desk.now in let e = c.in-Ok.ensures in
+    (bag_of d, hands_one d c.load.new.desk c.in-Ok.top c.stands.ensures.bag e.bag e.held)
+
+pub take-requires-clause-empty : goal.take-requires-clause-empty
+take-requires-clause-empty g c κs within = c.self.invariant
+
+pub take-requires-clause-carries : goal.take-requires-clause-carries
+take-requires-clause-carries g c κs within =
+    let room = subst (λ n. c.args.domain.now.shape.blocks ≤ n) (sym (ap (λ (s : StackNow). s.room) c.self.view_is)) c.requires.stands.room in
+    carries_call (serves c.args.domain.now c.args.desk.now c.self.inside.pile c.requires.domain c.self.invariant room) c.in-Ok.ensures.keeps
+
+pub take-requires-clause-room : goal.take-requires-clause-room
+take-requires-clause-room g c κs within =
+    let far' = far c.is_near_limit.ensures c.if-is_near_limit.false in
+    let one = c.in-Ok.ensures.held in let a = c.in-Ok.ensures.keeps.allowance in omega arith
+
+pub unreachable-requires : goal.unreachable-requires
+unreachable-requires g c =
+    let far' = far c.is_near_limit.ensures c.if-is_near_limit.false in
+    granted c.args.desk.now c.load.result c.load.ensures.limit (omega arith) c.in_default.not-Ok
