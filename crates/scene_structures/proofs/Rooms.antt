@@ -6,6 +6,7 @@ use Rattle.std.specs.Prelude.{IfSome, IsTrue, MatchOption, vec_capacity}
 use Rattle.control_word.specs.Handles.{handle}
 use Rattle.control_word.specs.State.{Has}
 use Rattle.control_word.specs.declared.model.handle.Handle.{Handle}
+use Rattle.control_word.specs.declared.model.handle.Kind.{Kind}
 use Rattle.control_word.specs.declared.model.handle.Kind.TheVariants.{Owner}
 use Rattle.control_word.specs.declared.place.Block.{Block}
 use Rattle.control_word.specs.declared.place.Place.{Place}
@@ -24,6 +25,9 @@ use Rattle.scene_structures.proofs.Hands.{holds_first, most, under}
 -- not near the limit
 pub far : {b : Bool} {a h : ℕ} → (IsTrue b ↔ (a < h)) → b ≡ false → h ≤ a
 far {b} {a} {h} iff off = let not : a < h → ⊥ = iff_false iff off in omega arith
+
+pub far_off : {a h : ℕ} → (a < h → ⊥) → h ≤ a
+far_off not = omega arith
 
 -- what is refused for want of blocks or at the limit isn't, where there are some and room
 pub fine : {T V P Q : Type 0} (r : Result T (Refused V)) → IsFullOrLimit P Q r → (P → ⊥) → (Q → ⊥) → ((x : T) → r ≡ Ok x → ⊥) → ⊥
@@ -47,12 +51,17 @@ module _ {V : Type 0} where
   serves domain d p belongs none room = record { belongs = belongs; ends = subst (AllEnd d) (sym none) tt; room = room }
 
   -- what is held is so still, when one more comes
-  pub holds_more : (d m : DeskNow V) (b : Option Block) (p : Option Place) (node : Shared) → HoldsHandle d Owner b p
-      → bag_of m ≡ with_handle Owner node.block node.place (bag_of d) → m.held ≡ d.held + 1 → HoldsHandle m Owner b p
-  holds_more d m None p node holds bag held =
-      let t = most node.block node.place (bag_of d) in subst (λ (l : List Handle). length l < m.held) (sym bag) (omega arith)
-  holds_more d m (Some b) p node holds bag held =
-      subst (Has (handle Owner (Some b.0) p)) (sym bag) (under node.block node.place (handle Owner (Some b.0) p) (bag_of d) holds)
+  pub holds_more : (k : Kind) (d m : DeskNow V) (b c : Option Block) (p q : Option Place) → HoldsHandle d k b p
+      → bag_of m ≡ with_handle Owner c q (bag_of d) → m.held ≡ d.held + 1 → HoldsHandle m k b p
+  holds_more k d m None c p q holds bag held = let t = most c q (bag_of d) in subst (λ (l : List Handle). length l < m.held) (sym bag) (omega arith)
+  holds_more k d m (Some b) c p q holds bag held =
+      subst (Has (handle k (Some b.0) p)) (sym bag) (under c q (handle k (Some b.0) p) (bag_of d) holds)
+
+  -- and when none comes and none goes
+  pub holds_still : (k : Kind) (d e : DeskNow V) (b : Option Block) (p : Option Place) → HoldsHandle d k b p → bag_of e ≡ bag_of d → e.held ≡ d.held
+      → HoldsHandle e k b p
+  holds_still k d e None p holds bag held = subst (λ (l : List Handle). length l < e.held) (sym bag) (omega arith)
+  holds_still k d e (Some b) p holds bag held = subst (Has (handle k (Some b.0) p)) (sym bag) holds
 
   -- what was taken
   pub bag_taken : (e : DeskNow V) (base : List Handle) (r : Option Shared) → MatchOption r (HasHands base [] e) (λ h. HasHands base (h ∷ []) e)

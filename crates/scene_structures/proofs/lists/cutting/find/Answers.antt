@@ -6,6 +6,9 @@ use Rattle.scene_structures.proofs.Hands.{hands_first, hands_got}
 use Rattle.scene_structures.proofs.Looks.{finds_none, looks_first, no_member}
 use Rattle.scene_structures.proofs.Sites.{these_after, these_both, these_over}
 use Rattle.scene_structures.proofs.Others.{others_both, others_call}
+use Rattle.std.proofs.Common.{refl, arith}
+use Rattle.scene_structures.proofs.Kept.{same_call, same_then, carries_call, granted}
+use Rattle.scene_structures.proofs.Sites.{open_now}
 use Rattle.scene_structures.proofs.lists.cutting.find.Goals as goal
 
 pub returns-in_default-member-clause-latest : goal.returns-in_default-member-clause-latest
@@ -30,3 +33,32 @@ returns-in_default-member-clause-others g c = others_both (others_call _ c.in-Ok
 
 pub returns-clause-others : goal.returns-clause-others
 returns-clause-others g c = others_call _ c.in-Ok.ensures.keeps
+
+pub load-requires-clause-cell : goal.load-requires-clause-cell
+load-requires-clause-cell g c κs within =
+    let b = c.requires.bag in open_now c.args.desk.now c.args.desk.now.shape b.0 [] c.args.at.now.site refl b.1 b.2
+
+pub let_go-requires-clause-carries : goal.let_go-requires-clause-carries
+let_go-requires-clause-carries g c κs within = carries_call c.requires.carries c.in-Ok.ensures.keeps
+
+pub returns-in_default-member-clause-bag : goal.returns-in_default-member-clause-bag
+returns-in_default-member-clause-bag g c base has =
+    let m = c.load.new.desk in let t = c.in-Ok.ensures in let top = c.in-Ok.top in
+    hands_first m c.let_go.new.desk base top [] (hands_got c.args.desk.now m base top [] has t.bag t.held) c.let_go.ensures.bag c.let_go.ensures.held
+
+pub returns-in_default-member-clause-desk : goal.returns-in_default-member-clause-desk
+returns-in_default-member-clause-desk g c = same_then (same_call c.in-Ok.ensures.keeps) c.let_go.ensures.desk
+
+pub returns-in_default-member-clause-held : goal.returns-in_default-member-clause-held
+returns-in_default-member-clause-held g c = let one = c.in-Ok.ensures.held in let two = c.let_go.ensures.held in omega arith
+
+pub returns-clause-carries : goal.returns-clause-carries
+returns-clause-carries g c = carries_call c.requires.carries c.in-Ok.ensures.keeps
+
+pub returns-clause-bag : goal.returns-clause-bag
+returns-clause-bag g c base has =
+    hands_got c.args.desk.now c.load.new.desk base c.in-Ok.top [] has c.in-Ok.ensures.bag c.in-Ok.ensures.held
+
+pub unreachable-requires : goal.unreachable-requires
+unreachable-requires g c =
+    let room = c.requires.room in granted c.args.desk.now c.load.result c.load.ensures.limit (omega arith) c.in_default.not-Ok

@@ -21,6 +21,8 @@ use Rattle.scene_structures.proofs.Pushes.{differs_back, differs_bag, differs_ev
 use Rattle.scene_structures.proofs.Pushes.{same_left, same_node, shares_does, tries}
 use Rattle.scene_structures.proofs.Sites.{cell_these, open_now, these_after, these_both, these_over}
 use Rattle.scene_structures.proofs.Others.{others_both, others_call}
+use Rattle.std.proofs.Common.{arith}
+use Rattle.scene_structures.proofs.Kept.{same_call, same_then, granted, unrefused}
 use Rattle.scene_structures.proofs.lists.pushing.try_push.Goals as goal
 
 pub share-requires-clause-holds : goal.share-requires-clause-holds
@@ -209,3 +211,63 @@ returns-in-Ok-Differs-clause-others g c =
     others_both (others_call _ c.in-Ok.ensures.keeps)
     (others_both c.store_next.ensures.others
     (others_both (others_call _ c.in-Ok-Differs.ensures.keeps) c.let_go-in-Ok-Differs.ensures.others))
+
+pub let_go-requires-clause-holds : goal.let_go-requires-clause-holds
+let_go-requires-clause-holds g c κs within =
+    let a = c.args.attempt in let base = c.requires.bag.0 in let e = c.in-Ok.ensures in let s = c.share.new.desk in let t = c.store_next.new.desk in
+    let x = c.in-Ok-Swapped in let u = c.compare_exchange_weak.new.desk in
+    let h = hands_copied c.args.desk.now s base c.in-Ok.copy a.top (a.top ∷ a.node ∷ []) c.requires.bag.1 e.handle.0 e.handle.1 e.bag e.held in
+    let h' = hands_first s t base c.in-Ok.copy (a.top ∷ a.node ∷ []) h c.store_next.ensures.bag c.store_next.ensures.held in
+    holds_first u base x.old (a.top ∷ []) (hands_swapped t u base a.top a.node x.old h'
+    (swapped_bag t u a.node x.field-0 x.old x.field-0-is x.ensures.bag) (swapped_held t u a.node x.field-0 x.old x.field-0-is x.ensures.held))
+
+pub let_go-requires-in-Ok-Swapped-clause-carries : goal.let_go-requires-in-Ok-Swapped-clause-carries
+let_go-requires-in-Ok-Swapped-clause-carries g c κs within = c.let_go.ensures.carries
+
+pub returns-in-Ok-Swapped-clause-carries : goal.returns-in-Ok-Swapped-clause-carries
+returns-in-Ok-Swapped-clause-carries g c = c.let_go-in-Ok-Swapped.ensures.carries
+
+pub returns-in-Ok-Swapped-clause-none : goal.returns-in-Ok-Swapped-clause-none
+returns-in-Ok-Swapped-clause-none g c = c.let_go-in-Ok-Swapped.ensures.none
+
+pub returns-in-Ok-Swapped-clause-desk : goal.returns-in-Ok-Swapped-clause-desk
+returns-in-Ok-Swapped-clause-desk g c =
+    same_then (same_call c.in-Ok.ensures.keeps)
+    (same_then c.store_next.ensures.desk
+    (same_then (same_call c.in-Ok-Swapped.ensures.keeps) (same_then c.let_go.ensures.desk c.let_go-in-Ok-Swapped.ensures.desk)))
+
+pub returns-in-Ok-Swapped-clause-held : goal.returns-in-Ok-Swapped-clause-held
+returns-in-Ok-Swapped-clause-held g c =
+    let x = c.in-Ok-Swapped in
+    let one = c.in-Ok.ensures.held in let two = c.store_next.ensures.held in
+    let three = swapped_held c.store_next.new.desk c.compare_exchange_weak.new.desk c.args.attempt.node x.field-0 x.old x.field-0-is x.ensures.held in
+    let four = c.let_go.ensures.held in let five = c.let_go-in-Ok-Swapped.ensures.held in omega arith
+
+pub returns-in-Ok-Differs-clause-carries : goal.returns-in-Ok-Differs-clause-carries
+returns-in-Ok-Differs-clause-carries g c = c.let_go-in-Ok-Differs.ensures.carries
+
+pub returns-in-Ok-Differs-clause-none : goal.returns-in-Ok-Differs-clause-none
+returns-in-Ok-Differs-clause-none g c = c.let_go-in-Ok-Differs.ensures.none
+
+pub returns-in-Ok-Differs-clause-desk : goal.returns-in-Ok-Differs-clause-desk
+returns-in-Ok-Differs-clause-desk g c =
+    same_then (same_call c.in-Ok.ensures.keeps)
+    (same_then c.store_next.ensures.desk (same_then (same_call c.in-Ok-Differs.ensures.keeps) c.let_go-in-Ok-Differs.ensures.desk))
+
+pub returns-in-Ok-Differs-clause-held : goal.returns-in-Ok-Differs-clause-held
+returns-in-Ok-Differs-clause-held g c =
+    let x = c.in-Ok-Differs in
+    let one = c.in-Ok.ensures.held in let two = c.store_next.ensures.held in
+    let three = differs_held c.store_next.new.desk c.compare_exchange_weak.new.desk c.args.attempt.node x.field-0 x.held x.desired x.field-0-is
+    x.ensures.held in
+    let four = c.let_go-in-Ok-Differs.ensures.held in omega arith
+
+pub unreachable-requires : goal.unreachable-requires
+unreachable-requires g c =
+    let room = c.requires.room in granted c.args.desk.now c.share.result c.share.ensures.limit (omega arith) c.in_default.not-Ok
+
+pub unreachable-requires-in-Err : goal.unreachable-requires-in-Err
+unreachable-requires-in-Err g c =
+    let room = c.requires.room in let one = c.in-Ok.ensures.held in let two = c.store_next.ensures.held in
+    let a = c.in-Ok.ensures.keeps.allowance in let b = c.store_next.ensures.desk.allowance in
+    unrefused c.store_next.new.desk c.compare_exchange_weak.result _ c.compare_exchange_weak.ensures.limit (omega arith) c.in-Err.is

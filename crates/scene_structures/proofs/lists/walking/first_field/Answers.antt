@@ -10,6 +10,11 @@ use Rattle.control_block.specs.CellCalls.{HoldsHandle}
 use Rattle.scene_structures.specs.Walks.{TellsField}
 use Rattle.scene_structures.proofs.Walks.{tells, told_latest}
 use Rattle.scene_structures.proofs.Others.{others_both, others_call, others_none}
+use Rattle.std.proofs.Common.{ap, arith}
+use Rattle.scene_structures.proofs.Kept.{same_call, same_then, carries_call, granted}
+use Rattle.control_block.specs.CellCalls.{without_handle}
+use Rattle.scene_structures.proofs.Rooms.{holds_still}
+use Rattle.shared_handle.proofs.Callers.{first_out}
 use Rattle.scene_structures.proofs.lists.walking.first_field.Goals as goal
 
 pub returns-clause-latest : goal.returns-clause-latest
@@ -43,3 +48,37 @@ pub returns-clause-others : goal.returns-clause-others
 returns-clause-others g c =
     others_both (others_call _ c.in-Ok.ensures.keeps)
     (others_both (others_call _ c.in-Ok-read.ensures.keeps) c.let_go.ensures.others)
+
+pub let_go-requires-clause-carries : goal.let_go-requires-clause-carries
+let_go-requires-clause-carries g c κs within =
+    carries_call (carries_call c.requires.carries c.in-Ok.ensures.keeps) c.in-Ok-read.ensures.keeps
+
+pub let_go-requires-clause-holds : goal.let_go-requires-clause-holds
+let_go-requires-clause-holds g c κs within =
+    let first = c.in-Ok.first in let r = c.in-Ok-read.ensures in
+    holds_still Owner c.alias.new.desk c.read.new.desk first.block first.place c.in-Ok.ensures.holds r.bag r.held
+
+pub returns-clause-carries : goal.returns-clause-carries
+returns-clause-carries g c = c.let_go.ensures.carries
+
+pub returns-clause-none : goal.returns-clause-none
+returns-clause-none g c = c.let_go.ensures.none
+
+pub returns-clause-desk : goal.returns-clause-desk
+returns-clause-desk g c =
+    same_then (same_call c.in-Ok.ensures.keeps) (same_then (same_call c.in-Ok-read.ensures.keeps) c.let_go.ensures.desk)
+
+pub returns-clause-held : goal.returns-clause-held
+returns-clause-held g c =
+    let one = c.in-Ok.ensures.held in let two = c.in-Ok-read.ensures.held in let three = c.let_go.ensures.held in omega arith
+
+pub returns-clause-bag : goal.returns-clause-bag
+returns-clause-bag g c =
+    let d = c.args.desk.now in let first = c.in-Ok.first in let a = c.in-Ok.ensures in let r = c.in-Ok-read.ensures in
+    let bag : bag_of c.alias.new.desk ≡ with_handle Owner first.block first.place (bag_of d) =
+    a.bag ∙ (λ i. with_handle Owner (sym a.handle.0 i) (sym a.handle.1 i) (bag_of d)) in
+    c.let_go.ensures.bag ∙ (ap (without_handle Owner first.block first.place) (r.bag ∙ bag) ∙ first_out Owner first.block first.place (bag_of d))
+
+pub unreachable-requires : goal.unreachable-requires
+unreachable-requires g c =
+    let room = c.requires.room in granted c.args.desk.now c.alias.result c.alias.ensures.limit (omega arith) c.in_default-alias.not-Ok

@@ -21,6 +21,7 @@ use Rattle.atomic_cells.specs.Sites.{IsOpenSite}
 use Rattle.scene_structures.proofs.Rooms.{far, made_within, serves, holds_more}
 use Rattle.std.proofs.lemmas.Bool.{iff_false}
 use Rattle.std.proofs.Common.{◌≤◌}
+use Rattle.control_word.specs.declared.model.handle.Kind.TheVariants.{Owner}
 use Rattle.scene_structures.proofs.observers.Observers.attach.Goals as goal
 
 pub returns-clause-own : goal.returns-clause-own
@@ -115,7 +116,8 @@ watch-requires-clause-node g c κs within =
 pub watch-requires-clause-holds : goal.watch-requires-clause-holds
 watch-requires-clause-holds g c κs within =
     let e = c.in_ok-node.ensures in let s = c.args.subject.now in
-    (e.holds, holds_more c.args.desk.now c.make.new.desk s.block s.place c.in_ok-node.node c.requires.holds e.bag e.held)
+    let node = c.in_ok-node.node in
+    (e.holds, holds_more Owner c.args.desk.now c.make.new.desk s.block node.block s.place node.place c.requires.holds e.bag e.held)
 
 pub raise-requires-clause-carries : goal.raise-requires-clause-carries
 raise-requires-clause-carries g c κs within =

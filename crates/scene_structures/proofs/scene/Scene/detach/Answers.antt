@@ -27,6 +27,9 @@ use Rattle.scene_structures.proofs.Watches.{endings_both, lists_of}
 use Rattle.scene_structures.proofs.scene.Scene.detach.Given.{Over}
 use Rattle.scene_structures.specs.Others.{KeepsOthers}
 use Rattle.scene_structures.proofs.Others.{others_both, others_call, others_kept}
+use Rattle.std.proofs.Common.{arith}
+use Rattle.scene_structures.proofs.Kept.{same_call, same_then, granted}
+use Rattle.scene_structures.proofs.Rooms.{holds_more, far_off}
 use Rattle.scene_structures.proofs.scene.Scene.detach.Goals as goal
 
 pub let_go-requires-clause-carries : goal.let_go-requires-clause-carries
@@ -139,3 +142,78 @@ returns-clause-others g c =
     subst (λ (x : Pile g.row.V.Denot). KeepsOthers d x.endings.items c.leave.new.desk c.leave.new.pile.endings.items) c.self.view_is
     (others_both (others_kept d c.parent.new.desk _ p.endings p.count)
     (others_both (others_call _ c.in-Ok.ensures.keeps) (others_both c.let_go-2.ensures.others c.leave.ensures.others)))
+
+pub alias-requires-clause-holds : goal.alias-requires-clause-holds
+alias-requires-clause-holds g c κs within = c.in_ok-owner.ensures.holds
+
+pub let_go-requires-clause-holds : goal.let_go-requires-clause-holds
+let_go-requires-clause-holds g c κs within = c.in_ok-owner.ensures.holds
+
+pub let_go-requires-2-clause-holds : goal.let_go-requires-2-clause-holds
+let_go-requires-2-clause-holds g c κs within =
+    let owner = c.in_ok-owner.owner in let a = c.in-Ok.ensures in
+    holds_more Owner c.parent.new.desk c.alias.new.desk owner.block owner.block owner.place _ c.in_ok-owner.ensures.holds a.bag a.held
+
+pub leave-requires-clause-carries : goal.leave-requires-clause-carries
+leave-requires-clause-carries g c κs within = c.let_go-2.ensures.carries
+
+pub leave-requires-clause-empty : goal.leave-requires-clause-empty
+leave-requires-clause-empty g c κs within = c.let_go-2.ensures.none
+
+pub leave-requires-clause-node : goal.leave-requires-clause-node
+leave-requires-clause-node g c κs within = c.in_ok-owner.ensures.may.1
+
+pub leave-requires-clause-room : goal.leave-requires-clause-room
+leave-requires-clause-room g c κs within =
+    let far' = far_off c.in_ok-owner.ensures.may.0 in
+    let one = c.in_ok-owner.ensures.held in let two = c.in-Ok.ensures.held in let three = c.let_go-2.ensures.held in
+    let a = c.in_ok-owner.ensures.desk.allowance in let b = c.in-Ok.ensures.keeps.allowance in let e = c.let_go-2.ensures.desk.allowance in omega arith
+
+pub returns-clause-may : goal.returns-clause-may
+returns-clause-may g c = c.in_ok-owner.ensures.may
+
+pub returns-clause-carries : goal.returns-clause-carries
+returns-clause-carries g c = c.leave.ensures.carries
+
+pub returns-clause-none : goal.returns-clause-none
+returns-clause-none g c = c.leave.ensures.none
+
+pub returns-clause-desk : goal.returns-clause-desk
+returns-clause-desk g c =
+    same_then c.in_ok-owner.ensures.desk
+    (same_then (same_call c.in-Ok.ensures.keeps) (same_then c.let_go-2.ensures.desk c.leave.ensures.desk))
+
+pub returns-clause-bag : goal.returns-clause-bag
+returns-clause-bag g c = (c.leave.ensures.bag (bag_of c.args.desk.now) (hands g c)).bag
+
+pub returns-clause-held : goal.returns-clause-held
+returns-clause-held g c =
+    let one = c.in_ok-owner.ensures.held in let two = c.in-Ok.ensures.held in let three = c.let_go-2.ensures.held in let four = c.leave.ensures.held in
+    omega arith
+
+pub returns-in_default-clause-may : goal.returns-in_default-clause-may
+returns-in_default-clause-may g c = c.in_ok-owner.ensures.may
+
+pub returns-in_default-clause-carries : goal.returns-in_default-clause-carries
+returns-in_default-clause-carries g c = c.let_go.ensures.carries
+
+pub returns-in_default-clause-none : goal.returns-in_default-clause-none
+returns-in_default-clause-none g c = c.let_go.ensures.none
+
+pub returns-in_default-clause-desk : goal.returns-in_default-clause-desk
+returns-in_default-clause-desk g c = same_then c.in_ok-owner.ensures.desk c.let_go.ensures.desk
+
+pub returns-in_default-clause-bag : goal.returns-in_default-clause-bag
+returns-in_default-clause-bag g c =
+    let owner = c.in_ok-owner.owner in
+    c.let_go.ensures.bag ∙ (ap (without_handle Owner owner.block owner.place) c.in_ok-owner.ensures.bag
+    ∙ first_out Owner owner.block owner.place (bag_of c.args.desk.now))
+
+pub returns-in_default-clause-held : goal.returns-in_default-clause-held
+returns-in_default-clause-held g c = let one = c.in_ok-owner.ensures.held in let two = c.let_go.ensures.held in omega arith
+
+pub unreachable-requires : goal.unreachable-requires
+unreachable-requires g c =
+    let far' = far_off c.in_ok-owner.ensures.may.0 in
+    let one = c.in_ok-owner.ensures.held in let a = c.in_ok-owner.ensures.desk.allowance in
+    granted c.parent.new.desk c.alias.result c.alias.ensures.limit (omega arith) c.in_default-alias.not-Ok
