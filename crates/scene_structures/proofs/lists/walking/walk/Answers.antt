@@ -5,7 +5,7 @@ use Rattle.scene_structures.specs.Walks.{told_of}
 use Rattle.scene_structures.proofs.Hands.{holds_first}
 use Rattle.scene_structures.proofs.Walks.{folded, looked_none, walks_on}
 use Rattle.scene_structures.proofs.Others.{others_both, others_none}
-use Rattle.std.proofs.Common.{◌+◌, arith}
+use Rattle.std.proofs.Common.{arith}
 use Rattle.scene_structures.proofs.Kept.{same_then}
 use Rattle.scene_structures.proofs.lists.walking.walk.Goals as goal
 
