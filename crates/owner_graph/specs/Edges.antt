@@ -1,7 +1,8 @@
 -- Owners as edges from block to block. All of it is own.
-use Rattle.std.specs.Prelude.{ℕ, cond, List, [], ◌∷◌}
+use Rattle.std.specs.Prelude.{ℕ, ◌+◌, cond, Bool, List, [], ◌∷◌}
 use Rattle.std.specs.List.{flat_map}
 use Rattle.directed_graph.specs.declared.graph.Edge.{Edge}
+use Rattle.directed_graph.specs.Paths.{HasRows, MarksReached, Rows}
 use Rattle.owner_graph.specs.declared.holding.Holding.{Holding}
 use Rattle.owner_graph.specs.Owners.{is_owner, source}
 
@@ -21,3 +22,9 @@ back e = record { from = e.to; to = e.from } ∷ []
 
 abbrev pub back_edges : List Edge → List Edge
 back_edges es = flat_map back es
+
+-- just the blocks are marked to which edges lead from one
+pub record MarksLed (blocks : ℕ) (es : List Edge) (block : ℕ) (marked : List Bool) : Type 0 where
+  pub graph : Rows
+  pub rows : HasRows (blocks + 1) es graph
+  pub marks : MarksReached graph block marked

@@ -58,7 +58,7 @@ pub(crate) fn edges_of(
 }
 
 /// The same edges, each the other way round.
-pub(crate) fn turned_round(alloc: Global, edges: &[Edge]) -> Result<Vec<Edge>, AllocError>
+fn turned_round(alloc: Global, edges: &[Edge]) -> Result<Vec<Edge>, AllocError>
     ensures { IfOk result (λ v. v.items ≡ back_edges edges.now) }
 {
     let mut back = Vec::new(alloc);
@@ -68,5 +68,18 @@ pub(crate) fn turned_round(alloc: Global, edges: &[Edge]) -> Result<Vec<Edge>, A
             to: edge.from,
         })?;
     }
+    Ok(back)
+}
+
+/// An edge for each owner, from the block that it is on to the block where it is.
+pub(crate) fn back_edges_of(
+    alloc: Global,
+    shared: u32,
+    holdings: &[Holding],
+) -> Result<Vec<Edge>, AllocError>
+    ensures { IfOk result (λ v. v.items ≡ back_edges (owner_edges shared holdings.now)) }
+{
+    let edges = edges_of(alloc, shared, holdings)?;
+    let back = turned_round(alloc, edges.as_slice())?;
     Ok(back)
 }

@@ -3,12 +3,23 @@ ghost use Rattle.std.specs.Prelude.{◌≡◌, ◌↔◌, ◌+◌, ◌<◌, ◌�
 ghost use Rattle.std.specs.Prelude.{false, true, length, slice_index_or};
 ghost use Rattle.directed_graph.specs.Paths.{AreWithin};
 ghost use Rattle.owner_graph.specs.Owners.{IsKept, OwnersLead};
-ghost use Rattle.owner_graph.specs.Edges.{owner_edges};
+ghost use Rattle.owner_graph.specs.Edges.{MarksLed, owner_edges};
 
-use crate::edges::{edges_of, turned_round};
+use crate::edges::{back_edges_of, edges_of};
 use crate::holding::Holding;
-use directed_graph::{Graph, GraphError};
+use directed_graph::{Edge, Graph, GraphError};
 use std::alloc::{AllocError, Global};
+
+/// Which blocks edges lead to from one.
+fn led_to(alloc: Global, blocks: u16, edges: &[Edge], block: u16) -> Result<Vec<bool>, GraphError>
+    ensures led { IfOk result (λ v. MarksLed blocks edges.now block v.items) }
+    ensures outside { IfErr result (λ why. why ≡ GraphError.Outside → AreWithin (blocks + 1) edges.now → ⊥) }
+{
+    let vertices = usize::from(blocks) + 1;
+    let graph = Graph::new(alloc, vertices, edges)?;
+    let marked = graph.reached(alloc, usize::from(block))?;
+    Ok(marked)
+}
 
 /// Which blocks owners lead to from one: it, those that owners in it are on, and so on. The free cells are block 0.
 pub(crate) fn reached(
@@ -24,10 +35,8 @@ pub(crate) fn reached(
     ensures outside { IfErr result (λ why. why ≡ GraphError.Outside
         → AreWithin (blocks + 1) (owner_edges shared holdings.now) → ⊥) }
 {
-    let vertices = usize::from(blocks) + 1;
     let edges = edges_of(alloc, shared, holdings)?;
-    let graph = Graph::new(alloc, vertices, edges.as_slice())?;
-    let marked = graph.reached(alloc, usize::from(block))?;
+    let marked = led_to(alloc, blocks, edges.as_slice(), block)?;
     Ok(marked)
 }
 
@@ -45,11 +54,8 @@ pub(crate) fn reaching(
     ensures outside { IfErr result (λ why. why ≡ GraphError.Outside
         → AreWithin (blocks + 1) (owner_edges shared holdings.now) → ⊥) }
 {
-    let vertices = usize::from(blocks) + 1;
-    let edges = edges_of(alloc, shared, holdings)?;
-    let back = turned_round(alloc, edges.as_slice())?;
-    let graph = Graph::new(alloc, vertices, back.as_slice())?;
-    let marked = graph.reached(alloc, usize::from(block))?;
+    let back = back_edges_of(alloc, shared, holdings)?;
+    let marked = led_to(alloc, blocks, back.as_slice(), block)?;
     Ok(marked)
 }
 

@@ -175,6 +175,36 @@ fn is_cut_by(
     )
 }
 
+/// Which ties are cuts, after a look.
+fn cuts_by(
+    alloc: Global,
+    shared: u32,
+    blocks: u16,
+    holdings: &[Holding],
+    knots: &[usize],
+    looked: &Looked,
+    ties: &[Holding],
+) -> Result<Vec<Holding>, AllocError>
+    requires among { All (IsAmong blocks) holdings.now }
+    requires knots { KnotsAre shared blocks holdings.now knots.now }
+    requires right { IsTrue looked.now.is_right → IsRight shared blocks holdings.now knots.now looked.now.plan }
+    requires one { IsTrue looked.now.is_one → IsRing shared blocks holdings.now looked.now.one }
+    requires other { IsTrue looked.now.is_other → IsRing shared blocks holdings.now looked.now.other }
+    requires blocks { All (λ h. (1 ≤ h.block.0) × (h.block.0 ≤ blocks)) ties.now }
+    requires ties { All (IsAmong blocks) ties.now }
+    ensures cuts { IfOk result (λ v. AreCuts shared blocks holdings.now ties.now v.items) }
+    ensures among { IfOk result (λ v. All (IsAmong blocks) v.items) }
+{
+    let mut cuts = Vec::new(alloc);
+    for tie in ties {
+        if !is_cut_by(alloc, shared, blocks, holdings, knots, looked, *tie)? {
+            continue;
+        }
+        cuts.push(*tie)?;
+    }
+    Ok(cuts)
+}
+
 /// Which ties are cuts (own): by [`is_cut`], just those that, emptied or made weak, would let all blocks of their knot
 /// end. They come in the order of the ties. It is refused only where a growth of memory was. Conditions: the blocks of
 /// all that is listed are among so many, and so are the least blocks of the ties' knots, from 1.
@@ -194,12 +224,5 @@ pub fn cuts(
     ensures among { IfOk result (λ v. All (IsAmong blocks) v.items) }
 {
     let looked = look(alloc, shared, blocks, holdings, knots, ties)?;
-    let mut cuts = Vec::new(alloc);
-    for tie in ties {
-        if !is_cut_by(alloc, shared, blocks, holdings, knots, &looked, *tie)? {
-            continue;
-        }
-        cuts.push(*tie)?;
-    }
-    Ok(cuts)
+    cuts_by(alloc, shared, blocks, holdings, knots, &looked, ties)
 }

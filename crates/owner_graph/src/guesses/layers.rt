@@ -9,7 +9,7 @@ ghost use Rattle.owner_graph.specs.Owners.{IsAmong};
 use crate::edges::{is_owner, source};
 use crate::ending::{fed_by, same_cell};
 use crate::guesses::ordering::Ordering;
-use crate::guesses::search::{at, put_at};
+use crate::guesses::search::{at, put_at, zeros};
 use crate::guesses::web::Web;
 use crate::holding::Holding;
 use crate::tying::marked;
@@ -23,6 +23,41 @@ pub(crate) struct Layers {
     pub(crate) ranks: Vec<usize>,
 }
 
+impl Layers {
+    /// All blocks stay.
+    fn new(alloc: Global, size: usize) -> Result<Layers, AllocError> {
+        Ok(Layers {
+            stays: vec![in alloc; true; size]?,
+            ranks: zeros(alloc, size)?,
+        })
+    }
+
+    /// A block ends, with this rank.
+    fn end(&mut self, block: usize, rank: usize) {
+        put_at(&mut self.ranks, block, rank);
+        if block < self.stays.len() {
+            self.stays[block] = false;
+        }
+    }
+
+    /// Blocks end in an order.
+    fn end_all(&mut self, order: &[usize]) {
+        for rank in 0..order.len() {
+            self.end(order[rank], rank);
+        }
+    }
+}
+
+/// Adds the owners that aren't in a cell.
+fn add_others(shared: u32, holdings: &[Holding], emptied: Cell, web: &mut Web) {
+    for index in 0..holdings.len() {
+        let cell = holdings[index].cell;
+        if is_owner(shared, cell) && !same_cell(cell, emptied) {
+            web.add(holdings, index + 1);
+        }
+    }
+}
+
 /// The owners that aren't in a cell.
 fn others(
     alloc: Global,
@@ -32,13 +67,30 @@ fn others(
     emptied: Cell,
 ) -> Result<Web, AllocError> {
     let mut web = Web::new(alloc, blocks, holdings.len())?;
-    for index in 0..holdings.len() {
-        let cell = holdings[index].cell;
-        if is_owner(shared, cell) && !same_cell(cell, emptied) {
-            web.add(holdings, index + 1);
-        }
-    }
+    add_others(shared, holdings, emptied, &mut web);
     Ok(web)
+}
+
+/// The numbers of so many blocks, from 1.
+fn numbers(alloc: Global, blocks: u16) -> Result<Vec<usize>, AllocError> {
+    let mut numbers = Vec::new(alloc);
+    for before in 0..usize::from(blocks) {
+        numbers.push(before + 1)?;
+    }
+    Ok(numbers)
+}
+
+/// All blocks, in an order in which no owner leads back, as far as there is one.
+fn ordered(
+    alloc: Global,
+    blocks: u16,
+    holdings: &[Holding],
+    web: &Web,
+) -> Result<Vec<usize>, AllocError> {
+    let numbers = numbers(alloc, blocks)?;
+    let mut ordering = Ordering::new(alloc, blocks)?;
+    ordering.run(holdings, web, numbers.as_slice(), 0)?;
+    Ok(ordering.order)
 }
 
 /// A guess at the blocks that end once a cell is emptied.
@@ -50,24 +102,9 @@ pub(crate) fn guessed_layers(
     emptied: Cell,
 ) -> Result<Layers, AllocError> {
     let web = others(alloc, shared, blocks, holdings, emptied)?;
-    let size = usize::from(blocks) + 1;
-    let mut members = Vec::new(alloc);
-    for block in 1..size {
-        members.push(block)?;
-    }
-    let mut ordering = Ordering::new(alloc, blocks)?;
-    ordering.run(holdings, &web, members.as_slice(), 0)?;
-    let mut layers = Layers {
-        stays: vec![in alloc; true; size]?,
-        ranks: vec![in alloc; 0; size]?,
-    };
-    for index in 0..ordering.order.len() {
-        let block = ordering.order[index];
-        put_at(&mut layers.ranks, block, index);
-        if block < layers.stays.len() {
-            layers.stays[block] = false;
-        }
-    }
+    let order = ordered(alloc, blocks, holdings, &web)?;
+    let mut layers = Layers::new(alloc, usize::from(blocks) + 1)?;
+    layers.end_all(order.as_slice());
     Ok(layers)
 }
 

@@ -1,5 +1,5 @@
 //! Blocks in an order in which no owner leads back, as far as there is one. Nothing is known of it: it serves guesses.
-use crate::guesses::search::{at, put_at};
+use crate::guesses::search::{at, put_at, zeros};
 use crate::guesses::web::{Web, source_at, target_at};
 use crate::holding::Holding;
 use std::alloc::{AllocError, Global};
@@ -15,7 +15,7 @@ pub(crate) struct Ordering {
 impl Ordering {
     pub(crate) fn new(alloc: Global, blocks: u16) -> Result<Ordering, AllocError> {
         Ok(Ordering {
-            counts: vec![in alloc; 0; usize::from(blocks) + 1]?,
+            counts: zeros(alloc, usize::from(blocks) + 1)?,
             order: Vec::new(alloc),
         })
     }
@@ -23,6 +23,16 @@ impl Ordering {
     /// Whether a block isn't behind, for an owner that isn't.
     pub(crate) fn waits(&self, block: usize) -> bool {
         at(self.counts.as_slice(), block) > 0
+    }
+
+    /// The first of the blocks that waits; 0 where none does.
+    pub(crate) fn first_waiting(&self, blocks: &[usize]) -> usize {
+        for block in blocks {
+            if self.waits(*block) {
+                return *block;
+            }
+        }
+        0
     }
 
     /// Counts the owners on a block, but for the one at a place.
@@ -41,14 +51,18 @@ impl Ordering {
         put_at(&mut self.counts, block, count);
     }
 
+    /// One owner on a block is behind; whether it was the last that wasn't.
+    fn was_last(&mut self, block: usize) -> bool {
+        let count = at(self.counts.as_slice(), block);
+        if count > 0 {
+            put_at(&mut self.counts, block, count - 1);
+        }
+        count == 1
+    }
+
     /// One owner on a block is behind.
     fn lower(&mut self, block: usize) -> Result<(), AllocError> {
-        let count = at(self.counts.as_slice(), block);
-        if count == 0 {
-            return Ok(());
-        }
-        put_at(&mut self.counts, block, count - 1);
-        if count == 1 {
+        if self.was_last(block) {
             self.order.push(block)?;
         }
         Ok(())
@@ -75,6 +89,41 @@ impl Ordering {
         Ok(())
     }
 
+    /// Counts the owners on each block, but for the one at a place.
+    fn count_all(&mut self, web: &Web, most: usize, members: &[usize], without: usize) {
+        for block in members {
+            self.count(web, most, *block, without);
+        }
+    }
+
+    /// The blocks that don't wait come first.
+    fn begin(&mut self, members: &[usize]) -> Result<(), AllocError> {
+        for block in members {
+            if !self.waits(*block) {
+                self.order.push(*block)?;
+            }
+        }
+        Ok(())
+    }
+
+    /// Passes so many blocks at most, in order.
+    fn pass_all(
+        &mut self,
+        holdings: &[Holding],
+        web: &Web,
+        most: usize,
+        without: usize,
+    ) -> Result<(), AllocError> {
+        for index in 0..most {
+            if index >= self.order.len() {
+                break;
+            }
+            let block = self.order[index];
+            self.pass(holdings, web, block, without)?;
+        }
+        Ok(())
+    }
+
     /// Orders blocks, without the owner at a place.
     pub(crate) fn run(
         &mut self,
@@ -84,22 +133,9 @@ impl Ordering {
         without: usize,
     ) -> Result<(), AllocError> {
         self.order.clear();
-        for block in members {
-            self.count(web, holdings.len(), *block, without);
-        }
-        for block in members {
-            if at(self.counts.as_slice(), *block) == 0 {
-                self.order.push(*block)?;
-            }
-        }
-        for index in 0..members.len() {
-            if index >= self.order.len() {
-                break;
-            }
-            let block = self.order[index];
-            self.pass(holdings, web, block, without)?;
-        }
-        Ok(())
+        self.count_all(web, holdings.len(), members, without);
+        self.begin(members)?;
+        self.pass_all(holdings, web, members.len(), without)
     }
 
     /// An owner on a block that waits, in another that does, but for the one at a place; 0 where there is none.

@@ -1,13 +1,13 @@
 //! A guess at the cuts of knots: of each knot a first cut and the segments between them all, and rings that others
 //! aren't needed for. Nothing is known of it: it is looked at before it is believed.
-use crate::edges::{is_owner, source};
+use crate::guesses::crossing::{crossings, exit_on, number_at};
+use crate::guesses::knotting::{inner, mark_at, members_of, wanted_by};
 use crate::guesses::layers::guessed_layers;
 use crate::guesses::ordering::Ordering;
-use crate::guesses::ringing::{Ring, Rings};
-use crate::guesses::search::{at, put_at};
-use crate::guesses::web::{Web, handle_at, target_at};
+use crate::guesses::ringing::Rings;
+use crate::guesses::search::{at, put_at, zeros};
+use crate::guesses::web::Web;
 use crate::holding::Holding;
-use crate::looks::checking::number;
 use crate::tying::marked;
 use std::alloc::{AllocError, Global};
 use step_table::cell_steps::cell_deed::Cell;
@@ -36,43 +36,79 @@ pub(crate) struct CutGuess {
     pub(crate) rings: Rings,
 }
 
-fn number_at(holdings: &[Holding], place: usize) -> usize {
-    match handle_at(holdings, place) {
-        Some(holding) => number(holding.cell),
-        None => 0,
+/// The same marks the other way round.
+fn turned(alloc: Global, marks: &[bool]) -> Result<Vec<bool>, AllocError> {
+    let mut turned = Vec::new(alloc);
+    for mark in marks {
+        turned.push(!*mark)?;
     }
-}
-
-/// Marks a place of a list, if it has it.
-pub(crate) fn mark_at(marks: &mut Vec<bool>, index: usize) {
-    if index < marks.len() {
-        marks[index] = true;
-    }
+    Ok(turned)
 }
 
 impl Plan {
+    /// No segment of so many blocks, of which nothing is known.
+    fn blank(alloc: Global, size: usize) -> Result<Plan, AllocError> {
+        Ok(Plan {
+            segments: zeros(alloc, size)?,
+            firsts: zeros(alloc, size)?,
+            lasts: zeros(alloc, size)?,
+            known: vec![in alloc; false; size]?,
+            ended: Vec::new(alloc),
+            ranks: Vec::new(alloc),
+            exits: Vec::new(alloc),
+        })
+    }
+
     fn new(
         alloc: Global,
         shared: u32,
         blocks: u16,
         holdings: &[Holding],
     ) -> Result<Plan, AllocError> {
-        let size = usize::from(blocks) + 1;
         let none = Cell::Free { number: u32::MAX };
         let layers = guessed_layers(alloc, shared, blocks, holdings, none)?;
-        let mut ended = Vec::new(alloc);
-        for block in 0..size {
-            ended.push(!marked(layers.stays.as_slice(), block))?;
+        let mut plan = Plan::blank(alloc, usize::from(blocks) + 1)?;
+        plan.ended = turned(alloc, layers.stays.as_slice())?;
+        plan.ranks = layers.ranks;
+        Ok(plan)
+    }
+
+    /// The blocks of a knot have ranks in this order.
+    fn rank(&mut self, order: &[usize]) {
+        for index in 0..order.len() {
+            put_at(&mut self.ranks, order[index], index);
         }
-        Ok(Plan {
-            ended,
-            ranks: layers.ranks,
-            segments: vec![in alloc; 0; size]?,
-            exits: Vec::new(alloc),
-            known: vec![in alloc; false; size]?,
-            firsts: vec![in alloc; 0; size]?,
-            lasts: vec![in alloc; 0; size]?,
-        })
+    }
+
+    /// The next block of a knot, before which a segment ends or not.
+    fn follow(&mut self, block: usize, exit: Option<usize>) -> Result<(), AllocError> {
+        if let Some(exit) = exit {
+            self.exits.push(exit)?;
+        }
+        put_at(&mut self.segments, block, self.exits.len());
+        Ok(())
+    }
+
+    /// The blocks of a knot are in segments, each of which ends before a block that just one owner leads to or past.
+    fn cross(
+        &mut self,
+        holdings: &[Holding],
+        web: &Web,
+        order: &[usize],
+        crossings: &[usize],
+        without: usize,
+    ) -> Result<(), AllocError> {
+        for index in 0..order.len() {
+            let block = order[index];
+            let ends = at(crossings, index) == 1;
+            let exit = if ends {
+                Some(exit_on(holdings, web, block, without))
+            } else {
+                None
+            };
+            self.follow(block, exit)?;
+        }
+        Ok(())
     }
 
     /// Parts the blocks of a knot, in the order in which they follow a cut, into segments.
@@ -85,75 +121,15 @@ impl Plan {
         order: &[usize],
         without: usize,
     ) -> Result<(), AllocError> {
-        for index in 0..order.len() {
-            put_at(&mut self.ranks, order[index], index);
-        }
+        self.rank(order);
         let crossings = crossings(alloc, holdings, web, self.ranks.as_slice(), order, without)?;
         put_at(&mut self.firsts, knot, self.exits.len());
-        for index in 0..order.len() {
-            if at(crossings.as_slice(), index) == 1 {
-                let exit = exit_on(holdings, web, order[index], without);
-                self.exits.push(number_at(holdings, exit))?;
-            }
-            put_at(&mut self.segments, order[index], self.exits.len());
-        }
+        self.cross(holdings, web, order, crossings.as_slice(), without)?;
         put_at(&mut self.lasts, knot, self.exits.len());
         self.exits.push(number_at(holdings, without))?;
         mark_at(&mut self.known, knot);
         Ok(())
     }
-}
-
-/// An owner on a block, but for the one at a place.
-fn exit_on(holdings: &[Holding], web: &Web, block: usize, without: usize) -> usize {
-    let mut place = web.first_on(block);
-    for _owner in 0..holdings.len() {
-        if place != without {
-            break;
-        }
-        place = web.next_on(place);
-    }
-    place
-}
-
-/// One more at a place of a list, if it has it.
-fn count_at(list: &mut Vec<usize>, index: usize) {
-    let count = at(list.as_slice(), index);
-    put_at(list, index, count.saturating_add(1));
-}
-
-/// Of each block of an order how many owners lead to it or past it from those before it, without the one at a place.
-fn crossings(
-    alloc: Global,
-    holdings: &[Holding],
-    web: &Web,
-    ranks: &[usize],
-    order: &[usize],
-    without: usize,
-) -> Result<Vec<usize>, AllocError> {
-    let mut begun = vec![in alloc; 0; order.len()]?;
-    let mut ended = vec![in alloc; 0; order.len()]?;
-    for block in order {
-        let mut place = web.first_in(*block);
-        for _owner in 0..holdings.len() {
-            if place == 0 {
-                break;
-            }
-            if place != without {
-                count_at(&mut begun, at(ranks, *block));
-                count_at(&mut ended, at(ranks, target_at(holdings, place)));
-            }
-            place = web.next_in(place);
-        }
-    }
-    let mut crossings = Vec::new(alloc);
-    let mut open = 0usize;
-    for index in 0..order.len() {
-        crossings.push(open)?;
-        open = open.saturating_sub(at(ended.as_slice(), index));
-        open = open.saturating_add(at(begun.as_slice(), index));
-    }
-    Ok(crossings)
 }
 
 /// What the guess is made of: the owners that tie the knots, the blocks of each knot, and how many of the rings that
@@ -166,7 +142,36 @@ struct Planner {
     guess: CutGuess,
 }
 
+impl CutGuess {
+    fn new(
+        alloc: Global,
+        shared: u32,
+        blocks: u16,
+        holdings: &[Holding],
+    ) -> Result<CutGuess, AllocError> {
+        Ok(CutGuess {
+            plan: Plan::new(alloc, shared, blocks, holdings)?,
+            rings: Rings::new(alloc, blocks)?,
+        })
+    }
+}
+
 impl Planner {
+    fn new(
+        alloc: Global,
+        shared: u32,
+        blocks: u16,
+        holdings: &[Holding],
+        knots: &[usize],
+    ) -> Result<Planner, AllocError> {
+        Ok(Planner {
+            web: inner(alloc, shared, blocks, holdings, knots)?,
+            ordering: Ordering::new(alloc, blocks)?,
+            passes: zeros(alloc, holdings.len().saturating_add(1))?,
+            guess: CutGuess::new(alloc, shared, blocks, holdings)?,
+        })
+    }
+
     /// Whether an owner at a place was in all rings so far.
     fn is_in_all(&self, place: usize, round: usize) -> bool {
         at(self.passes.as_slice(), place) == round
@@ -209,6 +214,22 @@ impl Planner {
         Ok(())
     }
 
+    /// Looks for the cuts of the knots that are wanted.
+    fn plan_all(
+        &mut self,
+        alloc: Global,
+        holdings: &[Holding],
+        members: &[Vec<usize>],
+        wanted: &[bool],
+    ) -> Result<(), AllocError> {
+        for knot in 0..members.len() {
+            if marked(wanted, knot) {
+                self.plan(alloc, holdings, knot, members[knot].as_slice())?;
+            }
+        }
+        Ok(())
+    }
+
     /// The blocks of a knot follow a cut, in this order.
     fn settle(
         &mut self,
@@ -228,40 +249,6 @@ impl Planner {
     }
 }
 
-/// The blocks of each knot, by its least block.
-fn members_of(alloc: Global, blocks: u16, knots: &[usize]) -> Result<Vec<Vec<usize>>, AllocError> {
-    let mut members = Vec::new(alloc);
-    for _block in 0..usize::from(blocks) + 1 {
-        members.push(Vec::new(alloc))?;
-    }
-    for block in 1..usize::from(blocks) + 1 {
-        let knot = at(knots, block);
-        if knot < members.len() {
-            members[knot].push(block)?;
-        }
-    }
-    Ok(members)
-}
-
-/// The owners within knots.
-fn inner(
-    alloc: Global,
-    shared: u32,
-    blocks: u16,
-    holdings: &[Holding],
-    knots: &[usize],
-) -> Result<Web, AllocError> {
-    let mut web = Web::new(alloc, blocks, holdings.len())?;
-    for index in 0..holdings.len() {
-        let from = source(holdings[index].cell);
-        let to = usize::from(holdings[index].block.0);
-        if is_owner(shared, holdings[index].cell) && from > 0 && at(knots, from) == at(knots, to) {
-            web.add(holdings, index + 1);
-        }
-    }
-    Ok(web)
-}
-
 /// A guess at the cuts of the knots that owners tie.
 pub(crate) fn guessed_cuts(
     alloc: Global,
@@ -271,25 +258,9 @@ pub(crate) fn guessed_cuts(
     knots: &[usize],
     ties: &[Holding],
 ) -> Result<CutGuess, AllocError> {
-    let size = usize::from(blocks) + 1;
     let members = members_of(alloc, blocks, knots)?;
-    let mut wanted = vec![in alloc; false; size]?;
-    for tie in ties {
-        mark_at(&mut wanted, usize::from(tie.block.0));
-    }
-    let mut planner = Planner {
-        web: inner(alloc, shared, blocks, holdings, knots)?,
-        ordering: Ordering::new(alloc, blocks)?,
-        passes: vec![in alloc; 0; holdings.len().saturating_add(1)]?,
-        guess: CutGuess {
-            plan: Plan::new(alloc, shared, blocks, holdings)?,
-            rings: Rings::new(alloc, blocks)?,
-        },
-    };
-    for knot in 0..members.len() {
-        if marked(wanted.as_slice(), knot) {
-            planner.plan(alloc, holdings, knot, members[knot].as_slice())?;
-        }
-    }
+    let wanted = wanted_by(alloc, blocks, ties)?;
+    let mut planner = Planner::new(alloc, shared, blocks, holdings, knots)?;
+    planner.plan_all(alloc, holdings, members.as_slice(), wanted.as_slice())?;
     Ok(planner.guess)
 }

@@ -1,7 +1,7 @@
 //! A guess at rings: blocks each of which has an owner in another one. Nothing is known of it: it is looked at before
 //! it is believed.
 use crate::guesses::ordering::Ordering;
-use crate::guesses::search::{at, put_at};
+use crate::guesses::search::{at, put_at, zeros};
 use crate::guesses::web::{Web, handle_at, source_at, target_at};
 use crate::holding::Holding;
 use crate::looks::checking::number;
@@ -20,9 +20,9 @@ impl Ring {
     fn new(alloc: Global, blocks: u16) -> Result<Ring, AllocError> {
         let size = usize::from(blocks) + 1;
         Ok(Ring {
-            places: vec![in alloc; 0; size]?,
+            places: zeros(alloc, size)?,
+            witnesses: zeros(alloc, size)?,
             members: vec![in alloc; false; 2 * size]?,
-            witnesses: vec![in alloc; 0; size]?,
         })
     }
 
@@ -73,9 +73,9 @@ pub(crate) struct Rings {
 impl Rings {
     pub(crate) fn new(alloc: Global, blocks: u16) -> Result<Rings, AllocError> {
         Ok(Rings {
+            seen: zeros(alloc, usize::from(blocks) + 1)?,
             one: Ring::new(alloc, blocks)?,
             other: Ring::new(alloc, blocks)?,
-            seen: vec![in alloc; 0; usize::from(blocks) + 1]?,
         })
     }
 
@@ -94,6 +94,49 @@ impl Rings {
         }
     }
 
+    /// A walk back from a block along owners between blocks that wait, without the one at a place, until it comes to a
+    /// block twice; and that block.
+    fn walk(
+        &mut self,
+        holdings: &[Holding],
+        web: &Web,
+        ordering: &Ordering,
+        path: &mut Vec<usize>,
+        first: usize,
+        most: usize,
+        without: usize,
+    ) -> Result<usize, AllocError> {
+        let mut block = first;
+        for _step in 0..most {
+            let place = ordering.waited_for(holdings, web, block, without);
+            if place == 0 || at(self.seen.as_slice(), block) > 0 {
+                break;
+            }
+            path.push(place)?;
+            put_at(&mut self.seen, block, path.len());
+            block = source_at(holdings, place);
+        }
+        Ok(block)
+    }
+
+    /// Adds what a walk went along since it first came to a block, and forgets the walk.
+    fn close(
+        &mut self,
+        holdings: &[Holding],
+        path: &[usize],
+        block: usize,
+        ring: &mut Vec<usize>,
+    ) -> Result<(), AllocError> {
+        let first = at(self.seen.as_slice(), block);
+        for index in 0..path.len() {
+            put_at(&mut self.seen, target_at(holdings, path[index]), 0);
+            if index + 1 >= first {
+                ring.push(path[index])?;
+            }
+        }
+        Ok(())
+    }
+
     /// A ring among the blocks that wait, without the owner at a place.
     pub(crate) fn found(
         &mut self,
@@ -104,31 +147,12 @@ impl Rings {
         members: &[usize],
         without: usize,
     ) -> Result<Vec<usize>, AllocError> {
+        let first = ordering.first_waiting(members);
+        let most = members.len() + 1;
         let mut path = Vec::new(alloc);
-        let mut block = 0;
-        for member in members {
-            if ordering.waits(*member) {
-                block = *member;
-                break;
-            }
-        }
-        for _step in 0..members.len() + 1 {
-            let place = ordering.waited_for(holdings, web, block, without);
-            if place == 0 || at(self.seen.as_slice(), block) > 0 {
-                break;
-            }
-            path.push(place)?;
-            put_at(&mut self.seen, block, path.len());
-            block = source_at(holdings, place);
-        }
-        let first = at(self.seen.as_slice(), block);
+        let last = self.walk(holdings, web, ordering, &mut path, first, most, without)?;
         let mut ring = Vec::new(alloc);
-        for index in 0..path.len() {
-            put_at(&mut self.seen, target_at(holdings, path[index]), 0);
-            if index + 1 >= first {
-                ring.push(path[index])?;
-            }
-        }
+        self.close(holdings, path.as_slice(), last, &mut ring)?;
         Ok(ring)
     }
 

@@ -21,6 +21,11 @@ pub(crate) fn put_at(list: &mut Vec<usize>, index: usize, number: usize) {
     }
 }
 
+/// So many zeros.
+pub(crate) fn zeros(alloc: Global, count: usize) -> Result<Vec<usize>, AllocError> {
+    Ok(vec![in alloc; 0; count]?)
+}
+
 /// What is on a block, by its place in the block's row, if there are so many.
 fn holding_at(rows: &[Vec<Holding>], block: usize, index: usize) -> Option<Holding> {
     if block < rows.len() && index < rows[block].len() {
@@ -51,22 +56,25 @@ struct Search {
     guess: Guess,
 }
 
+impl Guess {
+    fn new(alloc: Global, size: usize) -> Result<Guess, AllocError> {
+        Ok(Guess {
+            ranks: zeros(alloc, size)?,
+            firsts: zeros(alloc, 1)?,
+        })
+    }
+}
+
 impl Search {
     fn new(alloc: Global, size: usize) -> Result<Search, AllocError> {
-        let mut firsts = Vec::new(alloc);
-        firsts.push(0)?;
-        let guess = Guess {
-            ranks: vec![in alloc; 0; size]?,
-            firsts,
-        };
         Ok(Search {
-            places: vec![in alloc; 0; size]?,
-            lows: vec![in alloc; 0; size]?,
-            followed: vec![in alloc; 0; size]?,
+            places: zeros(alloc, size)?,
+            lows: zeros(alloc, size)?,
+            followed: zeros(alloc, size)?,
+            guess: Guess::new(alloc, size)?,
             path: Vec::new(alloc),
             open: Vec::new(alloc),
             found: 0,
-            guess,
         })
     }
 

@@ -6,7 +6,7 @@ use Rattle.owner_graph.specs.Owners.{IsAmong}
 use Rattle.owner_graph.specs.Ties.{AreCuts}
 use Rattle.owner_graph.specs.Ties.AreCuts.{NoTies}
 use Rattle.owner_graph.proofs.TieLemmas.{cut_more, cut_no_more}
-use Rattle.owner_graph.proofs.tying.cuts.Goals as goal
+use Rattle.owner_graph.proofs.tying.cuts_by.Goals as goal
 
 pub loop-tie-init : goal.loop-tie-init
 loop-tie-init c = (

@@ -2,7 +2,7 @@ use Rattle.std.proofs.Common.{take}
 use Rattle.std.specs.Prelude.{All}
 use Rattle.owner_graph.specs.Owners.{IsAmong}
 use Rattle.owner_graph.specs.Ties.{AreCuts}
-use Rattle.owner_graph.proofs.tying.cuts.Given as goal
+use Rattle.owner_graph.proofs.tying.cuts_by.Given as goal
 
 abbrev pub invariant-loop-tie : goal.invariant-loop-tie
 invariant-loop-tie l =
