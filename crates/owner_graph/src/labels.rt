@@ -70,6 +70,19 @@ fn one_by_one(
     Ok(knots)
 }
 
+/// A guess at the knots.
+fn guess_of(
+    alloc: Global,
+    shared: u32,
+    blocks: u16,
+    holdings: &[Holding],
+) -> Result<Guess, AllocError>
+    requires { All (IsAmong blocks) holdings.now }
+{
+    let rows = by_block(alloc, blocks, holdings)?;
+    guessed(alloc, shared, blocks, holdings.len(), rows.as_slice())
+}
+
 /// Of each block, from 1, the least of the knot that it is in (own): blocks have one knot just where owners lead from
 /// each to the other. A block that nothing ties is a knot of its own. Of the free cells so many are shared.
 ///
@@ -85,8 +98,7 @@ pub fn knots(
     requires { All (IsAmong blocks) holdings.now }
     ensures { IfOk result (λ knots. KnotsAre shared blocks holdings.now knots.items) }
 {
-    let rows = by_block(alloc, blocks, holdings)?;
-    let guess = guessed(alloc, shared, blocks, holdings.len(), rows.as_slice())?;
+    let guess = guess_of(alloc, shared, blocks, holdings)?;
     let labels = labels_of(alloc, blocks, &guess)?;
     let ranks = guess.ranks.as_slice();
     if are_knots(alloc, shared, blocks, holdings, ranks, labels.as_slice())? {
