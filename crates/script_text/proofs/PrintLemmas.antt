@@ -1,14 +1,19 @@
 -- Lines with their line feeds, one after the other.
 use Rattle.std.proofs.Common.{◌≡◌, ℕ, ◌-◌, ◌≤◌, List, [], ◌∷◌, ◌++◌, length, map, take, drop, get_or, refl, sym, ap, ◌∙◌}
 use Rattle.std.proofs.Common.{arith, append_assoc}
-use Rattle.std.specs.Prelude.{decimal}
+use Rattle.std.specs.Prelude.{codes, decimal}
 use Rattle.std.specs.List.{flat_map}
 use Rattle.std.proofs.lemmas.List.{append-nil, take_all, take_rest}
 use Rattle.std.proofs.lemmas.List.Concat.{flat_map-cons}
 use Rattle.script_text.specs.declared.parts.thread.Thread.{Thread}
 use Rattle.script_text.specs.Drafts.{section_of}
 use Rattle.script_text.specs.Grammar.{ended}
-use Rattle.script_text.specs.Canonical.{number_after, spaced, section_lines, begun_lines, thread_lines}
+use Rattle.step_table.specs.Deeds.{field_number}
+use Rattle.script_text.specs.declared.line.Word.{Word}
+use Rattle.script_text.specs.declared.line.Word.TheVariants.{Of, In, Fields, Field, Number, Null}
+use Rattle.script_text.specs.Names.{NameList, name_text}
+use Rattle.script_text.specs.Cells.{cell_text}
+use Rattle.script_text.specs.Canonical.{number_after, spaced, section_lines, begun_lines, thread_lines, word_after, word_texts}
 
 -- a line with its line feed
 abbrev pub with_feed : List ℕ → List ℕ
@@ -35,24 +40,35 @@ ended-flat_map f (x ∷ xs) =
     ∙ ap (λ (t : List ℕ). ended (f x) ++ t) (ended-flat_map f xs)
     ∙ sym (flat_map-cons (λ y. ended (f y)) x xs)
 
-pub spaced-numbers : (word : List ℕ) (numbers : List ℕ)
-    → spaced (word ∷ map decimal numbers) ≡ word ++ flat_map number_after numbers
-spaced-numbers word [] = sym (append-nil word)
-spaced-numbers word (n ∷ numbers) =
-    ap (λ (t : List ℕ). word ++ 32 ∷ t) (spaced-numbers (decimal n) numbers)
-    ∙ ap (λ (t : List ℕ). word ++ t) (sym (flat_map-cons number_after n numbers))
+-- numbers, and what follows them
+numbers_then : (word : List ℕ) (numbers : List ℕ) (more : List (List ℕ)) (after : List ℕ)
+    → ((w : List ℕ) → spaced (w ∷ more) ≡ w ++ after)
+    → spaced (word ∷ map decimal numbers ++ more) ≡ word ++ (flat_map number_after numbers ++ after)
+numbers_then word [] more after h = h word
+numbers_then word (n ∷ numbers) more after h =
+    ap (λ (t : List ℕ). word ++ 32 ∷ t) (numbers_then (decimal n) numbers more after h)
+    ∙ ap (λ (t : List ℕ). word ++ 32 ∷ t) (sym (append_assoc (decimal n) (flat_map number_after numbers) after))
 
--- two words, numbers and a line feed, one after the other, are the line of all these words
-pub fields_line : (text first second : List ℕ) (numbers : List ℕ)
-    → ((text ++ (first ++ 32 ∷ second)) ++ flat_map number_after numbers) ++ 10 ∷ [] ≡ text ++ ended
-    (spaced (first ∷ second ∷ map decimal numbers) ∷ [])
-fields_line text first second numbers =
-    let more : List ℕ = flat_map number_after numbers in
-    append_assoc (text ++ (first ++ 32 ∷ second)) more (10 ∷ [])
-    ∙ append_assoc text (first ++ 32 ∷ second) (more ++ 10 ∷ [])
-    ∙ ap (λ (t : List ℕ). text ++ t) (sym (append_assoc (first ++ 32 ∷ second) more (10 ∷ [])))
-    ∙ ap (λ (t : List ℕ). text ++ (t ++ 10 ∷ [])) (append_assoc first (32 ∷ second) more)
-    ∙ ap (λ (t : List ℕ). text ++ ((first ++ 32 ∷ t) ++ 10 ∷ [])) (sym (spaced-numbers second numbers))
+spaced-words : (names : NameList) (word : List ℕ) (ws : List Word)
+    → spaced (word ∷ flat_map (word_texts names) ws) ≡ word ++ flat_map (word_after names) ws
+spaced-words names word [] = sym (append-nil word)
+spaced-words names word (Of n ∷ ws) = ap (λ (t : List ℕ). word ++ 32 ∷ t) (spaced-words names (name_text names n) ws)
+spaced-words names word (In c ∷ ws) = ap (λ (t : List ℕ). word ++ 32 ∷ t) (spaced-words names (cell_text names c) ws)
+spaced-words names word (Fields fields ∷ ws) =
+    numbers_then word fields (flat_map (word_texts names) ws) (flat_map (word_after names) ws) (λ w. spaced-words names w ws)
+spaced-words names word (Field f ∷ ws) = ap (λ (t : List ℕ). word ++ 32 ∷ t) (spaced-words names (decimal (field_number f)) ws)
+spaced-words names word (Number n ∷ ws) = ap (λ (t : List ℕ). word ++ 32 ∷ t) (spaced-words names (decimal n) ws)
+spaced-words names word (Null ∷ ws) = ap (λ (t : List ℕ). word ++ 32 ∷ t) (spaced-words names (codes "null") ws)
+
+-- a first word, the words after it and a line feed, one after the other, are a line
+pub words_line : (names : NameList) (text first : List ℕ) (ws : List Word)
+    → ((text ++ first) ++ flat_map (word_after names) ws) ++ 10 ∷ [] ≡ text ++ ended (spaced (first ∷ flat_map (word_texts names) ws) ∷ [])
+words_line names text first ws =
+    let more : List ℕ = flat_map (word_after names) ws in
+    append_assoc (text ++ first) more (10 ∷ [])
+    ∙ append_assoc text first (more ++ 10 ∷ [])
+    ∙ ap (λ (t : List ℕ). text ++ t) (sym (append_assoc first more (10 ∷ [])))
+    ∙ ap (λ (t : List ℕ). text ++ (t ++ 10 ∷ [])) (sym (spaced-words names first ws))
 
 -- ---- at the end of a loop
 

@@ -13,6 +13,16 @@ use Rattle.script_text.specs.declared.words.keyword.CellKeyword.{CellKeyword}
 use Rattle.script_text.specs.declared.words.keyword.CellKeyword.TheVariants as cell
 use Rattle.script_text.specs.declared.words.keyword.WeakKeyword.{WeakKeyword}
 use Rattle.script_text.specs.declared.words.keyword.WeakKeyword.TheVariants as weak
+use Rattle.script_text.specs.declared.parts.calls.OnSource.{OnSource}
+use Rattle.script_text.specs.declared.parts.calls.OnSource.TheVariants as on_source
+use Rattle.script_text.specs.declared.parts.calls.OnTarget.{OnTarget}
+use Rattle.script_text.specs.declared.parts.calls.OnTarget.TheVariants as on_target
+use Rattle.script_text.specs.declared.parts.calls.OnPair.{OnPair}
+use Rattle.script_text.specs.declared.parts.calls.OnPair.TheVariants as on_pair
+use Rattle.script_text.specs.declared.parts.calls.OnSources.{OnSources}
+use Rattle.script_text.specs.declared.parts.calls.OnSources.TheVariants as on_sources
+use Rattle.script_text.specs.declared.parts.calls.OnFields.{OnFields}
+use Rattle.script_text.specs.declared.parts.calls.OnFields.TheVariants as on_fields
 use Rattle.script_text.specs.Reading.{◌>>=◌}
 use Rattle.script_text.specs.Names.{NameList}
 use Rattle.script_text.specs.Shapes.{Aim, alias_at, cell_and_other, cell_and_source, cell_and_sources, target_and_cell}
@@ -21,6 +31,39 @@ use Rattle.script_text.specs.Shapes.{one_target, one_source, target_and_source, 
 -- what was read, as a call
 abbrev pub as_call : {A : Type 0} → (A → Call) → Result (A × NameList) Cause → Result (Call × NameList) Cause
 as_call make read = read >>= λ r. Ok (make r.0, r.1)
+
+-- the calls by the shapes of their statements
+abbrev pub source_call : OnSource → Name → Call
+source_call on_source.Reset = λ n. call.Reset n
+source_call on_source.Count = λ n. call.Count n
+source_call on_source.Read = λ n. call.Read n
+source_call on_source.Place = λ n. call.Place n
+source_call on_source.WeakReset = λ n. call.WeakReset n
+source_call on_source.WeakCount = λ n. call.WeakCount n
+source_call on_source.Expired = λ n. call.Expired n
+
+abbrev pub target_call : OnTarget → Name → Call
+target_call on_target.Null = λ n. call.Null n
+target_call on_target.Empty = λ n. call.Empty n
+target_call on_target.WeakEmpty = λ n. call.WeakEmpty n
+
+abbrev pub pair_call : OnPair → Name × Name → Call
+pair_call on_pair.Copy = λ p. call.Copy p.0 p.1
+pair_call on_pair.Move = λ p. call.Move p.0 p.1
+pair_call on_pair.This = λ p. call.This p.0 p.1
+pair_call on_pair.WeakThis = λ p. call.WeakThis p.0 p.1
+pair_call on_pair.Weak = λ p. call.Weak p.0 p.1
+pair_call on_pair.WeakCopy = λ p. call.WeakCopy p.0 p.1
+pair_call on_pair.Lock = λ p. call.Lock p.0 p.1
+pair_call on_pair.Upgrade = λ p. call.Upgrade p.0 p.1
+
+abbrev pub sources_call : OnSources → Name × Name → Call
+sources_call on_sources.Same = λ p. call.Same p.0 p.1
+sources_call on_sources.Before = λ p. call.Before p.0 p.1
+
+abbrev pub fields_call : OnFields → Name × List ℕ → Call
+fields_call on_fields.Make = λ p. call.Make p.0 p.1
+fields_call on_fields.MakeThis = λ p. call.MakeThis p.0 p.1
 
 -- the call of an alias, with its target and source, by where it points
 abbrev pub alias_call : (Name × Name) × Aim → Call

@@ -7,6 +7,8 @@ use Rattle.step_threads.specs.declared.programs.call.Call.TheVariants as call
 use Rattle.step_table.specs.Deeds.{field_number}
 use Rattle.script_text.specs.declared.line.Line.{Line}
 use Rattle.script_text.specs.declared.line.Line.TheVariants as line
+use Rattle.script_text.specs.declared.line.Word.{Word}
+use Rattle.script_text.specs.declared.line.Word.TheVariants as word
 use Rattle.script_text.specs.declared.parts.version.Version.{Version}
 use Rattle.script_text.specs.declared.parts.version.Version.TheVariants.{One, Two}
 use Rattle.script_text.specs.Names.{NameList, name_text}
@@ -75,6 +77,24 @@ line_words names (line.Number word count) = word.now ∷ decimal count ∷ []
 -- a number after a space
 abbrev pub number_after : ℕ → List ℕ
 number_after number = codes " " ++ decimal number
+
+-- the texts that stand for what a line has after its first word
+abbrev pub word_texts : NameList → Word → List (List ℕ)
+word_texts names (word.Of name) = name_text names name ∷ []
+word_texts names (word.In cell) = cell_text names cell ∷ []
+word_texts names (word.Fields fields) = map decimal fields
+word_texts names (word.Field field) = decimal (field_number field) ∷ []
+word_texts names (word.Number count) = decimal count ∷ []
+word_texts names word.Null = codes "null" ∷ []
+
+-- the same, each after a space
+abbrev pub word_after : NameList → Word → List ℕ
+word_after names (word.Of name) = 32 ∷ name_text names name
+word_after names (word.In cell) = codes " " ++ cell_text names cell
+word_after names (word.Fields fields) = flat_map number_after fields
+word_after names (word.Field field) = number_after (field_number field)
+word_after names (word.Number count) = number_after count
+word_after names word.Null = 32 ∷ codes "null"
 
 -- words with single spaces between them
 abbrev pub spaced : List (List ℕ) → List ℕ

@@ -1,10 +1,11 @@
 //! The line of a call, by its shape.
 
-ghost use Rattle.std.specs.Prelude.{◌≡◌, ◌∷◌, [], ◌++◌, map, OnOk, codes, string_bytes, decimal};
+ghost use Rattle.std.specs.Prelude.{◌≡◌, ◌∷◌, [], ◌++◌, OnOk, codes, string_bytes, decimal};
 ghost use Rattle.std.specs.List.{flat_map};
 ghost use Rattle.script_text.specs.Names.{NameList};
 ghost use Rattle.script_text.specs.Cells.{cell_text, member_text};
 ghost use Rattle.script_text.specs.Canonical.{AddsLines, spaced, number_after, call_words, line_words, call_line};
+ghost use Rattle.script_text.specs.Canonical.{word_after, word_texts};
 
 use crate::parts::names::Names;
 use std::alloc::AllocError;
@@ -25,6 +26,17 @@ pub(crate) enum Line {
     Load(Name, CellName),
     Compare(&'static str, CellName, Name, Name),
     Number(&'static str, u16),
+}
+
+/// What a line has after its first word.
+#[derive(Clone, Copy)]
+pub(crate) enum Word {
+    Of(Name),
+    In(CellName),
+    Fields([u64; 4]),
+    Field(Field),
+    Number(u16),
+    Null,
 }
 
 /// The line of a call.
@@ -78,28 +90,11 @@ fn line_of(call: &Call) -> Line
     }
 }
 
-/// Adds a line of two words.
-fn put_two(text: &mut String, first: &str, second: &str) -> Result<(), AllocError>
-    ensures { OnOk result (AddsLines text.old text.new (spaced (first.now ∷ second.now ∷ []) ∷ [])) }
+/// A text and a number after it.
+fn put_number(text: &mut String, before: &str, number: u64) -> Result<(), AllocError>
+    ensures { OnOk result (string_bytes text.new ≡ string_bytes text.old ++ before.now ++ decimal number) }
 {
-    writeln!(text, "{first} {second}")?;
-    Ok(())
-}
-
-/// Adds a line of three words.
-fn put_three(text: &mut String, first: &str, second: &str, third: &str) -> Result<(), AllocError>
-    ensures { OnOk result
-        (AddsLines text.old text.new (spaced (first.now ∷ second.now ∷ third.now ∷ []) ∷ [])) }
-{
-    writeln!(text, "{first} {second} {third}")?;
-    Ok(())
-}
-
-/// Adds a line of a word and a number.
-fn put_number(text: &mut String, first: &str, count: u16) -> Result<(), AllocError>
-    ensures { OnOk result (AddsLines text.old text.new (spaced (first.now ∷ decimal count ∷ []) ∷ [])) }
-{
-    writeln!(text, "{first} {count}")?;
+    write!(text, "{before}{number}")?;
     Ok(())
 }
 
@@ -109,49 +104,16 @@ fn put_numbers(text: &mut String, numbers: &[u64; 4]) -> Result<(), AllocError>
         (string_bytes text.new ≡ string_bytes text.old ++ flat_map number_after numbers.now) }
 {
     for number in numbers {
-        write!(text, " {number}")?;
+        put_number(text, " ", *number)?;
     }
     Ok(())
 }
 
-/// Adds a line of two words and numbers.
-fn put_fields(
-    text: &mut String,
-    first: &str,
-    second: &str,
-    numbers: &[u64; 4],
-) -> Result<(), AllocError>
-    ensures { OnOk result
-        (AddsLines text.old text.new (spaced (first.now ∷ second.now ∷ map decimal numbers.now) ∷ [])) }
+/// Adds a space and a word.
+fn put_text(text: &mut String, word: &str) -> Result<(), AllocError>
+    ensures { OnOk result (string_bytes text.new ≡ string_bytes text.old ++ 32 ∷ word.now) }
 {
-    write!(text, "{first} {second}")?;
-    put_numbers(text, numbers)?;
-    text.push_str("\n")?;
-    Ok(())
-}
-
-/// Adds the line of an alias that points at null.
-fn put_alias_null(text: &mut String, target: &str, source: &str) -> Result<(), AllocError>
-    ensures { OnOk result (AddsLines text.old text.new
-        (spaced (codes "alias" ∷ target.now ∷ source.now ∷ codes "null" ∷ []) ∷ [])) }
-{
-    writeln!(text, "alias {target} {source} null")?;
-    Ok(())
-}
-
-/// Adds the line of an alias of a field.
-fn put_alias(
-    text: &mut String,
-    target: &str,
-    source: &str,
-    of: &str,
-    field: u8,
-) -> Result<(), AllocError>
-    ensures { OnOk result (AddsLines text.old text.new
-        (spaced (codes "alias" ∷ target.now ∷ source.now ∷ of.now ∷ decimal field ∷ []) ∷ [])) }
-{
-    write!(text, "alias {target} {source}")?;
-    writeln!(text, " {of} {field}")?;
+    write!(text, " {word}")?;
     Ok(())
 }
 
@@ -166,70 +128,62 @@ fn member_text(member: u8) -> &'static str
     }
 }
 
+/// Adds a space and a member of what a name owns.
+fn put_member(text: &mut String, of: &str, member: &str) -> Result<(), AllocError>
+    ensures { OnOk result
+        (string_bytes text.new ≡ string_bytes text.old ++ codes " " ++ of.now ++ (codes "." ++ member.now)) }
+{
+    write!(text, " {of}.{member}")?;
+    Ok(())
+}
+
 /// Adds a space and a cell.
-fn put_cell_word(text: &mut String, names: &Names, cell: CellName) -> Result<(), AllocError>
+fn put_cell(text: &mut String, names: &Names, cell: CellName) -> Result<(), AllocError>
     ensures { OnOk result
         (string_bytes text.new ≡ string_bytes text.old ++ codes " " ++ cell_text names.now cell) }
 {
     match cell {
-        CellName::Shared(number) => write!(text, " s{number}")?,
-        CellName::Weak(number) => write!(text, " w{number}")?,
+        CellName::Shared(number) => put_number(text, " s", u64::from(number)),
+        CellName::Weak(number) => put_number(text, " w", u64::from(number)),
         CellName::Member { name, member } => {
-            let (of, member) = (names.text(name), member_text(member));
-            write!(text, " {of}.{member}")?;
+            put_member(text, names.text(name), member_text(member))
         }
+    }
+}
+
+/// Adds what a line has after its first word, and a space before it.
+fn put_word(text: &mut String, names: &Names, word: Word) -> Result<(), AllocError>
+    ensures { OnOk result (string_bytes text.new ≡ string_bytes text.old ++ word_after names.now word) }
+{
+    match word {
+        Word::Of(name) => put_text(text, names.text(name)),
+        Word::In(cell) => put_cell(text, names, cell),
+        Word::Fields(fields) => put_numbers(text, &fields),
+        Word::Field(field) => put_number(text, " ", u64::from(field.number())),
+        Word::Number(count) => put_number(text, " ", u64::from(count)),
+        Word::Null => put_text(text, "null"),
+    }
+}
+
+/// Adds all that a line has after its first word.
+fn put_words(text: &mut String, names: &Names, words: &[Word]) -> Result<(), AllocError>
+    ensures { OnOk result
+        (string_bytes text.new ≡ string_bytes text.old ++ flat_map (word_after names.now) words.now) }
+{
+    for word in words {
+        put_word(text, names, *word)?;
     }
     Ok(())
 }
 
-/// Adds a line of a word, a cell and a name.
-fn put_cell(
-    text: &mut String,
-    names: &Names,
-    first: &str,
-    cell: CellName,
-    name: &str,
-) -> Result<(), AllocError>
+/// Adds a line by its first word and what follows it.
+fn put_line(text: &mut String, names: &Names, first: &str, words: &[Word]) -> Result<(), AllocError>
     ensures { OnOk result (AddsLines text.old text.new
-        (spaced (first.now ∷ cell_text names.now cell ∷ name.now ∷ []) ∷ [])) }
+        (spaced (first.now ∷ flat_map (word_texts names.now) words.now) ∷ [])) }
 {
     text.push_str(first)?;
-    put_cell_word(text, names, cell)?;
-    writeln!(text, " {name}")?;
-    Ok(())
-}
-
-/// Adds the line of a load.
-fn put_load(
-    text: &mut String,
-    names: &Names,
-    target: &str,
-    cell: CellName,
-) -> Result<(), AllocError>
-    ensures { OnOk result (AddsLines text.old text.new
-        (spaced (codes "load" ∷ target.now ∷ cell_text names.now cell ∷ []) ∷ [])) }
-{
-    write!(text, "load {target}")?;
-    put_cell_word(text, names, cell)?;
+    put_words(text, names, words)?;
     text.push_str("\n")?;
-    Ok(())
-}
-
-/// Adds a line of a word, a cell and two names.
-fn put_compare(
-    text: &mut String,
-    names: &Names,
-    first: &str,
-    cell: CellName,
-    expected: &str,
-    desired: &str,
-) -> Result<(), AllocError>
-    ensures { OnOk result (AddsLines text.old text.new
-        (spaced (first.now ∷ cell_text names.now cell ∷ expected.now ∷ desired.now ∷ []) ∷ [])) }
-{
-    text.push_str(first)?;
-    put_cell_word(text, names, cell)?;
-    writeln!(text, " {expected} {desired}")?;
     Ok(())
 }
 
@@ -238,24 +192,36 @@ pub(crate) fn put_call(text: &mut String, names: &Names, call: &Call) -> Result<
     ensures { OnOk result (AddsLines text.old text.new (call_line names.now call.now ∷ [])) }
 {
     match line_of(call) {
-        Line::One(word, name) => put_two(text, word, names.text(name)),
+        Line::One(word, name) => put_line(text, names, word, &[Word::Of(name)]),
         Line::Two(word, first, second) => {
-            put_three(text, word, names.text(first), names.text(second))
+            put_line(text, names, word, &[Word::Of(first), Word::Of(second)])
         }
-        Line::Fields(word, name, fields) => put_fields(text, word, names.text(name), &fields),
+        Line::Fields(word, name, fields) => {
+            put_line(text, names, word, &[Word::Of(name), Word::Fields(fields)])
+        }
         Line::Alias(target, source, of, field) => {
-            let (target, source) = (names.text(target), names.text(source));
-            put_alias(text, target, source, names.text(of), field.number())
+            let words = [
+                Word::Of(target),
+                Word::Of(source),
+                Word::Of(of),
+                Word::Field(field),
+            ];
+            put_line(text, names, "alias", &words)
         }
         Line::AliasNull(target, source) => {
-            put_alias_null(text, names.text(target), names.text(source))
+            let words = [Word::Of(target), Word::Of(source), Word::Null];
+            put_line(text, names, "alias", &words)
         }
-        Line::Cell(word, cell, name) => put_cell(text, names, word, cell, names.text(name)),
-        Line::Load(target, cell) => put_load(text, names, names.text(target), cell),
+        Line::Cell(word, cell, name) => {
+            put_line(text, names, word, &[Word::In(cell), Word::Of(name)])
+        }
+        Line::Load(target, cell) => {
+            put_line(text, names, "load", &[Word::Of(target), Word::In(cell)])
+        }
         Line::Compare(word, cell, expected, desired) => {
-            let (expected, desired) = (names.text(expected), names.text(desired));
-            put_compare(text, names, word, cell, expected, desired)
+            let words = [Word::In(cell), Word::Of(expected), Word::Of(desired)];
+            put_line(text, names, word, &words)
         }
-        Line::Number(word, count) => put_number(text, word, count),
+        Line::Number(word, count) => put_line(text, names, word, &[Word::Number(count)]),
     }
 }

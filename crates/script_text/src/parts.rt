@@ -1,4 +1,5 @@
 //! What a script is made of.
+pub(crate) mod calls;
 pub(crate) mod draft;
 pub(crate) mod names;
 pub(crate) mod statement;

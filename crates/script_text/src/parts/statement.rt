@@ -6,11 +6,14 @@ ghost use Rattle.script_text.specs.Shapes.{cell_and_sources, texts};
 ghost use Rattle.script_text.specs.Calls.{as_call, call_at, cell_call_at, place_call_at, weak_call_at};
 
 use crate::fault::Stop;
+use crate::parts::calls::{
+    OnFields, OnPair, OnSource, OnSources, OnTarget, on_fields, on_pair, on_source, on_sources,
+    on_target,
+};
 use crate::parts::names::Names;
 use crate::words::alias::alias;
 use crate::words::cell::{cell_and_other, cell_and_source, cell_and_sources, target_and_cell};
 use crate::words::keyword::{CellKeyword, Keyword, PlaceKeyword, WeakKeyword};
-use crate::words::shape::{source, target, target_and_fields, target_and_source, two_sources};
 use std::alloc::Global;
 use step_core::Call;
 use step_core::Kind::{Owner, Weak};
@@ -27,34 +30,13 @@ pub(crate) fn call_of(
         (call_at names.old keyword (texts words.now)) }
 {
     match keyword {
-        Keyword::Make => {
-            let (target, fields) = target_and_fields(alloc, names, words)?;
-            Ok(Call::Make { target, fields })
-        }
-        Keyword::MakeThis => {
-            let (target, fields) = target_and_fields(alloc, names, words)?;
-            Ok(Call::MakeThis { target, fields })
-        }
-        Keyword::Null => {
-            let target = target(alloc, names, Owner, words)?;
-            Ok(Call::Null { target })
-        }
-        Keyword::Empty => {
-            let target = target(alloc, names, Owner, words)?;
-            Ok(Call::Empty { target })
-        }
-        Keyword::Reset => {
-            let name = source(names, Owner, words)?;
-            Ok(Call::Reset { name })
-        }
-        Keyword::Copy => {
-            let (target, source) = target_and_source(alloc, names, Owner, Owner, words)?;
-            Ok(Call::Copy { target, source })
-        }
-        Keyword::Count => {
-            let name = source(names, Owner, words)?;
-            Ok(Call::Count { name })
-        }
+        Keyword::Make => on_fields(alloc, names, words, OnFields::Make),
+        Keyword::MakeThis => on_fields(alloc, names, words, OnFields::MakeThis),
+        Keyword::Null => on_target(alloc, names, Owner, words, OnTarget::Null),
+        Keyword::Empty => on_target(alloc, names, Owner, words, OnTarget::Empty),
+        Keyword::Reset => on_source(names, Owner, words, OnSource::Reset),
+        Keyword::Copy => on_pair(alloc, names, Owner, Owner, words, OnPair::Copy),
+        Keyword::Count => on_source(names, Owner, words, OnSource::Count),
         Keyword::Place(keyword) => place_call_of(alloc, names, keyword, words),
         Keyword::Cell(keyword) => cell_call_of(alloc, names, keyword, words),
         Keyword::Weak(keyword) => weak_call_of(alloc, names, keyword, words),
@@ -73,35 +55,14 @@ fn place_call_of(
         (place_call_at names.old keyword (texts words.now)) }
 {
     match keyword {
-        PlaceKeyword::Move => {
-            let (target, source) = target_and_source(alloc, names, Owner, Owner, words)?;
-            Ok(Call::Move { target, source })
-        }
+        PlaceKeyword::Move => on_pair(alloc, names, Owner, Owner, words, OnPair::Move),
         PlaceKeyword::Alias => alias(alloc, names, words),
-        PlaceKeyword::This => {
-            let (target, source) = target_and_source(alloc, names, Owner, Owner, words)?;
-            Ok(Call::This { target, source })
-        }
-        PlaceKeyword::WeakThis => {
-            let (target, source) = target_and_source(alloc, names, Weak, Owner, words)?;
-            Ok(Call::WeakThis { target, source })
-        }
-        PlaceKeyword::Read => {
-            let name = source(names, Owner, words)?;
-            Ok(Call::Read { name })
-        }
-        PlaceKeyword::Place => {
-            let name = source(names, Owner, words)?;
-            Ok(Call::Place { name })
-        }
-        PlaceKeyword::Same => {
-            let (first, second) = two_sources(names, Some(Owner), words)?;
-            Ok(Call::Same { first, second })
-        }
-        PlaceKeyword::Before => {
-            let (first, second) = two_sources(names, None, words)?;
-            Ok(Call::Before { first, second })
-        }
+        PlaceKeyword::This => on_pair(alloc, names, Owner, Owner, words, OnPair::This),
+        PlaceKeyword::WeakThis => on_pair(alloc, names, Weak, Owner, words, OnPair::WeakThis),
+        PlaceKeyword::Read => on_source(names, Owner, words, OnSource::Read),
+        PlaceKeyword::Place => on_source(names, Owner, words, OnSource::Place),
+        PlaceKeyword::Same => on_sources(names, Some(Owner), words, OnSources::Same),
+        PlaceKeyword::Before => on_sources(names, None, words, OnSources::Before),
     }
 }
 
@@ -160,34 +121,13 @@ fn weak_call_of(
         (weak_call_at names.old keyword (texts words.now)) }
 {
     match keyword {
-        WeakKeyword::Weak => {
-            let (target, source) = target_and_source(alloc, names, Weak, Owner, words)?;
-            Ok(Call::Weak { target, source })
-        }
-        WeakKeyword::Copy => {
-            let (target, source) = target_and_source(alloc, names, Weak, Weak, words)?;
-            Ok(Call::WeakCopy { target, source })
-        }
-        WeakKeyword::Empty => {
-            let target = target(alloc, names, Weak, words)?;
-            Ok(Call::WeakEmpty { target })
-        }
-        WeakKeyword::Lock => {
-            let (target, source) = target_and_source(alloc, names, Owner, Weak, words)?;
-            Ok(Call::Lock { target, source })
-        }
-        WeakKeyword::Upgrade => {
-            let (target, source) = target_and_source(alloc, names, Owner, Weak, words)?;
-            Ok(Call::Upgrade { target, source })
-        }
-        WeakKeyword::Reset => Ok(Call::WeakReset {
-            name: source(names, Weak, words)?,
-        }),
-        WeakKeyword::Count => Ok(Call::WeakCount {
-            name: source(names, Weak, words)?,
-        }),
-        WeakKeyword::Expired => Ok(Call::Expired {
-            name: source(names, Weak, words)?,
-        }),
+        WeakKeyword::Weak => on_pair(alloc, names, Weak, Owner, words, OnPair::Weak),
+        WeakKeyword::Copy => on_pair(alloc, names, Weak, Weak, words, OnPair::WeakCopy),
+        WeakKeyword::Empty => on_target(alloc, names, Weak, words, OnTarget::WeakEmpty),
+        WeakKeyword::Lock => on_pair(alloc, names, Owner, Weak, words, OnPair::Lock),
+        WeakKeyword::Upgrade => on_pair(alloc, names, Owner, Weak, words, OnPair::Upgrade),
+        WeakKeyword::Reset => on_source(names, Weak, words, OnSource::WeakReset),
+        WeakKeyword::Count => on_source(names, Weak, words, OnSource::WeakCount),
+        WeakKeyword::Expired => on_source(names, Weak, words, OnSource::Expired),
     }
 }

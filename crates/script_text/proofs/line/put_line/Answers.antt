@@ -1,0 +1,14 @@
+use Rattle.std.proofs.Common.{ℕ, List, ◌∷◌, ◌++◌, [], ap, ◌∙◌}
+use Rattle.std.specs.Prelude.{string_bytes}
+use Rattle.std.specs.List.{flat_map}
+use Rattle.script_text.specs.Canonical.{word_after}
+use Rattle.script_text.proofs.PrintLemmas.{words_line}
+use Rattle.script_text.proofs.line.put_line.Goals as goal
+
+pub returns : goal.returns
+returns c =
+    c.in_ok-push_str-2.ensures.bytes
+    ∙ ap (λ (t : List ℕ). t ++ 10 ∷ [])
+    (c.in_ok-put_words.ensures
+    ∙ ap (λ (t : List ℕ). t ++ flat_map (word_after c.args.names.now) c.args.words.now) c.in_ok-push_str.ensures.bytes)
+    ∙ words_line c.args.names.now (string_bytes c.args.text.now) c.args.first.now c.args.words.now
