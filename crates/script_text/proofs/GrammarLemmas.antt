@@ -1,9 +1,13 @@
 -- A text read line by line.
-use Rattle.std.proofs.Common.{◌≡◌, ℕ, ◌+◌, ◌<◌, ◌≤◌, List, [], ◌∷◌, ◌++◌, length, Ok, refl, sym, ap, ◌∙◌, arith}
+use Rattle.std.proofs.Common.{◌≡◌, ℕ, ◌+◌, ◌<◌, ◌≤◌, List, [], ◌∷◌, ◌++◌, length, Ok, inl, inr, refl, subst, sym, ap, ◌∙◌, arith}
 use Rattle.std.proofs.Common.{append_assoc, length-append}
 use Rattle.std.specs.List.{AllByRecursion}
+use Rattle.script_text.specs.declared.fault.Cause.TheVariants.{UnfinishedLine}
+use Rattle.script_text.specs.declared.fault.Fault.{Fault}
+use Rattle.script_text.specs.declared.fault.Fault.TheVariants as fault
 use Rattle.script_text.specs.Drafts.{Draft, new_draft, after_line}
-use Rattle.script_text.specs.Grammar.{HasNoFeed, IsLineCut, ended, Leads, BeginsWithDraft}
+use Rattle.script_text.specs.Grammar.{HasNoFeed, IsLineCut, ended, Leads, BeginsWithDraft, Faulty, Refuses}
+use Rattle.script_text.specs.Reach.{IsFaultOf}
 
 ended-last : (lines : List (List ℕ)) (line more : List ℕ)
     → ended lines ++ (line ++ 10 ∷ more) ≡ ended (lines ++ line ∷ []) ++ more
@@ -53,3 +57,27 @@ number_bound bytes d n rest b =
 -- a line that is cut off leaves fewer bytes
 pub cut_shorter : (bytes line rest : List ℕ) → IsLineCut bytes line rest → length rest < length bytes
 cut_shorter bytes line rest cut = omega (arith, ap length cut.text, length-append line (10 ∷ rest))
+
+-- a line that is refused
+pub refused_line : (bytes : List ℕ) (d : Draft) (n : ℕ) (rest line more : List ℕ) (f : Fault) → BeginsWithDraft bytes d n rest
+    → IsLineCut rest line more → IsFaultOf f n (after_line d line) → Refuses f bytes
+refused_line bytes d n rest line more fault.Memory b cut h = tt
+refused_line bytes d n rest line more (fault.Syntax number cause) b cut h = subst (λ (m : ℕ). Faulty bytes m cause) (sym h.0) (record {
+  draft = d;
+  rest = rest;
+  begins = b;
+  fault = inr (record { line = line; more = more; cut = cut; says = h.1 });
+})
+refused_line bytes d n rest line more (fault.BadTurn position) b cut h = absurd h
+refused_line bytes d n rest line more fault.Output b cut h = absurd h
+refused_line bytes d n rest line more fault.Input b cut h = absurd h
+
+-- bytes after the last line feed
+pub unfinished : (bytes : List ℕ) (d : Draft) (n : ℕ) (rest : List ℕ) → BeginsWithDraft bytes d n rest → HasNoFeed rest → 0 < length rest
+    → Faulty bytes n UnfinishedLine
+unfinished bytes d n rest b clean some = record {
+  draft = d;
+  rest = rest;
+  begins = b;
+  fault = inl (record { some = some; clean = clean; says = refl });
+}

@@ -106,17 +106,18 @@ names_in-insert (e ∷ es) key kind name same none =
     let test : string_eq key e.0 ≡ false = rw (← same) at m.0 in
     rw test (ap (λ (ns : NameList). (string_bytes e.0, e.1) ∷ ns) (names_in-insert es key kind name same m.1))
 
-pub declared_new : {A : Type 0} (es fs : List (String A × Kind)) (key : String A) (kind : Kind)
-    (name : List ℕ) (n : ℕ)
-    → string_bytes key ≡ name → find_name name (names_in es) ≡ None → n ≡ length es → n < 32 → fs
-    ≡ insert_entry string_eq es key kind
-    → declared (names_in es) kind name ≡ Ok (numbered n, names_in fs)
+pub appended : {A : Type 0} (es fs : List (String A × Kind)) (key : String A) (kind : Kind) (name : List ℕ)
+    → string_bytes key ≡ name → find_name name (names_in es) ≡ None → fs ≡ insert_entry string_eq es key kind
+    → names_in fs ≡ names_in es ++ (name, kind) ∷ []
+appended es fs key kind name same none new = rw new (names_in-insert es key kind name same none)
+
+pub declared_new : (names more : NameList) (kind : Kind) (name : List ℕ) (n : ℕ)
+    → find_name name names ≡ None → n ≡ length names → n < 32 → more ≡ names ++ (name, kind) ∷ []
+    → declared names kind name ≡ Ok (numbered n, more)
 unfolding declared
-declared_new es fs key kind name n same none is room new =
-    let len : length (names_in es) ≡ n = search (rules, length-map) in
+declared_new names more kind name n none is room new =
     let fits : ltb n 32 ≡ true = lt-ltb n 32 room in
-    rw (none, len, fits, new)
-    (ap (λ (ns : NameList). Ok (numbered n, ns)) (sym (names_in-insert es key kind name same none)))
+    rw (none, ← is, fits, new) refl
 
 -- ---- kinds
 

@@ -115,6 +115,11 @@ header_line words = version_at words >>= λ version. Ok (draft_in version)
 abbrev pub other_line : Draft → List ℕ → List (List ℕ) → Result Draft Cause
 other_line d first words = if bytes_eq first (codes "thread") then thread_line d words else statement_line d first words
 
+-- a line that isn't skipped
+abbrev pub told_line : Draft → List ℕ → List (List ℕ) → Result Draft Cause
+told_line d first words =
+    if is_new d && bytes_eq first (codes "version") then header_line words else other_line d first words
+
 -- a line without words, or whose first word begins with `#`, is skipped
 abbrev pub after_words : Draft → List (List ℕ) → Result Draft Cause
 after_words d [] = Ok d

@@ -95,6 +95,12 @@ aim_of name word = do
   field ← field_of_word word
   Ok (Some (name, field))
 
+-- the field of what another name points into
+abbrev pub aim_at_other : NameList → List ℕ → List ℕ → Result Aim Cause
+aim_at_other names other word = do
+  of ← source_at names Owner other
+  aim_of of word
+
 -- `null`, `F` of the source, or `O F`
 unfoldable pub aim_at : NameList → Name → List (List ℕ) → Result Aim Cause
 aim_at names source (last ∷ []) = if bytes_eq last (codes "null") then Ok None else aim_of source last

@@ -1,11 +1,12 @@
 //! A script from its text.
 
-ghost use Rattle.std.specs.Prelude.{◌≡◌, ℕ, MatchOption, IfOk, map, position};
+ghost use Rattle.std.specs.Prelude.{◌≡◌, ℕ, [], MatchOption, IfErr, IfOk, OnOk, map, position};
 ghost use Rattle.script_text.specs.declared.fault.Cause.{Cause};
 ghost use Rattle.script_text.specs.declared.fault.Fault.TheVariants.{Syntax};
-ghost use Rattle.script_text.specs.Drafts.{ScriptView, section_of, draft_of, sections};
+ghost use Rattle.script_text.specs.Drafts.{ScriptView, after_line, section_of, draft_of, new_draft, sections};
 ghost use Rattle.script_text.specs.Grammar.{is_feed, HasNoFeed, IsLineCut, ReadsAs, Faulty, Answers, IsUnlessMemory};
-ghost use Rattle.script_text.specs.Reach.{ReachesDraft};
+ghost use Rattle.script_text.specs.Grammar.{BeginsWithDraft, Refuses};
+ghost use Rattle.script_text.specs.Reach.{IsFaultOf, ReachesDraft};
 
 use crate::fault::{Cause, Fault, Stop};
 use crate::parts::draft::{Draft, add_line, empty_draft};
@@ -29,18 +30,30 @@ fn split_line(bytes: &[u8]) -> Option<(&[u8], &[u8])>
     Some((&bytes[..end], &bytes[end + 1..]))
 }
 
-/// The draft that the lines of a text lead to.
-fn read_lines(alloc: Global, bytes: &[u8]) -> Result<Draft, Fault>
-    ensures { ReachesDraft result bytes.now }
+/// Adds the line with this number.
+fn add_numbered(alloc: Global, draft: &mut Draft, text: &[u8], line: usize) -> Result<(), Fault>
+    ensures ok { OnOk result (after_line (draft_of draft.old) text.now ≡ Ok (draft_of draft.new)) }
+    ensures err { IfErr result (λ fault. IsFaultOf fault line (after_line (draft_of draft.old) text.now)) }
 {
-    let mut draft = empty_draft(alloc, Version::One);
+    match add_line(alloc, draft, text) {
+        Ok(()) => Ok(()),
+        Err(Stop::Memory) => Err(Fault::Memory),
+        Err(Stop::Cause(cause)) => Err(Fault::Syntax { line, cause }),
+    }
+}
+
+/// Adds the lines of a text.
+fn add_lines(alloc: Global, draft: &mut Draft, bytes: &[u8]) -> Result<(), Fault>
+    requires { draft_of draft.old ≡ new_draft }
+    ensures ok { OnOk result ((number : ℕ) × BeginsWithDraft bytes.now (draft_of draft.new) number []) }
+    ensures err { IfErr result (λ fault. Refuses fault bytes.now) }
+{
     let mut rest = bytes;
     let mut line = 1;
     while let Some((text, after)) = split_line(rest) {
-        match add_line(alloc, &mut draft, text) {
+        match add_numbered(alloc, draft, text, line) {
             Ok(()) => {}
-            Err(Stop::Memory) => return Err(Fault::Memory),
-            Err(Stop::Cause(cause)) => return Err(Fault::Syntax { line, cause }),
+            Err(fault) => return Err(fault),
         }
         rest = after;
         line += 1;
@@ -51,6 +64,15 @@ fn read_lines(alloc: Global, bytes: &[u8]) -> Result<Draft, Fault>
             cause: Cause::UnfinishedLine,
         });
     }
+    Ok(())
+}
+
+/// The draft that the lines of a text lead to.
+fn read_lines(alloc: Global, bytes: &[u8]) -> Result<Draft, Fault>
+    ensures { ReachesDraft result bytes.now }
+{
+    let mut draft = empty_draft(alloc, Version::One);
+    add_lines(alloc, &mut draft, bytes)?;
     Ok(draft)
 }
 

@@ -5,7 +5,7 @@ ghost use Rattle.std.specs.Str.{bytes_eq};
 ghost use Rattle.script_text.specs.Reading.{Gives};
 ghost use Rattle.script_text.specs.Shapes.{texts};
 ghost use Rattle.script_text.specs.Drafts.{draft_of, draft_in, is_new, next_thread, next_call, header_line};
-ghost use Rattle.script_text.specs.Drafts.{thread_line, statement_line, after_words, after_line};
+ghost use Rattle.script_text.specs.Drafts.{thread_line, statement_line, after_words, after_line, other_line, told_line};
 
 use crate::fault::{Cause, Stop};
 use crate::parts::statement::call_of;
@@ -110,6 +110,38 @@ fn add_statement_line(
     add_call(alloc, draft, keyword, words)
 }
 
+/// A line that is no header.
+fn add_other_line(
+    alloc: Global,
+    draft: &mut Draft,
+    first: &[u8],
+    words: &[&[u8]],
+) -> Result<(), Stop>
+    ensures { Gives (λ _. draft_of draft.new) result
+        (other_line (draft_of draft.old) first.now (texts words.now)) }
+{
+    if first == b"thread".as_slice() {
+        return add_thread_line(alloc, draft, words);
+    }
+    add_statement_line(alloc, draft, first, words)
+}
+
+/// A line that isn't skipped.
+fn add_told_line(
+    alloc: Global,
+    draft: &mut Draft,
+    first: &[u8],
+    words: &[&[u8]],
+) -> Result<(), Stop>
+    ensures { Gives (λ _. draft_of draft.new) result
+        (told_line (draft_of draft.old) first.now (texts words.now)) }
+{
+    if is_header(draft, first) {
+        return add_header_line(alloc, draft, words);
+    }
+    add_other_line(alloc, draft, first, words)
+}
+
 fn add_words(alloc: Global, draft: &mut Draft, words: &[&[u8]]) -> Result<(), Stop>
     ensures { Gives (λ _. draft_of draft.new) result
         (after_words (draft_of draft.old) (texts words.now)) }
@@ -120,13 +152,7 @@ fn add_words(alloc: Global, draft: &mut Draft, words: &[&[u8]]) -> Result<(), St
     if first.starts_with(b"#".as_slice()) {
         return Ok(());
     }
-    if is_header(draft, first) {
-        add_header_line(alloc, draft, rest)
-    } else if *first == b"thread".as_slice() {
-        add_thread_line(alloc, draft, rest)
-    } else {
-        add_statement_line(alloc, draft, first, rest)
-    }
+    add_told_line(alloc, draft, first, rest)
 }
 
 /// Adds a line, given without its line feed.

@@ -1,6 +1,6 @@
 //! The words of a statement on a cell.
 
-ghost use Rattle.std.specs.Prelude.{◌≡◌, MatchOption, None, Some, position};
+ghost use Rattle.std.specs.Prelude.{◌≡◌, ◌∷◌, [], MatchOption, None, Some, position};
 ghost use Rattle.script_text.specs.Reading.{Gives};
 ghost use Rattle.script_text.specs.Cells.{cell_of_word, is_dot, member_at, member_number_at, split_dot};
 ghost use Rattle.script_text.specs.Shapes.{target_and_cell, cell_and_source, cell_and_other, cell_and_sources, texts};
@@ -66,6 +66,24 @@ fn cell_of(names: &Names, word: &[u8]) -> Result<CellName, Stop>
     }
 }
 
+/// A target of the kind of the cell after it, which is looked at first, by their words.
+#[tactic(auto, unfolding(crate::specs::Shapes::target_and_cell))]
+fn target_then_cell(
+    alloc: Global,
+    names: &mut Names,
+    written: &[u8],
+    one: &[u8],
+) -> Result<(Name, CellName), Stop>
+    ensures { Gives (λ n. (n, names.new)) result
+        (target_and_cell names.old (written.now ∷ one.now ∷ [])) }
+{
+    let cell = cell_of(names, one)?;
+    let kind = cell.kind();
+    let name = names.target(kind, written)?;
+    let target = names.declare(alloc, kind, name)?;
+    Ok((target, cell))
+}
+
 /// A target of the kind of the cell after it, which is looked at first.
 #[tactic(auto, unfolding(crate::specs::Shapes::target_and_cell))]
 pub(crate) fn target_and_cell(
@@ -78,11 +96,7 @@ pub(crate) fn target_and_cell(
     let [written, one] = words else {
         return Err(Stop::Cause(Cause::WrongNumberOfWords));
     };
-    let cell = cell_of(names, one)?;
-    let kind = cell.kind();
-    let name = names.target(kind, written)?;
-    let target = names.declare(alloc, kind, name)?;
-    Ok((target, cell))
+    target_then_cell(alloc, names, written, one)
 }
 
 /// A cell, and a source of its kind.

@@ -1,6 +1,6 @@
 //! The words after the first one: a function for each shape of statement.
 
-ghost use Rattle.std.specs.Prelude.{◌≡◌};
+ghost use Rattle.std.specs.Prelude.{◌≡◌, ◌∷◌, []};
 ghost use Rattle.script_text.specs.Reading.{Gives};
 ghost use Rattle.script_text.specs.Shapes.{texts, number_or_zero, fields_at, one_target, one_source, target_and_source};
 ghost use Rattle.script_text.specs.Shapes.{two_sources, target_and_fields};
@@ -39,6 +39,25 @@ pub(crate) fn source(names: &Names, kind: Kind, words: &[&[u8]]) -> Result<Name,
     names.source(kind, word)
 }
 
+/// A target and a source by their words.
+#[tactic(auto, unfolding(crate::specs::Shapes::target_and_source))]
+fn target_then_source(
+    alloc: Global,
+    names: &mut Names,
+    to: Kind,
+    from: Kind,
+    written: &[u8],
+    read: &[u8],
+) -> Result<(Name, Name), Stop>
+    ensures { Gives (λ n. (n, names.new)) result
+        (target_and_source names.old to from (written.now ∷ read.now ∷ [])) }
+{
+    let name = names.target(to, written)?;
+    let source = names.source(from, read)?;
+    let target = names.declare(alloc, to, name)?;
+    Ok((target, source))
+}
+
 /// A target and a source.
 #[tactic(auto, unfolding(crate::specs::Shapes::target_and_source))]
 pub(crate) fn target_and_source(
@@ -54,10 +73,7 @@ pub(crate) fn target_and_source(
     let [written, read] = words else {
         return Err(Stop::Cause(Cause::WrongNumberOfWords));
     };
-    let name = names.target(to, written)?;
-    let source = names.source(from, read)?;
-    let target = names.declare(alloc, to, name)?;
-    Ok((target, source))
+    target_then_source(alloc, names, to, from, written, read)
 }
 
 /// Two sources, each of the kind that is asked for, if one is.
@@ -98,6 +114,23 @@ fn fields_of(words: &[&[u8]]) -> Result<[u64; 4], Stop>
     Ok([first, second, third, fourth])
 }
 
+/// A target and the fields of a new object by their words.
+#[tactic(auto, unfolding(crate::specs::Shapes::target_and_fields))]
+fn target_then_fields(
+    alloc: Global,
+    names: &mut Names,
+    written: &[u8],
+    numbers: &[&[u8]],
+) -> Result<(Name, [u64; 4]), Stop>
+    ensures { Gives (λ n. (n, names.new)) result
+        (target_and_fields names.old (written.now ∷ texts numbers.now)) }
+{
+    let name = names.target(Kind::Owner, written)?;
+    let fields = fields_of(numbers)?;
+    let target = names.declare(alloc, Kind::Owner, name)?;
+    Ok((target, fields))
+}
+
 /// A target, and the fields of a new object.
 #[tactic(auto, unfolding(crate::specs::Shapes::target_and_fields))]
 pub(crate) fn target_and_fields(
@@ -110,8 +143,5 @@ pub(crate) fn target_and_fields(
     let [written, numbers @ ..] = words else {
         return Err(Stop::Cause(Cause::WrongNumberOfWords));
     };
-    let name = names.target(Kind::Owner, written)?;
-    let fields = fields_of(numbers)?;
-    let target = names.declare(alloc, Kind::Owner, name)?;
-    Ok((target, fields))
+    target_then_fields(alloc, names, written, numbers)
 }

@@ -1,7 +1,7 @@
 use Rattle.std.proofs.Common.{arith}
 use Rattle.script_text.specs.Drafts.{draft_of}
-use Rattle.script_text.proofs.GrammarLemmas.{begins_after, number_bound, cut_shorter}
-use Rattle.script_text.proofs.text.read_lines.Goals as goal
+use Rattle.script_text.proofs.GrammarLemmas.{begins_after, number_bound, cut_shorter, refused_line}
+use Rattle.script_text.proofs.text.add_lines.Goals as goal
 
 pub overflow_add-line : goal.overflow_add-line
 overflow_add-line c =
@@ -13,7 +13,12 @@ overflow_add-line c =
 
 pub loop-text-preserved : goal.loop-text-preserved
 loop-text-preserved c =
-    begins_after c.args.bytes.now (draft_of c.loop-text.draft) (draft_of c.add_line.new.draft)
+    begins_after c.args.bytes.now (draft_of c.loop-text.draft) (draft_of c.add_numbered.new.draft)
     c.loop-text.line
     c.loop-text.rest.now c.in-Some.text.now c.in-Some.after.now c.loop-text.invariant c.in-Some.ensures
-    c.in-Ok.ensures
+    c.in-Ok.ensures.ok
+
+pub returns-in-Err-clause-err : goal.returns-in-Err-clause-err
+returns-in-Err-clause-err c =
+    refused_line c.args.bytes.now (draft_of c.loop-text.draft) c.loop-text.line c.loop-text.rest.now c.in-Some.text.now c.in-Some.after.now _
+    c.loop-text.invariant c.in-Some.ensures c.in-Err.ensures.err

@@ -1,7 +1,7 @@
 use Rattle.std.proofs.Common.{length}
 use Rattle.script_text.specs.Drafts.{draft_of}
 use Rattle.script_text.specs.Grammar.{BeginsWithDraft}
-use Rattle.script_text.proofs.text.read_lines.Given as goal
+use Rattle.script_text.proofs.text.add_lines.Given as goal
 
 abbrev pub invariant-loop-text : goal.invariant-loop-text
 invariant-loop-text l = BeginsWithDraft l.bytes (draft_of l.draft) l.line l.rest
