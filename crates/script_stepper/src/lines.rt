@@ -1,34 +1,50 @@
 //! The lines that a run writes, as text (own).
-ghost use Rattle.std.specs.Prelude.{◌≡◌, ◌∷◌, ◌++◌, [], OnOk, string_bytes};
+ghost use Rattle.std.specs.Prelude.{◌≡◌, ◌∷◌, ◌++◌, [], OnOk, codes, decimal, string_bytes};
 ghost use Rattle.std.specs.List.{flat_map};
 ghost use Rattle.script_text.specs.Canonical.{AddsLines, number_after};
-ghost use Rattle.script_stepper.specs.Lines.{answer_text, block_text, ended_text, line_start, locked_word};
-ghost use Rattle.script_stepper.specs.Lines.{place_text, said_lines, statement_text, totals_text, yes_or_no};
+ghost use Rattle.script_stepper.specs.Lines.{answer_text, block_text, ended_text, line_of, line_start, locked_word};
+ghost use Rattle.script_stepper.specs.Lines.{place_text, said_lines, totals_text, yes_or_no};
 
 use control_word::{Counts, Place};
 use std::alloc::AllocError;
 use std::fmt::Write;
 use step_core::{Answer, Ended, Said};
 
-/// Adds the number of a statement, or `end` at a thread's end.
-fn put_statement(text: &mut String, statement: u32) -> Result<(), AllocError>
-    ensures { OnOk result (string_bytes text.new ≡ string_bytes text.old ++ statement_text statement) }
+/// Adds how each line of a thread begins: with the number of a statement, or `end` at the thread's end.
+fn put_start(text: &mut String, thread: u8, statement: u32) -> Result<(), AllocError>
+    ensures { OnOk result (string_bytes text.new ≡ string_bytes text.old ++ line_start thread statement) }
 {
     if statement == 0 {
-        text.push_str("end")?;
+        write!(text, "{thread}.end ")?;
     } else {
-        write!(text, "{statement}")?;
+        write!(text, "{thread}.{statement} ")?;
     }
     Ok(())
 }
 
-/// Adds how each line of a thread begins.
-fn put_start(text: &mut String, thread: u8, statement: u32) -> Result<(), AllocError>
-    ensures { OnOk result (string_bytes text.new ≡ string_bytes text.old ++ line_start thread statement) }
+/// Adds a text and a number after it.
+fn put_number(text: &mut String, before: &str, number: u64) -> Result<(), AllocError>
+    ensures { OnOk result (string_bytes text.new ≡ string_bytes text.old ++ before.now ++ decimal number) }
 {
-    write!(text, "{thread}.")?;
-    put_statement(text, statement)?;
-    text.push_str(" ")?;
+    write!(text, "{before}{number}")?;
+    Ok(())
+}
+
+/// The same, which ends a line.
+fn put_last(text: &mut String, before: &str, number: u64) -> Result<(), AllocError>
+    ensures { OnOk result
+        (string_bytes text.new ≡ string_bytes text.old ++ before.now ++ decimal number ++ 10 ∷ []) }
+{
+    writeln!(text, "{before}{number}")?;
+    Ok(())
+}
+
+/// Adds two texts, which end a line.
+fn put_words(text: &mut String, first: &str, second: &str) -> Result<(), AllocError>
+    ensures { OnOk result
+        (string_bytes text.new ≡ string_bytes text.old ++ first.now ++ second.now ++ 10 ∷ []) }
+{
+    writeln!(text, "{first}{second}")?;
     Ok(())
 }
 
@@ -46,27 +62,24 @@ fn locked_word(is_owner: bool) -> &'static str
     if is_owner { "owner" } else { "empty" }
 }
 
-/// Adds a block and a field of its object, or `null`.
-fn put_place(text: &mut String, place: Option<Place>) -> Result<(), AllocError>
-    ensures { OnOk result (string_bytes text.new ≡ string_bytes text.old ++ place_text place) }
+/// Adds a block and a field of its object, which end a line.
+fn put_place_at(text: &mut String, block: u16, field: u8) -> Result<(), AllocError>
+    ensures { OnOk result (string_bytes text.new
+        ≡ string_bytes text.old ++ codes "place " ++ decimal block ++ codes "." ++ decimal field ++ 10 ∷ []) }
 {
-    match place {
-        None => text.push_str("null")?,
-        Some(Place { block, field }) => {
-            let number = block.0;
-            write!(text, "{number}.{field}")?;
-        }
-    }
+    writeln!(text, "place {block}.{field}")?;
     Ok(())
 }
 
-/// Adds a word and whether it is so, which ends a line.
-fn put_test(text: &mut String, word: &str, is_so: bool) -> Result<(), AllocError>
+/// Adds a place, or `null`, which ends a line.
+fn put_place(text: &mut String, place: Option<Place>) -> Result<(), AllocError>
     ensures { OnOk result
-        (string_bytes text.new ≡ string_bytes text.old ++ word.now ++ 32 ∷ yes_or_no is_so ++ 10 ∷ []) }
+        (string_bytes text.new ≡ string_bytes text.old ++ codes "place " ++ place_text place ++ 10 ∷ []) }
 {
-    let so = yes_or_no(is_so);
-    writeln!(text, "{word} {so}")?;
+    match place {
+        None => text.push_str("place null\n")?,
+        Some(Place { block, field }) => put_place_at(text, block.0, field)?,
+    }
     Ok(())
 }
 
@@ -75,31 +88,17 @@ fn put_answer(text: &mut String, answer: Answer) -> Result<(), AllocError>
     ensures { OnOk result (string_bytes text.new ≡ string_bytes text.old ++ answer_text answer ++ 10 ∷ []) }
 {
     match answer {
-        Answer::Count(owners) => writeln!(text, "count {owners}")?,
-        Answer::Expired(is_expired) => put_test(text, "expired", is_expired)?,
-        Answer::Locked(is_owner) => {
-            let word = locked_word(is_owner);
-            writeln!(text, "lock {word}")?;
-        }
-        Answer::Upgraded => {
-            let word = locked_word(true);
-            writeln!(text, "upgrade {word}")?;
-        }
-        Answer::Read(value) => writeln!(text, "read {value}")?,
-        Answer::Place(place) => {
-            text.push_str("place ")?;
-            put_place(text, place)?;
-            text.push_str("\n")?;
-        }
-        Answer::Same(is_same) => put_test(text, "same", is_same)?,
-        Answer::Before(is_before) => put_test(text, "before", is_before)?,
-        Answer::Compared(is_equivalent) => put_test(text, "compare", is_equivalent)?,
-        Answer::Refused(why) => {
-            let number = why.number();
-            writeln!(text, "refused {number}")?;
-        }
+        Answer::Count(owners) => put_last(text, "count ", u64::from(owners)),
+        Answer::Expired(is_expired) => put_words(text, "expired ", yes_or_no(is_expired)),
+        Answer::Locked(is_owner) => put_words(text, "lock ", locked_word(is_owner)),
+        Answer::Upgraded => put_words(text, "upgrade ", locked_word(true)),
+        Answer::Read(value) => put_last(text, "read ", value),
+        Answer::Place(place) => put_place(text, place),
+        Answer::Same(is_same) => put_words(text, "same ", yes_or_no(is_same)),
+        Answer::Before(is_before) => put_words(text, "before ", yes_or_no(is_before)),
+        Answer::Compared(is_equivalent) => put_words(text, "compare ", yes_or_no(is_equivalent)),
+        Answer::Refused(why) => put_last(text, "refused ", u64::from(why.number())),
     }
-    Ok(())
 }
 
 /// Adds numbers, each after a space.
@@ -108,8 +107,19 @@ fn put_numbers(text: &mut String, numbers: &[u64; 4]) -> Result<(), AllocError>
         (string_bytes text.new ≡ string_bytes text.old ++ flat_map number_after numbers.now) }
 {
     for number in numbers {
-        write!(text, " {number}")?;
+        put_number(text, " ", *number)?;
     }
+    Ok(())
+}
+
+/// Adds the fields of an object that ended, which end a line.
+fn put_fields(text: &mut String, fields: &[u64; 4]) -> Result<(), AllocError>
+    ensures { OnOk result
+        (string_bytes text.new ≡ string_bytes text.old ++ codes "end" ++ flat_map number_after fields.now ++ 10 ∷ []) }
+{
+    text.push_str("end")?;
+    put_numbers(text, fields)?;
+    text.push_str("\n")?;
     Ok(())
 }
 
@@ -118,12 +128,42 @@ fn put_ended(text: &mut String, ended: Ended) -> Result<(), AllocError>
     ensures { OnOk result (string_bytes text.new ≡ string_bytes text.old ++ ended_text ended ++ 10 ∷ []) }
 {
     match ended {
-        Ended::Fields(fields) => {
-            text.push_str("end")?;
-            put_numbers(text, &fields)?;
-            text.push_str("\n")?;
-        }
+        Ended::Fields(fields) => put_fields(text, &fields)?,
         Ended::Null => text.push_str("end null\n")?,
+    }
+    Ok(())
+}
+
+/// Adds the line of an answer, where there is one.
+fn put_answered(
+    text: &mut String,
+    thread: u8,
+    statement: u32,
+    answer: Option<Answer>,
+) -> Result<(), AllocError>
+    ensures { OnOk result (AddsLines text.old text.new
+        (line_of (λ a. line_start thread statement ++ answer_text a) answer)) }
+{
+    if let Some(answer) = answer {
+        put_start(text, thread, statement)?;
+        put_answer(text, answer)?;
+    }
+    Ok(())
+}
+
+/// Adds the line of an object that ended, where there is one.
+fn put_ending(
+    text: &mut String,
+    thread: u8,
+    statement: u32,
+    ended: Option<Ended>,
+) -> Result<(), AllocError>
+    ensures { OnOk result (AddsLines text.old text.new
+        (line_of (λ e. line_start thread statement ++ ended_text e) ended)) }
+{
+    if let Some(ended) = ended {
+        put_start(text, thread, statement)?;
+        put_ended(text, ended)?;
     }
     Ok(())
 }
@@ -132,14 +172,8 @@ fn put_ended(text: &mut String, ended: Ended) -> Result<(), AllocError>
 pub(crate) fn put_said(text: &mut String, thread: u8, said: &Said) -> Result<(), AllocError>
     ensures { OnOk result (AddsLines text.old text.new (said_lines thread said.now)) }
 {
-    if let Some(answer) = said.answer {
-        put_start(text, thread, said.statement)?;
-        put_answer(text, answer)?;
-    }
-    if let Some(ended) = said.ended {
-        put_start(text, thread, said.statement)?;
-        put_ended(text, ended)?;
-    }
+    put_answered(text, thread, said.statement, said.answer)?;
+    put_ending(text, thread, said.statement, said.ended)?;
     Ok(())
 }
 
@@ -158,9 +192,9 @@ pub fn put_block(text: &mut String, block: u16, counts: Counts) -> Result<(), Al
     ensures { OnOk result (AddsLines text.old text.new (block_text block counts ∷ [])) }
 {
     let Counts { owners, weaks } = counts;
-    write!(text, "block {block}")?;
-    write!(text, " owners {owners}")?;
-    writeln!(text, " weaks {weaks}")?;
+    put_number(text, "block ", u64::from(block))?;
+    put_number(text, " owners ", u64::from(owners))?;
+    put_last(text, " weaks ", u64::from(weaks))?;
     Ok(())
 }
 
@@ -170,8 +204,8 @@ pub fn put_totals(text: &mut String, made: u64, ended: u64) -> Result<(), AllocE
     ensures { OnOk result (AddsLines text.old text.new (totals_text made ended ∷ [])) }
 {
     let left = made.saturating_sub(ended);
-    write!(text, "made {made}")?;
-    write!(text, " ended {ended}")?;
-    writeln!(text, " left {left}")?;
+    put_number(text, "made ", made)?;
+    put_number(text, " ended ", ended)?;
+    put_last(text, " left ", left)?;
     Ok(())
 }
