@@ -10,7 +10,6 @@ use control_block::domain::{Domain, open};
 use control_block::handles;
 use shared_handle::{Shared, downgrade, expired, make, release_weak, share, use_count};
 use std::alloc::Global;
-use std::test::Fail;
 use std::thread::{Threads, join_mut};
 
 // `std::shared_ptr::reset`.
@@ -93,12 +92,16 @@ fn two_threads<R: Threads>(
     Some((owners, gone))
 }
 
+// The same, and how many blocks are vacant then.
+fn seen<R: Threads>(rt: &R, alloc: Global) -> Option<(Option<(u32, bool)>, u32)> {
+    let Ok((domain, mut desk)) = open(alloc, shape(4, 8)) else {
+        return None;
+    };
+    let seen = two_threads(rt, alloc, &domain, &mut desk);
+    Some((seen, shut(domain, desk)))
+}
+
 #[test]
-fn an_object_of_two_threads(rt: HostRuntime) -> Result<(), Fail> {
-    let (domain, mut desk) = open::<u64>(rt.alloc(), shape(4, 8)).ok().ok_or("memory")?;
-    let seen = two_threads(&rt, rt.alloc(), &domain, &mut desk);
-    let stock = shut(domain, desk);
-    let (owners, gone) = seen.ok_or("memory")?;
-    same(&rt, (owners, gone, stock), (2, true, 4));
-    Ok(())
+fn an_object_of_two_threads(rt: HostRuntime) {
+    same(&rt, seen(&rt, rt.alloc()), Some((Some((2, true)), 4)));
 }

@@ -3,76 +3,84 @@
 //! it.
 use crate::desks::splits::{abandon, numbers, refusal};
 use crate::parts::shut;
-use crate::same::same;
+use crate::same::is_told;
 use crate::shapes::shape;
 use control_block::domain::open;
 use control_word::Refusal;
 use std::alloc::Global;
-use std::test::Fail;
 
 // What the first desk of a domain has.
 fn opened(alloc: Global) -> Result<(u32, u32, u32), Refusal> {
-    let (domain, desk) = open::<u64>(alloc, shape(4, 8))?;
-    let all = numbers(&desk);
-    abandon(domain, desk);
-    Ok(all)
+    match open::<u64>(alloc, shape(4, 8)) {
+        Ok((domain, desk)) => {
+            let all = numbers(&desk);
+            abandon(domain, desk);
+            Ok(all)
+        }
+        Err(why) => Err(why),
+    }
 }
 
 #[test]
-fn a_refused_opening_leaves_nothing(rt: HostRuntime) -> Result<(), Fail> {
-    let all = match opened(rt.alloc()) {
-        Ok(all) => all,
-        Err(why) => {
-            same(&rt, why, Refusal::Memory);
-            opened(rt.alloc())?
-        }
+fn a_refused_opening_leaves_nothing(rt: HostRuntime) -> Result<(), Refusal> {
+    let told = match opened(rt.alloc()) {
+        Err(Refusal::Memory) => opened(rt.alloc()),
+        told => told,
     };
-    same(&rt, all, (8, 0, 4));
-    Ok(())
+    is_told(&rt, told, (8, 0, 4))
 }
 
 // What a split answers, what the desk has then, and what the same split answers next.
-fn split_twice(alloc: Global) -> Result<(u8, (u32, u32, u32), u8), Refusal> {
-    let (domain, mut desk) = open::<u64>(alloc, shape(4, 8))?;
+type Twice = (u8, (u32, u32, u32), u8);
+
+fn split_twice(alloc: Global) -> Result<Twice, Refusal> {
+    let (domain, mut desk) = match open::<u64>(alloc, shape(4, 8)) {
+        Ok(opened) => opened,
+        Err(why) => return Err(why),
+    };
     let first = refusal(&domain, &mut desk, alloc, 3, 1);
     let between = numbers(&desk);
     let second = refusal(&domain, &mut desk, alloc, 3, 1);
     abandon(domain, desk);
-    Ok((first, between, second))
+    if second == Refusal::Memory.number() {
+        return Err(Refusal::Memory);
+    }
+    Ok((or_refused(first), between, second))
+}
+
+// What a split answers, where it may be refused for want of memory too.
+fn or_refused(answer: u8) -> u8 {
+    if answer == Refusal::Memory.number() {
+        0
+    } else {
+        answer
+    }
 }
 
 #[test]
-fn a_refused_split_changes_nothing(rt: HostRuntime) -> Result<(), Fail> {
-    let (first, between, second) = split_twice(rt.alloc())?;
-    if second == Refusal::Memory.number() {
-        return Err(Refusal::Memory.into());
-    }
-    assert!(rt; first == 0 || first == Refusal::Memory.number());
-    same(&rt, between, (8, 0, 4));
-    same(&rt, second, 0);
-    Ok(())
+fn a_refused_split_changes_nothing(rt: HostRuntime) -> Result<(), Refusal> {
+    is_told(&rt, split_twice(rt.alloc()), (0, (8, 0, 4), 0))
 }
 
 // A domain of so many blocks is opened and closed: how many were vacant.
 fn vacant_of(alloc: Global, blocks: u32) -> Result<u32, Refusal> {
-    let (domain, desk) = open::<u64>(alloc, shape(blocks, 8))?;
-    Ok(shut(domain, desk))
+    match open::<u64>(alloc, shape(blocks, 8)) {
+        Ok((domain, desk)) => Ok(shut(domain, desk)),
+        Err(why) => Err(why),
+    }
 }
 
 #[test]
-fn one_block_is_opened_and_closed(rt: HostRuntime) -> Result<(), Fail> {
-    same(&rt, vacant_of(rt.alloc(), 1)?, 1);
-    Ok(())
+fn one_block_is_opened_and_closed(rt: HostRuntime) -> Result<(), Refusal> {
+    is_told(&rt, vacant_of(rt.alloc(), 1), 1)
 }
 
 #[test]
-fn two_blocks_are_opened_and_closed(rt: HostRuntime) -> Result<(), Fail> {
-    same(&rt, vacant_of(rt.alloc(), 2)?, 2);
-    Ok(())
+fn two_blocks_are_opened_and_closed(rt: HostRuntime) -> Result<(), Refusal> {
+    is_told(&rt, vacant_of(rt.alloc(), 2), 2)
 }
 
 #[test]
-fn four_blocks_are_opened_and_closed(rt: HostRuntime) -> Result<(), Fail> {
-    same(&rt, vacant_of(rt.alloc(), 4)?, 4);
-    Ok(())
+fn four_blocks_are_opened_and_closed(rt: HostRuntime) -> Result<(), Refusal> {
+    is_told(&rt, vacant_of(rt.alloc(), 4), 4)
 }

@@ -5,7 +5,6 @@ use crate::shapes::{shape, shape_with_cells};
 use control_block::domain::open;
 use control_word::Shape;
 use std::alloc::Global;
-use std::test::Fail;
 
 // The number of the refusal of a domain of this shape; 0 where it is opened.
 fn answer(alloc: Global, shape: Shape) -> u8 {
@@ -19,18 +18,16 @@ fn answer(alloc: Global, shape: Shape) -> u8 {
 }
 
 #[test]
-fn a_domain_has_limits(rt: HostRuntime) -> Result<(), Fail> {
+fn a_domain_has_limits(rt: HostRuntime) {
     let alloc = rt.alloc();
-    same(
-        &rt,
+    let answers = [
         answer(alloc, shape_with_cells(65_535, 200, 56, 4_194_304)),
-        0,
-    );
-    same(&rt, answer(alloc, shape(1, 1)), 0);
-    same(&rt, answer(alloc, shape(65_536, 1)), 2);
-    same(&rt, answer(alloc, shape(0, 1)), 2);
-    same(&rt, answer(alloc, shape_with_cells(1, 200, 57, 1)), 2);
-    same(&rt, answer(alloc, shape(1, 4_194_305)), 2);
-    same(&rt, answer(alloc, shape(1, 0)), 2);
-    Ok(())
+        answer(alloc, shape(1, 1)),
+        answer(alloc, shape(65_536, 1)),
+        answer(alloc, shape(0, 1)),
+        answer(alloc, shape_with_cells(1, 200, 57, 1)),
+        answer(alloc, shape(1, 4_194_305)),
+        answer(alloc, shape(1, 0)),
+    ];
+    same(&rt, answers, [0, 0, 2, 2, 2, 2, 2]);
 }

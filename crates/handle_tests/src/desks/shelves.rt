@@ -2,7 +2,7 @@
 ghost use Rattle.std.specs.Prelude.{◌≡◌, ◌+◌, ◌≤◌, length};
 ghost use Rattle.control_block.specs.Desks.{Belongs, IsSameDesk};
 
-use crate::desks::splits::{abandon, all_vacant, cut};
+use crate::desks::splits::{abandon, cut, vacant_blocks};
 use crate::parts::{end, shape};
 use crate::same::same;
 use control_block::desk::Desk;
@@ -11,7 +11,6 @@ use control_word::Refused;
 use shared_handle::make;
 use std::alloc::Global;
 use std::sync::Wait;
-use std::test::Fail;
 use std::thread::{Threads, join_mut};
 
 // What a make answers: 0 where there is an object, which ends again; else the number of the refusal.
@@ -31,12 +30,14 @@ fn try_make(domain: &Domain<u64>, desk: &mut Desk<u64>) -> u8
     }
 }
 
-// What calls on the shelf answer and leave in the store, what two makes answer between them, and whether all blocks are
+// What calls on the shelf answer and leave in the store, what two makes answer between them, and whether each block is
 // vacant with three of them on the shelf.
-type Shelved = ([u32; 8], [u8; 2], Option<bool>);
+type Shelved = ([u32; 8], [u8; 2], Option<[bool; 4]>);
 
-fn shelve_and_make(alloc: Global) -> Option<Shelved> {
-    let (domain, mut desk) = open::<u64>(alloc, shape(4, 4)).ok()?;
+fn shelve_and_make(domain: Domain<u64>, desk: Desk<u64>) -> Shelved
+    requires { Belongs desk domain }
+{
+    let mut desk = desk;
     let two = desk.shelve(&domain, 2);
     let half = desk.stock();
     let rest = desk.shelve(&domain, 9);
@@ -48,35 +49,40 @@ fn shelve_and_make(alloc: Global) -> Option<Shelved> {
     let no_more = desk.unshelve(&domain, 1);
     let left = desk.shelve(&domain, 3);
     let counts = [two, half, rest, none, one, three, no_more, left];
-    Some((counts, [refused, answered], all_vacant(domain, desk)))
+    (counts, [refused, answered], vacant_blocks(domain, desk))
+}
+
+// All this in a domain of four blocks.
+fn shelve_in_four(alloc: Global) -> Option<Shelved> {
+    match open(alloc, shape(4, 4)) {
+        Ok((domain, desk)) => Some(shelve_and_make(domain, desk)),
+        Err(_) => None,
+    }
 }
 
 #[test]
-fn spare_blocks_go_to_the_shelf_and_come_back(rt: HostRuntime) -> Result<(), Fail> {
-    let (counts, makes, vacant) = shelve_and_make(rt.alloc()).ok_or("memory")?;
-    same(&rt, counts, [2, 2, 2, 0, 1, 3, 0, 3]);
-    same(&rt, makes, [3, 0]);
-    same(&rt, vacant, Some(true));
-    Ok(())
+fn spare_blocks_go_to_the_shelf_and_come_back(rt: HostRuntime) {
+    let wanted = ([2, 2, 2, 0, 1, 3, 0, 3], [3, 0], Some([true; 4]));
+    same(&rt, shelve_in_four(rt.alloc()), Some(wanted));
 }
 
 // All blocks of a domain go to the shelf, and so many come back.
-fn there_and_back(rt: &HostRuntime, blocks: u32) -> Option<(u32, u32, u32)> {
-    let (domain, mut desk) = open::<u64>(rt.alloc(), shape(blocks, 1)).ok()?;
+fn there_and_back(alloc: Global, blocks: u32) -> Option<[u32; 3]> {
+    let Ok((domain, mut desk)) = open::<u64>(alloc, shape(blocks, 1)) else {
+        return None;
+    };
     let shelved = desk.shelve(&domain, blocks);
     let back = desk.unshelve(&domain, u32::MAX);
     let stock = desk.stock();
     abandon(domain, desk);
-    Some((shelved, back, stock))
+    Some([shelved, back, stock])
 }
 
 #[test]
-fn the_blocks_at_the_ends_of_words_come_back(rt: HostRuntime) -> Result<(), Fail> {
+fn the_blocks_at_the_ends_of_words_come_back(rt: HostRuntime) {
     for blocks in [1, 63, 64, 65, 128, 65_535] {
-        let all = there_and_back(&rt, blocks).ok_or("memory")?;
-        same(&rt, all, (blocks, blocks, blocks));
+        same(&rt, there_and_back(rt.alloc(), blocks), Some([blocks; 3]));
     }
-    Ok(())
 }
 
 // In a thread: 1,000 tries to take one block. How many were taken.
@@ -106,20 +112,37 @@ fn take_both<R: Threads + Wait + Sync>(
     a.wrapping_add(b)
 }
 
-#[test]
-fn each_block_is_taken_once(rt: HostRuntime) -> Result<(), Fail> {
-    let alloc = rt.alloc();
-    let (domain, mut one) = open::<u64>(alloc, shape(8, 8)).ok().ok_or("memory")?;
-    let Ok(mut two) = cut(&domain, &mut one, alloc, 4, 4) else {
-        abandon(domain, one);
-        return Err("memory".into());
+// Both shelve what they have, take it in their threads, and are joined: how many blocks went there, how many were
+// taken, and how many are in the store then.
+fn shelve_and_take<R: Threads + Wait + Sync>(
+    rt: &R,
+    domain: &Domain<u64>,
+    one: &mut Desk<u64>,
+    two: Desk<u64>,
+) -> [u32; 3]
+    requires domain { Belongs one.old domain.now × Belongs two domain.now }
+{
+    let mut two = two;
+    let shelved = one.shelve(domain, 8).wrapping_add(two.shelve(domain, 8));
+    let taken = take_both(rt, domain, one, &mut two);
+    one.join(domain, two);
+    [shelved, taken, one.stock()]
+}
+
+// All this in a domain of eight blocks, of which each desk has four.
+fn take_in_eight<R: Threads + Wait + Sync>(rt: &R, alloc: Global) -> Option<[u32; 3]> {
+    let Ok((domain, mut one)) = open::<u64>(alloc, shape(8, 8)) else {
+        return None;
     };
-    let mut shelved = one.shelve(&domain, 8);
-    shelved += two.shelve(&domain, 8);
-    let taken = take_both(&rt, &domain, &mut one, &mut two);
-    one.join(&domain, two);
-    let stock = one.stock();
+    let told = match cut(&domain, &mut one, alloc, 4, 4) {
+        Ok(two) => Some(shelve_and_take(rt, &domain, &mut one, two)),
+        Err(_) => None,
+    };
     abandon(domain, one);
-    same(&rt, [shelved, taken, stock], [8, 8, 8]);
-    Ok(())
+    told
+}
+
+#[test]
+fn each_block_is_taken_once(rt: HostRuntime) {
+    same(&rt, take_in_eight(&rt, rt.alloc()), Some([8, 8, 8]));
 }

@@ -6,12 +6,11 @@ ghost use Rattle.control_block.specs.Parting.{listed};
 
 use crate::same::same;
 use crate::shapes::shape;
-use control_block::census::close;
+use control_block::census::{Census, close};
 use control_block::desk::Desk;
 use control_block::domain::{Domain, open};
 use control_word::{Block, Refusal, Refused};
 use std::alloc::Global;
-use std::test::Fail;
 
 pub(crate) fn abandon<V: Drop + Send>(domain: Domain<V>, desk: Desk<V>) {
     drop(domain);
@@ -64,10 +63,11 @@ pub(crate) fn refusal(
     }
 }
 
-#[test]
-fn a_split_keeps_one_and_gives_one(rt: HostRuntime) -> Result<(), Fail> {
-    let alloc = rt.alloc();
-    let (domain, mut desk) = open::<u64>(alloc, shape(4, 8)).ok().ok_or("memory")?;
+// What splits answer of the most, all, no and more allowance than all, and what the desk has then.
+fn refusals(alloc: Global) -> Option<([u8; 4], (u32, u32, u32))> {
+    let Ok((domain, mut desk)) = open::<u64>(alloc, shape(4, 8)) else {
+        return None;
+    };
     let most = refusal(&domain, &mut desk, alloc, 7, 0);
     let all = refusal(&domain, &mut desk, alloc, 8, 0);
     let none = refusal(&domain, &mut desk, alloc, 0, 1);
@@ -75,22 +75,20 @@ fn a_split_keeps_one_and_gives_one(rt: HostRuntime) -> Result<(), Fail> {
     let after = numbers(&desk);
     desk.stands();
     abandon(domain, desk);
-    same(&rt, [most, all, none, more], [0, 4, 4, 4]);
-    same(&rt, after, (8, 0, 4));
-    Ok(())
+    Some(([most, all, none, more], after))
 }
 
-// Whether all blocks are vacant once the desk closes its domain; none where it is not sole.
-pub(crate) fn all_vacant(domain: Domain<u64>, desk: Desk<u64>) -> Option<bool>
-    requires { Belongs desk domain × (domain.shape.blocks ≡ 4) }
+#[test]
+fn a_split_keeps_one_and_gives_one(rt: HostRuntime) {
+    same(&rt, refusals(rt.alloc()), Some(([0, 4, 4, 4], (8, 0, 4))));
+}
+
+// The census of a domain that its desk closes; none where that is not sole.
+pub(crate) fn closed<V: Drop + Send>(domain: Domain<V>, desk: Desk<V>) -> Option<Census<V>>
+    requires { Belongs desk domain }
 {
     match close(domain, desk) {
-        Ok(census) => {
-            let ends = census.is_vacant(Block(1)) && census.is_vacant(Block(4));
-            let all = ends && census.is_vacant(Block(2)) && census.is_vacant(Block(3));
-            drop(census);
-            Some(all)
-        }
+        Ok(census) => Some(census),
         Err(refused) => {
             let Refused {
                 why: _,
@@ -99,6 +97,23 @@ pub(crate) fn all_vacant(domain: Domain<u64>, desk: Desk<u64>) -> Option<bool>
             abandon(domain, desk);
             None
         }
+    }
+}
+
+// Which of four blocks are vacant once the desk closes its domain.
+pub(crate) fn vacant_blocks(domain: Domain<u64>, desk: Desk<u64>) -> Option<[bool; 4]>
+    requires { Belongs desk domain }
+{
+    match closed(domain, desk) {
+        Some(census) => {
+            Some([
+                census.is_vacant(Block(1)),
+                census.is_vacant(Block(2)),
+                census.is_vacant(Block(3)),
+                census.is_vacant(Block(4)),
+            ])
+        }
+        None => None,
     }
 }
 
@@ -125,13 +140,15 @@ fn refused_close(domain: Domain<u64>, desk: Desk<u64>) -> Option<(Domain<u64>, D
 // What a desk has that was cut, what the other has, and the first once they are joined.
 type Parts = [(u32, u32, u32); 3];
 
-// A desk is cut and joined: why it can't close its domain before that, and whether all blocks are vacant then.
-fn cut_and_join(alloc: Global) -> Option<(Parts, u8, Option<bool>)> {
-    let (domain, mut desk) = open::<u64>(alloc, shape(4, 8)).ok()?;
-    let Ok(child) = cut(&domain, &mut desk, alloc, 3, 1) else {
-        abandon(domain, desk);
-        return None;
-    };
+// A desk is joined with the one that was cut from it: why it can't close its domain before that, and which blocks are
+// vacant then.
+fn join_and_close(
+    domain: Domain<u64>,
+    desk: Desk<u64>,
+    child: Desk<u64>,
+) -> Option<(Parts, u8, Option<[bool; 4]>)>
+    requires { Belongs desk domain × Belongs child domain }
+{
     let kept = numbers(&desk);
     let given = numbers(&child);
     let Some((domain, mut desk, why)) = refused_close(domain, desk) else {
@@ -140,14 +157,29 @@ fn cut_and_join(alloc: Global) -> Option<(Parts, u8, Option<bool>)> {
     };
     desk.join(&domain, child);
     let joined = numbers(&desk);
-    Some(([kept, given, joined], why, all_vacant(domain, desk)))
+    Some(([kept, given, joined], why, vacant_blocks(domain, desk)))
+}
+
+// A desk is cut and joined.
+fn cut_and_join(alloc: Global) -> Option<(Parts, u8, Option<[bool; 4]>)> {
+    let Ok((domain, mut desk)) = open::<u64>(alloc, shape(4, 8)) else {
+        return None;
+    };
+    match cut(&domain, &mut desk, alloc, 3, 1) {
+        Ok(child) => join_and_close(domain, desk, child),
+        Err(_) => {
+            abandon(domain, desk);
+            None
+        }
+    }
 }
 
 #[test]
-fn a_desk_is_cut_and_joined(rt: HostRuntime) -> Result<(), Fail> {
-    let (parts, why, vacant) = cut_and_join(rt.alloc()).ok_or("no two desks")?;
-    same(&rt, parts, [(5, 0, 3), (3, 0, 1), (8, 0, 4)]);
-    same(&rt, why, 9);
-    same(&rt, vacant, Some(true));
-    Ok(())
+fn a_desk_is_cut_and_joined(rt: HostRuntime) {
+    let parts = [(5, 0, 3), (3, 0, 1), (8, 0, 4)];
+    same(
+        &rt,
+        cut_and_join(rt.alloc()),
+        Some((parts, 9, Some([true; 4]))),
+    );
 }

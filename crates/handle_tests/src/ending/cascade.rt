@@ -9,7 +9,7 @@ use atomic_cells::{SharedAt, SharedMember};
 use control_block::desk::Desk;
 use control_block::domain::{Domain, open};
 use shared_handle::{Ending, Left, Member, Shared, make, release};
-use std::test::Fail;
+use std::alloc::Global;
 
 // What two ends find: that within and that around it.
 type Both = (Found<u64>, Found<u64>);
@@ -95,12 +95,20 @@ fn nest(domain: &Domain<u64>, desk: &mut Desk<u64>) -> Option<Both>
     leave_both(domain, desk, whole)
 }
 
-#[test]
-fn an_object_ends_within_anothers_end(rt: HostRuntime) -> Result<(), Fail> {
-    let (domain, mut desk) = open::<u64>(rt.alloc(), shape(2, 4)).ok().ok_or("memory")?;
+// The values of both, the one within first, and how many blocks are vacant then.
+fn ended(alloc: Global) -> Option<(u64, u64, u32)> {
+    let Ok((domain, mut desk)) = open(alloc, shape(2, 4)) else {
+        return None;
+    };
     let seen = nest(&domain, &mut desk);
     let vacant = shut(domain, desk);
-    let (inner, outer) = seen.ok_or("no two ends")?;
-    same(&rt, (inner.3, outer.3, vacant), (2, 1, 2));
-    Ok(())
+    match seen {
+        Some((inner, outer)) => Some((inner.3, outer.3, vacant)),
+        None => None,
+    }
+}
+
+#[test]
+fn an_object_ends_within_anothers_end(rt: HostRuntime) {
+    same(&rt, ended(rt.alloc()), Some((2, 1, 2)));
 }

@@ -8,8 +8,8 @@ use control_block::desk::Desk;
 use control_block::domain::{Domain, open};
 use control_word::Block;
 use shared_handle::make;
+use std::alloc::Global;
 use std::sync::atomic::{AtomicU64, Ordering};
-use std::test::Fail;
 
 // A value that counts its drops.
 pub(crate) struct Counted<'a> {
@@ -41,19 +41,21 @@ fn drop_by_finish<'a>(
     before
 }
 
-#[test]
-fn a_value_is_dropped_once(rt: HostRuntime) -> Result<(), Fail> {
-    let drops = AtomicU64::new(0);
-    let (domain, mut desk) = open::<Counted>(rt.alloc(), shape(2, 8))?;
-    let before = drop_by_finish(&domain, &mut desk, &drops);
+// How often that value was dropped before its finish, after it, and after the domain's end.
+fn drops_of_an_end(alloc: Global, drops: &AtomicU64) -> Option<[u64; 3]> {
+    let Ok((domain, mut desk)) = open(alloc, shape(2, 8)) else {
+        return None;
+    };
+    let before = drop_by_finish(&domain, &mut desk, drops);
     let after = drops.load(Ordering::SeqCst);
     shut(domain, desk);
-    same(
-        &rt,
-        [before, after, drops.load(Ordering::SeqCst)],
-        [0, 1, 1],
-    );
-    Ok(())
+    Some([before, after, drops.load(Ordering::SeqCst)])
+}
+
+#[test]
+fn a_value_is_dropped_once(rt: HostRuntime) {
+    let drops = AtomicU64::new(0);
+    same(&rt, drops_of_an_end(rt.alloc(), &drops), Some([0, 1, 1]));
 }
 
 // Makes an object whose owner is never released: its block.
@@ -71,12 +73,17 @@ fn leave_behind<'a>(
     }
 }
 
+// How that value is dropped.
+fn left_behind(alloc: Global, drops: &AtomicU64) -> Option<[u64; 4]> {
+    let Ok((domain, mut desk)) = open(alloc, shape(2, 8)) else {
+        return None;
+    };
+    let block = leave_behind(&domain, &mut desk, drops);
+    dropped_with_census(domain, desk, block, drops)
+}
+
 #[test]
-fn a_value_left_is_dropped_with_the_census(rt: HostRuntime) -> Result<(), Fail> {
+fn a_value_left_is_dropped_with_the_census(rt: HostRuntime) {
     let drops = AtomicU64::new(0);
-    let (domain, mut desk) = open::<Counted>(rt.alloc(), shape(2, 8))?;
-    let block = leave_behind(&domain, &mut desk, &drops);
-    let told = dropped_with_census(domain, desk, block, &drops);
-    same(&rt, told, Some([0, 1, 1, 1]));
-    Ok(())
+    same(&rt, left_behind(rt.alloc(), &drops), Some([0, 1, 1, 1]));
 }

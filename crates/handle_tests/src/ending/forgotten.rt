@@ -2,20 +2,18 @@
 ghost use Rattle.std.specs.Prelude.{◌≡◌, ◌<◌};
 ghost use Rattle.shared_handle.specs.Prelude.{Owner, Belongs, IsSameDesk, HoldsHandle};
 
-use crate::desks::splits::abandon;
+use crate::desks::splits::{abandon, closed};
 use crate::ending::drops::Counted;
 use crate::parts::told;
 use crate::same::same;
 use crate::shapes::{shape, shape_with_cells};
 use atomic_cells::SharedAt;
-use control_block::census::close;
 use control_block::desk::Desk;
 use control_block::domain::{Domain, open};
-use control_word::{Block, Counts, Refused, Shape};
+use control_word::{Block, Counts, Shape};
 use shared_handle::{Left, Shared, downgrade, make, release, share, use_count};
 use std::alloc::Global;
 use std::sync::atomic::{AtomicU64, Ordering};
-use std::test::Fail;
 
 // The domain is closed: the counts of the block, and how many blocks are taken.
 pub(crate) fn counted<V: Drop + Send>(
@@ -25,24 +23,12 @@ pub(crate) fn counted<V: Drop + Send>(
 ) -> Option<(Counts, u32)>
     requires { Belongs desk domain }
 {
-    match close(domain, desk) {
-        Ok(census) => {
+    match (closed(domain, desk), block) {
+        (Some(census), Some(block)) => {
             let taken = census.blocks().saturating_sub(census.vacant());
-            let told = match block {
-                None => None,
-                Some(block) => Some((census.counts(block), taken)),
-            };
-            drop(census);
-            told
+            Some((census.counts(block), taken))
         }
-        Err(refused) => {
-            let Refused {
-                why: _,
-                back: (domain, desk),
-            } = refused;
-            abandon(domain, desk);
-            None
-        }
+        _ => None,
     }
 }
 
@@ -57,9 +43,13 @@ pub(crate) fn dropped_with_census<'a>(
     requires { Belongs desk domain }
 {
     let before = drops.load(Ordering::SeqCst);
-    let (counts, taken) = counted(domain, desk, block)?;
-    let after = drops.load(Ordering::SeqCst);
-    Some([before, u64::from(counts.owners), u64::from(taken), after])
+    match counted(domain, desk, block) {
+        Some((counts, taken)) => {
+            let after = drops.load(Ordering::SeqCst);
+            Some([before, u64::from(counts.owners), u64::from(taken), after])
+        }
+        None => None,
+    }
 }
 
 // One more owner, which is forgotten.
@@ -92,18 +82,19 @@ fn forget_weak(domain: &Domain<u64>, desk: &mut Desk<u64>, owner: &Shared)
     }
 }
 
-// So many owners of a new object and so many weak handles, all forgotten: its block, and how many owners it told of.
+// So many owners of a new object and so many weak handles, all forgotten: its block, if there is one, and how many
+// owners it told of.
 fn forget_all(
     domain: &Domain<u64>,
     desk: &mut Desk<u64>,
     owners: u32,
     weaks: u32,
-) -> Option<(Option<Block>, u32)>
+) -> (Option<Block>, u32)
     requires domain { Belongs desk.old domain.now }
     ensures desk { IsSameDesk desk.old desk.new }
 {
     let Ok(owner) = make(domain, desk, [0; 4], false, 5) else {
-        return None;
+        return (None, 0);
     };
     for _ in 1..owners {
         forget_copy(domain, desk, &owner);
@@ -112,60 +103,61 @@ fn forget_all(
         forget_weak(domain, desk, &owner);
     }
     let told = use_count(domain, desk, &owner);
-    Some((owner.into_parts().0, told))
+    (owner.into_parts().0, told)
 }
 
 // What is told of so many handles that are forgotten: by a look, how many owners there are; by the desk, how many
 // handles it holds; by the census, how many owners, weak handles and taken blocks there are.
 fn told_of(alloc: Global, shape: Shape, owners: u32, weaks: u32) -> Option<[u32; 5]> {
-    let (domain, mut desk) = open::<u64>(alloc, shape).ok()?;
-    let Some((block, told)) = forget_all(&domain, &mut desk, owners, weaks) else {
-        abandon(domain, desk);
-        return None;
-    };
+    match open(alloc, shape) {
+        Ok((domain, desk)) => forgotten_in(domain, desk, owners, weaks),
+        Err(_) => None,
+    }
+}
+
+// The same in a domain that is open.
+fn forgotten_in(domain: Domain<u64>, desk: Desk<u64>, owners: u32, weaks: u32) -> Option<[u32; 5]>
+    requires { Belongs desk domain }
+{
+    let mut desk = desk;
+    let (block, told) = forget_all(&domain, &mut desk, owners, weaks);
     let held = desk.held();
-    let (counts, taken) = counted(domain, desk, block)?;
-    Some([told, held, counts.owners, counts.weaks, taken])
+    match counted(domain, desk, block) {
+        Some((counts, taken)) => Some([told, held, counts.owners, counts.weaks, taken]),
+        None => None,
+    }
 }
 
 #[test]
-fn forgotten_handles_stand_in_the_census(rt: HostRuntime) -> Result<(), Fail> {
+fn forgotten_handles_stand_in_the_census(rt: HostRuntime) {
     let told = told_of(rt.alloc(), shape(2, 8), 2, 1);
     same(&rt, told, Some([2, 3, 2, 1, 1]));
-    Ok(())
 }
 
 #[test]
-fn a_desk_holds_a_thousand_handles(rt: HostRuntime) -> Result<(), Fail> {
+fn a_desk_holds_a_thousand_handles(rt: HostRuntime) {
     let told = told_of(rt.alloc(), shape(1, 4_194_304), 1_000, 0);
     same(&rt, told, Some([1_000, 1_000, 1_000, 0, 1]));
-    Ok(())
 }
 
-// The domain is closed: how many cells hold the block, and how many more handles it has.
+// The domain is closed: how many cells hold the block, and how many more owners and weak handles it has.
 fn held(
     alloc: Global,
     domain: Domain<u64>,
     desk: Desk<u64>,
     block: Block,
-) -> Option<(usize, Counts)>
+) -> Option<(usize, u32, u32)>
     requires { Belongs desk domain }
 {
-    match close(domain, desk) {
-        Ok(census) => {
-            let told = census.holders(alloc, block);
-            drop(census);
-            let holders = told.ok()?;
-            Some((holders.cells.len(), holders.forgotten))
+    let Some(census) = closed(domain, desk) else {
+        return None;
+    };
+    match census.holders(alloc, block) {
+        Ok(holders) => {
+            let forgotten = holders.forgotten;
+            Some((holders.cells.len(), forgotten.owners, forgotten.weaks))
         }
-        Err(refused) => {
-            let Refused {
-                why: _,
-                back: (domain, desk),
-            } = refused;
-            abandon(domain, desk);
-            None
-        }
+        Err(_) => None,
     }
 }
 
@@ -184,17 +176,23 @@ fn forget_beside(domain: &Domain<u64>, desk: &mut Desk<u64>, at: u32) -> Option<
     block
 }
 
-#[test]
-fn a_cell_holds_an_object_beside_a_forgotten_owner(rt: HostRuntime) -> Result<(), Fail> {
-    let (domain, mut desk) = open::<u64>(rt.alloc(), shape_with_cells(2, 1, 0, 8))?;
-    let Some(block) = forget_beside(&domain, &mut desk, 0) else {
-        abandon(domain, desk);
-        return Err("no object".into());
+// How many cells hold that object, and how many more owners and weak handles it has.
+fn held_beside(alloc: Global) -> Option<(usize, u32, u32)> {
+    let Ok((domain, mut desk)) = open::<u64>(alloc, shape_with_cells(2, 1, 0, 8)) else {
+        return None;
     };
-    let (cells, forgotten) = held(rt.alloc(), domain, desk, block).ok_or("no census")?;
-    same(&rt, cells, 1);
-    same(&rt, (forgotten.owners, forgotten.weaks), (1, 0));
-    Ok(())
+    match forget_beside(&domain, &mut desk, 0) {
+        Some(block) => held(alloc, domain, desk, block),
+        None => {
+            abandon(domain, desk);
+            None
+        }
+    }
+}
+
+#[test]
+fn a_cell_holds_an_object_beside_a_forgotten_owner(rt: HostRuntime) {
+    same(&rt, held_beside(rt.alloc()), Some((1, 1, 0)));
 }
 
 // An object's last owner leaves, and its end is given up: the block.
@@ -215,12 +213,17 @@ fn give_up_ending<'a>(
     }
 }
 
+// How that value is dropped.
+fn given_up(alloc: Global, drops: &AtomicU64) -> Option<[u64; 4]> {
+    let Ok((domain, mut desk)) = open(alloc, shape(2, 8)) else {
+        return None;
+    };
+    let block = give_up_ending(&domain, &mut desk, drops);
+    dropped_with_census(domain, desk, block, drops)
+}
+
 #[test]
-fn a_value_of_an_unfinished_end_is_dropped_with_the_census(rt: HostRuntime) -> Result<(), Fail> {
+fn a_value_of_an_unfinished_end_is_dropped_with_the_census(rt: HostRuntime) {
     let drops = AtomicU64::new(0);
-    let (domain, mut desk) = open::<Counted>(rt.alloc(), shape(2, 8))?;
-    let block = give_up_ending(&domain, &mut desk, &drops);
-    let told = dropped_with_census(domain, desk, block, &drops);
-    same(&rt, told, Some([0, 0, 1, 1]));
-    Ok(())
+    same(&rt, given_up(rt.alloc(), &drops), Some([0, 0, 1, 1]));
 }

@@ -15,7 +15,6 @@ use control_word::{Block, Refusal};
 use shared_handle::{Ending, Left, Pile, drop_shared, make, release};
 use std::alloc::Global;
 use std::sync::atomic::AtomicU64;
-use std::test::Fail;
 
 // An object whose only owner leaves, so that its end is left to the pile: its block.
 fn leave_one<'a>(
@@ -65,18 +64,25 @@ fn leave_two<'a>(
     Ok((left.saturating_sub(kept), block))
 }
 
-#[test]
-fn a_pile_gives_up_at_its_end_what_is_left(rt: HostRuntime) -> Result<(), Fail> {
-    let drops = AtomicU64::new(0);
-    let (domain, mut desk) = open::<Counted>(rt.alloc(), shape(2, 8))?;
-    let Ok((left, block)) = leave_two(rt.alloc(), &domain, &mut desk, &drops) else {
-        abandon(domain, desk);
-        return Err("no pile".into());
+// How many are left on it, and how the values are dropped.
+fn left_on_a_pile(alloc: Global, drops: &AtomicU64) -> Option<(usize, Option<[u64; 4]>)> {
+    let Ok((domain, mut desk)) = open(alloc, shape(2, 8)) else {
+        return None;
     };
-    let told = dropped_with_census(domain, desk, block, &drops);
-    same(&rt, left, 2);
-    same(&rt, told, Some([0, 0, 2, 2]));
-    Ok(())
+    match leave_two(alloc, &domain, &mut desk, drops) {
+        Ok((left, block)) => Some((left, dropped_with_census(domain, desk, block, drops))),
+        Err(_) => {
+            abandon(domain, desk);
+            None
+        }
+    }
+}
+
+#[test]
+fn a_pile_gives_up_at_its_end_what_is_left(rt: HostRuntime) {
+    let drops = AtomicU64::new(0);
+    let told = left_on_a_pile(rt.alloc(), &drops);
+    same(&rt, told, Some((2, Some([0, 0, 2, 2]))));
 }
 
 // An object is ended by a pile while another, which is in hand, waits for its end: the value of the one, and what the
@@ -127,16 +133,17 @@ fn end_two(
     }
 }
 
+// The same, and how many blocks are vacant then.
+fn ended_beside(alloc: Global) -> Option<(Option<(Option<u64>, Found<u64>)>, u32)> {
+    let Ok((domain, mut desk)) = open(alloc, shape(2, 8)) else {
+        return None;
+    };
+    let seen = end_two(alloc, &domain, &mut desk);
+    Some((seen, shut(domain, desk)))
+}
+
 #[test]
-fn a_pile_leaves_alone_what_ends_in_hand(rt: HostRuntime) -> Result<(), Fail> {
-    let (domain, mut desk) = open::<u64>(rt.alloc(), shape(2, 8))?;
-    let seen = end_two(rt.alloc(), &domain, &mut desk);
-    let vacant = shut(domain, desk);
-    same(
-        &rt,
-        seen,
-        Some((Some(2), (Was::Empty, Was::Empty, Was::Empty, 1))),
-    );
-    same(&rt, vacant, 2);
-    Ok(())
+fn a_pile_leaves_alone_what_ends_in_hand(rt: HostRuntime) {
+    let ended = (Some(2), (Was::Empty, Was::Empty, Was::Empty, 1));
+    same(&rt, ended_beside(rt.alloc()), Some((Some(ended), 2)));
 }

@@ -8,7 +8,7 @@ use control_block::desk::Desk;
 use control_block::domain::{Domain, open};
 use control_word::Refusal;
 use shared_handle::{Ending, Left, Shared, expired, make, release, release_weak};
-use std::test::Fail;
+use std::alloc::Global;
 
 // What an object that ends says of itself: its fields, whether it is null, and clear before its clears, and why it
 // gives no owner.
@@ -70,15 +70,18 @@ fn live_and_end(domain: &Domain<u64>, desk: &mut Desk<u64>) -> Option<Words>
     end_with_a_weak_handle(domain, desk, owner)
 }
 
-#[test]
-fn an_enabled_object_gives_itself(rt: HostRuntime) -> Result<(), Fail> {
-    let (domain, mut desk) = open::<u64>(rt.alloc(), shape(2, 8)).ok().ok_or("memory")?;
+// The same, in a domain of its own.
+fn seen(alloc: Global) -> Option<Words> {
+    let Ok((domain, mut desk)) = open(alloc, shape(2, 8)) else {
+        return None;
+    };
     let seen = live_and_end(&domain, &mut desk);
     shut(domain, desk);
-    same(
-        &rt,
-        seen,
-        Some(([1, 2, 3, 4], false, Some(Refusal::BadWeak), true, 9, 1, 2)),
-    );
-    Ok(())
+    seen
+}
+
+#[test]
+fn an_enabled_object_gives_itself(rt: HostRuntime) {
+    let wanted = ([1, 2, 3, 4], false, Some(Refusal::BadWeak), true, 9, 1, 2);
+    same(&rt, seen(rt.alloc()), Some(wanted));
 }

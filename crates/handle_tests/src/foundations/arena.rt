@@ -1,10 +1,17 @@
 //! What tokens give, and how often a value is dropped.
-use crate::same::same;
+use crate::same::{is_told, same};
 use control_word::Refusal;
 use slot_arena::{Arena, Filled, Vacant};
+use std::alloc::Global;
 use std::sync::atomic::AtomicU64;
 use std::sync::atomic::Ordering::SeqCst;
-use std::test::Fail;
+
+// Two tokens, where there are so many.
+fn first_two<T: Drop>(tokens: Vec<T>) -> Option<(T, T)> {
+    let mut tokens = tokens;
+    let one = tokens.pop()?;
+    Some((one, tokens.pop()?))
+}
 
 // A value is filled in, seen, and changed where it lies.
 fn fill_and_change(vacant: Vacant<u64>) -> (Filled<u64>, u64) {
@@ -21,16 +28,18 @@ fn take_beside(filled: Filled<u64>, other: Vacant<u64>) -> [u64; 3] {
     [value, *beside.get(), *vacant.fill(9).get()]
 }
 
-#[test]
-fn a_value_stays_in_its_cell_until_it_is_taken(rt: HostRuntime) -> Result<(), Fail> {
-    let mut tokens = Arena::new(rt.alloc(), 2)?;
-    let (Some(other), Some(vacant)) = (tokens.pop(), tokens.pop()) else {
-        return Err("fewer tokens than two".into());
+// All of these.
+fn fill_and_take(alloc: Global) -> Result<Option<(u64, [u64; 3])>, Refusal> {
+    let Some((other, vacant)) = first_two(Arena::new(alloc, 2)?) else {
+        return Ok(None);
     };
     let (filled, first) = fill_and_change(vacant);
-    same(&rt, first, 7);
-    same(&rt, take_beside(filled, other), [8, 1, 9]);
-    Ok(())
+    Ok(Some((first, take_beside(filled, other))))
+}
+
+#[test]
+fn a_value_stays_in_its_cell_until_it_is_taken(rt: HostRuntime) -> Result<(), Refusal> {
+    is_told(&rt, fill_and_take(rt.alloc()), Some((7, [8, 1, 9])))
 }
 
 // A value that counts its drops.
@@ -62,16 +71,18 @@ fn drop_taken<'a>(vacant: Vacant<Counted<'a>>, drops: &'a AtomicU64) -> [u64; 2]
     [before, drops.load(SeqCst)]
 }
 
-#[test]
-fn a_value_is_dropped_once(rt: HostRuntime) -> Result<(), Fail> {
-    let drops = AtomicU64::new(0);
-    let mut tokens = Arena::new(rt.alloc(), 2)?;
-    let (Some(one), Some(other)) = (tokens.pop(), tokens.pop()) else {
-        return Err("fewer tokens than two".into());
+// Both.
+fn drop_both(alloc: Global, drops: &AtomicU64) -> Result<Option<[[u64; 2]; 2]>, Refusal> {
+    let Some((one, other)) = first_two(Arena::new(alloc, 2)?) else {
+        return Ok(None);
     };
-    same(&rt, drop_in_cell(one, &drops), [0, 1]);
-    same(&rt, drop_taken(other, &drops), [1, 2]);
-    Ok(())
+    Ok(Some([drop_in_cell(one, drops), drop_taken(other, drops)]))
+}
+
+#[test]
+fn a_value_is_dropped_once(rt: HostRuntime) -> Result<(), Refusal> {
+    let drops = AtomicU64::new(0);
+    is_told(&rt, drop_both(rt.alloc(), &drops), Some([[0, 1], [1, 2]]))
 }
 
 #[test]

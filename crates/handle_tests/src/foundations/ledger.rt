@@ -1,11 +1,10 @@
 //! What threads added, and an opening that is refused.
 ghost use Rattle.std.specs.Prelude.{◌≡◌, ◌+◌, ◌≤◌, All};
 
-use crate::same::same;
+use crate::same::is_told;
 use control_word::Refusal;
 use ownership_ledger::{Book, Share, Totals};
 use std::alloc::Global;
-use std::test::Fail;
 use std::thread::{Threads, for_each_mut, join_mut};
 
 fn add(book: &Book, share: &mut Share, made: u32, ended: u32)
@@ -58,13 +57,12 @@ fn gather_three(rt: &impl Threads, alloc: Global) -> Result<[Totals; 2], Refusal
 }
 
 #[test]
-fn so_far_shows_what_joined_workers_added(rt: HostRuntime) -> Result<(), Fail> {
+fn so_far_shows_what_joined_workers_added(rt: HostRuntime) -> Result<(), Refusal> {
     let want = Totals {
         made: 123,
         ended: 45,
     };
-    same(&rt, gather_three(&rt, rt.alloc())?, [want, want]);
-    Ok(())
+    is_told(&rt, gather_three(&rt, rt.alloc()), [want, want])
 }
 
 // The share at i adds 9,000, 8,000, .. to `made`, and what is left of 10,000 to `ended`.
@@ -92,13 +90,12 @@ fn gather_four<R: Threads + Sync>(rt: &R, alloc: Global) -> Result<Totals, Refus
 }
 
 #[test]
-fn four_threads_gather_to_their_sums(rt: HostRuntime) -> Result<(), Fail> {
+fn four_threads_gather_to_their_sums(rt: HostRuntime) -> Result<(), Refusal> {
     let want = Totals {
         made: 30_000,
         ended: 10_000,
     };
-    same(&rt, gather_four(&rt, rt.alloc())?, want);
-    Ok(())
+    is_told(&rt, gather_four(&rt, rt.alloc()), want)
 }
 
 // A book is opened for 16 workers, of whom none adds: how many shares there are, and what they gather to.
@@ -111,16 +108,12 @@ fn open_and_gather(alloc: Global) -> Result<(usize, Totals), Refusal> {
 // `rt try --test --fail-alloc N` refuses the Nth allocation, and an opening has three. Then it answers
 // `Memory`, and the next one is as if it had never been.
 #[test]
-fn a_refused_opening_leaves_nothing(rt: HostRuntime) -> Result<(), Fail> {
+fn a_refused_opening_leaves_nothing(rt: HostRuntime) -> Result<(), Refusal> {
     let told = match open_and_gather(rt.alloc()) {
-        Ok(told) => told,
-        Err(why) => {
-            same(&rt, why, Refusal::Memory);
-            open_and_gather(rt.alloc())?
-        }
+        Err(Refusal::Memory) => open_and_gather(rt.alloc()),
+        told => told,
     };
-    same(&rt, told, (16, Totals { made: 0, ended: 0 }));
-    Ok(())
+    is_told(&rt, told, (16, Totals { made: 0, ended: 0 }))
 }
 
 // A sole share adds: what it shows, and what it is gathered to.
@@ -137,8 +130,7 @@ fn gather_one(alloc: Global) -> Result<[Totals; 2], Refusal> {
 
 // What is added and told takes no memory: `tests/refuse_allocations` compares with the opening alone.
 #[test]
-fn one_share_adds_and_is_gathered(rt: HostRuntime) -> Result<(), Fail> {
+fn one_share_adds_and_is_gathered(rt: HostRuntime) -> Result<(), Refusal> {
     let want = Totals { made: 3, ended: 2 };
-    same(&rt, gather_one(rt.alloc())?, [want, want]);
-    Ok(())
+    is_told(&rt, gather_one(rt.alloc()), [want, want])
 }

@@ -2,6 +2,7 @@
 ghost use Rattle.std.specs.Prelude.{◌<◌, ◌≤◌, IfSome};
 ghost use Rattle.control_word.specs.Packing.{IsCellWord, IsPlace};
 
+use crate::same::same;
 use control_word::packed::cell::{CellWord, ONE_TAKEN, pack, packing_is_one_to_one, unpack};
 use control_word::place::{Block, Place};
 use std::process::Abort;
@@ -45,7 +46,7 @@ fn check_cell(rt: &impl Abort, cell: CellWord, word: u64)
     requires { IsCellWord cell }
 {
     let packed = pack(cell);
-    assert_eq!(rt; (packed, unpack(packed)), (word, cell), "of {word}");
+    same(rt, (packed, unpack(packed)), (word, cell));
 }
 
 #[test]

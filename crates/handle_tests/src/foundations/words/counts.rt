@@ -17,25 +17,46 @@ fn counts_have_their_words(rt: HostRuntime) {
     };
     let word = pack_count(full);
     let words = [word, pack_count(turned), with_fund_turned(word)];
+    let wanted = [1_099_511_627_777, 1_095_216_660_482, 1_095_216_660_482];
     same(
         &rt,
-        words,
-        [1_099_511_627_777, 1_095_216_660_482, 1_095_216_660_482],
+        (words, ONE_FUND, FUND_TURNED),
+        (wanted, 4_294_967_296, 4_294_967_295),
     );
-    same(&rt, (ONE_FUND, FUND_TURNED), (4_294_967_296, 4_294_967_295));
+}
+
+/// Numbers and funds at their limits.
+const HALVES: [(u32, u32); 9] = [
+    (0, 0),
+    (0, 1),
+    (0, u32::MAX),
+    (1, 0),
+    (1, 1),
+    (1, u32::MAX),
+    (u32::MAX, 0),
+    (u32::MAX, 1),
+    (u32::MAX, u32::MAX),
+];
+
+/// A word that was taken apart.
+fn again(word: u64) -> u64 {
+    pack_count(unpack_count(word))
 }
 
 #[test]
 fn each_half_of_a_count_comes_back_at_its_limits(rt: HostRuntime) {
-    for number in [0, 1, u32::MAX] {
-        for funds in [0, 1, u32::MAX] {
-            let count = Count { number, funds };
-            same(&rt, unpack_count(pack_count(count)), count);
-        }
+    for (number, funds) in HALVES {
+        let count = Count { number, funds };
+        same(&rt, unpack_count(pack_count(count)), count);
     }
-    for word in [0, 1, u64::from(u32::MAX), ONE_FUND, u64::MAX] {
-        same(&rt, pack_count(unpack_count(word)), word);
-    }
+    let words = [
+        again(0),
+        again(1),
+        again(FUND_TURNED),
+        again(ONE_FUND),
+        again(u64::MAX),
+    ];
+    same(&rt, words, [0, 1, FUND_TURNED, ONE_FUND, u64::MAX]);
 }
 
 /// One handle on the number's last value carries nothing into the funds, and the last fund nothing
@@ -70,21 +91,24 @@ fn halves_change_alone_at_their_limits(rt: HostRuntime) {
     );
 }
 
+/// Words, whether each is the last handle, whether it has an owner, and how many it tells of.
+const TOLD: [(u64, bool, bool, u32); 8] = [
+    (0, false, false, 0),
+    (1, true, true, 1),
+    (2, false, true, 2),
+    (ONE_FUND, false, true, 1),
+    (1 + ONE_FUND, false, true, 1),
+    (2 + 255 * ONE_FUND, false, true, 2),
+    (4_325_630, false, true, 4_325_630),
+    (u64::MAX, false, true, u32::MAX),
+];
+
 #[test]
 fn words_tell_the_last_and_the_count(rt: HostRuntime) {
-    let lent = ONE_FUND;
-    for (word, last, owner, told) in [
-        (0, false, false, 0),
-        (1, true, true, 1),
-        (2, false, true, 2),
-        (lent, false, true, 1),
-        (1 + lent, false, true, 1),
-        (2 + 255 * lent, false, true, 2),
-        (4_325_630, false, true, 4_325_630),
-        (u64::MAX, false, true, u32::MAX),
-    ] {
-        let shown = (is_last(word), has_owner(word), told_count(word));
-        assert_eq!(rt; shown, (last, owner, told), "of {word}");
+    for wanted in TOLD {
+        let word = wanted.0;
+        let shown = (word, is_last(word), has_owner(word), told_count(word));
+        same(&rt, shown, wanted);
     }
 }
 

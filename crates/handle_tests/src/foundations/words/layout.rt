@@ -26,45 +26,47 @@ fn words_lie_where_the_layout_says(rt: HostRuntime) {
     let of_cells = [cell_word(65_535, 0), cell_word(4, 0), cell_word(4, 2)];
     let all = table_words(&shape);
     words_lie_apart();
+    // 16 for each block, 8 for each cell, and the shelf's
     same(
         &rt,
-        [OWNERS, WEAKS, FLAGS, FIELDS, MEMBERS],
-        [0, 1, 2, 3, 7],
+        (of_blocks, of_cells, all),
+        ([0, 9, 17, 1_048_553], [1_048_560, 64, 80], 88 + 1_024),
     );
-    same(&rt, [ENABLED, NULL, DOOR], [1, 2, 4]);
-    same(&rt, of_blocks, [0, 9, 17, 1_048_553]);
-    same(&rt, of_cells, [1_048_560, 64, 80]);
-    // 16 for each block, 8 for each cell, and the shelf's
-    same(&rt, all, 88 + 1_024);
+    let words = [OWNERS, WEAKS, FLAGS, FIELDS, MEMBERS];
+    same(
+        &rt,
+        (words, [ENABLED, NULL, DOOR]),
+        ([0, 1, 2, 3, 7], [1, 2, 4]),
+    );
 }
 
-fn shape_of(blocks: u32, shared_cells: u32, weak_cells: u32, allowance: u32) -> Shape {
-    Shape {
-        blocks,
-        shared_cells,
-        weak_cells,
-        allowance,
-    }
-}
+/// Blocks, free cells of both kinds and allowance of a shape, and whether it is within the limits.
+const SHAPES: [(u32, u32, u32, u32, bool); 13] = [
+    (1, 0, 0, 1, true),
+    (65_535, 256, 0, 4_194_304, true),
+    (65_535, 0, 256, 4_194_304, true),
+    (4, 128, 128, 8, true),
+    (0, 0, 0, 1, false),
+    (65_536, 0, 0, 1, false),
+    (1, 257, 0, 1, false),
+    (1, 0, 257, 1, false),
+    (1, 128, 129, 1, false),
+    (1, u32::MAX, 1, 1, false),
+    (1, u32::MAX, u32::MAX, 1, false),
+    (1, 0, 0, 0, false),
+    (1, 0, 0, 4_194_305, false),
+];
 
 #[test]
 fn a_shape_has_limits(rt: HostRuntime) {
-    for (shape, within) in [
-        (shape_of(1, 0, 0, 1), true),
-        (shape_of(65_535, 256, 0, 4_194_304), true),
-        (shape_of(65_535, 0, 256, 4_194_304), true),
-        (shape_of(4, 128, 128, 8), true),
-        (shape_of(0, 0, 0, 1), false),
-        (shape_of(65_536, 0, 0, 1), false),
-        (shape_of(1, 257, 0, 1), false),
-        (shape_of(1, 0, 257, 1), false),
-        (shape_of(1, 128, 129, 1), false),
-        (shape_of(1, u32::MAX, 1, 1), false),
-        (shape_of(1, u32::MAX, u32::MAX, 1), false),
-        (shape_of(1, 0, 0, 0), false),
-        (shape_of(1, 0, 0, 4_194_305), false),
-    ] {
-        assert_eq!(rt; shape.is_within_limits(), within, "of {shape:?}");
+    for (blocks, shared_cells, weak_cells, allowance, within) in SHAPES {
+        let shape = Shape {
+            blocks,
+            shared_cells,
+            weak_cells,
+            allowance,
+        };
+        same(&rt, (shape, shape.is_within_limits()), (shape, within));
     }
 }
 
@@ -78,11 +80,6 @@ fn limits_have_their_numbers(rt: HostRuntime) {
         shape::MOST_WEAKS,
         shape::CELL_FUNDS,
     ];
-    same(
-        &rt,
-        of_domains,
-        [65_535, 256, 4_194_304, 4_325_630, 4_260_096, 256],
-    );
     let of_scripts = [
         limits::SCRIPT_BLOCKS,
         limits::SCRIPT_THREADS,
@@ -94,10 +91,10 @@ fn limits_have_their_numbers(rt: HostRuntime) {
         limits::WORKER_ALLOWANCE,
         limits::MOST_ACTORS,
     ];
-    same(
-        &rt,
-        of_scripts,
+    let wanted = (
+        [65_535, 256, 4_194_304, 4_325_630, 4_260_096, 256],
         [4_095, 16, 32, 65_536, 128, 128, 1_048_576, 65_535, 64],
+        16,
     );
-    same(&rt, limits::NAME_BYTES, 16);
+    same(&rt, (of_domains, of_scripts, limits::NAME_BYTES), wanted);
 }
