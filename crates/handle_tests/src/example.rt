@@ -49,6 +49,34 @@ fn give_up(
     None
 }
 
+// Each desk's owner leaves in a thread of its own.
+fn leave_in_threads<R: Threads>(
+    rt: &R,
+    domain: &Domain<u64>,
+    desk: &mut Desk<u64>,
+    other: &mut Desk<u64>,
+    a: Shared,
+    b: Shared,
+)
+    requires domain { Belongs desk.old domain.now × Belongs other.old domain.now }
+    requires a { HoldsHandle desk.old Owner a.block a.place }
+    requires b { HoldsHandle other.old Owner b.block b.place }
+    ensures desk { IsSameDesk desk.old desk.new }
+    ensures bag { bag_of desk.new ≡ without_handle Owner a.block a.place (bag_of desk.old) }
+    ensures other { IsSameDesk other.old other.new }
+{
+    let (mut a, mut b) = (Some(a), Some(b));
+    // std::thread t([b = std::move(b)]() mutable { b.reset(); }); a.reset(); t.join();
+    join_mut(
+        rt,
+        &mut || reset(domain, other, &mut b),
+        &mut || reset(domain, desk, &mut a),
+    );
+    // (a and b are empty now)
+    spent(a);
+    spent(b);
+}
+
 // How many owners there were, and whether the weak pointer saw them all leave.
 #[tactic(auto, using(shared_handle::proofs::Callers::first_out, shared_handle::proofs::Callers::under_out))]
 fn two_threads<R: Threads>(
@@ -75,16 +103,7 @@ fn two_threads<R: Threads>(
         Ok(parted) => parted,
         Err(b) => return give_up(domain, desk, a, b, w),
     };
-    let (mut a, mut b) = (Some(a), Some(b));
-    // std::thread t([b = std::move(b)]() mutable { b.reset(); }); a.reset(); t.join();
-    join_mut(
-        rt,
-        &mut || reset(domain, &mut other, &mut b),
-        &mut || reset(domain, desk, &mut a),
-    );
-    // (a and b are empty now)
-    spent(a);
-    spent(b);
+    leave_in_threads(rt, domain, desk, &mut other, a, b);
     // bool gone = w.expired();
     let gone = expired(domain, desk, &w);
     release_weak(domain, desk, w);

@@ -1,5 +1,6 @@
-ghost use Rattle.std.specs.Prelude.{◌≡◌};
-ghost use Rattle.control_block.specs.Desks.{Belongs, IsSameDesk};
+ghost use Rattle.std.specs.Prelude.{◌≡◌, IfSome};
+ghost use Rattle.shared_handle.specs.Prelude.{Owner, Belongs, HoldsHandle, IsSameDesk};
+ghost use Rattle.control_block.specs.Desks.{KeepsEndings};
 
 use crate::ending::forgotten::dropped_with_census;
 use crate::parts::{end, shape, shut};
@@ -7,7 +8,7 @@ use crate::same::same;
 use control_block::desk::Desk;
 use control_block::domain::{Domain, open};
 use control_word::Block;
-use shared_handle::make;
+use shared_handle::{Shared, make};
 use std::alloc::Global;
 use std::sync::atomic::{AtomicU64, Ordering};
 
@@ -23,6 +24,23 @@ impl Drop for Counted<'_> {
     }
 }
 
+// An object with such a value, if it can be made.
+pub(crate) fn made<'a>(
+    domain: &Domain<Counted<'a>>,
+    desk: &mut Desk<Counted<'a>>,
+    drops: &'a AtomicU64,
+) -> Option<Shared>
+    requires domain { Belongs desk.old domain.now }
+    ensures desk { IsSameDesk desk.old desk.new }
+    ensures holds { IfSome result (λ h. HoldsHandle desk.new Owner h.block h.place) }
+    ensures endings { KeepsEndings desk.old desk.new }
+{
+    match make(domain, desk, [0; 4], false, Counted { drops }) {
+        Ok(owner) => Some(owner),
+        Err(_) => None,
+    }
+}
+
 // Makes an object and ends it: how often its value was dropped before its finish.
 fn drop_by_finish<'a>(
     domain: &Domain<Counted<'a>>,
@@ -32,10 +50,14 @@ fn drop_by_finish<'a>(
     requires domain { Belongs desk.old domain.now }
     ensures desk { IsSameDesk desk.old desk.new }
 {
-    let Ok(owner) = make(domain, desk, [0; 4], false, Counted { drops }) else {
-        return 9;
-    };
-    let value = end(domain, desk, owner);
+    match made(domain, desk, drops) {
+        Some(owner) => drop_value(end(domain, desk, owner), drops),
+        None => 9,
+    }
+}
+
+// How often it was dropped before this.
+fn drop_value<'a>(value: Option<Counted<'a>>, drops: &'a AtomicU64) -> u64 {
     let before = drops.load(Ordering::SeqCst);
     drop(value);
     before
@@ -67,9 +89,9 @@ fn leave_behind<'a>(
     requires domain { Belongs desk.old domain.now }
     ensures desk { IsSameDesk desk.old desk.new }
 {
-    match make(domain, desk, [0; 4], false, Counted { drops }) {
-        Ok(owner) => owner.into_parts().0,
-        Err(_) => None,
+    match made(domain, desk, drops) {
+        Some(owner) => owner.into_parts().0,
+        None => None,
     }
 }
 

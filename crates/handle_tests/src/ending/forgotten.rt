@@ -3,7 +3,7 @@ ghost use Rattle.std.specs.Prelude.{◌≡◌, ◌<◌};
 ghost use Rattle.shared_handle.specs.Prelude.{Owner, Belongs, IsSameDesk, HoldsHandle};
 
 use crate::desks::splits::{abandon, closed};
-use crate::ending::drops::Counted;
+use crate::ending::drops::{Counted, made};
 use crate::parts::told;
 use crate::same::same;
 use crate::shapes::{shape, shape_with_cells};
@@ -204,7 +204,7 @@ fn give_up_ending<'a>(
     requires domain { Belongs desk.old domain.now }
     ensures desk { IsSameDesk desk.old desk.new }
 {
-    let Ok(owner) = make(domain, desk, [0; 4], false, Counted { drops }) else {
+    let Some(owner) = made(domain, desk, drops) else {
         return None;
     };
     match release(domain, desk, owner) {

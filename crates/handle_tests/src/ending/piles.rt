@@ -4,7 +4,7 @@ ghost use Rattle.shared_handle.specs.Prelude.{Belongs, EndsInHand, IsSameDesk};
 ghost use Rattle.shared_handle.specs.Piles.{Carries};
 
 use crate::desks::splits::abandon;
-use crate::ending::drops::Counted;
+use crate::ending::drops::{Counted, made};
 use crate::ending::forgotten::dropped_with_census;
 use crate::parts::{Found, Was, end_of, shut};
 use crate::same::same;
@@ -28,7 +28,7 @@ fn leave_one<'a>(
     ensures carries { Carries domain.now desk.new pile.new }
     ensures desk { IsSameDesk desk.old desk.new }
 {
-    let Ok(owner) = make(domain, desk, [0; 4], false, Counted { drops }) else {
+    let Some(owner) = made(domain, desk, drops) else {
         return None;
     };
     let block = owner.block();
