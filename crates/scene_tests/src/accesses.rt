@@ -1,10 +1,9 @@
 //! Accesses whose memory is refused and which are sought once more. `tests/refuse_allocations` runs this with each
 //! allocation refused in turn.
-use crate::calls::kits::{kit_in, opened, put_away, shut};
+use crate::calls::kits::opened_again;
 use crate::calls::listed::{Answer, Call, Seat};
-use crate::calls::running::all;
+use crate::calls::running::with_kit;
 use control_word::Refusal;
-use std::test::Fail;
 
 /// A node goes on the stack and comes out, a root gets a child and leaves, and a subject is told of.
 const CALLS: [(Call, Answer); 13] = [
@@ -24,22 +23,15 @@ const CALLS: [(Call, Answer); 13] = [
 ];
 
 #[test]
-fn a_refused_access_is_sought_again(rt: HostRuntime) -> Result<(), Fail> {
-    let alloc = rt.alloc();
-    let (domain, mut desk) = match opened(alloc, 2, 8) {
-        Ok(pair) => pair,
-        Err(_) => opened(alloc, 2, 8)?,
-    };
-    let sought = match kit_in(alloc, &domain) {
-        Some(kit) => Some(kit),
-        None => kit_in(alloc, &domain),
-    };
-    let Some(mut kit) = sought else {
-        shut(domain, desk);
-        return Err(Refusal::Memory.into());
-    };
-    all(&rt, alloc, &domain, &mut desk, &mut kit, &CALLS);
-    put_away(kit);
-    shut(domain, desk);
-    Ok(())
+fn a_refused_access_is_sought_again(rt: HostRuntime) -> Result<(), Refusal> {
+    match opened_again(rt.alloc(), 2, 8) {
+        Ok((domain, desk)) => {
+            if with_kit(&rt, rt.alloc(), domain, desk, &CALLS) {
+                Ok(())
+            } else {
+                Err(Refusal::Memory)
+            }
+        }
+        Err(why) => Err(why),
+    }
 }

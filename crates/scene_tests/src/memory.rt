@@ -1,6 +1,6 @@
 //! Growths that are refused. `tests/refuse_allocations` runs this with each allocation refused in turn.
 ghost use Rattle.std.specs.Prelude.{◌≡◌};
-ghost use Rattle.control_block.specs.Desks.{Belongs, IsSameDesk};
+ghost use Rattle.control_block.specs.Desks.{Belongs, IsSameDesk, allowance_of};
 ghost use Rattle.scene_structures.specs.Stacks.{ServesDomain, StandsIn};
 
 use crate::calls::kits::{Kit, kit_in, opened, put_away, shut};
@@ -12,7 +12,6 @@ use control_word::Refusal;
 use std::alloc::Global;
 use std::process::Abort;
 use std::sync::Wait;
-use std::test::Fail;
 
 /// A root 1 with a child 2.
 const GROWN: [(Call, Answer); 3] = [
@@ -49,18 +48,40 @@ fn fell<R: Abort + Wait>(
     told
 }
 
-#[test]
-fn a_refused_teardown_gives_its_root_back(rt: HostRuntime) -> Result<(), Fail> {
-    let (domain, mut desk) = opened(rt.alloc(), 2, 8)?;
-    let Some(mut kit) = kit_in(rt.alloc(), &domain) else {
+/// What the teardown answers, if there is memory for it, and how many blocks are vacant then.
+fn felled<R: Abort + Wait>(
+    rt: &R,
+    alloc: Global,
+    domain: Domain<u64>,
+    desk: Desk<u64>,
+) -> Result<(Option<Answer>, u32), Refusal>
+    requires domain { Belongs desk domain }
+    requires sole { allowance_of desk ≡ domain.shape.allowance }
+    requires cells { domain.shape.shared_cells ≡ 5 }
+{
+    let mut desk = desk;
+    let Some(mut kit) = kit_in(alloc, &domain) else {
         shut(domain, desk);
-        return Err(Refusal::Memory.into());
+        return Err(Refusal::Memory);
     };
-    let told = fell(&rt, rt.alloc(), &domain, &mut desk, &mut kit);
+    let told = fell(rt, alloc, &domain, &mut desk, &mut kit);
     put_away(kit);
-    let vacant = shut(domain, desk);
-    let refused = Some(Answer::Not(Refusal::Memory));
-    assert!(rt; told == Some(Answer::Values(12)) || told == refused);
-    assert_eq!(rt; vacant, 2);
+    Ok((told, shut(domain, desk)))
+}
+
+/// Both end, or the root was given back.
+fn is_felled(told: Option<Answer>) -> bool {
+    match told {
+        Some(Answer::Values(digits)) => digits == 12,
+        Some(Answer::Not(why)) => why == Refusal::Memory,
+        _ => false,
+    }
+}
+
+#[test]
+fn a_refused_teardown_gives_its_root_back(rt: HostRuntime) -> Result<(), Refusal> {
+    let (domain, desk) = opened(rt.alloc(), 2, 8)?;
+    let (told, vacant) = felled(&rt, rt.alloc(), domain, desk)?;
+    assert!(rt; is_felled(told) && vacant == 2);
     Ok(())
 }

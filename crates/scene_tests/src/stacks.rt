@@ -1,7 +1,6 @@
 //! A stack in one thread.
 use crate::calls::listed::{Answer, Call, Seat};
 use crate::calls::running::alone;
-use std::test::Fail;
 
 const LAST_FIRST: [(Call, Answer); 9] = [
     (Call::Push(1), Answer::Done),
@@ -16,6 +15,6 @@ const LAST_FIRST: [(Call, Answer); 9] = [
 ];
 
 #[test]
-fn the_last_comes_first(rt: HostRuntime) -> Result<(), Fail> {
-    alone(&rt, rt.alloc(), 3, 6, &LAST_FIRST)
+fn the_last_comes_first(rt: HostRuntime) {
+    alone(&rt, rt.alloc(), 3, 6, &LAST_FIRST);
 }

@@ -1,7 +1,6 @@
 //! A scene tree in one thread.
 use crate::calls::listed::{Answer, Call, Seat};
 use crate::calls::running::alone;
-use std::test::Fail;
 
 /// A root 1 gets the children 2 and 3, and 3 gets 4.
 const ORDER: [(Call, Answer); 7] = [
@@ -15,6 +14,6 @@ const ORDER: [(Call, Answer); 7] = [
 ];
 
 #[test]
-fn values_come_in_the_order_of_the_ends(rt: HostRuntime) -> Result<(), Fail> {
-    alone(&rt, rt.alloc(), 4, 16, &ORDER)
+fn values_come_in_the_order_of_the_ends(rt: HostRuntime) {
+    alone(&rt, rt.alloc(), 4, 16, &ORDER);
 }

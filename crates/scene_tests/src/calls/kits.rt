@@ -33,6 +33,22 @@ pub(crate) fn opened(
     open::<u64>(alloc, shape(blocks, allowance))
 }
 
+/// The same, once more where it is refused.
+pub(crate) fn opened_again(
+    alloc: Global,
+    blocks: u32,
+    allowance: u32,
+) -> Result<(Domain<u64>, Desk<u64>), Refusal>
+    ensures desk { IfOk result
+        (λ r. Belongs r.1 r.0 × (allowance_of r.1 ≡ r.0.shape.allowance)) }
+    ensures shape { IfOk result (λ r. r.0.shape.shared_cells ≡ 5) }
+{
+    match opened(alloc, blocks, allowance) {
+        Ok(opened) => Ok(opened),
+        Err(_) => opened(alloc, blocks, allowance),
+    }
+}
+
 /// A sole desk closes its domain: how many vacant blocks it had.
 pub(crate) fn shut(domain: Domain<u64>, desk: Desk<u64>) -> u32
     requires domain { Belongs desk domain }
@@ -112,6 +128,18 @@ pub(crate) fn kit_in(alloc: Global, domain: &Domain<u64>) -> Option<Kit>
             observers.close();
             None
         }
+    }
+}
+
+/// A kit, which is sought once more where memory is refused.
+pub(crate) fn kit_again(alloc: Global, domain: &Domain<u64>) -> Option<Kit>
+    requires cells { domain.now.shape.shared_cells ≡ 5 }
+    ensures stands { IfSome result (λ k. StandsIn k.stack domain.now × StandsIn k.observers domain.now) }
+    ensures serves { IfSome result (λ k. ServesDomain domain.now k.scene × ServesDomain domain.now k.pile) }
+{
+    match kit_in(alloc, domain) {
+        Some(kit) => Some(kit),
+        None => kit_in(alloc, domain),
     }
 }
 

@@ -97,6 +97,22 @@ pub(crate) fn attach<R: Wait>(
     }
 }
 
+/// How many were told of, their fields' sum, and these as digits by twos.
+#[derive(Drop)]
+struct Sums {
+    nodes: u64,
+    sum: u64,
+    digits: u64,
+}
+
+impl Sums {
+    fn add(&mut self, field: u64) {
+        self.nodes = self.nodes.wrapping_add(1);
+        self.sum = self.sum.wrapping_add(field);
+        self.digits = self.digits.wrapping_mul(100).wrapping_add(field);
+    }
+}
+
 /// What `each` tells.
 pub(crate) fn each<R: Wait>(
     rt: &R,
@@ -109,16 +125,14 @@ pub(crate) fn each<R: Wait>(
     ensures stands { StandsIn observers.new domain.now }
     ensures desk { IsSameDesk desk.old desk.new }
 {
-    let mut nodes = 0u64;
-    let mut sum = 0u64;
-    let mut digits = 0u64;
-    let each = observers.each(rt, domain, desk, |field: u64| {
-        nodes = nodes.wrapping_add(1);
-        sum = sum.wrapping_add(field);
-        digits = digits.wrapping_mul(100).wrapping_add(field)
-    });
+    let mut sums = Sums {
+        nodes: 0,
+        sum: 0,
+        digits: 0,
+    };
+    let each = observers.each(rt, domain, desk, |field: u64| sums.add(field));
     match each {
-        Ok(()) => Answer::Told(nodes, sum, digits),
+        Ok(()) => Answer::Told(sums.nodes, sums.sum, sums.digits),
         Err(why) => Answer::Not(why),
     }
 }

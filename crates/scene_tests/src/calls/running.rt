@@ -1,20 +1,18 @@
 //! Lists of calls, made by a desk with a kit.
 ghost use Rattle.std.specs.Prelude.{◌≡◌};
-ghost use Rattle.control_block.specs.Desks.{Belongs, IsSameDesk};
+ghost use Rattle.control_block.specs.Desks.{Belongs, IsSameDesk, allowance_of};
 ghost use Rattle.scene_structures.specs.Stacks.{ServesDomain, StandsIn};
 
 use crate::calls::handles::on_handles;
-use crate::calls::kits::{Kit, kit_in, opened, put_away, shut};
+use crate::calls::kits::{Kit, kit_again, opened, put_away, shut};
 use crate::calls::listed::{Answer, Call};
 use crate::calls::lists::{attach, each, pop, push};
 use crate::calls::scenes::on_scene;
 use control_block::desk::Desk;
 use control_block::domain::Domain;
-use control_word::Refusal;
 use std::alloc::Global;
 use std::process::Abort;
 use std::sync::Wait;
-use std::test::Fail;
 
 /// What a call on the stack or the observers answers.
 fn on_lists<R: Wait>(
@@ -95,6 +93,31 @@ pub(crate) fn all<R: Abort + Wait>(
     }
 }
 
+/// The calls of a sole desk with a kit; whether there was memory for that.
+pub(crate) fn with_kit<R: Abort + Wait>(
+    rt: &R,
+    alloc: Global,
+    domain: Domain<u64>,
+    desk: Desk<u64>,
+    calls: &[(Call, Answer)],
+) -> bool
+    requires domain { Belongs desk domain }
+    requires sole { allowance_of desk ≡ domain.shape.allowance }
+    requires cells { domain.shape.shared_cells ≡ 5 }
+{
+    let mut desk = desk;
+    let had_memory = match kit_again(alloc, &domain) {
+        Some(mut kit) => {
+            all(rt, alloc, &domain, &mut desk, &mut kit, calls);
+            put_away(kit);
+            true
+        }
+        None => false,
+    };
+    shut(domain, desk);
+    had_memory
+}
+
 /// The calls of a desk that is alone in a domain of so many blocks and handles.
 pub(crate) fn alone<R: Abort + Wait>(
     rt: &R,
@@ -102,14 +125,10 @@ pub(crate) fn alone<R: Abort + Wait>(
     blocks: u32,
     allowance: u32,
     calls: &[(Call, Answer)],
-) -> Result<(), Fail> {
-    let (domain, mut desk) = opened(alloc, blocks, allowance)?;
-    let Some(mut kit) = kit_in(alloc, &domain) else {
-        shut(domain, desk);
-        return Err(Refusal::Memory.into());
+) {
+    let had_memory = match opened(alloc, blocks, allowance) {
+        Ok((domain, desk)) => with_kit(rt, alloc, domain, desk, calls),
+        Err(_) => false,
     };
-    all(rt, alloc, &domain, &mut desk, &mut kit, calls);
-    put_away(kit);
-    shut(domain, desk);
-    Ok(())
+    assert!(rt; had_memory);
 }
