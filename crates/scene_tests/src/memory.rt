@@ -69,19 +69,25 @@ fn felled<R: Abort + Wait>(
     Ok((told, shut(domain, desk)))
 }
 
-/// Both end, or the root was given back.
-fn is_felled(told: Option<Answer>) -> bool {
-    match told {
-        Some(Answer::Values(digits)) => digits == 12,
-        Some(Answer::Not(why)) => why == Refusal::Memory,
-        _ => false,
-    }
+/// Where there was memory for the kit both have ended, or the root was given back, and both blocks are vacant.
+fn is_felled<R: Abort>(
+    rt: &R,
+    told: Result<(Option<Answer>, u32), Refusal>,
+) -> Result<(), Refusal> {
+    let is_felled = match told {
+        Ok((Some(Answer::Values(digits)), vacant)) => digits == 12 && vacant == 2,
+        Ok((Some(Answer::Not(why)), vacant)) => why == Refusal::Memory && vacant == 2,
+        Ok(_) => false,
+        Err(why) => return Err(why),
+    };
+    assert!(rt; is_felled);
+    Ok(())
 }
 
 #[test]
 fn a_refused_teardown_gives_its_root_back(rt: HostRuntime) -> Result<(), Refusal> {
-    let (domain, desk) = opened(rt.alloc(), 2, 8)?;
-    let (told, vacant) = felled(&rt, rt.alloc(), domain, desk)?;
-    assert!(rt; is_felled(told) && vacant == 2);
-    Ok(())
+    match opened(rt.alloc(), 2, 8) {
+        Ok((domain, desk)) => is_felled(&rt, felled(&rt, rt.alloc(), domain, desk)),
+        Err(why) => Err(why),
+    }
 }

@@ -37,14 +37,14 @@ fn add_child<R: Wait>(
         Ok(parent) => parent,
         Err(why) => return Answer::Not(why),
     };
-    match scene.add_child(rt, domain, desk, &parent, [value, 0, 0, 0], value) {
+    let told = scene.add_child(rt, domain, desk, &parent, [value, 0, 0, 0], value);
+    spend(rt, domain, desk, parent, pile);
+    match told {
         Ok(child) => {
-            spend(rt, domain, desk, parent, pile);
             keep(rt, domain, desk, child, to, pile);
             Answer::Done
         }
         Err(refused) => {
-            spend(rt, domain, desk, parent, pile);
             let Refused { why, back } = refused;
             Answer::Back(why, back)
         }
@@ -102,10 +102,10 @@ pub(crate) fn tear_down<R: Wait>(
 fn ended(told: Result<Vec<u64>, Answer>) -> Answer {
     match told {
         Ok(values) => {
-            let digits = values.iter().fold(
-                0u64,
-                |all, value| all.wrapping_mul(10).wrapping_add(*value),
-            );
+            let mut digits = 0u64;
+            for value in &values {
+                digits = digits.wrapping_mul(10).wrapping_add(*value);
+            }
             Answer::Values(digits)
         }
         Err(answer) => answer,
