@@ -232,6 +232,11 @@ module _ {V : Type 0} where
       let e : held_of (desk_now d) ≡ allowance_of (desk_now d) = ap (λ n. d.held + min 1 n) (sym h.ended) ∙ (full ∙ h.allowed) in
       true≢false (sym (told.1 (subst (λ (u : DeskNow V). held_of u ≡ allowance_of u) is e)) ∙ low)
 
+  -- and then it is not refused
+  pub not_limit : (y : DeskNow V) (b : Bool) → (IsTrue b ↔ (held_of y ≡ allowance_of y)) → b ≡ false
+      → (false ≡ true) ↔ (held_of y ≡ allowance_of y)
+  not_limit y b told low = (λ e. absurd (true≢false (sym e)), λ full. absurd (true≢false (sym (told.1 full) ∙ low)))
+
   -- a desk that isn't at its allowance has room for a handle more
   pub room_left : (d : Inside V) → IsDesk d → d.held + min 1 d.endings ≢ d.allowance → HasRoomFor d.seat.me.0
   room_left d h ne = omega (arith, h.holding, h.within, h.allowed, ne)

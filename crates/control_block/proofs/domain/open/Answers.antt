@@ -1,4 +1,4 @@
-use Rattle.std.proofs.Common.{◌≡◌, ◌∙◌, None, refl, sym, subst, ap, arith, rules, replicate, ℕ, length}
+use Rattle.std.proofs.Common.{◌≡◌, ◌∙◌, None, refl, sym, subst, ap, arith, rules, replicate, ℕ, length, inl, inr, true≢false}
 use Rattle.std.proofs.lemmas.Grind.{common_steps}
 use lib.ListN.{length-replicate}
 use Rattle.atomic_table.specs.Table.{opening}
@@ -23,3 +23,37 @@ invariant_of-desk g c =
     first_desk _ c.args.shape (c.if-not-is_within_limits.ensures.0 refl) t.4
     record { words = ap (λ x. x.words) t.2 ∙ (t.0 ∙ words); slots = ap (λ x. x.slots) t.2 ∙ (t.1 ∙ slots) } refl refl refl
     c.in_ok-store.ensures.0 c.in_ok-store.ensures.1
+
+pub returns-then-not-is_within_limits-clause-refused : goal.returns-then-not-is_within_limits-clause-refused
+returns-then-not-is_within_limits-clause-refused g c = inr refl
+
+pub returns-then-not-is_within_limits-clause-shape : goal.returns-then-not-is_within_limits-clause-shape
+returns-then-not-is_within_limits-clause-shape g c =
+    (λ _ w. true≢false (sym (c.is_within_limits.ensures.1 w) ∙ c.if-not-is_within_limits.true), λ _. refl)
+
+pub returns-in-Err-clause-refused : goal.returns-in-Err-clause-refused
+returns-in-Err-clause-refused g c = inl refl
+
+pub returns-in-Err-clause-shape : goal.returns-in-Err-clause-shape
+returns-in-Err-clause-shape g c = (λ e. absurd (cc e), λ n. absurd (n (c.if-not-is_within_limits.ensures.0 refl)))
+
+pub returns-clause-refused : goal.returns-clause-refused
+returns-clause-refused g c = tt
+
+pub returns-clause-shape : goal.returns-clause-shape
+returns-clause-shape g c = tt
+
+pub returns-clause-within : goal.returns-clause-within
+returns-clause-within g c = c.if-not-is_within_limits.ensures.0 refl
+
+pub returns-then-not-is_within_limits-clause-begins : goal.returns-then-not-is_within_limits-clause-begins
+returns-then-not-is_within_limits-clause-begins g c = tt
+
+pub returns-then-not-is_within_limits-clause-within : goal.returns-then-not-is_within_limits-clause-within
+returns-then-not-is_within_limits-clause-within g c = tt
+
+pub returns-in-Err-clause-begins : goal.returns-in-Err-clause-begins
+returns-in-Err-clause-begins g c = tt
+
+pub returns-in-Err-clause-within : goal.returns-in-Err-clause-within
+returns-in-Err-clause-within g c = tt

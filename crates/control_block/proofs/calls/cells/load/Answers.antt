@@ -3,7 +3,7 @@ use Rattle.control_word.specs.declared.model.event.Event.{Event}
 use Rattle.control_word.specs.declared.model.event.Event.TheVariants.{Load}
 use Rattle.control_word.specs.declared.model.handle.Handle.{Handle}
 use Rattle.control_block.specs.CellCalls.{with_handle, word_at}
-use Rattle.control_block.specs.Desks.{bag_of}
+use Rattle.control_block.specs.Desks.{bag_of, DeskNow}
 use Rattle.control_block.specs.Inside.{desk_now}
 use Rattle.control_block.proofs.CellDesks.{bag_is, event_is, formed_out, holds_after, in_seat, one, one_few, size_is}
 use Rattle.control_block.proofs.Bags.{seen_as}
@@ -12,7 +12,7 @@ use Rattle.control_word.specs.State.{bag}
 use Rattle.control_block.specs.Plays.{known}
 use Rattle.control_block.proofs.CellTrades.{load_trades}
 use Rattle.control_block.proofs.CellSites.{aim_of, word_there}
-use Rattle.control_block.proofs.DeskBags.{not_full, adds_of, calm, keeps_quietly, now_of}
+use Rattle.control_block.proofs.DeskBags.{not_full, adds_of, calm, keeps_quietly, now_of, not_limit, room_left}
 use Rattle.control_block.proofs.Passage.{plain}
 use Rattle.control_block.proofs.DeskSteps.{came, ending_same, quiet_desk}
 use Rattle.control_block.proofs.calls.cells.load.Goals as goal
@@ -89,3 +89,43 @@ returns-clause-keeps g c =
     let trades = load_trades g.row.V.Denot g.A.Aimed.cell k in
     keeps_quietly d w (e (in_seat w k x.owned x.place)) h (event_is d h w e k x None None trades t.loaded.out tt) _ _ c.args.desk.now c.desk.view_is
     t.table (calm (λ y n. refl) (λ y n. refl) (λ y f. refl)) (λ y n. refl) (λ y n. refl)
+
+pub returns-then-is_full-clause-limit : goal.returns-then-is_full-clause-limit
+returns-then-is_full-clause-limit g c = (λ _. c.is_full.ensures.0 c.if-is_full.true, λ _. refl)
+
+pub returns-then-is_full-clause-refused : goal.returns-then-is_full-clause-refused
+returns-then-is_full-clause-refused g c = (refl, refl)
+
+pub returns-then-is_full-clause-event : goal.returns-then-is_full-clause-event
+returns-then-is_full-clause-event g c = tt
+
+pub returns-then-is_full-clause-bag : goal.returns-then-is_full-clause-bag
+returns-then-is_full-clause-bag g c = tt
+
+pub returns-then-is_full-clause-held : goal.returns-then-is_full-clause-held
+returns-then-is_full-clause-held g c = tt
+
+pub returns-then-is_full-clause-holds : goal.returns-then-is_full-clause-holds
+returns-then-is_full-clause-holds g c = tt
+
+pub returns-then-is_full-clause-kind : goal.returns-then-is_full-clause-kind
+returns-then-is_full-clause-kind g c = tt
+
+pub returns-then-is_full-clause-keeps : goal.returns-then-is_full-clause-keeps
+returns-then-is_full-clause-keeps g c = tt
+
+pub load-seen-requires-clause-room : goal.load-seen-requires-clause-room
+load-seen-requires-clause-room g c =
+    room_left c.desk.inside c.desk.invariant (not_full c.desk.inside c.args.desk.now _ c.desk.invariant c.desk.view_is c.if-is_full.ensures refl)
+
+pub returns-clause-limit : goal.returns-clause-limit
+returns-clause-limit g c = not_limit c.args.desk.now c.is_full.result c.is_full.ensures c.if-is_full.false
+
+pub returns-clause-refused : goal.returns-clause-refused
+returns-clause-refused g c = tt
+
+pub returns-clause-held : goal.returns-clause-held
+returns-clause-held g c = ap (λ (z : DeskNow g.row.V.Denot). z.held + 1) c.desk.view_is
+
+pub returns-clause-kind : goal.returns-clause-kind
+returns-clause-kind g c = refl

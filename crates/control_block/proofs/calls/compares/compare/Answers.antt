@@ -19,7 +19,7 @@ use Rattle.control_block.proofs.CellChoices.{allowances_of, bag_of_choice, count
 use Rattle.control_block.proofs.CellDesks.{bag_is, event_is, fits, formed_out, holds_after, in_seat, lost_counted, lost_hand, lost_holding}
 use Rattle.control_block.proofs.CellDesks.{lost_mine, lost_shows, lost_word, one, one_few, size_is}
 use Rattle.control_block.proofs.CellSites.{aim_of, word_there}
-use Rattle.control_block.proofs.DeskBags.{not_full, adds_of, calm_compare, keeps_quietly, now_of, room_left}
+use Rattle.control_block.proofs.DeskBags.{not_full, adds_of, calm_compare, keeps_quietly, now_of, room_left, not_limit}
 use Rattle.control_block.proofs.Passage.{quiet_compare}
 use Rattle.control_block.proofs.DeskSteps.{came as came_at, ending_same, quiet_desk}
 use Rattle.control_block.proofs.calls.compares.compare.Goals as goal
@@ -174,3 +174,36 @@ returns-clause-keeps g c =
     keeps_quietly d w (e z) h (event_is d h w e k x (cond s b None) (cond s p None) trades came mine) _ _ y c.desk.view_is c.compare-swapped.ensures.table
     (calm_compare cl a.expected a.new z s a.weak) (λ q m. stores_of g.row.V.Denot cl a.expected a.new z a.weak s q m)
     (λ q m. allowances_of g.row.V.Denot cl a.expected a.new z a.weak s q m)
+
+pub returns-then-is_full-clause-limit : goal.returns-then-is_full-clause-limit
+returns-then-is_full-clause-limit g c = (λ _. c.is_full.ensures.0 c.if-is_full.true, λ _. refl)
+
+pub returns-then-is_full-clause-refused : goal.returns-then-is_full-clause-refused
+returns-then-is_full-clause-refused g c = (refl, refl)
+
+pub returns-then-is_full-clause-event : goal.returns-then-is_full-clause-event
+returns-then-is_full-clause-event g c = tt
+
+pub returns-then-is_full-clause-bag : goal.returns-then-is_full-clause-bag
+returns-then-is_full-clause-bag g c = tt
+
+pub returns-then-is_full-clause-held : goal.returns-then-is_full-clause-held
+returns-then-is_full-clause-held g c = tt
+
+pub returns-then-is_full-clause-holds : goal.returns-then-is_full-clause-holds
+returns-then-is_full-clause-holds g c = tt
+
+pub returns-then-is_full-clause-kind : goal.returns-then-is_full-clause-kind
+returns-then-is_full-clause-kind g c = tt
+
+pub returns-then-is_full-clause-keeps : goal.returns-then-is_full-clause-keeps
+returns-then-is_full-clause-keeps g c = tt
+
+pub returns-clause-limit : goal.returns-clause-limit
+returns-clause-limit g c = not_limit c.args.desk.now c.is_full.result c.is_full.ensures c.if-is_full.false
+
+pub returns-clause-refused : goal.returns-clause-refused
+returns-clause-refused g c = tt
+
+pub returns-clause-kind : goal.returns-clause-kind
+returns-clause-kind g c = refl

@@ -1,11 +1,13 @@
-use Rattle.std.proofs.Common.{refl, sym, ap, ◌∙◌, arith, ◌∷◌, Some, None, true, false}
+use Rattle.control_word.specs.State.{count}
+use Rattle.control_block.specs.LockPlays.{before}
+use Rattle.std.proofs.Common.{refl, sym, ap, ◌∙◌, arith, ◌∷◌, Some, None, true, false, ◌+◌, ◌==◌, not}
 use Rattle.control_word.specs.Handles.{handle}
 use Rattle.control_word.specs.declared.model.event.Event.TheVariants.{Lock}
 use Rattle.control_word.specs.declared.model.handle.Kind.TheVariants.{Owner, Weak}
 use Rattle.control_word.specs.declared.model.view.Pending.TheVariants.{Idle}
-use Rattle.control_block.specs.Desks.{bag_of, on_latest}
+use Rattle.control_block.specs.Desks.{bag_of, on_latest, DeskNow, latest_of}
 use Rattle.control_block.specs.Inside.{desk_now}
-use Rattle.control_block.proofs.DeskBags.{not_full, bag_gets, bag_stays, block_still, holding_in, calm, keeps_quietly}
+use Rattle.control_block.proofs.DeskBags.{not_full, bag_gets, bag_stays, block_still, holding_in, calm, keeps_quietly, adds_of, room_left, not_limit}
 use Rattle.control_block.proofs.Passage.{plain}
 use Rattle.control_block.proofs.DeskSteps.{ending_same, as_many, came, one_more, quiet_desk, word_inside}
 use Rattle.control_block.proofs.DeskLocks.{none_after}
@@ -74,3 +76,84 @@ returns-clause-keeps g c =
     keeps_quietly d c.lock.new.chair.me.0 (Lock (on_latest (desk_now d) Weak g.A.About.place c.args.of.block.0) true) c.desk.invariant
     c.if-not-lock.ensures.event _ _ c.args.desk.now c.desk.view_is c.lock.ensures.chair.0
     (calm (λ s n. refl) (λ s n. refl) (λ s f. refl)) (λ s n. refl) (λ s n. refl)
+
+pub returns-then-is_full-clause-limit : goal.returns-then-is_full-clause-limit
+returns-then-is_full-clause-limit g c = (λ _. c.is_full.ensures.0 c.if-is_full.true, λ _. refl)
+
+pub returns-then-is_full-clause-refused : goal.returns-then-is_full-clause-refused
+returns-then-is_full-clause-refused g c = (refl, refl)
+
+pub returns-then-is_full-clause-handle : goal.returns-then-is_full-clause-handle
+returns-then-is_full-clause-handle g c = tt
+
+pub returns-then-is_full-clause-event : goal.returns-then-is_full-clause-event
+returns-then-is_full-clause-event g c = tt
+
+pub returns-then-is_full-clause-exact : goal.returns-then-is_full-clause-exact
+returns-then-is_full-clause-exact g c = tt
+
+pub returns-then-is_full-clause-bag : goal.returns-then-is_full-clause-bag
+returns-then-is_full-clause-bag g c = tt
+
+pub returns-then-is_full-clause-held : goal.returns-then-is_full-clause-held
+returns-then-is_full-clause-held g c = tt
+
+pub returns-then-is_full-clause-keeps : goal.returns-then-is_full-clause-keeps
+returns-then-is_full-clause-keeps g c = tt
+
+pub returns-then-is_full-clause-expired : goal.returns-then-is_full-clause-expired
+returns-then-is_full-clause-expired g c = λ _. tt
+
+pub lock-requires-clause-board : goal.lock-requires-clause-board
+lock-requires-clause-board g c = ap (λ z. z.domain) c.desk.view_is ∙ (c.requires.domain.table ∙ sym (ap (λ z. z.id) c.domain.view_is))
+
+pub lock-requires-clause-rests : goal.lock-requires-clause-rests
+lock-requires-clause-rests g c = c.desk.invariant.rests
+
+pub lock-requires-clause-room : goal.lock-requires-clause-room
+lock-requires-clause-room g c =
+    room_left c.desk.inside c.desk.invariant (not_full c.desk.inside c.args.desk.now _ c.desk.invariant c.desk.view_is c.if-is_full.ensures refl)
+
+pub returns-then-not-lock-clause-limit : goal.returns-then-not-lock-clause-limit
+returns-then-not-lock-clause-limit g c = not_limit c.args.desk.now c.is_full.result c.is_full.ensures c.if-is_full.false
+
+pub returns-then-not-lock-clause-refused : goal.returns-then-not-lock-clause-refused
+returns-then-not-lock-clause-refused g c = tt
+
+pub returns-then-not-lock-clause-event : goal.returns-then-not-lock-clause-event
+returns-then-not-lock-clause-event g c =
+    adds_of c.desk.inside c.args.desk.now c.lock.new.chair.me.0 _ _ (λ z. Lock (on_latest z Weak g.A.About.place c.args.of.block.0) false) c.desk.view_is
+    c.if-not-lock.ensures.chair.0 c.if-not-lock.ensures.event
+
+pub returns-then-not-lock-clause-exact : goal.returns-then-not-lock-clause-exact
+returns-then-not-lock-clause-exact g c =
+    c.if-not-lock.ensures.owner
+    ∙ ap (λ (z : DeskNow g.row.V.Denot). not (count (before c.lock.new.chair.me.0) (latest_of z c.args.of.block.0) == 0)) c.desk.view_is
+
+pub returns-clause-limit : goal.returns-clause-limit
+returns-clause-limit g c = not_limit c.args.desk.now c.is_full.result c.is_full.ensures c.if-is_full.false
+
+pub returns-clause-refused : goal.returns-clause-refused
+returns-clause-refused g c = tt
+
+pub returns-clause-event : goal.returns-clause-event
+returns-clause-event g c =
+    adds_of c.desk.inside c.args.desk.now c.lock.new.chair.me.0 _ _ (λ z. Lock (on_latest z Weak g.A.About.place c.args.of.block.0) true) c.desk.view_is
+    c.if-not-lock.ensures.chair.0 c.if-not-lock.ensures.event
+
+pub returns-clause-exact : goal.returns-clause-exact
+returns-clause-exact g c =
+    c.if-not-lock.ensures.owner
+    ∙ ap (λ (z : DeskNow g.row.V.Denot). not (count (before c.lock.new.chair.me.0) (latest_of z c.args.of.block.0) == 0)) c.desk.view_is
+
+pub returns-then-not-lock-clause-handle : goal.returns-then-not-lock-clause-handle
+returns-then-not-lock-clause-handle g c = tt
+
+pub returns-clause-handle : goal.returns-clause-handle
+returns-clause-handle g c = (refl, refl)
+
+pub returns-then-not-lock-clause-expired : goal.returns-then-not-lock-clause-expired
+returns-then-not-lock-clause-expired g c = λ _. refl
+
+pub returns-clause-held : goal.returns-clause-held
+returns-clause-held g c = ap (λ (z : DeskNow g.row.V.Denot). z.held + 1) c.desk.view_is

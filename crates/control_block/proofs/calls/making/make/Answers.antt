@@ -1,4 +1,4 @@
-use Rattle.std.proofs.Common.{◌∷◌, refl, sym, ap, ◌∙◌, arith, None, Some, length}
+use Rattle.std.proofs.Common.{◌∷◌, refl, sym, ap, ◌∙◌, arith, None, Some, length, ◌+◌, inl}
 use Rattle.control_word.specs.Events.{origin}
 use Rattle.control_word.specs.Handles.{handle}
 use Rattle.control_word.specs.Histories.{leads}
@@ -6,7 +6,7 @@ use Rattle.control_word.specs.declared.model.event.Event.TheVariants.{Make}
 use Rattle.control_word.specs.declared.model.handle.Kind.TheVariants.{Owner}
 use Rattle.control_word.specs.declared.model.view.Pending.TheVariants.{Idle}
 use Rattle.control_word.proofs.history.Legal.{sound}
-use Rattle.control_block.specs.Desks.{endings_of, bag_of, stock_of}
+use Rattle.control_block.specs.Desks.{endings_of, bag_of, stock_of, DeskNow}
 use Rattle.control_block.specs.Rule.{opening_of}
 use Rattle.control_block.proofs.DeskBags.{not_full, adds_of, bag_gets, before, ends_still, legal_now, room_left, same_desk}
 use Rattle.control_block.proofs.OwnCounts.{made_count}
@@ -78,3 +78,66 @@ returns-clause-endings g c = λ b x ends.
     let z = opening_of v.shape in let hist = before d w e h s.event in let now = legal_now d w e h s.event in
     ends_still d w e h s.event _ _ b x c.args.desk.now c.desk.view_is
     (λ p. make_spares z (leads z hist) _ v.view.name b (sound z hist now.0) p c.in-Some.block _ _ _ _ now.1.asks) ends
+
+pub returns-then-is_full-clause-refused : goal.returns-then-is_full-clause-refused
+returns-then-is_full-clause-refused g c = (refl, refl)
+
+pub returns-then-is_full-clause-handle : goal.returns-then-is_full-clause-handle
+returns-then-is_full-clause-handle g c = tt
+
+pub returns-then-is_full-clause-event : goal.returns-then-is_full-clause-event
+returns-then-is_full-clause-event g c = tt
+
+pub returns-then-is_full-clause-bag : goal.returns-then-is_full-clause-bag
+returns-then-is_full-clause-bag g c = tt
+
+pub returns-then-is_full-clause-held : goal.returns-then-is_full-clause-held
+returns-then-is_full-clause-held g c = tt
+
+pub returns-then-is_full-clause-desk : goal.returns-then-is_full-clause-desk
+returns-then-is_full-clause-desk g c = tt
+
+pub returns-then-is_full-clause-stock : goal.returns-then-is_full-clause-stock
+returns-then-is_full-clause-stock g c = tt
+
+pub returns-then-is_full-clause-endings : goal.returns-then-is_full-clause-endings
+returns-then-is_full-clause-endings g c = tt
+
+pub returns-then-is_full-clause-count : goal.returns-then-is_full-clause-count
+returns-then-is_full-clause-count g c = tt
+
+pub returns-then-is_full-clause-refusals : goal.returns-then-is_full-clause-refusals
+returns-then-is_full-clause-refusals g c = inl (refl, c.is_full.ensures.0 c.if-is_full.true)
+
+pub returns-in_default-clause-handle : goal.returns-in_default-clause-handle
+returns-in_default-clause-handle g c = tt
+
+pub returns-in_default-clause-event : goal.returns-in_default-clause-event
+returns-in_default-clause-event g c = tt
+
+pub returns-in_default-clause-bag : goal.returns-in_default-clause-bag
+returns-in_default-clause-bag g c = tt
+
+pub returns-in_default-clause-held : goal.returns-in_default-clause-held
+returns-in_default-clause-held g c = tt
+
+pub returns-in_default-clause-desk : goal.returns-in_default-clause-desk
+returns-in_default-clause-desk g c = tt
+
+pub returns-in_default-clause-stock : goal.returns-in_default-clause-stock
+returns-in_default-clause-stock g c = tt
+
+pub returns-in_default-clause-endings : goal.returns-in_default-clause-endings
+returns-in_default-clause-endings g c = tt
+
+pub returns-in_default-clause-count : goal.returns-in_default-clause-count
+returns-in_default-clause-count g c = tt
+
+pub returns-clause-refused : goal.returns-clause-refused
+returns-clause-refused g c = tt
+
+pub returns-clause-handle : goal.returns-clause-handle
+returns-clause-handle g c = (refl, c.origin_of.ensures)
+
+pub returns-clause-held : goal.returns-clause-held
+returns-clause-held g c = ap (λ (z : DeskNow g.row.V.Denot). z.held + 1) c.desk.view_is

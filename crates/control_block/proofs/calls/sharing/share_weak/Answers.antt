@@ -1,11 +1,11 @@
-use Rattle.std.proofs.Common.{◌∷◌, refl, sym, ap, ◌∙◌, arith, None, Some}
+use Rattle.std.proofs.Common.{◌∷◌, refl, sym, ap, ◌∙◌, arith, None, Some, ◌+◌}
 use Rattle.control_word.specs.Handles.{handle}
 use Rattle.control_word.specs.declared.model.event.Event.TheVariants.{WeakShare}
 use Rattle.control_word.specs.declared.model.handle.Kind.TheVariants.{Weak}
 use Rattle.control_word.specs.declared.model.view.Pending.TheVariants.{Idle}
-use Rattle.control_block.specs.Desks.{bag_of, latest_of, on_latest}
+use Rattle.control_block.specs.Desks.{bag_of, latest_of, on_latest, DeskNow}
 use Rattle.control_block.specs.Inside.{desk_now}
-use Rattle.control_block.proofs.DeskBags.{not_full, adds_of, bag_gets, calm, keeps_quietly, room_left}
+use Rattle.control_block.proofs.DeskBags.{not_full, adds_of, bag_gets, calm, keeps_quietly, room_left, not_limit}
 use Rattle.control_block.proofs.Passage.{plain}
 use Rattle.control_block.proofs.DeskSteps.{ending_same, came, one_more, quiet_desk}
 use Rattle.control_block.proofs.WeakGifts.{may_block, may_in, may_word}
@@ -54,3 +54,42 @@ returns-clause-keeps g c =
     keeps_quietly d c.share_weak.new.chair.me.0 (WeakShare (latest_of (desk_now d) c.args.block.0) g.A.About.wanted) c.desk.invariant
     c.share_weak.ensures.event _ _ c.args.desk.now c.desk.view_is c.share_weak.ensures.chair.0
     (calm (λ s n. refl) (λ s n. refl) (λ s f. refl)) (λ s n. refl) (λ s n. refl)
+
+pub returns-then-is_full-clause-limit : goal.returns-then-is_full-clause-limit
+returns-then-is_full-clause-limit g c = (λ _. c.is_full.ensures.0 c.if-is_full.true, λ _. refl)
+
+pub returns-then-is_full-clause-refused : goal.returns-then-is_full-clause-refused
+returns-then-is_full-clause-refused g c = (refl, refl)
+
+pub returns-then-is_full-clause-handle : goal.returns-then-is_full-clause-handle
+returns-then-is_full-clause-handle g c = tt
+
+pub returns-then-is_full-clause-event : goal.returns-then-is_full-clause-event
+returns-then-is_full-clause-event g c = tt
+
+pub returns-then-is_full-clause-bag : goal.returns-then-is_full-clause-bag
+returns-then-is_full-clause-bag g c = tt
+
+pub returns-then-is_full-clause-held : goal.returns-then-is_full-clause-held
+returns-then-is_full-clause-held g c = tt
+
+pub returns-then-is_full-clause-keeps : goal.returns-then-is_full-clause-keeps
+returns-then-is_full-clause-keeps g c = tt
+
+pub share_weak-requires-clause-board : goal.share_weak-requires-clause-board
+share_weak-requires-clause-board g c = ap (λ z. z.domain) c.desk.view_is ∙ (c.requires.domain.table ∙ sym (ap (λ z. z.id) c.domain.view_is))
+
+pub share_weak-requires-clause-rests : goal.share_weak-requires-clause-rests
+share_weak-requires-clause-rests g c = c.desk.invariant.rests
+
+pub returns-clause-limit : goal.returns-clause-limit
+returns-clause-limit g c = not_limit c.args.desk.now c.is_full.result c.is_full.ensures c.if-is_full.false
+
+pub returns-clause-refused : goal.returns-clause-refused
+returns-clause-refused g c = tt
+
+pub returns-clause-handle : goal.returns-clause-handle
+returns-clause-handle g c = (refl, refl)
+
+pub returns-clause-held : goal.returns-clause-held
+returns-clause-held g c = ap (λ (z : DeskNow g.row.V.Denot). z.held + 1) c.desk.view_is

@@ -1,4 +1,4 @@
-use Rattle.std.proofs.Common.{◌≡◌, ◌≤◌, ◌-◌, ◌<◌, ℕ, List, sym, ap, subst, arith, ◌∙◌, length, refl}
+use Rattle.std.proofs.Common.{◌≡◌, ◌≤◌, ◌-◌, ◌<◌, ℕ, List, sym, ap, subst, arith, ◌∙◌, length, refl, inl, inr}
 use Rattle.control_word.proofs.history.Legal.{sound}
 use Rattle.control_word.specs.declared.place.Block.{Block}
 use Rattle.control_block.specs.Desks.{DeskNow, stock_of}
@@ -120,3 +120,43 @@ returns-clause-parts g c =
     subst (λ (y : DeskNow g.row.V.Denot). SplitsOff y c.args.allowance c.args.blocks hs (desk_now e) (desk_now new)) c.self.view_is
     (splits d e new c.self.invariant hs holds c.args.allowance c.args.blocks p (c.part-seat.ensures.chair.0, c.part-seat.ensures.other.0)
     (ap (λ x. d.held - x) (sym size), sym size) c.pass_least.ensures.count.0 c.pass_least.ensures.same c.pass_least.ensures.least)
+
+pub returns-then-not-gives-clause-parts : goal.returns-then-not-gives-clause-parts
+returns-then-not-gives-clause-parts g c = tt
+
+pub returns-then-not-gives-clause-fits : goal.returns-then-not-gives-clause-fits
+returns-then-not-gives-clause-fits g c = tt
+
+pub returns-then-not-gives-clause-refused : goal.returns-then-not-gives-clause-refused
+returns-then-not-gives-clause-refused g c = inl refl
+
+pub returns-in_default-clause-parts : goal.returns-in_default-clause-parts
+returns-in_default-clause-parts g c = tt
+
+pub returns-in_default-clause-fits : goal.returns-in_default-clause-fits
+returns-in_default-clause-fits g c = tt
+
+pub returns-in_default-clause-refused : goal.returns-in_default-clause-refused
+returns-in_default-clause-refused g c = inr refl
+
+pub returns-in_default-clause-limit : goal.returns-in_default-clause-limit
+returns-in_default-clause-limit g c = (λ e. absurd (cc e), λ much. absurd (c.if-not-gives.ensures.fits.0 refl much))
+
+pub part-seat-requires-clause-board : goal.part-seat-requires-clause-board
+part-seat-requires-clause-board g c =
+    ap (λ z. z.domain) c.self.view_is ∙ (c.requires.domain.table ∙ sym (ap (λ z. z.id) c.domain.view_is))
+
+pub part-seat-requires-clause-rests : goal.part-seat-requires-clause-rests
+part-seat-requires-clause-rests g c = c.self.invariant.rests
+
+pub returns-clause-fits : goal.returns-clause-fits
+returns-clause-fits g c = c.if-not-gives.ensures.fits.0 refl
+
+pub returns-clause-limit : goal.returns-clause-limit
+returns-clause-limit g c = tt
+
+pub returns-clause-refused : goal.returns-clause-refused
+returns-clause-refused g c = tt
+
+pub returns-clause-same : goal.returns-clause-same
+returns-clause-same g c = tt

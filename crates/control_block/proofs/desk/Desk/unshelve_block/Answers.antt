@@ -1,4 +1,6 @@
-use Rattle.std.proofs.Common.{◌≡◌, ◌+◌, ◌<◌, refl, sym, ap, subst, ◌∙◌, arith, None, length, true}
+use Rattle.control_block.specs.Inside.{desk_now}
+use Rattle.control_block.specs.Shelf.{Unshelved}
+use Rattle.std.proofs.Common.{◌≡◌, ◌+◌, ◌<◌, refl, sym, ap, subst, ◌∙◌, arith, None, length, true, true≢false}
 use Rattle.control_word.specs.State.{on_shelf}
 use Rattle.control_word.specs.declared.model.event.Event.TheVariants.{Unshelve}
 use Rattle.control_word.specs.declared.model.view.Pending.TheVariants.{Idle}
@@ -6,11 +8,11 @@ use Rattle.control_block.specs.Desks.{DeskNow, stock_of}
 use Rattle.control_block.specs.Own.{IsSole}
 use Rattle.control_block.specs.Plays.{At, known}
 use Rattle.control_block.specs.ShelfPlays.{IsOff}
-use Rattle.control_block.proofs.DeskBags.{adds_of, calm}
+use Rattle.control_block.proofs.DeskBags.{adds_of, calm, now_of}
 use Rattle.control_block.proofs.DeskSteps.{as_many, came, desk_after, ending_same}
 use Rattle.control_block.proofs.DeskStores.{put_back, room_back, stock_grows}
 use Rattle.control_block.proofs.Passage.{plain}
-use Rattle.control_block.proofs.Shelving.{clears_one, off_now, passed_one, so_sole}
+use Rattle.control_block.proofs.Shelving.{clears_one, off_now, passed_one, so_sole, unshelved_none}
 use Rattle.control_block.proofs.desk.Desk.unshelve_block.Goals as goal
 
 pub returns-then-not-unshelve-clause-off : goal.returns-then-not-unshelve-clause-off
@@ -55,3 +57,24 @@ returns-clause-off g c = λ sole.
     let d = c.self.inside in let w = c.unshelve.new.chair.me.0 in let s = c.if-not-unshelve.ensures in let b = c.args.block in
     off_now c.args.self.now _ b
     (adds_of d c.args.self.now w c.unshelve.new.chair.table_id d.held (λ _. Unshelve b) c.self.view_is s.chair.0 (s.event refl)) sole
+
+pub unshelve-requires-clause-board : goal.unshelve-requires-clause-board
+unshelve-requires-clause-board g c =
+    ap (λ z. z.domain) c.self.view_is ∙ (c.requires.domain.table ∙ sym (ap (λ z. z.id) c.domain.view_is))
+
+pub unshelve-requires-clause-rests : goal.unshelve-requires-clause-rests
+unshelve-requires-clause-rests g c = c.self.invariant.rests
+
+pub returns-then-not-unshelve-clause-unshelved : goal.returns-then-not-unshelve-clause-unshelved
+returns-then-not-unshelve-clause-unshelved g c =
+    let d = c.self.inside in let s = c.if-not-unshelve.ensures in let me = (s.missed refl).0 in
+    let same : now_of c.unshelve.new.chair.table_id c.unshelve.new.chair.me.0 d.held ≡ desk_now d = λ i. now_of (s.chair.0 i) (me i).0 d.held in
+    subst (λ (z : DeskNow g.row.V.Denot). Unshelved 0 c.args.self.now z) (sym (same ∙ c.self.view_is)) (unshelved_none c.args.self.now)
+
+pub returns-then-not-unshelve-clause-same : goal.returns-then-not-unshelve-clause-same
+returns-then-not-unshelve-clause-same g c = λ _.
+    let d = c.self.inside in let s = c.if-not-unshelve.ensures in let me = (s.missed refl).0 in
+    let same : now_of c.unshelve.new.chair.table_id c.unshelve.new.chair.me.0 d.held ≡ desk_now d = λ i. now_of (s.chair.0 i) (me i).0 d.held in same ∙ c.self.view_is
+
+pub returns-clause-same : goal.returns-clause-same
+returns-clause-same g c = λ e. absurd (true≢false e)

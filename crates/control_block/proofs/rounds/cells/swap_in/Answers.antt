@@ -1,9 +1,11 @@
+use Rattle.control_block.specs.declared.board.Sight.{Sight}
+use Rattle.control_block.specs.Plays.{HasRoomFor}
 use Rattle.std.proofs.Common.{sym, ap, subst, ◌∙◌}
 use Rattle.control_word.specs.declared.model.event.Event.TheVariants.{Swap}
 use Rattle.control_word.specs.declared.model.handle.Kind.{Kind}
 use Rattle.control_word.specs.declared.shape.Shape.{Shape}
-use Rattle.control_block.specs.CellPlays.{Gave, debt, kind_in}
-use Rattle.control_block.proofs.CellRounds.{hand_in_call}
+use Rattle.control_block.specs.CellPlays.{Gave, debt, kind_in, IsCellAt, IsWordOf}
+use Rattle.control_block.proofs.CellRounds.{hand_in_call, cell_in_call}
 use Rattle.control_block.proofs.LetGo.{gave_from}
 use Rattle.control_block.proofs.rounds.cells.swap_in.Goals as goal
 
@@ -20,3 +22,46 @@ returns-clause-gave g c =
     let kind = r.cell.1 ∙ ap (λ (y : Shape). kind_in y a.cell) (sym shape) in
     gave_from (λ h. Swap a.cell a.new h) c.args.kind c.args.chair.now.me.0 v w (debt a.new c.args.new.owned 256) x c.bring_for.ensures.brought
     (subst (λ (y : Kind). Gave (λ h. Swap a.cell a.new h) y v x w) (sym kind) c.swap.ensures.gave)
+
+pub bring_for-requires-clause-board : goal.bring_for-requires-clause-board
+bring_for-requires-clause-board g c = c.requires.board
+
+pub bring_for-requires-clause-rests : goal.bring_for-requires-clause-rests
+bring_for-requires-clause-rests g c = c.requires.rests
+
+pub bring_for-requires-clause-count : goal.bring_for-requires-clause-count
+bring_for-requires-clause-count g c = c.requires.count
+
+pub bring_for-requires-clause-holds : goal.bring_for-requires-clause-holds
+bring_for-requires-clause-holds g c = (c.requires.hand.0, c.requires.holds)
+
+pub swap-requires-clause-board : goal.swap-requires-clause-board
+swap-requires-clause-board g c = c.bring_for.ensures.chair.0 ∙ c.requires.board
+
+pub swap-requires-clause-word : goal.swap-requires-clause-word
+swap-requires-clause-word g c = c.requires.word
+
+pub swap-requires-clause-cell : goal.swap-requires-clause-cell
+swap-requires-clause-cell g c =
+    let a = g.A.Aimed in
+    subst (λ (y : Sight g.row.V.Denot). IsCellAt y a.cell c.args.word) (sym c.bring_for.ensures.brought)
+    (cell_in_call c.args.chair.now.me.0 (debt a.new c.args.new.owned 256) a.cell c.args.word c.requires.cell.0)
+
+pub swap-requires-clause-new : goal.swap-requires-clause-new
+swap-requires-clause-new g c =
+    let n = c.requires.new in
+    (n.0, n.1, subst (λ (y : Sight g.row.V.Denot). IsWordOf y g.A.Aimed.new c.args.new) (sym c.bring_for.ensures.brought) n.2)
+
+pub swap-requires-clause-owes : goal.swap-requires-clause-owes
+swap-requires-clause-owes g c = c.bring_for.ensures.owes
+
+pub swap-requires-clause-room : goal.swap-requires-clause-room
+swap-requires-clause-room g c = λ none.
+    subst (λ (y : Sight g.row.V.Denot). HasRoomFor y) (sym c.bring_for.ensures.brought) (c.requires.room none)
+
+pub returns-clause-chair : goal.returns-clause-chair
+returns-clause-chair g c =
+    let s = c.swap.ensures.chair in let e = c.bring_for.ensures.chair in (s.0 ∙ e.0, s.1 ∙ e.1, s.2)
+
+pub returns-clause-cell : goal.returns-clause-cell
+returns-clause-cell g c = c.swap.ensures.cell

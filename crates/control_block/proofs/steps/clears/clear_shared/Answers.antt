@@ -1,4 +1,5 @@
-use Rattle.std.proofs.Common.{refl, subst}
+use Rattle.control_block.proofs.CellTries.{room_at, told_rests}
+use Rattle.std.proofs.Common.{refl, subst, sym, ap, ◌∙◌, ℕ}
 use Rattle.atomic_table.specs.Seated.{TableId}
 use Rattle.control_word.specs.Handles.{empty}
 use Rattle.control_word.specs.State.{kind_of_member}
@@ -7,7 +8,7 @@ use Rattle.control_word.specs.declared.model.handle.Kind.{Kind}
 use Rattle.control_word.specs.declared.model.handle.Kind.TheVariants.{Owner}
 use Rattle.control_block.specs.CellPlays.{Gave}
 use Rattle.control_block.specs.Inside.{IsSized}
-use Rattle.control_block.specs.Plays.{At}
+use Rattle.control_block.specs.Plays.{At, Ends, Rests, tells}
 use Rattle.control_block.proofs.CellTrades.{clear_trades}
 use Rattle.control_block.proofs.LetGo.{gave_owes, gave_there, meant_out, out_and_gone}
 use Rattle.control_block.proofs.steps.clears.clear_shared.Goals as goal
@@ -46,3 +47,68 @@ returns-clause-cleared g c =
     (subst (λ (y : Kind). Gave (λ h. ClearMember o q h) y c.is_empty.new.chair.me.0 x w) r.kind
     (subst (λ y. Gave (λ h. ClearMember o y h) (kind_of_member y) c.is_empty.new.chair.me.0 x w) r.word.2 c.swap_out-out.ensures.gave)) in
     out_and_gone (λ h. ClearMember o q h) v w c.let_go-value.new.chair.me.0 x c.let_go-value.result t c.let_go-value.ensures.gone
+
+pub is_empty-requires-clause-board : goal.is_empty-requires-clause-board
+is_empty-requires-clause-board g c = c.requires.board.0
+
+pub is_empty-requires-clause-rests : goal.is_empty-requires-clause-rests
+is_empty-requires-clause-rests g c = c.requires.rests
+
+pub is_empty-requires-clause-word : goal.is_empty-requires-clause-word
+is_empty-requires-clause-word g c = c.requires.word
+
+pub is_empty-requires-clause-ends : goal.is_empty-requires-clause-ends
+is_empty-requires-clause-ends g c = c.requires.ends
+
+pub is_empty-requires-clause-room : goal.is_empty-requires-clause-room
+is_empty-requires-clause-room g c = c.requires.room
+
+pub returns-then-is_empty-clause-chair : goal.returns-then-is_empty-clause-chair
+returns-then-is_empty-clause-chair g c =
+    let r = c.requires in let t = c.is_empty.ensures.cleared c.if-is_empty.true in let e = c.is_empty.ensures.chair in
+    (e.0, e.1, told_rests c.is_empty.new.chair.me t.0 r.rests.awake (t.1 ∙ r.rests.none))
+
+pub returns-then-is_empty-clause-cleared : goal.returns-then-is_empty-clause-cleared
+returns-then-is_empty-clause-cleared g c =
+    let r = c.requires in let t = c.is_empty.ensures.cleared c.if-is_empty.true in let v = c.args.chair.now.me.0 in let w = c.is_empty.new.chair.me.0 in
+    record {
+      between = w;
+      out = record {
+        handle = empty Owner;
+        kind = refl;
+        shows = refl;
+        event = subst (λ (y : ℕ × Kind). tells (ClearMember g.M.StepArgs.object y.0 (empty y.1)) v w)
+            (λ i. (r.word.2 i, (ap kind_of_member r.word.2 ∙ r.kind) i)) t.0;
+      };
+      gone = (refl, refl);
+    }
+
+pub swap_out-out-requires-clause-board : goal.swap_out-out-requires-clause-board
+swap_out-out-requires-clause-board g c = c.is_empty.ensures.chair.0 ∙ c.requires.board.0
+
+pub swap_out-out-requires-clause-rests : goal.swap_out-out-requires-clause-rests
+swap_out-out-requires-clause-rests g c =
+    let r = c.requires in let same = c.is_empty.ensures.same c.if-is_empty.false in subst (λ (y : At g.row.V.Denot). Rests y) (sym same) r.rests
+
+pub swap_out-out-requires-clause-word : goal.swap_out-out-requires-clause-word
+swap_out-out-requires-clause-word g c = c.requires.word
+
+pub swap_out-out-requires-clause-ends : goal.swap_out-out-requires-clause-ends
+swap_out-out-requires-clause-ends g c =
+    let r = c.requires in let same = c.is_empty.ensures.same c.if-is_empty.false in
+    subst (λ (y : At g.row.V.Denot). Ends y.0 g.M.StepArgs.object c.args.block.0) (sym same) r.ends
+
+pub swap_out-out-requires-clause-room : goal.swap_out-out-requires-clause-room
+swap_out-out-requires-clause-room g c =
+    let r = c.requires in let same = c.is_empty.ensures.same c.if-is_empty.false in room_at c.is_empty.new.chair.me c.args.chair.now.me same r.room
+
+pub let_go-value-requires-clause-board : goal.let_go-value-requires-clause-board
+let_go-value-requires-clause-board g c = λ _ _. c.swap_out-out.ensures.chair.0 ∙ (c.is_empty.ensures.chair.0 ∙ c.requires.board.0)
+
+pub let_go-value-requires-clause-cell : goal.let_go-value-requires-clause-cell
+let_go-value-requires-clause-cell g c = λ _ _. c.swap_out-out.ensures.cell
+
+pub returns-clause-chair : goal.returns-clause-chair
+returns-clause-chair g c =
+    let a = c.let_go-value.ensures.chair in let b = c.swap_out-out.ensures.chair in let e = c.is_empty.ensures.chair in
+    (a.0 ∙ (b.0 ∙ e.0), a.1 ∙ (b.1 ∙ e.1), a.2)

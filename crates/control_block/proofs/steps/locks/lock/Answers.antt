@@ -1,11 +1,13 @@
-use Rattle.std.proofs.Common.{◌≡◌, ◌==◌, ◌<◌, ◌∙◌, ℕ, suc, sym, subst, arith}
+use Rattle.control_word.specs.declared.model.event.Event.TheVariants.{Lock}
+use Rattle.control_word.specs.Handles.{weak_of}
+use Rattle.std.proofs.Common.{◌≡◌, ◌==◌, ◌<◌, ◌∙◌, ℕ, suc, sym, subst, arith, ap, true, false, rules}
 use Rattle.atomic_table.specs.Table.{Allows, step}
 use mathlib.Core.Option.{none}
 use prog.Atomic.{either}
 use Rattle.control_block.specs.LockPlays.{locked, sought_owner}
-use Rattle.control_block.specs.Plays.{At}
+use Rattle.control_block.specs.Plays.{At, tells}
 use Rattle.control_block.specs.Rule.{Ruled}
-use Rattle.control_block.proofs.kept.Lock.{allows_lock, allows_seek}
+use Rattle.control_block.proofs.kept.Lock.{allows_lock, allows_seek, got_owner}
 use Rattle.control_block.proofs.steps.locks.lock.Goals as goal
 
 pub load-found-requires : goal.load-found-requires
@@ -35,3 +37,41 @@ compare_exchange-requires g c =
             (allows_lock board.key slots id c.args.block.0 o i found p c.args.chair.now.me r.rests r.holds r.room c.if-found-eq0.false e);
       },
     )
+
+pub returns-then-found-eq0-clause-chair : goal.returns-then-found-eq0-clause-chair
+returns-then-found-eq0-clause-chair g c =
+    let l = c.loop.invariant in let t = c.load-found.ensures in let o = g.M.StepArgs.object in let p = g.M.StepArgs.place in (t.0 ∙ l.2, t.1 ∙ l.3, (t.2.0 c.if-found-eq0.true).1 ∙ ap (λ m. m.1) l.4)
+
+pub returns-then-found-eq0-clause-event : goal.returns-then-found-eq0-clause-event
+returns-then-found-eq0-clause-event g c =
+    let l = c.loop.invariant in let t = c.load-found.ensures in let o = g.M.StepArgs.object in let p = g.M.StepArgs.place in
+    subst (λ (y : At g.row.V.Denot). tells (Lock (weak_of o p) false) y.0 c.load-found.new.seat.me.0) l.4 (t.2.0 c.if-found-eq0.true).0
+
+pub returns-then-found-eq0-clause-owner : goal.returns-then-found-eq0-clause-owner
+returns-then-found-eq0-clause-owner g c =
+    let l = c.loop.invariant in let t = c.load-found.ensures in let o = g.M.StepArgs.object in let p = g.M.StepArgs.place in
+    got_owner c.loop.chair.me.0 c.load-found.new.seat.me.0 o p false (t.2.0 c.if-found-eq0.true).0
+
+pub returns-then-compare_exchange-found-clause-chair : goal.returns-then-compare_exchange-found-clause-chair
+returns-then-compare_exchange-found-clause-chair g c =
+    let l = c.loop.invariant in let t = c.load-found.ensures in let o = g.M.StepArgs.object in let p = g.M.StepArgs.place in let q = c.compare_exchange.ensures in
+    let me = (t.2.1 c.if-found-eq0.false).0 ∙ l.4 in
+    (q.0 ∙ (t.0 ∙ l.2), q.1 ∙ (t.1 ∙ l.3), (q.2.0 c.if-compare_exchange-found.true).1 ∙ ap (λ m. m.1) me)
+
+pub returns-then-compare_exchange-found-clause-event : goal.returns-then-compare_exchange-found-clause-event
+returns-then-compare_exchange-found-clause-event g c =
+    let l = c.loop.invariant in let t = c.load-found.ensures in let o = g.M.StepArgs.object in let p = g.M.StepArgs.place in let q = c.compare_exchange.ensures in
+    let me = (t.2.1 c.if-found-eq0.false).0 ∙ l.4 in
+    subst (λ (y : At g.row.V.Denot). tells (Lock (weak_of o p) true) y.0 c.compare_exchange.new.seat.me.0) me (q.2.0 c.if-compare_exchange-found.true).0
+
+pub returns-then-compare_exchange-found-clause-owner : goal.returns-then-compare_exchange-found-clause-owner
+returns-then-compare_exchange-found-clause-owner g c =
+    let l = c.loop.invariant in let t = c.load-found.ensures in let o = g.M.StepArgs.object in let p = g.M.StepArgs.place in let q = c.compare_exchange.ensures in
+    let me = (t.2.1 c.if-found-eq0.false).0 ∙ l.4 in
+    got_owner c.load-found.new.seat.me.0 c.compare_exchange.new.seat.me.0 o p true (q.2.0 c.if-compare_exchange-found.true).0
+
+pub loop-preserved : goal.loop-preserved
+loop-preserved g c =
+    let l = c.loop.invariant in let t = c.load-found.ensures in let o = g.M.StepArgs.object in let p = g.M.StepArgs.place in let q = c.compare_exchange.ensures in
+    let me = (t.2.1 c.if-found-eq0.false).0 ∙ l.4 in
+    (search rules, search rules, q.0 ∙ (t.0 ∙ l.2), q.1 ∙ (t.1 ∙ l.3), q.2.1 c.if-compare_exchange-found.false ∙ me)
