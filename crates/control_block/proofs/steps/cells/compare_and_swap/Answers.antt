@@ -1,3 +1,5 @@
+use Rattle.std.proofs.lemmas.Bool.{cases_eq, eqb-true, eqb-false}
+use Rattle.std.proofs.Common.{⊎_elim, ap, ◌∙◌}
 use Rattle.control_block.proofs.kept.CompareSwap.{allows_compare_swap}
 use Rattle.control_block.proofs.steps.cells.compare_and_swap.Goals as goal
 
@@ -12,3 +14,20 @@ compare_exchange-requires g c =
             c.pack-found.ensures r.seen.1 r.expected r.new.2 r.new.1 r.hand r.room c.pack.ensures;
       },
     )
+
+pub returns-clause-chair : goal.returns-clause-chair
+returns-clause-chair g c =
+    let r = c.requires in let t = c.compare_exchange.ensures in let n = c.compare_exchange.result in let found = c.pack-found.result in (
+      t.0,
+      t.1,
+      ⊎_elim (λ e. (t.2.0 e c.args.seen r.seen.0 (e ∙ c.pack-found.ensures)).1 ∙ r.owes.none) (λ other. ap (λ m. m.1) (t.2.1 other) ∙ r.owes.none) (cases_eq n found),
+    )
+
+pub returns-clause-gave : goal.returns-clause-gave
+returns-clause-gave g c = λ same.
+    let r = c.requires in let t = c.compare_exchange.ensures in let n = c.compare_exchange.result in let found = c.pack-found.result in let e = eqb-true n found same in
+    (t.2.0 e c.args.seen r.seen.0 (e ∙ c.pack-found.ensures)).0
+
+pub returns-clause-missed : goal.returns-clause-missed
+returns-clause-missed g c = λ other.
+    let r = c.requires in let t = c.compare_exchange.ensures in let n = c.compare_exchange.result in let found = c.pack-found.result in t.2.1 (eqb-false n found other)

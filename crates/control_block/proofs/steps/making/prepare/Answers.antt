@@ -1,4 +1,4 @@
-use Rattle.std.proofs.Common.{◌∷◌, None, ap, subst, ◌∙◌}
+use Rattle.std.proofs.Common.{◌∷◌, None, ap, subst, ◌∙◌, refl}
 use Rattle.control_block.specs.Plays.{IsPrepared}
 use Rattle.control_block.proofs.Chairs.{all_written, four}
 use Rattle.control_block.proofs.steps.making.prepare.Goals as goal
@@ -43,3 +43,57 @@ returns-clause-prepared g c =
     let t5 = c.write-5.ensures.wrote v _ None awake t4 in
     subst (λ l. IsPrepared v c.args.block c.write-5.new.chair.me l None)
     (all_written t0.0 _ _ _ _ _ t0.1.sized ∙ ap (λ l. c.args.flags ∷ l) (four c.args.fields c.requires.sized)) t5
+
+pub begin-requires-clause-board : goal.begin-requires-clause-board
+begin-requires-clause-board g c = c.requires.board
+
+pub begin-requires-clause-rests : goal.begin-requires-clause-rests
+begin-requires-clause-rests g c = c.requires.rests
+
+pub begin-requires-clause-stored : goal.begin-requires-clause-stored
+begin-requires-clause-stored g c = (refl, c.requires.stored)
+
+pub write-requires-clause-prepared : goal.write-requires-clause-prepared
+write-requires-clause-prepared g c =
+    let t0 = c.begin.ensures.prepared in (c.args.chair.now.me.0, t0.0, None, c.requires.rests.awake, t0.1)
+
+pub write-requires-clause-board : goal.write-requires-clause-board
+write-requires-clause-board g c =
+    c.begin.ensures.chair.0 ∙ c.requires.board
+
+pub write-requires-clause-meant : goal.write-requires-clause-meant
+write-requires-clause-meant g c = (refl, refl)
+
+pub write-requires-2-clause-board : goal.write-requires-2-clause-board
+write-requires-2-clause-board g c =
+    c.write.ensures.chair.0 ∙ (c.begin.ensures.chair.0 ∙ c.requires.board)
+
+pub write-requires-2-clause-meant : goal.write-requires-2-clause-meant
+write-requires-2-clause-meant g c = (refl, refl)
+
+pub write-requires-3-clause-board : goal.write-requires-3-clause-board
+write-requires-3-clause-board g c =
+    c.write-2.ensures.chair.0 ∙ (c.write.ensures.chair.0 ∙ (c.begin.ensures.chair.0 ∙ c.requires.board))
+
+pub write-requires-3-clause-meant : goal.write-requires-3-clause-meant
+write-requires-3-clause-meant g c = (refl, refl)
+
+pub write-requires-4-clause-board : goal.write-requires-4-clause-board
+write-requires-4-clause-board g c =
+    c.write-3.ensures.chair.0 ∙ (c.write-2.ensures.chair.0 ∙ (c.write.ensures.chair.0 ∙ (c.begin.ensures.chair.0 ∙ c.requires.board)))
+
+pub write-requires-4-clause-meant : goal.write-requires-4-clause-meant
+write-requires-4-clause-meant g c = (refl, refl)
+
+pub write-requires-5-clause-board : goal.write-requires-5-clause-board
+write-requires-5-clause-board g c =
+    c.write-4.ensures.chair.0 ∙ (c.write-3.ensures.chair.0 ∙ (c.write-2.ensures.chair.0 ∙ (c.write.ensures.chair.0 ∙ (c.begin.ensures.chair.0 ∙ c.requires.board))))
+
+pub write-requires-5-clause-meant : goal.write-requires-5-clause-meant
+write-requires-5-clause-meant g c = (refl, refl)
+
+pub returns-clause-chair : goal.returns-clause-chair
+returns-clause-chair g c = (
+  c.write-5.ensures.chair.0 ∙ (c.write-4.ensures.chair.0 ∙ (c.write-3.ensures.chair.0 ∙ (c.write-2.ensures.chair.0 ∙ (c.write.ensures.chair.0 ∙ c.begin.ensures.chair.0)))),
+  c.write-5.ensures.chair.1 ∙ (c.write-4.ensures.chair.1 ∙ (c.write-3.ensures.chair.1 ∙ (c.write-2.ensures.chair.1 ∙ (c.write.ensures.chair.1 ∙ c.begin.ensures.chair.1)))),
+)
