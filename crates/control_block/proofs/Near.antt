@@ -1,5 +1,6 @@
 -- An object that the desk may look at, by what its seat knows.
-use Rattle.std.proofs.Common.{◌≡◌, ℕ, ◌<◌, Option, inl, inr, ⊎_elim}
+use Rattle.std.proofs.Common.{◌≡◌, ℕ, zero, suc, ◌<◌, List, [], ◌∷◌, Option, inl, inr, ⊎_elim, arith}
+use Rattle.std.specs.Prelude.{slice_index}
 use Rattle.atomic_table.specs.Seated.{TableId}
 use Rattle.control_word.specs.Layout.{spot}
 use Rattle.control_word.specs.declared.model.handle.Kind.{Kind}
@@ -30,3 +31,12 @@ module _ {V : Type 0} where
       (λ (t : (m : Kind) × (p : Option Place) × HoldingInBlock v m ((known v).latest b) p b). word_inside d id t.0 ((known v).latest b) t.1 b j h table
       t.2 low)
       (λ (t : Ends v ((known v).latest b) b). ending_word d id b j h table t low) near
+
+-- four looks tell four fields
+pub four_told : (f : List ℕ) (a b c d : ℕ) → a ≡ slice_index f 0 → b ≡ slice_index f 1 → c ≡ slice_index f 2 → d ≡ slice_index f 3 → (k : ℕ)
+    → k < 4 → slice_index (a ∷ b ∷ c ∷ d ∷ []) k ≡ slice_index f k
+four_told f a b c d p q r s zero low = p
+four_told f a b c d p q r s (suc zero) low = q
+four_told f a b c d p q r s (suc (suc zero)) low = r
+four_told f a b c d p q r s (suc (suc (suc zero))) low = s
+four_told f a b c d p q r s (suc (suc (suc (suc k)))) low = absurd (omega arith)

@@ -1,13 +1,12 @@
 //! Each kind of step, as a function. Objects go by numbers, which the proof of a call picks; words are their blocks'.
-ghost use Rattle.std.specs.Prelude.{◌≡◌, ◌+◌, ◌<◌, ◌≤◌, ◌==◌, [], Option, Some, is_some};
-ghost use Rattle.std.specs.Prelude.{IfSome};
+ghost use Rattle.std.specs.Prelude.{◌≡◌, ◌+◌, ◌<◌, ◌≤◌, ◌==◌, [], Some};
 ghost use Rattle.control_word.specs.Histories.{value};
 ghost use Rattle.control_block.specs.Rule.{opening_of};
 ghost use Rattle.control_word.specs.Handles.{IsPointer, handle, owner, weak_of};
 ghost use Rattle.control_word.specs.Layout.{spot};
 ghost use Rattle.control_word.specs.State.{count};
-ghost use Rattle.control_word.specs.declared.model.event.Event.TheVariants.{Count, Expired, Finish, Leave, Read, Share};
-ghost use Rattle.control_word.specs.declared.model.event.Event.TheVariants.{WeakLeave, WeakShare};
+ghost use Rattle.control_word.specs.declared.model.event.Event.TheVariants.{Count, Expired, Finish, Read, Share};
+ghost use Rattle.control_word.specs.declared.model.event.Event.TheVariants.{WeakShare};
 ghost use Rattle.control_word.specs.declared.model.handle.Kind.TheVariants.{Owner, Weak};
 ghost use Rattle.control_block.specs.Plays.{tells, known, Ends, Rests, HoldingInBlock, HasRoomFor, IsClear};
 ghost use Rattle.control_block.specs.Plays.{IsNearObject, IsTold};
@@ -26,7 +25,6 @@ pub mod shelf;
 mod words;
 
 use crate::board::{Board, Chair};
-use crate::in_place::InPlace;
 use crate::plays::{
     Counts, Fetches, FindsExpired, Finishes, Peeks, Reads, Shares, StepArgs, WeakShares,
 };
@@ -63,19 +61,6 @@ pub fn share_weak<V, M: StepArgs>(board: &Board<V>, chair: &mut Chair<V>, block:
     ensures event { tells (WeakShare M.object M.wanted) chair.old.me.0 chair.new.me.0 }
 {
     words::fetch_add::<V, WeakShares<M>>(board, chair, block_word(block, WEAKS), 1);
-}
-
-/// Weak leave: one weak handle less ([util.smartptr.weak.dest]). True where the block is vacant now.
-pub fn leave_weak<V, M: StepArgs>(board: &Board<V>, chair: &mut Chair<V>, block: Block) -> bool
-    requires board { chair.old.table_id ≡ board.now.table_id }
-    requires rests { Rests chair.old.me }
-    requires word { (0 < block.0) × (spot block.0 1 < board.now.table_id.words) }
-    requires holds { HoldingInBlock chair.old.me.0 Weak M.object M.place block.0 }
-    ensures chair { (chair.new.table_id ≡ chair.old.table_id) × (chair.new.id ≡ chair.old.id)
-        × (chair.new.me.1 ≡ chair.old.me.1) }
-    ensures event { tells (WeakLeave (weak_of M.object M.place) result) chair.old.me.0 chair.new.me.0 }
-{
-    leaving::leave_weak::<V, M>(board, chair, block, 0)
 }
 
 /// Look: `use_count` ([util.smartptr.shared.obs]): the count, for a desk with the whole allowance; else 0 just at none,
@@ -141,27 +126,6 @@ pub fn peek<V, M: StepArgs>(
     ensures told { IsTold word ((known chair.old.me.0).object M.object) result }
 {
     words::load::<V, Peeks<M>>(board, chair, block_word(block, FLAGS + word))
-}
-
-/// Leave: one owner less. Of the last one ([util.smartptr.shared.dest]) the value comes out, and its object ends in the
-/// hands of the desk: the slot is taken at the leave, emptied, and given back by a look.
-pub fn leave<V: Drop + Send, M: StepArgs>(
-    board: &Board<V>,
-    chair: &mut Chair<V>,
-    block: Block,
-) -> Option<InPlace<V>>
-    requires board { chair.old.table_id ≡ board.now.table_id }
-    requires rests { Rests chair.old.me }
-    requires word { (0 < block.0) × (block.0 ≤ board.now.table_id.slots)
-        × (spot block.0 0 < board.now.table_id.words) }
-    requires holds { (M.block ≡ block) × HoldingInBlock chair.old.me.0 Owner M.object M.place block.0 }
-    ensures chair { (chair.new.table_id ≡ chair.old.table_id) × (chair.new.id ≡ chair.old.id)
-        × (chair.new.me.1 ≡ []) }
-    ensures event { tells (Leave (owner M.object M.place) (is_some result)) chair.old.me.0 chair.new.me.0 }
-    ensures value { IfSome result
-        (λ x. value (opening_of chair.old.me.0.shape) chair.new.me.0.view.seen M.object ≡ Some x) }
-{
-    leaving::leave::<V, M>(board, chair, block, 0)
 }
 
 /// Finish: the value of an object that has ended comes out of its cell, and the ending gives up the owners' common weak

@@ -17,7 +17,7 @@ use crate::desk::Desk;
 use crate::domain::Domain;
 use crate::handles::Pointer;
 use crate::in_place::InPlace;
-use crate::steps;
+use crate::steps::{self, leaving};
 use control_word::Block;
 use std::alloc::Global;
 use std::marker::Brand;
@@ -39,7 +39,7 @@ pub fn leave<V: Drop + Send, A: About>(
     ensures keeps { KeepsStock desk.old desk.new }
     ensures count { endings_of desk.new ≡ endings_of desk.old + cond (is_some result) 1 0 }
 {
-    let value = steps::leave::<V, Brand>(&domain.table.shared, &mut desk.seat, of.block);
+    let value = leaving::leave::<V, Brand>(&domain.table.shared, &mut desk.seat, of.block, 0);
     desk.held -= 1;
     desk.endings += u32::from(value.is_some());
     value
@@ -62,7 +62,7 @@ pub fn leave_weak<V: Drop + Send, A: About>(
     ensures endings { KeepsEndings desk.old desk.new }
     ensures count { endings_of desk.new ≡ endings_of desk.old }
 {
-    let vacant = steps::leave_weak::<V, Brand>(&domain.table.shared, &mut desk.seat, of.block);
+    let vacant = leaving::leave_weak::<V, Brand>(&domain.table.shared, &mut desk.seat, of.block, 0);
     desk.held -= 1;
     put_by(&mut desk.store, of.block, vacant);
     vacant

@@ -1,4 +1,4 @@
-use Rattle.std.proofs.Common.{◌+◌, cond, refl, sym, ap, ◌∙◌, arith, None, Some, length}
+use Rattle.std.proofs.Common.{inl, ◌+◌, cond, refl, sym, ap, ◌∙◌, arith, None, Some, length}
 use Rattle.std.specs.Prelude.{is_some}
 use mir.Val.{bool_byte}
 use Rattle.control_block.specs.Plays.{known}
@@ -19,12 +19,11 @@ use Rattle.control_block.proofs.OwnCounts.{byte_few, grown, grown_count}
 use Rattle.control_block.proofs.OwnEndings.{ended_if, leave_spares}
 use Rattle.control_block.proofs.calls.leaving.leave.Goals as goal
 
-pub leave-value-requires-clause-holds : goal.leave-value-requires-clause-holds
-leave-value-requires-clause-holds g c = λ _ _. (
-  refl,
-  holding_in c.desk.inside c.args.desk.now Owner g.A.About.place c.args.of.block.0
-      c.desk.invariant c.desk.view_is c.requires.holds,
-)
+pub leave-value-requires-clause-may : goal.leave-value-requires-clause-may
+leave-value-requires-clause-may g c = λ _ _.
+    let h = c.desk.invariant in
+    let holds = holding_in c.desk.inside c.args.desk.now Owner g.A.About.place c.args.of.block.0 h c.desk.view_is c.requires.holds in
+    (refl, inl (h.rests, holds, refl))
 
 pub leave-value-requires-clause-word : goal.leave-value-requires-clause-word
 leave-value-requires-clause-word g c = λ _ _.

@@ -1,4 +1,4 @@
-use Rattle.std.proofs.Common.{◌+◌, ◌∷◌, cond, refl, sym, ap, ◌∙◌, arith, None, Some, length}
+use Rattle.std.proofs.Common.{inl, ◌+◌, ◌∷◌, cond, refl, sym, ap, ◌∙◌, arith, None, Some, length}
 use Rattle.control_word.proofs.history.Legal.{sound}
 use Rattle.control_word.specs.Handles.{handle, same_handle}
 use Rattle.control_word.specs.Histories.{leads}
@@ -16,9 +16,10 @@ use Rattle.control_block.proofs.DeskStores.{put_back, room_back, stock_grows}
 use Rattle.control_block.proofs.StoreBlocks.{weak_block}
 use Rattle.control_block.proofs.calls.leaving.leave_weak.Goals as goal
 
-pub leave_weak-vacant-requires-clause-holds : goal.leave_weak-vacant-requires-clause-holds
-leave_weak-vacant-requires-clause-holds g c = holding_in c.desk.inside c.args.desk.now Weak g.A.About.place c.args.of.block.0 c.desk.invariant
-    c.desk.view_is c.requires.holds
+pub leave_weak-vacant-requires-clause-may : goal.leave_weak-vacant-requires-clause-may
+leave_weak-vacant-requires-clause-may g c =
+    let h = c.desk.invariant in
+    inl (h.rests, holding_in c.desk.inside c.args.desk.now Weak g.A.About.place c.args.of.block.0 h c.desk.view_is c.requires.holds, refl)
 
 pub leave_weak-vacant-requires-clause-word : goal.leave_weak-vacant-requires-clause-word
 leave_weak-vacant-requires-clause-word g c =
