@@ -17,7 +17,7 @@ use Rattle.step_table.specs.declared.slots.slot.Slot.{Slot}
 use Rattle.step_table.specs.declared.slots.slot.Slot.TheVariants.{Empty, Full}
 use Rattle.control_word.specs.declared.place.Place.{Place}
 use Rattle.step_table.specs.declared.slots.holdings.Pointer.{Pointer}
-use Rattle.step_table.specs.Holdings.{Slots, filled, owner_slot, place_in, place_of, plain, pointer_of, slot_pointer, slot_value, weak_slot}
+use Rattle.step_table.specs.Holdings.{Slots, filled, inside, owner_slot, place_in, place_of, plain, pointer_of, slot_pointer, slot_value, weak_slot}
 use Rattle.step_table.proofs.holding.Slots.{full_is}
 use Rattle.step_threads.specs.Courses.{CourseReady, DropsInTime, IsReady, MayComeNext, MayFollow, TasksMayCome, dropping, fitting}
 use Rattle.step_threads.specs.Courses.{hand, is_there, offered, other, placed, rest, taken_after}
@@ -107,6 +107,11 @@ or_right false b e = e
 pub found_weak : (slots : Slots) (k n : ℕ) (o o' : Option Pointer) → o ≡ weak_slot (slot_pointer slots n) → n ≡ k → o ≡ o'
     → weak_slot (slot_pointer slots k) ≡ o'
 found_weak slots k n o o' found is same = ap (λ (i : ℕ). weak_slot (slot_pointer slots i)) (sym is) ∙ sym found ∙ same
+
+-- the owner of a name that points into its object
+pub found_inside : (slots : Slots) (k n : ℕ) (o o' : Option Pointer) → o ≡ inside (slot_pointer slots n) → n ≡ k → o ≡ o'
+    → inside (slot_pointer slots k) ≡ o'
+found_inside slots k n o o' found is same = ap (λ (i : ℕ). inside (slot_pointer slots i)) (sym is) ∙ sym found ∙ same
 
 -- a slot became another, and all are there still
 pub kept_slot : (slots l : Slots) (i n : ℕ) (x : Slot) → l ≡ set slots i x → n < length slots → n < length l

@@ -25,6 +25,7 @@ pub mod LookSteps
 pub mod LoadFits
 pub mod Acting
 pub mod LockSteps
+pub mod ThisSteps
 pub mod RefillFits
 pub mod holding
 pub mod ShelfSteps

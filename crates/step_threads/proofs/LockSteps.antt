@@ -15,7 +15,7 @@ use Rattle.step_threads.specs.declared.said.Said.{Said}
 use Rattle.step_threads.specs.declared.thread.Thread.{Thread}
 use Rattle.step_threads.specs.Courses.{Walk, locked_pointer, rest, task_at, walk, walk_settled}
 use Rattle.step_threads.specs.NextSteps.{first, step_at, tried}
-use Rattle.step_threads.specs.Rows.{Hands, lock_answer, said_by_row, taking}
+use Rattle.step_threads.specs.Rows.{lock_answer, said_by_row, taking}
 use Rattle.step_threads.specs.Scenes.{finds_owner, row_in, went}
 use Rattle.step_threads.specs.Steps.{Step, looks, step_of_act, tries, trying}
 use Rattle.step_threads.proofs.Courses.{todo_at}

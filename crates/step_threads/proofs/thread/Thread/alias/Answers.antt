@@ -4,7 +4,6 @@ use Rattle.step_table.specs.Holdings.{owner_slot, place_in, slot_pointer}
 use Rattle.step_threads.specs.Threads.{FitsThread}
 use Rattle.step_threads.specs.declared.half.Half.{Half}
 use Rattle.step_threads.proofs.StoreFits.{fits_done}
-use Rattle.step_table.specs.Stories.{story_state}
 use Rattle.step_threads.specs.declared.said.Said.{Said}
 use Rattle.step_threads.specs.declared.said.Stepped.TheVariants.{Event, Quiet}
 use Rattle.step_threads.specs.declared.said.Stepped.{Stepped}
@@ -38,6 +37,7 @@ returns-clause-stepped c =
     let slots = t.course.holdings.slots.items in
     let b = c.alias-event.result in
     let on = c.alias-event.ensures in
-    acts_on d t v r.fits r.rest r.none r.within (Alias c.args.name c.args.of c.args.field) r.act (alias (aliased c.args.field (place_in slots c.args.of))) (owner_slot (slot_pointer slots c.args.name)) b _ _ _ _ refl refl (λ p. refl)
+    acts_on d t v r.fits r.rest r.none r.within (Alias c.args.name c.args.of c.args.field) r.act (alias (aliased c.args.field (place_in slots
+    c.args.of))) (owner_slot (slot_pointer slots c.args.name)) b _ _ _ _ refl refl (λ p. refl)
     (c.says.ensures ∙ ap (λ (s : Said). cond {A = Stepped} b (Event s) (Quiet s)) (c.silent.ensures ∙ ap silent c.statement-statement.ensures))
     on.event refl on.table on.walk r.rest

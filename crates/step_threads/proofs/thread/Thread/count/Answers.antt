@@ -1,10 +1,6 @@
-use Rattle.std.proofs.Common.{◌∙◌, refl, sym, ap, subst, cond, ℕ, Bool}
+use Rattle.std.proofs.Common.{◌∙◌, refl, sym, ap, subst, ℕ}
 use Rattle.step_table.specs.Holdings.{slot_pointer, is_full}
-use Rattle.step_table.specs.Stories.{story_state}
 use Rattle.step_threads.specs.declared.said.Said.{Said}
-use Rattle.step_threads.specs.declared.said.Stepped.TheVariants.{Event, Quiet}
-use Rattle.step_threads.specs.declared.said.Stepped.{Stepped}
-use Rattle.step_threads.specs.Steps.{silent}
 use Rattle.step_threads.proofs.Acting.{acts_on, can_act}
 use Rattle.step_threads.specs.Threads.{FitsThread}
 use Rattle.step_threads.specs.declared.half.Half.{Half}

@@ -1,6 +1,5 @@
 use Rattle.std.proofs.Common.{◌∙◌, refl, sym, ap, subst, cond}
 use Rattle.step_table.specs.Holdings.{slot_pointer}
-use Rattle.step_table.specs.Stories.{story_state}
 use Rattle.step_threads.specs.declared.said.Said.{Said}
 use Rattle.step_threads.specs.declared.said.Stepped.TheVariants.{Event, Quiet}
 use Rattle.step_threads.specs.declared.said.Stepped.{Stepped}
@@ -36,6 +35,7 @@ returns-clause-fits c =
     let t = c.args.self.now in
     let v = c.args.table.now in
     let on = c.downgrade-event.ensures in
-    subst (λ (h : Half). FitsThread d (record { course = c.downgrade-event.new.self; stock = t.stock; half = h }) c.downgrade-event.new.table) (sym c.requires.rest)
+    subst (λ (h : Half). FitsThread d (record { course = c.downgrade-event.new.self; stock = t.stock; half = h }) c.downgrade-event.new.table) (sym
+    c.requires.rest)
     (fits_done downgrade d t v c.downgrade-event.new.table (slot_pointer t.course.holdings.slots.items c.args.name) c.downgrade-event.new.self
     c.known.ensures c.requires.fits c.requires.rest c.requires.none (λ x. refl) (λ x. refl) on.table on.on)

@@ -1,4 +1,4 @@
-use Rattle.std.proofs.Common.{refl, sym, subst, ◌∙◌, ap, cond, ℕ, Bool}
+use Rattle.std.proofs.Common.{refl, sym, subst, ◌∙◌, ap, ℕ, Bool}
 use Rattle.step_table.specs.Deeds.{tell_expired}
 use Rattle.step_table.specs.Holdings.{slot_pointer, is_full}
 use Rattle.step_table.specs.Stories.{story_state}
@@ -6,9 +6,6 @@ use Rattle.step_threads.specs.Threads.{FitsThread}
 use Rattle.step_threads.specs.declared.half.Half.{Half}
 use Rattle.step_threads.proofs.StoreFits.{fits_done}
 use Rattle.step_threads.specs.declared.said.Said.{Said}
-use Rattle.step_threads.specs.declared.said.Stepped.TheVariants.{Event, Quiet}
-use Rattle.step_threads.specs.declared.said.Stepped.{Stepped}
-use Rattle.step_threads.specs.Steps.{silent}
 use Rattle.step_threads.proofs.Acting.{acts_on, can_act}
 use Rattle.std.specs.Prelude.{None, Some}
 use Rattle.step_threads.specs.declared.said.Answer.TheVariants as answer
@@ -41,7 +38,8 @@ returns-clause-stepped c =
     let slots = t.course.holdings.slots.items in
     let said : ℕ → Bool → Said = λ n m. record { statement = n; answer = Some (answer.Expired m); ended = None } in
     let on' = c.is_expired-expired.ensures in
-    acts_on d t v r.fits r.rest r.none r.within (Expired c.args.name) r.act (tell_expired (story_state v)) (slot_pointer slots c.args.name) c.is_full-event.result
+    acts_on d t v r.fits r.rest r.none r.within (Expired c.args.name) r.act (tell_expired (story_state v)) (slot_pointer slots c.args.name)
+    c.is_full-event.result
     (said c.statement-statement.result c.is_expired-expired.result) _ _ _ refl refl (λ p. refl) c.says.ensures
     (c.is_full-event.ensures ∙ ap (λ (i : ℕ). is_full (slot_pointer slots i)) c.from.ensures)
     (ap (λ (n : ℕ). said n c.is_expired-expired.result) c.statement-statement.ensures ∙ ap (said (task_at t.course).statement) on'.exact)

@@ -1,6 +1,20 @@
-use Rattle.std.proofs.Common.{ℕ, ap, sym, ◌∙◌}
-use Rattle.step_table.specs.Holdings.{inside, slot_pointer}
+use Rattle.std.proofs.Common.{ℕ, ap, sym, ◌∙◌, false, refl}
+use Rattle.step_table.specs.Holdings.{inside, slot_pointer, place_in}
 use Rattle.step_threads.proofs.Giving.{fits_asked, refused_this}
+use Rattle.std.specs.Prelude.{None, Some}
+use Rattle.control_word.specs.declared.refusal.Refusal.TheVariants as refused
+use Rattle.step_threads.specs.declared.programs.act.Act.TheVariants.{FromThis}
+use Rattle.step_threads.specs.declared.half.Half.TheVariants.{Rest}
+use Rattle.step_threads.specs.declared.said.Answer.{Answer}
+use Rattle.step_threads.specs.declared.said.Answer.TheVariants as answer
+use Rattle.step_threads.specs.declared.said.Said.{Said}
+use Rattle.step_threads.specs.declared.said.Stepped.TheVariants.{Quiet}
+use Rattle.step_threads.specs.Courses.{rest, task_at, walk}
+use Rattle.step_threads.specs.Rows.{outside}
+use Rattle.step_threads.specs.Steps.{silent}
+use Rattle.step_threads.proofs.Acting.{acts_as, steps_as, went_quiet}
+use Rattle.step_threads.proofs.Going.{found_inside}
+use Rattle.step_threads.proofs.ThisSteps.{giving, this_gives, this_none, this_not, this_says, this_went}
 use Rattle.step_threads.proofs.thread.Thread.from_this.Goals as goal
 
 pub take-requires-clause-ready : goal.take-requires-clause-ready
@@ -17,3 +31,75 @@ returns-clause-fits c =
     c.requires.none c.requires.within
     c.requires.act (sym (c.inside.ensures ∙ ap (λ (k : ℕ). inside (slot_pointer slots k)) c.from-from.ensures) ∙ c.in-Some.is)
     (sym c.is_enabled.ensures ∙ c.if-not-is_enabled.false)
+
+pub returns-in_default-clause-stepped : goal.returns-in_default-clause-stepped
+returns-in_default-clause-stepped c =
+    let d = c.args.desk in
+    let t = c.args.self.now in
+    let v = c.args.table.now in
+    let r = c.requires in
+    let slots = t.course.holdings.slots.items in
+    let tell : ℕ → Answer → Said = λ n a. record { statement = n; answer = Some a; ended = None } in
+    acts_as d t v r.fits r.rest r.none r.within (FromThis c.args.name c.args.kind) r.act None Rest _ _ _
+    (this_none v d (walk t.course) (task_at t.course).statement (rest t.course) c.args.name c.args.kind (found_inside slots c.args.name
+    c.from-from.result c.inside.result (None) c.inside.ensures c.from-from.ensures c.in_default.is)) refl
+    (ap (λ (s : Said). Quiet s) (c.tells.ensures ∙ ap (λ (n : ℕ). tell n c.outside-answer.result) c.statement-statement.ensures
+    ∙ ap (tell (task_at t.course).statement) (c.outside-answer.ensures ∙ ap outside (c.place.ensures ∙ ap (place_in slots) c.from-from.ensures))
+    ∙ this_says v d (walk t.course) (task_at t.course).statement (rest t.course) c.args.name c.args.kind None false (found_inside slots c.args.name
+    c.from-from.result c.inside.result (None) c.inside.ensures c.from-from.ensures c.in_default.is) refl)) refl
+    (c.take.ensures.walk ∙ this_went v d (walk t.course) (task_at t.course).statement (rest t.course) c.args.name c.args.kind None false
+    (found_inside slots c.args.name c.from-from.result c.inside.result (None) c.inside.ensures c.from-from.ensures c.in_default.is) refl) r.rest
+
+pub returns-in_default-clause-fits : goal.returns-in_default-clause-fits
+returns-in_default-clause-fits c =
+    let d = c.args.desk in
+    let t = c.args.self.now in
+    let v = c.args.table.now in
+    let r = c.requires in
+    let slots = t.course.holdings.slots.items in
+    went_quiet d t v r.fits r.rest r.none r.within c.take.new.self (c.take.ensures.on d v r.fits.holds)
+
+pub returns-then-not-is_enabled-clause-stepped : goal.returns-then-not-is_enabled-clause-stepped
+returns-then-not-is_enabled-clause-stepped c =
+    let d = c.args.desk in
+    let t = c.args.self.now in
+    let v = c.args.table.now in
+    let r = c.requires in
+    let slots = t.course.holdings.slots.items in
+    let p = c.in-Some.pointer in
+    let bare = sym c.is_enabled.ensures ∙ c.if-not-is_enabled.true in
+    let tell : ℕ → Answer → Said = λ n a. record { statement = n; answer = Some a; ended = None } in
+    acts_as d t v r.fits r.rest r.none r.within (FromThis c.args.name c.args.kind) r.act None Rest _ _ _
+    (this_not v d (walk t.course) (task_at t.course).statement (rest t.course) c.args.name c.args.kind p (found_inside slots c.args.name
+    c.from-from.result c.inside.result (Some p) c.inside.ensures c.from-from.ensures c.in-Some.is) bare) refl
+    (ap (λ (s : Said). Quiet s) (c.tells-then-not-is_enabled.ensures
+    ∙ ap (λ (n : ℕ). tell n (answer.Refused refused.NotEnabled)) c.statement-statement.ensures
+    ∙ this_says v d (walk t.course) (task_at t.course).statement (rest t.course) c.args.name c.args.kind (Some p) false (found_inside slots
+    c.args.name c.from-from.result c.inside.result (Some p) c.inside.ensures c.from-from.ensures c.in-Some.is) bare)) refl
+    (c.take-then-not-is_enabled.ensures.walk ∙ this_went v d (walk t.course) (task_at t.course).statement (rest t.course) c.args.name c.args.kind
+    (Some p) false (found_inside slots c.args.name c.from-from.result c.inside.result (Some p) c.inside.ensures c.from-from.ensures c.in-Some.is) bare) r.rest
+
+pub returns-then-not-is_enabled-clause-fits : goal.returns-then-not-is_enabled-clause-fits
+returns-then-not-is_enabled-clause-fits c =
+    let d = c.args.desk in
+    let t = c.args.self.now in
+    let v = c.args.table.now in
+    let r = c.requires in
+    let slots = t.course.holdings.slots.items in
+    went_quiet d t v r.fits r.rest r.none r.within c.take-then-not-is_enabled.new.self (c.take-then-not-is_enabled.ensures.on d v r.fits.holds)
+
+pub returns-clause-stepped : goal.returns-clause-stepped
+returns-clause-stepped c =
+    let d = c.args.desk in
+    let t = c.args.self.now in
+    let v = c.args.table.now in
+    let r = c.requires in
+    let slots = t.course.holdings.slots.items in
+    let p = c.in-Some.pointer in
+    let enabled = sym c.is_enabled.ensures ∙ c.if-not-is_enabled.false in
+    steps_as d t v r.fits r.rest r.none r.within (FromThis c.args.name c.args.kind) r.act
+    (giving v d (walk t.course) (task_at t.course).statement (rest t.course) c.args.name c.args.kind p (found_inside slots c.args.name
+    c.from-from.result c.inside.result (Some p) c.inside.ensures c.from-from.ensures c.in-Some.is)) _ _ _
+    (this_gives v d (walk t.course) (task_at t.course).statement (rest t.course) c.args.name c.args.kind p (found_inside slots c.args.name
+    c.from-from.result c.inside.result (Some p) c.inside.ensures c.from-from.ensures c.in-Some.is) enabled) refl
+    (ap (λ (s : Said). Quiet s) (c.silent.ensures ∙ ap silent c.statement-statement.ensures)) refl refl refl

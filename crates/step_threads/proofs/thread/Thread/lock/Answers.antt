@@ -1,10 +1,10 @@
 use Rattle.step_threads.proofs.Threads.{lost_ready}
-use Rattle.std.proofs.Common.{◌≡◌, ◌==◌, ◌∙◌, ℕ, true, false, not, cond, refl, sym, ap, subst, eq-eqb, ne_eqb, arith}
+use Rattle.std.proofs.Common.{◌≡◌, ◌==◌, ◌∙◌, ℕ, true, false, not, refl, sym, ap, subst, eq-eqb, ne_eqb, arith}
 use Rattle.std.proofs.lemmas.Bool.{cond-true, cond-false}
 use Rattle.std.specs.Prelude.{None, Some}
-use Rattle.step_table.specs.Deeds.{is_expired, lock, owner_word}
+use Rattle.step_table.specs.Deeds.{lock, owner_word}
 use Rattle.step_table.specs.Holdings.{is_full}
-use Rattle.step_table.specs.Stories.{Story, story_after_deed, story_state}
+use Rattle.step_table.specs.Stories.{Story, story_state}
 use Rattle.step_threads.specs.declared.programs.act.Act.{Act}
 use Rattle.step_threads.specs.declared.programs.act.Act.TheVariants.{Lock}
 use Rattle.step_threads.specs.declared.half.Half.{Half}
@@ -35,10 +35,13 @@ returns-in_default-clause-stepped c =
     let r = c.requires in
     let slots = t.course.holdings.slots.items in
     acts_as d t v r.fits r.rest r.none r.within (Lock c.args.name c.args.must) r.act None Rest _ _ _
-    (lock_none v d (walk t.course) (task_at t.course).statement (rest t.course) c.args.name c.args.must (found_weak slots c.args.name c.from-from.result c.weak.result (None) c.weak.ensures c.from-from.ensures c.in_default.is)) refl
+    (lock_none v d (walk t.course) (task_at t.course).statement (rest t.course) c.args.name c.args.must (found_weak slots c.args.name
+    c.from-from.result c.weak.result (None) c.weak.ensures c.from-from.ensures c.in_default.is)) refl
     (ap (λ (s : Said). Quiet s) (c.locked.ensures ∙ ap (λ n. lock_said n c.args.must false) c.statement-statement.ensures
-    ∙ lock_says v d (walk t.course) (task_at t.course).statement (rest t.course) c.args.name c.args.must (None) false (found_weak slots c.args.name c.from-from.result c.weak.result (None) c.weak.ensures c.from-from.ensures c.in_default.is) refl)) refl
-    (c.take.ensures.walk ∙ lock_went v d (walk t.course) (task_at t.course).statement (rest t.course) c.args.name c.args.must (None) false (found_weak slots c.args.name c.from-from.result c.weak.result (None) c.weak.ensures c.from-from.ensures c.in_default.is) refl) r.rest
+    ∙ lock_says v d (walk t.course) (task_at t.course).statement (rest t.course) c.args.name c.args.must (None) false (found_weak slots c.args.name
+    c.from-from.result c.weak.result (None) c.weak.ensures c.from-from.ensures c.in_default.is) refl)) refl
+    (c.take.ensures.walk ∙ lock_went v d (walk t.course) (task_at t.course).statement (rest t.course) c.args.name c.args.must (None) false
+    (found_weak slots c.args.name c.from-from.result c.weak.result (None) c.weak.ensures c.from-from.ensures c.in_default.is) refl) r.rest
 
 pub returns-in_default-clause-fits : goal.returns-in_default-clause-fits
 returns-in_default-clause-fits c =
@@ -61,12 +64,15 @@ returns-then-word-eq0-clause-stepped c =
     let zero : (c.look_lock-word.result == 0) ≡ true = eq-eqb _ _ c.if-word-eq0.true in
     let gone = ap not (sym look.left ∙ zero) in
     acts_as d t v r.fits r.rest r.none r.within (Lock c.args.name c.args.must) r.act (Some (lock (story_state v) p)) Rest _ _ _
-    (lock_late v d (walk t.course) (task_at t.course).statement (rest t.course) c.args.name c.args.must p (found_weak slots c.args.name c.from-from.result c.weak.result (Some p) c.weak.ensures c.from-from.ensures c.in-Some.is)
+    (lock_late v d (walk t.course) (task_at t.course).statement (rest t.course) c.args.name c.args.must p (found_weak slots c.args.name
+    c.from-from.result c.weak.result (Some p) c.weak.ensures c.from-from.ensures c.in-Some.is)
     (ap (λ (n : ℕ). n == 0) (sym look.word) ∙ zero)) refl
     (ap (λ (s : Said). Event s) (c.locked-then-word-eq0.ensures ∙ ap (λ n. lock_said n c.args.must false) c.statement-statement.ensures
-    ∙ lock_says v d (walk t.course) (task_at t.course).statement (rest t.course) c.args.name c.args.must (Some p) false (found_weak slots c.args.name c.from-from.result c.weak.result (Some p) c.weak.ensures c.from-from.ensures c.in-Some.is) gone))
+    ∙ lock_says v d (walk t.course) (task_at t.course).statement (rest t.course) c.args.name c.args.must (Some p) false (found_weak slots c.args.name
+    c.from-from.result c.weak.result (Some p) c.weak.ensures c.from-from.ensures c.in-Some.is) gone))
     (look.table ∙ cond-true (c.look_lock-word.result == 0) _ _ zero)
-    (c.take-then-word-eq0.ensures.walk ∙ lock_went v d (walk t.course) (task_at t.course).statement (rest t.course) c.args.name c.args.must (Some p) false (found_weak slots c.args.name c.from-from.result c.weak.result (Some p) c.weak.ensures c.from-from.ensures c.in-Some.is) gone) r.rest
+    (c.take-then-word-eq0.ensures.walk ∙ lock_went v d (walk t.course) (task_at t.course).statement (rest t.course) c.args.name c.args.must (Some p)
+    false (found_weak slots c.args.name c.from-from.result c.weak.result (Some p) c.weak.ensures c.from-from.ensures c.in-Some.is) gone) r.rest
 
 pub returns-then-word-eq0-clause-fits : goal.returns-then-word-eq0-clause-fits
 returns-then-word-eq0-clause-fits c =
@@ -97,7 +103,8 @@ returns-clause-stepped c =
     let some : (c.look_lock-word.result == 0) ≡ false = ne_eqb _ _ c.if-word-eq0.false in
     let other = ap (λ (n : ℕ). n == 0) (sym look.word) ∙ some in
     steps_as d t v r.fits r.rest r.none r.within (Lock c.args.name c.args.must) r.act (trying (walk t.course) (task_at t.course).statement (owner_word v p))
-    _ _ _ (lock_found v d (walk t.course) (task_at t.course).statement (rest t.course) c.args.name c.args.must p (found_weak slots c.args.name c.from-from.result c.weak.result (Some p) c.weak.ensures c.from-from.ensures c.in-Some.is) other) refl
+    _ _ _ (lock_found v d (walk t.course) (task_at t.course).statement (rest t.course) c.args.name c.args.must p (found_weak slots c.args.name
+    c.from-from.result c.weak.result (Some p) c.weak.ensures c.from-from.ensures c.in-Some.is) other) refl
     (ap (λ (s : Said). Quiet s) (c.silent.ensures ∙ ap silent c.statement-statement.ensures))
     (look.table ∙ cond-false (c.look_lock-word.result == 0) _ _ some) refl
     (ap (λ (n : ℕ). Locking n) look.word ∙ sym (cond-false (owner_word v p == 0) Rest (Locking (owner_word v p)) other))
@@ -113,7 +120,8 @@ returns-clause-fits c =
     let p = c.in-Some.pointer in
     let some : (c.look_lock-word.result == 0) ≡ false = ne_eqb _ _ c.if-word-eq0.false in
     let word = c.look_lock-word.result in
-    let full = ap (λ (a : Act). is_full (locked_pointer slots a)) r.act ∙ ap is_full (found_weak slots c.args.name c.from-from.result c.weak.result (Some p) c.weak.ensures c.from-from.ensures c.in-Some.is) in
+    let full = ap (λ (a : Act). is_full (locked_pointer slots a)) r.act ∙ ap is_full (found_weak slots c.args.name c.from-from.result c.weak.result
+    (Some p) c.weak.ensures c.from-from.ensures c.in-Some.is) in
     subst (λ (u : Story). FitsThread d (record { course = t.course; stock = t.stock; half = Locking word }) u)
     (sym (look.table ∙ cond-false (word == 0) _ _ some))
     (fits_half d t v Rest (Locking word) r.fits r.rest (λ b. refl) (λ b. refl)

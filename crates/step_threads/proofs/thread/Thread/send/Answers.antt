@@ -1,31 +1,125 @@
-use Rattle.std.proofs.lemmas.Grind.{common_steps}
-use Rattle.std.proofs.Common.{arith}
-use Rattle.std.proofs.Common.{inr}
+use Rattle.std.proofs.Common.{inr, ◌≡◌, ◌&&◌, ◌∙◌, ℕ, Bool, true, false, cond, set, refl, sym, ap, subst}
+use Rattle.std.specs.Prelude.{None, Option, Some, is_some}
+use Rattle.step_table.specs.Contents.{is_of, owing_for}
+use Rattle.step_table.specs.declared.cell_steps.cell_deed.CellDeed.TheVariants.{Bring}
+use Rattle.step_table.specs.declared.memory.past.Deed.TheVariants.{OnCell}
+use Rattle.step_table.specs.Holdings.{slot_value}
+use Rattle.step_table.specs.Stories.{Story, pending, story_after_deed, story_state}
+use Rattle.step_threads.specs.declared.programs.act.Act.{Act}
+use Rattle.step_threads.specs.declared.programs.act.Act.TheVariants.{Exchange}
+use Rattle.step_threads.specs.declared.half.Half.TheVariants.{Rest, Brought}
+use Rattle.step_threads.specs.declared.said.Said.{Said}
+use Rattle.step_threads.specs.declared.said.Stepped.TheVariants.{Quiet}
+use Rattle.step_threads.specs.Courses.{Going, going, new_of, on_going, rest, task_at, walk, walk_settled}
+use Rattle.step_threads.specs.Programs.{kind_at}
+use Rattle.step_threads.specs.Rows.{may_go}
+use Rattle.step_threads.specs.Scenes.{came}
+use Rattle.step_threads.specs.Steps.{brings, sends, silent, step_of_act}
+use Rattle.step_threads.specs.Threads.{FitsThread}
+use Rattle.step_threads.proofs.Acting.{acts_as, went_quiet}
+use Rattle.step_threads.proofs.Going.{found_at, may_go_at, stays_ready}
+use Rattle.step_threads.proofs.LookFits.{fits_quiet}
+use Rattle.step_threads.proofs.Named.{refusal_none, told_as}
+use Rattle.step_threads.proofs.Steps.{stepped_as, waits_act}
+use Rattle.step_threads.proofs.StoreFits.{going_is}
+use Rattle.step_threads.proofs.StoreSteps.{step_brings}
 use Rattle.step_threads.proofs.thread.Thread.send.Goals as goal
 
 pub refuse-requires-clause-act : goal.refuse-requires-clause-act
 refuse-requires-clause-act c = inr (c.args.name, inr c.requires.act)
 
 pub returns-then-not-is_there-clause-stepped : goal.returns-then-not-is_there-clause-stepped
-returns-then-not-is_there-clause-stepped c = grind (arith, common_steps)
+returns-then-not-is_there-clause-stepped c = c.refuse.ensures.stepped
 
 pub returns-then-not-is_there-clause-fits : goal.returns-then-not-is_there-clause-fits
-returns-then-not-is_there-clause-fits c = grind (arith, common_steps)
-
-pub returns-then-not-may_go_in-clause-stepped : goal.returns-then-not-may_go_in-clause-stepped
-returns-then-not-may_go_in-clause-stepped c = grind (arith, common_steps)
-
-pub returns-then-not-may_go_in-clause-fits : goal.returns-then-not-may_go_in-clause-fits
-returns-then-not-may_go_in-clause-fits c = grind (arith, common_steps)
+returns-then-not-is_there-clause-fits c = c.refuse.ensures.fits
 
 pub returns-in_default-clause-stepped : goal.returns-in_default-clause-stepped
-returns-in_default-clause-stepped c = grind (arith, common_steps)
+returns-in_default-clause-stepped c = c.exchange.ensures.stepped
 
 pub returns-in_default-clause-fits : goal.returns-in_default-clause-fits
-returns-in_default-clause-fits c = grind (arith, common_steps)
+returns-in_default-clause-fits c = c.exchange.ensures.fits
+
+pub go_on-requires-clause-ready : goal.go_on-requires-clause-ready
+go_on-requires-clause-ready c =
+    let t = c.args.self.now in
+    let r = c.requires in
+    stays_ready t.course (Exchange c.args.name c.args.cell) r.within r.fits.ready r.act (λ q. q) refl
+
+pub returns-then-not-may_go_in-clause-stepped : goal.returns-then-not-may_go_in-clause-stepped
+returns-then-not-may_go_in-clause-stepped c =
+    let d = c.args.desk in
+    let t = c.args.self.now in
+    let v = c.args.table.now in
+    let r = c.requires in
+    let slots = t.course.holdings.slots.items in
+    let k = c.args.name in
+    let cell = c.args.cell in
+    let a = Exchange k cell in
+    let there = sym c.is_there.ensures ∙ c.if-not-is_there.false in
+    let fit = may_go_at slots cell k c.from-from.result c.may_go_in.result false c.may_go_in.ensures c.from-from.ensures c.if-not-may_go_in.true in
+    let never : may_go slots cell k ≡ false = ap (λ (b : Bool). b && is_of (kind_at cell) (slot_value slots k)) there ∙ fit in
+    let w = walk t.course in
+    let n = (task_at t.course).statement in
+    let ts = rest t.course in
+    acts_as d t v r.fits r.rest r.none r.within a r.act None Rest _ _ _
+    (ap (λ (b : Bool). on_going (sends v d w n ts a) (step_of_act v d w n ts a None Rest) (cond {A = Option Going} b (Some (cell, k)) None)) never) refl
+    (ap (λ (s : Said). Quiet s) (c.silent.ensures ∙ ap silent c.statement-statement.ensures ∙ sym (ap (told_as n) (refusal_none slots cell there)))) refl
+    (c.go_on.ensures.walk
+    ∙ sym (ap (λ (b : Bool). walk_settled (cond b (set slots k (came (story_state v) slots cell)) slots) t.course.taken t.course.endings.list ts) never))
+    r.rest
+
+pub returns-then-not-may_go_in-clause-fits : goal.returns-then-not-may_go_in-clause-fits
+returns-then-not-may_go_in-clause-fits c =
+    let d = c.args.desk in
+    let t = c.args.self.now in
+    let v = c.args.table.now in
+    let r = c.requires in
+    let slots = t.course.holdings.slots.items in
+    went_quiet d t v r.fits r.rest r.none r.within c.go_on.new.self (c.go_on.ensures.on d v r.fits.holds)
 
 pub returns-clause-stepped : goal.returns-clause-stepped
-returns-clause-stepped c = grind (arith, common_steps)
+returns-clause-stepped c =
+    let d = c.args.desk in
+    let t = c.args.self.now in
+    let v = c.args.table.now in
+    let r = c.requires in
+    let slots = t.course.holdings.slots.items in
+    let k = c.args.name in
+    let cell = c.args.cell in
+    let a = Exchange k cell in
+    let there = sym c.is_there.ensures ∙ c.if-not-is_there.false in
+    let p = c.in-Some.pointer in
+    let at = found_at slots k c.from-from.result c.get.result (Some p) c.get.ensures c.from-from.ensures c.in-Some.is in
+    let goes = going_is slots cell k there
+    (may_go_at slots cell k c.from-from.result c.may_go_in.result true c.may_go_in.ensures c.from-from.ensures c.if-not-may_go_in.false) in
+    stepped_as d t v (brings (walk t.course) (task_at t.course).statement p) _ _ _ (waits_act t v a r.rest r.none r.within r.act)
+    (step_brings d t v a cell k r.none r.within r.act refl p r.rest goes at)
+    (ap (λ (s : Said). Quiet s) (c.silent-2.ensures ∙ ap silent c.statement-statement.ensures)) c.bring.ensures.table refl refl
 
 pub returns-clause-fits : goal.returns-clause-fits
-returns-clause-fits c = grind (arith, common_steps)
+returns-clause-fits c =
+    let d = c.args.desk in
+    let t = c.args.self.now in
+    let v = c.args.table.now in
+    let r = c.requires in
+    let slots = t.course.holdings.slots.items in
+    let k = c.args.name in
+    let cell = c.args.cell in
+    let a = Exchange k cell in
+    let there = sym c.is_there.ensures ∙ c.if-not-is_there.false in
+    let p = c.in-Some.pointer in
+    let at = found_at slots k c.from-from.result c.get.result (Some p) c.get.ensures c.from-from.ensures c.in-Some.is in
+    let goes = going_is slots cell k there
+    (may_go_at slots cell k c.from-from.result c.may_go_in.result true c.may_go_in.ensures c.from-from.ensures c.if-not-may_go_in.false) in
+    let deed = OnCell (Bring p.kind p.block p.place 256) in
+    let is = c.bring.ensures.table in
+    let some : is_some (going slots (task_at t.course).act) ≡ true =
+    ap (λ (y : Act). is_some (going slots y)) r.act ∙ ap (λ (o : Option Going). is_some o) goes in
+    let owes : pending c.bring.new.table d ≡ owing_for (story_state c.bring.new.table) (slot_value slots k) 256 =
+    subst (λ (i : ℕ). pending c.bring.new.table d ≡ owing_for (story_state c.bring.new.table) (slot_value slots i) 256) c.from-from.ensures
+    c.bring.ensures.owes in
+    subst (λ (u : Story). FitsThread d (record { course = t.course; stock = t.stock; half = Brought }) u) (sym is)
+    (fits_quiet d t v Rest Brought r.fits r.rest (λ b. refl) (λ b. refl) deed refl
+    (subst (λ (y : Act). pending (story_after_deed v d deed) d ≡ owing_for (story_state (story_after_deed v d deed)) (new_of slots y) 256) (sym r.act)
+    (subst (λ (u : Story). pending u d ≡ owing_for (story_state u) (slot_value slots k) 256) is owes)) (r.within, some, r.none))

@@ -1,6 +1,5 @@
 use Rattle.std.proofs.Common.{◌∙◌, refl, sym, ap, subst, cond}
 use Rattle.step_table.specs.Holdings.{slot_pointer}
-use Rattle.step_table.specs.Stories.{story_state}
 use Rattle.step_threads.specs.declared.said.Said.{Said}
 use Rattle.step_threads.specs.declared.said.Stepped.TheVariants.{Event, Quiet}
 use Rattle.step_threads.specs.declared.said.Stepped.{Stepped}
@@ -27,7 +26,8 @@ returns-clause-stepped c =
     let slots = t.course.holdings.slots.items in
     let b = c.share-event.result in
     let on = c.share-event.ensures in
-    acts_on d t v r.fits r.rest r.none r.within (Share c.args.name) r.act share (slot_pointer slots c.args.name) b _ _ _ _ refl refl (λ p. share_event v p p.kind)
+    acts_on d t v r.fits r.rest r.none r.within (Share c.args.name) r.act share (slot_pointer slots c.args.name) b _ _ _ _ refl refl (λ p.
+    share_event v p p.kind)
     (c.says.ensures ∙ ap (λ (s : Said). cond {A = Stepped} b (Event s) (Quiet s)) (c.silent.ensures ∙ ap silent c.statement-statement.ensures))
     on.event refl on.table on.walk r.rest
 

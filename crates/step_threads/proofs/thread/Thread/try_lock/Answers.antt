@@ -1,18 +1,16 @@
 use Rattle.std.proofs.Common.{◌≡◌, ◌==◌, ℕ, true, eq-eqb, set, sym, ap, subst, ◌∙◌, arith, false, not, cond, refl, ne_eqb}
 use Rattle.std.proofs.lemmas.Bool.{cond-true, cond-false}
-use Rattle.std.proofs.lemmas.Grind.{common_steps}
 use Rattle.step_table.specs.declared.slots.slot.Slot.{Slot}
 use Rattle.step_table.specs.declared.slots.slot.Slot.TheVariants.{Full}
-use Rattle.step_table.specs.Deeds.{as_owner, is_expired, lock, owner_word}
-use Rattle.step_table.specs.Holdings.{Slots, is_full}
+use Rattle.step_table.specs.Deeds.{as_owner, lock, owner_word}
+use Rattle.step_table.specs.Holdings.{Slots}
 use Rattle.step_threads.specs.declared.half.Half.{Half}
 use Rattle.step_threads.specs.declared.half.Half.TheVariants.{Locking, Rest}
-use Rattle.step_threads.specs.Courses.{IsReady, hand, rest, todo, locked_pointer, task_at, walk, walk_settled}
+use Rattle.step_threads.specs.Courses.{IsReady, hand, rest, todo, task_at, walk, walk_settled}
 use Rattle.step_threads.specs.Threads.{IsNext, FitsThread}
 use Rattle.step_threads.proofs.Hands.{locked_ready}
-use Rattle.std.specs.Prelude.{None, Some}
-use Rattle.step_table.specs.Stories.{Story, story_after_deed, story_state}
-use Rattle.step_threads.specs.declared.programs.act.Act.{Act}
+use Rattle.std.specs.Prelude.{Some}
+use Rattle.step_table.specs.Stories.{Story, story_state}
 use Rattle.step_threads.specs.declared.programs.act.Act.TheVariants.{Lock}
 use Rattle.step_threads.specs.declared.said.Said.{Said}
 use Rattle.step_threads.specs.declared.said.Stepped.TheVariants.{Event, Quiet}
@@ -56,14 +54,18 @@ returns-then-now-word-clause-stepped c =
     let left : (now == 0) ≡ false = ne_eqb now 0 (λ e. (let q = c.if-now-word.true in absurd (omega (arith, pos, q, e)))) in
     let got = ap not (sym look.left ∙ left) in
     let e = look.slots ∙ cond-true (now == word) _ _ same ∙ ap (λ (k : ℕ). set slots k (Full (as_owner p))) c.hand-hand.ensures in
-    stepped_as d t v (step_of_act v d (walk t.course) (task_at t.course).statement (rest t.course) (Lock c.args.name c.args.must) (Some (lock (story_state v) p)) Rest) _ _ _
+    stepped_as d t v (step_of_act v d (walk t.course) (task_at t.course).statement (rest t.course) (Lock c.args.name c.args.must) (Some (lock
+    (story_state v) p)) Rest) _ _ _
     (ap (λ (h : Half). waits v h (walk t.course)) r.half)
-    (locks_it v d t c.args.name c.args.must word p r.half next.0 r.act (found_weak slots c.args.name c.from-from.result c.weak.result (Some p) c.weak.ensures c.from-from.ensures c.in-Some.is) (ap (λ (n : ℕ). n == word) (sym look.word) ∙ same))
+    (locks_it v d t c.args.name c.args.must word p r.half next.0 r.act (found_weak slots c.args.name c.from-from.result c.weak.result (Some p)
+    c.weak.ensures c.from-from.ensures c.in-Some.is) (ap (λ (n : ℕ). n == word) (sym look.word) ∙ same))
     (ap (λ (s : Said). Event s) (c.locked.ensures ∙ ap (λ n. lock_said n c.args.must true) c.statement-statement.ensures
-    ∙ lock_says v d (walk t.course) (task_at t.course).statement (rest t.course) c.args.name c.args.must (Some p) true (found_weak slots c.args.name c.from-from.result c.weak.result (Some p) c.weak.ensures c.from-from.ensures c.in-Some.is) got))
+    ∙ lock_says v d (walk t.course) (task_at t.course).statement (rest t.course) c.args.name c.args.must (Some p) true (found_weak slots c.args.name
+    c.from-from.result c.weak.result (Some p) c.weak.ensures c.from-from.ensures c.in-Some.is) got))
     (look.table ∙ cond-true (now == word) _ _ same)
     (c.take.ensures.walk ∙ ap (λ (l : Slots). walk_settled l true t.course.endings.list (rest t.course)) e
-    ∙ lock_went v d (walk t.course) (task_at t.course).statement (rest t.course) c.args.name c.args.must (Some p) true (found_weak slots c.args.name c.from-from.result c.weak.result (Some p) c.weak.ensures c.from-from.ensures c.in-Some.is) got) refl
+    ∙ lock_went v d (walk t.course) (task_at t.course).statement (rest t.course) c.args.name c.args.must (Some p) true (found_weak slots c.args.name
+    c.from-from.result c.weak.result (Some p) c.weak.ensures c.from-from.ensures c.in-Some.is) got) refl
 
 pub returns-then-now-word-clause-fits : goal.returns-then-now-word-clause-fits
 returns-then-now-word-clause-fits c =
@@ -100,7 +102,8 @@ returns-clause-stepped c =
     let next : IsNext (Locking word) t.course = subst (λ (h : Half). IsNext h t.course) r.half r.fits.next in
     let other : (now == word) ≡ false = ne_eqb _ _ c.if-now-word.false in
     stepped_as d t v (trying (walk t.course) (task_at t.course).statement (owner_word v p)) _ _ _ (ap (λ (h : Half). waits v h (walk t.course)) r.half)
-    (locks_on v d t c.args.name c.args.must word p r.half next.0 r.act (found_weak slots c.args.name c.from-from.result c.weak.result (Some p) c.weak.ensures c.from-from.ensures c.in-Some.is) (ap (λ (n : ℕ). n == word) (sym look.word) ∙ other))
+    (locks_on v d t c.args.name c.args.must word p r.half next.0 r.act (found_weak slots c.args.name c.from-from.result c.weak.result (Some p)
+    c.weak.ensures c.from-from.ensures c.in-Some.is) (ap (λ (n : ℕ). n == word) (sym look.word) ∙ other))
     (ap (λ (s : Said). Quiet s) (c.silent.ensures ∙ ap silent c.statement-statement.ensures))
     (look.table ∙ cond-false (now == word) _ _ other)
     (ap (λ (l : Slots). record { slots = l; taken = t.course.taken; endings = t.course.endings.list; todo = todo t.course })

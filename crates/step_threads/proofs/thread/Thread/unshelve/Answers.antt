@@ -1,12 +1,16 @@
-use Rattle.std.proofs.Common.{sym, subst}
+use Rattle.std.proofs.Common.{sym, subst, ap}
 use Rattle.step_table.specs.declared.memory.past.Deed.TheVariants as deed
 use Rattle.step_table.specs.declared.memory.shelf.ShelfDeed.TheVariants as shelf
-use Rattle.step_table.specs.Stories.{Story, story_after_deed}
+use Rattle.step_table.specs.Stories.{Story, story_after_deed, story_state}
 use Rattle.step_threads.specs.Threads.{FitsThread}
 use Rattle.step_threads.specs.declared.half.Half.{Half}
 use Rattle.step_threads.specs.declared.half.Half.TheVariants.{Rest}
-use Rattle.step_threads.proofs.ShelfSteps.{fits_moved, room_unshelve, stocks_missed, stocks_unshelve}
+use Rattle.step_threads.proofs.ShelfSteps.{fits_moved, room_unshelve, stocks_missed, stocks_unshelve, shelf_ready, stepped_shelf}
 use Rattle.step_threads.proofs.Threads.{resting}
+use Rattle.std.proofs.lemmas.Bool.{cond-true, cond-false}
+use Rattle.std.specs.Prelude.{None, Some}
+use Rattle.step_threads.specs.declared.programs.act.ShelfAct.TheVariants.{Unshelve}
+use Rattle.step_threads.specs.declared.said.Stepped.TheVariants.{Event, Quiet}
 use Rattle.step_threads.proofs.thread.Thread.unshelve.Goals as goal
 
 pub put-requires : goal.put-requires
@@ -44,3 +48,35 @@ returns-clause-fits c =
     (subst (λ (u : Story). FitsThread d (record { course = course; stock = s; half = Rest }) u) (sym c.if-not-got.ensures.after)
     (fits_moved d t v b shelf.Unshelve course s c.known.ensures c.requires.fits c.requires.none
     (c.go_on-2.ensures.on d w (record { owned = holds.owned; size = holds.size; formed = holds.formed })) stocks))
+
+pub go_on-requires-clause-ready : goal.go_on-requires-clause-ready
+go_on-requires-clause-ready c =
+    let t = c.args.self.now in
+    let r = c.requires in
+    shelf_ready t.course (Unshelve c.args.block) r.within r.fits.ready r.act
+
+pub go_on-requires-2-clause-ready : goal.go_on-requires-2-clause-ready
+go_on-requires-2-clause-ready c =
+    let t = c.args.self.now in
+    let r = c.requires in
+    shelf_ready t.course (Unshelve c.args.block) r.within r.fits.ready r.act
+
+pub returns-then-not-got-clause-stepped : goal.returns-then-not-got-clause-stepped
+returns-then-not-got-clause-stepped c =
+    let t = c.args.self.now in
+    let v = c.args.table.now in
+    let r = c.requires in
+    let b = c.args.block in
+    stepped_shelf c.args.desk t _ v _ _ (Unshelve b) None c.statement-statement.result c.statement-statement.ensures r.rest r.none r.within r.act
+    (cond-false ((story_state v).shelved b.0) (Some b.0) None (sym c.if-not-got.ensures.got))
+    (ap Quiet c.silent.ensures) c.if-not-got.ensures.after c.go_on.ensures.walk r.rest
+
+pub returns-clause-stepped : goal.returns-clause-stepped
+returns-clause-stepped c =
+    let t = c.args.self.now in
+    let v = c.args.table.now in
+    let r = c.requires in
+    let b = c.args.block in
+    stepped_shelf c.args.desk t _ v _ _ (Unshelve b) (Some b.0) c.statement-statement.result c.statement-statement.ensures r.rest r.none r.within r.act
+    (cond-true ((story_state v).shelved b.0) (Some b.0) None (sym c.if-not-got.ensures.got))
+    (ap Event c.silent-2.ensures) c.if-not-got.ensures.after c.go_on-2.ensures.walk r.rest
