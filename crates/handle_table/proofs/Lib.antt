@@ -1,5 +1,6 @@
 pub mod Filling
 pub mod Wholes
+pub mod Bringing
 pub mod Supplying
 pub mod Celled
 pub mod Compared

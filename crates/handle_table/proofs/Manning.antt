@@ -1,15 +1,19 @@
 -- Workers and tables that are put together and taken apart from the ends of their lists, and what each worker did.
-use Rattle.std.proofs.Common.{◌≡◌, ℕ, suc, ◌<◌, List, [], ◌∷◌, ◌++◌, length, map, reverse, ap, sym, ◌∙◌, subst, arith, refl}
+use Rattle.std.proofs.Common.{◌≡◌, ◌⊎◌, inl, inr, ◌↔◌, ℕ, suc, ◌<◌, IfOk, Result, Ok, Err, List, [], ◌∷◌, ◌++◌, length, map, reverse, ap, sym, ◌∙◌, subst, arith, refl}
 use Rattle.std.specs.Prelude.{All, slice_index_or}
 use Rattle.std.specs.List.{AllZip}
-use Rattle.std.proofs.lemmas.List.{append_assoc, length-map, length-reverse, map-append, reverse-append}
+use Rattle.std.proofs.lemmas.List.{append-nil, append_assoc, length-map, length-reverse, map-append, reverse-append}
 use Rattle.std.proofs.lemmas.List.Elements.{AllZip-push, length_all_zip}
+use Rattle.control_word.specs.Layout.{IsWithinLimits}
+use Rattle.control_word.specs.declared.refusal.Refusal.{Refusal}
+use Rattle.control_word.specs.declared.refusal.Refusal.TheVariants.{Memory, NotSole}
+use Rattle.control_word.specs.declared.refusal.Refusal.TheVariants as refusal
 use Rattle.control_word.specs.declared.shape.Shape.{Shape}
 use Rattle.control_block.specs.Census.{CensusNow}
-use Rattle.control_block.specs.Desks.{IsFirstDesk, DeskNow, DomainNow}
-use Rattle.handle_table.specs.Parting.{AbsorbsAll, IsNew, IsPartedInto, WindsUp}
-use Rattle.handle_table.specs.Programs.{IsClosed}
-use Rattle.handle_table.specs.Staffs.{WorkerRelation, EachDoes, Shifts, Staffs, StaffsIn, StaffsOut}
+use Rattle.control_block.specs.Desks.{Belongs, IsFirstDesk, DeskNow, DomainNow}
+use Rattle.handle_table.specs.Parting.{AbsorbsAll, IsNew, IsPartedInto, IsRefusedPart, WindsUp}
+use Rattle.handle_table.specs.Programs.{CanClose, IsClosed}
+use Rattle.handle_table.specs.Staffs.{WorkerRelation, EachDoes, Shifts, Staffs, StaffsIn, StaffsOpen, StaffsOut}
 use Rattle.handle_table.specs.Tables.{TableNow}
 use Rattle.handle_table.specs.declared.staff.Share.{Share}
 
@@ -36,6 +40,16 @@ gone f all went now xs ys x is last more =
     ∙ (ap (λ l. went ++ l) (ap (λ l. reverse (map f l)) last ∙ turned f ys x)
     ∙ (sym (append_assoc went (f x ∷ []) (reverse (map f ys)))
     ∙ ap (λ l. l ++ reverse (map f ys)) (sym more)))
+
+-- where nothing has gone yet, and where nothing is left
+pub from_none : {X B : Type 0} (f : X → B) (none : List B) (xs : List X) → none ≡ [] → reverse (map f xs) ≡ none ++ reverse (map f xs)
+from_none f none xs is = ap (λ l. l ++ reverse (map f xs)) (sym is)
+
+pub all_put : {X B : Type 0} (f : X → B) (all now : List B) (xs : List X) → all ≡ now ++ reverse (map f xs) → now ≡ [] → all ≡ reverse (map f xs)
+all_put f all now xs is none = is ∙ ap (λ l. l ++ reverse (map f xs)) none
+
+pub all_back : {X B : Type 0} (f : X → B) (all now : List B) (xs : List X) → all ≡ now ++ reverse (map f xs) → xs ≡ [] → now ≡ all
+all_back f all now xs is none = sym (is ∙ (ap (λ l. now ++ reverse (map f l)) none ∙ append-nil now))
 
 -- two lists whose places are so
 pub zipped : {X : Type 0} (R : X → X → Type 0) (xs ys : List X) → length ys ≡ length xs
@@ -79,29 +93,33 @@ module _ {V W X : Type 0} (worker : X → W) (table : X → TableNow V) (does : 
   each_of (x ∷ xs) [] h = absurd h
   each_of (x ∷ xs) (y ∷ ys) h = (h.0, each_of xs ys h.1)
 
-  -- all of them worked, and their tables were absorbed
-  pub staffed : (t x u : TableNow V) (share : Share) (had has : List W) (lent left : List (TableNow V)) (posts after : List X)
-      → IsPartedInto t.desk share.allowance share.blocks lent x.desk → All (IsNew share.slots) lent
-      → (x.slots ≡ t.slots) × (x.endings ≡ t.endings)
-      → lent ≡ reverse (map table posts) → had ≡ reverse (map worker posts)
-      → left ≡ reverse (map table after) → has ≡ reverse (map worker after)
-      → AllZip (λ p q. does (worker p) (table p) (worker q) (table q)) posts after → AbsorbsAll x left u
-      → Staffs does t share had has u
-  staffed t x u share had has lent left posts after parts new rest a b c d all absorbs =
-      let is : x ≡ record t { desk = x.desk } = λ i. record { desk = x.desk; slots = rest.0 i; endings = rest.1 i } in
+  -- all of them worked, each at its post
+  pub each_worked : (had has : List W) (lent left : List (TableNow V)) (posts after : List X) → lent ≡ reverse (map table posts)
+      → had ≡ reverse (map worker posts) → left ≡ reverse (map table after) → has ≡ reverse (map worker after)
+      → AllZip (λ p q. does (worker p) (table p) (worker q) (table q)) posts after → EachDoes does had lent has left
+  each_worked had has lent left posts after a b c d all =
       let each = each_of (reverse posts) (reverse after)
       (zip_reversed (λ p q. does (worker p) (table p) (worker q) (table q)) posts after all) in
+      subst (λ l. EachDoes does l lent has left) (map_reversed worker posts ∙ sym b)
+      (subst (λ l. EachDoes does (map worker (reverse posts)) l has left) (map_reversed table posts ∙ sym a)
+      (subst (λ l. EachDoes does (map worker (reverse posts)) (map table (reverse posts)) l left) (map_reversed worker after ∙ sym d)
+      (subst (λ l. EachDoes does (map worker (reverse posts)) (map table (reverse posts)) (map worker (reverse after)) l)
+      (map_reversed table after ∙ sym c) each)))
+
+module _ {V W : Type 0} (does : WorkerRelation V W) where
+  -- and their tables were absorbed
+  pub staffed : (t x u : TableNow V) (share : Share) (had has : List W) (lent left : List (TableNow V))
+      → IsPartedInto t.desk share.allowance share.blocks lent x.desk → All (IsNew share.slots) lent
+      → (x.slots ≡ t.slots) × (x.endings ≡ t.endings) → EachDoes does had lent has left → AbsorbsAll x left u → Staffs does t share had has u
+  staffed t x u share had has lent left parts new rest each absorbs =
+      let is : x ≡ record t { desk = x.desk } = λ i. record { desk = x.desk; slots = rest.0 i; endings = rest.1 i } in
       record {
         lent = lent;
         between = x.desk;
         parts = parts;
         new = new;
         left = left;
-        each = subst (λ l. EachDoes does l lent has left) (map_reversed worker posts ∙ sym b)
-            (subst (λ l. EachDoes does (map worker (reverse posts)) l has left) (map_reversed table posts ∙ sym a)
-            (subst (λ l. EachDoes does (map worker (reverse posts)) (map table (reverse posts)) l left) (map_reversed worker after ∙ sym d)
-            (subst (λ l. EachDoes does (map worker (reverse posts)) (map table (reverse posts)) (map worker (reverse after)) l)
-            (map_reversed table after ∙ sym c) each)));
+        each = each;
         absorbs = subst (λ (y : TableNow V). AbsorbsAll y left u) is absorbs;
       }
 
@@ -121,3 +139,39 @@ module _ {V W : Type 0} (does : WorkerRelation V W) where
       → Shifts V does shape share had has c
   shifts domain shape share had has last c of works is =
       record { domain = domain; of = of; last = last; works = works; closed = subst (λ (s : Shape). IsClosed last s c) of is }
+
+  -- the desk that had all closes its domain, or may
+  pub opened : (r : Result (DomainNow × DeskNow V) Refusal) (domain : DomainNow) (shape : Shape) (share : Share) (had has : List W) (last : DeskNow V)
+      → domain.shape ≡ shape → Belongs last domain → StaffsIn does domain share had has last → IfOk r (λ x. x ≡ (domain, last))
+      → IfOk r (λ _. CanClose last domain.shape) → IfOk r (λ x. StaffsOpen does shape share had has x.0 x.1)
+  opened (Ok x) domain shape share had has last of here works is can =
+      subst (λ (y : DomainNow × DeskNow V). StaffsOpen does shape share had has y.0 y.1) (sym is)
+      (record { of = of; here = here; works = works; can_close = subst (λ (s : Shape). CanClose last s) of can })
+  opened (Err why) domain shape share had has last of here works is can = tt
+
+-- a desk that isn't sole is refused so, whatever the shape
+pub not_shape : (shape : Shape) (why : Refusal) → why ≡ NotSole → IsWithinLimits shape → why ≡ refusal.Shape ↔ (IsWithinLimits shape → ⊥)
+not_shape shape why is within = (λ e. absurd (cc (is, e)), λ no. absurd (no within))
+
+-- a domain that wasn't opened, and a desk that gave no such part
+pub not_opened : (why : Refusal) → (why ≡ refusal.Shape) ⊎ (why ≡ Memory) → (why ≡ refusal.Shape) ⊎ ((why ≡ NotSole) ⊎ IsRefusedPart why)
+not_opened why (inl e) = inl e
+not_opened why (inr e) = inr (inr (inr (inr e)))
+
+pub for_memory : (why : Refusal) → (why ≡ refusal.Shape) ⊎ (why ≡ Memory) → (why ≡ refusal.Shape) ⊎ ((why ≡ NotSole) ⊎ (why ≡ Memory))
+for_memory why (inl e) = inl e
+for_memory why (inr e) = inr (inr e)
+
+pub never_sole : (why : Refusal) → (why ≡ refusal.Shape) ⊎ (why ≡ Memory) → why ≡ NotSole → ⊥
+never_sole why (inl e) is = absurd (cc (e, is))
+never_sole why (inr e) is = absurd (cc (e, is))
+
+pub part_sole : (why : Refusal) → IsRefusedPart why → why ≡ NotSole → ⊥
+part_sole why (inl e) is = absurd (cc (e, is))
+part_sole why (inr (inl e)) is = absurd (cc (e, is))
+part_sole why (inr (inr e)) is = absurd (cc (e, is))
+
+pub part_shape : (shape : Shape) (why : Refusal) → IsRefusedPart why → IsWithinLimits shape → why ≡ refusal.Shape ↔ (IsWithinLimits shape → ⊥)
+part_shape shape why (inl e) within = (λ is. absurd (cc (e, is)), λ no. absurd (no within))
+part_shape shape why (inr (inl e)) within = (λ is. absurd (cc (e, is)), λ no. absurd (no within))
+part_shape shape why (inr (inr e)) within = (λ is. absurd (cc (e, is)), λ no. absurd (no within))

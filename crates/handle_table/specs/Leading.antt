@@ -34,6 +34,15 @@ module _ {V P : Type 0} where
     pub count : IsManned team.workers manned.workers manned.fewer
     pub told : m.before ≡ Some manned
 
+  -- the same, by what was there before and after
+  pub record StartsTeam (leads : Lead V P) (p : P) (before : Option Manned) (t : TableNow V) (manned : Manned) (q : P)
+      (u : TableNow V) : Type 0 where
+    pub team : Team
+    pub lent : TableNow V
+    pub call : leads p before t (Some team) q lent
+    pub works : Works lent team manned u
+    pub count : IsManned team.workers manned.workers manned.fewer
+
   -- teams worked one after another, the newest first
   abbrev pub AreTeams : Lead V P → Led V P → List (Led V P) → Led V P → Type 0
   AreTeams leads l [] m = m ≡ l

@@ -1,5 +1,6 @@
 pub mod Tables
 pub mod Calls
+pub mod Bringing
 pub mod Shelving
 pub mod Cells
 pub mod Compares

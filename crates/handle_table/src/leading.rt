@@ -1,9 +1,9 @@
 //! A program whose first thread has a table too, and starts teams one after another.
-ghost use Rattle.std.specs.Prelude.{◌≡◌, ◌⊎◌, ◌↔◌, [], length, IfErr, IfOk};
+ghost use Rattle.std.specs.Prelude.{◌≡◌, ◌⊎◌, ◌↔◌, [], length, IfErr, IfNone, IfOk, IfSome, None};
 ghost use Rattle.control_word.specs.Layout.{IsWithinLimits};
 ghost use Rattle.control_block.specs.Desks.{IsFirstDesk, Belongs, DeskNow, endings_of};
 ghost use Rattle.shared_handle.specs.Piles.{Bears};
-ghost use Rattle.handle_table.specs.Leading.{LeadsDomain, LeadsIn, LeadsOn, LeadsOut};
+ghost use Rattle.handle_table.specs.Leading.{LeadsDomain, LeadsIn, LeadsOn, LeadsOut, StartsTeam};
 ghost use Rattle.handle_table.specs.Tables.{AllVacant, FitsSlots, on_pile};
 
 use crate::closing::close_bare;
@@ -40,6 +40,29 @@ pub trait Leader<V: Drop + Send, R: Threads + Wait + Sync>: Program<V, R> {
         ensures { leads self.old before table.old result self.new table.new };
 }
 
+/// The leader starts a team, which works, or none. How the team was manned.
+fn lead_once<
+    'd,
+    V: Drop + Send,
+    H: Home + Send + Sync,
+    R: Threads + Wait + Sync,
+    P: Leader<V, R> + Sync,
+>(
+    rt: &R,
+    alloc: Global,
+    before: Option<Manned>,
+    table: &mut HandleTable<'d, V, H>,
+    leader: &mut P,
+) -> Option<Manned>
+    ensures started { IfSome result (λ manned. StartsTeam P.leads leader.old before table.old manned leader.new table.new) }
+    ensures over { IfNone result (P.leads leader.old before table.old None leader.new table.new) }
+{
+    match leader.lead::<H>(rt, before, table) {
+        Some(team) => Some(table.scope(rt, alloc, team, &*leader)),
+        None => None,
+    }
+}
+
 /// The leader goes on, and the teams that it starts work, one after another, until it starts no more.
 fn lead_on<
     'd,
@@ -52,8 +75,8 @@ fn lead_on<
 {
     let mut before = None;
     for _ in rt.forever() {
-        match leader.lead::<H>(rt, before, table) {
-            Some(team) => before = Some(table.scope(rt, alloc, team, &*leader)),
+        match lead_once::<V, H, R, P>(rt, alloc, before, table, leader) {
+            Some(manned) => before = Some(manned),
             None => return,
         }
     }

@@ -6,6 +6,7 @@ ghost use Rattle.shared_handle.specs.Piles.{Bears};
 ghost use Rattle.handle_table.specs.Tables.{AllVacant, on_pile};
 
 use crate::closing::shut;
+use crate::parting::parts::room_for;
 use crate::slots::open_slots;
 use control_block::desk::Desk;
 use control_block::domain::{Domain, open};
@@ -39,14 +40,9 @@ pub(crate) fn open_domain<V: Drop + Send>(
     ensures refused { IfErr result (λ why. (why ≡ Refusal.Shape) ⊎ (why ≡ Refusal.Memory)) }
 {
     let (domain, desk) = open::<V>(alloc, shape)?;
-    let Ok(mut slots) = Vec::with_capacity(alloc, count) else {
-        shut(domain, desk);
-        return Err(Refusal::Memory);
-    };
-    let pile = match Pile::new(alloc, &domain) {
-        Ok(pile) => pile,
+    let (mut slots, pile) = match room_for(&domain, alloc, count) {
+        Ok(room) => room,
         Err(why) => {
-            slots.destroy_empty();
             shut(domain, desk);
             return Err(why);
         }

@@ -1,6 +1,6 @@
 //! A second table of the domain, for another thread, and its end.
-ghost use Rattle.std.specs.Prelude.{◌≡◌, ◌≤◌, ◌++◌, [], drop, length, take, IfErr, IfOk};
-ghost use Rattle.control_block.specs.Desks.{Belongs, DeskNow, allowance_of, endings_of};
+ghost use Rattle.std.specs.Prelude.{◌≡◌, ◌≤◌, ◌++◌, [], drop, length, take, vec_capacity, IfErr, IfOk, OnOk};
+ghost use Rattle.control_block.specs.Desks.{Belongs, DeskNow, allowance_of, endings_of, stock_of};
 ghost use Rattle.control_block.specs.Parting.{HoldsAll, IsTooMuch, SplitsOff};
 ghost use Rattle.control_block.specs.SlotLists.{handles_in};
 ghost use Rattle.shared_handle.specs.Piles.{Bears};
@@ -10,8 +10,8 @@ ghost use Rattle.handle_table.specs.Parting.{WindsUp, handles_from};
 ghost use Rattle.handle_table.specs.Tables.{AllVacant, FitsSlots, on_pile};
 
 use crate::fault::Fault;
+use crate::parting::parts::{Part, part_of};
 use crate::slots::assigning::let_go;
-use crate::slots::open_slots;
 use crate::table::{HandleTable, Home};
 use control_block::desk::Desk;
 use control_block::domain::Domain;
@@ -22,6 +22,7 @@ use std::marker::PhantomData;
 use std::sync::Wait;
 
 mod joining;
+pub(crate) mod parts;
 
 /// All handles leave their slots, the last one first.
 fn let_all_go<V: Drop + Send>(
@@ -47,64 +48,6 @@ fn let_all_go<V: Drop + Send>(
         }
     }
     slots.destroy_empty();
-}
-
-/// What a further table is made of.
-struct Part<V: Drop + Send> {
-    desk: Desk<V>,
-    slots: Vec<Option<Held>, Global>,
-    pile: Pile<V>,
-}
-
-/// A part of a desk for a further table, with so many vacant slots; the handles in the slots that are handed over are
-/// the new desk's from then on.
-fn part_of<V: Drop + Send>(
-    domain: &Domain<V>,
-    desk: &mut Desk<V>,
-    alloc: Global,
-    count: usize,
-    allowance: u32,
-    blocks: u32,
-    handed: &[Option<Held>],
-) -> Result<Part<V>, Refusal>
-    requires domain { Belongs desk.old domain.now }
-    requires held { HoldsAll desk.old (handles_in handed.now) }
-    ensures parts { IfOk result (λ p. SplitsOff desk.old allowance blocks (handles_in handed.now) desk.new p.desk) }
-    ensures fits { IfOk result (λ _. IsTooMuch desk.old allowance (length (handles_in handed.now)) → ⊥) }
-    ensures slots { IfOk result (λ p. AllVacant p.slots.items × (length p.slots.items ≡ count)) }
-    ensures empty { IfOk result (λ p. p.pile.endings.items ≡ []) }
-    ensures bears { IfOk result
-        (λ p. (d : DeskNow V) → Belongs d domain.now → endings_of d ≡ 0 → Bears domain.now d p.pile) }
-    ensures refused { IfErr result (λ why. WhyNoPart desk.old allowance blocks (length (handles_in handed.now)) why) }
-    ensures same { IfErr result (λ _. desk.new ≡ desk.old) }
-{
-    if !desk.may_give(allowance, handed) {
-        return Err(Refusal::Limit);
-    }
-    if desk.stock() < blocks {
-        return Err(Refusal::Full);
-    }
-    let Ok(mut slots) = Vec::with_capacity(alloc, count) else {
-        return Err(Refusal::Memory);
-    };
-    let pile = match Pile::new(alloc, domain) {
-        Ok(pile) => pile,
-        Err(why) => {
-            slots.destroy_empty();
-            return Err(why);
-        }
-    };
-    match desk.split_slots(alloc, domain, allowance, blocks, handed) {
-        Ok(desk) => {
-            open_slots(&mut slots, count);
-            Ok(Part { desk, slots, pile })
-        }
-        Err(why) => {
-            slots.destroy_empty();
-            pile.close();
-            Err(why)
-        }
-    }
 }
 
 /// The elements from a number on change places with those of another slice.

@@ -1,5 +1,5 @@
 //! A program over a domain of its own, with a table for each of its threads.
-ghost use Rattle.std.specs.Prelude.{◌≡◌, ◌⊎◌, ◌↔◌, [], All, length, IfErr, IfOk, IfSome};
+ghost use Rattle.std.specs.Prelude.{◌≡◌, ◌⊎◌, ◌↔◌, ◌≤◌, [], All, length, vec_capacity, IfErr, IfOk, IfSome};
 ghost use Rattle.control_word.specs.Layout.{IsWithinLimits};
 ghost use Rattle.control_block.specs.Desks.{IsFirstDesk, Belongs, DeskNow, endings_of};
 ghost use Rattle.shared_handle.specs.Piles.{Bears};
@@ -80,6 +80,29 @@ pub(crate) fn first_table<'d, V: Drop + Send, H: Home>(
 }
 
 impl<'d, V: Drop + Send, H: Home> HandleTable<'d, V, H> {
+    /// Tables for the workers of a team, and why they are fewer, where they are.
+    fn recruit_all(
+        &mut self,
+        alloc: Global,
+        team: Team,
+        tables: &mut Vec<HandleTable<'d, V, H>>,
+    ) -> Option<Refusal>
+        requires { (tables.old.items ≡ []) × (team.workers ≤ vec_capacity tables.old) }
+        ensures parts { IsPartedInto self.old.desk team.allowance team.blocks tables.new.items self.new.desk }
+        ensures new { All (IsNew team.slots) tables.new.items }
+        ensures rest { (self.new.slots ≡ self.old.slots) × (self.new.endings ≡ self.old.endings) }
+        ensures manned { IsManned team.workers (length tables.new.items) result }
+        ensures fewer { IfSome result (WhyFewer self.new.desk team.allowance team.blocks) }
+    {
+        while tables.len() < team.workers {
+            match self.recruit(alloc, team.slots, team.allowance, team.blocks) {
+                Ok(table) => tables.push_reserved(table),
+                Err(why) => return Some(why),
+            }
+        }
+        None
+    }
+
     /// A table for each worker of a team, with its part of the allowance and of the vacant blocks (own). Where one is
     /// refused, as a split is, the tables are fewer, and `fewer` says why.
     pub fn team(&mut self, alloc: Global, team: Team) -> Crew<'d, V, H>
@@ -101,21 +124,8 @@ impl<'d, V: Drop + Send, H: Home> HandleTable<'d, V, H> {
                 fewer: Some(Refusal::Memory),
             };
         };
-        while tables.len() < team.workers {
-            match self.recruit(alloc, team.slots, team.allowance, team.blocks) {
-                Ok(table) => tables.push_reserved(table),
-                Err(why) => {
-                    return Crew {
-                        tables,
-                        fewer: Some(why),
-                    };
-                }
-            }
-        }
-        Crew {
-            tables,
-            fewer: None,
-        }
+        let fewer = self.recruit_all(alloc, team, &mut tables);
+        Crew { tables, fewer }
     }
 
     /// All of these tables are absorbed, the last one first (own).

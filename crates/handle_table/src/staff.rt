@@ -7,7 +7,7 @@ ghost use Rattle.control_word.specs.Layout.{IsWithinLimits};
 ghost use Rattle.control_block.specs.Desks.{IsFirstDesk, Belongs, DeskNow, endings_of};
 ghost use Rattle.shared_handle.specs.Piles.{Bears};
 ghost use Rattle.handle_table.specs.Parting.{IsRefusedPart};
-ghost use Rattle.handle_table.specs.Staffs.{CanShare, HasShares, IsParted, KeepsAllowance, Shifts};
+ghost use Rattle.handle_table.specs.Staffs.{CanShare, EachDoes, HasShares, IsParted, KeepsAllowance, Shifts};
 ghost use Rattle.handle_table.specs.Staffs.{Staffs, StaffsIn, StaffsOpen, StaffsOut};
 ghost use Rattle.handle_table.specs.Tables.{AllVacant, FitsSlots, on_pile};
 
@@ -107,6 +107,31 @@ fn post_all<
     for_each_mut(rt, posts.as_mut_slice(), threads.max(1), &work);
 }
 
+/// Each worker works, in a thread with the table of its number.
+fn worked<
+    'd,
+    V: Drop + Send,
+    H: Home + Send + Sync,
+    R: Threads + Wait + Sync,
+    W: Work<V, R> + Send,
+>(
+    rt: &R,
+    tables: &mut Vec<HandleTable<'d, V, H>>,
+    workers: &mut Vec<W>,
+    posts: Vec<Post<'d, V, H, W>>,
+)
+    requires many { length tables.old.items ≡ length workers.old.items }
+    requires room { (posts.items ≡ []) × (length workers.old.items ≤ vec_capacity posts) }
+    ensures { EachDoes W.does workers.old.items tables.old.items workers.new.items tables.new.items }
+{
+    let threads = workers.len();
+    let mut posts = posts;
+    man(tables, workers, &mut posts);
+    post_all::<V, H, R, W>(rt, &mut posts, threads);
+    dismiss(&mut posts, tables, workers);
+    posts.destroy_empty();
+}
+
 impl<'d, V: Drop + Send, H: Home + Send + Sync> HandleTable<'d, V, H> {
     /// Each worker works, in a thread with a table of its own, and all that they leave with these comes back: the
     /// handles in their slots leave, and what is left to end does so (own). Or why a worker had no table: then none
@@ -124,19 +149,14 @@ impl<'d, V: Drop + Send, H: Home + Send + Sync> HandleTable<'d, V, H> {
             → IfSome result (λ why. why ≡ Refusal.Memory) }
     {
         let many = workers.len();
-        let Ok(mut posts) = Vec::with_capacity(alloc, many) else {
+        let Ok(posts) = Vec::with_capacity(alloc, many) else {
             return Some(Refusal::Memory);
         };
-        let Share {
-            slots,
-            allowance,
-            blocks,
-        } = share;
         let team = Team {
             workers: many,
-            slots,
-            allowance,
-            blocks,
+            slots: share.slots,
+            allowance: share.allowance,
+            blocks: share.blocks,
         };
         let crew = self.team(alloc, team);
         let Crew { tables, fewer } = crew;
@@ -146,10 +166,7 @@ impl<'d, V: Drop + Send, H: Home + Send + Sync> HandleTable<'d, V, H> {
             self.absorb_all(rt, tables);
             return Some(why);
         }
-        man(&mut tables, workers, &mut posts);
-        post_all::<V, H, R, W>(rt, &mut posts, many);
-        dismiss(&mut posts, &mut tables, workers);
-        posts.destroy_empty();
+        worked::<V, H, R, W>(rt, &mut tables, workers, posts);
         self.absorb_all(rt, tables);
         None
     }
@@ -235,12 +252,16 @@ pub fn run_workers_open<V: Drop + Send, R: Threads + Wait + Sync, W: Work<V, R> 
     ensures parted { IfErr result
         (λ why. why ≡ Refusal.NotSole → IsParted V W.does shape share workers.old.items workers.new.items) }
 {
+    let opened = match open_domain::<V>(alloc, shape, share.slots) {
+        Ok(opened) => opened,
+        Err(why) => return Err(why),
+    };
     let Opened {
         domain,
         desk,
         slots,
         pile,
-    } = open_domain::<V>(alloc, shape, share.slots)?;
+    } = opened;
     let (desk, refused) = staff_in::<V, Brand, R, W>(
         rt, alloc, &domain, desk, slots, pile, share, workers,
     );
@@ -281,6 +302,11 @@ pub fn run_workers<V: Drop + Send, R: Threads + Wait + Sync, W: Work<V, R> + Sen
     ensures parted { IfErr result
         (λ why. why ≡ Refusal.NotSole → IsParted V W.does shape share workers.old.items workers.new.items) }
 {
-    let (domain, desk) = run_workers_open(rt, alloc, shape, share, workers)?;
-    Ok(close_sole(domain, desk))
+    match run_workers_open(rt, alloc, shape, share, workers) {
+        Ok(opened) => {
+            let (domain, desk) = opened;
+            Ok(close_sole(domain, desk))
+        }
+        Err(why) => Err(why),
+    }
 }

@@ -1,15 +1,48 @@
 //! Calls on cells.
 ghost use Rattle.std.specs.Prelude.{◌≡◌, IfErr, IfOk, OnOk};
+ghost use Rattle.control_block.specs.Desks.{Belongs};
+ghost use Rattle.handle_table.specs.Bringing.{Brought, IsLoaded, beside_pile};
 ghost use Rattle.handle_table.specs.Cells.{ExchangesSlot, LoadsIntoSlot, StoresFromSlot, WhyNotLoaded, WhyNotSwapped};
+ghost use Rattle.handle_table.specs.Tables.{FitsSlots};
 
 use crate::cells::held::{exchange_held, load_held};
 use crate::cells::{Cell, find};
 use crate::fault::Fault;
-use crate::slots::assigning::{assign, let_go};
+use crate::slots::assigning::{arrive, assign, let_go};
 use crate::slots::kinds::take_kind;
 use crate::table::{HandleTable, Home};
-use shared_handle::Gone;
+use control_block::desk::Desk;
+use control_block::domain::Domain;
+use shared_handle::{Gone, Held};
 use std::sync::Wait;
+
+/// A copy of what the cell holds comes, for a slot.
+#[inline(always)]
+fn loaded<V: Drop + Send, R: Wait>(
+    rt: &R,
+    domain: &Domain<V>,
+    desk: &mut Desk<V>,
+    slots: &Vec<Option<Held>>,
+    cell: Cell,
+    to: usize,
+) -> Result<Held, Fault>
+    requires domain { Belongs desk.old domain.now }
+    requires fits { FitsSlots desk.old slots.now.items }
+    ensures { Brought (IsLoaded cell slots.now.items)
+        (WhyNotLoaded (beside_pile desk.old slots.now.items) cell to)
+        desk.old slots.now.items to result desk.new }
+{
+    if to >= slots.len() {
+        return Err(Fault::Slot);
+    }
+    match find(domain, desk, slots, cell) {
+        Ok(at) => match load_held(rt, domain, desk, at) {
+            Ok(found) => Ok(found),
+            Err(why) => Err(Fault::Call(why)),
+        },
+        Err(why) => Err(why),
+    }
+}
 
 impl<'d, V: Drop + Send, H: Home> HandleTable<'d, V, H> {
     /// A copy of what the cell holds is assigned to a slot ([util.smartptr.atomic.shared],
@@ -19,27 +52,15 @@ impl<'d, V: Drop + Send, H: Home> HandleTable<'d, V, H> {
         ensures loaded { OnOk result (LoadsIntoSlot self.old cell to self.new) }
         ensures refused { IfErr result (λ why. WhyNotLoaded self.old cell to why × (self.new ≡ self.old)) }
     {
-        if to >= self.slots.len() {
-            return Err(Fault::Slot);
-        }
-        let at = match find(self.domain, &self.desk, &self.slots, cell) {
-            Ok(at) => at,
-            Err(why) => return Err(why),
-        };
-        match load_held(rt, self.domain, &mut self.desk, at) {
-            Ok(found) => {
-                assign(
-                    self.domain,
-                    &mut self.desk,
-                    &mut self.slots,
-                    &mut self.pile,
-                    to,
-                    found,
-                );
-                Ok(())
-            }
-            Err(why) => Err(Fault::Call(why)),
-        }
+        let came = loaded(rt, self.domain, &mut self.desk, &self.slots, cell, to);
+        arrive(
+            self.domain,
+            &mut self.desk,
+            &mut self.slots,
+            &mut self.pile,
+            to,
+            came,
+        )
     }
 
     /// A handle goes out of its slot into the cell, and what the cell held leaves ([util.smartptr.atomic.shared],

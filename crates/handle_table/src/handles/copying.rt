@@ -1,14 +1,16 @@
 //! Handles that come of others, and go to other slots.
-ghost use Rattle.std.specs.Prelude.{◌≡◌, ◌+◌, IfErr, IfOk, OnOk};
+ghost use Rattle.std.specs.Prelude.{◌≡◌, ◌+◌, [], IfErr, IfOk, OnOk};
 ghost use Rattle.control_word.specs.declared.refusal.Refusal.TheVariants.{Limit};
 ghost use Rattle.control_block.specs.Desks.{Belongs, Keeps, allowance_of, bag_of, held_of};
 ghost use Rattle.control_block.specs.HandleLists.{IsHeldByDesk, with_held};
+ghost use Rattle.handle_table.specs.Bringing.{Brought, IsWeakCopy, OfHandle, OfOwner, beside_pile};
 ghost use Rattle.handle_table.specs.Calls.{Copies, Downgrades, IsCopy, MovesSlot, WhyNoCopy, WhyNotDowngraded};
 ghost use Rattle.handle_table.specs.Calls.{WhyNotMoved};
+ghost use Rattle.handle_table.specs.Tables.{FitsSlots};
 ghost use Rattle.handle_table.specs.declared.fault.Fault.TheVariants as fault;
 
 use crate::fault::Fault;
-use crate::slots::assigning::assign;
+use crate::slots::assigning::{arrive, assign};
 use crate::slots::{handle_at, owner_at, take_handle};
 use crate::table::{HandleTable, Home};
 use control_block::desk::Desk;
@@ -44,6 +46,60 @@ fn copy_of<V: Drop + Send>(
     }
 }
 
+/// A copy of the handle in a slot comes, for another slot.
+#[inline(always)]
+fn copy_from<V: Drop + Send>(
+    domain: &Domain<V>,
+    desk: &mut Desk<V>,
+    slots: &Vec<Option<Held>>,
+    from: usize,
+    to: usize,
+) -> Result<Held, Fault>
+    requires domain { Belongs desk.old domain.now }
+    requires fits { FitsSlots desk.old slots.now.items }
+    ensures { Brought (OfHandle IsCopy slots.now.items from)
+        (WhyNoCopy (beside_pile desk.old slots.now.items) from to)
+        desk.old slots.now.items to result desk.new }
+{
+    if to >= slots.len() {
+        return Err(Fault::Slot);
+    }
+    match handle_at(slots, from) {
+        Ok(handle) => match copy_of(domain, desk, handle) {
+            Ok(copy) => Ok(copy),
+            Err(why) => Err(Fault::Call(why)),
+        },
+        Err(why) => Err(why),
+    }
+}
+
+/// A weak handle of the object of the owner in a slot comes, for another slot.
+#[inline(always)]
+fn weak_from<V: Drop + Send>(
+    domain: &Domain<V>,
+    desk: &mut Desk<V>,
+    slots: &Vec<Option<Held>>,
+    from: usize,
+    to: usize,
+) -> Result<Held, Fault>
+    requires domain { Belongs desk.old domain.now }
+    requires fits { FitsSlots desk.old slots.now.items }
+    ensures { Brought (OfOwner IsWeakCopy slots.now.items from)
+        (WhyNotDowngraded (beside_pile desk.old slots.now.items) from to)
+        desk.old slots.now.items to result desk.new }
+{
+    if to >= slots.len() {
+        return Err(Fault::Slot);
+    }
+    match owner_at(slots, from) {
+        Ok(owner) => match downgrade(domain, desk, owner) {
+            Ok(weak) => Ok(Held::Weak(weak)),
+            Err(why) => Err(Fault::Call(why)),
+        },
+        Err(why) => Err(why),
+    }
+}
+
 impl<'d, V: Drop + Send, H: Home> HandleTable<'d, V, H> {
     /// A copy of a handle is assigned to a slot ([util.smartptr.shared.assign], [util.smartptr.weak.assign]), which may
     /// be the handle's own: then the slot has the copy. What lay there leaves.
@@ -52,27 +108,15 @@ impl<'d, V: Drop + Send, H: Home> HandleTable<'d, V, H> {
         ensures copied { OnOk result (Copies self.old from to self.new) }
         ensures refused { IfErr result (λ why. WhyNoCopy self.old from to why × (self.new ≡ self.old)) }
     {
-        if to >= self.slots.len() {
-            return Err(Fault::Slot);
-        }
-        let copy = match handle_at(&self.slots, from) {
-            Ok(handle) => copy_of(self.domain, &mut self.desk, handle),
-            Err(why) => return Err(why),
-        };
-        match copy {
-            Ok(copy) => {
-                assign(
-                    self.domain,
-                    &mut self.desk,
-                    &mut self.slots,
-                    &mut self.pile,
-                    to,
-                    copy,
-                );
-                Ok(())
-            }
-            Err(why) => Err(Fault::Call(why)),
-        }
+        let came = copy_from(self.domain, &mut self.desk, &self.slots, from, to);
+        arrive(
+            self.domain,
+            &mut self.desk,
+            &mut self.slots,
+            &mut self.pile,
+            to,
+            came,
+        )
     }
 
     /// A weak handle of an owner's object is assigned to a slot ([util.smartptr.weak.assign]). What lay there leaves.
@@ -80,28 +124,15 @@ impl<'d, V: Drop + Send, H: Home> HandleTable<'d, V, H> {
         ensures downgraded { OnOk result (Downgrades self.old from to self.new) }
         ensures refused { IfErr result (λ why. WhyNotDowngraded self.old from to why × (self.new ≡ self.old)) }
     {
-        if to >= self.slots.len() {
-            return Err(Fault::Slot);
-        }
-        let weak = match owner_at(&self.slots, from) {
-            Ok(owner) => downgrade(self.domain, &mut self.desk, owner),
-            Err(why) => return Err(why),
-        };
-        match weak {
-            Ok(weak) => {
-                let weak = Held::Weak(weak);
-                assign(
-                    self.domain,
-                    &mut self.desk,
-                    &mut self.slots,
-                    &mut self.pile,
-                    to,
-                    weak,
-                );
-                Ok(())
-            }
-            Err(why) => Err(Fault::Call(why)),
-        }
+        let came = weak_from(self.domain, &mut self.desk, &self.slots, from, to);
+        arrive(
+            self.domain,
+            &mut self.desk,
+            &mut self.slots,
+            &mut self.pile,
+            to,
+            came,
+        )
     }
 
     /// A handle goes to another slot ([util.smartptr.shared.assign]), and its own is vacant then. What lay there

@@ -1,11 +1,60 @@
 //! Empty handles.
 ghost use Rattle.std.specs.Prelude.{◌≡◌, IfErr, OnOk};
+ghost use Rattle.control_block.specs.Desks.{Belongs};
+ghost use Rattle.handle_table.specs.Bringing.{Brought, IsEmptyOwner, IsEmptyWeak, beside_pile};
 ghost use Rattle.handle_table.specs.Handles.{EmptiesSlot, EmptiesSlotWeakly, WhyNotEmptied};
+ghost use Rattle.handle_table.specs.Tables.{FitsSlots};
 
 use crate::fault::Fault;
-use crate::slots::assigning::assign;
+use crate::slots::assigning::arrive;
 use crate::table::{HandleTable, Home};
+use control_block::desk::Desk;
+use control_block::domain::Domain;
 use shared_handle::{Held, empty, empty_weak};
+
+/// An owner of nothing comes, for a slot.
+#[inline(always)]
+fn empty_owner<V: Drop + Send>(
+    domain: &Domain<V>,
+    desk: &mut Desk<V>,
+    slots: &Vec<Option<Held>>,
+    to: usize,
+) -> Result<Held, Fault>
+    requires domain { Belongs desk.old domain.now }
+    requires fits { FitsSlots desk.old slots.now.items }
+    ensures { Brought IsEmptyOwner (WhyNotEmptied (beside_pile desk.old slots.now.items) to)
+        desk.old slots.now.items to result desk.new }
+{
+    if to >= slots.len() {
+        return Err(Fault::Slot);
+    }
+    match empty(domain, desk) {
+        Ok(owner) => Ok(Held::Owner(owner)),
+        Err(why) => Err(Fault::Call(why)),
+    }
+}
+
+/// A weak handle on nothing comes, for a slot.
+#[inline(always)]
+fn empty_weak_handle<V: Drop + Send>(
+    domain: &Domain<V>,
+    desk: &mut Desk<V>,
+    slots: &Vec<Option<Held>>,
+    to: usize,
+) -> Result<Held, Fault>
+    requires domain { Belongs desk.old domain.now }
+    requires fits { FitsSlots desk.old slots.now.items }
+    ensures { Brought IsEmptyWeak (WhyNotEmptied (beside_pile desk.old slots.now.items) to)
+        desk.old slots.now.items to result desk.new }
+{
+    if to >= slots.len() {
+        return Err(Fault::Slot);
+    }
+    match empty_weak(domain, desk) {
+        Ok(weak) => Ok(Held::Weak(weak)),
+        Err(why) => Err(Fault::Call(why)),
+    }
+}
 
 impl<'d, V: Drop + Send, H: Home> HandleTable<'d, V, H> {
     /// An owner of nothing, whose place is null, is assigned to a slot ([util.smartptr.shared.const]). What lay there
@@ -14,24 +63,15 @@ impl<'d, V: Drop + Send, H: Home> HandleTable<'d, V, H> {
         ensures emptied { OnOk result (EmptiesSlot self.old to self.new) }
         ensures refused { IfErr result (λ why. WhyNotEmptied self.old to why × (self.new ≡ self.old)) }
     {
-        if to >= self.slots.len() {
-            return Err(Fault::Slot);
-        }
-        match empty(self.domain, &mut self.desk) {
-            Ok(owner) => {
-                let owner = Held::Owner(owner);
-                assign(
-                    self.domain,
-                    &mut self.desk,
-                    &mut self.slots,
-                    &mut self.pile,
-                    to,
-                    owner,
-                );
-                Ok(())
-            }
-            Err(why) => Err(Fault::Call(why)),
-        }
+        let came = empty_owner(self.domain, &mut self.desk, &self.slots, to);
+        arrive(
+            self.domain,
+            &mut self.desk,
+            &mut self.slots,
+            &mut self.pile,
+            to,
+            came,
+        )
     }
 
     /// A weak handle on nothing is assigned to a slot ([util.smartptr.weak.const]). What lay there leaves.
@@ -39,23 +79,14 @@ impl<'d, V: Drop + Send, H: Home> HandleTable<'d, V, H> {
         ensures emptied { OnOk result (EmptiesSlotWeakly self.old to self.new) }
         ensures refused { IfErr result (λ why. WhyNotEmptied self.old to why × (self.new ≡ self.old)) }
     {
-        if to >= self.slots.len() {
-            return Err(Fault::Slot);
-        }
-        match empty_weak(self.domain, &mut self.desk) {
-            Ok(weak) => {
-                let weak = Held::Weak(weak);
-                assign(
-                    self.domain,
-                    &mut self.desk,
-                    &mut self.slots,
-                    &mut self.pile,
-                    to,
-                    weak,
-                );
-                Ok(())
-            }
-            Err(why) => Err(Fault::Call(why)),
-        }
+        let came = empty_weak_handle(self.domain, &mut self.desk, &self.slots, to);
+        arrive(
+            self.domain,
+            &mut self.desk,
+            &mut self.slots,
+            &mut self.pile,
+            to,
+            came,
+        )
     }
 }

@@ -1,16 +1,90 @@
 //! New objects.
 ghost use Rattle.std.specs.Prelude.{◌≡◌, [], IfErr, IsErr, OnOk};
-ghost use Rattle.control_block.specs.Desks.{stock_of};
+ghost use Rattle.control_block.specs.Desks.{Belongs, stock_of};
 ghost use Rattle.control_block.specs.Own.{IsSole};
 ghost use Rattle.control_block.specs.Shelf.{shelved_of};
+ghost use Rattle.handle_table.specs.Bringing.{Brought, IsMade, IsNullMade, beside_pile};
 ghost use Rattle.handle_table.specs.Calls.{MakesIntoSlot, MakesNull, WhyNotMade};
 ghost use Rattle.handle_table.specs.Shelving.{IsSupplied, WhyNotSupplied};
+ghost use Rattle.handle_table.specs.Tables.{FitsSlots};
 
 use crate::fault::{Fault, Returned};
-use crate::slots::assigning::assign;
+use crate::slots::assigning::arrive;
 use crate::table::{HandleTable, Home};
+use control_block::desk::Desk;
+use control_block::domain::Domain;
 use control_word::Refused;
 use shared_handle::{Held, make, make_null};
+
+/// A new object's owner comes, for a slot.
+#[inline(always)]
+fn made<V: Drop + Send>(
+    domain: &Domain<V>,
+    desk: &mut Desk<V>,
+    slots: &Vec<Option<Held>>,
+    to: usize,
+    fields: [u64; 4],
+    enabled: bool,
+    value: V,
+) -> Result<Held, Returned<V>>
+    requires domain { Belongs desk.old domain.now }
+    requires fits { FitsSlots desk.old slots.now.items }
+    ensures brought { Brought (IsMade enabled fields value)
+        (λ r. WhyNotMade (beside_pile desk.old slots.now.items) to r.why × (r.back ≡ value))
+        desk.old slots.now.items to result desk.new }
+    ensures full { stock_of desk.old ≡ [] → IsErr result }
+{
+    if to >= slots.len() {
+        return Err(Returned {
+            why: Fault::Slot,
+            back: value,
+        });
+    }
+    match make(domain, desk, fields, enabled, value) {
+        Ok(owner) => Ok(Held::Owner(owner)),
+        Err(refused) => {
+            let Refused { why, back } = refused;
+            Err(Returned {
+                why: Fault::Call(why),
+                back,
+            })
+        }
+    }
+}
+
+/// A new owner of the null pointer comes, for a slot.
+#[inline(always)]
+fn null_made<V: Drop + Send>(
+    domain: &Domain<V>,
+    desk: &mut Desk<V>,
+    slots: &Vec<Option<Held>>,
+    to: usize,
+    value: V,
+) -> Result<Held, Returned<V>>
+    requires domain { Belongs desk.old domain.now }
+    requires fits { FitsSlots desk.old slots.now.items }
+    ensures brought { Brought (IsNullMade value)
+        (λ r. WhyNotMade (beside_pile desk.old slots.now.items) to r.why × (r.back ≡ value))
+        desk.old slots.now.items to result desk.new }
+    ensures full { stock_of desk.old ≡ [] → IsErr result }
+{
+    if to >= slots.len() {
+        return Err(Returned {
+            why: Fault::Slot,
+            back: value,
+        });
+    }
+    match make_null(domain, desk, value) {
+        Ok(owner) => Ok(Held::Owner(owner)),
+        Err(refused) => {
+            let Refused { why, back } = refused;
+            Err(Returned {
+                why: Fault::Call(why),
+                back,
+            })
+        }
+    }
+}
 
 impl<'d, V: Drop + Send, H: Home> HandleTable<'d, V, H> {
     /// A new object with four fields and an owned value; its owner is assigned to a slot
@@ -77,33 +151,23 @@ impl<'d, V: Drop + Send, H: Home> HandleTable<'d, V, H> {
             (λ r. WhyNotMade self.old to r.why × (r.back ≡ value) × (self.new ≡ self.old)) }
         ensures full { stock_of self.old.desk ≡ [] → IsErr result }
     {
-        if to >= self.slots.len() {
-            return Err(Returned {
-                why: Fault::Slot,
-                back: value,
-            });
-        }
-        match make(self.domain, &mut self.desk, fields, enabled, value) {
-            Ok(owner) => {
-                let owner = Held::Owner(owner);
-                assign(
-                    self.domain,
-                    &mut self.desk,
-                    &mut self.slots,
-                    &mut self.pile,
-                    to,
-                    owner,
-                );
-                Ok(())
-            }
-            Err(refused) => {
-                let Refused { why, back } = refused;
-                Err(Returned {
-                    why: Fault::Call(why),
-                    back,
-                })
-            }
-        }
+        let came = made(
+            self.domain,
+            &mut self.desk,
+            &self.slots,
+            to,
+            fields,
+            enabled,
+            value,
+        );
+        arrive(
+            self.domain,
+            &mut self.desk,
+            &mut self.slots,
+            &mut self.pile,
+            to,
+            came,
+        )
     }
 
     /// The same as `make_null` of the table's own vacant blocks alone.
@@ -113,32 +177,14 @@ impl<'d, V: Drop + Send, H: Home> HandleTable<'d, V, H> {
             (λ r. WhyNotMade self.old to r.why × (r.back ≡ value) × (self.new ≡ self.old)) }
         ensures full { stock_of self.old.desk ≡ [] → IsErr result }
     {
-        if to >= self.slots.len() {
-            return Err(Returned {
-                why: Fault::Slot,
-                back: value,
-            });
-        }
-        match make_null(self.domain, &mut self.desk, value) {
-            Ok(owner) => {
-                let owner = Held::Owner(owner);
-                assign(
-                    self.domain,
-                    &mut self.desk,
-                    &mut self.slots,
-                    &mut self.pile,
-                    to,
-                    owner,
-                );
-                Ok(())
-            }
-            Err(refused) => {
-                let Refused { why, back } = refused;
-                Err(Returned {
-                    why: Fault::Call(why),
-                    back,
-                })
-            }
-        }
+        let came = null_made(self.domain, &mut self.desk, &self.slots, to, value);
+        arrive(
+            self.domain,
+            &mut self.desk,
+            &mut self.slots,
+            &mut self.pile,
+            to,
+            came,
+        )
     }
 }

@@ -1,12 +1,17 @@
 //! Pointers that an object gives to itself, and owners that point elsewhere.
 ghost use Rattle.std.specs.Prelude.{◌≡◌, Decides, IfErr, OnOk};
 ghost use Rattle.control_word.specs.Handles.{IsPointer};
+ghost use Rattle.control_block.specs.Desks.{Belongs};
+ghost use Rattle.handle_table.specs.Bringing.{Brought, IsAlias, IsThisOwner, IsThisWeak, OfOwner, beside_pile};
+ghost use Rattle.handle_table.specs.Tables.{FitsSlots};
 ghost use Rattle.handle_table.specs.This.{Aliases, SharesThis, SharesThisWeakly, WhyNoAlias, WhyNoThis};
 
 use crate::fault::Fault;
-use crate::slots::assigning::assign;
+use crate::slots::assigning::arrive;
 use crate::slots::owner_at;
 use crate::table::{HandleTable, Home};
+use control_block::desk::Desk;
+use control_block::domain::Domain;
 use control_word::Place;
 use shared_handle::{Held, alias, shared_from_this, weak_from_this};
 
@@ -20,6 +25,91 @@ fn is_pointer(place: Option<Place>) -> bool
     }
 }
 
+/// An owner of the object itself comes, for a slot.
+#[inline(always)]
+fn owner_of_this<V: Drop + Send>(
+    domain: &Domain<V>,
+    desk: &mut Desk<V>,
+    slots: &Vec<Option<Held>>,
+    of: usize,
+    to: usize,
+) -> Result<Held, Fault>
+    requires domain { Belongs desk.old domain.now }
+    requires fits { FitsSlots desk.old slots.now.items }
+    ensures { Brought (OfOwner IsThisOwner slots.now.items of)
+        (WhyNoThis (beside_pile desk.old slots.now.items) of to)
+        desk.old slots.now.items to result desk.new }
+{
+    if to >= slots.len() {
+        return Err(Fault::Slot);
+    }
+    match owner_at(slots, of) {
+        Ok(owner) => match shared_from_this(domain, desk, owner) {
+            Ok(this) => Ok(Held::Owner(this)),
+            Err(why) => Err(Fault::Call(why)),
+        },
+        Err(why) => Err(why),
+    }
+}
+
+/// A weak handle of the object itself comes, for a slot.
+#[inline(always)]
+fn weak_of_this<V: Drop + Send>(
+    domain: &Domain<V>,
+    desk: &mut Desk<V>,
+    slots: &Vec<Option<Held>>,
+    of: usize,
+    to: usize,
+) -> Result<Held, Fault>
+    requires domain { Belongs desk.old domain.now }
+    requires fits { FitsSlots desk.old slots.now.items }
+    ensures { Brought (OfOwner IsThisWeak slots.now.items of)
+        (WhyNoThis (beside_pile desk.old slots.now.items) of to)
+        desk.old slots.now.items to result desk.new }
+{
+    if to >= slots.len() {
+        return Err(Fault::Slot);
+    }
+    match owner_at(slots, of) {
+        Ok(owner) => match weak_from_this(domain, desk, owner) {
+            Ok(this) => Ok(Held::Weak(this)),
+            Err(why) => Err(Fault::Call(why)),
+        },
+        Err(why) => Err(why),
+    }
+}
+
+/// An owner that points elsewhere comes, for a slot.
+#[inline(always)]
+fn alias_of<V: Drop + Send>(
+    domain: &Domain<V>,
+    desk: &mut Desk<V>,
+    slots: &Vec<Option<Held>>,
+    of: usize,
+    place: Option<Place>,
+    to: usize,
+) -> Result<Held, Fault>
+    requires domain { Belongs desk.old domain.now }
+    requires fits { FitsSlots desk.old slots.now.items }
+    ensures { Brought (OfOwner (IsAlias place) slots.now.items of)
+        (WhyNoAlias (beside_pile desk.old slots.now.items) of place to)
+        desk.old slots.now.items to result desk.new }
+{
+    if to >= slots.len() {
+        return Err(Fault::Slot);
+    }
+    if !is_pointer(place) {
+        return Err(Fault::Place);
+    }
+    match owner_at(slots, of) {
+        Ok(owner) => match alias(domain, desk, owner, place) {
+            Ok(copy) => Ok(Held::Owner(copy)),
+            Err(why) => Err(Fault::Call(why)),
+        },
+        Err(why) => Err(why),
+    }
+}
+
 impl<'d, V: Drop + Send, H: Home> HandleTable<'d, V, H> {
     /// `shared_from_this` ([util.smartptr.enab]): one owner more of the object, which points at its field 0, is
     /// assigned to a slot. What lay there leaves. It is refused `Limit`, and else `Null`, `Outside` or `NotEnabled`, as
@@ -28,28 +118,15 @@ impl<'d, V: Drop + Send, H: Home> HandleTable<'d, V, H> {
         ensures shared { OnOk result (SharesThis self.old of to self.new) }
         ensures refused { IfErr result (λ why. WhyNoThis self.old of to why × (self.new ≡ self.old)) }
     {
-        if to >= self.slots.len() {
-            return Err(Fault::Slot);
-        }
-        let this = match owner_at(&self.slots, of) {
-            Ok(owner) => shared_from_this(self.domain, &mut self.desk, owner),
-            Err(why) => return Err(why),
-        };
-        match this {
-            Ok(this) => {
-                let this = Held::Owner(this);
-                assign(
-                    self.domain,
-                    &mut self.desk,
-                    &mut self.slots,
-                    &mut self.pile,
-                    to,
-                    this,
-                );
-                Ok(())
-            }
-            Err(why) => Err(Fault::Call(why)),
-        }
+        let came = owner_of_this(self.domain, &mut self.desk, &self.slots, of, to);
+        arrive(
+            self.domain,
+            &mut self.desk,
+            &mut self.slots,
+            &mut self.pile,
+            to,
+            came,
+        )
     }
 
     /// `weak_from_this` ([util.smartptr.enab]): the same with a weak handle.
@@ -57,28 +134,15 @@ impl<'d, V: Drop + Send, H: Home> HandleTable<'d, V, H> {
         ensures shared { OnOk result (SharesThisWeakly self.old of to self.new) }
         ensures refused { IfErr result (λ why. WhyNoThis self.old of to why × (self.new ≡ self.old)) }
     {
-        if to >= self.slots.len() {
-            return Err(Fault::Slot);
-        }
-        let this = match owner_at(&self.slots, of) {
-            Ok(owner) => weak_from_this(self.domain, &mut self.desk, owner),
-            Err(why) => return Err(why),
-        };
-        match this {
-            Ok(this) => {
-                let this = Held::Weak(this);
-                assign(
-                    self.domain,
-                    &mut self.desk,
-                    &mut self.slots,
-                    &mut self.pile,
-                    to,
-                    this,
-                );
-                Ok(())
-            }
-            Err(why) => Err(Fault::Call(why)),
-        }
+        let came = weak_of_this(self.domain, &mut self.desk, &self.slots, of, to);
+        arrive(
+            self.domain,
+            &mut self.desk,
+            &mut self.slots,
+            &mut self.pile,
+            to,
+            came,
+        )
     }
 
     /// The aliasing constructor ([util.smartptr.shared.const]): one owner more of what the owner owns, which points at
@@ -89,30 +153,14 @@ impl<'d, V: Drop + Send, H: Home> HandleTable<'d, V, H> {
         ensures refused { IfErr result
             (λ why. WhyNoAlias self.old of place to why × (self.new ≡ self.old)) }
     {
-        if to >= self.slots.len() {
-            return Err(Fault::Slot);
-        }
-        if !is_pointer(place) {
-            return Err(Fault::Place);
-        }
-        let copy = match owner_at(&self.slots, of) {
-            Ok(owner) => alias(self.domain, &mut self.desk, owner, place),
-            Err(why) => return Err(why),
-        };
-        match copy {
-            Ok(copy) => {
-                let copy = Held::Owner(copy);
-                assign(
-                    self.domain,
-                    &mut self.desk,
-                    &mut self.slots,
-                    &mut self.pile,
-                    to,
-                    copy,
-                );
-                Ok(())
-            }
-            Err(why) => Err(Fault::Call(why)),
-        }
+        let came = alias_of(self.domain, &mut self.desk, &self.slots, of, place, to);
+        arrive(
+            self.domain,
+            &mut self.desk,
+            &mut self.slots,
+            &mut self.pile,
+            to,
+            came,
+        )
     }
 }

@@ -3,6 +3,7 @@ ghost use Rattle.std.specs.Prelude.{◌≡◌, ◌+◌, ◌<◌, ◌∷◌, leng
 ghost use Rattle.control_block.specs.Desks.{allowance_of, bag_of};
 ghost use Rattle.control_block.specs.HandleLists.{IsHeldByDesk, without_held};
 ghost use Rattle.shared_handle.specs.Piles.{Bears};
+ghost use Rattle.handle_table.specs.Bringing.{Arrives, FitsInHand};
 ghost use Rattle.handle_table.specs.Calls.{Assigns, LetsGo};
 ghost use Rattle.handle_table.specs.Tables.{FitsSlots, on_pile};
 
@@ -70,5 +71,31 @@ pub(crate) fn assign<V: Drop + Send>(
         Some(old) => {
             let_go(domain, desk, pile, old);
         }
+    }
+}
+
+/// A handle that came goes into a slot, and then what lay there leaves.
+#[inline(always)]
+pub(crate) fn arrive<V: Drop + Send, E>(
+    domain: &Domain<V>,
+    desk: &mut Desk<V>,
+    slots: &mut Vec<Option<Held>>,
+    pile: &mut Pile<V>,
+    to: usize,
+    came: Result<Held, E>,
+) -> Result<(), E>
+    requires bears { Bears domain.now desk.old pile.old }
+    requires fits { FitsInHand desk.old slots.old.items to came }
+    ensures bears { Bears domain.now desk.new pile.new }
+    ensures fits { FitsSlots desk.new slots.new.items }
+    ensures arrives { Arrives came desk.old slots.old.items
+        (on_pile pile.old) to result desk.new slots.new.items (on_pile pile.new) }
+{
+    match came {
+        Ok(handle) => {
+            assign(domain, desk, slots, pile, to, handle);
+            Ok(())
+        }
+        Err(why) => Err(why),
     }
 }

@@ -1,23 +1,36 @@
-use Rattle.std.proofs.Common.{subst}
-use Rattle.handle_table.specs.Calls.{Copies}
-use Rattle.handle_table.specs.Tables.{TableNow}
-use Rattle.handle_table.proofs.Filling.{fits_at}
-use Rattle.handle_table.proofs.Wholes.{kept, seen}
+use Rattle.std.proofs.Common.{◌≡◌, IfErr, OnOk, subst}
+use Rattle.std.proofs.lemmas.Result.{on_ok_weaker}
+use Rattle.handle_table.specs.Bringing.{OfHandle}
+use Rattle.handle_table.specs.Calls.{Copies, IsCopy, WhyNoCopy}
+use Rattle.handle_table.specs.Tables.{TableNow, on_pile}
+use Rattle.handle_table.proofs.Bringing.{bears_brought, comes, copies, fits_brought, not_brought}
+use Rattle.handle_table.proofs.Wholes.{seen}
 use Rattle.handle_table.proofs.table.HandleTable.copy.Goals as goal
 
-pub copy_of-copy-requires-clause-held : goal.copy_of-copy-requires-clause-held
-copy_of-copy-requires-clause-held g c κs within =
-    fits_at c.self.inside.desk c.self.inside.slots.items c.args.from c.in-Ok.handle.now c.self.invariant.fits c.in-Ok.ensures.found
+pub arrive-requires-clause-bears : goal.arrive-requires-clause-bears
+arrive-requires-clause-bears g c κs within =
+    let d = c.self.inside.desk in let ss = c.self.inside.slots.items in let t = seen d ss c.self.inside.pile in let m = c.copy_from-came in
+    bears_brought (OfHandle IsCopy ss c.args.from) (WhyNoCopy t c.args.from c.args.to) d m.new.desk ss c.args.to m.result c.self.inside.domain.now c.self.inside.pile m.ensures
+    c.self.invariant.bears
 
-pub assign-requires-clause-bears : goal.assign-requires-clause-bears
-assign-requires-clause-bears g c κs within =
-    kept c.self.inside.domain.now c.self.inside.desk c.copy_of-copy.new.desk c.self.inside.pile c.self.invariant.bears c.in-Ok-copy.ensures.keeps
+pub arrive-requires-clause-fits : goal.arrive-requires-clause-fits
+arrive-requires-clause-fits g c κs within =
+    let d = c.self.inside.desk in let ss = c.self.inside.slots.items in let t = seen d ss c.self.inside.pile in let m = c.copy_from-came in
+    fits_brought (OfHandle IsCopy ss c.args.from) (WhyNoCopy t c.args.from c.args.to) d m.new.desk ss c.args.to m.result m.ensures c.self.invariant.fits
 
-pub returns-in-Ok-copy-clause-copied : goal.returns-in-Ok-copy-clause-copied
-returns-in-Ok-copy-clause-copied g c =
-    subst (λ (t : TableNow g.row.V.Denot). Copies t c.args.from c.args.to (seen c.assign.new.desk c.assign.new.slots.items c.assign.new.pile)) c.self.view_is
-    record {
-      of = c.in-Ok.handle.now;
-      at = c.in-Ok.ensures.found;
-      copy = record { handle = c.in-Ok-copy.copy; between = c.copy_of-copy.new.desk; comes = c.in-Ok-copy.ensures.copy; assigns = c.assign.ensures.assigns };
-    }
+pub returns-clause-copied : goal.returns-clause-copied
+returns-clause-copied g c =
+    let d = c.self.inside.desk in let ss = c.self.inside.slots.items in let t = seen d ss c.self.inside.pile in let m = c.copy_from-came in
+    let a = c.arrive in let u = seen a.new.desk a.new.slots.items a.new.pile in
+    subst (λ (x : TableNow g.row.V.Denot). OnOk a.result (Copies x c.args.from c.args.to u)) c.self.view_is
+    (on_ok_weaker a.result (copies t u c.args.from c.args.to)
+    (comes (OfHandle IsCopy ss c.args.from) (WhyNoCopy t c.args.from c.args.to) d m.new.desk ss c.args.to m.result a.result a.new.desk a.new.slots.items (on_pile c.self.inside.pile)
+    (on_pile a.new.pile) m.ensures a.ensures.arrives))
+
+pub returns-clause-refused : goal.returns-clause-refused
+returns-clause-refused g c =
+    let d = c.self.inside.desk in let ss = c.self.inside.slots.items in let t = seen d ss c.self.inside.pile in let m = c.copy_from-came in
+    let a = c.arrive in let u = seen a.new.desk a.new.slots.items a.new.pile in
+    subst (λ (x : TableNow g.row.V.Denot). IfErr a.result (λ why. WhyNoCopy x c.args.from c.args.to why × (u ≡ x))) c.self.view_is
+    (not_brought (OfHandle IsCopy ss c.args.from) (WhyNoCopy t c.args.from c.args.to) d m.new.desk ss c.args.to m.result a.result a.new.desk a.new.slots.items (on_pile c.self.inside.pile)
+    (on_pile a.new.pile) m.ensures a.ensures.arrives)

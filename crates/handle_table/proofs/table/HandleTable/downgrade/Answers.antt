@@ -1,35 +1,36 @@
-use Rattle.std.proofs.Common.{subst, refl, inl, inr}
-use Rattle.control_block.specs.declared.handles.Held.TheVariants.{Owner, Weak}
+use Rattle.std.proofs.Common.{◌≡◌, IfErr, OnOk, subst}
+use Rattle.std.proofs.lemmas.Result.{on_ok_weaker}
+use Rattle.handle_table.specs.Bringing.{IsWeakCopy, OfOwner}
 use Rattle.handle_table.specs.Calls.{Downgrades, WhyNotDowngraded}
-use Rattle.handle_table.specs.Tables.{TableNow}
-use Rattle.handle_table.proofs.Filling.{fits_at}
-use Rattle.handle_table.proofs.Wholes.{kept, seen}
+use Rattle.handle_table.specs.Tables.{TableNow, on_pile}
+use Rattle.handle_table.proofs.Bringing.{bears_brought, comes, downgrades, fits_brought, not_brought}
+use Rattle.handle_table.proofs.Wholes.{seen}
 use Rattle.handle_table.proofs.table.HandleTable.downgrade.Goals as goal
 
-pub downgrade-weak-requires-clause-holds : goal.downgrade-weak-requires-clause-holds
-downgrade-weak-requires-clause-holds g c κs within =
-    fits_at c.self.inside.desk c.self.inside.slots.items c.args.from (Owner c.in-Ok.owner.now) c.self.invariant.fits c.in-Ok.ensures.found
+pub arrive-requires-clause-bears : goal.arrive-requires-clause-bears
+arrive-requires-clause-bears g c κs within =
+    let d = c.self.inside.desk in let ss = c.self.inside.slots.items in let t = seen d ss c.self.inside.pile in let m = c.weak_from-came in
+    bears_brought (OfOwner IsWeakCopy ss c.args.from) (WhyNotDowngraded t c.args.from c.args.to) d m.new.desk ss c.args.to m.result c.self.inside.domain.now c.self.inside.pile m.ensures
+    c.self.invariant.bears
 
-pub returns-in-Err-clause-refused : goal.returns-in-Err-clause-refused
-returns-in-Err-clause-refused g c =
-    (subst (λ (t : TableNow g.row.V.Denot). WhyNotDowngraded t c.args.from c.args.to c.in-Err.why) c.self.view_is (inr (inl c.in-Err.ensures.fault)), refl)
+pub arrive-requires-clause-fits : goal.arrive-requires-clause-fits
+arrive-requires-clause-fits g c κs within =
+    let d = c.self.inside.desk in let ss = c.self.inside.slots.items in let t = seen d ss c.self.inside.pile in let m = c.weak_from-came in
+    fits_brought (OfOwner IsWeakCopy ss c.args.from) (WhyNotDowngraded t c.args.from c.args.to) d m.new.desk ss c.args.to m.result m.ensures c.self.invariant.fits
 
-pub assign-requires-clause-bears : goal.assign-requires-clause-bears
-assign-requires-clause-bears g c κs within =
-    kept c.self.inside.domain.now c.self.inside.desk c.downgrade-weak.new.desk c.self.inside.pile c.self.invariant.bears c.in-Ok-weak.ensures.keeps
+pub returns-clause-downgraded : goal.returns-clause-downgraded
+returns-clause-downgraded g c =
+    let d = c.self.inside.desk in let ss = c.self.inside.slots.items in let t = seen d ss c.self.inside.pile in let m = c.weak_from-came in
+    let a = c.arrive in let u = seen a.new.desk a.new.slots.items a.new.pile in
+    subst (λ (x : TableNow g.row.V.Denot). OnOk a.result (Downgrades x c.args.from c.args.to u)) c.self.view_is
+    (on_ok_weaker a.result (downgrades t u c.args.from c.args.to)
+    (comes (OfOwner IsWeakCopy ss c.args.from) (WhyNotDowngraded t c.args.from c.args.to) d m.new.desk ss c.args.to m.result a.result a.new.desk a.new.slots.items (on_pile c.self.inside.pile)
+    (on_pile a.new.pile) m.ensures a.ensures.arrives))
 
-pub returns-in-Ok-weak-clause-downgraded : goal.returns-in-Ok-weak-clause-downgraded
-returns-in-Ok-weak-clause-downgraded g c =
-    let e = c.in-Ok-weak.ensures in
-    subst (λ (t : TableNow g.row.V.Denot). Downgrades t c.args.from c.args.to (seen c.assign.new.desk c.assign.new.slots.items c.assign.new.pile))
-    c.self.view_is
-    record {
-      of = c.in-Ok.owner.now;
-      at = c.in-Ok.ensures.found;
-      weak = record {
-        handle = Weak c.in-Ok-weak.weak;
-        between = c.downgrade-weak.new.desk;
-        comes = record { weak = c.in-Ok-weak.weak; is = refl; event = (e.handle.0, e.handle.1, e.event) };
-        assigns = c.assign.ensures.assigns;
-      };
-    }
+pub returns-clause-refused : goal.returns-clause-refused
+returns-clause-refused g c =
+    let d = c.self.inside.desk in let ss = c.self.inside.slots.items in let t = seen d ss c.self.inside.pile in let m = c.weak_from-came in
+    let a = c.arrive in let u = seen a.new.desk a.new.slots.items a.new.pile in
+    subst (λ (x : TableNow g.row.V.Denot). IfErr a.result (λ why. WhyNotDowngraded x c.args.from c.args.to why × (u ≡ x))) c.self.view_is
+    (not_brought (OfOwner IsWeakCopy ss c.args.from) (WhyNotDowngraded t c.args.from c.args.to) d m.new.desk ss c.args.to m.result a.result a.new.desk a.new.slots.items (on_pile c.self.inside.pile)
+    (on_pile a.new.pile) m.ensures a.ensures.arrives)

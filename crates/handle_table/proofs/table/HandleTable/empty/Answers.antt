@@ -1,27 +1,34 @@
-use Rattle.std.proofs.Common.{refl, subst}
-use Rattle.control_block.specs.declared.handles.Held.TheVariants.{Owner}
-use Rattle.handle_table.specs.Handles.{EmptiesSlot}
-use Rattle.handle_table.specs.Tables.{TableNow}
-use Rattle.handle_table.proofs.Emptied.{bears_counted, fits_empty}
+use Rattle.std.proofs.Common.{◌≡◌, IfErr, OnOk, subst}
+use Rattle.handle_table.specs.Bringing.{IsEmptyOwner}
+use Rattle.handle_table.specs.Handles.{EmptiesSlot, WhyNotEmptied}
+use Rattle.handle_table.specs.Tables.{TableNow, on_pile}
+use Rattle.handle_table.proofs.Bringing.{bears_brought, comes, fits_brought, not_brought}
 use Rattle.handle_table.proofs.Wholes.{seen}
 use Rattle.handle_table.proofs.table.HandleTable.empty.Goals as goal
 
-pub assign-requires-clause-bears : goal.assign-requires-clause-bears
-assign-requires-clause-bears g c κs within =
-    bears_counted c.self.inside.domain.now c.self.inside.desk c.empty.new.desk c.self.inside.pile c.self.invariant.bears c.in-Ok.ensures.counted
+pub arrive-requires-clause-bears : goal.arrive-requires-clause-bears
+arrive-requires-clause-bears g c κs within =
+    let d = c.self.inside.desk in let ss = c.self.inside.slots.items in let t = seen d ss c.self.inside.pile in let m = c.empty_owner-came in
+    bears_brought (IsEmptyOwner) (WhyNotEmptied t c.args.to) d m.new.desk ss c.args.to m.result c.self.inside.domain.now c.self.inside.pile m.ensures
+    c.self.invariant.bears
 
-pub assign-requires-clause-fits : goal.assign-requires-clause-fits
-assign-requires-clause-fits g c κs within =
-    let e = c.in-Ok.ensures in
-    fits_empty c.self.inside.desk c.empty.new.desk c.self.inside.slots.items c.in-Ok.owner c.self.invariant.fits e.handle.0 e.counted
+pub arrive-requires-clause-fits : goal.arrive-requires-clause-fits
+arrive-requires-clause-fits g c κs within =
+    let d = c.self.inside.desk in let ss = c.self.inside.slots.items in let t = seen d ss c.self.inside.pile in let m = c.empty_owner-came in
+    fits_brought (IsEmptyOwner) (WhyNotEmptied t c.args.to) d m.new.desk ss c.args.to m.result m.ensures c.self.invariant.fits
 
-pub returns-in-Ok-clause-emptied : goal.returns-in-Ok-clause-emptied
-returns-in-Ok-clause-emptied g c =
-    let e = c.in-Ok.ensures in
-    subst (λ (t : TableNow g.row.V.Denot). EmptiesSlot t c.args.to (seen c.assign.new.desk c.assign.new.slots.items c.assign.new.pile)) c.self.view_is
-    record {
-      handle = Owner c.in-Ok.owner;
-      between = c.empty.new.desk;
-      comes = record { owner = c.in-Ok.owner; is = refl; event = (e.handle.0, e.handle.1, e.counted) };
-      assigns = c.assign.ensures.assigns;
-    }
+pub returns-clause-emptied : goal.returns-clause-emptied
+returns-clause-emptied g c =
+    let d = c.self.inside.desk in let ss = c.self.inside.slots.items in let t = seen d ss c.self.inside.pile in let m = c.empty_owner-came in
+    let a = c.arrive in let u = seen a.new.desk a.new.slots.items a.new.pile in
+    subst (λ (x : TableNow g.row.V.Denot). OnOk a.result (EmptiesSlot x c.args.to u)) c.self.view_is
+    (comes (IsEmptyOwner) (WhyNotEmptied t c.args.to) d m.new.desk ss c.args.to m.result a.result a.new.desk a.new.slots.items (on_pile c.self.inside.pile)
+    (on_pile a.new.pile) m.ensures a.ensures.arrives)
+
+pub returns-clause-refused : goal.returns-clause-refused
+returns-clause-refused g c =
+    let d = c.self.inside.desk in let ss = c.self.inside.slots.items in let t = seen d ss c.self.inside.pile in let m = c.empty_owner-came in
+    let a = c.arrive in let u = seen a.new.desk a.new.slots.items a.new.pile in
+    subst (λ (x : TableNow g.row.V.Denot). IfErr a.result (λ why. WhyNotEmptied x c.args.to why × (u ≡ x))) c.self.view_is
+    (not_brought (IsEmptyOwner) (WhyNotEmptied t c.args.to) d m.new.desk ss c.args.to m.result a.result a.new.desk a.new.slots.items (on_pile c.self.inside.pile)
+    (on_pile a.new.pile) m.ensures a.ensures.arrives)

@@ -1,54 +1,36 @@
-use Rattle.std.proofs.Common.{◌∙◌, ap, inl, inr, refl, subst}
-use Rattle.control_word.specs.declared.model.handle.Kind.{Kind}
-use Rattle.control_block.specs.CellCalls.{cell_of_site}
-use Rattle.control_block.specs.Desks.{DeskNow}
-use Rattle.atomic_cells.specs.Cells as cells
+use Rattle.std.proofs.Common.{◌≡◌, IfErr, OnOk, subst}
+use Rattle.std.proofs.lemmas.Result.{on_ok_weaker}
+use Rattle.handle_table.specs.Bringing.{IsLoaded}
 use Rattle.handle_table.specs.Cells.{LoadsIntoSlot, WhyNotLoaded}
-use Rattle.handle_table.specs.Parts.{block_of_held, place_of_held}
-use Rattle.handle_table.specs.Tables.{TableNow}
-use Rattle.handle_table.specs.declared.fault.Fault.TheVariants as fault
-use Rattle.handle_table.proofs.Filling.{fits_more}
-use Rattle.handle_table.proofs.Wholes.{kept, seen}
+use Rattle.handle_table.specs.Tables.{TableNow, on_pile}
+use Rattle.handle_table.proofs.Bringing.{bears_brought, comes, loads, fits_brought, not_brought}
+use Rattle.handle_table.proofs.Wholes.{seen}
 use Rattle.handle_table.proofs.table.HandleTable.load.Goals as goal
 
-pub returns-in-Err-clause-refused : goal.returns-in-Err-clause-refused
-returns-in-Err-clause-refused g c =
-    (subst (λ (t : TableNow g.row.V.Denot). WhyNotLoaded t c.args.cell c.args.to c.in-Err.why) c.self.view_is (inr (inl c.in-Err.ensures.fault)), refl)
+pub arrive-requires-clause-bears : goal.arrive-requires-clause-bears
+arrive-requires-clause-bears g c κs within =
+    let d = c.self.inside.desk in let ss = c.self.inside.slots.items in let t = seen d ss c.self.inside.pile in let m = c.loaded-came in
+    bears_brought (IsLoaded c.args.cell ss) (WhyNotLoaded t c.args.cell c.args.to) d m.new.desk ss c.args.to m.result c.self.inside.domain.now c.self.inside.pile m.ensures
+    c.self.invariant.bears
 
-pub assign-requires-clause-bears : goal.assign-requires-clause-bears
-assign-requires-clause-bears g c κs within =
-    kept c.self.inside.domain.now c.self.inside.desk c.load_held.new.desk c.self.inside.pile c.self.invariant.bears c.in-Ok-load_held.ensures.keeps
+pub arrive-requires-clause-fits : goal.arrive-requires-clause-fits
+arrive-requires-clause-fits g c κs within =
+    let d = c.self.inside.desk in let ss = c.self.inside.slots.items in let t = seen d ss c.self.inside.pile in let m = c.loaded-came in
+    fits_brought (IsLoaded c.args.cell ss) (WhyNotLoaded t c.args.cell c.args.to) d m.new.desk ss c.args.to m.result m.ensures c.self.invariant.fits
 
-pub assign-requires-clause-fits : goal.assign-requires-clause-fits
-assign-requires-clause-fits g c κs within =
-    let e = c.in-Ok-load_held.ensures in
-    fits_more c.self.inside.desk c.load_held.new.desk c.self.inside.slots.items c.in-Ok-load_held.found c.self.invariant.fits e.bag e.held
+pub returns-clause-loaded : goal.returns-clause-loaded
+returns-clause-loaded g c =
+    let d = c.self.inside.desk in let ss = c.self.inside.slots.items in let t = seen d ss c.self.inside.pile in let m = c.loaded-came in
+    let a = c.arrive in let u = seen a.new.desk a.new.slots.items a.new.pile in
+    subst (λ (x : TableNow g.row.V.Denot). OnOk a.result (LoadsIntoSlot x c.args.cell c.args.to u)) c.self.view_is
+    (on_ok_weaker a.result (loads t u c.args.to c.args.cell)
+    (comes (IsLoaded c.args.cell ss) (WhyNotLoaded t c.args.cell c.args.to) d m.new.desk ss c.args.to m.result a.result a.new.desk a.new.slots.items (on_pile c.self.inside.pile)
+    (on_pile a.new.pile) m.ensures a.ensures.arrives))
 
-pub returns-in-Ok-load_held-clause-loaded : goal.returns-in-Ok-load_held-clause-loaded
-returns-in-Ok-load_held-clause-loaded g c =
-    let at = c.in-Ok.at in let k = c.in-Ok.ensures.found.1 in let h = c.in-Ok-load_held.found in let e = c.in-Ok-load_held.ensures in
-    let d = c.self.inside.desk in
-    subst (λ (t : TableNow g.row.V.Denot). LoadsIntoSlot t c.args.cell c.args.to (seen c.assign.new.desk c.assign.new.slots.items c.assign.new.pile))
-    c.self.view_is
-    record {
-      site = at.site;
-      is = c.in-Ok.ensures.found.0;
-      loads = record {
-        handle = h;
-        between = c.load_held.new.desk;
-        comes = (
-          e.kind ∙ k,
-          subst (λ (z : Kind). cells.Loads d (cell_of_site d at.site) z (block_of_held h) (place_of_held h)
-              c.load_held.new.desk) k e.event,
-        );
-        assigns = c.assign.ensures.assigns;
-      };
-    }
-
-pub returns-in-Err-load_held-clause-refused : goal.returns-in-Err-load_held-clause-refused
-returns-in-Err-load_held-clause-refused g c =
-    let r = c.in-Err-load_held.ensures.refused in (
-      subst (λ (t : TableNow g.row.V.Denot). WhyNotLoaded t c.args.cell c.args.to (fault.Call c.in-Err-load_held.why)) c.self.view_is
-          (inr (inr (ap fault.Call r.0, r.1))),
-      ap (λ (d : DeskNow g.row.V.Denot). seen d c.self.inside.slots.items c.self.inside.pile) r.2 ∙ c.self.view_is,
-    )
+pub returns-clause-refused : goal.returns-clause-refused
+returns-clause-refused g c =
+    let d = c.self.inside.desk in let ss = c.self.inside.slots.items in let t = seen d ss c.self.inside.pile in let m = c.loaded-came in
+    let a = c.arrive in let u = seen a.new.desk a.new.slots.items a.new.pile in
+    subst (λ (x : TableNow g.row.V.Denot). IfErr a.result (λ why. WhyNotLoaded x c.args.cell c.args.to why × (u ≡ x))) c.self.view_is
+    (not_brought (IsLoaded c.args.cell ss) (WhyNotLoaded t c.args.cell c.args.to) d m.new.desk ss c.args.to m.result a.result a.new.desk a.new.slots.items (on_pile c.self.inside.pile)
+    (on_pile a.new.pile) m.ensures a.ensures.arrives)

@@ -1,24 +1,45 @@
-use Rattle.std.proofs.Common.{refl, subst}
-use Rattle.control_block.specs.declared.handles.Held.TheVariants.{Owner}
-use Rattle.shared_handle.proofs.Piles.{bears_kept}
-use Rattle.handle_table.specs.Calls.{MakesNull}
-use Rattle.handle_table.specs.Tables.{TableNow}
+use Rattle.std.proofs.Common.{◌≡◌, ◌∙◌, IfErr, OnOk, ap, subst}
+use Rattle.std.proofs.lemmas.Result.{IfErr-weaker}
+use Rattle.control_block.specs.Desks.{stock_of}
+use Rattle.handle_table.specs.Bringing.{IsNullMade}
+use Rattle.handle_table.specs.Calls.{MakesNull, WhyNotMade}
+use Rattle.handle_table.specs.declared.fault.Returned.{Returned}
+use Rattle.handle_table.specs.Tables.{TableNow, on_pile}
+use Rattle.handle_table.proofs.Bringing.{bears_brought, comes, err_stays, fits_brought, not_brought}
 use Rattle.handle_table.proofs.Wholes.{seen}
 use Rattle.handle_table.proofs.table.HandleTable.make_null_from_stock.Goals as goal
 
-pub assign-requires-clause-bears : goal.assign-requires-clause-bears
-assign-requires-clause-bears g c κs within =
-    let e = c.in-Ok.ensures in
-    bears_kept c.self.inside.domain.now c.self.inside.desk c.make_null.new.desk c.self.inside.pile c.self.invariant.bears e.desk.domain
-    e.desk.shape e.endings e.count
+pub arrive-requires-clause-bears : goal.arrive-requires-clause-bears
+arrive-requires-clause-bears g c κs within =
+    let d = c.self.inside.desk in let ss = c.self.inside.slots.items in let t = seen d ss c.self.inside.pile in let m = c.null_made-came in
+    bears_brought (IsNullMade c.args.value) (λ (r : Returned g.row.V.Denot). WhyNotMade t c.args.to r.why × (r.back ≡ c.args.value)) d m.new.desk ss c.args.to m.result c.self.inside.domain.now c.self.inside.pile m.ensures.brought
+    c.self.invariant.bears
 
-pub returns-in-Ok-clause-made : goal.returns-in-Ok-clause-made
-returns-in-Ok-clause-made g c =
-    subst (λ (t : TableNow g.row.V.Denot). MakesNull t c.args.to c.args.value (seen c.assign.new.desk c.assign.new.slots.items c.assign.new.pile))
-    c.self.view_is
-    record {
-      handle = Owner c.in-Ok.owner;
-      between = c.make_null.new.desk;
-      comes = record { owner = c.in-Ok.owner; is = refl; event = c.in-Ok.ensures.event };
-      assigns = c.assign.ensures.assigns;
-    }
+pub arrive-requires-clause-fits : goal.arrive-requires-clause-fits
+arrive-requires-clause-fits g c κs within =
+    let d = c.self.inside.desk in let ss = c.self.inside.slots.items in let t = seen d ss c.self.inside.pile in let m = c.null_made-came in
+    fits_brought (IsNullMade c.args.value) (λ (r : Returned g.row.V.Denot). WhyNotMade t c.args.to r.why × (r.back ≡ c.args.value)) d m.new.desk ss c.args.to m.result m.ensures.brought c.self.invariant.fits
+
+pub returns-clause-made : goal.returns-clause-made
+returns-clause-made g c =
+    let d = c.self.inside.desk in let ss = c.self.inside.slots.items in let t = seen d ss c.self.inside.pile in let m = c.null_made-came in
+    let a = c.arrive in let u = seen a.new.desk a.new.slots.items a.new.pile in
+    subst (λ (x : TableNow g.row.V.Denot). OnOk a.result (MakesNull x c.args.to c.args.value u)) c.self.view_is
+    (comes (IsNullMade c.args.value) (λ (r : Returned g.row.V.Denot). WhyNotMade t c.args.to r.why × (r.back ≡ c.args.value)) d m.new.desk ss c.args.to m.result a.result a.new.desk a.new.slots.items (on_pile c.self.inside.pile)
+    (on_pile a.new.pile) m.ensures.brought a.ensures.arrives)
+
+pub returns-clause-full : goal.returns-clause-full
+returns-clause-full g c = λ none.
+    let d = c.self.inside.desk in let ss = c.self.inside.slots.items in let t = seen d ss c.self.inside.pile in let m = c.null_made-came in
+    let a = c.arrive in
+    err_stays (IsNullMade c.args.value) (λ (r : Returned g.row.V.Denot). WhyNotMade t c.args.to r.why × (r.back ≡ c.args.value)) d m.new.desk ss c.args.to m.result a.result a.new.desk a.new.slots.items (on_pile c.self.inside.pile)
+    (on_pile a.new.pile) a.ensures.arrives (m.ensures.full (ap (λ (x : TableNow g.row.V.Denot). stock_of x.desk) c.self.view_is ∙ none))
+
+pub returns-clause-refused : goal.returns-clause-refused
+returns-clause-refused g c =
+    let d = c.self.inside.desk in let ss = c.self.inside.slots.items in let t = seen d ss c.self.inside.pile in let m = c.null_made-came in
+    let a = c.arrive in let u = seen a.new.desk a.new.slots.items a.new.pile in
+    subst (λ (x : TableNow g.row.V.Denot). IfErr a.result (λ r. WhyNotMade x c.args.to r.why × (r.back ≡ c.args.value) × (u ≡ x))) c.self.view_is
+    (IfErr-weaker a.result _ _ (λ r p. (p.0.0, p.0.1, p.1))
+    (not_brought (IsNullMade c.args.value) (λ (r : Returned g.row.V.Denot). WhyNotMade t c.args.to r.why × (r.back ≡ c.args.value)) d m.new.desk ss c.args.to m.result a.result a.new.desk a.new.slots.items (on_pile c.self.inside.pile)
+    (on_pile a.new.pile) m.ensures.brought a.ensures.arrives))

@@ -1,45 +1,36 @@
-use Rattle.std.proofs.Common.{◌∙◌, ap, subst, refl, inl, inr}
-use Rattle.control_block.specs.Desks.{DeskNow}
-use Rattle.control_block.specs.declared.handles.Held.TheVariants.{Owner}
+use Rattle.std.proofs.Common.{◌≡◌, IfErr, OnOk, subst}
+use Rattle.std.proofs.lemmas.Result.{on_ok_weaker}
+use Rattle.handle_table.specs.Bringing.{IsThisOwner, OfOwner}
 use Rattle.handle_table.specs.This.{SharesThis, WhyNoThis}
-use Rattle.handle_table.specs.Tables.{TableNow}
-use Rattle.handle_table.specs.declared.fault.Fault.TheVariants as fault
-use Rattle.handle_table.proofs.Filling.{fits_at}
-use Rattle.handle_table.proofs.Wholes.{kept, seen}
+use Rattle.handle_table.specs.Tables.{TableNow, on_pile}
+use Rattle.handle_table.proofs.Bringing.{bears_brought, comes, shares_this, fits_brought, not_brought}
+use Rattle.handle_table.proofs.Wholes.{seen}
 use Rattle.handle_table.proofs.table.HandleTable.shared_from_this.Goals as goal
 
-pub shared_from_this-this-requires-clause-holds : goal.shared_from_this-this-requires-clause-holds
-shared_from_this-this-requires-clause-holds g c κs within =
-    fits_at c.self.inside.desk c.self.inside.slots.items c.args.of (Owner c.in-Ok.owner.now) c.self.invariant.fits c.in-Ok.ensures.found
+pub arrive-requires-clause-bears : goal.arrive-requires-clause-bears
+arrive-requires-clause-bears g c κs within =
+    let d = c.self.inside.desk in let ss = c.self.inside.slots.items in let t = seen d ss c.self.inside.pile in let m = c.owner_of_this-came in
+    bears_brought (OfOwner IsThisOwner ss c.args.of) (WhyNoThis t c.args.of c.args.to) d m.new.desk ss c.args.to m.result c.self.inside.domain.now c.self.inside.pile m.ensures
+    c.self.invariant.bears
 
-pub returns-in-Err-clause-refused : goal.returns-in-Err-clause-refused
-returns-in-Err-clause-refused g c =
-    (subst (λ (t : TableNow g.row.V.Denot). WhyNoThis t c.args.of c.args.to c.in-Err.why) c.self.view_is (inr (inl c.in-Err.ensures.fault)), refl)
+pub arrive-requires-clause-fits : goal.arrive-requires-clause-fits
+arrive-requires-clause-fits g c κs within =
+    let d = c.self.inside.desk in let ss = c.self.inside.slots.items in let t = seen d ss c.self.inside.pile in let m = c.owner_of_this-came in
+    fits_brought (OfOwner IsThisOwner ss c.args.of) (WhyNoThis t c.args.of c.args.to) d m.new.desk ss c.args.to m.result m.ensures c.self.invariant.fits
 
-pub assign-requires-clause-bears : goal.assign-requires-clause-bears
-assign-requires-clause-bears g c κs within =
-    kept c.self.inside.domain.now c.self.inside.desk c.shared_from_this-this.new.desk c.self.inside.pile c.self.invariant.bears c.in-Ok-this.ensures.keeps
+pub returns-clause-shared : goal.returns-clause-shared
+returns-clause-shared g c =
+    let d = c.self.inside.desk in let ss = c.self.inside.slots.items in let t = seen d ss c.self.inside.pile in let m = c.owner_of_this-came in
+    let a = c.arrive in let u = seen a.new.desk a.new.slots.items a.new.pile in
+    subst (λ (x : TableNow g.row.V.Denot). OnOk a.result (SharesThis x c.args.of c.args.to u)) c.self.view_is
+    (on_ok_weaker a.result (shares_this t u c.args.of c.args.to)
+    (comes (OfOwner IsThisOwner ss c.args.of) (WhyNoThis t c.args.of c.args.to) d m.new.desk ss c.args.to m.result a.result a.new.desk a.new.slots.items (on_pile c.self.inside.pile)
+    (on_pile a.new.pile) m.ensures a.ensures.arrives))
 
-pub returns-in-Ok-this-clause-shared : goal.returns-in-Ok-this-clause-shared
-returns-in-Ok-this-clause-shared g c =
-    let e = c.in-Ok-this.ensures in let h = c.in-Ok-this.this in
-    subst (λ (t : TableNow g.row.V.Denot). SharesThis t c.args.of c.args.to (seen c.assign.new.desk c.assign.new.slots.items c.assign.new.pile)) c.self.view_is
-    record {
-      of = c.in-Ok.owner.now;
-      at = c.in-Ok.ensures.found;
-      may = e.may;
-      this = record {
-        handle = Owner h;
-        between = c.shared_from_this-this.new.desk;
-        comes = record { owner = h; is = refl; event = (e.handle.0, e.handle.1, e.event) };
-        assigns = c.assign.ensures.assigns;
-      };
-    }
-
-pub returns-in-Err-this-clause-refused : goal.returns-in-Err-this-clause-refused
-returns-in-Err-this-clause-refused g c =
-    let r = c.in-Err-this.ensures.refused in (
-      subst (λ (t : TableNow g.row.V.Denot). WhyNoThis t c.args.of c.args.to (fault.Call c.in-Err-this.why)) c.self.view_is
-          (inr (inr (c.in-Ok.owner.now, c.in-Ok.ensures.found, (c.in-Err-this.why, refl, r.0)))),
-      ap (λ (d : DeskNow g.row.V.Denot). seen d c.self.inside.slots.items c.self.inside.pile) r.1 ∙ c.self.view_is,
-    )
+pub returns-clause-refused : goal.returns-clause-refused
+returns-clause-refused g c =
+    let d = c.self.inside.desk in let ss = c.self.inside.slots.items in let t = seen d ss c.self.inside.pile in let m = c.owner_of_this-came in
+    let a = c.arrive in let u = seen a.new.desk a.new.slots.items a.new.pile in
+    subst (λ (x : TableNow g.row.V.Denot). IfErr a.result (λ why. WhyNoThis x c.args.of c.args.to why × (u ≡ x))) c.self.view_is
+    (not_brought (OfOwner IsThisOwner ss c.args.of) (WhyNoThis t c.args.of c.args.to) d m.new.desk ss c.args.to m.result a.result a.new.desk a.new.slots.items (on_pile c.self.inside.pile)
+    (on_pile a.new.pile) m.ensures a.ensures.arrives)

@@ -4,12 +4,12 @@ use Rattle.std.specs.List.{All}
 use Rattle.handle_table.specs.Parting.{IsNew, IsPartedInto}
 use Rattle.handle_table.specs.Tables.{TableNow}
 use Rattle.handle_table.proofs.Crews.{parted_more}
-use Rattle.handle_table.proofs.table.HandleTable.team.Goals as goal
+use Rattle.handle_table.proofs.table.HandleTable.recruit_all.Goals as goal
 
 pub loop-alloc-preserved : goal.loop-alloc-preserved
 loop-alloc-preserved g c =
-    let i = c.loop-alloc.invariant in let r = c.in-Ok-recruit.ensures in let p = c.push_reserved.ensures in
-    let ts = c.loop-alloc.tables.items in let t = c.in-Ok-recruit.table in let is = IsNew {V = g.row.V.Denot} c.args.team.slots in (
+    let i = c.loop-alloc.invariant in let r = c.in-Ok.ensures in let p = c.push_reserved.ensures in
+    let ts = c.loop-alloc.tables.items in let t = c.in-Ok.table in let is = IsNew {V = g.row.V.Denot} c.args.team.slots in (
       subst (λ (l : List (TableNow g.row.V.Denot)). IsPartedInto c.args.self.now.desk c.args.team.allowance c.args.team.blocks l c.recruit.new.self.desk)
           (sym p.items)
           (parted_more c.args.self.now.desk c.loop-alloc.self.desk c.recruit.new.self.desk c.args.team.allowance c.args.team.blocks ts t i.0 r.parts),

@@ -1,6 +1,6 @@
 use Rattle.std.proofs.Common.{◌≡◌, ◌≤◌, ◌-◌, All, length, vec_capacity}
 use Rattle.handle_table.specs.Parting.{IsNew, IsPartedInto}
-use Rattle.handle_table.proofs.table.HandleTable.team.Given as goal
+use Rattle.handle_table.proofs.table.HandleTable.recruit_all.Given as goal
 
 abbrev pub invariant-loop-alloc : goal.invariant-loop-alloc
 invariant-loop-alloc g l =

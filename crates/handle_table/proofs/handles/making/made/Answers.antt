@@ -1,0 +1,18 @@
+use Rattle.std.proofs.Common.{arith, inl, refl}
+use Rattle.control_block.specs.declared.handles.Held.TheVariants.{Owner}
+use Rattle.shared_handle.proofs.Piles.{bears_kept}
+use Rattle.handle_table.proofs.Filling.{fits_more}
+use Rattle.handle_table.proofs.handles.making.made.Goals as goal
+
+pub returns-then-to-len-clause-brought : goal.returns-then-to-len-clause-brought
+returns-then-to-len-clause-brought g c = ((inl (refl, omega arith), refl), refl)
+
+pub returns-in-Ok-clause-brought : goal.returns-in-Ok-clause-brought
+returns-in-Ok-clause-brought g c =
+    let d = c.args.desk.now in let m = c.make.new.desk in let h = c.in-Ok.owner in let e = c.in-Ok.ensures in
+    record {
+      there = omega arith;
+      comes = record { owner = h; is = refl; event = e.event };
+      fits = fits_more d m c.args.slots.now.items (Owner h) c.requires.fits e.bag e.held;
+      bears = λ domain p w. bears_kept domain d m p w e.desk.domain e.desk.shape e.endings e.count;
+    }

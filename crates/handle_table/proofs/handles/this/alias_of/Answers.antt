@@ -1,0 +1,48 @@
+use Rattle.std.proofs.Common.{◌≡◌, ◌∙◌, Option, ap, arith, inl, inr, refl, subst, sym}
+use Rattle.control_word.specs.declared.model.handle.Kind.TheVariants as kind
+use Rattle.control_word.specs.declared.place.Place.{Place}
+use Rattle.control_block.specs.CellCalls.{with_handle}
+use Rattle.control_block.specs.Desks.{bag_of}
+use Rattle.shared_handle.specs.Calls.{SharesOwner, pointed}
+use Rattle.control_block.specs.declared.handles.Held.TheVariants.{Owner}
+use Rattle.handle_table.specs.declared.fault.Fault.TheVariants as fault
+use Rattle.handle_table.proofs.Filling.{fits_at, fits_more}
+use Rattle.handle_table.proofs.Wholes.{kept}
+use Rattle.handle_table.proofs.handles.this.alias_of.Goals as goal
+
+pub alias-requires-clause-holds : goal.alias-requires-clause-holds
+alias-requires-clause-holds g c κs within = fits_at c.args.desk.now c.args.slots.now.items c.args.of (Owner c.in-Ok.owner.now) c.requires.fits c.in-Ok.ensures.found
+
+pub returns-then-to-len : goal.returns-then-to-len
+returns-then-to-len g c = (inl (refl, omega arith), refl)
+
+pub returns-in-Ok-alias : goal.returns-in-Ok-alias
+returns-in-Ok-alias g c =
+    let d = c.args.desk.now in let m = c.alias.new.desk in let ss = c.args.slots.now.items in let e = c.in-Ok-alias.ensures in
+    let h = c.in-Ok-alias.copy in
+    let same : pointed c.args.place ≡ c.args.place = e.given (inr (inr (c.if-not-is_pointer.ensures.0 refl))) in
+    record {
+      there = omega arith;
+      comes = (
+        c.in-Ok.owner.now,
+        c.in-Ok.ensures.found,
+        record {
+          owner = h;
+          is = refl;
+          event = (
+            e.handle.0,
+            e.handle.1 ∙ same,
+            subst (λ (p : Option Place). SharesOwner d c.in-Ok.owner.now.block c.in-Ok.owner.now.place p m) same e.event,
+          );
+        },
+      );
+      fits = fits_more d m ss (Owner h) c.requires.fits (e.bag ∙ (λ i. with_handle kind.Owner (sym e.handle.0 i) (sym e.handle.1 i) (bag_of d))) e.held;
+      bears = λ domain p w. kept domain d m p w e.keeps;
+    }
+
+pub returns-in-Err-alias : goal.returns-in-Err-alias
+returns-in-Err-alias g c =
+    let e = c.in-Err-alias.ensures.refused in (inr (inr (inr (ap fault.Call e.0, c.in-Err-alias.ensures.limit.0 refl))), e.1)
+
+pub returns-in-Err : goal.returns-in-Err
+returns-in-Err g c = (inr (inr (inl c.in-Err.ensures.fault)), refl)

@@ -1,0 +1,29 @@
+use Rattle.std.proofs.Common.{arith, inl, inr, refl}
+use Rattle.control_block.specs.declared.handles.Held.TheVariants.{Owner, Weak}
+use Rattle.handle_table.proofs.Filling.{fits_at, fits_more}
+use Rattle.handle_table.proofs.Wholes.{kept}
+use Rattle.handle_table.proofs.handles.this.weak_of_this.Goals as goal
+
+pub weak_from_this-requires-clause-holds : goal.weak_from_this-requires-clause-holds
+weak_from_this-requires-clause-holds g c κs within = fits_at c.args.desk.now c.args.slots.now.items c.args.of (Owner c.in-Ok.owner.now) c.requires.fits c.in-Ok.ensures.found
+
+pub returns-then-to-len : goal.returns-then-to-len
+returns-then-to-len g c = (inl (refl, omega arith), refl)
+
+pub returns-in-Ok-weak_from_this : goal.returns-in-Ok-weak_from_this
+returns-in-Ok-weak_from_this g c =
+    let d = c.args.desk.now in let m = c.weak_from_this.new.desk in let ss = c.args.slots.now.items in let e = c.in-Ok-weak_from_this.ensures in
+    let h = c.in-Ok-weak_from_this.this in
+    record {
+      there = omega arith;
+      comes = (c.in-Ok.owner.now, c.in-Ok.ensures.found, (e.may, record { weak = h; is = refl; event = (e.handle.0, e.handle.1, e.event) }));
+      fits = fits_more d m ss (Weak h) c.requires.fits e.bag e.held;
+      bears = λ domain p w. kept domain d m p w e.keeps;
+    }
+
+pub returns-in-Err-weak_from_this : goal.returns-in-Err-weak_from_this
+returns-in-Err-weak_from_this g c =
+    let e = c.in-Err-weak_from_this.ensures.refused in (inr (inr (c.in-Ok.owner.now, c.in-Ok.ensures.found, (c.in-Err-weak_from_this.why, refl, e.0))), e.1)
+
+pub returns-in-Err : goal.returns-in-Err
+returns-in-Err g c = (inr (inl c.in-Err.ensures.fault), refl)

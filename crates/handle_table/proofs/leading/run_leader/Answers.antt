@@ -1,0 +1,30 @@
+use Rattle.std.proofs.Common.{ℕ, inl, inr, subst}
+use Rattle.std.proofs.lemmas.Result.{IfErr-weaker, IfOk-weaker}
+use Rattle.control_word.specs.declared.shape.Shape.{Shape}
+use Rattle.handle_table.specs.Leading.{LeadsIn}
+use Rattle.handle_table.specs.Programs.{IsClosed}
+use Rattle.handle_table.proofs.Manning.{not_shape}
+use Rattle.handle_table.proofs.leading.run_leader.Goals as goal
+
+pub returns-clause-led : goal.returns-clause-led
+returns-clause-led g c =
+    let domain = c.in_ok-domain.field-0.domain in let last = c.lead_in-desk.result in let of = c.in_ok-domain.ensures.of in
+    IfOk-weaker c.close_bare.result _ _
+    (λ x is. record {
+      domain = domain;
+      of = of;
+      last = last;
+      led = subst (λ (n : ℕ). LeadsIn g.P.Leader.leads domain n c.args.leader.now c.lead_in-desk.new.leader last) c.in_ok-domain.ensures.slots.1
+          c.lead_in-desk.ensures.led;
+      closed = subst (λ (s : Shape). IsClosed last s x) of is;
+    }) c.close_bare.ensures.closed
+
+pub returns-clause-shape : goal.returns-clause-shape
+returns-clause-shape g c =
+    IfErr-weaker c.close_bare.result _ _ (λ why p. not_shape c.args.shape why p.0 c.in_ok-domain.ensures.within) c.close_bare.ensures.refused
+
+pub returns-clause-refused : goal.returns-clause-refused
+returns-clause-refused g c = IfErr-weaker c.close_bare.result _ _ (λ why p. inr (inr p.0)) c.close_bare.ensures.refused
+
+pub returns-clause-same : goal.returns-clause-same
+returns-clause-same g c = IfErr-weaker c.close_bare.result _ _ (λ why p. inl p.0) c.close_bare.ensures.refused
