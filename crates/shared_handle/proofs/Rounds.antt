@@ -1,5 +1,7 @@
 -- Rounds of a pile, one run of them after another.
-use Rattle.std.proofs.Common.{◌≡◌, List, [], ◌∷◌, ◌++◌, Some}
+use Rattle.std.proofs.Common.{◌≡◌, ℕ, ◌+◌, ◌-◌, List, [], ◌∷◌, ◌++◌, take, MatchOption, Option, None, Some}
+use Rattle.std.specs.Prelude.{option_to_list}
+use Rattle.std.proofs.lemmas.List.{append-nil}
 use Rattle.std.proofs.Common.{refl, sym, ap, subst, ◌∙◌}
 use Rattle.control_block.specs.Desks.{DeskNow}
 use Rattle.shared_handle.specs.Endings.{IsClearing, with_clear}
@@ -9,6 +11,12 @@ use Rattle.shared_handle.specs.declared.endings.Left.{Left}
 use Rattle.shared_handle.specs.declared.endings.Member.{Member}
 use Rattle.shared_handle.specs.declared.pile.Round.{Round}
 use Rattle.shared_handle.specs.declared.pile.Round.TheVariants.{Cleared, Ended, Settled}
+
+-- nothing came off the top of an empty list
+pub popped_none : {A : Type 0} (xs ys : List A) (r : Option A) (n m : ℕ) → xs ≡ ys ++ option_to_list r
+    → MatchOption r ((n ≡ 0) × (m ≡ 0)) (λ _. m + 1 ≡ n) → ys ≡ take (n - 1) xs → r ≡ None → (xs ≡ ys) × (ys ≡ [])
+popped_none xs ys None n m items cases rest is = (items ∙ append-nil ys, rest ∙ ap (λ k. take (k - 1) xs) cases.0)
+popped_none xs ys (Some x) n m items cases rest is = absurd (cc is)
 
 module _ {V : Type 0} where
   pub rounds_append : (d e f : DeskNow V) (xs ys zs : List (Ending V)) (rs qs : List (Past V)) → AreRounds d xs rs e ys → AreRounds e ys qs f zs

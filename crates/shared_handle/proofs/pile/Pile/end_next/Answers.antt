@@ -6,6 +6,11 @@ use Rattle.shared_handle.specs.declared.endings.Member.TheVariants.{First, Next,
 use Rattle.shared_handle.proofs.Goings.{does_both, does_one}
 use Rattle.shared_handle.proofs.PiledEndings.{popped}
 use Rattle.shared_handle.proofs.Piles.{elsewhere_both, finished, finished_elsewhere, from_top}
+use Rattle.std.proofs.Common.{List}
+use Rattle.shared_handle.specs.Piles.{KeepsElsewhere}
+use Rattle.shared_handle.proofs.Goings.{does_none}
+use Rattle.shared_handle.proofs.Piles.{elsewhere_none}
+use Rattle.shared_handle.proofs.Rounds.{popped_none}
 use Rattle.shared_handle.proofs.pile.Pile.end_next.Goals as goal
 
 pub clear_once-requires-clause-stacked : goal.clear_once-requires-clause-stacked
@@ -60,3 +65,12 @@ returns-clause-parting g c =
     does_both IsParting from d.new.desk c.finish.new.desk
     (does_both IsParting from b.new.desk d.new.desk (does_both IsParting from a.new.desk b.new.desk a.ensures.parting b.ensures.parting) d.ensures.parting)
     (does_one IsParting d.new.desk c.finish.new.desk _ c.finish.ensures.event.1 tt)
+
+pub returns-in_err-ending-clause-elsewhere : goal.returns-in_err-ending-clause-elsewhere
+returns-in_err-ending-clause-elsewhere g c =
+    let p = c.pop.ensures in let e = popped_none c.args.self.now.endings.items c.pop.new.self.items c.pop.result _ _ p.items p.cases p.rest c.in_err-ending.was in
+    let d = c.args.desk.now in let xs = c.args.self.now.endings.items in
+    subst (λ (zs : List (Ending g.row.V.Denot)). KeepsElsewhere d xs d zs) e.0 (elsewhere_none d xs)
+
+pub returns-in_err-ending-clause-parting : goal.returns-in_err-ending-clause-parting
+returns-in_err-ending-clause-parting g c = does_none IsParting c.args.desk.now

@@ -5,6 +5,9 @@ use Rattle.shared_handle.proofs.Goings.{does_both, does_none}
 use Rattle.shared_handle.proofs.PiledEndings.{popped}
 use Rattle.shared_handle.proofs.Piles.{elsewhere_both, elsewhere_none, same_both, same_desk}
 use Rattle.shared_handle.proofs.Rounds.{rounds_append, values_after}
+use Rattle.std.proofs.Common.{◌≤◌}
+use Rattle.shared_handle.specs.Piles.{AllEnd}
+use Rattle.shared_handle.proofs.Rounds.{popped_none}
 use Rattle.shared_handle.proofs.pile.Pile.settle_with.Goals as goal
 
 pub loop-init : goal.loop-init
@@ -66,3 +69,44 @@ loop-preserved g c =
       same_both d c.loop.desk w.new.desk i.6 e.desk,
       i.7,
     )
+
+pub returns-in_default-clause-carries : goal.returns-in_default-clause-carries
+returns-in_default-clause-carries g c =
+    let p = c.pop.ensures in let e = popped_none c.loop.self.endings.items c.pop.new.self.items c.pop.result _ _ p.items p.cases p.rest c.in_default.is in
+    let i = c.loop.invariant.0 in
+    record {
+      belongs = i.belongs;
+      ends = subst (AllEnd c.loop.desk) e.0 i.ends;
+      room = subst (λ n. c.args.domain.now.shape.blocks ≤ n) (sym p.capacity) i.room;
+    }
+
+pub returns-in_default-clause-elsewhere : goal.returns-in_default-clause-elsewhere
+returns-in_default-clause-elsewhere g c =
+    let p = c.pop.ensures in let e = popped_none c.loop.self.endings.items c.pop.new.self.items c.pop.result _ _ p.items p.cases p.rest c.in_default.is in
+    subst (λ (zs : List (Ending g.row.V.Denot)). KeepsElsewhere c.args.desk.now c.args.self.now.endings.items c.loop.desk zs) e.0 c.loop.invariant.1
+
+pub returns-in_default-clause-none : goal.returns-in_default-clause-none
+returns-in_default-clause-none g c =
+    let p = c.pop.ensures in let e = popped_none c.loop.self.endings.items c.pop.new.self.items c.pop.result _ _ p.items p.cases p.rest c.in_default.is in
+    e.1
+
+pub returns-in_default-clause-rounds : goal.returns-in_default-clause-rounds
+returns-in_default-clause-rounds g c =
+    let p = c.pop.ensures in let e = popped_none c.loop.self.endings.items c.pop.new.self.items c.pop.result _ _ p.items p.cases p.rest c.in_default.is in
+    let i = c.loop.invariant.2 in (
+      i.0,
+      subst (λ (zs : List (Ending g.row.V.Denot)). AreRounds c.args.desk.now c.args.self.now.endings.items i.0 c.loop.desk zs) e.0 i.1,
+      (c.loop.take, i.2),
+    )
+
+pub returns-in_default-clause-parting : goal.returns-in_default-clause-parting
+returns-in_default-clause-parting g c = c.loop.invariant.3
+
+pub returns-in_default-clause-bag : goal.returns-in_default-clause-bag
+returns-in_default-clause-bag g c = c.loop.invariant.4
+
+pub returns-in_default-clause-held : goal.returns-in_default-clause-held
+returns-in_default-clause-held g c = c.loop.invariant.5
+
+pub returns-in_default-clause-desk : goal.returns-in_default-clause-desk
+returns-in_default-clause-desk g c = c.loop.invariant.6

@@ -1,0 +1,13 @@
+use Rattle.std.proofs.Common.{subst, sym}
+use Rattle.control_word.specs.declared.model.event.Event.TheVariants.{Finish}
+use Rattle.control_block.specs.Desks.{AddsEvent, latest_of}
+use Rattle.shared_handle.proofs.endings.Ending.finish.Goals as goal
+
+pub returns-clause-event : goal.returns-clause-event
+returns-clause-event g c =
+    let d = c.args.desk.now in let x = c.args.self in let t = c.finish-value in let v = c.requires.ends.ends in (
+      t.result.1,
+      subst (λ (y : g.row.V.Denot). AddsEvent d (Finish (latest_of d x.block.0) t.result.1 y) t.new.desk) (sym (t.ensures.value x.value v))
+          (t.ensures.event x.value v),
+      t.ensures.stock,
+    )

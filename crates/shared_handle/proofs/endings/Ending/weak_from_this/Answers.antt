@@ -1,0 +1,29 @@
+use Rattle.std.proofs.Common.{◌≡◌, true, Result, Ok, Err, inr, refl, subst, sym, ◌∙◌}
+use Rattle.std.specs.Prelude.{OnOk}
+use Rattle.control_block.specs.Desks.{DeskNow, IsEnding, object_in}
+use Rattle.shared_handle.proofs.endings.Ending.weak_from_this.Goals as goal
+
+pub share_weak-requires-clause-may : goal.share_weak-requires-clause-may
+share_weak-requires-clause-may g c = λ _ _.
+    let b = c.args.self.now.block.0 in let x = c.args.self.now.value in let e = c.is_enabled.ensures in
+    inr (
+      x,
+      subst (λ (u : DeskNow g.row.V.Denot). IsEnding u b x) (sym e.same) c.requires.ends.ends,
+      subst (λ (u : DeskNow g.row.V.Denot). (object_in u b).enabled ≡ true) (sym e.same) (sym e.flag ∙ c.if-not-is_enabled.false),
+      refl,
+    )
+
+on_ok : {T E P : Type 0} (r : Result T E) → P → OnOk r P
+on_ok (Ok x) p = p
+on_ok (Err e) p = tt
+
+pub returns-clause-may : goal.returns-clause-may
+returns-clause-may g c =
+    on_ok c.share_weak.result
+    (λ full. c.if-held-allowance.false (c.held.ensures ∙ (full ∙ sym c.allowance.ensures)), sym c.is_enabled.ensures.flag ∙ c.if-not-is_enabled.false)
+
+pub returns-then-not-is_enabled-clause-refused : goal.returns-then-not-is_enabled-clause-refused
+returns-then-not-is_enabled-clause-refused g c = (
+  (λ full. c.if-held-allowance.false (c.held.ensures ∙ (full ∙ sym c.allowance.ensures)), sym c.if-not-is_enabled.ensures.flag),
+  c.is_enabled.ensures.same,
+)
