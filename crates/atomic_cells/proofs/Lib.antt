@@ -1,3 +1,4 @@
 pub mod Kept
+pub mod Told
 pub mod Members
 pub mod Stored
