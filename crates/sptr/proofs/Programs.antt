@@ -14,8 +14,10 @@ use Rattle.clap.specs.declared.parser.matches.ArgMatches.TheViews.{out-ArgMatche
 use Rattle.clap.specs.declared.parser.matches.SubCommand.{SubCommand}
 use Rattle.clap.proofs.OnLiterals.{clap_on_literals}
 use Rattle.sptr.proofs.Walks.{enters_own}
-use Rattle.sptr.specs.CommandLine.{command_named, count_in, dot_option, draws_given, file_word, left_line, option_rule, program, script_line}
+use Rattle.sptr.specs.CommandLine.{AsksFor, IsAskedBy, command_named, count_in, dot_option, draws_given, file_word, left_line, option_rule, program, script_line}
 use Rattle.sptr.specs.CommandLine.{turns_given, turns_line}
+use Rattle.sptr.specs.declared.command.Asked.{Asked}
+use Rattle.sptr.specs.declared.command.Asked.TheVariants.{Check, Convert, Fine, Left, Run, Step}
 
 pub program_is_simple : is_simple program ≡ true
 unfolding program script_line turns_line left_line file_word option_rule dot_option clap_on_literals
@@ -93,33 +95,48 @@ both_parts None name rows n r = absurd (some_none name n)
     some_none x e = cc
 both_parts (Some p) name rows n r = ap₂ (λ x y. Some (x, y)) (same_Some _ _ (sym n)) (same_Some _ _ (sym r))
 
--- a subcommand that was met, with its rows, is the command that the words name, with its list
-pub asks_with_turns : (words : List Text) (m : ArgMatches) (command list name : Text) (rows : List Row)
-    → subcommand_rows_of m ≡ subcommand_of program words → Some name ≡ subcommand_name_of m
-    → Some rows ≡ option_map (λ p. p.1) (subcommand_rows_of m) → name ≡ command
-    → list ≡ unwrap_or (first_of (codes "turns") rows) [] → (command_named words ≡ Some command) × (list ≡ turns_given words)
-asks_with_turns words m command list name rows is n r named given =
-    let found : subcommand_of program words ≡ Some (name, rows) =
-    sym is ∙ both_parts (subcommand_rows_of m) name rows (n ∙ name_in_rows (out-ArgMatches m).subcommand) r in (
-      ap (option_map (λ (p : Text × List Row). p.0)) found ∙ ap Some named,
-      given ∙ sym (ap (λ (o : Option (Text × List Row)). unwrap_or (option_and_then (λ p. first_of (codes "turns") p.1) o) []) found),
-    )
+-- what a subcommand that was met asks for, with its rows, is what the words ask for
+module _ (words : List Text) (m : ArgMatches) (name : Text) (rows : List Row) (is : subcommand_rows_of m ≡ subcommand_of program words)
+    (faultless : fault_of program words ≡ []) (n : Some name ≡ subcommand_name_of m)
+    (r : Some rows ≡ option_map (λ p. p.1) (subcommand_rows_of m)) where
+  found : subcommand_of program words ≡ Some (name, rows)
+  found = sym is ∙ both_parts (subcommand_rows_of m) name rows (n ∙ name_in_rows (out-ArgMatches m).subcommand) r
 
--- how often it was given `--dot` tells whether the words draw
-pub asks_drawn : (words : List Text) (m : ArgMatches) (draws : Bool) (name : Text) (rows : List Row)
-    → subcommand_rows_of m ≡ subcommand_of program words → Some name ≡ subcommand_name_of m
-    → Some rows ≡ option_map (λ p. p.1) (subcommand_rows_of m)
-    → draws ≡ nat_lt 0 (count_of (codes "dot") rows) → draws ≡ draws_given words
-asks_drawn words m draws name rows is n r given =
-    let found : subcommand_of program words ≡ Some (name, rows) =
-    sym is ∙ both_parts (subcommand_rows_of m) name rows (n ∙ name_in_rows (out-ArgMatches m).subcommand) r in
-    given ∙ sym (ap (λ (o : Option (Text × List Row)). nat_lt 0 (count_in (codes "dot") o)) found)
+  named : command_named words ≡ Some name
+  named = ap (option_map (λ (p : Text × List Row). p.0)) found
 
--- a subcommand that was met is the command that the words name
-pub asks_named : (words : List Text) (m : ArgMatches) (command name : Text) → subcommand_rows_of m ≡ subcommand_of program words
-    → Some name ≡ subcommand_name_of m → name ≡ command → command_named words ≡ Some command
-asks_named words m command name is n named =
-    sym (ap (option_map (λ (p : Text × List Row). p.0)) is) ∙ sym (name_in_rows (out-ArgMatches m).subcommand) ∙ sym n ∙ ap Some named
+  named_as : (command : Text) → name ≡ command → command_named words ≡ Some command
+  named_as command is_command = named ∙ ap Some is_command
+
+  not_named : (command : Text) → name ≢ command → command_named words ≢ Some command
+  not_named command not e = not (same_Some _ _ (sym named ∙ e))
+
+  turns_found : (list : Text) → list ≡ unwrap_or (first_of (codes "turns") rows) [] → list ≡ turns_given words
+  turns_found list given =
+      given ∙ sym (ap (λ (o : Option (Text × List Row)). unwrap_or (option_and_then (λ p. first_of (codes "turns") p.1) o) []) found)
+
+  draws_found : (draws : Bool) → draws ≡ nat_lt 0 (count_of (codes "dot") rows) → draws ≡ draws_given words
+  draws_found draws given = given ∙ sym (ap (λ (o : Option (Text × List Row)). nat_lt 0 (count_in (codes "dot") o)) found)
+
+  pub asks_by_name : (a : Asked) → IsAskedBy name rows a → AsksFor words a
+  asks_by_name Check h =
+      only_check words faultless (not_named _ h.1) (not_named _ h.2) (not_named _ h.4) (not_named _ h.0) (not_named _ h.3)
+  asks_by_name Convert h = named_as _ h
+  asks_by_name (Step turns) h = (named_as _ h.0, turns_found _ h.1)
+  asks_by_name (Fine turns) h = (named_as _ h.0, turns_found _ h.1)
+  asks_by_name Run h = named_as _ h
+  asks_by_name (Left turns draws) h = (named_as _ h.0, turns_found _ h.1, draws_found draws h.2)
+
+-- where none was met the words would name none
+pub asks_without : (words : List Text) (m : ArgMatches) → subcommand_rows_of m ≡ subcommand_of program words → fault_of program words ≡ []
+    → None ≡ subcommand_name_of m → AsksFor words Check
+asks_without words m is faultless n = only_check words faultless (none _) (none _) (none _) (none _) (none _)
+  where
+    none : (command : Text) → command_named words ≢ Some command
+    none command e = not_some (n ∙ name_in_rows (out-ArgMatches m).subcommand ∙ ap (option_map (λ (p : Text × List Row). p.0)) is ∙ e)
+      where
+        not_some : None ≡ Some command → ⊥
+        not_some x = cc
 
 -- ---- files
 

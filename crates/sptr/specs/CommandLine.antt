@@ -117,6 +117,20 @@ IsLine command options name list words = ((words ≡ name ∷ command ∷ option
 abbrev pub dot_words : Bool → List Text
 dot_words draws = cond draws (codes "--dot" ∷ []) []
 
+-- a command of this name, which was given this, asks for this
+abbrev pub IsAskedBy : Text → List Row → Asked → Type 0
+IsAskedBy name rows Check = (name ≢ codes "convert") × (name ≢ codes "step") × (name ≢ codes "fine")
+    × (name ≢ codes "run") × (name ≢ codes "left")
+IsAskedBy name rows Convert = name ≡ codes "convert"
+IsAskedBy name rows (Step turns) =
+    (name ≡ codes "step") × (turns.now ≡ unwrap_or (first_of (codes "turns") rows) [])
+IsAskedBy name rows (Fine turns) =
+    (name ≡ codes "fine") × (turns.now ≡ unwrap_or (first_of (codes "turns") rows) [])
+IsAskedBy name rows Run = name ≡ codes "run"
+IsAskedBy name rows (Left turns draws) =
+    (name ≡ codes "left") × (turns.now ≡ unwrap_or (first_of (codes "turns") rows) [])
+    × (draws ≡ nat_lt 0 (count_of (codes "dot") rows))
+
 -- the words ask for this in the manner of the program's page
 abbrev pub AsksPlainly : List Text → Asked → Type 0
 AsksPlainly words Check = (name : Text) × (words ≡ name ∷ codes "check" ∷ [])

@@ -4,7 +4,7 @@ ghost use Rattle.std.specs.Prelude.{◌≡◌, IfOk, List, [], codes, false, is_
 ghost use Rattle.clap.specs.Words.{FailsBy, app_of, count_of, fault_of, first_of, found_of, rows_of, rule_of, shape_of};
 ghost use Rattle.clap.specs.Words.{Text, subcommand_rows_of, subcommand_of};
 ghost use Rattle.clap.specs.declared.builder.command.Command.TheViews.{out-Command};
-ghost use Rattle.sptr.specs.CommandLine.{AddsCommand, AsksFor, bare, dot_option, file_word, has_files};
+ghost use Rattle.sptr.specs.CommandLine.{AddsCommand, AsksFor, IsAskedBy, bare, dot_option, file_word, has_files};
 ghost use Rattle.sptr.specs.CommandLine.{left_line, names_file, names_file_in, option_rule, program, script_line};
 ghost use Rattle.sptr.specs.CommandLine.{turns_line};
 
@@ -200,25 +200,32 @@ fn files_of<'a>(matches: &ArgMatches<'a>) -> Files<'a>
     }
 }
 
-/// What a command was given to do. Where it is none of the others, it is `check`.
+/// What the command of this name was given to do. Where it is none of the others, it is `check`.
+fn asked_by_name<'a>(name: &str, given: &ArgMatches<'a>) -> Asked<'a>
+    ensures { IsAskedBy name.now (rows_of (found_of given.now)) result }
+{
+    let turns = turns_of(given);
+    match name {
+        "step" => Asked::Step { turns },
+        "fine" => Asked::Fine { turns },
+        "left" => Asked::Left {
+            turns,
+            draws: is_drawn(given),
+        },
+        "convert" => Asked::Convert,
+        "run" => Asked::Run,
+        _ => Asked::Check,
+    }
+}
+
+/// What the words' command was given to do.
 fn asked_by<'a>(matches: &ArgMatches<'a>) -> Asked<'a>
     ensures { (words : List Text) → subcommand_rows_of matches.now ≡ subcommand_of program words
         → fault_of program words ≡ [] → AsksFor words result }
 {
     match matches.subcommand() {
-        Some(("step", inner)) => Asked::Step {
-            turns: turns_of(inner),
-        },
-        Some(("fine", inner)) => Asked::Fine {
-            turns: turns_of(inner),
-        },
-        Some(("left", inner)) => Asked::Left {
-            turns: turns_of(inner),
-            draws: is_drawn(inner),
-        },
-        Some(("convert", _)) => Asked::Convert,
-        Some(("run", _)) => Asked::Run,
-        _ => Asked::Check,
+        Some((name, given)) => asked_by_name(name, given),
+        None => Asked::Check,
     }
 }
 
