@@ -1,6 +1,6 @@
 -- A text that was taken, and then a flush.
-use Rattle.std.proofs.Common.{◌≡◌, ◌∙◌, ℕ, Bool, List, [], Option, Some, None, Result, Ok, Err, sym, subst}
-use Rattle.std.specs.Prelude.{IfErr, IfSome}
+use Rattle.std.proofs.Common.{◌≡◌, ℕ, Bool, List, [], Option, Some, None, Result, Ok, Err, sym, subst}
+use Rattle.std.specs.Prelude.{IfErr}
 use Rattle.std.specs.Io.KnownBytes.{Appends, Keeps}
 use Rattle.std.proofs.lemmas.List.{append-nil}
 use Rattle.script_text.specs.declared.fault.Fault.{Fault}
@@ -8,10 +8,8 @@ use Rattle.script_text.specs.declared.fault.Fault.TheVariants.{Memory, Syntax, B
 use Rattle.script_stepper.specs.Runs.{Delivers, TellsRun}
 use Rattle.script_stepper.specs.Sinks.{AppendsBeginning}
 use Rattle.script_stepper.proofs.Writing.{Appends-kept, Appends-then}
-use Rattle.script_runner.specs.Telling.{TellsReport}
 use Rattle.leak_report.specs.Left.{IsLeftText}
 use Rattle.leak_report.proofs.Telling.{forgotten}
-use Rattle.sptr.specs.Serving.{UnlessInput}
 
 kept_after : (a b c : Option (List ℕ)) (text : List ℕ) → Appends a b text → Keeps b c → Appends a c text
 kept_after a b c text h k = subst (Appends a c) (append-nil text) (Appends-then a b c text [] h (Appends-kept b c k))
@@ -33,20 +31,3 @@ pub left_unflushed : (draws : Bool) (bytes list : List ℕ) (leaks : Bool) (faul
 left_unflushed draws bytes list leaks fault a b c h k e =
     subst (λ (f : Fault). Delivers {A = Bool} (TellsRun (IsLeftText draws (Err f)) bytes list) (Err f) a c) (sym e)
     (h.0, forgotten draws leaks Output bytes list h.0 h.1, all_of a c h.0 (kept_after a b c h.0 h.2 k))
-
-delivers_unless : {A : Type 0} (told : Result (List ℕ) Fault → Type 0) (r : Result A Fault) (a b : Option (List ℕ)) → Delivers told r a b
-    → Delivers (UnlessInput told) r a b
-delivers_unless told (Ok x) a b h = h
-delivers_unless told (Err Memory) a b h = h
-delivers_unless told (Err (Syntax line cause)) a b h = h
-delivers_unless told (Err (BadTurn position)) a b h = h
-delivers_unless told (Err Output) a b h = h
-delivers_unless told (Err Input) a b h = (tt, h.1)
-
--- a report of the bytes that the input had
-pub report_of_input : {A : Type 0} (input : Option (List ℕ)) (items given : List ℕ) (r : Result A Fault) (a b : Option (List ℕ))
-    → IfSome input (λ bytes. items ≡ bytes) → given ≡ items → Delivers (TellsReport given) r a b
-    → IfSome input (λ bytes. Delivers (UnlessInput (TellsReport bytes)) r a b)
-report_of_input None items given r a b e f h = tt
-report_of_input {A} (Some bytes) items given r a b e f h =
-    delivers_unless (TellsReport bytes) r a b (subst (λ (t : List ℕ). Delivers {A = A} (TellsReport t) r a b) (f ∙ e) h)

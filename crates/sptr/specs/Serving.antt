@@ -59,6 +59,11 @@ asks_left (Fine turns) = false
 asks_left Run = false
 asks_left (Left turns draws) = true
 
+-- the answer of a command that looks for nothing leaked
+abbrev pub none_found : Result Unit Fault → Result Bool Fault
+none_found (Ok done) = Ok false
+none_found (Err fault) = Err fault
+
 -- no other command finds something leaked
 abbrev pub FindsIfAsked : Asked → Result Bool Fault → Type 0
 FindsIfAsked asked answer = asks_left asked ≡ false → IfOk answer (λ leaks. leaks ≡ false)

@@ -1,6 +1,6 @@
 //! What the commands answer to the script on the input.
 
-ghost use Rattle.std.specs.Prelude.{◌≡◌, ◌⊎◌, ◌||◌, false, List, IfOk, IfErr, IfSome, OnOk};
+ghost use Rattle.std.specs.Prelude.{◌≡◌, ◌⊎◌, ◌||◌, false, IfOk, IfErr, IfSome};
 ghost use Rattle.std.specs.Prelude.{string_bytes};
 ghost use Rattle.script_text.specs.declared.fault.Fault.TheVariants.{Input, Memory};
 ghost use Rattle.script_runner.specs.Telling.{TellsReport};
@@ -11,7 +11,7 @@ ghost use Rattle.sptr.specs.Lines.{ok_line};
 ghost use Rattle.script_text.specs.Canonical.{canonical};
 ghost use Rattle.script_text.specs.Grammar.{ReadsAs};
 ghost use Rattle.script_text.specs.Scripts.{converted};
-ghost use Rattle.sptr.specs.Serving.{Converts, CountsScript, UnlessInput};
+ghost use Rattle.sptr.specs.Serving.{Converts, CountsScript};
 
 use control_word::Refusal;
 use leak_report::left_text;
@@ -102,11 +102,41 @@ pub(crate) fn written<O: Write>(text: &[u8], output: &mut Output<O>) -> Result<(
     flushed(output)
 }
 
-/// Writes the lines of a run, and makes sure that they have gone out.
-fn stepped<O: Write>(
+/// Answers `check`: how many threads and statements the script has.
+pub(crate) fn check<O: Write>(
     alloc: Global,
     script: &[u8],
+    output: &mut Output<O>,
+) -> Result<(), Fault>
+    requires { output.old.has_failed ≡ false }
+    ensures told { Delivers (CountsScript script.now) result
+        (O.contents output.old.writer) (O.contents output.new.writer) }
+    ensures failed { output.new.has_failed ≡ is_output result }
+{
+    let text = counted(alloc, script)?;
+    written(text.as_bytes(), output)
+}
+
+/// Answers `convert`: the canonical text in version 2 of the script.
+pub(crate) fn convert<O: Write>(
+    alloc: Global,
+    script: &[u8],
+    output: &mut Output<O>,
+) -> Result<(), Fault>
+    requires { output.old.has_failed ≡ false }
+    ensures told { Delivers (Converts script.now) result
+        (O.contents output.old.writer) (O.contents output.new.writer) }
+    ensures failed { output.new.has_failed ≡ is_output result }
+{
+    let text = converted(alloc, script)?;
+    written(text.as_bytes(), output)
+}
+
+/// Answers `step`: the lines of the script's run, with a list of turns.
+pub(crate) fn step<O: Write>(
+    alloc: Global,
     turns: &[u8],
+    script: &[u8],
     output: &mut Output<O>,
 ) -> Result<(), Fault>
     requires { output.old.has_failed ≡ false }
@@ -118,11 +148,11 @@ fn stepped<O: Write>(
     flushed(output)
 }
 
-/// The same of a run by single steps.
-fn finely_stepped<O: Write>(
+/// Answers `fine`: the same of the run by single steps, one for each number of the list.
+pub(crate) fn fine<O: Write>(
     alloc: Global,
-    script: &[u8],
     turns: &[u8],
+    script: &[u8],
     output: &mut Output<O>,
 ) -> Result<(), Fault>
     requires { output.old.has_failed ≡ false }
@@ -134,8 +164,8 @@ fn finely_stepped<O: Write>(
     flushed(output)
 }
 
-/// The same of a run on real workers.
-fn worked<R: Threads + Wait + Sync, O: Write>(
+/// Answers `run`: what comes of the script on real workers, one a thread.
+pub(crate) fn run<R: Threads + Wait + Sync, O: Write>(
     rt: &R,
     alloc: Global,
     script: &[u8],
@@ -150,13 +180,13 @@ fn worked<R: Threads + Wait + Sync, O: Write>(
     flushed(output)
 }
 
-/// Writes what is left at a run's end, told or drawn, and makes sure that it has gone out. Answers whether something
-/// is leaked.
-fn left_told<O: Write>(
+/// Answers `left`: what is left at the end of the script's run, with a list of turns, told or drawn, and whether
+/// something is leaked.
+pub(crate) fn left<O: Write>(
     alloc: Global,
-    script: &[u8],
     turns: &[u8],
     draws: bool,
+    script: &[u8],
     output: &mut Output<O>,
 ) -> Result<bool, Fault>
     requires { output.old.has_failed ≡ false }
@@ -169,107 +199,4 @@ fn left_told<O: Write>(
         Ok(()) => Ok(leaks),
         Err(fault) => Err(fault),
     }
-}
-
-/// Answers `check`: how many threads and statements the script on the input has.
-pub(crate) fn check<I: Read, O: Write>(
-    alloc: Global,
-    input: &mut I,
-    output: &mut Output<O>,
-) -> Result<(), Fault>
-    requires { output.old.has_failed ≡ false }
-    ensures counts { IfSome (I.remaining input.old) (λ bytes.
-        Delivers (UnlessInput (CountsScript bytes)) result (O.contents output.old.writer)
-        (O.contents output.new.writer)) }
-    ensures failed { output.new.has_failed ≡ is_output result }
-{
-    let bytes = bytes_of(alloc, input)?;
-    let text = counted(alloc, bytes.as_slice())?;
-    written(text.as_bytes(), output)
-}
-
-/// Answers `convert`: the canonical text in version 2 of the script on the input.
-pub(crate) fn convert<I: Read, O: Write>(
-    alloc: Global,
-    input: &mut I,
-    output: &mut Output<O>,
-) -> Result<(), Fault>
-    requires { output.old.has_failed ≡ false }
-    ensures converts { IfSome (I.remaining input.old) (λ bytes.
-        Delivers (UnlessInput (Converts bytes)) result (O.contents output.old.writer) (O.contents output.new.writer)) }
-    ensures failed { output.new.has_failed ≡ is_output result }
-{
-    let bytes = bytes_of(alloc, input)?;
-    let text = converted(alloc, bytes.as_slice())?;
-    written(text.as_bytes(), output)
-}
-
-/// Answers `step`: the lines of the run of the script on the input, with a list of turns.
-pub(crate) fn step<I: Read, O: Write>(
-    alloc: Global,
-    turns: &[u8],
-    input: &mut I,
-    output: &mut Output<O>,
-) -> Result<(), Fault>
-    requires { output.old.has_failed ≡ false }
-    ensures tells { IfSome (I.remaining input.old) (λ bytes.
-        Delivers (UnlessInput (TellsRun IsRunText bytes turns.now)) result
-        (O.contents output.old.writer) (O.contents output.new.writer)) }
-    ensures failed { output.new.has_failed ≡ is_output result }
-{
-    let bytes = bytes_of(alloc, input)?;
-    stepped(alloc, bytes.as_slice(), turns, output)
-}
-
-/// Answers `fine`: the same of the run by single steps, one for each number of the list.
-pub(crate) fn fine<I: Read, O: Write>(
-    alloc: Global,
-    turns: &[u8],
-    input: &mut I,
-    output: &mut Output<O>,
-) -> Result<(), Fault>
-    requires { output.old.has_failed ≡ false }
-    ensures tells { IfSome (I.remaining input.old) (λ bytes.
-        Delivers (UnlessInput (TellsRun IsFineText bytes turns.now)) result
-        (O.contents output.old.writer) (O.contents output.new.writer)) }
-    ensures failed { output.new.has_failed ≡ is_output result }
-{
-    let bytes = bytes_of(alloc, input)?;
-    finely_stepped(alloc, bytes.as_slice(), turns, output)
-}
-
-/// Answers `run`: what comes of the script on the input on real workers, one a thread.
-pub(crate) fn run<R: Threads + Wait + Sync, I: Read, O: Write>(
-    rt: &R,
-    alloc: Global,
-    input: &mut I,
-    output: &mut Output<O>,
-) -> Result<(), Fault>
-    requires { output.old.has_failed ≡ false }
-    ensures tells { IfSome (I.remaining input.old) (λ bytes.
-        Delivers (UnlessInput (TellsReport bytes)) result
-        (O.contents output.old.writer) (O.contents output.new.writer)) }
-    ensures failed { output.new.has_failed ≡ is_output result }
-{
-    let bytes = bytes_of(alloc, input)?;
-    worked(rt, alloc, bytes.as_slice(), output)
-}
-
-/// Answers `left`: what is left at the end of the run of the script on the input, with a list of turns, told or
-/// drawn, and whether something is leaked.
-pub(crate) fn left<I: Read, O: Write>(
-    alloc: Global,
-    turns: &[u8],
-    draws: bool,
-    input: &mut I,
-    output: &mut Output<O>,
-) -> Result<bool, Fault>
-    requires { output.old.has_failed ≡ false }
-    ensures tells { IfSome (I.remaining input.old) (λ bytes.
-        Delivers (UnlessInput (TellsRun (IsLeftText draws result) bytes turns.now)) result
-        (O.contents output.old.writer) (O.contents output.new.writer)) }
-    ensures failed { output.new.has_failed ≡ is_output result }
-{
-    let bytes = bytes_of(alloc, input)?;
-    left_told(alloc, bytes.as_slice(), turns, draws, output)
 }

@@ -3,7 +3,7 @@
 ghost use Rattle.std.specs.Prelude.{◌≡◌, false, is_some, IfSome};
 ghost use Rattle.script_stepper.specs.Runs.{Delivers, is_output};
 ghost use Rattle.sptr.specs.CommandLine.{has_files};
-ghost use Rattle.sptr.specs.Serving.{AnswersCommand, FindsIfAsked, asks_left, known_unless};
+ghost use Rattle.sptr.specs.Serving.{AnswersCommand, FindsIfAsked, asks_left, known_unless, none_found};
 
 use crate::answers::{bytes_of, check, convert, fine, left, run, step};
 use crate::command::{Asked, Files, Line};
@@ -15,8 +15,42 @@ use std::sync::Wait;
 use std::thread::Threads;
 use std::{fs, rt};
 
-/// The answer to what a command line asks for, of the script on the input: whether something was found to be leaked,
-/// for which only one command looks.
+/// The answer of a command that looks for no leaks, whose script was read: nothing was found to be leaked.
+fn none_leaked(done: Result<(), Fault>) -> Result<bool, Fault>
+    ensures { result ≡ none_found done }
+{
+    match done {
+        Ok(()) => Ok(false),
+        Err(fault) => Err(fault),
+    }
+}
+
+/// The answer to what a command line asks for, of a script: whether something was found to be leaked, for which only
+/// one command looks.
+fn answer_bytes<R: Threads + Wait + Sync, O: Write>(
+    rt: &R,
+    alloc: Global,
+    asked: Asked<'_>,
+    script: &[u8],
+    output: &mut Output<O>,
+) -> Result<bool, Fault>
+    requires { output.old.has_failed ≡ false }
+    ensures delivers { Delivers (AnswersCommand asked.entry result script.now) result
+        (O.contents output.old.writer) (O.contents output.new.writer) }
+    ensures finds { FindsIfAsked asked.entry result }
+    ensures failed { output.new.has_failed ≡ is_output result }
+{
+    match asked {
+        Asked::Check => none_leaked(check(alloc, script, output)),
+        Asked::Convert => none_leaked(convert(alloc, script, output)),
+        Asked::Step { turns } => none_leaked(step(alloc, turns, script, output)),
+        Asked::Fine { turns } => none_leaked(fine(alloc, turns, script, output)),
+        Asked::Run => none_leaked(run(rt, alloc, script, output)),
+        Asked::Left { turns, draws } => left(alloc, turns, draws, script, output),
+    }
+}
+
+/// The same of the script on the input.
 fn answer<R: Threads + Wait + Sync, I: Read, O: Write>(
     rt: &R,
     alloc: Global,
@@ -31,15 +65,8 @@ fn answer<R: Threads + Wait + Sync, I: Read, O: Write>(
     ensures finds { FindsIfAsked asked.entry result }
     ensures failed { output.new.has_failed ≡ is_output result }
 {
-    match asked {
-        Asked::Check => check(alloc, input, output)?,
-        Asked::Convert => convert(alloc, input, output)?,
-        Asked::Step { turns } => step(alloc, turns, input, output)?,
-        Asked::Fine { turns } => fine(alloc, turns, input, output)?,
-        Asked::Run => run(rt, alloc, input, output)?,
-        Asked::Left { turns, draws } => return left(alloc, turns, draws, input, output),
-    }
-    Ok(false)
+    let bytes = bytes_of(alloc, input)?;
+    answer_bytes(rt, alloc, asked, bytes.as_slice(), output)
 }
 
 /// The same of a script in a file, if one is named.

@@ -1,7 +1,9 @@
-use Rattle.sptr.proofs.Flushing.{report_of_input}
+use Rattle.script_runner.specs.Telling.{TellsReport}
+use Rattle.sptr.proofs.Flushing.{delivers_flushed}
 use Rattle.sptr.proofs.answers.run.Goals as goal
 
-pub returns-clause-tells : goal.returns-clause-tells
-returns-clause-tells g c =
-    report_of_input _ c.in_ok-bytes.bytes.items c.as_slice.result.now c.worked.result (g.O.Write.contents c.args.output.now.writer)
-    (g.O.Write.contents c.worked.new.output.writer) c.in_ok-bytes.ensures.ok c.as_slice.ensures.value c.worked.ensures.told
+pub returns-clause-told : goal.returns-clause-told
+returns-clause-told g c =
+    delivers_flushed (TellsReport c.args.script.now) c.flushed.result (g.O.Write.contents c.args.output.now.writer)
+    (g.O.Write.contents c.run_text.new.writer.writer) (g.O.Write.contents c.flushed.new.output.writer) c.in_ok-run_text.ensures.holds
+    c.flushed.ensures.kept c.flushed.ensures.err

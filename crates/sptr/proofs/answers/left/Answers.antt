@@ -1,5 +1,5 @@
 use Rattle.sptr.proofs.Flushing.{left_unflushed}
-use Rattle.sptr.proofs.answers.left_told.Goals as goal
+use Rattle.sptr.proofs.answers.left.Goals as goal
 
 pub returns-in-Err-clause-told : goal.returns-in-Err-clause-told
 returns-in-Err-clause-told g c =

@@ -1,6 +1,6 @@
 use Rattle.script_stepper.specs.Runs.{IsFineText, TellsRun}
 use Rattle.sptr.proofs.Flushing.{delivers_flushed}
-use Rattle.sptr.proofs.answers.finely_stepped.Goals as goal
+use Rattle.sptr.proofs.answers.fine.Goals as goal
 
 pub returns-clause-told : goal.returns-clause-told
 returns-clause-told g c =
