@@ -19,8 +19,7 @@ use Rattle.step_threads.specs.Scenes.{Scene, nowhere}
 use Rattle.step_core.specs.Worlds.{Sight, scene}
 use Rattle.script_text.specs.Beginnings.{script_shape, script_sight, shape_for}
 use Rattle.script_text.specs.Versions.{blocks_in}
-use Rattle.script_stepper.specs.declared.runs.stepping.Pace.{Pace}
-use Rattle.script_stepper.specs.Runs.{IsShown, IsTextBy, IsTurnText}
+use Rattle.script_stepper.specs.Runs.{IsTurnText}
 use Rattle.script_stepper.specs.Lines.{closing_lines, item_lines}
 use Rattle.script_stepper.specs.Running.{AllOver, AllRest, HasRun, RunsOut, Waits}
 use Rattle.step_core.proofs.telling.Leaves.{settled_endings}
@@ -98,9 +97,3 @@ sight_is script blocks threads shape u b n s e =
     let same : shape ≡ script_shape script =
     s ∙ ap (λ (k : ℕ). shape_for k threads) b ∙ ap (shape_for (blocks_in script.version)) n in
     e ∙ ap (λ (x : Shape). first_sight x (program_in script.threads)) same
-
-pub run_is : (pace : Pace) (script : ScriptView) (turns text : List ℕ) (blocks threads : ℕ) (shape : Shape) (u : Sight)
-    → blocks ≡ blocks_in script.version → threads ≡ length script.threads → shape ≡ shape_for blocks threads
-    → u ≡ first_sight shape (program_in script.threads) → IsShown pace turns u text → IsTextBy pace script turns text
-run_is pace script turns text blocks threads shape u b n s e h =
-    subst (λ (v : Sight). IsShown pace turns v text) (sight_is script blocks threads shape u b n s e) h

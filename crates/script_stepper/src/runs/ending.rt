@@ -7,7 +7,7 @@ ghost use Rattle.step_core.specs.Worlds.{scene};
 ghost use Rattle.script_stepper.specs.Ends.{IsRunEnd, IsRefused, IsRunOut};
 
 use crate::runs::running::run_turns;
-use crate::runs::stepping::{shape_of, world_of};
+use crate::runs::stepping::{Start, start_of};
 use crate::turns::turns_of;
 use script_text::{Fault, Script, parse};
 use std::alloc::Global;
@@ -31,13 +31,13 @@ fn run_out(alloc: Global, script: &Script, turns: &[u8]) -> Result<End, Fault>
     ensures ok { IfOk result (λ end. IsRunOut turns.now (script_scene script.now) (scene end.world)) }
     ensures memory { IfErr result (λ fault. fault ≡ Memory) }
 {
-    let threads = script.threads();
-    let shared = script.blocks();
-    let shape = shape_of(shared, threads);
-    let blocks = shape.blocks as u16;
-    let mut world = world_of(alloc, script, shape)?;
+    let Start {
+        mut world,
+        threads,
+        blocks,
+    } = start_of(alloc, script)?;
     let mut text = String::new(alloc);
-    match run_turns(&mut world, threads as u8, turns, &mut text) {
+    match run_turns(&mut world, threads, turns, &mut text) {
         Ok(()) => Ok(End { world, blocks }),
         Err(_) => Err(Fault::Memory),
     }

@@ -9,7 +9,7 @@ ghost use Rattle.script_text.specs.Scripts.{program_in};
 ghost use Rattle.step_core.specs.Worlds.{scene};
 ghost use Rattle.step_table.specs.Stories.{Kept};
 ghost use Rattle.step_core.specs.Starts.{first_sight};
-ghost use Rattle.script_text.specs.Beginnings.{script_scene, script_shape, shape_for};
+ghost use Rattle.script_text.specs.Beginnings.{script_scene, script_shape, script_sight, shape_for};
 ghost use Rattle.script_stepper.specs.Followed.{TurnsFollow};
 ghost use Rattle.script_stepper.specs.Running.{AllRest, IsThread};
 ghost use Rattle.script_stepper.specs.Runs.{Delivers, IsFineText, IsRunText, IsShown, IsTextBy, IsTurnText, TellsRun};
@@ -39,7 +39,7 @@ pub(crate) enum Pace {
 }
 
 /// The shape of a script's world: each thread has the same number of blocks.
-pub(crate) fn shape_of(blocks: u32, threads: u32) -> Shape
+fn shape_of(blocks: u32, threads: u32) -> Shape
     requires least { 64 ≤ blocks }
     requires most { blocks ≤ 65535 }
     requires some { 1 ≤ threads }
@@ -56,7 +56,7 @@ pub(crate) fn shape_of(blocks: u32, threads: u32) -> Shape
 }
 
 /// The world in which a script's run begins. It is within the limits, so that only memory may be wanting.
-pub(crate) fn world_of(alloc: Global, script: &Script, shape: Shape) -> Result<World, Fault>
+fn world_of(alloc: Global, script: &Script, shape: Shape) -> Result<World, Fault>
     requires shape { shape ≡ script_shape script.now }
     requires within { IsWithinLimits shape }
     ensures ok { IfOk result (λ w. w ≡ first_sight shape (program_in script.now.threads)) }
@@ -73,6 +73,36 @@ pub(crate) fn world_of(alloc: Global, script: &Script, shape: Shape) -> Result<W
             _ => unreachable!(),
         },
     }
+}
+
+/// A world before its first turn, and how many threads and blocks it has.
+#[derive(Drop)]
+pub(crate) struct Start {
+    pub world: World,
+    pub threads: u8,
+    pub blocks: u16,
+}
+
+/// How a script's run begins.
+pub(crate) fn start_of(alloc: Global, script: &Script) -> Result<Start, Fault>
+    ensures sight { IfOk result (λ s. s.world ≡ script_sight script.now) }
+    ensures kept { IfOk result (λ s. Kept s.world.story) }
+    ensures rests { IfOk result (λ s. AllRest s.world) }
+    ensures all { IfOk result (λ s. s.threads ≡ length s.world.walks) }
+    ensures threads { IfOk result (λ s. length s.world.walks ≡ length script.now.threads) }
+    ensures blocks { IfOk result (λ s. s.blocks ≡ s.world.story.extent.shape.blocks) }
+    ensures memory { IfErr result (λ fault. fault ≡ Memory) }
+{
+    let threads = script.threads();
+    let shared = script.blocks();
+    let shape = shape_of(shared, threads);
+    let blocks = shape.blocks as u16;
+    let world = world_of(alloc, script, shape)?;
+    Ok(Start {
+        world,
+        threads: threads as u8,
+        blocks,
+    })
 }
 
 /// Runs a world turn by turn, and tells of it.
@@ -124,12 +154,12 @@ fn run(alloc: Global, script: &Script, turns: &[u8], pace: Pace) -> Result<Strin
     ensures ok { IfOk result (λ text. IsTextBy pace script.now turns.now (string_bytes text)) }
     ensures memory { IfErr result (λ fault. fault ≡ Memory) }
 {
-    let threads = script.threads();
-    let shared = script.blocks();
-    let shape = shape_of(shared, threads);
-    let blocks = shape.blocks as u16;
-    let mut world = world_of(alloc, script, shape)?;
-    match text_of(alloc, &mut world, threads as u8, blocks, turns, pace) {
+    let Start {
+        mut world,
+        threads,
+        blocks,
+    } = start_of(alloc, script)?;
+    match text_of(alloc, &mut world, threads, blocks, turns, pace) {
         Ok(text) => Ok(text),
         Err(_) => Err(Fault::Memory),
     }
