@@ -1,5 +1,5 @@
 //! The lines that tell what is left, as text.
-ghost use Rattle.std.specs.Prelude.{◌≡◌, ◌∷◌, ◌++◌, [], OnOk, string_bytes};
+ghost use Rattle.std.specs.Prelude.{◌≡◌, ◌∷◌, ◌++◌, [], OnOk, codes, decimal, string_bytes};
 ghost use Rattle.std.specs.List.{flat_map};
 ghost use Rattle.script_text.specs.Canonical.{AddsLines};
 ghost use Rattle.leak_report.specs.Cells.{block_cell_text};
@@ -37,17 +37,32 @@ fn kept_word(is_kept: bool) -> &'static str
     if is_kept { "kept" } else { "leaked" }
 }
 
+/// Adds a text and a number after it.
+fn put_number(text: &mut String, before: &str, number: u64) -> Result<(), AllocError>
+    ensures { OnOk result (string_bytes text.new ≡ string_bytes text.old ++ before.now ++ decimal number) }
+{
+    write!(text, "{before}{number}")?;
+    Ok(())
+}
+
 /// Adds a free cell's word.
 pub(crate) fn put_free(text: &mut String, shared: u32, number: u32) -> Result<(), AllocError>
     ensures { OnOk result (string_bytes text.new ≡ string_bytes text.old ++ block_cell_text shared
         (Cell.Free number)) }
 {
     if number < shared {
-        write!(text, "s{number}")?;
+        put_number(text, "s", u64::from(number))
     } else {
-        let weak = number - shared;
-        write!(text, "w{weak}")?;
+        put_number(text, "w", u64::from(number - shared))
     }
+}
+
+/// Adds a member's word.
+fn put_member(text: &mut String, block: u16, member: &str) -> Result<(), AllocError>
+    ensures { OnOk result
+        (string_bytes text.new ≡ string_bytes text.old ++ decimal block ++ codes "." ++ member.now) }
+{
+    write!(text, "{block}.{member}")?;
     Ok(())
 }
 
@@ -56,13 +71,17 @@ pub(crate) fn put_cell(text: &mut String, shared: u32, cell: Cell) -> Result<(),
     ensures { OnOk result (string_bytes text.new ≡ string_bytes text.old ++ block_cell_text shared cell) }
 {
     match cell {
-        Cell::Free { number } => put_free(text, shared, number)?,
-        Cell::Member { block, member } => {
-            let number = block.0;
-            let word = member_word(member);
-            write!(text, "{number}.{word}")?;
-        }
+        Cell::Free { number } => put_free(text, shared, number),
+        Cell::Member { block, member } => put_member(text, block.0, member_word(member)),
     }
+}
+
+/// Adds how the line of a handle begins.
+fn put_kind(text: &mut String, kind: &str) -> Result<(), AllocError>
+    ensures { OnOk result
+        (string_bytes text.new ≡ string_bytes text.old ++ codes "  " ++ kind.now ++ codes " in ") }
+{
+    write!(text, "  {kind} in ")?;
     Ok(())
 }
 
@@ -70,8 +89,7 @@ pub(crate) fn put_cell(text: &mut String, shared: u32, cell: Cell) -> Result<(),
 fn put_holder(text: &mut String, shared: u32, holding: Holding) -> Result<(), AllocError>
     ensures { OnOk result (AddsLines text.old text.new (holder_lines shared holding)) }
 {
-    let kind = kind_word(is_owner(shared, holding.cell));
-    write!(text, "  {kind} in ")?;
+    put_kind(text, kind_word(is_owner(shared, holding.cell)))?;
     put_cell(text, shared, holding.cell)?;
     text.push_str("\n")?;
     Ok(())
@@ -91,6 +109,14 @@ pub(crate) fn put_holders(
     Ok(())
 }
 
+/// Adds how the line of a block ends.
+fn put_kept(text: &mut String, word: &str) -> Result<(), AllocError>
+    ensures { OnOk result (string_bytes text.new ≡ string_bytes text.old ++ codes " " ++ word.now ++ 10 ∷ []) }
+{
+    writeln!(text, " {word}")?;
+    Ok(())
+}
+
 /// Adds the line of a block that isn't vacant.
 pub(crate) fn put_block(
     text: &mut String,
@@ -101,10 +127,9 @@ pub(crate) fn put_block(
     ensures { OnOk result (AddsLines text.old text.new (left_text block counts is_kept ∷ [])) }
 {
     let Counts { owners, weaks } = counts;
-    let word = kept_word(is_kept);
-    write!(text, "block {block}")?;
-    write!(text, " owners {owners}")?;
-    write!(text, " weaks {weaks}")?;
-    writeln!(text, " {word}")?;
+    put_number(text, "block ", u64::from(block))?;
+    put_number(text, " owners ", u64::from(owners))?;
+    put_number(text, " weaks ", u64::from(weaks))?;
+    put_kept(text, kept_word(is_kept))?;
     Ok(())
 }
