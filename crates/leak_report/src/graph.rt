@@ -1,5 +1,5 @@
 //! What is left at a run's end as a graph for Graphviz.
-ghost use Rattle.std.specs.Prelude.{◌≡◌, ◌∷◌, ◌++◌, ◌+◌, ◌<◌, ◌≤◌, ℕ, [], IfOk, OnOk};
+ghost use Rattle.std.specs.Prelude.{◌≡◌, ◌∷◌, ◌++◌, ◌+◌, ◌<◌, ◌≤◌, ℕ, [], All, IfOk, OnOk};
 ghost use Rattle.std.specs.Prelude.{length, nat_lt, string_bytes};
 ghost use Rattle.std.specs.Prelude.{true};
 ghost use Rattle.std.specs.List.{flat_map};
@@ -9,7 +9,7 @@ ghost use Rattle.step_core.specs.Worlds.{scene};
 ghost use Rattle.step_table.specs.declared.cell_steps.cell_deed.Cell.{Cell};
 ghost use Rattle.step_threads.specs.Scenes.{state_in};
 ghost use Rattle.owner_graph.specs.Labels.{at};
-ghost use Rattle.owner_graph.specs.Owners.{source};
+ghost use Rattle.owner_graph.specs.Owners.{IsAmong, source};
 ghost use Rattle.owner_graph.specs.Rows.{held_on, row_at};
 ghost use Rattle.leak_report.specs.Findings.{findings};
 ghost use Rattle.leak_report.specs.Graph.{all_nodes, color_text, edge_by, edge_lines, free_lines};
@@ -254,6 +254,18 @@ fn put_all_held(
     Ok(())
 }
 
+/// Adds the lines of all that was found to be held.
+fn put_edges(alloc: Global, blocks: u16, found: &Found, text: &mut String) -> Result<(), AllocError>
+    requires { All (IsAmong blocks) found.now.circles.cuts.items }
+    ensures { OnOk result (AddsLines text.old text.new (flat_map (edge_lines 128 (findings found.now.kept.items
+        found.now.circles.knots.items found.now.circles.cuts.items)) found.now.held.items)) }
+{
+    let cuts = by_source(alloc, blocks, found.circles.cuts.as_slice())?;
+    let held = found.held.as_slice();
+    put_all_held(text, SCRIPT_SHARED_CELLS, found, cuts.as_slice(), held)?;
+    Ok(())
+}
+
 /// Adds how the graph begins.
 fn put_head(text: &mut String) -> Result<(), AllocError>
     ensures { OnOk result (AddsLines text.old text.new head_lines) }
@@ -267,17 +279,10 @@ pub(crate) fn drawn_at(alloc: Global, end: &End) -> Result<Left, AllocError>
     ensures { IfOk result (λ left. TellsOf (scene end.now.world) true left.leaks (string_bytes left.text)) }
 {
     let found = find(alloc, end)?;
-    let cuts = by_source(alloc, end.blocks, found.circles.cuts.as_slice())?;
     let mut text = String::new(alloc);
     put_head(&mut text)?;
     put_blocks(&end.world, end.blocks, &found, &mut text)?;
-    put_all_held(
-        &mut text,
-        SCRIPT_SHARED_CELLS,
-        &found,
-        cuts.as_slice(),
-        found.held.as_slice(),
-    )?;
+    put_edges(alloc, end.blocks, &found, &mut text)?;
     text.push_str("}\n")?;
     let leaks = leaks(&end.world, end.blocks, found.kept.as_slice());
     Ok(Left { text, leaks })

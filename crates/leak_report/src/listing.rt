@@ -1,7 +1,8 @@
 //! What is left, block by block.
-ghost use Rattle.std.specs.Prelude.{◌≡◌, ◌+◌, ◌≤◌, ℕ, OnOk, IfOk, false, length, string_bytes};
+ghost use Rattle.std.specs.Prelude.{◌≡◌, ◌∷◌, [], ◌+◌, ◌≤◌, ℕ, OnOk, IfOk, false, length, string_bytes};
 ghost use Rattle.script_text.specs.Canonical.{AddsLines};
-ghost use Rattle.step_core.specs.Totals.{IsAtEnd};
+ghost use Rattle.step_core.specs.Totals.{IsAtEnd, ended_in, made_in};
+ghost use Rattle.script_stepper.specs.Lines.{totals_text};
 ghost use Rattle.step_core.specs.Worlds.{scene};
 ghost use Rattle.step_threads.specs.Scenes.{state_in};
 ghost use Rattle.owner_graph.specs.Rows.{held_on, row_at};
@@ -65,6 +66,15 @@ fn put_listing(
     Ok(())
 }
 
+/// Adds the last line: how many objects were made, have ended, and are left.
+fn put_sums(world: &World, text: &mut String) -> Result<(), AllocError>
+    ensures { OnOk result (AddsLines text.old text.new
+        (totals_text (made_in world.now.story.history) (ended_in world.now.story.history) ∷ [])) }
+{
+    put_totals(text, u64::from(world.made()), u64::from(world.ended()))?;
+    Ok(())
+}
+
 /// What is told of a run's end.
 #[derive(Drop)]
 pub(crate) struct Left {
@@ -87,11 +97,7 @@ pub(crate) fn left_at(alloc: Global, end: &End) -> Result<Left, AllocError>
         &mut text,
     )?;
     put_circles(SCRIPT_SHARED_CELLS, end.blocks, &found.circles, &mut text)?;
-    put_totals(
-        &mut text,
-        u64::from(end.world.made()),
-        u64::from(end.world.ended()),
-    )?;
+    put_sums(&end.world, &mut text)?;
     let leaks = leaks(&end.world, end.blocks, found.kept.as_slice());
     Ok(Left { text, leaks })
 }

@@ -17,10 +17,10 @@ returns c =
       found = c.in_ok-found.ensures.found;
       counted = counted_at u c.args.end.now.blocks found.held.items c.args.end.now.all c.in_ok-found.ensures.held c.in_ok-found.ensures.counted;
       says =
-          graph_then u f found.circles.ties.items c.as_slice-3.result.now 128 c.args.end.now.blocks (string_bytes c.put_head.new.text)
-          (string_bytes c.put_blocks.new.text) (string_bytes c.put_all_held.new.text) (string_bytes c.push_str.new.self) (sym c.args.end.now.shared)
-          c.args.end.now.all c.in_ok-found.ensures.ties (c.as_slice-3.ensures.value ∙ c.in_ok-found.ensures.held)
+          graph_then u f found.circles.ties.items found.held.items 128 c.args.end.now.blocks (string_bytes c.put_head.new.text)
+          (string_bytes c.put_blocks.new.text) (string_bytes c.put_edges.new.text) (string_bytes c.push_str.new.self) (sym c.args.end.now.shared)
+          c.args.end.now.all c.in_ok-found.ensures.ties c.in_ok-found.ensures.held
           (c.in_ok-put_head.ensures ∙ ap (λ (t : List ℕ). t ++ ended head_lines) c.new-text.ensures.bytes) c.in_ok-put_blocks.ensures
-          c.in_ok-put_all_held.ensures c.in_ok-push_str.ensures.bytes;
+          c.in_ok-put_edges.ensures c.in_ok-push_str.ensures.bytes;
       leaks_is = c.leaks-leaks.ensures;
     }

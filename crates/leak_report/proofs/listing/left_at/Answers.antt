@@ -1,6 +1,7 @@
-use Rattle.std.proofs.Common.{◌∙◌, ◌++◌, ℕ, List, ap, sym}
+use Rattle.std.proofs.Common.{◌∙◌, ◌++◌, ℕ, List, ap, refl, sym}
 use Rattle.std.specs.Prelude.{string_bytes}
 use Rattle.script_text.specs.Grammar.{ended}
+use Rattle.step_core.specs.Totals.{ended_in, made_in}
 use Rattle.step_core.specs.Worlds.{scene}
 use Rattle.step_threads.specs.Scenes.{state_in}
 use Rattle.leak_report.specs.Findings.{findings, held_at}
@@ -17,11 +18,11 @@ returns c =
       found = c.in_ok-found.ensures.found;
       counted = counted_at u c.args.end.now.blocks found.held.items c.args.end.now.all c.in_ok-found.ensures.held c.in_ok-found.ensures.counted;
       says =
-          all_then u f found.circles.ties.items 128 c.args.end.now.blocks c.from.result c.from-2.result (string_bytes c.put_listing.new.text)
-          (string_bytes c.put_circles.new.text) (string_bytes c.put_totals.new.text) (sym c.args.end.now.shared) c.args.end.now.all
-          (c.from.ensures ∙ c.made.ensures) (c.from-2.ensures ∙ c.ended.ensures) c.in_ok-found.ensures.ties
+          all_then u f found.circles.ties.items 128 c.args.end.now.blocks (made_in u.history) (ended_in u.history) (string_bytes c.put_listing.new.text)
+          (string_bytes c.put_circles.new.text) (string_bytes c.put_sums.new.text) (sym c.args.end.now.shared) c.args.end.now.all
+          refl refl c.in_ok-found.ensures.ties
           (c.in_ok-put_listing.ensures
           ∙ ap (λ (t : List ℕ). t ++ ended (listing 128 (held_at u) found.kept.items c.args.end.now.blocks (state_in u)))
-          c.new-text.ensures.bytes) c.in_ok-put_circles.ensures c.in_ok-put_totals.ensures;
+          c.new-text.ensures.bytes) c.in_ok-put_circles.ensures c.in_ok-put_sums.ensures;
       leaks_is = c.leaks-leaks.ensures;
     }
