@@ -5,6 +5,7 @@ ghost use Rattle.script_stepper.specs.Runs.{Delivers, TellsRun, is_output};
 ghost use Rattle.step_core.specs.Worlds.{scene};
 ghost use Rattle.leak_report.specs.Left.{IsLeftText, TellsOf};
 
+use crate::finding::find;
 use crate::graph::drawn_at;
 use crate::listing::{Left, left_at};
 use script_stepper::{End, Sink, end_of, write_text};
@@ -15,10 +16,11 @@ use std::alloc::{AllocError, Global};
 fn told_at(alloc: Global, end: &End, draws: bool) -> Result<Left, AllocError>
     ensures { IfOk result (λ left. TellsOf (scene end.now.world) draws left.leaks (string_bytes left.text)) }
 {
+    let found = find(alloc, end)?;
     if draws {
-        drawn_at(alloc, end)
+        drawn_at(alloc, end, &found)
     } else {
-        left_at(alloc, end)
+        left_at(alloc, end, &found)
     }
 }
 

@@ -11,15 +11,16 @@ ghost use Rattle.step_threads.specs.Scenes.{state_in};
 ghost use Rattle.owner_graph.specs.Labels.{at};
 ghost use Rattle.owner_graph.specs.Owners.{IsAmong, source};
 ghost use Rattle.owner_graph.specs.Rows.{held_on, row_at};
-ghost use Rattle.leak_report.specs.Findings.{findings};
+ghost use Rattle.holders.specs.Holdings.{AllCounted};
+ghost use Rattle.leak_report.specs.Findings.{findings, held_at, ties_at};
 ghost use Rattle.leak_report.specs.Graph.{all_nodes, color_text, edge_by, edge_lines, free_lines};
 ghost use Rattle.leak_report.specs.Graph.{box_text, fields_text, free_text, head_lines, is_listed, is_tied};
 ghost use Rattle.leak_report.specs.Graph.{member_lines};
 ghost use Rattle.leak_report.specs.Graph.{node_lines, node_text, style_text, tie_text};
-ghost use Rattle.leak_report.specs.Left.{TellsOf};
+ghost use Rattle.leak_report.specs.Left.{AreFound, TellsOf};
 
 use crate::cutting::{by_source, is_listed_in};
-use crate::finding::{Found, find, leaks};
+use crate::finding::{Found, leaks};
 use crate::knotting::Circles;
 use crate::lines::{member_word, put_free};
 use crate::listing::Left;
@@ -275,14 +276,23 @@ fn put_head(text: &mut String) -> Result<(), AllocError>
 }
 
 /// Draws what is left at a run's end.
-pub(crate) fn drawn_at(alloc: Global, end: &End) -> Result<Left, AllocError>
+pub(crate) fn drawn_at(alloc: Global, end: &End, found: &Found) -> Result<Left, AllocError>
+    requires held { found.now.held.items ≡ held_at (scene end.now.world) }
+    requires counted { AllCounted end.now.world.story.extent.shape.shared_cells end.now.blocks
+        (state_in (scene end.now.world)) found.now.held.items }
+    requires cuts { All (IsAmong end.now.blocks) found.now.circles.cuts.items }
+    requires tie_rows { (block : ℕ) → row_at found.now.circles.tie_rows.items block
+        ≡ held_on found.now.circles.ties.items block }
+    requires ties { found.now.circles.ties.items ≡ ties_at (findings found.now.kept.items
+        found.now.circles.knots.items found.now.circles.cuts.items) (scene end.now.world) }
+    requires found { AreFound (scene end.now.world) (findings found.now.kept.items
+        found.now.circles.knots.items found.now.circles.cuts.items) }
     ensures { IfOk result (λ left. TellsOf (scene end.now.world) true left.leaks (string_bytes left.text)) }
 {
-    let found = find(alloc, end)?;
     let mut text = String::new(alloc);
     put_head(&mut text)?;
-    put_blocks(&end.world, end.blocks, &found, &mut text)?;
-    put_edges(alloc, end.blocks, &found, &mut text)?;
+    put_blocks(&end.world, end.blocks, found, &mut text)?;
+    put_edges(alloc, end.blocks, found, &mut text)?;
     text.push_str("}\n")?;
     let leaks = leaks(&end.world, end.blocks, found.kept.as_slice());
     Ok(Left { text, leaks })

@@ -6,12 +6,13 @@ ghost use Rattle.script_stepper.specs.Lines.{totals_text};
 ghost use Rattle.step_core.specs.Worlds.{scene};
 ghost use Rattle.step_threads.specs.Scenes.{state_in};
 ghost use Rattle.owner_graph.specs.Rows.{held_on, row_at};
-ghost use Rattle.leak_report.specs.Findings.{held_at};
-ghost use Rattle.leak_report.specs.Left.{TellsOf};
+ghost use Rattle.holders.specs.Holdings.{AllCounted};
+ghost use Rattle.leak_report.specs.Findings.{findings, held_at, ties_at};
+ghost use Rattle.leak_report.specs.Left.{AreFound, TellsOf};
 ghost use Rattle.leak_report.specs.Lines.{left_lines, listing};
 
 use crate::circles::put_circles;
-use crate::finding::{Found, find, leaks};
+use crate::finding::{Found, leaks};
 use crate::lines::{put_block, put_holders};
 use control_word::Block;
 use control_word::limits::SCRIPT_SHARED_CELLS;
@@ -84,16 +85,30 @@ pub(crate) struct Left {
 }
 
 /// Tells what is left at a run's end.
-pub(crate) fn left_at(alloc: Global, end: &End) -> Result<Left, AllocError>
+pub(crate) fn left_at(alloc: Global, end: &End, found: &Found) -> Result<Left, AllocError>
+    requires held { found.now.held.items ≡ held_at (scene end.now.world) }
+    requires counted { AllCounted end.now.world.story.extent.shape.shared_cells end.now.blocks
+        (state_in (scene end.now.world)) found.now.held.items }
+    requires size { length found.now.rows.items ≡ end.now.blocks + 1 }
+    requires rows { (block : ℕ) → row_at found.now.rows.items block ≡ held_on (held_at (scene end.now.world)) block }
+    requires sizes { (length found.now.circles.tie_rows.items ≡ end.now.blocks + 1)
+        × (length found.now.circles.cut_rows.items ≡ end.now.blocks + 1) }
+    requires tie_rows { (block : ℕ) → row_at found.now.circles.tie_rows.items block
+        ≡ held_on found.now.circles.ties.items block }
+    requires cut_rows { (block : ℕ) → row_at found.now.circles.cut_rows.items block
+        ≡ held_on found.now.circles.cuts.items block }
+    requires ties { found.now.circles.ties.items ≡ ties_at (findings found.now.kept.items
+        found.now.circles.knots.items found.now.circles.cuts.items) (scene end.now.world) }
+    requires found { AreFound (scene end.now.world) (findings found.now.kept.items
+        found.now.circles.knots.items found.now.circles.cuts.items) }
     ensures { IfOk result (λ left. TellsOf (scene end.now.world) false left.leaks (string_bytes left.text)) }
 {
-    let found = find(alloc, end)?;
     let mut text = String::new(alloc);
     put_listing(
         &end.world,
         end.blocks,
         SCRIPT_SHARED_CELLS,
-        &found,
+        found,
         &mut text,
     )?;
     put_circles(SCRIPT_SHARED_CELLS, end.blocks, &found.circles, &mut text)?;

@@ -12,15 +12,15 @@ use Rattle.leak_report.proofs.listing.left_at.Goals as goal
 pub returns : goal.returns
 returns c =
     let u = scene c.args.end.now.world in
-    let found = c.in_ok-found.found in
+    let found = c.args.found.now in
     let f = findings found.kept.items found.circles.knots.items found.circles.cuts.items in record {
       findings = f;
-      found = c.in_ok-found.ensures.found;
-      counted = counted_at u c.args.end.now.blocks found.held.items c.args.end.now.all c.in_ok-found.ensures.held c.in_ok-found.ensures.counted;
+      found = c.requires.found;
+      counted = counted_at u c.args.end.now.blocks found.held.items c.args.end.now.all c.requires.held c.requires.counted;
       says =
           all_then u f found.circles.ties.items 128 c.args.end.now.blocks (made_in u.history) (ended_in u.history) (string_bytes c.put_listing.new.text)
           (string_bytes c.put_circles.new.text) (string_bytes c.put_sums.new.text) (sym c.args.end.now.shared) c.args.end.now.all
-          refl refl c.in_ok-found.ensures.ties
+          refl refl c.requires.ties
           (c.in_ok-put_listing.ensures
           ∙ ap (λ (t : List ℕ). t ++ ended (listing 128 (held_at u) found.kept.items c.args.end.now.blocks (state_in u)))
           c.new-text.ensures.bytes) c.in_ok-put_circles.ensures c.in_ok-put_sums.ensures;
