@@ -1,6 +1,6 @@
 -- Looking a name up in a table, and adding one.
 use Rattle.std.proofs.Common.{◌≡◌, ℕ, suc, ◌+◌, ◌<◌, Bool, true, false, not, cond, ltb, List, [], ◌∷◌, ◌++◌, length, map, Option}
-use Rattle.std.proofs.Common.{Some, None, Ok, refl, sym, ap, ◌∙◌, arith}
+use Rattle.std.proofs.Common.{Some, None, Ok, refl, sym, ap, ◌∙◌, arith, rules}
 use Rattle.std.specs.Prelude.{String}
 use Rattle.std.specs.Option.{option_map}
 use Rattle.std.specs.List.{AllZip, position, position_or_len}
@@ -9,6 +9,7 @@ use Rattle.std.specs.Str.{bytes_eq}
 use Rattle.std.specs.String.{string_bytes, string_eq}
 use Rattle.std.proofs.lemmas.Bool.Decides.{nat_tests}
 use Rattle.std.proofs.lemmas.Bool.{lt-ltb}
+use Rattle.std.proofs.lemmas.List.{length-map}
 use Rattle.indexmap.specs.IndexMap.{insert_entry}
 use Rattle.control_word.specs.declared.model.handle.Kind.{Kind}
 use Rattle.script_text.specs.Names.{NameList, names_in, numbered, find_name, declared}
@@ -105,18 +106,17 @@ names_in-insert (e ∷ es) key kind name same none =
     let test : string_eq key e.0 ≡ false = rw (← same) at m.0 in
     rw test (ap (λ (ns : NameList). (string_bytes e.0, e.1) ∷ ns) (names_in-insert es key kind name same m.1))
 
-pub appended : {A : Type 0} (es fs : List (String A × Kind)) (key : String A) (kind : Kind) (name : List ℕ)
-    → string_bytes key ≡ name → find_name name (names_in es) ≡ None → fs ≡ insert_entry string_eq es key kind
-    → names_in fs ≡ names_in es ++ (name, kind) ∷ []
-appended es fs key kind name same none new = rw new (names_in-insert es key kind name same none)
-
-pub declared_new : (names more : NameList) (kind : Kind) (name : List ℕ) (n : ℕ)
-    → find_name name names ≡ None → n ≡ length names → n < 32 → more ≡ names ++ (name, kind) ∷ []
-    → declared names kind name ≡ Ok (numbered n, more)
+pub declared_new : {A : Type 0} (es fs : List (String A × Kind)) (key : String A) (kind : Kind)
+    (name : List ℕ) (n : ℕ)
+    → string_bytes key ≡ name → find_name name (names_in es) ≡ None → n ≡ length es → n < 32 → fs
+    ≡ insert_entry string_eq es key kind
+    → declared (names_in es) kind name ≡ Ok (numbered n, names_in fs)
 unfolding declared
-declared_new names more kind name n none is room new =
+declared_new es fs key kind name n same none is room new =
+    let len : length (names_in es) ≡ n = search (rules, length-map) in
     let fits : ltb n 32 ≡ true = lt-ltb n 32 room in
-    rw (none, ← is, fits, new) refl
+    rw (none, len, fits, new)
+    (ap (λ (ns : NameList). Ok (numbered n, ns)) (sym (names_in-insert es key kind name same none)))
 
 -- ---- kinds
 

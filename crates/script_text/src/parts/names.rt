@@ -30,7 +30,7 @@ impl Model for Names {
 }
 
 impl Names {
-    ghost use Rattle.std.specs.Prelude.{◌≡◌, ◌<◌, ◌++◌, ◌∷◌, [], None, IfOk, OnOk, length, map};
+    ghost use Rattle.std.specs.Prelude.{◌≡◌, [], IfOk, map};
     ghost use Rattle.script_text.specs.Reading.{Gives};
     ghost use Rattle.script_text.specs.Names.{find_name, source_at, any_source_at, asked_source_at};
     ghost use Rattle.script_text.specs.Names.{target_at, declared, name_text};
@@ -101,17 +101,6 @@ impl Names {
         }
     }
 
-    /// Adds a new name, as one of at most 32.
-    fn append(&mut self, alloc: Global, kind: Kind, name: &str) -> Result<(), AllocError>
-        requires new { find_name name.now self.old ≡ None }
-        requires room { length self.old < 32 }
-        ensures { OnOk result (self.new ≡ self.old ++ (name.now, kind) ∷ []) }
-    {
-        let name = String::from_str(alloc, name)?;
-        self.table.insert(name, kind)?;
-        Ok(())
-    }
-
     /// A target, which is declared if it is new.
     #[tactic(auto, unfolding(crate::specs::Names::declared))]
     pub(crate) fn declare(&mut self, alloc: Global, kind: Kind, name: &str) -> Result<Name, Stop>
@@ -124,7 +113,8 @@ impl Names {
         if number >= NAMES {
             return Err(Stop::Cause(Cause::TooManyNames));
         }
-        self.append(alloc, kind, name)?;
+        let name = String::from_str(alloc, name)?;
+        self.table.insert(name, kind)?;
         Ok(Name(number as u8))
     }
 

@@ -101,84 +101,43 @@ struct Spelling {
     most: usize,
 }
 
-/// A row of the table.
-fn spelled(word: &'static str, least: usize, most: usize) -> Spelling
-    ensures word { result.word.now ≡ word.now }
-    ensures least { result.least ≡ least }
-    ensures most { result.most ≡ most }
-{
-    Spelling { word, least, most }
-}
-
-/// The table of the statements on where owners point, or on what they own.
-fn place_spelling_of(keyword: PlaceKeyword) -> Spelling
-    ensures word { result.word.now ≡ (spelling_of (Keyword.Place keyword)).word }
-    ensures least { result.least ≡ (spelling_of (Keyword.Place keyword)).least }
-    ensures most { result.most ≡ (spelling_of (Keyword.Place keyword)).most }
-{
-    match keyword {
-        PlaceKeyword::Move => spelled("move", 2, 2),
-        PlaceKeyword::Alias => spelled("alias", 3, 4),
-        PlaceKeyword::This => spelled("this", 2, 2),
-        PlaceKeyword::WeakThis => spelled("wthis", 2, 2),
-        PlaceKeyword::Read => spelled("read", 1, 1),
-        PlaceKeyword::Place => spelled("place", 1, 1),
-        PlaceKeyword::Same => spelled("same", 2, 2),
-        PlaceKeyword::Before => spelled("before", 2, 2),
-    }
-}
-
-/// The table of the statements on a cell.
-fn cell_spelling_of(keyword: CellKeyword) -> Spelling
-    ensures word { result.word.now ≡ (spelling_of (Keyword.Cell keyword)).word }
-    ensures least { result.least ≡ (spelling_of (Keyword.Cell keyword)).least }
-    ensures most { result.most ≡ (spelling_of (Keyword.Cell keyword)).most }
-{
-    match keyword {
-        CellKeyword::Load => spelled("load", 2, 2),
-        CellKeyword::Store => spelled("store", 2, 2),
-        CellKeyword::Exchange => spelled("exchange", 2, 2),
-        CellKeyword::Compare => spelled("compare", 3, 3),
-        CellKeyword::CompareWeak => spelled("compare_weak", 3, 3),
-    }
-}
-
-/// The table of the statements on weak names.
-fn weak_spelling_of(keyword: WeakKeyword) -> Spelling
-    ensures word { result.word.now ≡ (spelling_of (Keyword.Weak keyword)).word }
-    ensures least { result.least ≡ (spelling_of (Keyword.Weak keyword)).least }
-    ensures most { result.most ≡ (spelling_of (Keyword.Weak keyword)).most }
-{
-    match keyword {
-        WeakKeyword::Weak => spelled("weak", 2, 2),
-        WeakKeyword::Copy => spelled("wcopy", 2, 2),
-        WeakKeyword::Empty => spelled("wempty", 1, 1),
-        WeakKeyword::Reset => spelled("wreset", 1, 1),
-        WeakKeyword::Lock => spelled("lock", 2, 2),
-        WeakKeyword::Upgrade => spelled("upgrade", 2, 2),
-        WeakKeyword::Count => spelled("wcount", 1, 1),
-        WeakKeyword::Expired => spelled("expired", 1, 1),
-    }
-}
-
 /// The table of the statements.
 fn spelling_of(keyword: Keyword) -> Spelling
     ensures word { result.word.now ≡ (spelling_of keyword).word }
     ensures least { result.least ≡ (spelling_of keyword).least }
     ensures most { result.most ≡ (spelling_of keyword).most }
 {
-    match keyword {
-        Keyword::Make => spelled("make", 1, 5),
-        Keyword::MakeThis => spelled("makethis", 1, 5),
-        Keyword::Null => spelled("null", 1, 1),
-        Keyword::Empty => spelled("empty", 1, 1),
-        Keyword::Reset => spelled("reset", 1, 1),
-        Keyword::Copy => spelled("copy", 2, 2),
-        Keyword::Count => spelled("count", 1, 1),
-        Keyword::Place(keyword) => place_spelling_of(keyword),
-        Keyword::Cell(keyword) => cell_spelling_of(keyword),
-        Keyword::Weak(keyword) => weak_spelling_of(keyword),
-    }
+    let (word, least, most) = match keyword {
+        Keyword::Make => ("make", 1, 5),
+        Keyword::MakeThis => ("makethis", 1, 5),
+        Keyword::Null => ("null", 1, 1),
+        Keyword::Empty => ("empty", 1, 1),
+        Keyword::Reset => ("reset", 1, 1),
+        Keyword::Copy => ("copy", 2, 2),
+        Keyword::Count => ("count", 1, 1),
+        Keyword::Place(PlaceKeyword::Move) => ("move", 2, 2),
+        Keyword::Place(PlaceKeyword::Alias) => ("alias", 3, 4),
+        Keyword::Place(PlaceKeyword::This) => ("this", 2, 2),
+        Keyword::Place(PlaceKeyword::WeakThis) => ("wthis", 2, 2),
+        Keyword::Place(PlaceKeyword::Read) => ("read", 1, 1),
+        Keyword::Place(PlaceKeyword::Place) => ("place", 1, 1),
+        Keyword::Place(PlaceKeyword::Same) => ("same", 2, 2),
+        Keyword::Place(PlaceKeyword::Before) => ("before", 2, 2),
+        Keyword::Cell(CellKeyword::Load) => ("load", 2, 2),
+        Keyword::Cell(CellKeyword::Store) => ("store", 2, 2),
+        Keyword::Cell(CellKeyword::Exchange) => ("exchange", 2, 2),
+        Keyword::Cell(CellKeyword::Compare) => ("compare", 3, 3),
+        Keyword::Cell(CellKeyword::CompareWeak) => ("compare_weak", 3, 3),
+        Keyword::Weak(WeakKeyword::Weak) => ("weak", 2, 2),
+        Keyword::Weak(WeakKeyword::Copy) => ("wcopy", 2, 2),
+        Keyword::Weak(WeakKeyword::Empty) => ("wempty", 1, 1),
+        Keyword::Weak(WeakKeyword::Reset) => ("wreset", 1, 1),
+        Keyword::Weak(WeakKeyword::Lock) => ("lock", 2, 2),
+        Keyword::Weak(WeakKeyword::Upgrade) => ("upgrade", 2, 2),
+        Keyword::Weak(WeakKeyword::Count) => ("wcount", 1, 1),
+        Keyword::Weak(WeakKeyword::Expired) => ("expired", 1, 1),
+    };
+    Spelling { word, least, most }
 }
 
 fn is_spelled(keyword: Keyword, word: &[u8]) -> bool
