@@ -5,7 +5,7 @@ use crate::place::{Block, Place};
 use std::collections::LinkedList;
 
 /// A cell: free-standing, or a member of an object (0 first, 1 next, 2 up).
-#[derive(Clone, Copy, PartialEq, Eq, Debug, Drop)]
+#[derive(Clone, Copy, Drop)]
 pub enum Cell {
     Free(u64),
     Member { object: u64, member: u64 },

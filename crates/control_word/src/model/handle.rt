@@ -10,7 +10,7 @@ pub enum Kind {
 }
 
 /// A shared or weak pointer value: its kind, the number of its object if it has one, and its place.
-#[derive(Clone, Copy, PartialEq, Eq, Debug, Drop)]
+#[derive(Clone, Copy, Drop)]
 pub struct Handle {
     pub kind: Kind,
     pub object: Option<u64>,
