@@ -1,7 +1,9 @@
 -- A thread that puts values into cells fits the table, and its steps are as they are said.
 use Rattle.std.proofs.Common.{◌≡◌, ℕ, ◌-◌, ◌<◌, ◌⊎◌, Bool, true, false, cond, not, ◌&&◌, [], length, refl, sym, ap, subst, ◌∙◌}
-use Rattle.std.proofs.Common.{⊎_elim, arith}
-use Rattle.std.specs.Prelude.{Option, Some, None}
+use Rattle.std.proofs.Common.{⊎_elim, arith, get_or}
+use Rattle.std.proofs.lemmas.List.{get_or_default}
+use Rattle.step_threads.specs.declared.programs.act.Task.{Task}
+use Rattle.std.specs.Prelude.{Option, Some, None, is_some}
 use Rattle.control_word.specs.declared.packed.cell.CellWord.{CellWord}
 use Rattle.control_word.specs.declared.model.handle.Kind.{Kind}
 use Rattle.control_word.specs.declared.model.handle.Kind.TheVariants.{Owner, Weak}
@@ -25,7 +27,7 @@ use Rattle.step_threads.specs.declared.thread.Thread.{Thread}
 use Rattle.step_threads.specs.Actors.{HalfFits, Stocks, claimed, in_store}
 use Rattle.step_table.specs.CellDeeds.{owing_funds}
 use Rattle.step_table.specs.Contents.{is_of}
-use Rattle.step_threads.specs.Courses.{MayComeNext, CourseReady, Going, HasCell, cell_of_name, going_from, hand, idle, is_there, done_on, other}
+use Rattle.step_threads.specs.Courses.{MayComeNext, CourseReady, Going, HasCell, cell_of_name, going_from, hand, idle, is_there, done_on, no_task, other}
 use Rattle.step_threads.specs.Passing.{HasGoneOn}
 use Rattle.step_threads.specs.Courses.{task_at}
 use Rattle.step_table.specs.Deeds.{share_as, on}
@@ -77,6 +79,20 @@ pub going_is : (slots : Slots) (c : CellName) (i : ℕ) → is_there slots c ≡
 going_is slots c i there is =
     ap (λ (b : Bool). cond {A = Option Going} (b && is_of (kind_at c) (slot_value slots i)) (Some (c, i)) None) there
     ∙ ap (λ (b : Bool). cond {A = Option Going} b (Some (c, i)) None) is
+
+-- the act that a thread is at, which it has read
+pub act_here : (c : Course) (x : Task) (a : Act) → c.at < length c.tasks.items → x ≡ get_or c.tasks.items c.at x → x.act ≡ a → (task_at c).act ≡ a
+act_here c x a lt is e = ap (λ (t : Task). t.act) (get_or_default c.tasks.items c.at no_task x lt ∙ sym is) ∙ e
+
+-- what goes into a cell may
+pub going_parts : (slots : Slots) (c : CellName) (i : ℕ) → is_some (going_from slots c i) ≡ true
+    → (is_there slots c ≡ true) × (is_of (kind_at c) (slot_value slots i) ≡ true)
+going_parts slots c i = go (is_there slots c) (is_of (kind_at c) (slot_value slots i))
+  where
+    go : (a b : Bool) → is_some (cond {A = Option Going} (a && b) (Some (c, i)) None) ≡ true → (a ≡ true) × (b ≡ true)
+    go true true e = (refl, refl)
+    go true false e = cc
+    go false b e = cc
 
 pub drop_empty : (c : Course) → c.at < length c.tasks.items → CourseReady c → (task_at c).act ≡ Drop → c.taken ≡ false
 drop_empty c lt ready act =

@@ -1,14 +1,21 @@
-use Rattle.std.proofs.lemmas.Grind.{common_steps}
-use Rattle.std.proofs.Common.{arith}
-use Rattle.std.proofs.Common.{sym, subst, ap, ◌∙◌}
+use Rattle.std.proofs.Common.{sym, subst, ap, ◌∙◌, ◌≡◌, ◌&&◌, Bool, true, cond, set, refl}
 use Rattle.control_word.specs.declared.model.handle.Kind.{Kind}
-use Rattle.step_table.specs.Contents.{as_word}
+use Rattle.step_table.specs.Contents.{as_word, is_of}
 use Rattle.step_threads.specs.Passing.{HasGoneOn}
 use Rattle.step_table.specs.Holdings.{slot_value}
-use Rattle.step_threads.specs.Steps.{gives_back}
-use Rattle.step_table.specs.Stories.{Story}
+use Rattle.step_threads.specs.Steps.{gives_back, silent}
+use Rattle.step_table.specs.Stories.{Story, story_state}
 use Rattle.step_threads.specs.Threads.{FitsThread}
-use Rattle.step_threads.proofs.StoreFits.{cell_of_exchange, fits_swapped}
+use Rattle.step_threads.proofs.StoreFits.{cell_of_exchange, fits_swapped, going_is}
+use Rattle.step_threads.specs.declared.said.Said.{Said}
+use Rattle.step_threads.specs.declared.said.Stepped.TheVariants.{Event}
+use Rattle.step_threads.specs.Courses.{rest, task_at, walk_settled}
+use Rattle.step_threads.specs.Programs.{kind_at}
+use Rattle.step_threads.specs.Rows.{may_go}
+use Rattle.step_threads.specs.Scenes.{came}
+use Rattle.step_threads.proofs.StoreSteps.{swapped_here}
+use Rattle.step_threads.specs.declared.programs.act.Act.TheVariants.{Exchange}
+use Rattle.step_threads.proofs.Named.{refusal_none, told_as}
 use Rattle.step_threads.proofs.thread.Thread.exchange.Goals as goal
 
 pub returns-clause-fits : goal.returns-clause-fits
@@ -28,4 +35,22 @@ returns-clause-fits c =
     (c.returning-self.ensures ∙ ap (λ (k : Kind). gives_back k n found found.owned) c.kind.ensures))
 
 pub returns-clause-stepped : goal.returns-clause-stepped
-returns-clause-stepped c = grind (arith, common_steps)
+returns-clause-stepped c =
+    let d = c.args.desk in
+    let t = c.args.self.now in
+    let v = c.args.table.now in
+    let r = c.requires in
+    let slots = t.course.holdings.slots.items in
+    let cell = c.args.cell in
+    let n = (task_at t.course).statement in
+    let x = c.exchange-found.result in
+    let on = c.exchange-found.ensures in
+    let fit : may_go slots cell c.args.name ≡ true = ap (λ (b : Bool). b && is_of (kind_at cell) (slot_value slots c.args.name)) r.there ∙ r.kind in
+    swapped_here d t v (Exchange c.args.name c.args.cell) cell c.args.name r.none r.within r.act refl x _ _ _ _ r.fits r.half (going_is slots cell
+    c.args.name r.there r.kind) r.owes refl
+    on.found (sym (ap (told_as n) (refusal_none slots cell r.there)))
+    (ap (λ (s : Said). Event s) (c.silent.ensures ∙ ap silent c.statement-statement.ensures)) on.table
+    (on.walk ∙ sym (ap (λ (b : Bool). walk_settled (cond b (set slots c.args.name (came (story_state v) slots cell)) slots) t.course.taken
+    t.course.endings.list (rest t.course)) fit))
+    (c.returning-self.ensures ∙ ap (λ (q : Kind). gives_back q c.statement-statement.result x x.owned) c.kind.ensures
+    ∙ ap (λ m. gives_back (kind_at cell) m x x.owned) c.statement-statement.ensures)
