@@ -1,5 +1,5 @@
-use Rattle.std.proofs.Common.{◌∙◌, Bool, cond, sym, ap, subst}
-use Rattle.std.proofs.lemmas.Bool.{eqb-true}
+use Rattle.std.proofs.Common.{◌∙◌, Bool, cond, sym, ap, subst, refl}
+use Rattle.std.proofs.lemmas.Bool.{eqb-true, cond-true, cond-false, false≢true}
 use Rattle.step_table.specs.declared.cell_steps.cell_deed.CellDeed.TheVariants.{CompareSwap}
 use Rattle.step_table.specs.declared.cell_steps.cell_deed.Compared.{Compared}
 use Rattle.step_table.specs.declared.memory.past.Deed.TheVariants.{OnCell}
@@ -74,3 +74,28 @@ returns-clause-holds c =
     (holds_compared d l v m.new c.args.cell c.args.seen c.requires.holds found c.requires.compare.kinds.1 c.requires.compare.new m.other
     c.requires.compare.other
     c.requires.compare.apart c.requires.compare.empty c.compared-compared.result (ap (λ (q : Compared). q.new) c.compared-compared.ensures)))
+
+pub returns-then-not-compare_and_swap-clause-same : goal.returns-then-not-compare_and_swap-clause-same
+returns-then-not-compare_and_swap-clause-same c = sym c.if-not-compare_and_swap.true ∙ c.compare_and_swap.ensures.same
+
+pub returns-then-not-compare_and_swap-clause-table : goal.returns-then-not-compare_and_swap-clause-table
+returns-then-not-compare_and_swap-clause-table c = c.compare_and_swap.ensures.after ∙ cond-false c.compare_and_swap.result _ _ c.if-not-compare_and_swap.true
+
+pub returns-then-not-compare_and_swap-clause-stays : goal.returns-then-not-compare_and_swap-clause-stays
+returns-then-not-compare_and_swap-clause-stays c = λ q. refl
+
+pub returns-then-not-compare_and_swap-clause-holds : goal.returns-then-not-compare_and_swap-clause-holds
+returns-then-not-compare_and_swap-clause-holds c =
+    subst (λ (u : Story). HoldsBag c.args.desk c.args.self.now.slots.items u)
+    (sym (c.compare_and_swap.ensures.after ∙ cond-false c.compare_and_swap.result _ _ c.if-not-compare_and_swap.true)) c.requires.holds
+
+pub returns-clause-same : goal.returns-clause-same
+returns-clause-same c = sym c.if-not-compare_and_swap.false ∙ c.compare_and_swap.ensures.same
+
+pub returns-clause-table : goal.returns-clause-table
+returns-clause-table c =
+    c.compare_and_swap.ensures.after ∙ cond-true c.compare_and_swap.result _ _ c.if-not-compare_and_swap.false
+    ∙ ap (λ (y : Compared). story_after_deed c.args.table.now c.args.desk (OnCell (CompareSwap c.args.cell c.args.seen y))) c.compared-compared.ensures
+
+pub returns-clause-stays : goal.returns-clause-stays
+returns-clause-stays c = λ q. absurd (false≢true (sym q))

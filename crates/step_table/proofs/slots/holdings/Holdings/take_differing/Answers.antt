@@ -1,5 +1,5 @@
-use Rattle.std.proofs.Common.{◌∙◌, Bool, cond, sym, ap, subst}
-use Rattle.std.proofs.lemmas.Bool.{eqb-true}
+use Rattle.std.proofs.Common.{◌∙◌, Bool, cond, sym, ap, subst, refl}
+use Rattle.std.proofs.lemmas.Bool.{eqb-true, cond-true, cond-false, false≢true}
 use Rattle.std.specs.Prelude.{Some}
 use Rattle.step_table.specs.declared.cell_steps.cell_deed.CellDeed.TheVariants.{Take}
 use Rattle.step_table.specs.declared.cell_steps.cell_deed.Compared.{Compared}
@@ -63,3 +63,28 @@ returns-clause-holds c =
     (holds_differed d l v m.new m.other c.args.cell c.args.seen c.compared-compared.result c.requires.holds found c.requires.compare.new
     c.requires.compare.other c.requires.compare.apart
     c.requires.compare.empty))
+
+pub returns-then-not-take_differing-clause-same : goal.returns-then-not-take_differing-clause-same
+returns-then-not-take_differing-clause-same c = sym c.if-not-take_differing.true ∙ c.take_differing.ensures.same
+
+pub returns-then-not-take_differing-clause-table : goal.returns-then-not-take_differing-clause-table
+returns-then-not-take_differing-clause-table c = c.take_differing.ensures.after ∙ cond-false c.take_differing.result _ _ c.if-not-take_differing.true
+
+pub returns-then-not-take_differing-clause-stays : goal.returns-then-not-take_differing-clause-stays
+returns-then-not-take_differing-clause-stays c = λ q. refl
+
+pub returns-then-not-take_differing-clause-holds : goal.returns-then-not-take_differing-clause-holds
+returns-then-not-take_differing-clause-holds c =
+    subst (λ (u : Story). HoldsBag c.args.desk c.args.self.now.slots.items u)
+    (sym (c.take_differing.ensures.after ∙ cond-false c.take_differing.result _ _ c.if-not-take_differing.true)) c.requires.holds
+
+pub returns-clause-same : goal.returns-clause-same
+returns-clause-same c = sym c.if-not-take_differing.false ∙ c.take_differing.ensures.same
+
+pub returns-clause-table : goal.returns-clause-table
+returns-clause-table c =
+    c.take_differing.ensures.after ∙ cond-true c.take_differing.result _ _ c.if-not-take_differing.false
+    ∙ ap (λ (y : Compared). story_after_deed c.args.table.now c.args.desk (OnCell (Take c.args.cell c.args.seen (Some y)))) c.compared-compared.ensures
+
+pub returns-clause-stays : goal.returns-clause-stays
+returns-clause-stays c = λ q. absurd (false≢true (sym q))

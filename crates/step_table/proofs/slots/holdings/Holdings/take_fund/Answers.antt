@@ -1,5 +1,5 @@
-use Rattle.std.proofs.Common.{◌∙◌, Bool, cond, set, ap, sym, subst}
-use Rattle.std.proofs.lemmas.Bool.{eqb-true}
+use Rattle.std.proofs.Common.{◌∙◌, Bool, cond, set, ap, sym, subst, refl}
+use Rattle.std.proofs.lemmas.Bool.{eqb-true, cond-true, cond-false, false≢true}
 use Rattle.std.specs.Prelude.{None}
 use Rattle.step_table.specs.declared.cell_steps.cell_deed.CellDeed.TheVariants.{Take}
 use Rattle.step_table.specs.declared.memory.past.Deed.TheVariants.{OnCell}
@@ -37,3 +37,27 @@ returns-clause-holds c =
     subst (λ (x : Slot). HoldsBag d (set slots c.args.to x) c.take_fund.new.self) (sym y)
     (subst (λ (u : Story). HoldsBag d (set slots c.args.to (slot_of (story_state v) (held_in (story_state v) c.args.cell))) u) (sym t)
     (holds_taken d slots v c.args.to c.args.cell c.args.seen c.requires.holds found c.requires.inside c.requires.empty None))
+
+pub returns-then-not-take_fund-clause-same : goal.returns-then-not-take_fund-clause-same
+returns-then-not-take_fund-clause-same c = sym c.if-not-take_fund.true ∙ c.take_fund.ensures.same
+
+pub returns-then-not-take_fund-clause-table : goal.returns-then-not-take_fund-clause-table
+returns-then-not-take_fund-clause-table c = c.take_fund.ensures.after ∙ cond-false c.take_fund.result _ _ c.if-not-take_fund.true
+
+pub returns-then-not-take_fund-clause-stays : goal.returns-then-not-take_fund-clause-stays
+returns-then-not-take_fund-clause-stays c = λ q. refl
+
+pub returns-then-not-take_fund-clause-holds : goal.returns-then-not-take_fund-clause-holds
+returns-then-not-take_fund-clause-holds c =
+    subst (λ (u : Story). HoldsBag c.args.desk c.args.self.now.slots.items u)
+    (sym (c.take_fund.ensures.after ∙ cond-false c.take_fund.result _ _ c.if-not-take_fund.true)) c.requires.holds
+
+pub returns-clause-same : goal.returns-clause-same
+returns-clause-same c = sym c.if-not-take_fund.false ∙ c.take_fund.ensures.same
+
+pub returns-clause-table : goal.returns-clause-table
+returns-clause-table c =
+    c.take_fund.ensures.after ∙ cond-true c.take_fund.result _ _ c.if-not-take_fund.false
+
+pub returns-clause-stays : goal.returns-clause-stays
+returns-clause-stays c = λ q. absurd (false≢true (sym q))
