@@ -1,5 +1,5 @@
-use Rattle.std.proofs.Common.{◌∙◌, Bool, cond, set, sym, ap, subst}
-use Rattle.std.proofs.lemmas.Bool.{cond-false}
+use Rattle.std.proofs.Common.{◌∙◌, Bool, cond, set, sym, ap, subst, refl}
+use Rattle.std.proofs.lemmas.Bool.{cond-false, cond-true, false≢true}
 use Rattle.std.specs.Prelude.{None, is_some}
 use Rattle.step_table.specs.declared.cell_steps.cell_deed.CellDeed.TheVariants.{Look}
 use Rattle.step_table.specs.declared.memory.past.Deed.TheVariants.{OnCell}
@@ -49,3 +49,18 @@ returns-clause-holds c =
     subst (λ (z : Slot). HoldsBag d (set slots c.args.to z) c.look_cell-found.new.self) (sym y)
     (subst (λ (u : Story). HoldsBag d (set slots c.args.to (slot_of (story_state v) (held_in (story_state v) c.args.cell))) u) (sym t)
     (holds_seen d slots v c.args.to c.args.cell x c.requires.holds found c.requires.inside c.requires.empty None))
+
+pub returns-then-is_some-clause-slots : goal.returns-then-is_some-clause-slots
+returns-then-is_some-clause-slots c =
+    sym (cond-true (is_some c.look_cell-found.result.owned) _ _ (sym c.is_some.ensures ∙ c.if-is_some.true))
+
+pub returns-then-is_some-clause-stays : goal.returns-then-is_some-clause-stays
+returns-then-is_some-clause-stays c = λ q. refl
+
+pub returns-clause-stays : goal.returns-clause-stays
+returns-clause-stays c = λ q. absurd (false≢true (sym (sym c.is_some.ensures ∙ c.if-is_some.false) ∙ q))
+
+pub returns-then-is_some-clause-holds : goal.returns-then-is_some-clause-holds
+returns-then-is_some-clause-holds c =
+    subst (λ (u : Story). HoldsBag c.args.desk c.args.self.now.slots.items u)
+    (sym (c.look_cell-found.ensures.after ∙ cond-true (is_some c.look_cell-found.result.owned) _ _ (sym c.is_some.ensures ∙ c.if-is_some.true))) c.requires.holds
