@@ -1,5 +1,6 @@
 -- A handle that comes to a desk for a slot, and goes into it.
-use Rattle.std.specs.Prelude.{◌≡◌, ℕ, ◌+◌, ◌<◌, Bool, false, true, List, [], ◌∷◌, length, slice_get, Option, None, Some, Result, Ok, Err}
+use Rattle.std.specs.Prelude.{◌≡◌, ℕ, ◌+◌, ◌<◌, Bool, false, true, List, [], ◌∷◌}
+use Rattle.std.specs.Prelude.{length, slice_get, Option, None, Some, Result, Ok, Err}
 use Rattle.control_word.specs.declared.place.Place.{Place}
 use Rattle.control_block.specs.Desks.{DeskNow, DomainNow}
 use Rattle.control_block.specs.declared.handles.Held.{Held}
@@ -29,7 +30,8 @@ module _ {V : Type 0} where
   beside_pile d ss = record { desk = d; slots = ss; endings = [] }
 
   -- a handle came to the desk as told, and is in hand; there is the slot for it
-  pub record Brings (came : Coming V) (d : DeskNow V) (ss : List Slot) (to : ℕ) (h : Held) (e : DeskNow V) : Type 0 where
+  pub record Brings (came : Coming V) (d : DeskNow V) (ss : List Slot) (to : ℕ) (h : Held)
+      (e : DeskNow V) : Type 0 where
     pub there : to < length ss
     pub comes : came d h e
     pub fits : FitsSlots e (Some h ∷ ss)

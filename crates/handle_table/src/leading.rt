@@ -54,7 +54,8 @@ fn lead_once<
     table: &mut HandleTable<'d, V, H>,
     leader: &mut P,
 ) -> Option<Manned>
-    ensures started { IfSome result (λ manned. StartsTeam P.leads leader.old before table.old manned leader.new table.new) }
+    ensures started { IfSome result
+        (λ manned. StartsTeam P.leads leader.old before table.old manned leader.new table.new) }
     ensures over { IfNone result (P.leads leader.old before table.old None leader.new table.new) }
 {
     match leader.lead::<H>(rt, before, table) {

@@ -1,19 +1,18 @@
 //! Workers with a state of their own over a domain of their own, with a table for each.
-ghost use Rattle.std.specs.Prelude.{◌≡◌, ◌⊎◌, ◌↔◌, ◌≤◌, [], All, length, map, reverse};
-ghost use Rattle.std.specs.Prelude.{vec_capacity};
+ghost use Rattle.std.specs.Prelude.{◌≡◌, ◌⊎◌, ◌↔◌, [], length};
 ghost use Rattle.std.specs.Prelude.{IfErr, IfNone, IfOk, IfSome};
-ghost use Rattle.std.specs.List.{AllZip};
 ghost use Rattle.control_word.specs.Layout.{IsWithinLimits};
 ghost use Rattle.control_block.specs.Desks.{IsFirstDesk, Belongs, DeskNow, endings_of};
 ghost use Rattle.shared_handle.specs.Piles.{Bears};
 ghost use Rattle.handle_table.specs.Parting.{IsRefusedPart};
-ghost use Rattle.handle_table.specs.Staffs.{CanShare, EachDoes, HasShares, IsParted, KeepsAllowance, Shifts};
+ghost use Rattle.handle_table.specs.Staffs.{CanShare, HasShares, IsParted, KeepsAllowance, Shifts};
 ghost use Rattle.handle_table.specs.Staffs.{Staffs, StaffsIn, StaffsOpen, StaffsOut};
 ghost use Rattle.handle_table.specs.Tables.{AllVacant, FitsSlots, on_pile};
 
 use crate::closing::{close_bare, close_sole, keep_sole};
 use crate::opening::{Opened, open_domain};
 use crate::program::{Crew, Team, first_table};
+use crate::staff::posts::worked;
 use crate::table::{HandleTable, Home};
 use control_block::census::Census;
 use control_block::desk::Desk;
@@ -23,7 +22,9 @@ use shared_handle::{Held, Pile};
 use std::alloc::Global;
 use std::marker::Brand;
 use std::sync::Wait;
-use std::thread::{Threads, for_each_mut};
+use std::thread::Threads;
+
+mod posts;
 
 /// What a worker with a state of its own does, in a thread with a table of its own. `does` says what comes of it: by
 /// the worker and its table before and after. A worker that gives no such member says nothing.
@@ -42,94 +43,6 @@ pub struct Share {
     pub slots: usize,
     pub allowance: u32,
     pub blocks: u32,
-}
-
-/// A worker with its table.
-struct Post<'d, V: Drop + Send, H: Home, W> {
-    worker: W,
-    table: HandleTable<'d, V, H>,
-}
-
-/// Each worker is with the table of its number.
-fn man<'d, V: Drop + Send, H: Home, W>(
-    tables: &mut Vec<HandleTable<'d, V, H>>,
-    workers: &mut Vec<W>,
-    posts: &mut Vec<Post<'d, V, H, W>>,
-)
-    requires many { length tables.old.items ≡ length workers.old.items }
-    requires room { (posts.old.items ≡ []) × (length workers.old.items ≤ vec_capacity posts.old) }
-    ensures tables { tables.old.items ≡ reverse (map (λ p. p.table) posts.new.items) }
-    ensures workers { workers.old.items ≡ reverse (map (λ p. p.worker) posts.new.items) }
-    ensures none { (tables.new.items ≡ []) × (workers.new.items ≡ []) }
-    ensures room { (vec_capacity tables.new ≡ vec_capacity tables.old)
-        × (vec_capacity workers.new ≡ vec_capacity workers.old) }
-{
-    while let Some(table) = tables.pop() {
-        match workers.pop() {
-            Some(worker) => posts.push_reserved(Post { worker, table }),
-            None => unreachable!(),
-        }
-    }
-}
-
-/// The workers, and the tables that they leave.
-fn dismiss<'d, V: Drop + Send, H: Home, W>(
-    posts: &mut Vec<Post<'d, V, H, W>>,
-    tables: &mut Vec<HandleTable<'d, V, H>>,
-    workers: &mut Vec<W>,
-)
-    requires tables { (tables.old.items ≡ []) × (length posts.old.items ≤ vec_capacity tables.old) }
-    requires workers { (workers.old.items ≡ []) × (length posts.old.items ≤ vec_capacity workers.old) }
-    ensures tables { tables.new.items ≡ reverse (map (λ p. p.table) posts.old.items) }
-    ensures workers { workers.new.items ≡ reverse (map (λ p. p.worker) posts.old.items) }
-    ensures none { posts.new.items ≡ [] }
-{
-    while let Some(post) = posts.pop() {
-        let Post { worker, table } = post;
-        tables.push_reserved(table);
-        workers.push_reserved(worker);
-    }
-}
-
-/// Each worker works, in a thread with its table.
-fn post_all<
-    'd,
-    V: Drop + Send,
-    H: Home + Send + Sync,
-    R: Threads + Wait + Sync,
-    W: Work<V, R> + Send,
->(rt: &R, posts: &mut Vec<Post<'d, V, H, W>>, threads: usize)
-    ensures { AllZip (λ p q. W.does p.worker p.table q.worker q.table) posts.old.items posts.new.items }
-{
-    let work = |_: usize, post: &mut Post<'_, V, H, W>|
-        ensures { W.does post.old.worker post.old.table post.new.worker post.new.table }
-    { post.worker.work::<H>(rt, &mut post.table) };
-    for_each_mut(rt, posts.as_mut_slice(), threads.max(1), &work);
-}
-
-/// Each worker works, in a thread with the table of its number.
-fn worked<
-    'd,
-    V: Drop + Send,
-    H: Home + Send + Sync,
-    R: Threads + Wait + Sync,
-    W: Work<V, R> + Send,
->(
-    rt: &R,
-    tables: &mut Vec<HandleTable<'d, V, H>>,
-    workers: &mut Vec<W>,
-    posts: Vec<Post<'d, V, H, W>>,
-)
-    requires many { length tables.old.items ≡ length workers.old.items }
-    requires room { (posts.items ≡ []) × (length workers.old.items ≤ vec_capacity posts) }
-    ensures { EachDoes W.does workers.old.items tables.old.items workers.new.items tables.new.items }
-{
-    let threads = workers.len();
-    let mut posts = posts;
-    man(tables, workers, &mut posts);
-    post_all::<V, H, R, W>(rt, &mut posts, threads);
-    dismiss(&mut posts, tables, workers);
-    posts.destroy_empty();
 }
 
 impl<'d, V: Drop + Send, H: Home + Send + Sync> HandleTable<'d, V, H> {

@@ -1,8 +1,9 @@
 //! Compare-and-swap of cells.
 ghost use Rattle.std.specs.Prelude.{◌≡◌, ◌<◌, ◌∷◌, true, false, length, slice_set, IfErr, IfOk, None};
 ghost use Rattle.std.specs.Prelude.{Some};
+ghost use Rattle.control_block.specs.Desks.{Belongs};
 ghost use Rattle.shared_handle.specs.Piles.{Bears};
-ghost use Rattle.handle_table.specs.Compares.{ComparesSlots, FollowsCompare, WhyNotCompared};
+ghost use Rattle.handle_table.specs.Compares.{ComparesSlots, FollowsCompare, IsCompared, WhyNotCompared};
 ghost use Rattle.handle_table.specs.Tables.{FitsSlots, on_pile};
 
 use crate::cells::held::{Form, Spurious, Strong, compare_held};
@@ -57,6 +58,39 @@ fn follow<V: Drop + Send>(
     assign(domain, desk, slots, pile, expected, found);
 }
 
+/// The cell is compared with what the one slot has, to get what the other has: whether it was swapped, and what it
+/// held, or a copy of that.
+fn compare_slots<V: Drop + Send, F: Form, R: Wait>(
+    rt: &R,
+    domain: &Domain<V>,
+    desk: &mut Desk<V>,
+    slots: &Vec<Option<Held>>,
+    cell: Cell,
+    expected: usize,
+    desired: usize,
+) -> Result<(bool, Held), Fault>
+    requires domain { Belongs desk.old domain.now }
+    requires fits { FitsSlots desk.old slots.now.items }
+    ensures { IsCompared F.weak desk.old slots.now.items cell expected desired result desk.new }
+{
+    let at = match find(domain, desk, slots, cell) {
+        Ok(at) => at,
+        Err(why) => return Err(why),
+    };
+    let there = match content_at(slots, expected, at.kind) {
+        Ok(there) => there,
+        Err(why) => return Err(why),
+    };
+    let new = match content_at(slots, desired, at.kind) {
+        Ok(new) => new,
+        Err(why) => return Err(why),
+    };
+    match compare_held::<V, F, R>(rt, domain, desk, at, there, new) {
+        Ok(compared) => Ok(compared),
+        Err(why) => Err(Fault::Call(why)),
+    }
+}
+
 impl<'d, V: Drop + Send, H: Home> HandleTable<'d, V, H> {
     /// Either of the two, whether the cell was swapped.
     fn compare<F: Form, R: Wait>(
@@ -71,19 +105,15 @@ impl<'d, V: Drop + Send, H: Home> HandleTable<'d, V, H> {
         ensures refused { IfErr result
             (λ why. WhyNotCompared self.old cell expected desired why × (self.new ≡ self.old)) }
     {
-        let at = match find(self.domain, &self.desk, &self.slots, cell) {
-            Ok(at) => at,
-            Err(why) => return Err(why),
-        };
-        let there = match content_at(&self.slots, expected, at.kind) {
-            Ok(there) => there,
-            Err(why) => return Err(why),
-        };
-        let new = match content_at(&self.slots, desired, at.kind) {
-            Ok(new) => new,
-            Err(why) => return Err(why),
-        };
-        match compare_held::<V, F, R>(rt, self.domain, &mut self.desk, at, there, new) {
+        match compare_slots::<V, F, R>(
+            rt,
+            self.domain,
+            &mut self.desk,
+            &self.slots,
+            cell,
+            expected,
+            desired,
+        ) {
             Ok(compared) => {
                 let (swapped, found) = compared;
                 follow(
@@ -98,7 +128,7 @@ impl<'d, V: Drop + Send, H: Home> HandleTable<'d, V, H> {
                 );
                 Ok(swapped)
             }
-            Err(why) => Err(Fault::Call(why)),
+            Err(why) => Err(why),
         }
     }
 

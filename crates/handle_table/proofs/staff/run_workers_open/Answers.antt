@@ -63,19 +63,34 @@ pub returns-in-Err-clause-parted : goal.returns-in-Err-clause-parted
 returns-in-Err-clause-parted g c = λ is. absurd (never_sole c.in-Err.why c.in-Err.ensures.refused is)
 
 pub returns-in-Some-clause-shape : goal.returns-in-Some-clause-shape
-returns-in-Some-clause-shape g c = part_shape c.args.shape c.in-Some.why (refused (λ w. IsRefusedPart w × (c.staff_in-desk.new.workers.items ≡ c.args.workers.now.items)) c.in-Some.why c.in-Some.is c.staff_in-desk.ensures.refused).0 c.in-Ok.ensures.within
+returns-in-Some-clause-shape g c =
+    let r = refused (λ w. IsRefusedPart w × (c.staff_in-desk.new.workers.items ≡ c.args.workers.now.items)) c.in-Some.why c.in-Some.is
+    c.staff_in-desk.ensures.refused in
+    part_shape c.args.shape c.in-Some.why r.0 c.in-Ok.ensures.within
 
 pub returns-in-Some-clause-refused : goal.returns-in-Some-clause-refused
-returns-in-Some-clause-refused g c = inr (inr (refused (λ w. IsRefusedPart w × (c.staff_in-desk.new.workers.items ≡ c.args.workers.now.items)) c.in-Some.why c.in-Some.is c.staff_in-desk.ensures.refused).0)
+returns-in-Some-clause-refused g c =
+    let r = refused (λ w. IsRefusedPart w × (c.staff_in-desk.new.workers.items ≡ c.args.workers.now.items)) c.in-Some.why c.in-Some.is
+    c.staff_in-desk.ensures.refused in
+    inr (inr r.0)
 
 pub returns-in-Some-clause-sole : goal.returns-in-Some-clause-sole
-returns-in-Some-clause-sole g c = λ keeps is. part_sole c.in-Some.why (refused (λ w. IsRefusedPart w × (c.staff_in-desk.new.workers.items ≡ c.args.workers.now.items)) c.in-Some.why c.in-Some.is c.staff_in-desk.ensures.refused).0 is
+returns-in-Some-clause-sole g c =
+    let r = refused (λ w. IsRefusedPart w × (c.staff_in-desk.new.workers.items ≡ c.args.workers.now.items)) c.in-Some.why c.in-Some.is
+    c.staff_in-desk.ensures.refused in
+    λ keeps is. part_sole c.in-Some.why r.0 is
 
 pub returns-in-Some-clause-kept : goal.returns-in-Some-clause-kept
-returns-in-Some-clause-kept g c = inr (refused (λ w. IsRefusedPart w × (c.staff_in-desk.new.workers.items ≡ c.args.workers.now.items)) c.in-Some.why c.in-Some.is c.staff_in-desk.ensures.refused).1
+returns-in-Some-clause-kept g c =
+    let r = refused (λ w. IsRefusedPart w × (c.staff_in-desk.new.workers.items ≡ c.args.workers.now.items)) c.in-Some.why c.in-Some.is
+    c.staff_in-desk.ensures.refused in
+    inr r.1
 
 pub returns-in-Some-clause-parted : goal.returns-in-Some-clause-parted
-returns-in-Some-clause-parted g c = λ is. absurd (part_sole c.in-Some.why (refused (λ w. IsRefusedPart w × (c.staff_in-desk.new.workers.items ≡ c.args.workers.now.items)) c.in-Some.why c.in-Some.is c.staff_in-desk.ensures.refused).0 is)
+returns-in-Some-clause-parted g c =
+    let r = refused (λ w. IsRefusedPart w × (c.staff_in-desk.new.workers.items ≡ c.args.workers.now.items)) c.in-Some.why c.in-Some.is
+    c.staff_in-desk.ensures.refused in
+    λ is. absurd (part_sole c.in-Some.why r.0 is)
 
 pub returns-in-Some-clause-shared : goal.returns-in-Some-clause-shared
 returns-in-Some-clause-shared g c = λ has.

@@ -8,7 +8,8 @@ use Rattle.handle_table.proofs.Wholes.{kept}
 use Rattle.handle_table.proofs.handles.copying.weak_from.Goals as goal
 
 pub downgrade-requires-clause-holds : goal.downgrade-requires-clause-holds
-downgrade-requires-clause-holds g c κs within = fits_at c.args.desk.now c.args.slots.now.items c.args.from (Owner c.in-Ok.owner.now) c.requires.fits c.in-Ok.ensures.found
+downgrade-requires-clause-holds g c κs within =
+    fits_at c.args.desk.now c.args.slots.now.items c.args.from (Owner c.in-Ok.owner.now) c.requires.fits c.in-Ok.ensures.found
 
 pub returns-then-to-len : goal.returns-then-to-len
 returns-then-to-len g c = (inl (refl, omega arith), refl)
@@ -19,8 +20,13 @@ returns-in-Ok-downgrade g c =
     let h = c.in-Ok-downgrade.weak in
     record {
       there = omega arith;
-      comes = (c.in-Ok.owner.now, c.in-Ok.ensures.found, record { weak = h; is = refl; event = (e.handle.0, e.handle.1, e.event) });
-      fits = fits_more d m ss (Weak h) c.requires.fits (e.bag ∙ weakly (bag_of d) h c.in-Ok.owner.now.block c.in-Ok.owner.now.place e.handle.0 e.handle.1) e.held;
+      comes = (
+        c.in-Ok.owner.now,
+        c.in-Ok.ensures.found,
+        record { weak = h; is = refl; event = (e.handle.0, e.handle.1, e.event) },
+      );
+      fits = fits_more d m ss (Weak h) c.requires.fits
+          (e.bag ∙ weakly (bag_of d) h c.in-Ok.owner.now.block c.in-Ok.owner.now.place e.handle.0 e.handle.1) e.held;
       bears = λ domain p w. kept domain d m p w e.keeps;
     }
 

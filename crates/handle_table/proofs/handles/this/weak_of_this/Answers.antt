@@ -5,7 +5,8 @@ use Rattle.handle_table.proofs.Wholes.{kept}
 use Rattle.handle_table.proofs.handles.this.weak_of_this.Goals as goal
 
 pub weak_from_this-requires-clause-holds : goal.weak_from_this-requires-clause-holds
-weak_from_this-requires-clause-holds g c κs within = fits_at c.args.desk.now c.args.slots.now.items c.args.of (Owner c.in-Ok.owner.now) c.requires.fits c.in-Ok.ensures.found
+weak_from_this-requires-clause-holds g c κs within =
+    fits_at c.args.desk.now c.args.slots.now.items c.args.of (Owner c.in-Ok.owner.now) c.requires.fits c.in-Ok.ensures.found
 
 pub returns-then-to-len : goal.returns-then-to-len
 returns-then-to-len g c = (inl (refl, omega arith), refl)

@@ -22,7 +22,8 @@ returns-clause-emptied g c =
     let d = c.self.inside.desk in let ss = c.self.inside.slots.items in let t = seen d ss c.self.inside.pile in let m = c.empty_owner-came in
     let a = c.arrive in let u = seen a.new.desk a.new.slots.items a.new.pile in
     subst (λ (x : TableNow g.row.V.Denot). OnOk a.result (EmptiesSlot x c.args.to u)) c.self.view_is
-    (comes (IsEmptyOwner) (WhyNotEmptied t c.args.to) d m.new.desk ss c.args.to m.result a.result a.new.desk a.new.slots.items (on_pile c.self.inside.pile)
+    (comes (IsEmptyOwner) (WhyNotEmptied t c.args.to)
+    d m.new.desk ss c.args.to m.result a.result a.new.desk a.new.slots.items (on_pile c.self.inside.pile)
     (on_pile a.new.pile) m.ensures a.ensures.arrives)
 
 pub returns-clause-refused : goal.returns-clause-refused
@@ -30,5 +31,6 @@ returns-clause-refused g c =
     let d = c.self.inside.desk in let ss = c.self.inside.slots.items in let t = seen d ss c.self.inside.pile in let m = c.empty_owner-came in
     let a = c.arrive in let u = seen a.new.desk a.new.slots.items a.new.pile in
     subst (λ (x : TableNow g.row.V.Denot). IfErr a.result (λ why. WhyNotEmptied x c.args.to why × (u ≡ x))) c.self.view_is
-    (not_brought (IsEmptyOwner) (WhyNotEmptied t c.args.to) d m.new.desk ss c.args.to m.result a.result a.new.desk a.new.slots.items (on_pile c.self.inside.pile)
+    (not_brought (IsEmptyOwner) (WhyNotEmptied t c.args.to)
+    d m.new.desk ss c.args.to m.result a.result a.new.desk a.new.slots.items (on_pile c.self.inside.pile)
     (on_pile a.new.pile) m.ensures a.ensures.arrives)

@@ -10,7 +10,8 @@ use Rattle.handle_table.proofs.table.HandleTable.load.Goals as goal
 pub arrive-requires-clause-bears : goal.arrive-requires-clause-bears
 arrive-requires-clause-bears g c κs within =
     let d = c.self.inside.desk in let ss = c.self.inside.slots.items in let t = seen d ss c.self.inside.pile in let m = c.loaded-came in
-    bears_brought (IsLoaded c.args.cell ss) (WhyNotLoaded t c.args.cell c.args.to) d m.new.desk ss c.args.to m.result c.self.inside.domain.now c.self.inside.pile m.ensures
+    bears_brought (IsLoaded c.args.cell ss) (WhyNotLoaded t c.args.cell c.args.to)
+    d m.new.desk ss c.args.to m.result c.self.inside.domain.now c.self.inside.pile m.ensures
     c.self.invariant.bears
 
 pub arrive-requires-clause-fits : goal.arrive-requires-clause-fits
@@ -24,7 +25,8 @@ returns-clause-loaded g c =
     let a = c.arrive in let u = seen a.new.desk a.new.slots.items a.new.pile in
     subst (λ (x : TableNow g.row.V.Denot). OnOk a.result (LoadsIntoSlot x c.args.cell c.args.to u)) c.self.view_is
     (on_ok_weaker a.result (loads t u c.args.to c.args.cell)
-    (comes (IsLoaded c.args.cell ss) (WhyNotLoaded t c.args.cell c.args.to) d m.new.desk ss c.args.to m.result a.result a.new.desk a.new.slots.items (on_pile c.self.inside.pile)
+    (comes (IsLoaded c.args.cell ss) (WhyNotLoaded t c.args.cell c.args.to)
+    d m.new.desk ss c.args.to m.result a.result a.new.desk a.new.slots.items (on_pile c.self.inside.pile)
     (on_pile a.new.pile) m.ensures a.ensures.arrives))
 
 pub returns-clause-refused : goal.returns-clause-refused
@@ -32,5 +34,6 @@ returns-clause-refused g c =
     let d = c.self.inside.desk in let ss = c.self.inside.slots.items in let t = seen d ss c.self.inside.pile in let m = c.loaded-came in
     let a = c.arrive in let u = seen a.new.desk a.new.slots.items a.new.pile in
     subst (λ (x : TableNow g.row.V.Denot). IfErr a.result (λ why. WhyNotLoaded x c.args.cell c.args.to why × (u ≡ x))) c.self.view_is
-    (not_brought (IsLoaded c.args.cell ss) (WhyNotLoaded t c.args.cell c.args.to) d m.new.desk ss c.args.to m.result a.result a.new.desk a.new.slots.items (on_pile c.self.inside.pile)
+    (not_brought (IsLoaded c.args.cell ss) (WhyNotLoaded t c.args.cell c.args.to)
+    d m.new.desk ss c.args.to m.result a.result a.new.desk a.new.slots.items (on_pile c.self.inside.pile)
     (on_pile a.new.pile) m.ensures a.ensures.arrives)

@@ -12,27 +12,31 @@ use Rattle.handle_table.proofs.table.HandleTable.make_null_from_stock.Goals as g
 pub arrive-requires-clause-bears : goal.arrive-requires-clause-bears
 arrive-requires-clause-bears g c κs within =
     let d = c.self.inside.desk in let ss = c.self.inside.slots.items in let t = seen d ss c.self.inside.pile in let m = c.null_made-came in
-    bears_brought (IsNullMade c.args.value) (λ (r : Returned g.row.V.Denot). WhyNotMade t c.args.to r.why × (r.back ≡ c.args.value)) d m.new.desk ss c.args.to m.result c.self.inside.domain.now c.self.inside.pile m.ensures.brought
+    bears_brought (IsNullMade c.args.value) (λ (r : Returned g.row.V.Denot). WhyNotMade t c.args.to r.why × (r.back ≡ c.args.value))
+    d m.new.desk ss c.args.to m.result c.self.inside.domain.now c.self.inside.pile m.ensures.brought
     c.self.invariant.bears
 
 pub arrive-requires-clause-fits : goal.arrive-requires-clause-fits
 arrive-requires-clause-fits g c κs within =
     let d = c.self.inside.desk in let ss = c.self.inside.slots.items in let t = seen d ss c.self.inside.pile in let m = c.null_made-came in
-    fits_brought (IsNullMade c.args.value) (λ (r : Returned g.row.V.Denot). WhyNotMade t c.args.to r.why × (r.back ≡ c.args.value)) d m.new.desk ss c.args.to m.result m.ensures.brought c.self.invariant.fits
+    fits_brought (IsNullMade c.args.value) (λ (r : Returned g.row.V.Denot). WhyNotMade t c.args.to r.why × (r.back ≡ c.args.value))
+    d m.new.desk ss c.args.to m.result m.ensures.brought c.self.invariant.fits
 
 pub returns-clause-made : goal.returns-clause-made
 returns-clause-made g c =
     let d = c.self.inside.desk in let ss = c.self.inside.slots.items in let t = seen d ss c.self.inside.pile in let m = c.null_made-came in
     let a = c.arrive in let u = seen a.new.desk a.new.slots.items a.new.pile in
     subst (λ (x : TableNow g.row.V.Denot). OnOk a.result (MakesNull x c.args.to c.args.value u)) c.self.view_is
-    (comes (IsNullMade c.args.value) (λ (r : Returned g.row.V.Denot). WhyNotMade t c.args.to r.why × (r.back ≡ c.args.value)) d m.new.desk ss c.args.to m.result a.result a.new.desk a.new.slots.items (on_pile c.self.inside.pile)
+    (comes (IsNullMade c.args.value) (λ (r : Returned g.row.V.Denot). WhyNotMade t c.args.to r.why × (r.back ≡ c.args.value))
+    d m.new.desk ss c.args.to m.result a.result a.new.desk a.new.slots.items (on_pile c.self.inside.pile)
     (on_pile a.new.pile) m.ensures.brought a.ensures.arrives)
 
 pub returns-clause-full : goal.returns-clause-full
 returns-clause-full g c = λ none.
     let d = c.self.inside.desk in let ss = c.self.inside.slots.items in let t = seen d ss c.self.inside.pile in let m = c.null_made-came in
     let a = c.arrive in
-    err_stays (IsNullMade c.args.value) (λ (r : Returned g.row.V.Denot). WhyNotMade t c.args.to r.why × (r.back ≡ c.args.value)) d m.new.desk ss c.args.to m.result a.result a.new.desk a.new.slots.items (on_pile c.self.inside.pile)
+    err_stays (IsNullMade c.args.value) (λ (r : Returned g.row.V.Denot). WhyNotMade t c.args.to r.why × (r.back ≡ c.args.value))
+    d m.new.desk ss c.args.to m.result a.result a.new.desk a.new.slots.items (on_pile c.self.inside.pile)
     (on_pile a.new.pile) a.ensures.arrives (m.ensures.full (ap (λ (x : TableNow g.row.V.Denot). stock_of x.desk) c.self.view_is ∙ none))
 
 pub returns-clause-refused : goal.returns-clause-refused
@@ -41,5 +45,6 @@ returns-clause-refused g c =
     let a = c.arrive in let u = seen a.new.desk a.new.slots.items a.new.pile in
     subst (λ (x : TableNow g.row.V.Denot). IfErr a.result (λ r. WhyNotMade x c.args.to r.why × (r.back ≡ c.args.value) × (u ≡ x))) c.self.view_is
     (IfErr-weaker a.result _ _ (λ r p. (p.0.0, p.0.1, p.1))
-    (not_brought (IsNullMade c.args.value) (λ (r : Returned g.row.V.Denot). WhyNotMade t c.args.to r.why × (r.back ≡ c.args.value)) d m.new.desk ss c.args.to m.result a.result a.new.desk a.new.slots.items (on_pile c.self.inside.pile)
+    (not_brought (IsNullMade c.args.value) (λ (r : Returned g.row.V.Denot). WhyNotMade t c.args.to r.why × (r.back ≡ c.args.value))
+    d m.new.desk ss c.args.to m.result a.result a.new.desk a.new.slots.items (on_pile c.self.inside.pile)
     (on_pile a.new.pile) m.ensures.brought a.ensures.arrives))

@@ -1,7 +1,7 @@
 use Rattle.std.proofs.Common.{◌∙◌, arith}
 use Rattle.std.proofs.lemmas.List.{nil_from_length}
 use Rattle.handle_table.proofs.Manning.{all_put, put}
-use Rattle.handle_table.proofs.staff.man.Goals as goal
+use Rattle.handle_table.proofs.staff.posts.man.Goals as goal
 
 pub loop-table-preserved : goal.loop-table-preserved
 loop-table-preserved g c =

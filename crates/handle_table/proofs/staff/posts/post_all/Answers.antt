@@ -2,7 +2,7 @@ use Rattle.std.proofs.Common.{◌≡◌, ap, length, subst, sym, ◌∙◌, arit
 use Rattle.std.specs.List.{AllZip}
 use Rattle.handle_table.proofs.Handing.{written}
 use Rattle.handle_table.proofs.Manning.{zipped}
-use Rattle.handle_table.proofs.staff.post_all.Goals as goal
+use Rattle.handle_table.proofs.staff.posts.post_all.Goals as goal
 
 pub returns : goal.returns
 returns g c =

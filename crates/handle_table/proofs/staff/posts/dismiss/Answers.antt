@@ -1,7 +1,7 @@
 use Rattle.std.proofs.Common.{ap, arith, length}
 use Rattle.std.proofs.lemmas.List.{nil_from_length}
 use Rattle.handle_table.proofs.Manning.{all_back, from_none, gone}
-use Rattle.handle_table.proofs.staff.dismiss.Goals as goal
+use Rattle.handle_table.proofs.staff.posts.dismiss.Goals as goal
 
 pub loop-post-init : goal.loop-post-init
 loop-post-init g c =

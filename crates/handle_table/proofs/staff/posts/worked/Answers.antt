@@ -1,6 +1,6 @@
 use Rattle.std.proofs.Common.{arith}
 use Rattle.handle_table.proofs.Manning.{as_many, each_worked}
-use Rattle.handle_table.proofs.staff.worked.Goals as goal
+use Rattle.handle_table.proofs.staff.posts.worked.Goals as goal
 
 pub dismiss-requires-clause-tables : goal.dismiss-requires-clause-tables
 dismiss-requires-clause-tables g c κs within =

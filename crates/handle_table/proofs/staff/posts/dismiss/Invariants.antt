@@ -1,5 +1,5 @@
 use Rattle.std.proofs.Common.{◌≡◌, ◌≤◌, ◌+◌, ◌++◌, length, map, reverse, vec_capacity}
-use Rattle.handle_table.proofs.staff.dismiss.Given as goal
+use Rattle.handle_table.proofs.staff.posts.dismiss.Given as goal
 
 abbrev pub invariant-loop-post : goal.invariant-loop-post
 invariant-loop-post g l =
