@@ -14,9 +14,10 @@ use Rattle.shared_handle.specs.Calls.{weak_place}
 use Rattle.shared_handle.specs.Piles.{Bears}
 use Rattle.shared_handle.specs.declared.endings.Ending.{Ending}
 use Rattle.shared_handle.specs.declared.pile.Pile.{Pile}
-use Rattle.handle_table.specs.Bringing.{Arrives, Brings, Brought, Coming, FitsInHand, IsAlias, IsLoaded, IsThisOwner, IsThisWeak, IsWeakCopy, OfHandle, OfOwner}
+use Rattle.handle_table.specs.Bringing.{Arrives, Brings, Brought, Coming, FitsInHand, IsAlias, IsLoaded, IsThisOwner, IsThisWeak}
+use Rattle.handle_table.specs.Bringing.{IsWeakCopy, OfHandle, OfOwner, beside_pile}
 use Rattle.handle_table.specs.Calls.{Comes, Copies, Downgrades, IsCopy}
-use Rattle.handle_table.specs.Cells.{LoadsIntoSlot}
+use Rattle.handle_table.specs.Cells.{LoadsIntoSlot, SwapsFromSlot}
 use Rattle.handle_table.specs.declared.cells.Cell.{Cell}
 use Rattle.handle_table.specs.This.{Aliases, SharesThis, SharesThisWeakly}
 use Rattle.handle_table.specs.Tables.{FitsSlots, Slot, TableNow}
@@ -94,6 +95,11 @@ module _ {V : Type 0} where
         is = c.comes.1;
         loads = record { handle = c.handle; between = c.between; comes = c.comes.2; assigns = c.assigns };
       }
+
+  -- what is said of a swap by the desk and its slots is so of the table
+  pub swaps_of : (d e : DeskNow V) (ss : List Slot) (xs : List (Ending V)) (from : ℕ) (k : Cell) (old : Held)
+      → SwapsFromSlot (beside_pile d ss) from k old e → SwapsFromSlot (table_of d ss xs) from k old e
+  swaps_of d e ss xs from k old s = record { site = s.site; is = s.is; of = s.of; at = s.at; kinds = s.kinds; exchanges = s.exchanges }
 
 -- a weak copy in a bag
 pub weakly : (l : List Handle) (h : weak_handle.Weak) (c : Option Block) (p : Option Place) → h.block ≡ c → h.place ≡ weak_place c p

@@ -1,6 +1,6 @@
 -- A handle that comes to a desk for a slot, and goes into it.
 use Rattle.std.specs.Prelude.{◌≡◌, ℕ, ◌+◌, ◌<◌, Bool, false, true, List, [], ◌∷◌}
-use Rattle.std.specs.Prelude.{length, slice_get, Option, None, Some, Result, Ok, Err}
+use Rattle.std.specs.Prelude.{length, slice_get, slice_set, Option, None, Some, Result, Ok, Err}
 use Rattle.control_word.specs.declared.place.Place.{Place}
 use Rattle.control_block.specs.Desks.{DeskNow, DomainNow}
 use Rattle.control_block.specs.declared.handles.Held.{Held}
@@ -14,9 +14,10 @@ use Rattle.shared_handle.specs.declared.pile.Pile.{Pile}
 use Rattle.control_block.specs.CellCalls.{cell_of_site}
 use Rattle.control_block.specs.declared.cell_calls.Site.{Site}
 use Rattle.atomic_cells.specs.Cells as cells
-use Rattle.handle_table.specs.Cells.{IsCellAtSite, kind_of_cell}
+use Rattle.handle_table.specs.Cells.{IsCellAtSite, SwapsFromSlot, WhyNotSwapped, kind_of_cell}
 use Rattle.handle_table.specs.Parts.{kind_of_held, block_of_held, place_of_held}
 use Rattle.handle_table.specs.declared.cells.Cell.{Cell}
+use Rattle.handle_table.specs.declared.fault.Fault.{Fault}
 use Rattle.handle_table.specs.Calls.{Assigns, IsOwner, IsWeak}
 use Rattle.handle_table.specs.Tables.{FitsSlots, Slot, TableNow}
 
@@ -79,6 +80,20 @@ module _ {V : Type 0} where
   abbrev pub IsLoaded : Cell → List Slot → Coming V
   IsLoaded c ss d h e = (s : Site) × IsCellAtSite d.shape ss c s × ((kind_of_held h ≡ kind_of_cell c)
       × cells.Loads d (cell_of_site d s) (kind_of_cell c) (block_of_held h) (place_of_held h) e)
+
+  -- the handle in a slot went into the cell, and what that held is in hand
+  pub record SwapsOut (d : DeskNow V) (ss : List Slot) (from : ℕ) (c : Cell) (old : Held) (e : DeskNow V)
+      (ts : List Slot) : Type 0 where
+    pub swaps : SwapsFromSlot (beside_pile d ss) from c old e
+    pub slots : ts ≡ slice_set ss from None
+    pub there : from < length ts
+    pub fits : FitsSlots e (Some old ∷ ts)
+    pub bears : (domain : DomainNow) (p : Pile V) → Bears domain d p → Bears domain e p
+
+  -- or why not, and nothing changed
+  abbrev pub IsSwapped : DeskNow V → List Slot → ℕ → Cell → Result Held Fault → DeskNow V → List Slot → Type 0
+  IsSwapped d ss from c (Ok old) e ts = SwapsOut d ss from c old e ts
+  IsSwapped d ss from c (Err why) e ts = WhyNotSwapped (beside_pile d ss) from c why × (e ≡ d) × (ts ≡ ss)
 
 module _ {V E : Type 0} where
   -- a handle came so, or none did, and nothing changed

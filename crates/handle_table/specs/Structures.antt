@@ -1,7 +1,7 @@
 -- What the calls on a stack, on observers and on trees of nodes say: by the desk's own events, and for a sole desk by
 -- the lists and trees that they change (own). A stack, or observers, stand in a free shared cell, here n.
 use Rattle.std.specs.Prelude.{◌≡◌, ◌⊎◌, ℕ, ◌%◌, ◌^◌, Bool, true, false, is_some, List, []}
-use Rattle.std.specs.Prelude.{slice_set, None}
+use Rattle.std.specs.Prelude.{slice_get, slice_set, None, Some}
 use Rattle.control_word.specs.Handles.{object_of}
 use Rattle.control_word.specs.declared.model.event.Cell.TheVariants.{Free}
 use Rattle.control_word.specs.declared.refusal.Refusal.{Refusal}
@@ -24,7 +24,7 @@ use Rattle.scene_structures.specs.Trees.{IsTornDown}
 use Rattle.scene_structures.specs.Walks.{IsToldList, WalksOver}
 use Rattle.handle_table.specs.Calls.{Comes, IsNoSlot, IsOwner, WhyNoOwner}
 use Rattle.handle_table.specs.Cells.{WhyNoCell}
-use Rattle.handle_table.specs.Tables.{IsAt, TableNow}
+use Rattle.handle_table.specs.Tables.{IsAt, Slot, TableNow}
 use Rattle.handle_table.specs.declared.cells.Cell.TheVariants as cell
 use Rattle.handle_table.specs.declared.fault.Fault.{Fault}
 use Rattle.handle_table.specs.declared.fault.Fault.TheVariants as fault
@@ -70,6 +70,13 @@ module _ {V : Type 0} where
     pub of : Shared
     pub at : IsAt t subject (Owner of)
     pub attaches : DeskDoes (λ d e. Attaches d (Free n) of x e × (IsSole d → IsAttached d (Free n) of e)) t u
+
+  -- the same of the desk alone
+  pub record AttachesIn (d : DeskNow V) (ss : List Slot) (n subject : ℕ) (x : V) (e : DeskNow V) : Type 0 where
+    pub of : Shared
+    pub at : slice_get ss subject ≡ Some (Some (Owner of))
+    pub room : IsNearLimit d → ⊥
+    pub done : Attaches d (Free n) of x e × (IsSole d → IsAttached d (Free n) of e)
 
   abbrev pub WhyNotAttached : TableNow V → ℕ → Fault → Type 0
   WhyNotAttached t subject why = WhyNoOwner t.slots subject why ⊎ WhyNoNewNode t why

@@ -1,7 +1,7 @@
 //! Calls on cells.
 ghost use Rattle.std.specs.Prelude.{◌≡◌, IfErr, IfOk, OnOk};
 ghost use Rattle.control_block.specs.Desks.{Belongs};
-ghost use Rattle.handle_table.specs.Bringing.{Brought, IsLoaded, beside_pile};
+ghost use Rattle.handle_table.specs.Bringing.{Brought, IsLoaded, IsSwapped, beside_pile};
 ghost use Rattle.handle_table.specs.Cells.{ExchangesSlot, LoadsIntoSlot, StoresFromSlot, WhyNotLoaded, WhyNotSwapped};
 ghost use Rattle.handle_table.specs.Tables.{FitsSlots};
 
@@ -44,6 +44,31 @@ fn loaded<V: Drop + Send, R: Wait>(
     }
 }
 
+/// The handle in a slot goes out of it into the cell, and what the cell held comes out.
+#[inline]
+fn swapped<V: Drop + Send>(
+    domain: &Domain<V>,
+    desk: &mut Desk<V>,
+    slots: &mut Vec<Option<Held>>,
+    from: usize,
+    cell: Cell,
+) -> Result<Held, Fault>
+    requires domain { Belongs desk.old domain.now }
+    requires fits { FitsSlots desk.old slots.old.items }
+    ensures { IsSwapped desk.old slots.old.items from cell result desk.new slots.new.items }
+{
+    let at = match find(domain, &*desk, &*slots, cell) {
+        Ok(at) => at,
+        Err(why) => return Err(why),
+    };
+    let new = match take_kind(slots, from, at.kind) {
+        Ok(new) => new,
+        Err(why) => return Err(why),
+    };
+    let old = exchange_held(domain, desk, at, new);
+    Ok(old)
+}
+
 impl<'d, V: Drop + Send, H: Home> HandleTable<'d, V, H> {
     /// A copy of what the cell holds is assigned to a slot ([util.smartptr.atomic.shared],
     /// [util.smartptr.atomic.weak]). What lay there leaves.
@@ -69,16 +94,10 @@ impl<'d, V: Drop + Send, H: Home> HandleTable<'d, V, H> {
         ensures stored { IfOk result (λ gone. StoresFromSlot self.old from cell gone self.new) }
         ensures refused { IfErr result (λ why. WhyNotSwapped self.old from cell why × (self.new ≡ self.old)) }
     {
-        let at = match find(self.domain, &self.desk, &self.slots, cell) {
-            Ok(at) => at,
-            Err(why) => return Err(why),
-        };
-        let new = match take_kind(&mut self.slots, from, at.kind) {
-            Ok(new) => new,
-            Err(why) => return Err(why),
-        };
-        let old = exchange_held(self.domain, &mut self.desk, at, new);
-        Ok(let_go(self.domain, &mut self.desk, &mut self.pile, old))
+        match swapped(self.domain, &mut self.desk, &mut self.slots, from, cell) {
+            Ok(old) => Ok(let_go(self.domain, &mut self.desk, &mut self.pile, old)),
+            Err(why) => Err(why),
+        }
     }
 
     /// A handle goes out of its slot into the cell, and what the cell held comes into the slot, in one step on the cell
@@ -87,23 +106,19 @@ impl<'d, V: Drop + Send, H: Home> HandleTable<'d, V, H> {
         ensures exchanged { OnOk result (ExchangesSlot self.old at cell self.new) }
         ensures refused { IfErr result (λ why. WhyNotSwapped self.old at cell why × (self.new ≡ self.old)) }
     {
-        let there = match find(self.domain, &self.desk, &self.slots, cell) {
-            Ok(there) => there,
-            Err(why) => return Err(why),
-        };
-        let new = match take_kind(&mut self.slots, at, there.kind) {
-            Ok(new) => new,
-            Err(why) => return Err(why),
-        };
-        let old = exchange_held(self.domain, &mut self.desk, there, new);
-        assign(
-            self.domain,
-            &mut self.desk,
-            &mut self.slots,
-            &mut self.pile,
-            at,
-            old,
-        );
-        Ok(())
+        match swapped(self.domain, &mut self.desk, &mut self.slots, at, cell) {
+            Ok(old) => {
+                assign(
+                    self.domain,
+                    &mut self.desk,
+                    &mut self.slots,
+                    &mut self.pile,
+                    at,
+                    old,
+                );
+                Ok(())
+            }
+            Err(why) => Err(why),
+        }
     }
 }

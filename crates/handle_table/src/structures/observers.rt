@@ -1,15 +1,23 @@
 //! Observers in a free shared cell: a list of nodes, each of which watches a subject by a weak pointer (own).
 ghost use Rattle.std.specs.Prelude.{◌≡◌, ℕ, List, IfErr, IfOk, OnOk};
-ghost use Rattle.shared_handle.specs.Piles.{FoldsBack};
-ghost use Rattle.handle_table.specs.Structures.{AttachesNode, HasTooFew, PrunesNodes, TellsEach, WhyNoAccess};
+ghost use Rattle.control_block.specs.Desks.{Belongs};
+ghost use Rattle.shared_handle.specs.Piles.{Bears, FoldsBack};
+ghost use Rattle.shared_handle.specs.declared.pile.Pile.{Pile};
+ghost use Rattle.scene_structures.specs.Stacks.{StandsIn};
+ghost use Rattle.handle_table.specs.Bringing.{beside_pile};
+ghost use Rattle.handle_table.specs.Tables.{FitsSlots};
+ghost use Rattle.handle_table.specs.Structures.{AttachesIn, AttachesNode, HasTooFew, PrunesNodes, TellsEach, WhyNoAccess};
 ghost use Rattle.handle_table.specs.Structures.{WhyNotAttached, WhyNotPruned};
 
 use crate::fault::{Fault, Returned};
 use crate::slots::owner_at;
 use crate::structures::returned;
 use crate::table::{HandleTable, Home};
+use control_block::desk::Desk;
+use control_block::domain::Domain;
 use control_word::Refusal;
 use scene_structures::Observers;
+use shared_handle::Held;
 use std::alloc::Global;
 use std::marker::{Model, PhantomData};
 use std::sync::Wait;
@@ -37,6 +45,38 @@ impl<V: Drop + Send, H: Home> TableObservers<V, H> {
     pub fn close(self) {
         let Self { home: _, observers } = self;
         observers.close();
+    }
+}
+
+/// A new node that watches what the owner in a slot owns comes in front of the observers.
+fn attach_at<V: Drop + Send, R: Wait>(
+    rt: &R,
+    observers: &mut Observers<V>,
+    domain: &Domain<V>,
+    desk: &mut Desk<V>,
+    slots: &Vec<Option<Held>>,
+    subject: usize,
+    value: V,
+) -> Result<(), Returned<V>>
+    requires domain { Belongs desk.old domain.now }
+    requires fits { FitsSlots desk.old slots.now.items }
+    requires stands { StandsIn observers.old domain.now }
+    ensures stands { (observers.new.cell ≡ observers.old.cell) × StandsIn observers.new domain.now }
+    ensures bears { (p : Pile V) → Bears domain.now desk.old p → Bears domain.now desk.new p }
+    ensures fits { FitsSlots desk.new slots.now.items }
+    ensures attached { OnOk result
+        (AttachesIn desk.old slots.now.items observers.old.cell subject value desk.new) }
+    ensures refused { IfErr result
+        (λ r. WhyNotAttached (beside_pile desk.old slots.now.items) subject r.why × (r.back ≡ value)
+        × (desk.new ≡ desk.old)) }
+{
+    let owner = match owner_at(slots, subject) {
+        Ok(owner) => owner,
+        Err(why) => return Err(Returned { why, back: value }),
+    };
+    match observers.attach(rt, domain, desk, owner, value) {
+        Ok(()) => Ok(()),
+        Err(refused) => Err(returned(refused)),
     }
 }
 
@@ -76,18 +116,15 @@ impl<'d, V: Drop + Send, H: Home> HandleTable<'d, V, H> {
             (λ r. WhyNotAttached self.old subject r.why × (r.back ≡ value) × (self.new ≡ self.old)) }
         ensures cell { observers.new.cell ≡ observers.old.cell }
     {
-        let owner = match owner_at(&self.slots, subject) {
-            Ok(owner) => owner,
-            Err(why) => return Err(Returned { why, back: value }),
-        };
-        let refused = match observers
-            .observers
-            .attach(rt, self.domain, &mut self.desk, owner, value)
-        {
-            Ok(()) => return Ok(()),
-            Err(refused) => refused,
-        };
-        Err(returned(refused))
+        attach_at(
+            rt,
+            &mut observers.observers,
+            self.domain,
+            &mut self.desk,
+            &self.slots,
+            subject,
+            value,
+        )
     }
 
     /// `tell` gets field 0 of the subject of each observer, the one that was attached last first, where the subject has

@@ -1,72 +1,49 @@
-use Rattle.std.proofs.Common.{◌∙◌, List, ap, inl, inr, refl, subst}
-use Rattle.control_word.specs.declared.model.handle.Kind.{Kind}
-use Rattle.control_block.specs.CellCalls.{cell_of_site}
-use Rattle.atomic_cells.specs.Cells as cells
-use Rattle.handle_table.specs.Cells.{StoresFromSlot, WhyNoneOf, WhyNotSwapped}
-use Rattle.handle_table.specs.Parts.{block_of_held, place_of_held}
-use Rattle.handle_table.specs.Tables.{Slot, TableNow}
-use Rattle.handle_table.proofs.Filling.{fits_at, fits_exchange, fits_out}
-use Rattle.handle_table.proofs.Wholes.{fits_stored, kept, seen}
+use Rattle.std.proofs.Common.{◌∙◌, refl, subst}
+use Rattle.handle_table.specs.Cells.{StoresFromSlot, WhyNotSwapped}
+use Rattle.handle_table.specs.Tables.{TableNow, on_pile}
+use Rattle.handle_table.proofs.Bringing.{swaps_of}
+use Rattle.handle_table.proofs.Filling.{fits_at, fits_less}
+use Rattle.handle_table.proofs.Structured.{whole_same}
+use Rattle.handle_table.proofs.Wholes.{seen}
 use Rattle.handle_table.proofs.table.HandleTable.store.Goals as goal
+
+pub let_go-requires-clause-bears : goal.let_go-requires-clause-bears
+let_go-requires-clause-bears g c κs within = c.in-Ok.ensures.bears c.self.inside.domain.now c.self.inside.pile c.self.invariant.bears
+
+pub let_go-requires-clause-held : goal.let_go-requires-clause-held
+let_go-requires-clause-held g c κs within = fits_at c.swapped.new.desk _ 0 c.in-Ok.old c.in-Ok.ensures.fits refl
+
+pub invariant_of-self : goal.invariant_of-self
+invariant_of-self g c =
+    let e = c.let_go.ensures in
+    record {
+      home = c.self.invariant.home;
+      bears = e.bears;
+      fits = fits_less c.swapped.new.desk c.let_go.new.desk c.swapped.new.slots.items c.in-Ok.old c.in-Ok.ensures.fits e.bag e.held;
+    }
+
+pub returns-in-Ok-clause-stored : goal.returns-in-Ok-clause-stored
+returns-in-Ok-clause-stored g c =
+    let s = c.in-Ok.ensures in
+    subst (λ (u : TableNow g.row.V.Denot). StoresFromSlot u c.args.from c.args.cell c.let_go.result
+    (seen c.let_go.new.desk c.swapped.new.slots.items c.let_go.new.pile)) c.self.view_is
+    record {
+      old = c.in-Ok.old;
+      between = c.swapped.new.desk;
+      swaps = swaps_of c.self.inside.desk c.swapped.new.desk c.self.inside.slots.items (on_pile c.self.inside.pile) c.args.from c.args.cell c.in-Ok.old s.swaps;
+      leaves = c.let_go.ensures.left;
+      slots = s.slots;
+    }
+
+pub invariant_of-self-in-Err : goal.invariant_of-self-in-Err
+invariant_of-self-in-Err g c =
+    let e = c.in-Err.ensures in let p = c.self.inside.pile in
+    whole_same _ c.self.inside.domain.now c.self.inside.desk c.swapped.new.desk c.self.inside.slots.items c.swapped.new.slots.items p p
+    c.self.invariant e.1 e.2 refl
 
 pub returns-in-Err-clause-refused : goal.returns-in-Err-clause-refused
 returns-in-Err-clause-refused g c =
-    (subst (λ (t : TableNow g.row.V.Denot). WhyNotSwapped t c.args.from c.args.cell c.in-Err.why) c.self.view_is (inl c.in-Err.ensures.fault), refl)
-
-pub returns-in-Err-take_kind-clause-refused : goal.returns-in-Err-take_kind-clause-refused
-returns-in-Err-take_kind-clause-refused g c =
-    let why = c.in-Err-take_kind.why in let r = c.in-Err-take_kind.ensures.fault in let ss = c.self.inside.slots.items in (
-      subst (λ (t : TableNow g.row.V.Denot). WhyNotSwapped t c.args.from c.args.cell why) c.self.view_is
-          (inr (subst (λ (k : Kind). WhyNoneOf k ss c.args.from why) c.in-Ok.ensures.found.1 r.0)),
-      ap (λ (l : List Slot). seen c.self.inside.desk l c.self.inside.pile) r.1 ∙ c.self.view_is,
+    let e = c.in-Err.ensures in (
+      subst (λ (t : TableNow g.row.V.Denot). WhyNotSwapped t c.args.from c.args.cell c.in-Err.why) c.self.view_is e.0,
+      (λ i. seen (e.1 i) (e.2 i) c.self.inside.pile) ∙ c.self.view_is,
     )
-
-pub exchange_held-old-requires-clause-held : goal.exchange_held-old-requires-clause-held
-exchange_held-old-requires-clause-held g c κs within =
-    let t = c.in-Ok-take_kind.ensures.taken in
-    (fits_at c.self.inside.desk c.self.inside.slots.items c.args.from c.in-Ok-take_kind.new c.self.invariant.fits t.0, t.1)
-
-pub let_go-requires-clause-bears : goal.let_go-requires-clause-bears
-let_go-requires-clause-bears g c κs within =
-    kept c.self.inside.domain.now c.self.inside.desk c.exchange_held-old.new.desk c.self.inside.pile c.self.invariant.bears c.exchange_held-old.ensures.keeps
-
-pub let_go-requires-clause-held : goal.let_go-requires-clause-held
-let_go-requires-clause-held g c κs within =
-    let x = c.in-Ok-take_kind.new in let m = c.exchange_held-old in
-    fits_at m.new.desk _ 0 m.result
-    (fits_exchange c.self.inside.desk m.new.desk _ x m.result
-    (fits_out c.self.inside.desk c.self.inside.slots.items c.args.from x c.self.invariant.fits c.in-Ok-take_kind.ensures.taken.0)
-    m.ensures.bag m.ensures.held) refl
-
-pub invariant_of-self-2 : goal.invariant_of-self-2
-invariant_of-self-2 g c =
-    let w = c.self.invariant in let t = c.in-Ok-take_kind.ensures.taken in let m = c.exchange_held-old in let e = c.let_go.ensures in
-    record {
-      home = w.home;
-      bears = e.bears;
-      fits = fits_stored c.self.inside.desk m.new.desk c.let_go.new.desk c.self.inside.slots.items c.take_kind.new.slots.items c.args.from c.in-Ok-take_kind.new
-          m.result w.fits t.0 t.2 m.ensures.bag m.ensures.held e.bag e.held;
-    }
-
-pub returns-clause-stored : goal.returns-clause-stored
-returns-clause-stored g c =
-    let at = c.in-Ok.at in let k = c.in-Ok.ensures.found.1 in let t = c.in-Ok-take_kind.ensures.taken in let x = c.in-Ok-take_kind.new in
-    let m = c.exchange_held-old in let d = c.self.inside.desk in
-    subst (λ (u : TableNow g.row.V.Denot). StoresFromSlot u c.args.from c.args.cell c.let_go.result
-    (seen c.let_go.new.desk c.take_kind.new.slots.items c.let_go.new.pile)) c.self.view_is
-    record {
-      old = m.result;
-      between = m.new.desk;
-      swaps = record {
-        site = at.site;
-        is = c.in-Ok.ensures.found.0;
-        of = x;
-        at = t.0;
-        kinds = (t.1 ∙ k, m.ensures.kind ∙ k);
-        exchanges = subst (λ (z : Kind). cells.Exchanges d (cell_of_site d at.site) z (block_of_held x) (place_of_held x) (block_of_held m.result)
-            (place_of_held m.result) m.new.desk)
-            k m.ensures.event;
-      };
-      leaves = c.let_go.ensures.left;
-      slots = t.2;
-    }
