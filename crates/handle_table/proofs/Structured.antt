@@ -2,7 +2,7 @@
 use Rattle.std.proofs.Common.{◌≡◌, ◌<◌, ◌≤◌, ℕ, zero, suc, List, [], ◌∷◌, Option, None, Some, length, set, vec_capacity}
 use Rattle.std.proofs.Common.{◌∙◌, ap, arith, refl, subst, sym}
 use Rattle.std.specs.Prelude.{MatchOption, slice_get}
-use Rattle.control_block.specs.Desks.{DeskNow, DomainNow, IsSameDesk, KeepsEndings, bag_of, endings_of}
+use Rattle.control_block.specs.Desks.{Belongs, DeskNow, DomainNow, IsSameDesk, KeepsEndings, bag_of, endings_of}
 use Rattle.control_block.specs.declared.handles.Held.{Held}
 use Rattle.shared_handle.proofs.Piles.{bears_kept}
 use Rattle.shared_handle.specs.Piles.{AllEnd, Bears, Carries}
@@ -54,6 +54,9 @@ module _ {V : Type 0} where
         ends = subst (AllEnd d) (sym s.none) tt;
         room = subst (λ (k : DomainNow). k.shape.blocks ≤ vec_capacity q.endings) (sym w.home) s.room;
       }
+
+  pub serves_carries : (domain : DomainNow) (d : DeskNow V) (q : Pile V) → Belongs d domain → ServesDomain domain q → Carries domain d q
+  serves_carries domain d q here s = record { belongs = here; ends = subst (AllEnd d) (sym s.none) tt; room = s.room }
 
   -- and serves the table's domain again
   pub scene_serves : (named domain : DomainNow) (d : DeskNow V) (q : Pile V) → domain ≡ named → Carries domain d q → q.endings.items ≡ []

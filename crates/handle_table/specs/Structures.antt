@@ -22,6 +22,7 @@ use Rattle.scene_structures.specs.Stacks.{FindsNone, IsEmptyList, IsPopped, IsPu
 use Rattle.scene_structures.specs.Teardowns.{TearsDown}
 use Rattle.scene_structures.specs.Trees.{IsTornDown}
 use Rattle.scene_structures.specs.Walks.{IsToldList, WalksOver}
+use Rattle.handle_table.specs.Bringing.{Coming}
 use Rattle.handle_table.specs.Calls.{Comes, IsNoSlot, IsOwner, WhyNoOwner}
 use Rattle.handle_table.specs.Cells.{WhyNoCell}
 use Rattle.handle_table.specs.Tables.{IsAt, Slot, TableNow}
@@ -103,6 +104,11 @@ module _ {V : Type 0} where
     pub may : MayHaveChild t.desk of.block of.place
     pub child : Comes
         (IsOwner (λ d h e. Adopts d of fields x h e × (IsSole d → IsAdopted d of e))) t to u
+
+  -- the same of the desk alone
+  abbrev pub IsChild : List ℕ → V → Shared → Coming V
+  IsChild fields x of d h e = MayHaveChild d of.block of.place
+      × IsOwner (λ d h e. Adopts d of fields x h e × (IsSole d → IsAdopted d of e)) d h e
 
   -- why what the owner in the slot owns is not taken for a node
   abbrev pub IsRefusedBy : (DeskNow V → Shared → Refusal → Type 0) → TableNow V → ℕ → Fault → Type 0

@@ -6,7 +6,8 @@ ghost use Rattle.shared_handle.specs.declared.pile.Pile.{Pile};
 ghost use Rattle.scene_structures.specs.Stacks.{StandsIn};
 ghost use Rattle.handle_table.specs.Bringing.{beside_pile};
 ghost use Rattle.handle_table.specs.Tables.{FitsSlots};
-ghost use Rattle.handle_table.specs.Structures.{AttachesIn, AttachesNode, HasTooFew, PrunesNodes, TellsEach, WhyNoAccess};
+ghost use Rattle.handle_table.specs.Structures.{AttachesIn, AttachesNode, HasTooFew, PrunesNodes, TellsEach};
+ghost use Rattle.handle_table.specs.Structures.{WhyNoAccess};
 ghost use Rattle.handle_table.specs.Structures.{WhyNotAttached, WhyNotPruned};
 
 use crate::fault::{Fault, Returned};

@@ -1,15 +1,21 @@
 //! Trees of nodes: each owns its first child and its next sibling, and points back at its parent (own).
 ghost use Rattle.std.specs.Prelude.{◌≡◌, IfErr, IfOk, OnOk};
 ghost use Rattle.control_word.specs.declared.refusal.Refusal.TheVariants.{Memory};
-ghost use Rattle.handle_table.specs.Structures.{AddsChild, DetachesNode, GetsParent, WhyNoParent};
+ghost use Rattle.control_block.specs.Desks.{Belongs};
+ghost use Rattle.scene_structures.specs.Stacks.{ServesDomain};
+ghost use Rattle.handle_table.specs.Bringing.{Brought, OfOwner, beside_pile};
+ghost use Rattle.handle_table.specs.Tables.{FitsSlots};
+ghost use Rattle.handle_table.specs.Structures.{AddsChild, DetachesNode, GetsParent, IsChild, WhyNoParent};
 ghost use Rattle.handle_table.specs.Structures.{WhyNotAdded, WhyNotDetached};
 ghost use Rattle.handle_table.specs.declared.fault.Fault.TheVariants as fault;
 
 use crate::fault::{Fault, Returned};
-use crate::slots::assigning::assign;
+use crate::slots::assigning::{arrive, assign};
 use crate::slots::owner_at;
 use crate::structures::returned;
 use crate::table::{HandleTable, Home};
+use control_block::desk::Desk;
+use control_block::domain::Domain;
 use scene_structures::Scene;
 use shared_handle::Held;
 use std::alloc::Global;
@@ -39,6 +45,42 @@ impl<V: Drop + Send, H: Home> TableScene<V, H> {
     pub fn close(self) {
         let Self { home: _, scene } = self;
         scene.close();
+    }
+}
+
+/// A new first child of what the owner in a slot owns comes, for another slot.
+fn child_of<V: Drop + Send, R: Wait>(
+    rt: &R,
+    scene: &mut Scene<V>,
+    domain: &Domain<V>,
+    desk: &mut Desk<V>,
+    slots: &Vec<Option<Held>>,
+    parent: usize,
+    fields: [u64; 4],
+    value: V,
+    to: usize,
+) -> Result<Held, Returned<V>>
+    requires domain { Belongs desk.old domain.now }
+    requires fits { FitsSlots desk.old slots.now.items }
+    requires serves { ServesDomain domain.now scene.old }
+    ensures serves { ServesDomain domain.now scene.new }
+    ensures brought { Brought (OfOwner (IsChild fields value) slots.now.items parent)
+        (λ r. WhyNotAdded (beside_pile desk.old slots.now.items) parent to r.why × (r.back ≡ value))
+        desk.old slots.now.items to result desk.new }
+{
+    if to >= slots.len() {
+        return Err(Returned {
+            why: Fault::Slot,
+            back: value,
+        });
+    }
+    let owner = match owner_at(slots, parent) {
+        Ok(owner) => owner,
+        Err(why) => return Err(Returned { why, back: value }),
+    };
+    match scene.add_child(rt, domain, desk, owner, fields, value) {
+        Ok(child) => Ok(Held::Owner(child)),
+        Err(refused) => Err(returned(refused)),
     }
 }
 
@@ -76,32 +118,25 @@ impl<'d, V: Drop + Send, H: Home> HandleTable<'d, V, H> {
         ensures refused { IfErr result
             (λ r. WhyNotAdded self.old parent to r.why × (r.back ≡ value) × (self.new ≡ self.old)) }
     {
-        if to >= self.slots.len() {
-            return Err(Returned {
-                why: Fault::Slot,
-                back: value,
-            });
-        }
-        let owner = match owner_at(&self.slots, parent) {
-            Ok(owner) => owner,
-            Err(why) => return Err(Returned { why, back: value }),
-        };
-        let child = match scene
-            .scene
-            .add_child(rt, self.domain, &mut self.desk, owner, fields, value)
-        {
-            Ok(child) => Held::Owner(child),
-            Err(refused) => return Err(returned(refused)),
-        };
-        assign(
+        let came = child_of(
+            rt,
+            &mut scene.scene,
+            self.domain,
+            &mut self.desk,
+            &self.slots,
+            parent,
+            fields,
+            value,
+            to,
+        );
+        arrive(
             self.domain,
             &mut self.desk,
             &mut self.slots,
             &mut self.pile,
             to,
-            child,
-        );
-        Ok(())
+            came,
+        )
     }
 
     /// The parent of the node that the owner in a slot owns (own): an owner of what its `up` is on, or an empty handle

@@ -1,57 +1,55 @@
-use Rattle.std.proofs.Common.{◌∙◌, ap, inl, inr, refl, subst}
-use Rattle.control_block.specs.Desks.{DeskNow}
-use Rattle.control_block.specs.declared.handles.Held.TheVariants.{Owner}
-use Rattle.handle_table.specs.Structures.{AddsChild, WhyNotAdded}
-use Rattle.handle_table.specs.Tables.{TableNow}
-use Rattle.handle_table.proofs.Filling.{fits_at}
-use Rattle.handle_table.proofs.Structured.{bears_beside, scene_carries}
+use Rattle.std.proofs.Common.{◌≡◌, IfErr, OnOk, subst, sym}
+use Rattle.std.proofs.lemmas.Result.{IfErr-weaker, on_ok_weaker}
+use Rattle.control_block.specs.Desks.{DomainNow}
+use Rattle.scene_structures.specs.Stacks.{ServesDomain}
+use Rattle.handle_table.specs.Bringing.{OfOwner}
+use Rattle.handle_table.specs.Structures.{AddsChild, IsChild, WhyNotAdded}
+use Rattle.handle_table.specs.declared.fault.Returned.{Returned}
+use Rattle.handle_table.specs.Tables.{TableNow, on_pile}
+use Rattle.handle_table.proofs.Bringing.{bears_brought, comes, adds_child, fits_brought, not_brought}
 use Rattle.handle_table.proofs.Wholes.{seen}
 use Rattle.handle_table.proofs.table.HandleTable.add_child.Goals as goal
 
-pub add_child-requires-clause-carries : goal.add_child-requires-clause-carries
-add_child-requires-clause-carries g c κs within =
-    scene_carries _ c.self.inside.domain.now c.self.inside.desk c.self.inside.slots.items c.self.inside.pile c.scene.inside.scene c.self.invariant
-    c.scene.invariant
+pub arrive-requires-clause-bears : goal.arrive-requires-clause-bears
+arrive-requires-clause-bears g c κs within =
+    let d = c.self.inside.desk in let ss = c.self.inside.slots.items in let t = seen d ss c.self.inside.pile in let m = c.child_of-came in
+    bears_brought (OfOwner (IsChild c.args.fields c.args.value) ss c.args.parent)
+    (λ (r : Returned g.row.V.Denot). WhyNotAdded t c.args.parent c.args.to r.why × (r.back ≡ c.args.value))
+    d m.new.desk ss c.args.to m.result c.self.inside.domain.now c.self.inside.pile m.ensures.brought
+    c.self.invariant.bears
 
-pub add_child-requires-clause-holds : goal.add_child-requires-clause-holds
-add_child-requires-clause-holds g c κs within =
-    fits_at c.self.inside.desk c.self.inside.slots.items c.args.parent (Owner c.in-Ok.owner.now) c.self.invariant.fits c.in-Ok.ensures.found
-
-pub assign-requires-clause-bears : goal.assign-requires-clause-bears
-assign-requires-clause-bears g c κs within =
-    let e = c.in-Ok-add_child.ensures in
-    bears_beside c.self.inside.domain.now c.self.inside.desk c.add_child.new.desk c.self.inside.pile c.scene.inside.scene c.add_child.new.self
-    c.self.invariant.bears e.desk c.scene.invariant.none e.none e.others
+pub arrive-requires-clause-fits : goal.arrive-requires-clause-fits
+arrive-requires-clause-fits g c κs within =
+    let d = c.self.inside.desk in let ss = c.self.inside.slots.items in let t = seen d ss c.self.inside.pile in let m = c.child_of-came in
+    fits_brought (OfOwner (IsChild c.args.fields c.args.value) ss c.args.parent)
+    (λ (r : Returned g.row.V.Denot). WhyNotAdded t c.args.parent c.args.to r.why × (r.back ≡ c.args.value))
+    d m.new.desk ss c.args.to m.result m.ensures.brought c.self.invariant.fits
 
 pub returns-clause-added : goal.returns-clause-added
 returns-clause-added g c =
-    let e = c.in-Ok-add_child.ensures in let k = c.in-Ok-add_child.child in
-    subst (λ (t : TableNow g.row.V.Denot). AddsChild t c.args.parent c.args.fields c.args.value c.args.to
-    (seen c.assign.new.desk c.assign.new.slots.items c.assign.new.pile)) c.self.view_is
-    record {
-      of = c.in-Ok.owner.now;
-      at = c.in-Ok.ensures.found;
-      may = e.may;
-      child = record {
-        handle = Owner k;
-        between = c.add_child.new.desk;
-        comes = record { owner = k; is = refl; event = (e.own, e.tree) };
-        assigns = c.assign.ensures.assigns;
-      };
-    }
+    let d = c.self.inside.desk in let ss = c.self.inside.slots.items in let t = seen d ss c.self.inside.pile in let m = c.child_of-came in
+    let a = c.arrive in let u = seen a.new.desk a.new.slots.items a.new.pile in
+    subst (λ (x : TableNow g.row.V.Denot). OnOk a.result (AddsChild x c.args.parent c.args.fields c.args.value c.args.to u)) c.self.view_is
+    (on_ok_weaker a.result (adds_child t u c.args.parent c.args.to c.args.fields c.args.value)
+    (comes (OfOwner (IsChild c.args.fields c.args.value) ss c.args.parent)
+    (λ (r : Returned g.row.V.Denot). WhyNotAdded t c.args.parent c.args.to r.why × (r.back ≡ c.args.value))
+    d m.new.desk ss c.args.to m.result a.result a.new.desk a.new.slots.items (on_pile c.self.inside.pile)
+    (on_pile a.new.pile) m.ensures.brought a.ensures.arrives))
 
-pub returns-in-Err-add_child-clause-refused : goal.returns-in-Err-add_child-clause-refused
-returns-in-Err-add_child-clause-refused g c =
-    let e = c.in-Err-add_child.ensures in let r = c.in-Err-add_child.refused in let ss = c.self.inside.slots.items in (
-      subst (λ (t : TableNow g.row.V.Denot). WhyNotAdded t c.args.parent c.args.to c.returned.result.why) c.self.view_is
-          (inr (inr (c.in-Ok.owner.now, c.in-Ok.ensures.found, (r.why, c.returned.ensures.0, e.refusals)))),
-      c.returned.ensures.1 ∙ e.refused.0,
-      ap (λ (d : DeskNow g.row.V.Denot). seen d ss c.self.inside.pile) e.refused.1 ∙ c.self.view_is,
-    )
+pub returns-clause-refused : goal.returns-clause-refused
+returns-clause-refused g c =
+    let d = c.self.inside.desk in let ss = c.self.inside.slots.items in let t = seen d ss c.self.inside.pile in let m = c.child_of-came in
+    let a = c.arrive in let u = seen a.new.desk a.new.slots.items a.new.pile in
+    subst (λ (x : TableNow g.row.V.Denot). IfErr a.result (λ r. WhyNotAdded x c.args.parent c.args.to r.why × (r.back ≡ c.args.value) × (u ≡ x))) c.self.view_is
+    (IfErr-weaker a.result _ _ (λ r p. (p.0.0, p.0.1, p.1))
+    (not_brought (OfOwner (IsChild c.args.fields c.args.value) ss c.args.parent)
+    (λ (r : Returned g.row.V.Denot). WhyNotAdded t c.args.parent c.args.to r.why × (r.back ≡ c.args.value))
+    d m.new.desk ss c.args.to m.result a.result a.new.desk a.new.slots.items (on_pile c.self.inside.pile)
+    (on_pile a.new.pile) m.ensures.brought a.ensures.arrives))
 
-pub returns-in-Err-clause-refused : goal.returns-in-Err-clause-refused
-returns-in-Err-clause-refused g c = (
-  subst (λ (t : TableNow g.row.V.Denot). WhyNotAdded t c.args.parent c.args.to c.in-Err.why) c.self.view_is (inr (inl c.in-Err.ensures.fault)),
-  refl,
-  refl,
-)
+pub child_of-came-requires-clause-serves : goal.child_of-came-requires-clause-serves
+child_of-came-requires-clause-serves g c κs within =
+    subst (λ (z : DomainNow). ServesDomain z c.scene.inside.scene) (sym c.self.invariant.home) c.scene.invariant
+
+pub invariant_of-scene : goal.invariant_of-scene
+invariant_of-scene g c = subst (λ (z : DomainNow). ServesDomain z c.child_of-came.new.scene) c.self.invariant.home c.child_of-came.ensures.serves

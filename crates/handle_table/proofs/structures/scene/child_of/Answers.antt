@@ -1,0 +1,46 @@
+use Rattle.std.proofs.Common.{◌∙◌, arith, inl, inr, refl, subst, sym}
+use Rattle.control_block.specs.declared.handles.Held.TheVariants.{Owner}
+use Rattle.scene_structures.specs.Stacks.{ServesDomain}
+use Rattle.handle_table.proofs.Filling.{fits_at, fits_more}
+use Rattle.handle_table.proofs.Structured.{bears_beside, scene_serves, serves_carries}
+use Rattle.handle_table.proofs.structures.scene.child_of.Goals as goal
+
+pub add_child-requires-clause-carries : goal.add_child-requires-clause-carries
+add_child-requires-clause-carries g c κs within =
+    serves_carries c.args.domain.now c.args.desk.now c.args.scene.now c.requires.domain c.requires.serves
+
+pub add_child-requires-clause-holds : goal.add_child-requires-clause-holds
+add_child-requires-clause-holds g c κs within =
+    fits_at c.args.desk.now c.args.slots.now.items c.args.parent (Owner c.in-Ok.owner.now) c.requires.fits c.in-Ok.ensures.found
+
+pub returns-then-to-len-clause-brought : goal.returns-then-to-len-clause-brought
+returns-then-to-len-clause-brought g c = ((inl (refl, omega arith), refl), refl)
+
+pub returns-in-Err-clause-brought : goal.returns-in-Err-clause-brought
+returns-in-Err-clause-brought g c = ((inr (inl c.in-Err.ensures.fault), refl), refl)
+
+pub returns-in-Ok-add_child-clause-brought : goal.returns-in-Ok-add_child-clause-brought
+returns-in-Ok-add_child-clause-brought g c =
+    let d = c.args.desk.now in let m = c.add_child.new.desk in let k = c.in-Ok-add_child.child in let e = c.in-Ok-add_child.ensures in
+    record {
+      there = omega arith;
+      comes = (c.in-Ok.owner.now, c.in-Ok.ensures.found, (e.may, record { owner = k; is = refl; event = (e.own, e.tree) }));
+      fits = fits_more d m c.args.slots.now.items (Owner k) c.requires.fits e.bag e.held;
+      bears = λ domain p w. bears_beside domain d m p c.args.scene.now c.add_child.new.self w e.desk c.requires.serves.none e.none e.others;
+    }
+
+pub returns-in-Ok-add_child-clause-serves : goal.returns-in-Ok-add_child-clause-serves
+returns-in-Ok-add_child-clause-serves g c =
+    let e = c.in-Ok-add_child.ensures in
+    scene_serves c.args.domain.now c.args.domain.now c.add_child.new.desk c.add_child.new.self refl e.carries e.none
+
+pub returns-in-Err-add_child-clause-serves : goal.returns-in-Err-add_child-clause-serves
+returns-in-Err-add_child-clause-serves g c =
+    subst (ServesDomain c.args.domain.now) (sym c.in-Err-add_child.ensures.refused.2) c.requires.serves
+
+pub returns-in-Err-add_child-clause-brought : goal.returns-in-Err-add_child-clause-brought
+returns-in-Err-add_child-clause-brought g c =
+    let e = c.in-Err-add_child.ensures in let r = c.in-Err-add_child.refused in let a = c.returned.ensures in (
+      (inr (inr (c.in-Ok.owner.now, c.in-Ok.ensures.found, (r.why, a.0, e.refusals))), a.1 ∙ e.refused.0),
+      e.refused.1,
+    )
