@@ -1,3 +1,5 @@
 pub mod Workers
 pub mod Observers
 pub mod Nodes
+pub mod Rows
+pub mod Groves

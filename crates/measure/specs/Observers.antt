@@ -1,6 +1,6 @@
 -- The handles of a subject's observers, as a desk's bag lists them.
 use Rattle.std.specs.Prelude.{◌≡◌, List, IfSome, Option, None, Some}
-use Rattle.std.specs.List.{fold}
+use Rattle.std.specs.List.{All, fold}
 use Rattle.control_word.specs.Handles.{handle}
 use Rattle.control_word.specs.State.{Has}
 use Rattle.control_word.specs.declared.model.handle.Handle.{Handle}
@@ -25,6 +25,11 @@ with_observers os l = fold with_observer l os
 -- the weak handle is one to an object, and the owner of one that lives owns it
 abbrev pub IsOfObject : Observer → Type 0
 IsOfObject o = ((b : Block) × (o.weak.block ≡ Some b)) × IfSome o.owner IsReal
+
+-- the bag lists the handles of all of them, and others
+pub record IsRecruited (l : List Handle) (os : List Observer) : Type 0 where
+  pub real : All IsOfObject os
+  pub base : (k : List Handle) × (l ≡ with_observers os k)
 
 -- the bag lists the weak handle
 abbrev pub IsWatchedBy : List Handle → Observer → Type 0

@@ -9,6 +9,7 @@ ghost use Rattle.std.specs.Prelude.{◌≡◌, ◌+◌, ◌<◌};
 ghost use Rattle.control_block.specs.Desks.{Belongs, allowance_of};
 ghost use Rattle.measure.specs.Workers.{IsManaged, IsTeamReady};
 
+mod domains;
 mod handles;
 mod rows;
 mod shelf;
@@ -16,15 +17,16 @@ mod soak;
 mod structures;
 mod tables;
 mod timing;
+mod work;
 mod workers;
 
-use control_block::census::close;
 use control_block::desk::Desk;
-use control_block::domain::{Domain, open};
+use control_block::domain::Domain;
 use control_word::Shape;
+use domains::{close, open, out_of_memory};
 use handles::rounds::FIELDS;
 use rows::Row;
-use shared_handle::make;
+use shared_handle::{Shared, make};
 use std::alloc::Global;
 use std::process::ExitCode;
 use std::rt::Clock;
@@ -39,14 +41,6 @@ const BLOCKS: u32 = 65_024;
 
 const SHAPE: Shape = Shape {
     blocks: BLOCKS,
-    shared_cells: 9,
-    weak_cells: 0,
-    allowance: 4_096,
-};
-
-/// The same, for the rows of one thread alone.
-const SMALL: Shape = Shape {
-    blocks: 8_192,
     shared_cells: 9,
     weak_cells: 0,
     allowance: 4_096,
@@ -69,6 +63,27 @@ fn measure<R: Clock + CpuClock + Threads + Wait + Sync + Print>(
     Ok(())
 }
 
+/// All rows by four workers, where they can be hired.
+fn with_workers<R: Clock + CpuClock + Threads + Wait + Sync + Print>(
+    rt: &R,
+    alloc: Global,
+    domain: &Domain<()>,
+    desk: &mut Desk<()>,
+    common: &Shared,
+) -> io::Result<()>
+    requires desk { IsManaged domain.now desk.old common.now }
+    requires cells { 8 < domain.now.shape.shared_cells }
+    ensures desk { IsManaged domain.now desk.new common.now }
+    ensures sum { allowance_of desk.new ≡ allowance_of desk.old }
+{
+    let Some(mut team) = workers::hire_team(domain, desk, alloc, common) else {
+        return Err(out_of_memory());
+    };
+    let told = measure(rt, domain, &mut team);
+    workers::dismiss_team(domain, desk, team, common);
+    told
+}
+
 /// Four workers with one object in common, and all rows.
 fn with_team<R: Clock + CpuClock + Threads + Wait + Sync + Print>(
     rt: &R,
@@ -82,16 +97,9 @@ fn with_team<R: Clock + CpuClock + Threads + Wait + Sync + Print>(
     ensures sum { allowance_of desk.new ≡ allowance_of desk.old }
 {
     let Ok(common) = make(domain, desk, FIELDS, false, ()) else {
-        return Err(io::Error::from(io::ErrorKind::OutOfMemory));
+        return Err(out_of_memory());
     };
-    let told = match workers::hire_team(domain, desk, alloc, &common) {
-        Some(mut team) => {
-            let told = measure(rt, domain, &mut team);
-            workers::dismiss_team(domain, desk, team, &common);
-            told
-        }
-        None => Err(io::Error::from(io::ErrorKind::OutOfMemory)),
-    };
+    let told = with_workers(rt, alloc, domain, desk, &common);
     handles::rounds::end(domain, desk, common);
     told
 }
@@ -101,36 +109,14 @@ fn pass<R: Clock + CpuClock + Threads + Wait + Sync + Print>(
     rt: &R,
     alloc: Global,
 ) -> io::Result<()> {
-    let Ok((domain, mut desk)) = open::<()>(alloc, SHAPE) else {
-        return Err(io::Error::from(io::ErrorKind::OutOfMemory));
-    };
+    let (domain, mut desk) = open::<()>(alloc, SHAPE)?;
     let told = with_team(rt, alloc, &domain, &mut desk);
-    match close(domain, desk) {
-        Ok(census) => drop(census),
-        Err(_) => unreachable!(),
-    }
+    close(domain, desk);
     told
 }
 
-/// The rows of one thread alone, so many times.
-fn passes_alone<R: Clock + CpuClock + Wait + Print>(
-    rt: &R,
-    alloc: Global,
-    passes: u32,
-) -> io::Result<()> {
-    let Ok((domain, mut desk)) = open::<()>(alloc, SMALL) else {
-        return Err(io::Error::from(io::ErrorKind::OutOfMemory));
-    };
-    let told = handles::alone::measure(rt, alloc, &domain, &mut desk, passes);
-    match close(domain, desk) {
-        Ok(census) => drop(census),
-        Err(_) => unreachable!(),
-    }
-    told
-}
-
-/// All passes.
-fn all_passes<R: Clock + CpuClock + Threads + Wait + Sync + Print>(
+/// The rows of one, two and four threads, so many times.
+fn passes_of_team<R: Clock + CpuClock + Threads + Wait + Sync + Print>(
     rt: &R,
     alloc: Global,
     passes: u32,
@@ -138,20 +124,55 @@ fn all_passes<R: Clock + CpuClock + Threads + Wait + Sync + Print>(
     for _ in 0..passes {
         pass(rt, alloc)?;
     }
-    passes_alone(rt, alloc, passes)?;
-    handles::piles::measure(rt, alloc, passes)?;
+    Ok(())
+}
+
+/// The rows of one thread that are not by bare handles of small objects.
+fn passes_of_others<R: Clock + CpuClock + Threads + Wait + Sync + Print>(
+    rt: &R,
+    alloc: Global,
+    passes: u32,
+) -> io::Result<()> {
     tables::measure(rt, alloc, passes)?;
     structures::scenes::measure(rt, alloc, passes)?;
     handles::pages::measure(rt, alloc, passes)
 }
 
-/// The rows, so many times, and then who runs dry, where seconds are given for it.
-fn rows_of<R: Clock + CpuClock + Threads + Wait + Sync + Print>(
+/// All rows, so many times.
+fn all_passes<R: Clock + CpuClock + Threads + Wait + Sync + Print>(
     rt: &R,
     alloc: Global,
     passes: u32,
-    seconds: Option<u64>,
 ) -> io::Result<()> {
+    passes_of_team(rt, alloc, passes)?;
+    handles::alone::measure(rt, alloc, passes)?;
+    handles::piles::measure(rt, alloc, passes)?;
+    passes_of_others(rt, alloc, passes)
+}
+
+/// The seconds that the next word gives, where there is one.
+fn seconds_in(words: env::Args<Global>) -> io::Result<Option<u64>> {
+    let mut words = words;
+    let Some(word) = words.next() else {
+        return Ok(None);
+    };
+    match word.parse::<u64>() {
+        Ok(seconds) => Ok(Some(seconds)),
+        Err(_) => Err(io::Error::from(io::ErrorKind::InvalidInput)),
+    }
+}
+
+/// The rows, so many times as the word says, and then who runs dry, where seconds are given for it.
+fn all_rows<R: Clock + CpuClock + Threads + Wait + Sync + Print>(
+    rt: &R,
+    alloc: Global,
+    passes: &str,
+    words: env::Args<Global>,
+) -> io::Result<()> {
+    let Ok(passes) = passes.parse::<u32>() else {
+        return Err(io::Error::from(io::ErrorKind::InvalidInput));
+    };
+    let seconds = seconds_in(words)?;
     all_passes(rt, alloc, passes)?;
     match seconds {
         Some(seconds) => shelf::measure(rt, alloc, seconds),
@@ -167,16 +188,6 @@ fn main(rt: HostRuntime) -> io::Result<ExitCode> {
     if passes.as_str() == "soak" {
         return soak::rounds(&rt, rt.alloc(), words);
     }
-    let Ok(passes) = passes.parse::<u32>() else {
-        return Err(io::Error::from(io::ErrorKind::InvalidInput));
-    };
-    let seconds = match words.next() {
-        None => None,
-        Some(seconds) => match seconds.parse::<u64>() {
-            Ok(seconds) => Some(seconds),
-            Err(_) => return Err(io::Error::from(io::ErrorKind::InvalidInput)),
-        },
-    };
-    rows_of(&rt, rt.alloc(), passes, seconds)?;
+    all_rows(&rt, rt.alloc(), passes.as_str(), words)?;
     Ok(ExitCode::from(0))
 }

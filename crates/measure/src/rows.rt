@@ -3,9 +3,19 @@ use crate::timing::Spent;
 use std::io;
 
 /// The ways to call this runtime: by handles, and by scene_structures.
-const RUNTIME: &str = "this runtime";
+pub(crate) const RUNTIME: &str = "this runtime";
 
 pub(crate) const STRUCTURES: &str = "this runtime, scene_structures";
+
+/// How a row is called, and the way to call this runtime; how many turns of its work lie between two looks at the
+/// clock, and how many rounds these are.
+#[derive(Clone, Copy, Drop)]
+pub(crate) struct Label<'a> {
+    pub(crate) name: &'a str,
+    pub(crate) peer: &'a str,
+    pub(crate) turns: u32,
+    pub(crate) rounds: u32,
+}
 
 /// What is measured.
 #[derive(Clone, Copy, Drop)]
@@ -55,9 +65,9 @@ impl Row {
         }
     }
 
-    /// How many rounds lie between two looks at the clock: fewer where threads wait for each other, so that they end
+    /// How many turns lie between two looks at the clock: fewer where threads wait for each other, so that they end
     /// together.
-    pub(crate) fn chunk(self) -> u32 {
+    pub(crate) fn turns(self) -> u32 {
         match self {
             Row::ShareCommon | Row::LoadCommon | Row::StoreCommon | Row::LoadBeside | Row::Stack =>
                 100,
@@ -102,16 +112,25 @@ impl Row {
         }
     }
 
+    fn label(self) -> Label<'static> {
+        Label {
+            name: self.name(),
+            peer: self.peer(),
+            turns: self.turns(),
+            rounds: self.turns(),
+        }
+    }
+
     /// The lines: one for all threads, or where the others do something else one for the first, and one for them.
     pub(crate) fn tell<R: Print>(self, rt: &R, spent: &[Spent]) -> io::Result<()> {
         if !matches!(self, Row::StoreCommon) || spent.is_empty() {
-            return line_of(rt, self.name(), self.peer(), self.chunk(), spent, spent);
+            return line(rt, &self.label(), spent, spent);
         }
-        line(rt, self.name(), self.chunk(), spent, &spent[..1])?;
+        line(rt, &self.label(), spent, &spent[..1])?;
         if spent.len() == 1 {
             return Ok(());
         }
-        line(rt, self.beside().name(), self.chunk(), spent, &spent[1..])
+        line(rt, &self.beside().label(), spent, &spent[1..])
     }
 }
 
@@ -119,20 +138,7 @@ impl Row {
 /// had a processor, or that it shared with the others; 0 where a call was refused, since then the rounds weren't done.
 pub(crate) fn line<R: Print>(
     rt: &R,
-    name: &str,
-    chunk: u32,
-    spent: &[Spent],
-    told: &[Spent],
-) -> io::Result<()> {
-    line_of(rt, name, RUNTIME, chunk, spent, told)
-}
-
-/// The same, by another way to call this runtime, which `peer` names.
-pub(crate) fn line_of<R: Print>(
-    rt: &R,
-    name: &str,
-    peer: &str,
-    chunk: u32,
+    label: &Label<'_>,
     spent: &[Spent],
     told: &[Spent],
 ) -> io::Result<()> {
@@ -140,11 +146,15 @@ pub(crate) fn line_of<R: Print>(
     let mut rounds = 0u64;
     for thread in told {
         wall = wall.wrapping_add(thread.wall);
-        rounds = rounds.wrapping_add(u64::from(chunk).wrapping_mul(u64::from(thread.chunks)));
+        rounds = rounds.wrapping_add(u64::from(label.rounds).wrapping_mul(u64::from(
+            thread.chunks,
+        )));
     }
     let hundredths = wall.saturating_mul(100) / rounds.max(1);
     println!(rt;
-        "{name}|{peer}|{}|{}.{:02}|{}",
+        "{}|{}|{}|{}.{:02}|{}",
+        label.name,
+        label.peer,
         spent.len(),
         hundredths / 100,
         hundredths % 100,

@@ -2,6 +2,7 @@
 //! what comes out. A block is vacant for the thread whose leave vacated it, so that the one that makes runs dry beside
 //! the others, unless they shelve what they have to spare.
 use crate::handles::rounds::FIELDS;
+use crate::tables::done;
 use crate::timing::nanos;
 use control_word::Shape;
 use handle_table::{Cell, HandleTable, Home, Program, Team, run};
@@ -50,6 +51,17 @@ struct Circle {
 }
 
 impl Circle {
+    fn new(shelf: bool, seconds: u64) -> Self {
+        Self {
+            shelf,
+            span: seconds.saturating_mul(1_000_000_000),
+            over: AtomicBool::new(false),
+            whole: AtomicBool::new(true),
+            made: AtomicU64::new(0),
+            refused: AtomicU64::new(0),
+        }
+    }
+
     /// Makes and stores, so many times: how many makes were refused, or none where another call was.
     fn produce<H: Home, R: Wait>(rt: &R, table: &mut HandleTable<'_, (), H>) -> Option<u32> {
         let mut refused = 0u32;
@@ -66,6 +78,13 @@ impl Circle {
         Some(refused)
     }
 
+    /// How many makes of a chunk were done, and how many refused.
+    fn note(&self, refused: u32) {
+        let made = u64::from(CHUNK.saturating_sub(refused));
+        self.made.fetch_add(made, Ordering::SeqCst);
+        self.refused.fetch_add(u64::from(refused), Ordering::SeqCst);
+    }
+
     /// The thread that makes, until the time is over.
     fn lead<H: Home, R: Clock + Wait>(
         &self,
@@ -74,12 +93,10 @@ impl Circle {
     ) -> io::Result<()> {
         let start = Instant::now(rt)?;
         for _ in rt.forever() {
-            let Some(refused) = Self::produce(rt, table) else {
-                return Err(io::Error::from(io::ErrorKind::Other));
-            };
-            let made = u64::from(CHUNK.saturating_sub(refused));
-            self.made.fetch_add(made, Ordering::SeqCst);
-            self.refused.fetch_add(u64::from(refused), Ordering::SeqCst);
+            match Self::produce(rt, table) {
+                Some(refused) => self.note(refused),
+                None => return Err(io::Error::from(io::ErrorKind::Other)),
+            }
             if nanos(start.elapsed(rt)?) >= self.span {
                 break;
             }
@@ -87,21 +104,35 @@ impl Circle {
         Ok(())
     }
 
-    /// A thread that loads and ends: whether no call was refused.
+    /// A thread loads and ends: whether no call was refused.
+    fn take<H: Home, R: Wait>(&self, rt: &R, table: &mut HandleTable<'_, (), H>) -> bool {
+        let loaded = done(table.load(rt, CELL, SPARE)) && done(table.reset(SPARE));
+        table.settle(rt);
+        if self.shelf {
+            table.shelve(u32::MAX);
+        }
+        loaded
+    }
+
+    /// The same, until the time is over.
     fn consume<H: Home, R: Wait>(&self, rt: &R, table: &mut HandleTable<'_, (), H>) -> bool {
         for _ in rt.forever() {
             if self.over.load(Ordering::SeqCst) {
                 break;
             }
-            if table.load(rt, CELL, SPARE).is_err() || table.reset(SPARE).is_err() {
+            if !self.take(rt, table) {
                 return false;
-            }
-            table.settle(rt);
-            if self.shelf {
-                table.shelve(u32::MAX);
             }
         }
         true
+    }
+
+    /// A line "shelf|seconds|made|refused", or "no shelf|..".
+    fn tell<R: Print>(&self, rt: &R, seconds: u64) -> io::Result<()> {
+        let name = if self.shelf { "shelf" } else { "no shelf" };
+        let made = self.made.load(Ordering::SeqCst);
+        let refused = self.refused.load(Ordering::SeqCst);
+        println!(rt; "{name}|{seconds}|{made}|{refused}")
     }
 }
 
@@ -120,21 +151,14 @@ impl<R: Clock + Threads + Wait + Sync> Program<(), R> for Circle {
     }
 }
 
-/// A line "shelf|seconds|made|refused", or "no shelf|..": how many makes were done and how many refused.
+/// A line: how many makes were done and how many refused.
 fn tell<R: Clock + Threads + Wait + Sync + Print>(
     rt: &R,
     alloc: Global,
     seconds: u64,
     shelf: bool,
 ) -> io::Result<()> {
-    let circle = Circle {
-        shelf,
-        span: seconds.saturating_mul(1_000_000_000),
-        over: AtomicBool::new(false),
-        whole: AtomicBool::new(true),
-        made: AtomicU64::new(0),
-        refused: AtomicU64::new(0),
-    };
+    let circle = Circle::new(shelf, seconds);
     let ran = run(rt, alloc, SHAPE, TEAM, &circle);
     if ran.is_err() {
         return Err(io::Error::from(io::ErrorKind::OutOfMemory));
@@ -142,10 +166,7 @@ fn tell<R: Clock + Threads + Wait + Sync + Print>(
     if !circle.whole.load(Ordering::SeqCst) {
         return Err(io::Error::from(io::ErrorKind::Other));
     }
-    let name = if shelf { "shelf" } else { "no shelf" };
-    let made = circle.made.load(Ordering::SeqCst);
-    let refused = circle.refused.load(Ordering::SeqCst);
-    println!(rt; "{name}|{seconds}|{made}|{refused}")
+    circle.tell(rt, seconds)
 }
 
 /// The two lines, each of so many seconds.

@@ -27,6 +27,28 @@ fn given(mut words: env::Args<Global>) -> Option<(u64, u64)> {
     }
 }
 
+/// Rounds for so many seconds, by their seeds: whether each of them balances.
+fn balances<R: Clock + Threads + Wait + Sync + Print>(
+    rt: &R,
+    alloc: Global,
+    seconds: u64,
+    seed: u64,
+) -> io::Result<bool> {
+    let start = Instant::now(rt)?;
+    for number in 0..u64::MAX {
+        let seed = seed.wrapping_add(number);
+        let told = round(rt, alloc, seed);
+        told.tell(rt, seed)?;
+        if !told.balances {
+            return Ok(false);
+        }
+        if start.elapsed(rt)?.as_secs() >= seconds {
+            break;
+        }
+    }
+    Ok(true)
+}
+
 /// Rounds, until the seconds are over that the words give: whether each of them balances.
 pub(crate) fn rounds<R: Clock + Threads + Wait + Sync + Print>(
     rt: &R,
@@ -37,17 +59,6 @@ pub(crate) fn rounds<R: Clock + Threads + Wait + Sync + Print>(
         println!(rt; "measure soak SECONDS [SEED]")?;
         return Ok(ExitCode::from(2));
     };
-    let start = Instant::now(rt)?;
-    for number in 0..u64::MAX {
-        let seed = seed.wrapping_add(number);
-        let told = round(rt, alloc, seed);
-        told.tell(rt, seed)?;
-        if !told.balances {
-            return Ok(ExitCode::from(1));
-        }
-        if start.elapsed(rt)?.as_secs() >= seconds {
-            break;
-        }
-    }
-    Ok(ExitCode::from(0))
+    let failed = !balances(rt, alloc, seconds, seed)?;
+    Ok(ExitCode::from(u8::from(failed)))
 }

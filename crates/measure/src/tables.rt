@@ -1,7 +1,7 @@
 //! The rows of a handle table, by one thread: what its calls cost beside the same calls on handles.
 use crate::handles::rounds::FIELDS;
-use crate::rows::line_of;
-use crate::timing::{CHUNKS, SPAN, Spent, nanos};
+use crate::rows::Label;
+use crate::work::{Work, tell_all};
 use control_word::Shape;
 use handle_table::{Cell, Fault, HandleTable, Home, Program, Team, run};
 use std::alloc::Global;
@@ -10,7 +10,7 @@ use std::rt::Clock;
 use std::sync::Wait;
 use std::sync::atomic::{AtomicBool, Ordering};
 use std::thread::Threads;
-use std::time::{CpuClock, Instant};
+use std::time::CpuClock;
 
 /// As for the rows of one thread alone.
 const SHAPE: Shape = Shape {
@@ -37,34 +37,18 @@ const WEAK: usize = 2;
 
 const CELL: Cell = Cell::Shared(0);
 
-/// How many rounds come between two looks at the clock.
-const CHUNK: u32 = 2_000;
-
-/// What a row does.
-#[derive(Clone, Copy, Drop)]
-enum Work {
-    MakeEnd,
-    Copy,
-    Lock,
-    Load,
-}
-
-impl Work {
-    const ALL: [Work; 4] = [Work::MakeEnd, Work::Copy, Work::Lock, Work::Load];
-
-    /// The name of the same row by handles.
-    fn name(self) -> &'static str {
-        match self {
-            Work::MakeEnd => "make + end",
-            Work::Copy => "share + release, own object",
-            Work::Lock => "lock + release, own object",
-            Work::Load => "cell load + release, own cell",
-        }
+/// A row by a table, which is called as the same row by handles.
+fn label(name: &str) -> Label<'_> {
+    Label {
+        name,
+        peer: "this runtime, handle table",
+        turns: 2_000,
+        rounds: 2_000,
     }
 }
 
 /// Whether a call was done.
-fn done<T: Drop>(told: Result<T, Fault>) -> bool {
+pub(crate) fn done<T: Drop>(told: Result<T, Fault>) -> bool {
     match told {
         Ok(_) => true,
         Err(_) => false,
@@ -87,73 +71,62 @@ fn fill<H: Home>(table: &mut HandleTable<'_, (), H>) -> bool {
         && done(table.store(SPARE, CELL))
 }
 
-fn make_and_end<H: Home, R: Wait>(rt: &R, table: &mut HandleTable<'_, (), H>) -> bool {
-    let mut whole = true;
-    for _ in 0..CHUNK {
-        whole &= made(table, SPARE);
-        whole &= done(table.reset(SPARE));
+/// An object is made and ends.
+#[derive(Clone, Copy, Drop)]
+struct MakeAndEnd;
+
+impl<'d, H: Home> Work<HandleTable<'d, (), H>> for MakeAndEnd {
+    ghost is_ready = { λ _ _. Unit {0} };
+
+    #[inline(always)]
+    fn once<R: Wait>(&self, rt: &R, table: &mut HandleTable<'d, (), H>) -> bool {
+        let made = made(table, SPARE);
+        let reset = done(table.reset(SPARE));
         table.settle(rt);
+        made & reset
     }
-    whole
 }
 
-fn copy_and_reset<H: Home>(table: &mut HandleTable<'_, (), H>) -> bool {
-    let mut whole = true;
-    for _ in 0..CHUNK {
-        whole &= done(table.copy(OWN, SPARE));
-        whole &= done(table.reset(SPARE));
+/// A copy of the worker's own owner comes and leaves.
+#[derive(Clone, Copy, Drop)]
+struct CopyAndReset;
+
+impl<'d, H: Home> Work<HandleTable<'d, (), H>> for CopyAndReset {
+    ghost is_ready = { λ _ _. Unit {0} };
+
+    #[inline(always)]
+    fn once<R: Wait>(&self, _rt: &R, table: &mut HandleTable<'d, (), H>) -> bool {
+        let copied = done(table.copy(OWN, SPARE));
+        copied & done(table.reset(SPARE))
     }
-    whole
 }
 
-fn lock_and_reset<H: Home, R: Wait>(rt: &R, table: &mut HandleTable<'_, (), H>) -> bool {
-    let mut whole = true;
-    for _ in 0..CHUNK {
-        whole &= done(table.lock(rt, WEAK, SPARE));
-        whole &= done(table.reset(SPARE));
+/// An owner comes of the weak handle and leaves.
+#[derive(Clone, Copy, Drop)]
+struct LockAndReset;
+
+impl<'d, H: Home> Work<HandleTable<'d, (), H>> for LockAndReset {
+    ghost is_ready = { λ _ _. Unit {0} };
+
+    #[inline(always)]
+    fn once<R: Wait>(&self, rt: &R, table: &mut HandleTable<'d, (), H>) -> bool {
+        let locked = done(table.lock(rt, WEAK, SPARE));
+        locked & done(table.reset(SPARE))
     }
-    whole
 }
 
-fn load_and_reset<H: Home, R: Wait>(rt: &R, table: &mut HandleTable<'_, (), H>) -> bool {
-    let mut whole = true;
-    for _ in 0..CHUNK {
-        whole &= done(table.load(rt, CELL, SPARE));
-        whole &= done(table.reset(SPARE));
-    }
-    whole
-}
+/// A copy of what the cell holds comes and leaves.
+#[derive(Clone, Copy, Drop)]
+struct LoadAndReset;
 
-/// A row's rounds, for as long as a row runs.
-fn time<H: Home, R: Clock + CpuClock + Wait>(
-    rt: &R,
-    table: &mut HandleTable<'_, (), H>,
-    work: Work,
-) -> io::Result<Spent> {
-    let mut spent = Spent {
-        wall: 0,
-        processor: 0,
-        chunks: 0,
-        whole: true,
-    };
-    let start = Instant::now(rt)?;
-    let before = rt.thread_cpu_time()?;
-    for chunk in 1..=CHUNKS {
-        spent.whole &= match work {
-            Work::MakeEnd => make_and_end(rt, table),
-            Work::Copy => copy_and_reset(table),
-            Work::Lock => lock_and_reset(rt, table),
-            Work::Load => load_and_reset(rt, table),
-        };
-        spent.chunks = chunk;
-        spent.wall = nanos(start.elapsed(rt)?);
-        if spent.wall >= SPAN {
-            break;
-        }
+impl<'d, H: Home> Work<HandleTable<'d, (), H>> for LoadAndReset {
+    ghost is_ready = { λ _ _. Unit {0} };
+
+    #[inline(always)]
+    fn once<R: Wait>(&self, rt: &R, table: &mut HandleTable<'d, (), H>) -> bool {
+        let loaded = done(table.load(rt, CELL, SPARE));
+        loaded & done(table.reset(SPARE))
     }
-    let after = rt.thread_cpu_time()?;
-    spent.processor = nanos(after.saturating_sub(before));
-    Ok(spent)
 }
 
 /// All rows, so many times; what comes before the first is not told.
@@ -171,22 +144,15 @@ impl Rows {
         table: &mut HandleTable<'_, (), H>,
     ) -> io::Result<()> {
         let filled = fill(table);
-        for work in Work::ALL {
-            time(rt, table, work)?;
-            for _ in 0..self.passes {
-                let mut spent = time(rt, table, work)?;
-                spent.whole &= filled;
-                line_of(
-                    rt,
-                    work.name(),
-                    "this runtime, handle table",
-                    CHUNK,
-                    &[spent],
-                    &[spent],
-                )?;
-            }
-        }
-        Ok(())
+        let passes = self.passes;
+        let make_and_end = label("make + end");
+        tell_all(rt, &MakeAndEnd, table, &make_and_end, filled, passes)?;
+        let copy = label("share + release, own object");
+        tell_all(rt, &CopyAndReset, table, &copy, filled, passes)?;
+        let lock = label("lock + release, own object");
+        tell_all(rt, &LockAndReset, table, &lock, filled, passes)?;
+        let load = label("cell load + release, own cell");
+        tell_all(rt, &LoadAndReset, table, &load, filled, passes)
     }
 }
 

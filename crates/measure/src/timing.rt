@@ -1,12 +1,19 @@
 //! How long the rounds of a row take.
 ghost use denote.Param.Send.{IsSync};
+ghost use Rattle.measure.specs.Rows.{IsLent, KeepsHandles};
 ghost use Rattle.measure.specs.Workers.{IsPairReady, IsReadyWorker, IsTeamReady};
 
-use crate::handles::{cell_rounds, rounds};
+use crate::handles::cell_rounds::{CompareAndExchange, LoadAndRelease, StoreCopy, exchange};
+use crate::handles::rounds::{
+    Act, Count, DowngradeAndRelease, MakeAndEnd, ShareAndRelease, lock_and_release, repeat,
+};
 use crate::rows::Row;
-use crate::structures::scene_stack;
+use crate::structures::scene_stack::push_and_pop;
+use crate::work::{add_since, moment};
 use crate::workers::{Pair, Team, Worker};
+use control_block::desk::Desk;
 use control_block::domain::Domain;
+use shared_handle::Shared;
 use std::rt::Clock;
 use std::sync::Wait;
 use std::sync::atomic::{AtomicU64, Ordering};
@@ -38,6 +45,15 @@ pub(crate) struct Spent {
     pub(crate) chunks: u32,
     /// No call was refused.
     pub(crate) whole: bool,
+}
+
+impl Spent {
+    pub(crate) const NOTHING: Spent = Spent {
+        wall: 0,
+        processor: 0,
+        chunks: 0,
+        whole: true,
+    };
 }
 
 /// Where the threads of a row meet.
@@ -88,12 +104,45 @@ pub(crate) fn nanos(time: Duration) -> u64 {
 }
 
 /// The worker's cell holds the worker's object, and the common cell the common one: whether no call was refused.
-fn fill(domain: &Domain<()>, worker: &mut Worker) -> bool
+fn fill<R: Wait>(rt: &R, domain: &Domain<()>, worker: &mut Worker) -> bool
     requires { IsReadyWorker domain.now worker.old }
     ensures { IsReadyWorker domain.now worker.new }
 {
-    let own = cell_rounds::store_copies(domain, &mut worker.desk, &worker.own, worker.cell, 1);
-    own & cell_rounds::store_copies(domain, &mut worker.desk, &worker.common, COMMON_CELL, 1)
+    let desk = &mut worker.desk;
+    let own = StoreCopy::once(rt, domain, desk, &worker.own, worker.cell);
+    own & StoreCopy::once(rt, domain, desk, &worker.common, COMMON_CELL)
+}
+
+/// So many turns of a row's act, with an owner and a cell: whether no call was refused.
+fn act<R: Wait>(
+    rt: &R,
+    domain: &Domain<()>,
+    desk: &mut Desk<()>,
+    owner: &Shared,
+    cell: u32,
+    row: Row,
+) -> bool
+    requires { IsLent domain.now desk.old owner.now cell }
+    ensures { KeepsHandles desk.old desk.new }
+{
+    let turns = row.turns();
+    match row {
+        Row::MakeEnd => repeat::<MakeAndEnd, R>(rt, domain, desk, owner, cell, turns),
+        Row::ShareOwn | Row::ShareCommon | Row::Stack => {
+            repeat::<ShareAndRelease, R>(rt, domain, desk, owner, cell, turns)
+        }
+        Row::WeakOwn => repeat::<DowngradeAndRelease, R>(rt, domain, desk, owner, cell, turns),
+        Row::CountOwn => repeat::<Count, R>(rt, domain, desk, owner, cell, turns),
+        Row::LockOwn => lock_and_release(rt, domain, desk, owner, turns),
+        Row::LoadOwn | Row::LoadCommon | Row::LoadBeside => {
+            repeat::<LoadAndRelease, R>(rt, domain, desk, owner, cell, turns)
+        }
+        Row::StoreOwn | Row::StoreCommon => {
+            repeat::<StoreCopy, R>(rt, domain, desk, owner, cell, turns)
+        }
+        Row::ExchangeOwn => exchange(domain, desk, owner, cell, turns),
+        Row::CompareOwn => repeat::<CompareAndExchange, R>(rt, domain, desk, owner, cell, turns),
+    }
 }
 
 /// A chunk of rounds: whether no call was refused.
@@ -110,33 +159,17 @@ fn work<R: Wait>(rt: &R, domain: &Domain<()>, worker: &mut Worker, row: Row) -> 
         cell,
         apart: _,
     } = worker;
-    let count = row.chunk();
     match row {
-        Row::MakeEnd => rounds::make_and_end(domain, desk, count),
-        Row::ShareOwn => rounds::share_and_release(domain, desk, own, count),
-        Row::ShareCommon => rounds::share_and_release(domain, desk, common, count),
-        Row::WeakOwn => rounds::downgrade_and_release(domain, desk, own, count),
-        Row::CountOwn => rounds::count_owners(domain, desk, own, count),
-        Row::LockOwn => rounds::lock_and_release(rt, domain, desk, own, count),
-        Row::LoadOwn => cell_rounds::load_and_release(rt, domain, desk, *cell, count),
-        Row::LoadCommon | Row::LoadBeside => cell_rounds::load_and_release(
-            rt,
-            domain,
-            desk,
-            COMMON_CELL,
-            count,
-        ),
-        Row::StoreOwn => cell_rounds::store_copies(domain, desk, own, *cell, count),
-        Row::StoreCommon => cell_rounds::store_copies(domain, desk, own, COMMON_CELL, count),
-        Row::Stack => scene_stack::push_and_pop(rt, domain, desk, stack, pile, count),
-        Row::ExchangeOwn => cell_rounds::exchange(domain, desk, own, *cell, count),
-        Row::CompareOwn => {
-            cell_rounds::compare_and_exchange(rt, domain, desk, own, *cell, count)
+        Row::Stack => push_and_pop(rt, domain, desk, stack, pile, row.turns()),
+        Row::ShareCommon => act(rt, domain, desk, common, *cell, row),
+        Row::LoadCommon | Row::LoadBeside | Row::StoreCommon => {
+            act(rt, domain, desk, own, COMMON_CELL, row)
         }
+        _ => act(rt, domain, desk, own, *cell, row),
     }
 }
 
-/// Chunks of rounds up to a moment, one at least: how many, and whether no call was refused.
+/// Chunks of rounds up to a moment, one at least: they are noted in what is spent.
 fn work_until<R: Clock + Wait>(
     rt: &R,
     domain: &Domain<()>,
@@ -144,23 +177,40 @@ fn work_until<R: Clock + Wait>(
     row: Row,
     start: &Start,
     end: u64,
-) -> io::Result<(u32, bool)>
+) -> io::Result<Spent>
     requires { IsReadyWorker domain.now worker.old }
     ensures { IsReadyWorker domain.now worker.new }
 {
-    let mut chunks = 0;
-    let mut whole = true;
+    let mut spent = Spent::NOTHING;
     for chunk in 1..=CHUNKS {
-        whole &= work(rt, domain, worker, row);
-        chunks = chunk;
+        spent.whole &= work(rt, domain, worker, row);
+        spent.chunks = chunk;
         if start.now(rt)? >= end {
             break;
         }
     }
-    Ok((chunks, whole))
+    Ok(spent)
 }
 
-/// Chunks of rounds, from when all have come and settled up to a common moment.
+/// Chunks of rounds up to a moment, and the time that they take.
+fn time_until<R: Clock + CpuClock + Wait>(
+    rt: &R,
+    domain: &Domain<()>,
+    worker: &mut Worker,
+    row: Row,
+    start: &Start,
+    end: u64,
+) -> io::Result<Spent>
+    requires { IsReadyWorker domain.now worker.old }
+    ensures { IsReadyWorker domain.now worker.new }
+{
+    let begin = moment(rt)?;
+    let mut spent = work_until(rt, domain, worker, row, start, end)?;
+    add_since(rt, begin, &mut spent)?;
+    Ok(spent)
+}
+
+/// The same, from when all have come and settled up to a common moment.
 fn time<R: Clock + CpuClock + Wait>(
     rt: &R,
     domain: &Domain<()>,
@@ -171,26 +221,13 @@ fn time<R: Clock + CpuClock + Wait>(
     requires { IsReadyWorker domain.now worker.old }
     ensures { IsReadyWorker domain.now worker.new }
 {
-    let filled = fill(domain, worker);
+    let filled = fill(rt, domain, worker);
     let end = start.meet(rt)?;
-    work_until(
-        rt,
-        domain,
-        worker,
-        row.settling(),
-        start,
-        end.saturating_sub(SPAN),
-    )?;
-    let begin = start.now(rt)?;
-    let before = rt.thread_cpu_time()?;
-    let (chunks, whole) = work_until(rt, domain, worker, row, start, end)?;
-    let after = rt.thread_cpu_time()?;
-    Ok(Spent {
-        wall: start.now(rt)?.saturating_sub(begin),
-        processor: nanos(after.saturating_sub(before)),
-        chunks,
-        whole: whole && filled,
-    })
+    let settled = end.saturating_sub(SPAN);
+    work_until(rt, domain, worker, row.settling(), start, settled)?;
+    let mut spent = time_until(rt, domain, worker, row, start, end)?;
+    spent.whole &= filled;
+    Ok(spent)
 }
 
 /// Two threads, of which the first does this row.

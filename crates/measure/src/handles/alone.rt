@@ -1,162 +1,151 @@
 //! The rows of one thread alone, which works on longer lists.
-ghost use Rattle.std.specs.Prelude.{◌≡◌};
-ghost use Rattle.std.specs.List.{All};
-ghost use Rattle.control_block.specs.Desks.{Belongs};
-ghost use Rattle.control_block.specs.Desks.{IsSameDesk, bag_of};
-ghost use Rattle.measure.specs.Observers.{IsWatchedBy};
+ghost use Rattle.control_block.specs.Desks.{bag_of};
+ghost use Rattle.measure.specs.Observers.{IsRecruited};
+ghost use Rattle.measure.specs.Rows.{IsOnlyDesk};
 
+use crate::domains::{close, open, out_of_memory};
 use crate::handles::chain::{CHAIN, build, let_go};
 use crate::handles::observers::{OBSERVERS, Observer, notify, recruit, retire};
-use crate::rows::line;
-use crate::timing::{CHUNKS, SPAN, Spent, nanos};
+use crate::rows::{Label, RUNTIME};
+use crate::timing::Spent;
+use crate::work::{PartlyTimed, Work, add_since, moment, tell_all, tell_parts};
 use control_block::desk::Desk;
 use control_block::domain::Domain;
+use control_word::Shape;
 use std::alloc::Global;
 use std::hint::black_box;
 use std::io;
 use std::rt::Clock;
 use std::sync::Wait;
-use std::time::{CpuClock, Instant};
+use std::time::CpuClock;
 
-/// Notifications for as long as a row runs.
-fn time<R: Clock + CpuClock + Wait>(
-    rt: &R,
-    domain: &Domain<()>,
-    desk: &mut Desk<()>,
-    observers: &[Observer],
-) -> io::Result<Spent>
-    requires domain { Belongs desk.old domain.now }
-    requires watched { All (IsWatchedBy (bag_of desk.old)) observers.now }
-    ensures desk { IsSameDesk desk.old desk.new }
-    ensures bag { bag_of desk.new ≡ bag_of desk.old }
-{
-    let mut spent = Spent {
-        wall: 0,
-        processor: 0,
-        chunks: 0,
-        whole: true,
-    };
-    let start = Instant::now(rt)?;
-    let before = rt.thread_cpu_time()?;
-    for chunk in 1..=CHUNKS {
-        spent.whole &= black_box(notify(rt, domain, desk, observers)).is_some();
-        spent.chunks = chunk;
-        spent.wall = nanos(start.elapsed(rt)?);
-        if spent.wall >= SPAN {
-            break;
-        }
-    }
-    let after = rt.thread_cpu_time()?;
-    spent.processor = nanos(after.saturating_sub(before));
-    Ok(spent)
+const SHAPE: Shape = Shape {
+    blocks: 8_192,
+    shared_cells: 9,
+    weak_cells: 0,
+    allowance: 4_096,
+};
+
+const NOTIFICATIONS: Label<'static> = Label {
+    name: "lock + release, each of 1,000 observers",
+    peer: RUNTIME,
+    turns: 1,
+    rounds: 1_000,
+};
+
+const ENDS: Label<'static> = Label {
+    name: "end of a chain of 4,095, each",
+    peer: RUNTIME,
+    turns: 1,
+    rounds: CHAIN,
+};
+
+/// A subject's observers, and the desk that asks them.
+struct Subject {
+    desk: Desk<()>,
+    observers: Vec<Observer>,
 }
 
-/// A subject's row, so many times; what comes before the first is not told.
+/// The subject asks all.
+#[derive(Drop)]
+struct Notify<'a> {
+    domain: &'a Domain<()>,
+}
+
+impl Work<Subject> for Notify<'_> {
+    ghost use Rattle.control_block.specs.Desks.{bag_of};
+    ghost use Rattle.measure.specs.Observers.{IsRecruited};
+    ghost use Rattle.measure.specs.Rows.{IsOnlyDesk};
+
+    ghost is_ready = { λ work on. IsOnlyDesk work.domain.now on.desk × IsRecruited (bag_of on.desk) on.observers.items };
+
+    fn once<R: Wait>(&self, rt: &R, on: &mut Subject) -> bool {
+        black_box(notify(rt, self.domain, &mut on.desk, on.observers.as_slice())).is_some()
+    }
+}
+
+/// A chain ends. What makes it is not in the row's time.
+#[derive(Drop)]
+struct EndChain<'a> {
+    domain: &'a Domain<()>,
+}
+
+impl PartlyTimed<Desk<()>> for EndChain<'_> {
+    ghost use Rattle.measure.specs.Rows.{IsOnlyDesk};
+
+    ghost is_ready = { λ work desk. IsOnlyDesk work.domain.now desk };
+
+    fn once<R: Clock + CpuClock + Wait>(
+        &self,
+        rt: &R,
+        desk: &mut Desk<()>,
+        spent: &mut Spent,
+    ) -> io::Result<()> {
+        let Some(first) = build(self.domain, desk) else {
+            return Err(out_of_memory());
+        };
+        let begin = moment(rt);
+        let_go(self.domain, desk, first);
+        add_since(rt, begin?, spent)
+    }
+}
+
+/// The observers' row, so many times, where there are as many as it wants.
 fn notifications<R: Clock + CpuClock + Wait + Print>(
     rt: &R,
     domain: &Domain<()>,
-    desk: &mut Desk<()>,
-    observers: &[Observer],
+    on: &mut Subject,
     passes: u32,
 ) -> io::Result<()>
-    requires domain { Belongs desk.old domain.now }
-    requires watched { All (IsWatchedBy (bag_of desk.old)) observers.now }
-    ensures desk { IsSameDesk desk.old desk.new }
-    ensures bag { bag_of desk.new ≡ bag_of desk.old }
+    requires only { IsOnlyDesk domain.now on.old.desk }
+    requires recruited { IsRecruited (bag_of on.old.desk) on.old.observers.items }
+    ensures only { IsOnlyDesk domain.now on.new.desk }
+    ensures recruited { IsRecruited (bag_of on.new.desk) on.new.observers.items }
 {
-    time(rt, domain, desk, observers)?;
-    for _ in 0..passes {
-        let spent = time(rt, domain, desk, observers)?;
-        line(
-            rt,
-            "lock + release, each of 1,000 observers",
-            1_000,
-            &[spent],
-            &[spent],
-        )?;
+    if on.observers.len() < OBSERVERS {
+        return Err(out_of_memory());
     }
-    Ok(())
+    tell_all(rt, &Notify { domain }, on, &NOTIFICATIONS, true, passes)
 }
 
-/// Ends of chains for as long as a row runs. What makes a chain is not in it.
-#[tactic(auto, using(shared_handle::proofs::Callers::first_out, shared_handle::proofs::Callers::first_held))]
-fn time_ends<R: Clock + CpuClock + Wait>(
+/// Observers come, are notified, and leave.
+fn with_observers<R: Clock + CpuClock + Wait + Print>(
     rt: &R,
+    alloc: Global,
     domain: &Domain<()>,
-    desk: &mut Desk<()>,
-) -> io::Result<Spent>
-    requires domain { Belongs desk.old domain.now }
-    ensures desk { IsSameDesk desk.old desk.new }
+    desk: Desk<()>,
+    passes: u32,
+) -> (Desk<()>, io::Result<()>)
+    requires { IsOnlyDesk domain.now desk }
+    ensures { IsOnlyDesk domain.now result.0 }
 {
-    let mut spent = Spent {
-        wall: 0,
-        processor: 0,
-        chunks: 0,
-        whole: true,
+    let mut desk = desk;
+    let Ok(observers) = recruit(domain, &mut desk, alloc) else {
+        return (desk, Err(out_of_memory()));
     };
-    for chunk in 1..=CHUNKS {
-        let Some(first) = build(domain, desk) else {
-            return Err(io::Error::from(io::ErrorKind::OutOfMemory));
-        };
-        let before = rt.thread_cpu_time();
-        let start = Instant::now(rt);
-        let_go(domain, desk, first);
-        let wall = start?.elapsed(rt)?;
-        let processor = rt.thread_cpu_time()?.saturating_sub(before?);
-        spent.chunks = chunk;
-        spent.wall = spent.wall.saturating_add(nanos(wall));
-        spent.processor = spent.processor.saturating_add(nanos(processor));
-        if spent.wall >= SPAN {
-            break;
-        }
-    }
-    Ok(spent)
-}
-
-/// A chain's row, so many times; what comes before the first is not told.
-fn ends<R: Clock + CpuClock + Wait + Print>(
-    rt: &R,
-    domain: &Domain<()>,
-    desk: &mut Desk<()>,
-    passes: u32,
-) -> io::Result<()>
-    requires domain { Belongs desk.old domain.now }
-    ensures desk { IsSameDesk desk.old desk.new }
-{
-    time_ends(rt, domain, desk)?;
-    for _ in 0..passes {
-        let spent = time_ends(rt, domain, desk)?;
-        line(
-            rt,
-            "end of a chain of 4,095, each",
-            CHAIN,
-            &[spent],
-            &[spent],
-        )?;
-    }
-    Ok(())
+    let mut on = Subject { desk, observers };
+    let told = notifications(rt, domain, &mut on, passes);
+    let Subject {
+        mut desk,
+        observers,
+    } = on;
+    retire(domain, &mut desk, observers);
+    (desk, told)
 }
 
 /// The rows, so many times.
 pub(crate) fn measure<R: Clock + CpuClock + Wait + Print>(
     rt: &R,
     alloc: Global,
-    domain: &Domain<()>,
-    desk: &mut Desk<()>,
     passes: u32,
-) -> io::Result<()>
-    requires domain { Belongs desk.old domain.now }
-    ensures desk { IsSameDesk desk.old desk.new }
-{
-    let Ok(observers) = recruit(domain, desk, alloc) else {
-        return Err(io::Error::from(io::ErrorKind::OutOfMemory));
+) -> io::Result<()> {
+    let (domain, desk) = open::<()>(alloc, SHAPE)?;
+    let (mut desk, told) = with_observers(rt, alloc, &domain, desk, passes);
+    let work = EndChain { domain: &domain };
+    let told = match told {
+        Ok(()) => tell_parts(rt, &work, &mut desk, &ENDS, passes),
+        Err(why) => Err(why),
     };
-    let told = if observers.len() < OBSERVERS {
-        Err(io::Error::from(io::ErrorKind::OutOfMemory))
-    } else {
-        notifications(rt, domain, desk, observers.as_slice(), passes)
-    };
-    retire(domain, desk, observers);
-    told?;
-    ends(rt, domain, desk, passes)
+    close(domain, desk);
+    told
 }

@@ -1,15 +1,15 @@
 //! A subject and its observers: a list of weak pointers to objects, some of which have ended.
-ghost use Rattle.std.specs.Prelude.{◌≡◌, ◌+◌, ◌≤◌, IfOk, IfSome, List, MatchOption, length};
-ghost use Rattle.std.specs.List.{All};
+ghost use Rattle.std.specs.Prelude.{◌≡◌, ◌+◌, IfOk, IfSome, List, MatchOption};
 ghost use Rattle.control_word.specs.declared.model.handle.Handle.{Handle};
 ghost use Rattle.control_block.specs.Desks.{Belongs, IsSameDesk, bag_of};
-ghost use Rattle.measure.specs.Observers.{IsOfObject, IsWatchedBy, with_observer, with_observers};
+ghost use Rattle.measure.specs.Observers.{IsOfObject, IsRecruited, with_observer};
+ghost use Rattle.measure.specs.Rows.{KeepsHandles};
 
-use crate::handles::rounds::{FIELDS, end};
+use crate::handles::rounds::{FIELDS, end, lock_and_end};
 use control_block::desk::Desk;
 use control_block::domain::Domain;
 use control_block::handles::Weak;
-use shared_handle::{Shared, downgrade, lock, make, release_weak};
+use shared_handle::{Shared, downgrade, make, release_weak};
 use std::alloc::{AllocError, Global};
 use std::sync::Wait;
 
@@ -55,8 +55,7 @@ pub(crate) fn recruit(
 ) -> Result<Vec<Observer>, AllocError>
     requires domain { Belongs desk.old domain.now }
     ensures desk { IsSameDesk desk.old desk.new }
-    ensures bag { IfOk result (λ v. bag_of desk.new ≡ with_observers v.items (bag_of desk.old)) }
-    ensures real { IfOk result (λ v. All IsOfObject v.items) }
+    ensures recruited { IfOk result (λ v. IsRecruited (bag_of desk.new) v.items) }
 {
     let mut observers = Vec::with_capacity(alloc, OBSERVERS)?;
     for i in 0..OBSERVERS {
@@ -76,21 +75,13 @@ pub(crate) fn notify<R: Wait>(
     observers: &[Observer],
 ) -> Option<usize>
     requires domain { Belongs desk.old domain.now }
-    requires watched { All (IsWatchedBy (bag_of desk.old)) observers.now }
-    ensures desk { IsSameDesk desk.old desk.new }
-    ensures bag { bag_of desk.new ≡ bag_of desk.old }
-    ensures held { desk.new.held ≡ desk.old.held }
-    ensures count { IfSome result (λ n. n ≤ length observers.now) }
+    requires recruited { IsRecruited (bag_of desk.old) observers.now }
+    ensures { KeepsHandles desk.old desk.new }
 {
-    let mut living = 0;
+    let mut living = 0usize;
     for observer in observers {
-        let Ok(owner) = lock(rt, domain, desk, &observer.weak) else {
-            return None;
-        };
-        if owner.block().is_some() {
-            living += 1;
-        }
-        end(domain, desk, owner);
+        let lives = lock_and_end(rt, domain, desk, &observer.weak)?;
+        living = living.wrapping_add(usize::from(lives));
     }
     Some(living)
 }
@@ -115,10 +106,8 @@ fn leave(domain: &Domain<()>, desk: &mut Desk<()>, observer: Observer)
 /// All observers' handles leave.
 pub(crate) fn retire(domain: &Domain<()>, desk: &mut Desk<()>, observers: Vec<Observer>)
     requires domain { Belongs desk.old domain.now }
-    requires real { All IsOfObject observers.items }
-    requires bag { (l : List Handle) × (bag_of desk.old ≡ with_observers observers.items l) }
-    ensures desk { IsSameDesk desk.old desk.new }
-    ensures bag { (l : List Handle) → bag_of desk.old ≡ with_observers observers.items l → bag_of desk.new ≡ l }
+    requires recruited { IsRecruited (bag_of desk.old) observers.items }
+    ensures { IsSameDesk desk.old desk.new }
 {
     let mut observers = observers;
     while let Some(observer) = observers.pop() {

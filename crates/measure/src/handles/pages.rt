@@ -1,23 +1,19 @@
 //! The rows of objects with a value of 4 KiB, by one thread alone.
-ghost use Rattle.std.specs.Prelude.{◌≡◌};
-ghost use Rattle.control_word.specs.declared.model.handle.Kind.TheVariants.{Owner};
-ghost use Rattle.control_block.specs.Desks.{Belongs, IsSameDesk, bag_of};
-ghost use Rattle.control_block.specs.CellCalls.{HoldsHandle};
+ghost use Rattle.measure.specs.Rows.{IsOnlyDeskWith};
 
+use crate::domains::{close, open, out_of_memory};
 use crate::handles::rounds::{FIELDS, end};
-use crate::rows::line;
-use crate::timing::{CHUNKS, SPAN, Spent, nanos};
-use control_block::census::close;
+use crate::rows::{Label, RUNTIME};
+use crate::work::{Work, tell};
 use control_block::desk::Desk;
-use control_block::domain::{Domain, open};
+use control_block::domain::Domain;
 use control_word::Shape;
 use shared_handle::{Shared, make, visit};
 use std::alloc::Global;
-use std::hint::black_box;
 use std::io;
 use std::rt::Clock;
 use std::sync::Wait;
-use std::time::{CpuClock, Instant};
+use std::time::CpuClock;
 
 /// A value as long as a page.
 type Page = [u64; 512];
@@ -33,137 +29,85 @@ const SHAPE: Shape = Shape {
 /// How many rounds come between two looks at the clock.
 const CHUNK: u32 = 500;
 
-/// What a row does.
-#[derive(Clone, Copy, Drop)]
-enum Work {
-    MakeAndEnd,
-    Visit,
+const MAKES: Label<'static> = Label {
+    name: "make + end, value of 4 KiB",
+    peer: RUNTIME,
+    turns: CHUNK,
+    rounds: CHUNK,
+};
+
+const VISITS: Label<'static> = Label {
+    name: "visit, value of 4 KiB",
+    peer: RUNTIME,
+    turns: CHUNK,
+    rounds: CHUNK,
+};
+
+/// A desk with an owner of an object with a page.
+struct Reader {
+    desk: Desk<Page>,
+    owner: Shared,
 }
 
-impl Work {
-    fn name(self) -> &'static str {
-        match self {
-            Work::MakeAndEnd => "make + end, value of 4 KiB",
-            Work::Visit => "visit, value of 4 KiB",
-        }
-    }
+/// An object with a page is made and ends.
+#[derive(Drop)]
+struct MakeAndEnd<'a> {
+    domain: &'a Domain<Page>,
 }
 
-/// Objects with a page that are made and end.
-#[tactic(auto, using(shared_handle::proofs::Callers::first_out))]
-fn make_and_end(domain: &Domain<Page>, desk: &mut Desk<Page>) -> bool
-    requires domain { Belongs desk.old domain.now }
-    ensures desk { IsSameDesk desk.old desk.new }
-    ensures bag { bag_of desk.new ≡ bag_of desk.old }
-    ensures held { desk.new.held ≡ desk.old.held }
-{
-    for _ in 0..CHUNK {
-        let Ok(owner) = make(domain, desk, FIELDS, false, [1; 512]) else {
+impl Work<Reader> for MakeAndEnd<'_> {
+    ghost use Rattle.measure.specs.Rows.{IsOnlyDeskWith};
+
+    ghost is_ready = { λ work on. IsOnlyDeskWith work.domain.now on.desk on.owner };
+
+    #[inline(always)]
+    #[tactic(auto, using(shared_handle::proofs::Callers::first_out))]
+    fn once<R: Wait>(&self, _rt: &R, on: &mut Reader) -> bool {
+        let Ok(owner) = make(self.domain, &mut on.desk, FIELDS, false, [1; 512]) else {
             return false;
         };
-        end(domain, desk, owner);
-    }
-    true
-}
-
-/// Visits of a page, each of which adds 1 to one word.
-fn visit_often<W: Wait>(
-    rt: &W,
-    domain: &Domain<Page>,
-    desk: &mut Desk<Page>,
-    owner: &Shared,
-) -> bool
-    requires domain { Belongs desk.old domain.now }
-    requires holds { HoldsHandle desk.old Owner owner.now.block owner.now.place }
-    ensures desk { IsSameDesk desk.old desk.new }
-    ensures bag { bag_of desk.new ≡ bag_of desk.old }
-    ensures held { desk.new.held ≡ desk.old.held }
-{
-    for _ in 0..CHUNK {
-        match visit(rt, domain, desk, owner, |page: &mut Page| {
-            page[7] = page[7].wrapping_add(1)
-        }) {
-            Ok(()) => {}
-            Err(_) => return false,
-        }
-    }
-    true
-}
-
-/// A chunk of a row's rounds, and whether none was refused.
-fn work_on<W: Wait>(
-    rt: &W,
-    domain: &Domain<Page>,
-    desk: &mut Desk<Page>,
-    owner: &Shared,
-    work: Work,
-) -> bool
-    requires domain { Belongs desk.old domain.now }
-    requires holds { HoldsHandle desk.old Owner owner.now.block owner.now.place }
-    ensures desk { IsSameDesk desk.old desk.new }
-    ensures bag { bag_of desk.new ≡ bag_of desk.old }
-    ensures held { desk.new.held ≡ desk.old.held }
-{
-    match work {
-        Work::MakeAndEnd => make_and_end(domain, desk),
-        Work::Visit => visit_often(rt, domain, desk, owner),
+        end(self.domain, &mut on.desk, owner);
+        true
     }
 }
 
-/// Rounds for as long as a row runs.
-fn time<R: Clock + CpuClock + Wait>(
-    rt: &R,
-    domain: &Domain<Page>,
-    desk: &mut Desk<Page>,
-    owner: &Shared,
-    work: Work,
-) -> io::Result<Spent>
-    requires domain { Belongs desk.old domain.now }
-    requires holds { HoldsHandle desk.old Owner owner.now.block owner.now.place }
-    ensures desk { IsSameDesk desk.old desk.new }
-    ensures bag { bag_of desk.new ≡ bag_of desk.old }
-    ensures held { desk.new.held ≡ desk.old.held }
-{
-    let mut spent = Spent {
-        wall: 0,
-        processor: 0,
-        chunks: 0,
-        whole: true,
-    };
-    let start = Instant::now(rt)?;
-    let before = rt.thread_cpu_time()?;
-    for chunk in 1..=CHUNKS {
-        spent.whole &= black_box(work_on(rt, domain, desk, owner, work));
-        spent.chunks = chunk;
-        spent.wall = nanos(start.elapsed(rt)?);
-        if spent.wall >= SPAN {
-            break;
-        }
+/// A visit of the page, which adds 1 to one word.
+#[derive(Drop)]
+struct Visit<'a> {
+    domain: &'a Domain<Page>,
+}
+
+impl Work<Reader> for Visit<'_> {
+    ghost use Rattle.measure.specs.Rows.{IsOnlyDeskWith};
+
+    ghost is_ready = { λ work on. IsOnlyDeskWith work.domain.now on.desk on.owner };
+
+    #[inline(always)]
+    fn once<R: Wait>(&self, rt: &R, on: &mut Reader) -> bool {
+        visit(
+            rt,
+            self.domain,
+            &mut on.desk,
+            &on.owner,
+            |page: &mut Page| { page[7] = page[7].wrapping_add(1) },
+        )
+        .is_ok()
     }
-    let after = rt.thread_cpu_time()?;
-    spent.processor = nanos(after.saturating_sub(before));
-    Ok(spent)
 }
 
 /// Both rows, so many times.
 fn rows<R: Clock + CpuClock + Wait + Print>(
     rt: &R,
     domain: &Domain<Page>,
-    desk: &mut Desk<Page>,
-    owner: &Shared,
+    on: &mut Reader,
     passes: u32,
 ) -> io::Result<()>
-    requires domain { Belongs desk.old domain.now }
-    requires holds { HoldsHandle desk.old Owner owner.now.block owner.now.place }
-    ensures desk { IsSameDesk desk.old desk.new }
-    ensures bag { bag_of desk.new ≡ bag_of desk.old }
-    ensures held { desk.new.held ≡ desk.old.held }
+    requires { IsOnlyDeskWith domain.now on.old.desk on.old.owner }
+    ensures { IsOnlyDeskWith domain.now on.new.desk on.new.owner }
 {
     for _ in 0..passes {
-        let made = time(rt, domain, desk, owner, Work::MakeAndEnd)?;
-        line(rt, Work::MakeAndEnd.name(), CHUNK, &[made], &[made])?;
-        let visited = time(rt, domain, desk, owner, Work::Visit)?;
-        line(rt, Work::Visit.name(), CHUNK, &[visited], &[visited])?;
+        tell(rt, &MakeAndEnd { domain }, on, &MAKES, true)?;
+        tell(rt, &Visit { domain }, on, &VISITS, true)?;
     }
     Ok(())
 }
@@ -174,20 +118,15 @@ pub(crate) fn measure<R: Clock + CpuClock + Wait + Print>(
     alloc: Global,
     passes: u32,
 ) -> io::Result<()> {
-    let Ok((domain, mut desk)) = open::<Page>(alloc, SHAPE) else {
-        return Err(io::Error::from(io::ErrorKind::OutOfMemory));
+    let (domain, mut desk) = open::<Page>(alloc, SHAPE)?;
+    let Ok(owner) = make(&domain, &mut desk, FIELDS, false, [1; 512]) else {
+        close(domain, desk);
+        return Err(out_of_memory());
     };
-    let told = match make(&domain, &mut desk, FIELDS, false, [1; 512]) {
-        Ok(owner) => {
-            let told = rows(rt, &domain, &mut desk, &owner, passes);
-            end(&domain, &mut desk, owner);
-            told
-        }
-        Err(_) => Err(io::Error::from(io::ErrorKind::OutOfMemory)),
-    };
-    match close(domain, desk) {
-        Ok(census) => drop(census),
-        Err(_) => unreachable!(),
-    }
+    let mut on = Reader { desk, owner };
+    let told = rows(rt, &domain, &mut on, passes);
+    let Reader { mut desk, owner } = on;
+    end(&domain, &mut desk, owner);
+    close(domain, desk);
     told
 }

@@ -1,9 +1,10 @@
-//! The work of each row, on one desk: a user's own calls, `count` times, and whether none was refused.
+//! The acts of the rows, on one desk: a user's own calls, and whether none was refused.
 ghost use Rattle.std.specs.Prelude.{◌≡◌, ◌+◌};
 ghost use Rattle.control_word.specs.declared.model.handle.Kind.TheVariants.{Owner, Weak};
 ghost use Rattle.control_block.specs.Desks.{Belongs, IsSameDesk, bag_of};
 ghost use Rattle.control_block.specs.CellCalls.{HoldsHandle, without_handle};
 ghost use Rattle.shared_handle.specs.Endings.{EndsInHand};
+ghost use Rattle.measure.specs.Rows.{IsLent, KeepsHandles};
 
 use control_block::desk::Desk;
 use control_block::domain::Domain;
@@ -16,6 +17,42 @@ use std::sync::Wait;
 
 /// The fields of each object, as the peers have them.
 pub(crate) const FIELDS: [u64; 4] = [1, 2, 3, 4];
+
+/// What a row does over and over, on a desk that has an owner, and maybe on a free cell.
+pub(crate) trait Act {
+    ghost use Rattle.measure.specs.Rows.{IsLent, KeepsHandles};
+
+    /// Once: whether no call was refused.
+    fn once<R: Wait>(
+        rt: &R,
+        domain: &Domain<()>,
+        desk: &mut Desk<()>,
+        owner: &Shared,
+        cell: u32,
+    ) -> bool
+        requires { IsLent domain.now desk.old owner.now cell }
+        ensures { KeepsHandles desk.old desk.new };
+}
+
+/// The act, so many times, or until a call is refused: whether none was.
+pub(crate) fn repeat<A: Act, R: Wait>(
+    rt: &R,
+    domain: &Domain<()>,
+    desk: &mut Desk<()>,
+    owner: &Shared,
+    cell: u32,
+    count: u32,
+) -> bool
+    requires { IsLent domain.now desk.old owner.now cell }
+    ensures { KeepsHandles desk.old desk.new }
+{
+    for _ in 0..count {
+        if !A::once(rt, domain, desk, owner, cell) {
+            return false;
+        }
+    }
+    true
+}
 
 /// What is left where nothing more is to end: an object that did would end in the desk's hands for good.
 pub(crate) fn lose<V: Drop + Send>(left: Left<V>) {
@@ -32,9 +69,7 @@ pub(crate) fn lose<V: Drop + Send>(left: Left<V>) {
 pub(crate) fn bury<V: Drop + Send>(domain: &Domain<V>, desk: &mut Desk<V>, ending: Ending<V>) -> V
     requires domain { Belongs desk.old domain.now }
     requires ends { EndsInHand desk.old ending }
-    ensures desk { IsSameDesk desk.old desk.new }
-    ensures bag { bag_of desk.new ≡ bag_of desk.old }
-    ensures held { desk.new.held ≡ desk.old.held }
+    ensures { KeepsHandles desk.old desk.new }
 {
     let mut ending = ending;
     let first = ending.clear_member(domain, desk, Member::First);
@@ -61,90 +96,108 @@ pub(crate) fn end<V: Drop + Send>(domain: &Domain<V>, desk: &mut Desk<V>, owner:
     }
 }
 
-/// Objects that are made and end.
-#[tactic(auto, using(shared_handle::proofs::Callers::first_out))]
-pub(crate) fn make_and_end(domain: &Domain<()>, desk: &mut Desk<()>, count: u32) -> bool
-    requires domain { Belongs desk.old domain.now }
-    ensures desk { IsSameDesk desk.old desk.new }
-    ensures bag { bag_of desk.new ≡ bag_of desk.old }
-    ensures held { desk.new.held ≡ desk.old.held }
-{
-    for _ in 0..count {
+/// An object is made and ends.
+pub(crate) struct MakeAndEnd;
+
+impl Act for MakeAndEnd {
+    #[inline(always)]
+    #[tactic(auto, using(shared_handle::proofs::Callers::first_out))]
+    fn once<R: Wait>(
+        _rt: &R,
+        domain: &Domain<()>,
+        desk: &mut Desk<()>,
+        _owner: &Shared,
+        _cell: u32,
+    ) -> bool {
         let Ok(owner) = make(domain, desk, FIELDS, false, ()) else {
             return false;
         };
         end(domain, desk, owner);
+        true
     }
-    true
 }
 
-/// Copies of an owner that come and leave.
-#[tactic(auto, using(shared_handle::proofs::Callers::first_out))]
-pub(crate) fn share_and_release(
-    domain: &Domain<()>,
-    desk: &mut Desk<()>,
-    owner: &Shared,
-    count: u32,
-) -> bool
-    requires domain { Belongs desk.old domain.now }
-    requires holds { HoldsHandle desk.old Owner owner.now.block owner.now.place }
-    ensures desk { IsSameDesk desk.old desk.new }
-    ensures bag { bag_of desk.new ≡ bag_of desk.old }
-    ensures held { desk.new.held ≡ desk.old.held }
-{
-    for _ in 0..count {
+/// A copy of the owner comes and leaves.
+pub(crate) struct ShareAndRelease;
+
+impl Act for ShareAndRelease {
+    #[inline(always)]
+    #[tactic(auto, using(shared_handle::proofs::Callers::first_out))]
+    fn once<R: Wait>(
+        _rt: &R,
+        domain: &Domain<()>,
+        desk: &mut Desk<()>,
+        owner: &Shared,
+        _cell: u32,
+    ) -> bool {
         let Ok(copy) = share(domain, desk, owner) else {
             return false;
         };
         end(domain, desk, copy);
+        true
     }
-    true
 }
 
-/// Weak handles of an owner that come and leave.
-#[tactic(auto, using(shared_handle::proofs::Callers::first_out))]
-pub(crate) fn downgrade_and_release(
-    domain: &Domain<()>,
-    desk: &mut Desk<()>,
-    owner: &Shared,
-    count: u32,
-) -> bool
-    requires domain { Belongs desk.old domain.now }
-    requires holds { HoldsHandle desk.old Owner owner.now.block owner.now.place }
-    ensures desk { IsSameDesk desk.old desk.new }
-    ensures bag { bag_of desk.new ≡ bag_of desk.old }
-    ensures held { desk.new.held ≡ desk.old.held }
-{
-    for _ in 0..count {
+/// A weak handle of the owner comes and leaves.
+pub(crate) struct DowngradeAndRelease;
+
+impl Act for DowngradeAndRelease {
+    #[inline(always)]
+    #[tactic(auto, using(shared_handle::proofs::Callers::first_out))]
+    fn once<R: Wait>(
+        _rt: &R,
+        domain: &Domain<()>,
+        desk: &mut Desk<()>,
+        owner: &Shared,
+        _cell: u32,
+    ) -> bool {
         let Ok(weak) = downgrade(domain, desk, owner) else {
             return false;
         };
         release_weak(domain, desk, weak);
+        true
     }
-    true
 }
 
-/// An owner that counts.
-pub(crate) fn count_owners(
+/// The owner counts.
+pub(crate) struct Count;
+
+impl Act for Count {
+    #[inline(always)]
+    fn once<R: Wait>(
+        _rt: &R,
+        domain: &Domain<()>,
+        desk: &mut Desk<()>,
+        owner: &Shared,
+        _cell: u32,
+    ) -> bool {
+        black_box(use_count(domain, desk, owner));
+        true
+    }
+}
+
+/// An owner comes of a weak handle, and leaves: whether there was an object, or none where the call was refused.
+#[inline(always)]
+#[tactic(auto, using(shared_handle::proofs::Callers::first_out))]
+pub(crate) fn lock_and_end<R: Wait>(
+    rt: &R,
     domain: &Domain<()>,
     desk: &mut Desk<()>,
-    owner: &Shared,
-    count: u32,
-) -> bool
+    weak: &handles::Weak,
+) -> Option<bool>
     requires domain { Belongs desk.old domain.now }
-    requires holds { HoldsHandle desk.old Owner owner.now.block owner.now.place }
-    ensures desk { IsSameDesk desk.old desk.new }
-    ensures bag { bag_of desk.new ≡ bag_of desk.old }
-    ensures held { desk.new.held ≡ desk.old.held }
+    requires holds { HoldsHandle desk.old Weak weak.now.block weak.now.place }
+    ensures { KeepsHandles desk.old desk.new }
 {
-    for _ in 0..count {
-        black_box(use_count(domain, desk, owner));
-    }
-    true
+    let Ok(owner) = lock(rt, domain, desk, weak) else {
+        return None;
+    };
+    let lives = owner.block().is_some();
+    end(domain, desk, owner);
+    Some(lives)
 }
 
 /// Owners that come of a weak handle, and leave.
-#[tactic(auto, using(shared_handle::proofs::Callers::first_out))]
 fn lock_weak<R: Wait>(
     rt: &R,
     domain: &Domain<()>,
@@ -154,17 +207,11 @@ fn lock_weak<R: Wait>(
 ) -> bool
     requires domain { Belongs desk.old domain.now }
     requires holds { HoldsHandle desk.old Weak weak.now.block weak.now.place }
-    ensures desk { IsSameDesk desk.old desk.new }
-    ensures bag { bag_of desk.new ≡ bag_of desk.old }
-    ensures held { desk.new.held ≡ desk.old.held }
+    ensures { KeepsHandles desk.old desk.new }
 {
     let mut whole = true;
     for _ in 0..count {
-        if let Ok(owner) = lock(rt, domain, desk, weak) {
-            end(domain, desk, owner);
-        } else {
-            whole = false;
-        }
+        whole &= lock_and_end(rt, domain, desk, weak).is_some();
     }
     whole
 }
@@ -180,9 +227,7 @@ pub(crate) fn lock_and_release<R: Wait>(
 ) -> bool
     requires domain { Belongs desk.old domain.now }
     requires holds { HoldsHandle desk.old Owner owner.now.block owner.now.place }
-    ensures desk { IsSameDesk desk.old desk.new }
-    ensures bag { bag_of desk.new ≡ bag_of desk.old }
-    ensures held { desk.new.held ≡ desk.old.held }
+    ensures { KeepsHandles desk.old desk.new }
 {
     let Ok(weak) = downgrade(domain, desk, owner) else {
         return false;

@@ -3,7 +3,7 @@
 use crate::soak::chance::Chance;
 use crate::soak::values::{Ledger, Value};
 use crate::soak::worker::{CELLS, Crowd, SLOTS};
-use control_word::{Block, Shape};
+use control_word::{Block, Refusal, Shape};
 use handle_table::{Ran, Team, run};
 use std::alloc::Global;
 use std::io;
@@ -72,20 +72,25 @@ pub(crate) fn round<R: Threads + Wait + Sync>(rt: &R, alloc: Global, seed: u64) 
     };
     let ran = run(rt, alloc, shape, team, &crowd);
     let left = ledger.inside();
-    let fits = match ran {
-        Ok(ran) => {
-            let fits = ran.workers == 4 && counts(&ran, left);
-            drop(ran);
-            fits
-        }
-        Err(_) => false,
-    };
+    let fits = fits(ran, left);
     Report {
         balances: fits && ledger.balances(),
         calls: ledger.calls.load(Ordering::SeqCst),
         done: ledger.done.load(Ordering::SeqCst),
         made: ledger.made.count(),
         left,
+    }
+}
+
+/// Whether four workers had a table, and the census counts what is left.
+fn fits(ran: Result<Ran<Value<'_>>, Refusal>, left: u64) -> bool {
+    match ran {
+        Ok(ran) => {
+            let fits = ran.workers == 4 && counts(&ran, left);
+            drop(ran);
+            fits
+        }
+        Err(_) => false,
     }
 }
 

@@ -2,6 +2,7 @@
 
 use crate::soak::chance::{Chance, mixed};
 use crate::soak::values::{Ledger, Value};
+use crate::tables::done;
 use control_word::{Block, Place};
 use handle_table::{Cell, HandleTable, Home, Program, SharedMember};
 use std::alloc::Global;
@@ -66,10 +67,11 @@ fn make<'a, H: Home>(
     let value = ledger.value(chance.number());
     let to = slot(chance);
     let fields = [chance.number(), 1, 2, 3];
-    match chance.below(8) {
-        0 => table.make_null(to, value).is_ok(),
-        kind => table.make(to, fields, kind % 2 == 0, value).is_ok(),
-    }
+    let told = match chance.below(8) {
+        0 => table.make_null(to, value),
+        kind => table.make(to, fields, kind % 2 == 0, value),
+    };
+    told.is_ok()
 }
 
 /// A handle that comes of another one.
@@ -80,21 +82,28 @@ fn derive<'a, H: Home, R: Wait>(
 ) -> bool {
     let (from, to) = (slot(chance), slot(chance));
     match chance.below(10) {
-        0 | 1 => table.copy(from, to).is_ok(),
-        2 => table.move_to(from, to).is_ok(),
-        3 => table.downgrade(from, to).is_ok(),
-        4 => table.lock(rt, from, to).is_ok(),
-        5 => table.upgrade(rt, from, to).is_ok(),
-        6 => table.alias(from, place(chance), to).is_ok(),
-        7 => table.shared_from_this(from, to).is_ok(),
-        8 => table.weak_from_this(from, to).is_ok(),
-        _ => {
-            if chance.below(2) == 0 {
-                table.empty(to).is_ok()
-            } else {
-                table.empty_weak(to).is_ok()
-            }
-        }
+        0 | 1 => done(table.copy(from, to)),
+        2 => done(table.move_to(from, to)),
+        3 => done(table.downgrade(from, to)),
+        4 => done(table.lock(rt, from, to)),
+        5 => done(table.upgrade(rt, from, to)),
+        6 => done(table.alias(from, place(chance), to)),
+        7 => done(table.shared_from_this(from, to)),
+        8 => done(table.weak_from_this(from, to)),
+        _ => empty(chance, to, table),
+    }
+}
+
+/// A handle of nothing.
+fn empty<'a, H: Home>(
+    chance: &mut Chance,
+    to: usize,
+    table: &mut HandleTable<'_, Value<'a>, H>,
+) -> bool {
+    if chance.below(2) == 0 {
+        done(table.empty(to))
+    } else {
+        done(table.empty_weak(to))
     }
 }
 
@@ -102,12 +111,12 @@ fn derive<'a, H: Home, R: Wait>(
 fn look<'a, H: Home>(chance: &mut Chance, table: &mut HandleTable<'_, Value<'a>, H>) -> bool {
     let (a, b) = (slot(chance), slot(chance));
     match chance.below(6) {
-        0 => table.use_count(a).is_ok(),
-        1 => table.expired(a).is_ok(),
-        2 => table.read(a).is_ok(),
-        3 => table.place(a).is_ok(),
-        4 => table.same_place(a, b).is_ok(),
-        _ => table.owner_before(a, b).is_ok(),
+        0 => done(table.use_count(a)),
+        1 => done(table.expired(a)),
+        2 => done(table.read(a)),
+        3 => done(table.place(a)),
+        4 => done(table.same_place(a, b)),
+        _ => done(table.owner_before(a, b)),
     }
 }
 
@@ -119,11 +128,11 @@ fn pass<'a, H: Home, R: Wait>(
 ) -> bool {
     let (cell, a, b) = (cell(chance), slot(chance), slot(chance));
     match chance.below(6) {
-        0 | 1 => table.load(rt, cell, a).is_ok(),
-        2 => table.store(a, cell).is_ok(),
-        3 => table.exchange(a, cell).is_ok(),
-        4 => table.compare_exchange_strong(rt, cell, a, b).is_ok(),
-        _ => table.compare_exchange_weak(rt, cell, a, b).is_ok(),
+        0 | 1 => done(table.load(rt, cell, a)),
+        2 => done(table.store(a, cell)),
+        3 => done(table.exchange(a, cell)),
+        4 => done(table.compare_exchange_strong(rt, cell, a, b)),
+        _ => done(table.compare_exchange_weak(rt, cell, a, b)),
     }
 }
 
@@ -170,20 +179,13 @@ fn lend<H: Home>(chance: &mut Chance, table: &mut HandleTable<'_, Value<'_>, H>)
     }
 }
 
-/// A second table takes over the slots from some number on, and comes back.
-fn part<'a, H: Home, R: Wait>(
+/// A second table comes back: whether it wasn't refused.
+fn unite<'d, 'a, H: Home, R: Wait>(
     rt: &R,
-    alloc: Global,
     chance: &mut Chance,
-    table: &mut HandleTable<'_, Value<'a>, H>,
+    table: &mut HandleTable<'d, Value<'a>, H>,
+    other: HandleTable<'d, Value<'a>, H>,
 ) -> bool {
-    let (from, blocks) = (slot(chance), chance.below(4));
-    let Ok(mut other) = table.split(alloc, from, SLOTS, blocks) else {
-        return false;
-    };
-    for _ in 0..4 {
-        derive(rt, chance, &mut other);
-    }
     if chance.below(2) == 0 {
         table.absorb(rt, other);
         return true;
@@ -195,6 +197,23 @@ fn part<'a, H: Home, R: Wait>(
             false
         }
     }
+}
+
+/// A second table takes over the slots from some number on, and comes back.
+fn part<'d, 'a, H: Home, R: Wait>(
+    rt: &R,
+    alloc: Global,
+    chance: &mut Chance,
+    table: &mut HandleTable<'d, Value<'a>, H>,
+) -> bool {
+    let (from, blocks) = (slot(chance), chance.below(4));
+    let Ok(mut other) = table.split(alloc, from, SLOTS, blocks) else {
+        return false;
+    };
+    for _ in 0..4 {
+        derive(rt, chance, &mut other);
+    }
+    unite(rt, chance, table, other)
 }
 
 /// A call of any kind: whether it was done.
@@ -209,7 +228,7 @@ fn call<'a, H: Home, R: Wait>(
         8..=23 => derive(rt, chance, table),
         24..=31 => look(chance, table),
         32..=47 => pass(rt, chance, table),
-        48..=54 => table.reset(slot(chance)).is_ok(),
+        48..=54 => done(table.reset(slot(chance))),
         55 => lend(chance, table),
         56..=58 => visit(rt, slot(chance), crowd.ledger, table),
         59..=62 => end(rt, chance, table),

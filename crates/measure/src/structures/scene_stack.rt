@@ -1,7 +1,8 @@
 //! The stack of scene_structures that a worker has, and the work of its row.
-ghost use Rattle.std.specs.Prelude.{◌≡◌, ◌<◌, IfSome};
-ghost use Rattle.control_block.specs.Desks.{Belongs, IsSameDesk, bag_of};
+ghost use Rattle.std.specs.Prelude.{◌<◌, IfSome};
+ghost use Rattle.control_block.specs.Desks.{Belongs};
 ghost use Rattle.scene_structures.specs.Stacks.{ServesDomain, StandsIn};
+ghost use Rattle.measure.specs.Rows.{KeepsHandles};
 
 use crate::handles::rounds::FIELDS;
 use crate::structures::scenes::{pile_in, spend};
@@ -45,8 +46,7 @@ fn once<R: Wait>(
     requires serves { ServesDomain domain.now pile.old }
     ensures stands { StandsIn stack.new domain.now }
     ensures serves { ServesDomain domain.now pile.new }
-    ensures desk { IsSameDesk desk.old desk.new }
-    ensures bag { bag_of desk.new ≡ bag_of desk.old }
+    ensures keeps { KeepsHandles desk.old desk.new }
 {
     let pushed = stack.push(rt, domain, desk, FIELDS, ()).is_ok();
     match stack.pop(rt, domain, desk) {
@@ -72,8 +72,7 @@ pub(crate) fn push_and_pop<R: Wait>(
     requires serves { ServesDomain domain.now pile.old }
     ensures stands { StandsIn stack.new domain.now }
     ensures serves { ServesDomain domain.now pile.new }
-    ensures desk { IsSameDesk desk.old desk.new }
-    ensures bag { bag_of desk.new ≡ bag_of desk.old }
+    ensures keeps { KeepsHandles desk.old desk.new }
 {
     let mut whole = true;
     for _ in 0..count {

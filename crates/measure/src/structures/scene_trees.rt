@@ -1,15 +1,18 @@
 //! The row of scene_structures' trees: the teardown of a root and its children, each of which owns the next.
-ghost use Rattle.std.specs.Prelude.{◌≡◌, ◌+◌, []};
+ghost use Rattle.std.specs.Prelude.{◌≡◌, [], IfSome};
 ghost use Rattle.control_word.specs.declared.model.handle.Kind.TheVariants.{Owner};
-ghost use Rattle.control_block.specs.Desks.{Belongs, IsSameDesk, bag_of};
 ghost use Rattle.control_block.specs.CellCalls.{HoldsHandle};
 ghost use Rattle.scene_structures.specs.Stacks.{ServesDomain};
+ghost use Rattle.measure.specs.Groves.{IsGrove};
+ghost use Rattle.measure.specs.Rows.{IsOnlyDesk};
 
+use crate::domains::out_of_memory;
 use crate::handles::chain::CHAIN;
 use crate::handles::rounds::FIELDS;
-use crate::rows::{STRUCTURES, line_of};
-use crate::structures::scenes::{out_of_memory, pile_in, spend};
-use crate::timing::{CHUNKS, SPAN, Spent, nanos};
+use crate::rows::{Label, STRUCTURES};
+use crate::structures::scenes::{pile_in, spend};
+use crate::timing::Spent;
+use crate::work::{PartlyTimed, add_since, moment, tell_parts};
 use control_block::desk::Desk;
 use control_block::domain::Domain;
 use scene_structures::Scene;
@@ -18,30 +21,35 @@ use std::alloc::Global;
 use std::io;
 use std::rt::Clock;
 use std::sync::Wait;
-use std::time::{CpuClock, Instant};
+use std::time::CpuClock;
+
+const LABEL: Label<'static> = Label {
+    name: "end of a chain of 4,095, each",
+    peer: STRUCTURES,
+    turns: 1,
+    rounds: CHAIN,
+};
+
+/// Where trees grow.
+pub(crate) struct Grove {
+    desk: Desk<()>,
+    scene: Scene<()>,
+    pile: Pile<()>,
+}
 
 /// A child is left to the root: whether there is one.
-fn grow<R: Wait>(
-    rt: &R,
-    domain: &Domain<()>,
-    desk: &mut Desk<()>,
-    scene: &mut Scene<()>,
-    root: &Shared,
-    pile: &mut Pile<()>,
-) -> bool
-    requires domain { Belongs desk.old domain.now }
-    requires scene { ServesDomain domain.now scene.old }
-    requires pile { ServesDomain domain.now pile.old }
-    requires holds { HoldsHandle desk.old Owner root.now.block root.now.place }
-    ensures scene { ServesDomain domain.now scene.new }
-    ensures pile { ServesDomain domain.now pile.new }
-    ensures desk { IsSameDesk desk.old desk.new }
-    ensures bag { bag_of desk.new ≡ bag_of desk.old }
-    ensures held { desk.new.held ≡ desk.old.held }
+fn grow<R: Wait>(rt: &R, domain: &Domain<()>, on: &mut Grove, root: &Shared) -> bool
+    requires grove { IsGrove domain.now on.old.desk on.old.scene on.old.pile }
+    requires holds { HoldsHandle on.old.desk Owner root.now.block root.now.place }
+    ensures grove { IsGrove domain.now on.new.desk on.new.scene on.new.pile }
+    ensures holds { HoldsHandle on.new.desk Owner root.now.block root.now.place }
 {
-    match scene.add_child(rt, domain, desk, root, FIELDS, ()) {
+    match on
+        .scene
+        .add_child(rt, domain, &mut on.desk, root, FIELDS, ())
+    {
         Ok(child) => {
-            spend(rt, domain, desk, child, pile);
+            spend(rt, domain, &mut on.desk, child, &mut on.pile);
             true
         }
         Err(_) => false,
@@ -49,26 +57,15 @@ fn grow<R: Wait>(
 }
 
 /// All of a root's children: whether none was refused.
-fn grow_all<R: Wait>(
-    rt: &R,
-    domain: &Domain<()>,
-    desk: &mut Desk<()>,
-    scene: &mut Scene<()>,
-    root: &Shared,
-    pile: &mut Pile<()>,
-) -> bool
-    requires domain { Belongs desk.old domain.now }
-    requires scene { ServesDomain domain.now scene.old }
-    requires pile { ServesDomain domain.now pile.old }
-    requires holds { HoldsHandle desk.old Owner root.now.block root.now.place }
-    ensures scene { ServesDomain domain.now scene.new }
-    ensures pile { ServesDomain domain.now pile.new }
-    ensures desk { IsSameDesk desk.old desk.new }
-    ensures holds { HoldsHandle desk.new Owner root.now.block root.now.place }
+fn grow_all<R: Wait>(rt: &R, domain: &Domain<()>, on: &mut Grove, root: &Shared) -> bool
+    requires grove { IsGrove domain.now on.old.desk on.old.scene on.old.pile }
+    requires holds { HoldsHandle on.old.desk Owner root.now.block root.now.place }
+    ensures grove { IsGrove domain.now on.new.desk on.new.scene on.new.pile }
+    ensures holds { HoldsHandle on.new.desk Owner root.now.block root.now.place }
 {
     let mut whole = true;
     for _ in 1..CHAIN {
-        whole &= grow(rt, domain, desk, scene, root, pile);
+        whole &= grow(rt, domain, on, root);
     }
     whole
 }
@@ -90,93 +87,69 @@ fn tear_down<R: Wait>(
     rt: &R,
     alloc: Global,
     domain: &Domain<()>,
-    desk: &mut Desk<()>,
-    scene: &mut Scene<()>,
+    on: &mut Grove,
     root: Shared,
-    pile: &mut Pile<()>,
 ) -> usize
-    requires domain { Belongs desk.old domain.now }
-    requires scene { ServesDomain domain.now scene.old }
-    requires pile { ServesDomain domain.now pile.old }
-    requires holds { HoldsHandle desk.old Owner root.block root.place }
-    ensures scene { ServesDomain domain.now scene.new }
-    ensures pile { ServesDomain domain.now pile.new }
-    ensures desk { IsSameDesk desk.old desk.new }
+    requires grove { IsGrove domain.now on.old.desk on.old.scene on.old.pile }
+    requires holds { HoldsHandle on.old.desk Owner root.block root.place }
+    ensures grove { IsGrove domain.now on.new.desk on.new.scene on.new.pile }
 {
-    match scene.teardown(alloc, domain, desk, root) {
+    match on.scene.teardown(alloc, domain, &mut on.desk, root) {
         Ok(values) => {
-            settled(rt, scene);
+            settled(rt, &on.scene);
             values.len()
         }
         Err(refused) => {
-            spend(rt, domain, desk, refused.back, pile);
+            spend(rt, domain, &mut on.desk, refused.back, &mut on.pile);
             0
         }
     }
 }
 
-/// A tree grows, and its teardown is added to the row.
-fn fell<R: Clock + CpuClock + Wait>(
-    rt: &R,
+/// A tree is torn down. What makes it is not in the row's time.
+#[derive(Drop)]
+struct TearDown<'a> {
     alloc: Global,
-    domain: &Domain<()>,
-    desk: &mut Desk<()>,
-    scene: &mut Scene<()>,
-    pile: &mut Pile<()>,
-    spent: &mut Spent,
-) -> io::Result<()>
-    requires domain { Belongs desk.old domain.now }
-    requires scene { ServesDomain domain.now scene.old }
-    requires pile { ServesDomain domain.now pile.old }
-    ensures scene { ServesDomain domain.now scene.new }
-    ensures pile { ServesDomain domain.now pile.new }
-    ensures desk { IsSameDesk desk.old desk.new }
-{
-    let Ok(root) = make(domain, desk, FIELDS, false, ()) else {
-        return Err(out_of_memory());
-    };
-    let whole = grow_all(rt, domain, desk, scene, &root, pile);
-    let before = rt.thread_cpu_time();
-    let start = Instant::now(rt);
-    let ended = tear_down(rt, alloc, domain, desk, scene, root, pile);
-    let wall = start?.elapsed(rt)?;
-    let processor = rt.thread_cpu_time()?.saturating_sub(before?);
-    spent.whole &= whole && ended == CHAIN as usize;
-    spent.wall = spent.wall.saturating_add(nanos(wall));
-    spent.processor = spent.processor.saturating_add(nanos(processor));
-    Ok(())
+    domain: &'a Domain<()>,
 }
 
-/// Trees that are torn down for as long as a row runs. What makes a tree is not in it.
-fn time<R: Clock + CpuClock + Wait>(
-    rt: &R,
-    alloc: Global,
-    domain: &Domain<()>,
-    desk: &mut Desk<()>,
-    scene: &mut Scene<()>,
-    pile: &mut Pile<()>,
-) -> io::Result<Spent>
-    requires domain { Belongs desk.old domain.now }
-    requires scene { ServesDomain domain.now scene.old }
-    requires pile { ServesDomain domain.now pile.old }
-    ensures scene { ServesDomain domain.now scene.new }
-    ensures pile { ServesDomain domain.now pile.new }
-    ensures desk { IsSameDesk desk.old desk.new }
+impl PartlyTimed<Grove> for TearDown<'_> {
+    ghost use Rattle.measure.specs.Groves.{IsGrove};
+
+    ghost is_ready = { λ work on. IsGrove work.domain.now on.desk on.scene on.pile };
+
+    fn once<R: Clock + CpuClock + Wait>(
+        &self,
+        rt: &R,
+        on: &mut Grove,
+        spent: &mut Spent,
+    ) -> io::Result<()> {
+        let Ok(root) = make(self.domain, &mut on.desk, FIELDS, false, ()) else {
+            return Err(out_of_memory());
+        };
+        let whole = grow_all(rt, self.domain, on, &root);
+        let begin = moment(rt);
+        let ended = tear_down(rt, self.alloc, self.domain, on, root);
+        spent.whole &= whole && ended == CHAIN as usize;
+        add_since(rt, begin?, spent)
+    }
+}
+
+/// A scene and a pile, if there is memory.
+fn scene_in(alloc: Global, domain: &Domain<()>) -> Option<(Scene<()>, Pile<()>)>
+    ensures scene { IfSome result (λ r. ServesDomain domain.now r.0) }
+    ensures pile { IfSome result (λ r. ServesDomain domain.now r.1) }
 {
-    let mut spent = Spent {
-        wall: 0,
-        processor: 0,
-        chunks: 0,
-        whole: true,
+    let Ok(scene) = Scene::new(alloc, domain) else {
+        return None;
     };
-    for chunk in 1..=CHUNKS {
-        fell(rt, alloc, domain, desk, scene, pile, &mut spent)?;
-        spent.chunks = chunk;
-        if spent.wall >= SPAN {
-            break;
+    match pile_in(alloc, domain) {
+        Some(pile) => Some((scene, pile)),
+        None => {
+            scene.close();
+            None
         }
     }
-    Ok(spent)
 }
 
 /// The row; what comes before it is not told.
@@ -184,30 +157,18 @@ pub(crate) fn row<R: Clock + CpuClock + Wait + Print>(
     rt: &R,
     alloc: Global,
     domain: &Domain<()>,
-    desk: &mut Desk<()>,
-) -> io::Result<()>
-    requires domain { Belongs desk.old domain.now }
-    ensures desk { IsSameDesk desk.old desk.new }
+    desk: Desk<()>,
+) -> (Desk<()>, io::Result<()>)
+    requires { IsOnlyDesk domain.now desk }
+    ensures { IsOnlyDesk domain.now result.0 }
 {
-    let Ok(mut scene) = Scene::new(alloc, domain) else {
-        return Err(out_of_memory());
+    let Some((scene, pile)) = scene_in(alloc, domain) else {
+        return (desk, Err(out_of_memory()));
     };
-    let Some(mut pile) = pile_in(alloc, domain) else {
-        scene.close();
-        return Err(out_of_memory());
-    };
-    let first = time(rt, alloc, domain, desk, &mut scene, &mut pile);
-    let spent = time(rt, alloc, domain, desk, &mut scene, &mut pile);
+    let mut on = Grove { desk, scene, pile };
+    let told = tell_parts(rt, &TearDown { alloc, domain }, &mut on, &LABEL, 1);
+    let Grove { desk, scene, pile } = on;
     scene.close();
     pile.close();
-    first?;
-    let spent = [spent?];
-    line_of(
-        rt,
-        "end of a chain of 4,095, each",
-        STRUCTURES,
-        CHAIN,
-        &spent,
-        &spent,
-    )
+    (desk, told)
 }

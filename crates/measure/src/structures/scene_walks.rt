@@ -1,48 +1,57 @@
 //! The row of scene_structures' observers: a walk over 1,000 that watch one subject.
-ghost use Rattle.std.specs.Prelude.{◌≡◌, ◌+◌, ◌<◌};
-ghost use Rattle.control_word.specs.declared.model.handle.Kind.TheVariants.{Owner};
-ghost use Rattle.control_block.specs.Desks.{Belongs, IsSameDesk, bag_of};
-ghost use Rattle.control_block.specs.CellCalls.{HoldsHandle};
-ghost use Rattle.scene_structures.specs.Stacks.{ServesDomain, StandsIn};
+ghost use Rattle.std.specs.Prelude.{◌≡◌, ◌<◌};
+ghost use Rattle.control_block.specs.Desks.{Belongs, bag_of};
+ghost use Rattle.scene_structures.specs.Stacks.{StandsIn};
+ghost use Rattle.measure.specs.Rows.{IsOnlyDesk, IsOnlyDeskWith, KeepsHandles};
 
-use crate::handles::rounds::FIELDS;
-use crate::rows::{STRUCTURES, line_of};
-use crate::structures::scenes::{out_of_memory, pile_in, spend};
-use crate::timing::{CHUNKS, SPAN, Spent, nanos};
+use crate::domains::out_of_memory;
+use crate::handles::rounds::{FIELDS, end};
+use crate::rows::{Label, STRUCTURES};
+use crate::work::{Work, tell_all};
 use control_block::desk::Desk;
 use control_block::domain::Domain;
 use scene_structures::Observers;
-use shared_handle::{Pile, Shared, make};
+use shared_handle::{Shared, make};
 use std::alloc::Global;
 use std::hint::black_box;
 use std::io;
 use std::rt::Clock;
 use std::sync::Wait;
-use std::time::{CpuClock, Instant};
+use std::time::CpuClock;
 
 /// How many nodes a walk comes to.
 const NODES: u32 = 1_000;
 
-/// So many nodes watch the subject: whether none was refused.
-fn attach_all<R: Wait>(
-    rt: &R,
-    domain: &Domain<()>,
-    desk: &mut Desk<()>,
-    observers: &mut Observers<()>,
-    subject: &Shared,
-) -> bool
-    requires domain { Belongs desk.old domain.now }
-    requires stands { StandsIn observers.old domain.now }
-    requires holds { HoldsHandle desk.old Owner subject.now.block subject.now.place }
-    ensures stands { StandsIn observers.new domain.now }
-    ensures desk { IsSameDesk desk.old desk.new }
-    ensures holds { HoldsHandle desk.new Owner subject.now.block subject.now.place }
-{
-    let mut whole = true;
-    for _ in 0..NODES {
-        whole &= observers.attach(rt, domain, desk, subject, ()).is_ok();
+const LABEL: Label<'static> = Label {
+    name: "lock + release, each of 1,000 observers",
+    peer: STRUCTURES,
+    turns: 1,
+    rounds: NODES,
+};
+
+/// A subject that is watched.
+struct Watched {
+    desk: Desk<()>,
+    observers: Observers<()>,
+    subject: Shared,
+}
+
+/// A walk over all that watch.
+#[derive(Drop)]
+struct WalkOverAll<'a> {
+    domain: &'a Domain<()>,
+}
+
+impl Work<Watched> for WalkOverAll<'_> {
+    ghost use Rattle.scene_structures.specs.Stacks.{StandsIn};
+    ghost use Rattle.measure.specs.Rows.{IsOnlyDeskWith};
+
+    ghost is_ready = { λ work on. StandsIn on.observers work.domain.now
+        × IsOnlyDeskWith work.domain.now on.desk on.subject };
+
+    fn once<R: Wait>(&self, rt: &R, on: &mut Watched) -> bool {
+        walk(rt, self.domain, &mut on.desk, &mut on.observers)
     }
-    whole
 }
 
 /// A walk: whether it came to all.
@@ -55,8 +64,7 @@ fn walk<R: Wait>(
     requires domain { Belongs desk.old domain.now }
     requires stands { StandsIn observers.old domain.now }
     ensures stands { StandsIn observers.new domain.now }
-    ensures desk { IsSameDesk desk.old desk.new }
-    ensures bag { bag_of desk.new ≡ bag_of desk.old }
+    ensures keeps { KeepsHandles desk.old desk.new }
 {
     let mut told = 0u32;
     let walked = observers.each(rt, domain, desk, |field: u64| {
@@ -66,94 +74,55 @@ fn walk<R: Wait>(
     walked.is_ok() && told == NODES
 }
 
-/// Walks for as long as a row runs.
-fn time<R: Clock + CpuClock + Wait>(
-    rt: &R,
-    domain: &Domain<()>,
-    desk: &mut Desk<()>,
-    observers: &mut Observers<()>,
-) -> io::Result<Spent>
-    requires domain { Belongs desk.old domain.now }
-    requires stands { StandsIn observers.old domain.now }
-    ensures stands { StandsIn observers.new domain.now }
-    ensures desk { IsSameDesk desk.old desk.new }
-    ensures bag { bag_of desk.new ≡ bag_of desk.old }
+/// So many nodes watch the subject: whether none was refused.
+fn attach_all<R: Wait>(rt: &R, domain: &Domain<()>, on: &mut Watched) -> bool
+    requires stands { StandsIn on.old.observers domain.now }
+    requires only { IsOnlyDeskWith domain.now on.old.desk on.old.subject }
+    ensures stands { StandsIn on.new.observers domain.now }
+    ensures only { IsOnlyDeskWith domain.now on.new.desk on.new.subject }
 {
-    let mut spent = Spent {
-        wall: 0,
-        processor: 0,
-        chunks: 0,
-        whole: true,
-    };
-    let start = Instant::now(rt)?;
-    let before = rt.thread_cpu_time()?;
-    for chunk in 1..=CHUNKS {
-        spent.whole &= walk(rt, domain, desk, observers);
-        spent.chunks = chunk;
-        spent.wall = nanos(start.elapsed(rt)?);
-        if spent.wall >= SPAN {
-            break;
-        }
+    let mut whole = true;
+    for _ in 0..NODES {
+        whole &= on
+            .observers
+            .attach(rt, domain, &mut on.desk, &on.subject, ())
+            .is_ok();
     }
-    let after = rt.thread_cpu_time()?;
-    spent.processor = nanos(after.saturating_sub(before));
-    Ok(spent)
+    whole
 }
 
-/// Nodes are attached to a subject, and walks over them timed; what comes before the first is not told.
-fn watched<R: Clock + CpuClock + Wait>(
-    rt: &R,
-    domain: &Domain<()>,
-    desk: &mut Desk<()>,
-    observers: &mut Observers<()>,
-    pile: &mut Pile<()>,
-) -> io::Result<Spent>
-    requires domain { Belongs desk.old domain.now }
-    requires stands { StandsIn observers.old domain.now }
-    requires pile { ServesDomain domain.now pile.old }
-    ensures desk { IsSameDesk desk.old desk.new }
-{
-    let Ok(subject) = make(domain, desk, FIELDS, false, ()) else {
-        return Err(out_of_memory());
-    };
-    let whole = attach_all(rt, domain, desk, observers, &subject);
-    let first = time(rt, domain, desk, observers);
-    let spent = time(rt, domain, desk, observers);
-    spend(rt, domain, desk, subject, pile);
-    first?;
-    let mut spent = spent?;
-    spent.whole &= whole;
-    Ok(spent)
-}
-
-/// The row, on the cell 1.
+/// The row, on the cell 1; what comes before it is not told.
 pub(crate) fn row<R: Clock + CpuClock + Wait + Print>(
     rt: &R,
     alloc: Global,
     domain: &Domain<()>,
-    desk: &mut Desk<()>,
-) -> io::Result<()>
-    requires domain { Belongs desk.old domain.now }
+    desk: Desk<()>,
+) -> (Desk<()>, io::Result<()>)
+    requires only { IsOnlyDesk domain.now desk }
     requires cell { 1 < domain.now.shape.shared_cells }
-    ensures desk { IsSameDesk desk.old desk.new }
+    ensures { IsOnlyDesk domain.now result.0 }
 {
-    let Ok(mut observers) = Observers::new(alloc, domain, 1) else {
-        return Err(out_of_memory());
+    let mut desk = desk;
+    let Ok(observers) = Observers::new(alloc, domain, 1) else {
+        return (desk, Err(out_of_memory()));
     };
-    let Some(mut pile) = pile_in(alloc, domain) else {
+    let Ok(subject) = make(domain, &mut desk, FIELDS, false, ()) else {
         observers.close();
-        return Err(out_of_memory());
+        return (desk, Err(out_of_memory()));
     };
-    let spent = watched(rt, domain, desk, &mut observers, &mut pile);
+    let mut on = Watched {
+        desk,
+        observers,
+        subject,
+    };
+    let whole = attach_all(rt, domain, &mut on);
+    let told = tell_all(rt, &WalkOverAll { domain }, &mut on, &LABEL, whole, 1);
+    let Watched {
+        mut desk,
+        observers,
+        subject,
+    } = on;
+    end(domain, &mut desk, subject);
     observers.close();
-    pile.close();
-    let spent = [spent?];
-    line_of(
-        rt,
-        "lock + release, each of 1,000 observers",
-        STRUCTURES,
-        NODES,
-        &spent,
-        &spent,
-    )
+    (desk, told)
 }

@@ -1,9 +1,7 @@
-use Rattle.std.proofs.Common.{◌≡◌}
 use Rattle.control_word.specs.declared.model.handle.Kind.TheVariants.{Weak}
-use Rattle.control_block.specs.Desks.{IsSameDesk, bag_of}
 use Rattle.control_block.specs.CellCalls.{HoldsHandle}
+use Rattle.measure.specs.Rows.{KeepsHandles}
 use Rattle.measure.proofs.handles.rounds.lock_weak.Given as goal
 
 abbrev pub invariant-loop : goal.invariant-loop
-invariant-loop g l = IsSameDesk l.initial.desk l.desk × (bag_of l.desk ≡ bag_of l.initial.desk) × (l.desk.held ≡ l.initial.desk.held)
-    × HoldsHandle l.desk Weak l.weak.block l.weak.place
+invariant-loop g l = KeepsHandles l.initial.desk l.desk × HoldsHandle l.desk Weak l.weak.block l.weak.place
