@@ -1,5 +1,11 @@
 use Rattle.scene_structures.proofs.Watches.{endings_both}
 use Rattle.scene_structures.proofs.Pruned.{asks_latest}
+use Rattle.std.proofs.Common.{◌∙◌, ap}
+use Rattle.control_block.specs.CellCalls.{without_handle}
+use Rattle.control_block.specs.Desks.{bag_of}
+use Rattle.scene_structures.proofs.Rooms.{holds_still}
+use Rattle.control_word.specs.declared.model.handle.Kind.TheVariants.{Weak}
+use Rattle.shared_handle.proofs.Callers.{first_out}
 use Rattle.scene_structures.proofs.lists.pruning.is_expired.Goals as goal
 
 pub returns-clause-endings : goal.returns-clause-endings
@@ -12,3 +18,14 @@ returns-clause-latest g c =
     let w = c.in-Ok.weak in let r = c.release_weak.ensures in let x = c.expired-gone.ensures in
     asks_latest c.args.desk.now c.load.new.desk c.expired-gone.new.desk c.release_weak.new.desk _ w.block w.place c.expired-gone.result r.event.0
     c.in-Ok.ensures.event c.in-Ok.ensures.bag x.expired x.bag r.event.1 r.bag
+
+pub release_weak-requires-clause-holds : goal.release_weak-requires-clause-holds
+release_weak-requires-clause-holds g c κs within =
+    let w = c.in-Ok.weak in let x = c.expired-gone in
+    holds_still Weak c.load.new.desk x.new.desk w.block w.place c.in-Ok.ensures.holds x.ensures.bag x.ensures.held
+
+pub returns-clause-bag : goal.returns-clause-bag
+returns-clause-bag g c =
+    let w = c.in-Ok.weak in
+    c.release_weak.ensures.bag ∙ (ap (without_handle Weak w.block w.place) (c.expired-gone.ensures.bag ∙ c.in-Ok.ensures.bag)
+    ∙ first_out Weak w.block w.place (bag_of c.args.desk.now))

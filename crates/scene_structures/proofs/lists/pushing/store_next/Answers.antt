@@ -1,6 +1,12 @@
 use Rattle.shared_handle.proofs.Piles.{carries_kept}
 use Rattle.scene_structures.proofs.Pushes.{fills, held_stored}
 use Rattle.scene_structures.proofs.Others.{others_both, others_call}
+use Rattle.std.proofs.Common.{◌∙◌, ap}
+use Rattle.scene_structures.proofs.Kept.{open_held}
+use Rattle.control_block.specs.CellCalls.{without_handle}
+use Rattle.control_word.specs.declared.model.handle.Kind.TheVariants.{Owner}
+use Rattle.control_block.specs.Desks.{bag_of}
+use Rattle.shared_handle.proofs.Callers.{first_out}
 use Rattle.scene_structures.proofs.lists.pushing.store_next.Goals as goal
 
 pub let_go-requires-clause-carries : goal.let_go-requires-clause-carries
@@ -21,3 +27,13 @@ returns-clause-latest g c =
 
 pub returns-clause-others : goal.returns-clause-others
 returns-clause-others g c = others_both (others_call _ c.exchange-old.ensures.keeps) c.let_go.ensures.others
+
+pub exchange-old-requires-clause-cell : goal.exchange-old-requires-clause-cell
+exchange-old-requires-clause-cell g c κs within =
+    open_held c.args.desk.now c.args.node.now c.in-Ok.next _ c.in-Ok.ensures c.requires.holds.0
+
+pub returns-clause-bag : goal.returns-clause-bag
+returns-clause-bag g c =
+    let o = c.exchange-old.result in let b = c.args.below in
+    c.let_go.ensures.bag ∙ (ap (without_handle Owner o.block o.place) c.exchange-old.ensures.bag
+    ∙ first_out Owner o.block o.place (without_handle Owner b.block b.place (bag_of c.args.desk.now)))

@@ -50,7 +50,8 @@ pub returns-clause-bag : goal.returns-clause-bag
 returns-clause-bag g c =
     let d = c.args.desk.now in let w = c.in-Ok.weak in let o = c.in-Ok-lock.owner in
     let bag = c.release_weak.ensures.bag ∙ (ap (without_handle Weak w.block w.place)
-    (c.in-Ok-lock.ensures.bag ∙ ap (with_handle Owner o.block o.place) c.in-Ok.ensures.bag) ∙ under_out Weak w.block w.place Owner o.block o.place (bag_of d)) in
+    (c.in-Ok-lock.ensures.bag ∙ ap (with_handle Owner o.block o.place) c.in-Ok.ensures.bag)
+    ∙ under_out Weak w.block w.place Owner o.block o.place (bag_of d)) in
     bag
 
 pub returns-clause-held : goal.returns-clause-held
@@ -61,7 +62,8 @@ pub returns-clause-holds : goal.returns-clause-holds
 returns-clause-holds g c =
     let d = c.args.desk.now in let w = c.in-Ok.weak in let o = c.in-Ok-lock.owner in
     let bag = c.release_weak.ensures.bag ∙ (ap (without_handle Weak w.block w.place)
-    (c.in-Ok-lock.ensures.bag ∙ ap (with_handle Owner o.block o.place) c.in-Ok.ensures.bag) ∙ under_out Weak w.block w.place Owner o.block o.place (bag_of d)) in
+    (c.in-Ok-lock.ensures.bag ∙ ap (with_handle Owner o.block o.place) c.in-Ok.ensures.bag)
+    ∙ under_out Weak w.block w.place Owner o.block o.place (bag_of d)) in
     let one = c.in-Ok.ensures.held in let two = c.in-Ok-lock.ensures.held in let three = c.release_weak.ensures.held in
     let e = c.release_weak.new.desk in
     holds_first e (bag_of d) o [] (hands_one d e o c.stands.ensures.bag bag (omega arith))

@@ -7,6 +7,8 @@ use Rattle.scene_structures.proofs.Detached.{holds_kept, within_holds}
 use Rattle.scene_structures.proofs.Unlinks.{unlinked_latest, unlinks}
 use Rattle.scene_structures.proofs.Watches.{lists_of}
 use Rattle.scene_structures.proofs.Others.{others_both, others_counted, others_kept, others_none}
+use Rattle.std.proofs.Common.{arith}
+use Rattle.control_block.specs.Desks.{allowance_of, endings_of}
 use Rattle.scene_structures.proofs.tree.detaching.unlink.Goals as goal
 
 pub store_next-requires-clause-holds : goal.store_next-requires-clause-holds
@@ -41,3 +43,14 @@ returns-clause-others g c =
     let w = c.watch in
     others_both (others_counted c.args.desk.now c.empty.new.desk _ _ c.in-Ok.ensures.counted)
     (others_both (others_kept c.empty.new.desk w.new.desk _ w.ensures.endings w.ensures.count) c.store_next.ensures.others)
+
+pub watch-requires-clause-room : goal.watch-requires-clause-room
+watch-requires-clause-room g c κs within =
+    let room = c.requires.room in let is = ap (λ (u : DeskNow g.row.V.Denot). u.held) c.in-Ok.ensures.counted in
+    let same = ap (λ (u : DeskNow g.row.V.Denot). allowance_of u) c.in-Ok.ensures.counted in
+    let ends = ap (λ (u : DeskNow g.row.V.Denot). endings_of u) c.in-Ok.ensures.counted in omega arith
+
+pub returns-clause-held : goal.returns-clause-held
+returns-clause-held g c =
+    let is = ap (λ (u : DeskNow g.row.V.Denot). u.held) c.in-Ok.ensures.counted in let two = c.watch.ensures.held in let three = c.store_next.ensures.held in
+    omega arith

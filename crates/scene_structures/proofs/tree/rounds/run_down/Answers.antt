@@ -2,6 +2,7 @@ use Rattle.std.proofs.Common.{rules, refl, ◌∙◌, arith}
 use Rattle.shared_handle.proofs.Piles.{same_both, same_desk}
 use Rattle.scene_structures.proofs.RunsDown.{runs_none, runs_on, runs_over}
 use Rattle.scene_structures.proofs.Others.{others_both, others_none, others_round}
+use Rattle.std.proofs.Common.{◌+◌}
 use Rattle.scene_structures.proofs.tree.rounds.run_down.Goals as goal
 
 pub loop-pile-init : goal.loop-pile-init
@@ -49,3 +50,8 @@ returns-clause-rounds g c =
     runs_over c.args.domain.now.shape.blocks c.blocks-blocks.result c.args.desk.now c.loop-pile.desk c.args.pile.now.endings.items
     c.loop-pile.pile.endings.items c.args.ended.now.slots.items c.loop-pile.ended.slots.items c.loop-pile.ended.vacant.items c.loop-pile.rounds i.blocks
     i.runs i.most i.vacant (c.is_over.ensures.over c.loop-pile-test.false)
+
+pub take-requires-clause-room : goal.take-requires-clause-room
+take-requires-clause-room g c =
+    let on = c.is_over.ensures.not (search rules) in let few = on.2 in let blocks = c.loop-pile.invariant.blocks in
+    (c.args.domain.now.shape.blocks + 1, c.loop-pile.invariant.room, omega arith)

@@ -68,7 +68,8 @@ returns-clause-parting g c =
 
 pub returns-in_err-ending-clause-elsewhere : goal.returns-in_err-ending-clause-elsewhere
 returns-in_err-ending-clause-elsewhere g c =
-    let p = c.pop.ensures in let e = popped_none c.args.self.now.endings.items c.pop.new.self.items c.pop.result _ _ p.items p.cases p.rest c.in_err-ending.was in
+    let p = c.pop.ensures in
+    let e = popped_none c.args.self.now.endings.items c.pop.new.self.items c.pop.result _ _ p.items p.cases p.rest c.in_err-ending.was in
     let d = c.args.desk.now in let xs = c.args.self.now.endings.items in
     subst (λ (zs : List (Ending g.row.V.Denot)). KeepsElsewhere d xs d zs) e.0 (elsewhere_none d xs)
 
