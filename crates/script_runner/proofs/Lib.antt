@@ -68,3 +68,4 @@ pub mod Ended
 pub mod Speaking
 pub mod Bounding
 pub mod Askings
+pub mod Dealing

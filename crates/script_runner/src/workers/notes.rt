@@ -12,6 +12,17 @@ use crate::workers::log::Log;
 use step_core::{Answer, Ended, Said};
 use step_threads::programs::act::Act;
 
+/// What a statement says.
+fn said_of(statement: u32, answer: Option<Answer>, ended: Option<Ended>) -> Said
+    ensures { result ≡ record { statement = statement; answer = answer; ended = ended } }
+{
+    Said {
+        statement,
+        answer,
+        ended,
+    }
+}
+
 /// Whether there is something to say.
 fn tells(said: Said) -> bool
     ensures { result ≡ (is_some said.answer || is_some said.ended) }
@@ -64,11 +75,7 @@ impl<'a> Log<'a> {
         if self.full {
             return;
         }
-        let said = Said {
-            statement,
-            answer,
-            ended,
-        };
+        let said = said_of(statement, answer, ended);
         if !tells(said) {
             return;
         }

@@ -1,0 +1,6 @@
+use Rattle.std.proofs.Common.{ap, sym}
+use Rattle.script_runner.specs.Totals.{objects_asked}
+use Rattle.script_runner.proofs.reports.totals.asks.Goals as goal
+
+pub returns-in-Make-clause-is : goal.returns-in-Make-clause-is
+returns-in-Make-clause-is c = sym (ap objects_asked c.in-Make.is)
