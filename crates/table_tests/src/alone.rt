@@ -1,12 +1,11 @@
 //! A program of one worker.
 use crate::listed::{Answer, Call, all};
-use crate::same::same;
-use control_word::Shape;
-use handle_table::{HandleTable, Home, Program, Team, run};
+use crate::same::{is_told, same};
+use control_word::{Refusal, Shape};
+use handle_table::{HandleTable, Home, Leader, Program, Team, run, run_leader};
 use std::alloc::Global;
 use std::process::Abort;
 use std::sync::Wait;
-use std::test::Fail;
 use std::thread::Threads;
 
 /// A worker that makes the calls of each list, each of which answers what stands beside it.
@@ -23,7 +22,26 @@ impl<R: Abort + Threads + Wait + Sync> Program<u64, R> for Listed<'_> {
     }
 }
 
-/// The program's one worker has a table, and so many blocks are vacant when it is done.
+/// How many workers had a table, and how many blocks are vacant when they are done.
+pub(crate) fn ran<R: Threads + Wait + Sync, P: Program<u64, R> + Sync>(
+    rt: &R,
+    alloc: Global,
+    shape: Shape,
+    team: Team,
+    program: &P,
+) -> Result<(usize, u32), Refusal> {
+    match run(rt, alloc, shape, team, program) {
+        Ok(ran) => {
+            match ran.fewer {
+                None => Ok((ran.workers, ran.census.vacant())),
+                Some(why) => Err(why),
+            }
+        }
+        Err(why) => Err(why),
+    }
+}
+
+/// The program's one worker has a table, and so many blocks are vacant when it is done, where nothing is refused.
 pub(crate) fn ends<R: Abort + Threads + Wait + Sync, P: Program<u64, R> + Sync>(
     rt: &R,
     alloc: Global,
@@ -31,12 +49,44 @@ pub(crate) fn ends<R: Abort + Threads + Wait + Sync, P: Program<u64, R> + Sync>(
     team: Team,
     program: &P,
     vacant: u32,
-) -> Result<(), Fail> {
-    let ran = run(rt, alloc, shape, team, program)?;
-    if let Some(why) = ran.fewer {
-        return Err(why.into());
+) -> Result<(), Refusal> {
+    is_told(rt, ran(rt, alloc, shape, team, program), (1, vacant))
+}
+
+/// The same, and nothing is refused.
+pub(crate) fn works<R: Abort + Threads + Wait + Sync, P: Program<u64, R> + Sync>(
+    rt: &R,
+    alloc: Global,
+    shape: Shape,
+    team: Team,
+    program: &P,
+    vacant: u32,
+) {
+    same(rt, ran(rt, alloc, shape, team, program), Ok((1, vacant)));
+}
+
+/// The worker makes the calls of these lists.
+pub(crate) fn answers<R: Abort + Threads + Wait + Sync>(
+    rt: &R,
+    alloc: Global,
+    shape: Shape,
+    team: Team,
+    lists: &[&[(Call, Answer)]],
+    vacant: u32,
+) {
+    works(rt, alloc, shape, team, &Listed { lists }, vacant);
+}
+
+/// A leader leads its teams: how many blocks are vacant then.
+pub(crate) fn led<R: Threads + Wait + Sync, L: Leader<u64, R> + Sync>(
+    rt: &R,
+    alloc: Global,
+    shape: Shape,
+    slots: usize,
+    leader: &mut L,
+) -> Result<u32, Refusal> {
+    match run_leader(rt, alloc, shape, slots, leader) {
+        Ok(census) => Ok(census.vacant()),
+        Err(why) => Err(why),
     }
-    same(rt, ran.workers, 1);
-    same(rt, ran.census.vacant(), vacant);
-    Ok(())
 }

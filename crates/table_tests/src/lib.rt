@@ -6,6 +6,8 @@ mod alone;
 #[cfg(test)]
 mod cells;
 #[cfg(test)]
+mod faults;
+#[cfg(test)]
 mod handles;
 #[cfg(test)]
 mod listed;

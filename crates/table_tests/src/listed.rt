@@ -268,24 +268,3 @@ pub(crate) fn all<R: Abort + Wait, H: Home>(
         agree(rt, number, answer_of(rt, table, *call), *wanted);
     }
 }
-
-/// Calls that are refused for this, or are all done where it is for nothing.
-pub(crate) fn refused<R: Abort + Wait, H: Home>(
-    rt: &R,
-    table: &mut HandleTable<'_, u64, H>,
-    why: Option<Fault>,
-    calls: &[Call],
-) {
-    for (number, call) in calls.iter().enumerate() {
-        let told = answer_of(rt, table, *call);
-        let told = match told {
-            Some(Answer::Not(_) | Answer::Changed) | None => told,
-            _ => Some(Answer::Done),
-        };
-        let wanted = match why {
-            Some(why) => Answer::Not(why),
-            None => Answer::Done,
-        };
-        agree(rt, number, told, wanted);
-    }
-}

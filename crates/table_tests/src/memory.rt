@@ -1,16 +1,14 @@
 //! Growths that are refused. `tests/refuse_allocations` runs these with each allocation refused in turn.
-use crate::alone::{Listed, ends};
-use crate::handles::telling::hold;
+use crate::alone::{Listed, ends, led, ran};
 use crate::listed::{Answer, Call, all};
 use crate::parting::joins::come_together;
-use crate::same::same;
+use crate::same::{is_told, same};
 use crate::shapes::{alone, shape};
 use control_word::Refusal;
-use handle_table::{Fault, HandleTable, Home, Leader, Manned, Program, Team, run, run_leader};
+use handle_table::{Fault, HandleTable, Home, Leader, Manned, Program, Team};
 use std::alloc::Global;
 use std::process::Abort;
 use std::sync::Wait;
-use std::test::Fail;
 use std::thread::Threads;
 
 mod structures;
@@ -40,14 +38,14 @@ impl<R: Abort + Threads + Wait + Sync> Program<u64, R> for Splits {
         all(rt, table, &BEGIN);
         match table.split(self.alloc, 2, 2, 1) {
             Ok(other) => come_together(rt, table, other),
-            Err(why) => assert!(rt; why == Fault::Call(Refusal::Memory)),
+            Err(why) => same(rt, why, Fault::Call(Refusal::Memory)),
         }
         all(rt, table, &HAS_ALL);
     }
 }
 
 #[test]
-fn a_refused_split_changes_nothing(rt: HostRuntime) -> Result<(), Fail> {
+fn a_refused_split_changes_nothing(rt: HostRuntime) -> Result<(), Refusal> {
     let program = Splits { alloc: rt.alloc() };
     ends(
         &rt,
@@ -67,7 +65,7 @@ fn is_idle<R: Abort + Threads + Wait + Sync>(
     rt: &R,
     alloc: Global,
     blocks: u32,
-) -> Result<(), Fail> {
+) -> Result<(), Refusal> {
     ends(
         rt,
         alloc,
@@ -79,38 +77,44 @@ fn is_idle<R: Abort + Threads + Wait + Sync>(
 }
 
 #[test]
-fn two_blocks_are_opened_and_closed(rt: HostRuntime) -> Result<(), Fail> {
+fn two_blocks_are_opened_and_closed(rt: HostRuntime) -> Result<(), Refusal> {
     is_idle(&rt, rt.alloc(), 2)
 }
 
 #[test]
-fn three_blocks_are_opened_and_closed(rt: HostRuntime) -> Result<(), Fail> {
+fn three_blocks_are_opened_and_closed(rt: HostRuntime) -> Result<(), Refusal> {
     is_idle(&rt, rt.alloc(), 3)
 }
 
 #[test]
-fn four_blocks_are_opened_and_closed(rt: HostRuntime) -> Result<(), Fail> {
+fn four_blocks_are_opened_and_closed(rt: HostRuntime) -> Result<(), Refusal> {
     is_idle(&rt, rt.alloc(), 4)
+}
+
+/// A program has no worker, whose tables would have so many slots.
+fn unmanned<R: Abort + Threads + Wait + Sync>(
+    rt: &R,
+    alloc: Global,
+    slots: usize,
+) -> Result<(usize, u32), Refusal> {
+    let team = Team {
+        workers: 0,
+        slots,
+        allowance: 1,
+        blocks: 0,
+    };
+    ran(rt, alloc, shape(1, 0, 0, 1), team, &IDLE)
 }
 
 /// The first table has as many slots as a worker's. There is memory for no table of so many.
 #[test]
-fn a_first_table_is_refused(rt: HostRuntime) -> Result<(), Fail> {
-    let shape = shape(1, 0, 0, 1);
-    let mut team = Team {
-        workers: 0,
-        slots: usize::MAX,
-        allowance: 1,
-        blocks: 0,
-    };
-    match run(&rt, rt.alloc(), shape, team, &IDLE) {
-        Ok(_) => assert!(rt; false),
-        Err(why) => same(&rt, why, Refusal::Memory),
-    }
-    team.slots = 1;
-    let ran = run(&rt, rt.alloc(), shape, team, &IDLE)?;
-    same(&rt, ran.census.vacant(), 1);
-    Ok(())
+fn a_first_table_is_refused(rt: HostRuntime) -> Result<(), Refusal> {
+    same(
+        &rt,
+        unmanned(&rt, rt.alloc(), usize::MAX),
+        Err(Refusal::Memory),
+    );
+    is_told(&rt, unmanned(&rt, rt.alloc(), 1), (0, 1))
 }
 
 /// A leader that starts so many teams of one worker, and has its own after each.
@@ -138,8 +142,14 @@ impl<R: Abort + Threads + Wait + Sync> Leader<u64, R> for Tries {
     ) -> Option<Team> {
         match before {
             None => all(rt, table, &BEGIN),
-            Some(Manned { workers: 1, fewer }) => assert!(rt; fewer == None),
-            Some(Manned { fewer, .. }) => assert!(rt; fewer == Some(Refusal::Memory)),
+            Some(Manned { workers, fewer }) => {
+                let wanted = if workers == 1 {
+                    None
+                } else {
+                    Some(Refusal::Memory)
+                };
+                same(rt, fewer, wanted);
+            }
         }
         if self.left == 0 {
             all(rt, table, &HAS_ALL);
@@ -151,16 +161,17 @@ impl<R: Abort + Threads + Wait + Sync> Leader<u64, R> for Tries {
 }
 
 #[test]
-fn a_leader_is_told_that_its_team_was_refused(rt: HostRuntime) -> Result<(), Fail> {
+fn a_leader_is_told_that_its_team_was_refused(rt: HostRuntime) -> Result<(), Refusal> {
     let mut leader = Tries { left: 2 };
-    let census = run_leader(&rt, rt.alloc(), shape(3, 0, 0, 4), 5, &mut leader)?;
-    same(&rt, leader.left, 0);
-    same(&rt, census.vacant(), 3);
-    Ok(())
+    let told = match led(&rt, rt.alloc(), shape(3, 0, 0, 4), 5, &mut leader) {
+        Ok(vacant) => Ok((leader.left, vacant)),
+        Err(why) => Err(why),
+    };
+    is_told(&rt, told, (0, 3))
 }
 
 /// What tests ask for whose calls take no memory.
 #[test]
-fn a_worker_makes_no_call(rt: HostRuntime) -> Result<(), Fail> {
-    hold(&rt, rt.alloc(), &[])
+fn a_worker_makes_no_call(rt: HostRuntime) -> Result<(), Refusal> {
+    ends(&rt, rt.alloc(), shape(2, 1, 1, 8), alone(3, 4, 2), &IDLE, 2)
 }

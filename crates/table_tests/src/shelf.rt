@@ -1,13 +1,12 @@
 //! The shelf: what goes there, what a make takes from it, and when it is left alone.
-use crate::alone::{Listed, ends};
+use crate::alone::{answers, led, ran};
 use crate::listed::{Answer, Call, all};
 use crate::same::same;
 use crate::shapes::{alone, shape};
 use control_word::Refusal;
-use handle_table::{Fault, HandleTable, Home, Leader, Manned, Program, Team, run, run_leader};
+use handle_table::{Fault, HandleTable, Home, Leader, Manned, Program, Team};
 use std::process::Abort;
 use std::sync::Wait;
-use std::test::Fail;
 use std::thread::Threads;
 
 const FULL: Answer = Answer::Not(Fault::Call(Refusal::Full));
@@ -33,16 +32,15 @@ const CALLS: [(Call, Answer); 14] = [
 ];
 
 #[test]
-fn a_make_takes_a_block_from_the_shelf(rt: HostRuntime) -> Result<(), Fail> {
-    let program = Listed { lists: &[&CALLS] };
-    ends(
+fn a_make_takes_a_block_from_the_shelf(rt: HostRuntime) {
+    answers(
         &rt,
         rt.alloc(),
         shape(4, 0, 0, 6),
         alone(4, 4, 4),
-        &program,
+        &[&CALLS],
         4,
-    )
+    );
 }
 
 /// At the allowance a make leaves the shelf alone.
@@ -57,16 +55,15 @@ const FEW: [(Call, Answer); 7] = [
 ];
 
 #[test]
-fn at_the_limit_the_shelf_is_left_alone(rt: HostRuntime) -> Result<(), Fail> {
-    let program = Listed { lists: &[&FEW] };
-    ends(
+fn at_the_limit_the_shelf_is_left_alone(rt: HostRuntime) {
+    answers(
         &rt,
         rt.alloc(),
         shape(2, 0, 0, 2),
         alone(2, 1, 2),
-        &program,
+        &[&FEW],
         2,
-    )
+    );
 }
 
 /// Of two threads one shelves its block, and the other makes an object more than it has blocks.
@@ -96,17 +93,15 @@ impl<R: Abort + Threads + Wait + Sync> Program<u64, R> for Lends {
 }
 
 #[test]
-fn a_thread_makes_in_anothers_block(rt: HostRuntime) -> Result<(), Fail> {
+fn a_thread_makes_in_anothers_block(rt: HostRuntime) {
     let team = Team {
         workers: 2,
         slots: 2,
         allowance: 2,
         blocks: 1,
     };
-    let ran = run(&rt, rt.alloc(), shape(2, 0, 0, 6), team, &Lends)?;
-    same(&rt, ran.fewer, None);
-    same(&rt, (ran.workers, ran.census.vacant()), (2, 2));
-    Ok(())
+    let told = ran(&rt, rt.alloc(), shape(2, 0, 0, 6), team, &Lends);
+    same(&rt, told, Ok((2, 2)));
 }
 
 /// A sole table: a make is refused just where no block is in its store or on the shelf.
@@ -142,9 +137,7 @@ impl<R: Abort + Threads + Wait + Sync> Leader<u64, R> for Sole {
 }
 
 #[test]
-fn a_sole_table_finds_all_that_is_shelved(rt: HostRuntime) -> Result<(), Fail> {
-    let mut sole = Sole;
-    let census = run_leader(&rt, rt.alloc(), shape(2, 0, 0, 4), 3, &mut sole)?;
-    same(&rt, census.vacant(), 2);
-    Ok(())
+fn a_sole_table_finds_all_that_is_shelved(rt: HostRuntime) {
+    let vacant = led(&rt, rt.alloc(), shape(2, 0, 0, 4), 3, &mut Sole);
+    same(&rt, vacant, Ok(2));
 }

@@ -1,10 +1,9 @@
 //! Cells of both kinds, free ones and members: each call, and each fault.
-use crate::alone::{Listed, ends};
+use crate::alone::answers;
 use crate::listed::{Answer, Call};
 use crate::shapes::{alone, shape};
 use control_word::{Block, Place, Refusal};
 use handle_table::{Cell, Fault, SharedMember};
-use std::test::Fail;
 
 /// A free cell of either kind, and members of the object that the owner in slot 0 owns.
 const SHARED: Cell = Cell::Shared(0);
@@ -135,9 +134,13 @@ const AWAY: [(Call, Answer); 7] = [
 ];
 
 #[test]
-fn cells_of_both_kinds(rt: HostRuntime) -> Result<(), Fail> {
-    let program = Listed {
-        lists: &[
+fn cells_of_both_kinds(rt: HostRuntime) {
+    answers(
+        &rt,
+        rt.alloc(),
+        shape(4, 1, 1, 8),
+        alone(5, 5, 3),
+        &[
             &BEGIN,
             &BY_SHARED,
             &BY_FIRST,
@@ -147,13 +150,6 @@ fn cells_of_both_kinds(rt: HostRuntime) -> Result<(), Fail> {
             &OWN_MEMBER,
             &AWAY,
         ],
-    };
-    ends(
-        &rt,
-        rt.alloc(),
-        shape(4, 1, 1, 8),
-        alone(5, 5, 3),
-        &program,
         3,
-    )
+    );
 }

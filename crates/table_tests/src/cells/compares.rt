@@ -1,11 +1,10 @@
 //! Compare-and-swap of cells of both kinds: what it does to the slots, and each fault.
-use crate::alone::{Listed, ends};
+use crate::alone::answers;
 use crate::handles::telling::hold;
 use crate::listed::{Answer, Call};
 use crate::shapes::{alone, shape};
 use control_word::{Block, Place, Refusal};
 use handle_table::{Cell, Fault};
-use std::test::Fail;
 
 const SHARED: Cell = Cell::Shared(0);
 
@@ -50,16 +49,15 @@ const CALLS: [(Call, Answer); 28] = [
 ];
 
 #[test]
-fn a_compare_swaps_or_tells_what_is_there(rt: HostRuntime) -> Result<(), Fail> {
-    let program = Listed { lists: &[&CALLS] };
-    ends(
+fn a_compare_swaps_or_tells_what_is_there(rt: HostRuntime) {
+    answers(
         &rt,
         rt.alloc(),
         shape(3, 1, 1, 8),
         alone(5, 5, 2),
-        &program,
+        &[&CALLS],
         2,
-    )
+    );
 }
 
 /// Places in blocks 1 and 2.
@@ -107,16 +105,15 @@ const BY_BOTH: [(Call, Answer); 25] = [
 ];
 
 #[test]
-fn a_compare_goes_by_place_and_object(rt: HostRuntime) -> Result<(), Fail> {
-    let program = Listed { lists: &[&BY_BOTH] };
-    ends(
+fn a_compare_goes_by_place_and_object(rt: HostRuntime) {
+    answers(
         &rt,
         rt.alloc(),
         shape(2, 1, 1, 8),
         alone(3, 5, 2),
-        &program,
+        &[&BY_BOTH],
         1,
-    )
+    );
 }
 
 /// A weak pointer is compared with what a cell holds: nothing at first, and then such a pointer.
@@ -137,6 +134,6 @@ const WATCHERS: [(Call, Answer); 13] = [
 ];
 
 #[test]
-fn a_weak_cell_is_compared(rt: HostRuntime) -> Result<(), Fail> {
-    hold(&rt, rt.alloc(), &[&WATCHERS])
+fn a_weak_cell_is_compared(rt: HostRuntime) {
+    hold(&rt, rt.alloc(), &[&WATCHERS]);
 }

@@ -3,13 +3,13 @@ use crate::alone::Listed;
 use crate::listed::{Answer, Call};
 use crate::same::same;
 use crate::shapes::{alone, shape};
-use control_block::cell_calls::Site;
-use control_block::census::Holders;
+use control_block::cell_calls::{CellAt, Site};
+use control_block::census::{Census, Holders};
 use control_word::Block;
 use control_word::model::handle::Kind;
 use handle_table::{Cell, SharedMember, run};
+use std::alloc::Global;
 use std::process::Abort;
-use std::test::Fail;
 
 const FREE: Cell = Cell::Shared(0);
 
@@ -42,31 +42,43 @@ const TANGLE: [(Call, Answer); 12] = [
     (Call::Reset(1), Answer::OthersOwn),
 ];
 
-/// Just these cells hold an object: each by the block that it is a member of, 0 where it is free, and its number.
-fn agree<R: Abort>(rt: &R, holders: &Holders, wanted: &[(u16, u32, Kind)]) {
-    same(rt, holders.cells.len(), wanted.len());
-    for (cell, (of, number, kind)) in holders.cells.iter().zip(wanted.iter()) {
-        let site = match cell.site {
-            Site::Free(number) => (0, number),
-            Site::Member(of, member) => (of.0, member),
-        };
-        assert!(rt; site == (*of, *number) && cell.kind == *kind);
+/// A cell that holds an object: the block that it is a member of, 0 where it is free, its number, and its kind.
+type Holder = (u16, u32, Kind);
+
+fn holder(cell: &CellAt) -> Holder {
+    match cell.site {
+        Site::Free(number) => (0, number, cell.kind),
+        Site::Member(of, member) => (of.0, member, cell.kind),
     }
-    let forgotten = (holders.forgotten.owners, holders.forgotten.weaks);
-    same(rt, forgotten, (0, 0));
+}
+
+/// Just these cells hold an object.
+fn agree<R: Abort>(rt: &R, holders: &Holders, wanted: &[Holder]) {
+    let forgotten = holders.forgotten;
+    let numbers = (holders.cells.len(), forgotten.owners, forgotten.weaks);
+    same(rt, numbers, (wanted.len(), 0, 0));
+    for (cell, wanted) in holders.cells.iter().zip(wanted.iter()) {
+        same(rt, holder(cell), *wanted);
+    }
+}
+
+/// Just these cells hold the object in a block.
+fn held<R: Abort>(rt: &R, alloc: Global, census: &Census<u64>, block: u16, wanted: &[Holder]) {
+    match census.holders(alloc, Block(block)) {
+        Ok(holders) => agree(rt, &holders, wanted),
+        Err(why) => same(rt, Some(why), None),
+    }
 }
 
 #[test]
-fn the_census_tells_who_holds(rt: HostRuntime) -> Result<(), Fail> {
+fn the_census_tells_who_holds(rt: HostRuntime) {
     let program = Listed { lists: &[&TANGLE] };
-    let ran = run(&rt, rt.alloc(), shape(2, 1, 0, 8), alone(3, 4, 2), &program)?;
-    let first = ran.census.holders(rt.alloc(), Block(1))?;
-    let second = ran.census.holders(rt.alloc(), Block(2))?;
-    agree(
-        &rt,
-        &first,
-        &[(0, 0, Kind::Owner), (2, 0, Kind::Owner), (2, 2, Kind::Weak)],
-    );
-    agree(&rt, &second, &[(1, 1, Kind::Owner)]);
-    Ok(())
+    match run(&rt, rt.alloc(), shape(2, 1, 0, 8), alone(3, 4, 2), &program) {
+        Ok(ran) => {
+            let first = [(0, 0, Kind::Owner), (2, 0, Kind::Owner), (2, 2, Kind::Weak)];
+            held(&rt, rt.alloc(), &ran.census, 1, &first);
+            held(&rt, rt.alloc(), &ran.census, 2, &[(1, 1, Kind::Owner)]);
+        }
+        Err(why) => same(&rt, Some(why), None),
+    }
 }

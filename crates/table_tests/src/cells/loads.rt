@@ -1,12 +1,11 @@
 //! Cells of a desk that is alone: an owner's, which is loaded again and again, and a weak one's.
-use crate::alone::ends;
+use crate::alone::works;
 use crate::handles::telling::hold;
 use crate::listed::{Answer, Call, all};
 use crate::shapes::{alone, shape};
 use handle_table::{Cell, HandleTable, Home, Program};
 use std::process::Abort;
 use std::sync::Wait;
-use std::test::Fail;
 use std::thread::Threads;
 
 const SHARED: Cell = Cell::Shared(0);
@@ -49,15 +48,15 @@ impl<R: Abort + Threads + Wait + Sync> Program<u64, R> for Loads {
 
 /// The object is left in the cell.
 #[test]
-fn a_thousand_loads_tell_three_owners(rt: HostRuntime) -> Result<(), Fail> {
-    ends(
+fn a_thousand_loads_tell_three_owners(rt: HostRuntime) {
+    works(
         &rt,
         rt.alloc(),
         shape(2, 1, 0, 8),
         alone(2, 4, 1),
         &Loads,
         1,
-    )
+    );
 }
 
 const WATCH: [(Call, Answer); 10] = [
@@ -74,6 +73,6 @@ const WATCH: [(Call, Answer); 10] = [
 ];
 
 #[test]
-fn a_weak_cell_watches(rt: HostRuntime) -> Result<(), Fail> {
-    hold(&rt, rt.alloc(), &[&WATCH])
+fn a_weak_cell_watches(rt: HostRuntime) {
+    hold(&rt, rt.alloc(), &[&WATCH]);
 }

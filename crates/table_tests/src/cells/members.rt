@@ -2,7 +2,6 @@
 use crate::handles::telling::hold;
 use crate::listed::{Answer, Call, Was};
 use handle_table::{Cell, SharedMember};
-use std::test::Fail;
 
 /// The first member of the object that the owner in slot 0 owns, and the weak one of that in slot 1.
 const FIRST: Cell = Cell::Member {
@@ -55,6 +54,6 @@ const NESTED: [(Call, Answer); 13] = [
 ];
 
 #[test]
-fn objects_end_member_by_member(rt: HostRuntime) -> Result<(), Fail> {
-    hold(&rt, rt.alloc(), &[&TIED, &NESTED])
+fn objects_end_member_by_member(rt: HostRuntime) {
+    hold(&rt, rt.alloc(), &[&TIED, &NESTED]);
 }

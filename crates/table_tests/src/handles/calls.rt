@@ -1,9 +1,8 @@
 //! Each call once, where nothing is refused.
-use crate::alone::{Listed, ends};
+use crate::alone::answers;
 use crate::listed::{Answer, Call};
 use crate::shapes::{alone, shape};
 use handle_table::Cell;
-use std::test::Fail;
 
 const SHARED: Cell = Cell::Shared(0);
 
@@ -31,14 +30,13 @@ const CALLS: [(Call, Answer); 20] = [
 ];
 
 #[test]
-fn each_call_works(rt: HostRuntime) -> Result<(), Fail> {
-    let program = Listed { lists: &[&CALLS] };
-    ends(
+fn each_call_works(rt: HostRuntime) {
+    answers(
         &rt,
         rt.alloc(),
         shape(4, 1, 0, 16),
         alone(4, 8, 3),
-        &program,
+        &[&CALLS],
         3,
-    )
+    );
 }

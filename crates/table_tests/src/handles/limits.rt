@@ -1,14 +1,16 @@
 //! Numbers that may be no greater: of cells, of a place's block and field, of handles, and of objects; and how large a
 //! program's domain may be.
-use crate::alone::{Listed, ends};
-use crate::handles::slots::{OWNER, TO, WEAK, cell_calls};
-use crate::listed::{Answer, Call, all, refused};
+use crate::alone::{Listed, works};
+use crate::faults::{each, refused};
+use crate::handles::slots::{BEGIN, OWNER, TO, WEAK, cell_calls};
+use crate::listed::{Answer, Call, all};
+use crate::same::same;
 use crate::shapes::{alone, shape};
-use control_word::{Block, Place, Refusal};
+use control_word::{Block, Place, Refusal, Shape};
 use handle_table::{Cell, Fault, HandleTable, Home, Program, run};
+use std::alloc::Global;
 use std::process::Abort;
 use std::sync::Wait;
-use std::test::Fail;
 use std::thread::Threads;
 
 /// Two more slots for what comes.
@@ -16,31 +18,45 @@ const SPARE: usize = 3;
 
 const LAST: usize = 4;
 
-/// A field of a block.
-fn at(block: u16, field: u8) -> Option<Place> {
-    Some(Place {
-        block: Block(block),
-        field,
-    })
-}
+/// The first field of the first block and the last of the last one, and what is just beyond either.
+const FIRST: Option<Place> = Some(Place {
+    block: Block(1),
+    field: 0,
+});
+
+const NOWHERE: Option<Place> = Some(Place {
+    block: Block(0),
+    field: 0,
+});
+
+const VERY_LAST: Option<Place> = Some(Place {
+    block: Block(65_535),
+    field: 3,
+});
+
+const BEYOND: Option<Place> = Some(Place {
+    block: Block(65_535),
+    field: 4,
+});
 
 /// Where an alias may point: the fields of any block.
-fn places<R: Abort + Wait, H: Home>(rt: &R, table: &mut HandleTable<'_, u64, H>) {
-    let refusal = Answer::Not(Fault::Place);
-    all(
-        rt,
-        table,
-        &[
-            (Call::Alias(OWNER, at(1, 0), TO), Answer::Done),
-            (Call::Alias(OWNER, at(0, 0), TO), refusal),
-            (Call::PlaceOf(TO), Answer::At(at(1, 0))),
-            (Call::Alias(OWNER, at(65_535, 3), TO), Answer::Done),
-            (Call::Alias(OWNER, at(65_535, 4), TO), refusal),
-            (Call::PlaceOf(TO), Answer::At(at(65_535, 3))),
-            (Call::Reset(TO), Answer::OthersOwn),
-        ],
-    );
-}
+const PLACES: [(Call, Answer); 7] = [
+    (Call::Alias(OWNER, FIRST, TO), Answer::Done),
+    (Call::Alias(OWNER, NOWHERE, TO), Answer::Not(Fault::Place)),
+    (Call::PlaceOf(TO), Answer::At(FIRST)),
+    (Call::Alias(OWNER, VERY_LAST, TO), Answer::Done),
+    (Call::Alias(OWNER, BEYOND, TO), Answer::Not(Fault::Place)),
+    (Call::PlaceOf(TO), Answer::At(VERY_LAST)),
+    (Call::Reset(TO), Answer::OthersOwn),
+];
+
+/// Cells, a slot with a handle of the cell's kind, and why calls on it are refused.
+const CELLS: [(Cell, usize, Option<Fault>); 4] = [
+    (Cell::Shared(1), OWNER, None),
+    (Cell::Weak(2), WEAK, None),
+    (Cell::Shared(2), OWNER, Some(Fault::Cell)),
+    (Cell::Weak(3), WEAK, Some(Fault::Cell)),
+];
 
 /// Calls by which a handle comes into slot `TO`, which is vacant.
 const TAKES: [Call; 13] = [
@@ -71,9 +87,8 @@ fn takes<R: Abort + Wait, H: Home>(
         Some(_) => Some(Fault::Vacant),
     };
     for call in TAKES {
-        refused(rt, table, why, &[call]);
-        refused(rt, table, vacant, &[Call::Reset(TO)]);
-        refused(rt, table, None, &[Call::Settle]);
+        let calls = [(why, call), (vacant, Call::Reset(TO)), (None, Call::Settle)];
+        each(rt, table, &calls);
     }
 }
 
@@ -97,16 +112,11 @@ struct Limits;
 
 impl<R: Abort + Threads + Wait + Sync> Program<u64, R> for Limits {
     fn work<H: Home>(&self, rt: &R, _number: usize, table: &mut HandleTable<'_, u64, H>) {
-        let begin = [
-            Call::Make(OWNER, [7; 4], true, 7),
-            Call::Downgrade(OWNER, WEAK),
-        ];
-        refused(rt, table, None, &begin);
-        cell_calls(rt, table, Cell::Shared(1), OWNER, None);
-        cell_calls(rt, table, Cell::Weak(2), WEAK, None);
-        cell_calls(rt, table, Cell::Shared(2), OWNER, Some(Fault::Cell));
-        cell_calls(rt, table, Cell::Weak(3), WEAK, Some(Fault::Cell));
-        places(rt, table);
+        refused(rt, table, None, &BEGIN);
+        for (cell, kind, why) in CELLS {
+            cell_calls(rt, table, cell, kind, why);
+        }
+        all(rt, table, &PLACES);
         all(rt, table, &BLOCKS);
         refused(rt, table, None, &[Call::Copy(OWNER, SPARE)]);
         takes(rt, table, None);
@@ -117,15 +127,15 @@ impl<R: Abort + Threads + Wait + Sync> Program<u64, R> for Limits {
 }
 
 #[test]
-fn every_limit_is_told(rt: HostRuntime) -> Result<(), Fail> {
-    ends(
+fn every_limit_is_told(rt: HostRuntime) {
+    works(
         &rt,
         rt.alloc(),
         shape(3, 2, 3, 6),
         alone(5, 4, 2),
         &Limits,
         3,
-    )
+    );
 }
 
 /// Blocks, free cells of both kinds and allowance of a domain, and whether there may be one.
@@ -139,19 +149,27 @@ const DOMAINS: [(u32, u32, u32, u32, bool); 7] = [
     (1, 0, 0, 0, false),
 ];
 
+/// Why a domain is refused to a program, if it is.
+fn refusal<R: Abort + Threads + Wait + Sync>(
+    rt: &R,
+    alloc: Global,
+    shape: Shape,
+) -> Option<Refusal> {
+    match run(rt, alloc, shape, alone(1, 1, 1), &Listed { lists: &[] }) {
+        Ok(_) => None,
+        Err(why) => Some(why),
+    }
+}
+
 #[test]
-fn a_program_has_a_domain_within_limits(rt: HostRuntime) -> Result<(), Fail> {
+fn a_program_has_a_domain_within_limits(rt: HostRuntime) {
     for (blocks, shared, weak, allowance, opens) in DOMAINS {
         let shape = shape(blocks, shared, weak, allowance);
-        let ran = run(
-            &rt,
-            rt.alloc(),
-            shape,
-            alone(1, 1, 1),
-            &Listed { lists: &[] },
-        );
         let wanted = if opens { None } else { Some(Refusal::Shape) };
-        assert!(rt; ran.err() == wanted, "{blocks} {shared} {weak} {allowance}");
+        same(
+            &rt,
+            (shape, refusal(&rt, rt.alloc(), shape)),
+            (shape, wanted),
+        );
     }
-    Ok(())
 }

@@ -1,10 +1,9 @@
 //! Empty handles, owners that are refused or not, what two handles tell, and work on a value.
-use crate::alone::{Listed, ends};
+use crate::alone::answers;
 use crate::listed::{Answer, Call};
 use crate::shapes::{alone, shape};
 use control_word::Refusal;
 use handle_table::Fault;
-use std::test::Fail;
 
 const SLOT: Answer = Answer::Not(Fault::Slot);
 
@@ -49,14 +48,13 @@ const CALLS: [(Call, Answer); 28] = [
 ];
 
 #[test]
-fn handles_tell_of_each_other(rt: HostRuntime) -> Result<(), Fail> {
-    let program = Listed { lists: &[&CALLS] };
-    ends(
+fn handles_tell_of_each_other(rt: HostRuntime) {
+    answers(
         &rt,
         rt.alloc(),
         shape(2, 0, 0, 8),
         alone(3, 4, 1),
-        &program,
+        &[&CALLS],
         2,
-    )
+    );
 }

@@ -1,10 +1,9 @@
 //! Pointers that an object gives to itself, owners that point elsewhere, and a cell whose owner is exchanged.
-use crate::alone::{Listed, ends};
+use crate::alone::answers;
 use crate::listed::{Answer, Call};
 use crate::shapes::{alone, shape};
 use control_word::{Block, Place, Refusal};
 use handle_table::{Cell, Fault};
-use std::test::Fail;
 
 /// The third field of the first object that its table made.
 const THIRD: Option<Place> = Some(Place {
@@ -39,16 +38,13 @@ const REST: [(Call, Answer); 8] = [
 ];
 
 #[test]
-fn pointers_to_an_object_itself(rt: HostRuntime) -> Result<(), Fail> {
-    let program = Listed {
-        lists: &[&ENABLED, &REST],
-    };
-    ends(
+fn pointers_to_an_object_itself(rt: HostRuntime) {
+    answers(
         &rt,
         rt.alloc(),
         shape(4, 1, 0, 16),
         alone(3, 8, 2),
-        &program,
+        &[&ENABLED, &REST],
         3,
-    )
+    );
 }

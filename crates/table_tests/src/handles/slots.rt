@@ -1,11 +1,11 @@
 //! Every call with a slot: the last number and the next, a vacant slot, and one with a handle of the other kind.
-use crate::alone::ends;
-use crate::listed::{Answer, Call, all, refused};
+use crate::alone::works;
+use crate::faults::{each, refused};
+use crate::listed::{Answer, Call, all};
 use crate::shapes::{alone, shape};
 use handle_table::{Cell, Fault, HandleTable, Home, Program, SharedMember};
 use std::process::Abort;
 use std::sync::Wait;
-use std::test::Fail;
 use std::thread::Threads;
 
 /// Slots with an owner and with a weak handle of its object, one for what comes, and the last, which is vacant.
@@ -31,29 +31,28 @@ fn targets<R: Abort + Wait, H: Home>(
     to: usize,
     why: Option<Fault>,
 ) {
-    refused(
-        rt,
-        table,
-        why,
-        &[
-            Call::Make(to, [0; 4], false, 1),
-            Call::MakeNull(to, 1),
-            Call::Empty(to),
-            Call::EmptyWeak(to),
-            Call::Copy(OWNER, to),
-            Call::Downgrade(OWNER, to),
-            Call::Alias(OWNER, None, to),
-            Call::SharedFromThis(OWNER, to),
-            Call::WeakFromThis(OWNER, to),
-            Call::Lock(WEAK, to),
-            Call::Upgrade(WEAK, to),
-            Call::Load(SHARED, to),
-            Call::Load(WATCHED, to),
-        ],
-    );
-    refused(rt, table, None, &[Call::Copy(WEAK, TO)]);
-    refused(rt, table, why, &[Call::MoveTo(TO, to)]);
-    refused(rt, table, None, &[Call::Settle]);
+    let calls = [
+        Call::Make(to, [0; 4], false, 1),
+        Call::MakeNull(to, 1),
+        Call::Empty(to),
+        Call::EmptyWeak(to),
+        Call::Copy(OWNER, to),
+        Call::Downgrade(OWNER, to),
+        Call::Alias(OWNER, None, to),
+        Call::SharedFromThis(OWNER, to),
+        Call::WeakFromThis(OWNER, to),
+        Call::Lock(WEAK, to),
+        Call::Upgrade(WEAK, to),
+        Call::Load(SHARED, to),
+        Call::Load(WATCHED, to),
+    ];
+    refused(rt, table, why, &calls);
+    let moves = [
+        (None, Call::Copy(WEAK, TO)),
+        (why, Call::MoveTo(TO, to)),
+        (None, Call::Settle),
+    ];
+    each(rt, table, &moves);
 }
 
 /// Calls on a handle of either kind.
@@ -63,18 +62,14 @@ fn handles<R: Abort + Wait, H: Home>(
     at: usize,
     why: Option<Fault>,
 ) {
-    refused(
-        rt,
-        table,
-        why,
-        &[
-            Call::Copy(at, TO),
-            Call::UseCount(at),
-            Call::OwnerBefore(at, OWNER),
-            Call::OwnerBefore(OWNER, at),
-            Call::MoveTo(at, TO),
-        ],
-    );
+    let calls = [
+        Call::Copy(at, TO),
+        Call::UseCount(at),
+        Call::OwnerBefore(at, OWNER),
+        Call::OwnerBefore(OWNER, at),
+        Call::MoveTo(at, TO),
+    ];
+    refused(rt, table, why, &calls);
     if why.is_none() {
         refused(rt, table, None, &[Call::MoveTo(TO, at)]);
     }
@@ -88,32 +83,21 @@ fn owners<R: Abort + Wait, H: Home>(
     of: usize,
     why: Option<Fault>,
 ) {
-    refused(
-        rt,
-        table,
-        why,
-        &[
-            Call::Downgrade(of, TO),
-            Call::Alias(of, None, TO),
-            Call::SharedFromThis(of, TO),
-            Call::WeakFromThis(of, TO),
-            Call::Read(of),
-            Call::PlaceOf(of),
-            Call::SamePlace(of, OWNER),
-            Call::SamePlace(OWNER, of),
-            Call::Visit(of),
-        ],
-    );
-    let first = Cell::Member {
-        of,
-        which: SharedMember::First,
-    };
-    cell_calls(rt, table, first, OWNER, why);
-    let next = Cell::Member {
-        of,
-        which: SharedMember::Next,
-    };
-    cell_calls(rt, table, next, OWNER, why);
+    let calls = [
+        Call::Downgrade(of, TO),
+        Call::Alias(of, None, TO),
+        Call::SharedFromThis(of, TO),
+        Call::WeakFromThis(of, TO),
+        Call::Read(of),
+        Call::PlaceOf(of),
+        Call::SamePlace(of, OWNER),
+        Call::SamePlace(OWNER, of),
+        Call::Visit(of),
+    ];
+    refused(rt, table, why, &calls);
+    for which in [SharedMember::First, SharedMember::Next] {
+        cell_calls(rt, table, Cell::Member { of, which }, OWNER, why);
+    }
     cell_calls(rt, table, Cell::Up { of }, WEAK, why);
     into_cell(rt, table, SHARED, OWNER, of, why);
 }
@@ -125,12 +109,8 @@ fn weaks<R: Abort + Wait, H: Home>(
     at: usize,
     why: Option<Fault>,
 ) {
-    refused(
-        rt,
-        table,
-        why,
-        &[Call::Lock(at, TO), Call::Upgrade(at, TO), Call::Expired(at)],
-    );
+    let calls = [Call::Lock(at, TO), Call::Upgrade(at, TO), Call::Expired(at)];
+    refused(rt, table, why, &calls);
     into_cell(rt, table, WATCHED, WEAK, at, why);
 }
 
@@ -142,48 +122,43 @@ pub(crate) fn cell_calls<R: Abort + Wait, H: Home>(
     kind: usize,
     why: Option<Fault>,
 ) {
-    let comes = [Call::Copy(kind, TO)];
-    refused(rt, table, why, &[Call::Reaches(cell), Call::Load(cell, TO)]);
-    refused(rt, table, None, &comes);
-    refused(
-        rt,
-        table,
-        why,
-        &[Call::Exchange(TO, cell), Call::CompareStrong(cell, TO, TO)],
-    );
-    refused(rt, table, None, &comes);
-    refused(rt, table, why, &[Call::CompareWeak(cell, TO, TO)]);
-    refused(rt, table, None, &comes);
-    refused(rt, table, why, &[Call::Store(TO, cell)]);
+    let comes = Call::Copy(kind, TO);
+    let calls = [
+        (why, Call::Reaches(cell)),
+        (why, Call::Load(cell, TO)),
+        (None, comes),
+        (why, Call::Exchange(TO, cell)),
+        (why, Call::CompareStrong(cell, TO, TO)),
+        (None, comes),
+        (why, Call::CompareWeak(cell, TO, TO)),
+        (None, comes),
+        (why, Call::Store(TO, cell)),
+    ];
+    each(rt, table, &calls);
     if why.is_none() {
-        // The cell is empty again.
-        let empty = if kind == OWNER {
-            Call::Empty(TO)
-        } else {
-            Call::EmptyWeak(TO)
-        };
-        let last = [
-            Call::Load(cell, TO),
-            Call::Empty(TO),
-            empty,
-            Call::Store(TO, cell),
-        ];
-        refused(rt, table, None, &last);
+        empty_again(rt, table, cell, kind);
     }
 }
 
-/// What an `into_cell` begins each call with: where it isn't refused, what is in the slot may have gone into the cell.
-fn refill<R: Abort + Wait, H: Home>(
+/// The cell gets an empty handle of its kind.
+fn empty_again<R: Abort + Wait, H: Home>(
     rt: &R,
     table: &mut HandleTable<'_, u64, H>,
+    cell: Cell,
     kind: usize,
-    at: usize,
-    why: Option<Fault>,
 ) {
-    if why.is_none() {
-        refused(rt, table, None, &[Call::Copy(kind, at)]);
-    }
-    refused(rt, table, None, &[Call::Copy(kind, TO)]);
+    let empty = if kind == OWNER {
+        Call::Empty(TO)
+    } else {
+        Call::EmptyWeak(TO)
+    };
+    let last = [
+        Call::Load(cell, TO),
+        Call::Empty(TO),
+        empty,
+        Call::Store(TO, cell),
+    ];
+    refused(rt, table, None, &last);
 }
 
 /// Calls that bring what is in the slot to a cell; slot `kind` has a handle of the cell's kind.
@@ -195,61 +170,106 @@ fn into_cell<R: Abort + Wait, H: Home>(
     at: usize,
     why: Option<Fault>,
 ) {
-    refused(rt, table, None, &[Call::Copy(kind, TO)]);
-    refused(rt, table, why, &[Call::CompareStrong(cell, at, TO)]);
-    refused(rt, table, None, &[Call::Copy(kind, TO)]);
-    refused(rt, table, why, &[Call::CompareWeak(cell, at, TO)]);
-    refill(rt, table, kind, at, why);
-    refused(rt, table, why, &[Call::CompareStrong(cell, TO, at)]);
-    refill(rt, table, kind, at, why);
-    refused(rt, table, why, &[Call::CompareWeak(cell, TO, at)]);
-    refill(rt, table, kind, at, why);
-    refused(
-        rt,
-        table,
-        why,
-        &[Call::Exchange(at, cell), Call::Store(at, cell)],
-    );
+    let comes = Call::Copy(kind, TO);
+    // Where it isn't refused, what is in the slot may have gone into the cell.
+    let again = match why {
+        Some(_) => comes,
+        None => Call::Copy(kind, at),
+    };
+    let calls = [
+        (None, comes),
+        (why, Call::CompareStrong(cell, at, TO)),
+        (None, comes),
+        (why, Call::CompareWeak(cell, at, TO)),
+        (None, again),
+        (None, comes),
+        (why, Call::CompareStrong(cell, TO, at)),
+        (None, again),
+        (None, comes),
+        (why, Call::CompareWeak(cell, TO, at)),
+        (None, again),
+        (None, comes),
+        (why, Call::Exchange(at, cell)),
+        (why, Call::Store(at, cell)),
+    ];
+    each(rt, table, &calls);
 }
 
 struct Slots;
 
 impl<R: Abort + Threads + Wait + Sync> Program<u64, R> for Slots {
     fn work<H: Home>(&self, rt: &R, _number: usize, table: &mut HandleTable<'_, u64, H>) {
-        let begin = [
-            Call::Make(OWNER, [7; 4], true, 7),
-            Call::Downgrade(OWNER, WEAK),
-        ];
-        refused(rt, table, None, &begin);
-        owners(rt, table, NEXT, Some(Fault::Slot));
-        owners(rt, table, LAST, Some(Fault::Vacant));
-        owners(rt, table, WEAK, Some(Fault::Kind));
-        weaks(rt, table, NEXT, Some(Fault::Slot));
-        weaks(rt, table, LAST, Some(Fault::Vacant));
-        weaks(rt, table, OWNER, Some(Fault::Kind));
-        handles(rt, table, NEXT, Some(Fault::Slot));
-        handles(rt, table, LAST, Some(Fault::Vacant));
-        targets(rt, table, NEXT, Some(Fault::Slot));
+        refused(rt, table, None, &BEGIN);
+        for (group, at, why) in FAULTS {
+            make_group(rt, table, group, at, Some(why));
+        }
         refused(rt, table, None, &[Call::Reset(TO)]);
         all(rt, table, &[(Call::UseCount(OWNER), Answer::Count(1))]);
-        refused(rt, table, None, &[Call::Copy(OWNER, LAST)]);
-        owners(rt, table, LAST, None);
-        refused(rt, table, None, &[Call::Copy(WEAK, LAST)]);
-        weaks(rt, table, LAST, None);
-        refused(rt, table, None, &[Call::Copy(OWNER, LAST)]);
-        handles(rt, table, LAST, None);
-        targets(rt, table, LAST, None);
+        for (first, group) in NO_FAULTS {
+            refused(rt, table, None, &[first]);
+            make_group(rt, table, group, LAST, None);
+        }
+    }
+}
+
+pub(crate) const BEGIN: [Call; 2] = [
+    Call::Make(OWNER, [7; 4], true, 7),
+    Call::Downgrade(OWNER, WEAK),
+];
+
+/// Calls on a slot, its number, and why each is refused.
+const FAULTS: [(Group, usize, Fault); 9] = [
+    (Group::Owners, NEXT, Fault::Slot),
+    (Group::Owners, LAST, Fault::Vacant),
+    (Group::Owners, WEAK, Fault::Kind),
+    (Group::Weaks, NEXT, Fault::Slot),
+    (Group::Weaks, LAST, Fault::Vacant),
+    (Group::Weaks, OWNER, Fault::Kind),
+    (Group::Handles, NEXT, Fault::Slot),
+    (Group::Handles, LAST, Fault::Vacant),
+    (Group::Targets, NEXT, Fault::Slot),
+];
+
+/// What the last slot gets before calls on it that are not refused.
+const NO_FAULTS: [(Call, Group); 4] = [
+    (Call::Copy(OWNER, LAST), Group::Owners),
+    (Call::Copy(WEAK, LAST), Group::Weaks),
+    (Call::Copy(OWNER, LAST), Group::Handles),
+    (Call::Settle, Group::Targets),
+];
+
+/// Calls on one slot.
+#[derive(Clone, Copy, Drop)]
+enum Group {
+    Targets,
+    Handles,
+    Owners,
+    Weaks,
+}
+
+fn make_group<R: Abort + Wait, H: Home>(
+    rt: &R,
+    table: &mut HandleTable<'_, u64, H>,
+    group: Group,
+    at: usize,
+    why: Option<Fault>,
+) {
+    match group {
+        Group::Targets => targets(rt, table, at, why),
+        Group::Handles => handles(rt, table, at, why),
+        Group::Owners => owners(rt, table, at, why),
+        Group::Weaks => weaks(rt, table, at, why),
     }
 }
 
 #[test]
-fn every_slot_is_looked_at(rt: HostRuntime) -> Result<(), Fail> {
-    ends(
+fn every_slot_is_looked_at(rt: HostRuntime) {
+    works(
         &rt,
         rt.alloc(),
         shape(4, 1, 1, 12),
         alone(4, 10, 3),
         &Slots,
         3,
-    )
+    );
 }

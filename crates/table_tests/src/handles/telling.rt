@@ -1,5 +1,5 @@
 //! What handles tell, by rows: aliases, weak handles, owners that come of them, an object's own pointers, owned null.
-use crate::alone::{Listed, ends};
+use crate::alone::answers;
 use crate::listed::{Answer, Call};
 use crate::shapes::{alone, shape};
 use control_word::{Block, Place, Refusal};
@@ -7,7 +7,6 @@ use handle_table::Fault;
 use std::alloc::Global;
 use std::process::Abort;
 use std::sync::Wait;
-use std::test::Fail;
 use std::thread::Threads;
 
 /// The calls of each list on a table of three slots, of which none keeps an object.
@@ -15,9 +14,8 @@ pub(crate) fn hold<R: Abort + Threads + Wait + Sync>(
     rt: &R,
     alloc: Global,
     lists: &[&[(Call, Answer)]],
-) -> Result<(), Fail> {
-    let program = Listed { lists };
-    ends(rt, alloc, shape(2, 1, 1, 8), alone(3, 4, 2), &program, 2)
+) {
+    answers(rt, alloc, shape(2, 1, 1, 8), alone(3, 4, 2), lists, 2);
 }
 
 /// Another field than that at which the owner of an object in block 1 points.
@@ -117,10 +115,10 @@ const NULL: [(Call, Answer); 8] = [
 ];
 
 #[test]
-fn handles_tell_by_rows(rt: HostRuntime) -> Result<(), Fail> {
+fn handles_tell_by_rows(rt: HostRuntime) {
     hold(
         &rt,
         rt.alloc(),
         &[&ALIAS, &EMPTY, &WATCH, &LOCK, &NULL, &THIS],
-    )
+    );
 }

@@ -9,8 +9,21 @@ use handle_table::{Fault, HandleTable, Home, Program};
 use std::alloc::Global;
 use std::process::Abort;
 use std::sync::Wait;
-use std::test::Fail;
 use std::thread::Threads;
+
+const MEMORY: Fault = Fault::Call(Refusal::Memory);
+
+/// A stack and observers.
+fn lists<R: Abort, H: Home>(rt: &R, alloc: Global, table: &mut HandleTable<'_, u64, H>) {
+    match table.stack(alloc, 0) {
+        Ok(stack) => stack.close(),
+        Err(why) => same(rt, why, MEMORY),
+    }
+    match table.observers(alloc, 0) {
+        Ok(observers) => observers.close(),
+        Err(why) => same(rt, why, MEMORY),
+    }
+}
 
 /// A worker that asks for each structure, and ends a tree whose root another slot owns too.
 #[derive(Drop)]
@@ -20,24 +33,16 @@ struct Asks {
 
 impl<R: Abort + Threads + Wait + Sync> Program<u64, R> for Asks {
     fn work<H: Home>(&self, rt: &R, _number: usize, table: &mut HandleTable<'_, u64, H>) {
-        let memory = Fault::Call(Refusal::Memory);
-        match table.stack(self.alloc, 0) {
-            Ok(stack) => stack.close(),
-            Err(why) => assert!(rt; why == memory),
-        }
-        match table.observers(self.alloc, 0) {
-            Ok(observers) => observers.close(),
-            Err(why) => assert!(rt; why == memory),
-        }
+        lists(rt, self.alloc, table);
         match table.scene(self.alloc) {
             Ok(scene) => scene.close(),
-            Err(why) => assert!(rt; why == memory),
+            Err(why) => same(rt, why, MEMORY),
         }
         all(rt, table, &BEGIN);
         match table.teardown(self.alloc, 0) {
-            Ok(values) => assert!(rt; values.is_empty()),
+            Ok(values) => same(rt, values.len(), 0),
             Err(why) => {
-                same(rt, why, memory);
+                same(rt, why, MEMORY);
                 all(rt, table, &HAS_ALL);
             }
         }
@@ -45,7 +50,7 @@ impl<R: Abort + Threads + Wait + Sync> Program<u64, R> for Asks {
 }
 
 #[test]
-fn a_refused_structure_changes_nothing(rt: HostRuntime) -> Result<(), Fail> {
+fn a_refused_structure_changes_nothing(rt: HostRuntime) -> Result<(), Refusal> {
     let program = Asks { alloc: rt.alloc() };
     ends(
         &rt,

@@ -1,5 +1,5 @@
 //! Two tables of a domain become one: all that comes over, and handles that can't.
-use crate::alone::ends;
+use crate::alone::works;
 use crate::listed::{Answer, Call, all};
 use crate::same::same;
 use crate::shapes::{alone, shape};
@@ -8,7 +8,6 @@ use handle_table::{Fault, HandleTable, Home, Program, Returned};
 use std::alloc::Global;
 use std::process::Abort;
 use std::sync::Wait;
-use std::test::Fail;
 use std::thread::Threads;
 
 /// Slot 1 gets an owner, and an object is left to end.
@@ -106,14 +105,14 @@ impl<R: Abort + Threads + Wait + Sync> Program<u64, R> for Joins {
 }
 
 #[test]
-fn a_join_keeps_all_or_changes_nothing(rt: HostRuntime) -> Result<(), Fail> {
+fn a_join_keeps_all_or_changes_nothing(rt: HostRuntime) {
     let program = Joins { alloc: rt.alloc() };
-    ends(
+    works(
         &rt,
         rt.alloc(),
         shape(6, 0, 0, 8),
         alone(6, 5, 4),
         &program,
         6,
-    )
+    );
 }

@@ -1,13 +1,13 @@
 //! Leaders: a first thread with a table of its own, before its teams, between two, and after the last one.
+use crate::alone::led;
 use crate::listed::{Answer, Call, all};
 use crate::same::same;
 use crate::shapes::shape;
 use control_word::Refusal;
-use handle_table::{Cell, HandleTable, Home, Leader, Manned, Program, Team, run_leader};
+use handle_table::{Cell, HandleTable, Home, Leader, Manned, Program, Team};
 use std::alloc::Global;
 use std::process::Abort;
 use std::sync::Wait;
-use std::test::Fail;
 use std::thread::Threads;
 
 /// The leader's object, for its workers.
@@ -40,24 +40,43 @@ const BEGIN: [(Call, Answer); 3] = [
 ];
 
 impl Twice {
+    /// How many workers the last team had, and why they were fewer.
+    fn manned(&self) -> Option<(usize, Option<Refusal>)> {
+        match self.calls {
+            0 => None,
+            1 => Some((3, None)),
+            _ => Some((2, Some(Refusal::Limit))),
+        }
+    }
+
+    fn next(&self) -> Option<Team> {
+        match self.calls {
+            1 => Some(team(2)),
+            2 => Some(team(3)),
+            _ => None,
+        }
+    }
+
     /// The team's handles have left, and its first worker's object is in the cell.
     fn go_on<R: Abort + Wait, H: Home>(&self, rt: &R, table: &mut HandleTable<'_, u64, H>) {
-        all(
-            rt,
-            table,
-            &[
-                (Call::UseCount(0), Answer::Count(2)),
-                (Call::Empty(1), Answer::Done),
-                (Call::Exchange(1, MADE), Answer::Done),
-                (Call::Read(1), Answer::Field(self.calls)),
-                (Call::UseCount(1), Answer::Count(1)),
-                (Call::Reset(1), Answer::WasLast),
-                (Call::EndNext, Answer::Value(Some(self.calls))),
-                (Call::EndNext, Answer::Value(None)),
-            ],
-        );
+        all(rt, table, &OUT);
+        let own = [
+            (Call::Read(1), Answer::Field(self.calls)),
+            (Call::Reset(1), Answer::WasLast),
+            (Call::EndNext, Answer::Value(Some(self.calls))),
+            (Call::EndNext, Answer::Value(None)),
+        ];
+        all(rt, table, &own);
     }
 }
+
+/// The first worker's object comes out of the cell.
+const OUT: [(Call, Answer); 4] = [
+    (Call::UseCount(0), Answer::Count(2)),
+    (Call::Empty(1), Answer::Done),
+    (Call::Exchange(1, MADE), Answer::Done),
+    (Call::UseCount(1), Answer::Count(1)),
+];
 
 /// What each worker begins with.
 const LOOK: [(Call, Answer); 2] = [
@@ -87,35 +106,23 @@ impl<R: Abort + Threads + Wait + Sync> Leader<u64, R> for Twice {
             Some(Manned { workers, fewer }) => Some((workers, fewer)),
             None => None,
         };
-        match self.calls {
-            0 => {
-                same(rt, manned, None);
-                all(rt, table, &BEGIN);
-            }
-            1 => {
-                same(rt, manned, Some((3, None)));
-                self.go_on(rt, table);
-            }
-            _ => {
-                same(rt, manned, Some((2, Some(Refusal::Limit))));
-                self.go_on(rt, table);
-                self.calls = 3;
-                return None;
-            }
+        same(rt, manned, self.manned());
+        if self.calls == 0 {
+            all(rt, table, &BEGIN);
+        } else {
+            self.go_on(rt, table);
         }
         self.calls = self.calls.wrapping_add(1);
-        Some(team(if self.calls == 1 { 2 } else { 3 }))
+        self.next()
     }
 }
 
 #[test]
-fn a_leader_has_all_again_that_its_teams_left(rt: HostRuntime) -> Result<(), Fail> {
+fn a_leader_has_all_again_that_its_teams_left(rt: HostRuntime) {
     let mut leader = Twice { calls: 0 };
-    let census = run_leader(&rt, rt.alloc(), shape(4, 2, 0, 8), 2, &mut leader)?;
-    same(&rt, leader.calls, 3);
+    let vacant = led(&rt, rt.alloc(), shape(4, 2, 0, 8), 2, &mut leader);
     // (the leader's object is still in the cell)
-    same(&rt, census.vacant(), 3);
-    Ok(())
+    same(&rt, (leader.calls, vacant), (3, Ok(3)));
 }
 
 /// Its calls are counted, and it starts no team.
@@ -142,29 +149,32 @@ impl<R: Threads + Wait + Sync> Leader<u64, R> for Alone {
     }
 }
 
-/// In a domain of so many blocks the leader has a table of so many slots: how many blocks are vacant then.
+/// In a domain of so many blocks the leader has a table of so many slots: how many blocks are vacant then, and how
+/// often it was called so far.
 fn vacant<R: Threads + Wait + Sync>(
     rt: &R,
     alloc: Global,
     blocks: u32,
     slots: usize,
     leader: &mut Alone,
-) -> Result<u32, Refusal> {
-    let census = run_leader(rt, alloc, shape(blocks, 0, 0, 1), slots, leader)?;
-    Ok(census.vacant())
+) -> (Result<u32, Refusal>, u64) {
+    let vacant = led(rt, alloc, shape(blocks, 0, 0, 1), slots, leader);
+    (vacant, leader.calls)
 }
 
 #[test]
-fn a_refused_leader_is_not_called(rt: HostRuntime) -> Result<(), Fail> {
+fn a_refused_leader_is_not_called(rt: HostRuntime) {
+    let alloc = rt.alloc();
     let mut leader = Alone { calls: 0 };
-    let runs = [
-        (0, 1, Err(Refusal::Shape), 0),
-        (1, usize::MAX, Err(Refusal::Memory), 0),
-        (1, 1, Ok(1), 1),
+    let told = [
+        vacant(&rt, alloc, 0, 1, &mut leader),
+        vacant(&rt, alloc, 1, usize::MAX, &mut leader),
+        vacant(&rt, alloc, 1, 1, &mut leader),
     ];
-    for (blocks, slots, wanted, calls) in runs {
-        let told = vacant(&rt, rt.alloc(), blocks, slots, &mut leader);
-        assert!(rt; told == wanted && leader.calls == calls, "{blocks} {slots}");
-    }
-    Ok(())
+    let wanted = [
+        (Err(Refusal::Shape), 0),
+        (Err(Refusal::Memory), 0),
+        (Ok(1), 1),
+    ];
+    same(&rt, told, wanted);
 }

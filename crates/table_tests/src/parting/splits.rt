@@ -1,5 +1,5 @@
 //! A split by itself: what each number may be, what goes over, and what the next number is refused with.
-use crate::alone::ends;
+use crate::alone::works;
 use crate::listed::{Answer, Call, all};
 use crate::parting::joins::come_together;
 use crate::shapes::{alone, shape};
@@ -8,7 +8,6 @@ use handle_table::{Fault, HandleTable, Home, Program};
 use std::alloc::Global;
 use std::process::Abort;
 use std::sync::Wait;
-use std::test::Fail;
 use std::thread::Threads;
 
 /// Why a split is refused; none where it is given, and joined again.
@@ -91,14 +90,14 @@ impl<R: Abort + Threads + Wait + Sync> Program<u64, R> for Splits {
 }
 
 #[test]
-fn a_split_gives_what_there_is_and_no_more(rt: HostRuntime) -> Result<(), Fail> {
+fn a_split_gives_what_there_is_and_no_more(rt: HostRuntime) {
     let program = Splits { alloc: rt.alloc() };
-    ends(
+    works(
         &rt,
         rt.alloc(),
         shape(4, 0, 0, 8),
         alone(4, 6, 3),
         &program,
         4,
-    )
+    );
 }

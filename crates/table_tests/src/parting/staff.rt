@@ -1,13 +1,16 @@
 //! Workers with a state of their own: each has a table, and is back in its place with what it became.
+ghost use Rattle.control_block.specs.Desks.{Belongs};
+
 use crate::same::same;
 use crate::shapes::shape;
 use control_block::census::close;
-use control_word::Refusal;
+use control_block::desk::Desk;
+use control_block::domain::Domain;
+use control_word::{Refusal, Refused};
 use handle_table::{Fault, HandleTable, Home, Share, Work, run_workers, run_workers_open};
-use std::alloc::Global;
+use std::alloc::{AllocError, Global};
 use std::process::Abort;
 use std::sync::Wait;
-use std::test::Fail;
 use std::thread::Threads;
 
 /// Makes objects, and tells how many it made and for how many there was no block.
@@ -31,8 +34,8 @@ impl<R: Threads + Wait + Sync> Work<u64, R> for Maker {
 }
 
 /// So many workers, of which each wants an object more than the one before it.
-fn makers(alloc: Global, many: u32) -> Result<Vec<Maker>, Fail> {
-    let mut makers = Vec::new(alloc);
+fn makers(alloc: Global, many: u32) -> Result<Vec<Maker>, AllocError> {
+    let mut makers = Vec::with_capacity(alloc, many as usize)?;
     for wanted in 0..many {
         makers.push(Maker {
             wanted,
@@ -58,8 +61,10 @@ fn vacant<R: Threads + Wait + Sync>(
     allowance: u32,
     workers: &mut Vec<Maker>,
 ) -> Result<u32, Refusal> {
-    let census = run_workers(rt, alloc, shape(blocks, 0, 0, allowance), SHARE, workers)?;
-    Ok(census.vacant())
+    match run_workers(rt, alloc, shape(blocks, 0, 0, allowance), SHARE, workers) {
+        Ok(census) => Ok(census.vacant()),
+        Err(why) => Err(why),
+    }
 }
 
 /// Each worker wanted, made and was refused so many objects.
@@ -71,49 +76,69 @@ fn have_made<R: Abort>(rt: &R, workers: &[Maker], wanted: &[(u32, u32, u32)]) {
 }
 
 #[test]
-fn each_worker_is_back_in_its_place(rt: HostRuntime) -> Result<(), Fail> {
+fn each_worker_is_back_in_its_place(rt: HostRuntime) -> Result<(), AllocError> {
     let mut workers = makers(rt.alloc(), 4)?;
-    let vacant = vacant(&rt, rt.alloc(), 8, 20, &mut workers)?;
-    same(&rt, vacant, 8);
+    let vacant = vacant(&rt, rt.alloc(), 8, 20, &mut workers);
+    same(&rt, vacant, Ok(8));
     let made = [(0, 0, 0), (1, 1, 0), (2, 2, 0), (3, 2, 1)];
     have_made(&rt, workers.as_slice(), &made);
     Ok(())
 }
 
-#[test]
-fn a_sole_desk_comes_out_and_closes(rt: HostRuntime) -> Result<(), Fail> {
-    let mut workers = makers(rt.alloc(), 3)?;
-    let open = run_workers_open(&rt, rt.alloc(), shape(8, 0, 0, 20), SHARE, &mut workers)?;
-    let (domain, desk) = open;
-    assert!(rt; desk.is_sole(&domain));
-    same(
-        &rt,
-        (desk.stock(), desk.allowance(), desk.held()),
-        (8, 20, 0),
-    );
+/// Whether the desk that comes out is sole; its vacant blocks, its allowance and its handles; and how many blocks are
+/// vacant once it has closed the domain, if it can.
+fn come_out<R: Threads + Wait + Sync>(
+    rt: &R,
+    alloc: Global,
+    workers: &mut Vec<Maker>,
+) -> Result<(bool, [u32; 3], Option<u32>), Refusal> {
+    match run_workers_open(rt, alloc, shape(8, 0, 0, 20), SHARE, workers) {
+        Ok((domain, desk)) => {
+            let is_sole = desk.is_sole(&domain);
+            let numbers = [desk.stock(), desk.allowance(), desk.held()];
+            Ok((is_sole, numbers, closed(domain, desk)))
+        }
+        Err(why) => Err(why),
+    }
+}
+
+/// How many blocks are vacant in a domain that its desk closes.
+fn closed(domain: Domain<u64>, desk: Desk<u64>) -> Option<u32>
+    requires { Belongs desk domain }
+{
     match close(domain, desk) {
-        Ok(census) => same(&rt, census.vacant(), 8),
-        Err(_) => panic!(rt; "not sole"),
+        Ok(census) => Some(census.vacant()),
+        Err(refused) => {
+            let Refused {
+                why: _,
+                back: (domain, desk),
+            } = refused;
+            drop(domain);
+            desk.give_up();
+            None
+        }
     }
-    assert_eq!(rt; workers.len(), 3);
-    for (at, worker) in workers.iter().enumerate() {
-        same(&rt, worker.made, at as u32);
-    }
+}
+
+#[test]
+fn a_sole_desk_comes_out_and_closes(rt: HostRuntime) -> Result<(), AllocError> {
+    let mut workers = makers(rt.alloc(), 3)?;
+    let told = come_out(&rt, rt.alloc(), &mut workers);
+    same(&rt, told, Ok((true, [8, 20, 0], Some(8))));
+    have_made(&rt, workers.as_slice(), &[(0, 0, 0), (1, 1, 0), (2, 2, 0)]);
     Ok(())
 }
 
 #[test]
-fn no_worker_works_where_one_has_no_share(rt: HostRuntime) -> Result<(), Fail> {
+fn no_worker_works_where_one_has_no_share(rt: HostRuntime) -> Result<(), AllocError> {
     let mut workers = makers(rt.alloc(), 3)?;
-    let refusals = [
-        (8, 12, Refusal::Limit),
-        (5, 20, Refusal::Full),
-        (0, 20, Refusal::Shape),
+    let told = [
+        vacant(&rt, rt.alloc(), 8, 12, &mut workers),
+        vacant(&rt, rt.alloc(), 5, 20, &mut workers),
+        vacant(&rt, rt.alloc(), 0, 20, &mut workers),
     ];
-    for (blocks, allowance, why) in refusals {
-        let told = vacant(&rt, rt.alloc(), blocks, allowance, &mut workers);
-        same(&rt, told, Err(why));
-    }
+    let wanted = [Err(Refusal::Limit), Err(Refusal::Full), Err(Refusal::Shape)];
+    same(&rt, told, wanted);
     have_made(&rt, workers.as_slice(), &[(0, 0, 0), (1, 0, 0), (2, 0, 0)]);
     Ok(())
 }
@@ -137,13 +162,21 @@ impl<R: Threads + Wait + Sync> Work<u64, R> for Peeper {
     }
 }
 
-#[test]
-fn slots_show_what_is_in_them(rt: HostRuntime) -> Result<(), Fail> {
-    let mut workers = Vec::new(rt.alloc());
-    workers.push(Peeper { shown: false })?;
-    run_workers(&rt, rt.alloc(), shape(2, 0, 0, 8), SHARE, &mut workers)?;
-    for worker in &workers {
-        assert!(rt; worker.shown);
+/// Whether a worker is shown what is in its slots.
+fn shown<R: Threads + Wait + Sync>(rt: &R, alloc: Global) -> Result<Option<bool>, Refusal> {
+    let mut workers = vec![in alloc; Peeper { shown: false }]?;
+    match run_workers(rt, alloc, shape(2, 0, 0, 8), SHARE, &mut workers) {
+        Ok(_) => {
+            match workers.first() {
+                Some(worker) => Ok(Some(worker.shown)),
+                None => Ok(None),
+            }
+        }
+        Err(why) => Err(why),
     }
-    Ok(())
+}
+
+#[test]
+fn slots_show_what_is_in_them(rt: HostRuntime) {
+    same(&rt, shown(&rt, rt.alloc()), Ok(Some(true)));
 }

@@ -1,5 +1,5 @@
 //! Teams: how many workers have a table, why they are fewer, and a team within a worker's table.
-use crate::alone::ends;
+use crate::alone::works;
 use crate::listed::{Answer, Call, all};
 use crate::parting::joins::{come_together, try_join};
 use crate::same::same;
@@ -9,7 +9,6 @@ use handle_table::{Crew, Fault, HandleTable, Home, Program, Returned, Team, run}
 use std::alloc::Global;
 use std::process::Abort;
 use std::sync::Wait;
-use std::test::Fail;
 use std::thread::Threads;
 
 /// An owner of what the worker makes is left in its slot 0.
@@ -22,14 +21,15 @@ impl<R: Abort + Threads + Wait + Sync> Program<u64, R> for Leaves {
     }
 }
 
-/// How many of three workers have a table with such a part of 8 handles and 4 blocks, and why they are fewer.
+/// How many of three workers have a table with such a part of 8 handles and 4 blocks, why they are fewer, and how many
+/// blocks are vacant when they are done.
 fn manned<R: Abort + Threads + Wait + Sync>(
     rt: &R,
     alloc: Global,
     workers: usize,
     allowance: u32,
     blocks: u32,
-) -> Result<(usize, Option<Refusal>), Refusal> {
+) -> Result<(usize, Option<Refusal>, u32), Refusal> {
     let shape = shape(4, 0, 0, 8);
     let team = Team {
         workers,
@@ -37,9 +37,10 @@ fn manned<R: Abort + Threads + Wait + Sync>(
         allowance,
         blocks,
     };
-    let ran = run(rt, alloc, shape, team, &Leaves)?;
-    same(rt, ran.census.vacant(), 4);
-    Ok((ran.workers, ran.fewer))
+    match run(rt, alloc, shape, team, &Leaves) {
+        Ok(ran) => Ok((ran.workers, ran.fewer, ran.census.vacant())),
+        Err(why) => Err(why),
+    }
 }
 
 /// How many workers are asked for, and what each gets; how many there are, and why they are fewer.
@@ -52,12 +53,11 @@ const TEAMS: [(usize, u32, u32, usize, Option<Refusal>); 5] = [
 ];
 
 #[test]
-fn a_team_says_why_it_is_smaller(rt: HostRuntime) -> Result<(), Fail> {
+fn a_team_says_why_it_is_smaller(rt: HostRuntime) {
     for (workers, allowance, blocks, there, fewer) in TEAMS {
-        let told = manned(&rt, rt.alloc(), workers, allowance, blocks)?;
-        assert!(rt; told == (there, fewer), "{workers} {allowance} {blocks}");
+        let told = manned(&rt, rt.alloc(), workers, allowance, blocks);
+        same(&rt, told, Ok((there, fewer, 4)));
     }
-    Ok(())
 }
 
 /// The table of the team has a slot more than this one, and an owner in it.
@@ -124,14 +124,14 @@ impl<R: Abort + Threads + Wait + Sync> Program<u64, R> for Within {
 }
 
 #[test]
-fn a_workers_team_gives_all_back(rt: HostRuntime) -> Result<(), Fail> {
+fn a_workers_team_gives_all_back(rt: HostRuntime) {
     let program = Within { alloc: rt.alloc() };
-    ends(
+    works(
         &rt,
         rt.alloc(),
         shape(3, 0, 0, 6),
         alone(3, 4, 2),
         &program,
         3,
-    )
+    );
 }

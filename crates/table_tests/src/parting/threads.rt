@@ -1,14 +1,16 @@
 //! Workers at once: the two owners of an object that leave, a lock beside the last owner's leave, visits, one cell.
-use crate::listed::{Answer, Call, all, answer_of, refused};
+use crate::alone::led;
+use crate::faults::refused;
+use crate::listed::{Answer, Call, all, answer_of};
 use crate::same::same;
 use crate::shapes::shape;
-use control_word::Block;
-use handle_table::{Cell, HandleTable, Home, Leader, Manned, Program, Team, run, run_leader};
+use control_block::census::Census;
+use control_word::{Block, Refusal};
+use handle_table::{Cell, HandleTable, Home, Leader, Manned, Program, Team, run};
 use std::alloc::Global;
 use std::process::Abort;
 use std::sync::Wait;
 use std::sync::atomic::{AtomicU32, Ordering};
-use std::test::Fail;
 use std::thread::Threads;
 
 const ONE: Cell = Cell::Shared(0);
@@ -121,29 +123,27 @@ fn right<R: Abort + Threads + Wait + Sync>(
     rt: &R,
     alloc: Global,
     task: Task,
-) -> Result<(u32, u32), Fail> {
+) -> (u32, Result<u32, Refusal>) {
     let mut rounds = Rounds {
         task,
         left: 1_000,
         told: AtomicU32::new(0),
         right: 0,
     };
-    let census = run_leader(rt, alloc, shape(2, 2, 1, 12), 2, &mut rounds)?;
-    Ok((rounds.right, census.vacant()))
+    let vacant = led(rt, alloc, shape(2, 2, 1, 12), 2, &mut rounds);
+    (rounds.right, vacant)
 }
 
 #[test]
-fn one_of_two_leaves_is_the_last(rt: HostRuntime) -> Result<(), Fail> {
-    same(&rt, right(&rt, rt.alloc(), Task::Leave)?, (1_000, 2));
-    Ok(())
+fn one_of_two_leaves_is_the_last(rt: HostRuntime) {
+    same(&rt, right(&rt, rt.alloc(), Task::Leave), (1_000, Ok(2)));
 }
 
 /// Either the lock gave an owner and the leave answered that others are left, or the lock gave none and the leave was
 /// the last.
 #[test]
-fn a_lock_beside_the_last_leave(rt: HostRuntime) -> Result<(), Fail> {
-    same(&rt, right(&rt, rt.alloc(), Task::Lock)?, (1_000, 2));
-    Ok(())
+fn a_lock_beside_the_last_leave(rt: HostRuntime) {
+    same(&rt, right(&rt, rt.alloc(), Task::Lock), (1_000, Ok(2)));
 }
 
 /// Two workers add to the value of one object.
@@ -197,10 +197,9 @@ impl<R: Abort + Threads + Wait + Sync> Leader<u64, R> for Visits {
 }
 
 #[test]
-fn no_visit_of_two_threads_is_lost(rt: HostRuntime) -> Result<(), Fail> {
-    let census = run_leader(&rt, rt.alloc(), shape(1, 1, 0, 12), 2, &mut Visits)?;
-    same(&rt, census.vacant(), 1);
-    Ok(())
+fn no_visit_of_two_threads_is_lost(rt: HostRuntime) {
+    let vacant = led(&rt, rt.alloc(), shape(1, 1, 0, 12), 2, &mut Visits);
+    same(&rt, vacant, Ok(1));
 }
 
 /// Workers that load, store and exchange one cell.
@@ -230,19 +229,31 @@ impl<R: Abort + Threads + Wait + Sync> Program<u64, R> for Crowd {
     }
 }
 
-/// When the threads are done the object in the cell has one owner, the cell, and no other block is taken.
-#[test]
-fn four_threads_leave_one_owner(rt: HostRuntime) -> Result<(), Fail> {
-    let ran = run(&rt, rt.alloc(), shape(4, 1, 0, 24), team(4, 1), &Crowd)?;
-    same(&rt, ran.workers, 4);
-    same(&rt, ran.census.vacant(), 3);
+/// All owners and weak handles of four blocks.
+fn handles(census: &Census<u64>) -> (u32, u32) {
     let mut owners: u32 = 0;
     let mut weaks: u32 = 0;
     for number in 1..5 {
-        let counts = ran.census.counts(Block(number));
+        let counts = census.counts(Block(number));
         owners = owners.wrapping_add(counts.owners);
         weaks = weaks.wrapping_add(counts.weaks);
     }
-    same(&rt, (owners, weaks), (1, 0));
-    Ok(())
+    (owners, weaks)
+}
+
+/// How many workers there were, and what they left: vacant blocks, owners and weak handles.
+fn left<R: Abort + Threads + Wait + Sync>(
+    rt: &R,
+    alloc: Global,
+) -> Option<(usize, u32, (u32, u32))> {
+    match run(rt, alloc, shape(4, 1, 0, 24), team(4, 1), &Crowd) {
+        Ok(ran) => Some((ran.workers, ran.census.vacant(), handles(&ran.census))),
+        Err(_) => None,
+    }
+}
+
+/// When the threads are done the object in the cell has one owner, the cell, and no other block is taken.
+#[test]
+fn four_threads_leave_one_owner(rt: HostRuntime) {
+    same(&rt, left(&rt, rt.alloc()), Some((4, 3, (1, 0))));
 }

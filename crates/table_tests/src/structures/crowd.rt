@@ -1,13 +1,13 @@
 //! Four threads attach observers to one subject.
+use crate::alone::led;
 use crate::listed::{Answer, Call, all};
 use crate::same::same;
 use crate::shapes::shape;
 use crate::structures::observers::{On, all_on};
-use handle_table::{Cell, HandleTable, Home, Leader, Manned, Program, Team, run_leader};
+use handle_table::{Cell, HandleTable, Home, Leader, Manned, Program, Team};
 use std::alloc::Global;
 use std::process::Abort;
 use std::sync::Wait;
-use std::test::Fail;
 use std::thread::Threads;
 
 /// The subject, for the workers.
@@ -89,15 +89,17 @@ impl<R: Abort + Threads + Wait + Sync> Leader<u64, R> for Attaching {
 }
 
 #[test]
-fn each_tells_of_all_that_four_threads_attached(rt: HostRuntime) -> Result<(), Fail> {
+fn each_tells_of_all_that_four_threads_attached(rt: HostRuntime) {
     let mut leader = Attaching {
         alloc: rt.alloc(),
         told: 0,
         sum: 0,
     };
-    let census = run_leader(&rt, rt.alloc(), shape(1_001, 2, 0, 36), 2, &mut leader)?;
-    same(&rt, (leader.told, leader.sum), (1_000, 7_000));
+    let vacant = led(&rt, rt.alloc(), shape(1_001, 2, 0, 36), 2, &mut leader);
     // (the observers are left in their cell, and the subject)
-    same(&rt, census.vacant(), 0);
-    Ok(())
+    same(
+        &rt,
+        (leader.told, leader.sum, vacant),
+        (1_000, 7_000, Ok(0)),
+    );
 }

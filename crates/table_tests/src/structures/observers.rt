@@ -1,15 +1,13 @@
 //! Observers: each call on them, each fault, and a prune beside another table.
+use crate::alone::led;
 use crate::listed::{Answer, Call, agree, answer_of, count, handed};
 use crate::same::same;
 use crate::shapes::{alone, shape};
 use control_word::Refusal;
-use handle_table::{
-    Fault, HandleTable, Home, Leader, Manned, Program, TableObservers, Team, run_leader,
-};
+use handle_table::{Fault, HandleTable, Home, Leader, Manned, Program, TableObservers, Team};
 use std::alloc::Global;
 use std::process::Abort;
 use std::sync::Wait;
-use std::test::Fail;
 use std::thread::Threads;
 
 /// A call on observers, or another on their table.
@@ -139,6 +137,17 @@ const PRUNED: [(On, Answer); 24] = [
     (On::Each, Answer::Field(0)),
 ];
 
+/// Why there are no observers in cell 1, if there are none.
+fn outside<H: Home>(alloc: Global, table: &mut HandleTable<'_, u64, H>) -> Option<Fault> {
+    match table.observers(alloc, 1) {
+        Ok(observers) => {
+            observers.close();
+            None
+        }
+        Err(why) => Some(why),
+    }
+}
+
 /// A leader that has the whole allowance, and a worker beside it that hasn't: the leader's calls before the worker's,
 /// those, and the leader's after them.
 #[derive(Drop)]
@@ -181,13 +190,7 @@ impl<R: Abort + Threads + Wait + Sync> Leader<u64, R> for Observing<'_> {
             self.observe(rt, table, self.calls[2]);
             return None;
         }
-        match table.observers(self.alloc, 1) {
-            Ok(observers) => {
-                observers.close();
-                assert!(rt; false);
-            }
-            Err(why) => same(rt, why, Fault::Cell),
-        }
+        same(rt, outside(self.alloc, table), Some(Fault::Cell));
         self.observe(rt, table, self.calls[0]);
         Some(alone(1, 6, 0))
     }
@@ -200,31 +203,28 @@ fn vacant<R: Abort + Threads + Wait + Sync>(
     blocks: u32,
     allowance: u32,
     calls: [&[(On, Answer)]; 3],
-) -> Result<u32, Fail> {
+) -> Result<u32, Refusal> {
     let mut leader = Observing { alloc, calls };
-    let census = run_leader(rt, alloc, shape(blocks, 1, 0, allowance), 5, &mut leader)?;
-    Ok(census.vacant())
+    led(rt, alloc, shape(blocks, 1, 0, allowance), 5, &mut leader)
 }
 
 #[test]
-fn observers_are_told_and_pruned(rt: HostRuntime) -> Result<(), Fail> {
+fn observers_are_told_and_pruned(rt: HostRuntime) {
+    let vacant = vacant(&rt, rt.alloc(), 4, 10, [&CALLS, &BESIDE, &NEAR]);
     // (three observers are left in the cell, and the block that they watch)
+    same(&rt, vacant, Ok(0));
+}
+
+#[test]
+fn a_node_goes_when_its_subject_has_ended(rt: HostRuntime) {
     same(
         &rt,
-        vacant(&rt, rt.alloc(), 4, 10, [&CALLS, &BESIDE, &NEAR])?,
-        0,
+        vacant(&rt, rt.alloc(), 6, 9, [&PRUNED, &[], &[]]),
+        Ok(6),
     );
-    Ok(())
 }
 
 #[test]
-fn a_node_goes_when_its_subject_has_ended(rt: HostRuntime) -> Result<(), Fail> {
-    same(&rt, vacant(&rt, rt.alloc(), 6, 9, [&PRUNED, &[], &[]])?, 6);
-    Ok(())
-}
-
-#[test]
-fn no_call_is_made(rt: HostRuntime) -> Result<(), Fail> {
-    same(&rt, vacant(&rt, rt.alloc(), 6, 9, [&[], &[], &[]])?, 6);
-    Ok(())
+fn no_call_is_made(rt: HostRuntime) {
+    same(&rt, vacant(&rt, rt.alloc(), 6, 9, [&[], &[], &[]]), Ok(6));
 }

@@ -1,5 +1,5 @@
 //! A stack: each call on it, each fault, and threads that share one.
-use crate::alone::ends;
+use crate::alone::works;
 use crate::listed::{Answer, Call, agree, answer_of, handed, is};
 use crate::same::same;
 use crate::shapes::{alone, shape};
@@ -7,10 +7,9 @@ use control_word::Refusal;
 use handle_table::{
     Cell, Fault, HandleTable, Home, Program, Share, SharedMember, TableStack, Work, run_workers,
 };
-use std::alloc::Global;
+use std::alloc::{AllocError, Global};
 use std::process::Abort;
 use std::sync::Wait;
-use std::test::Fail;
 use std::thread::Threads;
 
 /// A call on a stack, or another on its table.
@@ -109,6 +108,17 @@ const LAST_FIRST: [(On, Answer); 20] = [
     (On::Pop(0), Answer::Is(false)),
 ];
 
+/// Why there is no stack in cell 1, if there is none.
+fn outside<H: Home>(alloc: Global, table: &mut HandleTable<'_, u64, H>) -> Option<Fault> {
+    match table.stack(alloc, 1) {
+        Ok(stack) => {
+            stack.close();
+            None
+        }
+        Err(why) => Some(why),
+    }
+}
+
 /// A worker with a stack in cell 0, the only one, on which it makes these calls.
 #[derive(Drop)]
 struct Stacks<'a> {
@@ -118,13 +128,7 @@ struct Stacks<'a> {
 
 impl<R: Abort + Threads + Wait + Sync> Program<u64, R> for Stacks<'_> {
     fn work<H: Home>(&self, rt: &R, _number: usize, table: &mut HandleTable<'_, u64, H>) {
-        match table.stack(self.alloc, 1) {
-            Ok(stack) => {
-                stack.close();
-                assert!(rt; false);
-            }
-            Err(why) => assert!(rt; why == Fault::Cell),
-        }
+        same(rt, outside(self.alloc, table), Some(Fault::Cell));
         match table.stack(self.alloc, 0) {
             Ok(mut stack) => {
                 all_on(rt, table, &mut stack, self.calls);
@@ -143,38 +147,38 @@ fn hold<R: Abort + Threads + Wait + Sync>(
     allowance: u32,
     calls: &[(On, Answer)],
     vacant: u32,
-) -> Result<(), Fail> {
+) {
     let program = Stacks { alloc, calls };
     let shape = shape(blocks, 1, 0, 16);
-    ends(
+    works(
         rt,
         alloc,
         shape,
         alone(4, allowance, blocks),
         &program,
         vacant,
-    )
+    );
 }
 
 #[test]
-fn a_stack_takes_and_gives_nodes(rt: HostRuntime) -> Result<(), Fail> {
+fn a_stack_takes_and_gives_nodes(rt: HostRuntime) {
     // (node 4 is left in the cell)
-    hold(&rt, rt.alloc(), 2, 8, &CALLS, 1)
+    hold(&rt, rt.alloc(), 2, 8, &CALLS, 1);
 }
 
 #[test]
-fn six_handles_must_be_free(rt: HostRuntime) -> Result<(), Fail> {
-    hold(&rt, rt.alloc(), 1, 6, &LIMITS, 0)
+fn six_handles_must_be_free(rt: HostRuntime) {
+    hold(&rt, rt.alloc(), 1, 6, &LIMITS, 0);
 }
 
 #[test]
-fn the_last_comes_first(rt: HostRuntime) -> Result<(), Fail> {
-    hold(&rt, rt.alloc(), 3, 7, &LAST_FIRST, 3)
+fn the_last_comes_first(rt: HostRuntime) {
+    hold(&rt, rt.alloc(), 3, 7, &LAST_FIRST, 3);
 }
 
 #[test]
-fn no_call_is_made(rt: HostRuntime) -> Result<(), Fail> {
-    hold(&rt, rt.alloc(), 3, 7, &[], 3)
+fn no_call_is_made(rt: HostRuntime) {
+    hold(&rt, rt.alloc(), 3, 7, &[], 3);
 }
 
 /// Pushes 100 nodes, pops till none is found, and counts the nodes and adds up their fields.
@@ -224,13 +228,9 @@ impl<R: Threads + Wait + Sync> Work<u64, R> for Pusher {
     }
 }
 
-/// So many threads push 100 nodes each, with numbers from 0 on, and pop them: how many came out, and their sum.
-fn popped<R: Abort + Threads + Wait + Sync>(
-    rt: &R,
-    alloc: Global,
-    threads: u32,
-) -> Result<(u64, u64), Fail> {
-    let mut workers = Vec::new(alloc);
+/// So many workers, with numbers from 0 on.
+fn pushers(alloc: Global, threads: u32) -> Result<Vec<Pusher>, AllocError> {
+    let mut workers = Vec::with_capacity(alloc, threads as usize)?;
     for number in 0..threads {
         workers.push(Pusher {
             alloc,
@@ -239,30 +239,48 @@ fn popped<R: Abort + Threads + Wait + Sync>(
             sum: 0,
         })?;
     }
+    Ok(workers)
+}
+
+/// How many nodes came out of the workers' stack, and their sum.
+fn sums(workers: &[Pusher]) -> (u64, u64) {
+    let (mut popped, mut sum) = (0u64, 0u64);
+    for worker in workers {
+        popped = popped.wrapping_add(worker.popped);
+        sum = sum.wrapping_add(worker.sum);
+    }
+    (popped, sum)
+}
+
+/// So many threads push 100 nodes each, and pop them: how many blocks are vacant then, and what came out.
+fn popped<R: Threads + Wait + Sync>(
+    rt: &R,
+    alloc: Global,
+    threads: u32,
+) -> Result<(u32, (u64, u64)), Refusal> {
+    let mut workers = pushers(alloc, threads)?;
     let share = Share {
         slots: 1,
         allowance: 8,
         blocks: 100,
     };
     let blocks = threads.wrapping_mul(100);
-    let census = run_workers(rt, alloc, shape(blocks, 1, 0, 100), share, &mut workers)?;
-    same(rt, census.vacant(), blocks);
-    let (mut popped, mut sum) = (0u64, 0u64);
-    for worker in &workers {
-        popped = popped.wrapping_add(worker.popped);
-        sum = sum.wrapping_add(worker.sum);
+    match run_workers(rt, alloc, shape(blocks, 1, 0, 100), share, &mut workers) {
+        Ok(census) => Ok((census.vacant(), sums(workers.as_slice()))),
+        Err(why) => Err(why),
     }
-    Ok((popped, sum))
 }
 
 #[test]
-fn two_threads_pop_each_node_once(rt: HostRuntime) -> Result<(), Fail> {
-    same(&rt, popped(&rt, rt.alloc(), 2)?, (200, 19_900));
-    Ok(())
+fn two_threads_pop_each_node_once(rt: HostRuntime) {
+    same(&rt, popped(&rt, rt.alloc(), 2), Ok((200, (200, 19_900))));
 }
 
 #[test]
-fn ten_threads_pop_each_node_once(rt: HostRuntime) -> Result<(), Fail> {
-    same(&rt, popped(&rt, rt.alloc(), 10)?, (1_000, 499_500));
-    Ok(())
+fn ten_threads_pop_each_node_once(rt: HostRuntime) {
+    same(
+        &rt,
+        popped(&rt, rt.alloc(), 10),
+        Ok((1_000, (1_000, 499_500))),
+    );
 }

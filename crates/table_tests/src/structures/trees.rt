@@ -1,5 +1,5 @@
 //! Trees of nodes: each call on them, and each fault.
-use crate::alone::ends;
+use crate::alone::works;
 use crate::listed::{Answer, Call, agree, answer_of, done, handed, is};
 use crate::shapes::{alone, shape};
 use crate::structures::families::{
@@ -10,7 +10,6 @@ use handle_table::{Fault, HandleTable, Home, Program, TableScene};
 use std::alloc::Global;
 use std::process::Abort;
 use std::sync::Wait;
-use std::test::Fail;
 use std::thread::Threads;
 
 /// A call on a scene, or another on its table.
@@ -165,32 +164,28 @@ impl<R: Abort + Threads + Wait + Sync> Program<u64, R> for Trees<'_> {
 }
 
 /// A worker with 4 blocks, 4 slots and 9 handles makes these calls.
-fn hold<R: Abort + Threads + Wait + Sync>(
-    rt: &R,
-    alloc: Global,
-    lists: &[&[(On, Answer)]],
-) -> Result<(), Fail> {
+fn hold<R: Abort + Threads + Wait + Sync>(rt: &R, alloc: Global, lists: &[&[(On, Answer)]]) {
     let program = Trees { alloc, lists };
-    ends(rt, alloc, shape(4, 0, 0, 16), alone(4, 9, 4), &program, 4)
+    works(rt, alloc, shape(4, 0, 0, 16), alone(4, 9, 4), &program, 4);
 }
 
 #[test]
-fn a_tree_gains_and_loses_children(rt: HostRuntime) -> Result<(), Fail> {
-    hold(&rt, rt.alloc(), &[&MISPLACED, &GENERATIONS, &CALLS])
+fn a_tree_gains_and_loses_children(rt: HostRuntime) {
+    hold(&rt, rt.alloc(), &[&MISPLACED, &GENERATIONS, &CALLS]);
 }
 
 #[test]
-fn no_call_is_made(rt: HostRuntime) -> Result<(), Fail> {
-    hold(&rt, rt.alloc(), &[])
+fn no_call_is_made(rt: HostRuntime) {
+    hold(&rt, rt.alloc(), &[]);
 }
 
 #[test]
-fn a_tree_ends_by_its_root(rt: HostRuntime) -> Result<(), Fail> {
+fn a_tree_ends_by_its_root(rt: HostRuntime) {
     hold(
         &rt,
         rt.alloc(),
         &[
             &CALLS, &ENDS, &ORDER, &CHILDREN, &KEPT, &BETWEEN, &LAST, &FIRST,
         ],
-    )
+    );
 }
