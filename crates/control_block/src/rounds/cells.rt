@@ -113,8 +113,8 @@ pub(crate) fn top_up<V, A: Aimed, R: Wait>(
     refill::<V, A, Brand, R>(rt, board, chair, word, kind, block, seen.place);
 }
 
-/// What a cell with an object shows comes out, by a load: a fund is taken and turned into a handle, where the cell still
-/// shows what was seen. Else nothing changes.
+/// What a cell with an object shows comes out, by a load: a fund is taken and turned into a handle, where the cell
+/// still shows what was seen. Else nothing changes.
 #[inline(always)]
 fn take_out<V, A: Aimed, R: Wait>(
     rt: &R,

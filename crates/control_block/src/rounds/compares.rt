@@ -27,8 +27,8 @@ fn is_alike(seen: CellWord, expected: CellWord) -> bool
     seen.owned == expected.owned && seen.place == expected.place
 }
 
-/// What a cell with an object shows comes out, by a compare that differs: a fund is taken and turned into a handle, where
-/// the cell still shows what was seen. Else nothing changes.
+/// What a cell with an object shows comes out, by a compare that differs: a fund is taken and turned into a handle,
+/// where the cell still shows what was seen. Else nothing changes.
 fn take_out<V, A: Aimed, R: Wait>(
     rt: &R,
     board: &Board<V>,

@@ -85,7 +85,8 @@ pub fn fetch_sub<V, M: Play<Slot<V>, Sight<V>>>(
     less: u64,
 ) -> u64
     requires { (seat.old.table_id ≡ board.now.table_id) × (word < board.now.table_id.words)
-        × MayStep board.now.key board.now.table_id.slots seat.old.id seat.old.me word (λ n. (n + (2 ^ 64 - less)) % 2 ^ 64)
+        × MayStep board.now.key board.now.table_id.slots seat.old.id seat.old.me word
+        (λ n. (n + (2 ^ 64 - less)) % 2 ^ 64)
         (M.then (step board.now.table_id.slots word less 0 none) seat.old.me) }
     ensures { (seat.new.table_id ≡ seat.old.table_id) × (seat.new.id ≡ seat.old.id)
         × M.then (step board.now.table_id.slots word less 0 none) seat.old.me result seat.new.me }

@@ -8,7 +8,8 @@ load-requires g c =
       r.board,
       subst (λ x. x < board.table_id.words) (sym e) r.word.1,
       record {
-        allows = allows_count board.key board.table_id.slots chair.id c.args.block.0 g.M.StepArgs.object c.block_word.result g.M.StepArgs.kind g.M.StepArgs.place
+        allows = allows_count board.key board.table_id.slots chair.id c.args.block.0 g.M.StepArgs.object c.block_word.result g.M.StepArgs.kind
+            g.M.StepArgs.place
             chair.me r.rests r.holds e;
       },
     )

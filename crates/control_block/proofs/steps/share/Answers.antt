@@ -8,7 +8,8 @@ fetch_add-requires g c =
       r.board,
       subst (λ x. x < board.table_id.words) (sym e) r.word.1,
       record {
-        allows = allows_share board.key board.table_id.slots chair.id c.args.block.0 g.M.StepArgs.object c.block_word.result g.M.StepArgs.place g.M.StepArgs.wanted
+        allows = allows_share board.key board.table_id.slots chair.id c.args.block.0 g.M.StepArgs.object c.block_word.result g.M.StepArgs.place
+            g.M.StepArgs.wanted
             chair.me r.rests r.holds r.wanted r.room e;
       },
     )

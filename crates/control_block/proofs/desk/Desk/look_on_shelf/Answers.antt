@@ -1,6 +1,6 @@
 use Rattle.control_block.specs.Inside.{desk_now}
 use Rattle.control_block.proofs.DeskBags.{now_of}
-use Rattle.std.proofs.Common.{◌≡◌, ◌+◌, ◌-◌, ℕ, sym, ap, subst, ◌∙◌, arith}
+use Rattle.std.proofs.Common.{◌≡◌, ◌-◌, sym, ap, subst, ◌∙◌, arith}
 use Rattle.control_block.specs.Desks.{DeskNow, state_of}
 use Rattle.control_block.specs.Own.{IsSole}
 use Rattle.control_block.specs.Plays.{known}

@@ -1,6 +1,6 @@
 use Rattle.control_block.specs.Inside.{desk_now}
 use Rattle.control_block.specs.Shelf.{Unshelved}
-use Rattle.std.proofs.Common.{◌≡◌, ◌+◌, ◌<◌, refl, sym, ap, subst, ◌∙◌, arith, None, length, true, true≢false}
+use Rattle.std.proofs.Common.{◌≡◌, ◌+◌, refl, sym, ap, subst, ◌∙◌, arith, None, length, true, true≢false}
 use Rattle.control_word.specs.State.{on_shelf}
 use Rattle.control_word.specs.declared.model.event.Event.TheVariants.{Unshelve}
 use Rattle.control_word.specs.declared.model.view.Pending.TheVariants.{Idle}
@@ -74,7 +74,8 @@ returns-then-not-unshelve-clause-unshelved g c =
 pub returns-then-not-unshelve-clause-same : goal.returns-then-not-unshelve-clause-same
 returns-then-not-unshelve-clause-same g c = λ _.
     let d = c.self.inside in let s = c.if-not-unshelve.ensures in let me = (s.missed refl).0 in
-    let same : now_of c.unshelve.new.chair.table_id c.unshelve.new.chair.me.0 d.held ≡ desk_now d = λ i. now_of (s.chair.0 i) (me i).0 d.held in same ∙ c.self.view_is
+    let same : now_of c.unshelve.new.chair.table_id c.unshelve.new.chair.me.0 d.held ≡ desk_now d = λ i. now_of (s.chair.0 i)
+    (me i).0 d.held in same ∙ c.self.view_is
 
 pub returns-clause-same : goal.returns-clause-same
 returns-clause-same g c = λ e. absurd (true≢false e)

@@ -42,20 +42,23 @@ turn-requires-clause-board g c = c.take_differing.ensures.chair.0 ∙ c.requires
 
 pub turn-requires-clause-word : goal.turn-requires-clause-word
 turn-requires-clause-word g c =
-    let r = c.requires in let k = c.args.kind in let me = c.args.chair.now.me in let e : Handle → Event g.row.V.Denot = λ h. Compare g.A.Aimed.cell g.A.Aimed.expected g.A.Aimed.new h false g.A.Aimed.weak in
+    let r = c.requires in let k = c.args.kind in let me = c.args.chair.now.me in
+    let e : Handle → Event g.row.V.Denot = λ h. Compare g.A.Aimed.cell g.A.Aimed.expected g.A.Aimed.new h false g.A.Aimed.weak in
     let t = subst (λ (y : Kind). Took e y me.0 c.args.seen c.take_differing.new.chair.me.0) (sym r.aim.kind) (c.if-not-take_differing.ensures.took refl) in
     counted_out e g.A.Aimed.cell k c.args.word c.args.board.now.table_id c.args.chair.now.table_id c.args.seen (empty k) c.args.block
     me c.take_differing.new.chair.me r.aim (differ_trades g.row.V.Denot g.A.Aimed.cell k g.A.Aimed.expected g.A.Aimed.new g.A.Aimed.weak) t r.seen.1
 
 pub turn-requires-clause-owes : goal.turn-requires-clause-owes
 turn-requires-clause-owes g c =
-    let r = c.requires in let k = c.args.kind in let v = c.args.chair.now.me.0 in let e : Handle → Event g.row.V.Denot = λ h. Compare g.A.Aimed.cell g.A.Aimed.expected g.A.Aimed.new h false g.A.Aimed.weak in
+    let r = c.requires in let k = c.args.kind in let v = c.args.chair.now.me.0 in
+    let e : Handle → Event g.row.V.Denot = λ h. Compare g.A.Aimed.cell g.A.Aimed.expected g.A.Aimed.new h false g.A.Aimed.weak in
     let t = subst (λ (y : Kind). Took e y v c.args.seen c.take_differing.new.chair.me.0) (sym r.aim.kind) (c.if-not-take_differing.ensures.took refl) in
     took_owes e k v c.take_differing.new.chair.me c.args.seen c.args.block t r.seen.1 r.aim.rests.awake c.take_differing.ensures.chair.2
 
 pub top_up-requires-clause-aim : goal.top_up-requires-clause-aim
 top_up-requires-clause-aim g c =
-    let r = c.requires in let k = c.args.kind in let me = c.args.chair.now.me in let e : Handle → Event g.row.V.Denot = λ h. Compare g.A.Aimed.cell g.A.Aimed.expected g.A.Aimed.new h false g.A.Aimed.weak in
+    let r = c.requires in let k = c.args.kind in let me = c.args.chair.now.me in
+    let e : Handle → Event g.row.V.Denot = λ h. Compare g.A.Aimed.cell g.A.Aimed.expected g.A.Aimed.new h false g.A.Aimed.weak in
     let t = subst (λ (y : Kind). Took e y me.0 c.args.seen c.take_differing.new.chair.me.0) (sym r.aim.kind) (c.if-not-take_differing.ensures.took refl) in
     let i = c.args.word in let id = c.args.board.now.table_id in let own = c.args.chair.now.table_id in let u = c.turn.ensures in
     let out = out_turned e g.A.Aimed.cell k i id own c.args.seen (empty k) c.args.block me c.take_differing.new.chair.me c.turn.new.chair.me r.aim r.seen.0 t
@@ -68,7 +71,8 @@ top_up-requires-clause-seen g c = c.requires.seen.2
 
 pub top_up-requires-clause-holds : goal.top_up-requires-clause-holds
 top_up-requires-clause-holds g c =
-    let r = c.requires in let k = c.args.kind in let me = c.args.chair.now.me in let e : Handle → Event g.row.V.Denot = λ h. Compare g.A.Aimed.cell g.A.Aimed.expected g.A.Aimed.new h false g.A.Aimed.weak in
+    let r = c.requires in let k = c.args.kind in let me = c.args.chair.now.me in
+    let e : Handle → Event g.row.V.Denot = λ h. Compare g.A.Aimed.cell g.A.Aimed.expected g.A.Aimed.new h false g.A.Aimed.weak in
     let t = subst (λ (y : Kind). Took e y me.0 c.args.seen c.take_differing.new.chair.me.0) (sym r.aim.kind) (c.if-not-take_differing.ensures.took refl) in
     let i = c.args.word in let id = c.args.board.now.table_id in let own = c.args.chair.now.table_id in let u = c.turn.ensures in
     let out = out_turned e g.A.Aimed.cell k i id own c.args.seen (empty k) c.args.block me c.take_differing.new.chair.me c.turn.new.chair.me r.aim r.seen.0 t
@@ -78,7 +82,8 @@ top_up-requires-clause-holds g c =
 
 pub top_up-requires-clause-count : goal.top_up-requires-clause-count
 top_up-requires-clause-count g c =
-    let r = c.requires in let k = c.args.kind in let me = c.args.chair.now.me in let e : Handle → Event g.row.V.Denot = λ h. Compare g.A.Aimed.cell g.A.Aimed.expected g.A.Aimed.new h false g.A.Aimed.weak in
+    let r = c.requires in let k = c.args.kind in let me = c.args.chair.now.me in
+    let e : Handle → Event g.row.V.Denot = λ h. Compare g.A.Aimed.cell g.A.Aimed.expected g.A.Aimed.new h false g.A.Aimed.weak in
     let t = subst (λ (y : Kind). Took e y me.0 c.args.seen c.take_differing.new.chair.me.0) (sym r.aim.kind) (c.if-not-take_differing.ensures.took refl) in
     counted_out e g.A.Aimed.cell k c.args.word c.args.board.now.table_id c.args.chair.now.table_id c.args.seen (empty k) c.args.block
     me c.take_differing.new.chair.me r.aim (differ_trades g.row.V.Denot g.A.Aimed.cell k g.A.Aimed.expected g.A.Aimed.new g.A.Aimed.weak) t r.seen.1
@@ -91,7 +96,8 @@ returns-clause-table g c = c.top_up.ensures.table ∙ (c.turn.ensures.chair.0 �
 
 pub returns-clause-differed : goal.returns-clause-differed
 returns-clause-differed g c = λ _.
-    let r = c.requires in let k = c.args.kind in let me = c.args.chair.now.me in let e : Handle → Event g.row.V.Denot = λ h. Compare g.A.Aimed.cell g.A.Aimed.expected g.A.Aimed.new h false g.A.Aimed.weak in
+    let r = c.requires in let k = c.args.kind in let me = c.args.chair.now.me in
+    let e : Handle → Event g.row.V.Denot = λ h. Compare g.A.Aimed.cell g.A.Aimed.expected g.A.Aimed.new h false g.A.Aimed.weak in
     let t = subst (λ (y : Kind). Took e y me.0 c.args.seen c.take_differing.new.chair.me.0) (sym r.aim.kind) (c.if-not-take_differing.ensures.took refl) in
     let i = c.args.word in let id = c.args.board.now.table_id in let own = c.args.chair.now.table_id in let u = c.turn.ensures in
     let out = out_turned e g.A.Aimed.cell k i id own c.args.seen (empty k) c.args.block me c.take_differing.new.chair.me c.turn.new.chair.me r.aim r.seen.0 t

@@ -61,7 +61,8 @@ compare_and_swap-requires-clause-new g c =
 pub compare_and_swap-requires-clause-hand : goal.compare_and_swap-requires-clause-hand
 compare_and_swap-requires-clause-hand g c =
     let a = g.A.Aimed in
-    hand_in_call c.args.chair.now.me.0 c.bring_for.new.chair.me.0 (debt a.new c.args.new.owned 256) a.cell c.args.kind a.new c.bring_for.ensures.brought c.requires.aim.kind
+    hand_in_call c.args.chair.now.me.0 c.bring_for.new.chair.me.0
+    (debt a.new c.args.new.owned 256) a.cell c.args.kind a.new c.bring_for.ensures.brought c.requires.aim.kind
     c.requires.offer.new_hand
 
 pub compare_and_swap-requires-clause-owes : goal.compare_and_swap-requires-clause-owes

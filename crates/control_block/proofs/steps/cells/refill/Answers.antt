@@ -11,7 +11,8 @@ compare_exchange-requires g c =
       r.board,
       r.word,
       record {
-        allows = allows_refill board.key board.table_id.slots chair.id c.args.word c.pack-found.result c.pack-full.result g.A.Aimed.cell x w.0 w.1 w.2 chair.me w.4 r.cell
+        allows = allows_refill board.key board.table_id.slots chair.id c.args.word c.pack-found.result c.pack-full.result g.A.Aimed.cell x w.0 w.1 w.2
+            chair.me w.4 r.cell
             r.seen c.pack-found.ensures w.3 less;
       },
     )

@@ -19,14 +19,17 @@ returns-clause-chair g c =
     let r = c.requires in let t = c.compare_exchange.ensures in let n = c.compare_exchange.result in let found = c.pack-found.result in (
       t.0,
       t.1,
-      ⊎_elim (λ e. (t.2.0 e c.args.seen r.seen.0 (e ∙ c.pack-found.ensures)).1 ∙ r.rests.none) (λ other. ap (λ m. m.1) (t.2.1 other) ∙ r.rests.none) (cases_eq n found),
+      ⊎_elim (λ e. (t.2.0 e c.args.seen r.seen.0 (e ∙ c.pack-found.ensures)).1 ∙ r.rests.none) (λ other. ap (λ m. m.1) (t.2.1 other) ∙ r.rests.none)
+          (cases_eq n found),
     )
 
 pub returns-clause-took : goal.returns-clause-took
 returns-clause-took g c = λ same.
-    let r = c.requires in let t = c.compare_exchange.ensures in let n = c.compare_exchange.result in let found = c.pack-found.result in let e = eqb-true n found same in
+    let r = c.requires in let t = c.compare_exchange.ensures in let n = c.compare_exchange.result in let found = c.pack-found.result in
+    let e = eqb-true n found same in
     (t.2.0 e c.args.seen r.seen.0 (e ∙ c.pack-found.ensures)).0
 
 pub returns-clause-missed : goal.returns-clause-missed
 returns-clause-missed g c = λ other.
-    let r = c.requires in let t = c.compare_exchange.ensures in let n = c.compare_exchange.result in let found = c.pack-found.result in t.2.1 (eqb-false n found other)
+    let r = c.requires in let t = c.compare_exchange.ensures in let n = c.compare_exchange.result in
+    let found = c.pack-found.result in t.2.1 (eqb-false n found other)

@@ -9,7 +9,8 @@ load-requires g c =
       r.board,
       subst (λ x. x < board.table_id.words) (sym e) r.word.3,
       record {
-        allows = allows_look_clear board.key board.table_id.slots chair.id c.args.block.0 g.M.StepArgs.object g.M.StepArgs.word c.block_word.result chair.me r.rests r.ends
+        allows = allows_look_clear board.key board.table_id.slots chair.id c.args.block.0 g.M.StepArgs.object g.M.StepArgs.word c.block_word.result chair.me
+            r.rests r.ends
             (subst (λ x. x < 3) (sym r.word.2) r.word.1) (e ∙ ap (λ x. spot c.args.block.0 (7 + x)) (sym r.word.2)) r.room;
       },
     )

@@ -12,7 +12,8 @@ fetch_add-requires g c =
       r.board,
       subst (λ x. x < board.table_id.words) (sym e) r.word.1,
       record {
-        allows = allows_bring board.key board.table_id.slots chair.id c.args.block.0 m.object c.count_word.result c.from.result m.kind m.place chair.me r.rests r.holds.1
+        allows = allows_bring board.key board.table_id.slots chair.id c.args.block.0 m.object c.count_word.result c.from.result m.kind m.place chair.me
+            r.rests r.holds.1
             (subst (λ x. x ≤ 256) (sym c.from.ensures) r.few) (e ∙ ap (λ y. spot c.args.block.0 (slot y)) (sym r.holds.0));
       },
     )

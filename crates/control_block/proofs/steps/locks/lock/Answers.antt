@@ -17,7 +17,8 @@ load-found-requires g c =
       l.2 ∙ r.board,
       subst (λ x. x < board.table_id.words) (sym e) r.word.1,
       record {
-        allows = subst (λ (m : At g.row.V.Denot). Allows (Ruled board.key) slots c.loop.chair.id m i (λ n. n) (sought_owner o p (step slots i 0 0 none) m)) (sym l.4)
+        allows = subst (λ (m : At g.row.V.Denot). Allows (Ruled board.key) slots c.loop.chair.id m i (λ n. n) (sought_owner o p (step slots i 0 0 none) m))
+            (sym l.4)
             (allows_seek board.key slots c.loop.chair.id c.args.block.0 o i p c.args.chair.now.me r.rests r.holds e);
       },
     )
@@ -40,7 +41,8 @@ compare_exchange-requires g c =
 
 pub returns-then-found-eq0-clause-chair : goal.returns-then-found-eq0-clause-chair
 returns-then-found-eq0-clause-chair g c =
-    let l = c.loop.invariant in let t = c.load-found.ensures in let o = g.M.StepArgs.object in let p = g.M.StepArgs.place in (t.0 ∙ l.2, t.1 ∙ l.3, (t.2.0 c.if-found-eq0.true).1 ∙ ap (λ m. m.1) l.4)
+    let l = c.loop.invariant in let t = c.load-found.ensures in let o = g.M.StepArgs.object in
+    let p = g.M.StepArgs.place in (t.0 ∙ l.2, t.1 ∙ l.3, (t.2.0 c.if-found-eq0.true).1 ∙ ap (λ m. m.1) l.4)
 
 pub returns-then-found-eq0-clause-event : goal.returns-then-found-eq0-clause-event
 returns-then-found-eq0-clause-event g c =
@@ -54,24 +56,28 @@ returns-then-found-eq0-clause-owner g c =
 
 pub returns-then-compare_exchange-found-clause-chair : goal.returns-then-compare_exchange-found-clause-chair
 returns-then-compare_exchange-found-clause-chair g c =
-    let l = c.loop.invariant in let t = c.load-found.ensures in let o = g.M.StepArgs.object in let p = g.M.StepArgs.place in let q = c.compare_exchange.ensures in
+    let l = c.loop.invariant in let t = c.load-found.ensures in let o = g.M.StepArgs.object in let p = g.M.StepArgs.place in
+    let q = c.compare_exchange.ensures in
     let me = (t.2.1 c.if-found-eq0.false).0 ∙ l.4 in
     (q.0 ∙ (t.0 ∙ l.2), q.1 ∙ (t.1 ∙ l.3), (q.2.0 c.if-compare_exchange-found.true).1 ∙ ap (λ m. m.1) me)
 
 pub returns-then-compare_exchange-found-clause-event : goal.returns-then-compare_exchange-found-clause-event
 returns-then-compare_exchange-found-clause-event g c =
-    let l = c.loop.invariant in let t = c.load-found.ensures in let o = g.M.StepArgs.object in let p = g.M.StepArgs.place in let q = c.compare_exchange.ensures in
+    let l = c.loop.invariant in let t = c.load-found.ensures in let o = g.M.StepArgs.object in let p = g.M.StepArgs.place in
+    let q = c.compare_exchange.ensures in
     let me = (t.2.1 c.if-found-eq0.false).0 ∙ l.4 in
     subst (λ (y : At g.row.V.Denot). tells (Lock (weak_of o p) true) y.0 c.compare_exchange.new.seat.me.0) me (q.2.0 c.if-compare_exchange-found.true).0
 
 pub returns-then-compare_exchange-found-clause-owner : goal.returns-then-compare_exchange-found-clause-owner
 returns-then-compare_exchange-found-clause-owner g c =
-    let l = c.loop.invariant in let t = c.load-found.ensures in let o = g.M.StepArgs.object in let p = g.M.StepArgs.place in let q = c.compare_exchange.ensures in
+    let l = c.loop.invariant in let t = c.load-found.ensures in let o = g.M.StepArgs.object in let p = g.M.StepArgs.place in
+    let q = c.compare_exchange.ensures in
     let me = (t.2.1 c.if-found-eq0.false).0 ∙ l.4 in
     got_owner c.load-found.new.seat.me.0 c.compare_exchange.new.seat.me.0 o p true (q.2.0 c.if-compare_exchange-found.true).0
 
 pub loop-preserved : goal.loop-preserved
 loop-preserved g c =
-    let l = c.loop.invariant in let t = c.load-found.ensures in let o = g.M.StepArgs.object in let p = g.M.StepArgs.place in let q = c.compare_exchange.ensures in
+    let l = c.loop.invariant in let t = c.load-found.ensures in let o = g.M.StepArgs.object in let p = g.M.StepArgs.place in
+    let q = c.compare_exchange.ensures in
     let me = (t.2.1 c.if-found-eq0.false).0 ∙ l.4 in
     (search rules, search rules, q.0 ∙ (t.0 ∙ l.2), q.1 ∙ (t.1 ∙ l.3), q.2.1 c.if-compare_exchange-found.false ∙ me)

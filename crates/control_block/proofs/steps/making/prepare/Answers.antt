@@ -87,13 +87,16 @@ write-requires-4-clause-meant g c = (refl, refl)
 
 pub write-requires-5-clause-board : goal.write-requires-5-clause-board
 write-requires-5-clause-board g c =
-    c.write-4.ensures.chair.0 ∙ (c.write-3.ensures.chair.0 ∙ (c.write-2.ensures.chair.0 ∙ (c.write.ensures.chair.0 ∙ (c.begin.ensures.chair.0 ∙ c.requires.board))))
+    c.write-4.ensures.chair.0 ∙ (c.write-3.ensures.chair.0 ∙ (c.write-2.ensures.chair.0 ∙ (c.write.ensures.chair.0 ∙
+    (c.begin.ensures.chair.0 ∙ c.requires.board))))
 
 pub write-requires-5-clause-meant : goal.write-requires-5-clause-meant
 write-requires-5-clause-meant g c = (refl, refl)
 
 pub returns-clause-chair : goal.returns-clause-chair
 returns-clause-chair g c = (
-  c.write-5.ensures.chair.0 ∙ (c.write-4.ensures.chair.0 ∙ (c.write-3.ensures.chair.0 ∙ (c.write-2.ensures.chair.0 ∙ (c.write.ensures.chair.0 ∙ c.begin.ensures.chair.0)))),
-  c.write-5.ensures.chair.1 ∙ (c.write-4.ensures.chair.1 ∙ (c.write-3.ensures.chair.1 ∙ (c.write-2.ensures.chair.1 ∙ (c.write.ensures.chair.1 ∙ c.begin.ensures.chair.1)))),
+  c.write-5.ensures.chair.0 ∙ (c.write-4.ensures.chair.0 ∙ (c.write-3.ensures.chair.0 ∙ (c.write-2.ensures.chair.0 ∙
+      (c.write.ensures.chair.0 ∙ c.begin.ensures.chair.0)))),
+  c.write-5.ensures.chair.1 ∙ (c.write-4.ensures.chair.1 ∙ (c.write-3.ensures.chair.1 ∙ (c.write-2.ensures.chair.1 ∙
+      (c.write.ensures.chair.1 ∙ c.begin.ensures.chair.1)))),
 )
