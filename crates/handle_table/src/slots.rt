@@ -102,15 +102,28 @@ pub(crate) fn fill(slots: &mut Vec<Option<Held>>, at: usize, handle: Held)
     spent(std::mem::replace(&mut slots[at], Some(handle)));
 }
 
-/// What is in the slot goes out of it.
+/// What is in the slot goes out of it, if anything is.
+#[inline(always)]
+pub(crate) fn empty_out(slots: &mut Vec<Option<Held>>, at: usize) -> Option<Held>
+    requires { at < length slots.old.items }
+    ensures { (slice_get slots.old.items at ≡ Some result)
+        × (slots.new.items ≡ slice_set slots.old.items at None) }
+{
+    std::mem::replace(&mut slots[at], None)
+}
+
+/// The handle in the slot goes out of it.
 #[inline(always)]
 pub(crate) fn take_handle(slots: &mut Vec<Option<Held>>, at: usize) -> Result<Held, Fault>
     ensures taken { IfOk result (λ h. (slice_get slots.old.items at ≡ Some (Some h))
         × (slots.new.items ≡ slice_set slots.old.items at None)) }
     ensures fault { IfErr result (λ why. WhyNoHandle slots.old.items at why × (slots.new.items ≡ slots.old.items)) }
 {
-    handle_at(slots, at)?;
-    match slots[at].take() {
+    match handle_at(slots, at) {
+        Ok(_) => {}
+        Err(why) => return Err(why),
+    }
+    match empty_out(slots, at) {
         Some(handle) => Ok(handle),
         None => unreachable!(),
     }
@@ -122,15 +135,19 @@ pub(crate) fn take_owner(slots: &mut Vec<Option<Held>>, at: usize) -> Result<Sha
         × (slots.new.items ≡ slice_set slots.old.items at None)) }
     ensures fault { IfErr result (λ why. WhyNoOwner slots.old.items at why × (slots.new.items ≡ slots.old.items)) }
 {
-    if let Err(why) = owner_at(slots, at) {
-        return Err(why);
+    match owner_at(slots, at) {
+        Ok(_) => {}
+        Err(why) => return Err(why),
     }
-    match slots[at].take() {
-        Some(Held::Owner(owner)) => Ok(owner),
-        other => {
-            spent(other);
-            unreachable!()
-        }
+    match take_handle(slots, at) {
+        Ok(handle) => match handle {
+            Held::Owner(owner) => Ok(owner),
+            Held::Weak(weak) => {
+                weak.into_parts();
+                unreachable!()
+            }
+        },
+        Err(why) => Err(why),
     }
 }
 

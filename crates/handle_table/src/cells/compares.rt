@@ -10,6 +10,7 @@ use crate::cells::held::{Form, Spurious, Strong, compare_held};
 use crate::cells::{Cell, find};
 use crate::fault::Fault;
 use crate::slots::assigning::{assign, let_go};
+use crate::slots::empty_out;
 use crate::slots::kinds::{content_at, into_content};
 use crate::table::{HandleTable, Home};
 use control_block::desk::Desk;
@@ -22,7 +23,7 @@ fn vacate(slots: &mut Vec<Option<Held>>, at: usize)
     requires { at < length slots.old.items }
     ensures { slots.new.items ≡ slice_set slots.old.items at None }
 {
-    match slots[at].take() {
+    match empty_out(slots, at) {
         None => {}
         Some(handle) => {
             into_content(handle);

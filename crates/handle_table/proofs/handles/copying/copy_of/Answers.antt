@@ -1,7 +1,11 @@
-use Rattle.std.proofs.Common.{refl, subst, sym}
+use Rattle.std.proofs.Common.{◌∙◌, refl, subst, sym}
+use Rattle.control_word.specs.declared.model.handle.Kind.TheVariants as kind
+use Rattle.control_block.specs.CellCalls.{with_handle}
+use Rattle.control_block.specs.Desks.{bag_of}
 use Rattle.control_block.specs.declared.handles.Held.{Held}
 use Rattle.control_block.specs.declared.handles.Held.TheVariants.{Owner, Weak}
 use Rattle.handle_table.specs.Calls.{IsCopy}
+use Rattle.handle_table.proofs.Bringing.{weakly}
 use Rattle.handle_table.proofs.handles.copying.copy_of.Goals as goal
 
 pub returns-in-Ok-clause-copy : goal.returns-in-Ok-clause-copy
@@ -15,3 +19,13 @@ returns-in-Ok-share_weak-clause-copy g c =
     let e = c.in-Ok-share_weak.ensures in
     subst (λ (h : Held). IsCopy h c.args.desk.now (Weak c.in-Ok-share_weak.copy) c.share_weak.new.desk) (sym c.in-Weak.is)
     record { weak = c.in-Ok-share_weak.copy; is = refl; event = (e.handle.0, e.handle.1, e.event) }
+
+pub returns-in-Ok-clause-bag : goal.returns-in-Ok-clause-bag
+returns-in-Ok-clause-bag g c =
+    let e = c.in-Ok.ensures in
+    e.bag ∙ (λ i. with_handle kind.Owner (sym e.handle.0 i) (sym e.handle.1 i) (bag_of c.args.desk.now))
+
+pub returns-in-Ok-share_weak-clause-bag : goal.returns-in-Ok-share_weak-clause-bag
+returns-in-Ok-share_weak-clause-bag g c =
+    let e = c.in-Ok-share_weak.ensures in
+    e.bag ∙ weakly (bag_of c.args.desk.now) c.in-Ok-share_weak.copy _ _ e.handle.0 e.handle.1

@@ -2,9 +2,11 @@ use Rattle.std.proofs.Common.{◌≡◌, ◌∙◌, Bool, is_some, ap, inl, inr,
 use Rattle.control_block.specs.declared.handles.Held.TheVariants.{Owner, Weak}
 use Rattle.shared_handle.specs.Locks as locks
 use Rattle.handle_table.specs.Calls.{LocksSlot, WhyNotLocked}
+use Rattle.control_block.specs.Desks.{DeskNow}
+use Rattle.handle_table.specs.declared.fault.Fault.TheVariants as fault
 use Rattle.handle_table.specs.Tables.{TableNow}
-use Rattle.handle_table.proofs.Filling.{fits_at}
-use Rattle.handle_table.proofs.Wholes.{kept, seen}
+use Rattle.handle_table.proofs.Filling.{fits_at, fits_more}
+use Rattle.handle_table.proofs.Wholes.{kept, same_whole, seen}
 use Rattle.handle_table.proofs.table.HandleTable.lock.Goals as goal
 
 pub lock-owner-requires-clause-holds : goal.lock-owner-requires-clause-holds
@@ -43,3 +45,21 @@ returns-in-Ok-owner-clause-locked g c =
         assigns = c.assign.ensures.assigns;
       };
     }
+
+pub assign-requires-clause-fits : goal.assign-requires-clause-fits
+assign-requires-clause-fits g c κs within =
+    let e = c.in-Ok-owner.ensures in
+    fits_more c.self.inside.desk c.lock-owner.new.desk c.self.inside.slots.items (Owner c.in-Ok-owner.owner) c.self.invariant.fits e.bag e.held
+
+pub invariant_of-self-in-Err-owner : goal.invariant_of-self-in-Err-owner
+invariant_of-self-in-Err-owner g c =
+    same_whole _ c.self.inside.domain.now c.self.inside.desk c.lock-owner.new.desk c.self.inside.slots.items c.self.inside.pile c.self.invariant
+    c.in-Err-owner.ensures.refused.1
+
+pub returns-in-Err-owner-clause-refused : goal.returns-in-Err-owner-clause-refused
+returns-in-Err-owner-clause-refused g c =
+    let e = c.in-Err-owner.ensures in (
+      subst (λ (t : TableNow g.row.V.Denot). WhyNotLocked t c.args.from c.args.to (fault.Call c.in-Err-owner.why)) c.self.view_is
+          (inr (inr (ap fault.Call e.refused.0, e.limit.0 refl))),
+      ap (λ (d : DeskNow g.row.V.Denot). seen d c.self.inside.slots.items c.self.inside.pile) e.refused.1 ∙ c.self.view_is,
+    )

@@ -5,8 +5,8 @@ use Rattle.shared_handle.proofs.Piles.{bears_kept}
 use Rattle.handle_table.specs.Structures.{GetsParent, WhyNoParent}
 use Rattle.handle_table.specs.Tables.{TableNow}
 use Rattle.handle_table.specs.declared.fault.Fault.TheVariants as fault
-use Rattle.handle_table.proofs.Filling.{fits_at}
-use Rattle.handle_table.proofs.Wholes.{seen}
+use Rattle.handle_table.proofs.Filling.{fits_at, fits_more}
+use Rattle.handle_table.proofs.Wholes.{same_whole, seen}
 use Rattle.handle_table.proofs.table.HandleTable.parent.Goals as goal
 
 pub parent-requires-clause-holds : goal.parent-requires-clause-holds
@@ -48,3 +48,13 @@ returns-in-Err-parent-clause-refused g c =
 pub returns-in-Err-clause-refused : goal.returns-in-Err-clause-refused
 returns-in-Err-clause-refused g c =
     (subst (λ (t : TableNow g.row.V.Denot). WhyNoParent t c.args.node c.args.to c.in-Err.why) c.self.view_is (inr (inl c.in-Err.ensures.fault)), refl)
+
+pub assign-requires-clause-fits : goal.assign-requires-clause-fits
+assign-requires-clause-fits g c κs within =
+    let e = c.in-Ok-parent.ensures in
+    fits_more c.self.inside.desk c.parent.new.desk c.self.inside.slots.items (Owner c.in-Ok-parent.parent) c.self.invariant.fits e.bag e.held
+
+pub invariant_of-self-in-Err-parent : goal.invariant_of-self-in-Err-parent
+invariant_of-self-in-Err-parent g c =
+    same_whole _ c.self.inside.domain.now c.self.inside.desk c.parent.new.desk c.self.inside.slots.items c.self.inside.pile c.self.invariant
+    c.in-Err-parent.ensures.refused

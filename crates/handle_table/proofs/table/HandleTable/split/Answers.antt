@@ -1,8 +1,10 @@
-use Rattle.std.proofs.Common.{List, length, refl, subst, sym}
+use Rattle.std.proofs.Common.{◌∙◌, List, ap, arith, inl, inr, length, refl, subst, sym}
+use Rattle.control_block.specs.Desks.{DeskNow}
 use Rattle.control_block.specs.Parting.{HoldsAll, IsTooMuch, SplitsOff}
 use Rattle.control_block.specs.SlotLists.{handles_in}
-use Rattle.handle_table.specs.Parting.{SplitsTable, handles_from}
+use Rattle.handle_table.specs.Parting.{SplitsTable, WhyNoPart, WhyNotSplit, handles_from}
 use Rattle.handle_table.specs.Tables.{Slot, TableNow}
+use Rattle.handle_table.specs.declared.fault.Fault.TheVariants as fault
 use Rattle.handle_table.proofs.Handing.{handed_from, holds_from, new_whole, old_whole}
 use Rattle.handle_table.proofs.Wholes.{seen}
 use Rattle.handle_table.proofs.table.HandleTable.split.Goals as goal
@@ -41,3 +43,35 @@ returns-in-Ok-clause-fits g c =
     subst (λ (t : TableNow g.row.V.Denot). IsTooMuch t.desk c.args.allowance (length (handles_from c.args.from t.slots)) → ⊥) c.self.view_is
     (subst (λ (l : List Slot). IsTooMuch c.self.inside.desk c.args.allowance (length (handles_in l)) → ⊥)
     (handed_from c.as_slice.result.now c.self.inside.slots.items c.args.from c.as_slice.ensures.value) c.in-Ok.ensures.fits)
+
+pub returns-then-from-count-clause-refused : goal.returns-then-from-count-clause-refused
+returns-then-from-count-clause-refused g c = (
+  subst (λ (t : TableNow g.row.V.Denot). WhyNotSplit t c.args.from c.args.allowance c.args.blocks fault.Slot) c.self.view_is
+      (record {
+        slots = (
+          λ _. (let f = c.if-from-count.true in let n = c.len-count.ensures in let o = c.self.inside.slots.ok.0 in omega arith),
+          λ _. refl,
+        );
+        part = inl refl;
+      }),
+  refl,
+)
+
+pub returns-in-Err-clause-refused : goal.returns-in-Err-clause-refused
+returns-in-Err-clause-refused g c =
+    let d = c.self.inside.desk in let ss = c.self.inside.slots.items in (
+      subst (λ (t : TableNow g.row.V.Denot). WhyNotSplit t c.args.from c.args.allowance c.args.blocks (fault.Call c.in-Err.why)) c.self.view_is
+          (record {
+            slots = (
+              λ is. absurd (cc is),
+              λ lt. absurd (let f = c.if-from-count.false in let n = c.len-count.ensures in let o = c.self.inside.slots.ok.0 in omega arith),
+            );
+            part = inr (
+              c.in-Err.why,
+              refl,
+              subst (λ (l : List Slot). WhyNoPart d c.args.allowance c.args.blocks (length (handles_in l)) c.in-Err.why)
+                  (handed_from c.as_slice.result.now ss c.args.from c.as_slice.ensures.value) c.in-Err.ensures.refused,
+            );
+          }),
+      ap (λ (x : DeskNow g.row.V.Denot). seen x ss c.self.inside.pile) c.in-Err.ensures.same ∙ c.self.view_is,
+    )

@@ -3,7 +3,7 @@ use Rattle.control_block.specs.declared.handles.Held.TheVariants.{Owner, Weak}
 use Rattle.handle_table.specs.Handles.{Upgrades, WhyNotUpgraded}
 use Rattle.handle_table.specs.Tables.{TableNow}
 use Rattle.handle_table.specs.declared.fault.Fault.TheVariants as fault
-use Rattle.handle_table.proofs.Filling.{fits_at}
+use Rattle.handle_table.proofs.Filling.{fits_at, fits_more}
 use Rattle.handle_table.proofs.Wholes.{kept, seen, still}
 use Rattle.handle_table.proofs.table.HandleTable.upgrade.Goals as goal
 
@@ -50,3 +50,8 @@ returns-in-Err-owner-clause-refused g c =
       event = c.in-Err-owner.ensures.upgrade;
       rest = (refl, refl);
     })
+
+pub assign-requires-clause-fits : goal.assign-requires-clause-fits
+assign-requires-clause-fits g c κs within =
+    let e = c.in-Ok-owner.ensures in
+    fits_more c.self.inside.desk c.upgrade-owner.new.desk c.self.inside.slots.items (Owner c.in-Ok-owner.owner) c.self.invariant.fits e.bag e.held
