@@ -14,6 +14,7 @@ mod handles;
 mod rows;
 mod shelf;
 mod soak;
+mod start;
 mod structures;
 mod tables;
 mod timing;

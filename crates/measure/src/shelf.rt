@@ -85,6 +85,11 @@ impl Circle {
         self.refused.fetch_add(u64::from(refused), Ordering::SeqCst);
     }
 
+    /// Whether the time is over that began then.
+    fn is_over<R: Clock>(&self, rt: &R, start: &Instant) -> io::Result<bool> {
+        Ok(nanos(start.elapsed(rt)?) >= self.span)
+    }
+
     /// The thread that makes, until the time is over.
     fn lead<H: Home, R: Clock + Wait>(
         &self,
@@ -97,7 +102,7 @@ impl Circle {
                 Some(refused) => self.note(refused),
                 None => return Err(io::Error::from(io::ErrorKind::Other)),
             }
-            if nanos(start.elapsed(rt)?) >= self.span {
+            if self.is_over(rt, &start)? {
                 break;
             }
         }

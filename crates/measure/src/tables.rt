@@ -144,11 +144,32 @@ impl Rows {
         table: &mut HandleTable<'_, (), H>,
     ) -> io::Result<()> {
         let filled = fill(table);
+        self.tell_makes_and_copies(rt, table, filled)?;
+        self.tell_locks_and_loads(rt, table, filled)
+    }
+
+    /// The rows of objects that are made, and of copies.
+    fn tell_makes_and_copies<H: Home, R: Clock + CpuClock + Wait + Print>(
+        &self,
+        rt: &R,
+        table: &mut HandleTable<'_, (), H>,
+        filled: bool,
+    ) -> io::Result<()> {
         let passes = self.passes;
         let make_and_end = label("make + end");
         tell_all(rt, &MakeAndEnd, table, &make_and_end, filled, passes)?;
         let copy = label("share + release, own object");
-        tell_all(rt, &CopyAndReset, table, &copy, filled, passes)?;
+        tell_all(rt, &CopyAndReset, table, &copy, filled, passes)
+    }
+
+    /// The rows of a weak handle and of a cell.
+    fn tell_locks_and_loads<H: Home, R: Clock + CpuClock + Wait + Print>(
+        &self,
+        rt: &R,
+        table: &mut HandleTable<'_, (), H>,
+        filled: bool,
+    ) -> io::Result<()> {
+        let passes = self.passes;
         let lock = label("lock + release, own object");
         tell_all(rt, &LockAndReset, table, &lock, filled, passes)?;
         let load = label("cell load + release, own cell");

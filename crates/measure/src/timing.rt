@@ -8,18 +8,18 @@ use crate::handles::rounds::{
     Act, Count, DowngradeAndRelease, MakeAndEnd, ShareAndRelease, lock_and_release, repeat,
 };
 use crate::rows::Row;
+use crate::start::Start;
 use crate::structures::scene_stack::push_and_pop;
 use crate::work::{add_since, moment};
 use crate::workers::{Pair, Team, Worker};
 use control_block::desk::Desk;
 use control_block::domain::Domain;
 use shared_handle::Shared;
+use std::io;
 use std::rt::Clock;
 use std::sync::Wait;
-use std::sync::atomic::{AtomicU64, Ordering};
 use std::thread::{Threads, join_mut};
-use std::time::{CpuClock, Duration, Instant};
-use std::{hint, io};
+use std::time::{CpuClock, Duration};
 
 /// The cell that all workers have in common. Each has one more of its own, with an unused one between any two: 128
 /// bytes apart, as the peers' are.
@@ -30,12 +30,6 @@ pub(crate) const CHUNKS: u32 = 1_000_000;
 
 /// How long a row runs, in nanoseconds.
 pub(crate) const SPAN: u64 = 3_000_000;
-
-/// How long the threads work before it, so that each has got a processor of its own.
-const SETTLING: u64 = 60_000_000;
-
-/// How often a thread looks whether the others have come.
-const PATIENCE: u32 = 100_000_000;
 
 /// One thread's nanoseconds, by the wall's clock and by the processor's, and its chunks.
 #[derive(Clone, Copy, Drop)]
@@ -54,49 +48,6 @@ impl Spent {
         chunks: 0,
         whole: true,
     };
-}
-
-/// Where the threads of a row meet.
-#[derive(Drop)]
-pub(crate) struct Start {
-    base: Instant,
-    threads: u64,
-    come: AtomicU64,
-    /// When they stop, in nanoseconds after `base`; 0 until all have come.
-    end: AtomicU64,
-}
-
-impl Start {
-    pub(crate) fn of<R: Clock>(rt: &R, threads: u64) -> io::Result<Start> {
-        Ok(Start {
-            base: Instant::now(rt)?,
-            threads,
-            come: AtomicU64::new(0),
-            end: AtomicU64::new(0),
-        })
-    }
-
-    /// Nanoseconds after `base`.
-    pub(crate) fn now<R: Clock>(&self, rt: &R) -> io::Result<u64> {
-        Ok(nanos(self.base.elapsed(rt)?))
-    }
-
-    /// Answers when to stop, once all have come; where they don't, the thread works alone.
-    pub(crate) fn meet<R: Clock>(&self, rt: &R) -> io::Result<u64> {
-        let before = self.come.fetch_add(1, Ordering::SeqCst);
-        if before.wrapping_add(1) < self.threads {
-            for _ in 0..PATIENCE {
-                let end = self.end.load(Ordering::SeqCst);
-                if end > 0 {
-                    return Ok(end);
-                }
-                hint::spin_loop();
-            }
-        }
-        let end = self.now(rt)?.wrapping_add(SETTLING + SPAN);
-        self.end.store(end, Ordering::SeqCst);
-        Ok(end)
-    }
 }
 
 pub(crate) fn nanos(time: Duration) -> u64 {

@@ -133,19 +133,33 @@ fn with_observers<R: Clock + CpuClock + Wait + Print>(
     (desk, told)
 }
 
-/// The rows, so many times.
+/// The rows on a domain, so many times.
+fn rows<R: Clock + CpuClock + Wait + Print>(
+    rt: &R,
+    alloc: Global,
+    domain: &Domain<()>,
+    desk: Desk<()>,
+    passes: u32,
+) -> (Desk<()>, io::Result<()>)
+    requires { IsOnlyDesk domain.now desk }
+    ensures { IsOnlyDesk domain.now result.0 }
+{
+    let (mut desk, told) = with_observers(rt, alloc, domain, desk, passes);
+    let told = match told {
+        Ok(()) => tell_parts(rt, &EndChain { domain }, &mut desk, &ENDS, passes),
+        Err(why) => Err(why),
+    };
+    (desk, told)
+}
+
+/// The rows on a domain of their own, so many times.
 pub(crate) fn measure<R: Clock + CpuClock + Wait + Print>(
     rt: &R,
     alloc: Global,
     passes: u32,
 ) -> io::Result<()> {
     let (domain, desk) = open::<()>(alloc, SHAPE)?;
-    let (mut desk, told) = with_observers(rt, alloc, &domain, desk, passes);
-    let work = EndChain { domain: &domain };
-    let told = match told {
-        Ok(()) => tell_parts(rt, &work, &mut desk, &ENDS, passes),
-        Err(why) => Err(why),
-    };
+    let (desk, told) = rows(rt, alloc, &domain, desk, passes);
     close(domain, desk);
     told
 }

@@ -87,6 +87,19 @@ fn derive<'a, H: Home, R: Wait>(
         3 => done(table.downgrade(from, to)),
         4 => done(table.lock(rt, from, to)),
         5 => done(table.upgrade(rt, from, to)),
+        kind => point(chance, kind, from, to, table),
+    }
+}
+
+/// A handle that comes of another one, and points elsewhere; or one of nothing.
+fn point<'a, H: Home>(
+    chance: &mut Chance,
+    kind: u32,
+    from: usize,
+    to: usize,
+    table: &mut HandleTable<'_, Value<'a>, H>,
+) -> bool {
+    match kind {
         6 => done(table.alias(from, place(chance), to)),
         7 => done(table.shared_from_this(from, to)),
         8 => done(table.weak_from_this(from, to)),
@@ -228,6 +241,19 @@ fn call<'a, H: Home, R: Wait>(
         8..=23 => derive(rt, chance, table),
         24..=31 => look(chance, table),
         32..=47 => pass(rt, chance, table),
+        kind => leave(rt, crowd, chance, kind, table),
+    }
+}
+
+/// A call by which handles, objects or blocks leave, a visit, or a second table: whether it was done.
+fn leave<'a, H: Home, R: Wait>(
+    rt: &R,
+    crowd: &Crowd<'a>,
+    chance: &mut Chance,
+    kind: u32,
+    table: &mut HandleTable<'_, Value<'a>, H>,
+) -> bool {
+    match kind {
         48..=54 => done(table.reset(slot(chance))),
         55 => lend(chance, table),
         56..=58 => visit(rt, slot(chance), crowd.ledger, table),
