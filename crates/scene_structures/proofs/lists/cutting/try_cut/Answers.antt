@@ -1,4 +1,4 @@
-use Rattle.std.proofs.Common.{Bool, true, [], sym, subst}
+use Rattle.std.proofs.Common.{Bool, true, true≢false, [], sym, subst, ◌∙◌}
 use Rattle.control_word.specs.declared.model.event.Cell.{Cell}
 use Rattle.shared_handle.proofs.Goings.{does_both, does_one}
 use Rattle.atomic_cells.specs.Sites.{shared_cell}
@@ -24,7 +24,7 @@ returns-then-not-is_same-clause-own g c =
     let lists = subst (Lists node.block node.place) (sym hands.bag) (lists_under node.block top.block node.place top.place b.0 b.3) in
     meets_other d m (shared_cell d c.args.at.now.site) top node f.own.0 f.own.1 c.requires.node (legal_after d m _ f.own.0)
     (first_lists m b.0 top [] hands) lists (these_node d m b.0 node (f.latest b.0 b.1) b.3)
-    (λ same. let t = c.is_same.ensures.1 same in let u = c.if-not-is_same.true in absurd (cc))
+    (λ same. true≢false (sym (c.is_same.ensures.1 same) ∙ c.if-not-is_same.true))
 
 pub returns-then-skip-clause-own : goal.returns-then-skip-clause-own
 returns-then-skip-clause-own g c =
