@@ -99,6 +99,17 @@ pub(crate) fn target_and_cell(
     target_then_cell(alloc, names, written, one)
 }
 
+/// A cell, and a source of its kind, by their words.
+#[tactic(auto, unfolding(crate::specs::Shapes::cell_and_source))]
+fn cell_then_source(names: &Names, one: &[u8], other: &[u8]) -> Result<(CellName, Name), Stop>
+    ensures { Gives (λ n. (n, names.now)) result
+        (cell_and_source names.now (one.now ∷ other.now ∷ [])) }
+{
+    let cell = cell_of(names, one)?;
+    let source = names.source(cell.kind(), other)?;
+    Ok((cell, source))
+}
+
 /// A cell, and a source of its kind.
 #[tactic(auto, unfolding(crate::specs::Shapes::cell_and_source))]
 pub(crate) fn cell_and_source(names: &Names, words: &[&[u8]]) -> Result<(CellName, Name), Stop>
@@ -107,9 +118,7 @@ pub(crate) fn cell_and_source(names: &Names, words: &[&[u8]]) -> Result<(CellNam
     let [one, other] = words else {
         return Err(Stop::Cause(Cause::WrongNumberOfWords));
     };
-    let cell = cell_of(names, one)?;
-    let source = names.source(cell.kind(), other)?;
-    Ok((cell, source))
+    cell_then_source(names, one, other)
 }
 
 /// A cell, and a source of its kind, of which the cell is no member.
@@ -124,6 +133,24 @@ pub(crate) fn cell_and_other(names: &Names, words: &[&[u8]]) -> Result<(CellName
     Ok((cell, name))
 }
 
+/// A cell, and two sources of its kind, by their words.
+#[tactic(auto, unfolding(crate::specs::Shapes::cell_and_sources))]
+fn cell_then_sources(
+    names: &Names,
+    one: &[u8],
+    other: &[u8],
+    last: &[u8],
+) -> Result<(CellName, Name, Name), Stop>
+    ensures { Gives (λ n. (n, names.now)) result
+        (cell_and_sources names.now (one.now ∷ other.now ∷ last.now ∷ [])) }
+{
+    let cell = cell_of(names, one)?;
+    let kind = cell.kind();
+    let expected = names.source(kind, other)?;
+    let desired = names.source(kind, last)?;
+    Ok((cell, expected, desired))
+}
+
 /// A cell, and two sources of its kind.
 #[tactic(auto, unfolding(crate::specs::Shapes::cell_and_sources))]
 pub(crate) fn cell_and_sources(
@@ -135,9 +162,5 @@ pub(crate) fn cell_and_sources(
     let [one, other, last] = words else {
         return Err(Stop::Cause(Cause::WrongNumberOfWords));
     };
-    let cell = cell_of(names, one)?;
-    let kind = cell.kind();
-    let expected = names.source(kind, other)?;
-    let desired = names.source(kind, last)?;
-    Ok((cell, expected, desired))
+    cell_then_sources(names, one, other, last)
 }

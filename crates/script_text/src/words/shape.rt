@@ -1,6 +1,6 @@
 //! The words after the first one: a function for each shape of statement.
 
-ghost use Rattle.std.specs.Prelude.{◌≡◌, ◌∷◌};
+ghost use Rattle.std.specs.Prelude.{◌≡◌, ◌∷◌, []};
 ghost use Rattle.script_text.specs.Reading.{Gives};
 ghost use Rattle.script_text.specs.Shapes.{texts, number_or_zero, fields_at, one_target, one_source, target_and_source};
 ghost use Rattle.script_text.specs.Shapes.{two_sources, target_and_fields};
@@ -39,6 +39,25 @@ pub(crate) fn source(names: &Names, kind: Kind, words: &[&[u8]]) -> Result<Name,
     names.source(kind, word)
 }
 
+/// A target and a source by their words.
+#[tactic(auto, unfolding(crate::specs::Shapes::target_and_source))]
+fn target_then_source(
+    alloc: Global,
+    names: &mut Names,
+    to: Kind,
+    from: Kind,
+    written: &[u8],
+    read: &[u8],
+) -> Result<(Name, Name), Stop>
+    ensures { Gives (λ n. (n, names.new)) result
+        (target_and_source names.old to from (written.now ∷ read.now ∷ [])) }
+{
+    let name = names.target(to, written)?;
+    let source = names.source(from, read)?;
+    let target = names.declare(alloc, to, name)?;
+    Ok((target, source))
+}
+
 /// A target and a source.
 #[tactic(auto, unfolding(crate::specs::Shapes::target_and_source))]
 pub(crate) fn target_and_source(
@@ -54,10 +73,23 @@ pub(crate) fn target_and_source(
     let [written, read] = words else {
         return Err(Stop::Cause(Cause::WrongNumberOfWords));
     };
-    let name = names.target(to, written)?;
-    let source = names.source(from, read)?;
-    let target = names.declare(alloc, to, name)?;
-    Ok((target, source))
+    target_then_source(alloc, names, to, from, written, read)
+}
+
+/// Two sources by their words.
+#[tactic(auto, unfolding(crate::specs::Shapes::two_sources))]
+fn source_then_source(
+    names: &Names,
+    asked: Option<Kind>,
+    one: &[u8],
+    other: &[u8],
+) -> Result<(Name, Name), Stop>
+    ensures { Gives (λ n. (n, names.now)) result
+        (two_sources names.now asked (one.now ∷ other.now ∷ [])) }
+{
+    let first = names.asked_source(asked, one)?;
+    let second = names.asked_source(asked, other)?;
+    Ok((first, second))
 }
 
 /// Two sources, each of the kind that is asked for, if one is.
@@ -72,9 +104,7 @@ pub(crate) fn two_sources(
     let [one, other] = words else {
         return Err(Stop::Cause(Cause::WrongNumberOfWords));
     };
-    let first = names.asked_source(asked, one)?;
-    let second = names.asked_source(asked, other)?;
-    Ok((first, second))
+    source_then_source(names, asked, one, other)
 }
 
 fn number_or_zero(words: &[&[u8]], place: usize) -> Result<u64, Stop>

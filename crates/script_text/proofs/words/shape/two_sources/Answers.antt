@@ -1,11 +1,9 @@
 use Rattle.std.proofs.Common.{ℕ, Bor, List, [], rules}
-use Rattle.script_text.specs.Shapes.{two_sources}
-use Rattle.script_text.proofs.ShapeLemmas.{pair_of, fails_first}
+use Rattle.script_text.proofs.ShapeLemmas.{pair_of}
 use Rattle.script_text.proofs.words.shape.two_sources.Goals as goal
 
-pub returns-in_err-first : goal.returns-in_err-first
-unfolding two_sources
-returns-in_err-first c =
+pub returns : goal.returns
+returns c =
     let none : Bor (List ℕ) = record { ref_ptr = (0, 0); now = [] } in
     let words = pair_of c.args.words.now none c.in-len2.len_at_least c.in-len2.len_below in
-    rw words (search (rules, fails_first))
+    rw words (search rules)
