@@ -52,10 +52,10 @@
 //! of these or a target.
 //!
 //! A further statement is a variant of `step_core::Call` with its names in `names_of`, a row in
-//! `keyword.rt`, an arm in `statement.rt` and one in `line.rt`, the same three in `specs/Keywords`,
-//! `specs/Calls` and `specs/Canonical`, and a line in `proofs/Rewrites`. A new shape of words is a
-//! function in `shape.rt` (`alias.rt` has the widest), a definition in `specs/Shapes` and a lemma in
-//! `proofs/Reversible`.
+//! `keyword.rt`, an arm in `statement.rt`, one in `calls.rt` by its shape and one in `line.rt`, the same
+//! in `specs/Keywords`, `specs/Calls` and `specs/Canonical`, and a line in `proofs/Rewrites`. A new shape
+//! of words is a function in `shape.rt` (`alias.rt` has the widest) and one in `calls.rt`, a definition in
+//! `specs/Shapes` and a lemma in `proofs/Reversible`.
 #![tactic(auto)]
 
 mod converting;
