@@ -129,64 +129,52 @@ fn refused_lines_are_not_begun(rt: HostRuntime) -> Result<(), Fail> {
 const SCRIPT: &[u8] = b"make a 3 0 0 0\nstore s0 a\nreset a\nthread\nload b s0\ncount b\n";
 
 /// The script, which is read again where it is refused.
-fn read<R: Abort>(rt: &R, alloc: Global) -> Result<Script, Fail> {
+fn read(alloc: Global) -> Result<Script, Fault> {
     match parse(alloc, SCRIPT) {
-        Ok(script) => Ok(script),
-        Err(fault) => {
-            same(rt, fault, Fault::Memory);
-            Ok(parse(alloc, SCRIPT)?)
-        }
+        Err(Fault::Memory) => parse(alloc, SCRIPT),
+        told => told,
     }
 }
 
 /// Its text, in the same way.
-fn text_of<R: Abort>(rt: &R, alloc: Global, script: &Script) -> Result<String, Fail> {
+fn text_of(alloc: Global, script: &Script) -> Result<String, Refusal> {
     match print(alloc, script) {
-        Ok(text) => Ok(text),
-        Err(why) => {
-            same(rt, why, Refusal::Memory);
-            Ok(print(alloc, script)?)
-        }
+        Err(Refusal::Memory) => print(alloc, script),
+        told => told,
     }
 }
 
 /// What it is converted to.
-fn converted<R: Abort>(rt: &R, alloc: Global, script: &Script) -> Result<Script, Fail> {
+fn converted(alloc: Global, script: &Script) -> Result<Script, Refusal> {
     match convert(alloc, script) {
-        Ok(converted) => Ok(converted),
-        Err(why) => {
-            same(rt, why, Refusal::Memory);
-            Ok(convert(alloc, script)?)
-        }
+        Err(Refusal::Memory) => convert(alloc, script),
+        told => told,
     }
 }
 
-/// Its program.
-fn program_of<R: Abort>(rt: &R, alloc: Global, script: &Script) -> Result<Program, Fail> {
+/// How many actors its program has.
+fn actors_of(alloc: Global, script: &Script) -> Result<usize, Refusal> {
     match script.program(alloc) {
-        Ok(program) => Ok(program),
-        Err(why) => {
-            same(rt, why, Refusal::Memory);
-            Ok(script.program(alloc)?)
-        }
+        Err(Refusal::Memory) => Ok(script.program(alloc)?.actors.len()),
+        told => Ok(told?.actors.len()),
     }
+}
+
+/// How many blocks and statements it has when it is converted, and how many actors.
+fn numbers(alloc: Global, script: &Script) -> Result<(u32, u32, usize), Refusal> {
+    let converted = converted(alloc, script)?;
+    let actors = actors_of(alloc, script)?;
+    Ok((converted.blocks(), converted.statements(), actors))
 }
 
 /// A script that is refused leaves nothing, and its text, its conversion and its program leave it as it is: the next
 /// one has all.
 #[test]
 fn a_refused_script_is_read_again(rt: HostRuntime) -> Result<(), Fail> {
-    let script = read(&rt, rt.alloc())?;
-    let text = text_of(&rt, rt.alloc(), &script)?;
-    let converted = converted(&rt, rt.alloc(), &script)?;
-    let program = program_of(&rt, rt.alloc(), &script)?;
+    let script = read(rt.alloc())?;
+    let text = text_of(rt.alloc(), &script)?;
     same(&rt, text.as_bytes(), SCRIPT);
-    same(
-        &rt,
-        (converted.blocks(), converted.statements()),
-        (4_095, 5),
-    );
-    same(&rt, program.actors.len(), 2);
+    same(&rt, numbers(rt.alloc(), &script)?, (4_095, 5, 2));
     Ok(())
 }
 

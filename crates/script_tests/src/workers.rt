@@ -8,6 +8,7 @@ use script_runner::{Gate, Report, desk_calls, run_script, table_calls, team_laws
 use script_text::{Script, parse};
 use std::alloc::Global;
 use std::hint::spin_loop;
+use std::process::Abort;
 use std::sync::Wait;
 use std::sync::atomic::{AtomicU32, Ordering};
 use std::test::Fail;
@@ -74,8 +75,8 @@ fn met<R: Threads + Wait + Sync>(rt: &R, alloc: Global, late: usize) -> Option<u
 
 #[test]
 fn threads_run_side_by_side(rt: HostRuntime) {
-    assert!(rt; met(&rt, rt.alloc(), 1) == Some(2));
-    assert!(rt; met(&rt, rt.alloc(), 2) == Some(2));
+    let met = [met(&rt, rt.alloc(), 1), met(&rt, rt.alloc(), 2)];
+    same(&rt, met, [Some(2), Some(2)]);
 }
 
 /// Counts the statements that have begun, and those that have run.
@@ -95,33 +96,41 @@ impl Gate for Counting {
     }
 }
 
+/// What was made and ended, and how many blocks are vacant then. A run that is refused is made again.
+fn run_again<R: Abort + Threads + Wait + Sync>(
+    rt: &R,
+    alloc: Global,
+    script: &Script,
+) -> Result<(Totals, u32), Refusal> {
+    let gate = Counting {
+        begun: AtomicU32::new(0),
+        run: AtomicU32::new(0),
+    };
+    let ran = match run_and_close(rt, alloc, script, &gate) {
+        Err(Refusal::Memory) => {
+            let begun = gate.begun.load(Ordering::SeqCst);
+            same(rt, begun, gate.run.load(Ordering::SeqCst));
+            run_and_close(rt, alloc, script, &gate)
+        }
+        ran => ran,
+    };
+    match ran {
+        Ok((report, vacant)) => Ok((report.totals, vacant)),
+        Err(why) => Err(why),
+    }
+}
+
 // `tests/refuse_allocations` refuses each allocation in turn. A run that wants it is refused `Memory` once all that
 // began has run, and the same script runs later.
 #[test]
 fn a_refused_run_leaves_nothing(rt: HostRuntime) -> Result<(), Fail> {
     let text = b"make a 1\ncopy b a\nthread\nmake c 2\nreset c\n";
     let script = match parse(rt.alloc(), text) {
-        Ok(script) => script,
         Err(_) => parse(rt.alloc(), text)?,
+        Ok(script) => script,
     };
-    let gate = Counting {
-        begun: AtomicU32::new(0),
-        run: AtomicU32::new(0),
-    };
-    let (report, vacant) = match run_and_close(&rt, rt.alloc(), &script, &gate) {
-        Ok(ran) => ran,
-        Err(why) => {
-            same(&rt, why, Refusal::Memory);
-            same(
-                &rt,
-                gate.begun.load(Ordering::SeqCst),
-                gate.run.load(Ordering::SeqCst),
-            );
-            run_and_close(&rt, rt.alloc(), &script, &gate)?
-        }
-    };
-    same(&rt, report.totals, Totals { made: 2, ended: 2 });
-    same(&rt, vacant, 4094);
+    let told = run_again(&rt, rt.alloc(), &script)?;
+    same(&rt, told, (Totals { made: 2, ended: 2 }, 4094));
     Ok(())
 }
 

@@ -1,7 +1,9 @@
 //! Which blocks are kept, and which keep each other, by who holds what.
+use crate::same::same;
 use control_word::Block;
 use owner_graph::{Holding, kept, knot};
 use std::alloc::Global;
+use std::process::Abort;
 use step_core::Cell;
 
 /// A handle on a block, in a member of another block's object.
@@ -40,10 +42,11 @@ fn knot_of(alloc: Global, blocks: u16, block: u16) -> Option<Vec<bool>> {
     knot(alloc, 128, blocks, &held(), block).ok()
 }
 
-fn are(marks: Option<Vec<bool>>, wanted: [bool; 6]) -> bool {
+/// There are just these marks.
+fn are(rt: &impl Abort, marks: Option<Vec<bool>>, wanted: [bool; 6]) {
     match marks {
-        Some(marks) => marks.as_slice() == wanted.as_slice(),
-        None => false,
+        Some(marks) => same(rt, marks.as_slice(), wanted.as_slice()),
+        None => same(rt, None, Some(wanted)),
     }
 }
 
@@ -52,16 +55,16 @@ fn are(marks: Option<Vec<bool>>, wanted: [bool; 6]) -> bool {
 #[test]
 fn a_circle_is_leaked_with_what_it_owns(rt: HostRuntime) {
     let kept = kept_of(rt.alloc(), 5);
-    assert!(rt; are(kept, [true, false, false, false, true, false]));
+    are(&rt, kept, [true, false, false, false, true, false]);
     let circle = knot_of(rt.alloc(), 5, 1);
-    assert!(rt; are(circle, [false, true, true, false, false, false]));
+    are(&rt, circle, [false, true, true, false, false, false]);
     let alone = knot_of(rt.alloc(), 5, 3);
-    assert!(rt; are(alone, [false, false, false, true, false, false]));
+    are(&rt, alone, [false, false, false, true, false, false]);
 }
 
 /// Owners are on blocks that are not among so many.
 #[test]
 fn blocks_outside_are_refused(rt: HostRuntime) {
-    assert!(rt; kept_of(rt.alloc(), 2).is_none());
-    assert!(rt; knot_of(rt.alloc(), 2, 1).is_none());
+    same(&rt, kept_of(rt.alloc(), 2), None);
+    same(&rt, knot_of(rt.alloc(), 2, 1), None);
 }

@@ -1,7 +1,8 @@
 //! How worlds begin, and what they refuse.
 use crate::same::same;
-use control_word::{Refusal, Shape};
+use control_word::{Refusal, Refused, Shape};
 use std::alloc::{AllocError, Global};
+use std::process::Abort;
 use std::test::Fail;
 use step_core::{Actor, Call, Kind, Name, Program, World};
 
@@ -42,76 +43,92 @@ fn refusal(alloc: Global, shape: Shape, program: Program) -> Option<(Refusal, us
     }
 }
 
-#[test]
-fn programs_have_limits(rt: HostRuntime) -> Result<(), Fail> {
-    let alloc = rt.alloc();
-    let copy = Call::Copy {
-        target: Name(31),
-        source: Name(0),
+/// The same of a program that is taken, or is refused for its own or the world's shape.
+fn is_taken(alloc: Global, shape: Shape, program: Result<Program, AllocError>) -> Option<bool> {
+    let Ok(program) = program else {
+        return None;
     };
-    let beyond = Call::Reset { name: Name(1) };
-    for (actors, names, calls, call, taken) in [
-        (64, 1, 1, COUNT, true),
-        (65, 1, 1, COUNT, false),
-        (0, 1, 1, COUNT, false),
-        (1, 32, 1, copy, true),
-        (1, 31, 1, copy, false),
-        (1, 33, 1, copy, false),
-        (1, 1, 65_536, COUNT, true),
-        (1, 1, 65_537, COUNT, false),
-        (2, 1, 32_768, COUNT, true),
-        (2, 1, 32_769, COUNT, false),
-        (1, 2, 1, beyond, true),
-        (1, 1, 1, beyond, false),
-        (1, 0, 0, COUNT, true),
-    ] {
-        let program = program(alloc, actors, names, calls, call)?;
-        let wanted = if taken {
-            None
-        } else {
-            Some((Refusal::Shape, actors))
-        };
-        assert_eq!(rt;
-            refusal(alloc, shape(65, 4_194_304), program),
-            wanted,
-            "{actors} {names} {calls}"
-        );
+    let actors = program.actors.len();
+    match refusal(alloc, shape, program) {
+        None => Some(true),
+        Some((Refusal::Shape, back)) if back == actors => Some(false),
+        Some(_) => None,
     }
-    Ok(())
 }
 
+const COPY: Call = Call::Copy {
+    target: Name(31),
+    source: Name(0),
+};
+
+const BEYOND: Call = Call::Reset { name: Name(1) };
+
+/// Actors, names and calls of a program, and whether a world of it is taken.
+const PROGRAMS: [(usize, usize, usize, Call, bool); 13] = [
+    (64, 1, 1, COUNT, true),
+    (65, 1, 1, COUNT, false),
+    (0, 1, 1, COUNT, false),
+    (1, 32, 1, COPY, true),
+    (1, 31, 1, COPY, false),
+    (1, 33, 1, COPY, false),
+    (1, 1, 65_536, COUNT, true),
+    (1, 1, 65_537, COUNT, false),
+    (2, 1, 32_768, COUNT, true),
+    (2, 1, 32_769, COUNT, false),
+    (1, 2, 1, BEYOND, true),
+    (1, 1, 1, BEYOND, false),
+    (1, 0, 0, COUNT, true),
+];
+
 #[test]
-fn shapes_have_limits(rt: HostRuntime) -> Result<(), Fail> {
+fn programs_have_limits(rt: HostRuntime) {
     let alloc = rt.alloc();
-    for (blocks, cells, allowance, taken) in [
-        (1, 0, 120, true),
-        (1, 0, 119, false),
-        (0, 0, 120, false),
-        (65_535, 0, 120, true),
-        (65_536, 0, 120, false),
-        (5, 128, 4_194_304, true),
-        (5, 129, 4_194_304, false),
-        (5, 128, 4_194_305, false),
-    ] {
-        let program = program(alloc, 3, 1, 1, COUNT)?;
+    for (actors, names, calls, call, taken) in PROGRAMS {
+        let program = program(alloc, actors, names, calls, call);
+        let told = is_taken(alloc, shape(65, 4_194_304), program);
+        same(
+            &rt,
+            (actors, names, calls, told),
+            (actors, names, calls, Some(taken)),
+        );
+    }
+}
+
+/// Blocks, weak cells and allowance of a world, and whether it is taken.
+const SHAPES: [(u32, u32, u32, bool); 8] = [
+    (1, 0, 120, true),
+    (1, 0, 119, false),
+    (0, 0, 120, false),
+    (65_535, 0, 120, true),
+    (65_536, 0, 120, false),
+    (5, 128, 4_194_304, true),
+    (5, 129, 4_194_304, false),
+    (5, 128, 4_194_305, false),
+];
+
+#[test]
+fn shapes_have_limits(rt: HostRuntime) {
+    let alloc = rt.alloc();
+    for (blocks, weak_cells, allowance, taken) in SHAPES {
         let shape = Shape {
             blocks,
             shared_cells: 128,
-            weak_cells: cells,
+            weak_cells,
             allowance,
         };
-        let wanted = if taken {
-            None
-        } else {
-            Some((Refusal::Shape, 3))
-        };
-        assert_eq!(rt;
-            refusal(alloc, shape, program),
-            wanted,
-            "{blocks} {cells} {allowance}"
-        );
+        let told = is_taken(alloc, shape, program(alloc, 3, 1, 1, COUNT));
+        same(&rt, (shape, told), (shape, Some(taken)));
     }
-    Ok(())
+}
+
+/// A world that is refused for want of memory is made of the program that came back.
+fn try_again(rt: &impl Abort, alloc: Global, refused: Refused<Program>) -> Result<(), Refusal> {
+    let Refused { why, back } = refused;
+    same(rt, (why, back.actors.len()), (Refusal::Memory, 2));
+    match refusal(alloc, shape(5, 80), back) {
+        None => Ok(()),
+        Some((why, _)) => Err(why),
+    }
 }
 
 // `rt try --test --fail-alloc N` refuses the Nth allocation. Where that is one of a world's, the program comes back as
@@ -120,15 +137,8 @@ fn shapes_have_limits(rt: HostRuntime) -> Result<(), Fail> {
 fn a_refused_world_gives_its_program_back(rt: HostRuntime) -> Result<(), Fail> {
     let alloc = rt.alloc();
     let program = program(alloc, 2, 3, 4, COUNT)?;
-    if let Err(refused) = World::new(alloc, shape(5, 80), program) {
-        same(
-            &rt,
-            (refused.why, refused.back.actors.len()),
-            (Refusal::Memory, 2),
-        );
-        if let Some((why, _)) = refusal(alloc, shape(5, 80), refused.back) {
-            return Err(why.into());
-        }
+    match World::new(alloc, shape(5, 80), program) {
+        Ok(_) => Ok(()),
+        Err(refused) => Ok(try_again(&rt, alloc, refused)?),
     }
-    Ok(())
 }

@@ -39,20 +39,26 @@ fn takes(alloc: Global) -> Result<Vec<Call>, AllocError> {
     Ok(vec![in alloc; a, b, c, unshelve(1), unshelve(2), unshelve(3), c, d, e]?)
 }
 
-fn silent(statement: u32) -> Turned {
+/// An act that tells nothing, or is refused.
+fn acted(statement: u32, is_full: bool) -> Turned {
+    let answer = if is_full {
+        Some(Answer::Refused(Refusal::Full))
+    } else {
+        None
+    };
     Turned::Acted(Said {
         statement,
-        answer: None,
+        answer,
         ended: None,
     })
 }
 
-fn full(statement: u32) -> Turned {
-    Turned::Acted(Said {
-        statement,
-        answer: Some(Answer::Refused(Refusal::Full)),
-        ended: None,
-    })
+/// An actor with five owners.
+fn actor(alloc: Global, calls: Vec<Call>) -> Result<Actor, AllocError> {
+    match vec![in alloc; Kind::Owner; 5] {
+        Ok(kinds) => Ok(Actor { kinds, calls }),
+        Err(why) => Err(why),
+    }
 }
 
 /// A world with two actors and four blocks.
@@ -64,14 +70,8 @@ struct Pair {
 
 impl Pair {
     fn new(alloc: Global) -> Result<Self, Fail> {
-        let first = Actor {
-            kinds: vec![in alloc; Kind::Owner; 5]?,
-            calls: gives(alloc)?,
-        };
-        let second = Actor {
-            kinds: vec![in alloc; Kind::Owner; 5]?,
-            calls: takes(alloc)?,
-        };
+        let first = actor(alloc, gives(alloc)?)?;
+        let second = actor(alloc, takes(alloc)?)?;
         let actors = vec![in alloc; first, second]?;
         let shape = Shape {
             blocks: 4,
@@ -85,12 +85,12 @@ impl Pair {
         }
     }
 
-    fn first(&mut self) -> Turned {
-        self.world.turn(1)
-    }
-
-    fn second(&mut self) -> Turned {
-        self.world.turn(2)
+    fn turn(&mut self, is_first: bool) -> Turned {
+        if is_first {
+            self.world.turn(1)
+        } else {
+            self.world.turn(2)
+        }
     }
 
     fn run(&mut self, alloc: Global, turns: &[u8]) -> Result<(), RunRefusal> {
@@ -106,32 +106,30 @@ impl Pair {
     }
 }
 
+/// Whether a turn is the first actor's, its statement, and whether that finds no block.
+const TURNS: [(bool, u32, bool); 15] = [
+    (true, 1, false),
+    (true, 1, false),
+    (true, 1, false),
+    (true, 2, true),
+    (false, 1, false),
+    (false, 2, false),
+    (false, 3, true),
+    (false, 4, false),
+    (false, 5, false),
+    (false, 6, false),
+    (true, 3, false),
+    (true, 4, true),
+    (false, 7, false),
+    (false, 8, false),
+    (false, 9, true),
+];
+
 #[test]
 fn blocks_change_actors_turn_by_turn(rt: HostRuntime) -> Result<(), Fail> {
     let mut pair = Pair::new(rt.alloc())?;
-    for (is_first, wanted) in [
-        (true, silent(1)),
-        (true, silent(1)),
-        (true, silent(1)),
-        (true, full(2)),
-        (false, silent(1)),
-        (false, silent(2)),
-        (false, full(3)),
-        (false, silent(4)),
-        (false, silent(5)),
-        (false, silent(6)),
-        (true, silent(3)),
-        (true, full(4)),
-        (false, silent(7)),
-        (false, silent(8)),
-        (false, full(9)),
-    ] {
-        let turned = if is_first {
-            pair.first()
-        } else {
-            pair.second()
-        };
-        same(&rt, turned, wanted);
+    for (is_first, statement, is_full) in TURNS {
+        same(&rt, pair.turn(is_first), acted(statement, is_full));
     }
     same(&rt, pair.totals(), (4, 0));
     Ok(())

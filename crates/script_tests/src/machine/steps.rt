@@ -41,14 +41,20 @@ const COUNTS: Said = Said {
 #[test]
 fn a_turn_ends_what_steps_began(rt: HostRuntime) -> Result<(), Fail> {
     let mut world = TestWorld::new(rt.alloc(), 2, CALLS.as_slice())?;
-    for _ in 0..3 {
-        same(&rt, world.step(), Stepped::Quiet(MAKES));
-    }
-    same(&rt, world.turn(), Turned::Acted(MAKES));
-    same(&rt, world.step(), Stepped::Event(ENDS));
-    same(&rt, world.turn(), Turned::Acted(COUNTS));
-    same(&rt, world.turn(), Turned::Done);
-    same(&rt, world.step(), Stepped::Done);
+    let first = [world.step(), world.step(), world.step()];
+    let mixed = (world.turn(), world.step(), world.turn());
+    let last = (world.turn(), world.step());
+    let makes = [Stepped::Quiet(MAKES); 3];
+    let goes_on = (
+        Turned::Acted(MAKES),
+        Stepped::Event(ENDS),
+        Turned::Acted(COUNTS),
+    );
+    same(
+        &rt,
+        (first, mixed, last),
+        (makes, goes_on, (Turned::Done, Stepped::Done)),
+    );
     Ok(())
 }
 
@@ -63,10 +69,13 @@ fn a_shelved_block_is_taken_once(rt: HostRuntime) -> Result<(), Fail> {
     let mut table = Table::new(rt.alloc(), &Extent { shape, actors: 2 })?;
     table.shelve(0, Block(1));
     table.shelve(1, Block(3));
-    assert!(rt; !table.unshelve(0, Block(2)));
-    assert!(rt; table.unshelve(1, Block(1)));
-    assert!(rt; !table.unshelve(0, Block(1)));
-    assert!(rt; table.unshelve(0, Block(3)));
-    assert!(rt; !table.unshelve(1, Block(3)));
+    let taken = [
+        table.unshelve(0, Block(2)),
+        table.unshelve(1, Block(1)),
+        table.unshelve(0, Block(1)),
+        table.unshelve(0, Block(3)),
+        table.unshelve(1, Block(3)),
+    ];
+    same(&rt, taken, [false, true, false, true, false]);
     Ok(())
 }

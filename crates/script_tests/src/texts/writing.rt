@@ -24,19 +24,19 @@ impl io::Write for Flushing {
     }
 }
 
-#[test]
-fn a_flush_reaches_the_writer(rt: HostRuntime) {
+/// What a flush answers, whether it failed for good, and whether the writer was flushed.
+fn flush(broken: bool) -> (Result<(), WriteFailed>, bool, bool) {
     let mut sink = Output::new(Flushing {
         flushed: false,
-        broken: false,
+        broken,
     });
-    same(&rt, sink.flush(), Ok(()));
-    assert!(rt; !sink.failed());
-    assert!(rt; sink.into_inner().flushed);
-    let mut broken = Output::new(Flushing {
-        flushed: false,
-        broken: true,
-    });
-    same(&rt, broken.flush(), Err(WriteFailed));
-    assert!(rt; broken.failed());
+    let told = sink.flush();
+    let failed = sink.failed();
+    (told, failed, sink.into_inner().flushed)
+}
+
+#[test]
+fn a_flush_reaches_the_writer(rt: HostRuntime) {
+    let wanted = [(Ok(()), false, true), (Err(WriteFailed), true, false)];
+    same(&rt, [flush(false), flush(true)], wanted);
 }
