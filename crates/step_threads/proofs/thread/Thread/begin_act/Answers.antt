@@ -9,9 +9,6 @@ begin-requires-clause-rest c = c.requires.rest
 pub begin-requires-clause-none : goal.begin-requires-clause-none
 begin-requires-clause-none c = c.requires.none
 
-pub begin-requires-clause-within : goal.begin-requires-clause-within
-begin-requires-clause-within c = c.requires.within
-
 pub returns-in-Make-clause-stepped : goal.returns-in-Make-clause-stepped
 returns-in-Make-clause-stepped c = c.begin.ensures.stepped
 
@@ -26,9 +23,6 @@ share-requires-clause-rest c = c.requires.rest
 
 pub share-requires-clause-none : goal.share-requires-clause-none
 share-requires-clause-none c = c.requires.none
-
-pub share-requires-clause-within : goal.share-requires-clause-within
-share-requires-clause-within c = c.requires.within
 
 pub returns-in-Share-clause-stepped : goal.returns-in-Share-clause-stepped
 returns-in-Share-clause-stepped c = c.share.ensures.stepped
@@ -45,9 +39,6 @@ put-requires-clause-rest c = c.requires.rest
 pub put-requires-clause-none : goal.put-requires-clause-none
 put-requires-clause-none c = c.requires.none
 
-pub put-requires-clause-within : goal.put-requires-clause-within
-put-requires-clause-within c = c.requires.within
-
 pub returns-in-Put-clause-stepped : goal.returns-in-Put-clause-stepped
 returns-in-Put-clause-stepped c = c.put.ensures.stepped
 
@@ -62,9 +53,6 @@ count-requires-clause-rest c = c.requires.rest
 
 pub count-requires-clause-none : goal.count-requires-clause-none
 count-requires-clause-none c = c.requires.none
-
-pub count-requires-clause-within : goal.count-requires-clause-within
-count-requires-clause-within c = c.requires.within
 
 pub returns-in-Count-clause-stepped : goal.returns-in-Count-clause-stepped
 returns-in-Count-clause-stepped c = c.count.ensures.stepped
@@ -81,9 +69,6 @@ downgrade-requires-clause-rest c = c.requires.rest
 pub downgrade-requires-clause-none : goal.downgrade-requires-clause-none
 downgrade-requires-clause-none c = c.requires.none
 
-pub downgrade-requires-clause-within : goal.downgrade-requires-clause-within
-downgrade-requires-clause-within c = c.requires.within
-
 pub returns-in-Downgrade-clause-stepped : goal.returns-in-Downgrade-clause-stepped
 returns-in-Downgrade-clause-stepped c = c.downgrade.ensures.stepped
 
@@ -98,9 +83,6 @@ lock-requires-clause-rest c = c.requires.rest
 
 pub lock-requires-clause-none : goal.lock-requires-clause-none
 lock-requires-clause-none c = c.requires.none
-
-pub lock-requires-clause-within : goal.lock-requires-clause-within
-lock-requires-clause-within c = c.requires.within
 
 pub returns-in-Lock-clause-stepped : goal.returns-in-Lock-clause-stepped
 returns-in-Lock-clause-stepped c = c.lock.ensures.stepped
@@ -117,9 +99,6 @@ expired-requires-clause-rest c = c.requires.rest
 pub expired-requires-clause-none : goal.expired-requires-clause-none
 expired-requires-clause-none c = c.requires.none
 
-pub expired-requires-clause-within : goal.expired-requires-clause-within
-expired-requires-clause-within c = c.requires.within
-
 pub returns-in-Expired-clause-stepped : goal.returns-in-Expired-clause-stepped
 returns-in-Expired-clause-stepped c = c.expired.ensures.stepped
 
@@ -134,9 +113,6 @@ read-requires-clause-rest c = c.requires.rest
 
 pub read-requires-clause-none : goal.read-requires-clause-none
 read-requires-clause-none c = c.requires.none
-
-pub read-requires-clause-within : goal.read-requires-clause-within
-read-requires-clause-within c = c.requires.within
 
 pub returns-in-Read-clause-stepped : goal.returns-in-Read-clause-stepped
 returns-in-Read-clause-stepped c = c.read.ensures.stepped
@@ -153,9 +129,6 @@ from_this-requires-clause-rest c = c.requires.rest
 pub from_this-requires-clause-none : goal.from_this-requires-clause-none
 from_this-requires-clause-none c = c.requires.none
 
-pub from_this-requires-clause-within : goal.from_this-requires-clause-within
-from_this-requires-clause-within c = c.requires.within
-
 pub returns-in-FromThis-clause-stepped : goal.returns-in-FromThis-clause-stepped
 returns-in-FromThis-clause-stepped c = c.from_this.ensures.stepped
 
@@ -170,9 +143,6 @@ alias-requires-clause-rest c = c.requires.rest
 
 pub alias-requires-clause-none : goal.alias-requires-clause-none
 alias-requires-clause-none c = c.requires.none
-
-pub alias-requires-clause-within : goal.alias-requires-clause-within
-alias-requires-clause-within c = c.requires.within
 
 pub returns-in-Alias-clause-stepped : goal.returns-in-Alias-clause-stepped
 returns-in-Alias-clause-stepped c = c.alias.ensures.stepped
@@ -189,9 +159,6 @@ pull-requires-clause-rest c = c.requires.rest
 pub pull-requires-clause-none : goal.pull-requires-clause-none
 pull-requires-clause-none c = c.requires.none
 
-pub pull-requires-clause-within : goal.pull-requires-clause-within
-pull-requires-clause-within c = c.requires.within
-
 pub returns-in-Move-clause-stepped : goal.returns-in-Move-clause-stepped
 returns-in-Move-clause-stepped c = c.pull.ensures.stepped
 
@@ -206,9 +173,6 @@ reply-requires-clause-rest c = c.requires.rest
 
 pub reply-requires-clause-none : goal.reply-requires-clause-none
 reply-requires-clause-none c = c.requires.none
-
-pub reply-requires-clause-within : goal.reply-requires-clause-within
-reply-requires-clause-within c = c.requires.within
 
 pub returns-in-Ask-clause-stepped : goal.returns-in-Ask-clause-stepped
 returns-in-Ask-clause-stepped c = c.reply.ensures.stepped
@@ -225,9 +189,6 @@ offer-requires-clause-rest c = c.requires.rest
 pub offer-requires-clause-none : goal.offer-requires-clause-none
 offer-requires-clause-none c = c.requires.none
 
-pub offer-requires-clause-within : goal.offer-requires-clause-within
-offer-requires-clause-within c = c.requires.within
-
 pub returns-in-Offer-clause-stepped : goal.returns-in-Offer-clause-stepped
 returns-in-Offer-clause-stepped c = c.offer.ensures.stepped
 
@@ -242,9 +203,6 @@ store-requires-clause-rest c = c.requires.rest
 
 pub store-requires-clause-none : goal.store-requires-clause-none
 store-requires-clause-none c = c.requires.none
-
-pub store-requires-clause-within : goal.store-requires-clause-within
-store-requires-clause-within c = c.requires.within
 
 pub returns-in-Swap-clause-stepped : goal.returns-in-Swap-clause-stepped
 returns-in-Swap-clause-stepped c = c.store.ensures.stepped
@@ -261,9 +219,6 @@ send-requires-clause-rest c = c.requires.rest
 pub send-requires-clause-none : goal.send-requires-clause-none
 send-requires-clause-none c = c.requires.none
 
-pub send-requires-clause-within : goal.send-requires-clause-within
-send-requires-clause-within c = c.requires.within
-
 pub returns-in-Exchange-clause-stepped : goal.returns-in-Exchange-clause-stepped
 returns-in-Exchange-clause-stepped c = c.send.ensures.stepped
 
@@ -278,9 +233,6 @@ load-requires-clause-rest c = c.requires.rest
 
 pub load-requires-clause-none : goal.load-requires-clause-none
 load-requires-clause-none c = c.requires.none
-
-pub load-requires-clause-within : goal.load-requires-clause-within
-load-requires-clause-within c = c.requires.within
 
 pub returns-in-Load-clause-stepped : goal.returns-in-Load-clause-stepped
 returns-in-Load-clause-stepped c = c.load.ensures.stepped
@@ -297,9 +249,6 @@ compare-requires-clause-rest c = c.requires.rest
 pub compare-requires-clause-none : goal.compare-requires-clause-none
 compare-requires-clause-none c = c.requires.none
 
-pub compare-requires-clause-within : goal.compare-requires-clause-within
-compare-requires-clause-within c = c.requires.within
-
 pub returns-in-Compare-clause-stepped : goal.returns-in-Compare-clause-stepped
 returns-in-Compare-clause-stepped c = c.compare.ensures.stepped
 
@@ -314,9 +263,6 @@ drop_other-requires-clause-rest c = c.requires.rest
 
 pub drop_other-requires-clause-none : goal.drop_other-requires-clause-none
 drop_other-requires-clause-none c = c.requires.none
-
-pub drop_other-requires-clause-within : goal.drop_other-requires-clause-within
-drop_other-requires-clause-within c = c.requires.within
 
 pub returns-in-Drop-clause-stepped : goal.returns-in-Drop-clause-stepped
 returns-in-Drop-clause-stepped c = c.drop_other.ensures.stepped
@@ -335,9 +281,6 @@ on_shelf-requires-clause-rest c = c.requires.rest
 
 pub on_shelf-requires-clause-none : goal.on_shelf-requires-clause-none
 on_shelf-requires-clause-none c = c.requires.none
-
-pub on_shelf-requires-clause-within : goal.on_shelf-requires-clause-within
-on_shelf-requires-clause-within c = c.requires.within
 
 pub returns-in-OnShelf-clause-stepped : goal.returns-in-OnShelf-clause-stepped
 returns-in-OnShelf-clause-stepped c = c.on_shelf.ensures.stepped
