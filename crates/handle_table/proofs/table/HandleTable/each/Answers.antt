@@ -1,8 +1,10 @@
-use Rattle.std.proofs.Common.{refl}
+use Rattle.std.proofs.Common.{refl, subst}
 use Rattle.control_word.specs.declared.model.event.Cell.TheVariants.{Free}
 use Rattle.control_block.specs.Own.{IsSole}
 use Rattle.scene_structures.specs.Walks.{IsToldList, WalksOver}
-use Rattle.handle_table.proofs.Structured.{desk_does, whole_still}
+use Rattle.control_block.specs.Desks.{DomainNow}
+use Rattle.scene_structures.specs.Stacks.{StandsIn}
+use Rattle.handle_table.proofs.Structured.{desk_does, stands_here, whole_still}
 use Rattle.handle_table.proofs.Wholes.{seen}
 use Rattle.handle_table.proofs.table.HandleTable.each.Goals as goal
 
@@ -21,3 +23,10 @@ returns-in-Ok-clause-told g c =
           c.observers.inside.observers c.args.observers.now (λ near. absurd (cc (e.limit.1 near))) (w.1, w.3) refl refl c.self.view_is c.observers.view_is,
       w.2,
     )
+
+pub each-requires-clause-stands : goal.each-requires-clause-stands
+each-requires-clause-stands g c κs within =
+    stands_here _ c.self.inside.domain.now c.observers.inside.observers c.self.invariant.home c.observers.invariant
+
+pub invariant_of-observers : goal.invariant_of-observers
+invariant_of-observers g c = subst (λ (z : DomainNow). StandsIn c.each.new.self z) c.self.invariant.home c.each.ensures.stands.1

@@ -1,7 +1,9 @@
-use Rattle.std.proofs.Common.{◌≡◌, ◌%◌, ◌^◌, ℕ, List, None, refl}
+use Rattle.std.proofs.Common.{◌≡◌, ◌%◌, ◌^◌, ℕ, List, None, refl, subst}
 use Rattle.control_word.specs.declared.model.event.Cell.TheVariants.{Free}
 use Rattle.scene_structures.specs.Prunes.{IsPruned, Prunes}
-use Rattle.handle_table.proofs.Structured.{desk_does, whole_still}
+use Rattle.control_block.specs.Desks.{DomainNow}
+use Rattle.scene_structures.specs.Stacks.{StandsIn}
+use Rattle.handle_table.proofs.Structured.{desk_does, stands_here, whole_still}
 use Rattle.handle_table.proofs.Wholes.{seen}
 use Rattle.handle_table.proofs.table.HandleTable.prune.Goals as goal
 
@@ -18,3 +20,10 @@ returns-in-Ok-clause-pruned g c =
     × IsPruned d (Free k) count f)
     (seen c.self.inside.desk ss c.self.inside.pile) c.args.self.now (seen c.prune.new.desk ss c.self.inside.pile)
     c.observers.inside.observers c.args.observers.now (λ near. absurd (cc (e.limit.1 near))) e.own refl refl c.self.view_is c.observers.view_is
+
+pub prune-requires-clause-stands : goal.prune-requires-clause-stands
+prune-requires-clause-stands g c κs within =
+    stands_here _ c.self.inside.domain.now c.observers.inside.observers c.self.invariant.home c.observers.invariant
+
+pub invariant_of-observers : goal.invariant_of-observers
+invariant_of-observers g c = subst (λ (z : DomainNow). StandsIn c.prune.new.self z) c.self.invariant.home c.prune.ensures.stands.1

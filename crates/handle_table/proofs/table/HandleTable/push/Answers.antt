@@ -1,8 +1,10 @@
-use Rattle.std.proofs.Common.{refl}
+use Rattle.std.proofs.Common.{refl, subst}
 use Rattle.control_word.specs.declared.model.event.Cell.TheVariants.{Free}
 use Rattle.control_block.specs.Own.{IsSole}
 use Rattle.scene_structures.specs.Stacks.{IsPushed, Pushes}
-use Rattle.handle_table.proofs.Structured.{desk_does, whole_still}
+use Rattle.control_block.specs.Desks.{DomainNow}
+use Rattle.scene_structures.specs.Stacks.{StandsIn}
+use Rattle.handle_table.proofs.Structured.{desk_does, stands_here, whole_still}
 use Rattle.handle_table.proofs.Wholes.{seen}
 use Rattle.handle_table.proofs.table.HandleTable.push.Goals as goal
 
@@ -18,3 +20,10 @@ returns-in-Ok-clause-pushed g c =
     desk_does (λ n d f. Pushes d (Free n) c.args.fields c.args.value f × (IsSole d → IsPushed d (Free n) f))
     (seen c.self.inside.desk ss c.self.inside.pile) c.args.self.now (seen c.push.new.desk ss c.self.inside.pile)
     c.stack.inside.stack c.args.stack.now e.refusals.0 (e.own, e.list) refl refl c.self.view_is c.stack.view_is
+
+pub push-requires-clause-stands : goal.push-requires-clause-stands
+push-requires-clause-stands g c κs within =
+    stands_here _ c.self.inside.domain.now c.stack.inside.stack c.self.invariant.home c.stack.invariant
+
+pub invariant_of-stack : goal.invariant_of-stack
+invariant_of-stack g c = subst (λ (z : DomainNow). StandsIn c.push.new.self z) c.self.invariant.home c.push.ensures.stands.1

@@ -1,6 +1,8 @@
-use Rattle.std.proofs.Common.{inl, inr, subst}
+use Rattle.std.proofs.Common.{◌∙◌, ap, inl, inr, subst}
+use Rattle.control_block.specs.Desks.{DeskNow}
 use Rattle.handle_table.specs.Pairs.{PointAlike, WhyNoOwners}
 use Rattle.handle_table.specs.Tables.{TableNow}
+use Rattle.handle_table.proofs.Wholes.{same_whole, seen}
 use Rattle.handle_table.proofs.table.HandleTable.same_place.Goals as goal
 
 pub returns-in-Err-clause-refused : goal.returns-in-Err-clause-refused
@@ -21,3 +23,12 @@ returns-clause-told g c =
       at = (c.in-Ok.ensures.found, c.in-Ok-owner_at.ensures.found);
       told = c.same_place.ensures.equal;
     }
+
+pub invariant_of-self : goal.invariant_of-self
+invariant_of-self g c =
+    same_whole _ c.self.inside.domain.now c.self.inside.desk c.same_place.new._desk c.self.inside.slots.items c.self.inside.pile c.self.invariant
+    c.same_place.ensures.same
+
+pub returns-clause-same : goal.returns-clause-same
+returns-clause-same g c =
+    ap (λ (d : DeskNow g.row.V.Denot). seen d c.self.inside.slots.items c.self.inside.pile) c.same_place.ensures.same ∙ c.self.view_is
