@@ -1,5 +1,5 @@
 -- What a handle that comes does to a table.
-use Rattle.std.proofs.Common.{◌≡◌, ℕ, List, ◌∷◌, Option, Some, None, Result, Ok, Err, OnOk, IfErr, IsErr, refl, sym, ap, subst, ◌∙◌}
+use Rattle.std.proofs.Common.{◌≡◌, ℕ, List, Option, Some, None, Result, Ok, Err, OnOk, IfErr, IsErr, refl, sym, ap, subst, ◌∙◌}
 use Rattle.control_word.specs.declared.model.handle.Handle.{Handle}
 use Rattle.control_word.specs.declared.model.handle.Kind.TheVariants as kind
 use Rattle.control_word.specs.declared.place.Block.{Block}
@@ -14,7 +14,7 @@ use Rattle.shared_handle.specs.Calls.{weak_place}
 use Rattle.shared_handle.specs.Piles.{Bears}
 use Rattle.shared_handle.specs.declared.endings.Ending.{Ending}
 use Rattle.shared_handle.specs.declared.pile.Pile.{Pile}
-use Rattle.handle_table.specs.Bringing.{Arrives, Brings, Brought, Coming, FitsInHand, IsAlias, IsLoaded, IsThisOwner, IsThisWeak}
+use Rattle.handle_table.specs.Bringing.{Arrives, Brought, Coming, FitsInHand, IsAlias, IsLoaded, IsThisOwner, IsThisWeak}
 use Rattle.handle_table.specs.Bringing.{IsWeakCopy, OfHandle, OfOwner, beside_pile}
 use Rattle.handle_table.specs.Calls.{Comes, Copies, Downgrades, IsCopy}
 use Rattle.handle_table.specs.Cells.{LoadsIntoSlot, SwapsFromSlot}

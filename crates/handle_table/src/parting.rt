@@ -1,8 +1,7 @@
 //! A second table of the domain, for another thread, and its end.
-ghost use Rattle.std.specs.Prelude.{◌≡◌, ◌≤◌, ◌++◌, [], drop, length, take, vec_capacity, IfErr, IfOk, OnOk};
-ghost use Rattle.control_block.specs.Desks.{Belongs, DeskNow, allowance_of, endings_of, stock_of};
-ghost use Rattle.control_block.specs.Parting.{HoldsAll, IsTooMuch, SplitsOff};
-ghost use Rattle.control_block.specs.SlotLists.{handles_in};
+ghost use Rattle.std.specs.Prelude.{◌≡◌, ◌≤◌, ◌++◌, [], drop, length, take, IfErr, IfOk};
+ghost use Rattle.control_block.specs.Desks.{Belongs, allowance_of, endings_of};
+ghost use Rattle.control_block.specs.Parting.{IsTooMuch, SplitsOff};
 ghost use Rattle.shared_handle.specs.Piles.{Bears};
 ghost use Rattle.handle_table.specs.Parting.{Absorbs, HandsOver, IsNew, LeaveSlots, SplitsTable, WhyNoPart};
 ghost use Rattle.handle_table.specs.Parting.{WhyNotSplit};

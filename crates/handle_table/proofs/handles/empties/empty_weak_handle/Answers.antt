@@ -1,5 +1,4 @@
 use Rattle.std.proofs.Common.{ap, arith, inl, inr, refl}
-use Rattle.control_block.specs.declared.handles.Held.TheVariants.{Weak}
 use Rattle.handle_table.specs.declared.fault.Fault.TheVariants as fault
 use Rattle.handle_table.proofs.Emptied.{bears_counted, fits_empty_weak}
 use Rattle.handle_table.proofs.handles.empties.empty_weak_handle.Goals as goal
