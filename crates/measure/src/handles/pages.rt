@@ -1,5 +1,6 @@
 //! The rows of objects with a value of 4 KiB, by one thread alone.
-ghost use Rattle.measure.specs.Rows.{IsOnlyDeskWith};
+ghost use Rattle.control_block.specs.Desks.{Belongs};
+ghost use Rattle.measure.specs.Rows.{IsOnlyDeskWith, KeepsHandles};
 
 use crate::domains::{close, open, out_of_memory};
 use crate::handles::rounds::{FIELDS, end};
@@ -32,7 +33,7 @@ const CHUNK: u32 = 500;
 const MAKES: Label<'static> = Label {
     name: "make + end, value of 4 KiB",
     peer: RUNTIME,
-    turns: CHUNK,
+    turns: 1,
     rounds: CHUNK,
 };
 
@@ -49,25 +50,34 @@ struct Reader {
     owner: Shared,
 }
 
-/// An object with a page is made and ends.
+/// Objects with a page that are made and end: whether none was refused.
+#[tactic(auto, using(shared_handle::proofs::Callers::first_out))]
+fn make_and_end(domain: &Domain<Page>, desk: &mut Desk<Page>) -> bool
+    requires { Belongs desk.old domain.now }
+    ensures { KeepsHandles desk.old desk.new }
+{
+    for _ in 0..CHUNK {
+        let Ok(owner) = make(domain, desk, FIELDS, false, [1; 512]) else {
+            return false;
+        };
+        end(domain, desk, owner);
+    }
+    true
+}
+
+/// A chunk of them.
 #[derive(Drop)]
-struct MakeAndEnd<'a> {
+struct Making<'a> {
     domain: &'a Domain<Page>,
 }
 
-impl Work<Reader> for MakeAndEnd<'_> {
+impl Work<Reader> for Making<'_> {
     ghost use Rattle.measure.specs.Rows.{IsOnlyDeskWith};
 
     ghost is_ready = { λ work on. IsOnlyDeskWith work.domain.now on.desk on.owner };
 
-    #[inline(always)]
-    #[tactic(auto, using(shared_handle::proofs::Callers::first_out))]
     fn once<R: Wait>(&self, _rt: &R, on: &mut Reader) -> bool {
-        let Ok(owner) = make(self.domain, &mut on.desk, FIELDS, false, [1; 512]) else {
-            return false;
-        };
-        end(self.domain, &mut on.desk, owner);
-        true
+        make_and_end(self.domain, &mut on.desk)
     }
 }
 
@@ -106,7 +116,7 @@ fn rows<R: Clock + CpuClock + Wait + Print>(
     ensures { IsOnlyDeskWith domain.now on.new.desk on.new.owner }
 {
     for _ in 0..passes {
-        tell(rt, &MakeAndEnd { domain }, on, &MAKES, true)?;
+        tell(rt, &Making { domain }, on, &MAKES, true)?;
         tell(rt, &Visit { domain }, on, &VISITS, true)?;
     }
     Ok(())
