@@ -25,11 +25,14 @@ const SHAPE: Shape = Shape {
     allowance: 64,
 };
 
+/// How many rounds come between two looks at the clock.
+const CHUNK: u32 = 2_000;
+
 const LABEL: Label<'static> = Label {
     name: "make + end",
     peer: "this runtime, by a pile",
-    turns: 2_000,
-    rounds: 2_000,
+    turns: 1,
+    rounds: CHUNK,
 };
 
 /// A desk and its pile.
@@ -38,8 +41,7 @@ struct Piled {
     pile: Pile<()>,
 }
 
-/// An object is made, left to the pile, and ended by it: whether it could be made.
-#[inline(always)]
+/// Objects that are made, left to the pile, and ended by it: whether all could be made.
 fn make_and_settle<R: Wait>(
     rt: &R,
     domain: &Domain<()>,
@@ -50,15 +52,17 @@ fn make_and_settle<R: Wait>(
     ensures carries { Carries domain.now desk.new pile.new }
     ensures desk { IsSameDesk desk.old desk.new }
 {
-    let Ok(owner) = make(domain, desk, FIELDS, false, ()) else {
-        return false;
-    };
-    drop_shared(domain, desk, pile, owner);
-    pile.settle(rt, domain, desk);
+    for _ in 0..CHUNK {
+        let Ok(owner) = make(domain, desk, FIELDS, false, ()) else {
+            return false;
+        };
+        drop_shared(domain, desk, pile, owner);
+        pile.settle(rt, domain, desk);
+    }
     true
 }
 
-/// The same, over and over.
+/// A chunk of them.
 #[derive(Drop)]
 struct MakeAndSettle<'a> {
     domain: &'a Domain<()>,
@@ -70,7 +74,6 @@ impl Work<Piled> for MakeAndSettle<'_> {
 
     ghost is_ready = { λ work on. IsOnlyDesk work.domain.now on.desk × Carries work.domain.now on.desk on.pile };
 
-    #[inline(always)]
     fn once<R: Wait>(&self, rt: &R, on: &mut Piled) -> bool {
         make_and_settle(rt, self.domain, &mut on.desk, &mut on.pile)
     }
