@@ -1,7 +1,10 @@
-use Rattle.std.proofs.Common.{◌<◌, arith}
+use Rattle.std.proofs.Common.{ℕ, ◌<◌, arith, refl, subst, sym}
+use Rattle.handle_table.specs.Tables.{TableNow}
 use Rattle.step_threads.specs.Programs.{kind_at}
 use Rattle.script_runner.proofs.CellActs as law
 use Rattle.script_runner.proofs.CellKinds.{kept_aside, kept_kind}
+use Rattle.script_runner.specs.Kinds.{HasKind}
+use Rattle.script_runner.specs.Reached.{SetsAside}
 use Rattle.script_runner.proofs.acts.comparison.compare.Goals as goal
 
 pub set_aside-requires-clause-full : goal.set_aside-requires-clause-full
@@ -52,3 +55,22 @@ returns-in-Err-clause-missing g c =
     law.compare_missed c.args.hand c.args.table.now c.args.cell c.requires.named c.requires.reached c.cell_of.result c.cell_of.ensures c.requires.seated some
     c.requires.kinds.1 c.requires.other c.args.name c.from.result c.from.ensures c.requires.name c.requires.kinds.0 c.args.weak c.in-Err.field-0
     c.compare_either.new.table c.set_aside-in-Err.new.table c.requires.below c.in-Err.ensures.refused c.set_aside-in-Err.ensures.moved
+
+pub set_aside-requires-in-Err-clause-full : goal.set_aside-requires-in-Err-clause-full
+set_aside-requires-in-Err-clause-full g c = (
+  kind_at c.args.cell,
+  subst (λ (t : TableNow ℕ). HasKind t.slots c.args.hand (kind_at c.args.cell)) (sym c.in-Err.ensures.refused.1) c.requires.kinds.1,
+)
+
+pub returns-in-Err-clause-aside : goal.returns-in-Err-clause-aside
+returns-in-Err-clause-aside g c n =
+    subst (λ (t : TableNow ℕ). SetsAside c.args.hand t c.set_aside-in-Err.new.table) c.in-Err.ensures.refused.1 c.set_aside-in-Err.ensures.kinds
+
+pub returns-in-Ok-true-clause-aside : goal.returns-in-Ok-true-clause-aside
+returns-in-Ok-true-clause-aside g c n = absurd (n refl)
+
+pub returns-in-Ok-false-clause-swapped : goal.returns-in-Ok-false-clause-swapped
+returns-in-Ok-false-clause-swapped g c e = cc
+
+pub returns-in-Err-clause-swapped : goal.returns-in-Err-clause-swapped
+returns-in-Err-clause-swapped g c e = cc

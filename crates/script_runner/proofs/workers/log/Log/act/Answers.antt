@@ -23,3 +23,8 @@ returns-clause-limits g c =
     let s = c.args.self.now in
     let stays = stays_dealt c.args.hand c.args.table.now s.taken c.args.task.act c.deal-went.result c.deal-went.new.table c.deal-went.ensures.dealt in
     let l = c.settle.ensures.limits in (l.0 ∙ stays.shape, l.1 ∙ stays.allowance)
+
+pub add_made-requires : goal.add_made-requires
+add_made-requires g c =
+    dealt_refuses c.args.hand c.args.table.now c.deal-went.new.table c.args.self.now.taken c.args.task.act c.deal-went.result
+    c.deal-went.ensures.dealt
