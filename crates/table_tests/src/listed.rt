@@ -1,9 +1,12 @@
 //! Calls as data, each with what it answers: a test is a list of them.
+use crate::listed::looks::look;
 use control_word::Place;
 use handle_table::{Cell, Fault, Gone, HandleTable, Home, Returned, Round};
 use shared_handle::Member;
 use std::process::Abort;
 use std::sync::Wait;
+
+mod looks;
 
 /// A call on a table whose values are numbers, with the numbers of its slots in the order of the call's own.
 #[derive(Clone, Copy, Drop)]
@@ -94,20 +97,6 @@ pub(crate) fn count(told: Result<u32, Fault>) -> Answer {
     }
 }
 
-fn field(told: Result<u64, Fault>) -> Answer {
-    match told {
-        Ok(field) => Answer::Field(field),
-        Err(why) => Answer::Not(why),
-    }
-}
-
-fn place(told: Result<Option<Place>, Fault>) -> Answer {
-    match told {
-        Ok(place) => Answer::At(place),
-        Err(why) => Answer::Not(why),
-    }
-}
-
 fn left(told: Result<Gone, Fault>) -> Answer {
     match told {
         Ok(Gone::Empty) => Answer::WasEmpty,
@@ -147,8 +136,8 @@ pub(crate) fn handed(told: Result<(), Returned<u64>>, value: u64) -> Answer {
     }
 }
 
-/// A call by which a handle comes into a slot.
-fn come<R: Wait, H: Home>(
+/// What the call answers.
+pub(crate) fn answer_of<R: Wait, H: Home>(
     rt: &R,
     table: &mut HandleTable<'_, u64, H>,
     call: Call,
@@ -164,22 +153,84 @@ fn come<R: Wait, H: Home>(
         Call::MakeNullFromStock(to, value) => {
             handed(table.make_null_from_stock(to, value), value)
         }
-        Call::Empty(to) => done(table.empty(to)),
-        Call::EmptyWeak(to) => done(table.empty_weak(to)),
-        Call::Copy(from, to) => done(table.copy(from, to)),
-        Call::MoveTo(from, to) => done(table.move_to(from, to)),
-        Call::Downgrade(from, to) => done(table.downgrade(from, to)),
-        Call::Alias(of, place, to) => done(table.alias(of, place, to)),
-        Call::SharedFromThis(of, to) => done(table.shared_from_this(of, to)),
-        Call::WeakFromThis(of, to) => done(table.weak_from_this(of, to)),
-        Call::Lock(from, to) => is(table.lock(rt, from, to)),
-        Call::Upgrade(from, to) => done(table.upgrade(rt, from, to)),
-        _ => return None,
+        _ => return come(rt, table, call),
     })
 }
 
-/// A call by which a block goes or comes, a handle leaves, or an object ends, and one on a cell.
+/// The same of a call by which a handle comes into a slot, or another that makes no object.
+fn come<R: Wait, H: Home>(
+    rt: &R,
+    table: &mut HandleTable<'_, u64, H>,
+    call: Call,
+) -> Option<Answer> {
+    let told = match call {
+        Call::Empty(to) => table.empty(to),
+        Call::EmptyWeak(to) => table.empty_weak(to),
+        Call::Copy(from, to) => table.copy(from, to),
+        Call::MoveTo(from, to) => table.move_to(from, to),
+        Call::Downgrade(from, to) => table.downgrade(from, to),
+        Call::Alias(of, place, to) => table.alias(of, place, to),
+        _ => return pass(rt, table, call),
+    };
+    Some(done(told))
+}
+
+/// The same of a call on an object's own pointers or on a cell, or another.
 fn pass<R: Wait, H: Home>(
+    rt: &R,
+    table: &mut HandleTable<'_, u64, H>,
+    call: Call,
+) -> Option<Answer> {
+    let told = match call {
+        Call::SharedFromThis(of, to) => table.shared_from_this(of, to),
+        Call::WeakFromThis(of, to) => table.weak_from_this(of, to),
+        Call::Upgrade(from, to) => table.upgrade(rt, from, to),
+        Call::Reaches(cell) => table.reaches(cell),
+        Call::Load(cell, to) => table.load(rt, cell, to),
+        Call::Exchange(at, cell) => table.exchange(at, cell),
+        _ => return decide(rt, table, call),
+    };
+    Some(done(told))
+}
+
+/// The same of a call that says whether something is so, or another.
+fn decide<R: Wait, H: Home>(
+    rt: &R,
+    table: &mut HandleTable<'_, u64, H>,
+    call: Call,
+) -> Option<Answer> {
+    let told = match call {
+        Call::Lock(from, to) => table.lock(rt, from, to),
+        Call::CompareStrong(cell, expected, desired) => {
+            table.compare_exchange_strong(rt, cell, expected, desired)
+        }
+        Call::CompareWeak(cell, expected, desired) => {
+            table.compare_exchange_weak(rt, cell, expected, desired)
+        }
+        Call::Expired(at) => table.expired(at),
+        Call::SamePlace(a, b) => table.same_place(a, b),
+        Call::OwnerBefore(a, b) => table.owner_before(a, b),
+        _ => return leave(rt, table, call),
+    };
+    Some(is(told))
+}
+
+/// The same of a call by which a handle leaves, or another.
+fn leave<R: Wait, H: Home>(
+    rt: &R,
+    table: &mut HandleTable<'_, u64, H>,
+    call: Call,
+) -> Option<Answer> {
+    let told = match call {
+        Call::Reset(at) => table.reset(at),
+        Call::Store(from, cell) => table.store(from, cell),
+        _ => return end(rt, table, call),
+    };
+    Some(left(told))
+}
+
+/// The same of a call by which a block goes or comes or an object ends, or another.
+fn end<R: Wait, H: Home>(
     rt: &R,
     table: &mut HandleTable<'_, u64, H>,
     call: Call,
@@ -187,70 +238,14 @@ fn pass<R: Wait, H: Home>(
     Some(match call {
         Call::Shelve(count) => Answer::Count(table.shelve(count)),
         Call::Unshelve(count) => Answer::Count(table.unshelve(count)),
-        Call::Reset(at) => left(table.reset(at)),
         Call::EndNext => Answer::Value(table.end_next()),
         Call::Round => ended(table.round()),
         Call::Settle => {
             table.settle(rt);
             Answer::Done
         }
-        Call::Reaches(cell) => done(table.reaches(cell)),
-        Call::Load(cell, to) => done(table.load(rt, cell, to)),
-        Call::Store(from, cell) => left(table.store(from, cell)),
-        Call::Exchange(at, cell) => done(table.exchange(at, cell)),
-        Call::CompareStrong(cell, expected, desired) => {
-            is(table.compare_exchange_strong(rt, cell, expected, desired))
-        }
-        Call::CompareWeak(cell, expected, desired) => {
-            is(table.compare_exchange_weak(rt, cell, expected, desired))
-        }
-        _ => return None,
+        _ => return look(rt, table, call),
     })
-}
-
-/// 1 is added to a value.
-fn visit<R: Wait, H: Home>(rt: &R, table: &mut HandleTable<'_, u64, H>, of: usize) -> Answer {
-    let add = |value: &mut u64| {
-        *value = value.wrapping_add(1);
-        *value
-    };
-    match table.visit(rt, of, add) {
-        Ok(value) => Answer::Value(Some(value)),
-        Err(returned) => Answer::Not(returned.why),
-    }
-}
-
-/// What handles tell.
-fn look<R: Wait, H: Home>(
-    rt: &R,
-    table: &mut HandleTable<'_, u64, H>,
-    call: Call,
-) -> Option<Answer> {
-    Some(match call {
-        Call::UseCount(at) => count(table.use_count(at)),
-        Call::Expired(at) => is(table.expired(at)),
-        Call::Read(at) => field(table.read(at)),
-        Call::PlaceOf(at) => place(table.place(at)),
-        Call::SamePlace(a, b) => is(table.same_place(a, b)),
-        Call::OwnerBefore(a, b) => is(table.owner_before(a, b)),
-        Call::Visit(of) => visit(rt, table, of),
-        _ => return None,
-    })
-}
-
-/// What the call answers.
-pub(crate) fn answer_of<R: Wait, H: Home>(
-    rt: &R,
-    table: &mut HandleTable<'_, u64, H>,
-    call: Call,
-) -> Option<Answer> {
-    if let Some(answer) = come(rt, table, call) {
-        return Some(answer);
-    }
-    if let Some(answer) = pass(rt, table, call) {
-        return Some(answer);
-    }
-    look(rt, table, call)
 }
 
 /// The call of this number answered what it should.

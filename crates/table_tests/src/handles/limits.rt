@@ -113,18 +113,30 @@ struct Limits;
 impl<R: Abort + Threads + Wait + Sync> Program<u64, R> for Limits {
     fn work<H: Home>(&self, rt: &R, _number: usize, table: &mut HandleTable<'_, u64, H>) {
         refused(rt, table, None, &BEGIN);
-        for (cell, kind, why) in CELLS {
-            cell_calls(rt, table, cell, kind, why);
-        }
+        cells(rt, table);
         all(rt, table, &PLACES);
         all(rt, table, &BLOCKS);
-        refused(rt, table, None, &[Call::Copy(OWNER, SPARE)]);
+        all(rt, table, &SPARE_COPY);
         takes(rt, table, None);
-        refused(rt, table, None, &[Call::Copy(WEAK, LAST)]);
+        all(rt, table, &LAST_COPY);
         takes(rt, table, Some(Fault::Call(Refusal::Limit)));
-        all(rt, table, &[(Call::UseCount(OWNER), Answer::Count(2))]);
+        all(rt, table, &OWNERS);
     }
 }
+
+/// Calls on the last cells, and on the next ones.
+fn cells<R: Abort + Wait, H: Home>(rt: &R, table: &mut HandleTable<'_, u64, H>) {
+    for (cell, kind, why) in CELLS {
+        cell_calls(rt, table, cell, kind, why);
+    }
+}
+
+/// One handle more, and the last one.
+const SPARE_COPY: [(Call, Answer); 1] = [(Call::Copy(OWNER, SPARE), Answer::Done)];
+
+const LAST_COPY: [(Call, Answer); 1] = [(Call::Copy(WEAK, LAST), Answer::Done)];
+
+const OWNERS: [(Call, Answer); 1] = [(Call::UseCount(OWNER), Answer::Count(2))];
 
 #[test]
 fn every_limit_is_told(rt: HostRuntime) {

@@ -95,11 +95,22 @@ fn owners<R: Abort + Wait, H: Home>(
         Call::Visit(of),
     ];
     refused(rt, table, why, &calls);
-    for which in [SharedMember::First, SharedMember::Next] {
-        cell_calls(rt, table, Cell::Member { of, which }, OWNER, why);
-    }
-    cell_calls(rt, table, Cell::Up { of }, WEAK, why);
+    members(rt, table, of, why);
     into_cell(rt, table, SHARED, OWNER, of, why);
+}
+
+/// Calls on the members of what an owner owns.
+fn members<R: Abort + Wait, H: Home>(
+    rt: &R,
+    table: &mut HandleTable<'_, u64, H>,
+    of: usize,
+    why: Option<Fault>,
+) {
+    let first = SharedMember::First;
+    cell_calls(rt, table, Cell::Member { of, which: first }, OWNER, why);
+    let next = SharedMember::Next;
+    cell_calls(rt, table, Cell::Member { of, which: next }, OWNER, why);
+    cell_calls(rt, table, Cell::Up { of }, WEAK, why);
 }
 
 /// Calls on a weak handle.
@@ -200,15 +211,23 @@ struct Slots;
 impl<R: Abort + Threads + Wait + Sync> Program<u64, R> for Slots {
     fn work<H: Home>(&self, rt: &R, _number: usize, table: &mut HandleTable<'_, u64, H>) {
         refused(rt, table, None, &BEGIN);
-        for (group, at, why) in FAULTS {
-            make_group(rt, table, group, at, Some(why));
-        }
-        refused(rt, table, None, &[Call::Reset(TO)]);
-        all(rt, table, &[(Call::UseCount(OWNER), Answer::Count(1))]);
-        for (first, group) in NO_FAULTS {
-            refused(rt, table, None, &[first]);
-            make_group(rt, table, group, LAST, None);
-        }
+        with_faults(rt, table);
+        all(rt, table, &BETWEEN);
+        without_faults(rt, table);
+    }
+}
+
+fn with_faults<R: Abort + Wait, H: Home>(rt: &R, table: &mut HandleTable<'_, u64, H>) {
+    for (group, at, why) in FAULTS {
+        make_group(rt, table, group, at, Some(why));
+    }
+}
+
+/// Calls on the last slot that are not.
+fn without_faults<R: Abort + Wait, H: Home>(rt: &R, table: &mut HandleTable<'_, u64, H>) {
+    for (first, group) in NO_FAULTS {
+        refused(rt, table, None, &[first]);
+        make_group(rt, table, group, LAST, None);
     }
 }
 
@@ -228,6 +247,12 @@ const FAULTS: [(Group, usize, Fault); 9] = [
     (Group::Handles, NEXT, Fault::Slot),
     (Group::Handles, LAST, Fault::Vacant),
     (Group::Targets, NEXT, Fault::Slot),
+];
+
+/// The calls that were refused left a weak handle in slot `TO`, and no owner.
+const BETWEEN: [(Call, Answer); 2] = [
+    (Call::Reset(TO), Answer::OthersOwn),
+    (Call::UseCount(OWNER), Answer::Count(1)),
 ];
 
 /// What the last slot gets before calls on it that are not refused.

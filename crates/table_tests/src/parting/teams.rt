@@ -112,15 +112,25 @@ impl<R: Abort + Threads + Wait + Sync> Program<u64, R> for Within {
             allowance: 3,
             blocks: 1,
         };
-        let Crew { mut tables, fewer } = table.team(self.alloc, team);
+        let Crew { tables, fewer } = table.team(self.alloc, team);
         same(rt, fewer, None);
-        match tables.pop() {
-            Some(wider) => join_wider(rt, table, wider),
-            None => assert!(rt; false),
-        }
-        table.absorb_all(rt, tables);
+        join_all(rt, table, tables);
         all(rt, table, &LEFT);
     }
+}
+
+/// The last table is joined, and the others are absorbed.
+fn join_all<'d, R: Abort + Wait, H: Home>(
+    rt: &R,
+    table: &mut HandleTable<'d, u64, H>,
+    tables: Vec<HandleTable<'d, u64, H>>,
+) {
+    let mut tables = tables;
+    match tables.pop() {
+        Some(wider) => join_wider(rt, table, wider),
+        None => assert!(rt; false),
+    }
+    table.absorb_all(rt, tables);
 }
 
 #[test]

@@ -4,7 +4,7 @@ use crate::listed::{Answer, Call, all};
 use crate::same::same;
 use crate::shapes::shape;
 use crate::structures::observers::{On, all_on};
-use handle_table::{Cell, HandleTable, Home, Leader, Manned, Program, Team};
+use handle_table::{Cell, Fault, HandleTable, Home, Leader, Manned, Program, TableObservers, Team};
 use std::alloc::Global;
 use std::process::Abort;
 use std::sync::Wait;
@@ -35,8 +35,7 @@ const TEAM: Team = Team {
 #[derive(Drop)]
 struct Attaching {
     alloc: Global,
-    told: u64,
-    sum: u64,
+    sums: Result<(u64, u64), Fault>,
 }
 
 impl<R: Abort + Threads + Wait + Sync> Program<u64, R> for Attaching {
@@ -44,31 +43,50 @@ impl<R: Abort + Threads + Wait + Sync> Program<u64, R> for Attaching {
         all(rt, table, &LOAD);
         match table.observers(self.alloc, 0) {
             Ok(mut observers) => {
-                for _ in 0..250 {
-                    all_on(rt, table, &mut observers, &ATTACH);
-                }
+                attach_all(rt, table, &mut observers);
                 observers.close();
             }
-            Err(_) => assert!(rt; false),
+            Err(why) => same(rt, Some(why), None),
         }
+    }
+}
+
+fn attach_all<R: Abort + Wait, H: Home>(
+    rt: &R,
+    table: &mut HandleTable<'_, u64, H>,
+    observers: &mut TableObservers<u64, H>,
+) {
+    for _ in 0..250 {
+        all_on(rt, table, observers, &ATTACH);
+    }
+}
+
+/// How many are told of, and the sum of their fields.
+fn sums<R: Wait, H: Home>(
+    rt: &R,
+    table: &mut HandleTable<'_, u64, H>,
+    observers: &mut TableObservers<u64, H>,
+) -> Result<(u64, u64), Fault> {
+    let (mut told, mut sum) = (0u64, 0u64);
+    let each = table.each(rt, observers, |field: u64| {
+        told = told.wrapping_add(1);
+        sum = sum.wrapping_add(field);
+    });
+    match each {
+        Ok(()) => Ok((told, sum)),
+        Err(why) => Err(why),
     }
 }
 
 impl Attaching {
     fn count<R: Abort + Wait, H: Home>(&mut self, rt: &R, table: &mut HandleTable<'_, u64, H>) {
-        let (mut told, mut sum) = (0u64, 0u64);
         match table.observers(self.alloc, 0) {
             Ok(mut observers) => {
-                let each = table.each(rt, &mut observers, |field: u64| {
-                    told = told.wrapping_add(1);
-                    sum = sum.wrapping_add(field);
-                });
-                assert!(rt; each.is_ok());
+                self.sums = sums(rt, table, &mut observers);
                 observers.close();
             }
-            Err(_) => assert!(rt; false),
+            Err(why) => same(rt, Some(why), None),
         }
-        (self.told, self.sum) = (told, sum);
     }
 }
 
@@ -92,14 +110,9 @@ impl<R: Abort + Threads + Wait + Sync> Leader<u64, R> for Attaching {
 fn each_tells_of_all_that_four_threads_attached(rt: HostRuntime) {
     let mut leader = Attaching {
         alloc: rt.alloc(),
-        told: 0,
-        sum: 0,
+        sums: Ok((0, 0)),
     };
     let vacant = led(&rt, rt.alloc(), shape(1_001, 2, 0, 36), 2, &mut leader);
     // (the observers are left in their cell, and the subject)
-    same(
-        &rt,
-        (leader.told, leader.sum, vacant),
-        (1_000, 7_000, Ok(0)),
-    );
+    same(&rt, (leader.sums, vacant), (Ok((1_000, 7_000)), Ok(0)));
 }

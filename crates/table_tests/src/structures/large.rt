@@ -4,7 +4,7 @@ use crate::listed::{Answer, Call};
 use crate::same::same;
 use crate::shapes::{alone, shape};
 use crate::structures::trees::{On, all_on};
-use handle_table::{HandleTable, Home, Program};
+use handle_table::{HandleTable, Home, Program, TableScene};
 use std::alloc::Global;
 use std::process::Abort;
 use std::sync::Wait;
@@ -41,14 +41,23 @@ impl Felling {
         match table.scene(self.alloc) {
             Ok(mut scene) => {
                 all_on(rt, self.alloc, table, &mut scene, &ROOT);
-                for number in 1..NODES {
-                    let calls = [(self.child(number), Answer::Done)];
-                    all_on(rt, self.alloc, table, &mut scene, &calls);
-                }
+                self.add_children(rt, table, &mut scene);
                 all_on(rt, self.alloc, table, &mut scene, &GROWN);
                 scene.close();
             }
-            Err(_) => assert!(rt; false),
+            Err(why) => same(rt, Some(why), None),
+        }
+    }
+
+    fn add_children<R: Abort + Wait, H: Home>(
+        &self,
+        rt: &R,
+        table: &mut HandleTable<'_, u64, H>,
+        scene: &mut TableScene<u64, H>,
+    ) {
+        for number in 1..NODES {
+            let calls = [(self.child(number), Answer::Done)];
+            all_on(rt, self.alloc, table, scene, &calls);
         }
     }
 }
@@ -66,7 +75,7 @@ impl<R: Abort + Threads + Wait + Sync> Program<u64, R> for Felling {
         self.grow(rt, table);
         match table.teardown(self.alloc, 0) {
             Ok(values) => are_in_order(rt, values.as_slice()),
-            Err(_) => assert!(rt; false),
+            Err(why) => same(rt, Some(why), None),
         }
     }
 }

@@ -35,6 +35,21 @@ fn told<R: Wait, H: Home>(
     }
 }
 
+/// What the call answers.
+fn answer_on<R: Wait, H: Home>(
+    rt: &R,
+    table: &mut HandleTable<'_, u64, H>,
+    observers: &mut TableObservers<u64, H>,
+    on: On,
+) -> Option<Answer> {
+    Some(match on {
+        On::Attach(subject, value) => { handed(table.attach(rt, observers, subject, value), value) }
+        On::Each => told(rt, table, observers),
+        On::Prune => count(table.prune(rt, observers)),
+        On::Table(call) => return answer_of(rt, table, call),
+    })
+}
+
 /// Calls, each of which answers what stands beside it.
 pub(crate) fn all_on<R: Abort + Wait, H: Home>(
     rt: &R,
@@ -43,16 +58,7 @@ pub(crate) fn all_on<R: Abort + Wait, H: Home>(
     calls: &[(On, Answer)],
 ) {
     for (number, (on, wanted)) in calls.iter().enumerate() {
-        let told = match *on {
-            On::Attach(subject, value) => Some(handed(
-                table.attach(rt, observers, subject, value),
-                value,
-            )),
-            On::Each => Some(told(rt, table, observers)),
-            On::Prune => Some(count(table.prune(rt, observers))),
-            On::Table(call) => answer_of(rt, table, call),
-        };
-        agree(rt, number, told, *wanted);
+        agree(rt, number, answer_on(rt, table, observers, *on), *wanted);
     }
 }
 
@@ -168,7 +174,7 @@ impl Observing<'_> {
                 all_on(rt, table, &mut observers, calls);
                 observers.close();
             }
-            Err(_) => assert!(rt; false),
+            Err(why) => same(rt, Some(why), None),
         }
     }
 }

@@ -3,11 +3,10 @@ use crate::alone::works;
 use crate::listed::{Answer, Call, agree, answer_of, handed, is};
 use crate::same::same;
 use crate::shapes::{alone, shape};
+use crate::structures::pushers::popped;
 use control_word::Refusal;
-use handle_table::{
-    Cell, Fault, HandleTable, Home, Program, Share, SharedMember, TableStack, Work, run_workers,
-};
-use std::alloc::{AllocError, Global};
+use handle_table::{Cell, Fault, HandleTable, Home, Program, SharedMember, TableStack};
+use std::alloc::Global;
 use std::process::Abort;
 use std::sync::Wait;
 use std::thread::Threads;
@@ -20,6 +19,20 @@ enum On {
     Table(Call),
 }
 
+/// What the call answers.
+fn answer_on<R: Wait, H: Home>(
+    rt: &R,
+    table: &mut HandleTable<'_, u64, H>,
+    stack: &mut TableStack<u64, H>,
+    on: On,
+) -> Option<Answer> {
+    Some(match on {
+        On::Push(value) => handed(table.push(rt, stack, [value, 0, 0, 0], value), value),
+        On::Pop(to) => is(table.pop(rt, stack, to)),
+        On::Table(call) => return answer_of(rt, table, call),
+    })
+}
+
 /// Calls, each of which answers what stands beside it.
 fn all_on<R: Abort + Wait, H: Home>(
     rt: &R,
@@ -28,12 +41,7 @@ fn all_on<R: Abort + Wait, H: Home>(
     calls: &[(On, Answer)],
 ) {
     for (number, (on, wanted)) in calls.iter().enumerate() {
-        let told = match *on {
-            On::Push(value) => Some(handed(table.push(rt, stack, [value, 0, 0, 0], value), value)),
-            On::Pop(to) => Some(is(table.pop(rt, stack, to))),
-            On::Table(call) => answer_of(rt, table, call),
-        };
-        agree(rt, number, told, *wanted);
+        agree(rt, number, answer_on(rt, table, stack, *on), *wanted);
     }
 }
 
@@ -134,7 +142,7 @@ impl<R: Abort + Threads + Wait + Sync> Program<u64, R> for Stacks<'_> {
                 all_on(rt, table, &mut stack, self.calls);
                 stack.close();
             }
-            Err(_) => assert!(rt; false),
+            Err(why) => same(rt, Some(why), None),
         }
     }
 }
@@ -179,96 +187,6 @@ fn the_last_comes_first(rt: HostRuntime) {
 #[test]
 fn no_call_is_made(rt: HostRuntime) {
     hold(&rt, rt.alloc(), 3, 7, &[], 3);
-}
-
-/// Pushes 100 nodes, pops till none is found, and counts the nodes and adds up their fields.
-#[derive(Drop)]
-struct Pusher {
-    alloc: Global,
-    first: u64,
-    popped: u64,
-    sum: u64,
-}
-
-impl Pusher {
-    /// Whether one more node came out.
-    fn pop<R: Wait, H: Home>(
-        &mut self,
-        rt: &R,
-        table: &mut HandleTable<'_, u64, H>,
-        stack: &mut TableStack<u64, H>,
-    ) -> bool {
-        if table.pop(rt, stack, 0) != Ok(true) {
-            return false;
-        }
-        if let Ok(field) = table.read(0) {
-            self.popped = self.popped.wrapping_add(1);
-            self.sum = self.sum.wrapping_add(field);
-        }
-        table.settle(rt);
-        true
-    }
-}
-
-impl<R: Threads + Wait + Sync> Work<u64, R> for Pusher {
-    fn work<H: Home>(&mut self, rt: &R, table: &mut HandleTable<'_, u64, H>) {
-        let Ok(mut stack) = table.stack(self.alloc, 0) else {
-            return;
-        };
-        for number in 0..100u64 {
-            let value = self.first.wrapping_add(number);
-            let _ = table.push(rt, &mut stack, [value, 0, 0, 0], value);
-        }
-        for _ in rt.forever() {
-            if !self.pop(rt, table, &mut stack) {
-                break;
-            }
-        }
-        stack.close();
-    }
-}
-
-/// So many workers, with numbers from 0 on.
-fn pushers(alloc: Global, threads: u32) -> Result<Vec<Pusher>, AllocError> {
-    let mut workers = Vec::with_capacity(alloc, threads as usize)?;
-    for number in 0..threads {
-        workers.push(Pusher {
-            alloc,
-            first: u64::from(number).wrapping_mul(100),
-            popped: 0,
-            sum: 0,
-        })?;
-    }
-    Ok(workers)
-}
-
-/// How many nodes came out of the workers' stack, and their sum.
-fn sums(workers: &[Pusher]) -> (u64, u64) {
-    let (mut popped, mut sum) = (0u64, 0u64);
-    for worker in workers {
-        popped = popped.wrapping_add(worker.popped);
-        sum = sum.wrapping_add(worker.sum);
-    }
-    (popped, sum)
-}
-
-/// So many threads push 100 nodes each, and pop them: how many blocks are vacant then, and what came out.
-fn popped<R: Threads + Wait + Sync>(
-    rt: &R,
-    alloc: Global,
-    threads: u32,
-) -> Result<(u32, (u64, u64)), Refusal> {
-    let mut workers = pushers(alloc, threads)?;
-    let share = Share {
-        slots: 1,
-        allowance: 8,
-        blocks: 100,
-    };
-    let blocks = threads.wrapping_mul(100);
-    match run_workers(rt, alloc, shape(blocks, 1, 0, 100), share, &mut workers) {
-        Ok(census) => Ok((census.vacant(), sums(workers.as_slice()))),
-        Err(why) => Err(why),
-    }
 }
 
 #[test]

@@ -1,6 +1,7 @@
 //! Trees of nodes: each call on them, and each fault.
 use crate::alone::works;
 use crate::listed::{Answer, Call, agree, answer_of, done, handed, is};
+use crate::same::same;
 use crate::shapes::{alone, shape};
 use crate::structures::families::{
     BETWEEN, CHILDREN, FIRST, GENERATIONS, KEPT, LAST, MISPLACED, ORDER,
@@ -37,6 +38,26 @@ fn torn(told: Result<Vec<u64>, Fault>) -> Answer {
     }
 }
 
+/// What the call answers.
+fn answer_on<R: Wait, H: Home>(
+    rt: &R,
+    alloc: Global,
+    table: &mut HandleTable<'_, u64, H>,
+    scene: &mut TableScene<u64, H>,
+    on: On,
+) -> Option<Answer> {
+    Some(match on {
+        On::AddChild(parent, value, to) => {
+            let told = table.add_child(rt, scene, parent, [value, 0, 0, 0], value, to);
+            handed(told, value)
+        }
+        On::Parent(node, to) => is(table.parent(rt, scene, node, to)),
+        On::Detach(node) => done(table.detach(rt, scene, node)),
+        On::Teardown(root) => torn(table.teardown(alloc, root)),
+        On::Table(call) => return answer_of(rt, table, call),
+    })
+}
+
 /// Calls, each of which answers what stands beside it.
 pub(crate) fn all_on<R: Abort + Wait, H: Home>(
     rt: &R,
@@ -46,17 +67,7 @@ pub(crate) fn all_on<R: Abort + Wait, H: Home>(
     calls: &[(On, Answer)],
 ) {
     for (number, (on, wanted)) in calls.iter().enumerate() {
-        let told = match *on {
-            On::AddChild(parent, value, to) => Some(handed(
-                table.add_child(rt, scene, parent, [value, 0, 0, 0], value, to),
-                value,
-            )),
-            On::Parent(node, to) => Some(is(table.parent(rt, scene, node, to))),
-            On::Detach(node) => Some(done(table.detach(rt, scene, node))),
-            On::Teardown(root) => Some(torn(table.teardown(alloc, root))),
-            On::Table(call) => answer_of(rt, table, call),
-        };
-        agree(rt, number, told, *wanted);
+        agree(rt, number, answer_on(rt, alloc, table, scene, *on), *wanted);
     }
 }
 
@@ -153,12 +164,23 @@ impl<R: Abort + Threads + Wait + Sync> Program<u64, R> for Trees<'_> {
     fn work<H: Home>(&self, rt: &R, _number: usize, table: &mut HandleTable<'_, u64, H>) {
         match table.scene(self.alloc) {
             Ok(mut scene) => {
-                for calls in self.lists {
-                    all_on(rt, self.alloc, table, &mut scene, calls);
-                }
+                self.make_calls(rt, table, &mut scene);
                 scene.close();
             }
-            Err(_) => assert!(rt; false),
+            Err(why) => same(rt, Some(why), None),
+        }
+    }
+}
+
+impl Trees<'_> {
+    fn make_calls<R: Abort + Wait, H: Home>(
+        &self,
+        rt: &R,
+        table: &mut HandleTable<'_, u64, H>,
+        scene: &mut TableScene<u64, H>,
+    ) {
+        for calls in self.lists {
+            all_on(rt, self.alloc, table, scene, calls);
         }
     }
 }
