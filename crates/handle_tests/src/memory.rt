@@ -8,6 +8,7 @@ use crate::shapes::shape;
 use control_block::domain::open;
 use control_word::Refusal;
 use std::alloc::Global;
+use std::test::Fail;
 
 // What the first desk of a domain has.
 fn opened(alloc: Global) -> Result<(u32, u32, u32), Refusal> {
@@ -22,7 +23,7 @@ fn opened(alloc: Global) -> Result<(u32, u32, u32), Refusal> {
 }
 
 #[test]
-fn a_refused_opening_leaves_nothing(rt: HostRuntime) -> Result<(), Refusal> {
+fn a_refused_opening_leaves_nothing(rt: HostRuntime) -> Result<(), Fail> {
     let told = match opened(rt.alloc()) {
         Err(Refusal::Memory) => opened(rt.alloc()),
         told => told,
@@ -58,7 +59,7 @@ fn or_refused(answer: u8) -> u8 {
 }
 
 #[test]
-fn a_refused_split_changes_nothing(rt: HostRuntime) -> Result<(), Refusal> {
+fn a_refused_split_changes_nothing(rt: HostRuntime) -> Result<(), Fail> {
     is_told(&rt, split_twice(rt.alloc()), (0, (8, 0, 4), 0))
 }
 
@@ -71,16 +72,16 @@ fn vacant_of(alloc: Global, blocks: u32) -> Result<u32, Refusal> {
 }
 
 #[test]
-fn one_block_is_opened_and_closed(rt: HostRuntime) -> Result<(), Refusal> {
+fn one_block_is_opened_and_closed(rt: HostRuntime) -> Result<(), Fail> {
     is_told(&rt, vacant_of(rt.alloc(), 1), 1)
 }
 
 #[test]
-fn two_blocks_are_opened_and_closed(rt: HostRuntime) -> Result<(), Refusal> {
+fn two_blocks_are_opened_and_closed(rt: HostRuntime) -> Result<(), Fail> {
     is_told(&rt, vacant_of(rt.alloc(), 2), 2)
 }
 
 #[test]
-fn four_blocks_are_opened_and_closed(rt: HostRuntime) -> Result<(), Refusal> {
+fn four_blocks_are_opened_and_closed(rt: HostRuntime) -> Result<(), Fail> {
     is_told(&rt, vacant_of(rt.alloc(), 4), 4)
 }

@@ -4,6 +4,7 @@ use crate::calls::kits::opened_again;
 use crate::calls::listed::{Answer, Call, Seat};
 use crate::calls::running::with_kit;
 use control_word::Refusal;
+use std::test::Fail;
 
 /// A node goes on the stack and comes out, a root gets a child and leaves, and a subject is told of.
 const CALLS: [(Call, Answer); 13] = [
@@ -23,15 +24,15 @@ const CALLS: [(Call, Answer); 13] = [
 ];
 
 #[test]
-fn a_refused_access_is_sought_again(rt: HostRuntime) -> Result<(), Refusal> {
+fn a_refused_access_is_sought_again(rt: HostRuntime) -> Result<(), Fail> {
     match opened_again(rt.alloc(), 2, 8) {
         Ok((domain, desk)) => {
             if with_kit(&rt, rt.alloc(), domain, desk, &CALLS) {
                 Ok(())
             } else {
-                Err(Refusal::Memory)
+                Err(Refusal::Memory.into())
             }
         }
-        Err(why) => Err(why),
+        Err(why) => Err(why.into()),
     }
 }

@@ -12,6 +12,7 @@ use control_word::Refusal;
 use std::alloc::Global;
 use std::process::Abort;
 use std::sync::Wait;
+use std::test::Fail;
 
 /// A root 1 with a child 2.
 const GROWN: [(Call, Answer); 3] = [
@@ -70,24 +71,21 @@ fn felled<R: Abort + Wait>(
 }
 
 /// Where there was memory for the kit both have ended, or the root was given back, and both blocks are vacant.
-fn is_felled<R: Abort>(
-    rt: &R,
-    told: Result<(Option<Answer>, u32), Refusal>,
-) -> Result<(), Refusal> {
+fn is_felled<R: Abort>(rt: &R, told: Result<(Option<Answer>, u32), Refusal>) -> Result<(), Fail> {
     let is_felled = match told {
         Ok((Some(Answer::Values(digits)), vacant)) => digits == 12 && vacant == 2,
         Ok((Some(Answer::Not(why)), vacant)) => why == Refusal::Memory && vacant == 2,
         Ok(_) => false,
-        Err(why) => return Err(why),
+        Err(why) => return Err(why.into()),
     };
     assert!(rt; is_felled);
     Ok(())
 }
 
 #[test]
-fn a_refused_teardown_gives_its_root_back(rt: HostRuntime) -> Result<(), Refusal> {
+fn a_refused_teardown_gives_its_root_back(rt: HostRuntime) -> Result<(), Fail> {
     match opened(rt.alloc(), 2, 8) {
         Ok((domain, desk)) => is_felled(&rt, felled(&rt, rt.alloc(), domain, desk)),
-        Err(why) => Err(why),
+        Err(why) => Err(why.into()),
     }
 }

@@ -6,6 +6,7 @@ use handle_table::{HandleTable, Home, Leader, Program, Team, run, run_leader};
 use std::alloc::Global;
 use std::process::Abort;
 use std::sync::Wait;
+use std::test::Fail;
 use std::thread::Threads;
 
 /// A worker that makes the calls of each list, each of which answers what stands beside it.
@@ -49,7 +50,7 @@ pub(crate) fn ends<R: Abort + Threads + Wait + Sync, P: Program<u64, R> + Sync>(
     team: Team,
     program: &P,
     vacant: u32,
-) -> Result<(), Refusal> {
+) -> Result<(), Fail> {
     is_told(rt, ran(rt, alloc, shape, team, program), (1, vacant))
 }
 

@@ -9,6 +9,7 @@ use handle_table::{Fault, HandleTable, Home, Leader, Manned, Program, Team};
 use std::alloc::Global;
 use std::process::Abort;
 use std::sync::Wait;
+use std::test::Fail;
 use std::thread::Threads;
 
 mod structures;
@@ -45,7 +46,7 @@ impl<R: Abort + Threads + Wait + Sync> Program<u64, R> for Splits {
 }
 
 #[test]
-fn a_refused_split_changes_nothing(rt: HostRuntime) -> Result<(), Refusal> {
+fn a_refused_split_changes_nothing(rt: HostRuntime) -> Result<(), Fail> {
     let program = Splits { alloc: rt.alloc() };
     ends(
         &rt,
@@ -65,7 +66,7 @@ fn is_idle<R: Abort + Threads + Wait + Sync>(
     rt: &R,
     alloc: Global,
     blocks: u32,
-) -> Result<(), Refusal> {
+) -> Result<(), Fail> {
     ends(
         rt,
         alloc,
@@ -77,17 +78,17 @@ fn is_idle<R: Abort + Threads + Wait + Sync>(
 }
 
 #[test]
-fn two_blocks_are_opened_and_closed(rt: HostRuntime) -> Result<(), Refusal> {
+fn two_blocks_are_opened_and_closed(rt: HostRuntime) -> Result<(), Fail> {
     is_idle(&rt, rt.alloc(), 2)
 }
 
 #[test]
-fn three_blocks_are_opened_and_closed(rt: HostRuntime) -> Result<(), Refusal> {
+fn three_blocks_are_opened_and_closed(rt: HostRuntime) -> Result<(), Fail> {
     is_idle(&rt, rt.alloc(), 3)
 }
 
 #[test]
-fn four_blocks_are_opened_and_closed(rt: HostRuntime) -> Result<(), Refusal> {
+fn four_blocks_are_opened_and_closed(rt: HostRuntime) -> Result<(), Fail> {
     is_idle(&rt, rt.alloc(), 4)
 }
 
@@ -108,7 +109,7 @@ fn unmanned<R: Abort + Threads + Wait + Sync>(
 
 /// The first table has as many slots as a worker's. There is memory for no table of so many.
 #[test]
-fn a_first_table_is_refused(rt: HostRuntime) -> Result<(), Refusal> {
+fn a_first_table_is_refused(rt: HostRuntime) -> Result<(), Fail> {
     same(
         &rt,
         unmanned(&rt, rt.alloc(), usize::MAX),
@@ -161,7 +162,7 @@ impl<R: Abort + Threads + Wait + Sync> Leader<u64, R> for Tries {
 }
 
 #[test]
-fn a_leader_is_told_that_its_team_was_refused(rt: HostRuntime) -> Result<(), Refusal> {
+fn a_leader_is_told_that_its_team_was_refused(rt: HostRuntime) -> Result<(), Fail> {
     let mut leader = Tries { left: 2 };
     let told = match led(&rt, rt.alloc(), shape(3, 0, 0, 4), 5, &mut leader) {
         Ok(vacant) => Ok((leader.left, vacant)),
@@ -172,6 +173,6 @@ fn a_leader_is_told_that_its_team_was_refused(rt: HostRuntime) -> Result<(), Ref
 
 /// What tests ask for whose calls take no memory.
 #[test]
-fn a_worker_makes_no_call(rt: HostRuntime) -> Result<(), Refusal> {
+fn a_worker_makes_no_call(rt: HostRuntime) -> Result<(), Fail> {
     ends(&rt, rt.alloc(), shape(2, 1, 1, 8), alone(3, 4, 2), &IDLE, 2)
 }

@@ -2,6 +2,7 @@
 use control_word::Refusal;
 use std::fmt::Debug;
 use std::process::Abort;
+use std::test::Fail;
 
 /// What was found is what was wanted, or the test fails with both.
 pub(crate) fn same<T: PartialEq + Debug + Drop>(rt: &impl Abort, found: T, wanted: T) {
@@ -13,12 +14,12 @@ pub(crate) fn is_told<T: PartialEq + Debug + Drop>(
     rt: &impl Abort,
     told: Result<T, Refusal>,
     wanted: T,
-) -> Result<(), Refusal> {
+) -> Result<(), Fail> {
     match told {
         Ok(found) => {
             same(rt, found, wanted);
             Ok(())
         }
-        Err(why) => Err(why),
+        Err(why) => Err(why.into()),
     }
 }

@@ -5,6 +5,7 @@ use slot_arena::{Arena, Filled, Vacant};
 use std::alloc::Global;
 use std::sync::atomic::AtomicU64;
 use std::sync::atomic::Ordering::SeqCst;
+use std::test::Fail;
 
 // Two tokens, where there are so many.
 fn first_two<T: Drop>(tokens: Vec<T>) -> Option<(T, T)> {
@@ -38,7 +39,7 @@ fn fill_and_take(alloc: Global) -> Result<Option<(u64, [u64; 3])>, Refusal> {
 }
 
 #[test]
-fn a_value_stays_in_its_cell_until_it_is_taken(rt: HostRuntime) -> Result<(), Refusal> {
+fn a_value_stays_in_its_cell_until_it_is_taken(rt: HostRuntime) -> Result<(), Fail> {
     is_told(&rt, fill_and_take(rt.alloc()), Some((7, [8, 1, 9])))
 }
 
@@ -80,7 +81,7 @@ fn drop_both(alloc: Global, drops: &AtomicU64) -> Result<Option<[[u64; 2]; 2]>, 
 }
 
 #[test]
-fn a_value_is_dropped_once(rt: HostRuntime) -> Result<(), Refusal> {
+fn a_value_is_dropped_once(rt: HostRuntime) -> Result<(), Fail> {
     let drops = AtomicU64::new(0);
     is_told(&rt, drop_both(rt.alloc(), &drops), Some([[0, 1], [1, 2]]))
 }

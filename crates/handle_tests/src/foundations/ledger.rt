@@ -5,6 +5,7 @@ use crate::same::is_told;
 use control_word::Refusal;
 use ownership_ledger::{Book, Share, Totals};
 use std::alloc::Global;
+use std::test::Fail;
 use std::thread::{Threads, for_each_mut, join_mut};
 
 fn add(book: &Book, share: &mut Share, made: u32, ended: u32)
@@ -57,7 +58,7 @@ fn gather_three(rt: &impl Threads, alloc: Global) -> Result<[Totals; 2], Refusal
 }
 
 #[test]
-fn so_far_shows_what_joined_workers_added(rt: HostRuntime) -> Result<(), Refusal> {
+fn so_far_shows_what_joined_workers_added(rt: HostRuntime) -> Result<(), Fail> {
     let want = Totals {
         made: 123,
         ended: 45,
@@ -90,7 +91,7 @@ fn gather_four<R: Threads + Sync>(rt: &R, alloc: Global) -> Result<Totals, Refus
 }
 
 #[test]
-fn four_threads_gather_to_their_sums(rt: HostRuntime) -> Result<(), Refusal> {
+fn four_threads_gather_to_their_sums(rt: HostRuntime) -> Result<(), Fail> {
     let want = Totals {
         made: 30_000,
         ended: 10_000,
@@ -108,7 +109,7 @@ fn open_and_gather(alloc: Global) -> Result<(usize, Totals), Refusal> {
 // `rt try --test --fail-alloc N` refuses the Nth allocation, and an opening has three. Then it answers
 // `Memory`, and the next one is as if it had never been.
 #[test]
-fn a_refused_opening_leaves_nothing(rt: HostRuntime) -> Result<(), Refusal> {
+fn a_refused_opening_leaves_nothing(rt: HostRuntime) -> Result<(), Fail> {
     let told = match open_and_gather(rt.alloc()) {
         Err(Refusal::Memory) => open_and_gather(rt.alloc()),
         told => told,
@@ -130,7 +131,7 @@ fn gather_one(alloc: Global) -> Result<[Totals; 2], Refusal> {
 
 // What is added and told takes no memory: `tests/refuse_allocations` compares with the opening alone.
 #[test]
-fn one_share_adds_and_is_gathered(rt: HostRuntime) -> Result<(), Refusal> {
+fn one_share_adds_and_is_gathered(rt: HostRuntime) -> Result<(), Fail> {
     let want = Totals { made: 3, ended: 2 };
     is_told(&rt, gather_one(rt.alloc()), [want, want])
 }

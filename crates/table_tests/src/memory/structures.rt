@@ -9,6 +9,7 @@ use handle_table::{Fault, HandleTable, Home, Program};
 use std::alloc::Global;
 use std::process::Abort;
 use std::sync::Wait;
+use std::test::Fail;
 use std::thread::Threads;
 
 const MEMORY: Fault = Fault::Call(Refusal::Memory);
@@ -50,7 +51,7 @@ impl<R: Abort + Threads + Wait + Sync> Program<u64, R> for Asks {
 }
 
 #[test]
-fn a_refused_structure_changes_nothing(rt: HostRuntime) -> Result<(), Refusal> {
+fn a_refused_structure_changes_nothing(rt: HostRuntime) -> Result<(), Fail> {
     let program = Asks { alloc: rt.alloc() };
     ends(
         &rt,
