@@ -39,7 +39,8 @@ module _ {V : Type 0} where
       → IsOffer k x h n id me'.0
   offer_at {k = k} {x = x} {h = h} {n = n} {id = id} me me' offer same = subst (λ (y : At V). IsOffer k x h n id y.0) (sym same) offer
 
-  pub holding_at : {k : Kind} {o : ℕ} {p : Option Place} {b : ℕ} {me me' : At V} → HoldingInBlock me.0 k o p b → me' ≡ me → HoldingInBlock me'.0 k o p b
+  pub holding_at : {k : Kind} {o : ℕ} {p : Option Place} {b : ℕ} {me me' : At V}
+      → HoldingInBlock me.0 k o p b → me' ≡ me → HoldingInBlock me'.0 k o p b
   holding_at {k = k} {o = o} {p = p} {b = b} holds same = subst (λ (y : At V). HoldingInBlock y.0 k o p b) (sym same) holds
 
   pub room_at : (me me' : At V) → me ≡ me' → HasRoomFor me'.0 → HasRoomFor me.0
@@ -95,7 +96,8 @@ module _ {V : Type 0} where
 
   module _ (e : Handle → Event V) (c : Cell) (k : Kind) (i : ℕ) (id own : TableId) (x : CellWord) (lost : Handle) (b : Block) where
     -- the fund that was taken was turned
-    pub out_turned : (me me₁ me₂ : At V) → IsAim c k i id own me → IsCellWord x → Took e k me.0 x me₁.0 → me₂.0 ≡ goes_on me₁.0 → me₂.1 ≡ []
+    pub out_turned : (me me₁ me₂ : At V) → IsAim c k i id own me → IsCellWord x → Took e k me.0 x me₁.0
+        → me₂.0 ≡ goes_on me₁.0 → me₂.1 ≡ []
         → IsOut e k me.0 x me₂
     out_turned me me₁ me₂ aim valid t is none =
         record {

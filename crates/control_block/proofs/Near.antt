@@ -33,7 +33,8 @@ module _ {V : Type 0} where
       (λ (t : Ends v ((known v).latest b) b). ending_word d id b j h table t low) near
 
 -- four looks tell four fields
-pub four_told : (f : List ℕ) (a b c d : ℕ) → a ≡ slice_index f 0 → b ≡ slice_index f 1 → c ≡ slice_index f 2 → d ≡ slice_index f 3 → (k : ℕ)
+pub four_told : (f : List ℕ) (a b c d : ℕ) → a ≡ slice_index f 0 → b ≡ slice_index f 1 → c ≡ slice_index f 2 → d ≡ slice_index f 3
+    → (k : ℕ)
     → k < 4 → slice_index (a ∷ b ∷ c ∷ d ∷ []) k ≡ slice_index f k
 four_told f a b c d p q r s zero low = p
 four_told f a b c d p q r s (suc zero) low = q

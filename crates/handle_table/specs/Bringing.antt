@@ -91,13 +91,15 @@ module _ {V : Type 0} where
     pub bears : (domain : DomainNow) (p : Pile V) → Bears domain d p → Bears domain e p
 
   -- or why not, and nothing changed
-  abbrev pub IsSwapped : DeskNow V → List Slot → ℕ → Cell → Result Held Fault → DeskNow V → List Slot → Type 0
+  abbrev pub IsSwapped : DeskNow V → List Slot → ℕ → Cell → Result Held Fault → DeskNow V
+      → List Slot → Type 0
   IsSwapped d ss from c (Ok old) e ts = SwapsOut d ss from c old e ts
   IsSwapped d ss from c (Err why) e ts = WhyNotSwapped (beside_pile d ss) from c why × (e ≡ d) × (ts ≡ ss)
 
 module _ {V E : Type 0} where
   -- a handle came so, or none did, and nothing changed
-  abbrev pub Brought : Coming V → (E → Type 0) → DeskNow V → List Slot → ℕ → Result Held E → DeskNow V → Type 0
+  abbrev pub Brought : Coming V → (E → Type 0) → DeskNow V → List Slot → ℕ → Result Held E → DeskNow V
+      → Type 0
   Brought came why_not d ss to (Ok h) e = Brings came d ss to h e
   Brought came why_not d ss to (Err why) e = why_not why × (e ≡ d)
 

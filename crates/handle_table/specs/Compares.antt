@@ -72,7 +72,8 @@ module _ {V : Type 0} where
       ⊎ (WhyNoneOf (kind_of_cell c) t.slots desired why ⊎ IsAtLimit t why))
 
   -- it was compared so, or why not, and nothing changed
-  abbrev pub IsCompared : Bool → DeskNow V → List Slot → Cell → ℕ → ℕ → Result (Bool × Held) Fault → DeskNow V
+  abbrev pub IsCompared : Bool → DeskNow V → List Slot → Cell → ℕ → ℕ → Result (Bool × Held) Fault
+      → DeskNow V
       → Type 0
   IsCompared weak d ss c expected desired (Ok r) e = ComparesCell weak d ss c expected desired r.0 r.1 e
   IsCompared weak d ss c expected desired (Err why) e =

@@ -1,5 +1,6 @@
 //! What is left, block by block.
-ghost use Rattle.std.specs.Prelude.{◌≡◌, ◌∷◌, [], ◌+◌, ◌≤◌, ℕ, OnOk, IfOk, false, length, string_bytes};
+ghost use Rattle.std.specs.Prelude.{◌≡◌, ◌∷◌, [], ◌+◌, ◌≤◌, ℕ, OnOk, IfOk};
+ghost use Rattle.std.specs.Prelude.{false, length, string_bytes};
 ghost use Rattle.script_text.specs.Canonical.{AddsLines};
 ghost use Rattle.step_core.specs.Totals.{IsAtEnd, ended_in, made_in};
 ghost use Rattle.script_stepper.specs.Lines.{totals_text};
@@ -90,7 +91,8 @@ pub(crate) fn left_at(alloc: Global, end: &End, found: &Found) -> Result<Left, A
     requires counted { AllCounted end.now.world.story.extent.shape.shared_cells end.now.blocks
         (state_in (scene end.now.world)) found.now.held.items }
     requires size { length found.now.rows.items ≡ end.now.blocks + 1 }
-    requires rows { (block : ℕ) → row_at found.now.rows.items block ≡ held_on (held_at (scene end.now.world)) block }
+    requires rows { (block : ℕ)
+        → row_at found.now.rows.items block ≡ held_on (held_at (scene end.now.world)) block }
     requires sizes { (length found.now.circles.tie_rows.items ≡ end.now.blocks + 1)
         × (length found.now.circles.cut_rows.items ≡ end.now.blocks + 1) }
     requires tie_rows { (block : ℕ) → row_at found.now.circles.tie_rows.items block

@@ -1,5 +1,6 @@
 -- Room for a call's handles, a new node's handle, and what a call took.
-use Rattle.std.proofs.Common.{◌≡◌, ◌↔◌, ◌+◌, ◌<◌, ◌≤◌, ℕ, Bool, false, List, [], ◌∷◌, length, Option, None, Some, Result, Ok, Err}
+use Rattle.std.proofs.Common.{◌≡◌, ◌↔◌, ◌+◌, ◌<◌, ◌≤◌, ℕ, Bool, false, List, [], ◌∷◌}
+use Rattle.std.proofs.Common.{length, Option, None, Some, Result, Ok, Err}
 use Rattle.std.proofs.Common.{inl, inr, refl, sym, subst, arith}
 use Rattle.std.proofs.lemmas.Bool.{iff_false}
 use Rattle.std.specs.Prelude.{IfSome, IsTrue, MatchOption, vec_capacity}
@@ -46,7 +47,8 @@ module _ {V : Type 0} where
   made_within d m fields x (Some b) p is = let q : Place = record { block = record { 0 = b.0 }; field = 0 } in (q, is.0, refl)
 
   -- a pile on which nothing lies, with room for all blocks
-  pub serves : (domain : DomainNow) (d : DeskNow V) (p : Pile V) → Belongs d domain → p.endings.items ≡ [] → domain.shape.blocks ≤ vec_capacity p.endings
+  pub serves : (domain : DomainNow) (d : DeskNow V) (p : Pile V) → Belongs d domain → p.endings.items ≡ []
+      → domain.shape.blocks ≤ vec_capacity p.endings
       → Carries domain d p
   serves domain d p belongs none room = record { belongs = belongs; ends = subst (AllEnd d) (sym none) tt; room = room }
 

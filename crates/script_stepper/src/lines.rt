@@ -115,7 +115,8 @@ fn put_numbers(text: &mut String, numbers: &[u64; 4]) -> Result<(), AllocError>
 /// Adds the fields of an object that ended, which end a line.
 fn put_fields(text: &mut String, fields: &[u64; 4]) -> Result<(), AllocError>
     ensures { OnOk result
-        (string_bytes text.new ≡ string_bytes text.old ++ codes "end" ++ flat_map number_after fields.now ++ 10 ∷ []) }
+        (string_bytes text.new
+        ≡ string_bytes text.old ++ codes "end" ++ flat_map number_after fields.now ++ 10 ∷ []) }
 {
     text.push_str("end")?;
     put_numbers(text, fields)?;

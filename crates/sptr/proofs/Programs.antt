@@ -14,7 +14,8 @@ use Rattle.clap.specs.declared.parser.matches.ArgMatches.TheViews.{out-ArgMatche
 use Rattle.clap.specs.declared.parser.matches.SubCommand.{SubCommand}
 use Rattle.clap.proofs.OnLiterals.{clap_on_literals}
 use Rattle.sptr.proofs.Walks.{enters_own}
-use Rattle.sptr.specs.CommandLine.{AsksFor, IsAskedBy, command_named, count_in, dot_option, draws_given, file_word, left_line, option_rule, program, script_line}
+use Rattle.sptr.specs.CommandLine.{AsksFor, IsAskedBy, command_named, count_in, dot_option, draws_given, file_word, left_line}
+use Rattle.sptr.specs.CommandLine.{option_rule, program, script_line}
 use Rattle.sptr.specs.CommandLine.{turns_given, turns_line}
 use Rattle.sptr.specs.declared.command.Asked.{Asked}
 use Rattle.sptr.specs.declared.command.Asked.TheVariants.{Check, Convert, Fine, Left, Run, Step}

@@ -1,5 +1,6 @@
 -- How a thread makes the act that it is at, with no object that ends in its hands.
-use Rattle.std.proofs.Common.{◌≡◌, ℕ, ◌<◌, ◌==◌, Bool, true, false, cond, not, ◌&&◌, [], length, set, refl, sym, ap, subst, ◌∙◌, arith}
+use Rattle.std.proofs.Common.{◌≡◌, ℕ, ◌<◌, ◌==◌, Bool, true, false, cond, not, ◌&&◌, [], length}
+use Rattle.std.proofs.Common.{set, refl, sym, ap, subst, ◌∙◌, arith}
 use Rattle.std.proofs.lemmas.Bool.{cond-true, cond-false, eqb-false}
 use Rattle.std.specs.Prelude.{Option, Some, None, is_some, option_map, All}
 use Rattle.control_word.specs.declared.packed.cell.CellWord.{CellWord}
@@ -211,7 +212,8 @@ module _ (d : ℕ) (t : Thread) (v : Story) (fits : FitsThread d t v) (rests : t
 
     -- a step of the act
     pub steps_as : (s : Step) (r : Stepped) (t' : Thread) (v' : Story) → first v d (walk t.course) number (rest t.course) a ≡ s
-        → waits_on v (walk t.course) a ≡ false → r ≡ stepped v (Some s) → v' ≡ story_after v d s.deed → walk t'.course ≡ s.walk → t'.half ≡ s.half
+        → waits_on v (walk t.course) a ≡ false → r ≡ stepped v (Some s) → v' ≡ story_after v d s.deed
+        → walk t'.course ≡ s.walk → t'.half ≡ s.half
         → HasStepped d t v r t' v'
     steps_as s r t' v' is goes =
         stepped_as d t v s r t' v' (waits_act t v a rests none lt act ∙ goes)

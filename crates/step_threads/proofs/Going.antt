@@ -49,7 +49,8 @@ empty_value (Empty p) e = refl
 empty_value (Full x) e = cc
 
 -- a copy of an empty pointer, or of one that has an object, is in hand
-pub empty_copy : (slots : Slots) (k n h : ℕ) (o : Option Pointer) (p : Option Place) (l : Slots) → l ≡ set slots h (Empty p) → o ≡ slot_pointer slots n
+pub empty_copy : (slots : Slots) (k n h : ℕ) (o : Option Pointer) (p : Option Place) (l : Slots)
+    → l ≡ set slots h (Empty p) → o ≡ slot_pointer slots n
     → p ≡ place_in slots n → n ≡ k → h ≡ hand slots → o ≡ None → l ≡ set slots (hand slots) (slot_value slots k)
 empty_copy slots k n h o p l made found at is held none =
     made ∙ ap (λ (i : ℕ). set slots i (Empty p)) held
@@ -62,7 +63,8 @@ full_copy slots k n h o x l made found is held some =
     made ∙ ap (λ (i : ℕ). set slots i (Full x)) held
     ∙ ap (set slots (hand slots)) (sym (full_is (slot_value slots k) x (found_at slots k n o (Some x) found is some)))
 
-pub weak_copy : (slots : Slots) (k n h : ℕ) (o : Option Pointer) (x : Pointer) (l : Slots) → l ≡ set slots h (Full (as_weak x)) → o ≡ slot_pointer slots n
+pub weak_copy : (slots : Slots) (k n h : ℕ) (o : Option Pointer) (x : Pointer) (l : Slots)
+    → l ≡ set slots h (Full (as_weak x)) → o ≡ slot_pointer slots n
     → n ≡ k → h ≡ hand slots → o ≡ Some x → l ≡ set slots (hand slots) (filled (option_map as_weak (slot_pointer slots k)))
 weak_copy slots k n h o x l made found is held some =
     made ∙ ap (λ (i : ℕ). set slots i (Full (as_weak x))) held
@@ -125,7 +127,8 @@ pub apart_hand : (slots : Slots) (k n h : ℕ) → 1 < length slots → k < othe
 apart_hand slots k n h some below is held e = absurd (omega (arith, some, below, is, held, e))
 
 -- a name was left, and got what was in hand
-pub placed_as : (slots : Slots) (k n h : ℕ) (l m : Slots) → l ≡ set slots n plain → m ≡ set (set l n (slot_value l h)) h plain → n ≡ k → h ≡ hand slots
+pub placed_as : (slots : Slots) (k n h : ℕ) (l m : Slots) → l ≡ set slots n plain
+    → m ≡ set (set l n (slot_value l h)) h plain → n ≡ k → h ≡ hand slots
     → m ≡ placed k (set slots k plain)
 placed_as slots k n h l m left made is held =
     let y = set slots k plain in
@@ -226,7 +229,8 @@ other_in c ready o is = let some = ready.some in omega (arith, some, is)
 pub apart_other : (c : Course) → CourseReady c → (h o : ℕ) → h ≡ hand c.holdings.slots.items → o ≡ other c.holdings.slots.items → h ≢ o
 apart_other c ready h o held is e = let some = ready.some in absurd (omega (arith, some, held, is, e))
 
-pub other_bare : (c : Course) (a : Act) → c.at < length c.tasks.items → CourseReady c → (task_at c).act ≡ a → (dropping (DropsInTime (rest c)) a → ⊥)
+pub other_bare : (c : Course) (a : Act) → c.at < length c.tasks.items → CourseReady c → (task_at c).act ≡ a
+    → (dropping (DropsInTime (rest c)) a → ⊥)
     → (o : ℕ) → o ≡ other c.holdings.slots.items → slot_pointer c.holdings.slots.items o ≡ None
 other_bare c a lt ready act never o is = ap (slot_pointer c.holdings.slots.items) is ∙ ap pointer_of (owed_by c a lt ready act never)
 

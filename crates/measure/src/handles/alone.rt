@@ -57,7 +57,8 @@ impl Work<Subject> for Notify<'_> {
     ghost use Rattle.measure.specs.Observers.{IsRecruited};
     ghost use Rattle.measure.specs.Rows.{IsOnlyDesk};
 
-    ghost is_ready = { λ work on. IsOnlyDesk work.domain.now on.desk × IsRecruited (bag_of on.desk) on.observers.items };
+    ghost is_ready = { λ work on. IsOnlyDesk work.domain.now on.desk
+        × IsRecruited (bag_of on.desk) on.observers.items };
 
     fn once<R: Wait>(&self, rt: &R, on: &mut Subject) -> bool {
         black_box(notify(rt, self.domain, &mut on.desk, on.observers.as_slice())).is_some()

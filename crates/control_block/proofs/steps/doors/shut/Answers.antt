@@ -19,7 +19,8 @@ load-found-requires g c =
       l.2 ∙ r.board,
       subst (λ x. x < board.table_id.words) (sym e) r.word.1,
       record {
-        allows = subst (λ (m : At g.row.V.Denot × ℕ). Allows (Ruled board.key) slots c.loop.chair.id m.0 i (λ n. n) (peeked o m.1 (step slots i 0 0 none) m.0))
+        allows = subst (λ (m : At g.row.V.Denot × ℕ). Allows (Ruled board.key) slots c.loop.chair.id m.0 i (λ n. n)
+            (peeked o m.1 (step slots i 0 0 none) m.0))
             (λ j. (sym l.4 j, sym r.holds.1 j))
             (allows_peek board.key slots c.loop.chair.id c.args.block.0 o i 0 c.args.chair.now.me r.rests.awake
             (inl (Owner, g.M.StepArgs.place, r.holds.2)) (omega arith) e);

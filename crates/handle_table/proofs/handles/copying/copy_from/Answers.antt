@@ -5,7 +5,8 @@ use Rattle.handle_table.proofs.Wholes.{kept}
 use Rattle.handle_table.proofs.handles.copying.copy_from.Goals as goal
 
 pub copy_of-requires-clause-held : goal.copy_of-requires-clause-held
-copy_of-requires-clause-held g c κs within = fits_at c.args.desk.now c.args.slots.now.items c.args.from c.in-Ok.handle.now c.requires.fits c.in-Ok.ensures.found
+copy_of-requires-clause-held g c κs within =
+    fits_at c.args.desk.now c.args.slots.now.items c.args.from c.in-Ok.handle.now c.requires.fits c.in-Ok.ensures.found
 
 pub returns-then-to-len : goal.returns-then-to-len
 returns-then-to-len g c = (inl (refl, omega arith), refl)

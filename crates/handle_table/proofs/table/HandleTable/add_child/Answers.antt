@@ -40,7 +40,8 @@ pub returns-clause-refused : goal.returns-clause-refused
 returns-clause-refused g c =
     let d = c.self.inside.desk in let ss = c.self.inside.slots.items in let t = seen d ss c.self.inside.pile in let m = c.child_of-came in
     let a = c.arrive in let u = seen a.new.desk a.new.slots.items a.new.pile in
-    subst (λ (x : TableNow g.row.V.Denot). IfErr a.result (λ r. WhyNotAdded x c.args.parent c.args.to r.why × (r.back ≡ c.args.value) × (u ≡ x))) c.self.view_is
+    subst (λ (x : TableNow g.row.V.Denot).
+    IfErr a.result (λ r. WhyNotAdded x c.args.parent c.args.to r.why × (r.back ≡ c.args.value) × (u ≡ x))) c.self.view_is
     (IfErr-weaker a.result _ _ (λ r p. (p.0.0, p.0.1, p.1))
     (not_brought (OfOwner (IsChild c.args.fields c.args.value) ss c.args.parent)
     (λ (r : Returned g.row.V.Denot). WhyNotAdded t c.args.parent c.args.to r.why × (r.back ≡ c.args.value))

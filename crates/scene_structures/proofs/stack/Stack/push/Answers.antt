@@ -79,7 +79,8 @@ pub returns-clause-bag : goal.returns-clause-bag
 returns-clause-bag g c =
     let d = c.args.desk.now in let m = c.make.new.desk in let l = c.load.new.desk in let e = c.in_ok-node.ensures in let node = c.in_ok-node.node in
     let t = c.in-Ok.ensures in
-    (c.raise.ensures.bag (bag_of d) (hands_got m l (bag_of d) c.in-Ok.top (node ∷ []) (hands_one d m node c.stands.ensures.bag e.bag e.held) t.bag t.held)).bag
+    (c.raise.ensures.bag (bag_of d)
+    (hands_got m l (bag_of d) c.in-Ok.top (node ∷ []) (hands_one d m node c.stands.ensures.bag e.bag e.held) t.bag t.held)).bag
 
 pub returns-clause-desk : goal.returns-clause-desk
 returns-clause-desk g c = same_then c.in_ok-node.ensures.desk (same_then (same_call c.in-Ok.ensures.keeps) c.raise.ensures.desk)

@@ -68,7 +68,6 @@ word-expected-requires c =
     named_slot t.holdings.slots.items c.args.name c.args.name
     (comes t (Compare c.args.name c.args.cell c.args.weak) can.within can.ready c.requires.act).0 refl
 
-
 pub returns-then-not-is_same_value-clause-found : goal.returns-then-not-is_same_value-clause-found
 returns-then-not-is_same_value-clause-found c = c.look_to_compare-found.ensures.found ∙ ap (seen c.args.table.now) c.cell-cell.ensures
 

@@ -119,23 +119,23 @@ returns-clause-stepped c =
     let y = compared_in slots (comparing slots k c.args.weak) in
     elim c.if-not-is_same_value.branch [
       | then-not-is_same_value+else-is_none+else-from-eq-CELL_FUNDS w ↦
-        let full : is_some x.owned ≡ true = w.if-is_none.ensures in
-        let differs : same ≡ false =
-        ap (same_value x) (sym c.word-expected.ensures) ∙ sym c.is_same_value.ensures ∙ w.if-not-is_same_value.true in
-        let either : (is_some x.owned || same) ≡ true = ap (λ (b : Bool). b || same) full in
-        looks_full d t v r.fits r.rest r.none r.within (Compare k cell c.args.weak) r.act at (Some y) x
-        (differ_looks d t v r.fits r.rest r.none r.within k cell c.args.weak r.act x look.found differs)
-        (differ_waits d t v r.fits r.rest r.none r.within k cell c.args.weak r.act x look.found differs) _ _ _ full
-        (ne_eqb x.taken 256 (λ e. w.if-from-eq-CELL_FUNDS.false (w.from.ensures ∙ e))) says
-        (look.table ∙ cond-true (is_some x.owned || same) _ _ either) (ap walk (look.stays either)) refl
+          let full : is_some x.owned ≡ true = w.if-is_none.ensures in
+          let differs : same ≡ false =
+          ap (same_value x) (sym c.word-expected.ensures) ∙ sym c.is_same_value.ensures ∙ w.if-not-is_same_value.true in
+          let either : (is_some x.owned || same) ≡ true = ap (λ (b : Bool). b || same) full in
+          looks_full d t v r.fits r.rest r.none r.within (Compare k cell c.args.weak) r.act at (Some y) x
+          (differ_looks d t v r.fits r.rest r.none r.within k cell c.args.weak r.act x look.found differs)
+          (differ_waits d t v r.fits r.rest r.none r.within k cell c.args.weak r.act x look.found differs) _ _ _ full
+          (ne_eqb x.taken 256 (λ e. w.if-from-eq-CELL_FUNDS.false (w.from.ensures ∙ e))) says
+          (look.table ∙ cond-true (is_some x.owned || same) _ _ either) (ap walk (look.stays either)) refl
       | else-not-is_same_value w ↦
-        let alike : same ≡ true =
-        ap (same_value x) (sym c.word-expected.ensures) ∙ sym c.is_same_value.ensures ∙ w.if-not-is_same_value.false in
-        let either : (is_some x.owned || same) ≡ true = or_right (is_some x.owned) same alike in
-        steps_as d t v r.fits r.rest r.none r.within (Compare k cell c.args.weak) r.act (within (walk t.course) _ None (Saw x)) _ _ _
-        (compare_sees d t v r.fits r.rest r.none r.within k cell c.args.weak r.act x look.found alike)
-        (compare_goes d t v r.fits r.rest r.none r.within k cell c.args.weak r.act x look.found alike) says
-        (look.table ∙ cond-true (is_some x.owned || same) _ _ either) (ap walk (look.stays either)) refl
+          let alike : same ≡ true =
+          ap (same_value x) (sym c.word-expected.ensures) ∙ sym c.is_same_value.ensures ∙ w.if-not-is_same_value.false in
+          let either : (is_some x.owned || same) ≡ true = or_right (is_some x.owned) same alike in
+          steps_as d t v r.fits r.rest r.none r.within (Compare k cell c.args.weak) r.act (within (walk t.course) _ None (Saw x)) _ _ _
+          (compare_sees d t v r.fits r.rest r.none r.within k cell c.args.weak r.act x look.found alike)
+          (compare_goes d t v r.fits r.rest r.none r.within k cell c.args.weak r.act x look.found alike) says
+          (look.table ∙ cond-true (is_some x.owned || same) _ _ either) (ap walk (look.stays either)) refl
     ]
 
 pub returns-clause-fits : goal.returns-clause-fits
@@ -150,17 +150,17 @@ returns-clause-fits c =
     let same = same_value x (as_word (slot_value slots k)) in
     elim c.if-not-is_same_value.branch [
       | then-not-is_same_value+else-is_none+else-from-eq-CELL_FUNDS w ↦
-        let full : is_some x.owned ≡ true = w.if-is_none.ensures in
-        let either : (is_some x.owned || same) ≡ true = ap (λ (b : Bool). b || same) full in
-        let few = ne_eqb x.taken 256 (λ e. w.if-from-eq-CELL_FUNDS.false (w.from.ensures ∙ e)) in
-        sees_cell c.args.desk t v r.fits r.rest r.none r.within x _ _ (look.stays either)
-        (look.table ∙ cond-true (is_some x.owned || same) _ _ either) look.valid
-        (subst (λ (a : Act). IsSeenBy slots x a) (sym r.act) (inr (is_loaded x look.valid full few)))
+          let full : is_some x.owned ≡ true = w.if-is_none.ensures in
+          let either : (is_some x.owned || same) ≡ true = ap (λ (b : Bool). b || same) full in
+          let few = ne_eqb x.taken 256 (λ e. w.if-from-eq-CELL_FUNDS.false (w.from.ensures ∙ e)) in
+          sees_cell c.args.desk t v r.fits r.rest r.none r.within x _ _ (look.stays either)
+          (look.table ∙ cond-true (is_some x.owned || same) _ _ either) look.valid
+          (subst (λ (a : Act). IsSeenBy slots x a) (sym r.act) (inr (is_loaded x look.valid full few)))
       | else-not-is_same_value w ↦
-        let alike : same ≡ true =
-        ap (same_value x) (sym c.word-expected.ensures) ∙ sym c.is_same_value.ensures ∙ w.if-not-is_same_value.false in
-        let either : (is_some x.owned || same) ≡ true = or_right (is_some x.owned) same alike in
-        sees_cell c.args.desk t v r.fits r.rest r.none r.within x _ _ (look.stays either)
-        (look.table ∙ cond-true (is_some x.owned || same) _ _ either) look.valid
-        (subst (λ (a : Act). IsSeenBy slots x a) (sym r.act) (inl alike))
+          let alike : same ≡ true =
+          ap (same_value x) (sym c.word-expected.ensures) ∙ sym c.is_same_value.ensures ∙ w.if-not-is_same_value.false in
+          let either : (is_some x.owned || same) ≡ true = or_right (is_some x.owned) same alike in
+          sees_cell c.args.desk t v r.fits r.rest r.none r.within x _ _ (look.stays either)
+          (look.table ∙ cond-true (is_some x.owned || same) _ _ either) look.valid
+          (subst (λ (a : Act). IsSeenBy slots x a) (sym r.act) (inl alike))
     ]

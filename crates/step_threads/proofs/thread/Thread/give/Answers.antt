@@ -24,7 +24,6 @@ use Rattle.step_threads.proofs.ThisSteps.{give_calm, give_event, give_stores, th
 use Rattle.step_threads.proofs.Threads.{own_pending}
 use Rattle.step_threads.proofs.thread.Thread.give.Goals as goal
 
-
 pub give-requires-clause-from : goal.give-requires-clause-from
 give-requires-clause-from c =
     let d = c.args.desk in

@@ -20,7 +20,6 @@ use Rattle.step_threads.proofs.Going.{found_inside, stays_ready}
 use Rattle.step_threads.proofs.StoreFits.{fits_done}
 use Rattle.step_threads.proofs.thread.Thread.read.Goals as goal
 
-
 pub go_on-requires-clause-ready : goal.go_on-requires-clause-ready
 go_on-requires-clause-ready c =
     let t = c.args.self.now in

@@ -63,4 +63,5 @@ returns-clause-stays c = λ q. absurd (false≢true (sym (sym c.is_some.ensures 
 pub returns-then-is_some-clause-holds : goal.returns-then-is_some-clause-holds
 returns-then-is_some-clause-holds c =
     subst (λ (u : Story). HoldsBag c.args.desk c.args.self.now.slots.items u)
-    (sym (c.look_cell-found.ensures.after ∙ cond-true (is_some c.look_cell-found.result.owned) _ _ (sym c.is_some.ensures ∙ c.if-is_some.true))) c.requires.holds
+    (sym (c.look_cell-found.ensures.after
+    ∙ cond-true (is_some c.look_cell-found.result.owned) _ _ (sym c.is_some.ensures ∙ c.if-is_some.true))) c.requires.holds
