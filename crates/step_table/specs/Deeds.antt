@@ -126,10 +126,6 @@ tell_expired s x = deed.Expired x.kind x.block x.place (is_expired s x)
 abbrev pub lock : State → Pointer → Deed
 lock s x = deed.Lock x.block x.place (not (is_expired s x))
 
--- what a lock gives: an owner with the weak pointer's place, if one is left
-abbrev pub owner_left : State → Pointer → Option Pointer
-owner_left s x = cond (is_expired s x) None (Some (as_owner x))
-
 -- the field that a pointer points at
 abbrev pub field_at : Object → Option Place → ℕ
 field_at o None = 0

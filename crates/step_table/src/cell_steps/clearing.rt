@@ -40,20 +40,6 @@ impl Table {
         found
     }
 
-    /// Clears a member of an ending object that is empty: the look is the clearing.
-    pub fn clear_empty(&mut self, desk: usize, block: Block, member: u8)
-        requires seat { desk < self.old.extent.actors }
-        requires idle { pending self.old desk ≡ Idle }
-        requires ending { ((story_state self.old).object (object_of_block self.old block)).phase ≡ ending desk }
-        requires inside { member < 3 }
-        requires empty { ((story_state self.old).object (object_of_block self.old block)).member member
-            ≡ empty (kind_of_member member) }
-        ensures { self.new ≡ story_after_deed self.old desk (Deed.Clear block member) }
-    {
-        let found = self.look_member(desk, block, member);
-        prove_eq!(found, 0);
-    }
-
     /// What a member of an ending object holds, and how many of its funds were taken.
     fn shown_member(&self, desk: usize, block: Block, member: u8) -> CellWord
         requires seat { desk < self.now.extent.actors }
