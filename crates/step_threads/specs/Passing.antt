@@ -27,5 +27,6 @@ pub record IsFurther (d : ℕ) (all : Vec Task) (n : ℕ) (ends : Endings) (c : 
   pub ready : CourseReady c
   pub still : CourseStill c
 
+-- the course is past the act that it was at, of the same tasks and with the same endings
 abbrev pub HasGoneOn : ℕ → Course → Course → Story → Type 0
 HasGoneOn d c c' v = IsFurther d c.tasks c.at c.endings c' v
