@@ -7,12 +7,12 @@ use control_word::place::Block;
 use step_table::memory::field::Field;
 
 /// A name of an actor by its number: its place, from 0, in the order of the declarations.
-#[derive(Clone, Copy, PartialEq, Eq)]
+#[derive(Clone, Copy, Debug, PartialEq, Eq)]
 pub struct Name(pub u8);
 
 /// A cell: an `atomic<shared_ptr>` or an `atomic<weak_ptr>`. A free one has its number, from 0, among those of its
 /// kind; a member is one of the object that a name owns and points into: 0 and 1 are shared, 2 is weak.
-#[derive(Clone, Copy)]
+#[derive(Clone, Copy, Debug, PartialEq, Eq)]
 pub enum CellName {
     Shared(u8),
     Weak(u8),
