@@ -8,6 +8,7 @@ ghost use Rattle.leak_report.specs.Lines.{holder_lines, holder_text, kept_text, 
 
 use control_word::Counts;
 use owner_graph::{Holding, is_owner};
+use script_text::put_number;
 use std::alloc::AllocError;
 use std::fmt::Write;
 use step_core::Cell;
@@ -35,14 +36,6 @@ fn kept_word(is_kept: bool) -> &'static str
     ensures { result.now ≡ kept_text is_kept }
 {
     if is_kept { "kept" } else { "leaked" }
-}
-
-/// Adds a text and a number after it.
-fn put_number(text: &mut String, before: &str, number: u64) -> Result<(), AllocError>
-    ensures { OnOk result (string_bytes text.new ≡ string_bytes text.old ++ before.now ++ decimal number) }
-{
-    write!(text, "{before}{number}")?;
-    Ok(())
 }
 
 /// Adds a free cell's word.

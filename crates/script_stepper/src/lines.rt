@@ -6,6 +6,7 @@ ghost use Rattle.script_stepper.specs.Lines.{answer_text, block_text, ended_text
 ghost use Rattle.script_stepper.specs.Lines.{place_text, said_lines, totals_text, yes_or_no};
 
 use control_word::{Counts, Place};
+use script_text::{put_number, put_numbers};
 use std::alloc::AllocError;
 use std::fmt::Write;
 use step_core::{Answer, Ended, Said};
@@ -22,15 +23,7 @@ fn put_start(text: &mut String, thread: u8, statement: u32) -> Result<(), AllocE
     Ok(())
 }
 
-/// Adds a text and a number after it.
-fn put_number(text: &mut String, before: &str, number: u64) -> Result<(), AllocError>
-    ensures { OnOk result (string_bytes text.new ≡ string_bytes text.old ++ before.now ++ decimal number) }
-{
-    write!(text, "{before}{number}")?;
-    Ok(())
-}
-
-/// The same, which ends a line.
+/// Adds a text and a number after it, which end a line.
 fn put_last(text: &mut String, before: &str, number: u64) -> Result<(), AllocError>
     ensures { OnOk result
         (string_bytes text.new ≡ string_bytes text.old ++ before.now ++ decimal number ++ 10 ∷ []) }
@@ -99,17 +92,6 @@ fn put_answer(text: &mut String, answer: Answer) -> Result<(), AllocError>
         Answer::Compared(is_equivalent) => put_words(text, "compare ", yes_or_no(is_equivalent)),
         Answer::Refused(why) => put_last(text, "refused ", u64::from(why.number())),
     }
-}
-
-/// Adds numbers, each after a space.
-fn put_numbers(text: &mut String, numbers: &[u64; 4]) -> Result<(), AllocError>
-    ensures { OnOk result
-        (string_bytes text.new ≡ string_bytes text.old ++ flat_map number_after numbers.now) }
-{
-    for number in numbers {
-        put_number(text, " ", *number)?;
-    }
-    Ok(())
 }
 
 /// Adds the fields of an object that ended, which end a line.

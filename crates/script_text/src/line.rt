@@ -90,16 +90,19 @@ fn line_of(call: &Call) -> Line
     }
 }
 
-/// A text and a number after it.
-fn put_number(text: &mut String, before: &str, number: u64) -> Result<(), AllocError>
-    ensures { OnOk result (string_bytes text.new ≡ string_bytes text.old ++ before.now ++ decimal number) }
+/// Adds a text and a number after it, in decimal digits. Refused where a growth was, when a part of
+/// both may have been added.
+pub fn put_number(text: &mut String, before: &str, number: u64) -> Result<(), AllocError>
+    ensures { OnOk result
+        (string_bytes text.new ≡ string_bytes text.old ++ before.now ++ decimal number) }
 {
     write!(text, "{before}{number}")?;
     Ok(())
 }
 
-/// Adds numbers, each after a space.
-fn put_numbers(text: &mut String, numbers: &[u64; 4]) -> Result<(), AllocError>
+/// Adds the numbers of an object's fields, each after a space. Refused where a growth was, when a
+/// part of them may have been added.
+pub fn put_numbers(text: &mut String, numbers: &[u64; 4]) -> Result<(), AllocError>
     ensures { OnOk result
         (string_bytes text.new ≡ string_bytes text.old ++ flat_map number_after numbers.now) }
 {
