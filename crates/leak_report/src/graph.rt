@@ -23,12 +23,13 @@ ghost use Rattle.leak_report.specs.Left.{AreFound, TellsOf};
 use crate::cutting::{by_source, is_listed_in};
 use crate::finding::{Found, leaks};
 use crate::knotting::Circles;
-use crate::lines::{member_word, put_free};
+use crate::lines::put_free;
 use crate::listing::Left;
 use control_word::Block;
 use control_word::limits::SCRIPT_SHARED_CELLS;
 use owner_graph::{Holding, is_owner, is_tie};
 use script_stepper::End;
+use script_text::member_text;
 use std::alloc::{AllocError, Global};
 use std::fmt::Write;
 use step_core::{Cell, World};
@@ -192,7 +193,7 @@ fn put_member_edge(
 ) -> Result<(), AllocError>
     ensures { OnOk result (AddsLines text.old text.new (member_lines from member block style.now color.now)) }
 {
-    let word = member_word(member);
+    let word = member_text(member);
     write!(text, "b{from} -> b{block}")?;
     write!(text, " [label=\" {word}\"")?;
     writeln!(text, ", style={style}{color}];")?;

@@ -3,26 +3,14 @@ ghost use Rattle.std.specs.Prelude.{◌≡◌, ◌∷◌, ◌++◌, [], OnOk, co
 ghost use Rattle.std.specs.List.{flat_map};
 ghost use Rattle.script_text.specs.Canonical.{AddsLines};
 ghost use Rattle.leak_report.specs.Cells.{block_cell_text};
-ghost use Rattle.script_text.specs.Cells.{member_text};
 ghost use Rattle.leak_report.specs.Lines.{holder_lines, holder_text, kept_text, kind_text, left_text};
 
 use control_word::Counts;
 use owner_graph::{Holding, is_owner};
-use script_text::put_number;
+use script_text::{member_text, put_number};
 use std::alloc::AllocError;
 use std::fmt::Write;
 use step_core::Cell;
-
-/// A member's name.
-pub(crate) fn member_word(member: u8) -> &'static str
-    ensures { result.now ≡ member_text member }
-{
-    match member {
-        0 => "first",
-        1 => "next",
-        _ => "up",
-    }
-}
 
 /// What a handle is.
 fn kind_word(is_owner: bool) -> &'static str
@@ -65,7 +53,7 @@ pub(crate) fn put_cell(text: &mut String, shared: u32, cell: Cell) -> Result<(),
 {
     match cell {
         Cell::Free { number } => put_free(text, shared, number),
-        Cell::Member { block, member } => put_member(text, block.0, member_word(member)),
+        Cell::Member { block, member } => put_member(text, block.0, member_text(member)),
     }
 }
 

@@ -70,7 +70,7 @@ mod words;
 
 pub use converting::convert;
 pub use fault::{Cause, Fault};
-pub use line::{put_number, put_numbers};
+pub use line::{member_text, put_number, put_numbers};
 pub use printing::print;
 pub use script::Script;
 pub use text::parse;

@@ -120,8 +120,8 @@ fn put_text(text: &mut String, word: &str) -> Result<(), AllocError>
     Ok(())
 }
 
-/// How a member is spelled.
-fn member_text(member: u8) -> &'static str
+/// How a member is spelled, by its number: `first`, `next`, and `up` for every other.
+pub fn member_text(member: u8) -> &'static str
     ensures { result.now ≡ member_text member }
 {
     match member {
