@@ -1,5 +1,5 @@
 -- What the desk that closes tells of the handles of an object, in cells and in its own bag.
-use Rattle.std.proofs.Common.{◌≡◌, ℕ, ◌+◌, ◌-◌, ◌<◌, ◌==◌, Bool, true, false}
+use Rattle.std.proofs.Common.{◌≡◌, ℕ, ◌+◌, ◌<◌, ◌==◌, Bool, true, false}
 use Rattle.std.proofs.Common.{Some, List, map, refl, sym, subst, ◌∙◌, ⊎_elim}
 use Rattle.std.proofs.Common.{arith, eq-eqb}
 use Rattle.std.proofs.lemmas.Bool.{cases_lt}

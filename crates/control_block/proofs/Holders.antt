@@ -11,7 +11,7 @@ use Rattle.control_word.proofs.lists.Tallies.{tally_append, tally_cons}
 use Rattle.control_word.proofs.words.Banks.{sum_all, sum_set}
 use Rattle.control_word.proofs.words.Funds.{cell_busy, member_busy}
 use Rattle.control_word.specs.Handles.{empty, handle, same_kind}
-use Rattle.control_word.specs.State.{Has, Held, InShape, Object, Opening, State, bag, common, handles, in_cells}
+use Rattle.control_word.specs.State.{Has, Held, InShape, Object, Opening, State, common, in_cells}
 use Rattle.control_word.specs.State.{kind_of_free, kind_of_member, members, sum_below, tally, upto, weak_number}
 use Rattle.control_word.specs.Words.{blocks_of, owned_bits}
 use Rattle.control_word.specs.declared.model.handle.Handle.{Handle}

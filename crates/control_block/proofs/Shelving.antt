@@ -1,6 +1,6 @@
 -- Blocks that go between a desk's store and the shelf.
-use Rattle.std.proofs.Common.{◌≡◌, ◌≢◌, ℕ, suc, ◌+◌, ◌-◌, ◌*◌, ◌/◌, ◌%◌, ◌^◌, ◌<◌, ◌≤◌, Bool, true, false, cond}
-use Rattle.std.proofs.Common.{List, [], ◌∷◌, ◌++◌, map, length}
+use Rattle.std.proofs.Common.{◌≡◌, ◌≢◌, ℕ, suc, ◌+◌, ◌-◌, ◌/◌, ◌%◌, ◌^◌, ◌<◌, ◌≤◌, Bool, true, false, cond}
+use Rattle.std.proofs.Common.{[], ◌∷◌, ◌++◌, map}
 use Rattle.std.proofs.Common.{length-append, None, refl, sym, ap, subst, ◌∙◌, ⊎_elim, arith}
 use Rattle.std.proofs.lemmas.Bool.{cases_eq, cases_lt}
 use Rattle.std.proofs.lemmas.List.{map-append}
@@ -24,7 +24,7 @@ use Rattle.control_word.specs.declared.model.event.Event.TheVariants.{Shelve, Un
 use Rattle.control_word.specs.declared.place.Block.{Block}
 use Rattle.control_word.specs.declared.shape.Shape.{Shape}
 use Rattle.control_word.specs.declared.model.view.Pending.TheVariants.{Idle}
-use Rattle.control_block.specs.Desks.{AddsEvent, Belongs, DeskNow, DomainNow, IsSameDesk, KeepsEndings, allowance_of, state_of, stock_of}
+use Rattle.control_block.specs.Desks.{AddsEvent, Belongs, DeskNow, DomainNow, IsSameDesk, KeepsEndings, allowance_of, state_of}
 use Rattle.control_block.specs.Inside.{IsDeskWith, desk_now}
 use Rattle.control_block.specs.Own.{IsSole}
 use Rattle.control_block.specs.Plays.{Added, known}

@@ -4,13 +4,13 @@ use Rattle.std.proofs.Common.{refl, sym, ap, subst, ◌∙◌, inl, inr, arith}
 use Rattle.std.specs.Prelude.{min}
 use Rattle.control_block.specs.Desks.{DeskNow, DomainNow, allowance_of, endings_of, held_of, stock_of}
 use Rattle.control_block.specs.Own.{IsSole}
-use Rattle.control_block.specs.Shelf.{Passes, Unshelved, shelved_of}
+use Rattle.control_block.specs.Shelf.{Passes, shelved_of}
 use Rattle.control_word.specs.State.{Stored}
 use Rattle.control_word.specs.declared.model.event.Event.{Event}
 use Rattle.control_word.specs.declared.place.Block.{Block}
 use Rattle.handle_table.specs.Calls.{IsBelow, WhyNotMade}
 use Rattle.handle_table.specs.Shelving.{Supplies, TakesFromShelf, WhyNotSupplied}
-use Rattle.handle_table.specs.Tables.{FitsSlots, IsWhole, Slot, TableNow}
+use Rattle.handle_table.specs.Tables.{IsWhole, Slot, TableNow}
 use Rattle.handle_table.specs.declared.fault.Fault.{Fault}
 use Rattle.handle_table.proofs.Filling.{fits_still}
 use Rattle.shared_handle.proofs.Piles.{bears_kept}

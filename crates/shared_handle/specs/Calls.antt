@@ -11,7 +11,6 @@ use Rattle.control_word.specs.declared.model.handle.Kind.{Kind}
 use Rattle.control_word.specs.declared.model.handle.Kind.TheVariants.{Owner, Weak}
 use Rattle.control_word.specs.declared.place.Block.{Block}
 use Rattle.control_word.specs.declared.place.Place.{Place}
-use Rattle.control_block.specs.CellCalls as inner
 use Rattle.control_block.specs.declared.handles.Pointer.{Pointer}
 use Rattle.control_block.specs.Desks.{AddsEvent, DeskNow, allowance_of, latest_of, on_latest, state_of}
 

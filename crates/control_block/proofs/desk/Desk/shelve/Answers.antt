@@ -1,5 +1,4 @@
-use Rattle.std.proofs.Common.{◌≡◌, ◌+◌, ◌<◌, ◌≤◌, length, refl, sym, ap, subst, ◌∙◌, arith}
-use Rattle.control_block.specs.Desks.{stock_of}
+use Rattle.std.proofs.Common.{arith}
 use Rattle.control_block.proofs.Shelving.{belongs_on, shelved_none, shelved_on}
 use Rattle.control_block.proofs.desk.Desk.shelve.Goals as goal
 

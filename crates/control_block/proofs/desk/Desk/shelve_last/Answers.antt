@@ -1,4 +1,4 @@
-use Rattle.std.proofs.Common.{◌+◌, ◌/◌, ◌<◌, ◌≤◌, refl, sym, ap, ◌∙◌, arith, None, length}
+use Rattle.std.proofs.Common.{◌/◌, refl, sym, ap, ◌∙◌, arith, None, length}
 use Rattle.control_word.specs.declared.model.event.Event.TheVariants.{Shelve}
 use Rattle.control_word.specs.declared.model.view.Pending.TheVariants.{Idle}
 use Rattle.control_block.specs.Desks.{stock_of}

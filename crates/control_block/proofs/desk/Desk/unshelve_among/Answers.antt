@@ -1,5 +1,4 @@
-use Rattle.std.proofs.Common.{◌≡◌, ◌+◌, ◌-◌, ◌<◌, ◌≤◌, ◌/◌, ℕ, refl, sym, ap, ◌∙◌, ⊎_elim, arith}
-use Rattle.std.proofs.lemmas.Bool.{cases_lt}
+use Rattle.std.proofs.Common.{refl, ◌∙◌, arith}
 use Rattle.control_block.proofs.Shelving.{belongs_on, unshelved_none, unshelved_on, words_on}
 use Rattle.control_block.proofs.desk.Desk.unshelve_among.Goals as goal
 

@@ -1,4 +1,4 @@
-use Rattle.std.proofs.Common.{◌≡◌, ℕ, length, refl, sym, ap, ◌∙◌, inl, inr, arith}
+use Rattle.std.proofs.Common.{length, sym, ap, ◌∙◌, inr, arith}
 use Rattle.control_block.specs.Desks.{allowance_of, held_of, stock_of}
 use Rattle.handle_table.specs.Tables.{TableNow}
 use Rattle.handle_table.proofs.Supplying.{no_stock, none_found, one_sought}

@@ -1,4 +1,4 @@
-use Rattle.std.proofs.Common.{◌≡◌, ℕ, ◌+◌, cond, List, [], ◌∷◌, ◌++◌}
+use Rattle.std.proofs.Common.{◌≡◌, ◌+◌, cond, List, [], ◌∷◌, ◌++◌}
 use Rattle.control_block.specs.Desks.{IsSameDesk, bag_of}
 use Rattle.control_block.specs.Own.{Does}
 use Rattle.shared_handle.specs.Piles.{AreRounds, IsParting, KeepsElsewhere, Past, Stacked, values_of}
