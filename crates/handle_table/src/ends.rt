@@ -10,7 +10,7 @@ use crate::table::{HandleTable, Home};
 use shared_handle::Round;
 
 /// What an object was made as: with these fields, or of an owned null pointer.
-#[derive(Clone, Copy, Drop)]
+#[derive(Clone, Copy, PartialEq, Eq, Debug, Drop)]
 pub enum Remains {
     Fields([u64; 4]),
     Null,
