@@ -16,8 +16,7 @@ ghost use Rattle.holders.specs.Holdings.{AllCounted};
 ghost use Rattle.leak_report.specs.Findings.{findings, held_at, ties_at};
 ghost use Rattle.leak_report.specs.Graph.{all_nodes, color_text, edge_by, edge_lines, free_lines};
 ghost use Rattle.leak_report.specs.Graph.{box_text, fields_text, free_text, head_lines, is_listed, is_tied};
-ghost use Rattle.leak_report.specs.Graph.{member_lines};
-ghost use Rattle.leak_report.specs.Graph.{node_lines, node_text, style_text, tie_text};
+ghost use Rattle.leak_report.specs.Graph.{member_lines, node_lines, node_text, style_text, tie_text};
 ghost use Rattle.leak_report.specs.Left.{AreFound, TellsOf};
 
 use crate::cutting::{by_source, is_listed_in};
