@@ -31,6 +31,7 @@ impl<V: Drop + Send> Pile<V> {
     }
 
     /// The same, and `take` gets each value as it comes out (own).
+    #[inline(always)]
     pub fn settle_with<R: Wait, F: FnMut(V)>(
         &mut self,
         rt: &R,
