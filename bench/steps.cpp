@@ -17,6 +17,8 @@ struct alignas(256) Word {
 struct alignas(256) Own {
     volatile std::uint32_t number = 0;
     alignas(128) volatile std::uint32_t apart = 0;
+    // Where a handle lies in memory: two tags, and its parts.
+    alignas(128) volatile std::uint16_t handle[7] = {};
 };
 
 Word common;
@@ -49,6 +51,19 @@ void two_adds_and_two_stores(Own& own) {
     own.number = 2;
     own.apart = 0;
     common.word.fetch_sub(1);
+    own.number = 1;
+}
+
+// As a handle comes and leaves that lies in memory meanwhile, whoever keeps it there.
+void two_adds_and_a_handle(Own& own) {
+    common.word.fetch_add(1);
+    own.number = 2;
+    for (int part = 0; part < 7; part++) {
+        own.handle[part] = 1;
+    }
+    const std::uint64_t one = own.handle[2];
+    own.handle[0] = 0;
+    common.word.fetch_sub(one);
     own.number = 1;
 }
 
@@ -111,4 +126,5 @@ int main() {
     tell<two_adds>("two locked adds, and a store");
     tell<two_adds_and_a_store>("the same, and a store between them");
     tell<two_adds_and_two_stores>("the same, and one to another cache line");
+    tell<two_adds_and_a_handle>("the same, and a handle in another cache line");
 }

@@ -147,7 +147,7 @@ fn all_passes<R: Clock + CpuClock + Threads + Wait + Sync + Print>(
 ) -> io::Result<()> {
     passes_of_team(rt, alloc, passes)?;
     handles::alone::measure(rt, alloc, passes)?;
-    handles::piles::measure(rt, alloc, passes)?;
+    handles::kept::measure(rt, alloc, passes)?;
     passes_of_others(rt, alloc, passes)
 }
 
