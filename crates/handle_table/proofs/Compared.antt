@@ -1,6 +1,6 @@
 -- What a compare does to the handles that a desk has.
-use Rattle.std.proofs.Common.{◌≡◌, ℕ, zero, suc, ◌+◌, ◌<◌, Bool, true, false, cond, List, [], ◌∷◌, length, set, Some, None, sym, ap}
-use Rattle.std.proofs.Common.{◌∙◌, arith}
+use Rattle.std.proofs.Common.{◌≡◌, ℕ, zero, suc, ◌+◌, ◌<◌, Bool, true, false, cond, List, [], ◌∷◌, length, set, Some, None}
+use Rattle.std.proofs.Common.{◌∙◌, arith, get_or, refl, sym, ap}
 use Rattle.std.proofs.lemmas.Bool.{cond-true, cond-false}
 use Rattle.std.specs.Prelude.{slice_get}
 use Rattle.control_word.specs.declared.model.handle.Kind.{Kind}
@@ -19,6 +19,18 @@ pub found_below : {A : Type 0} (l : List A) (i : ℕ) (x : A) → slice_get l i 
 found_below [] i x e = absurd (cc e)
 found_below (a ∷ l) zero x e = omega arith
 found_below (a ∷ l) (suc i) x e = let ih = found_below l i x e in omega arith
+
+-- the element at a place below the length is there
+pub is_there : {A : Type 0} (l : List A) (i : ℕ) (x : A) → i < length l → x ≡ get_or l i x → slice_get l i ≡ Some x
+is_there [] i x less e = absurd (omega (arith, less))
+is_there (a ∷ l) zero x less e = ap (λ (y : _). Some y) (sym e)
+is_there (a ∷ l) (suc i) x less e = is_there l i x (omega (arith, less)) e
+
+-- what is put where it lies already changes nothing
+pub put_same : {A : Type 0} (l : List A) (i : ℕ) (x : A) → slice_get l i ≡ Some x → set l i x ≡ l
+put_same [] i x e = refl
+put_same (a ∷ l) zero x e = ap (λ (y : _). y ∷ l) (sym (cc e))
+put_same (a ∷ l) (suc i) x e = ap (λ (m : List _). a ∷ m) (put_same l i x e)
 
 module _ {V : Type 0} where
   -- a handle in a slot is held

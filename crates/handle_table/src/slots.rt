@@ -119,13 +119,12 @@ pub(crate) fn take_handle(slots: &mut Vec<Option<Held>>, at: usize) -> Result<He
         × (slots.new.items ≡ slice_set slots.old.items at None)) }
     ensures fault { IfErr result (λ why. WhyNoHandle slots.old.items at why × (slots.new.items ≡ slots.old.items)) }
 {
-    match handle_at(slots, at) {
-        Ok(_) => {}
-        Err(why) => return Err(why),
-    }
-    match empty_out(slots, at) {
+    let Some(slot) = slots.get_mut(at) else {
+        return Err(Fault::Slot);
+    };
+    match slot.take() {
         Some(handle) => Ok(handle),
-        None => unreachable!(),
+        None => Err(Fault::Vacant),
     }
 }
 

@@ -1,5 +1,13 @@
-use Rattle.handle_table.proofs.Compared.{found_below}
+use Rattle.std.proofs.Common.{◌≡◌, ◌∙◌, Some, None, set, slice_get, sym, ap, subst}
+use Rattle.handle_table.proofs.Compared.{is_there, put_same}
+use Rattle.handle_table.specs.Tables.{Slot}
 use Rattle.handle_table.proofs.slots.take_handle.Goals as goal
 
-pub empty_out-requires : goal.empty_out-requires
-empty_out-requires c = found_below c.args.slots.now.items c.args.at _ c.in-Ok.ensures.found
+pub returns-in-None-clause-fault : goal.returns-in-None-clause-fault
+returns-in-None-clause-fault c =
+    let ss = c.args.slots.now.items in
+    let at = c.args.at in
+    let item = c.in-Some.ensures.item in
+    let found : slice_get ss at ≡ Some None =
+    is_there ss at c.in-Some.slot.now item.3.0 item.1 ∙ ap (λ (s : Slot). Some s) (sym c.take.ensures.value ∙ c.in-None.is) in
+    (found, subst (λ (s : Slot). set ss at s ≡ ss) (sym c.take.ensures.after) (put_same ss at None found))
