@@ -80,10 +80,12 @@ impl<'d, H: Home> Work<HandleTable<'d, (), H>> for MakeAndEnd {
 
     #[inline(always)]
     fn once<R: Wait>(&self, rt: &R, table: &mut HandleTable<'d, (), H>) -> bool {
-        let made = made(table, SPARE);
+        if !made(table, SPARE) {
+            return false;
+        }
         let reset = done(table.reset(SPARE));
         table.settle(rt);
-        made & reset
+        reset
     }
 }
 
@@ -96,8 +98,7 @@ impl<'d, H: Home> Work<HandleTable<'d, (), H>> for CopyAndReset {
 
     #[inline(always)]
     fn once<R: Wait>(&self, _rt: &R, table: &mut HandleTable<'d, (), H>) -> bool {
-        let copied = done(table.copy(OWN, SPARE));
-        copied & done(table.reset(SPARE))
+        done(table.copy(OWN, SPARE)) && done(table.reset(SPARE))
     }
 }
 
@@ -110,8 +111,7 @@ impl<'d, H: Home> Work<HandleTable<'d, (), H>> for LockAndReset {
 
     #[inline(always)]
     fn once<R: Wait>(&self, rt: &R, table: &mut HandleTable<'d, (), H>) -> bool {
-        let locked = done(table.lock(rt, WEAK, SPARE));
-        locked & done(table.reset(SPARE))
+        done(table.lock(rt, WEAK, SPARE)) && done(table.reset(SPARE))
     }
 }
 
@@ -124,8 +124,7 @@ impl<'d, H: Home> Work<HandleTable<'d, (), H>> for LoadAndReset {
 
     #[inline(always)]
     fn once<R: Wait>(&self, rt: &R, table: &mut HandleTable<'d, (), H>) -> bool {
-        let loaded = done(table.load(rt, CELL, SPARE));
-        loaded & done(table.reset(SPARE))
+        done(table.load(rt, CELL, SPARE)) && done(table.reset(SPARE))
     }
 }
 

@@ -36,11 +36,12 @@ fn chunk<T, W: Work<T>, R: Wait>(rt: &R, work: &W, on: &mut T, turns: u32) -> bo
     requires { W.is_ready work.now on.old }
     ensures { W.is_ready work.now on.new }
 {
-    let mut whole = true;
     for _ in 0..turns {
-        whole &= work.once(rt, on);
+        if !work.once(rt, on) {
+            return false;
+        }
     }
-    whole
+    true
 }
 
 /// Chunks of so many turns, for as long as a row runs.

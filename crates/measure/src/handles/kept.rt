@@ -1,7 +1,13 @@
 //! The rows of calls on handles that lie in memory, by one thread: what a handle table's calls do, with the handles in
 //! fields of their own and a pile beside them.
-ghost use Rattle.std.specs.Prelude.{◌≡◌, ◌<◌, None, Some};
-ghost use Rattle.measure.specs.Kept.{IsKept, IsLentTo};
+ghost use Rattle.std.specs.Prelude.{◌≡◌, ◌<◌, ◌++◌, List, IfSome};
+ghost use Rattle.control_word.specs.declared.model.handle.Kind.TheVariants.{Owner};
+ghost use Rattle.control_block.specs.CellCalls.{HoldsHandle};
+ghost use Rattle.control_block.specs.Desks.{IsSameDesk};
+ghost use Rattle.control_block.specs.Parting.{HoldsAll};
+ghost use Rattle.control_block.specs.declared.handles.Held.{Held};
+ghost use Rattle.shared_handle.specs.Piles.{Carries};
+ghost use Rattle.measure.specs.Kept.{IsKept, IsLentTo, spare_in};
 ghost use Rattle.measure.specs.Rows.{IsOnlyDesk};
 
 mod bringing;
@@ -9,14 +15,14 @@ mod bringing;
 use crate::domains::{close, open, out_of_memory};
 use crate::handles::cell_rounds::StoreCopy;
 use crate::handles::kept::bringing::{Brings, Copy, Load, Lock, Make};
-use crate::handles::rounds::{Act, FIELDS};
+use crate::handles::rounds::{Act, FIELDS, end};
 use crate::rows::Label;
 use crate::work::{Work, tell_all};
 use control_block::desk::Desk;
 use control_block::domain::Domain;
 use control_block::handles;
 use control_word::Shape;
-use shared_handle::{Pile, Shared, downgrade, drop_shared, make, reset};
+use shared_handle::{Pile, Shared, downgrade, drop_shared, make, release_weak, reset};
 use std::alloc::Global;
 use std::io;
 use std::marker::PhantomData;
@@ -52,23 +58,25 @@ pub(crate) struct Kept {
     spare: Option<Shared>,
 }
 
-/// An owner goes where the spare one may lie, and what lay there leaves. Between two rounds nothing does.
+/// The owner that lay where another came leaves, if one did.
 #[inline(always)]
-fn assign(domain: &Domain<()>, kept: &mut Kept, owner: Shared)
-    requires { kept.old.spare ≡ None }
-    ensures { kept.new ≡ record kept.old { spare = Some owner } }
+fn leave(domain: &Domain<()>, desk: &mut Desk<()>, pile: &mut Pile<()>, old: Option<Shared>)
+    requires carries { Carries domain.now desk.old pile.old }
+    requires holds { IfSome old (λ s. HoldsHandle desk.old Owner s.block s.place) }
+    ensures carries { Carries domain.now desk.new pile.new }
+    ensures desk { IsSameDesk desk.old desk.new }
+    ensures rest { (hs : List Held) → HoldsAll desk.old (spare_in old ++ hs) → HoldsAll desk.new hs }
 {
-    match std::mem::replace(&mut kept.spare, Some(owner)) {
+    match old {
         None => {}
-        Some(old) => {
-            drop_shared(domain, &mut kept.desk, &mut kept.pile, old);
+        Some(owner) => {
+            drop_shared(domain, desk, pile, owner);
         }
     }
 }
 
-/// An owner comes, is assigned, and is reset: whether no call was refused.
+/// An owner comes, is assigned where the spare one lies, which leaves then, and is reset: whether no call was refused.
 #[inline(always)]
-#[tactic(auto, using(shared_handle::proofs::Callers::first_out))]
 fn come_and_reset<B: Brings, R: Wait>(
     rt: &R,
     domain: &Domain<()>,
@@ -79,10 +87,12 @@ fn come_and_reset<B: Brings, R: Wait>(
     requires { IsKept domain.now own.now weak.now kept.old }
     ensures { IsKept domain.now own.now weak.now kept.new }
 {
+    kept.desk.stands();
     let Some(owner) = B::bring(rt, domain, &mut kept.desk, own, weak) else {
         return false;
     };
-    assign(domain, kept, owner);
+    let old = std::mem::replace(&mut kept.spare, Some(owner));
+    leave(domain, &mut kept.desk, &mut kept.pile, old);
     reset(domain, &mut kept.desk, &mut kept.pile, &mut kept.spare);
     true
 }
@@ -180,7 +190,9 @@ fn with_handles<R: Clock + CpuClock + Wait + Print>(
     ensures { IsLentTo domain.now own.now weak.now result.0 }
 {
     let mut desk = desk;
-    let filled = fill(rt, domain, &mut desk, own, weak);
+    if !fill(rt, domain, &mut desk, own, weak) {
+        return (desk, Err(out_of_memory()));
+    }
     let Ok(pile) = Pile::new(alloc, domain) else {
         return (desk, Err(out_of_memory()));
     };
@@ -189,20 +201,13 @@ fn with_handles<R: Clock + CpuClock + Wait + Print>(
         pile,
         spare: None,
     };
-    let lent = Lent { domain, own, weak };
-    let told = match filled {
-        true => tell_rows(rt, lent, &mut kept, passes),
-        false => Err(out_of_memory()),
-    };
+    let told = tell_rows(rt, Lent { domain, own, weak }, &mut kept, passes);
     let Kept { desk, pile, spare } = kept;
+    let mut desk = desk;
+    let mut pile = pile;
+    leave(domain, &mut desk, &mut pile, spare);
+    pile.settle(rt, domain, &mut desk);
     pile.close();
-    match spare {
-        None => {}
-        Some(owner) => {
-            owner.into_parts();
-            unreachable!()
-        }
-    }
     (desk, told)
 }
 
@@ -223,14 +228,14 @@ fn with_desk<R: Clock + CpuClock + Wait + Print>(
         return (desk, Err(out_of_memory()));
     };
     let Ok(weak) = downgrade(domain, &mut desk, &own) else {
-        own.into_parts();
+        end(domain, &mut desk, own);
         return (desk, Err(out_of_memory()));
     };
-    let told = with_handles(rt, alloc, domain, desk, &own, &weak, passes);
-    // the object goes with the domain
-    own.into_parts();
-    weak.into_parts();
-    told
+    let (desk, told) = with_handles(rt, alloc, domain, desk, &own, &weak, passes);
+    let mut desk = desk;
+    release_weak(domain, &mut desk, weak);
+    end(domain, &mut desk, own);
+    (desk, told)
 }
 
 /// The rows on a domain of their own, so many times.
