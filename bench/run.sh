@@ -10,6 +10,7 @@ trap 'rm -rf "$build"' EXIT
 cp ../crates/measure/out/measure "$build/measure"
 g++ -std=c++20 -O2 -Wall -Wextra -o "$build/peers" peers.cpp -lpthread
 g++ -std=c++20 -O2 -Wall -Wextra -o "$build/steps" steps.cpp -lpthread
+g++ -std=c++20 -O2 -Wall -Wextra -o "$build/gaps" gaps.cpp
 arc_swap=()
 for source in /usr/share/cargo/registry/arc-swap-*/src/lib.rs; do
   [ -f "$source" ] || continue
@@ -28,3 +29,4 @@ load=$(uptime | sed 's/.*average//')
 echo "$(uname -n), $model, $(nproc) processors, $(date -u +%F), load$load"
 python3 table.py "$build"/measure.* "$build"/peers.* "$build"/arc.*
 "$build/steps"
+"$build/gaps"
