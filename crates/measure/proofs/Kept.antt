@@ -1,13 +1,12 @@
 -- The handles of a desk whose spare owner lies in memory.
-use Rattle.std.proofs.Common.{◌≡◌, ℕ, ◌+◌, ◌-◌, ◌≤◌, List, ◌∷◌, [], ◌++◌, Option, None, Some, IfSome}
-use Rattle.std.proofs.Common.{inl, inr, refl, sym, subst, length}
+use Rattle.std.proofs.Common.{◌≡◌, ◌+◌, List, ◌∷◌, [], ◌++◌, Option, None, Some}
+use Rattle.std.proofs.Common.{inl, inr, refl, sym, subst}
 use Rattle.std.proofs.lemmas.List.Sorted.{IsPermutation-append_comm, IsPermutation-append_left, IsPermutation-refl}
 use Rattle.std.specs.List.Sorted.{IsPermutation}
-use Rattle.control_word.specs.declared.model.handle.Handle.{Handle}
-use Rattle.control_word.specs.declared.model.handle.Kind.TheVariants.{Owner, Weak}
+use Rattle.control_word.specs.declared.model.handle.Kind.TheVariants.{Owner}
 use Rattle.control_block.specs.CellCalls.{HoldsHandle, with_handle}
 use Rattle.control_block.specs.Desks.{DeskNow, bag_of}
-use Rattle.control_block.specs.Parting.{AreIn, HoldsAll, listed}
+use Rattle.control_block.specs.Parting.{HoldsAll}
 use Rattle.control_block.specs.Standing.{Standing}
 use Rattle.control_block.specs.declared.handles.Held.{Held}
 use Rattle.control_block.specs.declared.handles.Held.TheVariants as held
@@ -17,9 +16,7 @@ use Rattle.control_block.proofs.HandleLists.{holds_each, holds_in_order, holds_m
 use Rattle.measure.specs.Kept.{lent_in, spare_in}
 
 module _ (d : DeskNow (Unit {0})) (h : Shared) (w : weak_handle.Weak) where
-  pub weak_lent : HoldsAll d (lent_in h w) → HoldsHandle d Weak w.block w.place
-  weak_lent all = holds_each d (held.Weak w) (lent_in h w) all (inl refl)
-
+  -- the owner that is lent
   pub owner_lent : HoldsAll d (lent_in h w) → HoldsHandle d Owner h.block h.place
   owner_lent all = holds_each d (held.Owner h) (lent_in h w) all (inr (inl refl))
 
@@ -28,14 +25,8 @@ module _ (d : DeskNow (Unit {0})) (h : Shared) (w : weak_handle.Weak) where
   all_lent None all = all
   all_lent (Some x) all = holds_rest d (held.Owner x) (lent_in h w) all
 
--- the spare owner is held
-pub spare_held : (d : DeskNow (Unit {0})) (s : Option Shared) (l : List Held) → HoldsAll d (spare_in s ++ l)
-    → IfSome s (λ x. HoldsHandle d Owner x.block x.place)
-spare_held d None l all = tt
-spare_held d (Some x) l all = holds_each d (held.Owner x) (held.Owner x ∷ l) all (inl refl)
-
 -- an owner that came stands behind the spare one
-pub behind_spare : (s : Option Shared) (x : Held) (l : List Held) → IsPermutation (x ∷ (spare_in s ++ l)) (spare_in s ++ x ∷ l)
+behind_spare : (s : Option Shared) (x : Held) (l : List Held) → IsPermutation (x ∷ (spare_in s ++ l)) (spare_in s ++ x ∷ l)
 behind_spare None x l = IsPermutation-refl (x ∷ l)
 behind_spare (Some h) x l =
     IsPermutation-append_left l (x ∷ held.Owner h ∷ []) (held.Owner h ∷ x ∷ [])
@@ -51,11 +42,3 @@ came_for d e f s old x l stands all bag count same left =
     let more = holds_more d e h (spare_in s ++ l) stands all bag count in
     let behind = holds_in_order e (h ∷ (spare_in s ++ l)) (spare_in s ++ h ∷ l) (behind_spare s h l) more in
     left (h ∷ l) (subst (λ (o : Option Shared). HoldsAll e (spare_in o ++ h ∷ l)) (sym same) behind)
-
--- a desk with the same handles holds them all
-pub all_kept : (d e : DeskNow (Unit {0})) (hs : List Held) → HoldsAll d hs → bag_of e ≡ bag_of d → e.held ≡ d.held → HoldsAll e hs
-all_kept d e hs all bag held =
-    record {
-      objects = subst (AreIn (listed hs)) (sym bag) all.objects;
-      empty = subst (λ (y : List Handle × ℕ). length hs - length (listed hs) ≤ y.1 - length y.0) (λ i. (sym bag i, sym held i)) all.empty;
-    }
