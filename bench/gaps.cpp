@@ -1,5 +1,5 @@
-// What instructions that do nothing cost between two locked ones on one word: a loop as LLVM makes it of a share and a
-// release, with so many of them between the two.
+// What stands between two locked instructions on one word: a loop as LLVM makes it of a share and a release, with so many
+// instructions that do nothing between the two, or so many stores, or as many stores before the first.
 #include <algorithm>
 #include <array>
 #include <chrono>
@@ -12,6 +12,13 @@ struct alignas(64) Desk {
     std::uint32_t held = 3;
     std::uint32_t endings = 0;
     std::uint32_t allowance = 64;
+    std::array<char, 16> slot{};
+};
+
+struct Gap {
+    int idle = 0;
+    int stores = 0;
+    int stores_before = 0;
 };
 
 struct alignas(256) Word {
@@ -19,7 +26,7 @@ struct alignas(256) Word {
 };
 
 // The allowance is looked at, and the handle counted; an owner more, and one less; the handle is counted out.
-template <int idle>
+template <Gap gap>
 void share_and_release(Desk& desk, Word* const& words, long turns) {
     asm volatile(R"(
     1:  movl 0(%[desk]), %%eax
@@ -31,9 +38,19 @@ void share_and_release(Desk& desk, Word* const& words, long turns) {
         incl %%eax
         movl %%eax, 0(%[desk])
         movq (%[words]), %%rcx
+        .set at, 12
+        .rept %c[before]
+        movb $1, at(%[desk])
+        .set at, at + 1
+        .endr
         lock incq (%%rcx)
         .rept %c[idle]
         nop
+        .endr
+        .set at, 12
+        .rept %c[stores]
+        movb $1, at(%[desk])
+        .set at, at + 1
         .endr
         movq (%[words]), %%rcx
         lock decq (%%rcx)
@@ -42,11 +59,12 @@ void share_and_release(Desk& desk, Word* const& words, long turns) {
         jnz 1b
     2:)"
                  : [turns] "+r"(turns)
-                 : [desk] "r"(&desk), [words] "r"(&words), [idle] "i"(idle)
+                 : [desk] "r"(&desk), [words] "r"(&words), [idle] "i"(gap.idle), [stores] "i"(gap.stores),
+                   [before] "i"(gap.stores_before)
                  : "rax", "rcx", "cc", "memory");
 }
 
-template <int idle>
+template <Gap gap>
 void tell() {
     using Clock = std::chrono::steady_clock;
     Desk desk;
@@ -55,25 +73,28 @@ void tell() {
     std::array<double, 300> samples;
     for (double& sample : samples) {
         const auto begin = Clock::now();
-        share_and_release<idle>(desk, words, 20'000);
+        share_and_release<gap>(desk, words, 20'000);
         sample = std::chrono::duration<double, std::nano>(Clock::now() - begin).count() / 20'000;
     }
     std::sort(samples.begin(), samples.end());
-    std::printf("%8d %8.1f\n", idle, samples[samples.size() / 10]);
+    std::printf("%8d %8d %14d %8.1f\n", gap.idle, gap.stores, gap.stores_before, samples[samples.size() / 10]);
+}
+
+template <int... idle>
+void tell_idle() {
+    (tell<Gap{.idle = idle}>(), ...);
+}
+
+template <int... stores>
+void tell_stores() {
+    (tell<Gap{.stores = stores}>(), ...);
+    (tell<Gap{.stores_before = stores}>(), ...);
 }
 
 }  // namespace
 
 int main() {
-    std::printf("%8s %8s\n", "idle", "ns");
-    tell<0>();
-    tell<4>();
-    tell<8>();
-    tell<9>();
-    tell<10>();
-    tell<11>();
-    tell<12>();
-    tell<16>();
-    tell<32>();
-    tell<48>();
+    std::printf("%8s %8s %14s %8s\n", "idle", "stores", "stores before", "ns");
+    tell_idle<0, 4, 8, 9, 10, 11, 12, 16, 32, 48>();
+    tell_stores<1, 2, 3, 4, 6, 8>();
 }
