@@ -1,6 +1,5 @@
 -- What two calls one after the other keep.
-use Rattle.std.proofs.Common.{◌∙◌, ◌≡◌, ℕ, subst, ◌<◌}
-use Rattle.control_word.specs.declared.shape.Shape.{Shape}
+use Rattle.std.proofs.Common.{◌∙◌}
 use Rattle.control_block.specs.Desks.{DeskNow, Keeps, KeepsEndings, KeepsStock}
 
 module _ {V : Type 0} where
@@ -18,7 +17,3 @@ module _ {V : Type 0} where
         stock = b.stock ∙ a.stock;
         endings = endings_both d e f a.endings b.endings;
       }
-
--- the cell is one of the domain's
-pub cell_of_domain : (i : ℕ) (z y : Shape) → z ≡ y → i < z.weak_cells → i < y.weak_cells
-cell_of_domain i z y is low = subst (λ (s : Shape). i < s.weak_cells) is low

@@ -83,10 +83,6 @@ module _ {A : Type 0} (same : A → A → Bool) (truth : (x y : A) → same x y 
   less_map f was [] l = refl
   less_map f was (u ∷ us) l = less_map f was us (without same (was (f u)) l)
 
-pub without_is : (hs l : List Handle) → less_all same_handle (λ (h : Handle). h) hs l ≡ without_all hs l
-without_is [] l = refl
-without_is (h ∷ hs) l = without_is hs (without same_handle h l)
-
 -- The things of a list are seen by f as handles, and g tells of which thing a handle is
 module _ {A : Type 0} (same : A → A → Bool) (truth : (x y : A) → same x y ≡ true → x ≡ y) (self : (x : A) → same x x ≡ true)
     (f : A → Handle) (g : Handle → A) where

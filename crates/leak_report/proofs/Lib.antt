@@ -1,4 +1,3 @@
 pub mod Circling
 pub mod Drawing
-pub mod Leaking
 pub mod Telling

@@ -10,7 +10,7 @@ use Rattle.step_table.specs.declared.cell_steps.cell_deed.Cell.{Cell}
 use Rattle.owner_graph.specs.declared.holding.Holding.{Holding}
 use Rattle.owner_graph.specs.Ends.{EndsWithOwners, same_cell, without_cell}
 use Rattle.owner_graph.specs.Ends.EndsWithOwners.{Ended}
-use Rattle.owner_graph.specs.Fed.{Feeds, HaveEnded, IsFed, IsFedBy, IsLess, Starves, marked, trues}
+use Rattle.owner_graph.specs.Fed.{Feeds, HaveEnded, IsFed, IsFedBy, Starves, marked, trues}
 use Rattle.owner_graph.specs.Owners.{IsAmong, Owns, is_owner, source}
 
 -- ---- owners elsewhere than in the cell
@@ -163,13 +163,6 @@ pub record HasStarved (fed old now : List Bool) (n : ℕ) (found : Bool) : Type 
   pub less : found ≡ true → trues now < trues old
   pub none : found ≡ false → (now ≡ old) × ((b : ℕ) → b < n → b ≢ 0 → marked old b ≡ true → marked fed b ≡ true)
 
-pub starved_none : (fed old : List Bool) → HasStarved fed old old 0 false
-starved_none fed old = record {
-  starves = record { size = refl; off = λ b is. inl is };
-  less = λ e. absurd (true≢false (sym e));
-  none = λ e. (refl, λ b lt ne is. absurd (omega (arith, lt)));
-}
-
 module _ (fed old now : List Bool) (n : ℕ) (found : Bool) (so_far : HasStarved fed old now n found) where
   pub starved_one : n ≢ 0 → n < length now → marked now n ≡ true → marked fed n ≡ false → HasStarved fed old (set now n false) (n + 1) true
   starved_one some lt is unfed = record {
@@ -211,14 +204,6 @@ in_range : (xs : List Bool) (k : ℕ) → slice_index_or xs k false ≡ true →
 in_range [] k is = absurd (true≢false (sym is))
 in_range (x ∷ xs) zero is = omega arith
 in_range (x ∷ xs) (suc k) is = let l = in_range xs k is in omega (arith, l)
-
-pub is_less : (fed old now : List Bool) (n : ℕ) (found : Bool) → length old ≡ n → HasStarved fed old now n found → IsLess found fed old now
-is_less fed old now n true size h = h.less refl
-is_less fed old now n false size h =
-    let r = h.none refl in (
-      r.0,
-      λ b ne is. let l = in_range old b is in r.1 b (omega (arith, l, size)) ne is,
-    )
 
 unmarked : (t : Bool) → (t ≡ true → ⊥) → t ≡ false
 unmarked true h = absurd (h refl)

@@ -5,7 +5,6 @@ pub mod Feeding
 pub mod Joining
 pub mod Labelling
 pub mod Layering
-pub mod Marking
 pub mod Owning
 pub mod RowLemmas
 pub mod Segments

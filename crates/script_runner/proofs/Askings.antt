@@ -1,20 +1,9 @@
 -- The threads of a program ask for few objects, and have few tasks where no call shelves.
-use Rattle.std.proofs.Common.{◌≡◌, ℕ, ◌+◌, ◌<◌, ◌≤◌, List, [], ◌∷◌, length, Some, subst, arith}
+use Rattle.std.proofs.Common.{◌≡◌, ℕ, ◌<◌, ◌≤◌, List, length, Some, subst, arith}
 use Rattle.std.specs.Prelude.{get_or, slice_get}
-use Rattle.std.proofs.lemmas.List.Sums.{get_or-le-sum_by, sum_by-cons}
+use Rattle.std.proofs.lemmas.List.Sums.{get_or-le-sum_by}
 use Rattle.std.proofs.lemmas.Option.{get_or_from_slice_get, slice_get_within}
-use Rattle.script_runner.proofs.Bounding.{all_asked}
-use Rattle.script_runner.proofs.TaskCounts.{asked_few}
 use Rattle.step_threads.specs.Programs.{IsProgram, Part, call_count}
-
--- an object at most for each call
-pub all_asked_few : (ps : List Part) → all_asked ps ≤ call_count ps
-all_asked_few [] = omega arith
-all_asked_few (p ∷ ps) =
-    let here = asked_few p (length p.kinds) in
-    let more = all_asked_few ps in
-    let sum : call_count (p ∷ ps) ≡ length p.calls + call_count ps = sum_by-cons (λ (x : Part). length x.calls) p ps in
-    omega (arith, here, more, sum)
 
 module _ (ps : List Part) (i : ℕ) (p : Part) (program : IsProgram ps) (at : slice_get ps i ≡ Some p) where
   within : i < length ps

@@ -1,9 +1,7 @@
 -- How many lines the threads of a team have: each has one at most for each of its tasks, and for each object that is asked for.
-use Rattle.std.proofs.Common.{◌≡◌, ◌⊎◌, ℕ, zero, suc, ◌+◌, ◌≤◌, List, [], ◌∷◌, length, Some, ap, arith}
+use Rattle.std.proofs.Common.{◌⊎◌, ℕ, ◌+◌, ◌≤◌, List, [], ◌∷◌, length, arith}
 use Rattle.std.proofs.lemmas.List.Elements.{recursion_from_All}
-use Rattle.std.proofs.lemmas.Option.{same_Some}
 use Rattle.std.specs.List.{AllByRecursion}
-use Rattle.std.specs.Prelude.{slice_get}
 use Rattle.control_word.specs.Histories.{IsLegal}
 use Rattle.control_word.specs.State.{Has, Opening}
 use Rattle.control_word.specs.declared.model.event.Entry.{Entry}
@@ -87,14 +85,3 @@ module _ {V : Type 0} (worth : Form → V) (z : Opening) (h : List (Entry V)) wh
 
     pub interleaved_few : AllFew (all_asked ps) ps ls
     interleaved_few = all_few woven.names ps ls woven.legal woven.rising woven.each each_here
-
--- one of them
-pub few_at : (k i : ℕ) (ps : List Part) (ls : List (List Said)) (p : Part) (l : List Said) → AllFew k ps ls
-    → slice_get ps i ≡ Some p → slice_get ls i ≡ Some l → length l ≤ length (tasks_of p) + k
-few_at k i [] [] p l few at there = absurd cc
-few_at k zero (q ∷ ps) (m ∷ ls) p l few at there =
-    let a : length (tasks_of q) ≡ length (tasks_of p) = ap (λ x. length (tasks_of x)) (same_Some q p at) in
-    let b : length m ≡ length l = ap length (same_Some m l there) in let c = few.0 in omega (arith, a, b, c)
-few_at k (suc i) (q ∷ ps) (m ∷ ls) p l few at there = few_at k i ps ls p l few.1 at there
-few_at k i [] (m ∷ ls) p l few at there = absurd few
-few_at k i (q ∷ ps) [] p l few at there = absurd few

@@ -61,7 +61,6 @@ pub mod Reporting
 pub mod Suiting
 pub mod Suffixes
 pub mod Unshelved
-pub mod TaskCounts
 pub mod Allowances
 pub mod Comparisons
 pub mod Ended

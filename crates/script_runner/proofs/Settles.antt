@@ -1,9 +1,7 @@
 -- How what an act left to end does so, and how a worker plays its thread from the first act to the last.
-use Rattle.std.proofs.Common.{◌≡◌, ℕ, zero, suc, ◌≤◌, ◌+◌, Bool, false, List, [], ◌∷◌, ◌++◌, length, Option, Some, None, refl}
-use Rattle.std.proofs.Common.{sym, ap, subst, ◌∙◌, arith}
-use Rattle.std.specs.Prelude.{replicate}
-use Rattle.handle_table.specs.Tables as table
-use Rattle.handle_table.specs.Tables.{AllVacant, TableNow}
+use Rattle.std.proofs.Common.{◌≡◌, ℕ, ◌+◌, Bool, false, List, [], ◌++◌, length, Option, Some, None, refl}
+use Rattle.std.proofs.Common.{sym, ap, subst, ◌∙◌}
+use Rattle.handle_table.specs.Tables.{TableNow}
 use Rattle.script_runner.proofs.Ending.{by_quiet}
 use Rattle.script_runner.proofs.Onward.{none_piled}
 use Rattle.script_runner.proofs.Rounds.{rounds}
@@ -11,7 +9,7 @@ use Rattle.script_runner.proofs.Stages.{last_same, some_last}
 use Rattle.script_runner.specs.Deals.{GoesOnWith, IsOnward, IsRoundTold, IsHandOfTable, IsSettledBy, IsPartlySettled, field_0, thread_slots}
 use Rattle.script_runner.specs.EndCalls.{RoundSays, TakesThread}
 use Rattle.script_runner.specs.Logs.{TellsThread, told_line}
-use Rattle.script_runner.specs.Seats.{IsHand, IsQuiet, as_slot, shown_slots}
+use Rattle.script_runner.specs.Seats.{IsHand, IsQuiet}
 use Rattle.script_runner.specs.Teams.{AllBare, PlaysThread}
 use Rattle.shared_handle.specs.Piles.{IsRound}
 use Rattle.shared_handle.specs.declared.endings.Ending as pile
@@ -19,7 +17,6 @@ use Rattle.shared_handle.specs.declared.pile.Gone.TheVariants as gone
 use Rattle.shared_handle.specs.declared.pile.Round.TheVariants.{Settled, Cleared, Ended}
 use Rattle.shared_handle.specs.declared.pile.Round.{Round}
 use Rattle.step_table.specs.Deeds.{remains}
-use Rattle.step_table.specs.Holdings.{plain}
 use Rattle.step_table.specs.declared.memory.ended.Ended as ended
 use Rattle.step_threads.specs.Acts.{tasks_from}
 use Rattle.step_threads.specs.Courses.{walk_settled}
@@ -87,13 +84,6 @@ pub then_settled : (hand k : ℕ) (t v u : TableNow ℕ) (taken takes : Bool) (t
 then_settled hand k t v u taken takes ts log more lines said on is s todo part n tells =
     s on.endings on.piled todo part n
     (subst (λ l. TellsThread field_0 part n v.desk (walk_settled (thread_slots hand v) takes on.endings todo) l) (sym is) (on.goes todo log part n tells))
-
--- a new table's slots are empty
-pub vacant_shown : (m : ℕ) (ss : List table.Slot) → AllVacant ss → m ≤ length ss → shown_slots m ss ≡ replicate m plain
-vacant_shown zero ss none le = refl
-vacant_shown (suc m) [] none le = let no : ⊥ = omega (arith, le) in absurd no
-vacant_shown (suc m) (s ∷ ss) none le =
-    (λ j. as_slot (none.0 j) ∷ shown_slots m ss) ∙ ap (λ l. plain ∷ l) (vacant_shown m ss none.1 (omega (arith, le)))
 
 pub played : (hand : ℕ) (part : Part) (t v u : TableNow ℕ) (taken : Bool) (tasks : List Task) (lines : List Said)
     → hand ≡ length part.kinds + 1 → tasks ≡ tasks_from 1 part.calls (length part.kinds)

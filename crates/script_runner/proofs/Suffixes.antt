@@ -1,5 +1,5 @@
 -- What is left of tasks that suit suits where the thread is.
-use Rattle.std.proofs.Common.{◌≡◌, ℕ, zero, suc, ◌+◌, ◌≤◌, Bool, List, [], ◌∷◌, length, Some, None, refl, sym, ap, subst}
+use Rattle.std.proofs.Common.{◌≡◌, ℕ, zero, suc, ◌+◌, Bool, List, [], ◌∷◌, Some, refl, sym, ap, subst}
 use Rattle.std.proofs.Common.{◌∙◌, arith}
 use Rattle.std.specs.Prelude.{drop, slice_get}
 use Rattle.control_word.specs.declared.model.handle.Kind.{Kind}
@@ -22,11 +22,6 @@ second_left xs zero = ap (slice_get xs) (let e : 1 ≡ zero + 1 = omega arith in
 second_left [] (suc n) = refl
 second_left (x ∷ xs) (suc n) =
     second_left xs n ∙ ap (λ k. slice_get (x ∷ xs) k) (let e : suc (n + 1) ≡ suc n + 1 = omega arith in e)
-
-none_left : {A : Type 0} (xs : List A) (n : ℕ) → slice_get xs n ≡ None → length xs ≤ n
-none_left [] n e = omega arith
-none_left (x ∷ xs) zero e = absurd cc
-none_left (x ∷ xs) (suc n) e = let few = none_left xs n e in omega (arith, few)
 
 module _ (ks : List Kind) (ts : List Task) where
   -- the next task suits, goes on as it should, and those after it suit where the thread is then

@@ -1,9 +1,8 @@
 -- A text read line by line.
-use Rattle.std.proofs.Common.{◌≡◌, ℕ, ◌+◌, ◌<◌, ◌≤◌, List, [], ◌∷◌, ◌++◌, length, Ok, inl}
+use Rattle.std.proofs.Common.{◌≡◌, ℕ, ◌+◌, ◌<◌, ◌≤◌, List, [], ◌∷◌, ◌++◌, length, Ok}
 use Rattle.std.proofs.Common.{inr, refl, subst, sym, ap, ◌∙◌, arith}
 use Rattle.std.proofs.Common.{append_assoc, length-append}
 use Rattle.std.specs.List.{AllByRecursion}
-use Rattle.script_text.specs.declared.fault.Cause.TheVariants.{UnfinishedLine}
 use Rattle.script_text.specs.declared.fault.Fault.{Fault}
 use Rattle.script_text.specs.declared.fault.Fault.TheVariants as fault
 use Rattle.script_text.specs.Drafts.{Draft, new_draft, after_line}
@@ -72,13 +71,3 @@ refused_line bytes d n rest line more (fault.Syntax number cause) b cut h = subs
 refused_line bytes d n rest line more (fault.BadTurn position) b cut h = absurd h
 refused_line bytes d n rest line more fault.Output b cut h = absurd h
 refused_line bytes d n rest line more fault.Input b cut h = absurd h
-
--- bytes after the last line feed
-pub unfinished : (bytes : List ℕ) (d : Draft) (n : ℕ) (rest : List ℕ) → BeginsWithDraft bytes d n rest → HasNoFeed rest → 0 < length rest
-    → Faulty bytes n UnfinishedLine
-unfinished bytes d n rest b clean some = record {
-  draft = d;
-  rest = rest;
-  begins = b;
-  fault = inl (record { some = some; clean = clean; says = refl });
-}

@@ -1,9 +1,5 @@
 -- The words after the first one.
-use Rattle.std.proofs.Common.{◌≡◌, ◌<◌, ◌≤◌, List, [], ◌∷◌, length, get_or, Result, refl, ap, arith}
-use Rattle.script_text.specs.declared.fault.Cause.{Cause}
-use Rattle.script_text.specs.declared.fault.Stop.{Stop}
-use Rattle.script_text.specs.declared.fault.Stop.TheVariants as stop
-use Rattle.script_text.specs.Reading.{◌>>=◌, Fails}
+use Rattle.std.proofs.Common.{◌≡◌, ◌<◌, ◌≤◌, List, [], ◌∷◌, length, get_or, refl, arith}
 
 -- a list of two has its first and its second element
 pub pair_of : {A : Type 0} (xs : List A) (d : A) → 2 ≤ length xs → length xs < 3
@@ -21,9 +17,3 @@ three_of (x ∷ []) d few many = absurd (omega arith)
 three_of (x ∷ y ∷ []) d few many = absurd (omega arith)
 three_of (x ∷ y ∷ z ∷ []) d few many = refl
 three_of (x ∷ y ∷ z ∷ u ∷ xs) d few many = absurd (omega arith)
-
--- where the first reading fails, so does what comes of it
-pub fails_first : {A B : Type 0} (s : Stop) (r : Result A Cause) (f : A → Result B Cause) → Fails s r
-    → Fails s (r >>= f)
-fails_first stop.Memory r f h = tt
-fails_first (stop.Cause c) r f h = ap (λ x. x >>= f) h

@@ -1,12 +1,12 @@
 -- Acts on the shelf: what they do to the store, and to the thread.
-use Rattle.std.proofs.Common.{◌≡◌, ℕ, ◌<◌, ◌≤◌, ◌==◌, Bool, cond, List, [], ◌∷◌, length, refl, sym, ap}
+use Rattle.std.proofs.Common.{◌≡◌, ℕ, ◌<◌, ◌≤◌, ◌==◌, cond, List, [], ◌∷◌, length, refl, sym, ap}
 use Rattle.std.proofs.Common.{subst, ◌∙◌, inl, arith}
 use Rattle.std.proofs.lemmas.List.Sorted.{sum_by_popped, sum_by_pushed}
 use Rattle.std.proofs.lemmas.List.Sums.{sum_by-cons}
 use Rattle.std.specs.List.Sorted.{IsPermutation}
 use Rattle.std.specs.Prelude.{Option, Some, None, is_some}
 use Rattle.control_word.proofs.lists.Tallies.{num_cons, num_without, stored_self, stored_true}
-use Rattle.control_word.specs.State.{State, same_stored, stored}
+use Rattle.control_word.specs.State.{same_stored, stored}
 use Rattle.control_word.specs.declared.place.Block.{Block}
 use Rattle.step_table.specs.Stories.{Kept, Story, story_after_deed, story_state}
 use Rattle.step_table.specs.declared.memory.past.Deed.TheVariants as deed
@@ -31,7 +31,6 @@ use Rattle.step_threads.specs.declared.said.Stepped.TheVariants.{Event, Quiet}
 use Rattle.step_threads.specs.declared.thread.Thread.{Thread}
 use Rattle.step_threads.proofs.Courses.{owed_by, ready_head}
 use Rattle.step_threads.proofs.Steps.{at_act, stepped_as, waits_act}
-use Rattle.step_threads.proofs.StoreFits.{half_here}
 use Rattle.step_threads.proofs.Threads.{cells_on, own_pending, resting}
 use Rattle.step_threads.proofs.holding.Ends.{ends_gone}
 use Rattle.step_threads.proofs.holding.Few.{store_few}
@@ -117,25 +116,6 @@ fits_moved d t v b x c s kept fits none on stocks =
       cells = cells_on d t.course c w on fits.cells;
     }
 
--- there was none to be moved
-pub fits_unmoved : (d : ℕ) (t : Thread) (v : Story) (c : Course) (s : StoreView) → FitsThread d t v → t.half ≡ Rest → t.course.endings.list ≡ []
-    → HasGoneOn d t.course c v → s.blocks ≡ t.stock.blocks → s.room ≡ t.stock.room → FitsThread d (record { course = c; stock = s; half = Rest }) v
-fits_unmoved d t v c s fits e none on blocks room =
-    record {
-      seat = fits.seat;
-      holds = on.holds;
-      within = on.within;
-      ready = on.ready;
-      still = on.still;
-      half = half_here d t v Rest fits e;
-      next = tt;
-      stocks =
-          subst (λ (l : List ℕ). Stocks d l s.room Rest v) (sym blocks)
-          (subst (λ (n : ℕ). Stocks d t.stock.blocks n Rest v) (sym room) (resting d t v fits e));
-      endings = ends_gone d t.course c v v fits.endings none on.endings refl;
-      cells = cells_on d t.course c v on fits.cells;
-    }
-
 -- which step it was
 pub stepped_shelf : (d : ℕ) (t t' : Thread) (v w : Story) (r : Stepped) (x : ShelfAct) (o : Option ℕ) (k : ℕ)
     → k ≡ (task_at t.course).statement → t.half ≡ Rest → t.course.endings.list ≡ [] → t.course.at < length t.course.tasks.items
@@ -162,7 +142,3 @@ stepped_shelf d t t' v w r x o k number rests none lt act found says story walke
     events Shelve (Some b) = refl
     events (Unshelve c) None = refl
     events (Unshelve c) (Some b) = refl
-
--- whether the bit was set tells which block was moved
-pub unshelved_by : (s : State) (d : ℕ) (b : Block) (got : Bool) → got ≡ s.shelved b.0 → shelf_block s d (Unshelve b) ≡ cond got (Some b.0) None
-unshelved_by s d b got e = ap (λ (x : Bool). cond x (Some b.0) None) (sym e)

@@ -1,5 +1,5 @@
 -- Handles in cells, and what a change of a cell does to the counts.
-use Rattle.std.proofs.Common.{◌≡◌, ◌≢◌, ℕ, zero, suc, ◌+◌, ◌<◌, ◌≤◌, true, false, List, [], ◌∷◌, ◌++◌, map, Option, Some}
+use Rattle.std.proofs.Common.{◌≡◌, ◌≢◌, ℕ, zero, suc, ◌+◌, ◌<◌, ◌≤◌, false, List, [], ◌∷◌, ◌++◌, map, Option, Some}
 use Rattle.std.proofs.Common.{None, refl, sym, ap, subst}
 use Rattle.std.proofs.Common.{◌∙◌, ⊎_elim, arith}
 use Rattle.std.proofs.lemmas.Bool.{cases_eq, cond_both}
@@ -137,9 +137,6 @@ cells_change s (Member o m) x there k q =
 
 none_there : (x : Handle) → x.object ≡ None → has_object x ≡ false
 none_there x e = ap (λ n. has_object (handle x.kind n x.place)) e
-
-some_there : (x : Handle) (o : ℕ) → x.object ≡ Some o → has_object x ≡ true
-some_there x o e = ap (λ n. has_object (handle x.kind n x.place)) e
 
 -- a handle that goes into a cell is in no bag any more
 loses_tally : (s : State) (d : ℕ) (m : Kind) (x : Handle) (r : List Handle) → InHand s d m x → (k : Kind) (q : ℕ)

@@ -5,7 +5,7 @@ use Rattle.control_word.proofs.history.Bags.{bag_gets, bag_loses, bag_renamed, d
 use Rattle.control_word.proofs.history.Bags.{stock_vacates}
 use Rattle.control_word.proofs.lists.Parts.{has_part, part, part_has, part_other, part_passed, part_without}
 use Rattle.control_word.proofs.lists.Tallies.{held_true, put_cases, put_other, stored_true}
-use Rattle.control_word.specs.Events.{after, fills, handed, joins_up, loses, moved_to, new_object, origin, splits_off}
+use Rattle.control_word.specs.Events.{after, handed, joins_up, loses, moved_to, new_object, origin, splits_off}
 use Rattle.control_word.specs.Events.{swaps}
 use Rattle.control_word.specs.Handles.{empty, handle, object_of}
 use Rattle.control_word.specs.Histories.{leads}
@@ -40,10 +40,6 @@ still s d = record { in_bag = refl; in_stock = refl; may_hold = refl; is_joined 
 -- only the hands change
 hands_only : (s : State) (hs : List Held) (d : ℕ) → part desk_of d hs ≡ bag s d → Same s (record s { hands = hs }) d
 hands_only s hs d e = record { in_bag = e; in_stock = refl; may_hold = refl; is_joined = refl; known = omega arith }
-
-fills_same : (s : State) (c : Cell) (x : Handle) (d : ℕ) → Same s (fills c x s) d
-fills_same s (Free c) x d = record { in_bag = refl; in_stock = refl; may_hold = refl; is_joined = refl; known = omega arith }
-fills_same s (Member o m) x d = record { in_bag = refl; in_stock = refl; may_hold = refl; is_joined = refl; known = omega arith }
 
 pub same_both : (s t u : State) (d : ℕ) → Same s t d → Same t u d → Same s u d
 same_both s t u d a b =

@@ -34,9 +34,6 @@ made_handed e d live = refl
 made_handed e d gone = refl
 made_handed e d (ending x) = refl
 
-was_unmade : (p : Phase) → 0 < is_made p → p ≢ unmade
-was_unmade p m e = let t = ap is_made e in omega arith
-
 module _ {V : Type 0} where
   made_after : (s : State) (d : ℕ) (a : Event V) (q : ℕ) → 0 < is_made (s.object q).phase → 0 < is_made ((after s d a).object q).phase
   made_after s d (Make b enabled null fields val) q m = made_put s (suc s.made) q (new_object b.0 enabled null fields) (λ e. omega arith) m

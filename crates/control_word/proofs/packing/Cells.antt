@@ -1,6 +1,6 @@
 -- What the word of a cell says of the cell, and what steps on it do.
-use Rattle.std.proofs.Common.{◌≡◌, ◌+◌, ◌*◌, ◌<◌, Option, Some, None, arith, refl, IfSome}
-use Rattle.control_word.specs.Packing.{IsBlock, IsPlace, IsCellWord, IsPackedCell}
+use Rattle.std.proofs.Common.{◌≡◌, ◌+◌, ◌*◌, ◌<◌, Option, Some, None, arith, IfSome}
+use Rattle.control_word.specs.Packing.{IsBlock, IsPlace, IsCellWord}
 use Rattle.control_word.specs.Packing.{block_number, place_block, place_field, cell_bits}
 use Rattle.control_word.specs.declared.place.Block.{Block}
 use Rattle.control_word.specs.declared.place.Place.{Place}
@@ -39,21 +39,7 @@ cell_bits_fit x h =
     let t = h.taken in
     omega arith
 
--- one fund more taken is one addition
-pub one_more_taken : (x : CellWord)
-    → cell_bits (record x { taken = x.taken + 1 }) ≡ cell_bits x + 17179869184
-one_more_taken x = omega arith
-
 -- a refill takes off all that was taken
 pub none_taken : (x : CellWord)
     → cell_bits (record x { taken = 0 }) + 17179869184 * x.taken ≡ cell_bits x
 none_taken x = omega arith
-
--- the word of a cell is one that can be unpacked
-pub packed_cell : (x : CellWord) → IsCellWord x → IsPackedCell (cell_bits x)
-packed_cell x h = record { cell = x; valid = h; bits = refl }
-
--- a word of 0 is the plain empty cell
-pub empty_cell : (x : CellWord)
-    → IsCellWord x → cell_bits x ≡ 0 → x ≡ record { owned = None; place = None; taken = 0 }
-empty_cell x h e = grind arith

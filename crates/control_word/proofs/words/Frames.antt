@@ -141,8 +141,3 @@ pub at_inside : {A : Type 0} (l : List A) (i : ℕ) (a : A) → get_elem? l i �
 at_inside [] i a e = absurd (some-ne-none a (sym e))
 at_inside (x ∷ xs) zero a e = omega arith
 at_inside (x ∷ xs) (suc i) a e = let t = at_inside xs i a e in omega arith
-
--- a sum over views of which one changed
-pub total_same : {A : Type 0} (f : A → ℕ) (l : List A) (i : ℕ) (a b : A) → get_elem? l i ≡ some a → f b ≡ f a
-    → total f (set l i b) ≡ total f l
-total_same f l i a b at e = let t = total_set f l i a b at in omega arith

@@ -38,12 +38,6 @@ pub slot_low : (k : Kind) → slot k < 2
 slot_low Owner = omega arith
 slot_low Weak = omega arith
 
-tally_none : (k m : Kind) (o : ℕ) (p : Option Place) → tally k o (handle m None p ∷ []) ≡ 0
-tally_none Owner Owner o p = refl
-tally_none Owner Weak o p = refl
-tally_none Weak Owner o p = refl
-tally_none Weak Weak o p = refl
-
 -- the same word counts the same kind of the same object
 kinds_same : (k m : Kind) (f : ℕ → ℕ) (o q : ℕ) → 1 ≤ f o → 1 ≤ f q → counts_at f k o ≡ counts_at f m q → (k ≡ m) × (f o ≡ f q)
 kinds_same Owner Owner f o q a b e = let t = spot_apart (f o) 0 (f q) 0 a b (omega arith) (omega arith) e in (refl, t.0)
@@ -139,10 +133,6 @@ module _ (z : Opening) (s : State) (fine : Sound z s) where
         let rest = upto (suc s.made) (λ o. members (s.object o)) in
         let a = frees_few taken s.cells (omega arith) in let b = objects_few taken (suc s.made) (omega arith) in
         omega (arith, tally_append k o cells rest)
-
--- the funds of the cells where only hands and phases change
-funds_phase : (block taken : ℕ → ℕ) (x : Object) (i : ℕ) → member_funds block taken (moved_to unmade x) i ≡ member_funds block taken x i
-funds_phase block taken x i = refl
 
 pub bank_still : (z : Opening) (s : State) (hs : List Held) (f : ℕ → Object) (taken : ℕ → ℕ) (i : ℕ) → ((q : ℕ)
     → moved_to unmade (f q) ≡ moved_to unmade (s.object q))

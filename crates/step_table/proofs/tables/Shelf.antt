@@ -1,6 +1,6 @@
 -- The steps on a word of the shelf.
-use Rattle.std.proofs.Common.{◌≡◌, ℕ, ◌%◌, ◌<◌, Bool, true, false, cond, List, length, set, get_or}
-use Rattle.std.proofs.Common.{refl, sym, ap, subst, ◌∙◌, arith}
+use Rattle.std.proofs.Common.{◌≡◌, ℕ, ◌%◌, ◌<◌, Bool, true, false, cond, List, set, get_or}
+use Rattle.std.proofs.Common.{refl, sym, ap, subst, ◌∙◌}
 use Rattle.std.specs.Int.{bit_at, bit_not, w64}
 use Rattle.std.specs.Prelude.{bit_and}
 use Rattle.control_word.proofs.steps.Shelf.{shelves', unshelves'}
@@ -33,9 +33,6 @@ found_on v b = get_or v.words (shelf_spot (opening v.extent) b.0) 0
 pub shown_bit : (v : Story) (b : ℕ) → Kept v → b < 65536
     → bit_at (get_or v.words (shelf_spot (opening v.extent) b) 0) (b % 64) ≡ on_shelf (story_state v) b
 shown_bit v b kept low = kept.stands.shows.shelf b low
-
-pub inside_shelf : (v : Story) (b : ℕ) → Kept v → b < 65536 → shelf_spot (opening v.extent) b < length v.words
-inside_shelf v b kept low = let s = kept.stands.shows.sized in omega arith
 
 -- the words after a bit is cleared
 pub cleared_words : (z : Opening) (words : List ℕ) (b : Block) (x : Bool)
