@@ -1,4 +1,4 @@
--- The threads of a program ask for few objects, and have few tasks where no call shelves.
+-- A thread of a program has as few calls as all threads together may have.
 use Rattle.std.proofs.Common.{◌≡◌, ℕ, ◌<◌, ◌≤◌, List, length, Some, subst, arith}
 use Rattle.std.specs.Prelude.{get_or, slice_get}
 use Rattle.std.proofs.lemmas.List.Sums.{get_or-le-sum_by}
