@@ -71,6 +71,20 @@ unfolding program script_line turns_line left_line file_word option_rule dot_opt
 left_apart name list dashes long short =
     ((rw (dashes, long, short) refl, refl, rw (dashes, long, short) refl, rw (dashes, long, short) refl), rw (dashes, long, short) refl)
 
+drawn_alone : (name : Text) → IsForLeft true [] (name ∷ codes "left" ∷ codes "--dot" ∷ [])
+unfolding program script_line turns_line left_line file_word option_rule dot_option clap_on_literals
+drawn_alone name = ((refl, refl, refl, refl), refl)
+
+drawn_joined : (name list : Text) → IsForLeft true list (name ∷ codes "left" ∷ codes "--dot" ∷ (codes "--turns=" ++ list) ∷ [])
+unfolding program script_line turns_line left_line file_word option_rule dot_option clap_on_literals
+drawn_joined name list = ((refl, refl, refl, refl), refl)
+
+drawn_apart : (name list : Text) → bytes_eq list (45 ∷ 45 ∷ []) ≡ false → long_of list ≡ None → short_of list ≡ None
+    → IsForLeft true list (name ∷ codes "left" ∷ codes "--dot" ∷ codes "--turns" ∷ list ∷ [])
+unfolding program script_line turns_line left_line file_word option_rule dot_option clap_on_literals
+drawn_apart name list dashes long short =
+    ((rw (dashes, long, short) refl, refl, rw (dashes, long, short) refl, rw (dashes, long, short) refl), rw (dashes, long, short) refl)
+
 pub help_asked : (name : Text) → fault_of program (name ∷ codes "--help" ∷ []) ≡ kind.DisplayHelp ∷ []
 unfolding program script_line turns_line left_line file_word option_rule dot_option clap_on_literals
 help_asked name = refl
