@@ -57,8 +57,8 @@ impl<V: Drop + Send> Desk<V> {
         self.held + self.endings.min(1)
     }
 
-    /// Whether it is at its allowance.
-    pub(crate) fn is_full(&self) -> bool
+    /// Whether it is at its allowance (own): then no call gives it a handle.
+    pub fn is_full(&self) -> bool
         ensures { IsTrue result ↔ (held_of self.now ≡ allowance_of self.now) }
     {
         self.held() == self.allowance

@@ -22,4 +22,5 @@ pub use calls::{
     clears as clear_calls, compares as cell_compare_calls, locks as lock_calls,
     stores as store_calls, visits,
 };
+pub use parting::split::Lent;
 pub use plays::cells as cell_plays;

@@ -2,4 +2,5 @@
 
 pub mod cells;
 pub mod compares;
+pub mod loads;
 pub mod stores;

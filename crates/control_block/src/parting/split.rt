@@ -45,20 +45,33 @@ fn pass_least(store: &mut Vec<Block>, count: usize, to: &mut Vec<Block>)
     store.truncate(left);
 }
 
-/// What lists of handles are made of: handles, or slots that have one each or none.
-trait Lent {
+/// What lists of handles are made of (own): handles, or slots that have one each or none.
+pub trait Lent {
+    ghost use Rattle.std.specs.Prelude.{◌≡◌, length};
     ghost use Rattle.control_block.specs.declared.handles.Held.{Held};
 
     /// The handles in a list.
     ghost handles: { List Self → List Held };
+
+    /// How many they are (own).
+    fn count(list: &[Self]) -> usize
+        ensures { result ≡ length (handles list.now) };
 }
 
 impl Lent for Held {
     ghost handles = { λ l. l };
+
+    fn count(list: &[Held]) -> usize {
+        list.len()
+    }
 }
 
 impl Lent for Option<Held> {
     ghost handles = { handles_in };
+
+    fn count(list: &[Option<Held>]) -> usize {
+        count_filled(list)
+    }
 }
 
 /// How many slots have a handle.
@@ -114,10 +127,10 @@ impl<V: Drop + Send> Desk<V> {
     }
 
     /// Whether a second desk can get so much of the allowance with the handles in these slots (own).
-    pub fn may_give(&self, allowance: u32, slots: &[Option<Held>]) -> bool
-        ensures { IsTrue result ↔ (IsTooMuch self.now allowance (length (handles_in slots.now)) → ⊥) }
+    pub fn may_give<T: Lent>(&self, allowance: u32, slots: &[T]) -> bool
+        ensures { IsTrue result ↔ (IsTooMuch self.now allowance (length (T.handles slots.now)) → ⊥) }
     {
-        self.gives(allowance, count_filled(slots))
+        self.gives(allowance, T::count(slots))
     }
 
     /// A second desk gets a part of the allowance, the `blocks` least vacant blocks and these handles, `count` of them.
@@ -195,24 +208,24 @@ impl<V: Drop + Send> Desk<V> {
     /// The same for the handles in slots, which stay where they lie: they are the second desk's from then on (own). It
     /// takes no memory for them. It is refused as `split` is, and then nothing changes. Conditions: the handles are
     /// held by this desk, and there are as many vacant blocks.
-    pub fn split_slots(
+    pub fn split_slots<T: Lent>(
         &mut self,
         alloc: Global,
         domain: &Domain<V>,
         allowance: u32,
         blocks: u32,
-        slots: &[Option<Held>],
+        slots: &[T],
     ) -> Result<Desk<V>, Refusal>
         requires domain { Belongs self.old domain.now }
-        requires held { HoldsAll self.old (handles_in slots.now) }
+        requires held { HoldsAll self.old (T.handles slots.now) }
         requires blocks { blocks ≤ length (stock_of self.old) }
-        ensures parts { IfOk result (λ d. SplitsOff self.old allowance blocks (handles_in slots.now) self.new d) }
-        ensures fits { IfOk result (λ _. IsTooMuch self.old allowance (length (handles_in slots.now)) → ⊥) }
+        ensures parts { IfOk result (λ d. SplitsOff self.old allowance blocks (T.handles slots.now) self.new d) }
+        ensures fits { IfOk result (λ _. IsTooMuch self.old allowance (length (T.handles slots.now)) → ⊥) }
         ensures limit { IfErr result
-            (λ why. why ≡ Refusal.Limit ↔ IsTooMuch self.old allowance (length (handles_in slots.now))) }
+            (λ why. why ≡ Refusal.Limit ↔ IsTooMuch self.old allowance (length (T.handles slots.now))) }
         ensures refused { IfErr result (λ why. (why ≡ Refusal.Limit) ⊎ (why ≡ Refusal.Memory)) }
         ensures same { IfErr result (λ _. self.new ≡ self.old) }
     {
-        self.cut_off(alloc, domain, allowance, blocks, slots, count_filled(slots))
+        self.cut_off(alloc, domain, allowance, blocks, slots, T::count(slots))
     }
 }

@@ -9,6 +9,7 @@ use crate::shapes::shape;
 use control_block::census::{Census, close};
 use control_block::desk::Desk;
 use control_block::domain::{Domain, open};
+use control_block::handles::Held;
 use control_word::{Block, Refusal, Refused};
 use std::alloc::Global;
 
@@ -33,7 +34,7 @@ pub(crate) fn cut(
     ensures same { IfErr result (λ _. desk.new ≡ desk.old) }
     ensures other { IfOk result (λ d. (d.domain ≡ desk.old.domain) × (d.shape ≡ desk.old.shape)) }
 {
-    desk.split_slots(alloc, domain, allowance, blocks, &[None, None])
+    desk.split_slots(alloc, domain, allowance, blocks, &[None::<Held>, None])
 }
 
 // Allowance, handles, vacant blocks.

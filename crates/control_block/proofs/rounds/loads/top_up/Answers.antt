@@ -1,5 +1,5 @@
 use Rattle.std.proofs.Common.{refl}
-use Rattle.control_block.proofs.rounds.cells.top_up.Goals as goal
+use Rattle.control_block.proofs.rounds.loads.top_up.Goals as goal
 
 pub refill-requires-clause-aim : goal.refill-requires-clause-aim
 refill-requires-clause-aim g c = c.requires.aim

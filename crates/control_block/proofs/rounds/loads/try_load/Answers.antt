@@ -3,7 +3,7 @@ use Rattle.control_word.specs.Handles.{handle}
 use Rattle.control_word.specs.declared.model.event.Event.TheVariants.{Load}
 use Rattle.control_block.specs.Plays.{At, HasRoomFor, tells}
 use Rattle.control_block.proofs.CellTries.{aim_at, none_shown, out_empty, out_since}
-use Rattle.control_block.proofs.rounds.cells.try_load.Goals as goal
+use Rattle.control_block.proofs.rounds.loads.try_load.Goals as goal
 
 pub look-seen-requires-clause-board : goal.look-seen-requires-clause-board
 look-seen-requires-clause-board g c = c.requires.aim.table

@@ -1,6 +1,6 @@
 use Rattle.std.proofs.Common.{None}
 use Rattle.control_block.specs.Plays.{known}
-use Rattle.control_block.proofs.rounds.cells.top_up.Given as goal
+use Rattle.control_block.proofs.rounds.loads.top_up.Given as goal
 
 abbrev pub ghosts-refill : goal.ghosts-refill
 ghosts-refill g a =

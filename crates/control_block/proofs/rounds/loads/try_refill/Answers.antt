@@ -6,7 +6,7 @@ use Rattle.control_block.specs.Plays.{At, Rests}
 use Rattle.control_block.specs.declared.board.Sight.{Sight}
 use Rattle.control_block.proofs.CellRounds.{back_again, brought_owes, cell_in_call, refill_owes}
 use Rattle.control_block.proofs.CellTries.{aim_at, holding_at}
-use Rattle.control_block.proofs.rounds.cells.try_refill.Goals as goal
+use Rattle.control_block.proofs.rounds.loads.try_refill.Goals as goal
 
 pub peek-seen-requires-clause-board : goal.peek-seen-requires-clause-board
 peek-seen-requires-clause-board g c = c.requires.aim.table

@@ -1,6 +1,6 @@
 use Rattle.std.proofs.Common.{rules, ◌∙◌}
 use Rattle.control_block.proofs.CellTries.{aim_at, holding_at}
-use Rattle.control_block.proofs.rounds.cells.refill.Goals as goal
+use Rattle.control_block.proofs.rounds.loads.refill.Goals as goal
 
 pub try_refill-requires-clause-aim : goal.try_refill-requires-clause-aim
 try_refill-requires-clause-aim g c = let l = c.loop.invariant in aim_at c.requires.aim l.2 l.3
