@@ -15,13 +15,14 @@ use Rattle.shared_handle.specs.Piles.{Bears}
 use Rattle.shared_handle.specs.declared.endings.Ending.{Ending}
 use Rattle.shared_handle.specs.declared.pile.Pile.{Pile}
 use Rattle.handle_table.specs.Bringing.{Arrives, Brought, Coming, FitsInHand, IsAlias, IsLoaded, IsThisOwner, IsThisWeak}
-use Rattle.handle_table.specs.Bringing.{IsWeakCopy, OfHandle, OfOwner, beside_pile}
+use Rattle.handle_table.specs.Bringing.{Fills, IsWeakCopy, OfHandle, OfOwner, beside_pile}
 use Rattle.handle_table.specs.Calls.{Comes, Copies, Downgrades, IsCopy}
 use Rattle.handle_table.specs.Cells.{LoadsIntoSlot, SwapsFromSlot}
 use Rattle.handle_table.specs.declared.cells.Cell.{Cell}
 use Rattle.handle_table.specs.Structures.{AddsChild, IsChild}
 use Rattle.handle_table.specs.This.{Aliases, SharesThis, SharesThisWeakly}
-use Rattle.handle_table.specs.Tables.{FitsSlots, Slot, TableNow}
+use Rattle.handle_table.specs.Tables.{FitsSlots, IsWhole, Slot, TableNow}
+use Rattle.handle_table.proofs.Filling.{fits_none, fits_swap}
 
 module _ {V : Type 0} where
   abbrev pub table_of : DeskNow V → List Slot → List (Ending V) → TableNow V
@@ -121,3 +122,22 @@ weakly l h c p e f =
     go : (c : Option Block) (q : Option Place) → q ≡ weak_place c p → with_handle kind.Weak c p l ≡ with_handle kind.Weak c q l
     go None q f = refl
     go (Some b) q f = ap (λ (x : Option Place). with_handle kind.Weak (Some b) x l) (sym f)
+
+-- what came into a vacant slot was assigned to it
+module _ {V : Type 0} (came : Coming V) (d : DeskNow V) (ss : List Slot) (to : ℕ) (e : DeskNow V) (ts : List Slot) where
+  pub filled_whole : (named domain : DomainNow) (p : Pile V) → Fills came d ss to e ts → IsWhole named domain d ss p → IsWhole named domain e ts p
+  filled_whole named domain p f w =
+      record {
+        home = w.home;
+        bears = f.brings.bears domain p w.bears;
+        fits = subst (FitsSlots e) (sym f.slots) (fits_none e _ (fits_swap e ss to (Some f.handle) None f.brings.fits f.vacant));
+      }
+
+  pub filled_comes : (xs : List (Ending V)) → Fills came d ss to e ts → Comes came (table_of d ss xs) to (table_of e ts xs)
+  filled_comes xs f =
+      record {
+        handle = f.handle;
+        between = e;
+        comes = f.brings.comes;
+        assigns = record { old = None; was = f.vacant; slots = f.slots; leaves = (refl, refl) };
+      }

@@ -1,3 +1,4 @@
+pub mod Slotted
 pub mod Filling
 pub mod Wholes
 pub mod Bringing

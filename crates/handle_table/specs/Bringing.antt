@@ -38,6 +38,14 @@ module _ {V : Type 0} where
     pub fits : FitsSlots e (Some h ∷ ss)
     pub bears : (domain : DomainNow) (p : Pile V) → Bears domain d p → Bears domain e p
 
+  -- it came as told, and lies in the slot, which was vacant
+  pub record Fills (came : Coming V) (d : DeskNow V) (ss : List Slot) (to : ℕ) (e : DeskNow V) (ts : List Slot)
+      : Type 0 where
+    pub handle : Held
+    pub brings : Brings came d ss to handle e
+    pub vacant : slice_get ss to ≡ Some None
+    pub slots : ts ≡ slice_set ss to (Some handle)
+
   -- it came of the handle in a slot, or of the owner in it
   abbrev pub OfHandle : (Held → Coming V) → List Slot → ℕ → Coming V
   OfHandle came ss from d h e = (of : Held) × (slice_get ss from ≡ Some (Some of)) × came of d h e

@@ -16,3 +16,4 @@ pub mod Leading
 pub mod Staffs
 pub mod Peeks
 pub mod Structures
+pub mod Slots

@@ -46,6 +46,10 @@ module _ {V : Type 0} where
   abbrev pub on_pile : Pile V → List (Ending V)
   on_pile p = p.endings.items
 
+  -- a table by its parts
+  abbrev pub with_pile : DeskNow V → List Slot → Pile V → TableNow V
+  with_pile d ss p = record { desk = d; slots = ss; endings = on_pile p }
+
   -- the desk has just the handles in the slots: whatever is counted of them comes to the same in its bag
   pub record FitsSlots (d : DeskNow V) (ss : List Slot) : Type 0 where
     pub bag : (f : Handle → ℕ) → total f (bag_of d) ≡ total (slot_worth f) ss

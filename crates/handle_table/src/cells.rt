@@ -10,7 +10,8 @@ ghost use Rattle.handle_table.specs.Cells.{IsCellAtSite, OwnsInto, WhyNoCell, Wh
 ghost use Rattle.handle_table.specs.Tables.{FitsSlots};
 
 use crate::fault::Fault;
-use crate::slots::owner_at;
+use crate::slots::slot::Slot;
+use crate::slots::{owner_at, stays};
 use atomic_cells::SharedMember;
 use control_block::cell_calls::{CellAt, Site};
 use control_block::desk::Desk;
@@ -76,7 +77,7 @@ fn block_within(owner: &Shared) -> Result<Block, Refusal>
 }
 
 /// A member of the object that the owner in the slot owns and points into.
-fn member_at(slots: &Vec<Option<Held>>, of: usize, member: u32) -> Result<Site, Fault>
+fn member_at(slots: &Vec<Slot>, of: usize, member: u32) -> Result<Site, Fault>
     ensures found { IfOk result (λ s. (b : Block) × OwnsInto slots.now.items of b × (s ≡ site.Member b member)) }
     ensures fault { IfErr result (WhyNoObject slots.now.items of) }
 {
@@ -84,7 +85,9 @@ fn member_at(slots: &Vec<Option<Held>>, of: usize, member: u32) -> Result<Site, 
         Ok(owner) => owner,
         Err(why) => return Err(why),
     };
-    match block_within(owner) {
+    let block = block_within(&owner);
+    stays(owner);
+    match block {
         Ok(block) => Ok(Site::Member(block, member)),
         Err(why) => Err(Fault::Call(why)),
     }
@@ -92,11 +95,7 @@ fn member_at(slots: &Vec<Option<Held>>, of: usize, member: u32) -> Result<Site, 
 
 /// Where the cell is.
 #[inline(always)]
-fn site_of<V: Drop + Send>(
-    domain: &Domain<V>,
-    slots: &Vec<Option<Held>>,
-    cell: Cell,
-) -> Result<Site, Fault>
+fn site_of<V: Drop + Send>(domain: &Domain<V>, slots: &Vec<Slot>, cell: Cell) -> Result<Site, Fault>
     ensures found { IfOk result (IsCellAtSite domain.now.shape slots.now.items cell) }
     ensures fault { IfErr result (WhyNoCell domain.now.shape slots.now.items cell) }
 {
@@ -123,7 +122,7 @@ fn site_of<V: Drop + Send>(
 pub(crate) fn find<V: Drop + Send>(
     domain: &Domain<V>,
     desk: &Desk<V>,
-    slots: &Vec<Option<Held>>,
+    slots: &Vec<Slot>,
     cell: Cell,
 ) -> Result<CellAt, Fault>
     requires domain { Belongs desk.now domain.now }

@@ -9,6 +9,7 @@ ghost use Rattle.handle_table.specs.Tables.{AllVacant, FitsSlots, on_pile};
 use crate::closing::close_bare;
 use crate::opening::{Opened, open_domain};
 use crate::program::{Manned, Program, Team, first_table};
+use crate::slots::slot::Slot;
 use crate::table::{HandleTable, Home};
 use control_block::census::Census;
 use control_block::desk::Desk;
@@ -106,7 +107,7 @@ fn lead_in<V: Drop + Send, H: Home + Send + Sync, R: Threads + Wait + Sync, P: L
     alloc: Global,
     domain: &Domain<V>,
     desk: Desk<V>,
-    slots: Vec<Option<Held>>,
+    slots: Vec<Slot>,
     pile: Pile<V>,
     leader: &mut P,
 ) -> Desk<V>

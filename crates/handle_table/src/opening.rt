@@ -8,6 +8,7 @@ ghost use Rattle.handle_table.specs.Tables.{AllVacant, on_pile};
 use crate::closing::shut;
 use crate::parting::parts::room_for;
 use crate::slots::open_slots;
+use crate::slots::slot::Slot;
 use control_block::desk::Desk;
 use control_block::domain::{Domain, open};
 use control_word::{Refusal, Shape};
@@ -18,7 +19,7 @@ use std::alloc::Global;
 pub(crate) struct Opened<V: Drop + Send> {
     pub domain: Domain<V>,
     pub desk: Desk<V>,
-    pub slots: Vec<Option<Held>, Global>,
+    pub slots: Vec<Slot, Global>,
     pub pile: Pile<V>,
 }
 

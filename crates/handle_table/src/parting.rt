@@ -11,6 +11,7 @@ ghost use Rattle.handle_table.specs.Tables.{AllVacant, FitsSlots, on_pile};
 use crate::fault::Fault;
 use crate::parting::parts::{Part, part_of};
 use crate::slots::assigning::let_go;
+use crate::slots::slot::Slot;
 use crate::table::{HandleTable, Home};
 use control_block::desk::Desk;
 use control_block::domain::Domain;
@@ -28,7 +29,7 @@ fn let_all_go<V: Drop + Send>(
     domain: &Domain<V>,
     desk: &mut Desk<V>,
     pile: &mut Pile<V>,
-    slots: Vec<Option<Held>>,
+    slots: Vec<Slot>,
 )
     requires bears { Bears domain.now desk.old pile.old }
     requires fits { FitsSlots desk.old slots.items }
@@ -39,7 +40,7 @@ fn let_all_go<V: Drop + Send>(
 {
     let mut slots = slots;
     while let Some(slot) = slots.pop() {
-        match slot {
+        match slot.into_held() {
             None => {}
             Some(handle) => {
                 let_go(domain, desk, pile, handle);
@@ -59,7 +60,7 @@ fn exchange_from<T>(ours: &mut [T], theirs: &mut [T], from: usize)
 }
 
 /// What is in the slots from a number on goes into those of the same numbers of another table, which is vacant.
-fn hand_over(slots: &mut Vec<Option<Held>>, to: &mut Vec<Option<Held>>, from: usize)
+fn hand_over(slots: &mut Vec<Slot>, to: &mut Vec<Slot>, from: usize)
     requires there { from ≤ length slots.old.items }
     requires vacant { AllVacant to.old.items × (length to.old.items ≡ length slots.old.items) }
     ensures { HandsOver slots.old.items from slots.new.items to.new.items }

@@ -10,6 +10,7 @@ ghost use Rattle.handle_table.specs.Tables.{AllVacant, FitsSlots, on_pile};
 
 use crate::closing::close_bare;
 use crate::opening::{Opened, open_domain};
+use crate::slots::slot::Slot;
 use crate::table::{HandleTable, Home};
 use control_block::census::Census;
 use control_block::desk::Desk;
@@ -61,7 +62,7 @@ pub struct Ran<V: Drop + Send> {
 pub(crate) fn first_table<'d, V: Drop + Send, H: Home>(
     domain: &'d Domain<V>,
     desk: Desk<V>,
-    slots: Vec<Option<Held>>,
+    slots: Vec<Slot>,
     pile: Pile<V>,
 ) -> HandleTable<'d, V, H>
     requires home { domain.now ≡ H.domain }
@@ -207,7 +208,7 @@ fn run_in<V: Drop + Send, H: Home + Send + Sync, R: Threads + Wait + Sync, P: Pr
     alloc: Global,
     domain: &Domain<V>,
     desk: Desk<V>,
-    slots: Vec<Option<Held>>,
+    slots: Vec<Slot>,
     pile: Pile<V>,
     team: Team,
     program: &P,

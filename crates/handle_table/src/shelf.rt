@@ -42,7 +42,7 @@ impl<'d, V: Drop + Send, H: Home> HandleTable<'d, V, H> {
         if self.desk.stock() != 0 {
             return;
         }
-        if self.desk.held() == self.desk.allowance() {
+        if self.desk.is_full() {
             return;
         }
         self.unshelve(1);

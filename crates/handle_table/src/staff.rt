@@ -12,6 +12,7 @@ ghost use Rattle.handle_table.specs.Tables.{AllVacant, FitsSlots, on_pile};
 use crate::closing::{close_bare, close_sole, keep_sole};
 use crate::opening::{Opened, open_domain};
 use crate::program::{Crew, Team, first_table};
+use crate::slots::slot::Slot;
 use crate::staff::posts::worked;
 use crate::table::{HandleTable, Home};
 use control_block::census::Census;
@@ -112,7 +113,7 @@ fn staff_in<V: Drop + Send, H: Home + Send + Sync, R: Threads + Wait + Sync, W: 
     alloc: Global,
     domain: &Domain<V>,
     desk: Desk<V>,
-    slots: Vec<Option<Held>>,
+    slots: Vec<Slot>,
     pile: Pile<V>,
     share: Share,
     workers: &mut Vec<W>,

@@ -1,4 +1,5 @@
 //! The table.
+use crate::slots::slot::Slot;
 use control_block::desk::Desk;
 use control_block::domain::Domain;
 use shared_handle::{Held, Pile};
@@ -23,7 +24,7 @@ pub struct HandleTable<'d, V: Drop + Send, H: Home> {
     pub(crate) domain: &'d Domain<V>,
     pub(crate) home: PhantomData<H>,
     pub(crate) desk: Desk<V>,
-    pub(crate) slots: Vec<Option<Held>, Global>,
+    pub(crate) slots: Vec<Slot, Global>,
     pub(crate) pile: Pile<V>,
 }
 

@@ -1,15 +1,17 @@
 //! Calls on cells.
-ghost use Rattle.std.specs.Prelude.{◌≡◌, IfErr, IfOk, OnOk};
+ghost use Rattle.std.specs.Prelude.{◌≡◌, false, true, IfErr, IfOk, OnOk};
 ghost use Rattle.control_block.specs.Desks.{Belongs};
-ghost use Rattle.handle_table.specs.Bringing.{Brought, IsLoaded, IsSwapped, beside_pile};
+ghost use Rattle.handle_table.specs.Bringing.{Brought, Fills, IsLoaded, IsSwapped, beside_pile};
 ghost use Rattle.handle_table.specs.Cells.{ExchangesSlot, LoadsIntoSlot, StoresFromSlot, WhyNotLoaded, WhyNotSwapped};
 ghost use Rattle.handle_table.specs.Tables.{FitsSlots};
 
-use crate::cells::held::{exchange_held, load_held};
+use crate::cells::held::{exchange_held, load_held, load_held_at_once};
 use crate::cells::{Cell, find};
 use crate::fault::Fault;
 use crate::slots::assigning::{arrive, assign, let_go};
 use crate::slots::kinds::take_kind;
+use crate::slots::slot::Slot;
+use crate::slots::{fill, is_vacant};
 use crate::table::{HandleTable, Home};
 use control_block::desk::Desk;
 use control_block::domain::Domain;
@@ -22,7 +24,7 @@ fn loaded<V: Drop + Send, R: Wait>(
     rt: &R,
     domain: &Domain<V>,
     desk: &mut Desk<V>,
-    slots: &Vec<Option<Held>>,
+    slots: &Vec<Slot>,
     cell: Cell,
     to: usize,
 ) -> Result<Held, Fault>
@@ -44,12 +46,42 @@ fn loaded<V: Drop + Send, R: Wait>(
     }
 }
 
+/// A copy of an object's owner or weak handle that the cell holds comes into a slot, which is vacant, at the first try:
+/// whether that was so, and the desk was below its allowance. Else nothing changes.
+#[inline(always)]
+fn load_at_once<V: Drop + Send>(
+    domain: &Domain<V>,
+    desk: &mut Desk<V>,
+    slots: &mut Vec<Slot>,
+    cell: Cell,
+    to: usize,
+) -> bool
+    requires domain { Belongs desk.old domain.now }
+    requires fits { FitsSlots desk.old slots.old.items }
+    ensures loaded { result ≡ true → Fills (IsLoaded cell slots.old.items) desk.old slots.old.items to desk.new
+        slots.new.items }
+    ensures same { result ≡ false → (desk.new ≡ desk.old) × (slots.new.items ≡ slots.old.items) }
+{
+    if to >= slots.len() || !is_vacant(slots, to) {
+        return false;
+    }
+    let at = match find(domain, desk, slots, cell) {
+        Ok(at) => at,
+        Err(_) => return false,
+    };
+    let Some(found) = load_held_at_once(domain, desk, at) else {
+        return false;
+    };
+    fill(slots, to, found);
+    true
+}
+
 /// The handle in a slot goes out of it into the cell, and what the cell held comes out.
 #[inline]
 fn swapped<V: Drop + Send>(
     domain: &Domain<V>,
     desk: &mut Desk<V>,
-    slots: &mut Vec<Option<Held>>,
+    slots: &mut Vec<Slot>,
     from: usize,
     cell: Cell,
 ) -> Result<Held, Fault>
@@ -74,6 +106,32 @@ impl<'d, V: Drop + Send, H: Home> HandleTable<'d, V, H> {
     /// [util.smartptr.atomic.weak]). What lay there leaves.
     #[inline(always)]
     pub fn load<R: Wait>(&mut self, rt: &R, cell: Cell, to: usize) -> Result<(), Fault>
+        ensures loaded { OnOk result (LoadsIntoSlot self.old cell to self.new) }
+        ensures refused { IfErr result (λ why. WhyNotLoaded self.old cell to why × (self.new ≡ self.old)) }
+    {
+        if load_at_once(self.domain, &mut self.desk, &mut self.slots, cell, to) {
+            return Ok(());
+        }
+        self.load_any(rt, cell, to)
+    }
+
+    /// The same of any handle, and into any slot.
+    #[inline(always)]
+    fn load_any<R: Wait>(&mut self, rt: &R, cell: Cell, to: usize) -> Result<(), Fault>
+        ensures loaded { OnOk result (LoadsIntoSlot self.old cell to self.new) }
+        ensures refused { IfErr result (λ why. WhyNotLoaded self.old cell to why × (self.new ≡ self.old)) }
+    {
+        // in hand, since what a call that isn't inlined answers is kept in memory
+        match self.load_out_of_line(rt, cell, to) {
+            Ok(()) => Ok(()),
+            Err(why) => Err(why),
+        }
+    }
+
+    /// The same, out of line.
+    #[cold]
+    #[inline(never)]
+    fn load_out_of_line<R: Wait>(&mut self, rt: &R, cell: Cell, to: usize) -> Result<(), Fault>
         ensures loaded { OnOk result (LoadsIntoSlot self.old cell to self.new) }
         ensures refused { IfErr result (λ why. WhyNotLoaded self.old cell to why × (self.new ≡ self.old)) }
     {

@@ -12,6 +12,7 @@ use crate::fault::Fault;
 use crate::slots::assigning::{assign, let_go};
 use crate::slots::empty_out;
 use crate::slots::kinds::{content_at, into_content};
+use crate::slots::slot::Slot;
 use crate::table::{HandleTable, Home};
 use control_block::desk::Desk;
 use control_block::domain::Domain;
@@ -19,7 +20,7 @@ use shared_handle::{Held, Pile};
 use std::sync::Wait;
 
 /// The handle in the slot went into a cell.
-fn vacate(slots: &mut Vec<Option<Held>>, at: usize)
+fn vacate(slots: &mut Vec<Slot>, at: usize)
     requires { at < length slots.old.items }
     ensures { slots.new.items ≡ slice_set slots.old.items at None }
 {
@@ -35,7 +36,7 @@ fn vacate(slots: &mut Vec<Option<Held>>, at: usize)
 fn follow<V: Drop + Send>(
     domain: &Domain<V>,
     desk: &mut Desk<V>,
-    slots: &mut Vec<Option<Held>>,
+    slots: &mut Vec<Slot>,
     pile: &mut Pile<V>,
     expected: usize,
     desired: usize,
@@ -65,7 +66,7 @@ fn compare_slots<V: Drop + Send, F: Form, R: Wait>(
     rt: &R,
     domain: &Domain<V>,
     desk: &mut Desk<V>,
-    slots: &Vec<Option<Held>>,
+    slots: &Vec<Slot>,
     cell: Cell,
     expected: usize,
     desired: usize,

@@ -1,5 +1,5 @@
 //! The calls of a desk on cells of either kind.
-ghost use Rattle.std.specs.Prelude.{◌≡◌, ◌+◌, cond, IfErr, IfOk, OnOk};
+ghost use Rattle.std.specs.Prelude.{◌≡◌, ◌+◌, cond, IfErr, IfNone, IfOk, IfSome, OnOk};
 ghost use Rattle.control_word.specs.declared.refusal.Refusal.TheVariants.{Limit};
 ghost use Rattle.control_block.specs.CellCalls.{HoldsHandle, IsOpenAt, cell_of_site, without_handle};
 ghost use Rattle.control_block.specs.Desks.{Belongs, Keeps, allowance_of, bag_of, held_of};
@@ -66,6 +66,30 @@ pub(crate) fn load_held<V: Drop + Send, R: Wait>(
     match cell_calls::load::<V, Brand, R>(rt, domain, desk, cell) {
         Ok(found) => Ok(held_of(found)),
         Err(why) => Err(why),
+    }
+}
+
+/// The same at the first try, of a handle that has an object; none where that fails, and then nothing changes.
+#[inline(always)]
+pub(crate) fn load_held_at_once<V: Drop + Send>(
+    domain: &Domain<V>,
+    desk: &mut Desk<V>,
+    cell: CellAt,
+) -> Option<Held>
+    requires domain { Belongs desk.old domain.now }
+    requires cell { IsOpenAt desk.old cell.site cell.kind }
+    ensures kind { IfSome result (λ h. kind_of_held h ≡ cell.kind) }
+    ensures event { IfSome result
+        (λ h. Loads desk.old (cell_of_site desk.old cell.site) cell.kind (block_of_held h)
+        (place_of_held h) desk.new) }
+    ensures bag { IfSome result (λ h. bag_of desk.new ≡ with_held h (bag_of desk.old)) }
+    ensures held { IfSome result (λ _. desk.new.held ≡ desk.old.held + 1) }
+    ensures keeps { IfSome result (λ _. Keeps desk.old desk.new) }
+    ensures same { IfNone result (desk.new ≡ desk.old) }
+{
+    match cell_calls::load_at_once::<V, Brand>(domain, desk, cell) {
+        Some(found) => Some(held_of(found)),
+        None => None,
     }
 }
 

@@ -1,9 +1,9 @@
 //! Handles that come of others, and go to other slots.
-ghost use Rattle.std.specs.Prelude.{◌≡◌, ◌+◌, IfErr, IfOk, OnOk};
+ghost use Rattle.std.specs.Prelude.{◌≡◌, ◌+◌, false, true, IfErr, IfOk, OnOk};
 ghost use Rattle.control_word.specs.declared.refusal.Refusal.TheVariants.{Limit};
 ghost use Rattle.control_block.specs.Desks.{Belongs, Keeps, allowance_of, bag_of, held_of};
 ghost use Rattle.control_block.specs.HandleLists.{IsHeldByDesk, with_held};
-ghost use Rattle.handle_table.specs.Bringing.{Brought, IsWeakCopy, OfHandle, OfOwner, beside_pile};
+ghost use Rattle.handle_table.specs.Bringing.{Brought, Fills, IsWeakCopy, OfHandle, OfOwner, beside_pile};
 ghost use Rattle.handle_table.specs.Calls.{Copies, Downgrades, IsCopy, MovesSlot, WhyNoCopy, WhyNotDowngraded};
 ghost use Rattle.handle_table.specs.Calls.{WhyNotMoved};
 ghost use Rattle.handle_table.specs.Tables.{FitsSlots};
@@ -11,12 +11,15 @@ ghost use Rattle.handle_table.specs.declared.fault.Fault.TheVariants as fault;
 
 use crate::fault::Fault;
 use crate::slots::assigning::{arrive, assign};
-use crate::slots::{handle_at, owner_at, take_handle};
+use crate::slots::slot::Slot;
+use crate::slots::{
+    handle_at, handle_stays, is_vacant, lay, owned_at, owner_at, stays, take_handle,
+};
 use crate::table::{HandleTable, Home};
 use control_block::desk::Desk;
 use control_block::domain::Domain;
-use control_word::Refusal;
-use shared_handle::{Held, downgrade, share, share_weak};
+use control_word::{Block, Refusal};
+use shared_handle::{Held, Shared, downgrade, share, share_weak};
 
 /// A copy of a handle.
 #[inline(always)]
@@ -51,7 +54,7 @@ fn copy_of<V: Drop + Send>(
 fn copy_from<V: Drop + Send>(
     domain: &Domain<V>,
     desk: &mut Desk<V>,
-    slots: &Vec<Option<Held>>,
+    slots: &Vec<Slot>,
     from: usize,
     to: usize,
 ) -> Result<Held, Fault>
@@ -65,12 +68,53 @@ fn copy_from<V: Drop + Send>(
         return Err(Fault::Slot);
     }
     match handle_at(slots, from) {
-        Ok(handle) => match copy_of(domain, desk, handle) {
-            Ok(copy) => Ok(copy),
-            Err(why) => Err(Fault::Call(why)),
-        },
+        Ok(handle) => {
+            let came = copy_of(domain, desk, &handle);
+            handle_stays(handle);
+            match came {
+                Ok(copy) => Ok(copy),
+                Err(why) => Err(Fault::Call(why)),
+            }
+        }
         Err(why) => Err(why),
     }
+}
+
+/// An owner of an object in a slot is copied into another, which is vacant: whether that was so, and the desk was below
+/// its allowance. Else nothing changes. The copy lies in its slot before its step, since two locked instructions cost
+/// less where no store stands between them and few instructions do.
+#[inline(always)]
+fn copy_owner<V: Drop + Send>(
+    domain: &Domain<V>,
+    desk: &mut Desk<V>,
+    slots: &mut Vec<Slot>,
+    from: usize,
+    to: usize,
+) -> bool
+    requires domain { Belongs desk.old domain.now }
+    requires fits { FitsSlots desk.old slots.old.items }
+    ensures copied { result ≡ true → Fills (OfHandle IsCopy slots.old.items from) desk.old slots.old.items to
+        desk.new slots.new.items }
+    ensures same { result ≡ false → (desk.new ≡ desk.old) × (slots.new.items ≡ slots.old.items) }
+{
+    if from >= slots.len() || to >= slots.len() {
+        return false;
+    }
+    let Some((number, place)) = owned_at(slots, from) else {
+        return false;
+    };
+    if !is_vacant(slots, to) | desk.is_full() {
+        return false;
+    }
+    lay(slots, to, number, place);
+    let owner = Shared::of_parts(Some(Block(number)), place);
+    let copied = share(domain, desk, &owner);
+    stays(owner);
+    match copied {
+        Ok(copy) => stays(copy),
+        Err(_) => unreachable!(),
+    }
+    true
 }
 
 /// A weak handle of the object of the owner in a slot comes, for another slot.
@@ -78,7 +122,7 @@ fn copy_from<V: Drop + Send>(
 fn weak_from<V: Drop + Send>(
     domain: &Domain<V>,
     desk: &mut Desk<V>,
-    slots: &Vec<Option<Held>>,
+    slots: &Vec<Slot>,
     from: usize,
     to: usize,
 ) -> Result<Held, Fault>
@@ -92,10 +136,14 @@ fn weak_from<V: Drop + Send>(
         return Err(Fault::Slot);
     }
     match owner_at(slots, from) {
-        Ok(owner) => match downgrade(domain, desk, owner) {
-            Ok(weak) => Ok(Held::Weak(weak)),
-            Err(why) => Err(Fault::Call(why)),
-        },
+        Ok(owner) => {
+            let came = downgrade(domain, desk, &owner);
+            stays(owner);
+            match came {
+                Ok(weak) => Ok(Held::Weak(weak)),
+                Err(why) => Err(Fault::Call(why)),
+            }
+        }
         Err(why) => Err(why),
     }
 }
@@ -105,6 +153,32 @@ impl<'d, V: Drop + Send, H: Home> HandleTable<'d, V, H> {
     /// be the handle's own: then the slot has the copy. What lay there leaves.
     #[inline(always)]
     pub fn copy(&mut self, from: usize, to: usize) -> Result<(), Fault>
+        ensures copied { OnOk result (Copies self.old from to self.new) }
+        ensures refused { IfErr result (λ why. WhyNoCopy self.old from to why × (self.new ≡ self.old)) }
+    {
+        if copy_owner(self.domain, &mut self.desk, &mut self.slots, from, to) {
+            return Ok(());
+        }
+        self.copy_any(from, to)
+    }
+
+    /// The same of any handle, and into any slot.
+    #[inline(always)]
+    fn copy_any(&mut self, from: usize, to: usize) -> Result<(), Fault>
+        ensures copied { OnOk result (Copies self.old from to self.new) }
+        ensures refused { IfErr result (λ why. WhyNoCopy self.old from to why × (self.new ≡ self.old)) }
+    {
+        // in hand, since what a call that isn't inlined answers is kept in memory
+        match self.copy_out_of_line(from, to) {
+            Ok(()) => Ok(()),
+            Err(why) => Err(why),
+        }
+    }
+
+    /// The same, out of line.
+    #[cold]
+    #[inline(never)]
+    fn copy_out_of_line(&mut self, from: usize, to: usize) -> Result<(), Fault>
         ensures copied { OnOk result (Copies self.old from to self.new) }
         ensures refused { IfErr result (λ why. WhyNoCopy self.old from to why × (self.new ≡ self.old)) }
     {

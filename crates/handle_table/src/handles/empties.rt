@@ -7,6 +7,7 @@ ghost use Rattle.handle_table.specs.Tables.{FitsSlots};
 
 use crate::fault::Fault;
 use crate::slots::assigning::arrive;
+use crate::slots::slot::Slot;
 use crate::table::{HandleTable, Home};
 use control_block::desk::Desk;
 use control_block::domain::Domain;
@@ -17,7 +18,7 @@ use shared_handle::{Held, empty, empty_weak};
 fn empty_owner<V: Drop + Send>(
     domain: &Domain<V>,
     desk: &mut Desk<V>,
-    slots: &Vec<Option<Held>>,
+    slots: &Vec<Slot>,
     to: usize,
 ) -> Result<Held, Fault>
     requires domain { Belongs desk.old domain.now }
@@ -39,7 +40,7 @@ fn empty_owner<V: Drop + Send>(
 fn empty_weak_handle<V: Drop + Send>(
     domain: &Domain<V>,
     desk: &mut Desk<V>,
-    slots: &Vec<Option<Held>>,
+    slots: &Vec<Slot>,
     to: usize,
 ) -> Result<Held, Fault>
     requires domain { Belongs desk.old domain.now }

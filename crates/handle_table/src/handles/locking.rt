@@ -21,7 +21,11 @@ impl<'d, V: Drop + Send, H: Home> HandleTable<'d, V, H> {
             return Err(Fault::Slot);
         }
         let owner = match weak_at(&self.slots, from) {
-            Ok(weak) => lock(rt, self.domain, &mut self.desk, weak),
+            Ok(weak) => {
+                let owner = lock(rt, self.domain, &mut self.desk, &weak);
+                weak.into_parts();
+                owner
+            }
             Err(why) => return Err(why),
         };
         match owner {

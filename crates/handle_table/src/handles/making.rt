@@ -10,6 +10,7 @@ ghost use Rattle.handle_table.specs.Tables.{FitsSlots};
 
 use crate::fault::{Fault, Returned};
 use crate::slots::assigning::arrive;
+use crate::slots::slot::Slot;
 use crate::table::{HandleTable, Home};
 use control_block::desk::Desk;
 use control_block::domain::Domain;
@@ -21,7 +22,7 @@ use shared_handle::{Held, make, make_null};
 fn made<V: Drop + Send>(
     domain: &Domain<V>,
     desk: &mut Desk<V>,
-    slots: &Vec<Option<Held>>,
+    slots: &Vec<Slot>,
     to: usize,
     fields: [u64; 4],
     enabled: bool,
@@ -57,7 +58,7 @@ fn made<V: Drop + Send>(
 fn null_made<V: Drop + Send>(
     domain: &Domain<V>,
     desk: &mut Desk<V>,
-    slots: &Vec<Option<Held>>,
+    slots: &Vec<Slot>,
     to: usize,
     value: V,
 ) -> Result<Held, Returned<V>>

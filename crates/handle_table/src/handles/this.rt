@@ -8,7 +8,8 @@ ghost use Rattle.handle_table.specs.This.{Aliases, SharesThis, SharesThisWeakly,
 
 use crate::fault::Fault;
 use crate::slots::assigning::arrive;
-use crate::slots::owner_at;
+use crate::slots::slot::Slot;
+use crate::slots::{owner_at, stays};
 use crate::table::{HandleTable, Home};
 use control_block::desk::Desk;
 use control_block::domain::Domain;
@@ -30,7 +31,7 @@ fn is_pointer(place: Option<Place>) -> bool
 fn owner_of_this<V: Drop + Send>(
     domain: &Domain<V>,
     desk: &mut Desk<V>,
-    slots: &Vec<Option<Held>>,
+    slots: &Vec<Slot>,
     of: usize,
     to: usize,
 ) -> Result<Held, Fault>
@@ -44,10 +45,14 @@ fn owner_of_this<V: Drop + Send>(
         return Err(Fault::Slot);
     }
     match owner_at(slots, of) {
-        Ok(owner) => match shared_from_this(domain, desk, owner) {
-            Ok(this) => Ok(Held::Owner(this)),
-            Err(why) => Err(Fault::Call(why)),
-        },
+        Ok(owner) => {
+            let came = shared_from_this(domain, desk, &owner);
+            stays(owner);
+            match came {
+                Ok(this) => Ok(Held::Owner(this)),
+                Err(why) => Err(Fault::Call(why)),
+            }
+        }
         Err(why) => Err(why),
     }
 }
@@ -57,7 +62,7 @@ fn owner_of_this<V: Drop + Send>(
 fn weak_of_this<V: Drop + Send>(
     domain: &Domain<V>,
     desk: &mut Desk<V>,
-    slots: &Vec<Option<Held>>,
+    slots: &Vec<Slot>,
     of: usize,
     to: usize,
 ) -> Result<Held, Fault>
@@ -71,10 +76,14 @@ fn weak_of_this<V: Drop + Send>(
         return Err(Fault::Slot);
     }
     match owner_at(slots, of) {
-        Ok(owner) => match weak_from_this(domain, desk, owner) {
-            Ok(this) => Ok(Held::Weak(this)),
-            Err(why) => Err(Fault::Call(why)),
-        },
+        Ok(owner) => {
+            let came = weak_from_this(domain, desk, &owner);
+            stays(owner);
+            match came {
+                Ok(this) => Ok(Held::Weak(this)),
+                Err(why) => Err(Fault::Call(why)),
+            }
+        }
         Err(why) => Err(why),
     }
 }
@@ -84,7 +93,7 @@ fn weak_of_this<V: Drop + Send>(
 fn alias_of<V: Drop + Send>(
     domain: &Domain<V>,
     desk: &mut Desk<V>,
-    slots: &Vec<Option<Held>>,
+    slots: &Vec<Slot>,
     of: usize,
     place: Option<Place>,
     to: usize,
@@ -102,10 +111,14 @@ fn alias_of<V: Drop + Send>(
         return Err(Fault::Place);
     }
     match owner_at(slots, of) {
-        Ok(owner) => match alias(domain, desk, owner, place) {
-            Ok(copy) => Ok(Held::Owner(copy)),
-            Err(why) => Err(Fault::Call(why)),
-        },
+        Ok(owner) => {
+            let came = alias(domain, desk, &owner, place);
+            stays(owner);
+            match came {
+                Ok(copy) => Ok(Held::Owner(copy)),
+                Err(why) => Err(Fault::Call(why)),
+            }
+        }
         Err(why) => Err(why),
     }
 }

@@ -5,7 +5,7 @@ ghost use Rattle.handle_table.specs.Pairs.{AreInOrder, PointAlike, WhyNoHandles,
 ghost use Rattle.handle_table.specs.Parts.{block_of_held};
 
 use crate::fault::Fault;
-use crate::slots::{handle_at, owner_at};
+use crate::slots::{handle_at, handle_stays, owner_at, stays};
 use crate::table::{HandleTable, Home};
 use control_block::desk::Desk;
 use control_block::domain::Domain;
@@ -56,9 +56,15 @@ impl<'d, V: Drop + Send, H: Home> HandleTable<'d, V, H> {
         };
         let other = match owner_at(&self.slots, b) {
             Ok(owner) => owner,
-            Err(why) => return Err(why),
+            Err(why) => {
+                stays(one);
+                return Err(why);
+            }
         };
-        Ok(same_place(self.domain, &mut self.desk, one, other))
+        let alike = same_place(self.domain, &mut self.desk, &one, &other);
+        stays(one);
+        stays(other);
+        Ok(alike)
     }
 
     /// `owner_before` ([util.smartptr.shared.obs], [util.smartptr.weak.obs]) of two handles, each of either kind:
@@ -75,8 +81,14 @@ impl<'d, V: Drop + Send, H: Home> HandleTable<'d, V, H> {
         };
         let other = match handle_at(&self.slots, b) {
             Ok(handle) => handle,
-            Err(why) => return Err(why),
+            Err(why) => {
+                handle_stays(one);
+                return Err(why);
+            }
         };
-        Ok(are_in_order(self.domain, &mut self.desk, one, other))
+        let before = are_in_order(self.domain, &mut self.desk, &one, &other);
+        handle_stays(one);
+        handle_stays(other);
+        Ok(before)
     }
 }

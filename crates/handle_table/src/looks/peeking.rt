@@ -9,7 +9,7 @@ ghost use Rattle.handle_table.specs.Peeks.{IsPeeked};
 ghost use Rattle.handle_table.specs.Tables.{FitsSlots, IsAt};
 
 use crate::fault::Fault;
-use crate::slots::handle_at;
+use crate::slots::{handle_at, handle_stays};
 use crate::table::{HandleTable, Home};
 use control_word::model::handle::Kind;
 use control_word::{Block, Place};
@@ -48,7 +48,11 @@ impl<'d, V: Drop + Send, H: Home> HandleTable<'d, V, H> {
         ensures fault { IfErr result (WhyNoHandle self.now.slots at) }
     {
         match handle_at(&self.slots, at) {
-            Ok(handle) => Ok(parts_of(handle)),
+            Ok(handle) => {
+                let parts = parts_of(&handle);
+                handle_stays(handle);
+                Ok(parts)
+            }
             Err(why) => Err(why),
         }
     }

@@ -6,7 +6,7 @@ ghost use Rattle.handle_table.specs.Calls.{CountsSlot, CountsOf, Expires, IsNotR
 ghost use Rattle.handle_table.specs.Calls.{WhyNoOwner, WhyNoWeak};
 
 use crate::fault::Fault;
-use crate::slots::{handle_at, owner_at, weak_at};
+use crate::slots::{handle_at, handle_stays, owner_at, stays, weak_at};
 use crate::table::{HandleTable, Home};
 use control_block::desk::Desk;
 use control_block::domain::Domain;
@@ -37,7 +37,11 @@ impl<'d, V: Drop + Send, H: Home> HandleTable<'d, V, H> {
             (WhyNoOwner self.old.slots at why ⊎ IsNotRead self.old at why self.new) × (self.new ≡ self.old)) }
     {
         let field = match owner_at(&self.slots, at) {
-            Ok(owner) => read(self.domain, &mut self.desk, owner),
+            Ok(owner) => {
+                let field = read(self.domain, &mut self.desk, &owner);
+                stays(owner);
+                field
+            }
             Err(why) => return Err(why),
         };
         match field {
@@ -52,7 +56,11 @@ impl<'d, V: Drop + Send, H: Home> HandleTable<'d, V, H> {
         ensures refused { IfErr result (λ why. WhyNoHandle self.old.slots at why × (self.new ≡ self.old)) }
     {
         match handle_at(&self.slots, at) {
-            Ok(handle) => Ok(count_of(self.domain, &mut self.desk, handle)),
+            Ok(handle) => {
+                let count = count_of(self.domain, &mut self.desk, &handle);
+                handle_stays(handle);
+                Ok(count)
+            }
             Err(why) => Err(why),
         }
     }
@@ -63,7 +71,11 @@ impl<'d, V: Drop + Send, H: Home> HandleTable<'d, V, H> {
         ensures refused { IfErr result (λ why. WhyNoWeak self.old.slots at why × (self.new ≡ self.old)) }
     {
         match weak_at(&self.slots, at) {
-            Ok(weak) => Ok(expired(self.domain, &mut self.desk, weak)),
+            Ok(weak) => {
+                let expired = expired(self.domain, &mut self.desk, &weak);
+                weak.into_parts();
+                Ok(expired)
+            }
             Err(why) => Err(why),
         }
     }
@@ -74,7 +86,11 @@ impl<'d, V: Drop + Send, H: Home> HandleTable<'d, V, H> {
         ensures refused { IfErr result (WhyNoOwner self.now.slots at) }
     {
         match owner_at(&self.slots, at) {
-            Ok(owner) => Ok(owner.place()),
+            Ok(owner) => {
+                let place = owner.place();
+                stays(owner);
+                Ok(place)
+            }
             Err(why) => Err(why),
         }
     }

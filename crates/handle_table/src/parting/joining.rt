@@ -3,30 +3,34 @@ ghost use Rattle.std.specs.Prelude.{◌≡◌, IfErr, IfNone, IfSome, OnOk};
 ghost use Rattle.handle_table.specs.Parting.{AreFree, Clashes, IsFreeFor, JoinsTables, WhyNotJoined, slots_together};
 
 use crate::fault::{Fault, Returned};
-use crate::slots::{handle_at, put, spent};
+use crate::slots::slot::Slot;
+use crate::slots::{handle_at, handle_stays, put, spent};
 use crate::table::{HandleTable, Home};
 use shared_handle::Held;
 
 /// Why the handle in this slot of the second table, if it has one, can't come into the first.
-fn clash(slots: &Vec<Option<Held>>, others: &Vec<Option<Held>>, at: usize) -> Option<Fault>
+fn clash(slots: &Vec<Slot>, others: &Vec<Slot>, at: usize) -> Option<Fault>
     ensures free { IfNone result (IsFreeFor slots.now.items others.now.items at) }
     ensures clash { IfSome result (λ why. Clashes slots.now.items others.now.items at why) }
 {
     match handle_at(others, at) {
-        Ok(_) => {}
+        Ok(handle) => handle_stays(handle),
         Err(_) => return None,
     }
     if at >= slots.len() {
         return Some(Fault::Slot);
     }
     match handle_at(slots, at) {
-        Ok(_) => Some(Fault::Taken),
+        Ok(handle) => {
+            handle_stays(handle);
+            Some(Fault::Taken)
+        }
         Err(_) => None,
     }
 }
 
 /// Why the first of the second table's handles that can't come into the first table can't, if there is one.
-fn first_clash(slots: &Vec<Option<Held>>, others: &Vec<Option<Held>>) -> Option<Fault>
+fn first_clash(slots: &Vec<Slot>, others: &Vec<Slot>) -> Option<Fault>
     ensures free { IfNone result (AreFree slots.now.items others.now.items) }
     ensures clash { IfSome result (λ why. WhyNotJoined slots.now.items others.now.items why) }
 {
@@ -39,13 +43,13 @@ fn first_clash(slots: &Vec<Option<Held>>, others: &Vec<Option<Held>>) -> Option<
 }
 
 /// The handles in the slots of the second table come into those of the same numbers of the first.
-fn take_in(slots: &mut Vec<Option<Held>>, others: Vec<Option<Held>>)
+fn take_in(slots: &mut Vec<Slot>, others: Vec<Slot>)
     requires { AreFree slots.old.items others.items }
     ensures { slots.new.items ≡ slots_together slots.old.items others.items }
 {
     let mut others = others;
     while let Some(other) = others.pop() {
-        match other {
+        match other.into_held() {
             None => {}
             Some(handle) => spent(put(slots, others.len(), handle)),
         }

@@ -8,6 +8,7 @@ ghost use Rattle.handle_table.specs.Parting.{WhyNoPart};
 ghost use Rattle.handle_table.specs.Tables.{AllVacant};
 
 use crate::slots::open_slots;
+use crate::slots::slot::Slot;
 use control_block::desk::Desk;
 use control_block::domain::Domain;
 use control_word::Refusal;
@@ -17,7 +18,7 @@ use std::alloc::Global;
 /// What a further table is made of.
 pub(crate) struct Part<V: Drop + Send> {
     pub desk: Desk<V>,
-    pub slots: Vec<Option<Held>, Global>,
+    pub slots: Vec<Slot, Global>,
     pub pile: Pile<V>,
 }
 
@@ -26,7 +27,7 @@ fn may_part<V: Drop + Send>(
     desk: &Desk<V>,
     allowance: u32,
     blocks: u32,
-    handed: &[Option<Held>],
+    handed: &[Slot],
 ) -> Result<(), Refusal>
     ensures fits { OnOk result (IsTooMuch desk.now allowance (length (handles_in handed.now)) → ⊥) }
     ensures blocks { OnOk result (blocks ≤ length (stock_of desk.now)) }
@@ -46,7 +47,7 @@ pub(crate) fn room_for<V: Drop + Send>(
     domain: &Domain<V>,
     alloc: Global,
     count: usize,
-) -> Result<(Vec<Option<Held>>, Pile<V>), Refusal>
+) -> Result<(Vec<Slot>, Pile<V>), Refusal>
     ensures slots { IfOk result (λ r. (r.0.items ≡ []) × (count ≤ vec_capacity r.0)) }
     ensures empty { IfOk result (λ r. r.1.endings.items ≡ []) }
     ensures bears { IfOk result
@@ -72,8 +73,8 @@ fn cut_part<V: Drop + Send>(
     alloc: Global,
     allowance: u32,
     blocks: u32,
-    handed: &[Option<Held>],
-    slots: Vec<Option<Held>>,
+    handed: &[Slot],
+    slots: Vec<Slot>,
     pile: Pile<V>,
     count: usize,
 ) -> Result<Part<V>, Refusal>
@@ -111,7 +112,7 @@ pub(crate) fn part_of<V: Drop + Send>(
     count: usize,
     allowance: u32,
     blocks: u32,
-    handed: &[Option<Held>],
+    handed: &[Slot],
 ) -> Result<Part<V>, Refusal>
     requires domain { Belongs desk.old domain.now }
     requires held { HoldsAll desk.old (handles_in handed.now) }

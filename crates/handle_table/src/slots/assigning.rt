@@ -7,6 +7,7 @@ ghost use Rattle.handle_table.specs.Bringing.{Arrives, FitsInHand};
 ghost use Rattle.handle_table.specs.Calls.{Assigns, LetsGo};
 ghost use Rattle.handle_table.specs.Tables.{FitsSlots, on_pile};
 
+use crate::slots::slot::Slot;
 use crate::slots::{fill, is_vacant, put};
 use control_block::desk::Desk;
 use control_block::domain::Domain;
@@ -47,7 +48,7 @@ pub(crate) fn let_go<V: Drop + Send>(
 pub(crate) fn assign<V: Drop + Send>(
     domain: &Domain<V>,
     desk: &mut Desk<V>,
-    slots: &mut Vec<Option<Held>>,
+    slots: &mut Vec<Slot>,
     pile: &mut Pile<V>,
     to: usize,
     handle: Held,
@@ -66,6 +67,29 @@ pub(crate) fn assign<V: Drop + Send>(
         fill(slots, to, handle);
         return;
     }
+    assign_over(domain, desk, slots, pile, to, handle);
+}
+
+/// The same, out of line.
+#[cold]
+#[inline(never)]
+fn assign_over<V: Drop + Send>(
+    domain: &Domain<V>,
+    desk: &mut Desk<V>,
+    slots: &mut Vec<Slot>,
+    pile: &mut Pile<V>,
+    to: usize,
+    handle: Held,
+)
+    requires bears { Bears domain.now desk.old pile.old }
+    requires fits { FitsSlots desk.old (Some handle ∷ slots.old.items) }
+    requires there { to < length slots.old.items }
+    ensures bears { Bears domain.now desk.new pile.new }
+    ensures fits { FitsSlots desk.new slots.new.items }
+    ensures assigns { Assigns desk.old slots.old.items
+        (on_pile pile.old) to handle desk.new slots.new.items (on_pile pile.new) }
+    ensures many { length slots.new.items ≡ length slots.old.items }
+{
     match put(slots, to, handle) {
         None => {}
         Some(old) => {
@@ -79,7 +103,7 @@ pub(crate) fn assign<V: Drop + Send>(
 pub(crate) fn arrive<V: Drop + Send, E>(
     domain: &Domain<V>,
     desk: &mut Desk<V>,
-    slots: &mut Vec<Option<Held>>,
+    slots: &mut Vec<Slot>,
     pile: &mut Pile<V>,
     to: usize,
     came: Result<Held, E>,

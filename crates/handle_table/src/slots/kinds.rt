@@ -6,7 +6,8 @@ ghost use Rattle.handle_table.specs.Cells.{IsShownToCell, WhyNoneOf};
 ghost use Rattle.handle_table.specs.Parts.{IsContent, kind_of_held};
 
 use crate::fault::Fault;
-use crate::slots::{owner_at, take_handle, weak_at};
+use crate::slots::slot::Slot;
+use crate::slots::{owner_at, stays, take_handle, weak_at};
 use control_block::cell_calls::Content;
 use control_block::handles::{Shared, Weak};
 use control_word::model::handle::Kind;
@@ -48,37 +49,45 @@ pub(crate) fn held_of(content: Content) -> Held
 }
 
 /// What a cell sees of the owner in the slot.
-fn owner_content(slots: &Vec<Option<Held>>, at: usize) -> Result<Content, Fault>
+fn owner_content(slots: &Vec<Slot>, at: usize) -> Result<Content, Fault>
     ensures found { IfOk result (IsShownToCell slots.now.items at kind.Owner) }
     ensures fault { IfErr result (WhyNoOwner slots.now.items at) }
 {
     match owner_at(slots, at) {
-        Ok(owner) => Ok(Content {
-            kind: Kind::Owner,
-            block: owner.block(),
-            place: owner.place(),
-        }),
+        Ok(owner) => {
+            let content = Content {
+                kind: Kind::Owner,
+                block: owner.block(),
+                place: owner.place(),
+            };
+            stays(owner);
+            Ok(content)
+        }
         Err(why) => Err(why),
     }
 }
 
 /// And of the weak handle.
-fn weak_content(slots: &Vec<Option<Held>>, at: usize) -> Result<Content, Fault>
+fn weak_content(slots: &Vec<Slot>, at: usize) -> Result<Content, Fault>
     ensures found { IfOk result (IsShownToCell slots.now.items at kind.Weak) }
     ensures fault { IfErr result (WhyNoWeak slots.now.items at) }
 {
     match weak_at(slots, at) {
-        Ok(weak) => Ok(Content {
-            kind: Kind::Weak,
-            block: weak.block(),
-            place: weak.place(),
-        }),
+        Ok(weak) => {
+            let content = Content {
+                kind: Kind::Weak,
+                block: weak.block(),
+                place: weak.place(),
+            };
+            weak.into_parts();
+            Ok(content)
+        }
         Err(why) => Err(why),
     }
 }
 
 /// What a cell sees of the handle in the slot, which is of this kind.
-pub(crate) fn content_at(slots: &Vec<Option<Held>>, at: usize, kind: Kind) -> Result<Content, Fault>
+pub(crate) fn content_at(slots: &Vec<Slot>, at: usize, kind: Kind) -> Result<Content, Fault>
     ensures found { IfOk result (IsShownToCell slots.now.items at kind) }
     ensures fault { IfErr result (WhyNoneOf kind slots.now.items at) }
 {
@@ -89,7 +98,7 @@ pub(crate) fn content_at(slots: &Vec<Option<Held>>, at: usize, kind: Kind) -> Re
 }
 
 /// The handle in the slot, which is of this kind, goes out of it.
-pub(crate) fn take_kind(slots: &mut Vec<Option<Held>>, at: usize, kind: Kind) -> Result<Held, Fault>
+pub(crate) fn take_kind(slots: &mut Vec<Slot>, at: usize, kind: Kind) -> Result<Held, Fault>
     ensures taken { IfOk result (λ h. (slice_get slots.old.items at ≡ Some (Some h)) × (kind_of_held h ≡ kind)
         × (slots.new.items ≡ slice_set slots.old.items at None)) }
     ensures fault { IfErr result

@@ -11,7 +11,8 @@ ghost use Rattle.handle_table.specs.Structures.{WhyNoAccess};
 ghost use Rattle.handle_table.specs.Structures.{WhyNotAttached, WhyNotPruned};
 
 use crate::fault::{Fault, Returned};
-use crate::slots::owner_at;
+use crate::slots::slot::Slot;
+use crate::slots::{owner_at, stays};
 use crate::structures::returned;
 use crate::table::{HandleTable, Home};
 use control_block::desk::Desk;
@@ -55,7 +56,7 @@ fn attach_at<V: Drop + Send, R: Wait>(
     observers: &mut Observers<V>,
     domain: &Domain<V>,
     desk: &mut Desk<V>,
-    slots: &Vec<Option<Held>>,
+    slots: &Vec<Slot>,
     subject: usize,
     value: V,
 ) -> Result<(), Returned<V>>
@@ -75,7 +76,9 @@ fn attach_at<V: Drop + Send, R: Wait>(
         Ok(owner) => owner,
         Err(why) => return Err(Returned { why, back: value }),
     };
-    match observers.attach(rt, domain, desk, owner, value) {
+    let attached = observers.attach(rt, domain, desk, &owner, value);
+    stays(owner);
+    match attached {
         Ok(()) => Ok(()),
         Err(refused) => Err(returned(refused)),
     }

@@ -11,7 +11,8 @@ ghost use Rattle.handle_table.specs.declared.fault.Fault.TheVariants as fault;
 
 use crate::fault::{Fault, Returned};
 use crate::slots::assigning::{arrive, assign};
-use crate::slots::owner_at;
+use crate::slots::slot::Slot;
+use crate::slots::{owner_at, stays};
 use crate::structures::returned;
 use crate::table::{HandleTable, Home};
 use control_block::desk::Desk;
@@ -54,7 +55,7 @@ fn child_of<V: Drop + Send, R: Wait>(
     scene: &mut Scene<V>,
     domain: &Domain<V>,
     desk: &mut Desk<V>,
-    slots: &Vec<Option<Held>>,
+    slots: &Vec<Slot>,
     parent: usize,
     fields: [u64; 4],
     value: V,
@@ -78,7 +79,9 @@ fn child_of<V: Drop + Send, R: Wait>(
         Ok(owner) => owner,
         Err(why) => return Err(Returned { why, back: value }),
     };
-    match scene.add_child(rt, domain, desk, owner, fields, value) {
+    let added = scene.add_child(rt, domain, desk, &owner, fields, value);
+    stays(owner);
+    match added {
         Ok(child) => Ok(Held::Owner(child)),
         Err(refused) => Err(returned(refused)),
     }
@@ -161,7 +164,9 @@ impl<'d, V: Drop + Send, H: Home> HandleTable<'d, V, H> {
             Ok(owner) => owner,
             Err(why) => return Err(why),
         };
-        match scene.scene.parent(rt, self.domain, &mut self.desk, owner) {
+        let parent = scene.scene.parent(rt, self.domain, &mut self.desk, &owner);
+        stays(owner);
+        match parent {
             Ok(parent) => {
                 let got = parent.block().is_some();
                 let parent = Held::Owner(parent);
@@ -196,7 +201,9 @@ impl<'d, V: Drop + Send, H: Home> HandleTable<'d, V, H> {
             Ok(owner) => owner,
             Err(why) => return Err(why),
         };
-        let why = match scene.scene.detach(rt, self.domain, &mut self.desk, owner) {
+        let detached = scene.scene.detach(rt, self.domain, &mut self.desk, &owner);
+        stays(owner);
+        let why = match detached {
             Ok(()) => return Ok(()),
             Err(why) => why,
         };

@@ -6,14 +6,14 @@ use Rattle.handle_table.proofs.cells.member_at.Goals as goal
 pub returns-in-Err-clause-fault : goal.returns-in-Err-clause-fault
 returns-in-Err-clause-fault c = inl c.in-Err.ensures.fault
 
-pub returns-in-Ok-block_within-clause-found : goal.returns-in-Ok-block_within-clause-found
-returns-in-Ok-block_within-clause-found c =
-    let b = c.in-Ok-block_within.block in (b, owns_into _ _ c.in-Ok.owner.now b c.in-Ok.ensures.found c.in-Ok-block_within.ensures, refl)
+pub returns-in-Ok-block-clause-found : goal.returns-in-Ok-block-clause-found
+returns-in-Ok-block-clause-found c =
+    let b = c.in-Ok-block.block in (b, owns_into _ _ c.in-Ok.owner b c.in-Ok.ensures.found c.in-Ok-block.ensures, refl)
 
-pub returns-in-Err-block_within-clause-fault : goal.returns-in-Err-block_within-clause-fault
-returns-in-Err-block_within-clause-fault c =
+pub returns-in-Err-block-clause-fault : goal.returns-in-Err-block-clause-fault
+returns-in-Err-block-clause-fault c =
     inr (
-      c.in-Ok.owner.now,
+      c.in-Ok.owner,
       c.in-Ok.ensures.found,
-      away (λ (b : Block) (x : Block). x ≡ b) c.in-Ok.owner.now c.in-Err-block_within.why c.in-Err-block_within.ensures,
+      away (λ (b : Block) (x : Block). x ≡ b) c.in-Ok.owner c.in-Err-block.why c.in-Err-block.ensures,
     )

@@ -1,4 +1,4 @@
-use Rattle.std.proofs.Common.{arith}
+use Rattle.std.proofs.Common.{sym, ◌∙◌, arith}
 use Rattle.std.proofs.lemmas.List.{nil_from_length}
 use Rattle.handle_table.proofs.Letting.{all_gone, begins, goes, held_last, passes}
 use Rattle.handle_table.proofs.parting.let_all_go.Goals as goal
@@ -7,16 +7,18 @@ pub loop-slot-init : goal.loop-slot-init
 loop-slot-init g c = begins c.args.domain.now c.args.desk.now c.args.pile.now c.args.slots.items c.requires.bears c.requires.fits
 
 pub loop-slot-preserved-in-None : goal.loop-slot-preserved-in-None
-loop-slot-preserved-in-None g c = passes _ _ _ _ _ _ _ _ _ c.loop-slot.invariant c.in-Some.ensures.items c.in-None.is
+loop-slot-preserved-in-None g c = passes _ _ _ _ _ _ _ _ _ c.loop-slot.invariant c.in-Some.ensures.items (sym c.into_held.ensures ∙ c.in-None.is)
 
 pub let_go-requires-clause-held : goal.let_go-requires-clause-held
-let_go-requires-clause-held g c κs within = held_last _ _ _ _ _ _ _ _ _ c.in-Some-slot.handle c.loop-slot.invariant c.in-Some.ensures.items c.in-Some-slot.is
+let_go-requires-clause-held g c κs within =
+    held_last _ _ _ _ _ _ _ _ _ c.in-Some-into_held.handle c.loop-slot.invariant c.in-Some.ensures.items
+    (sym c.into_held.ensures ∙ c.in-Some-into_held.is)
 
 pub loop-slot-preserved : goal.loop-slot-preserved
 loop-slot-preserved g c =
     let e = c.let_go.ensures in
-    goes _ _ _ _ _ _ _ _ _ _ _ c.in-Some-slot.handle c.let_go.result c.loop-slot.invariant c.in-Some.ensures.items c.in-Some-slot.is e.bears e.left e.bag e.held
-    e.allowance
+    goes _ _ _ _ _ _ _ _ _ _ _ c.in-Some-into_held.handle c.let_go.result c.loop-slot.invariant c.in-Some.ensures.items
+    (sym c.into_held.ensures ∙ c.in-Some-into_held.is) e.bears e.left e.bag e.held e.allowance
 
 pub returns-clause-left : goal.returns-clause-left
 returns-clause-left g c =

@@ -9,5 +9,5 @@ returns-in-None-clause-fault c =
     let at = c.args.at in
     let item = c.in-Some.ensures.item in
     let found : slice_get ss at ≡ Some None =
-    is_there ss at c.in-Some.slot.now item.3.0 item.1 ∙ ap (λ (s : Slot). Some s) (sym c.take.ensures.value ∙ c.in-None.is) in
-    (found, subst (λ (s : Slot). set ss at s ≡ ss) (sym c.take.ensures.after) (put_same ss at None found))
+    is_there ss at c.in-Some.slot.now item.3.0 item.1 ∙ ap (λ (s : Slot). Some s) (sym c.take.ensures.0 ∙ c.in-None.is) in
+    (found, subst (λ (s : Slot). set ss at s ≡ ss) (sym c.take.ensures.1) (put_same ss at None found))

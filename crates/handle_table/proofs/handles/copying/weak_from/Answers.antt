@@ -7,32 +7,32 @@ use Rattle.handle_table.proofs.Bringing.{weakly}
 use Rattle.handle_table.proofs.Wholes.{kept}
 use Rattle.handle_table.proofs.handles.copying.weak_from.Goals as goal
 
-pub downgrade-requires-clause-holds : goal.downgrade-requires-clause-holds
-downgrade-requires-clause-holds g c κs within =
-    fits_at c.args.desk.now c.args.slots.now.items c.args.from (Owner c.in-Ok.owner.now) c.requires.fits c.in-Ok.ensures.found
+pub downgrade-came-requires-clause-holds : goal.downgrade-came-requires-clause-holds
+downgrade-came-requires-clause-holds g c κs within =
+    fits_at c.args.desk.now c.args.slots.now.items c.args.from (Owner c.in-Ok.owner) c.requires.fits c.in-Ok.ensures.found
 
 pub returns-then-to-len : goal.returns-then-to-len
 returns-then-to-len g c = (inl (refl, omega arith), refl)
 
-pub returns-in-Ok-downgrade : goal.returns-in-Ok-downgrade
-returns-in-Ok-downgrade g c =
-    let d = c.args.desk.now in let m = c.downgrade.new.desk in let ss = c.args.slots.now.items in let e = c.in-Ok-downgrade.ensures in
-    let h = c.in-Ok-downgrade.weak in
+pub returns-in-Ok-came : goal.returns-in-Ok-came
+returns-in-Ok-came g c =
+    let d = c.args.desk.now in let m = c.downgrade-came.new.desk in let ss = c.args.slots.now.items in let e = c.in-Ok-came.ensures in
+    let h = c.in-Ok-came.weak in
     record {
       there = omega arith;
       comes = (
-        c.in-Ok.owner.now,
+        c.in-Ok.owner,
         c.in-Ok.ensures.found,
         record { weak = h; is = refl; event = (e.handle.0, e.handle.1, e.event) },
       );
       fits = fits_more d m ss (Weak h) c.requires.fits
-          (e.bag ∙ weakly (bag_of d) h c.in-Ok.owner.now.block c.in-Ok.owner.now.place e.handle.0 e.handle.1) e.held;
+          (e.bag ∙ weakly (bag_of d) h c.in-Ok.owner.block c.in-Ok.owner.place e.handle.0 e.handle.1) e.held;
       bears = λ domain p w. kept domain d m p w e.keeps;
     }
 
-pub returns-in-Err-downgrade : goal.returns-in-Err-downgrade
-returns-in-Err-downgrade g c =
-    let e = c.in-Err-downgrade.ensures.refused in (inr (inr (ap fault.Call e.0, c.in-Err-downgrade.ensures.limit.0 refl)), e.1)
+pub returns-in-Err-came : goal.returns-in-Err-came
+returns-in-Err-came g c =
+    let e = c.in-Err-came.ensures.refused in (inr (inr (ap fault.Call e.0, c.in-Err-came.ensures.limit.0 refl)), e.1)
 
 pub returns-in-Err : goal.returns-in-Err
 returns-in-Err g c = (inr (inl c.in-Err.ensures.fault), refl)

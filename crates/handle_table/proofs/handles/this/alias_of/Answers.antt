@@ -10,22 +10,22 @@ use Rattle.handle_table.proofs.Filling.{fits_at, fits_more}
 use Rattle.handle_table.proofs.Wholes.{kept}
 use Rattle.handle_table.proofs.handles.this.alias_of.Goals as goal
 
-pub alias-requires-clause-holds : goal.alias-requires-clause-holds
-alias-requires-clause-holds g c κs within =
-    fits_at c.args.desk.now c.args.slots.now.items c.args.of (Owner c.in-Ok.owner.now) c.requires.fits c.in-Ok.ensures.found
+pub alias-came-requires-clause-holds : goal.alias-came-requires-clause-holds
+alias-came-requires-clause-holds g c κs within =
+    fits_at c.args.desk.now c.args.slots.now.items c.args.of (Owner c.in-Ok.owner) c.requires.fits c.in-Ok.ensures.found
 
 pub returns-then-to-len : goal.returns-then-to-len
 returns-then-to-len g c = (inl (refl, omega arith), refl)
 
-pub returns-in-Ok-alias : goal.returns-in-Ok-alias
-returns-in-Ok-alias g c =
-    let d = c.args.desk.now in let m = c.alias.new.desk in let ss = c.args.slots.now.items in let e = c.in-Ok-alias.ensures in
-    let h = c.in-Ok-alias.copy in
+pub returns-in-Ok-came : goal.returns-in-Ok-came
+returns-in-Ok-came g c =
+    let d = c.args.desk.now in let m = c.alias-came.new.desk in let ss = c.args.slots.now.items in let e = c.in-Ok-came.ensures in
+    let h = c.in-Ok-came.copy in
     let same : pointed c.args.place ≡ c.args.place = e.given (inr (inr (c.if-not-is_pointer.ensures.0 refl))) in
     record {
       there = omega arith;
       comes = (
-        c.in-Ok.owner.now,
+        c.in-Ok.owner,
         c.in-Ok.ensures.found,
         record {
           owner = h;
@@ -33,7 +33,7 @@ returns-in-Ok-alias g c =
           event = (
             e.handle.0,
             e.handle.1 ∙ same,
-            subst (λ (p : Option Place). SharesOwner d c.in-Ok.owner.now.block c.in-Ok.owner.now.place p m) same e.event,
+            subst (λ (p : Option Place). SharesOwner d c.in-Ok.owner.block c.in-Ok.owner.place p m) same e.event,
           );
         },
       );
@@ -41,9 +41,9 @@ returns-in-Ok-alias g c =
       bears = λ domain p w. kept domain d m p w e.keeps;
     }
 
-pub returns-in-Err-alias : goal.returns-in-Err-alias
-returns-in-Err-alias g c =
-    let e = c.in-Err-alias.ensures.refused in (inr (inr (inr (ap fault.Call e.0, c.in-Err-alias.ensures.limit.0 refl))), e.1)
+pub returns-in-Err-came : goal.returns-in-Err-came
+returns-in-Err-came g c =
+    let e = c.in-Err-came.ensures.refused in (inr (inr (inr (ap fault.Call e.0, c.in-Err-came.ensures.limit.0 refl))), e.1)
 
 pub returns-in-Err : goal.returns-in-Err
 returns-in-Err g c = (inr (inr (inl c.in-Err.ensures.fault)), refl)

@@ -4,27 +4,27 @@ use Rattle.handle_table.proofs.Filling.{fits_at, fits_more}
 use Rattle.handle_table.proofs.Wholes.{kept}
 use Rattle.handle_table.proofs.handles.this.owner_of_this.Goals as goal
 
-pub shared_from_this-requires-clause-holds : goal.shared_from_this-requires-clause-holds
-shared_from_this-requires-clause-holds g c κs within =
-    fits_at c.args.desk.now c.args.slots.now.items c.args.of (Owner c.in-Ok.owner.now) c.requires.fits c.in-Ok.ensures.found
+pub shared_from_this-came-requires-clause-holds : goal.shared_from_this-came-requires-clause-holds
+shared_from_this-came-requires-clause-holds g c κs within =
+    fits_at c.args.desk.now c.args.slots.now.items c.args.of (Owner c.in-Ok.owner) c.requires.fits c.in-Ok.ensures.found
 
 pub returns-then-to-len : goal.returns-then-to-len
 returns-then-to-len g c = (inl (refl, omega arith), refl)
 
-pub returns-in-Ok-shared_from_this : goal.returns-in-Ok-shared_from_this
-returns-in-Ok-shared_from_this g c =
-    let d = c.args.desk.now in let m = c.shared_from_this.new.desk in let ss = c.args.slots.now.items in let e = c.in-Ok-shared_from_this.ensures in
-    let h = c.in-Ok-shared_from_this.this in
+pub returns-in-Ok-came : goal.returns-in-Ok-came
+returns-in-Ok-came g c =
+    let d = c.args.desk.now in let m = c.shared_from_this-came.new.desk in let ss = c.args.slots.now.items in let e = c.in-Ok-came.ensures in
+    let h = c.in-Ok-came.this in
     record {
       there = omega arith;
-      comes = (c.in-Ok.owner.now, c.in-Ok.ensures.found, (e.may, record { owner = h; is = refl; event = (e.handle.0, e.handle.1, e.event) }));
+      comes = (c.in-Ok.owner, c.in-Ok.ensures.found, (e.may, record { owner = h; is = refl; event = (e.handle.0, e.handle.1, e.event) }));
       fits = fits_more d m ss (Owner h) c.requires.fits e.bag e.held;
       bears = λ domain p w. kept domain d m p w e.keeps;
     }
 
-pub returns-in-Err-shared_from_this : goal.returns-in-Err-shared_from_this
-returns-in-Err-shared_from_this g c =
-    let e = c.in-Err-shared_from_this.ensures.refused in (inr (inr (c.in-Ok.owner.now, c.in-Ok.ensures.found, (c.in-Err-shared_from_this.why, refl, e.0))), e.1)
+pub returns-in-Err-came : goal.returns-in-Err-came
+returns-in-Err-came g c =
+    let e = c.in-Err-came.ensures.refused in (inr (inr (c.in-Ok.owner, c.in-Ok.ensures.found, (c.in-Err-came.why, refl, e.0))), e.1)
 
 pub returns-in-Err : goal.returns-in-Err
 returns-in-Err g c = (inr (inl c.in-Err.ensures.fault), refl)

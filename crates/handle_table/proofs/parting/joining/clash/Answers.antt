@@ -10,4 +10,4 @@ returns-in-Err-handle_at-clause-free c = λ h e.
     vacant_at c.args.slots.now.items c.args.at c.in-Err-handle_at.field-0 c.in-Err-handle_at.ensures.fault (let n = c.args.slots.now.ok.0 in omega arith)
 
 pub returns-then-at-len-clause-clash : goal.returns-then-at-len-clause-clash
-returns-then-at-len-clause-clash c = (c.in-Ok.field-0.now, c.in-Ok.ensures.found, (let n = c.args.slots.now.ok.0 in omega arith))
+returns-then-at-len-clause-clash c = (c.in-Ok.handle, c.in-Ok.ensures.found, (let n = c.args.slots.now.ok.0 in omega arith))

@@ -5,13 +5,13 @@ use Rattle.handle_table.proofs.Filling.{fits_at, fits_more}
 use Rattle.handle_table.proofs.Structured.{bears_beside, scene_serves, serves_carries}
 use Rattle.handle_table.proofs.structures.scene.child_of.Goals as goal
 
-pub add_child-requires-clause-carries : goal.add_child-requires-clause-carries
-add_child-requires-clause-carries g c κs within =
+pub add_child-added-requires-clause-carries : goal.add_child-added-requires-clause-carries
+add_child-added-requires-clause-carries g c κs within =
     serves_carries c.args.domain.now c.args.desk.now c.args.scene.now c.requires.domain c.requires.serves
 
-pub add_child-requires-clause-holds : goal.add_child-requires-clause-holds
-add_child-requires-clause-holds g c κs within =
-    fits_at c.args.desk.now c.args.slots.now.items c.args.parent (Owner c.in-Ok.owner.now) c.requires.fits c.in-Ok.ensures.found
+pub add_child-added-requires-clause-holds : goal.add_child-added-requires-clause-holds
+add_child-added-requires-clause-holds g c κs within =
+    fits_at c.args.desk.now c.args.slots.now.items c.args.parent (Owner c.in-Ok.owner) c.requires.fits c.in-Ok.ensures.found
 
 pub returns-then-to-len-clause-brought : goal.returns-then-to-len-clause-brought
 returns-then-to-len-clause-brought g c = ((inl (refl, omega arith), refl), refl)
@@ -19,28 +19,28 @@ returns-then-to-len-clause-brought g c = ((inl (refl, omega arith), refl), refl)
 pub returns-in-Err-clause-brought : goal.returns-in-Err-clause-brought
 returns-in-Err-clause-brought g c = ((inr (inl c.in-Err.ensures.fault), refl), refl)
 
-pub returns-in-Ok-add_child-clause-brought : goal.returns-in-Ok-add_child-clause-brought
-returns-in-Ok-add_child-clause-brought g c =
-    let d = c.args.desk.now in let m = c.add_child.new.desk in let k = c.in-Ok-add_child.child in let e = c.in-Ok-add_child.ensures in
+pub returns-in-Ok-added-clause-brought : goal.returns-in-Ok-added-clause-brought
+returns-in-Ok-added-clause-brought g c =
+    let d = c.args.desk.now in let m = c.add_child-added.new.desk in let k = c.in-Ok-added.child in let e = c.in-Ok-added.ensures in
     record {
       there = omega arith;
-      comes = (c.in-Ok.owner.now, c.in-Ok.ensures.found, (e.may, record { owner = k; is = refl; event = (e.own, e.tree) }));
+      comes = (c.in-Ok.owner, c.in-Ok.ensures.found, (e.may, record { owner = k; is = refl; event = (e.own, e.tree) }));
       fits = fits_more d m c.args.slots.now.items (Owner k) c.requires.fits e.bag e.held;
-      bears = λ domain p w. bears_beside domain d m p c.args.scene.now c.add_child.new.self w e.desk c.requires.serves.none e.none e.others;
+      bears = λ domain p w. bears_beside domain d m p c.args.scene.now c.add_child-added.new.self w e.desk c.requires.serves.none e.none e.others;
     }
 
-pub returns-in-Ok-add_child-clause-serves : goal.returns-in-Ok-add_child-clause-serves
-returns-in-Ok-add_child-clause-serves g c =
-    let e = c.in-Ok-add_child.ensures in
-    scene_serves c.args.domain.now c.args.domain.now c.add_child.new.desk c.add_child.new.self refl e.carries e.none
+pub returns-in-Ok-added-clause-serves : goal.returns-in-Ok-added-clause-serves
+returns-in-Ok-added-clause-serves g c =
+    let e = c.in-Ok-added.ensures in
+    scene_serves c.args.domain.now c.args.domain.now c.add_child-added.new.desk c.add_child-added.new.self refl e.carries e.none
 
-pub returns-in-Err-add_child-clause-serves : goal.returns-in-Err-add_child-clause-serves
-returns-in-Err-add_child-clause-serves g c =
-    subst (ServesDomain c.args.domain.now) (sym c.in-Err-add_child.ensures.refused.2) c.requires.serves
+pub returns-in-Err-added-clause-serves : goal.returns-in-Err-added-clause-serves
+returns-in-Err-added-clause-serves g c =
+    subst (ServesDomain c.args.domain.now) (sym c.in-Err-added.ensures.refused.2) c.requires.serves
 
-pub returns-in-Err-add_child-clause-brought : goal.returns-in-Err-add_child-clause-brought
-returns-in-Err-add_child-clause-brought g c =
-    let e = c.in-Err-add_child.ensures in let r = c.in-Err-add_child.refused in let a = c.returned.ensures in (
-      (inr (inr (c.in-Ok.owner.now, c.in-Ok.ensures.found, (r.why, a.0, e.refusals))), a.1 ∙ e.refused.0),
+pub returns-in-Err-added-clause-brought : goal.returns-in-Err-added-clause-brought
+returns-in-Err-added-clause-brought g c =
+    let e = c.in-Err-added.ensures in let r = c.in-Err-added.refused in let a = c.returned.ensures in (
+      (inr (inr (c.in-Ok.owner, c.in-Ok.ensures.found, (r.why, a.0, e.refusals))), a.1 ∙ e.refused.0),
       e.refused.1,
     )

@@ -9,21 +9,22 @@ use Rattle.handle_table.proofs.Structured.{bears_beside, scene_carries}
 use Rattle.handle_table.proofs.Wholes.{seen}
 use Rattle.handle_table.proofs.table.HandleTable.detach.Goals as goal
 
-pub detach-requires-clause-carries : goal.detach-requires-clause-carries
-detach-requires-clause-carries g c κs within =
+pub detach-detached-requires-clause-carries : goal.detach-detached-requires-clause-carries
+detach-detached-requires-clause-carries g c κs within =
     scene_carries _ c.self.inside.domain.now c.self.inside.desk c.self.inside.slots.items c.self.inside.pile c.scene.inside.scene c.self.invariant
     c.scene.invariant
 
-pub detach-requires-clause-holds : goal.detach-requires-clause-holds
-detach-requires-clause-holds g c κs within =
-    fits_at c.self.inside.desk c.self.inside.slots.items c.args.node (Owner c.in-Ok.owner.now) c.self.invariant.fits c.in-Ok.ensures.found
+pub detach-detached-requires-clause-holds : goal.detach-detached-requires-clause-holds
+detach-detached-requires-clause-holds g c κs within =
+    fits_at c.self.inside.desk c.self.inside.slots.items c.args.node (Owner c.in-Ok.owner) c.self.invariant.fits c.in-Ok.ensures.found
 
-pub returns-in-Ok-detach-clause-detached : goal.returns-in-Ok-detach-clause-detached
-returns-in-Ok-detach-clause-detached g c =
-    let e = c.in-Ok-detach.ensures in
-    subst (λ (t : TableNow g.row.V.Denot). DetachesNode t c.args.node (seen c.detach.new.desk c.self.inside.slots.items c.self.inside.pile)) c.self.view_is
+pub returns-in-Ok-detached-clause-detached : goal.returns-in-Ok-detached-clause-detached
+returns-in-Ok-detached-clause-detached g c =
+    let e = c.in-Ok-detached.ensures in
+    subst (λ (t : TableNow g.row.V.Denot). DetachesNode t c.args.node (seen c.detach-detached.new.desk c.self.inside.slots.items c.self.inside.pile))
+    c.self.view_is
     record {
-      of = c.in-Ok.owner.now;
+      of = c.in-Ok.owner;
       at = c.in-Ok.ensures.found;
       may = e.may;
       detaches = record { room = e.may.0; done = (e.own, e.tree); slots = refl; endings = refl };
@@ -35,18 +36,18 @@ returns-in-Err-clause-refused g c =
 
 pub invariant_of-self : goal.invariant_of-self
 invariant_of-self g c =
-    let e = c.in-Ok-detach.ensures in let d = c.self.inside.desk in let m = c.detach.new.desk in
+    let e = c.in-Ok-detached.ensures in let d = c.self.inside.desk in let m = c.detach-detached.new.desk in
     record {
       home = c.self.invariant.home;
-      bears = bears_beside c.self.inside.domain.now d m c.self.inside.pile c.scene.inside.scene c.detach.new.self c.self.invariant.bears e.desk
+      bears = bears_beside c.self.inside.domain.now d m c.self.inside.pile c.scene.inside.scene c.detach-detached.new.self c.self.invariant.bears e.desk
           c.scene.invariant.none e.none e.others;
       fits = fits_still d m c.self.inside.slots.items c.self.invariant.fits e.bag e.held;
     }
 
 pub returns-clause-refused : goal.returns-clause-refused
 returns-clause-refused g c =
-    let e = c.in-Err-detach.ensures in let why = c.in-Err-detach.why in let ss = c.self.inside.slots.items in (
+    let e = c.in-Err-detached.ensures in let why = c.in-Err-detached.why in let ss = c.self.inside.slots.items in (
       subst (λ (t : TableNow g.row.V.Denot). WhyNotDetached t c.args.node (fault.Call why)) c.self.view_is
-          (inr (c.in-Ok.owner.now, c.in-Ok.ensures.found, (why, refl, e.refusals))),
+          (inr (c.in-Ok.owner, c.in-Ok.ensures.found, (why, refl, e.refusals))),
       ap (λ (d : DeskNow g.row.V.Denot). seen d ss c.self.inside.pile) e.refused.0 ∙ c.self.view_is,
     )

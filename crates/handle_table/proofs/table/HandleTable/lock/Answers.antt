@@ -11,7 +11,7 @@ use Rattle.handle_table.proofs.table.HandleTable.lock.Goals as goal
 
 pub lock-owner-requires-clause-holds : goal.lock-owner-requires-clause-holds
 lock-owner-requires-clause-holds g c κs within =
-    fits_at c.self.inside.desk c.self.inside.slots.items c.args.from (Weak c.in-Ok.weak.now) c.self.invariant.fits c.in-Ok.ensures.found
+    fits_at c.self.inside.desk c.self.inside.slots.items c.args.from (Weak c.in-Ok.weak) c.self.invariant.fits c.in-Ok.ensures.found
 
 pub returns-in-Err-clause-refused : goal.returns-in-Err-clause-refused
 returns-in-Err-clause-refused g c =
@@ -23,7 +23,7 @@ assign-requires-clause-bears g c κs within =
 
 pub returns-in-Ok-owner-clause-locked : goal.returns-in-Ok-owner-clause-locked
 returns-in-Ok-owner-clause-locked g c =
-    let e = c.in-Ok-owner.ensures in let h = c.in-Ok-owner.owner in let of = c.in-Ok.weak.now in
+    let e = c.in-Ok-owner.ensures in let h = c.in-Ok-owner.owner in let of = c.in-Ok.weak in
     let told : c.is_some-got.result ≡ is_some h.block = c.is_some-got.ensures ∙ ap is_some c.block.ensures in
     subst (λ (t : TableNow g.row.V.Denot). LocksSlot t c.args.from c.args.to c.is_some-got.result
     (seen c.assign.new.desk c.assign.new.slots.items c.assign.new.pile)) c.self.view_is

@@ -9,14 +9,15 @@ use Rattle.handle_table.proofs.Filling.{fits_at, fits_more}
 use Rattle.handle_table.proofs.Wholes.{same_whole, seen}
 use Rattle.handle_table.proofs.table.HandleTable.parent.Goals as goal
 
-pub parent-requires-clause-holds : goal.parent-requires-clause-holds
-parent-requires-clause-holds g c κs within =
-    fits_at c.self.inside.desk c.self.inside.slots.items c.args.node (Owner c.in-Ok.owner.now) c.self.invariant.fits c.in-Ok.ensures.found
+pub parent-parent-requires-clause-holds : goal.parent-parent-requires-clause-holds
+parent-parent-requires-clause-holds g c κs within =
+    fits_at c.self.inside.desk c.self.inside.slots.items c.args.node (Owner c.in-Ok.owner) c.self.invariant.fits c.in-Ok.ensures.found
 
 pub assign-requires-clause-bears : goal.assign-requires-clause-bears
 assign-requires-clause-bears g c κs within =
     let e = c.in-Ok-parent.ensures in
-    bears_kept c.self.inside.domain.now c.self.inside.desk c.parent.new.desk c.self.inside.pile c.self.invariant.bears e.desk.domain e.desk.shape e.endings
+    bears_kept c.self.inside.domain.now c.self.inside.desk c.parent-parent.new.desk c.self.inside.pile c.self.invariant.bears e.desk.domain
+    e.desk.shape e.endings
     e.count
 
 pub returns-in-Ok-parent-clause-parent : goal.returns-in-Ok-parent-clause-parent
@@ -26,12 +27,12 @@ returns-in-Ok-parent-clause-parent g c =
     subst (λ (t : TableNow g.row.V.Denot). GetsParent t c.args.node c.args.to c.is_some-got.result
     (seen c.assign.new.desk c.assign.new.slots.items c.assign.new.pile)) c.self.view_is
     record {
-      of = c.in-Ok.owner.now;
+      of = c.in-Ok.owner;
       at = c.in-Ok.ensures.found;
       may = e.may;
       parent = record {
         handle = Owner h;
-        between = c.parent.new.desk;
+        between = c.parent-parent.new.desk;
         comes = record { owner = h; is = refl; event = (told, e.own, e.parent) };
         assigns = c.assign.ensures.assigns;
       };
@@ -41,7 +42,7 @@ pub returns-in-Err-parent-clause-refused : goal.returns-in-Err-parent-clause-ref
 returns-in-Err-parent-clause-refused g c =
     let e = c.in-Err-parent.ensures in let ss = c.self.inside.slots.items in (
       subst (λ (t : TableNow g.row.V.Denot). WhyNoParent t c.args.node c.args.to (fault.Call c.in-Err-parent.why)) c.self.view_is
-          (inr (inr (c.in-Ok.owner.now, c.in-Ok.ensures.found, (c.in-Err-parent.why, refl, e.refusals)))),
+          (inr (inr (c.in-Ok.owner, c.in-Ok.ensures.found, (c.in-Err-parent.why, refl, e.refusals)))),
       ap (λ (d : DeskNow g.row.V.Denot). seen d ss c.self.inside.pile) e.refused ∙ c.self.view_is,
     )
 
@@ -52,9 +53,9 @@ returns-in-Err-clause-refused g c =
 pub assign-requires-clause-fits : goal.assign-requires-clause-fits
 assign-requires-clause-fits g c κs within =
     let e = c.in-Ok-parent.ensures in
-    fits_more c.self.inside.desk c.parent.new.desk c.self.inside.slots.items (Owner c.in-Ok-parent.parent) c.self.invariant.fits e.bag e.held
+    fits_more c.self.inside.desk c.parent-parent.new.desk c.self.inside.slots.items (Owner c.in-Ok-parent.parent) c.self.invariant.fits e.bag e.held
 
 pub invariant_of-self-in-Err-parent : goal.invariant_of-self-in-Err-parent
 invariant_of-self-in-Err-parent g c =
-    same_whole _ c.self.inside.domain.now c.self.inside.desk c.parent.new.desk c.self.inside.slots.items c.self.inside.pile c.self.invariant
+    same_whole _ c.self.inside.domain.now c.self.inside.desk c.parent-parent.new.desk c.self.inside.slots.items c.self.inside.pile c.self.invariant
     c.in-Err-parent.ensures.refused

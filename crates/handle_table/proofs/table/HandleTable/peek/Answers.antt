@@ -7,8 +7,8 @@ use Rattle.handle_table.proofs.table.HandleTable.peek.Goals as goal
 
 pub returns-in-Ok-clause-there : goal.returns-in-Ok-clause-there
 returns-in-Ok-clause-there g c =
-    subst (λ (t : TableNow g.row.V.Denot). (h : Held) × IsAt t c.args.at h × IsPeeked h c.parts_of.result) c.self.view_is
-    (c.in-Ok.handle.now, c.in-Ok.ensures.found, c.parts_of.ensures)
+    subst (λ (t : TableNow g.row.V.Denot). (h : Held) × IsAt t c.args.at h × IsPeeked h c.parts_of-parts.result) c.self.view_is
+    (c.in-Ok.handle, c.in-Ok.ensures.found, c.parts_of-parts.ensures)
 
 pub returns-in-Err-clause-fault : goal.returns-in-Err-clause-fault
 returns-in-Err-clause-fault g c =

@@ -10,7 +10,7 @@ use Rattle.handle_table.proofs.table.HandleTable.read.Goals as goal
 
 pub read-field-requires-clause-holds : goal.read-field-requires-clause-holds
 read-field-requires-clause-holds g c κs within =
-    fits_at c.self.inside.desk c.self.inside.slots.items c.args.at (Owner c.in-Ok.owner.now) c.self.invariant.fits c.in-Ok.ensures.found
+    fits_at c.self.inside.desk c.self.inside.slots.items c.args.at (Owner c.in-Ok.owner) c.self.invariant.fits c.in-Ok.ensures.found
 
 pub invariant_of-self : goal.invariant_of-self
 invariant_of-self g c =
@@ -25,12 +25,12 @@ pub returns-in-Ok-field-clause-read : goal.returns-in-Ok-field-clause-read
 returns-in-Ok-field-clause-read g c =
     subst (λ (t : TableNow g.row.V.Denot). ReadsSlot t c.args.at (Ok c.in-Ok-field.field)
     (seen c.read-field.new.desk c.self.inside.slots.items c.self.inside.pile)) c.self.view_is
-    record { of = c.in-Ok.owner.now; was = c.in-Ok.ensures.found; event = c.in-Ok-field.ensures.read; rest = (refl, refl) }
+    record { of = c.in-Ok.owner; was = c.in-Ok.ensures.found; event = c.in-Ok-field.ensures.read; rest = (refl, refl) }
 
 pub returns-in-Err-field-clause-refused : goal.returns-in-Err-field-clause-refused
 returns-in-Err-field-clause-refused g c =
     let e = c.in-Err-field.ensures in let ss = c.self.inside.slots.items in let pile = c.self.inside.pile in (
       inr (subst (λ (t : TableNow g.row.V.Denot). IsNotRead t c.args.at (fault.Call c.in-Err-field.why) (seen c.read-field.new.desk ss pile)) c.self.view_is
-          (c.in-Err-field.why, refl, record { of = c.in-Ok.owner.now; was = c.in-Ok.ensures.found; event = e.read; rest = (refl, refl) })),
+          (c.in-Err-field.why, refl, record { of = c.in-Ok.owner; was = c.in-Ok.ensures.found; event = e.read; rest = (refl, refl) })),
       ap (λ (d : DeskNow g.row.V.Denot). seen d ss pile) (read_same c.self.inside.desk c.read-field.new.desk _ _ c.in-Err-field.why e.read) ∙ c.self.view_is,
     )

@@ -16,19 +16,19 @@ returns-in-Err-owner_at-clause-refused g c =
 
 pub returns-clause-told : goal.returns-clause-told
 returns-clause-told g c =
-    subst (λ (t : TableNow g.row.V.Denot). PointAlike t c.args.a c.args.b c.same_place.result) c.self.view_is
+    subst (λ (t : TableNow g.row.V.Denot). PointAlike t c.args.a c.args.b c.same_place-alike.result) c.self.view_is
     record {
-      one = c.in-Ok.owner.now;
-      other = c.in-Ok-owner_at.owner.now;
+      one = c.in-Ok.owner;
+      other = c.in-Ok-owner_at.owner;
       at = (c.in-Ok.ensures.found, c.in-Ok-owner_at.ensures.found);
-      told = c.same_place.ensures.equal;
+      told = c.same_place-alike.ensures.equal;
     }
 
 pub invariant_of-self : goal.invariant_of-self
 invariant_of-self g c =
-    same_whole _ c.self.inside.domain.now c.self.inside.desk c.same_place.new._desk c.self.inside.slots.items c.self.inside.pile c.self.invariant
-    c.same_place.ensures.same
+    same_whole _ c.self.inside.domain.now c.self.inside.desk c.same_place-alike.new._desk c.self.inside.slots.items c.self.inside.pile c.self.invariant
+    c.same_place-alike.ensures.same
 
 pub returns-clause-same : goal.returns-clause-same
 returns-clause-same g c =
-    ap (λ (d : DeskNow g.row.V.Denot). seen d c.self.inside.slots.items c.self.inside.pile) c.same_place.ensures.same ∙ c.self.view_is
+    ap (λ (d : DeskNow g.row.V.Denot). seen d c.self.inside.slots.items c.self.inside.pile) c.same_place-alike.ensures.same ∙ c.self.view_is

@@ -13,8 +13,9 @@ returns-clause-supplied g c =
 
 pub returns-clause-below : goal.returns-clause-below
 returns-clause-below g c =
-    inr (λ at. c.if-held-allowance.false (c.held.ensures ∙ (ap (λ (t : TableNow g.row.V.Denot). held_of t.desk) c.self.view_is ∙ (at
-    ∙ sym (c.allowance.ensures ∙ ap (λ (t : TableNow g.row.V.Denot). allowance_of t.desk) c.self.view_is)))))
+    inr (λ at. absurd (cc (sym c.if-is_full.false ∙ c.is_full.ensures.1
+    (ap (λ (t : TableNow g.row.V.Denot). held_of t.desk) c.self.view_is
+    ∙ (at ∙ sym (ap (λ (t : TableNow g.row.V.Denot). allowance_of t.desk) c.self.view_is))))))
 
 pub returns-clause-sole : goal.returns-clause-sole
 returns-clause-sole g c = λ sole none below same.

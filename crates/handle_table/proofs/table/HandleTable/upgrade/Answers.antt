@@ -9,7 +9,7 @@ use Rattle.handle_table.proofs.table.HandleTable.upgrade.Goals as goal
 
 pub upgrade-owner-requires-clause-holds : goal.upgrade-owner-requires-clause-holds
 upgrade-owner-requires-clause-holds g c κs within =
-    fits_at c.self.inside.desk c.self.inside.slots.items c.args.from (Weak c.in-Ok.weak.now) c.self.invariant.fits c.in-Ok.ensures.found
+    fits_at c.self.inside.desk c.self.inside.slots.items c.args.from (Weak c.in-Ok.weak) c.self.invariant.fits c.in-Ok.ensures.found
 
 pub returns-in-Err-clause-refused : goal.returns-in-Err-clause-refused
 returns-in-Err-clause-refused g c =
@@ -23,7 +23,7 @@ pub returns-in-Ok-owner-clause-upgraded : goal.returns-in-Ok-owner-clause-upgrad
 returns-in-Ok-owner-clause-upgraded g c =
     subst (λ (t : TableNow g.row.V.Denot). Upgrades t c.args.from c.args.to (seen c.assign.new.desk c.assign.new.slots.items c.assign.new.pile)) c.self.view_is
     record {
-      of = c.in-Ok.weak.now;
+      of = c.in-Ok.weak;
       at = c.in-Ok.ensures.found;
       owner = record {
         handle = Owner c.in-Ok-owner.owner;
@@ -43,7 +43,7 @@ returns-in-Err-owner-clause-refused g c =
     let u = seen c.upgrade-owner.new.desk c.self.inside.slots.items c.self.inside.pile in
     subst (λ (t : TableNow g.row.V.Denot). WhyNotUpgraded t c.args.from c.args.to (fault.Call c.in-Err-owner.why) u) c.self.view_is
     (inr record {
-      of = c.in-Ok.weak.now;
+      of = c.in-Ok.weak;
       at = c.in-Ok.ensures.found;
       refusal = c.in-Err-owner.why;
       is = refl;

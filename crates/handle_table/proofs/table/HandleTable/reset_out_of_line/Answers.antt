@@ -3,7 +3,7 @@ use Rattle.handle_table.specs.Calls.{Resets}
 use Rattle.handle_table.specs.Tables.{TableNow}
 use Rattle.handle_table.proofs.Filling.{fits_at}
 use Rattle.handle_table.proofs.Wholes.{fits_left, seen}
-use Rattle.handle_table.proofs.table.HandleTable.reset.Goals as goal
+use Rattle.handle_table.proofs.table.HandleTable.reset_out_of_line.Goals as goal
 
 pub let_go-requires-clause-held : goal.let_go-requires-clause-held
 let_go-requires-clause-held g c κs within =

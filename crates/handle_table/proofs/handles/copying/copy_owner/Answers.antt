@@ -1,0 +1,43 @@
+use Rattle.std.proofs.Common.{◌≡◌, arith, refl, subst, sym}
+use Rattle.control_word.specs.declared.model.handle.Kind.TheVariants.{Owner}
+use Rattle.control_block.specs.CellCalls.{HoldsHandle, with_handle}
+use Rattle.control_block.specs.Desks.{bag_of}
+use Rattle.control_block.specs.declared.handles.Shared.{Shared}
+use Rattle.shared_handle.specs.Calls.{SharesOwner}
+use Rattle.handle_table.specs.Slots.{owner_in}
+use Rattle.handle_table.proofs.Filling.{fits_at, fits_more}
+use Rattle.handle_table.proofs.Slotted.{none_full, owner_parts, same_owner}
+use Rattle.handle_table.proofs.Wholes.{kept}
+use Rattle.handle_table.proofs.handles.copying.copy_owner.Goals as goal
+
+pub share-copied-requires-clause-holds : goal.share-copied-requires-clause-holds
+share-copied-requires-clause-holds g c κs within =
+    let d = c.args.desk.now in let n = c.in-Some.number in let p = c.in-Some.place in let e = c.of_parts-owner.ensures in
+    subst (λ (x : Shared). HoldsHandle d Owner x.block x.place) (sym (same_owner c.of_parts-owner.result (owner_parts n p) e.0 e.1))
+    (fits_at d c.args.slots.now.items c.args.from (owner_in n p) c.requires.fits c.in-Some.ensures.1)
+
+pub returns-clause-copied : goal.returns-clause-copied
+returns-clause-copied g c = λ _.
+    let d = c.args.desk.now in let m = c.share-copied.new.desk in let ss = c.args.slots.now.items in let n = c.in-Some.number in let p = c.in-Some.place in
+    let o = c.of_parts-owner.ensures in let e = c.in-Ok.ensures in
+    let is : c.of_parts-owner.result ≡ owner_parts n p = same_owner c.of_parts-owner.result (owner_parts n p) o.0 o.1 in
+    let bag = subst (λ (x : Shared). bag_of m ≡ with_handle Owner x.block x.place (bag_of d)) is e.bag in
+    record {
+      handle = owner_in n p;
+      brings = record {
+        there = omega arith;
+        comes = (
+          owner_in n p,
+          c.in-Some.ensures.1,
+          record {
+            owner = owner_parts n p;
+            is = refl;
+            event = (refl, refl, subst (λ (x : Shared). SharesOwner d x.block x.place x.place m) is e.event);
+          },
+        );
+        fits = fits_more d m ss (owner_in n p) c.requires.fits bag e.held;
+        bears = λ domain q w. kept domain d m q w e.keeps;
+      };
+      vacant = c.is_vacant.ensures (none_full c.is_vacant.result c.is_full.result c.if-is_vacant-is_full.false);
+      slots = c.lay.ensures;
+    }

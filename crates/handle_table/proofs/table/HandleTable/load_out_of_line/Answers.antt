@@ -1,0 +1,39 @@
+use Rattle.std.proofs.Common.{◌≡◌, IfErr, OnOk, subst}
+use Rattle.std.proofs.lemmas.Result.{on_ok_weaker}
+use Rattle.handle_table.specs.Bringing.{IsLoaded}
+use Rattle.handle_table.specs.Cells.{LoadsIntoSlot, WhyNotLoaded}
+use Rattle.handle_table.specs.Tables.{TableNow, on_pile}
+use Rattle.handle_table.proofs.Bringing.{bears_brought, comes, loads, fits_brought, not_brought}
+use Rattle.handle_table.proofs.Wholes.{seen}
+use Rattle.handle_table.proofs.table.HandleTable.load_out_of_line.Goals as goal
+
+pub arrive-requires-clause-bears : goal.arrive-requires-clause-bears
+arrive-requires-clause-bears g c κs within =
+    let d = c.self.inside.desk in let ss = c.self.inside.slots.items in let t = seen d ss c.self.inside.pile in let m = c.loaded-came in
+    bears_brought (IsLoaded c.args.cell ss) (WhyNotLoaded t c.args.cell c.args.to)
+    d m.new.desk ss c.args.to m.result c.self.inside.domain.now c.self.inside.pile m.ensures
+    c.self.invariant.bears
+
+pub arrive-requires-clause-fits : goal.arrive-requires-clause-fits
+arrive-requires-clause-fits g c κs within =
+    let d = c.self.inside.desk in let ss = c.self.inside.slots.items in let t = seen d ss c.self.inside.pile in let m = c.loaded-came in
+    fits_brought (IsLoaded c.args.cell ss) (WhyNotLoaded t c.args.cell c.args.to) d m.new.desk ss c.args.to m.result m.ensures c.self.invariant.fits
+
+pub returns-clause-loaded : goal.returns-clause-loaded
+returns-clause-loaded g c =
+    let d = c.self.inside.desk in let ss = c.self.inside.slots.items in let t = seen d ss c.self.inside.pile in let m = c.loaded-came in
+    let a = c.arrive in let u = seen a.new.desk a.new.slots.items a.new.pile in
+    subst (λ (x : TableNow g.row.V.Denot). OnOk a.result (LoadsIntoSlot x c.args.cell c.args.to u)) c.self.view_is
+    (on_ok_weaker a.result (loads t u c.args.to c.args.cell)
+    (comes (IsLoaded c.args.cell ss) (WhyNotLoaded t c.args.cell c.args.to)
+    d m.new.desk ss c.args.to m.result a.result a.new.desk a.new.slots.items (on_pile c.self.inside.pile)
+    (on_pile a.new.pile) m.ensures a.ensures.arrives))
+
+pub returns-clause-refused : goal.returns-clause-refused
+returns-clause-refused g c =
+    let d = c.self.inside.desk in let ss = c.self.inside.slots.items in let t = seen d ss c.self.inside.pile in let m = c.loaded-came in
+    let a = c.arrive in let u = seen a.new.desk a.new.slots.items a.new.pile in
+    subst (λ (x : TableNow g.row.V.Denot). IfErr a.result (λ why. WhyNotLoaded x c.args.cell c.args.to why × (u ≡ x))) c.self.view_is
+    (not_brought (IsLoaded c.args.cell ss) (WhyNotLoaded t c.args.cell c.args.to)
+    d m.new.desk ss c.args.to m.result a.result a.new.desk a.new.slots.items (on_pile c.self.inside.pile)
+    (on_pile a.new.pile) m.ensures a.ensures.arrives)
