@@ -64,7 +64,7 @@ impl<'a> SharedAt<'a> {
     /// while others change the cell. It is refused `Limit` just where the desk is at its allowance, and then nothing
     /// changes.
     #[inline(always)]
-    pub fn load<V: Drop + Send, R: Wait>(
+    pub fn load<V: Drop, R: Wait>(
         &self,
         rt: &R,
         domain: &Domain<V>,
@@ -88,7 +88,7 @@ impl<'a> SharedAt<'a> {
     /// The pointer goes into the cell, and what the cell held comes out ([util.smartptr.atomic.shared]), in one step on
     /// the cell. It waits for nobody, and refuses nothing.
     #[inline]
-    pub fn exchange<V: Drop + Send>(
+    pub fn exchange<V: Drop>(
         &self,
         domain: &Domain<V>,
         desk: &mut Desk<V>,
@@ -119,12 +119,7 @@ impl<'a> SharedAt<'a> {
     /// object's last owner, the object ends in the desk's hands, in another block than all that ended there before. It
     /// waits for nobody, and refuses nothing.
     #[inline]
-    pub fn store<V: Drop + Send>(
-        &self,
-        domain: &Domain<V>,
-        desk: &mut Desk<V>,
-        handle: Shared,
-    ) -> Left<V>
+    pub fn store<V: Drop>(&self, domain: &Domain<V>, desk: &mut Desk<V>, handle: Shared) -> Left<V>
         requires domain { Belongs desk.old domain.now }
         requires cell { IsOpenSite desk.old self.now.site }
         requires holds { HoldsHandle desk.old Owner handle.block handle.place }

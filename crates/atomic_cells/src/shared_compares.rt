@@ -22,7 +22,7 @@ use std::marker::Brand;
 use std::sync::Wait;
 
 impl<'a> SharedAt<'a> {
-    fn compare_as<V: Drop + Send, A: Aimed, R: Wait>(
+    fn compare_as<V: Drop, A: Aimed, R: Wait>(
         &self,
         rt: &R,
         domain: &Domain<V>,
@@ -86,7 +86,7 @@ impl<'a> SharedAt<'a> {
     /// desired one goes in, and the cell's comes out; else a copy of what it holds ([util.smartptr.atomic.shared]). It
     /// tries again while others change the cell. It is refused `Limit` just where the desk is at its allowance, before
     /// any step; then nothing changes, and the desired pointer comes back.
-    pub fn compare_exchange_strong<V: Drop + Send, R: Wait>(
+    pub fn compare_exchange_strong<V: Drop, R: Wait>(
         &self,
         rt: &R,
         domain: &Domain<V>,
@@ -116,7 +116,7 @@ impl<'a> SharedAt<'a> {
     }
 
     /// The same, and it may differ on an equivalent pointer ([util.smartptr.atomic.shared]).
-    pub fn compare_exchange_weak<V: Drop + Send, R: Wait>(
+    pub fn compare_exchange_weak<V: Drop, R: Wait>(
         &self,
         rt: &R,
         domain: &Domain<V>,

@@ -52,7 +52,7 @@ impl<'a> WeakAt<'a> {
         })
     }
 
-    pub(crate) fn cell<V: Drop + Send>(&self, domain: &Domain<V>) -> CellAt
+    pub(crate) fn cell<V: Drop>(&self, domain: &Domain<V>) -> CellAt
         requires low { IsFewWeak domain.now.shape.weak_cells self.now.site }
         ensures { (result.site ≡ weak_site domain.now.shape.shared_cells self.now.site) × (result.kind ≡ Weak) }
     {
@@ -69,7 +69,7 @@ impl<'a> WeakAt<'a> {
     /// A copy of what the cell holds ([util.smartptr.atomic.weak]), from its one step on the cell. It tries again while
     /// others change the cell. It is refused `Limit` just where the desk is at its allowance, and then nothing changes.
     #[inline(always)]
-    pub fn load<V: Drop + Send, R: Wait>(
+    pub fn load<V: Drop, R: Wait>(
         &self,
         rt: &R,
         domain: &Domain<V>,
@@ -93,7 +93,7 @@ impl<'a> WeakAt<'a> {
     /// The pointer goes into the cell, and what the cell held comes out ([util.smartptr.atomic.weak]), in one step on
     /// the cell. It waits for nobody, and refuses nothing.
     #[inline]
-    pub fn exchange<V: Drop + Send>(
+    pub fn exchange<V: Drop>(
         &self,
         domain: &Domain<V>,
         desk: &mut Desk<V>,
@@ -124,7 +124,7 @@ impl<'a> WeakAt<'a> {
     /// where that was an empty one, and else `Others` (own). Where that was the last handle of an object that is gone,
     /// its block is vacant, and in the desk's store. It waits for nobody, and refuses nothing.
     #[inline]
-    pub fn store<V: Drop + Send>(
+    pub fn store<V: Drop>(
         &self,
         domain: &Domain<V>,
         desk: &mut Desk<V>,

@@ -21,7 +21,7 @@ use std::marker::Brand;
 use std::sync::Wait;
 
 impl<'a> WeakAt<'a> {
-    fn compare_as<V: Drop + Send, A: Aimed, R: Wait>(
+    fn compare_as<V: Drop, A: Aimed, R: Wait>(
         &self,
         rt: &R,
         domain: &Domain<V>,
@@ -85,7 +85,7 @@ impl<'a> WeakAt<'a> {
     /// desired one goes in, and the cell's comes out; else a copy of what it holds ([util.smartptr.atomic.weak]). It
     /// tries again while others change the cell. It is refused `Limit` just where the desk is at its allowance, before
     /// any step; then nothing changes, and the desired pointer comes back.
-    pub fn compare_exchange_strong<V: Drop + Send, R: Wait>(
+    pub fn compare_exchange_strong<V: Drop, R: Wait>(
         &self,
         rt: &R,
         domain: &Domain<V>,
@@ -115,7 +115,7 @@ impl<'a> WeakAt<'a> {
     }
 
     /// The same, and it may differ on an equivalent pointer ([util.smartptr.atomic.weak]).
-    pub fn compare_exchange_weak<V: Drop + Send, R: Wait>(
+    pub fn compare_exchange_weak<V: Drop, R: Wait>(
         &self,
         rt: &R,
         domain: &Domain<V>,

@@ -16,12 +16,12 @@ use std::alloc::Global;
 use std::marker::Model;
 
 /// The counts of each block. The values that are left are dropped with it.
-pub struct Census<V: Drop + Send> {
+pub struct Census<V: Drop> {
     pub(crate) closed: Closed<Slot<V>, Global>,
     pub(crate) shape: Shape,
 }
 
-impl<V: Drop + Send> Model for Census<V> {
+impl<V: Drop> Model for Census<V> {
     ghost use Rattle.control_block.specs.Census.{CensusNow};
     ghost use Rattle.control_word.specs.Layout.{table_size};
     ghost use Rattle.std.specs.Prelude.{◌+◌, ◌≤◌};
@@ -41,7 +41,7 @@ impl<V: Drop + Send> Model for Census<V> {
         × (c.shape.shared_cells + c.shape.weak_cells ≤ 256) };
 }
 
-impl<V: Drop + Send> Census<V> {
+impl<V: Drop> Census<V> {
     /// How many blocks the domain had (own).
     pub fn blocks(&self) -> u32
         ensures is { result ≡ self.now.blocks }
@@ -87,7 +87,7 @@ impl<V: Drop + Send> Census<V> {
     }
 }
 
-impl<V: Drop + Send> Drop for Census<V> {
+impl<V: Drop> Drop for Census<V> {
     fn drop(self) {
         let Self {
             mut closed,

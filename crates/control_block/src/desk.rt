@@ -10,7 +10,7 @@ use std::alloc::Global;
 use std::marker::Model;
 
 /// One thread's part of a domain: a store of vacant blocks, and an allowance of handles. It must be joined or closed.
-pub struct Desk<V: Drop + Send> {
+pub struct Desk<V: Drop> {
     pub(crate) seat: Chair<V>,
     pub(crate) allowance: u32,
     /// Handles that were handed out, empty ones too.
@@ -23,7 +23,7 @@ pub struct Desk<V: Drop + Send> {
     pub(crate) shelf_word: u16,
 }
 
-impl<V: Drop + Send> Model for Desk<V> {
+impl<V: Drop> Model for Desk<V> {
     ghost use Rattle.control_block.specs.Desks.{DeskNow};
     ghost use Rattle.control_block.specs.Inside.{desk_now, IsDesk};
 
@@ -34,7 +34,7 @@ impl<V: Drop + Send> Model for Desk<V> {
     ghost invariant = { IsDesk };
 }
 
-impl<V: Drop + Send> Desk<V> {
+impl<V: Drop> Desk<V> {
     /// How many vacant blocks it has (own).
     pub fn stock(&self) -> u32
         ensures { result ≡ length (stock_of self.now) }

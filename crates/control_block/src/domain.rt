@@ -16,12 +16,12 @@ use std::marker::Model;
 
 /// Blocks and cells that desks share between threads, without a lock.
 #[derive(Drop)]
-pub struct Domain<V: Drop + Send> {
+pub struct Domain<V: Drop> {
     pub(crate) table: Table<Slot<V>, Sight<V>, Shape, Ruling, Global>,
     pub(crate) shape: Shape,
 }
 
-impl<V: Drop + Send> Model for Domain<V> {
+impl<V: Drop> Model for Domain<V> {
     ghost use Rattle.control_block.specs.Desks.{DomainNow};
     ghost use Rattle.control_block.specs.Inside.{IsDomain};
 
@@ -32,7 +32,7 @@ impl<V: Drop + Send> Model for Domain<V> {
     ghost invariant = { λ d. IsDomain d.table.shared.key d.table.shared.table_id d.shape };
 }
 
-impl<V: Drop + Send> Domain<V> {
+impl<V: Drop> Domain<V> {
     /// How many blocks there are (own).
     pub fn blocks(&self) -> u32
         ensures { result ≡ self.now.shape.blocks }
@@ -80,7 +80,7 @@ fn slots_of<V: Drop>(alloc: Global, mut tokens: Vec<Vacant<V>>) -> Result<Vec<Sl
 
 /// A new domain, and its first desk, which has all blocks and the whole allowance (own). It is refused `Memory` where a
 /// growth was really refused, and `Shape` just where the shape is outside the limits.
-pub fn open<V: Drop + Send>(alloc: Global, shape: Shape) -> Result<(Domain<V>, Desk<V>), Refusal>
+pub fn open<V: Drop>(alloc: Global, shape: Shape) -> Result<(Domain<V>, Desk<V>), Refusal>
     ensures begins { IfOk result (λ r. (r.0.shape ≡ shape) × IsFirstDesk r.0 r.1) }
     ensures refused { IfErr result (λ why. (why ≡ Refusal.Memory) ⊎ (why ≡ Refusal.Shape)) }
     ensures shape { IfErr result (λ why. why ≡ Refusal.Shape ↔ (IsWithinLimits shape → ⊥)) }

@@ -13,7 +13,7 @@ use control_word::Block;
 use control_word::packed::layout::{shelf_bit, shelf_word};
 use std::marker::Brand;
 
-impl<V: Drop + Send> Domain<V> {
+impl<V: Drop> Domain<V> {
     /// How many words of the shelf have a block's bit.
     fn shelf_words(&self) -> u16
         ensures { (result ≡ self.now.shape.blocks / 64 + 1) × (result ≤ 1024) }
@@ -30,7 +30,7 @@ impl<V: Drop + Send> Domain<V> {
     }
 }
 
-impl<V: Drop + Send> Desk<V> {
+impl<V: Drop> Desk<V> {
     /// Up to `count` vacant blocks of the desk go to the shelf, where any desk of the domain may take them (own). It
     /// says how many: the lesser of `count` and `stock`. It waits for nobody and takes no memory. Condition: the desk
     /// is the domain's.

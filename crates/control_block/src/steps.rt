@@ -130,7 +130,7 @@ pub fn peek<V, M: StepArgs>(
 
 /// Finish: the value of an object that has ended comes out of its cell, and the ending gives up the owners' common weak
 /// count (own). It answers the value, and whether the block is vacant now.
-pub fn finish<V: Drop + Send, M: StepArgs>(
+pub fn finish<V: Drop, M: StepArgs>(
     board: &Board<V>,
     chair: &mut Chair<V>,
     block: Block,

@@ -95,7 +95,7 @@ fn member_at(slots: &Vec<Slot>, of: usize, member: u32) -> Result<Site, Fault>
 
 /// Where the cell is.
 #[inline(always)]
-fn site_of<V: Drop + Send>(domain: &Domain<V>, slots: &Vec<Slot>, cell: Cell) -> Result<Site, Fault>
+fn site_of<V: Drop>(domain: &Domain<V>, slots: &Vec<Slot>, cell: Cell) -> Result<Site, Fault>
     ensures found { IfOk result (IsCellAtSite domain.now.shape slots.now.items cell) }
     ensures fault { IfErr result (WhyNoCell domain.now.shape slots.now.items cell) }
 {
@@ -119,7 +119,7 @@ fn site_of<V: Drop + Send>(domain: &Domain<V>, slots: &Vec<Slot>, cell: Cell) ->
 
 /// The cell, which is open to the desk.
 #[inline(always)]
-pub(crate) fn find<V: Drop + Send>(
+pub(crate) fn find<V: Drop>(
     domain: &Domain<V>,
     desk: &Desk<V>,
     slots: &Vec<Slot>,

@@ -11,7 +11,7 @@ use control_block::domain::Domain;
 use control_word::Refusal;
 
 /// A desk that has just begun closes its domain.
-pub(crate) fn shut<V: Drop + Send>(domain: Domain<V>, desk: Desk<V>)
+pub(crate) fn shut<V: Drop>(domain: Domain<V>, desk: Desk<V>)
     requires { IsFirstDesk domain desk }
 {
     match close(domain, desk) {
@@ -21,7 +21,7 @@ pub(crate) fn shut<V: Drop + Send>(domain: Domain<V>, desk: Desk<V>)
 }
 
 /// The domain and its desk without handles, which can close it. Where it has not the whole allowance it is given up.
-pub(crate) fn keep_sole<V: Drop + Send>(
+pub(crate) fn keep_sole<V: Drop>(
     domain: Domain<V>,
     desk: Desk<V>,
 ) -> Result<(Domain<V>, Desk<V>), Refusal>
@@ -41,7 +41,7 @@ pub(crate) fn keep_sole<V: Drop + Send>(
 }
 
 /// A desk that can close its domain does so.
-pub(crate) fn close_sole<V: Drop + Send>(domain: Domain<V>, desk: Desk<V>) -> Census<V>
+pub(crate) fn close_sole<V: Drop>(domain: Domain<V>, desk: Desk<V>) -> Census<V>
     requires here { Belongs desk domain }
     requires can { CanClose desk domain.shape }
     ensures { IsClosed desk domain.shape result }
@@ -53,10 +53,7 @@ pub(crate) fn close_sole<V: Drop + Send>(domain: Domain<V>, desk: Desk<V>) -> Ce
 }
 
 /// A desk without handles closes its domain. Where it has not the whole allowance it is given up.
-pub(crate) fn close_bare<V: Drop + Send>(
-    domain: Domain<V>,
-    desk: Desk<V>,
-) -> Result<Census<V>, Refusal>
+pub(crate) fn close_bare<V: Drop>(domain: Domain<V>, desk: Desk<V>) -> Result<Census<V>, Refusal>
     requires here { Belongs desk domain }
     requires none { FitsSlots desk [] × (endings_of desk ≡ 0) }
     ensures closed { IfOk result (IsClosed desk domain.shape) }

@@ -16,7 +16,7 @@ pub enum Remains {
     Null,
 }
 
-impl<'d, V: Drop + Send, H: Home> HandleTable<'d, V, H> {
+impl<'d, V: Drop, H: Home> HandleTable<'d, V, H> {
     /// What the object was made as that was last left to end with this table (own). `None` just where nothing is left.
     pub fn remains(&mut self) -> Option<Remains>
         ensures none { IfNone result (self.old.endings ≡ []) }

@@ -22,7 +22,7 @@ use std::sync::Wait;
 use std::thread::Threads;
 
 /// A program that its first thread leads: it has a table of its own, and starts teams one after another.
-pub trait Leader<V: Drop + Send, R: Threads + Wait + Sync>: Program<V, R> {
+pub trait Leader<V: Drop, R: Threads + Wait + Sync>: Program<V, R> {
     ghost use Rattle.handle_table.specs.Leading.{Lead, unsaid};
 
     // What a call of `lead` does, for who has something to say of it: to the leader and its table, told how the team

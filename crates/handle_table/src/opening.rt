@@ -16,7 +16,7 @@ use shared_handle::{Held, Pile};
 use std::alloc::Global;
 
 /// A domain, its first desk, vacant slots, and a pile with room for all blocks.
-pub(crate) struct Opened<V: Drop + Send> {
+pub(crate) struct Opened<V: Drop> {
     pub domain: Domain<V>,
     pub desk: Desk<V>,
     pub slots: Vec<Slot, Global>,
@@ -25,7 +25,7 @@ pub(crate) struct Opened<V: Drop + Send> {
 
 /// A domain is opened, with so many slots for its first table. It is refused `Shape` just where the shape is outside
 /// the limits, and `Memory` only where a growth was really refused.
-pub(crate) fn open_domain<V: Drop + Send>(
+pub(crate) fn open_domain<V: Drop>(
     alloc: Global,
     shape: Shape,
     count: usize,

@@ -25,12 +25,7 @@ mod joining;
 pub(crate) mod parts;
 
 /// All handles leave their slots, the last one first.
-fn let_all_go<V: Drop + Send>(
-    domain: &Domain<V>,
-    desk: &mut Desk<V>,
-    pile: &mut Pile<V>,
-    slots: Vec<Slot>,
-)
+fn let_all_go<V: Drop>(domain: &Domain<V>, desk: &mut Desk<V>, pile: &mut Pile<V>, slots: Vec<Slot>)
     requires bears { Bears domain.now desk.old pile.old }
     requires fits { FitsSlots desk.old slots.items }
     ensures bears { Bears domain.now desk.new pile.new }
@@ -68,7 +63,7 @@ fn hand_over(slots: &mut Vec<Slot>, to: &mut Vec<Slot>, from: usize)
     exchange_from(slots.as_mut_slice(), to.as_mut_slice(), from);
 }
 
-impl<'d, V: Drop + Send, H: Home> HandleTable<'d, V, H> {
+impl<'d, V: Drop, H: Home> HandleTable<'d, V, H> {
     /// A second table of the domain, with as many slots: what is in the slots from number `from` on goes into its slots
     /// of the same numbers, and the others are vacant. It gets a part of the allowance, and the least `blocks` vacant
     /// blocks (own). It is refused `Slot` where there are fewer slots; else `Limit` just where the allowance is 0, less

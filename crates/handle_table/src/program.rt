@@ -23,7 +23,7 @@ use std::sync::Wait;
 use std::thread::{Threads, for_each_mut};
 
 /// What each worker of a team does, in a thread with a table of its own.
-pub trait Program<V: Drop + Send, R: Threads + Wait + Sync> {
+pub trait Program<V: Drop, R: Threads + Wait + Sync> {
     fn work<H: Home>(&self, rt: &R, number: usize, table: &mut HandleTable<'_, V, H>);
 }
 
@@ -37,7 +37,7 @@ pub struct Team {
 }
 
 /// Tables for a team, and why they are fewer than its workers, where they are.
-pub struct Crew<'d, V: Drop + Send, H: Home> {
+pub struct Crew<'d, V: Drop, H: Home> {
     pub tables: Vec<HandleTable<'d, V, H>, Global>,
     pub fewer: Option<Refusal>,
 }
@@ -52,14 +52,14 @@ pub struct Manned {
 /// What a program's run left: the census of its domain, how many workers had a table, and why they are fewer than were
 /// asked for, where they are.
 #[derive(Drop)]
-pub struct Ran<V: Drop + Send> {
+pub struct Ran<V: Drop> {
     pub census: Census<V>,
     pub workers: usize,
     pub fewer: Option<Refusal>,
 }
 
 /// The table of a domain's first desk.
-pub(crate) fn first_table<'d, V: Drop + Send, H: Home>(
+pub(crate) fn first_table<'d, V: Drop, H: Home>(
     domain: &'d Domain<V>,
     desk: Desk<V>,
     slots: Vec<Slot>,
@@ -81,7 +81,7 @@ pub(crate) fn first_table<'d, V: Drop + Send, H: Home>(
     }
 }
 
-impl<'d, V: Drop + Send, H: Home> HandleTable<'d, V, H> {
+impl<'d, V: Drop, H: Home> HandleTable<'d, V, H> {
     /// Tables for the workers of a team, and why they are fewer, where they are.
     fn recruit_all(
         &mut self,

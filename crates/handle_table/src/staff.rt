@@ -29,7 +29,7 @@ mod posts;
 
 /// What a worker with a state of its own does, in a thread with a table of its own. `does` says what comes of it: by
 /// the worker and its table before and after. A worker that gives no such member says nothing.
-pub trait Work<V: Drop + Send, R: Threads + Wait + Sync> {
+pub trait Work<V: Drop, R: Threads + Wait + Sync> {
     ghost use Rattle.handle_table.specs.Tables.{TableNow};
 
     ghost does: { Self → TableNow V → Self → TableNow V → Type 0 } = { λ _ _ _ _. Unit {0} };

@@ -20,7 +20,7 @@ impl Home for Brand {
 }
 
 /// A thread's part of a domain, with numbered slots for its handles. All memory that it needs it has from the start.
-pub struct HandleTable<'d, V: Drop + Send, H: Home> {
+pub struct HandleTable<'d, V: Drop, H: Home> {
     pub(crate) domain: &'d Domain<V>,
     pub(crate) home: PhantomData<H>,
     pub(crate) desk: Desk<V>,
@@ -28,7 +28,7 @@ pub struct HandleTable<'d, V: Drop + Send, H: Home> {
     pub(crate) pile: Pile<V>,
 }
 
-impl<'d, V: Drop + Send, H: Home> Model for HandleTable<'d, V, H> {
+impl<'d, V: Drop, H: Home> Model for HandleTable<'d, V, H> {
     ghost use Rattle.handle_table.specs.Tables.{IsWhole, TableNow, on_pile};
     ghost use Rattle.control_block.specs.contracts.handles.Shared as shared_handle;
     ghost use Rattle.control_block.specs.contracts.handles.Weak as weak_handle;

@@ -30,12 +30,12 @@ use std::sync::Wait;
 
 /// A thread's own access to observers in a free shared cell: each node owns the one that was attached before it by its
 /// member `next`, and watches its subject by its member `up`. All that have the same cell share the observers.
-pub struct Observers<V: Drop + Send> {
+pub struct Observers<V: Drop> {
     cell: u32,
     pile: Pile<V>,
 }
 
-impl<V: Drop + Send> Model for Observers<V> {
+impl<V: Drop> Model for Observers<V> {
     ghost use Rattle.std.specs.Prelude.{◌≡◌, [], vec_capacity};
     ghost use Rattle.scene_structures.specs.Stacks.{StackNow};
 
@@ -46,7 +46,7 @@ impl<V: Drop + Send> Model for Observers<V> {
     ghost invariant = { λ s. s.pile.endings.items ≡ [] };
 }
 
-impl<V: Drop + Send> Observers<V> {
+impl<V: Drop> Observers<V> {
     /// The observers in a free shared cell of the domain, by its number from 0 (own). It makes room for the ends of as
     /// many objects as there are blocks; no other call takes memory. Condition: the cell is one of the domain's. It is
     /// refused `Memory` where a growth was really refused.

@@ -24,11 +24,11 @@ use std::sync::Wait;
 
 /// A thread's own access to trees of nodes: a node owns its first child by its member `first` and its next sibling by
 /// `next`, and its `up` points back at its parent. What ends in its calls lies on its pile.
-pub struct Scene<V: Drop + Send> {
+pub struct Scene<V: Drop> {
     pub(crate) pile: Pile<V>,
 }
 
-impl<V: Drop + Send> Model for Scene<V> {
+impl<V: Drop> Model for Scene<V> {
     ghost use Rattle.shared_handle.specs.declared.pile.Pile.{Pile};
 
     ghost Value = { Pile V };
@@ -38,7 +38,7 @@ impl<V: Drop + Send> Model for Scene<V> {
     ghost invariant = { λ _. Unit {0} };
 }
 
-impl<V: Drop + Send> Scene<V> {
+impl<V: Drop> Scene<V> {
     /// An access to the trees of the domain (own). It makes room for the ends of as many objects as there are blocks.
     /// It serves any desk of the domain. It is refused `Memory` where a growth was really refused.
     pub fn new(alloc: Global, domain: &Domain<V>) -> Result<Self, Refusal>

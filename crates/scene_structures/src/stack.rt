@@ -26,7 +26,7 @@ use std::sync::Wait;
 const HANDLES: u32 = 6;
 
 /// Whether fewer than 6 handles are free.
-pub(crate) fn is_near_limit<V: Drop + Send>(desk: &Desk<V>) -> bool
+pub(crate) fn is_near_limit<V: Drop>(desk: &Desk<V>) -> bool
     ensures { IsTrue result ↔ (allowance_of desk.now < held_of desk.now + 6) }
 {
     desk.stands();
@@ -35,12 +35,12 @@ pub(crate) fn is_near_limit<V: Drop + Send>(desk: &Desk<V>) -> bool
 
 /// A thread's own access to a stack of nodes in a free shared cell: each node owns the one below it by its member
 /// `next`. All that have the same cell share the stack.
-pub struct Stack<V: Drop + Send> {
+pub struct Stack<V: Drop> {
     cell: u32,
     pile: Pile<V>,
 }
 
-impl<V: Drop + Send> Model for Stack<V> {
+impl<V: Drop> Model for Stack<V> {
     ghost use Rattle.std.specs.Prelude.{◌≡◌, [], vec_capacity};
     ghost use Rattle.scene_structures.specs.Stacks.{StackNow};
 
@@ -51,7 +51,7 @@ impl<V: Drop + Send> Model for Stack<V> {
     ghost invariant = { λ s. s.pile.endings.items ≡ [] };
 }
 
-impl<V: Drop + Send> Stack<V> {
+impl<V: Drop> Stack<V> {
     /// The stack in a free shared cell of the domain, by its number from 0 (own). It makes room for the ends of as many
     /// objects as there are blocks; no other call takes memory. Condition: the cell is one of the domain's. It is
     /// refused `Memory` where a growth was really refused.

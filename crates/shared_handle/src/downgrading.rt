@@ -16,7 +16,7 @@ use std::marker::Brand;
 /// A weak pointer from a shared one ([util.smartptr.weak.const]): it shares ownership and points at the same place. Of
 /// an empty one it is empty with a null place, and touches no word. It is refused `Limit` just where the desk is at its
 /// allowance, and then nothing changes.
-pub fn downgrade<V: Drop + Send>(
+pub fn downgrade<V: Drop>(
     domain: &Domain<V>,
     desk: &mut Desk<V>,
     handle: &Shared,

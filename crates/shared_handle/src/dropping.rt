@@ -16,7 +16,7 @@ use control_block::handles::Shared;
 
 /// The destructor of a shared pointer ([util.smartptr.shared.dest]): the owner leaves, and where it was the last, its
 /// object goes onto the pile, to be ended by it. It refuses nothing, and waits for nobody.
-pub fn drop_shared<V: Drop + Send>(
+pub fn drop_shared<V: Drop>(
     domain: &Domain<V>,
     desk: &mut Desk<V>,
     pile: &mut Pile<V>,
@@ -42,7 +42,7 @@ pub fn drop_shared<V: Drop + Send>(
 
 /// `reset` of a shared pointer that may have left already ([util.smartptr.shared.mod]): what it answers and does is
 /// that of `drop_shared`, and `Empty` and nothing where there is none.
-pub fn reset<V: Drop + Send>(
+pub fn reset<V: Drop>(
     domain: &Domain<V>,
     desk: &mut Desk<V>,
     pile: &mut Pile<V>,

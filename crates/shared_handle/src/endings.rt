@@ -37,7 +37,7 @@ pub enum Left<V> {
     Last(Ending<V>),
 }
 
-impl<V: Drop + Send> Left<V> {
+impl<V: Drop> Left<V> {
     /// What an owner was that has left, by the block of what it owned, and by the value that it leaves in its block
     /// where it was the last (own). It is for the crates whose calls end handles.
     #[inline(always)]

@@ -21,7 +21,7 @@ use std::sync::Wait;
 /// tries again while others change the count. It is refused `Limit` just where the desk is at its allowance, and then
 /// nothing changes.
 #[inline(always)]
-pub fn lock<V: Drop + Send, R: Wait>(
+pub fn lock<V: Drop, R: Wait>(
     rt: &R,
     domain: &Domain<V>,
     desk: &mut Desk<V>,
@@ -59,7 +59,7 @@ pub fn lock<V: Drop + Send, R: Wait>(
 /// handle does. It is refused `Limit` just where the desk is at its allowance, and else `BadWeak` just where the handle
 /// is empty or no owner remains at its step ([util.smartptr.weak.bad]); then bag and number of handles are as they
 /// were.
-pub fn upgrade<V: Drop + Send, R: Wait>(
+pub fn upgrade<V: Drop, R: Wait>(
     rt: &R,
     domain: &Domain<V>,
     desk: &mut Desk<V>,

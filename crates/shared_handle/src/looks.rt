@@ -19,7 +19,7 @@ use std::marker::Brand;
 /// How many owners share the handle's object, this one included, or 0 where it is empty
 /// ([util.smartptr.shared.obs]). For a desk that has the whole allowance it is the count itself; else it is 0 just
 /// where there is no owner, and at most the count. An empty handle touches no word.
-pub fn use_count<V: Drop + Send>(domain: &Domain<V>, desk: &mut Desk<V>, handle: &Shared) -> u32
+pub fn use_count<V: Drop>(domain: &Domain<V>, desk: &mut Desk<V>, handle: &Shared) -> u32
     requires domain { Belongs desk.old domain.now }
     requires holds { HoldsHandle desk.old Owner handle.now.block handle.now.place }
     ensures count { IsUseCount desk.old Owner handle.now.block handle.now.place result desk.new }
@@ -49,7 +49,7 @@ pub(crate) fn place_within(handle: &Shared) -> Result<Place, Refusal>
 
 /// The field that the handle points at (own). It is refused `Null` just where its place is null, and `Outside` just
 /// where that isn't in the object that it owns; then nothing changes.
-pub fn read<V: Drop + Send>(
+pub fn read<V: Drop>(
     domain: &Domain<V>,
     desk: &mut Desk<V>,
     handle: &Shared,
@@ -67,11 +67,7 @@ pub fn read<V: Drop + Send>(
 
 /// Where the handle points: the stored pointer ([util.smartptr.shared.obs]). It is null, or one of the four fields of a
 /// block, whatever became of the object there. It touches no word.
-pub fn place<V: Drop + Send>(
-    _domain: &Domain<V>,
-    _desk: &mut Desk<V>,
-    handle: &Shared,
-) -> Option<Place>
+pub fn place<V: Drop>(_domain: &Domain<V>, _desk: &mut Desk<V>, handle: &Shared) -> Option<Place>
     ensures place { result ≡ handle.now.place }
     ensures proper { HoldsHandle _desk.old Owner handle.now.block handle.now.place → IsPointer result }
     ensures same { _desk.new ≡ _desk.old }
@@ -81,12 +77,7 @@ pub fn place<V: Drop + Send>(
 }
 
 /// Whether two handles point at one place, whatever they own ([util.smartptr.shared.cmp]). It touches no word.
-pub fn same_place<V: Drop + Send>(
-    _domain: &Domain<V>,
-    _desk: &mut Desk<V>,
-    a: &Shared,
-    b: &Shared,
-) -> bool
+pub fn same_place<V: Drop>(_domain: &Domain<V>, _desk: &mut Desk<V>, a: &Shared, b: &Shared) -> bool
     ensures equal { result ≡ Handles.same_place a.now.place b.now.place }
     ensures same { _desk.new ≡ _desk.old }
 {

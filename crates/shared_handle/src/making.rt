@@ -18,7 +18,7 @@ use control_word::{Place, Refusal, Refused};
 
 /// An empty shared pointer with a null place ([util.smartptr.shared.const]). It touches no word. It is refused `Limit`
 /// just where the desk is at its allowance, and then nothing changes.
-pub fn empty<V: Drop + Send>(_domain: &Domain<V>, desk: &mut Desk<V>) -> Result<Shared, Refusal>
+pub fn empty<V: Drop>(_domain: &Domain<V>, desk: &mut Desk<V>) -> Result<Shared, Refusal>
     requires domain { Belongs desk.old _domain.now }
     ensures limit { IsErr result ↔ (held_of desk.old ≡ allowance_of desk.old) }
     ensures refused { IfErr result (λ why. (why ≡ Refusal.Limit) × (desk.new ≡ desk.old)) }
@@ -31,7 +31,7 @@ pub fn empty<V: Drop + Send>(_domain: &Domain<V>, desk: &mut Desk<V>) -> Result<
 
 /// An empty weak pointer ([util.smartptr.weak.const]). It touches no word. It is refused `Limit` just where the desk is
 /// at its allowance, and then nothing changes.
-pub fn empty_weak<V: Drop + Send>(_domain: &Domain<V>, desk: &mut Desk<V>) -> Result<Weak, Refusal>
+pub fn empty_weak<V: Drop>(_domain: &Domain<V>, desk: &mut Desk<V>) -> Result<Weak, Refusal>
     requires domain { Belongs desk.old _domain.now }
     ensures limit { IsErr result ↔ (held_of desk.old ≡ allowance_of desk.old) }
     ensures refused { IfErr result (λ why. (why ≡ Refusal.Limit) × (desk.new ≡ desk.old)) }
@@ -44,10 +44,7 @@ pub fn empty_weak<V: Drop + Send>(_domain: &Domain<V>, desk: &mut Desk<V>) -> Re
 
 /// An empty owner that points at a place. It touches no word.
 #[inline(always)]
-pub(crate) fn empty_at<V: Drop + Send>(
-    desk: &mut Desk<V>,
-    place: Option<Place>,
-) -> Result<Shared, Refusal>
+pub(crate) fn empty_at<V: Drop>(desk: &mut Desk<V>, place: Option<Place>) -> Result<Shared, Refusal>
     requires place { IsPointer place }
     ensures limit { IsErr result ↔ (held_of desk.old ≡ allowance_of desk.old) }
     ensures refused { IfErr result (λ why. (why ≡ Refusal.Limit) × (desk.new ≡ desk.old)) }
@@ -64,7 +61,7 @@ pub(crate) fn empty_at<V: Drop + Send>(
 
 /// A weak handle of no object, with a null place. It touches no word.
 #[inline(always)]
-pub(crate) fn no_object<V: Drop + Send>(desk: &mut Desk<V>) -> Result<Weak, Refusal>
+pub(crate) fn no_object<V: Drop>(desk: &mut Desk<V>) -> Result<Weak, Refusal>
     ensures limit { IsErr result ↔ (held_of desk.old ≡ allowance_of desk.old) }
     ensures refused { IfErr result (λ why. (why ≡ Refusal.Limit) × (desk.new ≡ desk.old)) }
     ensures handle { IfOk result (λ h. (h.block ≡ None) × (h.place ≡ None)) }
@@ -80,7 +77,7 @@ pub(crate) fn no_object<V: Drop + Send>(desk: &mut Desk<V>) -> Result<Weak, Refu
 
 /// A new object with these fields and this value, and its owner, which points at it.
 #[inline(always)]
-fn make_as<V: Drop + Send>(
+fn make_as<V: Drop>(
     domain: &Domain<V>,
     desk: &mut Desk<V>,
     null: bool,
@@ -111,7 +108,7 @@ fn make_as<V: Drop + Send>(
 /// `Limit` just where the desk is at its allowance, and else `Full` just where its store is empty: then the value comes
 /// back, and nothing changes.
 #[inline(always)]
-pub fn make<V: Drop + Send>(
+pub fn make<V: Drop>(
     domain: &Domain<V>,
     desk: &mut Desk<V>,
     fields: [u64; 4],
@@ -135,7 +132,7 @@ pub fn make<V: Drop + Send>(
 
 /// An owner of the null pointer ([util.smartptr.shared.const]): its place is null, its fields are 0, and its value is
 /// the deleter's. Refusals are those of `make`.
-pub fn make_null<V: Drop + Send>(
+pub fn make_null<V: Drop>(
     domain: &Domain<V>,
     desk: &mut Desk<V>,
     value: V,

@@ -29,7 +29,7 @@ impl HasOwner for Shared {
 
 /// `owner_before` ([util.smartptr.shared.obs], [util.smartptr.weak.obs]): whether the first comes before the second in
 /// owner order, which goes by blocks, empty first (own). It touches no word.
-pub fn owner_before<V: Drop + Send, A: HasOwner, B: HasOwner>(
+pub fn owner_before<V: Drop, A: HasOwner, B: HasOwner>(
     _domain: &Domain<V>,
     _desk: &mut Desk<V>,
     a: &A,

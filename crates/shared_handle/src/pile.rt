@@ -55,7 +55,7 @@ impl Gone {
     }
 }
 
-impl<V: Drop + Send> Pile<V> {
+impl<V: Drop> Pile<V> {
     /// An empty pile, with room for all blocks of the domain (own). It serves any desk of the domain. It is refused
     /// `Memory` where a growth was really refused.
     pub fn new(alloc: Global, domain: &Domain<V>) -> Result<Self, Refusal>

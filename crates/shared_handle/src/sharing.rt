@@ -18,7 +18,7 @@ use control_word::{Place, Refusal};
 use std::marker::Brand;
 
 /// One owner more, which points at a place: the handle's own, the object's or any proper one.
-pub(crate) fn share_to<V: Drop + Send>(
+pub(crate) fn share_to<V: Drop>(
     domain: &Domain<V>,
     desk: &mut Desk<V>,
     handle: &Shared,
@@ -45,7 +45,7 @@ pub(crate) fn share_to<V: Drop + Send>(
 /// A copy: one owner more, which points where the handle does ([util.smartptr.shared.const]). A copy of an empty
 /// pointer is empty, points there too, and touches no word. It is refused `Limit` just where the desk is at its
 /// allowance, and then nothing changes.
-pub fn share<V: Drop + Send>(
+pub fn share<V: Drop>(
     domain: &Domain<V>,
     desk: &mut Desk<V>,
     handle: &Shared,
@@ -70,7 +70,7 @@ pub fn share<V: Drop + Send>(
 /// and field 0 of the handle's object, is a field of a block, and taken as it is (`given`); one that isn't, in block 0
 /// or with a field above 3, is null (own). It is refused `Limit` just where the desk is at its allowance, and then
 /// nothing changes.
-pub fn alias<V: Drop + Send>(
+pub fn alias<V: Drop>(
     domain: &Domain<V>,
     desk: &mut Desk<V>,
     handle: &Shared,
@@ -95,7 +95,7 @@ pub fn alias<V: Drop + Send>(
 
 /// An owner leaves ([util.smartptr.shared.dest]): it was `Empty`, `Others` own the object still, or it was the `Last`,
 /// and the object ends in the desk's hands, in another block than all that ended there before.
-pub fn release<V: Drop + Send>(domain: &Domain<V>, desk: &mut Desk<V>, handle: Shared) -> Left<V>
+pub fn release<V: Drop>(domain: &Domain<V>, desk: &mut Desk<V>, handle: Shared) -> Left<V>
     requires domain { Belongs desk.old domain.now }
     requires holds { HoldsHandle desk.old Owner handle.block handle.place }
     ensures left { IsLeft desk.old handle.block handle.place result desk.new }

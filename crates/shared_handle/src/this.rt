@@ -17,7 +17,7 @@ use std::marker::Brand;
 
 /// The block of the object, if the handle points into it and the object gives pointers to itself, and the desk has room
 /// for one.
-fn this_block<V: Drop + Send>(
+fn this_block<V: Drop>(
     domain: &Domain<V>,
     desk: &mut Desk<V>,
     handle: &Shared,
@@ -41,7 +41,7 @@ fn this_block<V: Drop + Send>(
 /// refused `Limit` just where the desk is at its allowance, and else `Null` where the handle's place is null, `Outside`
 /// where that isn't in the object that it owns, and `NotEnabled` where the object has no from-this flag; then nothing
 /// changes.
-pub fn shared_from_this<V: Drop + Send>(
+pub fn shared_from_this<V: Drop>(
     domain: &Domain<V>,
     desk: &mut Desk<V>,
     handle: &Shared,
@@ -64,7 +64,7 @@ pub fn shared_from_this<V: Drop + Send>(
 
 /// `weak_from_this` ([util.smartptr.enab]): a weak handle of the handle's object, which points at its field 0. Refusals
 /// are those of `shared_from_this`.
-pub fn weak_from_this<V: Drop + Send>(
+pub fn weak_from_this<V: Drop>(
     domain: &Domain<V>,
     desk: &mut Desk<V>,
     handle: &Shared,

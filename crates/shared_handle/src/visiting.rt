@@ -18,7 +18,7 @@ use std::sync::Wait;
 /// The value of the object that the handle owns is worked on (own): while this call has it, another visit of it waits.
 /// An owner of null has a value too. It is refused `Null` just where the handle is empty; then `f` comes back and
 /// nothing changes.
-pub fn visit<V: Drop + Send, R, F: FnOnce(&mut V) -> R, W: Wait>(
+pub fn visit<V: Drop, R, F: FnOnce(&mut V) -> R, W: Wait>(
     rt: &W,
     domain: &Domain<V>,
     desk: &mut Desk<V>,

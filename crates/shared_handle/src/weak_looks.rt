@@ -22,7 +22,7 @@ impl HasOwner for handles::Weak {
 }
 
 /// How many owners the weak handle's object has, or 0 where it is empty ([util.smartptr.weak.obs]), as `use_count`.
-pub fn use_count_weak<V: Drop + Send>(
+pub fn use_count_weak<V: Drop>(
     domain: &Domain<V>,
     desk: &mut Desk<V>,
     handle: &handles::Weak,
@@ -42,11 +42,7 @@ pub fn use_count_weak<V: Drop + Send>(
 
 /// Whether the weak handle's object has no owner left, or the handle is empty ([util.smartptr.weak.obs]). An empty
 /// handle touches no word.
-pub fn expired<V: Drop + Send>(
-    domain: &Domain<V>,
-    desk: &mut Desk<V>,
-    handle: &handles::Weak,
-) -> bool
+pub fn expired<V: Drop>(domain: &Domain<V>, desk: &mut Desk<V>, handle: &handles::Weak) -> bool
     requires domain { Belongs desk.old domain.now }
     requires holds { HoldsHandle desk.old Weak handle.now.block handle.now.place }
     ensures expired { IsExpiry desk.old handle.now.block handle.now.place result desk.new }

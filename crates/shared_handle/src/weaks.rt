@@ -18,7 +18,7 @@ use std::marker::Brand;
 /// A copy of a weak pointer ([util.smartptr.weak.const]): one weak handle more, which points where the handle does. Of
 /// an empty one it is empty with a null place, and touches no word. It is refused `Limit` just where the desk is at its
 /// allowance, and then nothing changes.
-pub fn share_weak<V: Drop + Send>(
+pub fn share_weak<V: Drop>(
     domain: &Domain<V>,
     desk: &mut Desk<V>,
     handle: &handles::Weak,
@@ -44,7 +44,7 @@ pub fn share_weak<V: Drop + Send>(
 
 /// A weak pointer leaves ([util.smartptr.weak.dest]). Where it was the last handle of an object that is gone, its block
 /// is vacant, and in the desk's store.
-pub fn release_weak<V: Drop + Send>(domain: &Domain<V>, desk: &mut Desk<V>, handle: handles::Weak)
+pub fn release_weak<V: Drop>(domain: &Domain<V>, desk: &mut Desk<V>, handle: handles::Weak)
     requires domain { Belongs desk.old domain.now }
     requires holds { HoldsHandle desk.old Weak handle.block handle.place }
     ensures event { (vacant : Bool) × LeavesWeakly desk.old handle.block handle.place vacant desk.new

@@ -17,7 +17,7 @@ use std::sync::Wait;
 /// A copy of what a cell holds ([util.smartptr.atomic.shared], [util.smartptr.atomic.weak]). It is refused `Limit` just
 /// where the desk is at its allowance, and then nothing changes.
 #[inline(always)]
-pub fn load<V: Drop + Send, A: Aimed, R: Wait>(
+pub fn load<V: Drop, A: Aimed, R: Wait>(
     rt: &R,
     domain: &Domain<V>,
     desk: &mut Desk<V>,
@@ -53,7 +53,7 @@ pub fn load<V: Drop + Send, A: Aimed, R: Wait>(
 /// has no object, others change it meanwhile, or the load would leave 128 of its funds taken or more. Then nothing
 /// changes, and `load` loads all the same.
 #[inline(always)]
-pub fn load_at_once<V: Drop + Send, A: Aimed>(
+pub fn load_at_once<V: Drop, A: Aimed>(
     domain: &Domain<V>,
     desk: &mut Desk<V>,
     cell: CellAt,
@@ -91,7 +91,7 @@ pub fn load_at_once<V: Drop + Send, A: Aimed>(
 /// A handle that the desk has goes into a cell, and what the cell held comes out ([util.smartptr.atomic.shared],
 /// [util.smartptr.atomic.weak]). It waits for nobody.
 #[inline]
-pub fn exchange<V: Drop + Send, A: Aimed>(
+pub fn exchange<V: Drop, A: Aimed>(
     domain: &Domain<V>,
     desk: &mut Desk<V>,
     site: Site,

@@ -18,7 +18,7 @@ use std::marker::Brand;
 /// A shared member (0 first, 1 next) of an object that ends in the desk's hands is emptied: what it held comes out and
 /// leaves (own). Where that was an object's last owner ([util.smartptr.shared.dest]), its value comes out, and it ends
 /// in the desk's hands.
-pub fn clear_shared<V: Drop + Send>(
+pub fn clear_shared<V: Drop>(
     domain: &Domain<V>,
     desk: &mut Desk<V>,
     block: Block,
@@ -51,11 +51,7 @@ pub fn clear_shared<V: Drop + Send>(
 
 /// The weak member, `up`, of an object that ends in the desk's hands is emptied: what it held comes out and leaves
 /// (own). It says whether the block of that is vacant now, and in the desk's store.
-pub fn clear_weak<V: Drop + Send>(
-    domain: &Domain<V>,
-    desk: &mut Desk<V>,
-    block: Block,
-) -> (Content, bool)
+pub fn clear_weak<V: Drop>(domain: &Domain<V>, desk: &mut Desk<V>, block: Block) -> (Content, bool)
     requires domain { Belongs desk.old domain.now }
     requires ending { (x : V) × IsEnding desk.old block.0 x }
     ensures emptied { EmptiesWeakly desk.old block.0 2 result.0.block result.0.place result.1 desk.new }

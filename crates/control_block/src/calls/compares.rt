@@ -17,7 +17,7 @@ use std::sync::Wait;
 /// Where what a cell holds is equivalent to what is expected, the new handle goes in, and what the cell held comes out:
 /// true. Else a copy of what it holds: false ([util.smartptr.atomic.shared], [util.smartptr.atomic.weak]). It is
 /// refused `Limit` just where the desk is at its allowance, before any step, and then nothing changes.
-pub fn compare<V: Drop + Send, A: Aimed, R: Wait>(
+pub fn compare<V: Drop, A: Aimed, R: Wait>(
     rt: &R,
     domain: &Domain<V>,
     desk: &mut Desk<V>,

@@ -9,7 +9,7 @@ use control_word::Refusal;
 
 /// One empty handle more, which is only counted (own). It is refused `Limit` just where the desk is at its allowance,
 /// and then nothing changes.
-pub fn count_empty<V: Drop + Send>(desk: &mut Desk<V>) -> Result<(), Refusal>
+pub fn count_empty<V: Drop>(desk: &mut Desk<V>) -> Result<(), Refusal>
     ensures limit { IsErr result ↔ (held_of desk.old ≡ allowance_of desk.old) }
     ensures refused { IfErr result (λ why. (why ≡ Refusal.Limit) × (desk.new ≡ desk.old)) }
     ensures counted { OnOk result (desk.new ≡ record desk.old { held = desk.old.held + 1 }) }
@@ -23,7 +23,7 @@ pub fn count_empty<V: Drop + Send>(desk: &mut Desk<V>) -> Result<(), Refusal>
 }
 
 /// One empty handle less (own). Condition: the desk holds one, of whichever kind.
-pub fn spend_empty<V: Drop + Send>(desk: &mut Desk<V>)
+pub fn spend_empty<V: Drop>(desk: &mut Desk<V>)
     requires holds { HoldsHandle desk.old Owner None None }
     ensures counted { desk.new ≡ record desk.old { held = desk.old.held - 1 } }
 {

@@ -24,7 +24,7 @@ use std::marker::Brand;
 
 /// An owner leaves ([util.smartptr.shared.dest]). After the last one's leave the object ends in the desk's hands; the
 /// answer knows its value, which stays where it is.
-pub fn leave<V: Drop + Send, A: About>(
+pub fn leave<V: Drop, A: About>(
     domain: &Domain<V>,
     desk: &mut Desk<V>,
     of: Pointer,
@@ -46,11 +46,7 @@ pub fn leave<V: Drop + Send, A: About>(
 }
 
 /// A weak handle leaves ([util.smartptr.weak.dest]). It says whether the block is vacant now, and in the desk's store.
-pub fn leave_weak<V: Drop + Send, A: About>(
-    domain: &Domain<V>,
-    desk: &mut Desk<V>,
-    of: Pointer,
-) -> bool
+pub fn leave_weak<V: Drop, A: About>(domain: &Domain<V>, desk: &mut Desk<V>, of: Pointer) -> bool
     requires domain { Belongs desk.old domain.now }
     requires meant { (A.kind ≡ of.kind) × (A.place ≡ of.place) }
     requires holds { HasHandle desk.old Weak A.place of.block.0 }
@@ -70,7 +66,7 @@ pub fn leave_weak<V: Drop + Send, A: About>(
 
 /// An object that ends in the desk's hands is gone, and its value comes out (own). It says whether the block is vacant
 /// now, and in the desk's store.
-pub fn finish<V: Drop + Send>(domain: &Domain<V>, desk: &mut Desk<V>, block: Block) -> (V, bool)
+pub fn finish<V: Drop>(domain: &Domain<V>, desk: &mut Desk<V>, block: Block) -> (V, bool)
     requires domain { Belongs desk.old domain.now }
     requires ending { (x : V) × IsEnding desk.old block.0 x }
     requires clear { (m : ℕ) → m < 3 → IsCleared desk.old block.0 m }

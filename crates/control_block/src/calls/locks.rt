@@ -23,7 +23,7 @@ use std::sync::Wait;
 /// ([util.smartptr.weak.obs]). Where the desk had seen the object without owner there is none. It is refused `Limit`
 /// just where the desk is at its allowance, and then nothing changes.
 #[inline(always)]
-pub fn lock<V: Drop + Send, A: About, R: Wait>(
+pub fn lock<V: Drop, A: About, R: Wait>(
     rt: &R,
     domain: &Domain<V>,
     desk: &mut Desk<V>,

@@ -11,7 +11,7 @@ use control_word::packed::layout::{ENABLED, NULL};
 use std::marker::Brand;
 
 /// A word of the flags and fields of the object in the block: the flags are word 0, the fields words 1 to 4.
-fn peek<V: Drop + Send>(domain: &Domain<V>, desk: &mut Desk<V>, block: Block, word: usize) -> u64
+fn peek<V: Drop>(domain: &Domain<V>, desk: &mut Desk<V>, block: Block, word: usize) -> u64
     requires domain { Belongs desk.old domain.now }
     requires near { IsNear desk.old block.0 }
     requires word { word < 5 }
@@ -23,7 +23,7 @@ fn peek<V: Drop + Send>(domain: &Domain<V>, desk: &mut Desk<V>, block: Block, wo
 
 /// Whether the object in the block gives pointers to itself ([util.smartptr.enab]). The desk has a handle of it, or it
 /// ends in its hands.
-pub fn is_enabled<V: Drop + Send>(domain: &Domain<V>, desk: &mut Desk<V>, block: Block) -> bool
+pub fn is_enabled<V: Drop>(domain: &Domain<V>, desk: &mut Desk<V>, block: Block) -> bool
     requires domain { Belongs desk.old domain.now }
     requires near { IsNear desk.old block.0 }
     ensures flag { result ≡ (object_in desk.old block.0).enabled }
@@ -34,7 +34,7 @@ pub fn is_enabled<V: Drop + Send>(domain: &Domain<V>, desk: &mut Desk<V>, block:
 
 /// Whether the pointer that the object in the block owns is null (own). The desk has a handle of it, or it ends in its
 /// hands.
-pub fn is_null<V: Drop + Send>(domain: &Domain<V>, desk: &mut Desk<V>, block: Block) -> bool
+pub fn is_null<V: Drop>(domain: &Domain<V>, desk: &mut Desk<V>, block: Block) -> bool
     requires domain { Belongs desk.old domain.now }
     requires near { IsNear desk.old block.0 }
     ensures flag { result ≡ (object_in desk.old block.0).null }
@@ -44,7 +44,7 @@ pub fn is_null<V: Drop + Send>(domain: &Domain<V>, desk: &mut Desk<V>, block: Bl
 }
 
 /// The fields of the object in the block (own). The desk has a handle of it, or it ends in its hands.
-pub fn fields<V: Drop + Send>(domain: &Domain<V>, desk: &mut Desk<V>, block: Block) -> [u64; 4]
+pub fn fields<V: Drop>(domain: &Domain<V>, desk: &mut Desk<V>, block: Block) -> [u64; 4]
     requires domain { Belongs desk.old domain.now }
     requires near { IsNear desk.old block.0 }
     ensures fields { (k : ℕ) → k < 4

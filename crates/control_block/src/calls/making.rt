@@ -32,7 +32,7 @@ fn origin_of(block: Block, null: bool) -> Option<Place>
 /// pointer [util.smartptr.shared.const]). It is refused `Limit` just where the desk is at its allowance, and else
 /// `Full` just where its store is empty; then the value comes back and nothing changes.
 #[inline(always)]
-pub fn make<V: Drop + Send>(
+pub fn make<V: Drop>(
     domain: &Domain<V>,
     desk: &mut Desk<V>,
     enabled: bool,

@@ -17,7 +17,7 @@ use std::marker::Brand;
 
 /// How many owners the object in the block has ([util.smartptr.shared.obs]): for a desk that has the whole allowance
 /// the count itself.
-pub fn count<V: Drop + Send, A: About>(domain: &Domain<V>, desk: &mut Desk<V>, of: Pointer) -> u32
+pub fn count<V: Drop, A: About>(domain: &Domain<V>, desk: &mut Desk<V>, of: Pointer) -> u32
     requires domain { Belongs desk.old domain.now }
     requires meant { (A.kind ≡ of.kind) × (A.place ≡ of.place) }
     requires holds { HasHandle desk.old A.kind A.place of.block.0 }
@@ -32,11 +32,7 @@ pub fn count<V: Drop + Send, A: About>(domain: &Domain<V>, desk: &mut Desk<V>, o
 }
 
 /// Whether no owner of the object in the block is left ([util.smartptr.weak.obs]).
-pub fn is_expired<V: Drop + Send, A: About>(
-    domain: &Domain<V>,
-    desk: &mut Desk<V>,
-    of: Pointer,
-) -> bool
+pub fn is_expired<V: Drop, A: About>(domain: &Domain<V>, desk: &mut Desk<V>, of: Pointer) -> bool
     requires domain { Belongs desk.old domain.now }
     requires meant { (A.kind ≡ of.kind) × (A.place ≡ of.place) }
     requires holds { HasHandle desk.old Weak A.place of.block.0 }
@@ -49,7 +45,7 @@ pub fn is_expired<V: Drop + Send, A: About>(
 }
 
 /// The field at a place in the object that an owner owns (own).
-pub fn read<V: Drop + Send>(domain: &Domain<V>, desk: &mut Desk<V>, place: Place) -> u64
+pub fn read<V: Drop>(domain: &Domain<V>, desk: &mut Desk<V>, place: Place) -> u64
     requires domain { Belongs desk.old domain.now }
     requires holds { HasHandle desk.old Owner (Some place) place.block.0 }
     ensures event { AddsEvent desk.old (Read (on_latest desk.old Owner (Some place) place.block.0) result) desk.new }

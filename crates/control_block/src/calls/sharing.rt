@@ -18,7 +18,7 @@ use std::marker::Brand;
 
 /// One owner more of the object in the block, under an owner that the desk holds ([util.smartptr.shared.const]). It is
 /// refused `Limit` just where the desk is at its allowance, and then nothing changes.
-pub fn share<V: Drop + Send, A: About>(
+pub fn share<V: Drop, A: About>(
     domain: &Domain<V>,
     desk: &mut Desk<V>,
     of: Pointer,
@@ -51,7 +51,7 @@ pub fn share<V: Drop + Send, A: About>(
 /// One weak handle more of the object in the block, under a handle that the desk holds or an ending of its
 /// ([util.smartptr.weak.const], [util.smartptr.enab]). It is refused `Limit` just where the desk is at its allowance,
 /// and then nothing changes.
-pub fn share_weak<V: Drop + Send, A: About>(
+pub fn share_weak<V: Drop, A: About>(
     domain: &Domain<V>,
     desk: &mut Desk<V>,
     block: Block,

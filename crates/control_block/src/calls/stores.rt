@@ -21,7 +21,7 @@ use control_word::model::handle::Kind;
 /// An owner that the desk has goes into a shared cell, and what the cell held leaves ([util.smartptr.atomic.shared]).
 /// Where that was an object's last owner, its value comes out, and it ends in the desk's hands. It waits for nobody.
 #[inline]
-pub fn store_shared<V: Drop + Send, A: Aimed>(
+pub fn store_shared<V: Drop, A: Aimed>(
     domain: &Domain<V>,
     desk: &mut Desk<V>,
     site: Site,
@@ -59,7 +59,7 @@ pub fn store_shared<V: Drop + Send, A: Aimed>(
 /// A weak handle that the desk has goes into a weak cell, and what the cell held leaves ([util.smartptr.atomic.weak]).
 /// It says whether the block of that is vacant now, and in the desk's store. It waits for nobody.
 #[inline]
-pub fn store_weak<V: Drop + Send, A: Aimed>(
+pub fn store_weak<V: Drop, A: Aimed>(
     domain: &Domain<V>,
     desk: &mut Desk<V>,
     site: Site,

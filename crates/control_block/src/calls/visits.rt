@@ -14,7 +14,7 @@ use std::marker::Brand;
 use std::sync::Wait;
 
 /// The value of the object in the block is worked on (own). No other desk has it meanwhile: one that wants it waits.
-pub fn visit<V: Drop + Send, A: About, R, F: FnOnce(&mut V) -> R, W: Wait>(
+pub fn visit<V: Drop, A: About, R, F: FnOnce(&mut V) -> R, W: Wait>(
     rt: &W,
     domain: &Domain<V>,
     desk: &mut Desk<V>,

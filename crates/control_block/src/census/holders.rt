@@ -34,7 +34,7 @@ fn count_kind(cells: &[CellAt], kind: Kind) -> usize
     count
 }
 
-impl<V: Drop + Send> Census<V> {
+impl<V: Drop> Census<V> {
     /// Who holds the object in a block (own): the cells that have a handle on it, each once, the free ones before the
     /// members by block; and how many owners and weak handles are in no cell, since a desk that was closed or joined
     /// held them still. Nobody where the domain had no such block. It is refused `Memory` only where a growth was

@@ -7,7 +7,7 @@ use control_word::Block;
 use control_word::packed::counts::unpack_count;
 use control_word::packed::layout::{WEAKS, block_word};
 
-impl<V: Drop + Send> Census<V> {
+impl<V: Drop> Census<V> {
     /// Whether the domain had this block, and it is vacant (own).
     pub fn is_vacant(&self, block: Block) -> bool
         ensures { IsTrue result ↔ (HasBlock self.now block.0 × IsFree self.now block.0) }

@@ -12,7 +12,7 @@ use control_word::{Refusal, Refused};
 /// A sole desk closes its domain (own). Else it is refused `NotSole`, and both come back. The census tells of each
 /// block in which no object is ending: of all where none ends with the desk. It tells what each cell holds, and each
 /// handle that counts is in a cell, or the desk had it still.
-pub fn close<V: Drop + Send>(
+pub fn close<V: Drop>(
     domain: Domain<V>,
     desk: Desk<V>,
 ) -> Result<Census<V>, Refused<(Domain<V>, Desk<V>)>>

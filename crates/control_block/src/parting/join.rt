@@ -10,7 +10,7 @@ use crate::domain::Domain;
 use crate::parting::split::append_all;
 use crate::steps::chairs;
 
-impl<V: Drop + Send> Desk<V> {
+impl<V: Drop> Desk<V> {
     /// The other desk's blocks, allowance, handles and endings become this one's, which has then seen all that either
     /// had (own). It takes no memory. Condition: both desks are the domain's.
     pub fn join(&mut self, domain: &Domain<V>, other: Desk<V>)

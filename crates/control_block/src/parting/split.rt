@@ -112,7 +112,7 @@ fn part<V, T: Lent, G: Given>(
     chairs::cut(board, chair)
 }
 
-impl<V: Drop + Send> Desk<V> {
+impl<V: Drop> Desk<V> {
     /// Whether so much of the allowance can be given with so many handles: it keeps what the others need, 1 at least.
     fn gives(&self, allowance: u32, handles: usize) -> bool
         ensures gives { IsTrue result → (0 < allowance) × (handles ≤ allowance)

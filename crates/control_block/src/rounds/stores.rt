@@ -23,7 +23,7 @@ use std::marker::Brand;
 /// Store: an owner that the desk holds goes into a shared cell, and what the cell held leaves
 /// ([util.smartptr.atomic.shared]).
 #[inline]
-pub fn store_shared<V: Drop + Send, A: Aimed>(
+pub fn store_shared<V: Drop, A: Aimed>(
     board: &Board<V>,
     chair: &mut Chair<V>,
     word: usize,

@@ -81,7 +81,7 @@ fn swap_out<V, M: StepArgs>(
 
 /// Clear: a shared member of an object that ends in the desk's hands holds nothing afterwards, and what it held comes
 /// out and leaves (own).
-pub fn clear_shared<V: Drop + Send, M: StepArgs>(
+pub fn clear_shared<V: Drop, M: StepArgs>(
     board: &Board<V>,
     chair: &mut Chair<V>,
     block: Block,

@@ -19,7 +19,7 @@ use std::sync::Wait;
 
 /// Shut: the door of an object that the desk has an owner of is shut, and the slot with its value is in hand (own). It
 /// tries again while the door is another's.
-pub fn shut<V: Drop + Send, M: StepArgs, R: Wait>(
+pub fn shut<V: Drop, M: StepArgs, R: Wait>(
     rt: &R,
     board: &Board<V>,
     chair: &mut Chair<V>,
@@ -50,7 +50,7 @@ pub fn shut<V: Drop + Send, M: StepArgs, R: Wait>(
 }
 
 /// Open: the slot goes home with the value that a visit left, and the door is open again (own). The visit is over.
-pub fn open<V: Drop + Send, M: StepArgs>(board: &Board<V>, chair: &mut Chair<V>, block: Block)
+pub fn open<V: Drop, M: StepArgs>(board: &Board<V>, chair: &mut Chair<V>, block: Block)
     requires board { chair.old.table_id ≡ board.now.table_id }
     requires word { (0 < block.0) × (M.block ≡ block) × (spot block.0 2 < board.now.table_id.words) }
     requires visiting { (v : Sight V) × (was : V) × (becomes : V) × (v.view.spent ≡ false)

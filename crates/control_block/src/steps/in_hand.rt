@@ -8,7 +8,7 @@ use control_word::Block;
 
 /// The value of an object that is made goes into the block's vacant cell.
 #[inline(always)]
-pub fn fill<V: Drop + Send>(board: &Board<V>, chair: &mut Chair<V>, block: Block, value: V)
+pub fn fill<V: Drop>(board: &Board<V>, chair: &mut Chair<V>, block: Block, value: V)
     requires board { chair.old.table_id ≡ board.now.table_id }
     requires hand { (0 < block.0) × (chair.old.me.1 ≡ (block.0 - 1, None) ∷ []) }
     ensures chair { (chair.new.table_id ≡ chair.old.table_id) × (chair.new.id ≡ chair.old.id) }
@@ -19,7 +19,7 @@ pub fn fill<V: Drop + Send>(board: &Board<V>, chair: &mut Chair<V>, block: Block
 }
 
 /// What is known of the value of an object that begins to end, which stays in the block's cell.
-pub fn remember<V: Drop + Send>(board: &Board<V>, chair: &mut Chair<V>, block: Block) -> InPlace<V>
+pub fn remember<V: Drop>(board: &Board<V>, chair: &mut Chair<V>, block: Block) -> InPlace<V>
     requires board { chair.old.table_id ≡ board.now.table_id }
     requires hand { (0 < block.0) × (x : V) × (chair.old.me.1 ≡ (block.0 - 1, Some x) ∷ []) }
     ensures chair { (chair.new.table_id ≡ chair.old.table_id) × (chair.new.id ≡ chair.old.id) }
@@ -31,7 +31,7 @@ pub fn remember<V: Drop + Send>(board: &Board<V>, chair: &mut Chair<V>, block: B
 }
 
 /// The value of an object that has ended comes out of the block's cell.
-pub fn take<V: Drop + Send>(board: &Board<V>, chair: &mut Chair<V>, block: Block) -> V
+pub fn take<V: Drop>(board: &Board<V>, chair: &mut Chair<V>, block: Block) -> V
     requires board { chair.old.table_id ≡ board.now.table_id }
     requires hand { (0 < block.0) × (x : V) × (chair.old.me.1 ≡ (block.0 - 1, Some x) ∷ []) }
     ensures chair { (chair.new.table_id ≡ chair.old.table_id) × (chair.new.id ≡ chair.old.id) }
@@ -43,7 +43,7 @@ pub fn take<V: Drop + Send>(board: &Board<V>, chair: &mut Chair<V>, block: Block
 }
 
 /// The value of the object in the block is worked on where it is.
-pub fn visit<V: Drop + Send, R, F: FnOnce(&mut V) -> R>(
+pub fn visit<V: Drop, R, F: FnOnce(&mut V) -> R>(
     board: &Board<V>,
     chair: &mut Chair<V>,
     block: Block,

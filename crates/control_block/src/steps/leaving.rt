@@ -24,7 +24,7 @@ use control_word::{Block, CellWord};
 /// Leave: one owner less ([util.smartptr.shared.dest]), and with it the funds that a half-done cell call has to give
 /// back, if it came out of a cell. Of the last one the object ends in the hands of the desk, and its value stays where
 /// it is: the slot is taken at the leave, so that the value is known, and given back by a look.
-pub fn leave<V: Drop + Send, M: StepArgs>(
+pub fn leave<V: Drop, M: StepArgs>(
     board: &Board<V>,
     chair: &mut Chair<V>,
     block: Block,
@@ -71,7 +71,7 @@ pub fn leave_weak<V, M: StepArgs>(
 }
 
 /// What came out of a shared cell leaves, with its funds that were not taken; an empty handle by no step.
-pub fn let_go<V: Drop + Send, M: StepArgs>(
+pub fn let_go<V: Drop, M: StepArgs>(
     board: &Board<V>,
     chair: &mut Chair<V>,
     out: CellWord,

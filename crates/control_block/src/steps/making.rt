@@ -92,7 +92,7 @@ fn claim<V, M: MakeArgs>(board: &Board<V>, chair: &mut Chair<V>, block: Block)
 /// Make: an object in an own vacant block, with one owner ([util.smartptr.shared.create]; for an owned null pointer
 /// [util.smartptr.shared.const]).
 #[inline(always)]
-pub fn make<V: Drop + Send, M: MakeArgs>(
+pub fn make<V: Drop, M: MakeArgs>(
     board: &Board<V>,
     chair: &mut Chair<V>,
     block: Block,

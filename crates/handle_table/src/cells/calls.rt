@@ -20,7 +20,7 @@ use std::sync::Wait;
 
 /// A copy of what the cell holds comes, for a slot.
 #[inline(always)]
-fn loaded<V: Drop + Send, R: Wait>(
+fn loaded<V: Drop, R: Wait>(
     rt: &R,
     domain: &Domain<V>,
     desk: &mut Desk<V>,
@@ -49,7 +49,7 @@ fn loaded<V: Drop + Send, R: Wait>(
 /// A copy of an object's owner or weak handle that the cell holds comes into a slot, which is vacant, at the first try:
 /// whether that was so, and the desk was below its allowance. Else nothing changes.
 #[inline(always)]
-fn load_at_once<V: Drop + Send>(
+fn load_at_once<V: Drop>(
     domain: &Domain<V>,
     desk: &mut Desk<V>,
     slots: &mut Vec<Slot>,
@@ -78,7 +78,7 @@ fn load_at_once<V: Drop + Send>(
 
 /// The handle in a slot goes out of it into the cell, and what the cell held comes out.
 #[inline]
-fn swapped<V: Drop + Send>(
+fn swapped<V: Drop>(
     domain: &Domain<V>,
     desk: &mut Desk<V>,
     slots: &mut Vec<Slot>,
@@ -101,7 +101,7 @@ fn swapped<V: Drop + Send>(
     Ok(old)
 }
 
-impl<'d, V: Drop + Send, H: Home> HandleTable<'d, V, H> {
+impl<'d, V: Drop, H: Home> HandleTable<'d, V, H> {
     /// A copy of what the cell holds is assigned to a slot ([util.smartptr.atomic.shared],
     /// [util.smartptr.atomic.weak]). What lay there leaves.
     #[inline(always)]

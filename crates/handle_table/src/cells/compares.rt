@@ -33,7 +33,7 @@ fn vacate(slots: &mut Vec<Slot>, at: usize)
 }
 
 /// What a compare does to the slots.
-fn follow<V: Drop + Send>(
+fn follow<V: Drop>(
     domain: &Domain<V>,
     desk: &mut Desk<V>,
     slots: &mut Vec<Slot>,
@@ -62,7 +62,7 @@ fn follow<V: Drop + Send>(
 
 /// The cell is compared with what the one slot has, to get what the other has: whether it was swapped, and what it
 /// held, or a copy of that.
-fn compare_slots<V: Drop + Send, F: Form, R: Wait>(
+fn compare_slots<V: Drop, F: Form, R: Wait>(
     rt: &R,
     domain: &Domain<V>,
     desk: &mut Desk<V>,
@@ -93,7 +93,7 @@ fn compare_slots<V: Drop + Send, F: Form, R: Wait>(
     }
 }
 
-impl<'d, V: Drop + Send, H: Home> HandleTable<'d, V, H> {
+impl<'d, V: Drop, H: Home> HandleTable<'d, V, H> {
     /// Either of the two, whether the cell was swapped.
     fn compare<F: Form, R: Wait>(
         &mut self,

@@ -45,7 +45,7 @@ impl Form for Spurious {
 
 /// A copy of what the cell holds.
 #[inline(always)]
-pub(crate) fn load_held<V: Drop + Send, R: Wait>(
+pub(crate) fn load_held<V: Drop, R: Wait>(
     rt: &R,
     domain: &Domain<V>,
     desk: &mut Desk<V>,
@@ -71,7 +71,7 @@ pub(crate) fn load_held<V: Drop + Send, R: Wait>(
 
 /// The same at the first try, of a handle that has an object; none where that fails, and then nothing changes.
 #[inline(always)]
-pub(crate) fn load_held_at_once<V: Drop + Send>(
+pub(crate) fn load_held_at_once<V: Drop>(
     domain: &Domain<V>,
     desk: &mut Desk<V>,
     cell: CellAt,
@@ -95,7 +95,7 @@ pub(crate) fn load_held_at_once<V: Drop + Send>(
 
 /// The handle goes into the cell, and what the cell held comes out.
 #[inline]
-pub(crate) fn exchange_held<V: Drop + Send>(
+pub(crate) fn exchange_held<V: Drop>(
     domain: &Domain<V>,
     desk: &mut Desk<V>,
     cell: CellAt,
@@ -119,7 +119,7 @@ pub(crate) fn exchange_held<V: Drop + Send>(
 
 /// Where the cell holds what is expected, the new handle goes in, and what the cell held comes out: true. Else a copy
 /// of what it holds: false. A weak compare may differ all the same.
-pub(crate) fn compare_held<V: Drop + Send, F: Form, R: Wait>(
+pub(crate) fn compare_held<V: Drop, F: Form, R: Wait>(
     rt: &R,
     domain: &Domain<V>,
     desk: &mut Desk<V>,

@@ -23,11 +23,7 @@ use shared_handle::{Held, Shared, downgrade, share, share_weak};
 
 /// A copy of a handle.
 #[inline(always)]
-fn copy_of<V: Drop + Send>(
-    domain: &Domain<V>,
-    desk: &mut Desk<V>,
-    handle: &Held,
-) -> Result<Held, Refusal>
+fn copy_of<V: Drop>(domain: &Domain<V>, desk: &mut Desk<V>, handle: &Held) -> Result<Held, Refusal>
     requires domain { Belongs desk.old domain.now }
     requires held { IsHeldByDesk desk.old handle.now }
     ensures copy { IfOk result (λ h. IsCopy handle.now desk.old h desk.new) }
@@ -51,7 +47,7 @@ fn copy_of<V: Drop + Send>(
 
 /// A copy of the handle in a slot comes, for another slot.
 #[inline(always)]
-fn copy_from<V: Drop + Send>(
+fn copy_from<V: Drop>(
     domain: &Domain<V>,
     desk: &mut Desk<V>,
     slots: &Vec<Slot>,
@@ -84,7 +80,7 @@ fn copy_from<V: Drop + Send>(
 /// its allowance. Else nothing changes. The copy lies in its slot before its step, since two locked instructions cost
 /// less where no store stands between them and few instructions do.
 #[inline(always)]
-fn copy_owner<V: Drop + Send>(
+fn copy_owner<V: Drop>(
     domain: &Domain<V>,
     desk: &mut Desk<V>,
     slots: &mut Vec<Slot>,
@@ -119,7 +115,7 @@ fn copy_owner<V: Drop + Send>(
 
 /// A weak handle of the object of the owner in a slot comes, for another slot.
 #[inline(always)]
-fn weak_from<V: Drop + Send>(
+fn weak_from<V: Drop>(
     domain: &Domain<V>,
     desk: &mut Desk<V>,
     slots: &Vec<Slot>,
@@ -148,7 +144,7 @@ fn weak_from<V: Drop + Send>(
     }
 }
 
-impl<'d, V: Drop + Send, H: Home> HandleTable<'d, V, H> {
+impl<'d, V: Drop, H: Home> HandleTable<'d, V, H> {
     /// A copy of a handle is assigned to a slot ([util.smartptr.shared.assign], [util.smartptr.weak.assign]), which may
     /// be the handle's own: then the slot has the copy. What lay there leaves.
     #[inline(always)]

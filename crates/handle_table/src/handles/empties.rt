@@ -15,7 +15,7 @@ use shared_handle::{Held, empty, empty_weak};
 
 /// An owner of nothing comes, for a slot.
 #[inline(always)]
-fn empty_owner<V: Drop + Send>(
+fn empty_owner<V: Drop>(
     domain: &Domain<V>,
     desk: &mut Desk<V>,
     slots: &Vec<Slot>,
@@ -37,7 +37,7 @@ fn empty_owner<V: Drop + Send>(
 
 /// A weak handle on nothing comes, for a slot.
 #[inline(always)]
-fn empty_weak_handle<V: Drop + Send>(
+fn empty_weak_handle<V: Drop>(
     domain: &Domain<V>,
     desk: &mut Desk<V>,
     slots: &Vec<Slot>,
@@ -57,7 +57,7 @@ fn empty_weak_handle<V: Drop + Send>(
     }
 }
 
-impl<'d, V: Drop + Send, H: Home> HandleTable<'d, V, H> {
+impl<'d, V: Drop, H: Home> HandleTable<'d, V, H> {
     /// An owner of nothing, whose place is null, is assigned to a slot ([util.smartptr.shared.const]). What lay there
     /// leaves.
     pub fn empty(&mut self, to: usize) -> Result<(), Fault>

@@ -19,7 +19,7 @@ use std::sync::Wait;
 /// An owner of an object leaves its slot: what is told of it. None where no such owner lies there, and then nothing
 /// changes. Its slot is vacated after its step, so that no store stands between that and a step before.
 #[inline(always)]
-fn reset_owner<V: Drop + Send>(
+fn reset_owner<V: Drop>(
     domain: &Domain<V>,
     desk: &mut Desk<V>,
     slots: &mut Vec<Slot>,
@@ -42,7 +42,7 @@ fn reset_owner<V: Drop + Send>(
     Some(gone)
 }
 
-impl<'d, V: Drop + Send, H: Home> HandleTable<'d, V, H> {
+impl<'d, V: Drop, H: Home> HandleTable<'d, V, H> {
     /// `reset` ([util.smartptr.shared.mod], [util.smartptr.weak.mod]): the handle leaves its slot, which is vacant
     /// then. Where it was an object's last owner, the object is left to end with this table.
     #[inline(always)]

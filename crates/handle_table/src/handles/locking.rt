@@ -9,7 +9,7 @@ use crate::table::{HandleTable, Home};
 use shared_handle::{Held, lock};
 use std::sync::Wait;
 
-impl<'d, V: Drop + Send, H: Home> HandleTable<'d, V, H> {
+impl<'d, V: Drop, H: Home> HandleTable<'d, V, H> {
     /// `lock` ([util.smartptr.weak.obs]): an owner of the weak handle's object, just where one remains at the lock's
     /// step, or else an empty one, is assigned to a slot; whether it owns. What lay there leaves.
     #[inline(always)]

@@ -19,7 +19,7 @@ use shared_handle::{Held, make, make_null};
 
 /// A new object's owner comes, for a slot.
 #[inline(always)]
-fn made<V: Drop + Send>(
+fn made<V: Drop>(
     domain: &Domain<V>,
     desk: &mut Desk<V>,
     slots: &Vec<Slot>,
@@ -55,7 +55,7 @@ fn made<V: Drop + Send>(
 
 /// A new owner of the null pointer comes, for a slot.
 #[inline(always)]
-fn null_made<V: Drop + Send>(
+fn null_made<V: Drop>(
     domain: &Domain<V>,
     desk: &mut Desk<V>,
     slots: &Vec<Slot>,
@@ -87,7 +87,7 @@ fn null_made<V: Drop + Send>(
     }
 }
 
-impl<'d, V: Drop + Send, H: Home> HandleTable<'d, V, H> {
+impl<'d, V: Drop, H: Home> HandleTable<'d, V, H> {
     /// A new object with four fields and an owned value; its owner is assigned to a slot
     /// ([util.smartptr.shared.create], [util.smartptr.shared.assign]). What lay there leaves. Where `enabled`, the
     /// object gives pointers to itself ([util.smartptr.enab]). Where the table has no vacant block, it takes one from

@@ -28,7 +28,7 @@ fn is_pointer(place: Option<Place>) -> bool
 
 /// An owner of the object itself comes, for a slot.
 #[inline(always)]
-fn owner_of_this<V: Drop + Send>(
+fn owner_of_this<V: Drop>(
     domain: &Domain<V>,
     desk: &mut Desk<V>,
     slots: &Vec<Slot>,
@@ -59,7 +59,7 @@ fn owner_of_this<V: Drop + Send>(
 
 /// A weak handle of the object itself comes, for a slot.
 #[inline(always)]
-fn weak_of_this<V: Drop + Send>(
+fn weak_of_this<V: Drop>(
     domain: &Domain<V>,
     desk: &mut Desk<V>,
     slots: &Vec<Slot>,
@@ -90,7 +90,7 @@ fn weak_of_this<V: Drop + Send>(
 
 /// An owner that points elsewhere comes, for a slot.
 #[inline(always)]
-fn alias_of<V: Drop + Send>(
+fn alias_of<V: Drop>(
     domain: &Domain<V>,
     desk: &mut Desk<V>,
     slots: &Vec<Slot>,
@@ -123,7 +123,7 @@ fn alias_of<V: Drop + Send>(
     }
 }
 
-impl<'d, V: Drop + Send, H: Home> HandleTable<'d, V, H> {
+impl<'d, V: Drop, H: Home> HandleTable<'d, V, H> {
     /// `shared_from_this` ([util.smartptr.enab]): one owner more of the object, which points at its field 0, is
     /// assigned to a slot. What lay there leaves. It is refused `Limit`, and else `Null`, `Outside` or `NotEnabled`, as
     /// of a bare handle.

@@ -9,7 +9,7 @@ use crate::table::{HandleTable, Home};
 use shared_handle::{Held, upgrade};
 use std::sync::Wait;
 
-impl<'d, V: Drop + Send, H: Home> HandleTable<'d, V, H> {
+impl<'d, V: Drop, H: Home> HandleTable<'d, V, H> {
     /// The constructor from a weak pointer ([util.smartptr.shared.const]): an owner of the weak handle's object is
     /// assigned to a slot. What lay there leaves. Where no owner remains at its step it is refused `BadWeak`
     /// ([util.smartptr.weak.bad]): then the slots are as they were.

@@ -12,7 +12,7 @@ use control_block::domain::Domain;
 use shared_handle::{HasOwner, Held, owner_before, same_place};
 
 /// Whether what the first owns comes before what the other handle is of.
-fn is_before<V: Drop + Send, A: HasOwner>(
+fn is_before<V: Drop, A: HasOwner>(
     domain: &Domain<V>,
     desk: &mut Desk<V>,
     one: &A,
@@ -28,12 +28,7 @@ fn is_before<V: Drop + Send, A: HasOwner>(
 }
 
 /// The same of two handles of either kind.
-fn are_in_order<V: Drop + Send>(
-    domain: &Domain<V>,
-    desk: &mut Desk<V>,
-    one: &Held,
-    other: &Held,
-) -> bool
+fn are_in_order<V: Drop>(domain: &Domain<V>, desk: &mut Desk<V>, one: &Held, other: &Held) -> bool
     ensures before { result ≡ comes_before (block_of_held one.now) (block_of_held other.now) }
     ensures same { desk.new ≡ desk.old }
 {
@@ -43,7 +38,7 @@ fn are_in_order<V: Drop + Send>(
     }
 }
 
-impl<'d, V: Drop + Send, H: Home> HandleTable<'d, V, H> {
+impl<'d, V: Drop, H: Home> HandleTable<'d, V, H> {
     /// Whether two owners point at one place, whatever they own ([util.smartptr.shared.cmp]). It touches no word.
     pub fn same_place(&mut self, a: usize, b: usize) -> Result<bool, Fault>
         ensures told { IfOk result (λ alike. PointAlike self.old a b alike) }

@@ -41,7 +41,7 @@ fn parts_of(handle: &Held) -> Peeked
     }
 }
 
-impl<'d, V: Drop + Send, H: Home> HandleTable<'d, V, H> {
+impl<'d, V: Drop, H: Home> HandleTable<'d, V, H> {
     /// The handle in a slot by its parts (own), or why the slot has none.
     pub fn peek(&self, at: usize) -> Result<Peeked, Fault>
         ensures there { IfOk result (λ x. (h : Held) × IsAt self.now at h × IsPeeked h x) }

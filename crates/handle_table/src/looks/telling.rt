@@ -14,7 +14,7 @@ use control_word::Place;
 use shared_handle::{Held, expired, read, use_count, use_count_weak};
 
 /// How many owners the handle's object has.
-fn count_of<V: Drop + Send>(domain: &Domain<V>, desk: &mut Desk<V>, handle: &Held) -> u32
+fn count_of<V: Drop>(domain: &Domain<V>, desk: &mut Desk<V>, handle: &Held) -> u32
     requires domain { Belongs desk.old domain.now }
     requires held { IsHeldByDesk desk.old handle.now }
     ensures count { CountsOf desk.old handle.now result desk.new }
@@ -28,7 +28,7 @@ fn count_of<V: Drop + Send>(domain: &Domain<V>, desk: &mut Desk<V>, handle: &Hel
     }
 }
 
-impl<'d, V: Drop + Send, H: Home> HandleTable<'d, V, H> {
+impl<'d, V: Drop, H: Home> HandleTable<'d, V, H> {
     /// The field that an owner points at (own). It is refused where the place is null, or isn't in the object that it
     /// owns.
     pub fn read(&mut self, at: usize) -> Result<u64, Fault>

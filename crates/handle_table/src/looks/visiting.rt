@@ -10,7 +10,7 @@ use control_word::Refused;
 use shared_handle::visit;
 use std::sync::Wait;
 
-impl<'d, V: Drop + Send, H: Home> HandleTable<'d, V, H> {
+impl<'d, V: Drop, H: Home> HandleTable<'d, V, H> {
     /// The value of the object that an owner owns is worked on (own): while this call has it, another visit of it
     /// waits. An owner of null has a value too. It is refused `Null` where the owner is empty; at a fault `f` comes
     /// back.

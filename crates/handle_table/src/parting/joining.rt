@@ -57,7 +57,7 @@ fn take_in(slots: &mut Vec<Slot>, others: Vec<Slot>)
     others.destroy_empty();
 }
 
-impl<'d, V: Drop + Send, H: Home> HandleTable<'d, V, H> {
+impl<'d, V: Drop, H: Home> HandleTable<'d, V, H> {
     /// Another table of the domain becomes part of this one: its handles come into the slots of their numbers, its
     /// blocks and its allowance are this table's, and what is left to end with it is left to end with this one, before
     /// what was (own). The first slot of the other whose handle can't come says why: `Taken` where the slot of that

@@ -16,14 +16,14 @@ use shared_handle::{Held, Pile};
 use std::alloc::Global;
 
 /// What a further table is made of.
-pub(crate) struct Part<V: Drop + Send> {
+pub(crate) struct Part<V: Drop> {
     pub desk: Desk<V>,
     pub slots: Vec<Slot, Global>,
     pub pile: Pile<V>,
 }
 
 /// Whether a desk can give such a part, or why not.
-fn may_part<V: Drop + Send>(
+fn may_part<V: Drop>(
     desk: &Desk<V>,
     allowance: u32,
     blocks: u32,
@@ -43,7 +43,7 @@ fn may_part<V: Drop + Send>(
 }
 
 /// Room for so many slots, and an empty pile.
-pub(crate) fn room_for<V: Drop + Send>(
+pub(crate) fn room_for<V: Drop>(
     domain: &Domain<V>,
     alloc: Global,
     count: usize,
@@ -67,7 +67,7 @@ pub(crate) fn room_for<V: Drop + Send>(
 }
 
 /// A part of a desk that can give it, with room for its slots. Only memory may be refused.
-fn cut_part<V: Drop + Send>(
+fn cut_part<V: Drop>(
     domain: &Domain<V>,
     desk: &mut Desk<V>,
     alloc: Global,
@@ -105,7 +105,7 @@ fn cut_part<V: Drop + Send>(
 
 /// A part of a desk for a further table, with so many vacant slots; the handles in the slots that are handed over are
 /// the new desk's from then on.
-pub(crate) fn part_of<V: Drop + Send>(
+pub(crate) fn part_of<V: Drop>(
     domain: &Domain<V>,
     desk: &mut Desk<V>,
     alloc: Global,

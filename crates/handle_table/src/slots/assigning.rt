@@ -16,7 +16,7 @@ use shared_handle::{Gone, Held, Pile, drop_shared, release_weak};
 /// A handle leaves the desk.
 #[tactic(auto, using(shared_handle::proofs::Piles::bears_after))]
 #[inline(always)]
-pub(crate) fn let_go<V: Drop + Send>(
+pub(crate) fn let_go<V: Drop>(
     domain: &Domain<V>,
     desk: &mut Desk<V>,
     pile: &mut Pile<V>,
@@ -45,7 +45,7 @@ pub(crate) fn let_go<V: Drop + Send>(
 
 /// The handle in hand goes into a slot, and then what lay there leaves.
 #[inline(always)]
-pub(crate) fn assign<V: Drop + Send>(
+pub(crate) fn assign<V: Drop>(
     domain: &Domain<V>,
     desk: &mut Desk<V>,
     slots: &mut Vec<Slot>,
@@ -73,7 +73,7 @@ pub(crate) fn assign<V: Drop + Send>(
 /// The same, out of line.
 #[cold]
 #[inline(never)]
-fn assign_over<V: Drop + Send>(
+fn assign_over<V: Drop>(
     domain: &Domain<V>,
     desk: &mut Desk<V>,
     slots: &mut Vec<Slot>,
@@ -100,7 +100,7 @@ fn assign_over<V: Drop + Send>(
 
 /// A handle that came goes into a slot, and then what lay there leaves.
 #[inline(always)]
-pub(crate) fn arrive<V: Drop + Send, E>(
+pub(crate) fn arrive<V: Drop, E>(
     domain: &Domain<V>,
     desk: &mut Desk<V>,
     slots: &mut Vec<Slot>,

@@ -9,13 +9,13 @@ use std::sync::Wait;
 use std::thread::{Threads, for_each_mut};
 
 /// A worker with its table.
-pub(crate) struct Post<'d, V: Drop + Send, H: Home, W> {
+pub(crate) struct Post<'d, V: Drop, H: Home, W> {
     pub worker: W,
     pub table: HandleTable<'d, V, H>,
 }
 
 /// Each worker is with the table of its number.
-fn man<'d, V: Drop + Send, H: Home, W>(
+fn man<'d, V: Drop, H: Home, W>(
     tables: &mut Vec<HandleTable<'d, V, H>>,
     workers: &mut Vec<W>,
     posts: &mut Vec<Post<'d, V, H, W>>,
@@ -37,7 +37,7 @@ fn man<'d, V: Drop + Send, H: Home, W>(
 }
 
 /// The workers, and the tables that they leave.
-fn dismiss<'d, V: Drop + Send, H: Home, W>(
+fn dismiss<'d, V: Drop, H: Home, W>(
     posts: &mut Vec<Post<'d, V, H, W>>,
     tables: &mut Vec<HandleTable<'d, V, H>>,
     workers: &mut Vec<W>,

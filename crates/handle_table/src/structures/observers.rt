@@ -27,12 +27,12 @@ use std::sync::Wait;
 /// A thread's own access to observers in a free shared cell: each node owns the one that was attached before it by its
 /// member `next`, and watches its subject by its member `up`. All that have the same cell share the observers. It is
 /// for the tables of the domain that its type names.
-pub struct TableObservers<V: Drop + Send, H: Home> {
+pub struct TableObservers<V: Drop, H: Home> {
     home: PhantomData<H>,
     observers: Observers<V>,
 }
 
-impl<V: Drop + Send, H: Home> Model for TableObservers<V, H> {
+impl<V: Drop, H: Home> Model for TableObservers<V, H> {
     ghost use Rattle.scene_structures.specs.Stacks.{StackNow, StandsIn};
 
     ghost Value = { StackNow };
@@ -42,7 +42,7 @@ impl<V: Drop + Send, H: Home> Model for TableObservers<V, H> {
     ghost invariant = { λ s. StandsIn s.observers H.domain };
 }
 
-impl<V: Drop + Send, H: Home> TableObservers<V, H> {
+impl<V: Drop, H: Home> TableObservers<V, H> {
     /// The access is given up (own); the observers stay as they are.
     pub fn close(self) {
         let Self { home: _, observers } = self;
@@ -51,7 +51,7 @@ impl<V: Drop + Send, H: Home> TableObservers<V, H> {
 }
 
 /// A new node that watches what the owner in a slot owns comes in front of the observers.
-fn attach_at<V: Drop + Send, R: Wait>(
+fn attach_at<V: Drop, R: Wait>(
     rt: &R,
     observers: &mut Observers<V>,
     domain: &Domain<V>,
@@ -84,7 +84,7 @@ fn attach_at<V: Drop + Send, R: Wait>(
     }
 }
 
-impl<'d, V: Drop + Send, H: Home> HandleTable<'d, V, H> {
+impl<'d, V: Drop, H: Home> HandleTable<'d, V, H> {
     /// An access to the observers in a free shared cell, by its number from 0 (own). It makes room for the ends of as
     /// many objects as there are blocks; no other call on it takes memory. `Cell` just where there is no such cell, and
     /// `Memory` where a growth was really refused.

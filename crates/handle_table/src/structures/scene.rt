@@ -25,12 +25,12 @@ use std::sync::Wait;
 
 /// A thread's own access to trees of nodes: a node owns its first child by its member `first` and its next sibling by
 /// `next`, and its `up` points back at its parent. It is for the tables of the domain that its type names.
-pub struct TableScene<V: Drop + Send, H: Home> {
+pub struct TableScene<V: Drop, H: Home> {
     home: PhantomData<H>,
     scene: Scene<V>,
 }
 
-impl<V: Drop + Send, H: Home> Model for TableScene<V, H> {
+impl<V: Drop, H: Home> Model for TableScene<V, H> {
     ghost use Rattle.scene_structures.specs.Stacks.{ServesDomain};
     ghost use Rattle.shared_handle.specs.declared.pile.Pile.{Pile};
 
@@ -41,7 +41,7 @@ impl<V: Drop + Send, H: Home> Model for TableScene<V, H> {
     ghost invariant = { λ s. ServesDomain H.domain s.scene };
 }
 
-impl<V: Drop + Send, H: Home> TableScene<V, H> {
+impl<V: Drop, H: Home> TableScene<V, H> {
     /// The access is given up (own); the trees stay as they are.
     pub fn close(self) {
         let Self { home: _, scene } = self;
@@ -50,7 +50,7 @@ impl<V: Drop + Send, H: Home> TableScene<V, H> {
 }
 
 /// A new first child of what the owner in a slot owns comes, for another slot.
-fn child_of<V: Drop + Send, R: Wait>(
+fn child_of<V: Drop, R: Wait>(
     rt: &R,
     scene: &mut Scene<V>,
     domain: &Domain<V>,
@@ -87,7 +87,7 @@ fn child_of<V: Drop + Send, R: Wait>(
     }
 }
 
-impl<'d, V: Drop + Send, H: Home> HandleTable<'d, V, H> {
+impl<'d, V: Drop, H: Home> HandleTable<'d, V, H> {
     /// An access to the trees of the domain (own). It makes room for the ends of as many objects as there are blocks;
     /// no other call on it takes memory. `Memory` where a growth was really refused.
     pub fn scene(&self, alloc: Global) -> Result<TableScene<V, H>, Fault>

@@ -15,12 +15,12 @@ use std::sync::Wait;
 
 /// A thread's own access to a stack of nodes in a free shared cell: each node owns the one below it by its member
 /// `next`. All that have the same cell share the stack. It is for the tables of the domain that its type names.
-pub struct TableStack<V: Drop + Send, H: Home> {
+pub struct TableStack<V: Drop, H: Home> {
     home: PhantomData<H>,
     stack: Stack<V>,
 }
 
-impl<V: Drop + Send, H: Home> Model for TableStack<V, H> {
+impl<V: Drop, H: Home> Model for TableStack<V, H> {
     ghost use Rattle.scene_structures.specs.Stacks.{StackNow, StandsIn};
 
     ghost Value = { StackNow };
@@ -30,7 +30,7 @@ impl<V: Drop + Send, H: Home> Model for TableStack<V, H> {
     ghost invariant = { λ s. StandsIn s.stack H.domain };
 }
 
-impl<V: Drop + Send, H: Home> TableStack<V, H> {
+impl<V: Drop, H: Home> TableStack<V, H> {
     /// The access is given up (own); the stack stays as it is.
     pub fn close(self) {
         let Self { home: _, stack } = self;
@@ -38,7 +38,7 @@ impl<V: Drop + Send, H: Home> TableStack<V, H> {
     }
 }
 
-impl<'d, V: Drop + Send, H: Home> HandleTable<'d, V, H> {
+impl<'d, V: Drop, H: Home> HandleTable<'d, V, H> {
     /// An access to the stack in a free shared cell, by its number from 0 (own). It makes room for the ends of as many
     /// objects as there are blocks; no other call on it takes memory. `Cell` just where there is no such cell, and
     /// `Memory` where a growth was really refused.

@@ -10,7 +10,7 @@ use scene_structures::tear_down;
 use shared_handle::Held;
 use std::alloc::Global;
 
-impl<'d, V: Drop + Send, H: Home> HandleTable<'d, V, H> {
+impl<'d, V: Drop, H: Home> HandleTable<'d, V, H> {
     /// The owner leaves its slot, which is vacant then, and what ends by that does so (own): for an object first what
     /// its `first` alone owned, then its `next`. The answer has the value of each object that ended, in the order in
     /// which they did. It waits for nobody: where other tables lengthen meanwhile what ends, it makes four rounds a

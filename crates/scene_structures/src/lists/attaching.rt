@@ -15,7 +15,7 @@ use control_block::domain::Domain;
 use shared_handle::{Shared, downgrade, release_weak};
 
 /// A weak handle of the subject goes into the node's member `up`, and what was there leaves.
-pub(crate) fn watch<V: Drop + Send>(
+pub(crate) fn watch<V: Drop>(
     domain: &Domain<V>,
     desk: &mut Desk<V>,
     node: &Shared,

@@ -42,7 +42,7 @@ fn is_same(a: &Shared, b: &Shared) -> bool
 }
 
 /// The node in a cell.
-fn find<V: Drop + Send, R: Wait>(
+fn find<V: Drop, R: Wait>(
     rt: &R,
     domain: &Domain<V>,
     desk: &mut Desk<V>,
@@ -75,7 +75,7 @@ fn find<V: Drop + Send, R: Wait>(
 }
 
 /// One try to put what comes next into the cell in the node's place. The node is let go.
-fn skip<V: Drop + Send, R: Wait>(
+fn skip<V: Drop, R: Wait>(
     rt: &R,
     domain: &Domain<V>,
     desk: &mut Desk<V>,
@@ -122,7 +122,7 @@ fn skip<V: Drop + Send, R: Wait>(
 }
 
 /// One try to take the node out of a cell, or none where the cell holds something else by now.
-fn try_cut<V: Drop + Send, R: Wait>(
+fn try_cut<V: Drop, R: Wait>(
     rt: &R,
     domain: &Domain<V>,
     desk: &mut Desk<V>,
@@ -163,7 +163,7 @@ fn try_cut<V: Drop + Send, R: Wait>(
 }
 
 /// The node goes out of a cell, whatever others put there meanwhile, or another is there, or none.
-fn cut<V: Drop + Send, R: Wait>(
+fn cut<V: Drop, R: Wait>(
     rt: &R,
     domain: &Domain<V>,
     desk: &mut Desk<V>,
@@ -198,7 +198,7 @@ fn cut<V: Drop + Send, R: Wait>(
 }
 
 /// The node goes out of the list below the first one, which is let go, or isn't there: whether it went.
-fn cut_below<V: Drop + Send, R: Wait>(
+fn cut_below<V: Drop, R: Wait>(
     rt: &R,
     domain: &Domain<V>,
     desk: &mut Desk<V>,
@@ -242,7 +242,7 @@ fn cut_below<V: Drop + Send, R: Wait>(
 }
 
 /// The node goes out of the parent's children, or isn't one of them: whether it went.
-pub(crate) fn cut_child<V: Drop + Send, R: Wait>(
+pub(crate) fn cut_child<V: Drop, R: Wait>(
     rt: &R,
     domain: &Domain<V>,
     desk: &mut Desk<V>,

@@ -28,7 +28,7 @@ pub(crate) enum Tried {
 }
 
 /// One try to take what was seen at the top.
-fn try_pop<V: Drop + Send, R: Wait>(
+fn try_pop<V: Drop, R: Wait>(
     rt: &R,
     domain: &Domain<V>,
     desk: &mut Desk<V>,
@@ -72,7 +72,7 @@ fn try_pop<V: Drop + Send, R: Wait>(
 }
 
 /// The top node, whatever others put there meanwhile, or none where none was found.
-pub(crate) fn take<V: Drop + Send, R: Wait>(
+pub(crate) fn take<V: Drop, R: Wait>(
     rt: &R,
     domain: &Domain<V>,
     desk: &mut Desk<V>,

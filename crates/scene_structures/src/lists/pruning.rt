@@ -33,12 +33,7 @@ pub(crate) enum Front {
 }
 
 /// Whether what the cell holds has no object that has an owner.
-fn is_expired<V: Drop + Send, R: Wait>(
-    rt: &R,
-    domain: &Domain<V>,
-    desk: &mut Desk<V>,
-    up: &WeakAt,
-) -> bool
+fn is_expired<V: Drop, R: Wait>(rt: &R, domain: &Domain<V>, desk: &mut Desk<V>, up: &WeakAt) -> bool
     requires domain { Belongs desk.old domain.now }
     requires cell { IsOpenWeakly desk.old up.now.site }
     requires room { desk.old.held + 2 < allowance_of desk.old }
@@ -59,7 +54,7 @@ fn is_expired<V: Drop + Send, R: Wait>(
 }
 
 /// A look at the node in a cell, and at its subject.
-fn look_in<V: Drop + Send, R: Wait>(
+fn look_in<V: Drop, R: Wait>(
     rt: &R,
     domain: &Domain<V>,
     desk: &mut Desk<V>,
@@ -94,7 +89,7 @@ fn look_in<V: Drop + Send, R: Wait>(
 }
 
 /// What comes next goes into the cell in the node's place, and the node is let go.
-fn pass<V: Drop + Send, R: Wait>(
+fn pass<V: Drop, R: Wait>(
     rt: &R,
     domain: &Domain<V>,
     desk: &mut Desk<V>,
@@ -131,7 +126,7 @@ fn pass<V: Drop + Send, R: Wait>(
 
 /// Nodes whose subject has no owner go out of the cell, till one comes that stays, or none. How many went, and what
 /// stays.
-fn clear_front<V: Drop + Send, R: Wait>(
+fn clear_front<V: Drop, R: Wait>(
     rt: &R,
     domain: &Domain<V>,
     desk: &mut Desk<V>,
@@ -167,7 +162,7 @@ fn clear_front<V: Drop + Send, R: Wait>(
 }
 
 /// Nodes whose subject has no owner go out of the list below this node, which is let go. How many, below 4,294,967,296.
-fn clear_below<V: Drop + Send, R: Wait>(
+fn clear_below<V: Drop, R: Wait>(
     rt: &R,
     domain: &Domain<V>,
     desk: &mut Desk<V>,
@@ -206,7 +201,7 @@ fn clear_below<V: Drop + Send, R: Wait>(
 }
 
 /// All nodes in the list of the free cell whose subject has no owner go out of it. How many, below 4,294,967,296.
-pub(crate) fn clear_list<V: Drop + Send, R: Wait>(
+pub(crate) fn clear_list<V: Drop, R: Wait>(
     rt: &R,
     domain: &Domain<V>,
     desk: &mut Desk<V>,

@@ -30,7 +30,7 @@ pub(crate) struct Attempt {
 }
 
 /// The node owns this, and what it owned leaves.
-pub(crate) fn store_next<V: Drop + Send, R: Wait>(
+pub(crate) fn store_next<V: Drop, R: Wait>(
     rt: &R,
     domain: &Domain<V>,
     desk: &mut Desk<V>,
@@ -60,7 +60,7 @@ pub(crate) fn store_next<V: Drop + Send, R: Wait>(
 }
 
 /// One try to put the node in front of what the cell holds. What to try next, if it isn't done.
-fn try_push<V: Drop + Send, R: Wait>(
+fn try_push<V: Drop, R: Wait>(
     rt: &R,
     domain: &Domain<V>,
     desk: &mut Desk<V>,
@@ -110,7 +110,7 @@ fn try_push<V: Drop + Send, R: Wait>(
 }
 
 /// The node goes in front of what the cell holds, whatever others put there meanwhile.
-pub(crate) fn raise<V: Drop + Send, R: Wait>(
+pub(crate) fn raise<V: Drop, R: Wait>(
     rt: &R,
     domain: &Domain<V>,
     desk: &mut Desk<V>,

@@ -22,7 +22,7 @@ use shared_handle::{Pile, Shared, alias, lock, read, release_weak};
 use std::sync::Wait;
 
 /// Field 0 of the object that the handle owns, or none where it is empty.
-fn first_field<V: Drop + Send, R: Wait>(
+fn first_field<V: Drop, R: Wait>(
     rt: &R,
     domain: &Domain<V>,
     desk: &mut Desk<V>,
@@ -56,7 +56,7 @@ fn first_field<V: Drop + Send, R: Wait>(
 }
 
 /// Field 0 of the subject that the cell holds a weak handle of, or none where that has no owner.
-fn ask<V: Drop + Send, R: Wait>(
+fn ask<V: Drop, R: Wait>(
     rt: &R,
     domain: &Domain<V>,
     desk: &mut Desk<V>,
@@ -100,7 +100,7 @@ pub(crate) enum Visited {
 }
 
 /// One visit: the node is let go, and what its `next` holds comes in its place.
-fn visit<V: Drop + Send, R: Wait>(
+fn visit<V: Drop, R: Wait>(
     rt: &R,
     domain: &Domain<V>,
     desk: &mut Desk<V>,
@@ -140,7 +140,7 @@ fn visit<V: Drop + Send, R: Wait>(
 }
 
 /// Visits from a handle on, each through the `next` before it, until there is no node; `tell` gets what they told.
-pub(crate) fn walk<V: Drop + Send, R: Wait, F: FnMut(u64)>(
+pub(crate) fn walk<V: Drop, R: Wait, F: FnMut(u64)>(
     rt: &R,
     domain: &Domain<V>,
     desk: &mut Desk<V>,

@@ -17,7 +17,7 @@ use control_word::Refusal;
 use shared_handle::{Shared, lock, release_weak};
 use std::sync::Wait;
 
-impl<V: Drop + Send> Scene<V> {
+impl<V: Drop> Scene<V> {
     /// The node's parent (own): an owner of what its `up` is on, which points where that does, or an empty handle where
     /// that has no owner, or there is none. It tries again while others change `up` or the parent's count. It is
     /// refused `Limit` just where fewer than 6 handles are free, else `Null` just where the handle's place is null, and

@@ -26,7 +26,7 @@ use shared_handle::{Pile, Shared, alias, empty};
 use std::sync::Wait;
 
 /// The node's `up` and `next` are emptied, if it went out of a list.
-fn unlink<V: Drop + Send, R: Wait>(
+fn unlink<V: Drop, R: Wait>(
     rt: &R,
     domain: &Domain<V>,
     desk: &mut Desk<V>,
@@ -59,7 +59,7 @@ fn unlink<V: Drop + Send, R: Wait>(
 }
 
 /// The node goes out of the parent's children, if it is one of them, and the parent is let go.
-fn leave<V: Drop + Send, R: Wait>(
+fn leave<V: Drop, R: Wait>(
     rt: &R,
     domain: &Domain<V>,
     desk: &mut Desk<V>,
@@ -90,7 +90,7 @@ fn leave<V: Drop + Send, R: Wait>(
     let_go(rt, domain, desk, parent, pile);
 }
 
-impl<V: Drop + Send> Scene<V> {
+impl<V: Drop> Scene<V> {
     /// The node goes out of the children of what its `up` is on, and its `next` and `up` are emptied; where that has no
     /// owner, or the node isn't among its children, nothing changes (own). It waits while others change what it looks
     /// at. It is refused `Limit` just where fewer than 6 handles are free, else `Null` just where the handle's place is

@@ -14,12 +14,7 @@ use shared_handle::{Pile, Round, Shared, drop_shared};
 use std::sync::Wait;
 
 /// All of the pile ends, and what the desk holds meanwhile stays on its object.
-fn settle<V: Drop + Send, R: Wait>(
-    rt: &R,
-    domain: &Domain<V>,
-    desk: &mut Desk<V>,
-    pile: &mut Pile<V>,
-)
+fn settle<V: Drop, R: Wait>(rt: &R, domain: &Domain<V>, desk: &mut Desk<V>, pile: &mut Pile<V>)
     requires carries { Carries domain.now desk.old pile.old }
     ensures carries { Carries domain.now desk.new pile.new }
     ensures others { KeepsOthers desk.old pile.old.endings.items desk.new pile.new.endings.items }
@@ -41,7 +36,7 @@ fn settle<V: Drop + Send, R: Wait>(
 }
 
 /// An owner leaves. Where it was the last, its object ends, and all that ends by that.
-pub(crate) fn let_go<V: Drop + Send, R: Wait>(
+pub(crate) fn let_go<V: Drop, R: Wait>(
     rt: &R,
     domain: &Domain<V>,
     desk: &mut Desk<V>,

@@ -12,7 +12,7 @@ use shared_handle::Pile;
 
 /// Rounds of the pile, until no slot is empty; but at most four a block, and none when more objects have ended than
 /// there are blocks.
-pub(crate) fn run_down<V: Drop + Send>(
+pub(crate) fn run_down<V: Drop>(
     domain: &Domain<V>,
     desk: &mut Desk<V>,
     pile: &mut Pile<V>,

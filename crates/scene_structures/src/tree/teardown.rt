@@ -26,7 +26,7 @@ use std::alloc::Global;
 /// of all of them. All memory is reserved before the root leaves. It is refused `Memory` where a growth was really
 /// refused: then the root comes back, and nothing changes. What ends in the desk's hands elsewhere than on the pile
 /// stays as it is. Condition: what was left on the pile ends with this desk.
-pub fn tear_down<V: Drop + Send>(
+pub fn tear_down<V: Drop>(
     alloc: Global,
     domain: &Domain<V>,
     desk: &mut Desk<V>,
@@ -63,7 +63,7 @@ pub fn tear_down<V: Drop + Send>(
     Ok(ended.into_values())
 }
 
-impl<V: Drop + Send> Scene<V> {
+impl<V: Drop> Scene<V> {
     /// `tear_down` with the scene's own pile (own): the values of the objects that ended, and what others lengthened
     /// meanwhile stays on that pile. It is refused `Memory` where a growth was really refused: then the root comes
     /// back, and nothing changes. Condition: what was left on the pile ends with this desk.

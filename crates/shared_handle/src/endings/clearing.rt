@@ -11,7 +11,7 @@ use control_block::clear_calls;
 use control_block::desk::Desk;
 use control_block::domain::Domain;
 
-impl<V: Drop + Send> Ending<V> {
+impl<V: Drop> Ending<V> {
     // A shared member is emptied; which one is cleared by then is noted by the caller.
     fn clear_shared(&self, domain: &Domain<V>, desk: &mut Desk<V>, member: u32) -> Left<V>
         requires domain { Belongs desk.old domain.now }

@@ -20,7 +20,7 @@ use control_block::{calls, handles};
 use control_word::{Block, Place, Refusal};
 use std::marker::Brand;
 
-impl<V: Drop + Send> Ending<V> {
+impl<V: Drop> Ending<V> {
     /// The object's four fields (own).
     pub fn fields(&self, domain: &Domain<V>, desk: &mut Desk<V>) -> [u64; 4]
         requires domain { Belongs desk.old domain.now }

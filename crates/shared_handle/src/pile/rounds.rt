@@ -11,7 +11,7 @@ use crate::pile::{Gone, Pile, Round};
 use control_block::desk::Desk;
 use control_block::domain::Domain;
 
-impl<V: Drop + Send> Ending<V> {
+impl<V: Drop> Ending<V> {
     /// The first member that isn't cleared yet (own).
     #[inline(always)]
     fn next_member(&self) -> Option<Member>
@@ -41,7 +41,7 @@ impl<V: Drop + Send> Ending<V> {
     }
 }
 
-impl<V: Drop + Send> Pile<V> {
+impl<V: Drop> Pile<V> {
     /// One round (own): the first member of the top that isn't cleared is emptied, and what ends for it lies above the
     /// top; or the top is finished, where all three are clear, and its value comes out. So an object is finished after
     /// what its members alone owned. What ends in the desk's hands elsewhere stays as it is.

@@ -10,7 +10,7 @@ use control_block::desk::Desk;
 use control_block::domain::Domain;
 use std::sync::Wait;
 
-impl<V: Drop + Send> Pile<V> {
+impl<V: Drop> Pile<V> {
     /// Rounds until nothing is left to end (own); the values are dropped as they come out, which is the deleters'
     /// calls. What ends in the desk's hands elsewhere stays as it is. It waits, since other desks may lengthen a chain
     /// that ends meanwhile.

@@ -27,7 +27,7 @@ load-requires g c =
     )
 
 pub take-value-requires-clause-hand : goal.take-value-requires-clause-hand
-take-value-requires-clause-hand g c = λ _ _.
+take-value-requires-clause-hand g c =
     let f = c.load.ensures.2 in (c.requires.word.0, f.0, f.3 ∙ ap (λ (b : Block). (b.0 - 1, Some f.0) ∷ []) c.requires.ends.0)
 
 pub fetch_sub-found-requires : goal.fetch_sub-found-requires

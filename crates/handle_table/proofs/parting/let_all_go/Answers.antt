@@ -10,7 +10,7 @@ pub loop-slot-preserved-in-None : goal.loop-slot-preserved-in-None
 loop-slot-preserved-in-None g c = passes _ _ _ _ _ _ _ _ _ c.loop-slot.invariant c.in-Some.ensures.items (sym c.into_held.ensures ∙ c.in-None.is)
 
 pub let_go-requires-clause-held : goal.let_go-requires-clause-held
-let_go-requires-clause-held g c κs within =
+let_go-requires-clause-held g c =
     held_last _ _ _ _ _ _ _ _ _ c.in-Some-into_held.handle c.loop-slot.invariant c.in-Some.ensures.items
     (sym c.into_held.ensures ∙ c.in-Some-into_held.is)
 

@@ -2,11 +2,12 @@ use Rattle.shared_handle.proofs.Goings.{left_does}
 use Rattle.shared_handle.proofs.Piles.{carries_left, left_elsewhere, room_piled}
 use Rattle.shared_handle.proofs.dropping.drop_shared.Goals as goal
 
-pub put-requires-clause-room : goal.put-requires-clause-room
-put-requires-clause-room g c κs within =
-    let t = c.release-left in let e = t.ensures in
-    room_piled c.args.domain.now c.args.desk.now t.new.desk c.args.pile.now c.args.handle.block c.args.handle.place t.result c.requires.carries
-    e.keeps e.left c.stands.ensures
+pub put-requires : goal.put-requires
+put-requires g c = record {
+  room = (let t = c.release-left in let e = t.ensures in
+      room_piled c.args.domain.now c.args.desk.now t.new.desk c.args.pile.now c.args.handle.block c.args.handle.place t.result c.requires.carries
+      e.keeps e.left c.stands.ensures);
+}
 
 pub returns-clause-carries : goal.returns-clause-carries
 returns-clause-carries g c =

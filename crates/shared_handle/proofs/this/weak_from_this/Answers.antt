@@ -6,7 +6,7 @@ use Rattle.control_block.specs.CellCalls.{HoldsHandle}
 use Rattle.shared_handle.proofs.this.weak_from_this.Goals as goal
 
 pub share_weak-requires-clause-may : goal.share_weak-requires-clause-may
-share_weak-requires-clause-may g c = λ _ _.
+share_weak-requires-clause-may g c =
     let place = c.args.handle.now.place in
     let there = subst (λ (b : Option Block). HoldsHandle c.args.desk.now Owner b place) c.in_ok-block.ensures.this.0 c.requires.holds in
     inl (

@@ -7,7 +7,7 @@ use Rattle.atomic_cells.proofs.Told.{bag_told, event_told, holds_told}
 use Rattle.atomic_cells.proofs.shared_at.SharedAt.compare_as.Goals as goal
 
 pub compare-requires-clause-holds : goal.compare-requires-clause-holds
-compare-requires-clause-holds g c κs within =
+compare-requires-clause-holds g c =
     let d = c.args.desk.now in let h = c.requires.holds in let parts = c.into_parts-block.ensures in (
       holds_told Owner d h.0 c.block.ensures c.place.ensures,
       holds_told Owner d h.1 (ap (λ (r : Option Block × Option Place). r.0) parts) (ap (λ (r : Option Block × Option Place). r.1) parts),

@@ -23,7 +23,7 @@ use Rattle.control_block.proofs.StoreBlocks.{ending_word}
 use Rattle.control_block.proofs.calls.clears.clear_shared.Goals as goal
 
 pub clear_shared-value-requires-clause-word : goal.clear_shared-value-requires-clause-word
-clear_shared-value-requires-clause-word g c = λ _ _.
+clear_shared-value-requires-clause-word g c =
     let w = ending_word c.desk.inside c.domain.inside.table.shared.table_id c.args.block.0 (7 + c.args.member) c.desk.invariant
     (ap (λ z. z.domain) c.desk.view_is ∙ (c.requires.domain.table ∙ sym (ap (λ z. z.id) c.domain.view_is)))
     (ends_in c.desk.inside c.args.desk.now c.args.block.0 c.requires.ending.0 c.desk.view_is c.requires.ending.1) (let lt = c.requires.member in omega arith) in
@@ -31,14 +31,14 @@ clear_shared-value-requires-clause-word g c = λ _ _.
 
 pub clear_shared-value-requires-clause-ends : goal.clear_shared-value-requires-clause-ends
 clear_shared-value-requires-clause-ends g c =
-    λ _ _. ends_in c.desk.inside c.args.desk.now c.args.block.0 c.requires.ending.0 c.desk.view_is c.requires.ending.1
+    ends_in c.desk.inside c.args.desk.now c.args.block.0 c.requires.ending.0 c.desk.view_is c.requires.ending.1
 
 pub clear_shared-value-requires-clause-room : goal.clear_shared-value-requires-clause-room
-clear_shared-value-requires-clause-room g c = λ _ _. room_out c.desk.inside c.args.block.0 c.desk.invariant
+clear_shared-value-requires-clause-room g c = room_out c.desk.inside c.args.block.0 c.desk.invariant
     (ends_in c.desk.inside c.args.desk.now c.args.block.0 c.requires.ending.0 c.desk.view_is c.requires.ending.1)
 
 pub clear_shared-value-requires-clause-kind : goal.clear_shared-value-requires-clause-kind
-clear_shared-value-requires-clause-kind g c = λ _ _. let lt = c.requires.member in cond-false _ Weak Owner (ne_eqb c.args.member 2 (λ e. omega arith))
+clear_shared-value-requires-clause-kind g c = let lt = c.requires.member in cond-false _ Weak Owner (ne_eqb c.args.member 2 (λ e. omega arith))
 
 pub overflow_add-desk : goal.overflow_add-desk
 overflow_add-desk g c =

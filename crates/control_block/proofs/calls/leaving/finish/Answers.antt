@@ -17,18 +17,18 @@ use Rattle.control_block.proofs.StoreBlocks.{ending_slot, ending_word, finish_bl
 use Rattle.control_block.proofs.calls.leaving.finish.Goals as goal
 
 pub finish-value-requires-clause-ends : goal.finish-value-requires-clause-ends
-finish-value-requires-clause-ends g c = λ _ _.
+finish-value-requires-clause-ends g c =
     (refl, ends_in c.desk.inside c.args.desk.now c.args.block.0 c.requires.ending.0 c.desk.view_is c.requires.ending.1)
 
 pub finish-value-requires-clause-value : goal.finish-value-requires-clause-value
-finish-value-requires-clause-value g c = λ _ _.
+finish-value-requires-clause-value g c =
     (c.requires.ending.0, ends_value c.desk.inside c.args.desk.now c.args.block.0 c.requires.ending.0 c.desk.view_is c.requires.ending.1)
 
 pub finish-value-requires-clause-clear : goal.finish-value-requires-clause-clear
-finish-value-requires-clause-clear g c = λ _ _. clear_in c.desk.inside c.args.desk.now c.args.block.0 c.desk.view_is c.requires.clear
+finish-value-requires-clause-clear g c = clear_in c.desk.inside c.args.desk.now c.args.block.0 c.desk.view_is c.requires.clear
 
 pub finish-value-requires-clause-word : goal.finish-value-requires-clause-word
-finish-value-requires-clause-word g c = λ _ _.
+finish-value-requires-clause-word g c =
     let d = c.desk.inside in let id = c.domain.inside.table.shared.table_id in let b = c.args.block.0 in
     let table = ap (λ z. z.domain) c.desk.view_is ∙ (c.requires.domain.table ∙ sym (ap (λ z. z.id) c.domain.view_is)) in
     let ends = ends_in d c.args.desk.now b c.requires.ending.0 c.desk.view_is c.requires.ending.1 in

@@ -20,13 +20,13 @@ use Rattle.control_block.proofs.OwnEndings.{ended_if, leave_spares}
 use Rattle.control_block.proofs.calls.leaving.leave.Goals as goal
 
 pub leave-value-requires-clause-may : goal.leave-value-requires-clause-may
-leave-value-requires-clause-may g c = λ _ _.
+leave-value-requires-clause-may g c =
     let h = c.desk.invariant in
     let holds = holding_in c.desk.inside c.args.desk.now Owner g.A.About.place c.args.of.block.0 h c.desk.view_is c.requires.holds in
     (refl, inl (h.rests, holds, refl))
 
 pub leave-value-requires-clause-word : goal.leave-value-requires-clause-word
-leave-value-requires-clause-word g c = λ _ _.
+leave-value-requires-clause-word g c =
     let d = c.desk.inside in let id = c.domain.inside.table.shared.table_id in
     let holds = holding_in c.desk.inside c.args.desk.now Owner g.A.About.place c.args.of.block.0 c.desk.invariant c.desk.view_is c.requires.holds in
     let table = (ap (λ z. z.domain) c.desk.view_is ∙ (c.requires.domain.table ∙ sym (ap (λ z. z.id) c.domain.view_is))) in

@@ -5,31 +5,31 @@ use Rattle.std.proofs.Common.{sym, subst, ◌∙◌}
 use Rattle.control_block.proofs.calls.looks.fields.Goals as goal
 
 pub peek-requires-clause-domain : goal.peek-requires-clause-domain
-peek-requires-clause-domain g c = λ _ _. c.requires.domain
+peek-requires-clause-domain g c = c.requires.domain
 
 pub peek-requires-clause-near : goal.peek-requires-clause-near
-peek-requires-clause-near g c = λ _ _. c.requires.near
+peek-requires-clause-near g c = c.requires.near
 
 pub peek-requires-2-clause-domain : goal.peek-requires-2-clause-domain
-peek-requires-2-clause-domain g c = λ _ _. subst (λ (z : DeskNow g.row.V.Denot). Belongs z c.args.domain.now) (sym (c.peek.ensures.same)) c.requires.domain
+peek-requires-2-clause-domain g c = subst (λ (z : DeskNow g.row.V.Denot). Belongs z c.args.domain.now) (sym (c.peek.ensures.same)) c.requires.domain
 
 pub peek-requires-2-clause-near : goal.peek-requires-2-clause-near
-peek-requires-2-clause-near g c = λ _ _. subst (λ (z : DeskNow g.row.V.Denot). IsNear z c.args.block.0) (sym (c.peek.ensures.same)) c.requires.near
+peek-requires-2-clause-near g c = subst (λ (z : DeskNow g.row.V.Denot). IsNear z c.args.block.0) (sym (c.peek.ensures.same)) c.requires.near
 
 pub peek-requires-3-clause-domain : goal.peek-requires-3-clause-domain
-peek-requires-3-clause-domain g c = λ _ _. subst (λ (z : DeskNow g.row.V.Denot). Belongs z c.args.domain.now) (sym
+peek-requires-3-clause-domain g c = subst (λ (z : DeskNow g.row.V.Denot). Belongs z c.args.domain.now) (sym
     (c.peek-2.ensures.same ∙ c.peek.ensures.same)) c.requires.domain
 
 pub peek-requires-3-clause-near : goal.peek-requires-3-clause-near
-peek-requires-3-clause-near g c = λ _ _. subst (λ (z : DeskNow g.row.V.Denot). IsNear z c.args.block.0) (sym
+peek-requires-3-clause-near g c = subst (λ (z : DeskNow g.row.V.Denot). IsNear z c.args.block.0) (sym
     (c.peek-2.ensures.same ∙ c.peek.ensures.same)) c.requires.near
 
 pub peek-requires-4-clause-domain : goal.peek-requires-4-clause-domain
-peek-requires-4-clause-domain g c = λ _ _. subst (λ (z : DeskNow g.row.V.Denot). Belongs z c.args.domain.now) (sym (c.peek-3.ensures.same ∙
+peek-requires-4-clause-domain g c = subst (λ (z : DeskNow g.row.V.Denot). Belongs z c.args.domain.now) (sym (c.peek-3.ensures.same ∙
     (c.peek-2.ensures.same ∙ c.peek.ensures.same))) c.requires.domain
 
 pub peek-requires-4-clause-near : goal.peek-requires-4-clause-near
-peek-requires-4-clause-near g c = λ _ _. subst (λ (z : DeskNow g.row.V.Denot). IsNear z c.args.block.0) (sym (c.peek-3.ensures.same ∙
+peek-requires-4-clause-near g c = subst (λ (z : DeskNow g.row.V.Denot). IsNear z c.args.block.0) (sym (c.peek-3.ensures.same ∙
     (c.peek-2.ensures.same ∙ c.peek.ensures.same))) c.requires.near
 
 pub returns-clause-fields : goal.returns-clause-fields

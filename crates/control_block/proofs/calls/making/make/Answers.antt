@@ -17,20 +17,20 @@ use Rattle.control_block.proofs.OwnEndings.{made_block}
 use Rattle.control_block.proofs.calls.making.make.Goals as goal
 
 pub make-requires-clause-planned : goal.make-requires-clause-planned
-make-requires-clause-planned g c = λ _ _. (refl, refl, refl, refl)
+make-requires-clause-planned g c = (refl, refl, refl, refl)
 
 pub make-requires-clause-stored : goal.make-requires-clause-stored
-make-requires-clause-stored g c = λ _ _. last_stored c.desk.inside c.desk.invariant c.pop.new.self.items c.in-Some.block c.in-Some.ensures.items
+make-requires-clause-stored g c = last_stored c.desk.inside c.desk.invariant c.pop.new.self.items c.in-Some.block c.in-Some.ensures.items
 
 pub make-requires-clause-word : goal.make-requires-clause-word
-make-requires-clause-word g c = λ _ _.
+make-requires-clause-word g c =
     stored_word c.desk.inside c.desk.invariant c.domain.inside.table.shared.table_id c.in-Some.block.0
     (ap (λ z. z.domain) c.desk.view_is ∙ (c.requires.domain.table ∙ sym (ap (λ z. z.id) c.domain.view_is)))
     (last_stored c.desk.inside c.desk.invariant c.pop.new.self.items c.in-Some.block c.in-Some.ensures.items)
 
 pub make-requires-clause-room : goal.make-requires-clause-room
 make-requires-clause-room g c =
-    λ _ _. room_left c.desk.inside c.desk.invariant (not_full c.desk.inside c.args.desk.now _ c.desk.invariant c.desk.view_is c.if-is_full.ensures refl)
+    room_left c.desk.inside c.desk.invariant (not_full c.desk.inside c.args.desk.now _ c.desk.invariant c.desk.view_is c.if-is_full.ensures refl)
 
 pub invariant_of-desk-2 : goal.invariant_of-desk-2
 invariant_of-desk-2 g c =

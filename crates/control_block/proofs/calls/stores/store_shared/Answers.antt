@@ -41,7 +41,7 @@ overflow_sub-desk g c =
     (subst (λ (z : DeskNow g.row.V.Denot). HoldsHandle z Owner c.args.new.block c.args.new.place) (sym c.desk.view_is) c.requires.holds) in omega arith
 
 pub store_shared-value-requires-clause-word : goal.store_shared-value-requires-clause-word
-store_shared-value-requires-clause-word g c = λ _ _.
+store_shared-value-requires-clause-word g c =
     let r = c.requires in
     (word_there c.desk.inside c.desk.invariant Owner c.word_of-word.result c.args.desk.now
     c.domain.inside.table.shared.table_id c.domain.inside.shape c.args.site c.desk.view_is
@@ -49,14 +49,14 @@ store_shared-value-requires-clause-word g c = λ _ _.
     (ap (λ z. z.shape) c.desk.view_is ∙ (r.domain.shape ∙ sym (ap (λ z. z.shape) c.domain.view_is))) r.cell.0 c.word_of-word.ensures).1
 
 pub store_shared-value-requires-clause-cell : goal.store_shared-value-requires-clause-cell
-store_shared-value-requires-clause-cell g c = λ _ _.
+store_shared-value-requires-clause-cell g c =
     let r = c.requires in
     cell_there c.desk.inside c.desk.invariant Owner c.word_of-word.result c.args.desk.now c.domain.inside.shape c.args.site
     g.A.Aimed.cell c.desk.view_is (ap (λ z. z.shape) c.desk.view_is ∙ (r.domain.shape ∙ sym (ap (λ z. z.shape) c.domain.view_is))) r.cell.0 r.cell.1
     c.word_of-word.ensures
 
 pub store_shared-value-requires-clause-new : goal.store_shared-value-requires-clause-new
-store_shared-value-requires-clause-new g c = λ _ _.
+store_shared-value-requires-clause-new g c =
     let r = c.requires in let d = c.desk.inside in let h = c.desk.invariant in let v = d.seat.me.0 in
     let b = c.args.new.block in let p = c.args.new.place in let y = c.args.desk.now in let lost = g.A.Aimed.new in
     let new_is : lost ≡ in_seat v Owner b p = r.new ∙ ap (λ (z : DeskNow g.row.V.Denot). handle_in z Owner b p) (sym c.desk.view_is) in (
@@ -66,7 +66,7 @@ store_shared-value-requires-clause-new g c = λ _ _.
     )
 
 pub store_shared-value-requires-clause-hand : goal.store_shared-value-requires-clause-hand
-store_shared-value-requires-clause-hand g c = λ _ _.
+store_shared-value-requires-clause-hand g c =
     let r = c.requires in let d = c.desk.inside in let h = c.desk.invariant in let v = d.seat.me.0 in
     let b = c.args.new.block in let p = c.args.new.place in let y = c.args.desk.now in let lost = g.A.Aimed.new in
     let new_is : lost ≡ in_seat v Owner b p = r.new ∙ ap (λ (z : DeskNow g.row.V.Denot). handle_in z Owner b p) (sym c.desk.view_is) in
@@ -74,7 +74,7 @@ store_shared-value-requires-clause-hand g c = λ _ _.
     (lost_hand d y Owner p h c.desk.view_is b r.holds c.args.new.proper)
 
 pub store_shared-value-requires-clause-holds : goal.store_shared-value-requires-clause-holds
-store_shared-value-requires-clause-holds g c = λ _ _.
+store_shared-value-requires-clause-holds g c =
     let r = c.requires in let d = c.desk.inside in let h = c.desk.invariant in let v = d.seat.me.0 in
     let b = c.args.new.block in let p = c.args.new.place in let y = c.args.desk.now in let lost = g.A.Aimed.new in
     let new_is : lost ≡ in_seat v Owner b p = r.new ∙ ap (λ (z : DeskNow g.row.V.Denot). handle_in z Owner b p) (sym c.desk.view_is) in
@@ -82,13 +82,13 @@ store_shared-value-requires-clause-holds g c = λ _ _.
     (lost_holding d y Owner p h c.desk.view_is b r.holds)
 
 pub store_shared-value-requires-clause-count : goal.store_shared-value-requires-clause-count
-store_shared-value-requires-clause-count g c = λ _ _.
+store_shared-value-requires-clause-count g c =
     let r = c.requires in
     lost_counted c.desk.inside c.args.desk.now Owner c.args.new.place c.desk.invariant c.desk.view_is c.args.new.block
     c.domain.inside.table.shared.table_id (ap (λ z. z.domain) c.desk.view_is ∙ (r.domain.table ∙ sym (ap (λ z. z.id) c.domain.view_is))) r.holds
 
 pub store_shared-value-requires-clause-room : goal.store_shared-value-requires-clause-room
-store_shared-value-requires-clause-room g c = λ _ _. λ none.
+store_shared-value-requires-clause-room g c = λ none.
     let r = c.requires in let d = c.desk.inside in let h = c.desk.invariant in let v = d.seat.me.0 in
     let b = c.args.new.block in let p = c.args.new.place in let y = c.args.desk.now in let lost = g.A.Aimed.new in
     let new_is : lost ≡ in_seat v Owner b p = r.new ∙ ap (λ (z : DeskNow g.row.V.Denot). handle_in z Owner b p) (sym c.desk.view_is) in

@@ -16,20 +16,20 @@ use Rattle.control_block.proofs.Visiting.{again, tells_visit, worked_on}
 use Rattle.control_block.proofs.calls.visits.visit.Goals as goal
 
 pub shut-requires-clause-word : goal.shut-requires-clause-word
-shut-requires-clause-word g c = λ _ _.
+shut-requires-clause-word g c =
     word_inside c.desk.inside c.domain.inside.table.shared.table_id Owner _ g.A.About.place c.args.of.block.0 2 c.desk.invariant
     (ap (λ z. z.domain) c.desk.view_is ∙ (c.requires.domain.table ∙ sym (ap (λ z. z.id) c.domain.view_is)))
     (holding_in c.desk.inside c.args.desk.now Owner g.A.About.place c.args.of.block.0 c.desk.invariant c.desk.view_is c.requires.holds) (omega arith)
 
 pub shut-requires-clause-holds : goal.shut-requires-clause-holds
-shut-requires-clause-holds g c = λ _ _. (
+shut-requires-clause-holds g c = (
   refl,
   refl,
   holding_in c.desk.inside c.args.desk.now Owner g.A.About.place c.args.of.block.0 c.desk.invariant c.desk.view_is c.requires.holds,
 )
 
 pub visit-answer-requires-clause-hand : goal.visit-answer-requires-clause-hand
-visit-answer-requires-clause-hand g c = λ _ _.
+visit-answer-requires-clause-hand g c =
     let t = c.shut.ensures.visiting in
     let w = word_inside c.desk.inside c.domain.inside.table.shared.table_id Owner _ g.A.About.place c.args.of.block.0 2 c.desk.invariant
     (ap (λ z. z.domain) c.desk.view_is ∙ (c.requires.domain.table ∙ sym (ap (λ z. z.id) c.domain.view_is)))
@@ -37,14 +37,14 @@ visit-answer-requires-clause-hand g c = λ _ _.
     (w.0, t.0, t.1.carried)
 
 pub open-requires-clause-word : goal.open-requires-clause-word
-open-requires-clause-word g c = λ _ _.
+open-requires-clause-word g c =
     let w = word_inside c.desk.inside c.domain.inside.table.shared.table_id Owner _ g.A.About.place c.args.of.block.0 2 c.desk.invariant
     (ap (λ z. z.domain) c.desk.view_is ∙ (c.requires.domain.table ∙ sym (ap (λ z. z.id) c.domain.view_is)))
     (holding_in c.desk.inside c.args.desk.now Owner g.A.About.place c.args.of.block.0 c.desk.invariant c.desk.view_is c.requires.holds) (omega arith) in
     (w.0, refl, w.1)
 
 pub open-requires-clause-visiting : goal.open-requires-clause-visiting
-open-requires-clause-visiting g c = λ _ _.
+open-requires-clause-visiting g c =
     let v = c.desk.inside.seat.me.0 in let b = c.args.of.block in let q = c.visit-answer.ensures.visited in
     let o = (known v).latest b.0 in let p = g.A.About.place in let i = spot b.0 2 in (
       v,

@@ -6,7 +6,7 @@ pub loop-shelved-init : goal.loop-shelved-init
 loop-shelved-init g c = record { belongs = c.requires.domain; few = omega arith; passed = shelved_none _ }
 
 pub shelve_last-requires-clause-stock : goal.shelve_last-requires-clause-stock
-shelve_last-requires-clause-stock g c = λ κs within.
+shelve_last-requires-clause-stock g c =
     let s = c.loop-shelved.invariant.passed.stock in let t = c.loop-shelved-test.true in let m = c.min-most.ensures in
     let n = c.stock.ensures in omega arith
 

@@ -14,10 +14,10 @@ use Rattle.control_block.proofs.LetGo.{gave_owes, gave_there, meant_out, out_and
 use Rattle.control_block.proofs.steps.clears.clear_shared.Goals as goal
 
 pub let_go-value-requires-clause-meant : goal.let_go-value-requires-clause-meant
-let_go-value-requires-clause-meant g c = λ _ _. (refl, meant_out c.swap_out-out.new.chair.me.0 c.swap_out-out.result)
+let_go-value-requires-clause-meant g c = (refl, meant_out c.swap_out-out.new.chair.me.0 c.swap_out-out.result)
 
 pub let_go-value-requires-clause-count : goal.let_go-value-requires-clause-count
-let_go-value-requires-clause-count g c = λ _ _.
+let_go-value-requires-clause-count g c =
     let r = c.requires in let o = g.M.StepArgs.object in let q = c.args.member in let x = c.swap_out-out.result in let w = c.swap_out-out.new.chair.me.0 in
     let v = c.args.chair.now.me.0 in
     let t : Gave (λ h. ClearMember o q h) Owner v x w =
@@ -28,7 +28,7 @@ let_go-value-requires-clause-count g c = λ _ _.
     (subst (λ (y : TableId). IsSized y v.shape) r.board.0 r.board.1)
 
 pub let_go-value-requires-clause-owes : goal.let_go-value-requires-clause-owes
-let_go-value-requires-clause-owes g c = λ _ _.
+let_go-value-requires-clause-owes g c =
     let r = c.requires in let o = g.M.StepArgs.object in let q = c.args.member in let x = c.swap_out-out.result in let w = c.swap_out-out.new.chair.me.0 in
     let v = c.args.chair.now.me.0 in
     let t : Gave (λ h. ClearMember o q h) Owner v x w =
@@ -103,10 +103,10 @@ swap_out-out-requires-clause-room g c =
     let r = c.requires in let same = c.is_empty.ensures.same c.if-is_empty.false in room_at c.is_empty.new.chair.me c.args.chair.now.me same r.room
 
 pub let_go-value-requires-clause-board : goal.let_go-value-requires-clause-board
-let_go-value-requires-clause-board g c = λ _ _. c.swap_out-out.ensures.chair.0 ∙ (c.is_empty.ensures.chair.0 ∙ c.requires.board.0)
+let_go-value-requires-clause-board g c = c.swap_out-out.ensures.chair.0 ∙ (c.is_empty.ensures.chair.0 ∙ c.requires.board.0)
 
 pub let_go-value-requires-clause-cell : goal.let_go-value-requires-clause-cell
-let_go-value-requires-clause-cell g c = λ _ _. c.swap_out-out.ensures.cell
+let_go-value-requires-clause-cell g c = c.swap_out-out.ensures.cell
 
 pub returns-clause-chair : goal.returns-clause-chair
 returns-clause-chair g c =

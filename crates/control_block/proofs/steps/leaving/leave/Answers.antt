@@ -30,7 +30,7 @@ fetch_sub-found-requires g c =
     )
 
 pub remember-value-requires-clause-hand : goal.remember-value-requires-clause-hand
-remember-value-requires-clause-hand g c = λ _ _.
+remember-value-requires-clause-hand g c =
     let r = c.requires in let l = c.fetch_sub-found.ensures.2.1 c.if-found-all.false in
     let none = may_none c.args.chair.now.me Owner g.M.StepArgs.object g.M.StepArgs.place c.args.block.0 c.args.funds r.may.1 in
     (r.word.0, l.1.0, l.1.2 ∙ (λ j. ((r.may.0 j).0 - 1, Some l.1.0) ∷ none j))

@@ -7,12 +7,12 @@ use Rattle.control_block.proofs.LetGo.{gone_rests, may_go, none_gone, none_owed,
 use Rattle.control_block.proofs.steps.leaving.let_go.Goals as goal
 
 pub leave-requires-clause-word : goal.leave-requires-clause-word
-leave-requires-clause-word g c = λ _ _.
+leave-requires-clause-word g c =
     let id = c.args.board.now.table_id in
     let t = subst (λ q. IfSome q (λ b. IsCounted Owner b id × (b.0 ≤ id.slots))) c.in-Some.is c.requires.count in (t.0.0, t.1, t.0.1)
 
 pub leave-requires-clause-may : goal.leave-requires-clause-may
-leave-requires-clause-may g c = λ _ _.
+leave-requires-clause-may g c =
     let m = g.M.StepArgs in let r = c.requires in let me = c.args.chair.now.me in
     let t = subst (λ q. IfSome q (λ b. (m.block ≡ b) × (m.object ≡ (known me.0).latest b.0))) c.in-Some.is r.meant.1 in
     (t.0, may_go Owner c.args.out me c.in-Some.block m.object m.place _ r.owes c.in-Some.is t.1 r.meant.0 (ap (λ (n : ℕ). 256 - n) c.from-left.ensures))

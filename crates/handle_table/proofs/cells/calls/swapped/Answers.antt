@@ -19,7 +19,7 @@ returns-in-Err-take_kind g c =
     (inr (subst (λ (k : Kind). WhyNoneOf k c.args.slots.now.items c.args.from why) c.in-Ok.ensures.found.1 r.0), refl, r.1)
 
 pub exchange_held-old-requires-clause-held : goal.exchange_held-old-requires-clause-held
-exchange_held-old-requires-clause-held g c κs within =
+exchange_held-old-requires-clause-held g c =
     let t = c.in-Ok-take_kind.ensures.taken in
     (fits_at c.args.desk.now c.args.slots.now.items c.args.from c.in-Ok-take_kind.new c.requires.fits t.0, t.1)
 

@@ -30,7 +30,7 @@ returns-in-Err-content_at-2 g c =
     )
 
 pub compare_held-requires-clause-holds : goal.compare_held-requires-clause-holds
-compare_held-requires-clause-holds g c κs within =
+compare_held-requires-clause-holds g c =
     let d = c.args.desk.now in let ss = c.args.slots.now.items in let k = c.in-Ok.at.kind in
     let x = c.in-Ok-content_at.ensures.found in let y = c.in-Ok-content_at-2.ensures.found in (
       content_held d ss c.args.expected x.0 c.in-Ok-content_at.there k c.requires.fits x.1 x.2 x.3,

@@ -4,7 +4,7 @@ use Rattle.handle_table.proofs.Filling.{fits_at, fits_less}
 use Rattle.handle_table.proofs.cells.compares.follow.Goals as goal
 
 pub let_go-requires-clause-held : goal.let_go-requires-clause-held
-let_go-requires-clause-held g c κs within =
+let_go-requires-clause-held g c =
     fits_at c.args.desk.now _ 0 c.args.found (c.requires.swapped c.if-swapped.true) refl
 
 pub returns-then-swapped-clause-fits : goal.returns-then-swapped-clause-fits

@@ -10,14 +10,14 @@ use Rattle.handle_table.proofs.Celled.{by_parts, held_parts, with_named, without
 use Rattle.handle_table.proofs.cells.held.exchange_held.Goals as goal
 
 pub exchange-old-requires-clause-cell : goal.exchange-old-requires-clause-cell
-exchange-old-requires-clause-cell g c κs within =
+exchange-old-requires-clause-cell g c =
     let new = c.into_content-new in (
       subst (λ (k : Kind). IsOpenAt c.args.desk.now c.args.cell.site k) (sym c.requires.held.1 ∙ new.ensures.0) c.requires.cell,
       refl,
     )
 
 pub exchange-old-requires-clause-holds : goal.exchange-old-requires-clause-holds
-exchange-old-requires-clause-holds g c κs within =
+exchange-old-requires-clause-holds g c =
     let h = c.args.handle in let x = c.into_content-new in
     by_parts (HoldsHandle c.args.desk.now) x.result.kind _ x.result.block _ x.result.place _ (sym x.ensures.0) (sym x.ensures.1) (sym x.ensures.2)
     (held_parts c.args.desk.now h c.requires.held.0)

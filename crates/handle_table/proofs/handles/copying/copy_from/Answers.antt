@@ -5,7 +5,7 @@ use Rattle.handle_table.proofs.Wholes.{kept}
 use Rattle.handle_table.proofs.handles.copying.copy_from.Goals as goal
 
 pub copy_of-came-requires-clause-held : goal.copy_of-came-requires-clause-held
-copy_of-came-requires-clause-held g c κs within =
+copy_of-came-requires-clause-held g c =
     fits_at c.args.desk.now c.args.slots.now.items c.args.from c.in-Ok.handle c.requires.fits c.in-Ok.ensures.found
 
 pub returns-then-to-len : goal.returns-then-to-len

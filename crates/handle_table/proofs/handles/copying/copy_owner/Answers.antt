@@ -11,7 +11,7 @@ use Rattle.handle_table.proofs.Wholes.{kept}
 use Rattle.handle_table.proofs.handles.copying.copy_owner.Goals as goal
 
 pub share-copied-requires-clause-holds : goal.share-copied-requires-clause-holds
-share-copied-requires-clause-holds g c κs within =
+share-copied-requires-clause-holds g c =
     let d = c.args.desk.now in let n = c.in-Some.number in let p = c.in-Some.place in let e = c.of_parts-owner.ensures in
     subst (λ (x : Shared). HoldsHandle d Owner x.block x.place) (sym (same_owner c.of_parts-owner.result (owner_parts n p) e.0 e.1))
     (fits_at d c.args.slots.now.items c.args.from (owner_in n p) c.requires.fits c.in-Some.ensures.1)

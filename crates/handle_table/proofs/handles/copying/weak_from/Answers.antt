@@ -8,7 +8,7 @@ use Rattle.handle_table.proofs.Wholes.{kept}
 use Rattle.handle_table.proofs.handles.copying.weak_from.Goals as goal
 
 pub downgrade-came-requires-clause-holds : goal.downgrade-came-requires-clause-holds
-downgrade-came-requires-clause-holds g c κs within =
+downgrade-came-requires-clause-holds g c =
     fits_at c.args.desk.now c.args.slots.now.items c.args.from (Owner c.in-Ok.owner) c.requires.fits c.in-Ok.ensures.found
 
 pub returns-then-to-len : goal.returns-then-to-len

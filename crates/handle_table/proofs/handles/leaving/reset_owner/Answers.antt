@@ -11,7 +11,7 @@ use Rattle.handle_table.proofs.Wholes.{fits_left}
 use Rattle.handle_table.proofs.handles.leaving.reset_owner.Goals as goal
 
 pub drop_shared-gone-requires-clause-holds : goal.drop_shared-gone-requires-clause-holds
-drop_shared-gone-requires-clause-holds g c κs within =
+drop_shared-gone-requires-clause-holds g c =
     let d = c.args.desk.now in let n = c.in_ok-number.number in let p = c.in_ok-number.place in let e = c.of_parts-owner.ensures in
     subst (λ (x : Shared). HoldsHandle d Owner x.block x.place) (sym (same_owner c.of_parts-owner.result (owner_parts n p) e.0 e.1))
     (fits_at d c.args.slots.now.items c.args.at (owner_in n p) c.requires.fits c.in_ok-number.ensures.1)

@@ -11,7 +11,7 @@ use Rattle.handle_table.proofs.Wholes.{kept}
 use Rattle.handle_table.proofs.handles.this.alias_of.Goals as goal
 
 pub alias-came-requires-clause-holds : goal.alias-came-requires-clause-holds
-alias-came-requires-clause-holds g c κs within =
+alias-came-requires-clause-holds g c =
     fits_at c.args.desk.now c.args.slots.now.items c.args.of (Owner c.in-Ok.owner) c.requires.fits c.in-Ok.ensures.found
 
 pub returns-then-to-len : goal.returns-then-to-len

@@ -5,7 +5,7 @@ use Rattle.handle_table.proofs.Wholes.{kept}
 use Rattle.handle_table.proofs.handles.this.owner_of_this.Goals as goal
 
 pub shared_from_this-came-requires-clause-holds : goal.shared_from_this-came-requires-clause-holds
-shared_from_this-came-requires-clause-holds g c κs within =
+shared_from_this-came-requires-clause-holds g c =
     fits_at c.args.desk.now c.args.slots.now.items c.args.of (Owner c.in-Ok.owner) c.requires.fits c.in-Ok.ensures.found
 
 pub returns-then-to-len : goal.returns-then-to-len

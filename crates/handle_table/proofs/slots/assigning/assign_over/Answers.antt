@@ -4,7 +4,7 @@ use Rattle.handle_table.proofs.Filling.{fits_at, fits_less, fits_none, fits_swap
 use Rattle.handle_table.proofs.slots.assigning.assign_over.Goals as goal
 
 pub let_go-requires-clause-held : goal.let_go-requires-clause-held
-let_go-requires-clause-held g c κs within =
+let_go-requires-clause-held g c =
     fits_at c.args.desk.now _ 0 c.in-Some.old
     (fits_swap c.args.desk.now c.args.slots.now.items c.args.to (Some c.args.handle) (Some c.in-Some.old) c.requires.fits c.in-Some.ensures.0) refl
 

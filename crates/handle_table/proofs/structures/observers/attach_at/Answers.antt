@@ -5,7 +5,7 @@ use Rattle.handle_table.proofs.Filling.{fits_at, fits_still}
 use Rattle.handle_table.proofs.structures.observers.attach_at.Goals as goal
 
 pub attach-attached-requires-clause-holds : goal.attach-attached-requires-clause-holds
-attach-attached-requires-clause-holds g c κs within =
+attach-attached-requires-clause-holds g c =
     fits_at c.args.desk.now c.args.slots.now.items c.args.subject (Owner c.in-Ok.owner) c.requires.fits c.in-Ok.ensures.found
 
 pub returns-in-Err-clause-refused : goal.returns-in-Err-clause-refused

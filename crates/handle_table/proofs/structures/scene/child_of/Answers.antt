@@ -6,11 +6,11 @@ use Rattle.handle_table.proofs.Structured.{bears_beside, scene_serves, serves_ca
 use Rattle.handle_table.proofs.structures.scene.child_of.Goals as goal
 
 pub add_child-added-requires-clause-carries : goal.add_child-added-requires-clause-carries
-add_child-added-requires-clause-carries g c κs within =
+add_child-added-requires-clause-carries g c =
     serves_carries c.args.domain.now c.args.desk.now c.args.scene.now c.requires.domain c.requires.serves
 
 pub add_child-added-requires-clause-holds : goal.add_child-added-requires-clause-holds
-add_child-added-requires-clause-holds g c κs within =
+add_child-added-requires-clause-holds g c =
     fits_at c.args.desk.now c.args.slots.now.items c.args.parent (Owner c.in-Ok.owner) c.requires.fits c.in-Ok.ensures.found
 
 pub returns-then-to-len-clause-brought : goal.returns-then-to-len-clause-brought

@@ -11,7 +11,7 @@ use Rattle.handle_table.proofs.Wholes.{seen}
 use Rattle.handle_table.proofs.table.HandleTable.add_child.Goals as goal
 
 pub arrive-requires-clause-bears : goal.arrive-requires-clause-bears
-arrive-requires-clause-bears g c κs within =
+arrive-requires-clause-bears g c =
     let d = c.self.inside.desk in let ss = c.self.inside.slots.items in let t = seen d ss c.self.inside.pile in let m = c.child_of-came in
     bears_brought (OfOwner (IsChild c.args.fields c.args.value) ss c.args.parent)
     (λ (r : Returned g.row.V.Denot). WhyNotAdded t c.args.parent c.args.to r.why × (r.back ≡ c.args.value))
@@ -19,7 +19,7 @@ arrive-requires-clause-bears g c κs within =
     c.self.invariant.bears
 
 pub arrive-requires-clause-fits : goal.arrive-requires-clause-fits
-arrive-requires-clause-fits g c κs within =
+arrive-requires-clause-fits g c =
     let d = c.self.inside.desk in let ss = c.self.inside.slots.items in let t = seen d ss c.self.inside.pile in let m = c.child_of-came in
     fits_brought (OfOwner (IsChild c.args.fields c.args.value) ss c.args.parent)
     (λ (r : Returned g.row.V.Denot). WhyNotAdded t c.args.parent c.args.to r.why × (r.back ≡ c.args.value))
@@ -49,7 +49,7 @@ returns-clause-refused g c =
     (on_pile a.new.pile) m.ensures.brought a.ensures.arrives))
 
 pub child_of-came-requires-clause-serves : goal.child_of-came-requires-clause-serves
-child_of-came-requires-clause-serves g c κs within =
+child_of-came-requires-clause-serves g c =
     subst (λ (z : DomainNow). ServesDomain z c.scene.inside.scene) (sym c.self.invariant.home) c.scene.invariant
 
 pub invariant_of-scene : goal.invariant_of-scene

@@ -13,7 +13,7 @@ use Rattle.handle_table.proofs.Wholes.{seen}
 use Rattle.handle_table.proofs.table.HandleTable.attach.Goals as goal
 
 pub attach_at-requires-clause-stands : goal.attach_at-requires-clause-stands
-attach_at-requires-clause-stands g c κs within =
+attach_at-requires-clause-stands g c =
     stands_here _ c.self.inside.domain.now c.observers.inside.observers c.self.invariant.home c.observers.invariant
 
 pub invariant_of-self : goal.invariant_of-self

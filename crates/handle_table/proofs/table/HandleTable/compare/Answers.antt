@@ -6,16 +6,16 @@ use Rattle.handle_table.proofs.Wholes.{seen}
 use Rattle.handle_table.proofs.table.HandleTable.compare.Goals as goal
 
 pub follow-requires-clause-bears : goal.follow-requires-clause-bears
-follow-requires-clause-bears g c κs within = c.in-Ok.ensures.bears c.self.inside.domain.now c.self.inside.pile c.self.invariant.bears
+follow-requires-clause-bears g c = c.in-Ok.ensures.bears c.self.inside.domain.now c.self.inside.pile c.self.invariant.bears
 
 pub follow-requires-clause-there : goal.follow-requires-clause-there
-follow-requires-clause-there g c κs within = c.in-Ok.ensures.below
+follow-requires-clause-there g c = c.in-Ok.ensures.below
 
 pub follow-requires-clause-swapped : goal.follow-requires-clause-swapped
-follow-requires-clause-swapped g c κs within hit = c.in-Ok.ensures.hit hit
+follow-requires-clause-swapped g c hit = c.in-Ok.ensures.hit hit
 
 pub follow-requires-clause-differs : goal.follow-requires-clause-differs
-follow-requires-clause-differs g c κs within miss = c.in-Ok.ensures.miss miss
+follow-requires-clause-differs g c miss = c.in-Ok.ensures.miss miss
 
 pub returns-in-Ok-clause-compared : goal.returns-in-Ok-clause-compared
 returns-in-Ok-clause-compared g c =

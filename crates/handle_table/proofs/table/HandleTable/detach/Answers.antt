@@ -10,12 +10,12 @@ use Rattle.handle_table.proofs.Wholes.{seen}
 use Rattle.handle_table.proofs.table.HandleTable.detach.Goals as goal
 
 pub detach-detached-requires-clause-carries : goal.detach-detached-requires-clause-carries
-detach-detached-requires-clause-carries g c κs within =
+detach-detached-requires-clause-carries g c =
     scene_carries _ c.self.inside.domain.now c.self.inside.desk c.self.inside.slots.items c.self.inside.pile c.scene.inside.scene c.self.invariant
     c.scene.invariant
 
 pub detach-detached-requires-clause-holds : goal.detach-detached-requires-clause-holds
-detach-detached-requires-clause-holds g c κs within =
+detach-detached-requires-clause-holds g c =
     fits_at c.self.inside.desk c.self.inside.slots.items c.args.node (Owner c.in-Ok.owner) c.self.invariant.fits c.in-Ok.ensures.found
 
 pub returns-in-Ok-detached-clause-detached : goal.returns-in-Ok-detached-clause-detached

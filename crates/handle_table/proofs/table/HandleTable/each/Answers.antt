@@ -25,7 +25,7 @@ returns-in-Ok-clause-told g c =
     )
 
 pub each-requires-clause-stands : goal.each-requires-clause-stands
-each-requires-clause-stands g c κs within =
+each-requires-clause-stands g c =
     stands_here _ c.self.inside.domain.now c.observers.inside.observers c.self.invariant.home c.observers.invariant
 
 pub invariant_of-observers : goal.invariant_of-observers

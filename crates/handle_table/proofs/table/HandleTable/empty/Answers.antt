@@ -7,13 +7,13 @@ use Rattle.handle_table.proofs.Wholes.{seen}
 use Rattle.handle_table.proofs.table.HandleTable.empty.Goals as goal
 
 pub arrive-requires-clause-bears : goal.arrive-requires-clause-bears
-arrive-requires-clause-bears g c κs within =
+arrive-requires-clause-bears g c =
     let d = c.self.inside.desk in let ss = c.self.inside.slots.items in let t = seen d ss c.self.inside.pile in let m = c.empty_owner-came in
     bears_brought (IsEmptyOwner) (WhyNotEmptied t c.args.to) d m.new.desk ss c.args.to m.result c.self.inside.domain.now c.self.inside.pile m.ensures
     c.self.invariant.bears
 
 pub arrive-requires-clause-fits : goal.arrive-requires-clause-fits
-arrive-requires-clause-fits g c κs within =
+arrive-requires-clause-fits g c =
     let d = c.self.inside.desk in let ss = c.self.inside.slots.items in let t = seen d ss c.self.inside.pile in let m = c.empty_owner-came in
     fits_brought (IsEmptyOwner) (WhyNotEmptied t c.args.to) d m.new.desk ss c.args.to m.result m.ensures c.self.invariant.fits
 

@@ -8,7 +8,7 @@ use Rattle.handle_table.proofs.Wholes.{seen}
 use Rattle.handle_table.proofs.table.HandleTable.exchange.Goals as goal
 
 pub assign-requires-clause-bears : goal.assign-requires-clause-bears
-assign-requires-clause-bears g c κs within = c.in-Ok.ensures.bears c.self.inside.domain.now c.self.inside.pile c.self.invariant.bears
+assign-requires-clause-bears g c = c.in-Ok.ensures.bears c.self.inside.domain.now c.self.inside.pile c.self.invariant.bears
 
 pub returns-in-Ok-clause-exchanged : goal.returns-in-Ok-clause-exchanged
 returns-in-Ok-clause-exchanged g c =

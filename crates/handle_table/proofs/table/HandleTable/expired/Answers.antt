@@ -7,7 +7,7 @@ use Rattle.handle_table.proofs.Wholes.{seen, still}
 use Rattle.handle_table.proofs.table.HandleTable.expired.Goals as goal
 
 pub expired-expired-requires-clause-holds : goal.expired-expired-requires-clause-holds
-expired-expired-requires-clause-holds g c κs within =
+expired-expired-requires-clause-holds g c =
     fits_at c.self.inside.desk c.self.inside.slots.items c.args.at (Weak c.in-Ok.weak) c.self.invariant.fits c.in-Ok.ensures.found
 
 pub invariant_of-self : goal.invariant_of-self

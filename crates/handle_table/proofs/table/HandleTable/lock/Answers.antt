@@ -10,7 +10,7 @@ use Rattle.handle_table.proofs.Wholes.{kept, same_whole, seen}
 use Rattle.handle_table.proofs.table.HandleTable.lock.Goals as goal
 
 pub lock-owner-requires-clause-holds : goal.lock-owner-requires-clause-holds
-lock-owner-requires-clause-holds g c κs within =
+lock-owner-requires-clause-holds g c =
     fits_at c.self.inside.desk c.self.inside.slots.items c.args.from (Weak c.in-Ok.weak) c.self.invariant.fits c.in-Ok.ensures.found
 
 pub returns-in-Err-clause-refused : goal.returns-in-Err-clause-refused
@@ -18,7 +18,7 @@ returns-in-Err-clause-refused g c =
     (subst (λ (t : TableNow g.row.V.Denot). WhyNotLocked t c.args.from c.args.to c.in-Err.why) c.self.view_is (inr (inl c.in-Err.ensures.fault)), refl)
 
 pub assign-requires-clause-bears : goal.assign-requires-clause-bears
-assign-requires-clause-bears g c κs within =
+assign-requires-clause-bears g c =
     kept c.self.inside.domain.now c.self.inside.desk c.lock-owner.new.desk c.self.inside.pile c.self.invariant.bears c.in-Ok-owner.ensures.keeps
 
 pub returns-in-Ok-owner-clause-locked : goal.returns-in-Ok-owner-clause-locked
@@ -47,7 +47,7 @@ returns-in-Ok-owner-clause-locked g c =
     }
 
 pub assign-requires-clause-fits : goal.assign-requires-clause-fits
-assign-requires-clause-fits g c κs within =
+assign-requires-clause-fits g c =
     let e = c.in-Ok-owner.ensures in
     fits_more c.self.inside.desk c.lock-owner.new.desk c.self.inside.slots.items (Owner c.in-Ok-owner.owner) c.self.invariant.fits e.bag e.held
 

@@ -10,7 +10,7 @@ use Rattle.handle_table.proofs.Wholes.{seen}
 use Rattle.handle_table.proofs.table.HandleTable.make_from_stock.Goals as goal
 
 pub arrive-requires-clause-bears : goal.arrive-requires-clause-bears
-arrive-requires-clause-bears g c κs within =
+arrive-requires-clause-bears g c =
     let d = c.self.inside.desk in let ss = c.self.inside.slots.items in let t = seen d ss c.self.inside.pile in let m = c.made-came in
     bears_brought (IsMade c.args.enabled c.args.fields c.args.value)
     (λ (r : Returned g.row.V.Denot). WhyNotMade t c.args.to r.why × (r.back ≡ c.args.value))
@@ -18,7 +18,7 @@ arrive-requires-clause-bears g c κs within =
     c.self.invariant.bears
 
 pub arrive-requires-clause-fits : goal.arrive-requires-clause-fits
-arrive-requires-clause-fits g c κs within =
+arrive-requires-clause-fits g c =
     let d = c.self.inside.desk in let ss = c.self.inside.slots.items in let t = seen d ss c.self.inside.pile in let m = c.made-came in
     fits_brought (IsMade c.args.enabled c.args.fields c.args.value)
     (λ (r : Returned g.row.V.Denot). WhyNotMade t c.args.to r.why × (r.back ≡ c.args.value))

@@ -10,14 +10,14 @@ use Rattle.handle_table.proofs.Wholes.{seen}
 use Rattle.handle_table.proofs.table.HandleTable.make_null_from_stock.Goals as goal
 
 pub arrive-requires-clause-bears : goal.arrive-requires-clause-bears
-arrive-requires-clause-bears g c κs within =
+arrive-requires-clause-bears g c =
     let d = c.self.inside.desk in let ss = c.self.inside.slots.items in let t = seen d ss c.self.inside.pile in let m = c.null_made-came in
     bears_brought (IsNullMade c.args.value) (λ (r : Returned g.row.V.Denot). WhyNotMade t c.args.to r.why × (r.back ≡ c.args.value))
     d m.new.desk ss c.args.to m.result c.self.inside.domain.now c.self.inside.pile m.ensures.brought
     c.self.invariant.bears
 
 pub arrive-requires-clause-fits : goal.arrive-requires-clause-fits
-arrive-requires-clause-fits g c κs within =
+arrive-requires-clause-fits g c =
     let d = c.self.inside.desk in let ss = c.self.inside.slots.items in let t = seen d ss c.self.inside.pile in let m = c.null_made-came in
     fits_brought (IsNullMade c.args.value) (λ (r : Returned g.row.V.Denot). WhyNotMade t c.args.to r.why × (r.back ≡ c.args.value))
     d m.new.desk ss c.args.to m.result m.ensures.brought c.self.invariant.fits

@@ -6,7 +6,7 @@ use Rattle.handle_table.proofs.Wholes.{seen}
 use Rattle.handle_table.proofs.table.HandleTable.move_to.Goals as goal
 
 pub assign-requires-clause-fits : goal.assign-requires-clause-fits
-assign-requires-clause-fits g c κs within =
+assign-requires-clause-fits g c =
     subst (λ (l : List Slot). FitsSlots c.self.inside.desk (Some c.in-Ok.handle ∷ l)) (sym c.in-Ok.ensures.taken.1)
     (fits_out c.self.inside.desk c.self.inside.slots.items c.args.from c.in-Ok.handle c.self.invariant.fits c.in-Ok.ensures.taken.0)
 

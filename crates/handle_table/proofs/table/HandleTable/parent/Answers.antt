@@ -10,11 +10,11 @@ use Rattle.handle_table.proofs.Wholes.{same_whole, seen}
 use Rattle.handle_table.proofs.table.HandleTable.parent.Goals as goal
 
 pub parent-parent-requires-clause-holds : goal.parent-parent-requires-clause-holds
-parent-parent-requires-clause-holds g c κs within =
+parent-parent-requires-clause-holds g c =
     fits_at c.self.inside.desk c.self.inside.slots.items c.args.node (Owner c.in-Ok.owner) c.self.invariant.fits c.in-Ok.ensures.found
 
 pub assign-requires-clause-bears : goal.assign-requires-clause-bears
-assign-requires-clause-bears g c κs within =
+assign-requires-clause-bears g c =
     let e = c.in-Ok-parent.ensures in
     bears_kept c.self.inside.domain.now c.self.inside.desk c.parent-parent.new.desk c.self.inside.pile c.self.invariant.bears e.desk.domain
     e.desk.shape e.endings
@@ -51,7 +51,7 @@ returns-in-Err-clause-refused g c =
     (subst (λ (t : TableNow g.row.V.Denot). WhyNoParent t c.args.node c.args.to c.in-Err.why) c.self.view_is (inr (inl c.in-Err.ensures.fault)), refl)
 
 pub assign-requires-clause-fits : goal.assign-requires-clause-fits
-assign-requires-clause-fits g c κs within =
+assign-requires-clause-fits g c =
     let e = c.in-Ok-parent.ensures in
     fits_more c.self.inside.desk c.parent-parent.new.desk c.self.inside.slots.items (Owner c.in-Ok-parent.parent) c.self.invariant.fits e.bag e.held
 

@@ -17,13 +17,13 @@ use Rattle.handle_table.proofs.Wholes.{seen}
 use Rattle.handle_table.proofs.table.HandleTable.pop.Goals as goal
 
 pub assign-requires-clause-bears : goal.assign-requires-clause-bears
-assign-requires-clause-bears g c κs within =
+assign-requires-clause-bears g c =
     let e = c.pop.ensures in
     bears_kept c.self.inside.domain.now c.self.inside.desk c.pop.new.desk c.self.inside.pile c.self.invariant.bears e.desk.domain e.desk.shape e.endings
     e.count
 
 pub assign-requires-clause-fits : goal.assign-requires-clause-fits
-assign-requires-clause-fits g c κs within =
+assign-requires-clause-fits g c =
     let d = c.self.inside.desk in let m = c.pop.new.desk in let e = c.in-Ok.ensures in
     fits_more d m c.self.inside.slots.items (Owner c.in-Some.node) c.self.invariant.fits
     (at_some (bag_of m ≡ bag_of d) (λ (h : Shared). bag_of m ≡ with_handle kind.Owner h.block h.place (bag_of d)) c.in-Ok.top c.in-Some.node c.in-Some.is

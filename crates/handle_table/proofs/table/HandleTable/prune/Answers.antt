@@ -22,7 +22,7 @@ returns-in-Ok-clause-pruned g c =
     c.observers.inside.observers c.args.observers.now (λ near. absurd (cc (e.limit.1 near))) e.own refl refl c.self.view_is c.observers.view_is
 
 pub prune-requires-clause-stands : goal.prune-requires-clause-stands
-prune-requires-clause-stands g c κs within =
+prune-requires-clause-stands g c =
     stands_here _ c.self.inside.domain.now c.observers.inside.observers c.self.invariant.home c.observers.invariant
 
 pub invariant_of-observers : goal.invariant_of-observers

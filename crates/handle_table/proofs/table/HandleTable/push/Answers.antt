@@ -22,7 +22,7 @@ returns-in-Ok-clause-pushed g c =
     c.stack.inside.stack c.args.stack.now e.refusals.0 (e.own, e.list) refl refl c.self.view_is c.stack.view_is
 
 pub push-requires-clause-stands : goal.push-requires-clause-stands
-push-requires-clause-stands g c κs within =
+push-requires-clause-stands g c =
     stands_here _ c.self.inside.domain.now c.stack.inside.stack c.self.invariant.home c.stack.invariant
 
 pub invariant_of-stack : goal.invariant_of-stack

@@ -9,7 +9,7 @@ use Rattle.handle_table.proofs.Wholes.{read_same, seen, still}
 use Rattle.handle_table.proofs.table.HandleTable.read.Goals as goal
 
 pub read-field-requires-clause-holds : goal.read-field-requires-clause-holds
-read-field-requires-clause-holds g c κs within =
+read-field-requires-clause-holds g c =
     fits_at c.self.inside.desk c.self.inside.slots.items c.args.at (Owner c.in-Ok.owner) c.self.invariant.fits c.in-Ok.ensures.found
 
 pub invariant_of-self : goal.invariant_of-self

@@ -7,11 +7,11 @@ use Rattle.handle_table.specs.declared.ends.Remains.TheVariants.{Fields, Null}
 use Rattle.handle_table.proofs.table.HandleTable.remains.Goals as goal
 
 pub is_null-requires-clause-ends : goal.is_null-requires-clause-ends
-is_null-requires-clause-ends g c κs within =
+is_null-requires-clause-ends g c =
     c.in_ok-top.ensures.ends c.self.inside.domain.now c.self.inside.desk c.self.invariant.bears.carries
 
 pub fields-fields-requires-clause-ends : goal.fields-fields-requires-clause-ends
-fields-fields-requires-clause-ends g c κs within =
+fields-fields-requires-clause-ends g c =
     subst (λ d. EndsInHand d c.in_ok-top.top.now) (sym c.is_null.ensures.same)
     (c.in_ok-top.ensures.ends c.self.inside.domain.now c.self.inside.desk c.self.invariant.bears.carries)
 

@@ -6,7 +6,7 @@ use Rattle.handle_table.proofs.Wholes.{fits_left, seen}
 use Rattle.handle_table.proofs.table.HandleTable.reset_out_of_line.Goals as goal
 
 pub let_go-requires-clause-held : goal.let_go-requires-clause-held
-let_go-requires-clause-held g c κs within =
+let_go-requires-clause-held g c =
     fits_at c.self.inside.desk c.self.inside.slots.items c.args.at c.in-Ok.handle c.self.invariant.fits c.in-Ok.ensures.taken.0
 
 pub invariant_of-self : goal.invariant_of-self

@@ -10,7 +10,7 @@ use Rattle.handle_table.proofs.Wholes.{seen}
 use Rattle.handle_table.proofs.table.HandleTable.split.Goals as goal
 
 pub part_of-requires-clause-held : goal.part_of-requires-clause-held
-part_of-requires-clause-held g c κs within =
+part_of-requires-clause-held g c =
     subst (λ (l : List Slot). HoldsAll c.self.inside.desk (handles_in l))
     (sym (handed_from c.as_slice.result.now c.self.inside.slots.items c.args.from c.as_slice.ensures.value))
     (holds_from c.self.inside.desk c.self.inside.slots.items c.args.from c.self.invariant.fits)

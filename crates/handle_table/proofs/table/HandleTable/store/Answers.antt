@@ -8,10 +8,10 @@ use Rattle.handle_table.proofs.Wholes.{seen}
 use Rattle.handle_table.proofs.table.HandleTable.store.Goals as goal
 
 pub let_go-requires-clause-bears : goal.let_go-requires-clause-bears
-let_go-requires-clause-bears g c κs within = c.in-Ok.ensures.bears c.self.inside.domain.now c.self.inside.pile c.self.invariant.bears
+let_go-requires-clause-bears g c = c.in-Ok.ensures.bears c.self.inside.domain.now c.self.inside.pile c.self.invariant.bears
 
 pub let_go-requires-clause-held : goal.let_go-requires-clause-held
-let_go-requires-clause-held g c κs within = fits_at c.swapped.new.desk _ 0 c.in-Ok.old c.in-Ok.ensures.fits refl
+let_go-requires-clause-held g c = fits_at c.swapped.new.desk _ 0 c.in-Ok.old c.in-Ok.ensures.fits refl
 
 pub invariant_of-self : goal.invariant_of-self
 invariant_of-self g c =

@@ -11,7 +11,7 @@ use Rattle.handle_table.proofs.Wholes.{fits_left, seen}
 use Rattle.handle_table.proofs.table.HandleTable.teardown.Goals as goal
 
 pub tear_down-requires-clause-holds : goal.tear_down-requires-clause-holds
-tear_down-requires-clause-holds g c κs within =
+tear_down-requires-clause-holds g c =
     fits_at c.self.inside.desk c.self.inside.slots.items c.args.root (Owner c.in-Ok.owner) c.self.invariant.fits c.in-Ok.ensures.taken.0
 
 pub put-requires : goal.put-requires

@@ -8,7 +8,7 @@ use Rattle.handle_table.proofs.Wholes.{kept, seen, still}
 use Rattle.handle_table.proofs.table.HandleTable.upgrade.Goals as goal
 
 pub upgrade-owner-requires-clause-holds : goal.upgrade-owner-requires-clause-holds
-upgrade-owner-requires-clause-holds g c κs within =
+upgrade-owner-requires-clause-holds g c =
     fits_at c.self.inside.desk c.self.inside.slots.items c.args.from (Weak c.in-Ok.weak) c.self.invariant.fits c.in-Ok.ensures.found
 
 pub returns-in-Err-clause-refused : goal.returns-in-Err-clause-refused
@@ -16,7 +16,7 @@ returns-in-Err-clause-refused g c =
     subst (λ (t : TableNow g.row.V.Denot). WhyNotUpgraded t c.args.from c.args.to c.in-Err.why t) c.self.view_is (inl (inr c.in-Err.ensures.fault, refl))
 
 pub assign-requires-clause-bears : goal.assign-requires-clause-bears
-assign-requires-clause-bears g c κs within =
+assign-requires-clause-bears g c =
     kept c.self.inside.domain.now c.self.inside.desk c.upgrade-owner.new.desk c.self.inside.pile c.self.invariant.bears c.in-Ok-owner.ensures.keeps
 
 pub returns-in-Ok-owner-clause-upgraded : goal.returns-in-Ok-owner-clause-upgraded
@@ -52,6 +52,6 @@ returns-in-Err-owner-clause-refused g c =
     })
 
 pub assign-requires-clause-fits : goal.assign-requires-clause-fits
-assign-requires-clause-fits g c κs within =
+assign-requires-clause-fits g c =
     let e = c.in-Ok-owner.ensures in
     fits_more c.self.inside.desk c.upgrade-owner.new.desk c.self.inside.slots.items (Owner c.in-Ok-owner.owner) c.self.invariant.fits e.bag e.held

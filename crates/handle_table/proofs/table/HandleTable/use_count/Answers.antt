@@ -6,7 +6,7 @@ use Rattle.handle_table.proofs.Wholes.{seen, still}
 use Rattle.handle_table.proofs.table.HandleTable.use_count.Goals as goal
 
 pub count_of-count-requires-clause-held : goal.count_of-count-requires-clause-held
-count_of-count-requires-clause-held g c κs within =
+count_of-count-requires-clause-held g c =
     fits_at c.self.inside.desk c.self.inside.slots.items c.args.at c.in-Ok.handle c.self.invariant.fits c.in-Ok.ensures.found
 
 pub invariant_of-self : goal.invariant_of-self

@@ -10,7 +10,7 @@ use Rattle.handle_table.proofs.Wholes.{seen, still}
 use Rattle.handle_table.proofs.table.HandleTable.visit.Goals as goal
 
 pub visit-visited-requires-clause-holds : goal.visit-visited-requires-clause-holds
-visit-visited-requires-clause-holds g c κs within =
+visit-visited-requires-clause-holds g c =
     fits_at c.self.inside.desk c.self.inside.slots.items c.args.at (Owner c.in-Ok.owner) c.self.invariant.fits c.in-Ok.ensures.found
 
 pub invariant_of-self : goal.invariant_of-self

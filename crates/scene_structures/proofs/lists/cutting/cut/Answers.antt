@@ -29,7 +29,7 @@ loop-init g c =
     }
 
 pub try_cut-requires-clause-bag : goal.try_cut-requires-clause-bag
-try_cut-requires-clause-bag g c κs within =
+try_cut-requires-clause-bag g c =
     let i = c.loop.invariant in let b = c.requires.bag in
     (b.0, i.bag b.0 b.1, open_same c.args.desk.now c.loop.desk b.0 c.args.at.now.site i.same.shape b.2, b.3)
 
@@ -62,17 +62,17 @@ pub returns-in-Some-try_cut-clause-others : goal.returns-in-Some-try_cut-clause-
 returns-in-Some-try_cut-clause-others g c = others_both c.loop.invariant.others c.try_cut.ensures.others
 
 pub try_cut-requires-clause-room : goal.try_cut-requires-clause-room
-try_cut-requires-clause-room g c κs within =
+try_cut-requires-clause-room g c =
     let room = c.requires.room in let held = c.loop.invariant.held in let same = c.loop.invariant.same.allowance in omega arith
 
 pub try_cut-requires-clause-carries : goal.try_cut-requires-clause-carries
-try_cut-requires-clause-carries g c κs within = c.loop.invariant.carries
+try_cut-requires-clause-carries g c = c.loop.invariant.carries
 
 pub try_cut-requires-clause-empty : goal.try_cut-requires-clause-empty
-try_cut-requires-clause-empty g c κs within = c.loop.invariant.none
+try_cut-requires-clause-empty g c = c.loop.invariant.none
 
 pub try_cut-requires-clause-node : goal.try_cut-requires-clause-node
-try_cut-requires-clause-node g c κs within = c.requires.node
+try_cut-requires-clause-node g c = c.requires.node
 
 pub returns-in-Some-try_cut-clause-carries : goal.returns-in-Some-try_cut-clause-carries
 returns-in-Some-try_cut-clause-carries g c = c.in-Some-try_cut.ensures.carries

@@ -31,7 +31,7 @@ loop-init g c =
     }
 
 pub cut-sought-requires-clause-bag : goal.cut-sought-requires-clause-bag
-cut-sought-requires-clause-bag g c κs within =
+cut-sought-requires-clause-bag g c =
     let l = c.loop.desk in let before = c.loop.before in let b = c.requires.bag in let node = c.args.node.now in (
       stacked (before ∷ []) b.0,
       hands_below l b.0 before (c.loop.invariant.bag b.0 b.1),
@@ -40,7 +40,7 @@ cut-sought-requires-clause-bag g c κs within =
     )
 
 pub let_go-requires-clause-holds : goal.let_go-requires-clause-holds
-let_go-requires-clause-holds g c κs within =
+let_go-requires-clause-holds g c =
     let l = c.loop.desk in let before = c.loop.before in let base = c.requires.bag.0 in let m = c.cut-sought in let t = m.new.desk in
     let has = c.loop.invariant.bag base c.requires.bag.1 in
     left_holds t base before (beyond m.result)
@@ -137,20 +137,20 @@ pub returns-in-End-clause-others : goal.returns-in-End-clause-others
 returns-in-End-clause-others g c = others_both c.loop.invariant.others (others_both c.cut-sought.ensures.others c.let_go.ensures.others)
 
 pub cut-sought-requires-clause-room : goal.cut-sought-requires-clause-room
-cut-sought-requires-clause-room g c κs within =
+cut-sought-requires-clause-room g c =
     let room = c.requires.room in let held = c.loop.invariant.held in let same = c.loop.invariant.same.allowance in omega arith
 
 pub cut-sought-requires-clause-carries : goal.cut-sought-requires-clause-carries
-cut-sought-requires-clause-carries g c κs within = c.loop.invariant.carries
+cut-sought-requires-clause-carries g c = c.loop.invariant.carries
 
 pub cut-sought-requires-clause-empty : goal.cut-sought-requires-clause-empty
-cut-sought-requires-clause-empty g c κs within = c.loop.invariant.none
+cut-sought-requires-clause-empty g c = c.loop.invariant.none
 
 pub cut-sought-requires-clause-node : goal.cut-sought-requires-clause-node
-cut-sought-requires-clause-node g c κs within = c.requires.node
+cut-sought-requires-clause-node g c = c.requires.node
 
 pub let_go-requires-clause-carries : goal.let_go-requires-clause-carries
-let_go-requires-clause-carries g c κs within = c.cut-sought.ensures.carries
+let_go-requires-clause-carries g c = c.cut-sought.ensures.carries
 
 pub unreachable-requires : goal.unreachable-requires
 unreachable-requires g c =

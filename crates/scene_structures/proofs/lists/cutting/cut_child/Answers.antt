@@ -28,18 +28,18 @@ pub returns-in-Other-clause-others : goal.returns-in-Other-clause-others
 returns-in-Other-clause-others g c = others_both c.cut.ensures.others c.cut_below.ensures.others
 
 pub cut-requires-clause-bag : goal.cut-requires-clause-bag
-cut-requires-clause-bag g c κs within =
+cut-requires-clause-bag g c =
     let b = c.requires.bag in (b.0, b.1, open_listed b.0 c.args.parent.now c.in-Ok.first _ c.args.desk.now.shape c.in-Ok.ensures b.2, b.3)
 
 pub cut_below-requires-clause-bag : goal.cut_below-requires-clause-bag
-cut_below-requires-clause-bag g c κs within = let b = c.requires.bag in (b.0, c.in-Other.ensures.bag b.0 b.1, b.3)
+cut_below-requires-clause-bag g c = let b = c.requires.bag in (b.0, c.in-Other.ensures.bag b.0 b.1, b.3)
 
 pub cut_below-requires-clause-room : goal.cut_below-requires-clause-room
-cut_below-requires-clause-room g c κs within =
+cut_below-requires-clause-room g c =
     let room = c.requires.room in let held = c.in-Other.ensures.held in let same = c.in-Other.ensures.desk.allowance in omega arith
 
 pub cut_below-requires-clause-empty : goal.cut_below-requires-clause-empty
-cut_below-requires-clause-empty g c κs within = c.in-Other.ensures.none
+cut_below-requires-clause-empty g c = c.in-Other.ensures.none
 
 pub returns-in-Other-clause-carries : goal.returns-in-Other-clause-carries
 returns-in-Other-clause-carries g c = c.cut_below.ensures.carries

@@ -35,11 +35,11 @@ pub returns-clause-others : goal.returns-clause-others
 returns-clause-others g c = others_call _ c.in-Ok.ensures.keeps
 
 pub load-requires-clause-cell : goal.load-requires-clause-cell
-load-requires-clause-cell g c κs within =
+load-requires-clause-cell g c =
     let b = c.requires.bag in open_now c.args.desk.now c.args.desk.now.shape b.0 [] c.args.at.now.site refl b.1 b.2
 
 pub let_go-requires-clause-carries : goal.let_go-requires-clause-carries
-let_go-requires-clause-carries g c κs within = carries_call c.requires.carries c.in-Ok.ensures.keeps
+let_go-requires-clause-carries g c = carries_call c.requires.carries c.in-Ok.ensures.keeps
 
 pub returns-in_default-member-clause-bag : goal.returns-in_default-member-clause-bag
 returns-in_default-member-clause-bag g c base has =

@@ -25,13 +25,13 @@ use Rattle.control_block.specs.CellCalls.{HoldsHandle}
 use Rattle.scene_structures.proofs.lists.cutting.skip.Goals as goal
 
 pub compare_exchange_weak-requires-clause-cell : goal.compare_exchange_weak-requires-clause-cell
-compare_exchange_weak-requires-clause-cell g c κs within =
+compare_exchange_weak-requires-clause-cell g c =
     let d = c.args.desk.now in let m = c.load.new.desk in let t = c.in-Ok-load.ensures in let node = c.args.node in let b = c.requires.bag in
     let below = c.in-Ok-load.below in
     open_now m d.shape b.0 (below ∷ node ∷ []) c.args.at.now.site t.keeps.shape (hands_got d m b.0 below (node ∷ []) b.1 t.bag t.held) b.2
 
 pub let_go-requires-in-Ok-Swapped-clause-holds : goal.let_go-requires-in-Ok-Swapped-clause-holds
-let_go-requires-in-Ok-Swapped-clause-holds g c κs within =
+let_go-requires-in-Ok-Swapped-clause-holds g c =
     let d = c.args.desk.now in let m = c.load.new.desk in let u = c.compare_exchange_weak.new.desk in let f = c.let_go.new.desk in
     let t = c.in-Ok-load.ensures in let below = c.in-Ok-load.below in let node = c.args.node in let x = c.in-Ok-Swapped in
     let base = c.requires.bag.0 in
@@ -69,7 +69,7 @@ returns-in-Ok-Swapped-clause-own g c =
     (does_both IsParting u f e c.let_go.ensures.own c.let_go-in-Ok-Swapped.ensures.own)
 
 pub let_go-requires-in-Ok-Differs-3-clause-holds : goal.let_go-requires-in-Ok-Differs-3-clause-holds
-let_go-requires-in-Ok-Differs-3-clause-holds g c κs within =
+let_go-requires-in-Ok-Differs-3-clause-holds g c =
     let d = c.args.desk.now in let m = c.load.new.desk in let u = c.compare_exchange_weak.new.desk in
     let e = c.let_go-in-Ok-Differs in let f = c.let_go-in-Ok-Differs-2 in
     let t = c.in-Ok-load.ensures in let below = c.in-Ok-load.below in let node = c.args.node in let x = c.in-Ok-Differs in
@@ -126,18 +126,18 @@ returns-in-Ok-Differs-clause-others g c =
     (others_both c.let_go-in-Ok-Differs-2.ensures.others c.let_go-in-Ok-Differs-3.ensures.others)))
 
 pub compare_exchange_weak-requires-clause-holds : goal.compare_exchange_weak-requires-clause-holds
-compare_exchange_weak-requires-clause-holds g c κs within =
+compare_exchange_weak-requires-clause-holds g c =
     let d = c.args.desk.now in let m = c.load.new.desk in let t = c.in-Ok-load.ensures in let below = c.in-Ok-load.below in let node = c.args.node in
     let base = c.requires.bag.0 in
     let h = hands_got d m base below (node ∷ []) c.requires.bag.1 t.bag t.held in
     (holds_second m base below node [] h, holds_first m base below (node ∷ []) h)
 
 pub let_go-requires-clause-carries : goal.let_go-requires-clause-carries
-let_go-requires-clause-carries g c κs within =
+let_go-requires-clause-carries g c =
     carries_call (carries_call c.requires.carries c.in-Ok-load.ensures.keeps) c.in-Ok-Swapped.ensures.keeps
 
 pub let_go-requires-clause-holds : goal.let_go-requires-clause-holds
-let_go-requires-clause-holds g c κs within =
+let_go-requires-clause-holds g c =
     let d = c.args.desk.now in let m = c.load.new.desk in let u = c.compare_exchange_weak.new.desk in
     let t = c.in-Ok-load.ensures in let below = c.in-Ok-load.below in let node = c.args.node in let x = c.in-Ok-Swapped in
     let base = c.requires.bag.0 in
@@ -146,7 +146,7 @@ let_go-requires-clause-holds g c κs within =
     (swapped_bag m u below x.field-0 x.old x.field-0-is x.ensures.bag) (swapped_held m u below x.field-0 x.old x.field-0-is x.ensures.held))
 
 pub let_go-requires-in-Ok-Swapped-clause-carries : goal.let_go-requires-in-Ok-Swapped-clause-carries
-let_go-requires-in-Ok-Swapped-clause-carries g c κs within = c.let_go.ensures.carries
+let_go-requires-in-Ok-Swapped-clause-carries g c = c.let_go.ensures.carries
 
 pub returns-in-Ok-Swapped-clause-carries : goal.returns-in-Ok-Swapped-clause-carries
 returns-in-Ok-Swapped-clause-carries g c = c.let_go-in-Ok-Swapped.ensures.carries
@@ -177,11 +177,11 @@ returns-in-Ok-Swapped-clause-bag g c base has =
     hands_first f c.let_go-in-Ok-Swapped.new.desk base node [] j c.let_go-in-Ok-Swapped.ensures.bag c.let_go-in-Ok-Swapped.ensures.held
 
 pub let_go-requires-in-Ok-Differs-clause-carries : goal.let_go-requires-in-Ok-Differs-clause-carries
-let_go-requires-in-Ok-Differs-clause-carries g c κs within =
+let_go-requires-in-Ok-Differs-clause-carries g c =
     carries_call (carries_call c.requires.carries c.in-Ok-load.ensures.keeps) c.in-Ok-Differs.ensures.keeps
 
 pub let_go-requires-in-Ok-Differs-clause-holds : goal.let_go-requires-in-Ok-Differs-clause-holds
-let_go-requires-in-Ok-Differs-clause-holds g c κs within =
+let_go-requires-in-Ok-Differs-clause-holds g c =
     let d = c.args.desk.now in let m = c.load.new.desk in let u = c.compare_exchange_weak.new.desk in
     let t = c.in-Ok-load.ensures in let below = c.in-Ok-load.below in let node = c.args.node in let x = c.in-Ok-Differs in
     let base = c.requires.bag.0 in
@@ -192,10 +192,10 @@ let_go-requires-in-Ok-Differs-clause-holds g c κs within =
     (holds_second u base x.held below (node ∷ []) i)
 
 pub let_go-requires-in-Ok-Differs-2-clause-carries : goal.let_go-requires-in-Ok-Differs-2-clause-carries
-let_go-requires-in-Ok-Differs-2-clause-carries g c κs within = c.let_go-in-Ok-Differs.ensures.carries
+let_go-requires-in-Ok-Differs-2-clause-carries g c = c.let_go-in-Ok-Differs.ensures.carries
 
 pub let_go-requires-in-Ok-Differs-2-clause-holds : goal.let_go-requires-in-Ok-Differs-2-clause-holds
-let_go-requires-in-Ok-Differs-2-clause-holds g c κs within =
+let_go-requires-in-Ok-Differs-2-clause-holds g c =
     let d = c.args.desk.now in let m = c.load.new.desk in let u = c.compare_exchange_weak.new.desk in let e = c.let_go-in-Ok-Differs in
     let t = c.in-Ok-load.ensures in let below = c.in-Ok-load.below in let node = c.args.node in let x = c.in-Ok-Differs in
     let base = c.requires.bag.0 in
@@ -207,7 +207,7 @@ let_go-requires-in-Ok-Differs-2-clause-holds g c κs within =
     holds_first e.new.desk base x.held (node ∷ []) (hands_second u e.new.desk base x.held below (node ∷ []) i bag e.ensures.held)
 
 pub let_go-requires-in-Ok-Differs-3-clause-carries : goal.let_go-requires-in-Ok-Differs-3-clause-carries
-let_go-requires-in-Ok-Differs-3-clause-carries g c κs within = c.let_go-in-Ok-Differs-2.ensures.carries
+let_go-requires-in-Ok-Differs-3-clause-carries g c = c.let_go-in-Ok-Differs-2.ensures.carries
 
 pub returns-in-Ok-Differs-clause-carries : goal.returns-in-Ok-Differs-clause-carries
 returns-in-Ok-Differs-clause-carries g c = c.let_go-in-Ok-Differs-3.ensures.carries
@@ -244,7 +244,7 @@ returns-in-Ok-Differs-clause-bag g c base has =
     hands_first f.new.desk v.new.desk base node [] k v.ensures.bag v.ensures.held
 
 pub load-requires-clause-cell : goal.load-requires-clause-cell
-load-requires-clause-cell g c κs within =
+load-requires-clause-cell g c =
     let b = c.requires.bag in let node = c.args.node in
     open_now c.args.desk.now c.args.desk.now.shape (stacked (node ∷ []) b.0) [] c.in-Ok.member.site refl
     (hands_below c.args.desk.now b.0 node b.1) (open_next b.0 node c.in-Ok.member c.args.desk.now.shape c.in-Ok.ensures)

@@ -50,12 +50,12 @@ pub returns-else-skip-clause-others : goal.returns-else-skip-clause-others
 returns-else-skip-clause-others g c = others_both c.find.ensures.others c.skip.ensures.others
 
 pub skip-requires-clause-bag : goal.skip-requires-clause-bag
-skip-requires-clause-bag g c κs within =
+skip-requires-clause-bag g c =
     let b = c.requires.bag in let f = c.in-Some.ensures in
     (b.0, f.bag b.0 b.1, open_same c.args.desk.now c.find.new.desk b.0 c.args.at.now.site f.desk.shape b.2)
 
 pub skip-requires-clause-room : goal.skip-requires-clause-room
-skip-requires-clause-room g c κs within =
+skip-requires-clause-room g c =
     let room = c.requires.room in let held = c.in-Some.ensures.held in let same = c.in-Some.ensures.desk.allowance in omega arith
 
 pub returns-in-None-clause-latest : goal.returns-in-None-clause-latest

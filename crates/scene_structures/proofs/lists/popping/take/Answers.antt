@@ -33,20 +33,20 @@ loop-preserved g c =
     }
 
 pub try_pop-requires-clause-bag : goal.try_pop-requires-clause-bag
-try_pop-requires-clause-bag g c κs within = (c.requires.bag.0, c.loop.invariant.bag c.requires.bag.0 c.requires.bag.1)
+try_pop-requires-clause-bag g c = (c.requires.bag.0, c.loop.invariant.bag c.requires.bag.0 c.requires.bag.1)
 
 pub try_pop-requires-clause-cell : goal.try_pop-requires-clause-cell
-try_pop-requires-clause-cell g c κs within =
+try_pop-requires-clause-cell g c =
     subst (λ (z : Shape). c.args.cell < z.shared_cells) (sym c.loop.invariant.same.shape) c.requires.cell
 
 pub try_pop-requires-clause-carries : goal.try_pop-requires-clause-carries
-try_pop-requires-clause-carries g c κs within = c.loop.invariant.carries
+try_pop-requires-clause-carries g c = c.loop.invariant.carries
 
 pub try_pop-requires-clause-empty : goal.try_pop-requires-clause-empty
-try_pop-requires-clause-empty g c κs within = c.loop.invariant.none
+try_pop-requires-clause-empty g c = c.loop.invariant.none
 
 pub try_pop-requires-clause-room : goal.try_pop-requires-clause-room
-try_pop-requires-clause-room g c κs within =
+try_pop-requires-clause-room g c =
     let room = c.requires.room in let held = c.loop.invariant.held in let same = c.loop.invariant.same.allowance in omega arith
 
 pub returns-in-Found : goal.returns-in-Found

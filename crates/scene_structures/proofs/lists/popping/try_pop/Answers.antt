@@ -31,7 +31,7 @@ returns-in_default-clause-own g c d l =
     (no_member _ c.args.top.block c.args.top.place c.member.result c.member.ensures c.in_default.not-Ok) c.let_go.ensures.own
 
 pub let_go-requires-in-Ok-Differs-2-clause-holds : goal.let_go-requires-in-Ok-Differs-2-clause-holds
-let_go-requires-in-Ok-Differs-2-clause-holds g c κs within =
+let_go-requires-in-Ok-Differs-2-clause-holds g c =
     let x = c.in-Ok-Differs in let b = c.in-Ok-load.below in let d = c.args.desk.now in let m = c.load.new.desk in let u = c.compare_exchange_weak.new.desk in
     let e = c.let_go-in-Ok-Differs in let base = c.requires.bag.0 in let top = c.args.top in
     let h = hands_got d m base b (top ∷ []) c.requires.bag.1 c.in-Ok-load.ensures.bag c.in-Ok-load.ensures.held in
@@ -102,30 +102,30 @@ returns-in-Ok-Differs-clause-others g c =
     (others_both c.let_go-in-Ok-Differs.ensures.others c.let_go-in-Ok-Differs-2.ensures.others))
 
 pub load-requires-clause-cell : goal.load-requires-clause-cell
-load-requires-clause-cell g c κs within =
+load-requires-clause-cell g c =
     let base = c.requires.bag in
     open_held c.args.desk.now c.args.top c.in-Ok.next _ c.in-Ok.ensures (holds_first c.args.desk.now base.0 c.args.top [] base.1)
 
 pub let_go-requires-clause-holds : goal.let_go-requires-clause-holds
-let_go-requires-clause-holds g c κs within = holds_first c.args.desk.now c.requires.bag.0 c.args.top [] c.requires.bag.1
+let_go-requires-clause-holds g c = holds_first c.args.desk.now c.requires.bag.0 c.args.top [] c.requires.bag.1
 
 pub compare_exchange_weak-requires-clause-cell : goal.compare_exchange_weak-requires-clause-cell
-compare_exchange_weak-requires-clause-cell g c κs within =
+compare_exchange_weak-requires-clause-cell g c =
     subst (IsOpenSite c.load.new.desk) (sym c.free-at.ensures)
     (subst (λ (z : Shape). c.args.cell < z.shared_cells) (sym c.in-Ok-load.ensures.keeps.shape) c.requires.cell)
 
 pub compare_exchange_weak-requires-clause-holds : goal.compare_exchange_weak-requires-clause-holds
-compare_exchange_weak-requires-clause-holds g c κs within =
+compare_exchange_weak-requires-clause-holds g c =
     let d = c.args.desk.now in let m = c.load.new.desk in let t = c.in-Ok-load.ensures in let b = c.in-Ok-load.below in let top = c.args.top in
     let base = c.requires.bag.0 in let h = hands_got d m base b (top ∷ []) c.requires.bag.1 t.bag t.held in
     (holds_second m base b top [] h, holds_first m base b (top ∷ []) h)
 
 pub let_go-requires-in-Ok-Swapped-clause-carries : goal.let_go-requires-in-Ok-Swapped-clause-carries
-let_go-requires-in-Ok-Swapped-clause-carries g c κs within =
+let_go-requires-in-Ok-Swapped-clause-carries g c =
     carries_call (carries_call c.requires.carries c.in-Ok-load.ensures.keeps) c.in-Ok-Swapped.ensures.keeps
 
 pub let_go-requires-in-Ok-Swapped-clause-holds : goal.let_go-requires-in-Ok-Swapped-clause-holds
-let_go-requires-in-Ok-Swapped-clause-holds g c κs within =
+let_go-requires-in-Ok-Swapped-clause-holds g c =
     let d = c.args.desk.now in let m = c.load.new.desk in let t = c.in-Ok-load.ensures in let b = c.in-Ok-load.below in let top = c.args.top in
     let u = c.compare_exchange_weak.new.desk in let x = c.in-Ok-Swapped in let base = c.requires.bag.0 in
     let h = hands_got d m base b (top ∷ []) c.requires.bag.1 t.bag t.held in
@@ -133,11 +133,11 @@ let_go-requires-in-Ok-Swapped-clause-holds g c κs within =
     (swapped_held m u b x.field-0 x.old x.field-0-is x.ensures.held))
 
 pub let_go-requires-in-Ok-Differs-clause-carries : goal.let_go-requires-in-Ok-Differs-clause-carries
-let_go-requires-in-Ok-Differs-clause-carries g c κs within =
+let_go-requires-in-Ok-Differs-clause-carries g c =
     carries_call (carries_call c.requires.carries c.in-Ok-load.ensures.keeps) c.in-Ok-Differs.ensures.keeps
 
 pub let_go-requires-in-Ok-Differs-clause-holds : goal.let_go-requires-in-Ok-Differs-clause-holds
-let_go-requires-in-Ok-Differs-clause-holds g c κs within =
+let_go-requires-in-Ok-Differs-clause-holds g c =
     let d = c.args.desk.now in let m = c.load.new.desk in let t = c.in-Ok-load.ensures in let b = c.in-Ok-load.below in let top = c.args.top in
     let u = c.compare_exchange_weak.new.desk in let x = c.in-Ok-Differs in let base = c.requires.bag.0 in
     let h = hands_got d m base b (top ∷ []) c.requires.bag.1 t.bag t.held in
@@ -147,7 +147,7 @@ let_go-requires-in-Ok-Differs-clause-holds g c κs within =
     (holds_second u base x.held b (top ∷ []) i)
 
 pub let_go-requires-in-Ok-Differs-2-clause-carries : goal.let_go-requires-in-Ok-Differs-2-clause-carries
-let_go-requires-in-Ok-Differs-2-clause-carries g c κs within = c.let_go-in-Ok-Differs.ensures.carries
+let_go-requires-in-Ok-Differs-2-clause-carries g c = c.let_go-in-Ok-Differs.ensures.carries
 
 pub returns-in_default-clause-bag : goal.returns-in_default-clause-bag
 returns-in_default-clause-bag g c base has =

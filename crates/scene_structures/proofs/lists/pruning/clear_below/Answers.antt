@@ -31,12 +31,12 @@ loop-init g c =
     }
 
 pub clear_front-more-requires-clause-bag : goal.clear_front-more-requires-clause-bag
-clear_front-more-requires-clause-bag g c κs within =
+clear_front-more-requires-clause-bag g c =
     let l = c.loop.desk in let node = c.loop.node in let base = c.requires.bag.0 in
     (stacked (node ∷ []) base, hands_below l base node (c.loop.invariant.bag base c.requires.bag.1), open_next base node c.in-Ok.next l.shape c.in-Ok.ensures)
 
 pub let_go-requires-clause-holds : goal.let_go-requires-clause-holds
-let_go-requires-clause-holds g c κs within =
+let_go-requires-clause-holds g c =
     let l = c.loop.desk in let node = c.loop.node in let base = c.requires.bag.0 in let m = c.clear_front-more in
     let has = c.loop.invariant.bag base c.requires.bag.1 in
     left_holds m.new.desk base node m.result.1
@@ -109,17 +109,17 @@ pub returns-in-None-last-clause-others : goal.returns-in-None-last-clause-others
 returns-in-None-last-clause-others g c = others_both c.loop.invariant.others (others_both c.clear_front-more.ensures.others c.let_go.ensures.others)
 
 pub clear_front-more-requires-clause-room : goal.clear_front-more-requires-clause-room
-clear_front-more-requires-clause-room g c κs within =
+clear_front-more-requires-clause-room g c =
     let room = c.requires.room in let held = c.loop.invariant.held in let same = c.loop.invariant.same.allowance in omega arith
 
 pub clear_front-more-requires-clause-carries : goal.clear_front-more-requires-clause-carries
-clear_front-more-requires-clause-carries g c κs within = c.loop.invariant.carries
+clear_front-more-requires-clause-carries g c = c.loop.invariant.carries
 
 pub clear_front-more-requires-clause-empty : goal.clear_front-more-requires-clause-empty
-clear_front-more-requires-clause-empty g c κs within = c.loop.invariant.none
+clear_front-more-requires-clause-empty g c = c.loop.invariant.none
 
 pub let_go-requires-clause-carries : goal.let_go-requires-clause-carries
-let_go-requires-clause-carries g c κs within = c.clear_front-more.ensures.carries
+let_go-requires-clause-carries g c = c.clear_front-more.ensures.carries
 
 pub unreachable-requires : goal.unreachable-requires
 unreachable-requires g c =

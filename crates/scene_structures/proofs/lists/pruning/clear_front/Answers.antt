@@ -65,38 +65,38 @@ loop-init g c =
     }
 
 pub look_in-requires-clause-bag : goal.look_in-requires-clause-bag
-look_in-requires-clause-bag g c κs within =
+look_in-requires-clause-bag g c =
     let i = c.loop.invariant in let b = c.requires.bag in
     (b.0, i.bag b.0 b.1, open_same c.args.desk.now c.loop.desk b.0 c.args.at.now.site i.same.shape b.2)
 
 pub look_in-requires-clause-room : goal.look_in-requires-clause-room
-look_in-requires-clause-room g c κs within =
+look_in-requires-clause-room g c =
     let room = c.requires.room in let held = c.loop.invariant.held in let same = c.loop.invariant.same.allowance in omega arith
 
 pub look_in-requires-clause-carries : goal.look_in-requires-clause-carries
-look_in-requires-clause-carries g c κs within = c.loop.invariant.carries
+look_in-requires-clause-carries g c = c.loop.invariant.carries
 
 pub look_in-requires-clause-empty : goal.look_in-requires-clause-empty
-look_in-requires-clause-empty g c κs within = c.loop.invariant.none
+look_in-requires-clause-empty g c = c.loop.invariant.none
 
 pub pass-requires-clause-bag : goal.pass-requires-clause-bag
-pass-requires-clause-bag g c κs within =
+pass-requires-clause-bag g c =
     let i = c.loop.invariant in let b = c.requires.bag in let t = c.in-Gone.ensures in
     (b.0, t.bag b.0 (i.bag b.0 b.1), open_same c.args.desk.now c.look_in.new.desk b.0 c.args.at.now.site (t.desk.shape ∙ i.same.shape) b.2)
 
 pub pass-requires-clause-room : goal.pass-requires-clause-room
-pass-requires-clause-room g c κs within =
+pass-requires-clause-room g c =
     let room = c.requires.room in let held = c.loop.invariant.held in let same = c.loop.invariant.same.allowance in
     let more = c.in-Gone.ensures.held in let again = c.in-Gone.ensures.desk.allowance in omega arith
 
 pub pass-requires-clause-carries : goal.pass-requires-clause-carries
-pass-requires-clause-carries g c κs within = c.in-Gone.ensures.carries
+pass-requires-clause-carries g c = c.in-Gone.ensures.carries
 
 pub pass-requires-clause-empty : goal.pass-requires-clause-empty
-pass-requires-clause-empty g c κs within = c.in-Gone.ensures.none
+pass-requires-clause-empty g c = c.in-Gone.ensures.none
 
 pub pass-requires-clause-node : goal.pass-requires-clause-node
-pass-requires-clause-node g c κs within = c.in-Gone.ensures.own.1
+pass-requires-clause-node g c = c.in-Gone.ensures.own.1
 
 pub returns-in-End-clause-carries : goal.returns-in-End-clause-carries
 returns-in-End-clause-carries g c = c.in-End.ensures.carries

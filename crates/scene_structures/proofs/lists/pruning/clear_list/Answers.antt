@@ -23,20 +23,20 @@ pub returns-in-Some-clause-others : goal.returns-in-Some-clause-others
 returns-in-Some-clause-others g c = others_both c.clear_front-count.ensures.others c.clear_below.ensures.others
 
 pub clear_front-count-requires-clause-bag : goal.clear_front-count-requires-clause-bag
-clear_front-count-requires-clause-bag g c κs within =
+clear_front-count-requires-clause-bag g c =
     let b = c.requires.bag in (b.0, b.1, subst (IsOpenBy b.0 c.args.desk.now.shape) (sym c.free.ensures) c.requires.cell)
 
 pub clear_below-requires-clause-bag : goal.clear_below-requires-clause-bag
-clear_below-requires-clause-bag g c κs within =
+clear_below-requires-clause-bag g c =
     let b = c.requires.bag in let m = c.clear_front-count in let t = m.new.desk in
     (b.0, subst (λ (o : Option Shared). MatchOption o (HasHands b.0 [] t) (λ h. HasHands b.0 (h ∷ []) t)) c.in-Some.is (m.ensures.bag b.0 b.1))
 
 pub clear_below-requires-clause-node : goal.clear_below-requires-clause-node
-clear_below-requires-clause-node g c κs within =
+clear_below-requires-clause-node g c =
     subst (λ (o : Option Shared). IfSome o (λ h. IsWithin h.block h.place)) c.in-Some.is c.clear_front-count.ensures.node
 
 pub clear_below-requires-clause-room : goal.clear_below-requires-clause-room
-clear_below-requires-clause-room g c κs within =
+clear_below-requires-clause-room g c =
     let room = c.requires.room in let m = c.clear_front-count in let d = c.args.desk.now in let t = m.new.desk in
     let one = subst (λ (o : Option Shared). MatchOption o (t.held ≡ d.held) (λ h. t.held ≡ d.held + 1)) c.in-Some.is m.ensures.held in
     let a = m.ensures.desk.allowance in omega arith

@@ -20,7 +20,7 @@ returns-clause-latest g c =
     c.in-Ok.ensures.event c.in-Ok.ensures.bag x.expired x.bag r.event.1 r.bag
 
 pub release_weak-requires-clause-holds : goal.release_weak-requires-clause-holds
-release_weak-requires-clause-holds g c κs within =
+release_weak-requires-clause-holds g c =
     let w = c.in-Ok.weak in let x = c.expired-gone in
     holds_still Weak c.load.new.desk x.new.desk w.block w.place c.in-Ok.ensures.holds x.ensures.bag x.ensures.held
 

@@ -70,18 +70,18 @@ returns-clause-others g c =
     (others_kept c.load.new.desk c.is_expired.new.desk _ c.is_expired.ensures.endings c.is_expired.ensures.count)
 
 pub load-requires-clause-cell : goal.load-requires-clause-cell
-load-requires-clause-cell g c κs within =
+load-requires-clause-cell g c =
     let b = c.requires.bag in open_now c.args.desk.now c.args.desk.now.shape b.0 [] c.args.at.now.site refl b.1 b.2
 
 pub let_go-requires-clause-carries : goal.let_go-requires-clause-carries
-let_go-requires-clause-carries g c κs within = carries_call c.requires.carries c.in-Ok.ensures.keeps
+let_go-requires-clause-carries g c = carries_call c.requires.carries c.in-Ok.ensures.keeps
 
 pub is_expired-requires-clause-cell : goal.is_expired-requires-clause-cell
-is_expired-requires-clause-cell g c κs within =
+is_expired-requires-clause-cell g c =
     open_up c.load.new.desk c.in-Ok.top c.in-Ok-member.up c.in-Ok-member.ensures c.in-Ok.ensures.holds
 
 pub is_expired-requires-clause-room : goal.is_expired-requires-clause-room
-is_expired-requires-clause-room g c κs within =
+is_expired-requires-clause-room g c =
     let room = c.requires.room in let held = c.in-Ok.ensures.held in let same = c.in-Ok.ensures.keeps.allowance in omega arith
 
 pub returns-in_default-member-clause-bag : goal.returns-in_default-member-clause-bag

@@ -17,7 +17,7 @@ use Rattle.scene_structures.proofs.Hands.{holds_first}
 use Rattle.scene_structures.proofs.lists.pruning.pass.Goals as goal
 
 pub exchange-old-requires-clause-cell : goal.exchange-old-requires-clause-cell
-exchange-old-requires-clause-cell g c κs within =
+exchange-old-requires-clause-cell g c =
     let d = c.args.desk.now in let m = c.load.new.desk in let t = c.in-Ok-load.ensures in let next = c.in-Ok-load.next in let node = c.args.node in
     let b = c.requires.bag in
     open_now m d.shape b.0 (next ∷ node ∷ []) c.args.at.now.site t.keeps.shape (hands_got d m b.0 next (node ∷ []) b.1 t.bag t.held) b.2
@@ -61,19 +61,19 @@ returns-clause-others g c =
     (others_both c.let_go.ensures.others c.let_go-2.ensures.others))
 
 pub load-requires-clause-cell : goal.load-requires-clause-cell
-load-requires-clause-cell g c κs within =
+load-requires-clause-cell g c =
     let b = c.requires.bag in let node = c.args.node in
     open_held c.args.desk.now node c.in-Ok.member _ c.in-Ok.ensures (holds_first c.args.desk.now b.0 node [] b.1)
 
 pub let_go-requires-clause-carries : goal.let_go-requires-clause-carries
-let_go-requires-clause-carries g c κs within =
+let_go-requires-clause-carries g c =
     carries_call (carries_call c.requires.carries c.in-Ok-load.ensures.keeps) c.exchange-old.ensures.keeps
 
 pub let_go-requires-2-clause-carries : goal.let_go-requires-2-clause-carries
-let_go-requires-2-clause-carries g c κs within = c.let_go.ensures.carries
+let_go-requires-2-clause-carries g c = c.let_go.ensures.carries
 
 pub let_go-requires-2-clause-holds : goal.let_go-requires-2-clause-holds
-let_go-requires-2-clause-holds g c κs within =
+let_go-requires-2-clause-holds g c =
     let d = c.args.desk.now in let m = c.load.new.desk in let u = c.exchange-old.new.desk in let f = c.let_go.new.desk in
     let t = c.in-Ok-load.ensures in let next = c.in-Ok-load.next in let old = c.exchange-old.result in let node = c.args.node in
     let x = c.exchange-old.ensures in let base = c.requires.bag.0 in

@@ -50,11 +50,11 @@ loop-preserved g c =
     }
 
 pub try_push-requires-clause-node : goal.try_push-requires-clause-node
-try_push-requires-clause-node g c κs within =
+try_push-requires-clause-node g c =
     subst (λ (n : Shared). IsWithin n.block n.place) (sym c.loop.invariant.node.0) c.requires.node
 
 pub try_push-requires-clause-bag : goal.try_push-requires-clause-bag
-try_push-requires-clause-bag g c κs within = (
+try_push-requires-clause-bag g c = (
   c.requires.bag.0,
   c.loop.invariant.bag c.requires.bag.0 c.requires.bag.1,
   open_same c.args.desk.now c.loop.desk c.requires.bag.0 c.args.at.now.site c.loop.invariant.same.shape c.requires.bag.2,
@@ -77,11 +77,11 @@ pub returns-in-None-try_push-clause-others : goal.returns-in-None-try_push-claus
 returns-in-None-try_push-clause-others g c = others_both c.loop.invariant.others c.try_push.ensures.others
 
 pub try_push-requires-clause-room : goal.try_push-requires-clause-room
-try_push-requires-clause-room g c κs within =
+try_push-requires-clause-room g c =
     let room = c.requires.room in let held = c.loop.invariant.held in let same = c.loop.invariant.same.allowance in omega arith
 
 pub try_push-requires-clause-carries : goal.try_push-requires-clause-carries
-try_push-requires-clause-carries g c κs within = c.loop.invariant.carries
+try_push-requires-clause-carries g c = c.loop.invariant.carries
 
 pub returns-in-None-try_push-clause-carries : goal.returns-in-None-try_push-clause-carries
 returns-in-None-try_push-clause-carries g c = c.in-None-try_push.ensures.carries

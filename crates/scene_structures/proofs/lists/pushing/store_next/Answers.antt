@@ -10,7 +10,7 @@ use Rattle.shared_handle.proofs.Callers.{first_out}
 use Rattle.scene_structures.proofs.lists.pushing.store_next.Goals as goal
 
 pub let_go-requires-clause-carries : goal.let_go-requires-clause-carries
-let_go-requires-clause-carries g c κs within =
+let_go-requires-clause-carries g c =
     let k = c.exchange-old.ensures.keeps in
     carries_kept _ c.args.desk.now c.exchange-old.new.desk c.args.pile.now c.requires.carries k.domain k.shape k.endings
 
@@ -29,7 +29,7 @@ pub returns-clause-others : goal.returns-clause-others
 returns-clause-others g c = others_both (others_call _ c.exchange-old.ensures.keeps) c.let_go.ensures.others
 
 pub exchange-old-requires-clause-cell : goal.exchange-old-requires-clause-cell
-exchange-old-requires-clause-cell g c κs within =
+exchange-old-requires-clause-cell g c =
     open_held c.args.desk.now c.args.node.now c.in-Ok.next _ c.in-Ok.ensures c.requires.holds.0
 
 pub returns-clause-bag : goal.returns-clause-bag

@@ -26,33 +26,33 @@ use Rattle.scene_structures.proofs.Kept.{same_call, same_then, granted, unrefuse
 use Rattle.scene_structures.proofs.lists.pushing.try_push.Goals as goal
 
 pub share-requires-clause-holds : goal.share-requires-clause-holds
-share-requires-clause-holds g c κs within = let a = c.args.attempt in holds_first c.args.desk.now c.requires.bag.0 a.top (a.node ∷ []) c.requires.bag.1
+share-requires-clause-holds g c = let a = c.args.attempt in holds_first c.args.desk.now c.requires.bag.0 a.top (a.node ∷ []) c.requires.bag.1
 
 pub store_next-requires-clause-carries : goal.store_next-requires-clause-carries
-store_next-requires-clause-carries g c κs within =
+store_next-requires-clause-carries g c =
     let k = c.in-Ok.ensures.keeps in
     carries_kept _ c.args.desk.now c.share.new.desk c.args.pile.now c.requires.carries k.domain k.shape k.endings
 
 pub store_next-requires-clause-holds : goal.store_next-requires-clause-holds
-store_next-requires-clause-holds g c κs within =
+store_next-requires-clause-holds g c =
     let a = c.args.attempt in let base = c.requires.bag.0 in let e = c.in-Ok.ensures in let s = c.share.new.desk in
     let h = hands_copied c.args.desk.now s base c.in-Ok.copy a.top (a.top ∷ a.node ∷ []) c.requires.bag.1 e.handle.0 e.handle.1 e.bag e.held in
     (holds_third s base c.in-Ok.copy a.top a.node c.requires.node h, holds_first s base c.in-Ok.copy (a.top ∷ a.node ∷ []) h)
 
 pub compare_exchange_weak-requires-clause-holds : goal.compare_exchange_weak-requires-clause-holds
-compare_exchange_weak-requires-clause-holds g c κs within =
+compare_exchange_weak-requires-clause-holds g c =
     let a = c.args.attempt in let base = c.requires.bag.0 in let e = c.in-Ok.ensures in let s = c.share.new.desk in let t = c.store_next.new.desk in
     let h = hands_copied c.args.desk.now s base c.in-Ok.copy a.top (a.top ∷ a.node ∷ []) c.requires.bag.1 e.handle.0 e.handle.1 e.bag e.held in
     let h' = hands_first s t base c.in-Ok.copy (a.top ∷ a.node ∷ []) h c.store_next.ensures.bag c.store_next.ensures.held in
     (holds_first t base a.top (a.node ∷ []) h', holds_second t base a.top a.node [] h')
 
 pub let_go-requires-clause-carries : goal.let_go-requires-clause-carries
-let_go-requires-clause-carries g c κs within =
+let_go-requires-clause-carries g c =
     let k = c.in-Ok-Swapped.ensures.keeps in
     carries_kept _ c.store_next.new.desk c.compare_exchange_weak.new.desk c.store_next.new.pile c.store_next.ensures.carries k.domain k.shape k.endings
 
 pub let_go-requires-in-Ok-Swapped-clause-holds : goal.let_go-requires-in-Ok-Swapped-clause-holds
-let_go-requires-in-Ok-Swapped-clause-holds g c κs within =
+let_go-requires-in-Ok-Swapped-clause-holds g c =
     let a = c.args.attempt in let base = c.requires.bag.0 in let e = c.in-Ok.ensures in let s = c.share.new.desk in let t = c.store_next.new.desk in
     let x = c.in-Ok-Swapped in let u = c.compare_exchange_weak.new.desk in let many
     = swapped_held t u a.node x.field-0 x.old x.field-0-is x.ensures.held
@@ -63,12 +63,12 @@ let_go-requires-in-Ok-Swapped-clause-holds g c κs within =
     holds_first c.let_go.new.desk base a.top [] (hands_first u c.let_go.new.desk base x.old (a.top ∷ []) i c.let_go.ensures.bag c.let_go.ensures.held)
 
 pub let_go-requires-in-Ok-Differs-clause-carries : goal.let_go-requires-in-Ok-Differs-clause-carries
-let_go-requires-in-Ok-Differs-clause-carries g c κs within =
+let_go-requires-in-Ok-Differs-clause-carries g c =
     let k = c.in-Ok-Differs.ensures.keeps in
     carries_kept _ c.store_next.new.desk c.compare_exchange_weak.new.desk c.store_next.new.pile c.store_next.ensures.carries k.domain k.shape k.endings
 
 pub let_go-requires-in-Ok-Differs-clause-holds : goal.let_go-requires-in-Ok-Differs-clause-holds
-let_go-requires-in-Ok-Differs-clause-holds g c κs within =
+let_go-requires-in-Ok-Differs-clause-holds g c =
     let a = c.args.attempt in let base = c.requires.bag.0 in let e = c.in-Ok.ensures in let s = c.share.new.desk in let t = c.store_next.new.desk in
     let x = c.in-Ok-Differs in let u = c.compare_exchange_weak.new.desk in
     let h = hands_copied c.args.desk.now s base c.in-Ok.copy a.top (a.top ∷ a.node ∷ []) c.requires.bag.1 e.handle.0 e.handle.1 e.bag e.held in
@@ -159,7 +159,7 @@ returns-in-Ok-Differs-clause-own g c =
     (differs_event t u a.node x.field-0 _ _ _ x.held x.desired x.field-0-is x.ensures.compared) l.ensures.own
 
 pub compare_exchange_weak-requires-clause-cell : goal.compare_exchange_weak-requires-clause-cell
-compare_exchange_weak-requires-clause-cell g c κs within =
+compare_exchange_weak-requires-clause-cell g c =
     let a = c.args.attempt in let base = c.requires.bag.0 in let e = c.in-Ok.ensures in let s = c.share.new.desk in let t = c.store_next.new.desk in
     let h = hands_copied c.args.desk.now s base c.in-Ok.copy a.top (a.top ∷ a.node ∷ []) c.requires.bag.1 e.handle.0 e.handle.1 e.bag e.held in
     let h' = hands_first s t base c.in-Ok.copy (a.top ∷ a.node ∷ []) h c.store_next.ensures.bag c.store_next.ensures.held in
@@ -213,7 +213,7 @@ returns-in-Ok-Differs-clause-others g c =
     (others_both (others_call _ c.in-Ok-Differs.ensures.keeps) c.let_go-in-Ok-Differs.ensures.others))
 
 pub let_go-requires-clause-holds : goal.let_go-requires-clause-holds
-let_go-requires-clause-holds g c κs within =
+let_go-requires-clause-holds g c =
     let a = c.args.attempt in let base = c.requires.bag.0 in let e = c.in-Ok.ensures in let s = c.share.new.desk in let t = c.store_next.new.desk in
     let x = c.in-Ok-Swapped in let u = c.compare_exchange_weak.new.desk in
     let h = hands_copied c.args.desk.now s base c.in-Ok.copy a.top (a.top ∷ a.node ∷ []) c.requires.bag.1 e.handle.0 e.handle.1 e.bag e.held in
@@ -222,7 +222,7 @@ let_go-requires-clause-holds g c κs within =
     (swapped_bag t u a.node x.field-0 x.old x.field-0-is x.ensures.bag) (swapped_held t u a.node x.field-0 x.old x.field-0-is x.ensures.held))
 
 pub let_go-requires-in-Ok-Swapped-clause-carries : goal.let_go-requires-in-Ok-Swapped-clause-carries
-let_go-requires-in-Ok-Swapped-clause-carries g c κs within = c.let_go.ensures.carries
+let_go-requires-in-Ok-Swapped-clause-carries g c = c.let_go.ensures.carries
 
 pub returns-in-Ok-Swapped-clause-carries : goal.returns-in-Ok-Swapped-clause-carries
 returns-in-Ok-Swapped-clause-carries g c = c.let_go-in-Ok-Swapped.ensures.carries

@@ -31,24 +31,24 @@ returns-clause-others g c =
     (others_both c.let_go.ensures.others (others_kept c.let_go.new.desk r.new.desk _ r.ensures.endings r.ensures.count))))
 
 pub first_field-told-requires-clause-carries : goal.first_field-told-requires-clause-carries
-first_field-told-requires-clause-carries g c κs within =
+first_field-told-requires-clause-carries g c =
     carries_call (carries_call c.requires.carries c.in-Ok.ensures.keeps) c.in-Ok-lock.ensures.keeps
 
 pub first_field-told-requires-clause-room : goal.first_field-told-requires-clause-room
-first_field-told-requires-clause-room g c κs within =
+first_field-told-requires-clause-room g c =
     let room = c.requires.room in let one = c.in-Ok.ensures.held in let two = c.in-Ok-lock.ensures.held in
     let a = c.in-Ok.ensures.keeps.allowance in let b = c.in-Ok-lock.ensures.keeps.allowance in omega arith
 
 pub let_go-requires-clause-holds : goal.let_go-requires-clause-holds
-let_go-requires-clause-holds g c κs within =
+let_go-requires-clause-holds g c =
     let o = c.in-Ok-lock.owner in let f = c.first_field-told in
     holds_still Owner c.lock.new.desk f.new.desk o.block o.place c.in-Ok-lock.ensures.holds f.ensures.bag f.ensures.held
 
 pub let_go-requires-clause-carries : goal.let_go-requires-clause-carries
-let_go-requires-clause-carries g c κs within = c.first_field-told.ensures.carries
+let_go-requires-clause-carries g c = c.first_field-told.ensures.carries
 
 pub release_weak-requires-clause-holds : goal.release_weak-requires-clause-holds
-release_weak-requires-clause-holds g c κs within =
+release_weak-requires-clause-holds g c =
     let w = c.in-Ok.weak in let o = c.in-Ok-lock.owner in let f = c.first_field-told.ensures in
     let back = c.let_go.ensures.bag
     ∙ (ap (without_handle Owner o.block o.place) (f.bag ∙ c.in-Ok-lock.ensures.bag) ∙ first_out Owner o.block o.place (bag_of c.load.new.desk)) in

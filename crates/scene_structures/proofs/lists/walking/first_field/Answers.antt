@@ -50,11 +50,11 @@ returns-clause-others g c =
     (others_both (others_call _ c.in-Ok-read.ensures.keeps) c.let_go.ensures.others)
 
 pub let_go-requires-clause-carries : goal.let_go-requires-clause-carries
-let_go-requires-clause-carries g c κs within =
+let_go-requires-clause-carries g c =
     carries_call (carries_call c.requires.carries c.in-Ok.ensures.keeps) c.in-Ok-read.ensures.keeps
 
 pub let_go-requires-clause-holds : goal.let_go-requires-clause-holds
-let_go-requires-clause-holds g c κs within =
+let_go-requires-clause-holds g c =
     let first = c.in-Ok.first in let r = c.in-Ok-read.ensures in
     holds_still Owner c.alias.new.desk c.read.new.desk first.block first.place c.in-Ok.ensures.holds r.bag r.held
 

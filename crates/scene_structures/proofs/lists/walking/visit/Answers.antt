@@ -52,19 +52,19 @@ returns-in-Some-clause-others g c =
     (others_both (others_call _ c.in-Ok-load.ensures.keeps) c.let_go-2.ensures.others)
 
 pub ask-told-requires-clause-cell : goal.ask-told-requires-clause-cell
-ask-told-requires-clause-cell g c κs within = open_up c.args.desk.now c.args.node c.in-Ok.up c.in-Ok.ensures c.requires.holds
+ask-told-requires-clause-cell g c = open_up c.args.desk.now c.args.node c.in-Ok.up c.in-Ok.ensures c.requires.holds
 
 pub load-requires-clause-cell : goal.load-requires-clause-cell
-load-requires-clause-cell g c κs within =
+load-requires-clause-cell g c =
     let a = c.ask-told in let node = c.args.node in
     open_held a.new.desk node c.in-Ok-member.at _ c.in-Ok-member.ensures
     (holds_still Owner c.args.desk.now a.new.desk node.block node.place c.requires.holds a.ensures.bag a.ensures.held)
 
 pub let_go-requires-2-clause-carries : goal.let_go-requires-2-clause-carries
-let_go-requires-2-clause-carries g c κs within = carries_call c.ask-told.ensures.carries c.in-Ok-load.ensures.keeps
+let_go-requires-2-clause-carries g c = carries_call c.ask-told.ensures.carries c.in-Ok-load.ensures.keeps
 
 pub let_go-requires-2-clause-holds : goal.let_go-requires-2-clause-holds
-let_go-requires-2-clause-holds g c κs within =
+let_go-requires-2-clause-holds g c =
     let a = c.ask-told in let node = c.args.node in let next = c.in-Ok-load.next in let t = c.in-Ok-load.ensures in
     holds_more Owner a.new.desk c.load.new.desk node.block next.block node.place next.place
     (holds_still Owner c.args.desk.now a.new.desk node.block node.place c.requires.holds a.ensures.bag a.ensures.held) t.bag t.held

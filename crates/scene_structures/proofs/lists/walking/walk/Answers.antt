@@ -23,11 +23,11 @@ loop-init g c =
     }
 
 pub visit-requires-clause-holds : goal.visit-requires-clause-holds
-visit-requires-clause-holds g c κs within =
+visit-requires-clause-holds g c =
     holds_first c.loop.desk c.requires.bag.0 c.loop.node [] (c.loop.invariant.bag c.requires.bag.0 c.requires.bag.1)
 
 pub visit-requires-clause-bag : goal.visit-requires-clause-bag
-visit-requires-clause-bag g c κs within = (c.requires.bag.0, c.loop.invariant.bag c.requires.bag.0 c.requires.bag.1)
+visit-requires-clause-bag g c = (c.requires.bag.0, c.loop.invariant.bag c.requires.bag.0 c.requires.bag.1)
 
 pub loop-preserved-in-Passed : goal.loop-preserved-in-Passed
 loop-preserved-in-Passed g c =
@@ -96,14 +96,14 @@ pub returns-in-End-clause-others : goal.returns-in-End-clause-others
 returns-in-End-clause-others g c = others_both c.loop.invariant.others c.visit.ensures.others
 
 pub visit-requires-clause-room : goal.visit-requires-clause-room
-visit-requires-clause-room g c κs within =
+visit-requires-clause-room g c =
     let room = c.requires.room in let held = c.loop.invariant.held in let same = c.loop.invariant.same.allowance in omega arith
 
 pub visit-requires-clause-carries : goal.visit-requires-clause-carries
-visit-requires-clause-carries g c κs within = c.loop.invariant.carries
+visit-requires-clause-carries g c = c.loop.invariant.carries
 
 pub visit-requires-clause-empty : goal.visit-requires-clause-empty
-visit-requires-clause-empty g c κs within = c.loop.invariant.none
+visit-requires-clause-empty g c = c.loop.invariant.none
 
 pub returns-in-End-clause-carries : goal.returns-in-End-clause-carries
 returns-in-End-clause-carries g c = c.in-End.ensures.carries

@@ -42,7 +42,7 @@ returns-clause-list g c sole =
     attached_list d c.raise.new.desk c.args.self.now.cell c.args.subject.now c.args.value (returns-clause-own g c) c.stands.ensures.legal sole lt
 
 pub raise-requires-clause-bag : goal.raise-requires-clause-bag
-raise-requires-clause-bag g c κs within =
+raise-requires-clause-bag g c =
     let d = c.args.desk.now in let w = c.watch in let l = c.load.new.desk in let e = c.in_ok-node.ensures in let node = c.in_ok-node.node in
     let top = c.in-Ok.top in let t = c.in-Ok.ensures in
     let h = hands_one d w.new.desk node c.stands.ensures.bag (w.ensures.bag ∙ e.bag) (w.ensures.held ∙ e.held) in
@@ -97,41 +97,41 @@ returns-clause-held g c =
     omega arith
 
 pub load-requires-clause-cell : goal.load-requires-clause-cell
-load-requires-clause-cell g c κs within =
+load-requires-clause-cell g c =
     let same : c.self.inside.cell ≡ c.args.self.now.cell = ap (λ (s : StackNow). s.cell) c.self.view_is in
     let there = subst (λ n. n < c.args.domain.now.shape.shared_cells) (sym same) c.requires.stands.cell in
     let shape = c.watch.ensures.desk.shape ∙ (c.in_ok-node.ensures.desk.shape ∙ c.requires.domain.shape) in
     subst (IsOpenSite c.watch.new.desk) (sym c.free-at.ensures) (subst (λ (z : Shape). c.self.inside.cell < z.shared_cells) (sym shape) there)
 
 pub watch-requires-clause-room : goal.watch-requires-clause-room
-watch-requires-clause-room g c κs within =
+watch-requires-clause-room g c =
     let far' = far c.is_near_limit.ensures c.if-is_near_limit.false in
     let one = c.in_ok-node.ensures.held in let a = c.in_ok-node.ensures.desk.allowance in omega arith
 
 pub watch-requires-clause-node : goal.watch-requires-clause-node
-watch-requires-clause-node g c κs within =
+watch-requires-clause-node g c =
     let node = c.in_ok-node.node in
     made_within c.args.desk.now c.make.new.desk (0 ∷ 0 ∷ 0 ∷ 0 ∷ []) c.args.value node.block node.place c.in_ok-node.ensures.event
 
 pub watch-requires-clause-holds : goal.watch-requires-clause-holds
-watch-requires-clause-holds g c κs within =
+watch-requires-clause-holds g c =
     let e = c.in_ok-node.ensures in let s = c.args.subject.now in
     let node = c.in_ok-node.node in
     (e.holds, holds_more Owner c.args.desk.now c.make.new.desk s.block node.block s.place node.place c.requires.holds e.bag e.held)
 
 pub raise-requires-clause-carries : goal.raise-requires-clause-carries
-raise-requires-clause-carries g c κs within =
+raise-requires-clause-carries g c =
     let room = subst (λ n. c.args.domain.now.shape.blocks ≤ n) (sym (ap (λ (s : StackNow). s.room) c.self.view_is)) c.requires.stands.room in
     carries_call (carries_over (carries_over (serves c.args.domain.now c.args.desk.now c.self.inside.pile c.requires.domain c.self.invariant room)
     c.in_ok-node.ensures.desk c.in_ok-node.ensures.endings) c.watch.ensures.desk c.watch.ensures.endings) c.in-Ok.ensures.keeps
 
 pub raise-requires-clause-node : goal.raise-requires-clause-node
-raise-requires-clause-node g c κs within =
+raise-requires-clause-node g c =
     let node = c.in_ok-node.node in
     made_within c.args.desk.now c.make.new.desk (0 ∷ 0 ∷ 0 ∷ 0 ∷ []) c.args.value node.block node.place c.in_ok-node.ensures.event
 
 pub raise-requires-clause-room : goal.raise-requires-clause-room
-raise-requires-clause-room g c κs within =
+raise-requires-clause-room g c =
     let far' = far c.is_near_limit.ensures c.if-is_near_limit.false in
     let one = c.in_ok-node.ensures.held in let two = c.in-Ok.ensures.held in let more = c.watch.ensures.held in
     let a = c.in_ok-node.ensures.desk.allowance in let b = c.in-Ok.ensures.keeps.allowance in let e = c.watch.ensures.desk.allowance in omega arith

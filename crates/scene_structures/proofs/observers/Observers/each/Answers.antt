@@ -21,7 +21,7 @@ use Rattle.scene_structures.proofs.Rooms.{far, serves}
 use Rattle.scene_structures.proofs.observers.Observers.each.Goals as goal
 
 pub walk-requires-clause-bag : goal.walk-requires-clause-bag
-walk-requires-clause-bag g c κs within =
+walk-requires-clause-bag g c =
     let d = c.args.desk.now in let e = c.in-Ok.ensures in
     (bag_of d, hands_one d c.load.new.desk c.in-Ok.top c.stands.ensures.bag e.bag e.held)
 
@@ -70,22 +70,22 @@ pub returns-clause-desk : goal.returns-clause-desk
 returns-clause-desk g c = same_then (same_call c.in-Ok.ensures.keeps) c.walk.ensures.desk
 
 pub load-requires-clause-cell : goal.load-requires-clause-cell
-load-requires-clause-cell g c κs within =
+load-requires-clause-cell g c =
     let same : c.self.inside.cell ≡ c.args.self.now.cell = ap (λ (s : StackNow). s.cell) c.self.view_is in
     let there = subst (λ n. n < c.args.domain.now.shape.shared_cells) (sym same) c.requires.stands.cell in
     subst (IsOpenSite c.args.desk.now) (sym c.free.ensures)
     (subst (λ (z : Shape). c.self.inside.cell < z.shared_cells) (sym c.requires.domain.shape) there)
 
 pub walk-requires-clause-empty : goal.walk-requires-clause-empty
-walk-requires-clause-empty g c κs within = c.self.invariant
+walk-requires-clause-empty g c = c.self.invariant
 
 pub walk-requires-clause-carries : goal.walk-requires-clause-carries
-walk-requires-clause-carries g c κs within =
+walk-requires-clause-carries g c =
     let room = subst (λ n. c.args.domain.now.shape.blocks ≤ n) (sym (ap (λ (s : StackNow). s.room) c.self.view_is)) c.requires.stands.room in
     carries_call (serves c.args.domain.now c.args.desk.now c.self.inside.pile c.requires.domain c.self.invariant room) c.in-Ok.ensures.keeps
 
 pub walk-requires-clause-room : goal.walk-requires-clause-room
-walk-requires-clause-room g c κs within =
+walk-requires-clause-room g c =
     let far' = far c.is_near_limit.ensures c.if-is_near_limit.false in
     let one = c.in-Ok.ensures.held in let a = c.in-Ok.ensures.keeps.allowance in omega arith
 

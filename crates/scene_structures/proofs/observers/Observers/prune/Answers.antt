@@ -40,23 +40,23 @@ pub returns-clause-count : goal.returns-clause-count
 returns-clause-count g c = (others g c).1
 
 pub clear_list-requires-clause-cell : goal.clear_list-requires-clause-cell
-clear_list-requires-clause-cell g c κs within =
+clear_list-requires-clause-cell g c =
     let same : c.self.inside.cell ≡ c.args.self.now.cell = ap (λ (s : StackNow). s.cell) c.self.view_is in
     let there = subst (λ n. n < c.args.domain.now.shape.shared_cells) (sym same) c.requires.stands.cell in
     subst (λ (z : Shape). c.self.inside.cell < z.shared_cells) (sym c.requires.domain.shape) there
 
 pub clear_list-requires-clause-carries : goal.clear_list-requires-clause-carries
-clear_list-requires-clause-carries g c κs within =
+clear_list-requires-clause-carries g c =
     let room = subst (λ n. c.args.domain.now.shape.blocks ≤ n) (sym (ap (λ (s : StackNow). s.room) c.self.view_is)) c.requires.stands.room in
     serves c.args.domain.now c.args.desk.now c.self.inside.pile c.requires.domain c.self.invariant room
 
 pub clear_list-requires-clause-room : goal.clear_list-requires-clause-room
-clear_list-requires-clause-room g c κs within =
+clear_list-requires-clause-room g c =
     let far' = far c.is_near_limit.ensures c.if-is_near_limit.false in
     omega arith
 
 pub clear_list-requires-clause-bag : goal.clear_list-requires-clause-bag
-clear_list-requires-clause-bag g c κs within =
+clear_list-requires-clause-bag g c =
     let d = c.args.desk.now in (bag_of d, let few = c.stands.ensures.bag in record { bag = refl; few = omega arith })
 
 pub returns-clause-stands : goal.returns-clause-stands

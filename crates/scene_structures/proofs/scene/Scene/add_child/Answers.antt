@@ -24,7 +24,7 @@ use Rattle.scene_structures.proofs.Detached.{within_holds}
 use Rattle.scene_structures.proofs.scene.Scene.add_child.Goals as goal
 
 pub raise-requires-clause-carries : goal.raise-requires-clause-carries
-raise-requires-clause-carries g c κs within =
+raise-requires-clause-carries g c =
     let d = c.args.desk.now in let m = c.make.new.desk in let n = c.watch.new.desk in let s = c.share.new.desk in let l = c.load.new.desk in
     let a = c.in-Ok-make.ensures in let h = c.watch.ensures in let k = c.in-Ok-share.ensures.keeps in let t = c.in-Ok-load.ensures.keeps in
     let b = subst (λ (p : Pile g.row.V.Denot). Carries c.args.domain.now d p) (sym c.self.view_is) c.requires.carries in
@@ -120,18 +120,18 @@ returns-then-stock-eq0-clause-refusals g c =
     (iff_false c.is_near_limit.ensures c.if-is_near_limit.false, nil_of (stock_of c.args.desk.now) (sym c.stock.ensures ∙ c.if-stock-eq0.true))
 
 pub watch-requires-clause-room : goal.watch-requires-clause-room
-watch-requires-clause-room g c κs within =
+watch-requires-clause-room g c =
     let far' = far c.is_near_limit.ensures c.if-is_near_limit.false in
     let one = c.in-Ok-make.ensures.held in let a = c.in-Ok-make.ensures.desk.allowance in omega arith
 
 pub watch-requires-clause-node : goal.watch-requires-clause-node
-watch-requires-clause-node g c κs within =
+watch-requires-clause-node g c =
     let d = c.args.desk.now in let m = c.make.new.desk in let a = c.in-Ok-make.ensures in let node = c.in-Ok-make.node in
     let p = c.args.parent.now in let i = c.in-Ok.ensures in
     made_within d m c.args.fields c.args.value node.block node.place a.event
 
 pub watch-requires-clause-holds : goal.watch-requires-clause-holds
-watch-requires-clause-holds g c κs within =
+watch-requires-clause-holds g c =
     let d = c.args.desk.now in let m = c.make.new.desk in let a = c.in-Ok-make.ensures in let node = c.in-Ok-make.node in
     let p = c.args.parent.now in let i = c.in-Ok.ensures in
     let in_m = subst (Lists p.block p.place) (sym a.bag)
@@ -139,14 +139,14 @@ watch-requires-clause-holds g c κs within =
     (a.holds, within_holds m p (i.0, i.1, i.2) in_m)
 
 pub share-requires-clause-holds : goal.share-requires-clause-holds
-share-requires-clause-holds g c κs within =
+share-requires-clause-holds g c =
     let d = c.args.desk.now in let m = c.make.new.desk in let n = c.watch.new.desk in let a = c.in-Ok-make.ensures in let node = c.in-Ok-make.node in
     let p = c.args.parent.now in let i = c.in-Ok.ensures in
     within_holds n node (made_within d m c.args.fields c.args.value node.block node.place a.event)
     (subst (Lists node.block node.place) (sym (c.watch.ensures.bag ∙ a.bag)) (lists_first node.block node.place (bag_of d)))
 
 pub load-requires-clause-cell : goal.load-requires-clause-cell
-load-requires-clause-cell g c κs within =
+load-requires-clause-cell g c =
     let d = c.args.desk.now in let m = c.make.new.desk in let n = c.watch.new.desk in let a = c.in-Ok-make.ensures in let node = c.in-Ok-make.node in
     let p = c.args.parent.now in let i = c.in-Ok.ensures in
     let in_m = subst (Lists p.block p.place) (sym a.bag)
@@ -157,7 +157,7 @@ load-requires-clause-cell g c κs within =
     (subst (Lists p.block p.place) (sym c.in-Ok-share.ensures.bag) (lists_under p.block node.block p.place node.place (bag_of n) in_n)))
 
 pub raise-requires-clause-bag : goal.raise-requires-clause-bag
-raise-requires-clause-bag g c κs within =
+raise-requires-clause-bag g c =
     let d = c.args.desk.now in let m = c.make.new.desk in let n = c.watch.new.desk in let a = c.in-Ok-make.ensures in let node = c.in-Ok-make.node in
     let p = c.args.parent.now in let i = c.in-Ok.ensures in
     let s = c.share.new.desk in let l = c.load.new.desk in let h = c.watch.ensures in let k = c.in-Ok-share.ensures in let t = c.in-Ok-load.ensures in
@@ -169,14 +169,14 @@ raise-requires-clause-bag g c κs within =
     (bag_of n, has, open_listed (bag_of n) p c.in-Ok.first _ l.shape i in_n)
 
 pub raise-requires-clause-node : goal.raise-requires-clause-node
-raise-requires-clause-node g c κs within =
+raise-requires-clause-node g c =
     let d = c.args.desk.now in let m = c.make.new.desk in let n = c.watch.new.desk in let a = c.in-Ok-make.ensures in let node = c.in-Ok-make.node in
     let p = c.args.parent.now in let i = c.in-Ok.ensures in
     let w = made_within d m c.args.fields c.args.value node.block node.place a.event in let k = c.in-Ok-share.ensures in
     (w.0, k.handle.1 ∙ w.1, k.handle.0 ∙ w.2)
 
 pub raise-requires-clause-room : goal.raise-requires-clause-room
-raise-requires-clause-room g c κs within =
+raise-requires-clause-room g c =
     let far' = far c.is_near_limit.ensures c.if-is_near_limit.false in
     let one = c.in-Ok-make.ensures.held in let two = c.watch.ensures.held in let three = c.in-Ok-share.ensures.held in
     let four = c.in-Ok-load.ensures.held in let a = c.in-Ok-make.ensures.desk.allowance in let b = c.watch.ensures.desk.allowance in

@@ -33,7 +33,7 @@ use Rattle.scene_structures.proofs.Rooms.{holds_more, far_off}
 use Rattle.scene_structures.proofs.scene.Scene.detach.Goals as goal
 
 pub let_go-requires-clause-carries : goal.let_go-requires-clause-carries
-let_go-requires-clause-carries g c κs within =
+let_go-requires-clause-carries g c =
     let d = c.args.desk.now in let p = c.in_ok-owner.ensures in
     let b = subst (λ (x : Pile g.row.V.Denot). Carries c.args.domain.now d x) (sym c.self.view_is) c.requires.carries in
     carries_kept c.args.domain.now d c.parent.new.desk c.self.inside.pile b p.desk.domain p.desk.shape p.endings
@@ -61,7 +61,7 @@ returns-in_default-clause-tree g c sole =
     (same_left m e.new.desk node e.ensures.latest lists_e ∙ same_node d m node p.latest lists_d)
 
 pub let_go-requires-2-clause-carries : goal.let_go-requires-2-clause-carries
-let_go-requires-2-clause-carries g c κs within =
+let_go-requires-2-clause-carries g c =
     let d = c.args.desk.now in let p = c.in_ok-owner.ensures in let k = c.in-Ok.ensures.keeps in
     let b = subst (λ (x : Pile g.row.V.Denot). Carries c.args.domain.now d x) (sym c.self.view_is) c.requires.carries in
     carries_kept c.args.domain.now d c.alias.new.desk c.self.inside.pile b (k.domain ∙ p.desk.domain) (k.shape ∙ p.desk.shape)
@@ -75,7 +75,7 @@ hands g c =
     f.ensures.bag f.ensures.held
 
 pub leave-requires-clause-bag : goal.leave-requires-clause-bag
-leave-requires-clause-bag g c κs within =
+leave-requires-clause-bag g c =
     let d = c.args.desk.now in let m = c.parent.new.desk in let s = c.alias.new.desk in let f = c.let_go-2 in
     let p = c.in_ok-owner.ensures in let a = c.in-Ok.ensures in let node = c.args.node.now in
     let has = parent_in_hand d m s f.new.desk c.in_ok-owner.owner c.in-Ok.parent _ c.stands.ensures.bag p.bag p.held a.handle.0 a.handle.1 a.bag
@@ -83,7 +83,7 @@ leave-requires-clause-bag g c κs within =
     (bag_of d, has, lists_of d node.block node.place c.requires.holds)
 
 pub leave-requires-clause-parent : goal.leave-requires-clause-parent
-leave-requires-clause-parent g c κs within =
+leave-requires-clause-parent g c =
     let a = c.in-Ok.ensures in let b = c.in-Some.block in let owner = c.in_ok-owner.owner in
     let is : owner.block ≡ Some b = sym c.block.ensures ∙ c.in-Some.is in
     let same = a.given (inr (inl (subst (λ (k : Option Block). IsOfThis k (place_at b.0)) (sym is) refl))) in
@@ -144,27 +144,27 @@ returns-clause-others g c =
     (others_both (others_call _ c.in-Ok.ensures.keeps) (others_both c.let_go-2.ensures.others c.leave.ensures.others)))
 
 pub alias-requires-clause-holds : goal.alias-requires-clause-holds
-alias-requires-clause-holds g c κs within = c.in_ok-owner.ensures.holds
+alias-requires-clause-holds g c = c.in_ok-owner.ensures.holds
 
 pub let_go-requires-clause-holds : goal.let_go-requires-clause-holds
-let_go-requires-clause-holds g c κs within = c.in_ok-owner.ensures.holds
+let_go-requires-clause-holds g c = c.in_ok-owner.ensures.holds
 
 pub let_go-requires-2-clause-holds : goal.let_go-requires-2-clause-holds
-let_go-requires-2-clause-holds g c κs within =
+let_go-requires-2-clause-holds g c =
     let owner = c.in_ok-owner.owner in let a = c.in-Ok.ensures in
     holds_more Owner c.parent.new.desk c.alias.new.desk owner.block owner.block owner.place _ c.in_ok-owner.ensures.holds a.bag a.held
 
 pub leave-requires-clause-carries : goal.leave-requires-clause-carries
-leave-requires-clause-carries g c κs within = c.let_go-2.ensures.carries
+leave-requires-clause-carries g c = c.let_go-2.ensures.carries
 
 pub leave-requires-clause-empty : goal.leave-requires-clause-empty
-leave-requires-clause-empty g c κs within = c.let_go-2.ensures.none
+leave-requires-clause-empty g c = c.let_go-2.ensures.none
 
 pub leave-requires-clause-node : goal.leave-requires-clause-node
-leave-requires-clause-node g c κs within = c.in_ok-owner.ensures.may.1
+leave-requires-clause-node g c = c.in_ok-owner.ensures.may.1
 
 pub leave-requires-clause-room : goal.leave-requires-clause-room
-leave-requires-clause-room g c κs within =
+leave-requires-clause-room g c =
     let far' = far_off c.in_ok-owner.ensures.may.0 in
     let one = c.in_ok-owner.ensures.held in let two = c.in-Ok.ensures.held in let three = c.let_go-2.ensures.held in
     let a = c.in_ok-owner.ensures.desk.allowance in let b = c.in-Ok.ensures.keeps.allowance in let e = c.let_go-2.ensures.desk.allowance in omega arith

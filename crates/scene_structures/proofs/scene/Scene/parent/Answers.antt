@@ -35,10 +35,10 @@ returns-clause-parent g c sole =
     c.in_ok-up.ensures w.event l.lock l.handle l.bag r.1 c.stands.ensures.legal sole w.holds
 
 pub load-requires-clause-cell : goal.load-requires-clause-cell
-load-requires-clause-cell g c κs within = open_up c.args.desk.now c.args.node.now c.in_ok-up.up c.in_ok-up.ensures c.requires.holds
+load-requires-clause-cell g c = open_up c.args.desk.now c.args.node.now c.in_ok-up.up c.in_ok-up.ensures c.requires.holds
 
 pub release_weak-requires-clause-holds : goal.release_weak-requires-clause-holds
-release_weak-requires-clause-holds g c κs within =
+release_weak-requires-clause-holds g c =
     let w = c.in-Ok.weak in let o = c.in-Ok-lock.owner in
     holds_more Weak c.load.new.desk c.lock.new.desk w.block o.block w.place o.place c.in-Ok.ensures.holds c.in-Ok-lock.ensures.bag c.in-Ok-lock.ensures.held
 

@@ -77,33 +77,33 @@ pub returns-clause-desk : goal.returns-clause-desk
 returns-clause-desk g c = same_then (same_call c.in-Ok.ensures.keeps) c.take.ensures.desk
 
 pub load-requires-clause-cell : goal.load-requires-clause-cell
-load-requires-clause-cell g c κs within =
+load-requires-clause-cell g c =
     let same : c.self.inside.cell ≡ c.args.self.now.cell = ap (λ (s : StackNow). s.cell) c.self.view_is in
     let there = subst (λ n. n < c.args.domain.now.shape.shared_cells) (sym same) c.requires.stands.cell in
     subst (IsOpenSite c.args.desk.now) (sym c.free.ensures)
     (subst (λ (z : Shape). c.self.inside.cell < z.shared_cells) (sym c.requires.domain.shape) there)
 
 pub take-requires-clause-cell : goal.take-requires-clause-cell
-take-requires-clause-cell g c κs within =
+take-requires-clause-cell g c =
     let same : c.self.inside.cell ≡ c.args.self.now.cell = ap (λ (s : StackNow). s.cell) c.self.view_is in
     let there = subst (λ n. n < c.args.domain.now.shape.shared_cells) (sym same) c.requires.stands.cell in
     subst (λ (z : Shape). c.self.inside.cell < z.shared_cells) (sym (c.in-Ok.ensures.keeps.shape ∙ c.requires.domain.shape)) there
 
 pub take-requires-clause-bag : goal.take-requires-clause-bag
-take-requires-clause-bag g c κs within =
+take-requires-clause-bag g c =
     let d = c.args.desk.now in let e = c.in-Ok.ensures in
     (bag_of d, hands_one d c.load.new.desk c.in-Ok.top c.stands.ensures.bag e.bag e.held)
 
 pub take-requires-clause-empty : goal.take-requires-clause-empty
-take-requires-clause-empty g c κs within = c.self.invariant
+take-requires-clause-empty g c = c.self.invariant
 
 pub take-requires-clause-carries : goal.take-requires-clause-carries
-take-requires-clause-carries g c κs within =
+take-requires-clause-carries g c =
     let room = subst (λ n. c.args.domain.now.shape.blocks ≤ n) (sym (ap (λ (s : StackNow). s.room) c.self.view_is)) c.requires.stands.room in
     carries_call (serves c.args.domain.now c.args.desk.now c.self.inside.pile c.requires.domain c.self.invariant room) c.in-Ok.ensures.keeps
 
 pub take-requires-clause-room : goal.take-requires-clause-room
-take-requires-clause-room g c κs within =
+take-requires-clause-room g c =
     let far' = far c.is_near_limit.ensures c.if-is_near_limit.false in
     let one = c.in-Ok.ensures.held in let a = c.in-Ok.ensures.keeps.allowance in omega arith
 

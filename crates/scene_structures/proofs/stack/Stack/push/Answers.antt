@@ -39,7 +39,7 @@ returns-clause-list g c sole =
     pushed_list d c.raise.new.desk c.args.self.now.cell c.args.fields c.args.value (returns-clause-own g c) c.stands.ensures.legal sole lt
 
 pub raise-requires-clause-bag : goal.raise-requires-clause-bag
-raise-requires-clause-bag g c κs within =
+raise-requires-clause-bag g c =
     let d = c.args.desk.now in let m = c.make.new.desk in let l = c.load.new.desk in let e = c.in_ok-node.ensures in let node = c.in_ok-node.node in
     let top = c.in-Ok.top in let t = c.in-Ok.ensures in
     let h = hands_one d m node c.stands.ensures.bag e.bag e.held in
@@ -90,25 +90,25 @@ returns-clause-held g c =
     let one = c.in_ok-node.ensures.held in let two = c.in-Ok.ensures.held in let three = c.raise.ensures.held in omega arith
 
 pub load-requires-clause-cell : goal.load-requires-clause-cell
-load-requires-clause-cell g c κs within =
+load-requires-clause-cell g c =
     let same : c.self.inside.cell ≡ c.args.self.now.cell = ap (λ (s : StackNow). s.cell) c.self.view_is in
     let there = subst (λ n. n < c.args.domain.now.shape.shared_cells) (sym same) c.requires.stands.cell in
     let shape = c.in_ok-node.ensures.desk.shape ∙ c.requires.domain.shape in
     subst (IsOpenSite c.make.new.desk) (sym c.free-at.ensures) (subst (λ (z : Shape). c.self.inside.cell < z.shared_cells) (sym shape) there)
 
 pub raise-requires-clause-carries : goal.raise-requires-clause-carries
-raise-requires-clause-carries g c κs within =
+raise-requires-clause-carries g c =
     let room = subst (λ n. c.args.domain.now.shape.blocks ≤ n) (sym (ap (λ (s : StackNow). s.room) c.self.view_is)) c.requires.stands.room in
     carries_call (carries_over (serves c.args.domain.now c.args.desk.now c.self.inside.pile c.requires.domain c.self.invariant room)
     c.in_ok-node.ensures.desk c.in_ok-node.ensures.endings) c.in-Ok.ensures.keeps
 
 pub raise-requires-clause-node : goal.raise-requires-clause-node
-raise-requires-clause-node g c κs within =
+raise-requires-clause-node g c =
     let node = c.in_ok-node.node in
     made_within c.args.desk.now c.make.new.desk c.args.fields c.args.value node.block node.place c.in_ok-node.ensures.event
 
 pub raise-requires-clause-room : goal.raise-requires-clause-room
-raise-requires-clause-room g c κs within =
+raise-requires-clause-room g c =
     let far' = far c.is_near_limit.ensures c.if-is_near_limit.false in
     let one = c.in_ok-node.ensures.held in let two = c.in-Ok.ensures.held in
     let a = c.in_ok-node.ensures.desk.allowance in let b = c.in-Ok.ensures.keeps.allowance in omega arith

@@ -13,7 +13,7 @@ use Rattle.scene_structures.proofs.Others.{others_both}
 use Rattle.scene_structures.proofs.tree.detaching.leave.Goals as goal
 
 pub cut_child-went-requires-clause-bag : goal.cut_child-went-requires-clause-bag
-cut_child-went-requires-clause-bag g c κs within =
+cut_child-went-requires-clause-bag g c =
     let b = c.requires.bag in let parent = c.args.parent in let node = c.args.node.now in (
       stacked (parent ∷ []) b.0,
       hands_below c.args.desk.now b.0 parent b.1,
@@ -22,14 +22,14 @@ cut_child-went-requires-clause-bag g c κs within =
     )
 
 pub unlink-requires-clause-holds : goal.unlink-requires-clause-holds
-unlink-requires-clause-holds g c κs within =
+unlink-requires-clause-holds g c =
     let b = c.requires.bag in let parent = c.args.parent in let node = c.args.node.now in let m = c.cut_child-went in
     let has = m.ensures.bag (stacked (parent ∷ []) b.0) (hands_below c.args.desk.now b.0 parent b.1) in
     within_holds m.new.desk node c.requires.node
     (subst (Lists node.block node.place) (sym has.bag) (lists_under node.block parent.block node.place parent.place b.0 b.2))
 
 pub let_go-requires-clause-holds : goal.let_go-requires-clause-holds
-let_go-requires-clause-holds g c κs within =
+let_go-requires-clause-holds g c =
     let d = c.args.desk.now in let b = c.requires.bag in let parent = c.args.parent in let m = c.cut_child-went in let u = c.unlink in
     let has = hands_above d m.new.desk b.0 parent b.1 (m.ensures.bag (stacked (parent ∷ []) b.0) (hands_below d b.0 parent b.1)) m.ensures.held in
     holds_first u.new.desk b.0 parent [] (hands_kept m.new.desk u.new.desk b.0 (parent ∷ []) has u.ensures.bag u.ensures.held)

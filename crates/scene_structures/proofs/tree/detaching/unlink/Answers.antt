@@ -12,7 +12,7 @@ use Rattle.control_block.specs.Desks.{allowance_of, endings_of}
 use Rattle.scene_structures.proofs.tree.detaching.unlink.Goals as goal
 
 pub store_next-requires-clause-holds : goal.store_next-requires-clause-holds
-store_next-requires-clause-holds g c κs within =
+store_next-requires-clause-holds g c =
     let d = c.args.desk.now in let b = c.empty.new.desk in let w = c.watch in let n = c.in-Ok.ensures in let nothing = c.in-Ok.nothing in
     let node = c.args.node.now in
     let same : bag_of w.new.desk ≡ bag_of d = w.ensures.bag ∙ ap (λ (u : DeskNow g.row.V.Denot). bag_of u) n.counted in (
@@ -45,7 +45,7 @@ returns-clause-others g c =
     (others_both (others_kept c.empty.new.desk w.new.desk _ w.ensures.endings w.ensures.count) c.store_next.ensures.others)
 
 pub watch-requires-clause-room : goal.watch-requires-clause-room
-watch-requires-clause-room g c κs within =
+watch-requires-clause-room g c =
     let room = c.requires.room in let is = ap (λ (u : DeskNow g.row.V.Denot). u.held) c.in-Ok.ensures.counted in
     let same = ap (λ (u : DeskNow g.row.V.Denot). allowance_of u) c.in-Ok.ensures.counted in
     let ends = ap (λ (u : DeskNow g.row.V.Denot). endings_of u) c.in-Ok.ensures.counted in omega arith

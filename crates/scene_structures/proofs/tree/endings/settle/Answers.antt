@@ -56,8 +56,8 @@ returns-in-Settled-clause-others g c =
     let r = c.round in let e = r.ensures in let i = c.loop.invariant in let l = c.loop.desk in
     others_both i.others (others_round l r.new.desk _ _ r.result i.carries.ends e.elsewhere e.round)
 
-pub round-requires-clause-carries : goal.round-requires-clause-carries
-round-requires-clause-carries g c κs within = c.loop.invariant.carries
+pub round-requires : goal.round-requires
+round-requires g c = record { carries = (c.loop.invariant.carries) }
 
 pub returns-in-Settled-clause-carries : goal.returns-in-Settled-clause-carries
 returns-in-Settled-clause-carries g c = c.round.ensures.carries

@@ -15,7 +15,7 @@ use Rattle.scene_structures.proofs.tree.teardown.tear_down.Goals as goal
 use Rattle.scene_structures.proofs.tree.teardown.tear_down.Goals.{in-Last, in-Empty, in-Others}
 
 pub run_down-requires-clause-room : goal.run_down-requires-clause-room
-run_down-requires-clause-room g c κs within =
+run_down-requires-clause-room g c =
     let n = c.args.domain.now.shape.blocks + 1 in
     let first : HasRoomForEnds n c.in-Ok.ended = subst (λ k. HasRoomForEnds (k + 1) c.in-Ok.ended) c.blocks-2.ensures c.in-Ok.ensures.room in
     elim c.match-drop_shared.branch [

@@ -4,7 +4,7 @@ use Rattle.control_block.specs.Desks.{DeskNow, IsEnding, object_in}
 use Rattle.shared_handle.proofs.endings.Ending.weak_from_this.Goals as goal
 
 pub share_weak-requires-clause-may : goal.share_weak-requires-clause-may
-share_weak-requires-clause-may g c = λ _ _.
+share_weak-requires-clause-may g c =
     let b = c.args.self.now.block.0 in let x = c.args.self.now.value in let e = c.is_enabled.ensures in
     inr (
       x,

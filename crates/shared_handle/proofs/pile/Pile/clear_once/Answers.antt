@@ -3,11 +3,12 @@ use Rattle.shared_handle.proofs.PiledEndings.{stacked_elsewhere, stacked_on}
 use Rattle.shared_handle.proofs.Piles.{room_left}
 use Rattle.shared_handle.proofs.pile.Pile.clear_once.Goals as goal
 
-pub put-requires-clause-room : goal.put-requires-clause-room
-put-requires-clause-room g c κs within =
-    let t = c.clear_member-left in let e = t.ensures in
-    room_left c.args.domain.now c.args.desk.now t.new.desk c.args.self.now c.args.ending.now t.new.self c.args.member t.result c.requires.stacked
-    e.clears e.endings e.beside e.object.0 e.ends e.desk.shape c.stands.ensures
+pub put-requires : goal.put-requires
+put-requires g c = record {
+  room = (let t = c.clear_member-left in let e = t.ensures in
+      room_left c.args.domain.now c.args.desk.now t.new.desk c.args.self.now c.args.ending.now t.new.self c.args.member t.result c.requires.stacked
+      e.clears e.endings e.beside e.object.0 e.ends e.desk.shape c.stands.ensures);
+}
 
 pub returns-clause-stacked : goal.returns-clause-stacked
 returns-clause-stacked g c =

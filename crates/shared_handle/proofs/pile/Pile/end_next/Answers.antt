@@ -13,10 +13,11 @@ use Rattle.shared_handle.proofs.Piles.{elsewhere_none}
 use Rattle.shared_handle.proofs.Rounds.{popped_none}
 use Rattle.shared_handle.proofs.pile.Pile.end_next.Goals as goal
 
-pub clear_once-requires-clause-stacked : goal.clear_once-requires-clause-stacked
-clear_once-requires-clause-stacked g c κs within =
-    popped c.args.domain.now c.args.desk.now c.args.self.now record { endings = c.pop.new.self } c.in_ok-ending.ending c.requires.carries
-    c.in_ok-ending.ensures.items c.pop.ensures.capacity
+pub clear_once-requires : goal.clear_once-requires
+clear_once-requires g c = record {
+  stacked = (popped c.args.domain.now c.args.desk.now c.args.self.now record { endings = c.pop.new.self } c.in_ok-ending.ending c.requires.carries
+      c.in_ok-ending.ensures.items c.pop.ensures.capacity);
+}
 
 pub returns-clause-carries : goal.returns-clause-carries
 returns-clause-carries g c =

@@ -7,7 +7,7 @@ use Rattle.shared_handle.proofs.Piles.{back_elsewhere, clear_all, finished, fini
 use Rattle.shared_handle.proofs.pile.Pile.round.Goals as goal
 
 pub finish-requires-clause-ends : goal.finish-requires-clause-ends
-finish-requires-clause-ends g c κs within =
+finish-requires-clause-ends g c =
     (popped c.args.domain.now c.args.desk.now c.args.self.now record { endings = c.pop.new.self } c.in-Some.top c.requires.carries c.in-Some.ensures.items
     c.pop.ensures.capacity).ends
 
@@ -44,18 +44,19 @@ pub returns-in_default-next_member-clause-parting : goal.returns-in_default-next
 returns-in_default-next_member-clause-parting g c = does_one IsParting c.args.desk.now c.finish.new.desk _ c.finish.ensures.event.1 tt
 
 pub clear_member-left-requires-clause-ends : goal.clear_member-left-requires-clause-ends
-clear_member-left-requires-clause-ends g c κs within =
+clear_member-left-requires-clause-ends g c =
     (popped c.args.domain.now c.args.desk.now c.args.self.now record { endings = c.pop.new.self } c.in-Some.top c.requires.carries c.in-Some.ensures.items
     c.pop.ensures.capacity).ends
 
-pub put-requires-clause-room : goal.put-requires-clause-room
-put-requires-clause-room g c κs within =
-    let t = c.clear_member-left in let e = t.ensures in
-    room_above c.args.domain.now c.args.desk.now t.new.desk record { endings = c.pop.new.self } c.push_reserved.new.self.items
-    c.in-Some.top t.new.self c.in-Some-next_member.member t.result _
-    (popped c.args.domain.now c.args.desk.now c.args.self.now record { endings = c.pop.new.self } c.in-Some.top c.requires.carries
-    c.in-Some.ensures.items c.pop.ensures.capacity)
-    e.clears e.endings e.beside e.object.0 e.ends e.desk.shape c.stands.ensures c.push_reserved.ensures.items c.push_reserved.ensures.capacity
+pub put-requires : goal.put-requires
+put-requires g c = record {
+  room = (let t = c.clear_member-left in let e = t.ensures in
+      room_above c.args.domain.now c.args.desk.now t.new.desk record { endings = c.pop.new.self } c.push_reserved.new.self.items
+      c.in-Some.top t.new.self c.in-Some-next_member.member t.result _
+      (popped c.args.domain.now c.args.desk.now c.args.self.now record { endings = c.pop.new.self } c.in-Some.top c.requires.carries
+      c.in-Some.ensures.items c.pop.ensures.capacity)
+      e.clears e.endings e.beside e.object.0 e.ends e.desk.shape c.stands.ensures c.push_reserved.ensures.items c.push_reserved.ensures.capacity);
+}
 
 pub returns-clause-carries : goal.returns-clause-carries
 returns-clause-carries g c =

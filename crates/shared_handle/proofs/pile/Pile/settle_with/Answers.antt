@@ -23,10 +23,11 @@ loop-init g c =
       c.requires.callable,
     )
 
-pub work_off-requires-clause-stacked : goal.work_off-requires-clause-stacked
-work_off-requires-clause-stacked g c κs within =
-    popped c.args.domain.now c.loop.desk c.loop.self record { endings = c.pop.new.self } c.in-Some-pop.top c.loop.invariant.0 c.in-Some-pop.ensures.items
-    c.pop.ensures.capacity
+pub work_off-requires : goal.work_off-requires
+work_off-requires g c = record {
+  stacked = (popped c.args.domain.now c.loop.desk c.loop.self record { endings = c.pop.new.self } c.in-Some-pop.top c.loop.invariant.0 c.in-Some-pop.ensures.items
+      c.pop.ensures.capacity);
+}
 
 pub loop-preserved-in-Some-work_off : goal.loop-preserved-in-Some-work_off
 loop-preserved-in-Some-work_off g c =

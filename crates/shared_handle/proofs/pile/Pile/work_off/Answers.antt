@@ -23,10 +23,10 @@ loop-member-init g c =
     )
 
 pub clear_member-left-requires-clause-domain : goal.clear_member-left-requires-clause-domain
-clear_member-left-requires-clause-domain g c κs within = c.loop-member.invariant.0.belongs
+clear_member-left-requires-clause-domain g c = c.loop-member.invariant.0.belongs
 
 pub clear_member-left-requires-clause-ends : goal.clear_member-left-requires-clause-ends
-clear_member-left-requires-clause-ends g c κs within = c.loop-member.invariant.0.ends
+clear_member-left-requires-clause-ends g c = c.loop-member.invariant.0.ends
 
 pub loop-member-preserved-in-Empty : goal.loop-member-preserved-in-Empty
 loop-member-preserved-in-Empty g c =
@@ -134,10 +134,10 @@ returns-in-Last-clause-desk g c =
     same_both c.args.desk.now c.loop-member.desk c.clear_member-left.new.desk c.loop-member.invariant.6 c.clear_member-left.ensures.desk
 
 pub finish-requires-clause-domain : goal.finish-requires-clause-domain
-finish-requires-clause-domain g c κs within = c.loop-member.invariant.0.belongs
+finish-requires-clause-domain g c = c.loop-member.invariant.0.belongs
 
 pub finish-requires-clause-ends : goal.finish-requires-clause-ends
-finish-requires-clause-ends g c κs within = c.loop-member.invariant.0.ends
+finish-requires-clause-ends g c = c.loop-member.invariant.0.ends
 
 pub returns-clause-carries : goal.returns-clause-carries
 returns-clause-carries g c =
