@@ -4,9 +4,12 @@ import functools
 import multiprocessing
 import os
 import signal
+from datetime import date
 from typing import NamedTuple
 
 SECONDS = 60
+# What random inputs are drawn by where no seed is given: the day's number.
+SEED = str(date.today().toordinal())
 # What Python ignores, a program that it starts does not.
 HEARD = (signal.SIGPIPE, signal.SIGXFSZ)
 

@@ -1,5 +1,6 @@
 """The worked scripts: those of the folder `scripts`, and those that `large_scripts` makes."""
 import pathlib
+import re
 import sys
 from typing import NamedTuple
 
@@ -7,6 +8,8 @@ sys.dont_write_bytecode = True
 import large_scripts
 
 FOLDER = pathlib.Path(__file__).resolve().with_name('scripts')
+# What a program answers, each with the pattern that may stand in place of a text.
+STREAMS = {'stdout': 'pattern', 'stderr': 'stderr_pattern', 'status': None}
 
 
 class Case(NamedTuple):
@@ -15,7 +18,16 @@ class Case(NamedTuple):
     name: str
     script: bytes
     words: list
-    wanted: dict
+    files: dict
+
+    def wanted(self, came):
+        """What shall come on each stream, given what came: where a pattern says it, all that fits is wanted."""
+        for stream, pattern in STREAMS.items():
+            text, pattern = self.files.get(stream), self.files.get(pattern)
+            if text is None and pattern is not None:
+                fits = re.fullmatch(pattern.strip(), came[stream])
+                text = came[stream] if fits else pattern
+            yield stream, b'(no file says)' if text is None else text
 
 
 def case(name, files):
@@ -29,4 +41,4 @@ def cases():
         found.setdefault(file.stem, {})[file.suffix.removeprefix('.')] = file.read_bytes()
     for name, made in large_scripts.CASES.items():
         found[name] = {suffix: text.encode() for suffix, text in made().items()}
-    return [case(name, files) for name, files in sorted(found.items()) if 'script' in files]
+    return {name: case(name, files) for name, files in sorted(found.items()) if 'script' in files}
