@@ -108,11 +108,17 @@ CASES = {
 }
 
 
+def made():
+    """The files of each case, by its name."""
+    for name, rule in CASES.items():
+        yield name, {suffix: text.encode() for suffix, text in rule().items()}
+
+
 def write(folder):
     """Writes each case's files to a folder."""
-    for name, made in CASES.items():
-        for suffix, text in made().items():
-            pathlib.Path(folder, f'{name}.{suffix}').write_text(text)
+    for name, files in made():
+        for suffix, text in files.items():
+            pathlib.Path(folder, f'{name}.{suffix}').write_bytes(text)
 
 
 if __name__ == '__main__':

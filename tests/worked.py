@@ -1,10 +1,12 @@
-"""The worked scripts: those of the folder `scripts`, and those that `large_scripts` makes."""
+"""The worked scripts: those of the folder `scripts`, and those that `faulty_scripts` and `large_scripts` have."""
+import itertools
 import pathlib
 import re
 import sys
 from typing import NamedTuple
 
 sys.dont_write_bytecode = True
+import faulty_scripts
 import large_scripts
 
 FOLDER = pathlib.Path(__file__).resolve().with_name('scripts')
@@ -39,6 +41,6 @@ def cases():
     found = {}
     for file in sorted(FOLDER.iterdir()):
         found.setdefault(file.stem, {})[file.suffix.removeprefix('.')] = file.read_bytes()
-    for name, made in large_scripts.CASES.items():
-        found[name] = {suffix: text.encode() for suffix, text in made().items()}
+    for name, files in itertools.chain(faulty_scripts.made(), large_scripts.made()):
+        found[name] = files
     return {name: case(name, files) for name, files in sorted(found.items()) if 'script' in files}
