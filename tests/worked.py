@@ -32,8 +32,11 @@ class Case(NamedTuple):
             yield stream, b'(no file says)' if text is None else text
 
 
-def case(name, files):
-    return Case(name, files.pop('script'), files.pop('args', b'').decode().splitlines(), files)
+def of_files(name, files):
+    """A case, and the same by each further command that its first word names."""
+    script, words = files.pop('script'), files.pop('args', b'').decode().splitlines() or ['']
+    for number, command in enumerate(words[0].split(' ')):
+        yield Case(f'{command}_{name}' if number else name, script, [command, *words[1:]] if command else [], files)
 
 
 def cases():
@@ -43,4 +46,4 @@ def cases():
         found.setdefault(file.stem, {})[file.suffix.removeprefix('.')] = file.read_bytes()
     for name, files in itertools.chain(faulty_scripts.made(), large_scripts.made()):
         found[name] = files
-    return {name: case(name, files) for name, files in sorted(found.items()) if 'script' in files}
+    return {it.name: it for name, files in found.items() if 'script' in files for it in of_files(name, files)}
