@@ -124,8 +124,9 @@ pub record TellsLocks (u : Sight) (x : TraceStep) (u' : Sight) : Type 0 where
 abbrev pub AllAtRest : Sight → Type 0
 AllAtRest u = (b : ℕ) → InShape (opening u.story.extent) b → IsAtRest (story_state u.story) u.story.views b
 
--- What holds before the first step of a run, and after each. Each thread's desk has one view, and it has no half-done
--- call while its thread has begun nothing: so a block of which no thread has anything half done is at rest
+-- What holds before the first step of a run, and after each. Each thread's desk has one view, without a half-done call
+-- while the thread has begun nothing: so a block is kept from rest only by an object that ends, or by what a thread has
+-- begun
 pub record AfterEach (u : Sight) : Type 0 where
   pub counts : CountsAtRest u
   pub once : ValuesOnce u

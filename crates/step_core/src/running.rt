@@ -163,8 +163,8 @@ impl World {
         }
     }
 
-    /// Whether an actor's call isn't done, which owed funds: it has begun something, an object ends in its hands, or its
-    /// next task is of that statement. At its end each leave is a call.
+    /// Whether an actor's call isn't done, which owed funds: it has begun something, an object ends in its hands, or
+    /// its next task is of that statement. At its end each leave is a call.
     fn is_calling(&self, number: usize, call: u32) -> bool
         requires { number < length self.now.walks }
         ensures { result ≡ is_calling call self.now number }

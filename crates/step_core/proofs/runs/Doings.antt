@@ -233,19 +233,15 @@ is_said (stepped.Quiet a) said is =
 is_said stepped.Waited said is = absurd cc
 is_said stepped.Done said is = absurd cc
 
+nothing_said : (d : ℕ) (x : Said) (o : Option Answer) (p : Option Ended)
+    → cond {A = List (ℕ × Said)} (is_some o || is_some p) ((d, x) ∷ []) [] ≡ [] → (o ≡ None) × (p ≡ None)
+nothing_said d x None None q = (refl, refl)
+nothing_said d x None (Some y) q = absurd cc
+nothing_said d x (Some y) p q = absurd cc
+
 -- a step that says nothing answers nothing, and tells of no end
 pub says_none : (d : ℕ) (r : Stepped) → spoken_by d (said_by r) ≡ [] → (answer_by r ≡ None) × (step_ended r ≡ None)
-says_none d (stepped.Event a) is = quiet a.answer a.ended is
-  where
-    quiet : (o : Option Answer) (p : Option Ended) → cond {A = List (ℕ × Said)} (is_some o || is_some p) ((d, a) ∷ []) [] ≡ [] → (o ≡ None) × (p ≡ None)
-    quiet None None q = (refl, refl)
-    quiet None (Some y) q = absurd cc
-    quiet (Some y) p q = absurd cc
-says_none d (stepped.Quiet a) is = quiet a.answer a.ended is
-  where
-    quiet : (o : Option Answer) (p : Option Ended) → cond {A = List (ℕ × Said)} (is_some o || is_some p) ((d, a) ∷ []) [] ≡ [] → (o ≡ None) × (p ≡ None)
-    quiet None None q = (refl, refl)
-    quiet None (Some y) q = absurd cc
-    quiet (Some y) p q = absurd cc
+says_none d (stepped.Event x) is = nothing_said d x x.answer x.ended is
+says_none d (stepped.Quiet x) is = nothing_said d x x.answer x.ended is
 says_none d stepped.Waited is = (refl, refl)
 says_none d stepped.Done is = (refl, refl)

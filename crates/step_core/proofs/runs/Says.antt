@@ -87,7 +87,8 @@ module _ (u : Sight) (x : TraceStep) (u' : Sight) (step : IsStep u x u') where
     says : step_ended x.stepped ≡ y.said.ended
     says = (is_said x.stepped y.said p.says).ended
 
-    by_act : (t : Task) (r : Reply) → y.said.ended ≡ (row t.act w.slots w.taken r).ended → IsDone s w.slots w.taken t.act r y.event → TellsWhatIsLeft u x u'
+    by_act : (t : Task) (r : Reply) → y.said.ended ≡ (row t.act w.slots w.taken r).ended → IsDone s w.slots w.taken t.act r y.event
+        → TellsWhatIsLeft u x u'
     by_act t r tells (Other other) = none_left y.event (no_leave y.event other.sort) p.history (says ∙ tells ∙ other.ended)
     by_act t r tells (Leaves o last l is silent ended) = any_left o last l y.event is p.history (says ∙ tells ∙ ended)
     by_act t r tells (Locks i must got e f leaves ended) = none_left y.event leaves p.history (says ∙ tells ∙ ended)
