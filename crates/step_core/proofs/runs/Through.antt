@@ -54,5 +54,5 @@ through u u' [] run goes = (after_each u goes, run)
 through u u' (x ∷ xs) run goes =
     let m = run.0 in
     let a = run.1 in
-    let step : IsStep u x m = record { steps = a.steps; before = goes.kept; after = a.kept } in
+    let step : IsStep u x m = record { takes = a.takes; before = goes.kept; after = a.kept } in
     (after_each u goes, (m, a.takes, (of_each u x m step a.performs, a), through m u' xs run.2 (goes_on u x m goes a)))
