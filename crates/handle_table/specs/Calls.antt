@@ -47,7 +47,11 @@ abbrev pub IsNoSlot : List Slot → ℕ → Fault → Type 0
 IsNoSlot ss i why = (why ≡ fault.Slot) × (length ss ≤ i)
 
 module _ {V : Type 0} where
-  -- the desk is at its allowance
+  -- the desk is below its allowance
+  abbrev pub IsBelow : DeskNow V → Type 0
+  IsBelow d = held_of d ≢ allowance_of d
+
+  -- or at it
   abbrev pub IsAtLimit : TableNow V → Fault → Type 0
   IsAtLimit t why = (why ≡ fault.Call Limit) × (held_of t.desk ≡ allowance_of t.desk)
 
@@ -71,11 +75,12 @@ module _ {V : Type 0} where
     pub slots : ts ≡ slice_set ss to (Some h)
     pub leaves : LeavesSlot d xs old e ys
 
-  -- a handle came to the desk as told, and was assigned to the slot
+  -- a handle came to the desk as told, which was below its allowance, and was assigned to the slot
   pub record Comes (came : DeskNow V → Held → DeskNow V → Type 0) (t : TableNow V) (to : ℕ)
       (u : TableNow V) : Type 0 where
     pub handle : Held
     pub between : DeskNow V
+    pub room : IsBelow t.desk
     pub comes : came t.desk handle between
     pub assigns : Assigns between t.slots t.endings to handle u.desk u.slots u.endings
 
@@ -101,10 +106,6 @@ module _ {V : Type 0} where
   abbrev pub MakesNull : TableNow V → ℕ → V → TableNow V → Type 0
   MakesNull t to x u = Comes
       (IsOwner (λ d h e. inner.Makes d false true (0 ∷ 0 ∷ 0 ∷ 0 ∷ []) x h.block h.place e)) t to u
-
-  -- the desk is below it
-  abbrev pub IsBelow : DeskNow V → Type 0
-  IsBelow d = held_of d ≢ allowance_of d
 
   -- there is no vacant block for it
   abbrev pub IsFull : TableNow V → Fault → Type 0

@@ -11,7 +11,7 @@ use Rattle.shared_handle.specs.declared.endings.Ending.{Ending}
 use Rattle.shared_handle.specs.declared.pile.Gone.{Gone}
 use Rattle.atomic_cells.specs.Compares as cells
 use Rattle.handle_table.specs.Bringing.{beside_pile}
-use Rattle.handle_table.specs.Calls.{Assigns, IsAtLimit, LetsGo}
+use Rattle.handle_table.specs.Calls.{Assigns, IsAtLimit, IsBelow, LetsGo}
 use Rattle.handle_table.specs.Cells.{IsCellAtSite, WhyNoCell, WhyNoneOf, kind_of_cell}
 use Rattle.handle_table.specs.Parts.{kind_of_held, block_of_held, place_of_held}
 use Rattle.handle_table.specs.Tables.{FitsSlots, IsAt, Slot, TableNow}
@@ -28,12 +28,13 @@ module _ {V : Type 0} where
       × (ts ≡ slice_set ss desired None)
   FollowsCompare false d ss xs found expected desired e ts ys = Assigns d ss xs expected found e ts ys
 
-  -- the same of the desk alone: what the cell held is in hand, and where it swapped, what was desired is out of its
-  -- slot
+  -- the same of the desk alone, which was below its allowance: what the cell held is in hand, and where it swapped,
+  -- what was desired is out of its slot
   pub record ComparesCell (weak : Bool) (d : DeskNow V) (ss : List Slot) (c : Cell) (expected desired : ℕ)
       (swapped : Bool) (found : Held) (e : DeskNow V) : Type 0 where
     pub site : Site
     pub is : IsCellAtSite d.shape ss c site
+    pub room : IsBelow d
     pub there : Held
     pub new : Held
     pub at : (slice_get ss expected ≡ Some (Some there)) × (slice_get ss desired ≡ Some (Some new))
@@ -46,12 +47,13 @@ module _ {V : Type 0} where
     pub miss : swapped ≡ false → FitsSlots e (Some found ∷ ss)
     pub bears : (domain : DomainNow) (p : Pile V) → Bears domain d p → Bears domain e p
 
-  -- a cell was compared with what the one slot has, to get what the other has; a weak compare may differ on an
-  -- equivalent handle
+  -- a cell was compared with what the one slot has, to get what the other has, by a desk below its allowance; a weak
+  -- compare may differ on an equivalent handle
   pub record ComparesSlots (weak : Bool) (t : TableNow V) (c : Cell) (expected desired : ℕ) (swapped : Bool)
       (u : TableNow V) : Type 0 where
     pub site : Site
     pub is : IsCellAtSite t.desk.shape t.slots c site
+    pub room : IsBelow t.desk
     pub there : Held
     pub new : Held
     pub at : IsAt t expected there × IsAt t desired new

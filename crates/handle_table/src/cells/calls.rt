@@ -5,7 +5,7 @@ ghost use Rattle.handle_table.specs.Bringing.{Brought, Fills, IsLoaded, IsSwappe
 ghost use Rattle.handle_table.specs.Cells.{ExchangesSlot, LoadsIntoSlot, StoresFromSlot, WhyNotLoaded, WhyNotSwapped};
 ghost use Rattle.handle_table.specs.Tables.{FitsSlots};
 
-use crate::cells::held::{exchange_held, load_held, load_held_at_once};
+use crate::cells::held::{exchange_held, load_held};
 use crate::cells::{Cell, find};
 use crate::fault::Fault;
 use crate::slots::assigning::{arrive, assign, let_go};
@@ -46,10 +46,11 @@ fn loaded<V: Drop, R: Wait>(
     }
 }
 
-/// A copy of an object's owner or weak handle that the cell holds comes into a slot, which is vacant, at the first try:
-/// whether that was so, and the desk was below its allowance. Else nothing changes.
+/// A copy of what the cell holds comes into a slot, which is vacant: whether that was so, there is such a cell, and the
+/// desk was below its allowance. Else nothing changes.
 #[inline(always)]
-fn load_at_once<V: Drop>(
+fn load_into_vacant<V: Drop, R: Wait>(
+    rt: &R,
     domain: &Domain<V>,
     desk: &mut Desk<V>,
     slots: &mut Vec<Slot>,
@@ -69,8 +70,9 @@ fn load_at_once<V: Drop>(
         Ok(at) => at,
         Err(_) => return false,
     };
-    let Some(found) = load_held_at_once(domain, desk, at) else {
-        return false;
+    let found = match load_held(rt, domain, desk, at) {
+        Ok(found) => found,
+        Err(_) => return false,
     };
     fill(slots, to, found);
     true
@@ -109,7 +111,7 @@ impl<'d, V: Drop, H: Home> HandleTable<'d, V, H> {
         ensures loaded { OnOk result (LoadsIntoSlot self.old cell to self.new) }
         ensures refused { IfErr result (λ why. WhyNotLoaded self.old cell to why × (self.new ≡ self.old)) }
     {
-        if load_at_once(self.domain, &mut self.desk, &mut self.slots, cell, to) {
+        if load_into_vacant(rt, self.domain, &mut self.desk, &mut self.slots, cell, to) {
             return Ok(());
         }
         self.load_any(rt, cell, to)

@@ -4,8 +4,8 @@ ghost use Rattle.control_word.specs.declared.refusal.Refusal.TheVariants.{Limit}
 ghost use Rattle.control_block.specs.Desks.{Belongs, Keeps, allowance_of, bag_of, held_of};
 ghost use Rattle.control_block.specs.HandleLists.{IsHeldByDesk, with_held};
 ghost use Rattle.handle_table.specs.Bringing.{Brought, Fills, IsWeakCopy, OfHandle, OfOwner, beside_pile};
-ghost use Rattle.handle_table.specs.Calls.{Copies, Downgrades, IsCopy, MovesSlot, WhyNoCopy, WhyNotDowngraded};
-ghost use Rattle.handle_table.specs.Calls.{WhyNotMoved};
+ghost use Rattle.handle_table.specs.Calls.{Copies, Downgrades, IsBelow, IsCopy, MovesSlot, WhyNoCopy};
+ghost use Rattle.handle_table.specs.Calls.{WhyNotDowngraded, WhyNotMoved};
 ghost use Rattle.handle_table.specs.Tables.{FitsSlots};
 ghost use Rattle.handle_table.specs.declared.fault.Fault.TheVariants as fault;
 
@@ -30,6 +30,7 @@ fn copy_of<V: Drop>(domain: &Domain<V>, desk: &mut Desk<V>, handle: &Held) -> Re
     ensures bag { IfOk result (λ h. bag_of desk.new ≡ with_held h (bag_of desk.old)) }
     ensures held { OnOk result (desk.new.held ≡ desk.old.held + 1) }
     ensures keeps { OnOk result (Keeps desk.old desk.new) }
+    ensures below { OnOk result (IsBelow desk.old) }
     ensures refused { IfErr result
         (λ why. (why ≡ Limit) × (held_of desk.old ≡ allowance_of desk.old) × (desk.new ≡ desk.old)) }
 {

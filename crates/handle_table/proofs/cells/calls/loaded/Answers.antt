@@ -17,6 +17,7 @@ returns-in-Ok-load_held g c =
     let at = c.in-Ok.at in let k = c.in-Ok.ensures.found.1 in
     record {
       there = omega arith;
+      room = e.below;
       comes = (
         at.site,
         c.in-Ok.ensures.found.0,

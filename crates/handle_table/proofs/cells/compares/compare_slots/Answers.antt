@@ -46,6 +46,7 @@ returns-in-Ok-compare_held g c =
     record {
       site = at.site;
       is = c.in-Ok.ensures.found.0;
+      room = e.below;
       there = x.0;
       new = y.0;
       at = (x.1, y.1);

@@ -17,6 +17,7 @@ returns-in-Ok-came g c =
     let h = c.in-Ok-came.copy in
     record {
       there = omega arith;
+      room = e.below;
       comes = (c.in-Ok.handle, c.in-Ok.ensures.found, e.copy);
       fits = fits_more d m ss h c.requires.fits e.bag e.held;
       bears = λ domain p w. kept domain d m p w e.keeps;

@@ -20,6 +20,7 @@ returns-in-Ok-came g c =
     let h = c.in-Ok-came.weak in
     record {
       there = omega arith;
+      room = λ full. absurd (cc (e.limit.1 full));
       comes = (
         c.in-Ok.owner,
         c.in-Ok.ensures.found,

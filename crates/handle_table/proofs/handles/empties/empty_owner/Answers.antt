@@ -11,6 +11,7 @@ returns-in-Ok g c =
     let d = c.args.desk.now in let m = c.empty.new.desk in let h = c.in-Ok.owner in let e = c.in-Ok.ensures in
     record {
       there = omega arith;
+      room = λ full. absurd (cc (e.limit.1 full));
       comes = record { owner = h; is = refl; event = (e.handle.0, e.handle.1, e.counted) };
       fits = fits_empty d m c.args.slots.now.items h c.requires.fits e.handle.0 e.counted;
       bears = λ domain p w. bears_counted domain d m p w e.counted;

@@ -12,6 +12,7 @@ returns-in-Ok-clause-brought g c =
     let d = c.args.desk.now in let m = c.make_null.new.desk in let h = c.in-Ok.owner in let e = c.in-Ok.ensures in
     record {
       there = omega arith;
+      room = e.refusals.0;
       comes = record { owner = h; is = refl; event = e.event };
       fits = fits_more d m c.args.slots.now.items (Owner h) c.requires.fits e.bag e.held;
       bears = λ domain p w. bears_kept domain d m p w e.desk.domain e.desk.shape e.endings e.count;

@@ -24,6 +24,7 @@ returns-in-Ok-came g c =
     let same : pointed c.args.place ≡ c.args.place = e.given (inr (inr (c.if-not-is_pointer.ensures.0 refl))) in
     record {
       there = omega arith;
+      room = λ full. absurd (cc (e.limit.1 full));
       comes = (
         c.in-Ok.owner,
         c.in-Ok.ensures.found,

@@ -1,5 +1,6 @@
 use Rattle.std.proofs.Common.{arith, inl, inr, refl}
 use Rattle.control_block.specs.declared.handles.Held.TheVariants.{Owner, Weak}
+use Rattle.handle_table.proofs.Bringing.{this_below}
 use Rattle.handle_table.proofs.Filling.{fits_at, fits_more}
 use Rattle.handle_table.proofs.Wholes.{kept}
 use Rattle.handle_table.proofs.handles.this.weak_of_this.Goals as goal
@@ -17,6 +18,7 @@ returns-in-Ok-came g c =
     let h = c.in-Ok-came.this in
     record {
       there = omega arith;
+      room = this_below d c.in-Ok.owner.block c.in-Ok.owner.place e.may;
       comes = (c.in-Ok.owner, c.in-Ok.ensures.found, (e.may, record { weak = h; is = refl; event = (e.handle.0, e.handle.1, e.event) }));
       fits = fits_more d m ss (Weak h) c.requires.fits e.bag e.held;
       bears = λ domain p w. kept domain d m p w e.keeps;

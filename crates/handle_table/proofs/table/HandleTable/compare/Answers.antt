@@ -25,6 +25,7 @@ returns-in-Ok-clause-compared g c =
     record {
       site = e.site;
       is = e.is;
+      room = e.room;
       there = e.there;
       new = e.new;
       at = e.at;

@@ -33,6 +33,7 @@ returns-in-Ok-owner-clause-locked g c =
       owner = record {
         handle = Owner h;
         between = c.lock-owner.new.desk;
+        room = λ full. absurd (cc (e.limit.1 full));
         comes = record {
           owner = h;
           is = refl;

@@ -28,6 +28,7 @@ returns-in-Ok-owner-clause-upgraded g c =
       owner = record {
         handle = Owner c.in-Ok-owner.owner;
         between = c.upgrade-owner.new.desk;
+        room = c.in-Ok-owner.ensures.below;
         comes = record { owner = c.in-Ok-owner.owner; is = refl; event = c.in-Ok-owner.ensures.upgrade };
         assigns = c.assign.ensures.assigns;
       };
