@@ -1,5 +1,5 @@
 -- What the calls of a handle table say.
-use Rattle.std.specs.Prelude.{◌≡◌, ◌≢◌, ◌⊎◌, ℕ, ◌≤◌, Bool, false, true, List, [], ◌∷◌}
+use Rattle.std.specs.Prelude.{◌≡◌, ◌≢◌, ◌⊎◌, ℕ, ◌<◌, ◌≤◌, Bool, false, true, List, [], ◌∷◌}
 use Rattle.std.specs.Prelude.{is_some, length, slice_get, slice_set, Option, None, Some, Result, Err}
 use Rattle.control_word.specs.declared.model.handle.Kind.TheVariants as kind
 use Rattle.control_word.specs.declared.place.Block.{Block}
@@ -45,6 +45,20 @@ WhyNoWeak ss i why = WhyNoHandle ss i why
 -- there is no such slot to fill
 abbrev pub IsNoSlot : List Slot → ℕ → Fault → Type 0
 IsNoSlot ss i why = (why ≡ fault.Slot) × (length ss ≤ i)
+
+-- the slot gives a handle, an owner, a weak handle
+abbrev pub IsHandleAt : List Slot → ℕ → Type 0
+IsHandleAt ss i = (h : Held) × (slice_get ss i ≡ Some (Some h))
+
+abbrev pub IsOwnerAt : List Slot → ℕ → Type 0
+IsOwnerAt ss i = (h : Shared) × (slice_get ss i ≡ Some (Some (Owner h)))
+
+abbrev pub IsWeakAt : List Slot → ℕ → Type 0
+IsWeakAt ss i = (w : weak_handle.Weak) × (slice_get ss i ≡ Some (Some (Weak w)))
+
+-- the allowance is looked at last: `Limit` is answered only where there is the slot to fill, and the rest is so too
+abbrev pub LimitLast : List Slot → ℕ → Type 0 → Fault → Type 0
+LimitLast ss to rest why = why ≡ fault.Call Limit → (to < length ss) × rest
 
 module _ {V : Type 0} where
   -- the desk is below its allowance

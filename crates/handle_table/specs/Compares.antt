@@ -1,6 +1,7 @@
 -- What a compare-and-swap of a cell says ([util.smartptr.atomic.shared], [util.smartptr.atomic.weak]).
 use Rattle.std.specs.Prelude.{◌≡◌, ◌⊎◌, ℕ, ◌<◌, Bool, true, false, List, ◌∷◌}
 use Rattle.std.specs.Prelude.{length, slice_get, slice_set, None, Some, Result, Ok, Err}
+use Rattle.control_word.specs.declared.refusal.Refusal.TheVariants.{Limit}
 use Rattle.control_block.specs.CellCalls.{cell_of_site}
 use Rattle.control_block.specs.Desks.{DeskNow, DomainNow}
 use Rattle.control_block.specs.declared.cell_calls.Site.{Site}
@@ -12,11 +13,12 @@ use Rattle.shared_handle.specs.declared.pile.Gone.{Gone}
 use Rattle.atomic_cells.specs.Compares as cells
 use Rattle.handle_table.specs.Bringing.{beside_pile}
 use Rattle.handle_table.specs.Calls.{Assigns, IsAtLimit, IsBelow, LetsGo}
-use Rattle.handle_table.specs.Cells.{IsCellAtSite, WhyNoCell, WhyNoneOf, kind_of_cell}
+use Rattle.handle_table.specs.Cells.{IsCellAtSite, IsCellThere, IsKindAt, WhyNoCell, WhyNoneOf, kind_of_cell}
 use Rattle.handle_table.specs.Parts.{kind_of_held, block_of_held, place_of_held}
 use Rattle.handle_table.specs.Tables.{FitsSlots, IsAt, Slot, TableNow}
 use Rattle.handle_table.specs.declared.cells.Cell.{Cell}
 use Rattle.handle_table.specs.declared.fault.Fault.{Fault}
+use Rattle.handle_table.specs.declared.fault.Fault.TheVariants as fault
 
 module _ {V : Type 0} where
   -- where it swapped, what was desired is out of its slot, and what came out of the cell left; else the expected slot
@@ -73,10 +75,17 @@ module _ {V : Type 0} where
       ⊎ (WhyNoneOf (kind_of_cell c) t.slots expected why
       ⊎ (WhyNoneOf (kind_of_cell c) t.slots desired why ⊎ IsAtLimit t why))
 
+  -- the allowance is looked at last: `Limit` is answered only where the cell is there, and both slots have handles of
+  -- its kind
+  abbrev pub ComparesLast : DeskNow V → List Slot → Cell → ℕ → ℕ → Fault → Type 0
+  ComparesLast d ss c expected desired why = why ≡ fault.Call Limit
+      → IsCellThere d.shape ss c × IsKindAt (kind_of_cell c) ss expected × IsKindAt (kind_of_cell c) ss desired
+
   -- it was compared so, or why not, and nothing changed
   abbrev pub IsCompared : Bool → DeskNow V → List Slot → Cell → ℕ → ℕ → Result (Bool × Held) Fault
       → DeskNow V
       → Type 0
   IsCompared weak d ss c expected desired (Ok r) e = ComparesCell weak d ss c expected desired r.0 r.1 e
   IsCompared weak d ss c expected desired (Err why) e =
-      WhyNotCompared (beside_pile d ss) c expected desired why × (e ≡ d)
+      (WhyNotCompared (beside_pile d ss) c expected desired why × ComparesLast d ss c expected desired why)
+      × (e ≡ d)

@@ -2,7 +2,9 @@
 ghost use Rattle.std.specs.Prelude.{◌≡◌, false, true, IfErr, IfOk, OnOk};
 ghost use Rattle.control_block.specs.Desks.{Belongs};
 ghost use Rattle.handle_table.specs.Bringing.{Brought, Fills, IsLoaded, IsSwapped, beside_pile};
-ghost use Rattle.handle_table.specs.Cells.{ExchangesSlot, LoadsIntoSlot, StoresFromSlot, WhyNotLoaded, WhyNotSwapped};
+ghost use Rattle.handle_table.specs.Calls.{LimitLast};
+ghost use Rattle.handle_table.specs.Cells.{ExchangesSlot, IsCellThere, LoadsIntoSlot, StoresFromSlot, WhyNotLoaded};
+ghost use Rattle.handle_table.specs.Cells.{WhyNotSwapped};
 ghost use Rattle.handle_table.specs.Tables.{FitsSlots};
 
 use crate::cells::held::{exchange_held, load_held};
@@ -31,7 +33,8 @@ fn loaded<V: Drop, R: Wait>(
     requires domain { Belongs desk.old domain.now }
     requires fits { FitsSlots desk.old slots.now.items }
     ensures { Brought (IsLoaded cell slots.now.items)
-        (WhyNotLoaded (beside_pile desk.old slots.now.items) cell to)
+        (λ why. WhyNotLoaded (beside_pile desk.old slots.now.items) cell to why
+        × LimitLast slots.now.items to (IsCellThere desk.old.shape slots.now.items cell) why)
         desk.old slots.now.items to result desk.new }
 {
     if to >= slots.len() {
@@ -110,6 +113,8 @@ impl<'d, V: Drop, H: Home> HandleTable<'d, V, H> {
     pub fn load<R: Wait>(&mut self, rt: &R, cell: Cell, to: usize) -> Result<(), Fault>
         ensures loaded { OnOk result (LoadsIntoSlot self.old cell to self.new) }
         ensures refused { IfErr result (λ why. WhyNotLoaded self.old cell to why × (self.new ≡ self.old)) }
+        ensures last { IfErr result
+            (LimitLast self.old.slots to (IsCellThere self.old.desk.shape self.old.slots cell)) }
     {
         if load_into_vacant(rt, self.domain, &mut self.desk, &mut self.slots, cell, to) {
             return Ok(());
@@ -122,6 +127,8 @@ impl<'d, V: Drop, H: Home> HandleTable<'d, V, H> {
     fn load_any<R: Wait>(&mut self, rt: &R, cell: Cell, to: usize) -> Result<(), Fault>
         ensures loaded { OnOk result (LoadsIntoSlot self.old cell to self.new) }
         ensures refused { IfErr result (λ why. WhyNotLoaded self.old cell to why × (self.new ≡ self.old)) }
+        ensures last { IfErr result
+            (LimitLast self.old.slots to (IsCellThere self.old.desk.shape self.old.slots cell)) }
     {
         // in hand, since what a call that isn't inlined answers is kept in memory
         match self.load_out_of_line(rt, cell, to) {
@@ -136,6 +143,8 @@ impl<'d, V: Drop, H: Home> HandleTable<'d, V, H> {
     fn load_out_of_line<R: Wait>(&mut self, rt: &R, cell: Cell, to: usize) -> Result<(), Fault>
         ensures loaded { OnOk result (LoadsIntoSlot self.old cell to self.new) }
         ensures refused { IfErr result (λ why. WhyNotLoaded self.old cell to why × (self.new ≡ self.old)) }
+        ensures last { IfErr result
+            (LimitLast self.old.slots to (IsCellThere self.old.desk.shape self.old.slots cell)) }
     {
         let came = loaded(rt, self.domain, &mut self.desk, &self.slots, cell, to);
         arrive(
