@@ -1,6 +1,6 @@
 use Rattle.std.proofs.Common.{rules, ◌∙◌}
 use Rattle.control_block.proofs.CellTries.{aim_at, out_since, room_at}
-use Rattle.control_block.proofs.rounds.loads.load.Goals as goal
+use Rattle.control_block.proofs.rounds.loads.load_with_retries.Goals as goal
 
 pub try_load-requires-clause-aim : goal.try_load-requires-clause-aim
 try_load-requires-clause-aim g c = let l = c.loop.invariant in aim_at c.requires.aim l.2 l.3
