@@ -1,5 +1,5 @@
 use Rattle.std.proofs.Common.{◌≡◌}
-use Rattle.control_block.proofs.rounds.loads.load.Given as goal
+use Rattle.control_block.proofs.rounds.loads.load_with_retries.Given as goal
 
 -- each try that fails leaves the chair as it was
 abbrev pub invariant-loop : goal.invariant-loop

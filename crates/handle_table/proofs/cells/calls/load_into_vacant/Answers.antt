@@ -5,16 +5,17 @@ use Rattle.atomic_cells.specs.Cells as cells
 use Rattle.handle_table.specs.Parts.{block_of_held, place_of_held}
 use Rattle.handle_table.proofs.Filling.{fits_more}
 use Rattle.handle_table.proofs.Wholes.{kept}
-use Rattle.handle_table.proofs.cells.calls.load_at_once.Goals as goal
+use Rattle.handle_table.proofs.cells.calls.load_into_vacant.Goals as goal
 
 pub returns-clause-loaded : goal.returns-clause-loaded
 returns-clause-loaded g c = λ _.
-    let d = c.args.desk.now in let m = c.load_held_at_once.new.desk in let h = c.in-Some.found in let e = c.in-Some.ensures in
+    let d = c.args.desk.now in let m = c.load_held.new.desk in let h = c.in-Ok-load_held.found in let e = c.in-Ok-load_held.ensures in
     let at = c.in-Ok.at in let k = c.in-Ok.ensures.found.1 in
     record {
       handle = h;
       brings = record {
         there = omega arith;
+        room = e.below;
         comes = (
           at.site,
           c.in-Ok.ensures.found.0,
