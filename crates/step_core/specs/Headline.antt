@@ -1,6 +1,7 @@
 -- What holds after each step of a run, and of each of its steps.
 use Rattle.std.specs.Prelude.{◌≡◌, ◌≢◌, ◌↔◌, ◌⊎◌, ℕ, ◌+◌, ◌-◌, ◌<◌, ◌≤◌}
-use Rattle.std.specs.Prelude.{Bool, true, false, List, [], ◌∷◌, length, slice_index, Option, Some, None, MatchOption}
+use Rattle.std.specs.Prelude.{Bool, true, false, List, [], ◌∷◌, length, slice_index, Option, Some, None}
+use Rattle.std.specs.Prelude.{MatchOption}
 use Rattle.control_word.specs.declared.model.event.Event.{Event}
 use Rattle.control_word.specs.declared.model.event.Event.TheVariants.{Leave, Lock}
 use Rattle.control_word.specs.declared.model.handle.Handle.{Handle}
@@ -107,7 +108,8 @@ LocksNext k must (t ∷ ts) = (t.statement ≡ k) × ((i : ℕ) × (t.act ≡ ac
 -- the next act is a lock of a name that has no weak pointer to an object
 abbrev pub LocksNone : Bool → Slots → List Task → Type 0
 LocksNone must slots [] = ⊥
-LocksNone must slots (t ∷ ts) = (i : ℕ) × (t.act ≡ act.Lock i must) × (weak_slot (slot_pointer slots i) ≡ None)
+LocksNone must slots (t ∷ ts) =
+    (i : ℕ) × (t.act ≡ act.Lock i must) × (weak_slot (slot_pointer slots i) ≡ None)
 
 -- A lock says whether it gave an owner, by an answer of its statement; one that must give an owner is refused where
 -- it did not. Nothing else answers so, but a lock of a name without a weak pointer to an object, which gives no owner

@@ -1,5 +1,6 @@
 -- Runs of a world: steps of any actors, one after another. All of it is own.
-use Rattle.std.specs.Prelude.{◌≡◌, ◌≢◌, ℕ, zero, suc, ◌+◌, ◌-◌, ◌<◌, ◌≤◌, ◌==◌, ◌&&◌, ◌||◌, Bool, true, not, is_some}
+use Rattle.std.specs.Prelude.{◌≡◌, ◌≢◌, ℕ, zero, suc, ◌+◌, ◌-◌, ◌<◌, ◌≤◌, ◌==◌, ◌&&◌}
+use Rattle.std.specs.Prelude.{◌||◌, Bool, true, not, is_some}
 use Rattle.std.specs.Prelude.{false, List, [], ◌∷◌, ◌++◌, All, length, map, slice_index}
 use Rattle.control_word.specs.declared.refusal.Refusal.{Refusal}
 use Rattle.control_word.specs.declared.refusal.Refusal.TheVariants as refusal
@@ -65,8 +66,8 @@ call_of (Refill stage c x k) ts = k
 call_of (Returning kind b funds k) ts = k
 call_of _ ts = next_statement ts
 
--- The call of statement k goes on while its thread has begun something, an object ends in its hands, or its next task is
--- of that statement. At a thread's end each leave is a call
+-- The call of statement k goes on while its thread has begun something, an object ends in its hands, or its next task
+-- is of that statement. At a thread's end each leave is a call
 abbrev pub call_goes_on : ℕ → Half → Walk → Bool
 call_goes_on k Rest w = is_some (first_of w.endings) || (not (k == 0) && next_statement w.todo == k)
 call_goes_on k _ w = true

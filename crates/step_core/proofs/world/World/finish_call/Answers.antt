@@ -51,7 +51,8 @@ loop-self-preserved c =
     let before = c.loop-self.invariant.room in
     record {
       on = going_more (call_under_way c.args.number c.args.self.now) c.args.number c.args.self.now c.loop-self.self c.advance-stepped.new.self
-          c.args.steps.now.items c.loop-self.steps.items c.add.new.steps.items c.advance-stepped.result c.loop-self.invariant.on (goes c) s.advances s.actors s.never e.items;
+          c.args.steps.now.items c.loop-self.steps.items c.add.new.steps.items c.advance-stepped.result c.loop-self.invariant.on (goes c)
+          s.advances s.actors s.never e.items;
       room = omega (arith, l, less, before);
       capacity = (let first = c.loop-self.invariant.capacity in omega (arith, room, first));
     }
