@@ -163,7 +163,9 @@ pub fn run_leader<V: Drop + Send, R: Threads + Wait + Sync, P: Leader<V, R> + Sy
         workers: 1,
         pointers,
     };
-    alone.fits(&shape)?;
+    if let Some(why) = alone.misfit(&shape) {
+        return Err(why);
+    }
     let below = alone.below();
     let Ok(kept) = Vec::with_capacity(alloc, below.slots) else {
         return Err(NotRun::Memory);
