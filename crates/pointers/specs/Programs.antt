@@ -46,3 +46,8 @@ module _ (V : Type 0) where
     pub slots : below.slots ≡ team.pointers + 1
     pub blocks : below.blocks ≡ 0
     pub runs : Runs shape below (record { workers = workers; fewer = fewer }) c
+
+  -- a desk of a domain of this shape that had all, with no handle left and nothing to end, closed it
+  pub record Ends (shape : Shape) (c : CensusNow) : Type 0 where
+    pub last : DeskNow V
+    pub closed : IsClosed last shape c
