@@ -1,8 +1,9 @@
 //! Plays: what one worker does at its desk, and what is left then.
 
+use crate::shapes::one_worker;
 use crate::values::{Told, Value, begin, ends};
-use crate::{cells, compares, crowds, drops, lists, members, owners, visits, weaks};
-use pointers::{Desk, Domain, Fault, Program, Ran, Team, run};
+use crate::{cells, compares, crowds, drops, lists, members, owners, spares, visits, weaks};
+use pointers::{Desk, Domain, Fault, Program, Ran, run};
 use std::alloc::Global;
 use std::sync::Wait;
 use std::thread::Threads;
@@ -22,6 +23,7 @@ enum Play {
     Visits,
     Crowds,
     Lists,
+    Spares,
 }
 
 /// A worker that does a play.
@@ -55,6 +57,7 @@ impl Player {
             Play::Visits => visits::play(rt, desk, &self.told),
             Play::Crowds => crowds::play(rt, desk, &self.told, self.alloc, BLOCKS),
             Play::Lists => lists::play(rt, desk, &self.told),
+            Play::Spares => spares::play(rt, desk, &self.told),
             _ => Err(Fault::Other(0)),
         }
     }
@@ -80,10 +83,7 @@ fn played<R: Threads + Wait + Sync + AllocGlobal>(
     begin(&told);
     let alloc = rt.alloc();
     let player = Player { play, told, alloc };
-    let team = Team {
-        workers: 1,
-        pointers: 16,
-    };
+    let team = one_worker();
     match run(rt, alloc, team.shape(BLOCKS, 2, 2), team, &player) {
         Ok(ran) => Ok(of_run(&ran)),
         Err(_) => Err(Fault::Other(1)),
@@ -111,6 +111,7 @@ mod tests {
             Play::Visits,
             Play::Crowds,
             Play::Lists,
+            Play::Spares,
         ] {
             assert_eq!(rt; played(&rt, play), Ok((None, BLOCKS)), "at {play:?}");
         }
