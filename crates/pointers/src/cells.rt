@@ -1,5 +1,5 @@
 //! Places for pointers that other threads see too: free cells, and members of objects.
-ghost use Rattle.std.specs.Prelude.{◌≡◌};
+ghost use Rattle.std.specs.Prelude.{◌≡◌, ◌<◌, ◌≤◌, ◌^◌};
 
 use crate::desk::placing::Target;
 use crate::fault::call::Spot;
@@ -21,7 +21,10 @@ pub struct WeakCell(pub u32);
 
 impl SharedCell {
     /// The cell of that number. One above all is none of a domain's.
-    pub fn at(number: usize) -> SharedCell {
+    pub fn at(number: usize) -> SharedCell
+        ensures that { number < 2 ^ 32 → result.0 ≡ number }
+        ensures none { 2 ^ 32 ≤ number → result.0 ≡ 4294967295 }
+    {
         SharedCell(u32::try_from(number).unwrap_or(u32::MAX))
     }
 
@@ -36,7 +39,10 @@ impl SharedCell {
 
 impl WeakCell {
     /// The cell of that number. One above all is none of a domain's.
-    pub fn at(number: usize) -> WeakCell {
+    pub fn at(number: usize) -> WeakCell
+        ensures that { number < 2 ^ 32 → result.0 ≡ number }
+        ensures none { 2 ^ 32 ≤ number → result.0 ≡ 4294967295 }
+    {
         WeakCell(u32::try_from(number).unwrap_or(u32::MAX))
     }
 

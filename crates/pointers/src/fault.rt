@@ -99,7 +99,7 @@ impl From<io::Error> for Fault {
     ghost from_gives = { λ _ why. why ≡ Output };
 
     fn from(_why: io::Error) -> Fault {
-        Fault::Output
+        Self::Output
     }
 }
 

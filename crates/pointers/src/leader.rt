@@ -1,5 +1,7 @@
 //! A program whose first thread has a desk too, and starts teams one after another.
-ghost use Rattle.std.specs.Prelude.{◌≡◌};
+ghost use Rattle.std.specs.Prelude.{◌≡◌, IfOk};
+ghost use Rattle.control_word.specs.Layout.{IsWithinLimits};
+ghost use Rattle.pointers.specs.Programs.{Ends};
 
 use crate::desk::{Desk, linked};
 use crate::domain::{Domain, Lent};
@@ -158,12 +160,17 @@ pub fn run_leader<V: Drop + Send, R: Threads + Wait + Sync, P: Leader<V, R> + Sy
     shape: Shape,
     pointers: u32,
     leader: &mut P,
-) -> Result<Ran<V>, NotRun> {
+) -> Result<Ran<V>, NotRun>
+    ensures closed { IfOk result (λ r. Ends V shape r.census) }
+    ensures within { IfOk result (λ _. IsWithinLimits shape) }
+{
     let alone = Team {
         workers: 1,
         pointers,
     };
-    alone.fits(&shape)?;
+    if let Some(why) = alone.misfit(&shape) {
+        return Err(why);
+    }
     let below = alone.below();
     let Ok(kept) = Vec::with_capacity(alloc, below.slots) else {
         return Err(NotRun::Memory);
@@ -181,13 +188,20 @@ pub fn run_leader<V: Drop + Send, R: Threads + Wait + Sync, P: Leader<V, R> + Sy
         fault: None,
         failed: Mutex::new(Vec::new(alloc)),
     };
-    let ran = handle_table::run_leader(rt, alloc, shape, below.slots, &mut lead);
-    lead.ran(ran)
+    match handle_table::run_leader(rt, alloc, shape, below.slots, &mut lead) {
+        Ok(census) => Ok(lead.ran(census)),
+        Err(why) => {
+            lead.end();
+            Err(NotRun::of(why))
+        }
+    }
 }
 
 impl<'p, P> Lead<'p, P> {
-    /// What the run left.
-    fn ran<V: Drop>(self, ran: Result<Census<V>, Refusal>) -> Result<Ran<V>, NotRun> {
+    /// What is told of a run.
+    fn ran<V: Drop>(self, census: Census<V>) -> Ran<V>
+        ensures { result.census ≡ census }
+    {
         let Lead {
             alloc: _,
             leader: _,
@@ -201,19 +215,40 @@ impl<'p, P> Lead<'p, P> {
             failed,
         } = self;
         drop(kept);
-        let mut failed = failed.into_inner();
-        if let Some(why) = fault {
-            let worker = usize::MAX;
-            let _ = failed.push(Failed { worker, why });
-        }
-        match ran {
-            Ok(census) => Ok(Ran {
-                census,
-                workers,
-                fewer,
-                failed,
-            }),
-            Err(why) => Err(NotRun::of(why)),
+        let failed = with_leader(failed, fault);
+        Ran {
+            census,
+            workers,
+            fewer,
+            failed,
         }
     }
+
+    /// Nothing is told of it.
+    fn end(self) {
+        let Lead {
+            alloc: _,
+            leader: _,
+            slots: _,
+            kept,
+            room: _,
+            team: _,
+            workers: _,
+            fewer: _,
+            fault: _,
+            failed,
+        } = self;
+        drop(kept);
+        drop(failed);
+    }
+}
+
+/// The workers' faults, and last that of the leader.
+fn with_leader(failed: Mutex<Vec<Failed, Global>>, fault: Option<Fault>) -> Vec<Failed, Global> {
+    let mut failed = failed.into_inner();
+    if let Some(why) = fault {
+        let worker = usize::MAX;
+        let _ = failed.push(Failed { worker, why });
+    }
+    failed
 }

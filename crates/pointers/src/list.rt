@@ -155,8 +155,8 @@ impl<'p, 't, D: Domain, E: Element<'t, D>> List<'p, 't, D, E> {
         Ok(out)
     }
 
-    /// The first element that is the same as this one goes out (waits): whether there was one. Owners are the same that
-    /// point at one place, weak pointers that are of one object.
+    /// The first element that is the same as this one goes out (waits): whether there was one. Those are the same that
+    /// are of one object.
     pub fn remove<R: Wait>(&self, rt: &R, element: &E) -> Result<bool, Fault> {
         let mut before = None;
         for _ in 0..u64::MAX {

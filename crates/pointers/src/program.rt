@@ -1,6 +1,8 @@
 //! A program over a domain of its own, with a desk for each of its threads.
-ghost use Rattle.std.specs.Prelude.{◌≡◌, IfErr, IfOk};
+ghost use Rattle.std.specs.Prelude.{◌≡◌, IfOk, IfSome};
 ghost use Rattle.control_word.specs.Layout.{IsWithinLimits};
+ghost use Rattle.handle_table.specs.declared.program.Manned.{Manned};
+ghost use Rattle.pointers.specs.Programs.{Runs, RunsTeam};
 
 use crate::desk::{Desk, linked};
 use crate::domain::{Domain, Lent};
@@ -110,17 +112,86 @@ impl<'p, V: Drop, R: Threads + Wait + Sync, P: Program<V, R> + Sync> handle_tabl
     }
 }
 
+impl<'p, P> Seats<'p, P> {
+    /// What is told of a run.
+    fn ran<V: Drop>(self, census: Census<V>) -> Ran<V>
+        ensures census { result.census ≡ census }
+        ensures manned { IfSome self.entry.manned (λ m. (result.workers ≡ m.workers) × (result.fewer ≡ m.fewer)) }
+    {
+        let Seats {
+            alloc: _,
+            program: _,
+            team: _,
+            manned,
+            failed,
+        } = self;
+        let failed = in_order(failed);
+        match manned {
+            Some(manned) => Ran {
+                census,
+                workers: manned.workers,
+                fewer: manned.fewer,
+                failed,
+            },
+            None => Ran {
+                census,
+                workers: 0,
+                fewer: None,
+                failed,
+            },
+        }
+    }
+
+    /// Nothing is told of it.
+    fn end(self) {
+        let Seats {
+            alloc: _,
+            program: _,
+            team: _,
+            manned: _,
+            failed,
+        } = self;
+        drop(failed);
+    }
+}
+
+/// The faults, by their workers' numbers.
+fn in_order(failed: Mutex<Vec<Failed, Global>>) -> Vec<Failed, Global> {
+    let mut failed = failed.into_inner();
+    failed.sort_unstable_by_key(|failed| failed.worker);
+    failed
+}
+
+/// The team works in a new domain.
+fn at_seats<V: Drop + Send, R: Threads + Wait + Sync, P: Program<V, R> + Sync>(
+    rt: &R,
+    alloc: Global,
+    shape: Shape,
+    seats: &mut Seats<'_, P>,
+) -> Result<Census<V>, Refusal>
+    ensures runs { IfOk result (λ c. (m : Manned) × (seats.new.manned ≡ Some m) × Runs V shape seats.old.team m c) }
+    ensures within { IfOk result (λ _. IsWithinLimits shape) }
+{
+    handle_table::run_leader(rt, alloc, shape, 0, seats)
+}
+
 /// A domain is opened, each worker of the team does its part of the program in a thread with a desk of its own, and the
-/// domain is closed. Pointers that a worker kept or forgot let go, and what is left to end does so. All vacant blocks
-/// are any worker's.
+/// domain is closed (own). Pointers that a worker forgot or kept let go, and what is left to end does so. All vacant
+/// blocks are any worker's: they lie on the domain's shelf, but for a reserve of each desk. Where a number doesn't fit
+/// (`Small`, `Large`) no worker works; `Memory` comes only where memory was refused.
 pub fn run<V: Drop + Send, R: Threads + Wait + Sync, P: Program<V, R> + Sync>(
     rt: &R,
     alloc: Global,
     shape: Shape,
     team: Team,
     program: &P,
-) -> Result<Ran<V>, NotRun> {
-    team.fits(&shape)?;
+) -> Result<Ran<V>, NotRun>
+    ensures runs { IfOk result (λ r. RunsTeam V shape team r.workers r.fewer r.census) }
+    ensures within { IfOk result (λ _. IsWithinLimits shape) }
+{
+    if let Some(why) = team.misfit(&shape) {
+        return Err(why);
+    }
     let Ok(failed) = Vec::with_capacity(alloc, team.workers) else {
         return Err(NotRun::Memory);
     };
@@ -131,23 +202,11 @@ pub fn run<V: Drop + Send, R: Threads + Wait + Sync, P: Program<V, R> + Sync>(
         manned: None,
         failed: Mutex::new(failed),
     };
-    let ran = handle_table::run_leader(rt, alloc, shape, 0, &mut seats);
-    let Seats {
-        alloc: _,
-        program: _,
-        team: _,
-        manned,
-        failed,
-    } = seats;
-    let mut failed = failed.into_inner();
-    failed.sort_unstable_by_key(|failed| failed.worker);
-    match ran {
-        Ok(census) => Ok(Ran {
-            census,
-            workers: manned.map_or(0, |manned| manned.workers),
-            fewer: manned.and_then(|manned| manned.fewer),
-            failed,
-        }),
-        Err(why) => Err(NotRun::of(why)),
+    match at_seats(rt, alloc, shape, &mut seats) {
+        Ok(census) => Ok(seats.ran(census)),
+        Err(why) => {
+            seats.end();
+            Err(NotRun::of(why))
+        }
     }
 }

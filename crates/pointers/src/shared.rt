@@ -115,13 +115,13 @@ impl<'t, D: Domain> Shared<'t, D> {
         self.desk.owners(self.at)
     }
 
-    /// Whether both point at one place, in C++ `==`, in Rust `Arc::ptr_eq`.
+    /// Whether both own one object, in C++ neither `owner_before` the other, in Rust `Arc::ptr_eq`.
     #[inline(always)]
     pub fn is(&self, other: &Shared<'t, D>) -> Result<bool, Fault> {
-        self.desk.same(self.at, other.at)
+        self.desk.equivalent(self.at, other.at)
     }
 
-    /// The same, by the name that a table has for it.
+    /// Whether both point at one place, whatever they own, in C++ `==` ([util.smartptr.shared.cmp]).
     #[inline(always)]
     pub fn same_place(&self, other: &Shared<'t, D>) -> Result<bool, Fault> {
         self.desk.same(self.at, other.at)

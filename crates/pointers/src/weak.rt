@@ -78,6 +78,12 @@ impl<'t, D: Domain> Weak<'t, D> {
         self.desk.owners(self.at)
     }
 
+    /// Whether both are of one object, in C++ neither `owner_before` the other, in Rust `Weak::ptr_eq`.
+    #[inline(always)]
+    pub fn is(&self, other: &Weak<'t, D>) -> Result<bool, Fault> {
+        self.desk.equivalent(self.at, other.at)
+    }
+
     /// Whether what it is of comes before what the other is of, in C++ `owner_before`.
     #[inline(always)]
     pub fn owner_before(&self, other: &Weak<'t, D>) -> Result<bool, Fault> {

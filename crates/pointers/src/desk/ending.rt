@@ -35,8 +35,20 @@ impl<D: Domain> Desk<D> {
     /// The same of a weak pointer, whose object's block may become vacant by it.
     #[inline(always)]
     pub(crate) fn let_go_weak(&self, at: usize) {
-        self.let_go(at);
-        self.spare();
+        let over = match self.table.try_borrow_mut() {
+            Ok(mut table) => {
+                let _ = table.leave(at);
+                table.stock() > RESERVE
+            }
+            Err(_) => {
+                self.put_off(at);
+                return;
+            }
+        };
+        self.give_slot(at);
+        if over {
+            self.spare();
+        }
     }
 
     /// What is left to end does so, in so many steps at most. The values are dropped while the desk is free.
@@ -68,7 +80,8 @@ impl<D: Domain> Desk<D> {
     }
 
     /// Vacant blocks above the reserve go to the shelf.
-    #[inline(always)]
+    #[cold]
+    #[inline(never)]
     pub(crate) fn spare(&self) {
         if let Ok(mut table) = self.table.try_borrow_mut() {
             let stock = table.stock();
@@ -93,8 +106,9 @@ impl<D: Domain> Desk<D> {
             let Some(at) = self.take_late() else {
                 break;
             };
-            self.let_go_weak(at);
+            self.let_go(at);
         }
+        self.spare();
     }
 
     /// What is left to end with this desk does so, in C++ the deleters' calls. A pointer's drop has done it before, but

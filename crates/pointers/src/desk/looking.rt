@@ -57,6 +57,12 @@ impl<D: Domain> Desk<D> {
         }
     }
 
+    /// Whether two handles are of one object, or both of none.
+    #[inline(always)]
+    pub(crate) fn equivalent(&self, a: usize, b: usize) -> Result<bool, Fault> {
+        Ok(!self.before(a, b)? && !self.before(b, a)?)
+    }
+
     #[inline(always)]
     pub(crate) fn worked_on<A, F: FnOnce(&mut D::Value) -> A + Drop, R: Wait>(
         &self,

@@ -42,6 +42,6 @@ impl<'t, D: Domain> Element<'t, D> for Weak<'t, D> {
     }
 
     fn same(&self, other: &Self) -> Result<bool, Fault> {
-        Ok(!self.owner_before(other)? && !other.owner_before(self)?)
+        self.is(other)
     }
 }

@@ -1,5 +1,6 @@
 //! How many workers there are, and what each gets.
-ghost use Rattle.std.specs.Prelude.{◌≡◌};
+ghost use Rattle.std.specs.Prelude.{◌≡◌, ◌+◌, ◌<◌, ◌^◌};
+ghost use Rattle.pointers.specs.Teams.{handles_of};
 
 use crate::program::not_run::{Limit, NotRun, Number};
 use control_word::Shape;
@@ -19,7 +20,11 @@ pub struct Team {
 
 impl Team {
     /// The shape of a domain with room for the team: with so many blocks for objects, and so many free cells.
-    pub fn shape(&self, blocks: u32, shared_cells: u32, weak_cells: u32) -> Shape {
+    pub fn shape(&self, blocks: u32, shared_cells: u32, weak_cells: u32) -> Shape
+        ensures blocks { result.blocks ≡ blocks }
+        ensures cells { (result.shared_cells ≡ shared_cells) × (result.weak_cells ≡ weak_cells) }
+        ensures room { handles_of self.now < 2 ^ 32 → result.allowance ≡ handles_of self.now }
+    {
         Shape {
             blocks,
             shared_cells,
@@ -29,58 +34,66 @@ impl Team {
     }
 
     /// How many handles the domain must allow: for each worker its pointers and two more, and one for the first desk.
-    pub(crate) fn handles(&self) -> u64 {
+    pub(crate) fn handles(&self) -> u64
+        ensures { handles_of self.now < 2 ^ 64 → result ≡ handles_of self.now }
+    {
         let each = u64::from(self.pointers).saturating_add(u64::from(SPARE));
         let workers = u64::try_from(self.workers).unwrap_or(u64::MAX);
         workers.saturating_mul(each).saturating_add(1)
     }
 
     /// What each worker's table gets.
-    pub(crate) fn below(&self) -> handle_table::Team {
-        let slots = (self.pointers as usize).saturating_add(1);
+    pub(crate) fn below(&self) -> handle_table::Team
+        ensures workers { result.workers ≡ self.now.workers }
+        ensures slots { result.slots ≡ self.now.pointers + 1 }
+        ensures blocks { result.blocks ≡ 0 }
+    {
         handle_table::Team {
             workers: self.workers,
-            slots,
+            slots: self.pointers as usize + 1,
             allowance: self.pointers.saturating_add(SPARE),
             blocks: 0,
         }
     }
 
-    /// Whether a domain of that shape can be opened, and has room for the team, or which number doesn't fit.
-    pub(crate) fn fits(&self, shape: &Shape) -> Result<(), NotRun> {
-        shape_fits(shape)?;
-        if self.handles() > u64::from(shape.allowance) {
-            return Err(NotRun::Small(Limit {
+    /// Which number doesn't fit: of a shape that no domain can have, or that has no room for the team.
+    pub(crate) fn misfit(&self, shape: &Shape) -> Option<NotRun> {
+        if let Some(why) = outside(shape) {
+            return Some(why);
+        }
+        let needed = self.handles();
+        if needed > u64::from(shape.allowance) {
+            return Some(NotRun::Small(Limit {
                 number: Number::Allowance,
                 is: u64::from(shape.allowance),
-                limit: self.handles(),
+                limit: needed,
             }));
         }
-        Ok(())
+        None
     }
 }
 
-/// A number that is to be within limits.
-fn within(number: Number, is: u32, least: u32, most: u32) -> Result<(), NotRun> {
-    let is_at = |limit: u32| Limit {
+/// A number that is outside its limits.
+fn misfit(number: Number, is: u32, least: u32, most: u32) -> Option<NotRun> {
+    let is_beyond = |limit: u32| Limit {
         number,
         is: u64::from(is),
         limit: u64::from(limit),
     };
     if is < least {
-        return Err(NotRun::Small(is_at(least)));
+        return Some(NotRun::Small(is_beyond(least)));
     }
     if is > most {
-        return Err(NotRun::Large(is_at(most)));
+        return Some(NotRun::Large(is_beyond(most)));
     }
-    Ok(())
+    None
 }
 
-/// Whether a domain of that shape can be opened, or which number is outside the limits.
-fn shape_fits(shape: &Shape) -> Result<(), NotRun> {
-    within(Number::Blocks, shape.blocks, 1, MOST_BLOCKS)?;
-    within(Number::SharedCells, shape.shared_cells, 0, MOST_FREE_CELLS)?;
-    let left = MOST_FREE_CELLS.saturating_sub(shape.shared_cells);
-    within(Number::WeakCells, shape.weak_cells, 0, left)?;
-    within(Number::Allowance, shape.allowance, 1, MOST_ALLOWANCE)
+/// Which number of the shape is outside the limits.
+fn outside(shape: &Shape) -> Option<NotRun> {
+    let cells = MOST_FREE_CELLS.saturating_sub(shape.shared_cells);
+    misfit(Number::Blocks, shape.blocks, 1, MOST_BLOCKS)
+        .or(misfit(Number::SharedCells, shape.shared_cells, 0, MOST_FREE_CELLS))
+        .or(misfit(Number::WeakCells, shape.weak_cells, 0, cells))
+        .or(misfit(Number::Allowance, shape.allowance, 1, MOST_ALLOWANCE))
 }
