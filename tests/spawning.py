@@ -3,12 +3,26 @@ run of the same process puts its own."""
 import functools
 import multiprocessing
 import os
+import pathlib
 import signal
+import sys
+from datetime import date
 from typing import NamedTuple
 
 SECONDS = 60
+# What random inputs are drawn by where no seed is given: the day's number.
+SEED = str(date.today().toordinal())
 # What Python ignores, a program that it starts does not.
 HEARD = (signal.SIGPIPE, signal.SIGXFSZ)
+
+
+def built(programs):
+    """These programs by their whole paths, or a sentence where one isn't there."""
+    for it in programs:
+        if not os.access(it, os.X_OK):
+            name = pathlib.Path(sys.argv[0]).name
+            sys.exit(f'{name}: there is no program {it}; ./sptr --prove builds one, ./sptr --build one without a proof')
+    return [os.path.abspath(it) for it in programs]
 
 
 class Run(NamedTuple):

@@ -1,0 +1,57 @@
+"""How long checks will take: the tables of docs/gate.md, and the machine's processors."""
+import os
+import pathlib
+import re
+import statistics
+import time
+
+PAGE = pathlib.Path(__file__).resolve().parent.parent / "docs/gate.md"
+ROW = re.compile(r"^\| (\w+) \| ([\d.]*) \| ([\d.]*) \| ([\d.]*) \|", re.MULTILINE)
+PARTS = "proofs", "tests", "edits"
+# The row of what runs once all is proved.
+LAST = "after"
+# The most memory that one check of a crate has taken, in bytes.
+MEMORY_OF_A_CHECK = 4 << 30
+
+
+def lanes():
+    """How many checks go side by side: one a processor, as memory allows."""
+    fit = os.sysconf("SC_PAGE_SIZE") * os.sysconf("SC_PHYS_PAGES") // MEMORY_OF_A_CHECK
+    return max(1, min(len(os.sched_getaffinity(0)), fit))
+
+
+def table():
+    """Processor minutes of each crate by part; a crate that has no row takes those of the one in the middle."""
+    rows = {name: [float(it or 0) for it in minutes] for name, *minutes in ROW.findall(PAGE.read_text())}
+    rows.pop("all", None)
+    return rows
+
+
+class Plan:
+    """What is to be done, in minutes by the clock, and how much of it is."""
+
+    def __init__(self, crates, stages):
+        rows, self.start = table(), time.monotonic()
+        middle = [statistics.median(column) for column in zip(*rows.values())]
+        after = sum(rows.pop(LAST, [5.0]))
+        self.left = {(crate, part): it for crate in crates for part, it in zip(PARTS, rows.get(crate, middle))}
+        self.left |= {(stage, LAST): after / stages for stage in range(stages)}
+        self.lanes, self.begun, self.all = lanes(), {}, sum(self.left.values())
+
+    def done(self, *parts):
+        """Notes that these parts are over."""
+        for it in parts:
+            self.left.pop(it, None)
+
+    def edits_begin(self, crate):
+        """A crate's edits have no line at their end, so they are taken to go on at one processor."""
+        self.begun[crate, "edits"] = time.monotonic()
+
+    def minutes(self):
+        """How many minutes are left, at the pace so far once a tenth is done."""
+        now = time.monotonic()
+        going = sum(min(self.left.get(it, 0), (now - since) / 60) for it, since in self.begun.items())
+        left = sum(self.left.values()) - going
+        done = self.all - left
+        pace = (now - self.start) / 60 * self.lanes / done if done > self.all / 10 else 1
+        return left / self.lanes * pace
