@@ -12,14 +12,9 @@ const CURRENT: SharedCell = SharedCell(0);
 struct Configuration;
 
 impl<R: Threads + Wait + Sync> Program<(), R> for Configuration {
-    fn work<D: Domain<Value = ()>>(
-        &self,
-        rt: &R,
-        number: usize,
-        desk: &Desk<D>,
-    ) -> Result<(), Fault> {
+    fn work<D: Domain<Value = ()>>(&self, rt: &R, me: usize, desk: &Desk<D>) -> Result<(), Fault> {
         for version in 1..=100 {
-            if number == 0 {
+            if me == 0 {
                 // current.store(std::make_shared<Configuration>(version));
                 desk.make([version, 0, 0, 0], ())?.store(CURRENT)?;
             } else if let Some(now) = desk.load(rt, CURRENT)? {
@@ -38,8 +33,7 @@ fn main(rt: HostRuntime) -> io::Result<()> {
     };
     match run(&rt, rt.alloc(), team.shape(64, 1, 0), team, &Configuration) {
         Ok(ran) => println!(&rt;
-            "{} workers, {} faults, {} blocks vacant",
-            ran.workers,
+            "{} faults, {} vacant",
             ran.failed.len(),
             ran.census.vacant()
         ),
