@@ -39,8 +39,8 @@ def as_opened(crate):
 
 
 # A crate, a module or a test of one, whose tests are run with each allocation refused in turn, and what
-# tests/refuse_allocations is told of them: those that may not fail, each with how many allocations it makes of its own
-# (the others may say that memory was wanted), and pairs that take as many allocations.
+# tests/refuse_allocations is told of them: those that may not fail, each with the most allocations that it makes of its
+# own (the others may say that memory was wanted), and pairs that take as many allocations.
 REFUSED = {
     "handle_tests::foundations::ledger": ["foundations::ledger::a_refused_opening_leaves_nothing=0"],
     "handle_tests::foundations::arena": ["foundations::arena::an_arena_may_be_refused=0"],
@@ -49,11 +49,11 @@ REFUSED = {
     "scene_tests::memory": [],
     "scene_tests::accesses": ["accesses::a_refused_access_is_sought_again=0"],
     "script_tests::machine::opening::a_refused_world_gives_its_program_back": [
-        "machine::opening::a_refused_world_gives_its_program_back=5",
+        "machine::opening::a_refused_world_gives_its_program_back=6",
     ],
     "script_tests::workers::a_refused_run": ["workers::a_refused_run_leaves_nothing=0"],
     "script_tests::memory": [
-        "memory::a_refused_run_leaves_its_world=3",
+        "memory::a_refused_run_leaves_its_world=12",
         "memory::refused_lines_are_not_begun=1",
         "memory::a_refused_script_is_read_again=0",
         "memory::a_refused_run_of_a_text_is_not_begun=2",
