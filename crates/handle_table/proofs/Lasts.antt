@@ -45,7 +45,7 @@ no_cell z ss (cell.Up of) why w is = no_object ss of why w is
 
 -- no handle came so, and the allowance was looked at last
 abbrev pub with_last : (Fault → Type 0) → List Slot → ℕ → Type 0 → Fault → Type 0
-with_last no ss to rest why = no why × LimitLast ss to rest why
+with_last wrong ss to rest why = wrong why × LimitLast ss to rest why
 
 -- what is said of a fault is so of the same one
 pub fault_arrives : {V E : Type 0} (P : E → Type 0) (r : Result Held E) (m e : DeskNow V) (ss ts : List Slot) (xs ys : List (Ending V)) (to : ℕ)

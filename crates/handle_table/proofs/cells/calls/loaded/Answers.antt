@@ -34,7 +34,7 @@ returns-in-Ok-load_held g c =
 pub returns-in-Err-load_held : goal.returns-in-Err-load_held
 returns-in-Err-load_held g c =
     let e = c.in-Err-load_held.ensures.refused in
-    ((inr (inr (ap fault.Call e.0, e.1)), λ _. (omega arith, c.in-Ok.at.site, c.in-Ok.ensures.found.0)), e.2)
+    ((inr (inr (ap fault.Call e.0, e.1)), λ _. (omega arith, (c.in-Ok.at.site, c.in-Ok.ensures.found.0))), e.2)
 
 pub returns-in-Err : goal.returns-in-Err
 returns-in-Err g c =

@@ -27,7 +27,7 @@ returns-in-Ok-came g c =
 pub returns-in-Err-came : goal.returns-in-Err-came
 returns-in-Err-came g c =
     let e = c.in-Err-came.ensures.refused in
-    ((inr (inr (ap fault.Call e.0, e.1)), λ _. (omega arith, c.in-Ok.handle, c.in-Ok.ensures.found)), e.2)
+    ((inr (inr (ap fault.Call e.0, e.1)), λ _. (omega arith, (c.in-Ok.handle, c.in-Ok.ensures.found))), e.2)
 
 pub returns-in-Err : goal.returns-in-Err
 returns-in-Err g c =

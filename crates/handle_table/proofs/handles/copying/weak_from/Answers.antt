@@ -35,7 +35,7 @@ returns-in-Ok-came g c =
 pub returns-in-Err-came : goal.returns-in-Err-came
 returns-in-Err-came g c =
     let e = c.in-Err-came.ensures.refused in
-    ((inr (inr (ap fault.Call e.0, c.in-Err-came.ensures.limit.0 refl)), λ _. (omega arith, c.in-Ok.owner, c.in-Ok.ensures.found)), e.1)
+    ((inr (inr (ap fault.Call e.0, c.in-Err-came.ensures.limit.0 refl)), λ _. (omega arith, (c.in-Ok.owner, c.in-Ok.ensures.found))), e.1)
 
 pub returns-in-Err : goal.returns-in-Err
 returns-in-Err g c =

@@ -48,7 +48,7 @@ returns-in-Err-came g c =
     let e = c.in-Err-came.ensures.refused in (
       (
         inr (inr (inr (ap fault.Call e.0, c.in-Err-came.ensures.limit.0 refl))),
-        λ _. (omega arith, c.if-not-is_pointer.ensures.0 refl, c.in-Ok.owner, c.in-Ok.ensures.found),
+        λ _. (omega arith, (c.if-not-is_pointer.ensures.0 refl, (c.in-Ok.owner, c.in-Ok.ensures.found))),
       ),
       e.1,
     )

@@ -28,7 +28,7 @@ returns-in-Ok-came g c =
 pub returns-in-Err-came : goal.returns-in-Err-came
 returns-in-Err-came g c =
     let e = c.in-Err-came.ensures.refused in let at = c.in-Ok.ensures.found in
-    ((inr (inr (c.in-Ok.owner, at, (c.in-Err-came.why, refl, e.0))), λ _. (omega arith, c.in-Ok.owner, at)), e.1)
+    ((inr (inr (c.in-Ok.owner, at, (c.in-Err-came.why, refl, e.0))), λ _. (omega arith, (c.in-Ok.owner, at))), e.1)
 
 pub returns-in-Err : goal.returns-in-Err
 returns-in-Err g c =

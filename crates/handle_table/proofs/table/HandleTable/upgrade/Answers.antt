@@ -69,4 +69,4 @@ pub returns-in-Err-owner-clause-last : goal.returns-in-Err-owner-clause-last
 returns-in-Err-owner-clause-last g c =
     let few = c.if-to-len.false in
     subst (λ (t : TableNow g.row.V.Denot). LimitLast t.slots c.args.to (IsWeakAt t.slots c.args.from) (fault.Call c.in-Err-owner.why)) c.self.view_is
-    (λ _. (omega (arith, few), c.in-Ok.weak, c.in-Ok.ensures.found))
+    (λ _. (omega (arith, few), (c.in-Ok.weak, c.in-Ok.ensures.found)))
