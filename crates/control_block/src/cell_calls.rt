@@ -5,7 +5,7 @@ ghost use Rattle.control_word.specs.Handles.{same_kind};
 ghost use Rattle.control_block.specs.CellCalls.{IsSite, word_at};
 ghost use Rattle.control_block.specs.Handles.{IsProper, IsProper-prop};
 
-pub use crate::calls::cells::{exchange, load, load_at_once};
+pub use crate::calls::cells::{exchange, load};
 use control_word::model::handle::Kind;
 use control_word::packed::layout::{MEMBERS, block_word, cell_word};
 use control_word::{Block, Place};

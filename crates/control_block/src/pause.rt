@@ -16,7 +16,7 @@ impl Pause {
         Pause { spins: SHORTEST }
     }
 
-    /// Spins for a while, and longer the next time.
+    /// Spins for a while, and longer the next time: another thread's try succeeded.
     #[inline(never)]
     pub(crate) fn wait(&mut self) {
         for _ in 0..self.spins {
@@ -24,6 +24,16 @@ impl Pause {
         }
         if self.spins < LONGEST {
             self.spins *= 2;
+        }
+    }
+
+    /// The same where no try succeeds until another thread goes on: after six waits that gets the processor.
+    #[inline(never)]
+    pub(crate) fn give_way(&mut self) {
+        if self.spins < LONGEST {
+            self.wait();
+        } else {
+            std::thread::yield_now();
         }
     }
 }

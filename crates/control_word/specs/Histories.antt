@@ -44,10 +44,6 @@ module _ {V : Type 0} where
   IsLegal z [] = IsOpening z
   IsLegal z (e ∷ h) = IsLegal z h × MayCome z h e.desk e.event
 
-  -- the history leads from the start to s
-  abbrev pub Legal : Opening → List (Entry V) → State → Type 0
-  Legal z h s = IsLegal z h × (s ≡ leads z h)
-
   abbrev pub ends_by : ℕ → Event V → ℕ
   ends_by o (Leave h last) = cond (last && object_of h == o) 1 0
   ends_by o _ = 0

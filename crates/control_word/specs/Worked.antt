@@ -1,14 +1,16 @@
--- Five short histories of one desk, worked out. A member that is empty needs no event at its object's end.
+-- Seven short histories, worked out, of one desk but for the last. A member that is empty needs no event at its
+-- object's end.
 use Rattle.std.specs.Prelude.{◌≡◌, ℕ, Bool, true, false, cond, ◌==◌, List, [], ◌∷◌, Some, None}
 use Rattle.control_word.specs.declared.model.event.Cell.TheVariants.{Free, Member}
 use Rattle.control_word.specs.declared.model.event.Entry.{Entry}
 use Rattle.control_word.specs.declared.model.event.Event.{Event}
 use Rattle.control_word.specs.declared.model.event.Event.TheVariants.{Make, Share, Leave, Count, Expired, Read}
-use Rattle.control_word.specs.declared.model.event.Event.TheVariants.{WeakShare, WeakLeave, Lock, Swap, Compare, Finish}
+use Rattle.control_word.specs.declared.model.event.Event.TheVariants.{WeakShare, WeakLeave, Lock, Load, Swap, Compare}
+use Rattle.control_word.specs.declared.model.event.Event.TheVariants.{ClearMember, Finish, Visit, Split, Join}
 use Rattle.control_word.specs.declared.model.handle.Handle.{Handle}
 use Rattle.control_word.specs.declared.model.handle.Kind.TheVariants.{Owner, Weak}
 use Rattle.control_word.specs.Handles.{handle, empty, same_place}
-use Rattle.control_word.specs.State.{Opening, State, live, gone, count, weak, IsVacant}
+use Rattle.control_word.specs.State.{Opening, State, bag_size, live, gone, count, weak, IsVacant}
 use Rattle.control_word.specs.Events.{place_at}
 use Rattle.control_word.specs.Histories.{entry, leads, IsLegal, MayCome}
 
@@ -207,3 +209,64 @@ CycleStays =
     × (s.made ≡ 2) × (s.hands ≡ [])
     × ((s.object 1).phase ≡ live) × ((s.object 2).phase ≡ live)
     × Counts cycle_ended 1 1 0 × Counts cycle_ended 2 1 0
+
+-- What is loaded from a member is an owner more, and keeps its object when the member goes out. The value that comes out
+-- at an object's end is what a visit left
+abbrev pub member_filled : List (Entry ℕ)
+member_filled =
+    further [] (
+    make_in 1 (1 ∷ 0 ∷ 0 ∷ 0 ∷ [])
+    ∷ make_in 2 (2 ∷ 0 ∷ 0 ∷ 0 ∷ [])
+    ∷ Swap (Member 1 0) (owner_at 2 2) (empty Owner)
+    ∷ []
+    )
+
+abbrev pub member_loaded : List (Entry ℕ)
+member_loaded = further member_filled (Load (Member 1 0) (owner_at 2 2) ∷ Visit (owner_at 1 1) 0 7 ∷ [])
+
+abbrev pub member_ending : List (Entry ℕ)
+member_ending = further member_loaded (Leave (owner_at 1 1) true ∷ [])
+
+abbrev pub member_cleared : List (Entry ℕ)
+member_cleared = further member_ending (ClearMember 1 0 (owner_at 2 2) ∷ [])
+
+abbrev pub member_ended : List (Entry ℕ)
+member_ended =
+    further member_cleared
+    (Finish 1 true 7 ∷ Leave (owner_at 2 2) false ∷ Leave (owner_at 2 2) true ∷ Finish 2 true 0 ∷ [])
+
+abbrev pub MembersGoOut : Type 0
+MembersGoOut =
+    let s = reached member_ended in
+    IsLegal four_blocks member_ended
+    × Counts member_filled 2 1 0 × OnlyReply member_filled (Load (Member 1 0)) (owner_at 2 2)
+    × Counts member_loaded 2 2 0 × OnlyReply member_ending (ClearMember 1 0) (owner_at 2 2)
+    × Counts member_cleared 2 2 0 × OnlyReply member_cleared (Finish 1 true) 7
+    × (s.made ≡ 2) × (s.hands ≡ []) × ((s.object 1).phase ≡ gone) × ((s.object 2).phase ≡ gone)
+
+-- A split hands an owner, a block and a part of the allowance to a new desk, which makes an object of its own; by the
+-- join all of it is the first desk's
+abbrev pub split_off : List (Entry ℕ)
+split_off =
+    further [] (
+    make_in 1 (1 ∷ 0 ∷ 0 ∷ 0 ∷ [])
+    ∷ Share (owner_at 1 1) (place_at 1)
+    ∷ Split 1 40 (owner_at 1 1 ∷ []) (record { 0 = 2 } ∷ [])
+    ∷ []
+    )
+
+abbrev pub split_used : List (Entry ℕ)
+split_used = entry 1 (make_in 2 (2 ∷ 0 ∷ 0 ∷ 0 ∷ [])) ∷ split_off
+
+abbrev pub split_joined : List (Entry ℕ)
+split_joined = further split_used (Join 1 ∷ [])
+
+abbrev pub SplitAndJoined : Type 0
+SplitAndJoined =
+    let before = reached split_off in
+    let s = reached split_joined in
+    IsLegal four_blocks split_joined
+    × (before.names ≡ 2) × (before.allowance 0 ≡ 60) × (before.allowance 1 ≡ 40)
+    × (bag_size before 0 ≡ 1) × (bag_size before 1 ≡ 1) × Counts split_off 1 2 0
+    × (s.joined 1 ≡ true) × (s.allowance 0 ≡ 100) × (s.allowance 1 ≡ 0)
+    × (bag_size s 0 ≡ 3) × (bag_size s 1 ≡ 0) × Counts split_joined 1 2 0 × Counts split_joined 2 1 0

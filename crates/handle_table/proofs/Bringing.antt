@@ -11,12 +11,13 @@ use Rattle.control_block.specs.declared.handles.Held.{Held}
 use Rattle.control_block.specs.declared.handles.Held.TheVariants.{Weak}
 use Rattle.control_block.specs.declared.handles.Weak as weak_handle
 use Rattle.shared_handle.specs.Calls.{weak_place}
+use Rattle.shared_handle.specs.Endings.{MayGiveThis}
 use Rattle.shared_handle.specs.Piles.{Bears}
 use Rattle.shared_handle.specs.declared.endings.Ending.{Ending}
 use Rattle.shared_handle.specs.declared.pile.Pile.{Pile}
 use Rattle.handle_table.specs.Bringing.{Arrives, Brought, Coming, FitsInHand, IsAlias, IsLoaded, IsThisOwner, IsThisWeak}
 use Rattle.handle_table.specs.Bringing.{Fills, IsWeakCopy, OfHandle, OfOwner, beside_pile}
-use Rattle.handle_table.specs.Calls.{Comes, Copies, Downgrades, IsCopy}
+use Rattle.handle_table.specs.Calls.{Comes, Copies, Downgrades, IsBelow, IsCopy}
 use Rattle.handle_table.specs.Cells.{LoadsIntoSlot, SwapsFromSlot}
 use Rattle.handle_table.specs.declared.cells.Cell.{Cell}
 use Rattle.handle_table.specs.Structures.{AddsChild, IsChild}
@@ -41,7 +42,7 @@ module _ {V E : Type 0} (came : Coming V) (no : E → Type 0) (d m : DeskNow V) 
       → Arrives r m ss xs to q e ts ys → OnOk q (Comes came (table_of d ss xs) to (table_of e ts ys))
   comes (Ok h) q e ts xs ys b a =
       subst (λ (k : Result Unit E). OnOk k (Comes came (table_of d ss xs) to (table_of e ts ys))) (sym a.0)
-      (record { handle = h; between = m; comes = b.comes; assigns = a.1 })
+      (record { handle = h; between = m; room = b.room; comes = b.comes; assigns = a.1 })
   comes (Err why) q e ts xs ys b a =
       subst (λ (k : Result Unit E). OnOk k (Comes came (table_of d ss xs) to (table_of e ts ys))) (sym a.0) tt
 
@@ -60,13 +61,18 @@ module _ {V E : Type 0} (came : Coming V) (no : E → Type 0) (d m : DeskNow V) 
 
 -- what came of the handle, or of the owner, in a slot
 module _ {V : Type 0} where
+  -- an object gives a pointer to itself to a desk below its allowance
+  pub this_below : (d : DeskNow V) (b : Option Block) (p : Option Place) → MayGiveThis d b p → IsBelow d
+  this_below d None p may = absurd may
+  this_below d (Some c) p may = may.0
+
   pub copies : (t u : TableNow V) (from to : ℕ) → Comes (OfHandle IsCopy t.slots from) t to u → Copies t from to u
   copies t u from to c =
-      record { of = c.comes.0; at = c.comes.1; copy = record { handle = c.handle; between = c.between; comes = c.comes.2; assigns = c.assigns } }
+      record { of = c.comes.0; at = c.comes.1; copy = record { handle = c.handle; between = c.between; room = c.room; comes = c.comes.2; assigns = c.assigns } }
 
   pub downgrades : (t u : TableNow V) (from to : ℕ) → Comes (OfOwner IsWeakCopy t.slots from) t to u → Downgrades t from to u
   downgrades t u from to c =
-      record { of = c.comes.0; at = c.comes.1; weak = record { handle = c.handle; between = c.between; comes = c.comes.2; assigns = c.assigns } }
+      record { of = c.comes.0; at = c.comes.1; weak = record { handle = c.handle; between = c.between; room = c.room; comes = c.comes.2; assigns = c.assigns } }
 
   pub shares_this : (t u : TableNow V) (from to : ℕ) → Comes (OfOwner IsThisOwner t.slots from) t to u → SharesThis t from to u
   shares_this t u from to c =
@@ -74,7 +80,7 @@ module _ {V : Type 0} where
         of = c.comes.0;
         at = c.comes.1;
         may = c.comes.2.0;
-        this = record { handle = c.handle; between = c.between; comes = c.comes.2.1; assigns = c.assigns };
+        this = record { handle = c.handle; between = c.between; room = c.room; comes = c.comes.2.1; assigns = c.assigns };
       }
 
   pub shares_this_weakly : (t u : TableNow V) (from to : ℕ) → Comes (OfOwner IsThisWeak t.slots from) t to u → SharesThisWeakly t from to u
@@ -83,19 +89,19 @@ module _ {V : Type 0} where
         of = c.comes.0;
         at = c.comes.1;
         may = c.comes.2.0;
-        this = record { handle = c.handle; between = c.between; comes = c.comes.2.1; assigns = c.assigns };
+        this = record { handle = c.handle; between = c.between; room = c.room; comes = c.comes.2.1; assigns = c.assigns };
       }
 
   pub aliases : (t u : TableNow V) (from to : ℕ) (p : Option Place) → Comes (OfOwner (IsAlias p) t.slots from) t to u → Aliases t from p to u
   aliases t u from to p c =
-      record { of = c.comes.0; at = c.comes.1; copy = record { handle = c.handle; between = c.between; comes = c.comes.2; assigns = c.assigns } }
+      record { of = c.comes.0; at = c.comes.1; copy = record { handle = c.handle; between = c.between; room = c.room; comes = c.comes.2; assigns = c.assigns } }
 
   pub loads : (t u : TableNow V) (to : ℕ) (k : Cell) → Comes (IsLoaded k t.slots) t to u → LoadsIntoSlot t k to u
   loads t u to k c =
       record {
         site = c.comes.0;
         is = c.comes.1;
-        loads = record { handle = c.handle; between = c.between; comes = c.comes.2; assigns = c.assigns };
+        loads = record { handle = c.handle; between = c.between; room = c.room; comes = c.comes.2; assigns = c.assigns };
       }
 
   -- what is said of a swap by the desk and its slots is so of the table
@@ -110,7 +116,7 @@ module _ {V : Type 0} where
         of = c.comes.0;
         at = c.comes.1;
         may = c.comes.2.0;
-        child = record { handle = c.handle; between = c.between; comes = c.comes.2.1; assigns = c.assigns };
+        child = record { handle = c.handle; between = c.between; room = c.room; comes = c.comes.2.1; assigns = c.assigns };
       }
 
 -- a weak copy in a bag
@@ -138,6 +144,7 @@ module _ {V : Type 0} (came : Coming V) (d : DeskNow V) (ss : List Slot) (to : �
       record {
         handle = f.handle;
         between = e;
+        room = f.brings.room;
         comes = f.brings.comes;
         assigns = record { old = None; was = f.vacant; slots = f.slots; leaves = (refl, refl) };
       }

@@ -16,3 +16,4 @@ pub mod Manning
 pub mod Sharing
 pub mod Regained
 pub mod Structured
+pub mod Lasts

@@ -12,6 +12,7 @@ use Rattle.scene_structures.specs.Others.{KeepsOthers}
 use Rattle.scene_structures.specs.Scenes.{IsNearLimit}
 use Rattle.scene_structures.specs.Stacks.{ServesDomain, StackNow, StandsIn}
 use Rattle.handle_table.proofs.Filling.{fits_still}
+use Rattle.handle_table.specs.Calls.{IsBelow}
 use Rattle.handle_table.specs.Structures.{DeskDoes}
 use Rattle.handle_table.specs.Tables.{IsWhole, Slot, TableNow}
 
@@ -39,6 +40,10 @@ module _ {V : Type 0} where
   desk_does does s t u a b room done slots endings same there =
       subst (λ (k : StackNow). DeskDoes (does k.cell) t u) there
       (subst (λ (x : TableNow V). DeskDoes (does a.cell) x u) same (record { room = room; done = done; slots = slots; endings = endings }))
+
+-- a desk with six handles free is below its allowance
+pub far_below : {V : Type 0} (d : DeskNow V) → (IsNearLimit d → ⊥) → IsBelow d
+far_below d far full = far (omega (arith, full))
 
 -- a structure of the table's type stands in the table's domain
 pub stands_here : (named domain : DomainNow) (s : StackNow) → domain ≡ named → StandsIn s named → StandsIn s domain

@@ -18,7 +18,7 @@ use Rattle.handle_table.specs.Cells.{IsCellAtSite, SwapsFromSlot, WhyNotSwapped,
 use Rattle.handle_table.specs.Parts.{kind_of_held, block_of_held, place_of_held}
 use Rattle.handle_table.specs.declared.cells.Cell.{Cell}
 use Rattle.handle_table.specs.declared.fault.Fault.{Fault}
-use Rattle.handle_table.specs.Calls.{Assigns, IsOwner, IsWeak}
+use Rattle.handle_table.specs.Calls.{Assigns, IsBelow, IsOwner, IsWeak}
 use Rattle.handle_table.specs.Tables.{FitsSlots, Slot, TableNow}
 
 -- what is said of a handle that came: by the desk before, the handle, and the desk then
@@ -30,10 +30,11 @@ module _ {V : Type 0} where
   abbrev pub beside_pile : DeskNow V → List Slot → TableNow V
   beside_pile d ss = record { desk = d; slots = ss; endings = [] }
 
-  -- a handle came to the desk as told, and is in hand; there is the slot for it
+  -- a handle came to the desk as told, which was below its allowance, and is in hand; there is the slot for it
   pub record Brings (came : Coming V) (d : DeskNow V) (ss : List Slot) (to : ℕ) (h : Held)
       (e : DeskNow V) : Type 0 where
     pub there : to < length ss
+    pub room : IsBelow d
     pub comes : came d h e
     pub fits : FitsSlots e (Some h ∷ ss)
     pub bears : (domain : DomainNow) (p : Pile V) → Bears domain d p → Bears domain e p

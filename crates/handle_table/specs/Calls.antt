@@ -1,5 +1,5 @@
 -- What the calls of a handle table say.
-use Rattle.std.specs.Prelude.{◌≡◌, ◌≢◌, ◌⊎◌, ℕ, ◌≤◌, Bool, false, true, List, [], ◌∷◌}
+use Rattle.std.specs.Prelude.{◌≡◌, ◌≢◌, ◌⊎◌, ℕ, ◌<◌, ◌≤◌, Bool, false, true, List, [], ◌∷◌}
 use Rattle.std.specs.Prelude.{is_some, length, slice_get, slice_set, Option, None, Some, Result, Err}
 use Rattle.control_word.specs.declared.model.handle.Kind.TheVariants as kind
 use Rattle.control_word.specs.declared.place.Block.{Block}
@@ -46,8 +46,26 @@ WhyNoWeak ss i why = WhyNoHandle ss i why
 abbrev pub IsNoSlot : List Slot → ℕ → Fault → Type 0
 IsNoSlot ss i why = (why ≡ fault.Slot) × (length ss ≤ i)
 
+-- the slot gives a handle, an owner, a weak handle
+abbrev pub IsHandleAt : List Slot → ℕ → Type 0
+IsHandleAt ss i = (h : Held) × (slice_get ss i ≡ Some (Some h))
+
+abbrev pub IsOwnerAt : List Slot → ℕ → Type 0
+IsOwnerAt ss i = (h : Shared) × (slice_get ss i ≡ Some (Some (Owner h)))
+
+abbrev pub IsWeakAt : List Slot → ℕ → Type 0
+IsWeakAt ss i = (w : weak_handle.Weak) × (slice_get ss i ≡ Some (Some (Weak w)))
+
+-- the allowance is looked at last: `Limit` is answered only where there is the slot to fill, and the rest is so too
+abbrev pub LimitLast : List Slot → ℕ → Type 0 → Fault → Type 0
+LimitLast ss to rest why = why ≡ fault.Call Limit → (to < length ss) × rest
+
 module _ {V : Type 0} where
-  -- the desk is at its allowance
+  -- the desk is below its allowance
+  abbrev pub IsBelow : DeskNow V → Type 0
+  IsBelow d = held_of d ≢ allowance_of d
+
+  -- or at it
   abbrev pub IsAtLimit : TableNow V → Fault → Type 0
   IsAtLimit t why = (why ≡ fault.Call Limit) × (held_of t.desk ≡ allowance_of t.desk)
 
@@ -71,11 +89,12 @@ module _ {V : Type 0} where
     pub slots : ts ≡ slice_set ss to (Some h)
     pub leaves : LeavesSlot d xs old e ys
 
-  -- a handle came to the desk as told, and was assigned to the slot
+  -- a handle came to the desk as told, which was below its allowance, and was assigned to the slot
   pub record Comes (came : DeskNow V → Held → DeskNow V → Type 0) (t : TableNow V) (to : ℕ)
       (u : TableNow V) : Type 0 where
     pub handle : Held
     pub between : DeskNow V
+    pub room : IsBelow t.desk
     pub comes : came t.desk handle between
     pub assigns : Assigns between t.slots t.endings to handle u.desk u.slots u.endings
 
@@ -101,10 +120,6 @@ module _ {V : Type 0} where
   abbrev pub MakesNull : TableNow V → ℕ → V → TableNow V → Type 0
   MakesNull t to x u = Comes
       (IsOwner (λ d h e. inner.Makes d false true (0 ∷ 0 ∷ 0 ∷ 0 ∷ []) x h.block h.place e)) t to u
-
-  -- the desk is below it
-  abbrev pub IsBelow : DeskNow V → Type 0
-  IsBelow d = held_of d ≢ allowance_of d
 
   -- there is no vacant block for it
   abbrev pub IsFull : TableNow V → Fault → Type 0

@@ -66,10 +66,18 @@ WhyNoCell z ss (cell.Weak n) why = (why ≡ fault.Cell) × (z.weak_cells ≤ n)
 WhyNoCell z ss (cell.Member of which) why = WhyNoObject ss of why
 WhyNoCell z ss (cell.Up of) why = WhyNoObject ss of why
 
+-- there is such a cell
+abbrev pub IsCellThere : Shape → List Slot → Cell → Type 0
+IsCellThere z ss c = (s : Site) × IsCellAtSite z ss c s
+
 -- why a slot gives no handle of this kind
 abbrev pub WhyNoneOf : Kind → List Slot → ℕ → Fault → Type 0
 WhyNoneOf kind.Owner ss i why = WhyNoOwner ss i why
 WhyNoneOf kind.Weak ss i why = WhyNoWeak ss i why
+
+-- the slot has a handle of this kind
+abbrev pub IsKindAt : Kind → List Slot → ℕ → Type 0
+IsKindAt k ss i = (h : Held) × (slice_get ss i ≡ Some (Some h)) × (kind_of_held h ≡ k)
 
 -- a cell would see this of the handle in the slot, which is of this kind
 abbrev pub IsShownToCell : List Slot → ℕ → Kind → Content → Type 0

@@ -129,7 +129,8 @@ fn lead_in<V: Drop + Send, H: Home + Send + Sync, R: Threads + Wait + Sync, P: L
 /// `run` has it. Where no further team is started the handles in the first table leave, what is left to end does so,
 /// and the domain is closed (own). Nothing bounds how often `lead` is called but the leader. It is refused `Shape` just
 /// where the shape is outside the limits, `Memory` only where a growth was really refused, both before the first call
-/// of `lead`, and `NotSole` where a table was kept.
+/// of `lead`, and `NotSole` where a table was kept. What the calls of `lead` did the clauses say, and of the teams as
+/// little as of `run`'s.
 pub fn run_leader<V: Drop + Send, R: Threads + Wait + Sync, P: Leader<V, R> + Sync>(
     rt: &R,
     alloc: Global,

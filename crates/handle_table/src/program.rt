@@ -231,7 +231,8 @@ fn run_in<V: Drop + Send, H: Home + Send + Sync, R: Threads + Wait + Sync, P: Pr
 /// the domain is closed (own). The handles that a worker leaves in its slots leave, and what is left to end does so.
 /// The workers' tables are parts of a first one, which has all again at the end: what each had and what it left is in
 /// `runs`. It is refused `Shape` just where the shape is outside the limits, `Memory` only where a growth was really
-/// refused, and `NotSole` where a worker kept a table for itself.
+/// refused, and `NotSole` where a worker kept a table for itself. No clause says what a worker did with its table, or
+/// that it did anything: `run_workers` says that of each.
 pub fn run<V: Drop + Send, R: Threads + Wait + Sync, P: Program<V, R> + Sync>(
     rt: &R,
     alloc: Global,

@@ -9,6 +9,14 @@ ghost use Rattle.handle_table.specs.Shelving.{GivesToShelf, Supplies, TakesFromS
 use crate::table::{HandleTable, Home};
 
 impl<'d, V: Drop, H: Home> HandleTable<'d, V, H> {
+    /// How many vacant blocks the table has (own).
+    #[inline(always)]
+    pub fn stock(&self) -> u32
+        ensures { result ≡ length (stock_of self.now.desk) }
+    {
+        self.desk.stock()
+    }
+
     /// Up to `count` vacant blocks of the table go to the shelf, where any table of the domain may take them (own). It
     /// says how many: the lesser of `count` and what it has. It waits for nobody and takes no memory.
     pub fn shelve(&mut self, count: u32) -> u32

@@ -15,7 +15,7 @@ use shared_handle::{Ending, Held, Left, Member, Shared, release};
 use std::alloc::{AllocFailed, Global};
 
 // A sole desk closes its domain: how many vacant blocks it had.
-pub(crate) fn shut<V: Drop + Send>(domain: Domain<V>, desk: Desk<V>) -> u32
+pub(crate) fn shut<V: Drop>(domain: Domain<V>, desk: Desk<V>) -> u32
     requires domain { Belongs desk domain }
     requires sole { allowance_of desk ≡ domain.shape.allowance }
 {
@@ -36,7 +36,7 @@ pub(crate) enum Was {
 }
 
 // What was left of what a cell held: where that was an object's last owner, the object is given up.
-pub(crate) fn told<V: Drop + Send>(left: Left<V>) -> Was {
+pub(crate) fn told<V: Drop>(left: Left<V>) -> Was {
     match left {
         Left::Empty => Was::Empty,
         Left::Others => Was::Others,
@@ -51,11 +51,7 @@ pub(crate) fn told<V: Drop + Send>(left: Left<V>) -> Was {
 pub(crate) type Found<V> = (Was, Was, Was, V);
 
 // The end of an object whose members are the last owners of none.
-pub(crate) fn end_of<V: Drop + Send>(
-    domain: &Domain<V>,
-    desk: &mut Desk<V>,
-    ending: Ending<V>,
-) -> Found<V>
+pub(crate) fn end_of<V: Drop>(domain: &Domain<V>, desk: &mut Desk<V>, ending: Ending<V>) -> Found<V>
     requires domain { Belongs desk.old domain.now }
     requires ends { EndsInHand desk.old ending }
     ensures desk { IsSameDesk desk.old desk.new }
@@ -72,11 +68,7 @@ pub(crate) fn end_of<V: Drop + Send>(
 }
 
 // The value of the object that the handle was the last owner of.
-pub(crate) fn end<V: Drop + Send>(
-    domain: &Domain<V>,
-    desk: &mut Desk<V>,
-    handle: Shared,
-) -> Option<V>
+pub(crate) fn end<V: Drop>(domain: &Domain<V>, desk: &mut Desk<V>, handle: Shared) -> Option<V>
     requires domain { Belongs desk.old domain.now }
     requires holds { HoldsHandle desk.old Owner handle.block handle.place }
     ensures desk { IsSameDesk desk.old desk.new }

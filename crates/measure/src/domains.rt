@@ -14,7 +14,7 @@ pub(crate) fn out_of_memory() -> io::Error {
 }
 
 /// A domain and its first desk, if there is memory.
-pub(crate) fn open<V: Drop + Send>(alloc: Global, shape: Shape) -> io::Result<(Domain<V>, Desk<V>)>
+pub(crate) fn open<V: Drop>(alloc: Global, shape: Shape) -> io::Result<(Domain<V>, Desk<V>)>
     ensures desk { IfOk result (λ r. IsOnlyDesk r.0 r.1) }
     ensures shape { IfOk result (λ r. r.0.shape ≡ shape) }
 {
@@ -25,7 +25,7 @@ pub(crate) fn open<V: Drop + Send>(alloc: Global, shape: Shape) -> io::Result<(D
 }
 
 /// The domain is closed by its only desk.
-pub(crate) fn close<V: Drop + Send>(domain: Domain<V>, desk: Desk<V>)
+pub(crate) fn close<V: Drop>(domain: Domain<V>, desk: Desk<V>)
     requires { IsOnlyDesk domain desk }
 {
     match census::close(domain, desk) {

@@ -1,95 +1,57 @@
 //! An observer list: a subject knows its observers by weak pointers, tells those that are there, and drops the others.
 #![tactic(auto)]
 
-use control_word::Shape;
-use handle_table::{Fault, HandleTable, Home, Program, Team, run};
+use pointers::{Desk, Domain, Fault, Program, Team, Weak, run};
 use std::io;
 use std::sync::Wait;
 use std::thread::Threads;
 
-/// The slots of the subject's weak pointers.
-const FIRST: usize = 0;
-
-const LAST: usize = 7;
-
-/// The slots of the observers' owners, and of the one that is told.
-const ANNA: usize = 8;
-
-const BERT: usize = 9;
-
-const TOLD: usize = 10;
-
-/// The subject knows the observer in the slot.
-fn attach<H: Home>(table: &mut HandleTable<'_, (), H>, observer: usize) -> Result<(), Fault> {
-    for slot in FIRST..=LAST {
-        if table.expired(slot) == Err(Fault::Vacant) {
-            return table.downgrade(observer, slot);
+/// Each observer that is there is told, and the others are forgotten.
+fn notify<D: Domain, R: Wait + Print>(rt: &R, observers: &mut Vec<Weak<'_, D>>) {
+    observers.retain(|observer| match observer.lock(rt) {
+        Ok(Some(told)) => {
+            let _ = println!(rt; "{} is told", told.read().unwrap_or(0));
+            true
         }
-    }
-    Err(Fault::Slot)
+        Ok(None) => false,
+        Err(_) => true,
+    });
 }
 
-/// Each observer that is there is told, and the subject forgets the others.
-fn notify<H: Home, R: Wait + Print>(
+fn watch<D: Domain<Value = ()>, R: Wait + Print + AllocGlobal>(
     rt: &R,
-    table: &mut HandleTable<'_, (), H>,
+    desk: &Desk<D>,
 ) -> Result<(), Fault> {
-    for slot in FIRST..=LAST {
-        match table.lock(rt, slot, TOLD) {
-            Ok(true) => {
-                let number = table.read(TOLD)?;
-                let _ = println!(rt; "{number} is told");
-                table.reset(TOLD)?;
-            }
-            Ok(false) => {
-                table.reset(slot)?;
-            }
-            Err(Fault::Vacant) => {}
-            Err(why) => return Err(why),
-        }
-    }
+    let anna = desk.make([1, 0, 0, 0], ())?;
+    let bert = desk.make([2, 0, 0, 0], ())?;
+    let mut observers = Vec::new(rt.alloc());
+    observers.push(anna.downgrade()?)?;
+    observers.push(bert.downgrade()?)?;
+    notify(rt, &mut observers);
+    drop(anna);
+    notify(rt, &mut observers);
     Ok(())
-}
-
-fn watch<H: Home, R: Wait + Print>(
-    rt: &R,
-    table: &mut HandleTable<'_, (), H>,
-) -> Result<(), Fault> {
-    for (slot, number) in [(ANNA, 1), (BERT, 2)] {
-        if let Err(returned) = table.make(slot, [number, 0, 0, 0], false, ()) {
-            return Err(returned.why);
-        }
-        attach(table, slot)?;
-    }
-    notify(rt, table)?;
-    table.reset(ANNA)?;
-    notify(rt, table)
 }
 
 struct Watching;
 
-impl<R: Threads + Wait + Sync + Print> Program<(), R> for Watching {
-    fn work<H: Home>(&self, rt: &R, _number: usize, table: &mut HandleTable<'_, (), H>) {
-        if let Err(why) = watch(rt, table) {
-            let _ = println!(rt; "{why:?}");
-        }
+impl<R: Threads + Wait + Sync + Print + AllocGlobal> Program<(), R> for Watching {
+    fn work<D: Domain<Value = ()>>(
+        &self,
+        rt: &R,
+        _number: usize,
+        desk: &Desk<D>,
+    ) -> Result<(), Fault> {
+        watch(rt, desk)
     }
 }
 
 fn main(rt: HostRuntime) -> io::Result<()> {
-    let shape = Shape {
-        blocks: 8,
-        shared_cells: 0,
-        weak_cells: 0,
-        allowance: 16,
-    };
     let team = Team {
         workers: 1,
-        slots: 11,
-        allowance: 8,
-        blocks: 4,
+        pointers: 8,
     };
-    match run(&rt, rt.alloc(), shape, team, &Watching) {
+    match run(&rt, rt.alloc(), team.shape(8, 0, 0), team, &Watching) {
         Ok(ran) => println!(&rt; "{} blocks vacant", ran.census.vacant()),
         Err(why) => println!(&rt; "not run: {why}"),
     }

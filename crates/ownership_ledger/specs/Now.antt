@@ -3,7 +3,7 @@ use Rattle.std.specs.Prelude.{◌≡◌, ℕ, ◌+◌, ◌≤◌, List, length, 
 use Rattle.atomic_table.specs.Seated.{TableId}
 use Rattle.ownership_ledger.specs.declared.share.Totals.{Totals}
 use Rattle.ownership_ledger.specs.declared.share.View.{View}
-use Rattle.ownership_ledger.specs.Rule.{BookState, KeptBook, totals_words, zeros}
+use Rattle.ownership_ledger.specs.Rule.{zeros}
 
 pub record BookNow : Type 0 where
   pub id : TableId
@@ -32,10 +32,6 @@ one_more_ended t = record t { ended = t.ended + 1 }
 
 abbrev pub IsAtMost : Totals → Totals → Type 0
 IsAtMost t u = (t.made ≤ u.made) × (t.ended ≤ u.ended)
-
--- the book's rule held to the end, and its last words show these totals
-abbrev pub IsLast : ℕ → Totals → Type 0
-IsLast workers t = (s : BookState) × KeptBook workers s × (s.words ≡ totals_words t)
 
 -- the view of a seat into which all these shares were joined
 pub record StandsForShares (shares : List ShareNow) (v : View) : Type 0 where

@@ -1,6 +1,6 @@
 //! How a book is closed.
 ghost use Rattle.std.specs.Prelude.{◌≡◌, ◌<◌, [], length, sum_by, All};
-ghost use Rattle.ownership_ledger.specs.Now.{IsAtMost, IsLast, StandsForShares};
+ghost use Rattle.ownership_ledger.specs.Now.{IsAtMost, StandsForShares};
 
 use crate::book::{Book, ENDED, MADE};
 use crate::plays::Glue;
@@ -8,15 +8,14 @@ use crate::share::{Share, Totals, View};
 use atomic_table::Seat;
 
 impl Book {
-    /// The book's totals: the words that it ends with, which are the sums over all its shares in
-    /// whatever order any threads added. It refuses nothing, and frees the book's memory. (own)
+    /// The book's totals: the sums over all its shares, in whatever order any threads added. They are
+    /// at least what any share saw of the book. It refuses nothing, and frees the book's memory. (own)
     pub fn gather(self, shares: Vec<Share>) -> Totals
         requires book { All (λ s. s.book ≡ self.id) shares.items }
         requires all { length shares.items ≡ self.workers }
         ensures made { result.made ≡ sum_by (λ s. s.own.made) shares.items }
         ensures ended { result.ended ≡ sum_by (λ s. s.own.ended) shares.items }
         ensures seen { All (λ s. IsAtMost s.seen result) shares.items }
-        ensures book { IsLast self.workers result }
     {
         let seat = join_all(&self, shares);
         let Book { table } = self;

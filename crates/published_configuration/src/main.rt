@@ -1,100 +1,75 @@
 //! A published configuration: one thread publishes new versions of it, and others read the current one.
 #![tactic(auto)]
 
-use control_word::Shape;
-use handle_table::{Cell, Fault, HandleTable, Home, Program, Team, run};
+use pointers::{Desk, Domain, Fault, Program, SharedCell, Team, run};
 use std::io;
 use std::sync::Wait;
 use std::sync::atomic::{AtomicU32, Ordering};
 use std::thread::Threads;
 
 /// The cell with the current configuration.
-const CURRENT: Cell = Cell::Shared(0);
-
-/// The slot for the configuration that a worker makes or reads.
-const NOW: usize = 0;
+const CURRENT: SharedCell = SharedCell(0);
 
 /// Publishes so many versions, from 1 on.
-fn publish<H: Home, R: Wait>(
-    rt: &R,
-    table: &mut HandleTable<'_, (), H>,
-    versions: u64,
-) -> Result<(), Fault> {
+fn publish<D: Domain<Value = ()>>(desk: &Desk<D>, versions: u64) -> Result<(), Fault> {
     for version in 1..=versions {
-        if let Err(returned) = table.make(NOW, [version, 0, 0, 0], false, ()) {
-            return Err(returned.why);
-        }
-        table.store(NOW, CURRENT)?;
-        table.settle(rt);
+        desk.make([version, 0, 0, 0], ())?.store(CURRENT)?;
     }
     Ok(())
 }
 
 /// Reads the current version so often: how often it was older than the one before.
-fn observe<H: Home, R: Wait>(
-    rt: &R,
-    table: &mut HandleTable<'_, (), H>,
-    times: u32,
-) -> Result<u32, Fault> {
+fn observe<D: Domain, R: Wait>(rt: &R, desk: &Desk<D>, times: u32) -> Result<u32, Fault> {
     let mut older = 0u32;
     let mut seen = 0;
     for _ in 0..times {
-        table.load(rt, CURRENT, NOW)?;
-        if table.place(NOW)?.is_some() {
-            let version = table.read(NOW)?;
+        if let Some(now) = desk.load(rt, CURRENT)? {
+            let version = now.read()?;
             older = older.saturating_add(u32::from(version < seen));
             seen = version;
         }
-        table.settle(rt);
     }
     Ok(older)
 }
 
-/// The first worker publishes, and the others observe.
+/// The first worker publishes, and the others observe: how often a version was older than the one before.
 #[derive(Drop)]
 struct Crowd {
     older: AtomicU32,
-    faults: AtomicU32,
 }
 
 impl<R: Threads + Wait + Sync> Program<(), R> for Crowd {
-    fn work<H: Home>(&self, rt: &R, number: usize, table: &mut HandleTable<'_, (), H>) {
-        let done = match number {
-            0 => publish(rt, table, 100).map(|()| 0),
-            _ => observe(rt, table, 1_000),
-        };
-        match done {
-            Ok(older) => self.older.fetch_add(older, Ordering::SeqCst),
-            Err(_) => self.faults.fetch_add(1, Ordering::SeqCst),
-        };
+    fn work<D: Domain<Value = ()>>(
+        &self,
+        rt: &R,
+        number: usize,
+        desk: &Desk<D>,
+    ) -> Result<(), Fault> {
+        if number == 0 {
+            return publish(desk, 100);
+        }
+        let older = observe(rt, desk, 1_000)?;
+        self.older.fetch_add(older, Ordering::SeqCst);
+        Ok(())
     }
 }
 
 fn main(rt: HostRuntime) -> io::Result<()> {
-    let shape = Shape {
-        blocks: 512,
-        shared_cells: 1,
-        weak_cells: 0,
-        allowance: 32,
-    };
     let team = Team {
         workers: 3,
-        slots: 1,
-        allowance: 8,
-        blocks: 128,
+        pointers: 8,
     };
     let crowd = Crowd {
         older: AtomicU32::new(0),
-        faults: AtomicU32::new(0),
     };
-    match run(&rt, rt.alloc(), shape, team, &crowd) {
+    match run(&rt, rt.alloc(), team.shape(512, 1, 0), team, &crowd) {
         Ok(ran) => {
             let older = crowd.older.load(Ordering::SeqCst);
-            let faults = crowd.faults.load(Ordering::SeqCst);
             println!(&rt; "{older} versions older than the one before")?;
             println!(&rt;
-                "{} workers, {faults} faults, {} blocks vacant",
+                "{} workers, {} faults, {} blocks vacant",
                 ran.workers,
+                ran.failed.len(),
                 ran.census.vacant()
             )
         }

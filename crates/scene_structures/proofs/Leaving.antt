@@ -24,7 +24,7 @@ use Rattle.shared_handle.specs.Piles.{IsParting}
 use Rattle.scene_structures.specs.Chains.{IsList}
 use Rattle.scene_structures.specs.Detaches.{Detaches, LeavesParent, Seeks, UnlinksIf}
 use Rattle.scene_structures.specs.Hands.{Lists, node_in}
-use Rattle.scene_structures.specs.Leaves.{IsCut, IsDetached, IsNoChild, KeepsBut, LeavesList, after_all}
+use Rattle.scene_structures.specs.Leaves.{IsCut, IsDetached, IsNoChild, KeepsBut, LeavesList, WentOut, after_all}
 use Rattle.scene_structures.specs.Parents.{IsParent, LocksUp}
 use Rattle.scene_structures.specs.Prunes.{is_owned}
 use Rattle.scene_structures.specs.Puts.{PutsOnly, in_no_cell}
@@ -155,7 +155,7 @@ module _ {V : Type 0} where
       → IsSole d → ((state_of d).object o).phase ≡ live → ((state_of e).object o).phase ≡ live → IsDetached d o e
   left_or_not d e o a parent legal sole lives_d lives_e = (
     λ none. nobody a.parent.block refl a.rest none,
-    λ p os up owned list lives. somebody p os up owned list lives a.parent.block refl a.rest,
+    λ p os up owned list. somebody p os up owned list a.parent.block refl a.rest,
   )
     where
       m : DeskNow V
@@ -178,23 +178,39 @@ module _ {V : Type 0} where
 
       somebody : (p : ℕ) (os : List ℕ) → (((state_of d).object o).member 2).object ≡ Some p
           → is_owned (state_of d) (((state_of d).object o).member 2) ≡ true → AreChildren (state_of d) p os
-          → ((state_of e).object p).phase ≡ live → (b : Option Block) → a.parent.block ≡ b
-          → MatchOption b (Does IsParting m e) (λ x. LeavesParent m (object_of (node_in m a.parent)) o e)
-          → LeavesList d p o os e ⊎ IsNoChild d p o os e
-      somebody p os up owned list lives None is rest =
+          → (b : Option Block) → a.parent.block ≡ b
+          → MatchOption b (Does IsParting m e) (λ x. LeavesParent m (object_of (node_in m a.parent)) o e) → WentOut d p o os e
+      somebody p os up owned list None is rest =
           let there : None ≡ Some p =
           sym (ap (λ (x : Option Block). (handle_in m Owner x a.parent.place).object) is) ∙ (ap (λ (h : Handle). h.object) parent
           ∙ owner_some (state_of d) (((state_of d).object o).member 2) p up owned) in
           absurd (cc there)
-      somebody p os up owned list lives (Some b) is rest =
+      somebody p os up owned list (Some b) is rest =
           let on : (node_in m a.parent).object ≡ Some p =
           ap (λ (h : Handle). h.object) parent ∙ owner_some (state_of d) (((state_of d).object o).member 2) p up owned in
           let x = subst (λ j. LeavesParent m j o e) (object_is (node_in m a.parent) p on) rest in
           let lives_p = owned_lives d (((state_of d).object o).member 2) p legal up owned in
           let zero : 0 < 3 = omega arith in let one : 1 < 3 = omega arith in let two : 2 < 3 = omega arith in
-          left_list p o os x.passed x.found d x.at x.sought x.unlinked e (does_both (PutsOnly in_no_cell) d m x.at does_m x.comes) x.seeks x.unlinks
-          x.leaves (stood_at d p 0 legal sole lives_p zero) (stood_at d o 1 legal sole lives_d one) (stood_at d o 2 legal sole lives_d two)
-          list lives lives_e
+          let comes = does_both (PutsOnly in_no_cell) d m x.at does_m x.comes in
+          let st = stood_at d p 0 legal sole lives_p zero in let st_n = stood_at d o 1 legal sole lives_d one in
+          let st_u = stood_at d o 2 legal sole lives_d two in
+          record {
+            at = x.unlinked;
+            out = left_list p o os x.passed x.found d x.at x.sought x.unlinked x.unlinked comes x.seeks x.unlinks
+                (does_none IsParting x.unlinked) st st_n st_u list x.live_parent x.live_node;
+            parts = x.leaves;
+            lives = λ lives. left_list p o os x.passed x.found d x.at x.sought x.unlinked e comes x.seeks x.unlinks x.leaves st st_n st_u
+                list lives lives_e;
+          }
+
+  -- what a node in the bag owns lives
+  pub node_lives : (d u : DeskNow V) (h : Shared) → IsWithin h.block h.place → IsLegal (opening_of u.shape) u.seen → Lists h.block h.place (bag_of u)
+      → node_in u h ≡ node_in d h → ((state_of u).object (object_of (node_in d h))).phase ≡ live
+  node_lives d u h (q, points, within) legal lists same =
+      let o = object_of (node_in d h) in
+      let is : node_in d h ≡ owner o (Some q) = owner_within d h q points within
+      ∙ ap (λ k. owner k (Some q)) (sym (ap object_of (owner_within d h q points within))) in
+      held_live u h o q legal lists (same ∙ is)
 
   -- a call, of a node that the desk has before and after it
   pub detached : (d e : DeskNow V) (node : Shared) (a : Detaches d (object_of (node_in d node)) e)

@@ -71,6 +71,8 @@ module _ {V : Type 0} where
         seeks = x.seeks;
         unlinked = x.unlinked;
         unlinks = x.unlinks;
+        live_parent = x.live_parent;
+        live_node = x.live_node;
         leaves = x.leaves;
       }
 

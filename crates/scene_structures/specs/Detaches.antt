@@ -2,12 +2,13 @@
 use Rattle.std.specs.Prelude.{◌≡◌, ◌≢◌, ℕ, ◌+◌, Bool, true, false, List, []}
 use Rattle.std.specs.Prelude.{◌∷◌, MatchOption, Option, None, Some}
 use Rattle.control_word.specs.Handles.{empty, object_of}
+use Rattle.control_word.specs.State.{live}
 use Rattle.control_word.specs.declared.model.event.Cell.{Cell}
 use Rattle.control_word.specs.declared.model.event.Cell.TheVariants.{Member}
 use Rattle.control_word.specs.declared.model.event.Event.TheVariants.{Compare, Load}
 use Rattle.control_word.specs.declared.model.handle.Handle.{Handle}
 use Rattle.control_word.specs.declared.model.handle.Kind.TheVariants.{Owner, Weak}
-use Rattle.control_block.specs.Desks.{AddsEvent, DeskNow}
+use Rattle.control_block.specs.Desks.{AddsEvent, DeskNow, state_of}
 use Rattle.control_block.specs.Own.{Does}
 use Rattle.control_block.specs.declared.handles.Shared.{Shared}
 use Rattle.shared_handle.specs.Endings.{IsWithin}
@@ -106,7 +107,7 @@ module _ {V : Type 0} where
   UnlinksIf true d o e = Unlinks d o e
   UnlinksIf false d o e = e ≡ d
 
-  -- the object was sought among the children of p, and then handles left
+  -- the object was sought among the children of p, and both live; then handles left
   pub record LeavesParent (d : DeskNow V) (p o : ℕ) (e : DeskNow V) : Type 0 where
     pub at : DeskNow V
     pub comes : Does (PutsOnly in_no_cell) d at
@@ -116,6 +117,8 @@ module _ {V : Type 0} where
     pub seeks : Seeks at (Member p 0) o passed found sought
     pub unlinked : DeskNow V
     pub unlinks : UnlinksIf found sought o unlinked
+    pub live_parent : ((state_of unlinked).object p).phase ≡ live
+    pub live_node : ((state_of unlinked).object o).phase ≡ live
     pub leaves : Does IsParting unlinked e
 
   -- what the object's `up` is on was looked for, and where that has an owner, the object leaves it

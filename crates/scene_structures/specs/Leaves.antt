@@ -7,6 +7,8 @@ use Rattle.control_word.specs.declared.model.event.Cell.{Cell}
 use Rattle.control_word.specs.declared.model.event.Cell.TheVariants.{Free, Member}
 use Rattle.control_word.specs.declared.model.handle.Kind.TheVariants.{Owner, Weak}
 use Rattle.control_block.specs.Desks.{DeskNow, state_of}
+use Rattle.control_block.specs.Own.{Does}
+use Rattle.shared_handle.specs.Piles.{IsParting}
 use Rattle.scene_structures.specs.Prunes.{is_owned}
 use Rattle.scene_structures.specs.Puts.{in_no_cell}
 use Rattle.scene_structures.specs.Scenes.{AreChildren}
@@ -49,12 +51,22 @@ module _ {V : Type 0} where
     pub is : AreChildren (state_of e) p os
     pub rest : KeepsBut in_no_cell d e
 
-  -- where the object's `up` is on nothing that has an owner, nothing changed; where it is on p, which lives after the
-  -- call too, and p's children are a list, the object is out of it
+  -- the object left the list, or wasn't in it
+  abbrev pub LeavesOrNot : DeskNow V → ℕ → ℕ → List ℕ → DeskNow V → Type 0
+  LeavesOrNot d p o os e = LeavesList d p o os e ⊎ IsNoChild d p o os e
+
+  -- so it was at some time, and after it only handles left; and so it is now, if p lives
+  pub record WentOut (d : DeskNow V) (p o : ℕ) (os : List ℕ) (e : DeskNow V) : Type 0 where
+    pub at : DeskNow V
+    pub out : LeavesOrNot d p o os at
+    pub parts : Does IsParting at e
+    pub lives : ((state_of e).object p).phase ≡ live → LeavesOrNot d p o os e
+
+  -- where the object's `up` is on nothing that has an owner, nothing changed; where it is on p, and p's children are a
+  -- list, the object went out of it
   abbrev pub IsDetached : DeskNow V → ℕ → DeskNow V → Type 0
   IsDetached d o e =
       let up = ((state_of d).object o).member 2 in
       (is_owned (state_of d) up ≡ false → KeepsBut in_no_cell d e)
       × ((p : ℕ) (os : List ℕ) → up.object ≡ Some p → is_owned (state_of d) up ≡ true
-      → AreChildren (state_of d) p os
-      → ((state_of e).object p).phase ≡ live → LeavesList d p o os e ⊎ IsNoChild d p o os e)
+      → AreChildren (state_of d) p os → WentOut d p o os e)

@@ -1,5 +1,5 @@
 -- What workers of a script leave is the script's report.
-use Rattle.std.proofs.Common.{◌≡◌, ◌⊎◌, inl, inr, ℕ, ◌*◌, ◌≤◌, List, [], ◌∷◌, length, map, None}
+use Rattle.std.proofs.Common.{◌≡◌, ◌⊎◌, inl, inr, ℕ, ◌*◌, ◌/◌, ◌≤◌, List, [], ◌∷◌, length, map, None}
 use Rattle.std.proofs.Common.{refl, sym, ap, subst, ◌∙◌, arith}
 use Rattle.std.proofs.lemmas.List.{length-map}
 use Rattle.std.proofs.lemmas.List.Elements.{All-from_recursion, recursion_from_All}
@@ -17,6 +17,7 @@ use Rattle.control_word.specs.declared.refusal.Refusal.{Refusal}
 use Rattle.control_word.specs.declared.refusal.Refusal.TheVariants.{NotSole}
 use Rattle.control_word.specs.declared.shape.Shape.{Shape}
 use Rattle.handle_table.specs.Parting.{IsNew}
+use Rattle.handle_table.specs.Programs.{WorksIn}
 use Rattle.handle_table.specs.Staffs.{StaffsOpen}
 use Rattle.handle_table.specs.declared.staff.Share.{Share}
 use Rattle.ownership_ledger.specs.Now.{ShareNow}
@@ -27,7 +28,7 @@ use Rattle.script_runner.proofs.Summing.{all_ended, all_made, sum_ended, sum_mad
 use Rattle.script_runner.proofs.Weaving.{teams_interleave}
 use Rattle.script_runner.specs.Assignments.{HasAssignment, IsReadyFor, asked_by_all}
 use Rattle.script_runner.specs.Deals.{field_0}
-use Rattle.script_runner.specs.Reports.{HasAdded, IsGathered, IsPerformed, IsReport, domain_shape}
+use Rattle.script_runner.specs.Reports.{HasAdded, IsGathered, IsPerformed, IsReport, all_of, domain_shape, share_for, team_of}
 use Rattle.script_runner.specs.Teams.{IsInterleaved}
 use Rattle.script_runner.specs.declared.reports.report.Report.{Report}
 use Rattle.script_runner.specs.declared.workers.assignment.Assignment.{Assignment}
@@ -47,6 +48,22 @@ in_shape script blocks threads shape is all many =
     is
     ∙ ap {B = Shape} (λ (n : ℕ). record (shape_for n threads) { allowance = 65536 * threads }) all
     ∙ ap {B = Shape} (λ (n : ℕ). record (shape_for (blocks_in script.version) n) { allowance = 65536 * n }) many
+
+-- the share that each of a script's workers gets
+pub as_share : (script : ScriptView) (share : Share) (blocks threads : ℕ)
+    → share ≡ record { slots = 36; allowance = 65535; blocks = blocks / threads } → blocks ≡ blocks_in script.version
+    → threads ≡ length script.threads → share ≡ share_for script
+as_share script share blocks threads is all many =
+    is
+    ∙ ap {B = Share} (λ (n : ℕ). record { slots = 36; allowance = 65535; blocks = n / threads }) all
+    ∙ ap {B = Share} (λ (n : ℕ). record { slots = 36; allowance = 65535; blocks = blocks_in script.version / n }) many
+
+-- the team, by how many they are and by their share
+manned : (domain : DomainNow) (desk : DeskNow ℕ) (share own : Share) (n k : ℕ) → share ≡ own → n ≡ k
+    → WorksIn domain (team_of n share) (all_of n) desk → WorksIn domain (team_of k own) (all_of k) desk
+manned domain desk share own n k is all works =
+    subst (λ (j : ℕ). WorksIn domain (team_of j own) (all_of j) desk) all
+    (subst (λ (x : Share). WorksIn domain (team_of n x) (all_of n) desk) is works)
 
 module _ {G : Type 0} where
   -- what those said is told of so many threads
@@ -108,16 +125,19 @@ module _ {G : Type 0} where
   performed : (script : ScriptView) (domain : DomainNow) (desk : DeskNow ℕ) (shape : Shape) (share : Share) (had has : List (Worker G))
       → shape ≡ domain_shape script → asked_by_all (program_in script.threads) ≤ 65536
       → AllZip (IsReadyFor (asked_by_all (program_in script.threads))) (program_in script.threads) had
-      → StaffsOpen Does shape share had has domain desk → share.slots ≡ 36 → 36 ≤ share.allowance
+      → StaffsOpen Does shape share had has domain desk → share ≡ share_for script
       → IsPerformed script (map (λ (v : Vec Said). v.items) (map (λ (w : Worker G). w.log.said) has)) domain desk
       (map (λ (w : Worker G). w.log.share) has)
-  performed script domain desk given share had has same few ready works slots allowance =
+  performed script domain desk given share had has same few ready works is =
       let shape = domain_shape script in
       let s = subst (λ (k : Shape). StaffsOpen Does k share had has domain desk) same works in
       let st = s.works.out.staffs in
       let first = s.works.first in
       let ps = program_in script.threads in
       let objects = asked_by_all ps in
+      let slots : share.slots ≡ 36 = ap (λ (k : Share). k.slots) is in
+      let allowance : 36 ≤ share.allowance = subst (λ (k : Share). 36 ≤ k.allowance) (sym is) (omega arith) in
+      let all : length had ≡ length script.threads = same_many (IsReadyFor objects) ps had ready ∙ length-map script.threads part_in in
       let many = as_many had st.lent has st.left st.each in
       let new : AllByRecursion (IsNew 36) st.lent =
       recursion_from_All (IsNew 36) st.lent (subst (λ n. All (IsNew n) st.lent) slots st.new) in
@@ -138,9 +158,7 @@ module _ {G : Type 0} where
         of = s.of;
         here = s.here;
         can_close = s.can_close;
-        team = record { workers = length had; slots = share.slots; allowance = share.allowance; blocks = share.blocks };
-        manned = record { workers = length had; fewer = None };
-        works = record {
+        works = manned domain desk share (share_for script) (length had) (length script.threads) is all (record {
           first = first;
           begins = s.works.begins;
           new = s.works.new;
@@ -158,7 +176,7 @@ module _ {G : Type 0} where
             };
             winds_up = s.works.out.winds_up;
           };
-        };
+        });
         interleaved = woven;
         added = have.added;
       })
@@ -168,14 +186,14 @@ module _ {G : Type 0} where
       (r : Result (DomainNow × DeskNow ℕ) Refusal) (lines : List (Vec Said)) (shares : List ShareNow)
       → shape ≡ domain_shape script → asked_by_all (program_in script.threads) ≤ 65536
       → AllZip (IsReadyFor (asked_by_all (program_in script.threads))) (program_in script.threads) had
-      → IfOk r (λ x. StaffsOpen Does shape share had has x.0 x.1) → share.slots ≡ 36 → 36 ≤ share.allowance
+      → IfOk r (λ x. StaffsOpen Does shape share had has x.0 x.1) → share ≡ share_for script
       → lines ≡ map (λ (w : Worker G). w.log.said) has → shares ≡ map (λ (w : Worker G). w.log.share) has
       → IfOk r (λ x. IsPerformed script (map (λ (v : Vec Said). v.items) lines) x.0 x.1 shares)
-  performed_as script shape share had has (Err why) lines shares same few ready works slots allowance said added = tt
-  performed_as script shape share had has (Ok x) lines shares same few ready works slots allowance said added =
+  performed_as script shape share had has (Err why) lines shares same few ready works is said added = tt
+  performed_as script shape share had has (Ok x) lines shares same few ready works is said added =
       subst (λ (l : List (Vec Said)). IsPerformed script (map (λ (v : Vec Said). v.items) l) x.0 x.1 shares) (sym said)
       (subst (IsPerformed script (map (λ (v : Vec Said). v.items) (map (λ (w : Worker G). w.log.said) has)) x.0 x.1) (sym added)
-      (performed script x.0 x.1 shape share had has same few ready works slots allowance))
+      (performed script x.0 x.1 shape share had has same few ready works is))
 
 -- the sums of what was added to shares are what all names make and end
 sum_shares : (h : List (Entry ℕ)) (ns : List ℕ) (ss : List ShareNow) → AllZip (HasAdded h) ns ss

@@ -1,5 +1,5 @@
 -- What a run of a script on real workers leaves: a report, and the domain with its sole desk. All of it is own.
-use Rattle.std.specs.Prelude.{◌≡◌, ℕ, ◌*◌, length, List, map, sum_by}
+use Rattle.std.specs.Prelude.{◌≡◌, ℕ, ◌*◌, ◌/◌, length, List, map, sum_by, None}
 use Rattle.std.specs.List.{AllZip}
 use Rattle.control_block.specs.Desks.{Belongs, DeskNow, DomainNow}
 use Rattle.control_block.specs.Rule.{opening_of}
@@ -8,11 +8,13 @@ use Rattle.control_word.specs.declared.shape.Shape.{Shape}
 use Rattle.handle_table.specs.Programs.{CanClose, WorksIn}
 use Rattle.handle_table.specs.declared.program.Manned.{Manned}
 use Rattle.handle_table.specs.declared.program.Team.{Team}
-use Rattle.ownership_ledger.specs.Now.{IsLast, ShareNow}
+use Rattle.handle_table.specs.declared.staff.Share.{Share}
+use Rattle.ownership_ledger.specs.Now.{ShareNow}
 use Rattle.ownership_ledger.specs.declared.share.Totals.{Totals}
 use Rattle.script_text.specs.Beginnings.{script_shape}
 use Rattle.script_text.specs.Drafts.{ScriptView}
 use Rattle.script_text.specs.Scripts.{program_in}
+use Rattle.script_text.specs.Versions.{blocks_in}
 use Rattle.script_runner.specs.Deals.{field_0}
 use Rattle.script_runner.specs.Teams.{IsInterleaved}
 use Rattle.script_runner.specs.Totals.{count_ended_by, count_ended_in, made_by, count_made_in}
@@ -23,29 +25,41 @@ use Rattle.step_threads.specs.declared.said.Said.{Said}
 abbrev pub domain_shape : ScriptView → Shape
 domain_shape script = record (script_shape script) { allowance = 65536 * length script.threads }
 
+-- what each of a script's workers has: 36 slots, an allowance of 65,535, and a store of as many blocks as each other
+abbrev pub share_for : ScriptView → Share
+share_for script =
+    record { slots = 36; allowance = 65535; blocks = blocks_in script.version / length script.threads }
+
+-- one worker a thread, each with such a share
+abbrev pub team_of : ℕ → Share → Team
+team_of n share =
+    record { workers = n; slots = share.slots; allowance = share.allowance; blocks = share.blocks }
+
+-- all of them are there
+abbrev pub all_of : ℕ → Manned
+all_of n = record { workers = n; fewer = None }
+
 -- what was added to a share is what the history has under a name
 abbrev pub HasAdded : {V : Type 0} → List (Entry V) → ℕ → ShareNow → Type 0
 HasAdded h n s = (s.own.made ≡ made_by n h) × (s.own.ended ≡ count_ended_by n h)
 
--- A team worked in the domain, and this desk has all that it left: no handle is in any hands, and the desk can close
--- the domain. What it has seen is an interleaving of the threads, each with its lines. Each thread has a share of a
--- book, to which its makes and the ends of its objects were added
+-- A worker for each thread was there, and worked in the domain with its share of it, and this desk has all that they
+-- left: no handle is in any hands, and the desk can close the domain. What it has seen is an interleaving of the
+-- threads, each with its lines. Each thread has a share of a book, to which its makes and the ends of its objects were
+-- added
 pub record IsPerformed (script : ScriptView) (lines : List (List Said)) (domain : DomainNow) (desk : DeskNow ℕ)
     (shares : List ShareNow) : Type 0 where
   pub many : length lines ≡ length script.threads
   pub of : domain.shape ≡ domain_shape script
   pub here : Belongs desk domain
   pub can_close : CanClose desk (domain_shape script)
-  pub team : Team
-  pub manned : Manned
-  pub works : WorksIn domain team manned desk
+  pub works : WorksIn domain (team_of (length script.threads) (share_for script)) (all_of (length script.threads)) desk
   pub interleaved : IsInterleaved field_0 (opening_of (domain_shape script)) desk.seen
       (program_in script.threads) lines
   pub added : AllZip (HasAdded desk.seen) interleaved.names shares
 
--- the totals are those that the book of these shares ends with, which are the sums of what was added to them
+-- the totals are the sums of what was added to these shares
 pub record IsGathered (shares : List ShareNow) (t : Totals) : Type 0 where
-  pub book : IsLast (length shares) t
   pub made : t.made ≡ sum_by (λ s. s.own.made) shares
   pub ended : t.ended ≡ sum_by (λ s. s.own.ended) shares
 

@@ -14,7 +14,7 @@ use crate::workers::assignment::Assignment;
 use crate::workers::worker::{SLOTS, Worker};
 use control_block::desk::Desk;
 use control_block::domain::Domain;
-use control_word::limits::{SCRIPT_SHARED_CELLS, SCRIPT_WEAK_CELLS};
+use control_word::limits::{SCRIPT_SHARED_CELLS, SCRIPT_WEAK_CELLS, WORKER_ALLOWANCE};
 use control_word::{Refusal, Shape};
 use handle_table::run_workers_open;
 use ownership_ledger::{Book, Share};
@@ -76,7 +76,7 @@ fn perform<'a, R: Threads + Wait + Sync, G: Gate + Sync>(
     let threads = script.threads();
     let share = handle_table::Share {
         slots: SLOTS,
-        allowance: 65_535,
+        allowance: WORKER_ALLOWANCE,
         blocks: script.blocks() / threads,
     };
     let shape = shape_of(script.blocks(), threads);
@@ -90,7 +90,7 @@ fn perform<'a, R: Threads + Wait + Sync, G: Gate + Sync>(
 /// thread. An object's value is its field 0. Answers what each thread said, in thread order, and the totals of a book
 /// to whose shares the workers add each of their makes and of the ends that they are told of; and the domain with its
 /// sole desk, which has seen all that the workers did, and has no handle and nothing to end. `close` by it isn't
-/// refused.
+/// refused. Each worker has an allowance of 65,535, and a store of the script's blocks over its threads.
 ///
 /// It is refused `Memory` and nothing else, and only where a growth was refused. All growths come before the first
 /// worker starts: no worker has worked then, and there is no report. Where the workers start, it answers once all of

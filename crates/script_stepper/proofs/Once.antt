@@ -6,7 +6,7 @@ use Rattle.std.proofs.lemmas.Bool.{false≢true}
 use Rattle.std.proofs.lemmas.List.Elements.{All-head, All-tail}
 use Rattle.step_threads.specs.declared.said.Stepped.{Stepped}
 use Rattle.step_core.specs.declared.trace.TraceStep.{TraceStep}
-use Rattle.step_core.specs.Runs.{CallsOn, InOrder, IsRun, IsScheduled, IsStepOf, RunsToEnd, Settles, is_calling, is_owing}
+use Rattle.step_core.specs.Runs.{CallsOn, InOrder, IsRun, IsScheduled, IsStepOf, RunsToEnd, Settles, call_under_way, is_calling, is_owing}
 use Rattle.step_core.specs.Sights.{IsOver, Sight, half_of}
 use Rattle.step_core.specs.Worlds.{Advances, answer_at, sight_by, step_of}
 use Rattle.script_text.specs.Grammar.{ended}
@@ -52,12 +52,13 @@ numbered u a b (x ∷ xs) (y ∷ ys) e p q =
     (numbered p.0 a b xs ys (ap rest_of e) p.2 (subst (λ (m : Sight). IsRun m ys b) (sym here) q.2))
 
 -- a call that goes on to its end
-calls : (d : ℕ) (u a b : Sight) (xs ys : List TraceStep) → CallsOn d u xs a → is_calling a d ≡ false → CallsOn d u ys b → is_calling b d ≡ false
+calls : (c d : ℕ) (u a b : Sight) (xs ys : List TraceStep) → CallsOn c d u xs a → is_calling c a d ≡ false → CallsOn c d u ys b
+    → is_calling c b d ≡ false
     → Same xs ys a b
-calls d u a b [] [] p over q done = no_steps u a b p q
-calls d u a b [] (y ∷ ys) p over q done = absurd (false≢true (sym over ∙ ap (λ (m : Sight). is_calling m d) p ∙ q.0))
-calls d u a b (x ∷ xs) [] p over q done = absurd (false≢true (sym done ∙ ap (λ (m : Sight). is_calling m d) q ∙ p.0))
-calls d u a b (x ∷ xs) (y ∷ ys) p over q done =
+calls c d u a b [] [] p over q done = no_steps u a b p q
+calls c d u a b [] (y ∷ ys) p over q done = absurd (false≢true (sym over ∙ ap (λ (m : Sight). is_calling c m d) p ∙ q.0))
+calls c d u a b (x ∷ xs) [] p over q done = absurd (false≢true (sym done ∙ ap (λ (m : Sight). is_calling c m d) q ∙ p.0))
+calls c d u a b (x ∷ xs) (y ∷ ys) p over q done =
     let n : d ≡ x.actor - 1 = let e = p.1 in omega (arith, e) in
     let k : d ≡ y.actor - 1 = let e = q.1 in omega (arith, e) in
     let f = subst (λ (i : ℕ). Advances i u x.stepped p.2) n p.3 in
@@ -65,13 +66,13 @@ calls d u a b (x ∷ xs) (y ∷ ys) p over q done =
     let actor = p.1 ∙ sym q.1 in
     let here = same_place u p.2 q.2 x y f g actor in
     more u p.2 q.2 x y f g actor xs ys a b
-    (calls d p.2 a b xs ys p.4 over (subst (λ (m : Sight). CallsOn d m ys b) (sym here) q.4) done)
+    (calls c d p.2 a b xs ys p.4 over (subst (λ (m : Sight). CallsOn c d m ys b) (sym here) q.4) done)
 
 settle : (d : ℕ) (u a b : Sight) (xs ys : List TraceStep) → Settles d u xs a → Settles d u ys b → Same xs ys a b
 settle d u a b xs ys p q = go (is_owing (half_of u d)) refl
   where
     go : (o : Bool) → is_owing (half_of u d) ≡ o → Same xs ys a b
-    go true e = calls d u a b xs ys (p.owing e).calls (p.owing e).done (q.owing e).calls (q.owing e).done
+    go true e = calls (call_under_way d u) d u a b xs ys (p.owing e).calls (p.owing e).done (q.owing e).calls (q.owing e).done
     go false e =
         ((p.none e).0 ∙ sym (q.none e).0, (p.none e).1 ∙ sym (q.none e).1)
 

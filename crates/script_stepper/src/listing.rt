@@ -40,8 +40,10 @@ fn thread_text(alloc: Global, thread: u8, said: &[Said]) -> Result<String, Alloc
 /// Writes what a thread said, line by line (own): of each act its answer, and then `T.S end F F F F` or `T.S end null`
 /// for the object that ended by it. `T` is the thread, `S` the number of the statement, or `end` at the thread's end.
 ///
-/// An answer is `T.S count N`, `T.S lock owner`, `T.S lock empty`, `T.S upgrade owner`, `T.S expired yes`,
-/// `T.S expired no` or `T.S refused N`, N being the number of the refusal.
+/// An answer is `T.S count N`, `T.S read N` or `T.S refused N`, where N is the count, the field or the number of the
+/// refusal; `T.S place B.F` or `T.S place null`, where B is a block and F a field; `T.S lock owner`, `T.S lock empty`
+/// or `T.S upgrade owner`; or `T.S expired A`, `T.S same A`, `T.S before A` or `T.S compare A`, where A is `yes` or
+/// `no`.
 ///
 /// Refused by 1 where a growth was refused, before the first byte; by 12 just where the writer has failed, which then
 /// took a beginning of the lines. The writer hasn't failed before.

@@ -125,7 +125,7 @@ abbrev pub after_words : Draft → List (List ℕ) → Result Draft Cause
 after_words d [] = Ok d
 after_words d (first ∷ words) =
     if starts_with nat_eq first (codes "#") then Ok d
-    else (if is_new d && bytes_eq first (codes "version") then header_line words else other_line d first words)
+    else told_line d first words
 
 -- the draft after a line, given without its line feed, or the first cause why the line is faulty
 abbrev pub after_line : Draft → List ℕ → Result Draft Cause

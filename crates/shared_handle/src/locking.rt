@@ -1,5 +1,5 @@
 //! Owners from weak pointers.
-ghost use Rattle.std.specs.Prelude.{◌≡◌, ◌↔◌, ◌+◌, is_some, IfErr, IfOk, IsErr, OnOk, None};
+ghost use Rattle.std.specs.Prelude.{◌≡◌, ◌≢◌, ◌↔◌, ◌+◌, is_some, IfErr, IfOk, IsErr, OnOk, None};
 ghost use Rattle.control_word.specs.declared.model.handle.Kind.TheVariants.{Owner, Weak};
 ghost use Rattle.control_block.specs.Desks.{Belongs, Keeps, allowance_of, bag_of, held_of};
 ghost use Rattle.control_block.specs.CellCalls.{HoldsHandle, with_handle};
@@ -68,6 +68,7 @@ pub fn upgrade<V: Drop, R: Wait>(
     requires domain { Belongs desk.old domain.now }
     requires holds { HoldsHandle desk.old Weak handle.now.block handle.now.place }
     ensures upgrade { IsUpgrade desk.old handle.now.block handle.now.place result desk.new }
+    ensures below { OnOk result (held_of desk.old ≢ allowance_of desk.old) }
     ensures expired { SawNoOwner desk.old handle.now.block → IsErr result }
     ensures owned { HasOwner desk.old handle.now.block → IfErr result (λ why. why ≡ Refusal.Limit) }
     ensures bag { IfOk result (λ h. bag_of desk.new ≡ with_handle Owner h.block h.place (bag_of desk.old)) }

@@ -1,14 +1,13 @@
 pub mod Alone
-pub mod Answers
 pub mod Calls
 pub mod Calming
 pub mod Chains
 pub mod Clearing
+pub mod Doings
 pub mod Ends
 pub mod Extents
 pub mod Hands
 pub mod Headline
-pub mod Leaving
 pub mod Locks
 pub mod Lessening
 pub mod Looking

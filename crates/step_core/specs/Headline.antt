@@ -1,6 +1,7 @@
 -- What holds after each step of a run, and of each of its steps.
 use Rattle.std.specs.Prelude.{◌≡◌, ◌≢◌, ◌↔◌, ◌⊎◌, ℕ, ◌+◌, ◌-◌, ◌<◌, ◌≤◌}
-use Rattle.std.specs.Prelude.{Bool, true, List, [], ◌∷◌, slice_index, Option, Some, None, MatchOption}
+use Rattle.std.specs.Prelude.{Bool, true, false, List, [], ◌∷◌, length, slice_index, Option, Some, None}
+use Rattle.std.specs.Prelude.{MatchOption}
 use Rattle.control_word.specs.declared.model.event.Event.{Event}
 use Rattle.control_word.specs.declared.model.event.Event.TheVariants.{Leave, Lock}
 use Rattle.control_word.specs.declared.model.handle.Handle.{Handle}
@@ -21,8 +22,9 @@ use Rattle.step_threads.specs.declared.programs.act.Task.{Task}
 use Rattle.step_threads.specs.Scenes.{walk_of}
 use Rattle.step_threads.specs.Rows.{lock_answer}
 use Rattle.step_table.specs.Deeds.{remains}
-use Rattle.step_table.specs.Stories.{Nothing, story_state}
-use Rattle.step_core.specs.Sights.{AllHold, Sight, scene}
+use Rattle.step_table.specs.Holdings.{Slots, slot_pointer, weak_slot}
+use Rattle.step_table.specs.Stories.{Nothing, Seats, story_state}
+use Rattle.step_core.specs.Sights.{AllHold, AllRestIdle, Sight, scene}
 
 -- the numbers in a block's words are those of the handles on it, in bags and cells together; the weak word has one
 -- more while there are owners ([util.smartptr.shared.obs], and own)
@@ -103,23 +105,36 @@ abbrev pub LocksNext : ℕ → Bool → List Task → Type 0
 LocksNext k must [] = ⊥
 LocksNext k must (t ∷ ts) = (t.statement ≡ k) × ((i : ℕ) × (t.act ≡ act.Lock i must))
 
--- a lock says whether it gave an owner, by an answer of its statement; one that must give an owner is refused where
--- it did not ([util.smartptr.weak.obs], [util.smartptr.shared.const])
-abbrev pub TellsLocks : Sight → TraceStep → Sight → Type 0
-TellsLocks u x u' =
-    (w : Handle) (gave : Bool) → Was (Lock w gave) u x u'
-    → (k : ℕ) × (must : Bool) × LocksNext k must (walk_of (scene u) (x.actor - 1)).todo
-    × (statement_by x.stepped ≡ Some k) × (answer_by x.stepped ≡ Some (lock_answer must gave))
+-- the next act is a lock of a name that has no weak pointer to an object
+abbrev pub LocksNone : Bool → Slots → List Task → Type 0
+LocksNone must slots [] = ⊥
+LocksNone must slots (t ∷ ts) =
+    (i : ℕ) × (t.act ≡ act.Lock i must) × (weak_slot (slot_pointer slots i) ≡ None)
+
+-- A lock says whether it gave an owner, by an answer of its statement; one that must give an owner is refused where
+-- it did not. Nothing else answers so, but a lock of a name without a weak pointer to an object, which gives no owner
+-- ([util.smartptr.weak.obs], [util.smartptr.shared.const])
+pub record TellsLocks (u : Sight) (x : TraceStep) (u' : Sight) : Type 0 where
+  pub answers : (w : Handle) (gave : Bool) → Was (Lock w gave) u x u'
+      → (k : ℕ) × (must : Bool) × LocksNext k must (walk_of (scene u) (x.actor - 1)).todo
+      × (statement_by x.stepped ≡ Some k) × (answer_by x.stepped ≡ Some (lock_answer must gave))
+  pub events : (must gave : Bool) → answer_by x.stepped ≡ Some (lock_answer must gave)
+      → let w = walk_of (scene u) (x.actor - 1) in
+      ((h : Handle) × Was (Lock h gave) u x u') ⊎ ((gave ≡ false) × LocksNone must w.slots w.todo)
 
 -- no block is in the midst of anything
 abbrev pub AllAtRest : Sight → Type 0
 AllAtRest u = (b : ℕ) → InShape (opening u.story.extent) b → IsAtRest (story_state u.story) u.story.views b
 
--- what holds before the first step of a run, and after each
+-- What holds before the first step of a run, and after each. Each thread's desk has one view, without a half-done call
+-- while the thread has begun nothing: so a block is kept from rest only by an object that ends, or by what a thread has
+-- begun
 pub record AfterEach (u : Sight) : Type 0 where
   pub counts : CountsAtRest u
   pub once : ValuesOnce u
   pub hands : AllHold u
+  pub views : Seats u.story.views (length u.walks)
+  pub idle : AllRestIdle u
 
 -- what holds of each step
 pub record OfEach (u : Sight) (x : TraceStep) (u' : Sight) : Type 0 where

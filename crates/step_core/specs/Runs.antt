@@ -1,13 +1,12 @@
 -- Runs of a world: steps of any actors, one after another. All of it is own.
-use Rattle.std.specs.Prelude.{◌≡◌, ◌≢◌, ℕ, zero, suc, ◌+◌, ◌-◌, ◌<◌, ◌≤◌, Bool, true}
+use Rattle.std.specs.Prelude.{◌≡◌, ◌≢◌, ℕ, zero, suc, ◌+◌, ◌-◌, ◌<◌, ◌≤◌, ◌==◌, ◌&&◌}
+use Rattle.std.specs.Prelude.{◌||◌, Bool, true, not, is_some}
 use Rattle.std.specs.Prelude.{false, List, [], ◌∷◌, ◌++◌, All, length, map, slice_index}
 use Rattle.control_word.specs.declared.refusal.Refusal.{Refusal}
 use Rattle.control_word.specs.declared.refusal.Refusal.TheVariants as refusal
 use Rattle.control_word.specs.declared.model.view.Pending.{Pending}
 use Rattle.control_word.specs.declared.model.view.Pending.TheVariants.{Paying}
 use Rattle.step_table.specs.Stories.{Nothing, pending}
-use Rattle.step_threads.specs.declared.programs.act.Act.{Act}
-use Rattle.step_threads.specs.declared.programs.act.Act.TheVariants.{Compare}
 use Rattle.step_threads.specs.declared.programs.act.Task.{Task}
 use Rattle.step_threads.specs.declared.half.Half.{Half}
 use Rattle.step_threads.specs.declared.half.Half.TheVariants.{Rest, Brought, Matched, Refill, Returning}
@@ -18,6 +17,8 @@ use Rattle.step_table.specs.declared.cell_steps.refill.Stage.TheVariants.{Failin
 use Rattle.step_core.specs.declared.trace.RunRefusal.{RunRefusal}
 use Rattle.step_core.specs.declared.trace.RunRefusal.TheVariants.{Memory, BadTurn}
 use Rattle.step_core.specs.declared.trace.TraceStep.{TraceStep}
+use Rattle.step_threads.specs.Courses.{Walk}
+use Rattle.step_threads.specs.Endings.{first_of}
 use Rattle.step_threads.specs.Scenes.{walk_of}
 use Rattle.step_core.specs.Sights.{IsOver, Sight, half_of, scene}
 use Rattle.step_core.specs.Worlds.{Advances}
@@ -54,34 +55,39 @@ is_owing (Refill stage c x k) = is_out stage
 is_owing (Returning kind b funds k) = true
 is_owing _ = false
 
--- the next act is a compare
-abbrev pub is_compare : Act → Bool
-is_compare (Compare k c weak) = true
-is_compare _ = false
+-- the statement of a thread's next task; 0 at its end
+abbrev pub next_statement : List Task → ℕ
+next_statement [] = 0
+next_statement (t ∷ ts) = t.statement
 
-abbrev pub compares_next : List Task → Bool
-compares_next [] = false
-compares_next (t ∷ ts) = is_compare t.act
+-- the statement whose call a thread has under way
+abbrev pub call_of : Half → List Task → ℕ
+call_of (Refill stage c x k) ts = k
+call_of (Returning kind b funds k) ts = k
+call_of _ ts = next_statement ts
 
--- A call that owed funds goes on while its thread has begun something. A compare that missed begins again, once it
--- has given back what it had brought; behind any other call no compare is next, as each comes after its own copy
-abbrev pub call_goes_on : Half → List Task → Bool
-call_goes_on Rest ts = compares_next ts
-call_goes_on _ ts = true
+-- The call of statement k goes on while its thread has begun something, an object ends in its hands, or its next task
+-- is of that statement. At a thread's end each leave is a call
+abbrev pub call_goes_on : ℕ → Half → Walk → Bool
+call_goes_on k Rest w = is_some (first_of w.endings) || (not (k == 0) && next_statement w.todo == k)
+call_goes_on k _ w = true
 
-abbrev pub is_calling : Sight → ℕ → Bool
-is_calling u d = call_goes_on (half_of u d) (walk_of (scene u) d).todo
+abbrev pub is_calling : ℕ → Sight → ℕ → Bool
+is_calling k u d = call_goes_on k (half_of u d) (walk_of (scene u) d)
 
--- thread d went on with its call, which wasn't done before any of these steps
-abbrev pub CallsOn : ℕ → Sight → List TraceStep → Sight → Type 0
-CallsOn d u [] u' = u' ≡ u
-CallsOn d u (x ∷ xs) u' =
-    (is_calling u d ≡ true) × (x.actor ≡ d + 1) × (m : Sight) × Advances d u x.stepped m × CallsOn d m xs u'
+-- thread d went on with its call, of statement k, which wasn't done before any of these steps
+abbrev pub CallsOn : ℕ → ℕ → Sight → List TraceStep → Sight → Type 0
+CallsOn k d u [] u' = u' ≡ u
+CallsOn k d u (x ∷ xs) u' =
+    (is_calling k u d ≡ true) × (x.actor ≡ d + 1) × (m : Sight) × Advances d u x.stepped m × CallsOn k d m xs u'
+
+abbrev pub call_under_way : ℕ → Sight → ℕ
+call_under_way d u = call_of (half_of u d) (walk_of (scene u) d).todo
 
 -- thread d finished its call
 pub record FinishesCall (d : ℕ) (u : Sight) (xs : List TraceStep) (u' : Sight) : Type 0 where
-  pub calls : CallsOn d u xs u'
-  pub done : is_calling u' d ≡ false
+  pub calls : CallsOn (call_under_way d u) d u xs u'
+  pub done : is_calling (call_under_way d u) u' d ≡ false
 
 -- thread d finished the call that owed funds, if it had one
 pub record Settles (d : ℕ) (u : Sight) (xs : List TraceStep) (u' : Sight) : Type 0 where

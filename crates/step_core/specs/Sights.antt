@@ -4,7 +4,8 @@ use Rattle.std.specs.Prelude.{length, get_or, None}
 use Rattle.control_word.specs.declared.model.event.Event.{Event}
 use Rattle.control_word.specs.Histories.{entry}
 use Rattle.step_table.specs.Holdings.{HoldsBag, slot_pointer}
-use Rattle.step_table.specs.Stories.{Nothing, Story}
+use Rattle.control_word.specs.declared.model.view.Pending.TheVariants.{Idle}
+use Rattle.step_table.specs.Stories.{Nothing, Story, pending}
 use Rattle.step_threads.specs.declared.half.Half.{Half}
 use Rattle.step_threads.specs.declared.half.Half.TheVariants.{Rest}
 use Rattle.step_threads.specs.declared.said.Stepped.{Stepped}
@@ -33,6 +34,10 @@ IsAsLarge u u' = u'.story.extent ≡ u.story.extent
 abbrev pub AllHold : Sight → Type 0
 AllHold u = (d : ℕ) → d < length u.walks → HoldsBag d (walk_of (scene u) d).slots u.story
 
+-- a thread that has begun nothing has no call half done in its desk's view
+abbrev pub AllRestIdle : Sight → Type 0
+AllRestIdle u = (d : ℕ) → half_of u d ≡ Rest → pending u.story d ≡ Idle
+
 -- thread d has made its last act, and ended its last object, and its names hold nothing
 pub record IsOver (d : ℕ) (u : Sight) : Type 0 where
   pub walk : (walk_of (scene u) d).todo ≡ []
@@ -48,7 +53,7 @@ is_event _ = false
 -- what any step of thread d does, by what it answers: an event is one more entry of this thread's desk in the
 -- history, and any other step leaves the history as it was; the answer is `Done` just at the thread's end, and then
 -- nothing changes; the other threads are where they were; and after it the slots of all threads have just what the
--- history says
+-- history says, and threads that have begun nothing have no call half done
 pub record TakesStep (d : ℕ) (u : Sight) (r : Stepped) (u' : Sight) : Type 0 where
   pub event : is_event r ≡ true → (e : Event Nothing) × (u'.story.history ≡ entry d e ∷ u.story.history)
   pub quiet : is_event r ≡ false → u'.story.history ≡ u.story.history
@@ -59,3 +64,4 @@ pub record TakesStep (d : ℕ) (u : Sight) (r : Stepped) (u' : Sight) : Type 0 w
   pub actors : length u'.walks ≡ length u.walks
   pub extent : IsAsLarge u u'
   pub hands : AllHold u'
+  pub idle : AllRestIdle u'

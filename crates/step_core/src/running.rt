@@ -9,8 +9,8 @@ ghost use Rattle.step_core.specs.Following.{Follows};
 ghost use Rattle.step_core.specs.Headline.{AfterEach, AllAtRest, OfEach};
 ghost use Rattle.step_core.specs.Runs.{AddsRun, FinishesCall, IsFirstBad, IsRefusedFor, IsRun, IsScheduled, MovesOn};
 ghost use Rattle.step_core.specs.Runs.{NamesActor};
-ghost use Rattle.step_core.specs.Runs.{RunInOrder, RunsToEnd, SettleInOrder, Settles, compares_next, is_calling};
-ghost use Rattle.step_core.specs.Runs.{is_compare, is_out, is_owing};
+ghost use Rattle.step_core.specs.Runs.{RunInOrder, RunsToEnd, SettleInOrder, Settles, call_under_way, is_calling};
+ghost use Rattle.step_core.specs.Runs.{is_out, is_owing, next_statement};
 ghost use Rattle.step_table.specs.Stories.{Kept};
 ghost use Rattle.step_core.specs.Totals.{IsAtEnd};
 ghost use Rattle.step_core.specs.Sights.{IsAsLarge, half_of};
@@ -132,9 +132,22 @@ impl World {
         ensures actors { length self.new.walks ≡ length self.old.walks }
     {
         self.table.known();
-        while self.is_calling(number) {
+        let call = self.call_under_way(number);
+        while self.is_calling(number, call) {
             let stepped = self.advance(number);
             add(steps, number as u8 + 1, stepped);
+        }
+    }
+
+    /// The statement whose call an actor has under way.
+    fn call_under_way(&self, number: usize) -> u32
+        requires { number < length self.now.walks }
+        ensures { result ≡ call_under_way number self.now }
+    {
+        let thread = &self.threads[number];
+        match thread.half {
+            Half::Refill { statement, .. } | Half::Returning { statement, .. } => statement,
+            _ => next_statement(thread),
         }
     }
 
@@ -150,15 +163,18 @@ impl World {
         }
     }
 
-    /// Whether an actor's call, which owed funds, isn't done: it has begun something, or is a compare that begins
-    /// again.
-    fn is_calling(&self, number: usize) -> bool
+    /// Whether an actor's call isn't done, which owed funds: it has begun something, an object ends in its hands, or
+    /// its next task is of that statement. At its end each leave is a call.
+    fn is_calling(&self, number: usize, call: u32) -> bool
         requires { number < length self.now.walks }
-        ensures { result ≡ is_calling self.now number }
+        ensures { result ≡ is_calling call self.now number }
     {
         let thread = &self.threads[number];
         match thread.half {
-            Half::Rest => compares_next(thread),
+            Half::Rest => {
+                thread.course.endings.first().is_some()
+                    || (call != 0 && next_statement(thread) == call)
+            }
             _ => true,
         }
     }
@@ -203,23 +219,16 @@ fn is_out(stage: Stage) -> bool
     }
 }
 
-/// Whether a thread's next act is a compare.
-fn compares_next(thread: &Thread) -> bool
+/// The statement of a thread's next task; 0 at its end.
+fn next_statement(thread: &Thread) -> u32
     requires { thread.now.course.at ≤ length thread.now.course.tasks.items }
-    ensures { result ≡ compares_next (todo thread.now.course) }
+    ensures { result ≡ next_statement (todo thread.now.course) }
 {
     let tasks = &thread.course.tasks[thread.course.at..];
     match tasks.first() {
-        Some(task) => is_compare(task.act),
-        None => false,
+        Some(task) => task.statement,
+        None => 0,
     }
-}
-
-/// Whether an act is a compare.
-fn is_compare(act: Act) -> bool
-    ensures { result ≡ is_compare act }
-{
-    matches!(act, Act::Compare { .. })
 }
 
 /// The steps that threads' tasks and endings have left.

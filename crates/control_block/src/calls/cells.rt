@@ -1,6 +1,5 @@
 //! Calls on cells. Each makes its events, and when it returns nothing is under way: no fund is out, and no load.
-ghost use Rattle.std.specs.Prelude.{◌≡◌, ◌≢◌, ◌↔◌, ◌+◌, None, IfErr, IfNone, IfOk, IfSome, IsErr};
-ghost use Rattle.std.specs.Prelude.{OnOk};
+ghost use Rattle.std.specs.Prelude.{◌≡◌, ◌↔◌, ◌+◌, IfErr, IfOk, IsErr, OnOk};
 ghost use Rattle.control_word.specs.declared.model.event.Event.TheVariants.{Load, Swap};
 ghost use Rattle.control_block.specs.Desks.{Belongs, AddsEvent, Keeps, allowance_of, bag_of, held_of};
 ghost use Rattle.control_block.specs.CellCalls.{HoldsHandle, IsOpenAt, cell_of_site, handle_in, with_handle};
@@ -43,45 +42,6 @@ pub fn load<V: Drop, A: Aimed, R: Wait>(
     desk.held += 1; // here, since each locked instruction that follows waits for what was stored before it
     let seen = rounds::loads::load::<V, A, R>(rt, board, &mut desk.seat, word, cell.kind);
     Ok(Content {
-        kind: cell.kind,
-        block: seen.owned,
-        place: seen.place,
-    })
-}
-
-/// The same where it needs one try only, and waits for nobody (own): none where the desk is at its allowance, the cell
-/// has no object, others change it meanwhile, or the load would leave 128 of its funds taken or more. Then nothing
-/// changes, and `load` loads all the same.
-#[inline(always)]
-pub fn load_at_once<V: Drop, A: Aimed>(
-    domain: &Domain<V>,
-    desk: &mut Desk<V>,
-    cell: CellAt,
-) -> Option<Content>
-    requires domain { Belongs desk.old domain.now }
-    requires cell { IsOpenAt desk.old cell.site cell.kind × (A.cell ≡ cell_of_site desk.old cell.site) }
-    ensures missed { IfNone result (desk.new ≡ desk.old) }
-    ensures owns { IfSome result (λ h. h.block ≢ None) }
-    ensures event { IfSome result
-        (λ h. AddsEvent desk.old (Load A.cell (handle_in desk.new cell.kind h.block h.place)) desk.new) }
-    ensures bag { IfSome result (λ h. bag_of desk.new ≡ with_handle cell.kind h.block h.place (bag_of desk.old)) }
-    ensures held { IfSome result (λ _. desk.new.held ≡ desk.old.held + 1) }
-    ensures holds { IfSome result (λ h. HoldsHandle desk.new cell.kind h.block h.place) }
-    ensures kind { IfSome result (λ h. h.kind ≡ cell.kind) }
-    ensures keeps { IfSome result (λ _. Keeps desk.old desk.new) }
-{
-    if desk.is_full() {
-        return None;
-    }
-    let board = &domain.table.shared;
-    let word = word_of(domain.shape.blocks, cell.site);
-    desk.held += 1; // here, since each locked instruction that follows waits for what was stored before it
-    let Some(seen) = rounds::loads::load_at_once::<V, A>(board, &mut desk.seat, word, cell.kind)
-    else {
-        desk.held -= 1;
-        return None;
-    };
-    Some(Content {
         kind: cell.kind,
         block: seen.owned,
         place: seen.place,

@@ -119,6 +119,7 @@ fn try_compare<V, A: Aimed, R: Wait>(
         return Some((false, seen));
     };
     if u32::from(seen.taken) >= CELL_FUNDS {
+        pause.give_way();
         return None;
     }
     if take_out::<V, A, R>(rt, board, chair, word, kind, block, seen) {
@@ -129,7 +130,8 @@ fn try_compare<V, A: Aimed, R: Wait>(
 
 /// Compare and swap: where what a cell holds is equivalent to what is expected, the new handle goes in, and what the
 /// cell held comes out; else a copy of what it holds ([util.smartptr.atomic.shared], [util.smartptr.atomic.weak]). True
-/// where it was swapped. It tries again while others change the cell, and while all its funds are taken.
+/// where it was swapped. It tries again while others change the cell, and while all its funds are taken: then it yields
+/// the processor after some tries.
 pub fn compare<V, A: Aimed, R: Wait>(
     rt: &R,
     board: &Board<V>,

@@ -1,11 +1,12 @@
 //! The steps of a load of a cell, and of the refill by which it puts back what was taken of the cell's funds.
-ghost use Rattle.std.specs.Prelude.{◌≡◌, ◌≢◌, ◌<◌, true, false, None, Some, IfSome};
+ghost use Rattle.std.specs.Prelude.{◌≡◌, ◌<◌, true, false, None, Some, IfSome};
 ghost use Rattle.control_word.specs.Packing.{IsCellWord};
 ghost use Rattle.control_word.specs.declared.model.event.Event.TheVariants.{Load};
 ghost use Rattle.control_block.specs.CellRounds.{IsAim, IsCounted, IsOut};
 ghost use Rattle.control_block.specs.Plays.{HasRoomFor, HoldingInBlock, known};
 
 use crate::board::{Board, Chair};
+use crate::pause::Pause;
 use crate::plays::StepArgs;
 use crate::plays::cells::Aimed;
 use crate::steps::{cells, funds};
@@ -73,10 +74,12 @@ fn refill<V, A: Aimed, M: StepArgs, R: Wait>(
     ensures table { chair.new.table_id ≡ chair.old.table_id }
     ensures same { chair.new.me ≡ chair.old.me }
 {
+    let mut pause = Pause::new();
     for _ in rt.forever() {
         if try_refill::<V, A, M>(board, chair, word, kind, block, place) {
             return;
         }
+        pause.give_way();
     }
     unreachable!()
 }
@@ -156,10 +159,10 @@ fn take_out<V, A: Aimed, R: Wait>(
     true
 }
 
-/// One try at a load that waits for nobody: a cell's object comes out as a handle more. None where the cell has no
-/// object, or others change it meanwhile, or the load would leave many of its funds taken: then nothing changes.
+/// The first try at a load, which waits for nobody: a cell's object comes out as a handle more. None where the cell has
+/// no object, or others change it meanwhile, or the load would leave many of its funds taken: then nothing changes.
 #[inline(always)]
-pub(crate) fn load_at_once<V, A: Aimed>(
+fn load_at_once<V, A: Aimed>(
     board: &Board<V>,
     chair: &mut Chair<V>,
     word: usize,
@@ -169,7 +172,6 @@ pub(crate) fn load_at_once<V, A: Aimed>(
     requires room { HasRoomFor chair.old.me.0 }
     ensures table { chair.new.table_id ≡ chair.old.table_id }
     ensures loaded { IfSome result (λ x. IsOut (λ h. Load A.cell h) kind chair.old.me.0 x chair.new.me) }
-    ensures owns { IfSome result (λ x. x.owned ≢ None) }
     ensures missed { result ≡ None → chair.new.me ≡ chair.old.me }
 {
     let seen = cells::peek::<V, A>(board, chair, word);
@@ -192,6 +194,7 @@ fn try_load<V, A: Aimed, R: Wait>(
     rt: &R,
     board: &Board<V>,
     chair: &mut Chair<V>,
+    pause: &mut Pause,
     word: usize,
     kind: Kind,
 ) -> Option<CellWord>
@@ -206,12 +209,38 @@ fn try_load<V, A: Aimed, R: Wait>(
         return Some(seen);
     };
     if u32::from(seen.taken) >= CELL_FUNDS {
+        pause.give_way();
         return None;
     }
     if take_out::<V, A, R>(rt, board, chair, word, kind, block, seen) {
         return Some(seen);
     }
     None
+}
+
+/// A load of any cell, which tries again while others change it, and while all its funds are taken: then it yields the
+/// processor after some tries.
+#[cold]
+#[inline(never)]
+fn load_with_retries<V, A: Aimed, R: Wait>(
+    rt: &R,
+    board: &Board<V>,
+    chair: &mut Chair<V>,
+    word: usize,
+    kind: Kind,
+) -> CellWord
+    requires aim { IsAim A.cell kind word board.now.table_id chair.old.table_id chair.old.me }
+    requires room { HasRoomFor chair.old.me.0 }
+    ensures table { chair.new.table_id ≡ chair.old.table_id }
+    ensures loaded { IsOut (λ h. Load A.cell h) kind chair.old.me.0 result chair.new.me }
+{
+    let mut pause = Pause::new();
+    for _ in rt.forever() {
+        if let Some(seen) = try_load::<V, A, R>(rt, board, chair, &mut pause, word, kind) {
+            return seen;
+        }
+    }
+    unreachable!()
 }
 
 /// Load: what a cell holds comes out as a handle more ([util.smartptr.atomic.shared], [util.smartptr.atomic.weak]). It
@@ -229,10 +258,8 @@ pub fn load<V, A: Aimed, R: Wait>(
     ensures table { chair.new.table_id ≡ chair.old.table_id }
     ensures loaded { IsOut (λ h. Load A.cell h) kind chair.old.me.0 result chair.new.me }
 {
-    for _ in rt.forever() {
-        if let Some(seen) = try_load::<V, A, R>(rt, board, chair, word, kind) {
-            return seen;
-        }
+    if let Some(seen) = load_at_once::<V, A>(board, chair, word, kind) {
+        return seen;
     }
-    unreachable!()
+    load_with_retries::<V, A, R>(rt, board, chair, word, kind)
 }

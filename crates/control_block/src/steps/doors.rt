@@ -18,7 +18,7 @@ use control_word::packed::layout::{DOOR, FLAGS, block_word};
 use std::sync::Wait;
 
 /// Shut: the door of an object that the desk has an owner of is shut, and the slot with its value is in hand (own). It
-/// tries again while the door is another's.
+/// tries again while the door is another's, and after some tries it yields the processor each time.
 pub fn shut<V: Drop, M: StepArgs, R: Wait>(
     rt: &R,
     board: &Board<V>,
@@ -44,7 +44,7 @@ pub fn shut<V: Drop, M: StepArgs, R: Wait>(
                 return;
             }
         }
-        pause.wait();
+        pause.give_way();
     }
     unreachable!()
 }

@@ -1,17 +1,19 @@
 -- The worked histories, by computation.
-use Rattle.std.proofs.Common.{◌≡◌, ℕ, suc, ◌≤◌, Bool, true, false, cond, ◌&&◌, not, ◌==◌, nat_lt, List, [], ◌∷◌, slice_index}
+use Rattle.std.proofs.Common.{◌≡◌, ℕ, suc, ◌<◌, ◌≤◌, Bool, true, false, cond, ◌&&◌, not, ◌==◌, nat_lt, List, [], ◌∷◌, slice_index}
 use Rattle.std.proofs.Common.{Option, Some, None}
 use Rattle.std.proofs.Common.{refl, sym, ap, ◌∙◌, inl, inr, ⊎_elim, eq-eqb, ne_eqb, arith}
-use Rattle.std.proofs.lemmas.Bool.{and_parts, ltb-true, cond-true, cond-false}
+use Rattle.std.proofs.lemmas.Option.{same_Some}
+use Rattle.std.proofs.lemmas.Bool.{eqb-true, and_parts, ltb-true, cond-true, cond-false}
 use Rattle.control_word.proofs.history.Storing.{stored_once}
 use Rattle.control_word.specs.Events.{Asks, after}
 use Rattle.control_word.specs.Handles.{empty, equivalent}
 use Rattle.control_word.specs.Histories.{IsLegal, MayCome, Values, leads, value}
 use Rattle.control_word.specs.Laws.{times_kept}
-use Rattle.control_word.specs.State.{IsOpening, IsVacant, bag_size, count, weak}
+use Rattle.control_word.specs.State.{IsOpening, IsVacant, bag_size, count, kind_of_member, weak}
 use Rattle.control_word.specs.Worked.{BlockUsedAgain, CountAfterCopy, CycleStays, FailedCompareHandsOutHeld, LockKeepsAlive, compare_ended}
 use Rattle.control_word.specs.Worked.{compare_held, compares, copy_ended, cycle_ended, four_blocks, leftover, lock_ended, lock_expired, owner_at}
-use Rattle.control_word.specs.Worked.{reached, reuse_copied, reuse_ended}
+use Rattle.control_word.specs.Worked.{MembersGoOut, SplitAndJoined, member_cleared, member_ended, member_ending, reached, reuse_copied}
+use Rattle.control_word.specs.Worked.{reuse_ended, split_joined}
 use Rattle.control_word.specs.declared.model.event.Entry.{Entry}
 use Rattle.control_word.specs.declared.model.event.Event.{Event}
 use Rattle.control_word.specs.declared.model.handle.Handle.{Handle}
@@ -30,28 +32,28 @@ opening_fits = record {
 }
 
 -- the desk is acting, and keeps within its allowance: a test that computes
-abbrev ready : List (Entry ℕ) → Event ℕ → Bool
-ready h e =
+abbrev ready : ℕ → List (Entry ℕ) → Event ℕ → Bool
+ready d h e =
     let s = leads four_blocks h in
-    let t = after s 0 e in
-    let fits = nat_lt (bag_size t 0) (suc (t.allowance 0)) in
-    nat_lt 0 s.names && (not (s.joined 0) && (nat_lt 0 (s.allowance 0) && fits))
+    let t = after s d e in
+    let fits = nat_lt (bag_size t d) (suc (t.allowance d)) in
+    nat_lt d s.names && (not (s.joined d) && (nat_lt 0 (s.allowance d) && fits))
 
 not_false : (b : Bool) → not b ≡ true → b ≡ false
 not_false true e = cc
 not_false false e = refl
 
-comes : {h : List (Entry ℕ)} {e : Event ℕ} → ready h e ≡ true → Asks (leads four_blocks h) 0 e
-    → Values (value four_blocks h) e → MayCome four_blocks h 0 e
-comes {h} {e} r asks values =
+comes : {d : ℕ} {h : List (Entry ℕ)} {e : Event ℕ} → ready d h e ≡ true → Asks (leads four_blocks h) d e
+    → Values (value four_blocks h) e → MayCome four_blocks h d e
+comes {d} {h} {e} r asks values =
     let s = leads four_blocks h in
-    let t = after s 0 e in
-    let a = and_parts (nat_lt 0 s.names) _ r in
-    let b = and_parts (not (s.joined 0)) _ a.1 in
-    let c = and_parts (nat_lt 0 (s.allowance 0)) (nat_lt (bag_size t 0) (suc (t.allowance 0))) b.1 in
-    let room = ltb-true (bag_size t 0) (suc (t.allowance 0)) c.1 in
+    let t = after s d e in
+    let a = and_parts (nat_lt d s.names) _ r in
+    let b = and_parts (not (s.joined d)) _ a.1 in
+    let c = and_parts (nat_lt 0 (s.allowance d)) (nat_lt (bag_size t d) (suc (t.allowance d))) b.1 in
+    let room = ltb-true (bag_size t d) (suc (t.allowance d)) c.1 in
     record {
-      acting = (ltb-true 0 s.names a.0, not_false (s.joined 0) b.0, ltb-true 0 (s.allowance 0) c.0);
+      acting = (ltb-true d s.names a.0, not_false (s.joined d) b.0, ltb-true 0 (s.allowance d) c.0);
       asks = asks;
       values = values;
       room = omega arith;
@@ -243,3 +245,77 @@ cycle_legal =
 pub cycle_stays : CycleStays
 unfolding count weak
 cycle_stays = (cycle_legal, (refl, refl), (refl, refl), refl, refl, refl, refl, (refl, refl), (refl, refl))
+
+-- the first object's members, once its first one went out
+no_member_left : (m : ℕ) → m < 3 → ((reached member_cleared).object 1).member m ≡ empty (kind_of_member m)
+no_member_left m lt = by (m == 0) refl
+  where
+    by : (b : Bool) → (m == 0) ≡ b
+        → cond b (empty Owner) (cond b (owner_at 2 2) (empty (kind_of_member m))) ≡ empty (kind_of_member m)
+    by true e = ap (λ (k : ℕ). empty (kind_of_member k)) (sym (eqb-true m 0 e))
+    by false e = refl
+
+member_legal : IsLegal four_blocks member_ended
+unfolding count weak
+member_legal =
+    opening_fits
+    ▸ comes refl (inr (inr (inr (inl refl))), refl) tt
+    ▸ comes refl (inr (inr (inl refl)), refl) tt
+    ▸ comes refl (
+      (omega arith, (owner_at 1 1, (inr (inl refl), refl, refl), refl)),
+      (refl, inr (inl refl, refl, refl)),
+      refl,
+    ) tt
+    ▸ comes refl ((omega arith, (owner_at 1 1, (inl refl, refl, refl), refl)), refl) tt
+    ▸ comes refl (inr (inl refl), refl, refl) refl
+    ▸ comes refl ((inr (inl refl), refl, refl), refl) tt
+    ▸ comes refl (refl, omega arith, refl) tt
+    ▸ comes refl (refl, no_member_left, refl) refl
+    ▸ comes refl ((inl refl, refl, refl), refl) tt
+    ▸ comes refl ((inl refl, refl, refl), refl) tt
+    ▸ comes refl (refl, (λ m lt. refl), refl) refl
+
+pub members_go_out : MembersGoOut
+unfolding count weak
+members_go_out = (
+  member_legal,
+  (refl, refl),
+  (λ other next. next.asks.1),
+  (refl, refl),
+  (λ other next. next.asks.2),
+  (refl, refl),
+  (λ other next. sym (same_Some 7 other next.values)),
+  refl,
+  refl,
+  refl,
+  refl,
+)
+
+split_legal : IsLegal four_blocks split_joined
+unfolding count weak
+split_legal =
+    opening_fits
+    ▸ comes refl (inr (inr (inr (inl refl))), refl) tt
+    ▸ comes refl ((inl refl, refl, refl), (omega arith, omega arith, omega arith)) tt
+    ▸ comes refl (refl, omega arith, omega arith, omega arith, (inl refl, tt), (inr (inr (inl refl)), tt)) tt
+    ▸ comes refl (inl refl, refl) tt
+    ▸ comes refl ((λ same. absurd cc), (ltb-true 1 2 refl, refl, ltb-true 0 40 refl)) tt
+
+pub split_and_joined : SplitAndJoined
+unfolding count weak
+split_and_joined = (
+  split_legal,
+  refl,
+  refl,
+  refl,
+  refl,
+  refl,
+  (refl, refl),
+  refl,
+  refl,
+  refl,
+  refl,
+  refl,
+  (refl, refl),
+  (refl, refl),
+)

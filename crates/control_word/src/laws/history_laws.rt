@@ -8,6 +8,7 @@ ghost use Rattle.control_word.specs.Laws.{FewAtOnce, NothingUnseen, JoinedIsQuie
 ghost use Rattle.control_word.specs.Laws.{CountsExactly, IsStrictWeakOrder, IsEquivalence};
 ghost use Rattle.control_word.specs.Worked.{CountAfterCopy, LockKeepsAlive};
 ghost use Rattle.control_word.specs.Worked.{FailedCompareHandsOutHeld, BlockUsedAgain, CycleStays};
+ghost use Rattle.control_word.specs.Worked.{MembersGoOut, SplitAndJoined};
 
 /// Of every legal history: how long objects live.
 pub fn objects<V>()
@@ -86,11 +87,13 @@ pub fn orders<V>()
     ensures equivalence { IsEquivalence }
 {}
 
-/// Five short histories, worked out: counts, replies, phases and vacancy are those of the rules.
+/// Seven short histories, worked out: counts, replies, phases and vacancy are those of the rules.
 pub fn worked_cases()
     ensures count_after_copy { CountAfterCopy }
     ensures lock_keeps_alive { LockKeepsAlive }
     ensures failed_compare_hands_out_held { FailedCompareHandsOutHeld }
     ensures block_used_again { BlockUsedAgain }
     ensures cycle_stays { CycleStays }
+    ensures members_go_out { MembersGoOut }
+    ensures split_and_joined { SplitAndJoined }
 {}

@@ -2,10 +2,12 @@
 ghost use Rattle.std.specs.Prelude.{◌≡◌, false, true, IfErr, IfOk, OnOk};
 ghost use Rattle.control_block.specs.Desks.{Belongs};
 ghost use Rattle.handle_table.specs.Bringing.{Brought, Fills, IsLoaded, IsSwapped, beside_pile};
-ghost use Rattle.handle_table.specs.Cells.{ExchangesSlot, LoadsIntoSlot, StoresFromSlot, WhyNotLoaded, WhyNotSwapped};
+ghost use Rattle.handle_table.specs.Calls.{LimitLast};
+ghost use Rattle.handle_table.specs.Cells.{ExchangesSlot, IsCellThere, LoadsIntoSlot, StoresFromSlot, WhyNotLoaded};
+ghost use Rattle.handle_table.specs.Cells.{WhyNotSwapped};
 ghost use Rattle.handle_table.specs.Tables.{FitsSlots};
 
-use crate::cells::held::{exchange_held, load_held, load_held_at_once};
+use crate::cells::held::{exchange_held, load_held};
 use crate::cells::{Cell, find};
 use crate::fault::Fault;
 use crate::slots::assigning::{arrive, assign, let_go};
@@ -31,7 +33,8 @@ fn loaded<V: Drop, R: Wait>(
     requires domain { Belongs desk.old domain.now }
     requires fits { FitsSlots desk.old slots.now.items }
     ensures { Brought (IsLoaded cell slots.now.items)
-        (WhyNotLoaded (beside_pile desk.old slots.now.items) cell to)
+        (λ why. WhyNotLoaded (beside_pile desk.old slots.now.items) cell to why
+        × LimitLast slots.now.items to (IsCellThere desk.old.shape slots.now.items cell) why)
         desk.old slots.now.items to result desk.new }
 {
     if to >= slots.len() {
@@ -46,10 +49,11 @@ fn loaded<V: Drop, R: Wait>(
     }
 }
 
-/// A copy of an object's owner or weak handle that the cell holds comes into a slot, which is vacant, at the first try:
-/// whether that was so, and the desk was below its allowance. Else nothing changes.
+/// A copy of what the cell holds comes into a slot, which is vacant: whether that was so, there is such a cell, and the
+/// desk was below its allowance. Else nothing changes.
 #[inline(always)]
-fn load_at_once<V: Drop>(
+fn load_into_vacant<V: Drop, R: Wait>(
+    rt: &R,
     domain: &Domain<V>,
     desk: &mut Desk<V>,
     slots: &mut Vec<Slot>,
@@ -69,8 +73,9 @@ fn load_at_once<V: Drop>(
         Ok(at) => at,
         Err(_) => return false,
     };
-    let Some(found) = load_held_at_once(domain, desk, at) else {
-        return false;
+    let found = match load_held(rt, domain, desk, at) {
+        Ok(found) => found,
+        Err(_) => return false,
     };
     fill(slots, to, found);
     true
@@ -108,8 +113,10 @@ impl<'d, V: Drop, H: Home> HandleTable<'d, V, H> {
     pub fn load<R: Wait>(&mut self, rt: &R, cell: Cell, to: usize) -> Result<(), Fault>
         ensures loaded { OnOk result (LoadsIntoSlot self.old cell to self.new) }
         ensures refused { IfErr result (λ why. WhyNotLoaded self.old cell to why × (self.new ≡ self.old)) }
+        ensures last { IfErr result
+            (LimitLast self.old.slots to (IsCellThere self.old.desk.shape self.old.slots cell)) }
     {
-        if load_at_once(self.domain, &mut self.desk, &mut self.slots, cell, to) {
+        if load_into_vacant(rt, self.domain, &mut self.desk, &mut self.slots, cell, to) {
             return Ok(());
         }
         self.load_any(rt, cell, to)
@@ -120,6 +127,8 @@ impl<'d, V: Drop, H: Home> HandleTable<'d, V, H> {
     fn load_any<R: Wait>(&mut self, rt: &R, cell: Cell, to: usize) -> Result<(), Fault>
         ensures loaded { OnOk result (LoadsIntoSlot self.old cell to self.new) }
         ensures refused { IfErr result (λ why. WhyNotLoaded self.old cell to why × (self.new ≡ self.old)) }
+        ensures last { IfErr result
+            (LimitLast self.old.slots to (IsCellThere self.old.desk.shape self.old.slots cell)) }
     {
         // in hand, since what a call that isn't inlined answers is kept in memory
         match self.load_out_of_line(rt, cell, to) {
@@ -134,6 +143,8 @@ impl<'d, V: Drop, H: Home> HandleTable<'d, V, H> {
     fn load_out_of_line<R: Wait>(&mut self, rt: &R, cell: Cell, to: usize) -> Result<(), Fault>
         ensures loaded { OnOk result (LoadsIntoSlot self.old cell to self.new) }
         ensures refused { IfErr result (λ why. WhyNotLoaded self.old cell to why × (self.new ≡ self.old)) }
+        ensures last { IfErr result
+            (LimitLast self.old.slots to (IsCellThere self.old.desk.shape self.old.slots cell)) }
     {
         let came = loaded(rt, self.domain, &mut self.desk, &self.slots, cell, to);
         arrive(

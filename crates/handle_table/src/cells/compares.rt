@@ -3,7 +3,8 @@ ghost use Rattle.std.specs.Prelude.{◌≡◌, ◌<◌, ◌∷◌, true, false, 
 ghost use Rattle.std.specs.Prelude.{Some};
 ghost use Rattle.control_block.specs.Desks.{Belongs};
 ghost use Rattle.shared_handle.specs.Piles.{Bears};
-ghost use Rattle.handle_table.specs.Compares.{ComparesSlots, FollowsCompare, IsCompared, WhyNotCompared};
+ghost use Rattle.handle_table.specs.Compares.{ComparesLast, ComparesSlots, FollowsCompare, IsCompared};
+ghost use Rattle.handle_table.specs.Compares.{WhyNotCompared};
 ghost use Rattle.handle_table.specs.Tables.{FitsSlots, on_pile};
 
 use crate::cells::held::{Form, Spurious, Strong, compare_held};
@@ -106,6 +107,8 @@ impl<'d, V: Drop, H: Home> HandleTable<'d, V, H> {
             swapped self.new) }
         ensures refused { IfErr result
             (λ why. WhyNotCompared self.old cell expected desired why × (self.new ≡ self.old)) }
+        ensures last { IfErr result
+            (ComparesLast self.old.desk self.old.slots cell expected desired) }
     {
         match compare_slots::<V, F, R>(
             rt,
@@ -149,6 +152,8 @@ impl<'d, V: Drop, H: Home> HandleTable<'d, V, H> {
             swapped self.new) }
         ensures refused { IfErr result
             (λ why. WhyNotCompared self.old cell expected desired why × (self.new ≡ self.old)) }
+        ensures last { IfErr result
+            (ComparesLast self.old.desk self.old.slots cell expected desired) }
     {
         self.compare::<Strong, R>(rt, cell, expected, desired)
     }
@@ -166,6 +171,8 @@ impl<'d, V: Drop, H: Home> HandleTable<'d, V, H> {
             swapped self.new) }
         ensures refused { IfErr result
             (λ why. WhyNotCompared self.old cell expected desired why × (self.new ≡ self.old)) }
+        ensures last { IfErr result
+            (ComparesLast self.old.desk self.old.slots cell expected desired) }
     {
         self.compare::<Spurious, R>(rt, cell, expected, desired)
     }

@@ -1,11 +1,12 @@
 //! The calls of a desk on cells of either kind.
-ghost use Rattle.std.specs.Prelude.{◌≡◌, ◌+◌, cond, IfErr, IfNone, IfOk, IfSome, OnOk};
+ghost use Rattle.std.specs.Prelude.{◌≡◌, ◌+◌, cond, IfErr, IfOk, OnOk};
 ghost use Rattle.control_word.specs.declared.refusal.Refusal.TheVariants.{Limit};
 ghost use Rattle.control_block.specs.CellCalls.{HoldsHandle, IsOpenAt, cell_of_site, without_handle};
 ghost use Rattle.control_block.specs.Desks.{Belongs, Keeps, allowance_of, bag_of, held_of};
 ghost use Rattle.control_block.specs.HandleLists.{IsHeldByDesk, with_held, without_held};
 ghost use Rattle.atomic_cells.specs.Cells.{Exchanges, Loads};
 ghost use Rattle.atomic_cells.specs.Compares.{Compares};
+ghost use Rattle.handle_table.specs.Calls.{IsBelow};
 ghost use Rattle.handle_table.specs.Parts.{kind_of_held, block_of_held, place_of_held};
 
 use crate::slots::kinds::{held_of, into_content};
@@ -60,36 +61,13 @@ pub(crate) fn load_held<V: Drop, R: Wait>(
     ensures bag { IfOk result (λ h. bag_of desk.new ≡ with_held h (bag_of desk.old)) }
     ensures held { OnOk result (desk.new.held ≡ desk.old.held + 1) }
     ensures keeps { OnOk result (Keeps desk.old desk.new) }
+    ensures below { OnOk result (IsBelow desk.old) }
     ensures refused { IfErr result
         (λ why. (why ≡ Limit) × (held_of desk.old ≡ allowance_of desk.old) × (desk.new ≡ desk.old)) }
 {
     match cell_calls::load::<V, Brand, R>(rt, domain, desk, cell) {
         Ok(found) => Ok(held_of(found)),
         Err(why) => Err(why),
-    }
-}
-
-/// The same at the first try, of a handle that has an object; none where that fails, and then nothing changes.
-#[inline(always)]
-pub(crate) fn load_held_at_once<V: Drop>(
-    domain: &Domain<V>,
-    desk: &mut Desk<V>,
-    cell: CellAt,
-) -> Option<Held>
-    requires domain { Belongs desk.old domain.now }
-    requires cell { IsOpenAt desk.old cell.site cell.kind }
-    ensures kind { IfSome result (λ h. kind_of_held h ≡ cell.kind) }
-    ensures event { IfSome result
-        (λ h. Loads desk.old (cell_of_site desk.old cell.site) cell.kind (block_of_held h)
-        (place_of_held h) desk.new) }
-    ensures bag { IfSome result (λ h. bag_of desk.new ≡ with_held h (bag_of desk.old)) }
-    ensures held { IfSome result (λ _. desk.new.held ≡ desk.old.held + 1) }
-    ensures keeps { IfSome result (λ _. Keeps desk.old desk.new) }
-    ensures same { IfNone result (desk.new ≡ desk.old) }
-{
-    match cell_calls::load_at_once::<V, Brand>(domain, desk, cell) {
-        Some(found) => Some(held_of(found)),
-        None => None,
     }
 }
 
@@ -139,6 +117,7 @@ pub(crate) fn compare_held<V: Drop, F: Form, R: Wait>(
         (cond r.0 (without_handle cell.kind new.block new.place (bag_of desk.old)) (bag_of desk.old))) }
     ensures held { IfOk result (λ r. desk.new.held ≡ desk.old.held + cond r.0 0 1) }
     ensures keeps { OnOk result (Keeps desk.old desk.new) }
+    ensures below { OnOk result (IsBelow desk.old) }
     ensures refused { IfErr result
         (λ why. (why ≡ Limit) × (held_of desk.old ≡ allowance_of desk.old) × (desk.new ≡ desk.old)) }
 {

@@ -4,8 +4,8 @@ ghost use Rattle.control_word.specs.declared.refusal.Refusal.TheVariants.{Limit}
 ghost use Rattle.control_block.specs.Desks.{Belongs, Keeps, allowance_of, bag_of, held_of};
 ghost use Rattle.control_block.specs.HandleLists.{IsHeldByDesk, with_held};
 ghost use Rattle.handle_table.specs.Bringing.{Brought, Fills, IsWeakCopy, OfHandle, OfOwner, beside_pile};
-ghost use Rattle.handle_table.specs.Calls.{Copies, Downgrades, IsCopy, MovesSlot, WhyNoCopy, WhyNotDowngraded};
-ghost use Rattle.handle_table.specs.Calls.{WhyNotMoved};
+ghost use Rattle.handle_table.specs.Calls.{Copies, Downgrades, IsBelow, IsCopy, IsHandleAt, IsOwnerAt, LimitLast};
+ghost use Rattle.handle_table.specs.Calls.{MovesSlot, WhyNoCopy, WhyNotDowngraded, WhyNotMoved};
 ghost use Rattle.handle_table.specs.Tables.{FitsSlots};
 ghost use Rattle.handle_table.specs.declared.fault.Fault.TheVariants as fault;
 
@@ -30,6 +30,7 @@ fn copy_of<V: Drop>(domain: &Domain<V>, desk: &mut Desk<V>, handle: &Held) -> Re
     ensures bag { IfOk result (λ h. bag_of desk.new ≡ with_held h (bag_of desk.old)) }
     ensures held { OnOk result (desk.new.held ≡ desk.old.held + 1) }
     ensures keeps { OnOk result (Keeps desk.old desk.new) }
+    ensures below { OnOk result (IsBelow desk.old) }
     ensures refused { IfErr result
         (λ why. (why ≡ Limit) × (held_of desk.old ≡ allowance_of desk.old) × (desk.new ≡ desk.old)) }
 {
@@ -57,7 +58,8 @@ fn copy_from<V: Drop>(
     requires domain { Belongs desk.old domain.now }
     requires fits { FitsSlots desk.old slots.now.items }
     ensures { Brought (OfHandle IsCopy slots.now.items from)
-        (WhyNoCopy (beside_pile desk.old slots.now.items) from to)
+        (λ why. WhyNoCopy (beside_pile desk.old slots.now.items) from to why
+        × LimitLast slots.now.items to (IsHandleAt slots.now.items from) why)
         desk.old slots.now.items to result desk.new }
 {
     if to >= slots.len() {
@@ -125,7 +127,8 @@ fn weak_from<V: Drop>(
     requires domain { Belongs desk.old domain.now }
     requires fits { FitsSlots desk.old slots.now.items }
     ensures { Brought (OfOwner IsWeakCopy slots.now.items from)
-        (WhyNotDowngraded (beside_pile desk.old slots.now.items) from to)
+        (λ why. WhyNotDowngraded (beside_pile desk.old slots.now.items) from to why
+        × LimitLast slots.now.items to (IsOwnerAt slots.now.items from) why)
         desk.old slots.now.items to result desk.new }
 {
     if to >= slots.len() {
@@ -151,6 +154,7 @@ impl<'d, V: Drop, H: Home> HandleTable<'d, V, H> {
     pub fn copy(&mut self, from: usize, to: usize) -> Result<(), Fault>
         ensures copied { OnOk result (Copies self.old from to self.new) }
         ensures refused { IfErr result (λ why. WhyNoCopy self.old from to why × (self.new ≡ self.old)) }
+        ensures last { IfErr result (LimitLast self.old.slots to (IsHandleAt self.old.slots from)) }
     {
         if copy_owner(self.domain, &mut self.desk, &mut self.slots, from, to) {
             return Ok(());
@@ -163,6 +167,7 @@ impl<'d, V: Drop, H: Home> HandleTable<'d, V, H> {
     fn copy_any(&mut self, from: usize, to: usize) -> Result<(), Fault>
         ensures copied { OnOk result (Copies self.old from to self.new) }
         ensures refused { IfErr result (λ why. WhyNoCopy self.old from to why × (self.new ≡ self.old)) }
+        ensures last { IfErr result (LimitLast self.old.slots to (IsHandleAt self.old.slots from)) }
     {
         // in hand, since what a call that isn't inlined answers is kept in memory
         match self.copy_out_of_line(from, to) {
@@ -177,6 +182,7 @@ impl<'d, V: Drop, H: Home> HandleTable<'d, V, H> {
     fn copy_out_of_line(&mut self, from: usize, to: usize) -> Result<(), Fault>
         ensures copied { OnOk result (Copies self.old from to self.new) }
         ensures refused { IfErr result (λ why. WhyNoCopy self.old from to why × (self.new ≡ self.old)) }
+        ensures last { IfErr result (LimitLast self.old.slots to (IsHandleAt self.old.slots from)) }
     {
         let came = copy_from(self.domain, &mut self.desk, &self.slots, from, to);
         arrive(
@@ -193,6 +199,7 @@ impl<'d, V: Drop, H: Home> HandleTable<'d, V, H> {
     pub fn downgrade(&mut self, from: usize, to: usize) -> Result<(), Fault>
         ensures downgraded { OnOk result (Downgrades self.old from to self.new) }
         ensures refused { IfErr result (λ why. WhyNotDowngraded self.old from to why × (self.new ≡ self.old)) }
+        ensures last { IfErr result (LimitLast self.old.slots to (IsOwnerAt self.old.slots from)) }
     {
         let came = weak_from(self.domain, &mut self.desk, &self.slots, from, to);
         arrive(

@@ -2,6 +2,7 @@
 ghost use Rattle.std.specs.Prelude.{◌≡◌, IfErr, OnOk};
 ghost use Rattle.control_block.specs.Desks.{Belongs};
 ghost use Rattle.handle_table.specs.Bringing.{Brought, IsEmptyOwner, IsEmptyWeak, beside_pile};
+ghost use Rattle.handle_table.specs.Calls.{LimitLast};
 ghost use Rattle.handle_table.specs.Handles.{EmptiesSlot, EmptiesSlotWeakly, WhyNotEmptied};
 ghost use Rattle.handle_table.specs.Tables.{FitsSlots};
 
@@ -23,7 +24,8 @@ fn empty_owner<V: Drop>(
 ) -> Result<Held, Fault>
     requires domain { Belongs desk.old domain.now }
     requires fits { FitsSlots desk.old slots.now.items }
-    ensures { Brought IsEmptyOwner (WhyNotEmptied (beside_pile desk.old slots.now.items) to)
+    ensures { Brought IsEmptyOwner (λ why. WhyNotEmptied (beside_pile desk.old slots.now.items) to why
+        × LimitLast slots.now.items to (Unit {0}) why)
         desk.old slots.now.items to result desk.new }
 {
     if to >= slots.len() {
@@ -45,7 +47,8 @@ fn empty_weak_handle<V: Drop>(
 ) -> Result<Held, Fault>
     requires domain { Belongs desk.old domain.now }
     requires fits { FitsSlots desk.old slots.now.items }
-    ensures { Brought IsEmptyWeak (WhyNotEmptied (beside_pile desk.old slots.now.items) to)
+    ensures { Brought IsEmptyWeak (λ why. WhyNotEmptied (beside_pile desk.old slots.now.items) to why
+        × LimitLast slots.now.items to (Unit {0}) why)
         desk.old slots.now.items to result desk.new }
 {
     if to >= slots.len() {
@@ -63,6 +66,7 @@ impl<'d, V: Drop, H: Home> HandleTable<'d, V, H> {
     pub fn empty(&mut self, to: usize) -> Result<(), Fault>
         ensures emptied { OnOk result (EmptiesSlot self.old to self.new) }
         ensures refused { IfErr result (λ why. WhyNotEmptied self.old to why × (self.new ≡ self.old)) }
+        ensures last { IfErr result (LimitLast self.old.slots to (Unit {0})) }
     {
         let came = empty_owner(self.domain, &mut self.desk, &self.slots, to);
         arrive(
@@ -79,6 +83,7 @@ impl<'d, V: Drop, H: Home> HandleTable<'d, V, H> {
     pub fn empty_weak(&mut self, to: usize) -> Result<(), Fault>
         ensures emptied { OnOk result (EmptiesSlotWeakly self.old to self.new) }
         ensures refused { IfErr result (λ why. WhyNotEmptied self.old to why × (self.new ≡ self.old)) }
+        ensures last { IfErr result (LimitLast self.old.slots to (Unit {0})) }
     {
         let came = empty_weak_handle(self.domain, &mut self.desk, &self.slots, to);
         arrive(

@@ -1,6 +1,6 @@
 //! Owners from weak handles.
 ghost use Rattle.std.specs.Prelude.{◌≡◌, IfErr, IfOk};
-ghost use Rattle.handle_table.specs.Calls.{LocksSlot, WhyNotLocked};
+ghost use Rattle.handle_table.specs.Calls.{IsWeakAt, LimitLast, LocksSlot, WhyNotLocked};
 
 use crate::fault::Fault;
 use crate::slots::assigning::assign;
@@ -16,6 +16,7 @@ impl<'d, V: Drop, H: Home> HandleTable<'d, V, H> {
     pub fn lock<R: Wait>(&mut self, rt: &R, from: usize, to: usize) -> Result<bool, Fault>
         ensures locked { IfOk result (λ got. LocksSlot self.old from to got self.new) }
         ensures refused { IfErr result (λ why. WhyNotLocked self.old from to why × (self.new ≡ self.old)) }
+        ensures last { IfErr result (LimitLast self.old.slots to (IsWeakAt self.old.slots from)) }
     {
         if to >= self.slots.len() {
             return Err(Fault::Slot);

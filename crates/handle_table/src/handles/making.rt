@@ -4,7 +4,7 @@ ghost use Rattle.control_block.specs.Desks.{Belongs, stock_of};
 ghost use Rattle.control_block.specs.Own.{IsSole};
 ghost use Rattle.control_block.specs.Shelf.{shelved_of};
 ghost use Rattle.handle_table.specs.Bringing.{Brought, IsMade, IsNullMade, beside_pile};
-ghost use Rattle.handle_table.specs.Calls.{MakesIntoSlot, MakesNull, WhyNotMade};
+ghost use Rattle.handle_table.specs.Calls.{LimitLast, MakesIntoSlot, MakesNull, WhyNotMade};
 ghost use Rattle.handle_table.specs.Shelving.{IsSupplied, WhyNotSupplied};
 ghost use Rattle.handle_table.specs.Tables.{FitsSlots};
 
@@ -34,6 +34,7 @@ fn made<V: Drop>(
         (λ r. WhyNotMade (beside_pile desk.old slots.now.items) to r.why × (r.back ≡ value))
         desk.old slots.now.items to result desk.new }
     ensures full { stock_of desk.old ≡ [] → IsErr result }
+    ensures last { IfErr result (λ r. LimitLast slots.now.items to (Unit {0}) r.why) }
 {
     if to >= slots.len() {
         return Err(Returned {
@@ -68,6 +69,7 @@ fn null_made<V: Drop>(
         (λ r. WhyNotMade (beside_pile desk.old slots.now.items) to r.why × (r.back ≡ value))
         desk.old slots.now.items to result desk.new }
     ensures full { stock_of desk.old ≡ [] → IsErr result }
+    ensures last { IfErr result (λ r. LimitLast slots.now.items to (Unit {0}) r.why) }
 {
     if to >= slots.len() {
         return Err(Returned {
@@ -107,6 +109,7 @@ impl<'d, V: Drop, H: Home> HandleTable<'d, V, H> {
             (λ r. WhyNotSupplied self.old to r.why × (r.back ≡ value) × (self.new ≡ self.old)) }
         ensures full { IsSole self.old.desk → stock_of self.old.desk ≡ [] → shelved_of self.old.desk ≡ 0
             → IsErr result }
+        ensures last { IfErr result (λ r. LimitLast self.old.slots to (Unit {0}) r.why) }
     {
         if to >= self.slots.len() {
             return Err(Returned {
@@ -126,6 +129,7 @@ impl<'d, V: Drop, H: Home> HandleTable<'d, V, H> {
             (λ r. WhyNotSupplied self.old to r.why × (r.back ≡ value) × (self.new ≡ self.old)) }
         ensures full { IsSole self.old.desk → stock_of self.old.desk ≡ [] → shelved_of self.old.desk ≡ 0
             → IsErr result }
+        ensures last { IfErr result (λ r. LimitLast self.old.slots to (Unit {0}) r.why) }
     {
         if to >= self.slots.len() {
             return Err(Returned {
@@ -151,6 +155,7 @@ impl<'d, V: Drop, H: Home> HandleTable<'d, V, H> {
         ensures refused { IfErr result
             (λ r. WhyNotMade self.old to r.why × (r.back ≡ value) × (self.new ≡ self.old)) }
         ensures full { stock_of self.old.desk ≡ [] → IsErr result }
+        ensures last { IfErr result (λ r. LimitLast self.old.slots to (Unit {0}) r.why) }
     {
         let came = made(
             self.domain,
@@ -177,6 +182,7 @@ impl<'d, V: Drop, H: Home> HandleTable<'d, V, H> {
         ensures refused { IfErr result
             (λ r. WhyNotMade self.old to r.why × (r.back ≡ value) × (self.new ≡ self.old)) }
         ensures full { stock_of self.old.desk ≡ [] → IsErr result }
+        ensures last { IfErr result (λ r. LimitLast self.old.slots to (Unit {0}) r.why) }
     {
         let came = null_made(self.domain, &mut self.desk, &self.slots, to, value);
         arrive(

@@ -3,6 +3,7 @@ ghost use Rattle.std.specs.Prelude.{◌≡◌, Decides, IfErr, OnOk};
 ghost use Rattle.control_word.specs.Handles.{IsPointer};
 ghost use Rattle.control_block.specs.Desks.{Belongs};
 ghost use Rattle.handle_table.specs.Bringing.{Brought, IsAlias, IsThisOwner, IsThisWeak, OfOwner, beside_pile};
+ghost use Rattle.handle_table.specs.Calls.{IsOwnerAt, LimitLast};
 ghost use Rattle.handle_table.specs.Tables.{FitsSlots};
 ghost use Rattle.handle_table.specs.This.{Aliases, SharesThis, SharesThisWeakly, WhyNoAlias, WhyNoThis};
 
@@ -38,7 +39,8 @@ fn owner_of_this<V: Drop>(
     requires domain { Belongs desk.old domain.now }
     requires fits { FitsSlots desk.old slots.now.items }
     ensures { Brought (OfOwner IsThisOwner slots.now.items of)
-        (WhyNoThis (beside_pile desk.old slots.now.items) of to)
+        (λ why. WhyNoThis (beside_pile desk.old slots.now.items) of to why
+        × LimitLast slots.now.items to (IsOwnerAt slots.now.items of) why)
         desk.old slots.now.items to result desk.new }
 {
     if to >= slots.len() {
@@ -69,7 +71,8 @@ fn weak_of_this<V: Drop>(
     requires domain { Belongs desk.old domain.now }
     requires fits { FitsSlots desk.old slots.now.items }
     ensures { Brought (OfOwner IsThisWeak slots.now.items of)
-        (WhyNoThis (beside_pile desk.old slots.now.items) of to)
+        (λ why. WhyNoThis (beside_pile desk.old slots.now.items) of to why
+        × LimitLast slots.now.items to (IsOwnerAt slots.now.items of) why)
         desk.old slots.now.items to result desk.new }
 {
     if to >= slots.len() {
@@ -101,7 +104,8 @@ fn alias_of<V: Drop>(
     requires domain { Belongs desk.old domain.now }
     requires fits { FitsSlots desk.old slots.now.items }
     ensures { Brought (OfOwner (IsAlias place) slots.now.items of)
-        (WhyNoAlias (beside_pile desk.old slots.now.items) of place to)
+        (λ why. WhyNoAlias (beside_pile desk.old slots.now.items) of place to why
+        × LimitLast slots.now.items to (IsPointer place × IsOwnerAt slots.now.items of) why)
         desk.old slots.now.items to result desk.new }
 {
     if to >= slots.len() {
@@ -130,6 +134,7 @@ impl<'d, V: Drop, H: Home> HandleTable<'d, V, H> {
     pub fn shared_from_this(&mut self, of: usize, to: usize) -> Result<(), Fault>
         ensures shared { OnOk result (SharesThis self.old of to self.new) }
         ensures refused { IfErr result (λ why. WhyNoThis self.old of to why × (self.new ≡ self.old)) }
+        ensures last { IfErr result (LimitLast self.old.slots to (IsOwnerAt self.old.slots of)) }
     {
         let came = owner_of_this(self.domain, &mut self.desk, &self.slots, of, to);
         arrive(
@@ -146,6 +151,7 @@ impl<'d, V: Drop, H: Home> HandleTable<'d, V, H> {
     pub fn weak_from_this(&mut self, of: usize, to: usize) -> Result<(), Fault>
         ensures shared { OnOk result (SharesThisWeakly self.old of to self.new) }
         ensures refused { IfErr result (λ why. WhyNoThis self.old of to why × (self.new ≡ self.old)) }
+        ensures last { IfErr result (LimitLast self.old.slots to (IsOwnerAt self.old.slots of)) }
     {
         let came = weak_of_this(self.domain, &mut self.desk, &self.slots, of, to);
         arrive(
@@ -165,6 +171,8 @@ impl<'d, V: Drop, H: Home> HandleTable<'d, V, H> {
         ensures aliased { OnOk result (Aliases self.old of place to self.new) }
         ensures refused { IfErr result
             (λ why. WhyNoAlias self.old of place to why × (self.new ≡ self.old)) }
+        ensures last { IfErr result
+            (LimitLast self.old.slots to (IsPointer place × IsOwnerAt self.old.slots of)) }
     {
         let came = alias_of(self.domain, &mut self.desk, &self.slots, of, place, to);
         arrive(

@@ -1,5 +1,6 @@
 //! Owners from weak handles, or a refusal.
 ghost use Rattle.std.specs.Prelude.{◌≡◌, IfErr, OnOk};
+ghost use Rattle.handle_table.specs.Calls.{IsWeakAt, LimitLast};
 ghost use Rattle.handle_table.specs.Handles.{Upgrades, WhyNotUpgraded};
 
 use crate::fault::Fault;
@@ -16,6 +17,7 @@ impl<'d, V: Drop, H: Home> HandleTable<'d, V, H> {
     pub fn upgrade<R: Wait>(&mut self, rt: &R, from: usize, to: usize) -> Result<(), Fault>
         ensures upgraded { OnOk result (Upgrades self.old from to self.new) }
         ensures refused { IfErr result (λ why. WhyNotUpgraded self.old from to why self.new) }
+        ensures last { IfErr result (LimitLast self.old.slots to (IsWeakAt self.old.slots from)) }
     {
         if to >= self.slots.len() {
             return Err(Fault::Slot);

@@ -13,7 +13,7 @@ use control_block::handles::Held;
 use control_word::{Block, Refusal, Refused};
 use std::alloc::Global;
 
-pub(crate) fn abandon<V: Drop + Send>(domain: Domain<V>, desk: Desk<V>) {
+pub(crate) fn abandon<V: Drop>(domain: Domain<V>, desk: Desk<V>) {
     drop(domain);
     desk.give_up();
 }
@@ -85,7 +85,7 @@ fn a_split_keeps_one_and_gives_one(rt: HostRuntime) {
 }
 
 // The census of a domain that its desk closes; none where that is not sole.
-pub(crate) fn closed<V: Drop + Send>(domain: Domain<V>, desk: Desk<V>) -> Option<Census<V>>
+pub(crate) fn closed<V: Drop>(domain: Domain<V>, desk: Desk<V>) -> Option<Census<V>>
     requires { Belongs desk domain }
 {
     match close(domain, desk) {

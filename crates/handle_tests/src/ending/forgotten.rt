@@ -16,7 +16,7 @@ use std::alloc::Global;
 use std::sync::atomic::{AtomicU64, Ordering};
 
 // The domain is closed: the counts of the block, and how many blocks are taken.
-pub(crate) fn counted<V: Drop + Send>(
+pub(crate) fn counted<V: Drop>(
     domain: Domain<V>,
     desk: Desk<V>,
     block: Option<Block>,

@@ -55,7 +55,7 @@ pub(crate) fn repeat<A: Act, R: Wait>(
 }
 
 /// What is left where nothing more is to end: an object that did would end in the desk's hands for good.
-pub(crate) fn lose<V: Drop + Send>(left: Left<V>) {
+pub(crate) fn lose<V: Drop>(left: Left<V>) {
     match left {
         Left::Empty | Left::Others => {}
         Left::Last(ending) => {
@@ -66,7 +66,7 @@ pub(crate) fn lose<V: Drop + Send>(left: Left<V>) {
 
 /// An object ends: its members are cleared, and it is finished. Its value comes out.
 #[inline(always)]
-pub(crate) fn bury<V: Drop + Send>(domain: &Domain<V>, desk: &mut Desk<V>, ending: Ending<V>) -> V
+pub(crate) fn bury<V: Drop>(domain: &Domain<V>, desk: &mut Desk<V>, ending: Ending<V>) -> V
     requires domain { Belongs desk.old domain.now }
     requires ends { EndsInHand desk.old ending }
     ensures { KeepsHandles desk.old desk.new }
@@ -83,7 +83,7 @@ pub(crate) fn bury<V: Drop + Send>(domain: &Domain<V>, desk: &mut Desk<V>, endin
 
 /// An owner leaves, and its object ends where it was the last.
 #[inline(always)]
-pub(crate) fn end<V: Drop + Send>(domain: &Domain<V>, desk: &mut Desk<V>, owner: Shared)
+pub(crate) fn end<V: Drop>(domain: &Domain<V>, desk: &mut Desk<V>, owner: Shared)
     requires domain { Belongs desk.old domain.now }
     requires holds { HoldsHandle desk.old Owner owner.block owner.place }
     ensures desk { IsSameDesk desk.old desk.new }

@@ -87,6 +87,7 @@ fn leave<V: Drop, R: Wait>(
 {
     let went = cut_child(rt, domain, desk, &parent, node, pile);
     unlink(rt, domain, desk, node, went, pile);
+    desk.stands();
     let_go(rt, domain, desk, parent, pile);
 }
 

@@ -1,9 +1,11 @@
 //! The world at the end of a script's run (own).
-ghost use Rattle.std.specs.Prelude.{◌≡◌, ◌≤◌, ◌+◌, All, IfErr, IfOk, length};
+ghost use Rattle.std.specs.Prelude.{◌≡◌, ℕ, ◌≤◌, ◌+◌, All, IfErr, IfOk, List, length};
 ghost use Rattle.script_text.specs.declared.fault.Fault.TheVariants.{Memory};
 ghost use Rattle.script_text.specs.Beginnings.{script_scene};
+ghost use Rattle.script_text.specs.Drafts.{ScriptView};
 ghost use Rattle.step_core.specs.Totals.{IsAtEnd};
 ghost use Rattle.step_core.specs.Worlds.{scene};
+ghost use Rattle.step_threads.specs.Scenes.{Scene};
 ghost use Rattle.script_stepper.specs.Ends.{IsRunEnd, IsRefused, IsRunOut};
 
 use crate::runs::running::run_turns;
@@ -49,6 +51,10 @@ fn run_out(alloc: Global, script: &Script, turns: &[u8]) -> Result<End, Fault>
 pub fn end_of(alloc: Global, script: &[u8], turns: &[u8]) -> Result<End, Fault>
     ensures end { IfOk result (λ end. IsRunEnd script.now turns.now (scene end.world)) }
     ensures refused { IfErr result (λ fault. IsRefused script.now turns.now fault) }
+
+    // A script and its turns have one such end only.
+    ensures one { (read : ScriptView) (listed : List ℕ) (last other : Scene)
+        → IsRunOut listed (script_scene read) last → IsRunOut listed (script_scene read) other → last ≡ other }
 {
     let script = parse(alloc, script)?;
     let turns = turns_of(alloc, turns, script.threads() as u8)?;

@@ -1,18 +1,22 @@
 -- Threads that finish their calls.
 use Rattle.std.proofs.Common.{◌≡◌, ◌≢◌, ℕ, ◌+◌, ◌-◌, Bool, true, false, List, [], ◌∷◌, ◌++◌, length, refl, sym, ap, subst}
 use Rattle.std.proofs.Common.{◌∙◌, append_assoc, arith}
-use Rattle.std.proofs.lemmas.Bool.{false≢true}
-use Rattle.std.specs.Prelude.{All}
+use Rattle.std.proofs.Common.{ne_eqb}
+use Rattle.std.proofs.lemmas.Bool.{eqb-false, false≢true}
+use Rattle.std.specs.Prelude.{All, ◌==◌, ◌&&◌, ◌||◌, not, is_some}
 use Rattle.std.proofs.lemmas.List.{append-nil}
 use Rattle.std.proofs.lemmas.List.Elements.{All-nil}
 use Rattle.step_threads.specs.declared.programs.act.Task.{Task}
+use Rattle.step_threads.specs.declared.ending.Ending.{Ending}
 use Rattle.step_threads.specs.declared.half.Half.{Half}
 use Rattle.step_threads.specs.declared.half.Half.TheVariants.{Rest, Making, Locking, Giving, Brought, Saw, Matched, Refill, Returning, Clearing}
 use Rattle.step_threads.specs.declared.said.Stepped.{Stepped}
 use Rattle.step_threads.specs.declared.said.Stepped.TheVariants.{Waited, Done}
 use Rattle.step_core.specs.declared.trace.TraceStep.{TraceStep}
+use Rattle.step_threads.specs.Courses.{Walk}
+use Rattle.step_threads.specs.Endings.{first_of}
 use Rattle.step_threads.specs.Scenes.{walk_of}
-use Rattle.step_core.specs.Runs.{AddsRun, CallsOn, FinishesCall, IsRun, MovesOn, Settles, compares_next, call_goes_on, is_calling, is_owing}
+use Rattle.step_core.specs.Runs.{AddsRun, CallsOn, FinishesCall, IsRun, MovesOn, Settles, call_goes_on, call_under_way, is_calling, is_owing, next_statement}
 use Rattle.step_core.specs.Turning.{HasBegun}
 use Rattle.step_core.specs.Worlds.{Advances, Sight, Steps, half_of, scene}
 use Rattle.step_core.proofs.runs.Chains.{moves_more}
@@ -21,12 +25,12 @@ use Rattle.step_core.proofs.runs.Measures.{at_end}
 same_number : (d n : ℕ) → n ≡ d + 1 → n - 1 ≡ d
 same_number d n e = omega (arith, e)
 
-calls_run : (d : ℕ) (u u' : Sight) (xs : List TraceStep) → CallsOn d u xs u' → IsRun u xs u'
-calls_run d u u' [] on = on
-calls_run d u u' (x ∷ xs) on = (
+calls_run : (k d : ℕ) (u u' : Sight) (xs : List TraceStep) → CallsOn k d u xs u' → IsRun u xs u'
+calls_run k d u u' [] on = on
+calls_run k d u u' (x ∷ xs) on = (
   on.2,
   subst (λ (n : ℕ). Advances n u x.stepped on.2) (sym (same_number d x.actor on.1)) on.3,
-  calls_run d on.2 u'
+  calls_run k d on.2 u'
       xs on.4,
 )
 
@@ -35,58 +39,69 @@ pub settled_run : (d : ℕ) (u u' : Sight) (xs : List TraceStep) → Settles d u
 settled_run d u u' xs settles = go (is_owing (half_of u d)) refl
   where
     go : (b : Bool) → is_owing (half_of u d) ≡ b → IsRun u xs u'
-    go true is = calls_run d u u' xs (settles.owing is).calls
+    go true is = calls_run (call_under_way d u) d u u' xs (settles.owing is).calls
     go false is = let n = settles.none is in subst (λ (l : List TraceStep). IsRun u l u') (sym n.0) n.1
 
-calls_more : (d : ℕ) (u m w : Sight) (xs : List TraceStep) (r : Stepped) → CallsOn d u xs m → is_calling m d ≡ true
-    → Advances d m r w → CallsOn d u (xs ++ record { actor = d + 1; stepped = r } ∷ []) w
-calls_more d u m w [] r on goes advances =
-    subst (λ (z : Sight). CallsOn d z (record { actor = d + 1; stepped = r } ∷ []) w) on (goes, refl, w, advances, refl)
-calls_more d u m w (x ∷ xs) r on goes advances = (on.0, on.1, on.2, on.3, calls_more d on.2 m w xs r on.4 goes advances)
+calls_more : (k d : ℕ) (u m w : Sight) (xs : List TraceStep) (r : Stepped) → CallsOn k d u xs m → is_calling k m d ≡ true
+    → Advances d m r w → CallsOn k d u (xs ++ record { actor = d + 1; stepped = r } ∷ []) w
+calls_more k d u m w [] r on goes advances =
+    subst (λ (z : Sight). CallsOn k d z (record { actor = d + 1; stepped = r } ∷ []) w) on (goes, refl, w, advances, refl)
+calls_more k d u m w (x ∷ xs) r on goes advances = (on.0, on.1, on.2, on.3, calls_more k d on.2 m w xs r on.4 goes advances)
 
--- how far thread d has gone on with its call
-pub record IsGoing (d : ℕ) (u : Sight) (xs : List TraceStep) (m : Sight) (ys : List TraceStep) : Type 0 where
+-- how far thread d has gone on with its call of statement k
+pub record IsGoing (k d : ℕ) (u : Sight) (xs : List TraceStep) (m : Sight) (ys : List TraceStep) : Type 0 where
   pub added : List TraceStep
   pub items : ys ≡ xs ++ added
-  pub calls : CallsOn d u added m
+  pub calls : CallsOn k d u added m
   pub moves : All MovesOn added
   pub actors : length m.walks ≡ length u.walks
 
-pub going_more : (d : ℕ) (u m w : Sight) (xs ys zs : List TraceStep) (r : Stepped) → IsGoing d u xs m ys
-    → is_calling m d ≡ true → Advances d m r w
+pub going_more : (k d : ℕ) (u m w : Sight) (xs ys zs : List TraceStep) (r : Stepped) → IsGoing k d u xs m ys
+    → is_calling k m d ≡ true → Advances d m r w
     → length w.walks ≡ length m.walks → r ≢ Waited → zs ≡ ys ++ record { actor = d + 1; stepped = r } ∷ []
-    → IsGoing d u xs w zs
-going_more d u m w xs ys zs r on goes advances actors never is =
+    → IsGoing k d u xs w zs
+going_more k d u m w xs ys zs r on goes advances actors never is =
     let x : TraceStep = record { actor = d + 1; stepped = r } in
     record {
       added = on.added ++ x ∷ [];
       items = is ∙ ap (λ (l : List TraceStep). l ++ x ∷ []) on.items ∙ append_assoc xs on.added (x ∷ []);
-      calls = calls_more d u m w on.added r on.calls goes advances;
+      calls = calls_more k d u m w on.added r on.calls goes advances;
       moves = moves_more on.added (on.added ++ x ∷ []) (d + 1) r on.moves never refl;
       actors = actors ∙ on.actors;
     }
 
 -- a call that goes on isn't at the thread's end
-pub calling_on : (d : ℕ) (u u' : Sight) (r : Stepped) → HasBegun d u → Steps d u r u' → is_calling u d ≡ true → r ≢ Done
-calling_on d u u' r begun steps goes done =
+pub calling_on : (k d : ℕ) (u u' : Sight) (r : Stepped) → HasBegun d u → Steps d u r u' → is_calling k u d ≡ true → r ≢ Done
+calling_on k d u u' r begun steps goes done =
     let over = (at_end d u u' begun (subst (λ (s : Stepped). Steps d u s u') done steps)).1 in
-    false≢true (sym (ended (half_of u d) (walk_of (scene u) d).todo over.half over.walk) ∙ goes)
+    let w = walk_of (scene u) d in
+    false≢true (sym (ended (half_of u d) over.half ∙ done_by w.endings w.todo over.endings over.walk) ∙ goes)
   where
-    ended : (h : Half) (ts : List Task) → h ≡ Rest → ts ≡ [] → call_goes_on h ts ≡ false
-    ended h ts rests none = ap (λ (x : Half). call_goes_on x ts) rests ∙ ap compares_next none
+    ended : (h : Half) → h ≡ Rest → call_goes_on k h (walk_of (scene u) d) ≡ call_goes_on k Rest (walk_of (scene u) d)
+    ended h rests = ap (λ (x : Half). call_goes_on k x (walk_of (scene u) d)) rests
+
+    by_number : (b : Bool) → (k == 0) ≡ b → (not b && 0 == k) ≡ false
+    by_number true e = refl
+    by_number false e = ne_eqb 0 k (λ z. eqb-false k 0 e (sym z))
+
+    done_by : (es : List Ending) (ts : List Task) → es ≡ [] → ts ≡ []
+        → (is_some (first_of es) || (not (k == 0) && next_statement ts == k)) ≡ false
+    done_by es ts none over =
+        ap (λ (l : List Ending). is_some (first_of l) || (not (k == 0) && next_statement ts == k)) none
+        ∙ ap (λ (l : List Task). not (k == 0) && next_statement l == k) over ∙ by_number (k == 0) refl
 
 -- a thread whose call is done rests
-pub rests : (h : Half) (ts : List Task) → call_goes_on h ts ≡ false → h ≡ Rest
-rests Rest ts e = refl
-rests (Making b i f) ts e = absurd (false≢true (sym e))
-rests (Locking word) ts e = absurd (false≢true (sym e))
-rests (Giving i kind x) ts e = absurd (false≢true (sym e))
-rests Brought ts e = absurd (false≢true (sym e))
-rests (Saw x) ts e = absurd (false≢true (sym e))
-rests (Matched x) ts e = absurd (false≢true (sym e))
-rests (Refill stage c x k) ts e = absurd (false≢true (sym e))
-rests (Returning kind b funds k) ts e = absurd (false≢true (sym e))
-rests Clearing ts e = absurd (false≢true (sym e))
+pub rests : (k : ℕ) (h : Half) (w : Walk) → call_goes_on k h w ≡ false → h ≡ Rest
+rests k Rest w e = refl
+rests k (Making b i f) w e = absurd (false≢true (sym e))
+rests k (Locking word) w e = absurd (false≢true (sym e))
+rests k (Giving i kind x) w e = absurd (false≢true (sym e))
+rests k Brought w e = absurd (false≢true (sym e))
+rests k (Saw x) w e = absurd (false≢true (sym e))
+rests k (Matched x) w e = absurd (false≢true (sym e))
+rests k (Refill stage c x j) w e = absurd (false≢true (sym e))
+rests k (Returning kind b funds j) w e = absurd (false≢true (sym e))
+rests k Clearing w e = absurd (false≢true (sym e))
 
 -- one thread more, which had a call to finish or none
 pub settled_one : (d : ℕ) (u u' : Sight) (xs ys : List TraceStep) → is_owing (half_of u d) ≡ true

@@ -18,7 +18,7 @@ use Rattle.step_threads.specs.Actors.{HalfFits}
 use Rattle.step_threads.specs.Courses.{task_at}
 use Rattle.step_threads.specs.Scenes.{walk_of}
 use Rattle.step_core.specs.declared.trace.TraceStep.{TraceStep}
-use Rattle.step_core.specs.Runs.{CallsOn, NonePays, SettleInOrder, Settles, is_owing, is_paying}
+use Rattle.step_core.specs.Runs.{CallsOn, NonePays, SettleInOrder, Settles, call_under_way, is_owing, is_paying}
 use Rattle.step_core.specs.Worlds.{AllFit, Sight, half_of, scene, thread_half, thread_walk}
 use Rattle.step_core.proofs.Worlds.{sight}
 use Rattle.step_core.proofs.runs.Calls.{rests}
@@ -67,23 +67,23 @@ none_pays v threads all many kept calm e =
     (slice_get_cases threads e).1
 
 -- a thread that goes on with its call leaves the others as they were
-calls_stay : (d e : ℕ) (u u' : Sight) (xs : List TraceStep) → e ≢ d → CallsOn d u xs u' → half_of u' e ≡ half_of u e
-calls_stay d e u u' [] ne on = ap (λ (w : Sight). half_of w e) on
-calls_stay d e u u' (x ∷ xs) ne on = calls_stay d e on.2 u' xs ne on.4 ∙ on.3.takes.halves e ne
+calls_stay : (k d e : ℕ) (u u' : Sight) (xs : List TraceStep) → e ≢ d → CallsOn k d u xs u' → half_of u' e ≡ half_of u e
+calls_stay k d e u u' [] ne on = ap (λ (w : Sight). half_of w e) on
+calls_stay k d e u u' (x ∷ xs) ne on = calls_stay k d e on.2 u' xs ne on.4 ∙ on.3.takes.halves e ne
 
 -- a thread whose call is done, or that owed nothing
 settled_calm : (d : ℕ) (u u' : Sight) (xs : List TraceStep) → Settles d u xs u' → is_owing (half_of u' d) ≡ false
 settled_calm d u u' xs settles = go (is_owing (half_of u d)) refl
   where
     go : (b : Bool) → is_owing (half_of u d) ≡ b → is_owing (half_of u' d) ≡ false
-    go true is = ap is_owing (rests (half_of u' d) (walk_of (scene u') d).todo (settles.owing is).done)
+    go true is = ap is_owing (rests (call_under_way d u) (half_of u' d) (walk_of (scene u') d) (settles.owing is).done)
     go false is = ap (λ (w : Sight). is_owing (half_of w d)) (settles.none is).1 ∙ is
 
 settled_stay : (d e : ℕ) (u u' : Sight) (xs : List TraceStep) → e ≢ d → Settles d u xs u' → half_of u' e ≡ half_of u e
 settled_stay d e u u' xs ne settles = go (is_owing (half_of u d)) refl
   where
     go : (b : Bool) → is_owing (half_of u d) ≡ b → half_of u' e ≡ half_of u e
-    go true is = calls_stay d e u u' xs ne (settles.owing is).calls
+    go true is = calls_stay (call_under_way d u) d e u u' xs ne (settles.owing is).calls
     go false is = ap (λ (w : Sight). half_of w e) (settles.none is).1
 
 pub all_calm : (n : ℕ) (u u' : Sight) (xs : List TraceStep) → SettleInOrder n u xs u' → AllCalm n u'

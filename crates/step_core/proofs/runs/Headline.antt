@@ -1,7 +1,7 @@
 -- What holds after each step of a run, and of each of its steps.
 use Rattle.std.proofs.Common.{◌≡◌, ℕ, ◌-◌, ◌<◌, ◌==◌, Bool, true, false, cond, List, [], ◌∷◌, length, refl, sym, ap, subst, ◌∙◌}
 use Rattle.std.proofs.Common.{inl, inr, arith}
-use Rattle.std.specs.Prelude.{Option, Some, None, not, ◌&&◌, ◌⊎◌, ◌↔◌}
+use Rattle.std.specs.Prelude.{not, ◌&&◌, ◌⊎◌, ◌↔◌}
 use Rattle.std.proofs.lemmas.Bool.{eqb-true, eqb-false, false≢true}
 use Rattle.control_word.specs.declared.model.event.Entry.{Entry}
 use Rattle.control_word.specs.declared.model.event.Event.{Event}
@@ -15,19 +15,16 @@ use Rattle.control_word.proofs.history.Given.{given_over, live_while_owned, over
 use Rattle.control_word.proofs.history.Made.{gives_once}
 use Rattle.control_word.proofs.views.Resting.{rests_exactly}
 use Rattle.step_table.specs.declared.memory.extent.Extent.{Extent}
-use Rattle.step_table.specs.declared.memory.past.Deed.{Deed}
 use Rattle.step_core.specs.declared.trace.TraceStep.{TraceStep}
 use Rattle.step_core.specs.Headline.{ValueCameOut, CountsAtRest, LastLeft, LocksWhereOwned, ValuesAtLastLeave, ValuesOnce, Was}
 use Rattle.step_table.specs.Openings.{opening}
-use Rattle.step_threads.specs.NextSteps.{story_after, story_by}
-use Rattle.step_threads.specs.Steps.{Step}
-use Rattle.step_table.specs.Stories.{Kept, Nothing, Story, event_added, event_of, story_state}
+use Rattle.step_table.specs.Stories.{Kept, Nothing, story_state}
 use Rattle.step_core.specs.Totals.{is_last_leave}
-use Rattle.step_core.specs.Worlds.{Sight, Steps, step_of}
+use Rattle.step_core.specs.Sights.{Sight, TakesStep, is_event}
 
 -- a step of the run, with what was before it and what is after it
 pub record IsStep (u : Sight) (x : TraceStep) (u' : Sight) : Type 0 where
-  pub steps : Steps (x.actor - 1) u x.stepped u'
+  pub takes : TakesStep (x.actor - 1) u x.stepped u'
   pub before : Kept u.story
   pub after : Kept u'.story
 
@@ -39,22 +36,13 @@ counts u kept = λ b inside rest.
 pub values : (u : Sight) → Kept u.story → ValuesOnce u
 values u kept = gives_once (opening u.story.extent) u.story.history kept.stands.legal
 
-same_extent : (v : Story) (d : ℕ) (x : Option Step) → (story_by v d x).extent ≡ v.extent
-same_extent v d None = refl
-same_extent v d (Some x) = go x.deed
-  where
-    go : (y : Option Deed) → (story_after v d y).extent ≡ v.extent
-    go None = refl
-    go (Some y) = refl
-
 -- the event of a step could come there
 pub asked : (u : Sight) (x : TraceStep) (u' : Sight) (e : Event Nothing) → IsStep u x u' → Was e u x u' → Asks (story_state u.story) (x.actor - 1) e
 asked u x u' e step was =
     let d = x.actor - 1 in
-    let same : u'.story.extent ≡ u.story.extent = ap (λ (m : Sight). m.story.extent) step.steps.1 ∙ same_extent u.story d (step_of d u) in
     let legal = subst (λ (h : List (Entry Nothing)). IsLegal (opening u'.story.extent) h) was step.after.stands.legal in
     let here : IsLegal (opening u.story.extent) (entry d e ∷ u.story.history) = subst
-    (λ (z : Extent). IsLegal (opening z) (entry d e ∷ u.story.history)) same legal in
+    (λ (z : Extent). IsLegal (opening z) (entry d e ∷ u.story.history)) step.takes.extent legal in
     here.1.asks
 
 gave_where : (gave : Bool) (n : ℕ) → gave ≡ not (n == 0) → (gave ≡ true) ↔ (0 < n)
@@ -67,22 +55,6 @@ gave_where gave n e = go (n == 0) refl e
 pub locks : (u : Sight) (x : TraceStep) (u' : Sight) → IsStep u x u' → LocksWhereOwned u x u'
 locks u x u' step = λ w gave was.
     let a = asked u x u' (Lock w gave) step was in gave_where gave (count (story_state u.story) (object_of w)) a.1
-
--- a step is one event, or none
-told : (v : Story) (d : ℕ) (x : Option Step)
-    → ((story_by v d x).history ≡ v.history) ⊎ ((e : Event Nothing) × ((story_by v d x).history ≡ entry d e ∷ v.history))
-told v d None = inl refl
-told v d (Some x) = go x.deed
-  where
-    one : (e : Option (Event Nothing)) → (event_added d e v.history ≡ v.history)
-        ⊎ ((y : Event Nothing) × (event_added d e v.history ≡ entry d y ∷ v.history))
-    one None = inl refl
-    one (Some e) = inr (e, refl)
-
-    go : (y : Option Deed) → ((story_after v d y).history ≡ v.history)
-        ⊎ ((e : Event Nothing) × ((story_after v d y).history ≡ entry d e ∷ v.history))
-    go None = inl refl
-    go (Some y) = one (event_of (story_state v) y)
 
 -- what the newest event is
 abbrev pub newest_is_last : List (Entry Nothing) → Bool
@@ -141,13 +113,8 @@ any_event o u x u' (Leave h false) step was = other_event o u x u' (Leave h fals
 any_event o u x u' _ step was = other_event o u x u' _ was refl
 
 pub last_leaves : (u : Sight) (x : TraceStep) (u' : Sight) → IsStep u x u' → ValuesAtLastLeave u x u'
-last_leaves u x u' step = λ o.
-    let d = x.actor - 1 in
-    let now = ap (λ (m : Sight). m.story.history) step.steps.1 in
-    go o (told u.story d (step_of d u)) now
+last_leaves u x u' step = λ o. go o (is_event x.stepped) refl
   where
-    go : (o : ℕ) → ((story_by u.story (x.actor - 1) (step_of (x.actor - 1) u)).history ≡ u.story.history)
-        ⊎ ((e : Event Nothing) × ((story_by u.story (x.actor - 1) (step_of (x.actor - 1) u)).history ≡ entry (x.actor - 1) e ∷ u.story.history))
-        → u'.story.history ≡ (story_by u.story (x.actor - 1) (step_of (x.actor - 1) u)).history → AtLastLeave o u x u'
-    go o (inl same) now = no_event o u x u' (now ∙ same)
-    go o (inr e) now = any_event o u x u' e.0 step (now ∙ e.1)
+    go : (o : ℕ) (b : Bool) → is_event x.stepped ≡ b → AtLastLeave o u x u'
+    go o true is = let e = step.takes.event is in any_event o u x u' e.0 step e.1
+    go o false is = no_event o u x u' (step.takes.quiet is)

@@ -1,110 +1,192 @@
--- What locks answer.
-use Rattle.std.proofs.Common.{◌≡◌, ℕ, ◌-◌, Bool, List, [], ◌∷◌, length, refl, sym, ap, subst, ◌∙◌, inl, inr, arith}
-use Rattle.std.specs.Prelude.{Option, Some, None}
-use Rattle.std.proofs.lemmas.Bool.{cond_both}
-use Rattle.control_word.specs.declared.model.event.Entry.{Entry}
-use Rattle.control_word.specs.declared.model.event.Event.{Event}
+-- What locks answer, and what answers so.
+use Rattle.std.proofs.Common.{◌≡◌, ℕ, ◌-◌, Bool, true, false, List, ◌∷◌, refl, sym, ap, subst, ◌∙◌, ⊎_elim, inl, inr}
+use Rattle.std.specs.Prelude.{◌⊎◌, Option, Some, None}
+use Rattle.std.proofs.lemmas.Bool.{false≢true}
+use Rattle.std.proofs.lemmas.Option.{same_Some}
 use Rattle.control_word.specs.declared.model.event.Event.TheVariants as event
 use Rattle.control_word.specs.declared.model.handle.Handle.{Handle}
-use Rattle.control_word.specs.Histories.{entry}
-use Rattle.step_table.specs.declared.memory.past.Deed.{Deed}
-use Rattle.step_table.specs.declared.memory.past.Deed.TheVariants as deed
-use Rattle.step_table.specs.declared.memory.shelf.ShelfDeed.TheVariants.{Shelve, Unshelve, Miss}
-use Rattle.step_threads.specs.declared.said.Stepped.{Stepped}
-use Rattle.step_threads.specs.declared.said.Stepped.TheVariants as stepped
+use Rattle.control_word.specs.declared.model.handle.Kind.{Kind}
+use Rattle.control_word.specs.declared.model.handle.Kind.TheVariants.{Owner, Weak}
+use Rattle.control_word.specs.Handles.{weak_of}
+use Rattle.control_word.specs.State.{State}
+use Rattle.step_table.specs.declared.memory.ended.Ended.{Ended}
+use Rattle.step_table.specs.declared.slots.holdings.Pointer.{Pointer}
+use Rattle.step_table.specs.Deeds.{owned}
+use Rattle.step_table.specs.Holdings.{slot_pointer, weak_slot}
+use Rattle.step_table.specs.Stories.{Nothing, story_state}
+use Rattle.step_threads.specs.declared.programs.act.Act.{Act}
+use Rattle.step_threads.specs.declared.programs.act.Act.TheVariants.{Lock, Leave}
+use Rattle.step_threads.specs.declared.programs.act.Task.{Task}
+use Rattle.step_threads.specs.declared.said.Answer.{Answer}
+use Rattle.step_threads.specs.declared.said.Said.{Said}
+use Rattle.step_threads.specs.Courses.{Walk, hand}
+use Rattle.step_threads.specs.Doings.{Ahead, Over, AnAct, AnEnd, DoesAhead, Doing, IsLeaveEvent, IsMakeEvent, MakesAct, On, ahead, leaves_as, put_on}
+use Rattle.step_threads.specs.Rows.{Reply, Got, lock_answer, row}
+use Rattle.step_threads.specs.Scenes.{Scene, walk_of}
 use Rattle.step_core.specs.declared.trace.TraceStep.{TraceStep}
-use Rattle.step_core.specs.Headline.{LocksNext, TellsLocks, Was, answer_by, statement_by}
-use Rattle.step_threads.specs.Scenes.{walk_of}
-use Rattle.step_threads.specs.Rows.{lock_answer}
-use Rattle.step_threads.specs.NextSteps.{deed_is_event}
-use Rattle.step_threads.specs.Steps.{Step}
-use Rattle.step_threads.specs.NextSteps.{stepped as stepped_by, story_after, story_by}
-use Rattle.step_table.specs.Stories.{Nothing, Story, event_added, event_of, story_state}
-use Rattle.step_core.specs.Worlds.{Sight, half_of, scene, step_of}
-use Rattle.step_table.proofs.tables.CellDeeds.{by_event}
-use Rattle.step_core.proofs.runs.Waiting.{IsTold, told_at}
-use Rattle.step_core.proofs.runs.Headline.{IsStep}
-use Rattle.step_core.proofs.runs.Answers.{Says, Tells, lock_of, step_tells}
+use Rattle.step_core.specs.Following.{ActsNext, PassesQuietly, Performs, no_worth}
+use Rattle.step_core.specs.Headline.{LocksNext, LocksNone, TellsLocks, Was, answer_by, statement_by}
+use Rattle.step_core.specs.Sights.{Sight, scene}
+use Rattle.step_core.proofs.runs.Doings.{Events, IsDone, Locks, Leaves, Other, IsOther, ahead_task, each, is_of_lock, is_said, no_more, put, says_none, sort_of}
 
-as_answered : (v : Story) (x : Step) → answer_by (stepped_by v (Some x)) ≡ x.said.answer
-as_answered v x =
-    cond_both (deed_is_event v x.deed) (stepped.Event x.said) (stepped.Quiet x.said)
-    (λ (r : Stepped). answer_by r ≡ x.said.answer) (λ e. refl)
-    (λ e. refl)
+-- what an event gave that is a lock
+abbrev gave_by : Events → Option Bool
+gave_by None = None
+gave_by (Some (event.Lock w got)) = Some got
+gave_by (Some _) = None
 
-as_stated : (v : Story) (x : Step) → statement_by (stepped_by v (Some x)) ≡ Some x.said.statement
-as_stated v x =
-    cond_both (deed_is_event v x.deed) (stepped.Event x.said) (stepped.Quiet x.said)
-    (λ (r : Stepped). ◌≡◌ {A = Option ℕ} (statement_by r) (Some x.said.statement)) (λ e. refl) (λ e. refl)
+none_some : {A : Type 0} (a : A) → ◌≡◌ {A = Option A} None (Some a) → ⊥
+none_some a q = cc
 
--- what the newest event gave, if it is a lock
-abbrev gave_by : Event Nothing → Option Bool
-gave_by (event.Lock w got) = Some got
-gave_by _ = None
+of_lock : (must gave : Bool) → is_of_lock (Some (lock_answer must gave)) ≡ true
+of_lock false gave = refl
+of_lock true true = refl
+of_lock true false = refl
 
-abbrev newest_gave : List (Entry Nothing) → Option Bool
-newest_gave [] = None
-newest_gave (e ∷ h) = gave_by e.event
+same_lock : (must gave m g : Bool) → lock_answer must gave ≡ lock_answer m g → (must ≡ m) × (gave ≡ g)
+same_lock false false false false e = (refl, refl)
+same_lock false true false true e = (refl, refl)
+same_lock true false true false e = (refl, refl)
+same_lock true true true true e = (refl, refl)
+same_lock false false false true e = absurd cc
+same_lock false true false false e = absurd cc
+same_lock false gave true true e = absurd cc
+same_lock false gave true false e = absurd cc
+same_lock true true false g e = absurd cc
+same_lock true false false g e = absurd cc
+same_lock true true true false e = absurd cc
+same_lock true false true true e = absurd cc
 
--- an event that is a lock comes by a deed that is one
-by_deed : (v : Story) (d : ℕ) (y : Deed) (w : Handle) (gave : Bool)
-    → event_added d (event_of (story_state v) y) v.history ≡ entry d (event.Lock w gave) ∷ v.history
-    → lock_of (Some y) ≡ Some gave
-by_deed v d (deed.Lock b p got) w gave e = ap newest_gave e
-by_deed v d (deed.Prepare b) w gave e =
-    absurd (let n = ap (λ (h : List (Entry Nothing)). length h) e in omega (arith, n))
-by_deed v d (deed.Write b j n) w gave e =
-    absurd (let m = ap (λ (h : List (Entry Nothing)). length h) e in omega (arith, m))
-by_deed v d (deed.OnCell x) w gave e =
-    by_event (λ (a : Option (Event Nothing)). event_added d a v.history ≡ entry d (event.Lock w gave) ∷ v.history → None ≡
-    Some gave)
-    (λ q. absurd (let n = ap (λ (h : List (Entry Nothing)). length h) q in omega (arith, n)))
-    (λ c h q. ap newest_gave q) (λ c x n h b f q. ap newest_gave q)
-    (λ c n h q. ap newest_gave q) (λ o m h q. ap newest_gave q) (story_state v) x e
-by_deed v d (deed.OnShelf b Shelve) w gave e = ap newest_gave e
-by_deed v d (deed.OnShelf b Unshelve) w gave e = ap newest_gave e
-by_deed v d (deed.OnShelf b Miss) w gave e =
-    absurd (let n = ap (λ (h : List (Entry Nothing)). length h) e in omega (arith, n))
-by_deed v d _ w gave e = ap newest_gave e
+-- what is neither a lock nor a leave, and what leaves, is no lock
+other_no_lock : (e : Events) (a : Option Answer) (left : Option Ended) (w : Handle) (g : Bool) → IsOther e a left → e ≡ Some (event.Lock w g) → ⊥
+other_no_lock e a left w g other was = absurd (let sort = sym other.sort ∙ ap sort_of was in cc)
 
--- what a step tells of a lock that gave this
-abbrev Told : Sight → TraceStep → Bool → Type 0
-Told u x gave =
-    (k : ℕ) × (must : Bool) × LocksNext k must (walk_of (scene u) (x.actor - 1)).todo
-    × (statement_by x.stepped ≡ Some k) × (answer_by x.stepped ≡ Some (lock_answer must gave))
+module _ (s : State) where
+  abbrev IsLock : Option Pointer → Bool → Events → Type 0
+  IsLock o got e = On (λ (x : Pointer). e ≡ Some (event.Lock (weak_of (owned s x) x.place) got)) ((got ≡ false) × (e ≡ None)) o
 
-pub tells_locks : (u : Sight) (x : TraceStep) (u' : Sight) → IsStep u x u' → TellsLocks u x u'
-tells_locks u x u' step = λ w gave was.
-    by_answer w gave was (told_at (x.actor - 1) u x.stepped u' step.steps)
-  where
-    no_event : (w : Handle) (gave : Bool) → Was (event.Lock w gave) u x u' → u'.story.history ≡ u.story.history → ⊥
-    no_event w gave was same = let n = ap (λ (h : List (Entry Nothing)). length h) (sym same ∙ was) in omega (arith, n)
+  leave_no_lock : (o : Option Pointer) (last : Bool) (left : Option Ended) (e : Events) (w : Handle) (g : Bool) → IsLeaveEvent s o last left e
+      → e ≡ Some (event.Lock w g) → ⊥
+  leave_no_lock None last left e w g is was = none_some (event.Lock w g) (sym is.2 ∙ was)
+  leave_no_lock (Some x) last left e w g is was = go x.kind (ap gave_by (sym is.0 ∙ was))
+    where
+      go : (q : Kind) → gave_by (Some (leaves_as s q last x)) ≡ Some g → ⊥
+      go Owner m = none_some g m
+      go Weak m = none_some g m
 
-    go : (w : Handle) (gave : Bool) → Was (event.Lock w gave) u x u' → (y : Option Step)
-        → u'.story.history ≡ (story_by u.story (x.actor - 1) y).history → x.stepped ≡ stepped_by u.story y
-        → Tells (walk_of (scene u) (x.actor - 1)).todo y
-        → Told u x gave
-    go w gave was None now is says = absurd (no_event w gave was now)
-    go w gave was (Some y) now is says = at y.deed now says
-      where
-        at : (z : Option Deed) → u'.story.history ≡ (story_after u.story (x.actor - 1) z).history
-            → Says (walk_of (scene u) (x.actor - 1)).todo (lock_of z) y.said → Told u x gave
-        at None here answers = absurd (no_event w gave was here)
-        at (Some z) here answers =
-            let s = subst (λ (q : Option Bool). Says (walk_of (scene u) (x.actor - 1)).todo q y.said)
-            (by_deed u.story (x.actor - 1) z w gave (sym here ∙ was)) answers in (
-              y.said.statement,
-              s.0,
-              s.1,
-              ap statement_by is ∙ as_stated u.story y,
-              ap answer_by is ∙ as_answered
-                  u.story y ∙ s.2,
-            )
+  gave : (o : Option Pointer) (got : Bool) (e : Events) (w : Handle) (g : Bool) → IsLock o got e → e ≡ Some (event.Lock w g) → got ≡ g
+  gave None got e w g is was = absurd (none_some (event.Lock w g) (sym is.1 ∙ was))
+  gave (Some x) got e w g is was = same_Some _ _ (ap gave_by (sym is ∙ was))
 
-    by_answer : (w : Handle) (gave : Bool) → Was (event.Lock w gave) u x u' → IsTold (x.actor - 1) u x.stepped u'
-        → Told u x gave
-    by_answer w gave was (inl still) = absurd (no_event w gave was still.1)
-    by_answer w gave was (inr said) =
-        let w' = walk_of (scene u) (x.actor - 1) in
-        go w gave was (step_of (x.actor - 1) u) said.1 said.0
-        (step_tells w'.todo u.story (x.actor - 1) (half_of u (x.actor - 1)) w' refl)
+  -- a lock is an event, or its name has no weak pointer
+  locked : (o : Option Pointer) (got : Bool) (e : Events) → IsLock o got e
+      → ((h : Handle) × (e ≡ Some (event.Lock h got))) ⊎ ((got ≡ false) × (o ≡ None))
+  locked None got e is = inr (is.0, refl)
+  locked (Some x) got e is = inl (weak_of (owned s x) x.place, is)
+
+module _ (u : Sight) (x : TraceStep) (u' : Sight) where
+  abbrev d : ℕ
+  d = x.actor - 1
+
+  abbrev w : Walk
+  w = walk_of (scene u) d
+
+  abbrev s : State
+  s = story_state u.story
+
+  -- the next task is this lock
+  lock_ahead : (t : Task) (ts : List Task) (i : ℕ) (must : Bool) → ahead w ≡ AnAct t ts → t.act ≡ Lock i must → w.todo ≡ t ∷ ts
+  lock_ahead t ts i must is lock =
+      ⊎_elim (λ (q : w.todo ≡ t ∷ ts). q) (λ (q : t.act ≡ Leave (hand w.slots)). absurd (let clash = sym lock ∙ q in cc))
+      (ahead_task w.slots w.endings w.todo t ts is)
+
+  abbrev Answers : Bool → Type 0
+  Answers g =
+      (k : ℕ) × (must : Bool) × LocksNext k must w.todo × (statement_by x.stepped ≡ Some k) × (answer_by x.stepped ≡ Some (lock_answer must g))
+
+  abbrev Happens : Bool → Bool → Type 0
+  Happens must g = ((h : Handle) × Was (event.Lock h g) u x u') ⊎ ((g ≡ false) × LocksNone must w.slots w.todo)
+
+  quietly_happens : (must g : Bool) → PassesQuietly d u x.stepped u' → answer_by x.stepped ≡ Some (lock_answer must g) → Happens must g
+  quietly_happens must g p told = absurd (none_some (lock_answer must g) (sym (says_none d x.stepped p.silent).0 ∙ told))
+
+  module _ (p : ActsNext d u x.stepped u') where
+    abbrev y : Doing Nothing
+    y = p.doing
+
+    -- a lock that is made, with its reply
+    lock_row : (a : Act) (r : Reply) (i : ℕ) (must got : Bool) → a ≡ Lock i must → r ≡ Got got
+        → (row a w.slots w.taken r).answer ≡ Some (lock_answer must got)
+    lock_row a r i must got e f =
+        ap (λ (b : Act). (row b w.slots w.taken r).answer) e ∙ ap (λ (q : Reply). (row (Lock i must) w.slots w.taken q).answer) f
+
+    lock_made : (a : Act) (r : Reply) (i : ℕ) (must got : Bool) → a ≡ Lock i must → r ≡ Got got
+        → IsMakeEvent no_worth s y.desk w.slots a r y.event → IsLock s (weak_slot (slot_pointer w.slots i)) got y.event
+    lock_made a r i must got e f m =
+        subst (λ (q : Reply). IsMakeEvent no_worth s y.desk w.slots (Lock i must) q y.event) f
+        (subst (λ (b : Act). IsMakeEvent no_worth s y.desk w.slots b r y.event) e m)
+
+    abbrev Made : Task → List Task → Type 0
+    Made t ts = MakesAct no_worth s w t ts y (walk_of (scene u') d)
+
+    act_answers : (t : Task) (ts : List Task) (m : Made t ts) → answer_by x.stepped ≡ (row t.act w.slots w.taken m.reply).answer
+    act_answers t ts m = (is_said x.stepped y.said p.says).answer ∙ ap (λ (a : Said). a.answer) m.says
+
+    act_states : (t : Task) (ts : List Task) (m : Made t ts) → statement_by x.stepped ≡ Some t.statement
+    act_states t ts m = (is_said x.stepped y.said p.says).statement ∙ ap (λ (a : Said). Some a.statement) m.says
+
+    made_answers : (h : Handle) (g : Bool) (t : Task) (ts : List Task) (m : Made t ts) → y.event ≡ Some (event.Lock h g) → ahead w ≡ AnAct t ts
+        → IsDone s w.slots w.taken t.act m.reply y.event → Answers g
+    made_answers h g t ts m was is (Other other) = absurd (other_no_lock y.event _ _ h g other was)
+    made_answers h g t ts m was is (Leaves o last left leave silent ended) = absurd (leave_no_lock s o last left y.event h g leave was)
+    made_answers h g t ts m was is (Locks i must got e f leaves ended) =
+        let same = gave s (weak_slot (slot_pointer w.slots i)) got y.event h g (lock_made t.act m.reply i must got e f m.makes) was in (
+          t.statement,
+          must,
+          subst (LocksNext t.statement must) (sym (lock_ahead t ts i must is e)) (refl, (i, e)),
+          act_states t ts m,
+          act_answers t ts m ∙ lock_row t.act m.reply i must got e f ∙ ap (λ (b : Bool). Some (lock_answer must b)) same,
+        )
+
+    made_happens : (must g : Bool) (t : Task) (ts : List Task) (m : Made t ts) → answer_by x.stepped ≡ Some (lock_answer must g)
+        → ahead w ≡ AnAct t ts → IsDone s w.slots w.taken t.act m.reply y.event → Happens must g
+    made_happens must g t ts m told is (Other other) =
+        absurd (false≢true (sym other.answer ∙ ap is_of_lock (sym (act_answers t ts m) ∙ told) ∙ of_lock must g))
+    made_happens must g t ts m told is (Leaves o last left leave silent ended) =
+        absurd (none_some (lock_answer must g) (sym silent ∙ sym (act_answers t ts m) ∙ told))
+    made_happens must g t ts m told is (Locks i n got e f leaves ended) =
+        let so = same_lock n got must g (same_Some _ _ (sym (lock_row t.act m.reply i n got e f) ∙ sym (act_answers t ts m) ∙ told)) in
+        ⊎_elim
+        (λ (r : (h : Handle) × (y.event ≡ Some (event.Lock h got))).
+        inl (r.0, p.history ∙ ap (λ (q : Events). put_on d q u.story.history) (r.1 ∙ ap (λ (b : Bool). Some (event.Lock r.0 b)) so.1)))
+        (λ (r : (got ≡ false) × (weak_slot (slot_pointer w.slots i) ≡ None)).
+        inr (sym so.1 ∙ r.0, subst (LocksNone must w.slots) (sym (lock_ahead t ts i n is e)) (i, e ∙ ap (Lock i) so.0, r.1)))
+        (locked s (weak_slot (slot_pointer w.slots i)) got y.event (lock_made t.act m.reply i n got e f m.makes))
+
+    answers_by : (h : Handle) (g : Bool) → y.event ≡ Some (event.Lock h g) → (a : Ahead) → ahead w ≡ a
+        → DoesAhead no_worth s w y (walk_of (scene u') d) a → Answers g
+    answers_by h g was Over is does = absurd does
+    answers_by h g was (AnEnd e es) is (inl clears) = absurd (none_some g (ap gave_by (sym clears.makes ∙ was)))
+    answers_by h g was (AnEnd e es) is (inr ends) = absurd (none_some g (ap gave_by (sym ends.makes ∙ was)))
+    answers_by h g was (AnAct t ts) is m = made_answers h g t ts m was is (each s y.desk w.slots w.taken t.act m.reply y.event m.makes)
+
+    happens_by : (must g : Bool) → answer_by x.stepped ≡ Some (lock_answer must g) → (a : Ahead) → ahead w ≡ a
+        → DoesAhead no_worth s w y (walk_of (scene u') d) a → Happens must g
+    happens_by must g told Over is does = absurd does
+    happens_by must g told (AnEnd e es) is (inl clears) =
+        absurd (none_some (lock_answer must g) (sym ((is_said x.stepped y.said p.says).answer ∙ ap (λ (a : Said). a.answer) clears.says) ∙ told))
+    happens_by must g told (AnEnd e es) is (inr ends) =
+        absurd (none_some (lock_answer must g) (sym ((is_said x.stepped y.said p.says).answer ∙ ap (λ (a : Said). a.answer) ends.says) ∙ told))
+    happens_by must g told (AnAct t ts) is m = made_happens must g t ts m told is (each s y.desk w.slots w.taken t.act m.reply y.event m.makes)
+
+  pub tells_locks : Performs d u x.stepped u' → TellsLocks u x u'
+  tells_locks performs =
+      record {
+        answers = λ h g was. ⊎_elim
+            (λ (p : PassesQuietly d u x.stepped u').
+            absurd (no_more d (event.Lock h g) u.story.history (sym (ap (λ (c : Scene). c.history) p.stays) ∙ was)))
+            (λ (p : ActsNext d u x.stepped u').
+            answers_by p h g (put d p.doing.event (event.Lock h g) u.story.history (sym p.history ∙ was)) (ahead w) refl p.does) performs;
+        events = λ must g told. ⊎_elim (λ (p : PassesQuietly d u x.stepped u'). quietly_happens must g p told)
+            (λ (p : ActsNext d u x.stepped u'). happens_by p must g told (ahead w) refl p.does) performs;
+      }

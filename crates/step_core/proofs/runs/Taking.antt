@@ -4,11 +4,13 @@ use Rattle.std.proofs.Common.{subst, ◌∙◌, ⊎_elim, inl, inr, arith}
 use Rattle.std.proofs.Common.{get_or-set_other}
 use Rattle.std.specs.Prelude.{Option, Some, None, is_some, slice_get}
 use Rattle.std.proofs.lemmas.Bool.{false≢true}
-use Rattle.std.proofs.lemmas.List.{get_or-map, length-map}
+use Rattle.std.proofs.lemmas.List.{get_or-map, get_or_past, length-map}
 use Rattle.std.proofs.lemmas.Option.{slice_get_cases}
 use Rattle.control_word.specs.declared.model.event.Entry.{Entry}
 use Rattle.control_word.specs.declared.model.event.Event.{Event}
+use Rattle.control_word.specs.declared.model.view.View.{View}
 use Rattle.control_word.specs.Histories.{entry}
+use Rattle.control_word.specs.Views.{used_up}
 use Rattle.step_table.specs.declared.memory.past.Deed.{Deed}
 use Rattle.step_table.specs.Holdings.{HoldsBag}
 use Rattle.step_table.specs.Stories.{Kept, Nothing, Story, event_added, event_of, story_state}
@@ -20,13 +22,14 @@ use Rattle.step_threads.specs.declared.said.Said.{Said}
 use Rattle.step_threads.specs.declared.said.Stepped.{Stepped}
 use Rattle.step_threads.specs.declared.said.Stepped.TheVariants.{Event as Happened, Quiet, Waited, Done}
 use Rattle.step_threads.specs.declared.thread.Thread.{Thread}
-use Rattle.step_threads.specs.Courses.{Walk, walk}
+use Rattle.step_threads.specs.Actors.{HalfFits}
+use Rattle.step_threads.specs.Courses.{Walk, task_at, walk}
 use Rattle.step_threads.specs.Scenes.{nowhere, walk_of}
 use Rattle.step_threads.specs.NextSteps.{answered, at_rest, begun, half_by, deed_is_event as is_done, stepped, story_after, story_by, waits_at, walk_by}
 use Rattle.step_threads.specs.Steps.{Step}
-use Rattle.step_core.specs.Sights.{AllHold, Sight, TakesStep, half_of, is_event, scene}
+use Rattle.step_core.specs.Sights.{AllHold, AllRestIdle, Sight, TakesStep, half_of, is_event, scene}
 use Rattle.step_core.specs.Turning.{HasBegun}
-use Rattle.step_core.specs.Worlds.{Advances, AllFit, Steps, step_of, thread_walk}
+use Rattle.step_core.specs.Worlds.{Advances, AllFit, Steps, step_of, thread_half, thread_walk}
 use Rattle.step_core.proofs.Worlds.{sight}
 use Rattle.step_core.proofs.following.Steps.{performs}
 use Rattle.step_core.proofs.runs.Extents.{extent_step}
@@ -93,10 +96,25 @@ all_hold v threads all d lt =
     (let le = q.0 in let m = length-map threads thread_walk in omega (arith, le, m, lt)))
     (slice_get_cases threads d).1
 
+-- threads that have begun nothing have no call half done, and beyond the threads nobody has one
+pub all_idle : (v : Story) (threads : List Thread) → AllFit v threads → length (map thread_walk threads) ≡ v.extent.actors → Kept v
+    → AllRestIdle (sight v threads)
+all_idle v threads all many kept d rests =
+    ⊎_elim
+    (λ (p : (t : Thread) × (d < length threads) × (slice_get threads d ≡ Some t) × (get_or threads d t ≡ t)).
+    let t = p.0 in
+    let h : get_or (map thread_half threads) d Rest ≡ t.half = get_or-map thread_half threads d t Rest p.1 ∙ ap thread_half p.3 in
+    subst (λ (k : Half). HalfFits d k t.course.holdings.slots.items (task_at t.course).act v) (sym h ∙ rests) (all.each d t p.2).half)
+    (λ (q : (length threads ≤ d) × (slice_get threads d ≡ None)).
+    let le = q.0 in
+    ap (λ (w : View Nothing). w.pending)
+    (get_or_past v.views d used_up (let s = kept.seats.size in let m = length-map threads thread_walk in omega (arith, s, le, many, m))))
+    (slice_get_cases threads d).1
+
 pub advances : (d : ℕ) (u u' : Sight) (r : Stepped) → HasBegun d u → Steps d u r u' → r ≢ Waited → length u'.walks ≡ length u.walks
-    → Kept u'.story → AllHold u'
+    → Kept u'.story → AllHold u' → AllRestIdle u'
     → Advances d u r u'
-advances d u u' r begun steps never actors kept hands =
+advances d u u' r begun steps never actors kept hands idle =
     let x = step_of d u in
     let one = by_answer d u r u' (told_at d u r u' steps) in
     let t : TakesStep d u r u' = record {
@@ -115,5 +133,6 @@ advances d u u' r begun steps never actors kept hands =
       actors = actors;
       extent = extent_step d u u' r steps;
       hands = hands;
+      idle = idle;
     } in
     record { steps = steps; takes = t; performs = performs d u u' r begun steps never; kept = kept }

@@ -1,34 +1,58 @@
 -- What holds all through a run.
-use Rattle.std.proofs.Common.{◌-◌, List, [], ◌∷◌}
-use Rattle.step_table.specs.Stories.{Kept}
+use Rattle.std.proofs.Common.{◌≡◌, ℕ, ◌-◌, List, [], ◌∷◌, length, sym, ap, subst, ◌∙◌}
+use Rattle.step_table.specs.declared.memory.extent.Extent.{Extent}
+use Rattle.step_table.specs.Stories.{Kept, Seats}
 use Rattle.step_core.specs.declared.trace.TraceStep.{TraceStep}
 use Rattle.step_core.specs.Chains.{Through}
 use Rattle.step_core.specs.Headline.{AfterEach, OfEach}
 use Rattle.step_core.specs.Runs.{IsRun}
-use Rattle.step_core.specs.Sights.{AllHold, Sight}
+use Rattle.step_core.specs.Following.{Performs}
+use Rattle.step_core.specs.Sights.{AllHold, AllRestIdle, Sight}
 use Rattle.step_core.specs.Worlds.{Advances}
 use Rattle.step_core.proofs.runs.Locks.{tells_locks}
 use Rattle.step_core.proofs.runs.Headline.{IsStep, counts, last_leaves, locks, values}
 use Rattle.step_core.proofs.runs.Says.{tells}
 
-after_each : (u : Sight) → Kept u.story → AllHold u → AfterEach u
-after_each u kept hands = record { counts = counts u kept; once = values u kept; hands = hands }
+-- what steps keep
+pub record Goes (u : Sight) : Type 0 where
+  pub kept : Kept u.story
+  pub actors : length u.walks ≡ u.story.extent.actors
+  pub hands : AllHold u
+  pub idle : AllRestIdle u
 
-of_each : (u : Sight) (x : TraceStep) (m : Sight) → IsStep u x m → OfEach u x m
-of_each u x m step =
+after_each : (u : Sight) → Goes u → AfterEach u
+after_each u goes =
     record {
-      locks = locks u x m step;
-      answers = tells_locks u x m step;
-      values = last_leaves u x m step;
-      told = tells
-          u x m step;
+      counts = counts u goes.kept;
+      once = values u goes.kept;
+      hands = goes.hands;
+      views = subst (λ (n : ℕ). Seats u.story.views n) (sym goes.actors) goes.kept.seats;
+      idle = goes.idle;
     }
 
-pub through : (u u' : Sight) (xs : List TraceStep) → IsRun u xs u' → Kept u.story → AllHold u
+of_each : (u : Sight) (x : TraceStep) (m : Sight) → IsStep u x m → Performs (x.actor - 1) u x.stepped m → OfEach u x m
+of_each u x m step performs =
+    record {
+      locks = locks u x m step;
+      answers = tells_locks u x m performs;
+      values = last_leaves u x m step;
+      told = tells u x m step performs;
+    }
+
+goes_on : (u : Sight) (x : TraceStep) (m : Sight) → Goes u → Advances (x.actor - 1) u x.stepped m → Goes m
+goes_on u x m goes a =
+    record {
+      kept = a.kept;
+      actors = a.takes.actors ∙ goes.actors ∙ ap (λ (z : Extent). z.actors) (sym a.takes.extent);
+      hands = a.takes.hands;
+      idle = a.takes.idle;
+    }
+
+pub through : (u u' : Sight) (xs : List TraceStep) → IsRun u xs u' → Goes u
     → Through AfterEach (λ m x w. OfEach m x w × Advances (x.actor - 1) m x.stepped w) u xs u'
-through u u' [] run kept hands = (after_each u kept hands, run)
-through u u' (x ∷ xs) run kept hands =
+through u u' [] run goes = (after_each u goes, run)
+through u u' (x ∷ xs) run goes =
     let m = run.0 in
     let a = run.1 in
-    let step : IsStep u x m = record { steps = a.steps; before = kept; after = a.kept } in
-    (after_each u kept hands, (m, a.takes, (of_each u x m step, a), through m u' xs run.2 a.kept a.takes.hands))
+    let step : IsStep u x m = record { takes = a.takes; before = goes.kept; after = a.kept } in
+    (after_each u goes, (m, a.takes, (of_each u x m step a.performs, a), through m u' xs run.2 (goes_on u x m goes a)))

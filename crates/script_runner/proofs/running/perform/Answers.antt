@@ -54,7 +54,9 @@ returns-clause-run g c =
     c.requires.objects
     (all_ready {G = g.row.G.Denot} (asked_by_all (program_in s.threads)) c.args.book.now.id (program_in s.threads) c.args.assignments.items had
     c.requires.assignments c.assign.ensures.each)
-    c.run_workers_open-worked.ensures.works refl (omega arith) c.collect.ensures.lines c.collect.ensures.shares
+    c.run_workers_open-worked.ensures.works
+    (reporting.as_share s _ c.blocks-2.result c.threads-threads.result refl c.blocks-2.ensures.number c.threads-threads.ensures.number)
+    c.collect.ensures.lines c.collect.ensures.shares
 
 pub returns-clause-refused : goal.returns-clause-refused
 returns-clause-refused g c =

@@ -1,6 +1,6 @@
 use Rattle.std.proofs.Common.{◌≡◌, length, sym, ap, subst, ◌∙◌, arith}
 use Rattle.std.proofs.lemmas.List.{length-map, length-replicate}
-use Rattle.ownership_ledger.specs.Now.{IsLast, new_share}
+use Rattle.ownership_ledger.specs.Now.{new_share}
 use Rattle.script_runner.proofs.Assigning.{same_many}
 use Rattle.script_runner.proofs.Reporting.{reported}
 use Rattle.script_runner.specs.Assignments.{IsAssignmentFor, asked_by_all}
@@ -34,13 +34,7 @@ perform-worked-requires-clause-room g c κs within =
 pub returns-clause-report : goal.returns-clause-report
 returns-clause-report g c =
     let totals = c.gather-totals.ensures in
-    let workers = c.threads.result in
-    let many : c.in_ok-book.book.workers ≡ length c.perform-worked.new.shares.items =
-    c.in_ok-book.ensures.book
-    ∙ sym (c.in-Ok-worked.ensures.many
-    ∙ (ap length c.in_ok-book.ensures.shares ∙ length-replicate workers (new_share c.in_ok-book.book.id workers))) in
     reported c.args.script.now _ _ _ c.perform-worked.new.shares.items c.in-Ok-worked.ensures.run (record {
-      book = subst (λ n. IsLast n c.gather-totals.result) many totals.book;
       made = totals.made;
       ended = totals.ended;
     })

@@ -1,20 +1,17 @@
-use Rattle.std.proofs.Common.{rules, ◌∙◌}
+use Rattle.std.proofs.Common.{◌∙◌}
 use Rattle.control_block.proofs.CellTries.{aim_at, out_since, room_at}
 use Rattle.control_block.proofs.rounds.loads.load.Goals as goal
 
-pub try_load-requires-clause-aim : goal.try_load-requires-clause-aim
-try_load-requires-clause-aim g c = let l = c.loop.invariant in aim_at c.requires.aim l.2 l.3
+pub load_with_retries-requires-clause-aim : goal.load_with_retries-requires-clause-aim
+load_with_retries-requires-clause-aim g c =
+    let t = c.load_at_once.ensures in aim_at c.requires.aim t.table (t.missed c.in_default.is)
 
-pub try_load-requires-clause-room : goal.try_load-requires-clause-room
-try_load-requires-clause-room g c = room_at c.loop.chair.me c.args.chair.now.me c.loop.invariant.3 c.requires.room
+pub load_with_retries-requires-clause-room : goal.load_with_retries-requires-clause-room
+load_with_retries-requires-clause-room g c =
+    room_at c.load_at_once.new.chair.me c.args.chair.now.me (c.load_at_once.ensures.missed c.in_default.is) c.requires.room
 
-pub returns-in-Some-try_load-clause-table : goal.returns-in-Some-try_load-clause-table
-returns-in-Some-try_load-clause-table g c = c.try_load.ensures.table ∙ c.loop.invariant.2
+pub returns-clause-table : goal.returns-clause-table
+returns-clause-table g c = c.load_with_retries.ensures.table ∙ c.load_at_once.ensures.table
 
-pub returns-in-Some-try_load-clause-loaded : goal.returns-in-Some-try_load-clause-loaded
-returns-in-Some-try_load-clause-loaded g c = out_since c.in-Some-try_load.ensures.loaded c.loop.invariant.3
-
-pub loop-preserved : goal.loop-preserved
-loop-preserved g c =
-    let t = c.try_load.ensures in let l = c.loop.invariant in
-    (search rules, search rules, t.table ∙ l.2, t.missed c.in_default.is ∙ l.3)
+pub returns-clause-loaded : goal.returns-clause-loaded
+returns-clause-loaded g c = out_since c.load_with_retries.ensures.loaded (c.load_at_once.ensures.missed c.in_default.is)

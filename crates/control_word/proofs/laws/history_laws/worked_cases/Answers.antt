@@ -9,4 +9,6 @@ returns c = record {
       law.failed_compare_hands_out_held;
   block_used_again = law.block_used_again;
   cycle_stays = law.cycle_stays;
+  members_go_out = law.members_go_out;
+  split_and_joined = law.split_and_joined;
 }

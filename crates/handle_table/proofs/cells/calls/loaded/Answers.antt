@@ -5,11 +5,12 @@ use Rattle.atomic_cells.specs.Cells as cells
 use Rattle.handle_table.specs.Parts.{block_of_held, place_of_held}
 use Rattle.handle_table.specs.declared.fault.Fault.TheVariants as fault
 use Rattle.handle_table.proofs.Filling.{fits_more}
+use Rattle.handle_table.proofs.Lasts.{no_cell}
 use Rattle.handle_table.proofs.Wholes.{kept}
 use Rattle.handle_table.proofs.cells.calls.loaded.Goals as goal
 
 pub returns-then-to-len : goal.returns-then-to-len
-returns-then-to-len g c = (inl (refl, omega arith), refl)
+returns-then-to-len g c = ((inl (refl, omega arith), λ is. absurd (cc is)), refl)
 
 pub returns-in-Ok-load_held : goal.returns-in-Ok-load_held
 returns-in-Ok-load_held g c =
@@ -17,6 +18,7 @@ returns-in-Ok-load_held g c =
     let at = c.in-Ok.at in let k = c.in-Ok.ensures.found.1 in
     record {
       there = omega arith;
+      room = e.below;
       comes = (
         at.site,
         c.in-Ok.ensures.found.0,
@@ -31,7 +33,10 @@ returns-in-Ok-load_held g c =
 
 pub returns-in-Err-load_held : goal.returns-in-Err-load_held
 returns-in-Err-load_held g c =
-    let e = c.in-Err-load_held.ensures.refused in (inr (inr (ap fault.Call e.0, e.1)), e.2)
+    let e = c.in-Err-load_held.ensures.refused in
+    ((inr (inr (ap fault.Call e.0, e.1)), λ _. (omega arith, c.in-Ok.at.site, c.in-Ok.ensures.found.0)), e.2)
 
 pub returns-in-Err : goal.returns-in-Err
-returns-in-Err g c = (inr (inl c.in-Err.ensures.fault), refl)
+returns-in-Err g c =
+    let w = c.in-Err.ensures.fault in
+    ((inr (inl w), λ is. absurd (no_cell c.args.desk.now.shape c.args.slots.now.items c.args.cell c.in-Err.why w is)), refl)

@@ -7,25 +7,32 @@ use Rattle.handle_table.specs.Parts.{block_of_held, place_of_held}
 use Rattle.handle_table.specs.declared.fault.Fault.TheVariants as fault
 use Rattle.handle_table.proofs.Celled.{by_parts}
 use Rattle.handle_table.proofs.Compared.{content_held, fits_differs, fits_swapped, found_below}
+use Rattle.handle_table.proofs.Lasts.{no_cell, none_of}
 use Rattle.handle_table.proofs.Wholes.{kept}
 use Rattle.handle_table.proofs.cells.compares.compare_slots.Goals as goal
 
 pub returns-in-Err : goal.returns-in-Err
-returns-in-Err g c = (inl c.in-Err.ensures.fault, refl)
+returns-in-Err g c =
+    let w = c.in-Err.ensures.fault in
+    ((inl w, λ is. absurd (no_cell c.args.desk.now.shape c.args.slots.now.items c.args.cell c.in-Err.why w is)), refl)
 
 pub returns-in-Err-content_at : goal.returns-in-Err-content_at
 returns-in-Err-content_at g c =
-    let why = c.in-Err-content_at.why in (
-      inr (inl
-          (subst (λ (k : Kind). WhyNoneOf k c.args.slots.now.items c.args.expected why) c.in-Ok.ensures.found.1 c.in-Err-content_at.ensures.fault)),
+    let why = c.in-Err-content_at.why in let w = c.in-Err-content_at.ensures.fault in let ss = c.args.slots.now.items in (
+      (
+        inr (inl (subst (λ (k : Kind). WhyNoneOf k ss c.args.expected why) c.in-Ok.ensures.found.1 w)),
+        λ is. absurd (none_of ss c.args.expected why c.in-Ok.at.kind w is),
+      ),
       refl,
     )
 
 pub returns-in-Err-content_at-2 : goal.returns-in-Err-content_at-2
 returns-in-Err-content_at-2 g c =
-    let why = c.in-Err-content_at-2.why in (
-      inr (inr (inl
-          (subst (λ (k : Kind). WhyNoneOf k c.args.slots.now.items c.args.desired why) c.in-Ok.ensures.found.1 c.in-Err-content_at-2.ensures.fault))),
+    let why = c.in-Err-content_at-2.why in let w = c.in-Err-content_at-2.ensures.fault in let ss = c.args.slots.now.items in (
+      (
+        inr (inr (inl (subst (λ (k : Kind). WhyNoneOf k ss c.args.desired why) c.in-Ok.ensures.found.1 w))),
+        λ is. absurd (none_of ss c.args.desired why c.in-Ok.at.kind w is),
+      ),
       refl,
     )
 
@@ -46,6 +53,7 @@ returns-in-Ok-compare_held g c =
     record {
       site = at.site;
       is = c.in-Ok.ensures.found.0;
+      room = e.below;
       there = x.0;
       new = y.0;
       at = (x.1, y.1);
@@ -63,4 +71,11 @@ returns-in-Ok-compare_held g c =
 
 pub returns-in-Err-compare_held : goal.returns-in-Err-compare_held
 returns-in-Err-compare_held g c =
-    let r = c.in-Err-compare_held.ensures.refused in (inr (inr (inr (ap fault.Call r.0, r.1))), r.2)
+    let r = c.in-Err-compare_held.ensures.refused in let k = c.in-Ok.ensures.found.1 in
+    let x = c.in-Ok-content_at.ensures.found in let y = c.in-Ok-content_at-2.ensures.found in (
+      (
+        inr (inr (inr (ap fault.Call r.0, r.1))),
+        λ _. ((c.in-Ok.at.site, c.in-Ok.ensures.found.0), (x.0, x.1, x.2.0 ∙ (x.3 ∙ k)), (y.0, y.1, y.2.0 ∙ (y.3 ∙ k))),
+      ),
+      r.2,
+    )

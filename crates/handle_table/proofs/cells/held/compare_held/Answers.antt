@@ -24,3 +24,6 @@ returns-in-Ok-clause-bag g c =
     ≡ with_handle z x.block x.place (cond c.in-Ok.swapped (without_handle z a.new.block a.new.place l) l)) c.requires.kinds.1 c.in-Ok.ensures.bag
     ∙ sym (with_named c.held_of.result k x.block x.place (cond c.in-Ok.swapped (without_handle k a.new.block a.new.place l) l)
     (c.held_of.ensures.0 ∙ (c.in-Ok.ensures.kind ∙ c.requires.kinds.1)) c.held_of.ensures.1 c.held_of.ensures.2)
+
+pub returns-in-Ok-clause-below : goal.returns-in-Ok-clause-below
+returns-in-Ok-clause-below g c = λ full. absurd (cc (c.in-Ok.ensures.limit.1 full))

@@ -19,3 +19,6 @@ returns-in-Ok-clause-bag g c =
     let x = c.in-Ok.found in
     c.in-Ok.ensures.bag ∙ sym (with_named c.held_of.result c.args.cell.kind x.block x.place (bag_of c.args.desk.now)
     (c.held_of.ensures.0 ∙ c.in-Ok.ensures.kind) c.held_of.ensures.1 c.held_of.ensures.2)
+
+pub returns-in-Ok-clause-below : goal.returns-in-Ok-clause-below
+returns-in-Ok-clause-below g c = λ full. absurd (cc (c.in-Ok.ensures.limit.1 full))

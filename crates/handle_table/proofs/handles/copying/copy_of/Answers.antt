@@ -29,3 +29,9 @@ pub returns-in-Ok-share_weak-clause-bag : goal.returns-in-Ok-share_weak-clause-b
 returns-in-Ok-share_weak-clause-bag g c =
     let e = c.in-Ok-share_weak.ensures in
     e.bag ∙ weakly (bag_of c.args.desk.now) c.in-Ok-share_weak.copy _ _ e.handle.0 e.handle.1
+
+pub returns-in-Ok-clause-below : goal.returns-in-Ok-clause-below
+returns-in-Ok-clause-below g c = λ full. absurd (cc (c.in-Ok.ensures.limit.1 full))
+
+pub returns-in-Ok-share_weak-clause-below : goal.returns-in-Ok-share_weak-clause-below
+returns-in-Ok-share_weak-clause-below g c = λ full. absurd (cc (c.in-Ok-share_weak.ensures.limit.1 full))

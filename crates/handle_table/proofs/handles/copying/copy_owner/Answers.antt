@@ -26,6 +26,7 @@ returns-clause-copied g c = λ _.
       handle = owner_in n p;
       brings = record {
         there = omega arith;
+        room = λ full. absurd (cc (e.limit.1 full));
         comes = (
           owner_in n p,
           c.in-Some.ensures.1,

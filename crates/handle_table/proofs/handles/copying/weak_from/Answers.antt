@@ -4,6 +4,7 @@ use Rattle.control_block.specs.declared.handles.Held.TheVariants.{Owner, Weak}
 use Rattle.handle_table.specs.declared.fault.Fault.TheVariants as fault
 use Rattle.handle_table.proofs.Filling.{fits_at, fits_more}
 use Rattle.handle_table.proofs.Bringing.{weakly}
+use Rattle.handle_table.proofs.Lasts.{no_owner}
 use Rattle.handle_table.proofs.Wholes.{kept}
 use Rattle.handle_table.proofs.handles.copying.weak_from.Goals as goal
 
@@ -12,7 +13,7 @@ downgrade-came-requires-clause-holds g c =
     fits_at c.args.desk.now c.args.slots.now.items c.args.from (Owner c.in-Ok.owner) c.requires.fits c.in-Ok.ensures.found
 
 pub returns-then-to-len : goal.returns-then-to-len
-returns-then-to-len g c = (inl (refl, omega arith), refl)
+returns-then-to-len g c = ((inl (refl, omega arith), λ is. absurd (cc is)), refl)
 
 pub returns-in-Ok-came : goal.returns-in-Ok-came
 returns-in-Ok-came g c =
@@ -20,6 +21,7 @@ returns-in-Ok-came g c =
     let h = c.in-Ok-came.weak in
     record {
       there = omega arith;
+      room = λ full. absurd (cc (e.limit.1 full));
       comes = (
         c.in-Ok.owner,
         c.in-Ok.ensures.found,
@@ -32,7 +34,10 @@ returns-in-Ok-came g c =
 
 pub returns-in-Err-came : goal.returns-in-Err-came
 returns-in-Err-came g c =
-    let e = c.in-Err-came.ensures.refused in (inr (inr (ap fault.Call e.0, c.in-Err-came.ensures.limit.0 refl)), e.1)
+    let e = c.in-Err-came.ensures.refused in
+    ((inr (inr (ap fault.Call e.0, c.in-Err-came.ensures.limit.0 refl)), λ _. (omega arith, c.in-Ok.owner, c.in-Ok.ensures.found)), e.1)
 
 pub returns-in-Err : goal.returns-in-Err
-returns-in-Err g c = (inr (inl c.in-Err.ensures.fault), refl)
+returns-in-Err g c =
+    let w = c.in-Err.ensures.fault in
+    ((inr (inl w), λ is. absurd (no_owner c.args.slots.now.items c.args.from c.in-Err.why w is)), refl)

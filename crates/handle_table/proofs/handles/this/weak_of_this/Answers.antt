@@ -1,6 +1,8 @@
 use Rattle.std.proofs.Common.{arith, inl, inr, refl}
 use Rattle.control_block.specs.declared.handles.Held.TheVariants.{Owner, Weak}
+use Rattle.handle_table.proofs.Bringing.{this_below}
 use Rattle.handle_table.proofs.Filling.{fits_at, fits_more}
+use Rattle.handle_table.proofs.Lasts.{no_owner}
 use Rattle.handle_table.proofs.Wholes.{kept}
 use Rattle.handle_table.proofs.handles.this.weak_of_this.Goals as goal
 
@@ -9,7 +11,7 @@ weak_from_this-came-requires-clause-holds g c =
     fits_at c.args.desk.now c.args.slots.now.items c.args.of (Owner c.in-Ok.owner) c.requires.fits c.in-Ok.ensures.found
 
 pub returns-then-to-len : goal.returns-then-to-len
-returns-then-to-len g c = (inl (refl, omega arith), refl)
+returns-then-to-len g c = ((inl (refl, omega arith), λ is. absurd (cc is)), refl)
 
 pub returns-in-Ok-came : goal.returns-in-Ok-came
 returns-in-Ok-came g c =
@@ -17,6 +19,7 @@ returns-in-Ok-came g c =
     let h = c.in-Ok-came.this in
     record {
       there = omega arith;
+      room = this_below d c.in-Ok.owner.block c.in-Ok.owner.place e.may;
       comes = (c.in-Ok.owner, c.in-Ok.ensures.found, (e.may, record { weak = h; is = refl; event = (e.handle.0, e.handle.1, e.event) }));
       fits = fits_more d m ss (Weak h) c.requires.fits e.bag e.held;
       bears = λ domain p w. kept domain d m p w e.keeps;
@@ -24,7 +27,10 @@ returns-in-Ok-came g c =
 
 pub returns-in-Err-came : goal.returns-in-Err-came
 returns-in-Err-came g c =
-    let e = c.in-Err-came.ensures.refused in (inr (inr (c.in-Ok.owner, c.in-Ok.ensures.found, (c.in-Err-came.why, refl, e.0))), e.1)
+    let e = c.in-Err-came.ensures.refused in let at = c.in-Ok.ensures.found in
+    ((inr (inr (c.in-Ok.owner, at, (c.in-Err-came.why, refl, e.0))), λ _. (omega arith, c.in-Ok.owner, at)), e.1)
 
 pub returns-in-Err : goal.returns-in-Err
-returns-in-Err g c = (inr (inl c.in-Err.ensures.fault), refl)
+returns-in-Err g c =
+    let w = c.in-Err.ensures.fault in
+    ((inr (inl w), λ is. absurd (no_owner c.args.slots.now.items c.args.of c.in-Err.why w is)), refl)

@@ -1,6 +1,6 @@
 use Rattle.std.proofs.Common.{◌∙◌, ap, subst}
 use Rattle.control_block.specs.Desks.{DeskNow}
-use Rattle.handle_table.specs.Compares.{ComparesSlots, WhyNotCompared}
+use Rattle.handle_table.specs.Compares.{ComparesLast, ComparesSlots, WhyNotCompared}
 use Rattle.handle_table.specs.Tables.{TableNow}
 use Rattle.handle_table.proofs.Wholes.{seen}
 use Rattle.handle_table.proofs.table.HandleTable.compare.Goals as goal
@@ -25,6 +25,7 @@ returns-in-Ok-clause-compared g c =
     record {
       site = e.site;
       is = e.is;
+      room = e.room;
       there = e.there;
       new = e.new;
       at = e.at;
@@ -38,6 +39,11 @@ returns-in-Ok-clause-compared g c =
 pub returns-in-Err-clause-refused : goal.returns-in-Err-clause-refused
 returns-in-Err-clause-refused g c =
     let e = c.in-Err.ensures in (
-      subst (λ (t : TableNow g.row.V.Denot). WhyNotCompared t c.args.cell c.args.expected c.args.desired c.in-Err.why) c.self.view_is e.0,
+      subst (λ (t : TableNow g.row.V.Denot). WhyNotCompared t c.args.cell c.args.expected c.args.desired c.in-Err.why) c.self.view_is e.0.0,
       ap (λ (d : DeskNow g.row.V.Denot). seen d c.self.inside.slots.items c.self.inside.pile) e.1 ∙ c.self.view_is,
     )
+
+pub returns-in-Err-clause-last : goal.returns-in-Err-clause-last
+returns-in-Err-clause-last g c =
+    subst (λ (t : TableNow g.row.V.Denot). ComparesLast t.desk t.slots c.args.cell c.args.expected c.args.desired c.in-Err.why) c.self.view_is
+    c.in-Err.ensures.0.1

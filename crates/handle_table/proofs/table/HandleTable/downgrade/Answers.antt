@@ -1,23 +1,24 @@
 use Rattle.std.proofs.Common.{◌≡◌, IfErr, OnOk, subst}
-use Rattle.std.proofs.lemmas.Result.{on_ok_weaker}
+use Rattle.std.proofs.lemmas.Result.{IfErr-weaker, on_ok_weaker}
 use Rattle.handle_table.specs.Bringing.{IsWeakCopy, OfOwner}
-use Rattle.handle_table.specs.Calls.{Downgrades, WhyNotDowngraded}
+use Rattle.handle_table.specs.Calls.{Downgrades, IsOwnerAt, LimitLast, WhyNotDowngraded}
 use Rattle.handle_table.specs.Tables.{TableNow, on_pile}
 use Rattle.handle_table.proofs.Bringing.{bears_brought, comes, downgrades, fits_brought, not_brought}
+use Rattle.handle_table.proofs.Lasts.{with_last}
 use Rattle.handle_table.proofs.Wholes.{seen}
 use Rattle.handle_table.proofs.table.HandleTable.downgrade.Goals as goal
 
 pub arrive-requires-clause-bears : goal.arrive-requires-clause-bears
 arrive-requires-clause-bears g c =
     let d = c.self.inside.desk in let ss = c.self.inside.slots.items in let t = seen d ss c.self.inside.pile in let m = c.weak_from-came in
-    bears_brought (OfOwner IsWeakCopy ss c.args.from) (WhyNotDowngraded t c.args.from c.args.to)
+    bears_brought (OfOwner IsWeakCopy ss c.args.from) (with_last (WhyNotDowngraded t c.args.from c.args.to) t.slots c.args.to (IsOwnerAt t.slots c.args.from))
     d m.new.desk ss c.args.to m.result c.self.inside.domain.now c.self.inside.pile m.ensures
     c.self.invariant.bears
 
 pub arrive-requires-clause-fits : goal.arrive-requires-clause-fits
 arrive-requires-clause-fits g c =
     let d = c.self.inside.desk in let ss = c.self.inside.slots.items in let t = seen d ss c.self.inside.pile in let m = c.weak_from-came in
-    fits_brought (OfOwner IsWeakCopy ss c.args.from) (WhyNotDowngraded t c.args.from c.args.to)
+    fits_brought (OfOwner IsWeakCopy ss c.args.from) (with_last (WhyNotDowngraded t c.args.from c.args.to) t.slots c.args.to (IsOwnerAt t.slots c.args.from))
     d m.new.desk ss c.args.to m.result m.ensures c.self.invariant.fits
 
 pub returns-clause-downgraded : goal.returns-clause-downgraded
@@ -26,7 +27,7 @@ returns-clause-downgraded g c =
     let a = c.arrive in let u = seen a.new.desk a.new.slots.items a.new.pile in
     subst (λ (x : TableNow g.row.V.Denot). OnOk a.result (Downgrades x c.args.from c.args.to u)) c.self.view_is
     (on_ok_weaker a.result (downgrades t u c.args.from c.args.to)
-    (comes (OfOwner IsWeakCopy ss c.args.from) (WhyNotDowngraded t c.args.from c.args.to)
+    (comes (OfOwner IsWeakCopy ss c.args.from) (with_last (WhyNotDowngraded t c.args.from c.args.to) t.slots c.args.to (IsOwnerAt t.slots c.args.from))
     d m.new.desk ss c.args.to m.result a.result a.new.desk a.new.slots.items (on_pile c.self.inside.pile)
     (on_pile a.new.pile) m.ensures a.ensures.arrives))
 
@@ -35,6 +36,17 @@ returns-clause-refused g c =
     let d = c.self.inside.desk in let ss = c.self.inside.slots.items in let t = seen d ss c.self.inside.pile in let m = c.weak_from-came in
     let a = c.arrive in let u = seen a.new.desk a.new.slots.items a.new.pile in
     subst (λ (x : TableNow g.row.V.Denot). IfErr a.result (λ why. WhyNotDowngraded x c.args.from c.args.to why × (u ≡ x))) c.self.view_is
-    (not_brought (OfOwner IsWeakCopy ss c.args.from) (WhyNotDowngraded t c.args.from c.args.to)
+    (IfErr-weaker a.result _ _ (λ why p. (p.0.0, p.1))
+    (not_brought (OfOwner IsWeakCopy ss c.args.from) (with_last (WhyNotDowngraded t c.args.from c.args.to) t.slots c.args.to (IsOwnerAt t.slots c.args.from))
     d m.new.desk ss c.args.to m.result a.result a.new.desk a.new.slots.items (on_pile c.self.inside.pile)
-    (on_pile a.new.pile) m.ensures a.ensures.arrives)
+    (on_pile a.new.pile) m.ensures a.ensures.arrives))
+
+pub returns-clause-last : goal.returns-clause-last
+returns-clause-last g c =
+    let d = c.self.inside.desk in let ss = c.self.inside.slots.items in let t = seen d ss c.self.inside.pile in let m = c.weak_from-came in
+    let a = c.arrive in let u = seen a.new.desk a.new.slots.items a.new.pile in
+    subst (λ (x : TableNow g.row.V.Denot). IfErr a.result (LimitLast x.slots c.args.to (IsOwnerAt x.slots c.args.from))) c.self.view_is
+    (IfErr-weaker a.result _ _ (λ why p. p.0.1)
+    (not_brought (OfOwner IsWeakCopy ss c.args.from) (with_last (WhyNotDowngraded t c.args.from c.args.to) t.slots c.args.to (IsOwnerAt t.slots c.args.from))
+    d m.new.desk ss c.args.to m.result a.result a.new.desk a.new.slots.items (on_pile c.self.inside.pile)
+    (on_pile a.new.pile) m.ensures a.ensures.arrives))

@@ -1,23 +1,26 @@
 use Rattle.std.proofs.Common.{◌≡◌, IfErr, OnOk, subst}
-use Rattle.std.proofs.lemmas.Result.{on_ok_weaker}
+use Rattle.std.proofs.lemmas.Result.{IfErr-weaker, on_ok_weaker}
 use Rattle.handle_table.specs.Bringing.{IsLoaded}
-use Rattle.handle_table.specs.Cells.{LoadsIntoSlot, WhyNotLoaded}
+use Rattle.handle_table.specs.Cells.{IsCellThere, LoadsIntoSlot, WhyNotLoaded}
+use Rattle.handle_table.specs.Calls.{LimitLast}
 use Rattle.handle_table.specs.Tables.{TableNow, on_pile}
 use Rattle.handle_table.proofs.Bringing.{bears_brought, comes, loads, fits_brought, not_brought}
+use Rattle.handle_table.proofs.Lasts.{with_last}
 use Rattle.handle_table.proofs.Wholes.{seen}
 use Rattle.handle_table.proofs.table.HandleTable.load_out_of_line.Goals as goal
 
 pub arrive-requires-clause-bears : goal.arrive-requires-clause-bears
 arrive-requires-clause-bears g c =
     let d = c.self.inside.desk in let ss = c.self.inside.slots.items in let t = seen d ss c.self.inside.pile in let m = c.loaded-came in
-    bears_brought (IsLoaded c.args.cell ss) (WhyNotLoaded t c.args.cell c.args.to)
+    bears_brought (IsLoaded c.args.cell ss) (with_last (WhyNotLoaded t c.args.cell c.args.to) t.slots c.args.to (IsCellThere t.desk.shape t.slots c.args.cell))
     d m.new.desk ss c.args.to m.result c.self.inside.domain.now c.self.inside.pile m.ensures
     c.self.invariant.bears
 
 pub arrive-requires-clause-fits : goal.arrive-requires-clause-fits
 arrive-requires-clause-fits g c =
     let d = c.self.inside.desk in let ss = c.self.inside.slots.items in let t = seen d ss c.self.inside.pile in let m = c.loaded-came in
-    fits_brought (IsLoaded c.args.cell ss) (WhyNotLoaded t c.args.cell c.args.to) d m.new.desk ss c.args.to m.result m.ensures c.self.invariant.fits
+    fits_brought (IsLoaded c.args.cell ss) (with_last (WhyNotLoaded t c.args.cell c.args.to) t.slots c.args.to (IsCellThere t.desk.shape t.slots c.args.cell))
+    d m.new.desk ss c.args.to m.result m.ensures c.self.invariant.fits
 
 pub returns-clause-loaded : goal.returns-clause-loaded
 returns-clause-loaded g c =
@@ -25,7 +28,7 @@ returns-clause-loaded g c =
     let a = c.arrive in let u = seen a.new.desk a.new.slots.items a.new.pile in
     subst (λ (x : TableNow g.row.V.Denot). OnOk a.result (LoadsIntoSlot x c.args.cell c.args.to u)) c.self.view_is
     (on_ok_weaker a.result (loads t u c.args.to c.args.cell)
-    (comes (IsLoaded c.args.cell ss) (WhyNotLoaded t c.args.cell c.args.to)
+    (comes (IsLoaded c.args.cell ss) (with_last (WhyNotLoaded t c.args.cell c.args.to) t.slots c.args.to (IsCellThere t.desk.shape t.slots c.args.cell))
     d m.new.desk ss c.args.to m.result a.result a.new.desk a.new.slots.items (on_pile c.self.inside.pile)
     (on_pile a.new.pile) m.ensures a.ensures.arrives))
 
@@ -34,6 +37,17 @@ returns-clause-refused g c =
     let d = c.self.inside.desk in let ss = c.self.inside.slots.items in let t = seen d ss c.self.inside.pile in let m = c.loaded-came in
     let a = c.arrive in let u = seen a.new.desk a.new.slots.items a.new.pile in
     subst (λ (x : TableNow g.row.V.Denot). IfErr a.result (λ why. WhyNotLoaded x c.args.cell c.args.to why × (u ≡ x))) c.self.view_is
-    (not_brought (IsLoaded c.args.cell ss) (WhyNotLoaded t c.args.cell c.args.to)
+    (IfErr-weaker a.result _ _ (λ why p. (p.0.0, p.1))
+    (not_brought (IsLoaded c.args.cell ss) (with_last (WhyNotLoaded t c.args.cell c.args.to) t.slots c.args.to (IsCellThere t.desk.shape t.slots c.args.cell))
     d m.new.desk ss c.args.to m.result a.result a.new.desk a.new.slots.items (on_pile c.self.inside.pile)
-    (on_pile a.new.pile) m.ensures a.ensures.arrives)
+    (on_pile a.new.pile) m.ensures a.ensures.arrives))
+
+pub returns-clause-last : goal.returns-clause-last
+returns-clause-last g c =
+    let d = c.self.inside.desk in let ss = c.self.inside.slots.items in let t = seen d ss c.self.inside.pile in let m = c.loaded-came in
+    let a = c.arrive in let u = seen a.new.desk a.new.slots.items a.new.pile in
+    subst (λ (x : TableNow g.row.V.Denot). IfErr a.result (LimitLast x.slots c.args.to (IsCellThere x.desk.shape x.slots c.args.cell))) c.self.view_is
+    (IfErr-weaker a.result _ _ (λ why p. p.0.1)
+    (not_brought (IsLoaded c.args.cell ss) (with_last (WhyNotLoaded t c.args.cell c.args.to) t.slots c.args.to (IsCellThere t.desk.shape t.slots c.args.cell))
+    d m.new.desk ss c.args.to m.result a.result a.new.desk a.new.slots.items (on_pile c.self.inside.pile)
+    (on_pile a.new.pile) m.ensures a.ensures.arrives))

@@ -1,11 +1,12 @@
-use Rattle.std.proofs.Common.{◌≡◌, ◌∙◌, Bool, is_some, ap, inl, inr, refl, subst, sym}
+use Rattle.std.proofs.Common.{◌≡◌, ◌∙◌, Bool, is_some, ap, inl, inr, refl, subst, sym, arith}
 use Rattle.control_block.specs.declared.handles.Held.TheVariants.{Owner, Weak}
 use Rattle.shared_handle.specs.Locks as locks
-use Rattle.handle_table.specs.Calls.{LocksSlot, WhyNotLocked}
+use Rattle.handle_table.specs.Calls.{IsWeakAt, LimitLast, LocksSlot, WhyNotLocked}
 use Rattle.control_block.specs.Desks.{DeskNow}
 use Rattle.handle_table.specs.declared.fault.Fault.TheVariants as fault
 use Rattle.handle_table.specs.Tables.{TableNow}
 use Rattle.handle_table.proofs.Filling.{fits_at, fits_more}
+use Rattle.handle_table.proofs.Lasts.{no_weak}
 use Rattle.handle_table.proofs.Wholes.{kept, same_whole, seen}
 use Rattle.handle_table.proofs.table.HandleTable.lock.Goals as goal
 
@@ -33,6 +34,7 @@ returns-in-Ok-owner-clause-locked g c =
       owner = record {
         handle = Owner h;
         between = c.lock-owner.new.desk;
+        room = λ full. absurd (cc (e.limit.1 full));
         comes = record {
           owner = h;
           is = refl;
@@ -63,3 +65,15 @@ returns-in-Err-owner-clause-refused g c =
           (inr (inr (ap fault.Call e.refused.0, e.limit.0 refl))),
       ap (λ (d : DeskNow g.row.V.Denot). seen d c.self.inside.slots.items c.self.inside.pile) e.refused.1 ∙ c.self.view_is,
     )
+
+pub returns-then-to-len-clause-last : goal.returns-then-to-len-clause-last
+returns-then-to-len-clause-last g c = λ is. absurd (cc is)
+
+pub returns-in-Err-clause-last : goal.returns-in-Err-clause-last
+returns-in-Err-clause-last g c = λ is. absurd (no_weak c.self.inside.slots.items c.args.from c.in-Err.why c.in-Err.ensures.fault is)
+
+pub returns-in-Err-owner-clause-last : goal.returns-in-Err-owner-clause-last
+returns-in-Err-owner-clause-last g c =
+    let few = c.if-to-len.false in
+    subst (λ (t : TableNow g.row.V.Denot). LimitLast t.slots c.args.to (IsWeakAt t.slots c.args.from) (fault.Call c.in-Err-owner.why)) c.self.view_is
+    (λ _. (omega (arith, few), c.in-Ok.weak, c.in-Ok.ensures.found))

@@ -20,3 +20,11 @@ returns-clause-refused g c =
 pub returns-clause-full : goal.returns-clause-full
 returns-clause-full g c = λ sole none zero.
     c.make_null_from_stock.ensures.full (ap (λ (t : TableNow g.row.V.Denot). stock_of t.desk) (c.supply.ensures.none sole zero) ∙ none)
+
+pub returns-then-to-len-clause-last : goal.returns-then-to-len-clause-last
+returns-then-to-len-clause-last g c = λ is. absurd (cc is)
+
+pub returns-clause-last : goal.returns-clause-last
+returns-clause-last g c =
+    let few = c.if-to-len.false in let v = ap (λ (t : TableNow g.row.V.Denot). length t.slots) c.self.view_is in
+    IfErr-weaker c.make_null_from_stock.result _ _ (λ r p is. (omega (arith, few, v), tt)) c.make_null_from_stock.ensures.last

@@ -2,10 +2,11 @@ use Rattle.std.proofs.Common.{◌≡◌, ◌∙◌, IfErr, OnOk, ap, subst}
 use Rattle.std.proofs.lemmas.Result.{IfErr-weaker}
 use Rattle.control_block.specs.Desks.{stock_of}
 use Rattle.handle_table.specs.Bringing.{IsNullMade}
-use Rattle.handle_table.specs.Calls.{MakesNull, WhyNotMade}
+use Rattle.handle_table.specs.Calls.{LimitLast, MakesNull, WhyNotMade}
 use Rattle.handle_table.specs.declared.fault.Returned.{Returned}
 use Rattle.handle_table.specs.Tables.{TableNow, on_pile}
 use Rattle.handle_table.proofs.Bringing.{bears_brought, comes, err_stays, fits_brought, not_brought}
+use Rattle.handle_table.proofs.Lasts.{fault_arrives}
 use Rattle.handle_table.proofs.Wholes.{seen}
 use Rattle.handle_table.proofs.table.HandleTable.make_null_from_stock.Goals as goal
 
@@ -48,3 +49,10 @@ returns-clause-refused g c =
     (not_brought (IsNullMade c.args.value) (λ (r : Returned g.row.V.Denot). WhyNotMade t c.args.to r.why × (r.back ≡ c.args.value))
     d m.new.desk ss c.args.to m.result a.result a.new.desk a.new.slots.items (on_pile c.self.inside.pile)
     (on_pile a.new.pile) m.ensures.brought a.ensures.arrives))
+
+pub returns-clause-last : goal.returns-clause-last
+returns-clause-last g c =
+    let ss = c.self.inside.slots.items in let m = c.null_made-came in let a = c.arrive in
+    subst (λ (x : TableNow g.row.V.Denot). IfErr a.result (λ r. LimitLast x.slots c.args.to (Unit {0}) r.why)) c.self.view_is
+    (fault_arrives (λ (r : Returned g.row.V.Denot). LimitLast ss c.args.to (Unit {0}) r.why) m.result m.new.desk a.new.desk ss a.new.slots.items
+    (on_pile c.self.inside.pile) (on_pile a.new.pile) c.args.to a.result a.ensures.arrives m.ensures.last)

@@ -6,6 +6,7 @@ use Rattle.handle_table.specs.Structures.{GetsParent, WhyNoParent}
 use Rattle.handle_table.specs.Tables.{TableNow}
 use Rattle.handle_table.specs.declared.fault.Fault.TheVariants as fault
 use Rattle.handle_table.proofs.Filling.{fits_at, fits_more}
+use Rattle.handle_table.proofs.Structured.{far_below}
 use Rattle.handle_table.proofs.Wholes.{same_whole, seen}
 use Rattle.handle_table.proofs.table.HandleTable.parent.Goals as goal
 
@@ -33,6 +34,7 @@ returns-in-Ok-parent-clause-parent g c =
       parent = record {
         handle = Owner h;
         between = c.parent-parent.new.desk;
+        room = far_below c.self.inside.desk e.may.0;
         comes = record { owner = h; is = refl; event = (told, e.own, e.parent) };
         assigns = c.assign.ensures.assigns;
       };

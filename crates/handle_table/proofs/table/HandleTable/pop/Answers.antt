@@ -12,7 +12,7 @@ use Rattle.scene_structures.specs.Stacks.{FindsNone, IsEmptyList, IsPopped, Stac
 use Rattle.handle_table.specs.Structures.{PopsIntoSlot}
 use Rattle.handle_table.specs.Tables.{TableNow}
 use Rattle.handle_table.proofs.Filling.{fits_more}
-use Rattle.handle_table.proofs.Structured.{at_none, at_some, desk_does, whole_still}
+use Rattle.handle_table.proofs.Structured.{at_none, at_some, desk_does, far_below, whole_still}
 use Rattle.handle_table.proofs.Wholes.{seen}
 use Rattle.handle_table.proofs.table.HandleTable.pop.Goals as goal
 
@@ -58,6 +58,7 @@ returns-clause-popped g c =
       record {
         handle = Owner h;
         between = m;
+        room = far_below d (λ near. absurd (cc (e.limit.1 near)));
         comes = record {
           owner = h;
           is = refl;

@@ -1,9 +1,11 @@
-use Rattle.std.proofs.Common.{inl, inr, refl, subst}
+use Rattle.std.proofs.Common.{inl, inr, refl, subst, arith}
 use Rattle.control_block.specs.declared.handles.Held.TheVariants.{Owner, Weak}
+use Rattle.handle_table.specs.Calls.{IsWeakAt, LimitLast}
 use Rattle.handle_table.specs.Handles.{Upgrades, WhyNotUpgraded}
 use Rattle.handle_table.specs.Tables.{TableNow}
 use Rattle.handle_table.specs.declared.fault.Fault.TheVariants as fault
 use Rattle.handle_table.proofs.Filling.{fits_at, fits_more}
+use Rattle.handle_table.proofs.Lasts.{no_weak}
 use Rattle.handle_table.proofs.Wholes.{kept, seen, still}
 use Rattle.handle_table.proofs.table.HandleTable.upgrade.Goals as goal
 
@@ -28,6 +30,7 @@ returns-in-Ok-owner-clause-upgraded g c =
       owner = record {
         handle = Owner c.in-Ok-owner.owner;
         between = c.upgrade-owner.new.desk;
+        room = c.in-Ok-owner.ensures.below;
         comes = record { owner = c.in-Ok-owner.owner; is = refl; event = c.in-Ok-owner.ensures.upgrade };
         assigns = c.assign.ensures.assigns;
       };
@@ -55,3 +58,15 @@ pub assign-requires-clause-fits : goal.assign-requires-clause-fits
 assign-requires-clause-fits g c =
     let e = c.in-Ok-owner.ensures in
     fits_more c.self.inside.desk c.upgrade-owner.new.desk c.self.inside.slots.items (Owner c.in-Ok-owner.owner) c.self.invariant.fits e.bag e.held
+
+pub returns-then-to-len-clause-last : goal.returns-then-to-len-clause-last
+returns-then-to-len-clause-last g c = λ is. absurd (cc is)
+
+pub returns-in-Err-clause-last : goal.returns-in-Err-clause-last
+returns-in-Err-clause-last g c = λ is. absurd (no_weak c.self.inside.slots.items c.args.from c.in-Err.why c.in-Err.ensures.fault is)
+
+pub returns-in-Err-owner-clause-last : goal.returns-in-Err-owner-clause-last
+returns-in-Err-owner-clause-last g c =
+    let few = c.if-to-len.false in
+    subst (λ (t : TableNow g.row.V.Denot). LimitLast t.slots c.args.to (IsWeakAt t.slots c.args.from) (fault.Call c.in-Err-owner.why)) c.self.view_is
+    (λ _. (omega (arith, few), c.in-Ok.weak, c.in-Ok.ensures.found))

@@ -5,12 +5,12 @@ use Rattle.shared_handle.proofs.Piles.{carries_kept}
 use Rattle.handle_tests.proofs.ending.piles.end_beside.Goals as goal
 
 pub drop_shared-gone-requires-clause-carries : goal.drop_shared-gone-requires-clause-carries
-drop_shared-gone-requires-clause-carries c κs =
+drop_shared-gone-requires-clause-carries c =
     let e = c.in-Ok.ensures in
     carries_kept c.args.domain.now c.args.desk.now c.make.new.desk c.args.pile.now c.requires.carries e.desk.domain e.desk.shape e.endings
 
 pub end_of-requires-clause-ends : goal.end_of-requires-clause-ends
-end_of-requires-clause-ends c κs =
+end_of-requires-clause-ends c =
     let e = c.in-Ok.ensures in let d = c.make.new.desk in let x = c.args.ending in
     let w = carries_kept c.args.domain.now c.args.desk.now d c.args.pile.now c.requires.carries e.desk.domain e.desk.shape e.endings in
     let apart = subst (NotAmong x.block.0) (sym c.requires.empty) tt in

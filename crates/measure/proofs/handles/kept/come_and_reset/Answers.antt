@@ -24,7 +24,7 @@ leave-requires-clause-carries g c =
     carries_kept c.args.domain.now k.desk c.bring.new.desk k.pile c.requires.carries e.desk.domain e.desk.shape e.endings
 
 pub reset-requires-clause-holds : goal.reset-requires-clause-holds
-reset-requires-clause-holds g c κs =
+reset-requires-clause-holds g c =
     let k = c.args.kept.now in
     let f = c.leave.new.desk in
     let x = c.in-Some.owner in

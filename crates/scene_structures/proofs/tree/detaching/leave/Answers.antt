@@ -1,4 +1,4 @@
-use Rattle.std.proofs.Common.{[], ◌∷◌, ap, subst, sym}
+use Rattle.std.proofs.Common.{[], ◌∷◌, ◌∙◌, ap, subst, sym}
 use Rattle.control_word.specs.Handles.{object_of}
 use Rattle.shared_handle.proofs.Goings.{does_none}
 use Rattle.scene_structures.specs.Hands.{Lists, node_in, stacked}
@@ -6,7 +6,9 @@ use Rattle.scene_structures.specs.Puts.{PutsOnly, in_no_cell}
 use Rattle.scene_structures.proofs.Adopting.{these_node}
 use Rattle.scene_structures.proofs.Detached.{hands_above, these_fewer, within_holds}
 use Rattle.scene_structures.proofs.Unlinks.{unlinks_same}
-use Rattle.scene_structures.proofs.Hands.{hands_first, hands_kept, holds_first, lists_first, lists_under}
+use Rattle.scene_structures.proofs.Hands.{first_lists, hands_first, hands_kept, holds_first, lists_first, lists_under}
+use Rattle.scene_structures.proofs.Leaving.{node_lives}
+use Rattle.scene_structures.proofs.Pushes.{same_left}
 use Rattle.scene_structures.proofs.Pruned.{hands_below}
 use Rattle.scene_structures.proofs.Sites.{these_after, these_both}
 use Rattle.scene_structures.proofs.Others.{others_both}
@@ -59,6 +61,12 @@ returns-clause-own g c =
     let base = stacked (parent ∷ []) b.0 in
     let keeps = m.ensures.latest base (hands_below d b.0 parent b.1) in
     let same = these_node d m.new.desk base node keeps (lists_under node.block parent.block node.place parent.place b.0 b.2) in
+    let same_p = these_node d m.new.desk base parent keeps (lists_first parent.block parent.place b.0) in
+    let has = hands_above d m.new.desk b.0 parent b.1 (m.ensures.bag base (hands_below d b.0 parent b.1)) m.ensures.held in
+    let in_u = hands_kept m.new.desk u.new.desk b.0 (parent ∷ []) has u.ensures.bag u.ensures.held in
+    let lists_p = first_lists u.new.desk b.0 parent [] in_u in
+    let lists_n = subst (Lists node.block node.place) (sym in_u.bag) (lists_under node.block parent.block node.place parent.place b.0 b.2) in
+    let legal = c.stands.ensures.legal in
     record {
       at = d;
       comes = does_none (PutsOnly in_no_cell) d;
@@ -69,6 +77,8 @@ returns-clause-own g c =
       unlinked = u.new.desk;
       unlinks = unlinks_same m.result m.new.desk u.new.desk (object_of (node_in m.new.desk node)) (object_of (node_in d node)) (ap object_of same)
           u.ensures.own;
+      live_parent = node_lives d u.new.desk parent c.requires.parent legal lists_p (same_left m.new.desk u.new.desk parent u.ensures.latest lists_p ∙ same_p);
+      live_node = node_lives d u.new.desk node c.requires.node legal lists_n (same_left m.new.desk u.new.desk node u.ensures.latest lists_n ∙ same);
       leaves = c.let_go.ensures.own;
     }
 

@@ -1,11 +1,13 @@
-use Rattle.std.proofs.Common.{◌≡◌, ◌≢◌, ◌<◌, length, set, ap, subst, arith}
+use Rattle.std.proofs.Common.{◌≡◌, ◌≢◌, ◌<◌, length, map, set, ap, sym, subst, ◌∙◌, arith}
+use Rattle.step_table.specs.declared.memory.extent.Extent.{Extent}
 use Rattle.std.proofs.lemmas.List.{length-map, length-set}
 use Rattle.step_threads.specs.declared.said.Stepped.TheVariants.{Waited}
 use Rattle.step_core.specs.Sights.{Sight}
 use Rattle.step_core.specs.Turning.{HasBegun}
 use Rattle.step_core.specs.Worlds.{Advances, AllFit, Steps, thread_walk}
 use Rattle.step_core.proofs.Worlds.{all_fit, has_begun, sight, steps, thread_at}
-use Rattle.step_core.proofs.runs.Taking.{advances, all_hold}
+use Rattle.step_core.proofs.runs.Extents.{extent_step}
+use Rattle.step_core.proofs.runs.Taking.{advances, all_hold, all_idle}
 use Rattle.step_core.proofs.telling.Worlds.{never_now, told_now}
 use Rattle.step_core.proofs.world.World.advance.Goals as goal
 
@@ -83,6 +85,13 @@ module _ (c : goal.After-self-3-1) where
       let k = length-set c.self.inside.threads.items c.args.number c.step-stepped.new.self in
       omega (arith, m, n, k)
 
+  as_large : length (map thread_walk (set c.self.inside.threads.items c.args.number c.step-stepped.new.self))
+      ≡ c.step-stepped.new.table.extent.actors
+  as_large =
+      as_many ∙ c.self.invariant.1.threads
+      ∙ ap (λ (z : Extent). z.actors)
+      (sym (extent_step c.args.number (sight c.self.inside.table c.self.inside.threads.items) _ c.step-stepped.result went))
+
   never : c.step-stepped.result ≢ Waited
   never =
       never_now c.self.inside.table c.step-stepped.new.table c.self.inside.threads.items c.args.number
@@ -110,7 +119,8 @@ returns-clause-advances c =
     c.self.view_is
     (advances c.args.number (sight c.self.inside.table c.self.inside.threads.items)
     (sight c.step-stepped.new.table threads) c.step-stepped.result
-    (begun c) (went c) (never c) (as_many c) c.known-2.ensures (all_hold c.step-stepped.new.table threads (all c)))
+    (begun c) (went c) (never c) (as_many c) c.known-2.ensures (all_hold c.step-stepped.new.table threads (all c))
+    (all_idle c.step-stepped.new.table threads (all c) (as_large c) c.known-2.ensures))
 
 pub returns-clause-actors : goal.returns-clause-actors
 returns-clause-actors c =

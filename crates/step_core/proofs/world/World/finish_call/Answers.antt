@@ -1,5 +1,5 @@
-use Rattle.std.proofs.Common.{◌≡◌, ◌<◌, true, length, sym, ◌∙◌, arith}
-use Rattle.step_core.specs.Runs.{is_calling}
+use Rattle.std.proofs.Common.{◌≡◌, ℕ, ◌<◌, true, length, sym, ap, ◌∙◌, arith}
+use Rattle.step_core.specs.Runs.{call_under_way, is_calling}
 use Rattle.step_core.proofs.runs.Calls.{calling_on, going_more}
 use Rattle.step_core.proofs.runs.Measures.{Falls, before_end}
 use Rattle.step_core.proofs.world.World.finish_call.Goals as goal
@@ -8,14 +8,17 @@ module _ (c : goal.After-add) where
   inside : c.args.number < length c.loop-self.self.walks
   inside = let a = c.loop-self.invariant.on.actors in let w = c.requires.within in omega (arith, a, w)
 
-  goes : is_calling c.loop-self.self c.args.number ≡ true
-  goes = sym c.is_calling.ensures ∙ c.loop-self-test.true
+  goes : is_calling (call_under_way c.args.number c.args.self.now) c.loop-self.self c.args.number ≡ true
+  goes =
+      ap (λ (k : ℕ). is_calling k c.loop-self.self c.args.number) (sym c.call_under_way-call.ensures)
+      ∙ sym c.is_calling.ensures ∙ c.loop-self-test.true
 
   one_less : Falls c.args.number c.loop-self.self c.advance-stepped.new.self
   one_less =
       let s = c.advance-stepped.ensures in
+      let call = call_under_way c.args.number c.args.self.now in
       before_end c.args.number c.loop-self.self c.advance-stepped.new.self c.advance-stepped.result s.was s.kept inside s.steps
-      (calling_on c.args.number c.loop-self.self c.advance-stepped.new.self c.advance-stepped.result s.was s.steps goes) s.never
+      (calling_on call c.args.number c.loop-self.self c.advance-stepped.new.self c.advance-stepped.result s.was s.steps goes) s.never
 
 pub add-requires : goal.add-requires
 add-requires c =
@@ -23,9 +26,11 @@ add-requires c =
     let i = c.loop-self.invariant in
     let a = i.on.actors in
     let w = c.requires.within in
+    let call = call_under_way c.args.number c.args.self.now in
     let f = before_end c.args.number c.loop-self.self c.advance-stepped.new.self c.advance-stepped.result s.was s.kept (omega (arith, a, w)) s.steps
-    (calling_on c.args.number c.loop-self.self c.advance-stepped.new.self c.advance-stepped.result s.was s.steps
-    (sym c.is_calling.ensures ∙ c.loop-self-test.true)) s.never in
+    (calling_on call c.args.number c.loop-self.self c.advance-stepped.new.self c.advance-stepped.result s.was s.steps
+    (ap (λ (k : ℕ). is_calling k c.loop-self.self c.args.number) (sym c.call_under_way-call.ensures)
+    ∙ sym c.is_calling.ensures ∙ c.loop-self-test.true)) s.never in
     let first = c.requires.room in
     let before = i.room in
     let capacity = i.capacity in
@@ -45,8 +50,9 @@ loop-self-preserved c =
     let less = (one_less c).all in
     let before = c.loop-self.invariant.room in
     record {
-      on = going_more c.args.number c.args.self.now c.loop-self.self c.advance-stepped.new.self c.args.steps.now.items c.loop-self.steps.items
-          c.add.new.steps.items c.advance-stepped.result c.loop-self.invariant.on (goes c) s.advances s.actors s.never e.items;
+      on = going_more (call_under_way c.args.number c.args.self.now) c.args.number c.args.self.now c.loop-self.self c.advance-stepped.new.self
+          c.args.steps.now.items c.loop-self.steps.items c.add.new.steps.items c.advance-stepped.result c.loop-self.invariant.on (goes c)
+          s.advances s.actors s.never e.items;
       room = omega (arith, l, less, before);
       capacity = (let first = c.loop-self.invariant.capacity in omega (arith, room, first));
     }

@@ -4,8 +4,8 @@ use Rattle.step_core.specs.Worlds.{Sight, thread_walk}
 use Rattle.step_core.proofs.Worlds.{thread_at}
 use Rattle.step_core.proofs.world.World.is_calling.Goals as goal
 
-pub compares_next-requires : goal.compares_next-requires
-compares_next-requires c =
+pub next_statement-requires : goal.next_statement-requires
+next_statement-requires c =
     let l = ap (λ (u : Sight). length u.walks) c.self.view_is in
     let m = length-map c.self.inside.threads.items thread_walk in
     let lt : c.args.number < length c.self.inside.threads.items = omega (arith, l, m, c.requires) in

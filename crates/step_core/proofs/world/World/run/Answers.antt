@@ -1,6 +1,6 @@
 use Rattle.std.proofs.Common.{ℕ, List, ◌++◌, length, ap, subst, sym, ◌∙◌, arith}
 use Rattle.step_core.specs.declared.trace.TraceStep.{TraceStep}
-use Rattle.step_core.specs.Sights.{AllHold, Sight}
+use Rattle.step_core.specs.Sights.{Sight}
 use Rattle.step_core.proofs.following.Chains.{follows}
 use Rattle.step_core.proofs.runs.Calls.{settled_run}
 use Rattle.step_core.proofs.runs.Calming.{AllCalm, all_calm, none_pays}
@@ -10,8 +10,8 @@ use Rattle.step_core.proofs.runs.Extents.{extent_run}
 use Rattle.step_core.specs.Runs.{IsRun, NonePays, RunInOrder, RunsToEnd, SettleInOrder, Settles}
 use Rattle.step_table.specs.Stories.{Kept}
 use Rattle.step_core.specs.Totals.{IsAtEnd}
-use Rattle.step_core.proofs.runs.Taking.{all_hold}
-use Rattle.step_core.proofs.runs.Through.{through}
+use Rattle.step_core.proofs.runs.Taking.{all_hold, all_idle}
+use Rattle.step_core.proofs.runs.Through.{Goes, through}
 use Rattle.step_core.proofs.telling.Census.{at_rest, still_now}
 use Rattle.step_core.proofs.world.World.run.Goals as goal
 
@@ -24,11 +24,17 @@ module _ (c : goal.After-known-3) where
       c.settle.new.steps.items c.follow.ensures.run
       c.settle.ensures.adds) c.finish.ensures.adds
 
-  start : Kept c.args.self.now.story
-  start = subst (λ (u : Sight). Kept u.story) c.self.view_is c.known.ensures
-
-  hands : AllHold c.args.self.now
-  hands = subst AllHold c.self.view_is (all_hold c.self.inside.table c.self.inside.threads.items c.self.invariant.0)
+  -- what each step keeps
+  goes : Goes c.args.self.now
+  goes =
+      let threads = c.self.inside.threads.items in
+      subst Goes c.self.view_is
+      (record {
+        kept = c.known.ensures;
+        actors = c.self.invariant.1.threads;
+        hands = all_hold c.self.inside.table threads c.self.invariant.0;
+        idle = all_idle c.self.inside.table threads c.self.invariant.0 c.self.invariant.1.threads c.known.ensures;
+      })
 
   -- nobody owes anything once all have finished their calls
   calm : NonePays c.settle.new.self
@@ -92,7 +98,7 @@ returns-clause-moves c =
 
 pub returns-clause-headline : goal.returns-clause-headline
 returns-clause-headline c =
-    through c.args.self.now c.finish.new.self c.finish.new.steps.items (all c) (start c) (hands c)
+    through c.args.self.now c.finish.new.self c.finish.new.steps.items (all c) (goes c)
 
 pub returns-clause-rest : goal.returns-clause-rest
 returns-clause-rest c = λ b inside.

@@ -1,0 +1,37 @@
+//! Tests of pointers, by their public calls alone. A play is what one worker does at its desk; each of its rows says
+//! what a call is to answer, and one that answers something else ends the play with the row's number.
+#![tactic(auto)]
+
+#[cfg(test)]
+mod cells;
+#[cfg(test)]
+mod compares;
+#[cfg(test)]
+mod crowds;
+#[cfg(test)]
+mod drops;
+#[cfg(test)]
+mod lists;
+#[cfg(test)]
+mod members;
+#[cfg(test)]
+mod owners;
+#[cfg(test)]
+mod plays;
+#[cfg(test)]
+mod refusals;
+pub mod shapes;
+#[cfg(test)]
+mod snapshots;
+#[cfg(test)]
+mod spares;
+#[cfg(test)]
+mod teams;
+#[cfg(test)]
+mod texts;
+#[cfg(test)]
+mod values;
+#[cfg(test)]
+mod visits;
+#[cfg(test)]
+mod weaks;

@@ -1,0 +1,58 @@
+//! What faults are called.
+
+use pointers::{Call, Fault, Refusal, Spot};
+use std::alloc::Global;
+
+/// Faults, and their texts.
+const ROWS: [(Fault, &str); 12] = [
+    (Fault::Busy(Call::Read), "read: busy, within a visit"),
+    (
+        Fault::Crowded(Call::Share),
+        "share: crowded, no pointer is left to the desk",
+    ),
+    (
+        Fault::Cell(Call::Load(Spot::Shared(7))),
+        "load of shared cell 7: no such cell",
+    ),
+    (
+        Fault::Cell(Call::Store(Spot::Weak(7))),
+        "store of weak cell 7: no such cell",
+    ),
+    (Fault::Place(Call::Alias), "alias: no such place"),
+    (
+        Fault::Refused(Call::Exchange(Spot::First), Refusal::Null),
+        "exchange of member first: null",
+    ),
+    (
+        Fault::Refused(Call::Clear(Spot::Next), Refusal::Outside),
+        "clear of member next: outside",
+    ),
+    (
+        Fault::Refused(Call::CompareExchange(Spot::Up), Refusal::Limit),
+        "compare_exchange of member up: limit",
+    ),
+    (Fault::Refused(Call::Make, Refusal::Full), "make: full"),
+    (Fault::Memory, "no memory"),
+    (Fault::Output, "input or output failed"),
+    (Fault::Other(3), "fault 3"),
+];
+
+/// The text of a fault.
+fn text(alloc: Global, fault: Fault) -> Option<String> {
+    format!(in alloc; "{fault}").ok()
+}
+
+#[cfg(test)]
+mod tests {
+    use super::*;
+
+    #[test]
+    fn a_fault_tells_its_call(rt: HostRuntime) {
+        for (fault, wanted) in &ROWS {
+            match text(rt.alloc(), *fault) {
+                Some(text) => assert_eq!(rt; text.as_str(), *wanted),
+                None => panic!(rt; "no memory"),
+            }
+        }
+    }
+}

@@ -1,0 +1,101 @@
+//! Values that tell of their ends.
+
+use pointers::{Desk, Domain, Fault, Shared};
+use std::alloc::Global;
+use std::sync::Arc;
+use std::sync::atomic::{AtomicU32, AtomicU64, Ordering};
+
+/// How many values ended, and the numbers of these as decimal digits, the first one first.
+#[derive(Drop)]
+pub(crate) struct Ends {
+    pub count: AtomicU32,
+    pub order: AtomicU64,
+}
+
+/// The ends of a play.
+pub(crate) type Told = Arc<Ends, Global>;
+
+/// A value that tells of its end.
+pub(crate) struct Value {
+    pub told: Told,
+    pub number: u64,
+}
+
+impl Drop for Value {
+    fn drop(self) {
+        let Self { told, number } = self;
+        told.count.fetch_add(1, Ordering::SeqCst);
+        let order = told.order.load(Ordering::SeqCst);
+        let order = order.wrapping_mul(10).wrapping_add(number);
+        told.order.store(order, Ordering::SeqCst);
+    }
+}
+
+/// New ends, of nothing yet.
+pub(crate) fn ends(alloc: Global) -> Result<Told, Fault> {
+    let ends = Ends {
+        count: AtomicU32::new(0),
+        order: AtomicU64::new(0),
+    };
+    match Arc::new(alloc, ends) {
+        Ok(told) => Ok(told),
+        Err(_) => Err(Fault::Memory),
+    }
+}
+
+/// A value of that number.
+pub(crate) fn value(told: &Told, number: u64) -> Result<Value, Fault> {
+    let told = Arc::try_clone(told)?;
+    Ok(Value { told, number })
+}
+
+/// A new object of that number.
+pub(crate) fn object<'t, D: Domain<Value = Value>>(
+    desk: &'t Desk<D>,
+    told: &Told,
+    number: u64,
+) -> Result<Shared<'t, D>, Fault> {
+    Ok(desk.make([number, 20, 30, 40], value(told, number)?)?)
+}
+
+/// How many values ended.
+pub(crate) fn ended(told: &Told) -> u32 {
+    told.count.load(Ordering::SeqCst)
+}
+
+/// In which order.
+pub(crate) fn order(told: &Told) -> u64 {
+    told.order.load(Ordering::SeqCst)
+}
+
+/// A row: what is to be so. Where it isn't, its number is told.
+pub(crate) fn row(number: u32, holds: bool) -> Result<(), Fault> {
+    if holds {
+        Ok(())
+    } else {
+        Err(Fault::Other(number))
+    }
+}
+
+/// A row of a number that is to be another.
+pub(crate) fn same(number: u32, is: u64, wanted: u64) -> Result<(), Fault> {
+    row(number, is == wanted)
+}
+
+/// A row of a call that is to be refused so.
+pub(crate) fn refused<T: Drop>(
+    number: u32,
+    is: Result<T, Fault>,
+    wanted: Fault,
+) -> Result<(), Fault> {
+    match is {
+        Ok(_) => Err(Fault::Other(number)),
+        Err(why) => row(number, why == wanted),
+    }
+}
+
+/// Nothing has ended yet.
+pub(crate) fn begin(told: &Told) {
+    told.count.store(0, Ordering::SeqCst);
+    told.order.store(0, Ordering::SeqCst);
+}

@@ -1,0 +1,94 @@
+//! New objects.
+
+use crate::desk::Desk;
+use crate::domain::Domain;
+use crate::fault::call::Call;
+use crate::fault::{Fault, Refused};
+use crate::shared::Shared;
+use handle_table::Returned;
+
+impl<D: Domain> Desk<D> {
+    /// A new object in a vacant slot.
+    #[inline(always)]
+    fn made(
+        &self,
+        fields: [u64; 4],
+        enabled: bool,
+        value: D::Value,
+    ) -> Result<Shared<'_, D>, Refused<D::Value>> {
+        let mut table = match self.open(Call::Make) {
+            Ok(table) => table,
+            Err(why) => return Err(Refused { why, back: value }),
+        };
+        let to = match self.take_slot(Call::Make) {
+            Ok(to) => to,
+            Err(why) => return Err(Refused { why, back: value }),
+        };
+        let came = table.make_in(to, fields, enabled, value);
+        drop(table);
+        self.made_in(to, came)
+    }
+
+    /// The owner that a make brought into a slot.
+    #[inline(always)]
+    fn made_in(
+        &self,
+        to: usize,
+        came: Result<(), Returned<D::Value>>,
+    ) -> Result<Shared<'_, D>, Refused<D::Value>> {
+        match came {
+            Ok(()) => Ok(Shared { desk: self, at: to }),
+            Err(returned) => {
+                self.give_slot(to);
+                let Returned { why, back } = returned;
+                let why = Fault::of(Call::Make, why);
+                Err(Refused { why, back })
+            }
+        }
+    }
+
+    /// A new object with four fields and a value, in C++ `make_shared` ([util.smartptr.shared.create]). A refused make
+    /// hands the value back: `Refused(Make, Limit)` at the desk's allowance, and `Refused(Make, Full)` where no vacant
+    /// block is left but in other desks' reserves, of `RESERVE` each at most.
+    #[inline(always)]
+    pub fn make(
+        &self,
+        fields: [u64; 4],
+        value: D::Value,
+    ) -> Result<Shared<'_, D>, Refused<D::Value>> {
+        self.made(fields, false, value)
+    }
+
+    /// The same with four fields of 0, in Rust `Arc::new`.
+    #[inline(always)]
+    pub fn new(&self, value: D::Value) -> Result<Shared<'_, D>, Refused<D::Value>> {
+        self.made([0; 4], false, value)
+    }
+
+    /// The same as `make` of an object that gives pointers to itself, in C++ one whose class derives from
+    /// `enable_shared_from_this` ([util.smartptr.enab]).
+    #[inline(always)]
+    pub fn make_enabled(
+        &self,
+        fields: [u64; 4],
+        value: D::Value,
+    ) -> Result<Shared<'_, D>, Refused<D::Value>> {
+        self.made(fields, true, value)
+    }
+
+    /// An owner of a null pointer, with a value for its end, in C++ `shared_ptr(nullptr, d)`
+    /// ([util.smartptr.shared.const]). Refused as `make` is.
+    pub fn make_null(&self, value: D::Value) -> Result<Shared<'_, D>, Refused<D::Value>> {
+        let mut table = match self.open(Call::Make) {
+            Ok(table) => table,
+            Err(why) => return Err(Refused { why, back: value }),
+        };
+        let to = match self.take_slot(Call::Make) {
+            Ok(to) => to,
+            Err(why) => return Err(Refused { why, back: value }),
+        };
+        let came = table.make_null_in(to, value);
+        drop(table);
+        self.made_in(to, came)
+    }
+}

@@ -1,0 +1,254 @@
+//! A program whose first thread has a desk too, and starts teams one after another.
+ghost use Rattle.std.specs.Prelude.{◌≡◌, IfOk};
+ghost use Rattle.control_word.specs.Layout.{IsWithinLimits};
+ghost use Rattle.pointers.specs.Programs.{Ends};
+
+use crate::desk::{Desk, linked};
+use crate::domain::{Domain, Lent};
+use crate::fault::Fault;
+use crate::fault::call::Call;
+use crate::program::not_run::NotRun;
+use crate::program::team::{SPARE, Team};
+use crate::program::{Failed, Program, Ran, note};
+use crate::shared::Shared;
+use control_block::census::Census;
+use control_word::{Refusal, Shape};
+use handle_table::{self, HandleTable, Home, Manned};
+use std::alloc::Global;
+use std::sync::{Mutex, Wait};
+use std::thread::Threads;
+
+/// A program that its first thread leads: it has a desk of its own, and starts teams one after another.
+pub trait Leader<V: Drop, R: Threads + Wait + Sync>: Program<V, R> {
+    /// What the first thread does before the first team, between two, and after the last one. It answers the next team,
+    /// or none where there is no more to do; a fault ends the program too. `before` says how many workers of the team
+    /// before worked, and why they were fewer than were asked for, where they were. What is in `kept` at its return is
+    /// there again at the next call; all other pointers let go.
+    fn lead<'t, D: Domain<Value = V>>(
+        &mut self,
+        rt: &R,
+        before: Option<Manned>,
+        desk: &'t Desk<D>,
+        kept: &mut Vec<Shared<'t, D>>,
+    ) -> Result<Option<Team>, Fault>;
+}
+
+/// A leader at desks.
+struct Lead<'p, P> {
+    alloc: Global,
+    leader: &'p mut P,
+    slots: usize,
+    /// The slots of the pointers that the leader kept.
+    kept: Vec<usize, Global>,
+    /// How many handles a team may have together.
+    room: u64,
+    team: handle_table::Team,
+    workers: usize,
+    fewer: Option<Refusal>,
+    fault: Option<Fault>,
+    failed: Mutex<Vec<Failed, Global>>,
+}
+
+/// All slots but those that are kept are vacant, and the pointers that are kept.
+fn regained<'t, D: Domain>(
+    alloc: Global,
+    desk: &'t Desk<D>,
+    kept: &mut Vec<usize, Global>,
+) -> Result<Vec<Shared<'t, D>>, Fault> {
+    let mut pointers = Vec::with_capacity(alloc, kept.len())?;
+    desk.leave_out(kept);
+    for _ in 0..kept.len() {
+        let Some(at) = kept.pop() else {
+            break;
+        };
+        pointers.push(Shared { desk, at })?;
+    }
+    Ok(pointers)
+}
+
+/// The slots of pointers that are kept; where there is no memory for one, it lets go.
+fn put_down<D: Domain>(pointers: Vec<Shared<'_, D>>, kept: &mut Vec<usize, Global>) {
+    for pointer in pointers {
+        if kept.push(pointer.at).is_ok() {
+            pointer.into_slot();
+        }
+    }
+}
+
+impl<'p, V: Drop, R: Threads + Wait + Sync, P: Leader<V, R> + Sync> handle_table::Program<V, R>
+    for Lead<'p, P> {
+    fn work<H: Home>(&self, rt: &R, number: usize, table: &mut HandleTable<'_, V, H>) {
+        let done = match linked(self.alloc, self.team.slots) {
+            Some(links) => {
+                let desk = Desk::over(Lent::new(table), links);
+                let done = self.leader.work(rt, number, &desk);
+                drop(desk.into_table());
+                done
+            }
+            None => Err(Fault::Memory),
+        };
+        note(rt, &self.failed, number, done);
+    }
+}
+
+impl<'p, P> Lead<'p, P> {
+    /// How the last team was manned.
+    fn told(&mut self, before: Option<Manned>) {
+        if let Some(manned) = before {
+            self.workers = self.workers.saturating_add(manned.workers);
+            self.fewer = self.fewer.or(manned.fewer);
+        }
+    }
+
+    /// The next team, where the domain has room for it; else why there is none.
+    fn next(&mut self, next: Result<Option<Team>, Fault>) -> Option<handle_table::Team> {
+        match next {
+            Ok(Some(team)) if team.handles() <= self.room => {
+                self.team = team.below();
+                Some(self.team)
+            }
+            Ok(Some(_)) => {
+                self.fault = Some(Fault::Refused(Call::Team, Refusal::Limit));
+                None
+            }
+            Ok(None) => None,
+            Err(why) => {
+                self.fault = Some(why);
+                None
+            }
+        }
+    }
+}
+
+impl<'p, V: Drop, R: Threads + Wait + Sync, P: Leader<V, R> + Sync> handle_table::Leader<V, R>
+    for Lead<'p, P> {
+    fn lead<H: Home>(
+        &mut self,
+        rt: &R,
+        before: Option<Manned>,
+        table: &mut HandleTable<'_, V, H>,
+    ) -> Option<handle_table::Team> {
+        self.told(before);
+        let Some(links) = linked(self.alloc, self.slots) else {
+            self.fault = Some(Fault::Memory);
+            return None;
+        };
+        let desk = Desk::over(Lent::new(table), links);
+        let next = match regained(self.alloc, &desk, &mut self.kept) {
+            Ok(pointers) => {
+                let mut pointers = pointers;
+                let next = self.leader.lead(rt, before, &desk, &mut pointers);
+                put_down(pointers, &mut self.kept);
+                next
+            }
+            Err(why) => Err(why),
+        };
+        let _ = desk.shelve();
+        drop(desk.into_table());
+        self.next(next)
+    }
+}
+
+/// A domain is opened, and the first thread leads at a desk of its own with so many pointers: between two calls of
+/// `lead` a team works, as in `run`. Where no further team is started all pointers let go, what is left to end does so,
+/// and the domain is closed. A team that the domain has no room for ends the program with the fault
+/// `Refused(Team, Limit)`, and none of its workers works. `Ran::failed` tells the faults of all teams, and last that of
+/// the leader, as of worker `usize::MAX`.
+pub fn run_leader<V: Drop + Send, R: Threads + Wait + Sync, P: Leader<V, R> + Sync>(
+    rt: &R,
+    alloc: Global,
+    shape: Shape,
+    pointers: u32,
+    leader: &mut P,
+) -> Result<Ran<V>, NotRun>
+    ensures closed { IfOk result (λ r. Ends V shape r.census) }
+    ensures within { IfOk result (λ _. IsWithinLimits shape) }
+{
+    let alone = Team {
+        workers: 1,
+        pointers,
+    };
+    if let Some(why) = alone.misfit(&shape) {
+        return Err(why);
+    }
+    let below = alone.below();
+    let Ok(kept) = Vec::with_capacity(alloc, below.slots) else {
+        return Err(NotRun::Memory);
+    };
+    let own = u64::from(pointers).saturating_add(u64::from(SPARE));
+    let mut lead = Lead {
+        alloc,
+        leader,
+        slots: below.slots,
+        kept,
+        room: u64::from(shape.allowance).saturating_sub(own),
+        team: below,
+        workers: 0,
+        fewer: None,
+        fault: None,
+        failed: Mutex::new(Vec::new(alloc)),
+    };
+    match handle_table::run_leader(rt, alloc, shape, below.slots, &mut lead) {
+        Ok(census) => Ok(lead.ran(census)),
+        Err(why) => {
+            lead.end();
+            Err(NotRun::of(why))
+        }
+    }
+}
+
+impl<'p, P> Lead<'p, P> {
+    /// What is told of a run.
+    fn ran<V: Drop>(self, census: Census<V>) -> Ran<V>
+        ensures { result.census ≡ census }
+    {
+        let Lead {
+            alloc: _,
+            leader: _,
+            slots: _,
+            kept,
+            room: _,
+            team: _,
+            workers,
+            fewer,
+            fault,
+            failed,
+        } = self;
+        drop(kept);
+        let failed = with_leader(failed, fault);
+        Ran {
+            census,
+            workers,
+            fewer,
+            failed,
+        }
+    }
+
+    /// Nothing is told of it.
+    fn end(self) {
+        let Lead {
+            alloc: _,
+            leader: _,
+            slots: _,
+            kept,
+            room: _,
+            team: _,
+            workers: _,
+            fewer: _,
+            fault: _,
+            failed,
+        } = self;
+        drop(kept);
+        drop(failed);
+    }
+}
+
+/// The workers' faults, and last that of the leader.
+fn with_leader(failed: Mutex<Vec<Failed, Global>>, fault: Option<Fault>) -> Vec<Failed, Global> {
+    let mut failed = failed.into_inner();
+    if let Some(why) = fault {
+        let worker = usize::MAX;
+        let _ = failed.push(Failed { worker, why });
+    }
+    failed
+}
