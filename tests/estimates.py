@@ -28,30 +28,35 @@ def table():
 
 
 class Plan:
-    """What is to be done, in minutes by the clock, and how much of it is."""
+    """What is to be done, in processor minutes, and how much of it is."""
 
     def __init__(self, crates, stages):
         rows, self.start = table(), time.monotonic()
         middle = [statistics.median(column) for column in zip(*rows.values())]
         after = sum(rows.pop(LAST, [5.0]))
         self.left = {(crate, part): it for crate in crates for part, it in zip(PARTS, rows.get(crate, middle))}
-        self.left |= {(stage, LAST): after / stages for stage in range(stages)}
         self.lanes, self.begun, self.all = lanes(), {}, sum(self.left.values())
+        # (these run one after another, and some of them on one processor)
+        self.after = {stage: after / stages / min(2, self.lanes) for stage in range(stages)}
 
     def done(self, *parts):
-        """Notes that these parts are over."""
+        """Notes that these parts of crates are over."""
         for it in parts:
             self.left.pop(it, None)
+
+    def stage_done(self, number):
+        """Notes that a stage is over that runs once all is proved."""
+        self.after.pop(number, None)
 
     def edits_begin(self, crate):
         """A crate's edits have no line at their end, so they are taken to go on at one processor."""
         self.begun[crate, "edits"] = time.monotonic()
 
     def minutes(self):
-        """How many minutes are left, at the pace so far once a tenth is done."""
+        """How many minutes by the clock are left; those of proofs at the pace so far once a tenth is done."""
         now = time.monotonic()
         going = sum(min(self.left.get(it, 0), (now - since) / 60) for it, since in self.begun.items())
         left = sum(self.left.values()) - going
         done = self.all - left
         pace = (now - self.start) / 60 * self.lanes / done if done > self.all / 10 else 1
-        return left / self.lanes * pace
+        return left / self.lanes * pace + sum(self.after.values())

@@ -17,7 +17,8 @@ def lines(each):
 
 def case(words, script, stdout='', stderr='', status=0, **others):
     """The files of a case, by how their names end."""
-    return {'args': lines(words), 'script': script, 'stdout': stdout, 'stderr': stderr, 'status': f'{status}\n', **others}
+    answer = {'stdout': stdout, 'stderr': stderr, 'status': f'{status}\n'}
+    return {'args': lines(words), 'script': script, **answer, **others}
 
 
 def counted(statement, count, head=''):
