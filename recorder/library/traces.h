@@ -1,0 +1,18 @@
+// Call stacks, each kept once.
+#pragma once
+#include "base.h"
+
+namespace recorder {
+
+struct Trace {
+  int count;
+  void* frames[1];  // so many of them, the newest first
+};
+
+constexpr int MOST_FRAMES = 64;
+
+extern int frames_wanted;  // how many are taken at each allocation; 0 for none
+
+const Trace* trace_here();  // null where none are wanted
+
+}  // namespace recorder
