@@ -10,7 +10,8 @@ from pathlib import Path
 
 HERE = Path(__file__).resolve().parent
 OF_THE_SYSTEM = '/lib/', '/lib64/', '/usr/lib/'
-NOT_OURS = re.compile(r'/include/c\+\+/|librecorder|/recorder/library/|sptr_recorder|^\?\?')
+NOT_OURS = re.compile(r'/include/c\+\+/|/recorder/library/|sptr_recorder|^\?\?')
+OF_THE_LIBRARY = 'std::', '__gnu_cxx::', 'sptr_recorder', 'operator new', '__cxx_global_var_init'
 
 
 class Answers:
@@ -61,23 +62,42 @@ def ask_about(record):
     return answers
 
 
-def without_arguments(function):
-    """A function's name without the types of its arguments."""
-    name = re.sub(r'( const| volatile| noexcept|\[abi:\w+\]| \[clone .*\])+$', '', function)
-    depth, at = 0, len(name)
-    while name.endswith(')') and at > 0:
-        at -= 1
-        depth += (name[at] == ')') - (name[at] == '(')
-        if depth == 0:
-            break
-    return name[:at] if not name[:at].endswith('operator') else name
+def at_depth(text):
+    """Each place of a text with how deep in brackets it lies."""
+    depth = 0
+    for at, letter in enumerate(text):
+        depth -= letter in ')}>' and not text.endswith('-', 0, at)
+        yield at, depth
+        depth += letter in '({<'
+
+
+def own_name(function):
+    """A function's name without its result, its arguments and what follows these."""
+    name = re.sub(r'\boperator(\(\)|[<>=!+*/%&|^~-]+)', lambda it: 'operator' + '\1' * len(it[1]), function)
+    name = name.replace('(anonymous namespace)', '\2').replace('{lambda', '{\3')
+    outer = [at for at, depth in at_depth(name) if depth == 0]
+    end = next((at for at in outer if name[at] == '('), len(name))
+    begin = max((at + 1 for at in outer if at < end and name[at] == ' ' and not name[:at].endswith('operator')), default=0)
+    found = function_part(name[begin:end], function)
+    return found.replace('\2', '(anonymous namespace)').replace('{\3', '{lambda')
+
+
+def function_part(name, function):
+    """The name with its operator written again."""
+    operator = re.search(r'operator(\(\)|[<>=!+*/%&|^~-]+)', function)
+    return re.sub(r'\x01+', lambda it: operator[1] if operator else '', name)
+
+
+def symbolizer():
+    """What tells of addresses: LLVM's where it is there, as binutils' reads clang's inlined calls wrongly."""
+    llvm = shutil.which('llvm-symbolizer')
+    return [llvm, '--output-style=GNU', '-C', '-f', '-i', '-a', '-e'] if llvm else ['addr2line', '-Cfia', '-e']
 
 
 def lines_of(path, addresses):
     """Of each address in a module: the functions there and their places, the innermost first."""
-    text = '\n'.join(f'{it:#x}' for it in addresses)
-    command = ['addr2line', '-Cfia', '-e', path]
-    ran = subprocess.run(command, input=text, capture_output=True, text=True, errors='replace')
+    text = ''.join(f'{it:#x}\n' for it in addresses)
+    ran = subprocess.run([*symbolizer(), path], input=text, capture_output=True, text=True, errors='replace')
     found, lines = {}, ran.stdout.split('\n')
     at = None
     for line in lines:
@@ -93,6 +113,14 @@ def short_path(place):
     path, _, line = place.split(' (')[0].rpartition(':')
     below = os.path.relpath(path) if path.startswith('/') else path
     return f'{path if below.startswith("..") else below}:{line}'
+
+
+def first_place(frames):
+    """The first with a place that isn't the library's, else the first function alone."""
+    for place, name in frames:
+        if not NOT_OURS.search(place):
+            return f'{short_path(place)} in {name}'
+    return frames[0][1] if frames and frames[0][1] != '??' else ''
 
 
 def name_places(record):
@@ -113,7 +141,6 @@ def name_places(record):
     for block in record.blocks:
         key = tuple(block.frames)
         if key not in places:
-            every = [it for frame in key for it in said.get(frame - 1, [])]
-            ours = [(place, function) for place, function in every if not NOT_OURS.search(place)]
-            places[key] = f'{short_path(ours[0][0])} in {without_arguments(ours[0][1])}' if ours else ''
+            every = [(place, own_name(it)) for frame in key for place, it in said.get(frame - 1, [])]
+            places[key] = first_place([it for it in every if not it[1].startswith(OF_THE_LIBRARY)])
         block.made_at = places[key]

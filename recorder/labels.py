@@ -37,14 +37,18 @@ def label_in_object(place, block, answers):
     return f'{short(block.name)} at byte {place.offset}', declared
 
 
+def is_beyond(block, offset, answers):
+    return block.in_pool and block.kind != 'array' and offset >= answers.sizes.get(block.name, block.size)
+
+
 def drop_beyond(record, answers):
     """In a pool an object is as large as its type: what lies beyond is somebody else's."""
     for it in record.handles + record.raw_pointers:
         if it.place.kind != 'object' or it.place.inner >= 0:
             continue
-        block = record.blocks[it.place.number]
-        if block.in_pool and block.kind != 'array' and it.place.offset >= answers.sizes.get(block.name, block.size):
+        if is_beyond(record.blocks[it.place.number], it.place.offset, answers):
             it.place = it.place._replace(kind='heap', number=0, offset=0)
+    record.raw_pointers = [it for it in record.raw_pointers if not is_beyond(record.blocks[it.to], it.to_byte, answers)]
 
 
 class Counts:

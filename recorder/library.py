@@ -3,11 +3,12 @@ import fcntl
 import hashlib
 import os
 import subprocess
+from concurrent.futures import ThreadPoolExecutor
 from pathlib import Path
 
 HERE = Path(__file__).resolve().parent
 SOURCES = HERE / 'library'
-FLAGS = ['-std=c++17', '-O2', '-g1', '-fPIC', '-shared', '-fvisibility=hidden', '-fno-exceptions', '-pthread']
+FLAGS = ['-std=c++17', '-O2', '-g1', '-fPIC', '-fvisibility=hidden', '-fno-exceptions', '-pthread']
 
 
 def home():
@@ -19,17 +20,13 @@ def home():
     return folder
 
 
-def compiler():
-    return os.environ.get('CXX') or 'g++'
-
-
 def sources():
     return sorted(SOURCES.glob('*.cc'))
 
 
 def key():
     """What the built library depends on."""
-    made_of = hashlib.sha256(' '.join([compiler(), *FLAGS]).encode())
+    made_of = hashlib.sha256(' '.join(FLAGS).encode())
     for path in sorted(SOURCES.iterdir()):
         made_of.update(path.read_bytes())
     return made_of.hexdigest()[:16]
@@ -44,7 +41,15 @@ def build():
         fcntl.flock(lock, fcntl.LOCK_EX)
         if not library.exists():
             partial = folder / 'librecorder.so.part'
-            command = [compiler(), *FLAGS, '-o', str(partial), *map(str, sources()), '-ldl']
-            subprocess.run(command, check=True)
+            objects = [folder / f'{it.stem}.o' for it in sources()]
+            with ThreadPoolExecutor(len(os.sched_getaffinity(0))) as pool:
+                list(pool.map(compile_one, sources(), objects))
+            subprocess.run(['g++', '-shared', '-pthread', '-o', partial, *objects, '-ldl'], check=True)
             partial.rename(library)
+            for it in objects:
+                it.unlink()
     return library
+
+
+def compile_one(source, to):
+    subprocess.run(['g++', *FLAGS, '-c', '-o', to, source], check=True)

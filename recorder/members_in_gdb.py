@@ -14,6 +14,10 @@ def size_of(type_):
     return type_.strip_typedefs().sizeof
 
 
+def name_of(type_):
+    return type_.name or str(type_.unqualified())
+
+
 def is_of_the_library(name):
     return name.startswith('std::') and not name.startswith(CONTAINERS_OF_MEMBERS)
 
@@ -33,10 +37,10 @@ def field_at(type_, offset):
 def member_at(type_, offset):
     """(declaring class, path, declared type) of what lies at a byte of a type."""
     type_ = type_.strip_typedefs()
-    declaring, path = str(type_.unqualified()), []
+    declaring, path = name_of(type_), []
     offset %= max(type_.sizeof, 1)  # (of an array's object)
     while True:
-        name = str(type_.unqualified())
+        name = name_of(type_)
         if is_of_the_library(name):
             return declaring, '.'.join(path), name
         if type_.code == gdb.TYPE_CODE_ARRAY:
@@ -48,8 +52,8 @@ def member_at(type_, offset):
             return declaring, '.'.join(path), name
         (it, begin), type_ = field, field[0].type.strip_typedefs()
         offset -= begin
-        if it.is_base_class and not is_of_the_library(str(type_.unqualified())) and not path:
-            declaring = str(type_.unqualified())
+        if it.is_base_class and not is_of_the_library(name_of(type_)) and not path:
+            declaring = name_of(type_)
         elif not it.is_base_class and it.name and not name.startswith(CONTAINERS_OF_MEMBERS):
             path.append(it.name)
 

@@ -46,6 +46,7 @@ class Handle:
 @dataclass
 class RawPointer:
     to: int
+    to_byte: int
     place: Place
     label: str = ''
 
@@ -83,7 +84,7 @@ def read(path):
             if kind == 'handle':
                 record.handles.append(Handle(words[0], int(words[1]), place_of(words[2:])))
             elif kind == 'raw':
-                record.raw_pointers.append(RawPointer(int(words[0]), place_of(words[1:])))
+                record.raw_pointers.append(RawPointer(int(words[0]), int(words[1]), place_of(words[2:])))
             elif kind == 'block':
                 record.blocks.append(block_of(words[1:]))
             elif kind == 'told':

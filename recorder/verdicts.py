@@ -40,6 +40,7 @@ def tell(record):
     answers = debug_information.ask_about(record)
     labels.drop_beyond(record, answers)
     labels.label_places(record, answers)
+    record.handles.sort(key=lambda it: it.place)
     counts = labels.decide_kinds(record)
     graph, numbers = owner_graph.graph_of(record, counts)
     answer = owner_graph.ask(graph)

@@ -78,6 +78,8 @@ void Snapshot::find_blocks() {
     chunk.has_blocks = true;
     block_at[blocks[number].at] = static_cast<int>(number);
   }
+  for (auto& it : blocks)
+    if (chunks[it.chunk].is_pool && !it.is_hooked) it.trace = nullptr;  // which tells of the pool's making
   for (auto& it : untyped) block_at.emplace(it.first, -it.second);
   if (!untyped.empty()) find_untyped();
 }
@@ -149,7 +151,8 @@ void Snapshot::place_object(ControlBlock& block, const std::vector<Word>& stored
     block.object_end = block.object;
     return;
   }
-  if (block.kind == ControlBlock::DELETER && chunks[chunk].from != block.object) {  // a part of something else
+  bool is_part = block.object - chunks[chunk].from > std::max<Word>(2 * WORD, chunks[chunk].alignment);
+  if (block.kind == ControlBlock::DELETER && is_part) {  // (an array may have its length before it)
     block.object_end = block.object;
     return;
   }

@@ -27,6 +27,23 @@ public:
     }
   }
 
+  // Visits the words of a region that are no part of a handle: neither the address of a control block nor the word before.
+  template <typename Visit>
+  void each_plain_word(const Region& region, Visit visit) const {
+    Word before_at = 0, before = 0;
+    auto look = [&](Word at, Word word) {
+      bool is_block = all.block_at.count(word & ~Word(1)) > 0;
+      if (before && !is_block) visit(before_at, before);
+      before_at = at;
+      before = is_block ? 0 : word;
+    };
+    each_region_word(region, look);
+    if (before) visit(before_at, before);
+  }
+
+  const std::vector<Region>& regions() const { return found; }
+
+private:
   template <typename Visit>
   void each_region_word(const Region& region, Visit visit) const {
     if (region.holder.kind == Holder::AREA && region.chunk < 0) return each_word(all.areas[region.holder.number], visit);
@@ -36,9 +53,6 @@ public:
     });
   }
 
-  const std::vector<Region>& regions() const { return found; }
-
-private:
   enum Round { CONTAINERS, BEGINNINGS, ANY };
 
   void add_first();
@@ -74,7 +88,7 @@ void Spreading::spread(Round round, Holder::Kind kind) {
   for (std::size_t at = 0; at < found.size(); at++) {
     if (found[at].holder.kind != kind) continue;
     Region region = found[at];
-    each_region_word(region, [&](Word where, Word word) {
+    each_plain_word(region, [&](Word where, Word word) {
       int chunk = all.chunk_of(word);
       if (chunk < 0 || all.chunks[chunk].holder.kind != Holder::NOBODY) return;
       if (leads(round, region, where, word, all.chunks[chunk])) claim(region, where, chunk);
@@ -84,9 +98,14 @@ void Spreading::spread(Round round, Holder::Kind kind) {
 
 namespace {
 
+// Whether a deque's iterator begins here: it stands at the chunk's beginning, and ends with where the deque keeps that.
+bool is_deque(const Word* words, const Snapshot& all) {
+  if (words[0] != words[1] || words[3] % WORD || all.chunk_of(words[3]) < 0) return false;
+  return *reinterpret_cast<const Word*>(words[3]) == words[0];
+}
+
 // The end of what is filled where three pointers of a vector begin here; 0 where they don't.
-Word filled_by_vector(Word at, const LiveChunk& chunk) {
-  auto words = reinterpret_cast<const Word*>(at);
+Word filled_by_vector(const Word* words, const LiveChunk& chunk) {
   Word rest = chunk.to - chunk.from >= 1 << 17 ? 8192 : 48;  // what malloc gives more than is asked for
   bool is_vector = words[0] == chunk.from && words[1] >= words[0] && words[2] >= words[1] && words[2] > words[0] &&
                    words[2] <= chunk.to && chunk.to - words[2] <= rest;
@@ -110,8 +129,10 @@ bool Spreading::leads(Round round, const Region& region, Word at, Word word, Liv
   if (round == BEGINNINGS) return true;
   bool is_copied = region.holder.kind == Holder::AREA && region.chunk < 0 && !all.areas[region.holder.number].copy.empty();
   if (is_copied) return false;
+  auto words = reinterpret_cast<const Word*>(at);
+  if (at + 4 * WORD <= region.to && is_deque(words, all)) return true;
   if (at + 3 * WORD <= region.to)
-    if (Word filled = filled_by_vector(at, chunk)) return chunk.filled = filled, true;
+    if (Word filled = filled_by_vector(words, chunk)) return chunk.filled = filled, true;
   return points_back(chunk, at);
 }
 
@@ -132,18 +153,16 @@ void Snapshot::find_holders() {
 }
 
 void Snapshot::find_raw_pointers() {
-  std::vector<Word> in_handles;
-  for (auto& it : handles) in_handles.push_back(it.at - WORD), in_handles.push_back(it.at);
-  std::sort(in_handles.begin(), in_handles.end());
-  std::set<std::pair<Holder, int>> seen;
+  std::set<std::pair<Holder, Word>> seen;
   Spreading spreading(*this);
   auto look = [&](const Region& region) {
-    spreading.each_region_word(region, [&](Word at, Word word) {
+    spreading.each_plain_word(region, [&](Word at, Word word) {
       if (chunk_of(word) < 0) return;
       Holder to = holder_of(word);
       if (to.kind != Holder::OBJECT || to == region.holder || !blocks[to.number].is_live()) return;
-      if (std::binary_search(in_handles.begin(), in_handles.end(), at)) return;
-      if (seen.insert({region.holder, to.number}).second) raw_pointers.push_back({at, to.number});
+      auto& object = blocks[to.number];
+      Word told = chunks[object.chunk].is_pool ? word : object.at;  // (where a pool's objects end isn't known here)
+      if (seen.insert({region.holder, told}).second) raw_pointers.push_back({at, to.number, word});
     });
   };
   for (auto& region : spreading.regions()) look(region);

@@ -109,7 +109,7 @@ void write_record(const char* path, const Snapshot& all, const char* when) {
     out.say_text("");
   }
   for (auto& it : all.raw_pointers) {
-    out.say("raw %d", it.to);
+    out.say("raw %d %zd", it.to, std::ptrdiff_t(it.word - all.blocks[it.to].object));
     write_place(out, all, it.at);
     out.say_text("");
   }

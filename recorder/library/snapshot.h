@@ -69,6 +69,7 @@ struct Handle {
 struct RawPointer {
   Word at;
   int to;
+  Word word;
 };
 
 class Snapshot {
