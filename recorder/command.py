@@ -1,5 +1,6 @@
 """The command line of ./record."""
 import argparse
+import gc
 import os
 import signal
 import sys
@@ -74,7 +75,8 @@ class Reports:
         if self.options.dot:
             Path(self.options.dot).write_text(drawing.dot(told))
         if self.options.keep:
-            (Path(self.folder) / f'{path.name}.graph').write_text(told.graph.text())
+            Path(f'{path}.graph').write_text(told.graph.text())
+            Path(f'{path}.map').write_text(report.map_text(told))
         return None
 
     def refuse(self, why):
@@ -113,6 +115,7 @@ def run(options, folder, path):
 
 
 def main():
+    gc.disable()  # all that is read is needed to the end
     options = parse(sys.argv[1:])
     if options.flags:
         print(hook_headers.flags())

@@ -55,37 +55,47 @@ class Counts:
     """The handles on one block, beside what it counts itself."""
 
     def __init__(self, block, handles):
-        self.block, self.handles = block, handles
+        self.handles = handles
+        self.owners_wanted, self.weaks_wanted = block.uses, block.weaks - block.is_live
+        self.count()
 
-    def of(self, kind):
-        return [it for it in self.handles if it.kind == kind]
-
-    @property
-    def owners_missing(self):
-        return self.block.uses - len(self.of('owner'))
-
-    @property
-    def weaks_missing(self):
-        return self.block.weaks - self.block.is_live - len(self.of('weak'))
+    def count(self):
+        self.owners_missing, self.weaks_missing, self.open = self.owners_wanted, self.weaks_wanted, 0
+        for it in self.handles:
+            if it.kind == 'owner':
+                self.owners_missing -= 1
+            elif it.kind == 'weak':
+                self.weaks_missing -= 1
+            else:
+                self.open += 1
 
     @property
     def are_met(self):
-        return not self.owners_missing and not self.weaks_missing and not self.of('either')
+        return not (self.owners_missing or self.weaks_missing or self.open)
 
     def decide(self):
-        """What is open is all of one kind where the other is found already, or the numbers say so."""
-        open_ = self.of('either')
-        if open_ and self.weaks_missing <= 0 and self.owners_missing > 0:
-            return set_kind(open_, 'owner')
-        if open_ and self.owners_missing <= 0 and self.weaks_missing > 0:
-            return set_kind(open_, 'weak')
-        return False
+        """What is open is all of one kind where the other is found already."""
+        if self.weaks_missing <= 0 < self.owners_missing:
+            self.set_open('owner')
+        elif self.owners_missing <= 0 < self.weaks_missing:
+            self.set_open('weak')
+
+    def set_open(self, kind):
+        for it in self.handles:
+            if it.kind == 'either':
+                it.kind = kind
+        self.count()
+
+    def drop(self, kind, excess):
+        """Drops so many of a kind that lie in statics themselves."""
+        for it in [it for it in self.handles if it.kind == kind and is_in_static(it.place)][: max(excess, 0)]:
+            it.kind = 'old'
+            self.handles.remove(it)
+        self.count()
 
 
-def set_kind(handles, kind):
-    for it in handles:
-        it.kind = kind
-    return bool(handles)
+def is_in_static(place):
+    return place.kind in ('static', 'thread-local') and place.inner < 0
 
 
 def kind_by_type(declared):
@@ -107,43 +117,43 @@ def decide_kinds(record):
     for it in record.handles:
         on[it.block].append(it)
     counts = [Counts(block, on[number]) for number, block in enumerate(record.blocks)]
-    drop_old(record, counts)
-    while any([it.decide() for it in counts]) or by_declaration(record):
-        pass
-    drop_old(record, counts)
+    if record.when == 'exit':
+        drop_old(counts)
+    known = collections.defaultdict(set)
+    undecided = counts
+    while True:
+        for it in undecided:
+            it.decide()
+        undecided = [it for it in undecided if it.open]
+        if not undecided or not by_declaration(record, undecided, known):
+            break
+    if record.when == 'exit':
+        drop_old(it for it in counts if not it.are_met)
+    record.handles = [it for it in record.handles if it.kind != 'old']
     return counts
 
 
-def by_declaration(record):
-    """Decides by declared types, and by what other handles in the same member are."""
-    known = collections.defaultdict(set)
+def by_declaration(record, undecided, known):
+    """Decides by declared types, and by what other handles in the same member are. Returns whether it decided any."""
     for it in record.handles:
         if it.kind in ('owner', 'weak'):
             known[place_key(it, record)].add(it.kind)
     changed = False
-    for it in record.handles:
-        if it.kind == 'either':
-            same = known[place_key(it, record)]
-            kind = kind_by_type(it.declared)
-            it.kind = same.pop() if kind == 'either' and len(same) == 1 else kind
-            changed |= it.kind != 'either'
+    for counts in undecided:
+        for it in counts.handles:
+            if it.kind == 'either':
+                same = known[place_key(it, record)]
+                kind = kind_by_type(it.declared)
+                it.kind = next(iter(same)) if kind == 'either' and len(same) == 1 else kind
+                changed |= it.kind != 'either'
+        counts.count()
     return changed
 
 
-def drop_old(record, counts):
+def drop_old(counts):
     """After the destructors of statics these keep their old bytes: where more handles are found than a block counts, those
     in statics are no handles any more."""
-    if record.when != 'exit':
-        return
     for it in counts:
-        drop_excess(it, it.handles, -it.owners_missing - it.weaks_missing + len(it.of('either')))
-        drop_excess(it, it.of('owner'), -it.owners_missing)
-        drop_excess(it, it.of('weak'), -it.weaks_missing)
-    record.handles = [it for it in record.handles if it.kind != 'old']
-
-
-def drop_excess(counts, handles, excess):
-    in_statics = [it for it in handles if it.place.kind in ('static', 'thread-local') and it.place.inner < 0]
-    for it in in_statics[: max(excess, 0)]:
-        it.kind = 'old'
-        counts.handles.remove(it)
+        it.drop('either', it.open - max(it.owners_missing, 0) - max(it.weaks_missing, 0))
+        it.drop('owner', -it.owners_missing)
+        it.drop('weak', -it.weaks_missing)

@@ -1,5 +1,6 @@
 """The graph of owners, and its answer: by `sptr owners` where that is built, else by this folder's own search."""
 import collections
+import functools
 import subprocess
 from dataclasses import dataclass, field
 from pathlib import Path
@@ -39,14 +40,12 @@ class Knot:
 @dataclass
 class Answer:
     verdicts: dict = field(default_factory=dict)
+    leaked: set = field(default_factory=set)
     knots: list = field(default_factory=list)
     is_proved: bool = False
 
-    @property
-    def leaked(self):
-        return {number for number, verdict in self.verdicts.items() if verdict == 'leaked'}
 
-
+@functools.lru_cache(maxsize=None)
 def plain(label):
     """A label of the bytes that the graph's text may have."""
     text = ''.join(it if '!' <= it <= '~' else ' ' if it == ' ' else '?' for it in label)
@@ -56,17 +55,20 @@ def plain(label):
 def read_answer(text, labels):
     answer = Answer()
     for line in text.splitlines():
-        words = line.split()
-        if words[0] == 'object':
-            answer.verdicts[int(words[1])] = words[2]
-        elif words[0] == 'knot':
-            answer.knots.append(Knot([int(it) for it in words[1:]]))
-        elif words[0] in ('tie', 'cut'):
-            _, a, b, *label = line.strip().split(' ', 3)
+        word, rest = line.lstrip().split(' ', 1)
+        if word == 'object':
+            number, verdict = rest.split(' ', 2)[:2]
+            answer.verdicts[int(number)] = verdict
+            if verdict == 'leaked':
+                answer.leaked.add(int(number))
+        elif word == 'knot':
+            answer.knots.append(Knot([int(it) for it in rest.split()]))
+        elif word in ('tie', 'cut'):
+            a, b, label = rest.split(' ', 2)
             knot = answer.knots[-1]
-            (knot.ties if words[0] == 'tie' else knot.cuts).append((int(a), int(b), *(label or [''])))
-        elif words[0] == 'weaken':
-            answer.knots[-1].weakens.append(labels_in(line.strip().partition(' ')[2], labels))
+            (knot.ties if word == 'tie' else knot.cuts).append((int(a), int(b), label))
+        elif word == 'weaken':
+            answer.knots[-1].weakens.append(labels_in(rest, labels))
     return answer
 
 

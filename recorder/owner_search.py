@@ -10,23 +10,23 @@ MOST_LABELS = 20  # of a knot, for pairs of them to be tried
 
 
 def read(text):
-    """(labels of objects by number, lines of handles in their order). A handle is (kind, from, to, label)."""
+    """(labels of objects by number, handles in their order). A handle is (kind, from, to, label), from 0 where it is a
+    root."""
     objects, handles = {}, []
     for number, line in enumerate(text.split('\n'), 1):
-        words = line.split('#')[0].split() if line.lstrip().startswith('#') else line.split()
-        if not words:
+        kind, *rest = line.split(None, 1) or ['']
+        numbers = {'object': 1, 'root': 1, 'owner': 2, 'weak': 2}.get(kind)
+        if not kind or kind.startswith('#'):
             continue
-        count = {'object': 1, 'owner': 2, 'weak': 2, 'root': 1}.get(words[0])
-        if count is None or len(words) < 1 + count:
+        if numbers is None or not rest:
             raise ValueError(f'line {number}')
-        numbers = [int(it) for it in words[1 : 1 + count]]
-        label = line.strip().split(None, count + 1)[count + 1 :]
-        label = label[0] if label else ''
-        if words[0] == 'object':
-            objects[numbers[0]] = label
+        words = rest[0].rstrip().split(None, numbers)
+        if kind == 'object':
+            objects[int(words[0])] = words[1] if len(words) > 1 else ''
+        elif kind == 'root':
+            handles.append((kind, 0, int(words[0]), words[1]))
         else:
-            holder = numbers[0] if count == 2 else 0
-            handles.append((words[0], holder, numbers[-1], label))
+            handles.append((kind, int(words[0]), int(words[1]), words[2]))
     return objects, handles
 
 
@@ -119,14 +119,14 @@ def labels_to_weaken(objects, ties):
 def knot_lines(objects, ties, is_owned, with_cuts):
     yield f'knot {" ".join(map(str, objects))}'
     for a, b, label in ties:
-        yield f'  tie {a} {b} {label}'.rstrip()
+        yield f'  tie {a} {b} {label}'
     if is_owned:
         return
     for at, (a, b, label) in enumerate(ties if with_cuts else []):
         if all_end(objects, ties[:at] + ties[at + 1 :]):
-            yield f'  cut {a} {b} {label}'.rstrip()
+            yield f'  cut {a} {b} {label}'
     for labels in labels_to_weaken(objects, ties):
-        yield f'  weaken {" and ".join(labels)}'.rstrip()
+        yield f'  weaken {" and ".join(labels)}'
 
 
 def knots(leaked, owners):
@@ -153,8 +153,7 @@ def answer(text, with_cuts=True):
         if kind != 'weak':
             owned_by[to].append(holder)
     ended = ended_objects(objects, owned_by)
-    handles = [it for it in handles if it[1] not in ended and it[2] not in ended]
-    owners = [it[1:] for it in handles if it[0] == 'owner']
+    owners = [it[1:] for it in handles if it[0] == 'owner' and it[1] not in ended]
     owns = collections.defaultdict(list)
     for a, b, _ in owners:
         owns[a].append(b)
@@ -176,7 +175,7 @@ def answer(text, with_cuts=True):
 def main():
     try:
         said = answer(sys.stdin.read())
-    except ValueError as fault:
+    except (ValueError, IndexError) as fault:
         print(f'refused 10: {fault}', file=sys.stderr)
         return 10
     sys.stdout.write(said)

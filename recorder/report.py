@@ -123,6 +123,12 @@ def as_json(told):
     }
 
 
+def map_text(told):
+    """What each number of the graph is in the program: its type, the place of its making, its control block."""
+    lines = (f'{number} {kind_text(told.kind(number))}, at {it.at:#x}' for number, it in enumerate(told.blocks, 1))
+    return ''.join(f'{line}\n' for line in lines)
+
+
 def write_json(path, reports):
     with open(path, 'w') as file:
         json.dump({'reports': reports}, file, indent=1)

@@ -1,4 +1,5 @@
 """Names of types, as a C++ programmer would write them."""
+import functools
 import re
 import subprocess
 
@@ -46,6 +47,7 @@ def without_allocators(name):
     return name
 
 
+@functools.lru_cache(maxsize=None)
 def short(name):
     """The same type in fewer letters."""
     name = name.replace('std::__cxx11::', 'std::').replace('std::__debug::', 'std::')
@@ -62,20 +64,21 @@ def told(function):
 def name_blocks(blocks):
     """Gives each block its object's type: what it really is where it has virtual functions, else what its maker said."""
     plain = demangled({it for block in blocks for it in (block.control_type, block.dynamic_type) if it != '-'})
+    declared = functools.lru_cache(maxsize=None)(declared_type)
     for block in blocks:
         if block.dynamic_type != '-':
             block.name = plain[block.dynamic_type]
         elif block.control_type != '-':
-            block.name = declared_type(block, plain[block.control_type])
+            block.name = declared(block.kind, plain[block.control_type])
         else:
             block.name = told(block.told_type) or 'an object without a type'
 
 
-def declared_type(block, control):
+def declared_type(kind, control):
     given = arguments(control)
     name = given[0] if given else control
-    if block.kind == 'array':
+    if kind == 'array':
         name = (arguments(name) or [name])[0]
-    if block.kind in ('plain', 'deleter') and name.endswith('*'):
+    if kind in ('plain', 'deleter') and name.endswith('*'):
         name = name[:-1].strip()
     return re.sub(r'^(const|volatile) |( const| volatile)$', '', name)

@@ -1,5 +1,6 @@
 """What a record says of each object that is left: kept, leaked but reached by a raw pointer, or leaked."""
 import collections
+import functools
 from dataclasses import dataclass, field
 
 from recorder import debug_information, labels, owner_graph, type_names
@@ -29,9 +30,15 @@ class Told:
     def alarming_knots(self):
         return [it for it in self.answer.knots if it.objects[0] not in self.reached]
 
+    @functools.cached_property
+    def owned_knots(self):
+        """Of the knots, by their least object, those that another leaked object owns."""
+        knot_of = {it: knot.objects[0] for knot in self.answer.knots for it in knot.objects}
+        owners = ((knot_of.get(a), knot_of.get(b)) for a, b, _ in self.graph.owners if a in self.answer.leaked)
+        return {b for a, b in owners if b and a != b}
+
     def is_owned_from_outside(self, knot):
-        inside = set(knot.objects)
-        return any(b in inside and a not in inside and a in self.answer.leaked for a, b, _ in self.graph.owners)
+        return knot.objects[0] in self.owned_knots
 
 
 def tell(record):

@@ -1,5 +1,7 @@
 // Words of memory, and how the recorder tells its own doings from the program's.
 #pragma once
+#include <sys/single_threaded.h>
+
 #include <atomic>
 #include <cstddef>
 #include <cstdint>
@@ -34,12 +36,17 @@ private:
   static RECORDER_THREAD int depth;
 };
 
+// A spinning lock, which costs nothing atomic as long as there is one thread.
 class Lock {
 public:
-  void lock();
+  void lock() {
+    if (__libc_single_threaded) held.store(true, std::memory_order_relaxed);
+    else if (held.exchange(true, std::memory_order_acquire)) wait();
+  }
   void unlock() { held.store(false, std::memory_order_release); }
 
 private:
+  void wait();
   std::atomic<bool> held{false};
 };
 

@@ -31,8 +31,10 @@ public:
   template <typename Visit>
   void each_plain_word(const Region& region, Visit visit) const {
     Word before_at = 0, before = 0;
+    bool is_of_malloc = region.chunk < 0 && region.holder.kind == Holder::AREA && all.areas[region.holder.number].is_of_malloc;
     auto look = [&](Word at, Word word) {
-      bool is_block = all.block_at.count(word & ~Word(1)) > 0;
+      if (is_of_malloc && all.chunk_of(word) != all.chunk_of(word + WORD)) word = 0;  // a free chunk's head
+      bool is_block = word && all.block_at.count(word & ~Word(1)) > 0;
       if (before && !is_block) visit(before_at, before);
       before_at = at;
       before = is_block ? 0 : word;

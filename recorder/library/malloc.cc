@@ -21,22 +21,38 @@ namespace recorder {
 
 Tables<Chunk> chunks;
 
+// Threads take numbers by the sixteen: within one they tell the order exactly, between two about.
 std::uint64_t next_number() {
-  static std::atomic<std::uint64_t> number{0};
-  return number.fetch_add(1, std::memory_order_relaxed) + 1;
+  static std::atomic<std::uint64_t> given{0};
+  static RECORDER_THREAD std::uint64_t next = 0, end = 0;
+  if (next == end) {
+    next = given.fetch_add(16, std::memory_order_relaxed);
+    end = next + 16;
+  }
+  return ++next;
 }
 
 namespace {
 
 bool is_noted() { return recording.load(std::memory_order_relaxed) && !Inside::is(); }
 
+void empty(void* memory, std::size_t size) {
+  if (size > 64) std::memset(memory, 0, size);
+  else
+    for (std::size_t at = 0; at < size; at += WORD) *reinterpret_cast<volatile Word*>(static_cast<char*>(memory) + at) = 0;
+}
+
 // Memory that the kernel gave for this chunk alone is empty already.
 bool is_fresh(void* memory) { return static_cast<std::size_t*>(memory)[-1] & 2; }
 
-void note(void* memory, std::size_t alignment) {
+// (of a chunk of a heap the word before tells it, with flags in its lowest bits)
+std::size_t usable_size(void* memory) {
+  return is_fresh(memory) ? malloc_usable_size(memory) : (static_cast<std::size_t*>(memory)[-1] & ~std::size_t(7)) - WORD;
+}
+
+void note(void* memory, std::size_t size, std::size_t alignment) {
   Inside inside;
   know_this_thread();
-  std::size_t size = malloc_usable_size(memory);
   chunks.put(reinterpret_cast<Word>(memory), {size, next_number(), trace_here(), alignment});
 }
 
@@ -47,8 +63,9 @@ void forget(void* memory) {
 
 void* taken(void* memory, std::size_t alignment) {
   if (!memory || !is_noted()) return memory;
-  if (!is_fresh(memory)) std::memset(memory, 0, malloc_usable_size(memory));
-  note(memory, alignment);
+  std::size_t usable = usable_size(memory);
+  if (!is_fresh(memory)) empty(memory, usable);
+  note(memory, usable, alignment);
   return memory;
 }
 
@@ -80,7 +97,7 @@ PUBLIC void* malloc(std::size_t size) {
 PUBLIC void* calloc(std::size_t count, std::size_t size) {
   if (OwnRegion::is_used()) return OwnRegion::take(count * size, 16);  // (pages of a new region are empty)
   void* memory = __libc_calloc(count, size);
-  if (memory && is_noted()) note(memory, 0);
+  if (memory && is_noted()) note(memory, malloc_usable_size(memory), 0);
   return memory;
 }
 
@@ -97,12 +114,12 @@ PUBLIC void* realloc(void* memory, std::size_t size) {
   if (memory) forget(memory);
   void* other = __libc_realloc(memory, size);
   if (!other) {
-    if (memory && size) note(memory, 0);  // it wasn't given back
+    if (memory && size) note(memory, before, 0);  // it wasn't given back
     return nullptr;
   }
   std::size_t after = malloc_usable_size(other);
   if (after > before && !is_fresh(other)) std::memset(static_cast<char*>(other) + before, 0, after - before);
-  note(other, 0);
+  note(other, after, 0);
   return other;
 }
 

@@ -17,11 +17,12 @@ public:
 
   static bool is_used() { return used; }
   static void* take(std::size_t bytes, std::size_t alignment);  // null where nothing is left
-  static bool has(const void* memory);
+  static bool has(const void* memory) { return reinterpret_cast<Word>(memory) - from < to - from; }
   static std::size_t size_of(const void* memory);
 
 private:
   static RECORDER_THREAD bool used;
+  static Word from, to;
 };
 
 }  // namespace recorder

@@ -18,6 +18,11 @@ std::vector<Word> copied(Word from, Word to) {
   return words;
 }
 
+bool is_of_libc(const std::string& path) {
+  auto name = path.rfind('/');
+  return path.compare(name == path.npos ? 0 : name + 1, 5, "libc.") == 0;
+}
+
 template <typename Sorted>
 int place_below(const Sorted& sorted, Word address) {
   auto after = std::upper_bound(sorted.begin(), sorted.end(), address,
@@ -29,11 +34,12 @@ int place_below(const Sorted& sorted, Word address) {
 
 Snapshot::Snapshot(const Modules& modules, const std::vector<LivingStack>& stacks) : modules(modules), tables(modules) {
   for (auto& it : modules.segments)
-    if (it.is_writable) areas.push_back({Area::STATIC, it.module, it.from, it.to, {}});
-  if (modules.thread_from) areas.push_back({Area::THREAD_LOCAL, 0, modules.thread_from, modules.thread_to, {}});
+    if (it.is_writable)
+      areas.push_back({Area::STATIC, it.module, it.from, it.to, {}, is_of_libc(modules.modules[it.module].path)});
+  if (modules.thread_from) areas.push_back({Area::THREAD_LOCAL, 0, modules.thread_from, modules.thread_to, {}, false});
   for (auto& it : stacks) {
     Word from = (it.from + WORD - 1) & ~(WORD - 1);
-    if (from < it.to) areas.push_back({Area::STACK, it.thread, from, it.to, copied(from, it.to)});
+    if (from < it.to) areas.push_back({Area::STACK, it.thread, from, it.to, copied(from, it.to), false});
   }
   recorder::chunks.each([&](Word from, const Chunk& it) {
     Word to = from + it.size;

@@ -28,6 +28,7 @@ struct Area {
   int number;  // its module or thread
   Word from, to;
   std::vector<Word> copy;  // its words, where it may change
+  bool is_of_malloc = false;  // where it keeps free chunks: their heads lie in the last word of the chunk before
 };
 
 struct LiveChunk {

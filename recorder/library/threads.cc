@@ -45,10 +45,12 @@ std::atomic<bool> hooked{false};
 std::atomic<bool> Inside::stopping{false};
 RECORDER_THREAD int Inside::depth = 0;
 
-void Lock::lock() {
-  for (int tries = 0; held.exchange(true, std::memory_order_acquire);)
+void Lock::wait() {
+  int tries = 0;
+  do
     while (held.load(std::memory_order_relaxed))
       if (++tries % 100 == 0) sched_yield();
+  while (held.exchange(true, std::memory_order_acquire));
 }
 
 void Inside::stand_still() {
@@ -105,14 +107,14 @@ std::vector<pid_t> other_threads() {
 
 namespace {
 
-RECORDER_THREAD bool known = false;
 RECORDER_THREAD Bounds own_stack{0, 0};
 
 }  // namespace
 
-void know_this_thread() {
-  if (known) return;
-  known = true;
+RECORDER_THREAD bool is_known = false;
+
+void note_this_thread() {
+  is_known = true;
   pthread_attr_t attributes;
   void* from;
   std::size_t size;
@@ -126,9 +128,9 @@ void know_this_thread() {
 }
 
 bool is_on_this_stack(Word address) {
-  if (!known) {
+  if (!is_known) {
     Inside inside;
-    know_this_thread();
+    note_this_thread();
   }
   return address - own_stack.from < own_stack.to - own_stack.from;
 }

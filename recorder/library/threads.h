@@ -14,7 +14,11 @@ struct LivingStack {
 };
 
 // Notes where the stack of this thread lies; a thread does so at its first allocation.
-void know_this_thread();
+extern RECORDER_THREAD bool is_known;
+void note_this_thread();
+inline void know_this_thread() {
+  if (!is_known) note_this_thread();
+}
 
 bool is_on_this_stack(Word address);
 

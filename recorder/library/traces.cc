@@ -36,8 +36,7 @@ const Trace* kept(void* const* frames, int count) {
 
 int frames_wanted = 0;
 
-const Trace* trace_here() {
-  if (!frames_wanted) return nullptr;
+const Trace* take_trace() {
   void* frames[MOST_FRAMES];
   int count = backtrace(frames, std::min(frames_wanted, MOST_FRAMES));
   if (count <= 0) return nullptr;

@@ -13,6 +13,7 @@ constexpr int MOST_FRAMES = 64;
 
 extern int frames_wanted;  // how many are taken at each allocation; 0 for none
 
-const Trace* trace_here();  // null where none are wanted
+const Trace* take_trace();
+inline const Trace* trace_here() { return frames_wanted ? take_trace() : nullptr; }
 
 }  // namespace recorder
