@@ -138,4 +138,39 @@ int main() {
     )
 
 
-CHECKS = [json_tells_all, dot_and_keep, no_frames, streams_and_status, a_snapshot_by_signal, children_are_told]
+def the_page():
+    """The example of docs/left.md, with the report that stands there."""
+    page = (ROOT / 'docs/left.md').read_text()
+    source = ROOT / 'examples/leaking_tree.cpp'
+    wanted = re.search(r'```\n(record: 4 objects.*?)```', page, re.S)[1]
+    code = re.search(r'```cpp\n(struct Item.*?)```', page, re.S)[1]
+    with tempfile.TemporaryDirectory() as folder:
+        command = ['g++', '-g', source.relative_to(ROOT), '-o', f'{folder}/leaking_tree']
+        subprocess.run(command, cwd=ROOT, check=True)
+        ran = subprocess.run([ROOT / 'record', f'{folder}/leaking_tree'], cwd=ROOT, capture_output=True, text=True)
+    return differences(
+        report=(ran.stderr[: len(wanted)], wanted), code=(code in source.read_text(), True), status=(ran.returncode, 3)
+    )
+
+
+def units_of_both_kinds():
+    """One unit with hooks and one without, in either order: the scan finds what no hook told."""
+    hooks = record('--flags').stdout.split()
+    units = 'shared_library.cc', 'shared_library.part.cc'
+    wrong = []
+    with tempfile.TemporaryDirectory() as folder:
+        for hooked in units:
+            for level in '-O0', '-O2':
+                objects = [f'{folder}/{it}.o' for it in units]
+                for unit, to in zip(units, objects):
+                    extra = hooks if unit == hooked else []
+                    subprocess.run(['g++', '-g', level, '-c', unit, '-o', to, *extra], cwd=PROGRAMS, check=True)
+                program = f'{folder}/program'
+                subprocess.run(['g++', *objects, '-o', program, *hooks], check=True)
+                said = record(program).stderr.splitlines()[2:5]
+                right = ['knot 1 Plugin, tied by Plugin::friends 1', 'weaken Plugin::friends']
+                wrong += [] if said[:2] == right and 'the counts of 1 of 1' in said[2] else [f'{hooked} {level} {said}']
+    return '\n'.join(wrong)
+
+
+CHECKS = [the_page, units_of_both_kinds, json_tells_all, dot_and_keep, no_frames, streams_and_status, a_snapshot_by_signal, children_are_told]
