@@ -17,7 +17,9 @@ def parse(words):
     text = 'Runs a C++ program, and tells which of its shared_ptr objects leak and which member to make weak.'
     parser = argparse.ArgumentParser('record', description=text, allow_abbrev=False)
     parser.add_argument('--json', metavar='FILE', help='write all of it to FILE, for other programs')
-    parser.add_argument('--frames', metavar='N', type=int, default=16, help='frames kept of each making (16; 0 is fast)')
+    parser.add_argument(
+        '--frames', metavar='N', type=int, default=16, help='frames kept of each making (16; 0 is fast)'
+    )
     parser.add_argument('--now', metavar='SIGNAL', help='also tell what is there whenever the program gets SIGNAL')
     parser.add_argument('--dot', metavar='FILE', help='draw the graph of owners, for Graphviz')
     parser.add_argument('--keep', metavar='DIR', help='keep what was read of memory, the graph and the map')
@@ -61,7 +63,9 @@ class Reports:
         if record.refused:
             return self.refuse(record.refused)
         if record.untyped and not record.blocks:
-            return self.refuse('it is compiled without RTTI: control blocks are there, and tell no type; see --flags')
+            return self.refuse(
+                'it is compiled without RTTI: control blocks are there, and tell no type; see --flags'
+            )
         if self.options.children and not record.blocks:
             return None
         told = verdicts.tell(record)
@@ -96,14 +100,14 @@ WHEN = {
 }
 
 
-def run(options, folder, path):
+def run(options, folder, path, reports):
+    """Runs the program under the library. Returns its exit status, as shells have it."""
     names = {'RECORDER_FILE': f'{folder}/record', 'RECORDER_FRAMES': str(options.frames)}
     names['LD_PRELOAD'] = ':'.join(filter(None, [str(library.build()), os.environ.get('LD_PRELOAD')]))
     if options.children:
         names['RECORDER_CHILDREN'] = '1'
     if options.now:
         names['RECORDER_SIGNAL'] = str(signal_number(options.now))
-    reports = Reports(options, folder)
     process = program.start((path, [options.program, *options.arguments]), names)
     status = program.wait(process, reports.look)
     reports.look()
@@ -111,29 +115,39 @@ def run(options, folder, path):
         say(f'record: the program was ended by {signal.Signals(-status).name}: what it left was not read')
     elif not reports.seen:
         reports.refuse('it wrote no record: it may have other rights than yours, or have become another program')
-    return reports, 128 - status if status < 0 else status
+    return 128 - status if status < 0 else status
+
+
+def told(options, path):
+    """Runs the program and tells. Returns the exit status."""
+    with tempfile.TemporaryDirectory() as scratch:
+        folder = options.keep or scratch
+        Path(folder).mkdir(parents=True, exist_ok=True)
+        reports = Reports(options, folder)
+        status = REFUSED
+        try:
+            program.refuse_unreadable(program.interpreter_of(path))
+            status = run(options, folder, path, reports)
+        except program.Refusal as why:
+            reports.refuse(str(why))
+    if options.json:
+        report.write_json(options.json, reports.told, reports.refused)
+    return reports.status(status)
 
 
 def main():
     gc.disable()  # all that is read is needed to the end
     options = parse(sys.argv[1:])
     if options.flags:
-        print(hook_headers.flags())
+        try:
+            print(hook_headers.flags())
+        except hook_headers.Refusal as why:
+            say(f'record: refused: {why}')
+            return REFUSED
         return 0
     try:
         path = program.find(options.program)
     except FileNotFoundError:
         say(f'record: {options.program}: no such program')
         return 127
-    try:
-        program.refuse_unreadable(program.interpreter_of(path))
-    except program.Refusal as why:
-        say(f'record: refused: {why}')
-        return REFUSED
-    with tempfile.TemporaryDirectory() as scratch:
-        folder = options.keep or scratch
-        Path(folder).mkdir(parents=True, exist_ok=True)
-        reports, status = run(options, folder, path)
-    if options.json:
-        report.write_json(options.json, reports.told)
-    return reports.status(status)
+    return told(options, path)

@@ -77,7 +77,9 @@ def own_name(function):
     name = name.replace('(anonymous namespace)', '\2').replace('{lambda', '{\3')
     outer = [at for at, depth in at_depth(name) if depth == 0]
     end = next((at for at in outer if name[at] == '('), len(name))
-    begin = max((at + 1 for at in outer if at < end and name[at] == ' ' and not name[:at].endswith('operator')), default=0)
+    begin = max(
+        (at + 1 for at in outer if at < end and name[at] == ' ' and not name[:at].endswith('operator')), default=0
+    )
     found = function_part(name[begin:end], function)
     return found.replace('\2', '(anonymous namespace)').replace('{\3', '{lambda')
 
@@ -136,7 +138,9 @@ def name_places(record):
             module = module_of(frame)
             if module and not re.search(r'/lib(c|stdc\+\+|gcc_s)\.so', module[1]):
                 asked[module].add(frame - 1 - module[0])
-    said = {base + at: it for (base, path), addresses in asked.items() for at, it in lines_of(path, addresses).items()}
+    said = {
+        base + at: it for (base, path), addresses in asked.items() for at, it in lines_of(path, addresses).items()
+    }
     places = {}
     for block in record.blocks:
         key = tuple(block.frames)

@@ -20,8 +20,9 @@ def arrow(begin, end, label, style, color=''):
 
 
 def dot(told):
-    """Objects are ellipses, owners full lines, weak pointers dashed, what is no object a box; leaked knots are orange, what
-    else leaks is grey, what raw pointers reach is yellow; what ties a knot is red, and bold where it alone cuts it."""
+    """Objects are ellipses, owners full lines, weak pointers dashed, what is no object a box; leaked knots are
+    orange, what else leaks is grey, what raw pointers reach is yellow; what ties a knot is red, and bold where
+    it alone cuts it."""
     in_knots = {it for knot in told.answer.knots for it in knot.objects}
     ties = {tie for knot in told.answer.knots for tie in knot.ties}
     cuts = {cut for knot in told.answer.knots for cut in knot.cuts}

@@ -32,7 +32,11 @@ BASE = [
         r'\1{ ::sptr_recorder_born(this); }',
     ),
     Edit('a block dies', r'(~_Sp_counted_base\(\) noexcept\s*)\{ \}', r'\1{ ::sptr_recorder_died(this); }'),
-    Edit('the object of a pointer', r'(: _M_ptr\(__p\)) \{ \}', r'\1 { ::sptr_recorder::object_of_pointer(this, __p); }'),
+    Edit(
+        'the object of a pointer',
+        r'(: _M_ptr\(__p\)) \{ \}',
+        r'\1 { ::sptr_recorder::object_of_pointer(this, __p); }',
+    ),
     Edit(
         'the object of a pointer with a deleter',
         r'(: _M_impl\(__p, std::move\(__d\), (?:_Alloc\(\)|__a)\)) \{ \}',
@@ -83,7 +87,9 @@ def with_cells(text):
     """The pointer to a block, of owners and then of weak pointers, is of a class that tells each change."""
     parts = text.split('_Sp_counted_base<_Lp>*  _M_pi;')
     if len(parts) != 3:
-        raise Refusal(f'{HEADERS[0]}: a handle\'s pointer to its block is there {len(parts) - 1} times in place of 2')
+        raise Refusal(
+            f'{HEADERS[0]}: a handle\'s pointer to its block is there {len(parts) - 1} times in place of 2'
+        )
     cell = '::sptr_recorder::cell<_Sp_counted_base<_Lp>, {}> _M_pi;'
     return parts[0] + cell.format(0) + parts[1] + cell.format(1) + parts[2]
 

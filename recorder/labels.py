@@ -6,7 +6,8 @@ from recorder.type_names import short
 
 
 def label_places(record, answers):
-    """Gives each handle and raw pointer the name of its place, and each handle its declared type where that is known."""
+    """Gives each handle and raw pointer the name of its place, and each handle its declared type where that is
+    known."""
     for it in record.handles + record.raw_pointers:
         it.label, declared = label_of(it.place, record, answers)
         if hasattr(it, 'declared'):
@@ -48,7 +49,9 @@ def drop_beyond(record, answers):
             continue
         if is_beyond(record.blocks[it.place.number], it.place.offset, answers):
             it.place = it.place._replace(kind='heap', number=0, offset=0)
-    record.raw_pointers = [it for it in record.raw_pointers if not is_beyond(record.blocks[it.to], it.to_byte, answers)]
+    record.raw_pointers = [
+        it for it in record.raw_pointers if not is_beyond(record.blocks[it.to], it.to_byte, answers)
+    ]
 
 
 class Counts:
@@ -111,8 +114,8 @@ def place_key(it, record):
 
 
 def decide_kinds(record):
-    """Owner or weak, where only memory told of a handle: by what the counts leave, by the declared type, by other handles in
-    the same member. Returns the counts of each block."""
+    """Owner or weak, where only memory told of a handle: by what the counts leave, by the declared type, by
+    other handles in the same member. Returns the counts of each block."""
     on = collections.defaultdict(list)
     for it in record.handles:
         on[it.block].append(it)
@@ -134,7 +137,8 @@ def decide_kinds(record):
 
 
 def by_declaration(record, undecided, known):
-    """Decides by declared types, and by what other handles in the same member are. Returns whether it decided any."""
+    """Decides by declared types, and by what other handles in the same member are. Returns whether it decided
+    any."""
     for it in record.handles:
         if it.kind in ('owner', 'weak'):
             known[place_key(it, record)].add(it.kind)
@@ -151,8 +155,8 @@ def by_declaration(record, undecided, known):
 
 
 def drop_old(counts):
-    """After the destructors of statics these keep their old bytes: where more handles are found than a block counts, those
-    in statics are no handles any more."""
+    """After the destructors of statics these keep their old bytes: where more handles are found than a block
+    counts, those in statics are no handles any more."""
     for it in counts:
         it.drop('either', it.open - max(it.owners_missing, 0) - max(it.weaks_missing, 0))
         it.drop('owner', -it.owners_missing)

@@ -1,7 +1,9 @@
-"""Run by gdb: reads questions from the file in RECORDER_QUESTIONS and writes answers to the one in RECORDER_ANSWERS.
+"""Run by gdb: reads questions from the file in RECORDER_QUESTIONS and writes answers to the one in
+RECORDER_ANSWERS.
 
-For each type and byte: the class that declares the member there, the member's path in it and its declared type. For each
-byte of a module: the symbol there."""
+For each type and byte: the class that declares the member there, the member's path in it and its declared type.
+For each byte of a module: the symbol there.
+"""
 import json
 import os
 
@@ -82,7 +84,11 @@ def answers(questions):
         sizes[name] = type_.strip_typedefs().sizeof
         members[name] = {offset: member_at(type_, offset) for offset in offsets}
     symbols = {offset: symbol_at(offset) for offset in questions['symbols']}
-    return {'members': members, 'sizes': sizes, 'symbols': {at: (it, declared_as(it)) for at, it in symbols.items()}}
+    return {
+        'members': members,
+        'sizes': sizes,
+        'symbols': {at: (it, declared_as(it)) for at, it in symbols.items()},
+    }
 
 
 with open(os.environ['RECORDER_QUESTIONS']) as file:

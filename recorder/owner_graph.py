@@ -86,7 +86,11 @@ def ask(graph):
     text, labels = graph.text(), {label for _, _, label in graph.owners}
     if PROVED.is_file():
         ran = subprocess.run([PROVED, 'owners'], input=text, capture_output=True, text=True)
-        if ran.returncode in (0, 3) and ran.stdout.splitlines()[-1:] and ran.stdout.splitlines()[-1].startswith('objects '):
+        if (
+            ran.returncode in (0, 3)
+            and ran.stdout.splitlines()[-1:]
+            and ran.stdout.splitlines()[-1].startswith('objects ')
+        ):
             answer = read_answer(ran.stdout, labels)
             answer.is_proved = True
             return answer
@@ -94,8 +98,8 @@ def ask(graph):
 
 
 def graph_of(record, counts):
-    """The graph of the objects that are left. Returns it with the number of each block's object, and what was met: an owner
-    that a block counts and nobody found is a root."""
+    """The graph of the objects that are left. Returns it with the number of each block's object, and what was
+    met: an owner that a block counts and nobody found is a root."""
     graph = Graph()
     numbers = {}
     for at, block in enumerate(record.blocks):

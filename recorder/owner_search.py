@@ -10,8 +10,8 @@ MOST_LABELS = 20  # of a knot, for pairs of them to be tried
 
 
 def read(text):
-    """(labels of objects by number, handles in their order). A handle is (kind, from, to, label), from 0 where it is a
-    root."""
+    """(labels of objects by number, handles in their order). A handle is (kind, from, to, label), from 0 where
+    it is a root."""
     objects, handles = {}, []
     for number, line in enumerate(text.split('\n'), 1):
         kind, *rest = line.split(None, 1) or ['']
@@ -130,7 +130,8 @@ def knot_lines(objects, ties, is_owned, with_cuts):
 
 
 def knots(leaked, owners):
-    """The knots of the leaked, in the order of their least: (objects, ties, whether another object owns into it)."""
+    """The knots of the leaked, in the order of their least: (objects, ties, whether another object owns into
+    it)."""
     owns = collections.defaultdict(list)
     for a, b, _ in owners:
         owns[a].append(b)

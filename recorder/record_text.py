@@ -4,8 +4,8 @@ from typing import NamedTuple
 
 
 class Place(NamedTuple):
-    """Where a word lies: in an object, a control block with a deleter, a static, a thread's variables or stack, or on the
-    heap. `inner` is its byte in a chunk that pointers lead to from `offset`, or -1."""
+    """Where a word lies: in an object, a control block with a deleter, a static, a thread's variables or stack,
+    or on the heap. `inner` is its byte in a chunk that pointers lead to from `offset`, or -1."""
 
     kind: str
     number: int

@@ -129,7 +129,7 @@ def map_text(told):
     return ''.join(f'{line}\n' for line in lines)
 
 
-def write_json(path, reports):
+def write_json(path, reports, refused):
     with open(path, 'w') as file:
-        json.dump({'reports': reports}, file, indent=1)
+        json.dump({'reports': reports, 'refused': refused}, file, indent=1)
         file.write('\n')

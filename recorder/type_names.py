@@ -62,7 +62,8 @@ def told(function):
 
 
 def name_blocks(blocks):
-    """Gives each block its object's type: what it really is where it has virtual functions, else what its maker said."""
+    """Gives each block its object's type: what it really is where it has virtual functions, else what its maker
+    said."""
     plain = demangled({it for block in blocks for it in (block.control_type, block.dynamic_type) if it != '-'})
     declared = functools.lru_cache(maxsize=None)(declared_type)
     for block in blocks:

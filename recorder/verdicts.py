@@ -8,8 +8,8 @@ from recorder import debug_information, labels, owner_graph, type_names
 
 @dataclass
 class Told:
-    """Objects are numbered as in the graph, from 1. `reached` has from where a raw pointer leads to a leaked object, and
-    `age` the share of a label's owners that point at an object made before."""
+    """Objects are numbered as in the graph, from 1. `reached` has from where a raw pointer leads to a leaked
+    object, and `age` the share of a label's owners that point at an object made before."""
 
     record: object
     graph: object
@@ -59,8 +59,8 @@ def tell(record):
 
 
 def reached_by_raw_pointers(record, numbers, graph, answer):
-    """Of the leaked, those that raw pointers lead to from a static, a thread or a kept object, and whatever these own or
-    point to: each with where the first pointer lies."""
+    """Of the leaked, those that raw pointers lead to from a static, a thread or a kept object, and whatever
+    these own or point to: each with where the first pointer lies."""
     raw, first = collections.defaultdict(list), []
     for it in record.raw_pointers:
         to = numbers.get(it.to)

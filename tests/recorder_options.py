@@ -23,7 +23,9 @@ def built(folder, name, text=None):
 
 
 def record(*words, **how):
-    return subprocess.run([ROOT / 'record', *words], capture_output=True, text=True, cwd=PROGRAMS, timeout=120, **how)
+    return subprocess.run(
+        [ROOT / 'record', *words], capture_output=True, text=True, cwd=PROGRAMS, timeout=120, **how
+    )
 
 
 def differences(**pairs):
@@ -59,7 +61,9 @@ def dot_and_keep():
     wanted += 'o1 -> o2 [label=" Node::child", style=bold, color=red];\n'
     wanted += 'o2 -> o1 [label=" Node::parent", style=bold, color=red];\n}\n'
     text = 'object 1 Node\nobject 2 Node\nowner 1 2 Node::child\nowner 2 1 Node::parent\n'
-    return differences(drawn=(drawn, wanted), kept=(kept, ['record.N', 'record.N.graph', 'record.N.map']), graph=(graph, text))
+    return differences(
+        drawn=(drawn, wanted), kept=(kept, ['record.N', 'record.N.graph', 'record.N.map']), graph=(graph, text)
+    )
 
 
 def no_frames():
@@ -133,9 +137,7 @@ int main() {
         program = built(folder, 'forking', text)
         without, with_them = record(program), record('--children', program)
     lines = [it for it in with_them.stderr.splitlines() if it.startswith(('leaked', 'knot'))]
-    return differences(
-        without=(without.returncode, 0), status=(with_them.returncode, 3), lines=(len(lines), 2)
-    )
+    return differences(without=(without.returncode, 0), status=(with_them.returncode, 3), lines=(len(lines), 2))
 
 
 def the_page():
@@ -149,7 +151,9 @@ def the_page():
         subprocess.run(command, cwd=ROOT, check=True)
         ran = subprocess.run([ROOT / 'record', f'{folder}/leaking_tree'], cwd=ROOT, capture_output=True, text=True)
     return differences(
-        report=(ran.stderr[: len(wanted)], wanted), code=(code in source.read_text(), True), status=(ran.returncode, 3)
+        report=(ran.stderr[: len(wanted)], wanted),
+        code=(code in source.read_text(), True),
+        status=(ran.returncode, 3),
     )
 
 
@@ -169,8 +173,19 @@ def units_of_both_kinds():
                 subprocess.run(['g++', *objects, '-o', program, *hooks], check=True)
                 said = record(program).stderr.splitlines()[2:5]
                 right = ['knot 1 Plugin, tied by Plugin::friends 1', 'weaken Plugin::friends']
-                wrong += [] if said[:2] == right and 'the counts of 1 of 1' in said[2] else [f'{hooked} {level} {said}']
+                wrong += (
+                    [] if said[:2] == right and 'the counts of 1 of 1' in said[2] else [f'{hooked} {level} {said}']
+                )
     return '\n'.join(wrong)
 
 
-CHECKS = [the_page, units_of_both_kinds, json_tells_all, dot_and_keep, no_frames, streams_and_status, a_snapshot_by_signal, children_are_told]
+CHECKS = [
+    the_page,
+    units_of_both_kinds,
+    json_tells_all,
+    dot_and_keep,
+    no_frames,
+    streams_and_status,
+    a_snapshot_by_signal,
+    children_are_told,
+]

@@ -63,7 +63,9 @@ class Program:
     def knot(self, objects, ties, weaken):
         for _, name in objects:
             self.types[name] += 1
-        self.knots.append((sorted(name for _, name in objects), dict(collections.Counter(it[2] for it in ties)), weaken))
+        self.knots.append(
+            (sorted(name for _, name in objects), dict(collections.Counter(it[2] for it in ties)), weaken)
+        )
 
     def ring_of(self, size):
         """Objects in a circle, each of a class of its own: each tie alone cuts it."""
@@ -136,7 +138,9 @@ def difference(wanted, record, built):
     ]
     status = 3 if wanted.knots else 0
     met = told['counts']['blocks'] == told['counts']['met']
-    same = leaked == wanted.types and sorted(map(str, wanted_knots(wanted.knots))) == sorted(map(str, wanted_knots(knots)))
+    same = leaked == wanted.types and sorted(map(str, wanted_knots(wanted.knots))) == sorted(
+        map(str, wanted_knots(knots))
+    )
     return '' if same and met and ran.returncode == status else f'{wanted.knots}\n{knots}\n{ran.stderr}'
 
 

@@ -61,7 +61,10 @@ def without_types_with_hooks():
     flags = subprocess.run([ROOT / 'record', '--flags'], capture_output=True, text=True, check=True).stdout.split()
     with tempfile.TemporaryDirectory() as folder:
         ran = record(built(folder, '-fno-rtti', *flags))
-    right = ran.returncode == 3 and 'knot 2 Node, tied by Node::child 1, Node::parent 1\nweaken Node::parent\n' in ran.stderr
+    right = (
+        ran.returncode == 3
+        and 'knot 2 Node, tied by Node::child 1, Node::parent 1\nweaken Node::parent\n' in ran.stderr
+    )
     return '' if right else ran.stderr
 
 
@@ -111,7 +114,11 @@ def changed_headers():
     """Each hook is refused on a header in which its place is changed."""
     base, atomic = (Path(hook_headers.folder_of('g++'), it).read_text() for it in hook_headers.HEADERS)
     wrong = []
-    for text, edits, finish in (base, hook_headers.BASE, hook_headers.with_cells), (atomic, hook_headers.ATOMIC, str):
+    for text, edits, finish in (base, hook_headers.BASE, hook_headers.with_cells), (
+        atomic,
+        hook_headers.ATOMIC,
+        str,
+    ):
         hook_headers.edited(text, edits, 'header')
         for it in edits:
             changed = hook_headers.re.sub(it.pattern, 'changed', text, count=1)

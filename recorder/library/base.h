@@ -16,8 +16,8 @@ constexpr std::size_t WORD = sizeof(Word);
 extern std::atomic<bool> recording;  // off in processes that nobody asked about
 extern std::atomic<bool> hooked;     // a hook of the program's headers has been called
 
-// While one lives, its thread runs the recorder's code: the memory that it takes isn't the program's, and where all
-// threads have to stand still it stands still before and after, never within.
+// While one lives, its thread runs the recorder's code: the memory that it takes isn't the program's, and where
+// all threads have to stand still it stands still before and after, never within.
 class Inside {
 public:
   Inside() {
@@ -40,8 +40,10 @@ private:
 class Lock {
 public:
   void lock() {
-    if (__libc_single_threaded) held.store(true, std::memory_order_relaxed);
-    else if (held.exchange(true, std::memory_order_acquire)) wait();
+    if (__libc_single_threaded)
+      held.store(true, std::memory_order_relaxed);
+    else if (held.exchange(true, std::memory_order_acquire))
+      wait();
   }
   void unlock() { held.store(false, std::memory_order_release); }
 

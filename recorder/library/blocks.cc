@@ -24,8 +24,8 @@ ControlBlock::Kind kind_of(const char* type) {
   return ControlBlock::PLAIN;
 }
 
-// Whether the allocator in the name of a control block is std::allocator, which takes no room: `SaIvE` or `SaIS1_E` or
-// alike before the last argument.
+// Whether the allocator in the name of a control block is std::allocator, which takes no room: `SaIvE` or
+// `SaIS1_E` or alike before the last argument.
 bool has_plain_allocator(const char* type) {
   std::string name = type ? type : "";
   auto end = name.rfind("ELN9__gnu_cxx12_Lock_policyE");
@@ -51,7 +51,8 @@ void Snapshot::add_block(Word at, int chunk, const VirtualTable& table) {
     block.object = birth->object;
     block.object_end = birth->size ? birth->object + birth->size : 0;
     block.told = birth->type;
-    if (!block.type && block.object > at && block.object < chunks[chunk].to) block.kind = ControlBlock::IN_PLACE;
+    if (!block.type && block.object > at && block.object < chunks[chunk].to)
+      block.kind = ControlBlock::IN_PLACE;
   }
   blocks.push_back(block);
 }
@@ -65,15 +66,17 @@ void Snapshot::find_blocks() {
       if (!table.is_control_block && !table.is_untyped) return;
       if (!has_counts(at, uses, weaks)) return;
       bool is_hooked = births.of(at).find(at) != nullptr;
-      if (table.is_control_block || is_hooked) add_block(at, static_cast<int>(chunk), table);
-      else if (uses) untyped.push_back({at, uses + weaks});
+      if (table.is_control_block || is_hooked)
+        add_block(at, static_cast<int>(chunk), table);
+      else if (uses)
+        untyped.push_back({at, uses + weaks});
     });
-  std::sort(blocks.begin(), blocks.end(), [](auto& a, auto& b) {
-    return a.number != b.number ? a.number < b.number : a.at < b.at;
-  });
+  std::sort(blocks.begin(), blocks.end(),
+            [](auto& a, auto& b) { return a.number != b.number ? a.number < b.number : a.at < b.at; });
   for (std::size_t number = 0; number < blocks.size(); number++) {
     auto& chunk = chunks[blocks[number].chunk];
-    bool is_alone = !chunk.has_blocks && (blocks[number].at == chunk.from || blocks[number].kind == ControlBlock::ARRAY);
+    bool is_alone =
+        !chunk.has_blocks && (blocks[number].at == chunk.from || blocks[number].kind == ControlBlock::ARRAY);
     chunk.is_pool |= !is_alone;
     chunk.has_blocks = true;
     block_at[blocks[number].at] = static_cast<int>(number);
@@ -96,7 +99,8 @@ void Snapshot::find_untyped() {
   for (auto& it : chunks) before = 0, each_word(it.from, it.to, visit);
   for (auto& it : areas) before = 0, each_word(it, visit);
   for (auto& it : found) untyped_blocks += it.second <= -block_at[it.first];
-  for (auto it = block_at.begin(); it != block_at.end();) it = it->second < 0 ? block_at.erase(it) : std::next(it);
+  for (auto it = block_at.begin(); it != block_at.end();)
+    it = it->second < 0 ? block_at.erase(it) : std::next(it);
 }
 
 void Snapshot::find_objects() {
@@ -105,7 +109,8 @@ void Snapshot::find_objects() {
   for (std::size_t number = 0; number < blocks.size(); number++) {
     auto& block = blocks[number];
     place_object(block, stored[number]);
-    if (block.is_live() && block.object_end > block.object) objects.push_back({block.object, static_cast<int>(number)});
+    if (block.is_live() && block.object_end > block.object)
+      objects.push_back({block.object, static_cast<int>(number)});
   }
   std::sort(objects.begin(), objects.end());
 }
@@ -118,8 +123,10 @@ Word owned_by(const ControlBlock& block, const Snapshot& all, const std::vector<
   each_word(block.at + 2 * WORD, all.chunks[block.chunk].to, [&](Word, Word word) {
     int chunk = all.chunk_of(word);
     if (chunk < 0 || chunk == block.chunk) return;
-    if (std::find(stored.begin(), stored.end(), word) != stored.end()) found = word;
-    else if (!found && all.chunks[chunk].from == word) found = word;
+    if (std::find(stored.begin(), stored.end(), word) != stored.end())
+      found = word;
+    else if (!found && all.chunks[chunk].from == word)
+      found = word;
   });
   return found;
 }

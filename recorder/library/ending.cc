@@ -21,8 +21,8 @@ namespace {
 pid_t recorded_process;
 char record_path[4096];
 bool with_children;
-std::atomic<bool> ended{false};
-Word exit_frame;  // where exit() was called; after main's return no frame of its thread lives
+std::atomic<pid_t> ended{0};  // the process that has read its memory: one after vfork shares this word
+Word exit_frame;              // where exit() was called; after main's return no frame of its thread lives
 pid_t exit_thread;
 sem_t asked;
 
@@ -30,13 +30,16 @@ Word frame_here() { return reinterpret_cast<Word>(__builtin_frame_address(0)); }
 
 const char* file_name(int snapshot) {
   static char path[4200];
-  if (snapshot) std::snprintf(path, sizeof path, "%s.%d.%d", record_path, getpid(), snapshot);
-  else std::snprintf(path, sizeof path, "%s.%d", record_path, getpid());
+  if (snapshot)
+    std::snprintf(path, sizeof path, "%s.%d.%d", record_path, getpid(), snapshot);
+  else
+    std::snprintf(path, sizeof path, "%s.%d", record_path, getpid());
   return path;
 }
 
+bool is_recorded() { return recording && (getpid() == recorded_process || with_children); }
+
 void read_memory(const char* when, Word from_frame, int snapshot) {
-  if (!recording || (getpid() != recorded_process && !with_children)) return;
   Inside inside;
   if (dlsym(RTLD_DEFAULT, "malloc") != reinterpret_cast<void*>(&malloc)) {
     write_refusal(file_name(snapshot), "it has a malloc of its own");
@@ -53,20 +56,23 @@ void read_memory(const char* when, Word from_frame, int snapshot) {
   write_record(file_name(snapshot), all, when);
 }
 
-void at_the_end(void*) {
-  if (ended.exchange(true)) return;
-  bool is_deep = exit_frame && exit_thread == static_cast<pid_t>(syscall(SYS_gettid));
-  read_memory("exit", is_deep ? exit_frame : 0, 0);
+// Once in each process.
+void read_at_end(const char* when, Word from_frame) {
+  if (is_recorded() && ended.exchange(getpid()) != getpid()) read_memory(when, from_frame, 0);
 }
 
-void at_quick_exit_end() {
-  if (!ended.exchange(true)) read_memory("quick_exit", frame_here(), 0);
+void at_the_end(void*) {
+  bool is_deep = exit_frame && exit_thread == static_cast<pid_t>(syscall(SYS_gettid));
+  read_at_end("exit", is_deep ? exit_frame : 0);
 }
+
+void at_quick_exit_end() { read_at_end("quick_exit", frame_here()); }
 
 void* answer(void*) {
   for (int snapshot = 1;; snapshot++) {
-    while (sem_wait(&asked)) {}
-    read_memory("now", 0, snapshot);
+    while (sem_wait(&asked)) {
+    }
+    if (is_recorded()) read_memory("now", 0, snapshot);
   }
 }
 
@@ -92,8 +98,13 @@ int number_of(const char* variable) {
   return text ? std::atoi(text) : 0;
 }
 
-void lock_tables() { chunks.lock_all(), births.lock_all(), holdings.lock_all(); }
-void unlock_tables() { holdings.unlock_all(), births.unlock_all(), chunks.unlock_all(); }
+void lock_tables() { chunks.lock_all(), births.lock_all(), holdings.lock_all(), lock_traces(); }
+void unlock_tables() { unlock_traces(), holdings.unlock_all(), births.unlock_all(), chunks.unlock_all(); }
+
+void unlock_in_child() {
+  unlock_tables();
+  if (!with_children) recording = false;
+}
 
 // Before main. What is registered here without a library's handle comes after each destructor of a static.
 __attribute__((constructor(101))) void begin() {
@@ -109,7 +120,7 @@ __attribute__((constructor(101))) void begin() {
   know_thread_variables();
   frames_wanted = number_of("RECORDER_FRAMES");
   trace_here();  // loads what it needs
-  pthread_atfork(lock_tables, unlock_tables, unlock_tables);
+  pthread_atfork(lock_tables, unlock_tables, unlock_in_child);
   __cxa_atexit(at_the_end, nullptr, nullptr);
   at_quick_exit(at_quick_exit_end);
   if (int number = number_of("RECORDER_SIGNAL")) answer_signal(number);
@@ -133,7 +144,7 @@ PUBLIC void exit(int status) {
 }
 
 PUBLIC void _exit(int status) {
-  if (!ended.exchange(true)) read_memory("_exit", frame_here(), 0);
+  read_at_end("_exit", frame_here());
   syscall(SYS_exit_group, status);
   __builtin_unreachable();
 }

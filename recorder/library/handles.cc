@@ -1,4 +1,5 @@
-// Handles: what the hooks told of, as far as memory has it, and each word that holds the address of a control block.
+// Handles: what the hooks told of, as far as memory has it, and each word that holds the address of a control
+// block.
 #include "hook_tables.h"
 #include "snapshot.h"
 

@@ -13,9 +13,9 @@ struct Region {
   int chunk;  // -1 for an object itself and an area
 };
 
-// Spreads from areas and objects over the chunks that nobody holds yet, nearest first, and areas before objects. In three
-// rounds: by what only a container has (a vector's three pointers, or a node that points back), by pointers to the
-// beginning of a chunk, by any.
+// Spreads from areas and objects over the chunks that nobody holds yet, nearest first, and areas before
+// objects. In three rounds: by what only a container has (a vector's three pointers, or a node that points
+// back), by pointers to the beginning of a chunk, by any.
 class Spreading {
 public:
   explicit Spreading(Snapshot& all) : all(all) { add_first(); }
@@ -27,11 +27,13 @@ public:
     }
   }
 
-  // Visits the words of a region that are no part of a handle: neither the address of a control block nor the word before.
+  // Visits the words of a region that are no part of a handle: neither the address of a control block nor the
+  // word before.
   template <typename Visit>
   void each_plain_word(const Region& region, Visit visit) const {
     Word before_at = 0, before = 0;
-    bool is_of_malloc = region.chunk < 0 && region.holder.kind == Holder::AREA && all.areas[region.holder.number].is_of_malloc;
+    bool is_of_malloc =
+        region.chunk < 0 && region.holder.kind == Holder::AREA && all.areas[region.holder.number].is_of_malloc;
     auto look = [&](Word at, Word word) {
       if (is_of_malloc && all.chunk_of(word) != all.chunk_of(word + WORD)) word = 0;  // a free chunk's head
       bool is_block = word && all.block_at.count(word & ~Word(1)) > 0;
@@ -48,11 +50,13 @@ public:
 private:
   template <typename Visit>
   void each_region_word(const Region& region, Visit visit) const {
-    if (region.holder.kind == Holder::AREA && region.chunk < 0) return each_word(all.areas[region.holder.number], visit);
+    if (region.holder.kind == Holder::AREA && region.chunk < 0)
+      return each_word(all.areas[region.holder.number], visit);
     bool is_pool = region.chunk >= 0 && all.chunks[region.chunk].is_pool;
-    each_word(region.from, region.chunk < 0 ? region.to : all.chunks[region.chunk].filled, [&](Word at, Word word) {
-      if (!is_pool || all.object_of(at) < 0) visit(at, word);
-    });
+    each_word(region.from, region.chunk < 0 ? region.to : all.chunks[region.chunk].filled,
+              [&](Word at, Word word) {
+                if (!is_pool || all.object_of(at) < 0) visit(at, word);
+              });
   }
 
   enum Round { CONTAINERS, BEGINNINGS, ANY };
@@ -100,7 +104,8 @@ void Spreading::spread(Round round, Holder::Kind kind) {
 
 namespace {
 
-// Whether a deque's iterator begins here: it stands at the chunk's beginning, and ends with where the deque keeps that.
+// Whether a deque's iterator begins here: it stands at the chunk's beginning, and ends with where the deque
+// keeps that.
 bool is_deque(const Word* words, const Snapshot& all) {
   if (words[0] != words[1] || words[3] % WORD || all.chunk_of(words[3]) < 0) return false;
   return *reinterpret_cast<const Word*>(words[3]) == words[0];
@@ -109,17 +114,16 @@ bool is_deque(const Word* words, const Snapshot& all) {
 // The end of what is filled where three pointers of a vector begin here; 0 where they don't.
 Word filled_by_vector(const Word* words, const LiveChunk& chunk) {
   Word rest = chunk.to - chunk.from >= 1 << 17 ? 8192 : 48;  // what malloc gives more than is asked for
-  bool is_vector = words[0] == chunk.from && words[1] >= words[0] && words[2] >= words[1] && words[2] > words[0] &&
-                   words[2] <= chunk.to && chunk.to - words[2] <= rest;
+  bool is_vector = words[0] == chunk.from && words[1] >= words[0] && words[2] >= words[1] &&
+                   words[2] > words[0] && words[2] <= chunk.to && chunk.to - words[2] <= rest;
   return is_vector ? words[1] : 0;
 }
 
 // Whether a node's first words point back to about where the pointer to it lies.
 bool points_back(const LiveChunk& chunk, Word at) {
   bool found = false;
-  each_word(chunk.from, std::min(chunk.to, chunk.from + 4 * WORD), [&](Word, Word word) {
-    found |= word + 64 >= at && word <= at + 64;
-  });
+  each_word(chunk.from, std::min(chunk.to, chunk.from + 4 * WORD),
+            [&](Word, Word word) { found |= word + 64 >= at && word <= at + 64; });
   return found;
 }
 
@@ -129,7 +133,8 @@ bool Spreading::leads(Round round, const Region& region, Word at, Word word, Liv
   if (round == ANY) return true;
   if (word != chunk.from) return false;
   if (round == BEGINNINGS) return true;
-  bool is_copied = region.holder.kind == Holder::AREA && region.chunk < 0 && !all.areas[region.holder.number].copy.empty();
+  bool is_copied =
+      region.holder.kind == Holder::AREA && region.chunk < 0 && !all.areas[region.holder.number].copy.empty();
   if (is_copied) return false;
   auto words = reinterpret_cast<const Word*>(at);
   if (at + 4 * WORD <= region.to && is_deque(words, all)) return true;
@@ -163,7 +168,8 @@ void Snapshot::find_raw_pointers() {
       Holder to = holder_of(word);
       if (to.kind != Holder::OBJECT || to == region.holder || !blocks[to.number].is_live()) return;
       auto& object = blocks[to.number];
-      Word told = chunks[object.chunk].is_pool ? word : object.at;  // (where a pool's objects end isn't known here)
+      Word told =
+          chunks[object.chunk].is_pool ? word : object.at;  // (where a pool's objects end isn't known here)
       if (seen.insert({region.holder, told}).second) raw_pointers.push_back({at, to.number, word});
     });
   };

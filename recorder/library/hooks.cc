@@ -30,7 +30,8 @@ PUBLIC void sptr_recorder_born(void* block) noexcept {
   births.put(as_word(block), {next_number(), trace_here(), 0, 0, nullptr});
 }
 
-PUBLIC void sptr_recorder_object(void* block, const volatile void* object, unsigned long size, const char* type) noexcept {
+PUBLIC void sptr_recorder_object(void* block, const volatile void* object, unsigned long size,
+                                 const char* type) noexcept {
   if (!is_noted()) return;
   Inside inside;
   auto& table = births.of(as_word(block));
@@ -53,6 +54,8 @@ PUBLIC void sptr_recorder_set(const volatile void* handle, void* block, int is_w
   Word at = as_word(handle);
   if (is_on_this_stack(at)) return;
   Inside inside;
-  if (block) holdings.put(at, {as_word(block), is_weak != 0});
-  else holdings.erase(at);
+  if (block)
+    holdings.put(at, {as_word(block), is_weak != 0});
+  else
+    holdings.erase(at);
 }

@@ -4,7 +4,8 @@
 
 extern "C" {
 void sptr_recorder_born(void* block) noexcept;
-void sptr_recorder_object(void* block, const volatile void* object, unsigned long size, const char* type) noexcept;
+void sptr_recorder_object(void* block, const volatile void* object, unsigned long size,
+                          const char* type) noexcept;
 void sptr_recorder_died(void* block) noexcept;
 // Where `block` is null the handle holds nothing any more.
 void sptr_recorder_set(const volatile void* handle, void* block, int is_weak) noexcept;

@@ -1,5 +1,5 @@
-// malloc and its like, which the program finds here first. What they take is noted, and emptied: old bytes in what a
-// vector has not filled yet would look like handles.
+// malloc and its like, which the program finds here first. What they take is noted, and emptied: old bytes in
+// what a vector has not filled yet would look like handles.
 #include <malloc.h>
 #include <unistd.h>
 
@@ -37,9 +37,11 @@ namespace {
 bool is_noted() { return recording.load(std::memory_order_relaxed) && !Inside::is(); }
 
 void empty(void* memory, std::size_t size) {
-  if (size > 64) std::memset(memory, 0, size);
+  if (size > 64)
+    std::memset(memory, 0, size);
   else
-    for (std::size_t at = 0; at < size; at += WORD) *reinterpret_cast<volatile Word*>(static_cast<char*>(memory) + at) = 0;
+    for (std::size_t at = 0; at < size; at += WORD)
+      *reinterpret_cast<volatile Word*>(static_cast<char*>(memory) + at) = 0;
 }
 
 // Memory that the kernel gave for this chunk alone is empty already.
@@ -47,7 +49,8 @@ bool is_fresh(void* memory) { return static_cast<std::size_t*>(memory)[-1] & 2; 
 
 // (of a chunk of a heap the word before tells it, with flags in its lowest bits)
 std::size_t usable_size(void* memory) {
-  return is_fresh(memory) ? malloc_usable_size(memory) : (static_cast<std::size_t*>(memory)[-1] & ~std::size_t(7)) - WORD;
+  return is_fresh(memory) ? malloc_usable_size(memory)
+                          : (static_cast<std::size_t*>(memory)[-1] & ~std::size_t(7)) - WORD;
 }
 
 void note(void* memory, std::size_t size, std::size_t alignment) {

@@ -42,7 +42,8 @@ int add_module(dl_phdr_info* info, std::size_t, void* to) {
     auto& part = info->dlpi_phdr[at];
     if (part.p_type != PT_LOAD || !(part.p_flags & PF_R)) continue;
     Word from = info->dlpi_addr + part.p_vaddr;
-    all.segments.push_back({from, from + part.p_memsz, number, !!(part.p_flags & PF_W), !!(part.p_flags & PF_X)});
+    all.segments.push_back(
+        {from, from + part.p_memsz, number, !!(part.p_flags & PF_W), !!(part.p_flags & PF_X)});
   }
   return 0;
 }
@@ -58,7 +59,8 @@ bool begins_with(const char* text, const char* with) { return !std::strncmp(text
 bool is_control_block(const char* type) {
   static const char* const BEGINNINGS[] = {"St23_Sp_counted_ptr_inplaceI", "St15_Sp_counted_ptrI",
                                            "St19_Sp_counted_deleterI", "St17_Sp_counted_arrayI"};
-  return std::any_of(std::begin(BEGINNINGS), std::end(BEGINNINGS), [&](auto it) { return begins_with(type, it); });
+  return std::any_of(std::begin(BEGINNINGS), std::end(BEGINNINGS),
+                     [&](auto it) { return begins_with(type, it); });
 }
 
 }  // namespace
@@ -116,7 +118,7 @@ const char* VirtualTables::name_at(Word type_info) const {
   auto end = reinterpret_cast<const char*>(text->to);
   if (*name == '*') name++;
   const char* at = name;
-  while (at < end && *at > ' ' && *at <= '~') at++;
+  while (at<end&& * at> ' ' && *at <= '~') at++;
   return at < end && at > name && !*at ? name : nullptr;
 }
 

@@ -7,8 +7,8 @@ namespace recorder {
 void* own_pages(std::size_t bytes);
 void give_own_pages(void* pages, std::size_t bytes);
 
-// While one lives, what its thread takes by malloc comes from a region of its own, and is given back as a whole at its
-// end: threads that stand still may hold the locks of the program's heap.
+// While one lives, what its thread takes by malloc comes from a region of its own, and is given back as a whole
+// at its end: threads that stand still may hold the locks of the program's heap.
 class OwnRegion {
 public:
   OwnRegion();

@@ -53,8 +53,8 @@ private:
 void write_block(Output& out, const Snapshot& all, int number) {
   static const char* const KINDS[] = {"in-place", "plain", "deleter", "array"};
   auto& it = all.blocks[number];
-  out.say("block %d %zx %zx %zu %d %d %s %d ", number, it.at, it.object, it.object_end - it.object, it.uses, it.weaks,
-          KINDS[it.kind], all.chunks[it.chunk].is_pool);
+  out.say("block %d %zx %zx %zu %d %d %s %d ", number, it.at, it.object, it.object_end - it.object, it.uses,
+          it.weaks, KINDS[it.kind], all.chunks[it.chunk].is_pool);
   out.say_text(it.type ? it.type : "-");
   out.say_text(" ");
   out.say_text(it.dynamic ? it.dynamic : "-");
@@ -102,7 +102,8 @@ void write_record(const char* path, const Snapshot& all, const char* when) {
     out.say_text(it.path.c_str());
     out.say_text("\n");
   }
-  for (std::size_t number = 0; number < all.blocks.size(); number++) write_block(out, all, static_cast<int>(number));
+  for (std::size_t number = 0; number < all.blocks.size(); number++)
+    write_block(out, all, static_cast<int>(number));
   for (auto& it : all.handles) {
     out.say("handle %s %d", KINDS[it.kind], it.block);
     write_place(out, all, it.at);

@@ -13,8 +13,10 @@ std::vector<Word> copied(Word from, Word to) {
   std::vector<Word> words((to - from) / WORD);
   iovec local{words.data(), words.size() * WORD}, remote{reinterpret_cast<void*>(from), local.iov_len};
   ssize_t got = process_vm_readv(getpid(), &local, 1, &remote, 1, 0);
-  if (got < 0) words.assign(reinterpret_cast<Word*>(from), reinterpret_cast<Word*>(from) + words.size());
-  else words.resize(got / WORD);
+  if (got < 0)
+    words.assign(reinterpret_cast<Word*>(from), reinterpret_cast<Word*>(from) + words.size());
+  else
+    words.resize(got / WORD);
   return words;
 }
 
@@ -32,11 +34,14 @@ int place_below(const Sorted& sorted, Word address) {
 
 }  // namespace
 
-Snapshot::Snapshot(const Modules& modules, const std::vector<LivingStack>& stacks) : modules(modules), tables(modules) {
+Snapshot::Snapshot(const Modules& modules, const std::vector<LivingStack>& stacks)
+    : modules(modules), tables(modules) {
   for (auto& it : modules.segments)
     if (it.is_writable)
-      areas.push_back({Area::STATIC, it.module, it.from, it.to, {}, is_of_libc(modules.modules[it.module].path)});
-  if (modules.thread_from) areas.push_back({Area::THREAD_LOCAL, 0, modules.thread_from, modules.thread_to, {}, false});
+      areas.push_back(
+          {Area::STATIC, it.module, it.from, it.to, {}, is_of_libc(modules.modules[it.module].path)});
+  if (modules.thread_from)
+    areas.push_back({Area::THREAD_LOCAL, 0, modules.thread_from, modules.thread_to, {}, false});
   for (auto& it : stacks) {
     Word from = (it.from + WORD - 1) & ~(WORD - 1);
     if (from < it.to) areas.push_back({Area::STACK, it.thread, from, it.to, copied(from, it.to), false});

@@ -28,7 +28,8 @@ struct Area {
   int number;  // its module or thread
   Word from, to;
   std::vector<Word> copy;  // its words, where it may change
-  bool is_of_malloc = false;  // where it keeps free chunks: their heads lie in the last word of the chunk before
+  bool is_of_malloc =
+      false;  // where it keeps free chunks: their heads lie in the last word of the chunk before
 };
 
 struct LiveChunk {
@@ -61,7 +62,7 @@ struct ControlBlock {
 
 struct Handle {
   enum Kind { OWNER, WEAK, EITHER } kind;
-  Word at;      // of its word that points to the block
+  Word at;  // of its word that points to the block
   int block;
   Word points;  // what its other word points to
 };
@@ -84,12 +85,12 @@ public:
   Holder holder_of(Word address) const;
 
   std::vector<Area> areas;
-  std::vector<LiveChunk> chunks;      // in the order of their addresses
-  std::vector<ControlBlock> blocks;   // in the order of their making
+  std::vector<LiveChunk> chunks;     // in the order of their addresses
+  std::vector<ControlBlock> blocks;  // in the order of their making
   std::vector<Handle> handles;
   std::vector<RawPointer> raw_pointers;
   std::size_t untyped_blocks = 0;
-  std::size_t lost_handles = 0;       // that hooks told of, and that aren't there any more
+  std::size_t lost_handles = 0;  // that hooks told of, and that aren't there any more
 
   const Modules& modules;
 

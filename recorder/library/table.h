@@ -1,4 +1,5 @@
-// Hash tables from words to values in memory of their own, by linear probing; many small ones share the load of threads.
+// Hash tables from words to values in memory of their own, by linear probing; many small ones share the load of
+// threads.
 #pragma once
 #include <mutex>
 

@@ -25,7 +25,8 @@ bool is_on_this_stack(Word address);
 // Where the stack ends that `address` lies in, for a thread that noted it; else the end of the mapping.
 Word end_of_stack(pid_t thread, Word address);
 
-// While one lives, all other threads stand still: those in system calls where they are, the others in a signal's handler.
+// While one lives, all other threads stand still: those in system calls where they are, the others in a
+// signal's handler.
 class AllStandStill {
 public:
   AllStandStill();

@@ -11,14 +11,14 @@ namespace recorder {
 namespace {
 
 Tables<const Trace*> traces;
+Lock room_lock;
 
 // Room for traces, taken by the page run and never given back.
 const Trace* kept(void* const* frames, int count) {
-  static Lock lock;
   static char* next = nullptr;
   static std::size_t left = 0;
   std::size_t bytes = (sizeof(Trace) + (count - 1) * sizeof(void*) + 7) & ~std::size_t(7);
-  std::lock_guard<Lock> guard(lock);
+  std::lock_guard<Lock> guard(room_lock);
   if (left < bytes) {
     left = 1 << 16;
     next = static_cast<char*>(own_pages(left));
@@ -36,6 +36,16 @@ const Trace* kept(void* const* frames, int count) {
 
 int frames_wanted = 0;
 
+void lock_traces() {
+  traces.lock_all();
+  room_lock.lock();
+}
+
+void unlock_traces() {
+  room_lock.unlock();
+  traces.unlock_all();
+}
+
 const Trace* take_trace() {
   void* frames[MOST_FRAMES];
   int count = backtrace(frames, std::min(frames_wanted, MOST_FRAMES));
@@ -52,7 +62,8 @@ const Trace* take_trace() {
       if (trace) table.put(key, trace);
       return trace;
     }
-    if ((*found)->count == count && !std::memcmp((*found)->frames, frames, count * sizeof(void*))) return *found;
+    if ((*found)->count == count && !std::memcmp((*found)->frames, frames, count * sizeof(void*)))
+      return *found;
   }
 }
 

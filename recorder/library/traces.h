@@ -16,4 +16,8 @@ extern int frames_wanted;  // how many are taken at each allocation; 0 for none
 const Trace* take_trace();
 inline const Trace* trace_here() { return frames_wanted ? take_trace() : nullptr; }
 
+// Round a fork.
+void lock_traces();
+void unlock_traces();
+
 }  // namespace recorder
