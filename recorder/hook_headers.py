@@ -124,4 +124,5 @@ def flags():
     for name, text in texts.items():
         if not (folder / name).exists():
             (folder / name).write_text(text)
-    return f'-isystem {folder} -g -L{built.parent} -Wl,-rpath,{built.parent} -lrecorder'
+    link = f'-L{built.parent} -Wl,-rpath,{built.parent} -Wl,--push-state,--no-as-needed -lrecorder -Wl,--pop-state'
+    return f'-isystem {folder} -g {link}'
