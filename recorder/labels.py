@@ -1,6 +1,7 @@
 """What a programmer calls the memory that a handle lies in, and whether it owns or watches."""
 import collections
 import os
+import re
 
 from recorder.type_names import short
 
@@ -95,6 +96,26 @@ class Counts:
             it.kind = 'old'
             self.handles.remove(it)
         self.count()
+
+
+def is_storage(handle):
+    """Whether the declared type is bytes, in which anything may have been."""
+    return bool(re.search(r'\b(char|byte)\b|aligned_storage|aligned_buffer', handle.declared))
+
+
+def drop_from_storage(record, counts, leaked):
+    """Where more owners are found than a block counts, those that lie in mere bytes of leaked objects are old ones. What
+    leaks is the same without them. Returns whether there were some."""
+    for it in counts:
+        old = [owner for owner in it.handles if owner.kind == 'owner' and is_storage(owner)]
+        old = [owner for owner in old if owner.place.kind == 'object' and owner.place.number in leaked]
+        for owner in old[: max(-it.owners_missing, 0)]:
+            owner.kind = 'old'
+            it.handles.remove(owner)
+        it.count()
+    before = len(record.handles)
+    record.handles = [it for it in record.handles if it.kind != 'old']
+    return len(record.handles) < before
 
 
 def is_in_static(place):

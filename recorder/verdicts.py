@@ -51,6 +51,10 @@ def tell(record):
     counts = labels.decide_kinds(record)
     graph, numbers = owner_graph.graph_of(record, counts)
     answer = owner_graph.ask(graph)
+    leaked = {at for at, number in numbers.items() if number in answer.leaked}
+    if labels.drop_from_storage(record, counts, leaked):
+        graph, numbers = owner_graph.graph_of(record, counts)
+        answer = owner_graph.ask(graph)
     debug_information.name_places(record)
     blocks = [record.blocks[at] for at in numbers]
     told = Told(record, graph, answer, blocks, sum(it.are_met for it in counts))

@@ -87,10 +87,10 @@ WAITING = """
 #include <cstdio>
 #include <unistd.h>
 struct Node { std::shared_ptr<Node> next; };
-__attribute__((noinline)) void leak() { auto a = std::make_shared<Node>(); a->next = a; }
+void leak() { auto a = std::make_shared<Node>(); a->next = a; }
 int main() {
   auto kept = std::make_shared<Node>();
-  leak();
+  std::thread(leak).join();
   std::puts("ready"); std::fflush(stdout);
   char go; while (read(0, &go, 1) < 0) {}
 }

@@ -1,12 +1,14 @@
-// exit from the depth: the frames below it live, and so does what they own.
+// exit from the depth: the frames below it live, and so does what they own. The leak is a thread's, which leaves no old
+// bytes in these frames.
 #include <cstdlib>
 #include <memory>
+#include <thread>
 
 struct Node {
   std::shared_ptr<Node> next;
 };
 
-__attribute__((noinline)) void leak() {
+void leak() {
   auto leaked = std::make_shared<Node>();
   leaked->next = leaked;
 }
@@ -19,6 +21,6 @@ __attribute__((noinline)) int deep(std::shared_ptr<Node>& node, int depth) {
 int main() {
   auto alive = std::make_shared<Node>();
   alive->next = std::make_shared<Node>();
-  leak();
+  std::thread(leak).join();
   return deep(alive, 10);
 }
