@@ -92,7 +92,9 @@ class Counts:
 
     def drop(self, kind, excess):
         """Drops so many of a kind that lie in statics themselves."""
-        for it in [it for it in self.handles if it.kind == kind and is_in_static(it.place)][: max(excess, 0)]:
+        if excess <= 0:
+            return
+        for it in [it for it in self.handles if it.kind == kind and is_in_static(it.place)][:excess]:
             it.kind = 'old'
             self.handles.remove(it)
         self.count()
@@ -106,16 +108,20 @@ def is_storage(handle):
 def drop_from_storage(record, counts, leaked):
     """Where more owners are found than a block counts, those that lie in mere bytes of leaked objects are old ones. What
     leaks is the same without them. Returns whether there were some."""
+    dropped = False
     for it in counts:
+        if it.owners_missing >= 0:
+            continue
         old = [owner for owner in it.handles if owner.kind == 'owner' and is_storage(owner)]
         old = [owner for owner in old if owner.place.kind == 'object' and owner.place.number in leaked]
-        for owner in old[: max(-it.owners_missing, 0)]:
+        for owner in old[: -it.owners_missing]:
             owner.kind = 'old'
             it.handles.remove(owner)
+            dropped = True
         it.count()
-    before = len(record.handles)
-    record.handles = [it for it in record.handles if it.kind != 'old']
-    return len(record.handles) < before
+    if dropped:
+        record.handles = [it for it in record.handles if it.kind != 'old']
+    return dropped
 
 
 def is_in_static(place):
