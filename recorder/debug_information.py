@@ -99,8 +99,10 @@ def symbolizer():
 def lines_of(path, addresses):
     """Of each address in a module: the functions there and their places, the innermost first."""
     text = ''.join(f'{it:#x}\n' for it in addresses)
-    ran = subprocess.run([*symbolizer(), path], input=text, capture_output=True, text=True, errors='replace')
-    found, lines = {}, ran.stdout.split('\n')
+    how = {'capture_output': True, 'text': True, 'errors': 'replace'}
+    said = subprocess.run([*symbolizer(), path], input=text, **how).stdout
+    lines = subprocess.run(['c++filt'], input=said, **how).stdout.split('\n')
+    found = {}
     at = None
     for line in lines:
         if re.fullmatch(r'0x[0-9a-f]+', line):
@@ -121,8 +123,8 @@ def first_place(frames):
     """The first with a place that isn't the library's, else the first function alone."""
     for place, name in frames:
         if not NOT_OURS.search(place):
-            return f'{short_path(place)} in {name}'
-    return frames[0][1] if frames and frames[0][1] != '??' else ''
+            return f'at {short_path(place)} in {name}'
+    return f'in {frames[0][1]}' if frames and frames[0][1] != '??' else ''
 
 
 def name_places(record):
@@ -147,4 +149,4 @@ def name_places(record):
         if key not in places:
             every = [(place, own_name(it)) for frame in key for place, it in said.get(frame - 1, [])]
             places[key] = first_place([it for it in every if not it[1].startswith(OF_THE_LIBRARY)])
-        block.made_at = places[key]
+        block.made = places[key]

@@ -3,21 +3,25 @@ import collections
 import os
 import re
 
+from recorder.record_text import Handle
 from recorder.type_names import short
+
+WORD = 8  # a handle is told by its second, the first is the pointer to its object
 
 
 def label_places(record, answers):
     """Gives each handle and raw pointer the name of its place, and each handle its declared type where that is
     known."""
     for it in record.handles + record.raw_pointers:
-        it.label, declared = label_of(it.place, record, answers)
-        if hasattr(it, 'declared'):
+        it.label, declared = label_of(it.place, record, answers, WORD if isinstance(it, Handle) else 0)
+        if isinstance(it, Handle):
             it.declared = declared
 
 
-def label_of(place, record, answers):
+def label_of(place, record, answers, before):
+    """`before` are the bytes of it before its place."""
     if place.kind == 'object':
-        return label_in_object(place, record.blocks[place.number], answers)
+        return label_in_object(place, record.blocks[place.number], answers, before)
     if place.kind == 'deleter':
         return f'deleter of {short(record.blocks[place.number].name)}', ''
     if place.kind == 'static':
@@ -31,12 +35,12 @@ def label_of(place, record, answers):
     return 'heap memory that nothing points to', ''
 
 
-def label_in_object(place, block, answers):
+def label_in_object(place, block, answers, before):
     """`Class::member`, or the type and the byte."""
     declaring, path, declared = answers.members.get(block.name, {}).get(place.offset, ('', '', ''))
     if path:
         return f'{short(declaring)}::{path}', declared
-    return f'{short(block.name)} at byte {place.offset}', declared
+    return f'{short(block.name)} at byte {place.offset - before * (place.inner < 0)}', declared
 
 
 def is_beyond(block, offset, answers):

@@ -27,7 +27,7 @@ class Block:
     frames: list
     told_type: str = ''
     name: str = ''
-    made_at: str = ''
+    made: str = ''
 
     @property
     def is_live(self):

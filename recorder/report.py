@@ -13,8 +13,8 @@ def counted(counter):
 
 
 def kind_text(kind):
-    name, made_at = kind
-    return f'{name}, made at {made_at}' if made_at else name
+    name, made = kind
+    return f'{name}, made {made}' if made else name
 
 
 def leaked_lines(told):
@@ -90,7 +90,7 @@ def as_json(told):
         {
             'number': number,
             'type': short(block.name),
-            'made_at': block.made_at,
+            'made': block.made,
             'verdict': verdict(number),
             'reached_from': told.reached.get(number),
             'owners': block.uses,

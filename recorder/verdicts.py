@@ -25,7 +25,7 @@ class Told:
     def kind(self, number):
         """An object's type and the place of its making."""
         block = self.blocks[number - 1]
-        return type_names.short(block.name), block.made_at
+        return type_names.short(block.name), block.made
 
     def alarming_knots(self):
         return [it for it in self.answer.knots if it.objects[0] not in self.reached]

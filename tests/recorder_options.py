@@ -72,6 +72,21 @@ def no_frames():
     return differences(leaked=(ran.stderr.splitlines()[1], 'leaked 2 Node'))
 
 
+def no_debug_information():
+    """Members are told by byte, and places by function."""
+    with tempfile.TemporaryDirectory() as folder:
+        program = Path(folder, 'circle')
+        subprocess.run(['g++', 'circle.cc', '-o', program], check=True, cwd=PROGRAMS)
+        lines = record(program).stderr.splitlines()[1:5]
+    wanted = [
+        'leaked 2 Node, made in main',
+        'knot 2 Node, tied by Node at byte 0 1, Node at byte 16 1',
+        'weaken Node at byte 16',
+        'weaken Node at byte 0',
+    ]
+    return differences(lines=(lines, wanted))
+
+
 def streams_and_status():
     """The program's streams, arguments and exit status are its own."""
     text = '#include <iostream>\nint main(int n, char** a) { std::cout << std::cin.rdbuf() << a[n - 1]; return n; }'
@@ -185,6 +200,7 @@ CHECKS = [
     json_tells_all,
     dot_and_keep,
     no_frames,
+    no_debug_information,
     streams_and_status,
     a_snapshot_by_signal,
     children_are_told,
