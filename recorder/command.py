@@ -13,6 +13,12 @@ from recorder.record_text import read
 LEAKED, REFUSED = 3, 125
 
 
+def signal_number(name):
+    """The number of a signal, by its name with or without SIG, or by its number."""
+    named = getattr(signal, name if name.startswith('SIG') else f'SIG{name}', None)
+    return int(named) if named else int(signal.Signals(int(name)))
+
+
 def parse(words):
     text = 'Runs a C++ program, and tells which of its shared_ptr objects leak and which member to make weak.'
     parser = argparse.ArgumentParser('record', description=text, allow_abbrev=False)
@@ -20,7 +26,12 @@ def parse(words):
     parser.add_argument(
         '--frames', metavar='N', type=int, default=16, help='frames kept of each making (16; 0 is fast)'
     )
-    parser.add_argument('--now', metavar='SIGNAL', help='also tell what is there whenever the program gets SIGNAL')
+    parser.add_argument(
+        '--now',
+        metavar='SIGNAL',
+        type=signal_number,
+        help='also tell what is there whenever the program gets SIGNAL',
+    )
     parser.add_argument('--dot', metavar='FILE', help='draw the graph of owners, for Graphviz')
     parser.add_argument('--keep', metavar='DIR', help='keep what was read of memory, the graph and the map')
     parser.add_argument('--flags', action='store_true', help='print the flags for exact handles, for CXXFLAGS')
@@ -33,14 +44,6 @@ def parse(words):
     return options
 
 
-def signal_number(name):
-    if not name:
-        return 0
-    if name.isdigit():
-        return int(name)
-    return int(getattr(signal, name if name.startswith('SIG') else f'SIG{name}'))
-
-
 def say(line):
     print(line, file=sys.stderr, flush=True)
 
@@ -51,6 +54,8 @@ class Reports:
     def __init__(self, options, folder):
         self.options, self.folder = options, folder
         self.seen, self.told, self.refused = set(), [], []
+        for path in program.records(folder):
+            path.unlink()  # of an earlier run
 
     def look(self):
         for path in program.records(self.folder):
@@ -59,7 +64,10 @@ class Reports:
                 self.tell(path)
 
     def tell(self, path):
-        record = read(path)
+        try:
+            record = read(path)
+        except ValueError as why:
+            return self.refuse(f'of its record: {why}')
         if record.refused:
             return self.refuse(record.refused)
         if record.untyped and not record.blocks:
@@ -107,7 +115,7 @@ def run(options, folder, path, reports):
     if options.children:
         names['RECORDER_CHILDREN'] = '1'
     if options.now:
-        names['RECORDER_SIGNAL'] = str(signal_number(options.now))
+        names['RECORDER_SIGNAL'] = str(options.now)
     process = program.start((path, [options.program, *options.arguments]), names)
     status = program.wait(process, reports.look)
     reports.look()

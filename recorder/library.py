@@ -8,8 +8,10 @@ from pathlib import Path
 
 HERE = Path(__file__).resolve().parent
 SOURCES = HERE / 'library'
-# By its name a program that was linked with an older one takes the one that is loaded already.
-NAME = '-Wl,-soname,librecorder.so'
+# By its name a program that was linked with an older one takes the one that is loaded already. It brings its own libstdc++,
+# so that programs which have none get none.
+LINKING = ['-shared', '-pthread', '-Wl,-soname,librecorder.so', '-static-libstdc++', '-static-libgcc']
+LINKING += [f'-Wl,--version-script={SOURCES}/exported.map']
 FLAGS = ['-std=c++17', '-O2', '-g1', '-fPIC', '-fvisibility=hidden', '-fno-exceptions', '-pthread']
 
 
@@ -28,7 +30,7 @@ def sources():
 
 def key():
     """What the built library depends on."""
-    made_of = hashlib.sha256(' '.join([*FLAGS, NAME]).encode())
+    made_of = hashlib.sha256(' '.join([*FLAGS, *LINKING[:-1]]).encode())
     for path in sorted(SOURCES.iterdir()):
         made_of.update(path.read_bytes())
     return made_of.hexdigest()[:16]
@@ -46,7 +48,7 @@ def build():
             objects = [folder / f'{it.stem}.o' for it in sources()]
             with ThreadPoolExecutor(len(os.sched_getaffinity(0))) as pool:
                 list(pool.map(compile_one, sources(), objects))
-            subprocess.run(['g++', '-shared', '-pthread', NAME, '-o', partial, *objects, '-ldl'], check=True)
+            subprocess.run(['g++', *LINKING, '-o', partial, *objects, '-ldl'], check=True)
             partial.rename(library)
             for it in objects:
                 it.unlink()

@@ -85,5 +85,5 @@ def wait(process, look):
 
 def records(folder):
     """What the library has written, in the order of its writing."""
-    files = [it for it in Path(folder).glob('record.*') if it.suffix != '.part']
+    files = [it for it in Path(folder).iterdir() if re.fullmatch(r'record(\.\d+)+', it.name)]
     return sorted(files, key=lambda it: it.stat().st_mtime_ns)

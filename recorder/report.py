@@ -73,10 +73,17 @@ def lines(told):
     if told.reached:
         first += f', {len(told.reached)} that raw pointers reach'
     found = [first, *leaked_lines(told), *knot_texts(told), *reached_lines(told)]
-    unknown = kept_by_unknown(told)
+    return [*found, *doubt_lines(told), trust_line(told)]
+
+
+def doubt_lines(told):
+    unknown, record = kept_by_unknown(told), told.record
     if unknown:
-        found.append(f'record: {unknown} kept by owners whose place is not known')
-    return [*found, trust_line(told)]
+        yield f'record: {unknown} kept by owners whose place is not known'
+    if record.untyped:
+        yield f'record: {record.untyped} control blocks tell no type and are left out, as they have no RTTI; see --flags'
+    if not record.blocks and not any('libstdc++' in path for _, path in record.modules):
+        yield 'record: it loads no libstdc++; what it starts is told with --children'
 
 
 def as_json(told):
