@@ -1,0 +1,177 @@
+// Control blocks and their objects.
+#include <algorithm>
+#include <cstring>
+
+#include "hook_tables.h"
+#include "snapshot.h"
+
+namespace recorder {
+namespace {
+
+bool contains(const char* text, const char* part) { return text && std::strstr(text, part); }
+
+// The two counts behind the pointer to the virtual functions, where they may be counts.
+bool has_counts(Word at, int& uses, int& weaks) {
+  uses = reinterpret_cast<const int*>(at)[2];
+  weaks = reinterpret_cast<const int*>(at)[3];
+  return uses >= 0 && weaks >= 1 && uses < 1 << 28 && weaks < 1 << 28;
+}
+
+ControlBlock::Kind kind_of(const char* type) {
+  if (contains(type, "_Sp_counted_ptr_inplaceI")) return ControlBlock::IN_PLACE;
+  if (contains(type, "_Sp_counted_deleterI")) return ControlBlock::DELETER;
+  if (contains(type, "_Sp_counted_arrayI")) return ControlBlock::ARRAY;
+  return ControlBlock::PLAIN;
+}
+
+// Whether the allocator in the name of a control block is std::allocator, which takes no room: `SaIvE` or
+// `SaIS1_E` or alike before the last argument.
+bool has_plain_allocator(const char* type) {
+  std::string name = type ? type : "";
+  auto end = name.rfind("ELN9__gnu_cxx12_Lock_policyE");
+  auto begin = name.rfind("SaI", end);
+  return end != name.npos && begin != name.npos && end - begin <= 8;
+}
+
+}  // namespace
+
+void Snapshot::add_block(Word at, int chunk, const VirtualTable& table) {
+  ControlBlock block;
+  block.at = at;
+  block.chunk = chunk;
+  block.type = table.is_control_block ? table.type : nullptr;
+  block.kind = kind_of(block.type);
+  has_counts(at, block.uses, block.weaks);
+  block.number = chunks[chunk].number;
+  block.trace = chunks[chunk].trace;
+  if (Birth* birth = births.of(at).find(at)) {
+    block.is_hooked = true;
+    block.number = birth->number;
+    block.trace = birth->trace;
+    block.object = birth->object;
+    block.object_end = birth->size ? birth->object + birth->size : 0;
+    block.told = birth->type;
+    if (!block.type && block.object > at && block.object < chunks[chunk].to)
+      block.kind = ControlBlock::IN_PLACE;
+  }
+  blocks.push_back(block);
+}
+
+void Snapshot::find_blocks() {
+  std::vector<std::pair<Word, int>> untyped;
+  for (std::size_t chunk = 0; chunk < chunks.size(); chunk++)
+    each_word(chunks[chunk].from, chunks[chunk].to - WORD, [&](Word at, Word word) {
+      const VirtualTable& table = tables.of(word);
+      int uses, weaks;
+      if (!table.is_control_block && !table.is_untyped) return;
+      if (!has_counts(at, uses, weaks)) return;
+      bool is_hooked = births.of(at).find(at) != nullptr;
+      if (table.is_control_block || is_hooked)
+        add_block(at, static_cast<int>(chunk), table);
+      else if (uses)
+        untyped.push_back({at, uses + weaks});
+    });
+  std::sort(blocks.begin(), blocks.end(),
+            [](auto& a, auto& b) { return a.number != b.number ? a.number < b.number : a.at < b.at; });
+  for (std::size_t number = 0; number < blocks.size(); number++) {
+    auto& chunk = chunks[blocks[number].chunk];
+    bool is_alone =
+        !chunk.has_blocks && (blocks[number].at == chunk.from || blocks[number].kind == ControlBlock::ARRAY);
+    chunk.is_pool |= !is_alone;
+    chunk.has_blocks = true;
+    block_at[blocks[number].at] = static_cast<int>(number);
+  }
+  for (auto& it : blocks)
+    if (chunks[it.chunk].is_pool && !it.is_hooked) it.trace = nullptr;  // which tells of the pool's making
+  for (auto& it : untyped) block_at.emplace(it.first, -it.second);
+  if (!untyped.empty()) find_untyped();
+}
+
+// Of those that may be blocks without a type: how many have a handle, and no more than their counts say.
+void Snapshot::find_untyped() {
+  std::map<Word, int> found;
+  Word before = 0;
+  auto visit = [&](Word, Word word) {
+    auto it = block_at.find(word & ~Word(1));
+    if (it != block_at.end() && it->second < 0 && before && is_pointer(before)) found[it->first]++;
+    before = word;
+  };
+  for (auto& it : chunks) before = 0, each_word(it.from, it.to, visit);
+  for (auto& it : areas) before = 0, each_word(it, visit);
+  for (auto& it : found) untyped_blocks += it.second <= -block_at[it.first];
+  for (auto it = block_at.begin(); it != block_at.end();)
+    it = it->second < 0 ? block_at.erase(it) : std::next(it);
+}
+
+void Snapshot::find_objects() {
+  std::vector<std::vector<Word>> stored(blocks.size());
+  for (auto& it : handles) stored[it.block].push_back(it.points);
+  for (std::size_t number = 0; number < blocks.size(); number++) {
+    auto& block = blocks[number];
+    place_object(block, stored[number]);
+    if (block.is_live() && block.object_end > block.object)
+      objects.push_back({block.object, static_cast<int>(number)});
+  }
+  std::sort(objects.begin(), objects.end());
+}
+
+namespace {
+
+// The pointer in a block with a deleter that also its handles have, else the first to the beginning of a chunk.
+Word owned_by(const ControlBlock& block, const Snapshot& all, const std::vector<Word>& stored) {
+  Word found = 0;
+  each_word(block.at + 2 * WORD, all.chunks[block.chunk].to, [&](Word, Word word) {
+    int chunk = all.chunk_of(word);
+    if (chunk < 0 || chunk == block.chunk) return;
+    if (std::find(stored.begin(), stored.end(), word) != stored.end())
+      found = word;
+    else if (!found && all.chunks[chunk].from == word)
+      found = word;
+  });
+  return found;
+}
+
+Word in_place(const ControlBlock& block, const Snapshot& all, const std::vector<Word>& stored) {
+  auto& chunk = all.chunks[block.chunk];
+  Word first = block.at + std::max<Word>(2 * WORD, chunk.is_pool ? 0 : chunk.alignment);
+  if (has_plain_allocator(block.type)) return first;
+  Word found = 0;  // an allocator with a state lies before the object
+  for (Word it : stored)
+    if (it >= first && it < first + 64 && (!found || it < found)) found = it;
+  return found ? found : first;
+}
+
+}  // namespace
+
+void Snapshot::place_object(ControlBlock& block, const std::vector<Word>& stored) {
+  auto words = reinterpret_cast<const Word*>(block.at);
+  if (block.kind == ControlBlock::ARRAY) {
+    block.object = words[4];
+    block.object_end = block.at;
+  } else if (!block.object) {
+    if (block.kind == ControlBlock::PLAIN) block.object = words[2];
+    if (block.kind == ControlBlock::DELETER) block.object = owned_by(block, *this, stored);
+    if (block.kind == ControlBlock::IN_PLACE) block.object = in_place(block, *this, stored);
+  }
+  int chunk = chunk_of(block.object);
+  if (chunk < 0 || !block.is_live()) {
+    block.object_end = block.object;
+    return;
+  }
+  bool is_part = block.object - chunks[chunk].from > std::max<Word>(2 * WORD, chunks[chunk].alignment);
+  if (block.kind == ControlBlock::DELETER && is_part) {  // (an array may have its length before it)
+    block.object_end = block.object;
+    return;
+  }
+  auto& table = tables.of(*reinterpret_cast<const Word*>(block.object));
+  if (block.object % WORD == 0 && table.type) {
+    block.dynamic = table.type;
+    Word top = block.object + table.to_top;
+    if (block.kind != ControlBlock::IN_PLACE && chunk_of(top) == chunk) block.object = top;
+  }
+  if (block.object_end <= block.object) block.object_end = chunks[chunk].to;
+  auto next = block_at.upper_bound(block.object);
+  if (next != block_at.end()) block.object_end = std::min(block.object_end, next->first);
+}
+
+}  // namespace recorder

@@ -1,0 +1,66 @@
+// Handles: what the hooks told of, as far as memory has it, and each word that holds the address of a control
+// block.
+#include "hook_tables.h"
+#include "snapshot.h"
+
+namespace recorder {
+
+// Whether it lies in the room of an object that has ended, whose block weak pointers keep.
+bool Snapshot::is_dead(Word at) const {
+  int chunk = chunk_of(at);
+  if (chunk < 0 || !chunks[chunk].has_blocks) return false;
+  auto next = block_at.upper_bound(at);
+  if (next != block_at.end()) {
+    auto& block = blocks[next->second];
+    if (block.chunk == chunk && block.kind == ControlBlock::ARRAY) return !block.is_live();
+  }
+  if (next == block_at.begin()) return false;
+  auto& block = blocks[std::prev(next)->second];
+  return block.chunk == chunk && block.kind == ControlBlock::IN_PLACE && !block.is_live();
+}
+
+// `before` is the word before it, in which a handle has the pointer to its object.
+void Snapshot::add_candidate(Word at, Word before, Word word) {
+  auto block = block_at.find(word & ~Word(1));  // (an atomic pointer's lock is the lowest bit)
+  if (block == block_at.end() || (before && !is_pointer(before)) || is_dead(at)) return;
+  if (hooked && !handle_at.emplace(at, true).second) return;
+  handles.push_back({Handle::EITHER, at, block->second, before});
+}
+
+void Snapshot::find_handles() {
+  std::vector<int> owners(blocks.size()), weaks(blocks.size());
+  holdings.each([&](Word at, const Holding& it) {
+    auto block = block_at.find(it.block);
+    bool is_there = chunk_of(at) >= 0 || area_of(at) >= 0;
+    auto words = reinterpret_cast<const Word*>(at);
+    if (block == block_at.end() || !is_there || (*words & ~Word(1)) != it.block) {
+      lost_handles++;
+      return;
+    }
+    handles.push_back({it.is_weak ? Handle::WEAK : Handle::OWNER, at, block->second, words[-1]});
+    handle_at.emplace(at, true);
+    (it.is_weak ? weaks : owners)[block->second]++;
+  });
+  bool all_met = hooked;
+  for (std::size_t number = 0; number < blocks.size(); number++) {
+    auto& block = blocks[number];
+    all_met &= owners[number] == block.uses && weaks[number] == block.weaks - (block.uses > 0);
+  }
+  if (all_met) return;
+  for (auto& it : chunks) {
+    Word before = 0;
+    each_word(it.from, it.to, [&](Word at, Word word) {
+      if (word) add_candidate(at, before, word);
+      before = word;
+    });
+  }
+  for (auto& it : areas) {
+    Word before = 0;
+    each_word(it, [&](Word at, Word word) {
+      if (word) add_candidate(at, before, word);
+      before = word;
+    });
+  }
+}
+
+}  // namespace recorder

@@ -1,0 +1,125 @@
+#include "modules.h"
+
+#include <link.h>
+#include <pthread.h>
+#include <unistd.h>
+
+#include <algorithm>
+#include <cstring>
+
+namespace recorder {
+namespace {
+
+Word thread_from, thread_to;
+
+// What glibc keeps of a thread lies above its variables, and its own pointers with it.
+constexpr Word OF_A_THREAD = 2304;
+
+Word as_word(const void* pointer) { return reinterpret_cast<Word>(pointer); }
+
+std::string path_of(const dl_phdr_info& info) {
+  if (info.dlpi_name && *info.dlpi_name) return info.dlpi_name;
+  char path[4096];
+  ssize_t size = readlink("/proc/self/exe", path, sizeof path);
+  return std::string(path, size > 0 ? size : 0);
+}
+
+bool has_address(const dl_phdr_info& info, Word address) {
+  for (int at = 0; at < info.dlpi_phnum; at++) {
+    auto& part = info.dlpi_phdr[at];
+    Word from = info.dlpi_addr + part.p_vaddr;
+    if (part.p_type == PT_LOAD && address >= from && address < from + part.p_memsz) return true;
+  }
+  return false;
+}
+
+int add_module(dl_phdr_info* info, std::size_t, void* to) {
+  auto& all = *static_cast<Modules*>(to);
+  if (has_address(*info, as_word(&thread_from))) return 0;  // the recorder itself
+  int number = static_cast<int>(all.modules.size());
+  all.modules.push_back({path_of(*info), info->dlpi_addr});
+  for (int at = 0; at < info->dlpi_phnum; at++) {
+    auto& part = info->dlpi_phdr[at];
+    if (part.p_type != PT_LOAD || !(part.p_flags & PF_R)) continue;
+    Word from = info->dlpi_addr + part.p_vaddr;
+    all.segments.push_back(
+        {from, from + part.p_memsz, number, !!(part.p_flags & PF_W), !!(part.p_flags & PF_X)});
+  }
+  return 0;
+}
+
+int add_thread_variables(dl_phdr_info* info, std::size_t, void*) {
+  Word at = as_word(info->dlpi_tls_data), self = as_word(reinterpret_cast<void*>(pthread_self()));
+  if (at && at < self && self - at < 1 << 20) thread_from = std::min(thread_from, at);
+  return 0;
+}
+
+bool begins_with(const char* text, const char* with) { return !std::strncmp(text, with, std::strlen(with)); }
+
+bool is_control_block(const char* type) {
+  static const char* const BEGINNINGS[] = {"St23_Sp_counted_ptr_inplaceI", "St15_Sp_counted_ptrI",
+                                           "St19_Sp_counted_deleterI", "St17_Sp_counted_arrayI"};
+  return std::any_of(std::begin(BEGINNINGS), std::end(BEGINNINGS),
+                     [&](auto it) { return begins_with(type, it); });
+}
+
+}  // namespace
+
+void know_thread_variables() {
+  thread_from = as_word(reinterpret_cast<void*>(pthread_self()));
+  thread_to = thread_from + OF_A_THREAD;
+  dl_iterate_phdr(add_thread_variables, nullptr);
+}
+
+Modules::Modules() : thread_from(recorder::thread_from), thread_to(recorder::thread_to) {
+  dl_iterate_phdr(add_module, this);
+  std::sort(segments.begin(), segments.end(), [](auto& a, auto& b) { return a.from < b.from; });
+}
+
+const Segment* Modules::segment_of(Word address) const {
+  auto after = std::upper_bound(segments.begin(), segments.end(), address,
+                                [](Word word, const Segment& it) { return word < it.from; });
+  if (after == segments.begin()) return nullptr;
+  const Segment& it = after[-1];
+  return address < it.to ? &it : nullptr;
+}
+
+const VirtualTable& VirtualTables::of(Word word) {
+  if (word % WORD || !modules.has(word)) return none;
+  auto found = seen.find(word);
+  if (found == seen.end()) found = seen.emplace(word, read(word)).first;
+  return found->second;
+}
+
+VirtualTable VirtualTables::read(Word word) const {
+  VirtualTable table;
+  const Segment* segment = modules.segment_of(word);
+  if (!segment || word - 2 * WORD < segment->from) return table;
+  auto words = reinterpret_cast<const Word*>(word);
+  table.to_top = static_cast<std::ptrdiff_t>(words[-2]);
+  table.type = words[-1] ? name_at(words[-1]) : nullptr;
+  table.is_control_block = table.type && is_control_block(table.type);
+  if (words[-1] || words[-2] || word + 5 * WORD > segment->to) return table;
+  table.is_untyped = std::all_of(words, words + 5, [&](Word function) {
+    const Segment* code = modules.segment_of(function);
+    return code && code->is_code;
+  });
+  return table;
+}
+
+// The name of a type_info: its second word, a text of printable characters.
+const char* VirtualTables::name_at(Word type_info) const {
+  const Segment* segment = modules.segment_of(type_info);
+  if (type_info % WORD || !segment || type_info + 2 * WORD > segment->to) return nullptr;
+  auto words = reinterpret_cast<const Word*>(type_info);
+  const Segment* text = modules.segment_of(words[1]);
+  if (!modules.has(words[0]) || !text) return nullptr;
+  auto name = reinterpret_cast<const char*>(words[1]);
+  auto end = reinterpret_cast<const char*>(text->to);
+  if (*name == '*') name++;
+  const char* at = name;
+  while (at<end&& * at> ' ' && *at <= '~') at++;
+  return at < end && at > name && !*at ? name : nullptr;
+}
+
+}  // namespace recorder

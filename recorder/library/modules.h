@@ -1,0 +1,60 @@
+// The program and its libraries in memory, and the names of types in them.
+#pragma once
+#include <string>
+#include <unordered_map>
+#include <vector>
+
+#include "base.h"
+
+namespace recorder {
+
+struct Module {
+  std::string path;
+  Word base;
+};
+
+struct Segment {
+  Word from, to;
+  int module;
+  bool is_writable, is_code;
+};
+
+class Modules {
+public:
+  Modules();  // reads what is loaded; no thread may stand still yet
+
+  const Segment* segment_of(Word address) const;
+  bool has(Word address) const { return segment_of(address) != nullptr; }
+
+  std::vector<Module> modules;
+  std::vector<Segment> segments;  // in the order of their addresses
+
+  // The thread-local variables of the main thread.
+  Word thread_from = 0, thread_to = 0;
+};
+
+// What a word says that may be a pointer to a table of virtual functions.
+struct VirtualTable {
+  const char* type = nullptr;  // its mangled name; null where the word is no such pointer, or has no type
+  std::ptrdiff_t to_top = 0;
+  bool is_control_block = false;
+  bool is_untyped = false;  // five virtual functions and no type, as a control block has it without RTTI
+};
+
+class VirtualTables {
+public:
+  explicit VirtualTables(const Modules& modules) : modules(modules) {}
+  const VirtualTable& of(Word word);
+
+private:
+  VirtualTable read(Word word) const;
+  const char* name_at(Word type_info) const;
+
+  const Modules& modules;
+  std::unordered_map<Word, VirtualTable> seen;
+  VirtualTable none;
+};
+
+void know_thread_variables();  // of the main thread, which has to call it
+
+}  // namespace recorder

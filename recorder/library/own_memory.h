@@ -1,0 +1,28 @@
+// Memory of the recorder, apart from the program's heap.
+#pragma once
+#include "base.h"
+
+namespace recorder {
+
+void* own_pages(std::size_t bytes);
+void give_own_pages(void* pages, std::size_t bytes);
+
+// While one lives, what its thread takes by malloc comes from a region of its own, and is given back as a whole
+// at its end: threads that stand still may hold the locks of the program's heap.
+class OwnRegion {
+public:
+  OwnRegion();
+  ~OwnRegion();
+  OwnRegion(const OwnRegion&) = delete;
+
+  static bool is_used() { return used; }
+  static void* take(std::size_t bytes, std::size_t alignment);  // null where nothing is left
+  static bool has(const void* memory) { return reinterpret_cast<Word>(memory) - from < to - from; }
+  static std::size_t size_of(const void* memory);
+
+private:
+  static RECORDER_THREAD bool used;
+  static Word from, to;
+};
+
+}  // namespace recorder

@@ -1,0 +1,89 @@
+#include "snapshot.h"
+
+#include <sys/uio.h>
+#include <unistd.h>
+
+#include <algorithm>
+
+namespace recorder {
+namespace {
+
+// A stack's words, which may vanish while they are read.
+std::vector<Word> copied(Word from, Word to) {
+  std::vector<Word> words((to - from) / WORD);
+  iovec local{words.data(), words.size() * WORD}, remote{reinterpret_cast<void*>(from), local.iov_len};
+  ssize_t got = process_vm_readv(getpid(), &local, 1, &remote, 1, 0);
+  if (got < 0)
+    words.assign(reinterpret_cast<Word*>(from), reinterpret_cast<Word*>(from) + words.size());
+  else
+    words.resize(got / WORD);
+  return words;
+}
+
+bool is_of_libc(const std::string& path) {
+  auto name = path.rfind('/');
+  return path.compare(name == path.npos ? 0 : name + 1, 5, "libc.") == 0;
+}
+
+template <typename Sorted>
+int place_below(const Sorted& sorted, Word address) {
+  auto after = std::upper_bound(sorted.begin(), sorted.end(), address,
+                                [](Word word, const auto& it) { return word < it.from; });
+  return static_cast<int>(after - sorted.begin()) - 1;
+}
+
+}  // namespace
+
+Snapshot::Snapshot(const Modules& modules, const std::vector<LivingStack>& stacks)
+    : modules(modules), tables(modules) {
+  for (auto& it : modules.segments)
+    if (it.is_writable)
+      areas.push_back(
+          {Area::STATIC, it.module, it.from, it.to, {}, is_of_libc(modules.modules[it.module].path)});
+  if (modules.thread_from)
+    areas.push_back({Area::THREAD_LOCAL, 0, modules.thread_from, modules.thread_to, {}, false});
+  for (auto& it : stacks) {
+    Word from = (it.from + WORD - 1) & ~(WORD - 1);
+    if (from < it.to) areas.push_back({Area::STACK, it.thread, from, it.to, copied(from, it.to), false});
+  }
+  recorder::chunks.each([&](Word from, const Chunk& it) {
+    Word to = from + it.size;
+    chunks.push_back({from, to, to, it.number, it.trace, it.alignment, {}});
+  });
+  std::sort(chunks.begin(), chunks.end(), [](auto& a, auto& b) { return a.from < b.from; });
+  find_blocks();
+  find_handles();
+  find_objects();
+  find_holders();
+  find_raw_pointers();
+}
+
+int Snapshot::chunk_of(Word address) const {
+  if (chunks.empty() || address < chunks.front().from || address >= chunks.back().to) return -1;
+  int place = place_below(chunks, address);
+  return place >= 0 && address < chunks[place].to ? place : -1;
+}
+
+int Snapshot::object_of(Word address) const {
+  auto after = std::upper_bound(objects.begin(), objects.end(), std::pair<Word, int>(address, 1 << 30));
+  if (after == objects.begin()) return -1;
+  int block = after[-1].second;
+  return address < blocks[block].object_end ? block : -1;
+}
+
+int Snapshot::area_of(Word address) const {
+  for (std::size_t place = 0; place < areas.size(); place++)
+    if (address >= areas[place].from && address < areas[place].to) return static_cast<int>(place);
+  return -1;
+}
+
+Holder Snapshot::holder_of(Word address) const {
+  int object = object_of(address);
+  if (object >= 0) return {Holder::OBJECT, object};
+  int chunk = chunk_of(address);
+  if (chunk >= 0) return chunks[chunk].holder;
+  int area = area_of(address);
+  return area >= 0 ? Holder{Holder::AREA, area} : Holder{};
+}
+
+}  // namespace recorder

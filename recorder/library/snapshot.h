@@ -1,0 +1,132 @@
+// What lies in memory at one moment: chunks, control blocks, handles, and who holds each chunk.
+#pragma once
+#include <map>
+#include <string>
+#include <vector>
+
+#include "chunks.h"
+#include "modules.h"
+#include "threads.h"
+
+namespace recorder {
+
+// Whoever may hold something: an object by its block's number, or an area.
+struct Holder {
+  enum Kind { NOBODY, OBJECT, AREA } kind = NOBODY;
+  int number = -1;
+
+  bool operator==(const Holder& other) const { return kind == other.kind && number == other.number; }
+  bool operator!=(const Holder& other) const { return !(*this == other); }
+  bool operator<(const Holder& other) const {
+    return kind != other.kind ? kind < other.kind : number < other.number;
+  }
+};
+
+// Memory that is there without malloc.
+struct Area {
+  enum Kind { STATIC, THREAD_LOCAL, STACK } kind;
+  int number;  // its module or thread
+  Word from, to;
+  std::vector<Word> copy;  // its words, where it may change
+  bool is_of_malloc =
+      false;  // where it keeps free chunks: their heads lie in the last word of the chunk before
+};
+
+struct LiveChunk {
+  Word from, to;
+  Word filled;  // the end of what a vector has filled, or `to`
+  std::uint64_t number;
+  const Trace* trace;
+  std::size_t alignment;
+  Holder holder;
+  Word origin = 0;  // where in the holder the pointers begin that lead here
+  bool has_blocks = false;
+  bool is_pool = false;  // control blocks lie in the midst of it
+};
+
+struct ControlBlock {
+  enum Kind { IN_PLACE, PLAIN, DELETER, ARRAY } kind = PLAIN;
+  Word at;
+  int chunk;
+  Word object = 0, object_end = 0;
+  const char* type = nullptr;     // of the control block; null without RTTI
+  const char* told = nullptr;     // what a hook told of the object's type
+  const char* dynamic = nullptr;  // of the object, where it has virtual functions
+  int uses, weaks;
+  std::uint64_t number;
+  const Trace* trace = nullptr;
+  bool is_hooked = false;
+
+  bool is_live() const { return uses > 0; }
+};
+
+struct Handle {
+  enum Kind { OWNER, WEAK, EITHER } kind;
+  Word at;  // of its word that points to the block
+  int block;
+  Word points;  // what its other word points to
+};
+
+// A word, not a handle's, that points from one holder's memory into another's.
+struct RawPointer {
+  Word at;
+  int to;
+  Word word;
+};
+
+class Snapshot {
+public:
+  Snapshot(const Modules& modules, const std::vector<LivingStack>& stacks);
+
+  int chunk_of(Word address) const;   // -1 where none has it
+  int object_of(Word address) const;  // a block's number; -1 where no object has the address
+  int area_of(Word address) const;
+  bool is_pointer(Word word) const { return chunk_of(word) >= 0 || modules.has(word); }
+  Holder holder_of(Word address) const;
+
+  std::vector<Area> areas;
+  std::vector<LiveChunk> chunks;     // in the order of their addresses
+  std::vector<ControlBlock> blocks;  // in the order of their making
+  std::vector<Handle> handles;
+  std::vector<RawPointer> raw_pointers;
+  std::size_t untyped_blocks = 0;
+  std::size_t lost_handles = 0;  // that hooks told of, and that aren't there any more
+
+  const Modules& modules;
+
+private:
+  friend class Spreading;
+
+  VirtualTables tables;
+
+  void find_blocks();
+  void find_untyped();
+  void add_block(Word at, int chunk, const VirtualTable& table);
+  void find_handles();
+  void add_candidate(Word at, Word before, Word word);
+  bool is_dead(Word at) const;
+  void find_objects();
+  void place_object(ControlBlock& block, const std::vector<Word>& stored);
+  void find_holders();
+  void find_raw_pointers();
+
+  std::map<Word, int> block_at;
+  std::vector<std::pair<Word, int>> objects;  // by address
+  std::map<Word, bool> handle_at;             // (only where hooks tell of handles)
+};
+
+// Calls visit(address, word) for each whole word.
+template <typename Visit>
+void each_word(Word from, Word to, Visit visit) {
+  for (Word at = (from + WORD - 1) & ~(WORD - 1); at + WORD <= to; at += WORD)
+    visit(at, *reinterpret_cast<const Word*>(at));
+}
+
+template <typename Visit>
+void each_word(const Area& area, Visit visit) {
+  if (area.copy.empty()) return each_word(area.from, area.to, visit);
+  Word at = area.from;
+  for (Word word : area.copy) visit(at, word), at += WORD;
+}
+
+}  // namespace recorder

@@ -1,0 +1,42 @@
+// The program's threads, standing still for a look at memory.
+#pragma once
+#include <sys/types.h>
+
+#include <vector>
+
+#include "base.h"
+
+namespace recorder {
+
+struct LivingStack {
+  pid_t thread;
+  Word from, to;  // from its newest frame up
+};
+
+// Notes where the stack of this thread lies; a thread does so at its first allocation.
+extern RECORDER_THREAD bool is_known;
+void note_this_thread();
+inline void know_this_thread() {
+  if (!is_known) note_this_thread();
+}
+
+bool is_on_this_stack(Word address);
+
+// Where the stack ends that `address` lies in, for a thread that noted it; else the end of the mapping.
+Word end_of_stack(pid_t thread, Word address);
+
+// While one lives, all other threads stand still: those in system calls where they are, the others in a
+// signal's handler.
+class AllStandStill {
+public:
+  AllStandStill();
+  ~AllStandStill();
+  AllStandStill(const AllStandStill&) = delete;
+
+  const std::vector<LivingStack>& stacks() const { return found; }
+
+private:
+  std::vector<LivingStack> found;
+};
+
+}  // namespace recorder

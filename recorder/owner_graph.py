@@ -1,0 +1,127 @@
+"""The graph of owners, and its answer: by `sptr owners` where that is built, else by this folder's own search."""
+import collections
+import functools
+import subprocess
+from dataclasses import dataclass, field
+from pathlib import Path
+
+from recorder import owner_search
+
+PROVED = Path(__file__).resolve().parent.parent / 'crates/sptr/out/sptr'
+LONGEST_LABEL = 1000
+SAME_CUTS = 2000
+
+
+@dataclass
+class Graph:
+    """Objects by number from 1; owners and weak ones as (from, to, label), roots as (to, label)."""
+
+    objects: list = field(default_factory=list)
+    owners: list = field(default_factory=list)
+    weaks: list = field(default_factory=list)
+    roots: list = field(default_factory=list)
+
+    def text(self):
+        lines = [f'object {number} {label}' for number, label in enumerate(self.objects, 1)]
+        lines += [f'owner {a} {b} {label}' for a, b, label in self.owners]
+        lines += [f'weak {a} {b} {label}' for a, b, label in self.weaks]
+        lines += [f'root {to} {label}' for to, label in self.roots]
+        return ''.join(f'{line.rstrip()}\n' for line in lines)
+
+
+@dataclass
+class Knot:
+    objects: list
+    ties: list = field(default_factory=list)
+    cuts: list = field(default_factory=list)
+    weakens: list = field(default_factory=list)
+
+
+@dataclass
+class Answer:
+    verdicts: dict = field(default_factory=dict)
+    leaked: set = field(default_factory=set)
+    knots: list = field(default_factory=list)
+    is_proved: bool = False
+
+
+@functools.lru_cache(maxsize=None)
+def plain(label):
+    """A label of the bytes that the graph's text may have."""
+    text = ''.join(it if '!' <= it <= '~' else ' ' if it == ' ' else '?' for it in label)
+    return ' '.join(text.split())[:LONGEST_LABEL].strip()
+
+
+def read_answer(text, labels):
+    answer = Answer()
+    for line in text.splitlines():
+        word, rest = line.lstrip().split(' ', 1)
+        if word == 'object':
+            number, verdict = rest.split(' ', 2)[:2]
+            answer.verdicts[int(number)] = verdict
+            if verdict == 'leaked':
+                answer.leaked.add(int(number))
+        elif word == 'knot':
+            answer.knots.append(Knot([int(it) for it in rest.split()]))
+        elif word in ('tie', 'cut'):
+            a, b, label = rest.split(' ', 2)
+            knot = answer.knots[-1]
+            (knot.ties if word == 'tie' else knot.cuts).append((int(a), int(b), label))
+        elif word == 'weaken':
+            answer.knots[-1].weakens.append(labels_in(rest, labels))
+    return answer
+
+
+def labels_in(text, labels):
+    """One label, or the two of `A and B`."""
+    if text in labels:
+        return (text,)
+    parts = text.split(' and ')
+    pairs = ((' and '.join(parts[:at]), ' and '.join(parts[at:])) for at in range(1, len(parts)))
+    return next((it for it in pairs if it[0] in labels and it[1] in labels), (text,))
+
+
+def ask(graph):
+    """The answer to a graph, and whether a proved program told it."""
+    text, labels = graph.text(), {label for _, _, label in graph.owners}
+    if PROVED.is_file():
+        ran = subprocess.run([PROVED, 'owners'], input=text, capture_output=True, text=True)
+        if (
+            ran.returncode in (0, 3)
+            and ran.stdout.splitlines()[-1:]
+            and ran.stdout.splitlines()[-1].startswith('objects ')
+        ):
+            answer = read_answer(ran.stdout, labels)
+            answer.is_proved = True
+            return answer
+    return read_answer(owner_search.answer(text, with_cuts=len(graph.objects) <= SAME_CUTS), labels)
+
+
+def graph_of(record, counts):
+    """The graph of the objects that are left. Returns it with the number of each block's object, and what was
+    met: an owner that a block counts and nobody found is a root."""
+    graph = Graph()
+    numbers = {}
+    for at, block in enumerate(record.blocks):
+        if block.is_live:
+            graph.objects.append(plain(block.name))
+            numbers[at] = len(graph.objects)
+    for it in record.handles:
+        if it.block not in numbers:
+            continue
+        to, label = numbers[it.block], plain(it.label)
+        holder = numbers.get(it.place.number) if it.place.kind in ('object', 'deleter') else None
+        if it.kind == 'weak':
+            if holder:
+                graph.weaks.append((holder, to, label))
+        elif holder:
+            graph.owners.append((holder, to, label))
+        else:
+            graph.roots.append((to, label))
+    for at, number in numbers.items():
+        graph.roots += [(number, 'an owner that was not found')] * max(counts[at].owners_missing, 0)
+    return graph, numbers
+
+
+def tied_by(knot):
+    return collections.Counter(label for _, _, label in knot.ties)

@@ -1,0 +1,102 @@
+"""Reads what the library wrote of a process's memory."""
+from dataclasses import dataclass, field
+from typing import NamedTuple
+
+
+class Place(NamedTuple):
+    """Where a word lies: in an object, a control block with a deleter, a static, a thread's variables or stack,
+    or on the heap. `inner` is its byte in a chunk that pointers lead to from `offset`, or -1."""
+
+    kind: str
+    number: int
+    offset: int
+    inner: int
+
+
+@dataclass
+class Block:
+    at: int
+    object: int
+    size: int
+    uses: int
+    weaks: int
+    kind: str
+    in_pool: bool
+    control_type: str
+    dynamic_type: str
+    frames: list
+    told_type: str = ''
+    name: str = ''
+    made: str = ''
+
+    @property
+    def is_live(self):
+        return self.uses > 0
+
+
+@dataclass
+class Handle:
+    kind: str
+    block: int
+    place: Place
+    label: str = ''
+    declared: str = ''
+
+
+@dataclass
+class RawPointer:
+    to: int
+    to_byte: int
+    place: Place
+    label: str = ''
+
+
+@dataclass
+class Record:
+    how: str = ''
+    when: str = ''
+    refused: str = ''
+    modules: list = field(default_factory=list)
+    blocks: list = field(default_factory=list)
+    handles: list = field(default_factory=list)
+    raw_pointers: list = field(default_factory=list)
+    untyped: int = 0
+    lost: int = 0
+
+
+def place_of(words):
+    return Place(words[0], int(words[1]), int(words[2]), int(words[3]))
+
+
+def block_of(words):
+    at, start = int(words[0], 16), int(words[1], 16)
+    size, uses, weaks = map(int, words[2:5])
+    frames = [int(it, 16) for it in words[9:]]
+    return Block(at, start, size, uses, weaks, words[5], words[6] == '1', words[7], words[8], frames)
+
+
+def read(path):
+    """The record in a file, whose last line has to be `end`."""
+    record, line = Record(), ''
+    with open(path, errors='replace') as lines:
+        for line in lines:
+            kind, *words = line.split()
+            if kind == 'handle':
+                record.handles.append(Handle(words[0], int(words[1]), place_of(words[2:])))
+            elif kind == 'raw':
+                record.raw_pointers.append(RawPointer(int(words[0]), int(words[1]), place_of(words[2:])))
+            elif kind == 'block':
+                record.blocks.append(block_of(words[1:]))
+            elif kind == 'told':
+                record.blocks[int(words[0])].told_type = line.split(' ', 2)[2].strip()
+            elif kind == 'module':
+                record.modules.append((int(words[0], 16), line.split(' ', 2)[2].rstrip('\n')))
+            elif kind == 'recorded':
+                record.how, record.when = words
+            elif kind == 'refused':
+                record.refused = line.split(' ', 1)[1].strip()
+            elif kind in ('untyped', 'lost'):
+                setattr(record, kind, int(words[0]))
+    if line.strip() != 'end':
+        raise ValueError('it is not whole')
+    return record

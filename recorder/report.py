@@ -1,0 +1,142 @@
+"""The report in words, and the same for other programs."""
+import collections
+import json
+
+from recorder import owner_graph, verdicts
+from recorder.type_names import short
+
+MOST_PAIRS = 6
+
+
+def counted(counter):
+    return ', '.join(f'{count} {what}' for what, count in counter.most_common())
+
+
+def kind_text(kind):
+    name, made = kind
+    return f'{name}, made {made}' if made else name
+
+
+def leaked_lines(told):
+    counts = collections.Counter(told.kind(it) for it in sorted(told.alarming))
+    return [f'leaked {count} {kind_text(kind)}' for kind, count in counts.most_common()]
+
+
+def reached_lines(told):
+    counts = collections.Counter((told.kind(it), told.reached[it]) for it in sorted(told.reached))
+    text = 'reached {} {}, by a raw pointer from {}'
+    return [text.format(count, kind_text(kind), label) for (kind, label), count in counts.most_common()]
+
+
+def weaken_lines(told, knot):
+    if told.is_owned_from_outside(knot):
+        return ['weaken the knot that owns this one']
+    ordered = verdicts.ordered_weakens(knot)
+    lines = [f'weaken {" and ".join(it)}' for it in ordered[:MOST_PAIRS]]
+    if len(ordered) > MOST_PAIRS:
+        lines.append(f'weaken or one of {len(ordered) - MOST_PAIRS} more pairs')
+    return lines or ['weaken more than two members: no single one suffices, and no two']
+
+
+def knot_texts(told):
+    """The lines of each knot, equal ones once, with how many there are."""
+    texts = collections.Counter()
+    for knot in told.alarming_knots():
+        types = collections.Counter(told.kind(it)[0] for it in knot.objects)
+        ties = ', '.join(f'{label} {count}' for label, count in owner_graph.tied_by(knot).most_common())
+        texts[(f'knot {counted(types)}, tied by {ties}', *weaken_lines(told, knot))] += 1
+    for (first, *rest), count in texts.items():
+        yield from [first if count == 1 else f'{first}, {count} times', *rest]
+
+
+def kept_by_unknown(told):
+    """How many objects are kept by what nobody points to or was not found, alone."""
+    by = collections.defaultdict(set)
+    for to, label in told.graph.roots:
+        by[to].add(label)
+    unknown = {'an owner that was not found', 'heap memory that nothing points to'}
+    return sum(labels <= unknown for labels in by.values())
+
+
+def trust_line(told):
+    by = 'sptr owners told the graph\'s answer, which is proved'
+    if not told.answer.is_proved:
+        by = 'a search in Python told the graph\'s answer, which is not proved so'
+    read = 'the reading of memory is not' if told.answer.is_proved else 'nor is the reading of memory'
+    return f'record: the counts of {told.met} of {len(told.record.blocks)} control blocks were met; {by}; {read}'
+
+
+def lines(told):
+    count = len(told.graph.objects)
+    first = f'record: {count} object{"s"[:count != 1]} that shared pointers own '
+    first += f'{"is" if count == 1 else "are"} left, {len(told.alarming)} leaked'
+    if told.reached:
+        first += f', {len(told.reached)} that raw pointers reach'
+    found = [first, *leaked_lines(told), *knot_texts(told), *reached_lines(told)]
+    return [*found, *doubt_lines(told), trust_line(told)]
+
+
+def doubt_lines(told):
+    unknown, record = kept_by_unknown(told), told.record
+    if unknown:
+        yield f'record: {unknown} kept by owners whose place is not known'
+    if record.untyped:
+        yield f'record: {record.untyped} control blocks tell no type and are left out, as they have no RTTI; see --flags'
+    if not record.blocks and not any('libstdc++' in path for _, path in record.modules):
+        yield 'record: it loads no libstdc++; what it starts is told with --children'
+
+
+def as_json(told):
+    """All of a report as plain data."""
+    answer, record = told.answer, told.record
+
+    def verdict(number):
+        return 'reached' if number in told.reached else answer.verdicts.get(number, 'kept')
+
+    objects = [
+        {
+            'number': number,
+            'type': short(block.name),
+            'made': block.made,
+            'verdict': verdict(number),
+            'reached_from': told.reached.get(number),
+            'owners': block.uses,
+            'weaks': block.weaks - 1,
+        }
+        for number, block in enumerate(told.blocks, 1)
+    ]
+    knots = [
+        {
+            'objects': knot.objects,
+            'ties': [{'from': a, 'to': b, 'member': label} for a, b, label in knot.ties],
+            'weaken': [list(it) for it in verdicts.ordered_weakens(knot)],
+            'owned_by_another': told.is_owned_from_outside(knot),
+            'reached': knot.objects[0] in told.reached,
+        }
+        for knot in answer.knots
+    ]
+    return {
+        'when': record.when,
+        'how': record.how,
+        'left': len(objects),
+        'leaked': len(told.alarming),
+        'counts': {'blocks': len(record.blocks), 'met': told.met},
+        'graph_answer_is_proved': answer.is_proved,
+        'objects': objects,
+        'owners': [{'from': a, 'to': b, 'member': label} for a, b, label in told.graph.owners],
+        'weak': [{'from': a, 'to': b, 'member': label} for a, b, label in told.graph.weaks],
+        'roots': [{'to': to, 'from': label} for to, label in told.graph.roots],
+        'knots': knots,
+    }
+
+
+def map_text(told):
+    """What each number of the graph is in the program: its type, the place of its making, its control block."""
+    lines = (f'{number} {kind_text(told.kind(number))}, at {it.at:#x}' for number, it in enumerate(told.blocks, 1))
+    return ''.join(f'{line}\n' for line in lines)
+
+
+def write_json(path, reports, refused):
+    with open(path, 'w') as file:
+        json.dump({'reports': reports, 'refused': refused}, file, indent=1)
+        file.write('\n')

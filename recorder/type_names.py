@@ -1,0 +1,85 @@
+"""Names of types, as a C++ programmer would write them."""
+import functools
+import re
+import subprocess
+
+OPENING, CLOSING = '<([{', '>)]}'
+STRING = 'std::basic_string<char, std::char_traits<char>, std::allocator<char> >'
+
+
+def demangled(names):
+    """A dictionary from mangled names of types to plain ones."""
+    names = sorted(names)
+    text = '\n'.join(names) + '\n'
+    ran = subprocess.run(['c++filt', '-t'], input=text, capture_output=True, text=True, check=True)
+    return dict(zip(names, ran.stdout.split('\n')))
+
+
+def arguments(name):
+    """The template arguments of a type's name."""
+    found, depth, begin = [], 0, 0
+    for at, letter in enumerate(name):
+        if letter in CLOSING and not name.endswith('-', 0, at):
+            depth -= 1
+            if depth == 0:
+                found.append(name[begin:at].strip())
+                break
+        if letter == ',' and depth == 1:
+            found.append(name[begin:at].strip())
+            begin = at + 1
+        if letter in OPENING:
+            depth += 1
+            if depth == 1:
+                begin = at + 1
+    return found
+
+
+def without_allocators(name):
+    """A name without its `, std::allocator<..>`."""
+    while (begin := name.find(', std::allocator<')) >= 0:
+        depth, at = 0, name.index('<', begin)
+        while True:
+            depth += (name[at] == '<') - (name[at] == '>')
+            at += 1
+            if depth == 0 or at == len(name):
+                break
+        name = name[:begin] + name[at:]
+    return name
+
+
+@functools.lru_cache(maxsize=None)
+def short(name):
+    """The same type in fewer letters."""
+    name = name.replace('std::__cxx11::', 'std::').replace('std::__debug::', 'std::')
+    name = without_allocators(name.replace(STRING, 'std::string'))
+    return re.sub(r' +>', '>', name)
+
+
+def told(function):
+    """The type in the text of a hook's own function, as in `void f(void*, Object*) [with Object = Node]`."""
+    found = re.search(r'\[(?:with )?Object = (.*)\]$', function)
+    return re.split(r'; \w+ = ', found[1])[0] if found else ''
+
+
+def name_blocks(blocks):
+    """Gives each block its object's type: what it really is where it has virtual functions, else what its maker
+    said."""
+    plain = demangled({it for block in blocks for it in (block.control_type, block.dynamic_type) if it != '-'})
+    declared = functools.lru_cache(maxsize=None)(declared_type)
+    for block in blocks:
+        if block.dynamic_type != '-':
+            block.name = plain[block.dynamic_type]
+        elif block.control_type != '-':
+            block.name = declared(block.kind, plain[block.control_type])
+        else:
+            block.name = told(block.told_type) or 'an object without a type'
+
+
+def declared_type(kind, control):
+    given = arguments(control)
+    name = given[0] if given else control
+    if kind == 'array':
+        name = (arguments(name) or [name])[0]
+    if kind in ('plain', 'deleter') and name.endswith('*'):
+        name = name[:-1].strip()
+    return re.sub(r'^(const|volatile) |( const| volatile)$', '', name)

@@ -1,0 +1,101 @@
+"""What a record says of each object that is left: kept, leaked but reached by a raw pointer, or leaked."""
+import collections
+import functools
+from dataclasses import dataclass, field
+
+from recorder import debug_information, labels, owner_graph, type_names
+
+
+@dataclass
+class Told:
+    """Objects are numbered as in the graph, from 1. `reached` has from where a raw pointer leads to a leaked
+    object, and `age` the share of a label's owners that point at an object made before."""
+
+    record: object
+    graph: object
+    answer: object
+    blocks: list
+    met: int
+    reached: dict = field(default_factory=dict)
+
+    @property
+    def alarming(self):
+        return self.answer.leaked - set(self.reached)
+
+    def kind(self, number):
+        """An object's type and the place of its making."""
+        block = self.blocks[number - 1]
+        return type_names.short(block.name), block.made
+
+    def alarming_knots(self):
+        return [it for it in self.answer.knots if it.objects[0] not in self.reached]
+
+    @functools.cached_property
+    def owned_knots(self):
+        """Of the knots, by their least object, those that another leaked object owns."""
+        knot_of = {it: knot.objects[0] for knot in self.answer.knots for it in knot.objects}
+        owners = ((knot_of.get(a), knot_of.get(b)) for a, b, _ in self.graph.owners if a in self.answer.leaked)
+        return {b for a, b in owners if b and a != b}
+
+    def is_owned_from_outside(self, knot):
+        return knot.objects[0] in self.owned_knots
+
+
+def tell(record):
+    """All that can be told of a record that isn't refused."""
+    type_names.name_blocks(record.blocks)
+    answers = debug_information.ask_about(record)
+    labels.drop_beyond(record, answers)
+    labels.label_places(record, answers)
+    record.handles.sort(key=lambda it: it.place)
+    counts = labels.decide_kinds(record)
+    graph, numbers = owner_graph.graph_of(record, counts)
+    answer = owner_graph.ask(graph)
+    leaked = {at for at, number in numbers.items() if number in answer.leaked}
+    if labels.drop_from_storage(record, counts, leaked):
+        graph, numbers = owner_graph.graph_of(record, counts)
+        answer = owner_graph.ask(graph)
+    debug_information.name_places(record)
+    blocks = [record.blocks[at] for at in numbers]
+    told = Told(record, graph, answer, blocks, sum(it.are_met for it in counts))
+    told.reached = reached_by_raw_pointers(record, numbers, graph, answer)
+    return told
+
+
+def reached_by_raw_pointers(record, numbers, graph, answer):
+    """Of the leaked, those that raw pointers lead to from a static, a thread or a kept object, and whatever
+    these own or point to: each with where the first pointer lies."""
+    raw, first = collections.defaultdict(list), []
+    for it in record.raw_pointers:
+        to = numbers.get(it.to)
+        holder = numbers.get(it.place.number) if it.place.kind in ('object', 'deleter') else None
+        if to and holder and answer.verdicts.get(holder) == 'leaked':
+            raw[holder].append(to)
+        elif to and (holder or it.place.kind in ('static', 'thread-local', 'stack')):
+            first.append((to, it.label))
+    for a, b, _ in graph.owners:
+        raw[a].append(b)
+    reached = {}
+    todo = collections.deque(first)
+    while todo:
+        it, label = todo.popleft()
+        if it in answer.leaked and it not in reached:
+            reached[it] = label
+            todo.extend((to, label) for to in raw[it])
+    return reached
+
+
+def share_of_older(knot):
+    """By label: the share of a knot's owners that point at an object not younger than their own."""
+    older, all_ = collections.Counter(), collections.Counter()
+    for a, b, label in knot.ties:
+        all_[label] += 1
+        older[label] += b <= a
+    return {it: older[it] / all_[it] for it in all_}
+
+
+def ordered_weakens(knot):
+    """A knot's labels to weaken, or pairs, first those that mostly point back."""
+    share = share_of_older(knot)
+    pairs = [tuple(sorted(it, key=lambda label: -share.get(label, 0))) for it in knot.weakens]
+    return sorted(pairs, key=lambda it: -sum(share.get(label, 0) for label in it))

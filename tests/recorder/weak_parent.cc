@@ -1,0 +1,14 @@
+// The same with a weak pointer back: nothing is left.
+#include <memory>
+
+struct Node {
+  std::shared_ptr<Node> child;
+  std::weak_ptr<Node> parent;
+};
+
+int main() {
+  auto parent = std::make_shared<Node>();
+  auto child = std::make_shared<Node>();
+  parent->child = child;
+  child->parent = parent;
+}

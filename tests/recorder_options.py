@@ -1,0 +1,207 @@
+"""The options of ./record, each by what it writes."""
+import json
+import os
+import re
+import signal
+import subprocess
+import tempfile
+import time
+from pathlib import Path
+
+ROOT = Path(__file__).resolve().parent.parent
+PROGRAMS = ROOT / 'tests/recorder'
+
+
+def built(folder, name, text=None):
+    source = PROGRAMS / f'{name}.cc'
+    if text:
+        source = Path(folder, f'{name}.cc')
+        source.write_text(text)
+    to = Path(folder, name)
+    subprocess.run(['g++', source.name, '-g', '-pthread', '-o', to], check=True, cwd=source.parent)
+    return to
+
+
+def record(*words, **how):
+    return subprocess.run(
+        [ROOT / 'record', *words], capture_output=True, text=True, cwd=PROGRAMS, timeout=120, **how
+    )
+
+
+def differences(**pairs):
+    """What isn't as it should be, of pairs (found, wanted)."""
+    return '\n'.join(f'{name}: {found!r} {wanted!r}' for name, (found, wanted) in pairs.items() if found != wanted)
+
+
+def json_tells_all():
+    with tempfile.TemporaryDirectory() as folder:
+        ran = record('--json', f'{folder}/report', built(folder, 'raw_pointer'))
+        (told,) = json.loads(Path(folder, 'report').read_text())['reports']
+    verdicts = [(it['type'], it['verdict'], it['reached_from']) for it in told['objects']]
+    nodes = [('Node', 'reached', 'last_seen')] * 2 + [('Node', 'reached', 'never_freed')]
+    knots = [(it['objects'], it['weaken'], it['reached']) for it in told['knots']]
+    wanted = [([1, 2], [['Node::next']], True), ([3], [['Node::next']], True)]
+    counts = (told['left'], told['leaked'], told['counts'])
+    return differences(
+        status=(ran.returncode, 0),
+        verdicts=(verdicts, nodes),
+        knots=(knots, wanted),
+        counts=(counts, (3, 0, {'blocks': 3, 'met': 3})),
+    )
+
+
+def dot_and_keep():
+    with tempfile.TemporaryDirectory() as folder:
+        record('--dot', f'{folder}/graph.dot', '--keep', f'{folder}/kept', built(folder, 'circle'))
+        drawn = Path(folder, 'graph.dot').read_text()
+        kept = sorted(re.sub(r'\d+', 'N', it.name) for it in Path(folder, 'kept').iterdir())
+        graph = next(Path(folder, 'kept').glob('*.graph')).read_text()
+    wanted = 'digraph record {\nnode [style=filled, fillcolor=white];\n'
+    wanted += 'o1 [label="1 Node", fillcolor=orange];\no2 [label="2 Node", fillcolor=orange];\n'
+    wanted += 'o1 -> o2 [label=" Node::child", style=bold, color=red];\n'
+    wanted += 'o2 -> o1 [label=" Node::parent", style=bold, color=red];\n}\n'
+    text = 'object 1 Node\nobject 2 Node\nowner 1 2 Node::child\nowner 2 1 Node::parent\n'
+    return differences(
+        drawn=(drawn, wanted), kept=(kept, ['record.N', 'record.N.graph', 'record.N.map']), graph=(graph, text)
+    )
+
+
+def no_frames():
+    with tempfile.TemporaryDirectory() as folder:
+        ran = record('--frames', '0', built(folder, 'circle'))
+    return differences(leaked=(ran.stderr.splitlines()[1], 'leaked 2 Node'))
+
+
+def no_debug_information():
+    """Members are told by byte, and places by function."""
+    with tempfile.TemporaryDirectory() as folder:
+        program = Path(folder, 'circle')
+        subprocess.run(['g++', 'circle.cc', '-o', program], check=True, cwd=PROGRAMS)
+        lines = record(program).stderr.splitlines()[1:5]
+    wanted = [
+        'leaked 2 Node, made in main',
+        'knot 2 Node, tied by Node at byte 0 1, Node at byte 16 1',
+        'weaken Node at byte 16',
+        'weaken Node at byte 0',
+    ]
+    return differences(lines=(lines, wanted))
+
+
+def streams_and_status():
+    """The program's streams, arguments and exit status are its own."""
+    text = '#include <iostream>\nint main(int n, char** a) { std::cout << std::cin.rdbuf() << a[n - 1]; return n; }'
+    with tempfile.TemporaryDirectory() as folder:
+        ran = record(built(folder, 'echo', text), '--json', 'last', input='given ')
+    return differences(said=(ran.stdout, 'given last'), status=(ran.returncode, 3))
+
+
+WAITING = """
+#include <memory>
+#include <thread>
+#include <chrono>
+#include <cstdio>
+#include <unistd.h>
+struct Node { std::shared_ptr<Node> next; };
+void leak() { auto a = std::make_shared<Node>(); a->next = a; }
+int main() {
+  auto kept = std::make_shared<Node>();
+  std::thread(leak).join();
+  std::puts("ready"); std::fflush(stdout);
+  char go; while (read(0, &go, 1) < 0) {}
+}
+"""
+
+
+def a_snapshot_by_signal():
+    """Of a running program: its own frames keep an object, and the leak is told before the end."""
+    with tempfile.TemporaryDirectory() as folder:
+        command = [ROOT / 'record', '--now', 'USR2', built(folder, 'waiting', WAITING)]
+        pipes = {'stdin': subprocess.PIPE, 'stdout': subprocess.PIPE, 'stderr': subprocess.PIPE, 'text': True}
+        with subprocess.Popen(command, cwd=folder, **pipes) as ran:
+            ran.stdout.readline()
+            (child,) = Path(f'/proc/{ran.pid}/task/{ran.pid}/children').read_text().split()
+            os.kill(int(child), signal.SIGUSR2)
+            time.sleep(5)
+            _, said = ran.communicate('x')
+    wanted = [
+        'record: while the program runs',
+        'record: 2 objects that shared pointers own are left, 1 leaked',
+        'leaked 1 Node, made at waiting.cc:8 in leak',
+        'knot 1 Node, tied by Node::next 1',
+        'weaken Node::next',
+    ]
+    last = 'record: 1 object that shared pointers own is left, 1 leaked'
+    lines = said.splitlines()
+    return differences(now=(lines[:5], wanted), end=(lines[6], last), status=(ran.returncode, 3))
+
+
+def children_are_told():
+    text = """
+#include <memory>
+#include <sys/wait.h>
+#include <unistd.h>
+struct Node { std::shared_ptr<Node> next; };
+int main() {
+  int status = 0;
+  if (!fork()) { auto a = std::make_shared<Node>(); a->next = a; return 0; }
+  wait(&status);
+  return status;
+}
+"""
+    with tempfile.TemporaryDirectory() as folder:
+        program = built(folder, 'forking', text)
+        without, with_them = record(program), record('--children', program)
+    lines = [it for it in with_them.stderr.splitlines() if it.startswith(('leaked', 'knot'))]
+    return differences(without=(without.returncode, 0), status=(with_them.returncode, 3), lines=(len(lines), 2))
+
+
+def the_page():
+    """The example of docs/left.md, with the report that stands there."""
+    page = (ROOT / 'docs/left.md').read_text()
+    source = ROOT / 'examples/leaking_tree.cpp'
+    wanted = re.search(r'```\n(record: 4 objects.*?)```', page, re.S)[1]
+    code = re.search(r'```cpp\n(struct Item.*?)```', page, re.S)[1]
+    with tempfile.TemporaryDirectory() as folder:
+        command = ['g++', '-g', source.relative_to(ROOT), '-o', f'{folder}/leaking_tree']
+        subprocess.run(command, cwd=ROOT, check=True)
+        ran = subprocess.run([ROOT / 'record', f'{folder}/leaking_tree'], cwd=ROOT, capture_output=True, text=True)
+    return differences(
+        report=(ran.stderr[: len(wanted)], wanted),
+        code=(code in source.read_text(), True),
+        status=(ran.returncode, 3),
+    )
+
+
+def units_of_both_kinds():
+    """One unit with hooks and one without, in either order: the scan finds what no hook told."""
+    hooks = record('--flags').stdout.split()
+    units = 'shared_library.cc', 'shared_library.part.cc'
+    wrong = []
+    with tempfile.TemporaryDirectory() as folder:
+        for hooked in units:
+            for level in '-O0', '-O2':
+                objects = [f'{folder}/{it}.o' for it in units]
+                for unit, to in zip(units, objects):
+                    extra = hooks if unit == hooked else []
+                    subprocess.run(['g++', '-g', level, '-c', unit, '-o', to, *extra], cwd=PROGRAMS, check=True)
+                program = f'{folder}/program'
+                subprocess.run(['g++', *objects, '-o', program, *hooks], check=True)
+                said = record(program).stderr.splitlines()[2:5]
+                right = ['knot 1 Plugin, tied by Plugin::friends 1', 'weaken Plugin::friends']
+                wrong += (
+                    [] if said[:2] == right and 'the counts of 1 of 1' in said[2] else [f'{hooked} {level} {said}']
+                )
+    return '\n'.join(wrong)
+
+
+CHECKS = [
+    the_page,
+    units_of_both_kinds,
+    json_tells_all,
+    dot_and_keep,
+    no_frames,
+    no_debug_information,
+    streams_and_status,
+    a_snapshot_by_signal,
+    children_are_told,
+]
