@@ -27,6 +27,7 @@ enum Play {
 }
 
 /// A worker that does a play.
+#[derive(Drop)]
 struct Player {
     play: Play,
     told: Told,
