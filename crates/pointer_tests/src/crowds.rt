@@ -1,6 +1,6 @@
 //! A desk with as many pointers as it may have, and a domain with as many objects.
 
-use crate::values::{Told, Value, begin, ended, object, row, same, value};
+use crate::values::{Told, Value, begin, ended, numbered, object, row, same};
 use pointers::{Call, Desk, Domain, Fault, Refusal, Refused, Shared, SharedCell};
 use std::alloc::Global;
 use std::sync::Wait;
@@ -50,7 +50,7 @@ fn full<D: Domain<Value = Value>>(desk: &Desk<D>, told: &Told, blocks: u32) -> R
         node.next().store(Some(head))?;
         head = node;
     }
-    match desk.new(value(told, 7)?) {
+    match desk.new(numbered(told, 7)?) {
         Ok(_) => return Err(Fault::Other(10)),
         Err(refused) => {
             let Refused { why, back } = refused;

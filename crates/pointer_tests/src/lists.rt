@@ -1,6 +1,6 @@
 //! Lists of pointers in an object.
 
-use crate::values::{Told, Value, begin, ended, object, row, same, value};
+use crate::values::{Told, Value, begin, ended, numbered, object, row, same};
 use pointers::{Desk, Domain, Fault, List, Shared};
 use std::sync::Wait;
 
@@ -27,10 +27,10 @@ fn owners<R: Wait, D: Domain<Value = Value>>(
     let of = object(desk, told, 9)?;
     let list = of.first().list();
     for number in 1..=4 {
-        list.push(rt, object(desk, told, number)?, value(told, 8)?)?;
+        list.push(rt, object(desk, told, number)?, numbered(told, 8)?)?;
     }
     let five = object(desk, told, 5)?;
-    list.push_front(rt, five.share()?, value(told, 8)?)?;
+    list.push_front(rt, five.share()?, numbered(told, 8)?)?;
     same(1, digits(rt, &list)?, 51_234)?;
     same(2, list.count(rt)? as u64, 5)?;
     row(3, list.remove(rt, &five)? && !list.remove(rt, &five)?)?;
@@ -52,8 +52,8 @@ fn weaks<R: Wait, D: Domain<Value = Value>>(
     let list = of.next().weak_list();
     let one = object(desk, told, 1)?;
     let two = object(desk, told, 2)?;
-    list.push(rt, one.downgrade()?, value(told, 8)?)?;
-    list.push(rt, two.downgrade()?, value(told, 8)?)?;
+    list.push(rt, one.downgrade()?, numbered(told, 8)?)?;
+    list.push(rt, two.downgrade()?, numbered(told, 8)?)?;
     drop(one);
     let out = list.retain(rt, |element| Ok(!element.expired()?))?;
     same(10, out as u64, 1)?;

@@ -1,6 +1,6 @@
 //! Each call on an owner.
 
-use crate::values::{Told, Value, begin, ended, object, refused, row, same, value};
+use crate::values::{Told, Value, begin, ended, numbered, object, refused, row, same};
 use pointers::{Call, Desk, Domain, Fault, Place, Refusal};
 use std::sync::Wait;
 
@@ -72,11 +72,11 @@ fn this<R: Wait, D: Domain<Value = Value>>(
     desk: &Desk<D>,
     told: &Told,
 ) -> Result<(), Fault> {
-    let one = desk.make_enabled([5, 0, 0, 0], value(told, 1)?)?;
+    let one = desk.make_enabled([5, 0, 0, 0], numbered(told, 1)?)?;
     let again = one.shared_from_this()?;
     same(30, u64::from(again.use_count()?), 2)?;
     row(31, one.weak_from_this()?.lock(rt)?.is_some())?;
-    let plain = desk.new(value(told, 2)?)?;
+    let plain = desk.new(numbered(told, 2)?)?;
     same(32, plain.read()?, 0)?;
     refused(
         33,
@@ -93,7 +93,7 @@ fn this<R: Wait, D: Domain<Value = Value>>(
 
 /// An owner of a null pointer.
 fn null<D: Domain<Value = Value>>(desk: &Desk<D>, told: &Told) -> Result<(), Fault> {
-    let null = desk.make_null(value(told, 3)?)?;
+    let null = desk.make_null(numbered(told, 3)?)?;
     row(40, null.place()?.is_none())?;
     same(41, u64::from(null.use_count()?), 1)?;
     let before = ended(told);

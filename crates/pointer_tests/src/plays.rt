@@ -1,7 +1,7 @@
 //! Plays: what one worker does at its desk, and what is left then.
 
 use crate::shapes::one_worker;
-use crate::values::{Told, Value, begin, ends};
+use crate::values::{Told, Value, begin, new_ends};
 use crate::{cells, compares, crowds, drops, lists, members, owners, spares, visits, weaks};
 use pointers::{Desk, Domain, Fault, Program, Ran, run};
 use std::alloc::Global;
@@ -27,6 +27,7 @@ enum Play {
 }
 
 /// A worker that does a play.
+#[derive(Drop)]
 struct Player {
     play: Play,
     told: Told,
@@ -79,7 +80,7 @@ fn played<R: Threads + Wait + Sync + AllocGlobal>(
     rt: &R,
     play: Play,
 ) -> Result<(Option<Fault>, u32), Fault> {
-    let told = ends(rt.alloc())?;
+    let told = new_ends(rt.alloc())?;
     begin(&told);
     let alloc = rt.alloc();
     let player = Player { play, told, alloc };

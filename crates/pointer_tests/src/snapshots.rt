@@ -7,6 +7,7 @@ use std::sync::Wait;
 use std::thread::Threads;
 
 /// Workers of which the first publishes a vector, and each reads a copy of it.
+#[derive(Drop)]
 struct Readers {
     alloc: Global,
 }

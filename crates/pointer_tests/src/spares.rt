@@ -1,6 +1,6 @@
 //! Ends by hand, vacant blocks, and what else a pointer has.
 
-use crate::values::{Told, Value, begin, ended, object, row, same, value};
+use crate::values::{Told, Value, begin, ended, numbered, object, row, same};
 use pointers::{Desk, Domain, Fault, RESERVE, Refusal, SharedCell};
 use std::sync::Wait;
 
@@ -35,7 +35,7 @@ fn settled<R: Wait, D: Domain<Value = Value>>(
     desk.settle(rt);
     row(10, more == 0 && ended(told) == 1)?;
     let one = object(desk, told, 2)?;
-    let other = one.desk().make([3, 0, 0, 0], value(told, 3)?)?;
+    let other = one.desk().make([3, 0, 0, 0], numbered(told, 3)?)?;
     let weak = other.downgrade()?;
     row(11, weak.desk().load(rt, SharedCell(0))?.is_none())?;
     let link = one.into_first();

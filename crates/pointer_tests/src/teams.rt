@@ -47,6 +47,7 @@ impl<R: Threads + Wait + Sync> Program<u64, R> for Crowd {
 }
 
 /// A leader that keeps a pointer over two teams, which read it in a cell.
+#[derive(Drop)]
 struct Keeper {
     sum: AtomicU64,
     teams: u32,

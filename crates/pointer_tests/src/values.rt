@@ -32,7 +32,7 @@ impl Drop for Value {
 }
 
 /// New ends, of nothing yet.
-pub(crate) fn ends(alloc: Global) -> Result<Told, Fault> {
+pub(crate) fn new_ends(alloc: Global) -> Result<Told, Fault> {
     let ends = Ends {
         count: AtomicU32::new(0),
         order: AtomicU64::new(0),
@@ -44,7 +44,7 @@ pub(crate) fn ends(alloc: Global) -> Result<Told, Fault> {
 }
 
 /// A value of that number.
-pub(crate) fn value(told: &Told, number: u64) -> Result<Value, Fault> {
+pub(crate) fn numbered(told: &Told, number: u64) -> Result<Value, Fault> {
     let told = Arc::try_clone(told)?;
     Ok(Value { told, number })
 }
@@ -55,7 +55,7 @@ pub(crate) fn object<'t, D: Domain<Value = Value>>(
     told: &Told,
     number: u64,
 ) -> Result<Shared<'t, D>, Fault> {
-    Ok(desk.make([number, 20, 30, 40], value(told, number)?)?)
+    Ok(desk.make([number, 20, 30, 40], numbered(told, number)?)?)
 }
 
 /// How many values ended.

@@ -1,5 +1,5 @@
 -- A leader that starts one team.
-use Rattle.std.proofs.Common.{◌≡◌, ℕ, List, [], ◌∷◌, Option, None, Some, absurd, refl, subst, sym, ap, ◌∙◌}
+use Rattle.std.proofs.Common.{◌≡◌, ℕ, List, [], ◌∷◌, Option, None, Some, subst, sym, ap, ◌∙◌}
 use Rattle.control_word.specs.declared.shape.Shape.{Shape}
 use Rattle.control_block.specs.Census.{CensusNow}
 use Rattle.handle_table.specs.Leading.{AreTeams, Lead, Led, LeadsDomain, LeadsOn, Starts}
@@ -9,6 +9,7 @@ use Rattle.handle_table.specs.Tables.{TableNow}
 use Rattle.handle_table.specs.declared.program.Manned.{Manned}
 use Rattle.handle_table.specs.declared.program.Team.{Team}
 use Rattle.pointers.specs.Programs.{Runs, leads_once}
+use Rattle.pointers.specs.declared.program.Seats.{Seats}
 
 no_team : {t : Team} → None ≡ Some t → ⊥
 no_team e = cc
@@ -74,7 +75,7 @@ module _ {V P : Type 0} (team : P → Team) (manned : P → Option Manned) where
   once p q t u on = by_past p q t u on.past on.last on.teams on.over
 
   -- the same of a domain
-  pub runs : (shape : Shape) (p q : P) (c : CensusNow) → LeadsDomain (leads_once team manned) shape 0 p q c
+  pub runs : (shape : Shape) (p q : P) (c : CensusNow) → LeadsDomain {V = V} (leads_once {V = V} team manned) shape 0 p q c
       → (m : Manned) × (manned q ≡ Some m) × Runs V shape (team p) m c
   runs shape p q c led =
       let out = led.led.out in let o = once p q led.led.first out.after out.led in (
@@ -97,3 +98,10 @@ module _ {V P : Type 0} (team : P → Team) (manned : P → Option Manned) where
           closed = led.closed;
         },
       )
+
+module _ {V P : Type 0} where
+  -- what a program's workers at desks have done, as the leader of one team
+  pub seats_run : (shape : Shape) (s t : Seats P) (c : CensusNow)
+      → LeadsDomain {V = V} (leads_once {V = V} (λ (x : Seats P). x.team) (λ (x : Seats P). x.manned)) shape 0 s t c
+      → (m : Manned) × (t.manned ≡ Some m) × Runs V shape s.team m c
+  seats_run shape s t c led = runs (λ (x : Seats P). x.team) (λ (x : Seats P). x.manned) shape s t c led

@@ -40,7 +40,8 @@ module _ (V : Type 0) where
     pub closed : IsClosed last shape c
 
   -- the same of workers with desks: each table has a slot more than its desk may have pointers
-  pub record RunsTeam (shape : Shape) (team : DeskTeam) (workers : ℕ) (fewer : Option Refusal) (c : CensusNow) : Type 0 where
+  pub record RunsTeam (shape : Shape) (team : DeskTeam) (workers : ℕ) (fewer : Option Refusal)
+      (c : CensusNow) : Type 0 where
     pub below : Team
     pub asked : below.workers ≡ team.workers
     pub slots : below.slots ≡ team.pointers + 1

@@ -14,8 +14,8 @@ use std::sync::Wait;
 pub(crate) mod element;
 
 /// A list of owners or of weak pointers in a place, in C++ a member `std::vector<std::shared_ptr<T>>` or
-/// `std::vector<std::weak_ptr<T>>`. Each element costs a node: an object of the domain, whose member `first` or `up` has
-/// the element and whose member `next` owns the next node. A node has a value too, which the caller gives.
+/// `std::vector<std::weak_ptr<T>>`. Each element costs a node: an object of the domain, whose member `first` or `up`
+/// has the element and whose member `next` owns the next node. A node has a value too, which the caller gives.
 ///
 /// Any thread may walk over a list, and put nodes at its front, at any time. All other calls are for one thread at a
 /// time. A walk needs two pointers at a time more than its caller has, a removal three.

@@ -169,7 +169,8 @@ fn at_seats<V: Drop + Send, R: Threads + Wait + Sync, P: Program<V, R> + Sync>(
     shape: Shape,
     seats: &mut Seats<'_, P>,
 ) -> Result<Census<V>, Refusal>
-    ensures runs { IfOk result (λ c. (m : Manned) × (seats.new.manned ≡ Some m) × Runs V shape seats.old.team m c) }
+    ensures runs { IfOk result
+        (λ c. (m : Manned) × (seats.new.manned ≡ Some m) × Runs V shape seats.old.team m c) }
     ensures within { IfOk result (λ _. IsWithinLimits shape) }
 {
     handle_table::run_leader(rt, alloc, shape, 0, seats)

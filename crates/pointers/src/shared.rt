@@ -15,8 +15,8 @@ use control_word::Place;
 use handle_table::{Cell as At, SharedMember};
 use std::sync::Wait;
 
-/// An owner of an object, in C++ `shared_ptr`, in Rust `Arc`. Dropped, it lets go: where it was the last one, the object
-/// ends there and then, with all that it alone owned, each value after those of what its members alone owned.
+/// An owner of an object, in C++ `shared_ptr`, in Rust `Arc`. Dropped, it lets go: where it was the last one, the
+/// object ends there and then, with all that it alone owned, each value after those of what its members alone owned.
 pub struct Shared<'t, D: Domain> {
     pub(crate) desk: &'t Desk<D>,
     pub(crate) at: usize,

@@ -48,7 +48,10 @@ pub enum NotRun {
 
 impl NotRun {
     /// What the table below answered.
-    pub(crate) fn of(why: Refusal) -> NotRun {
+    pub(crate) fn of(why: Refusal) -> NotRun
+        ensures memory { why ≡ Refusal.Memory → result ≡ NotRun.Memory }
+        ensures other { (why ≡ Refusal.Memory → ⊥) → result ≡ NotRun.Refused why }
+    {
         match why {
             Refusal::Memory => NotRun::Memory,
             _ => NotRun::Refused(why),
