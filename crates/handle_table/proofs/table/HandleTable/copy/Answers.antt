@@ -1,7 +1,8 @@
+use Rattle.std.specs.Prelude.{IfErr, List}
 use Rattle.std.proofs.Common.{subst}
 use Rattle.handle_table.specs.Bringing.{OfHandle}
-use Rattle.handle_table.specs.Calls.{Copies, IsCopy}
-use Rattle.handle_table.specs.Tables.{TableNow, on_pile}
+use Rattle.handle_table.specs.Calls.{Copies, IsCopy, IsHandleAt, LimitLast}
+use Rattle.handle_table.specs.Tables.{Slot, TableNow, on_pile}
 use Rattle.handle_table.proofs.Bringing.{copies, filled_comes, filled_whole}
 use Rattle.handle_table.proofs.Wholes.{seen}
 use Rattle.handle_table.proofs.table.HandleTable.copy.Goals as goal
@@ -19,3 +20,9 @@ returns-then-copy_owner-clause-copied g c =
     subst (λ (x : TableNow g.row.V.Denot). Copies x c.args.from c.args.to u) c.self.view_is
     (copies (seen d ss p) u c.args.from c.args.to
     (filled_comes (OfHandle IsCopy ss c.args.from) d ss c.args.to m.new.desk m.new.slots.items (on_pile p) (m.ensures.copied c.if-copy_owner.true)))
+
+pub returns-clause-last : goal.returns-clause-last
+returns-clause-last g c =
+    let same = (c.copy_owner.ensures.same c.if-copy_owner.false).1 in
+    subst (λ (t : TableNow g.row.V.Denot). IfErr c.copy_any.result (LimitLast t.slots c.args.to (IsHandleAt t.slots c.args.from))) c.self.view_is
+    (subst (λ (ss : List Slot). IfErr c.copy_any.result (LimitLast ss c.args.to (IsHandleAt ss c.args.from))) same c.copy_any.ensures.last)
