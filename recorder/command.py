@@ -117,6 +117,8 @@ def run(options, folder, path, reports):
     if options.now:
         names['RECORDER_SIGNAL'] = str(options.now)
     process = program.start((path, [options.program, *options.arguments]), names)
+    if options.now:
+        say(f'record: kill -{signal.Signals(options.now).name[3:]} {process} asks for a report')
     status = program.wait(process, reports.look)
     reports.look()
     if status < 0:

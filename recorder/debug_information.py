@@ -11,6 +11,8 @@ from pathlib import Path
 HERE = Path(__file__).resolve().parent
 OF_THE_SYSTEM = '/lib/', '/lib64/', '/usr/lib/'
 NOT_OURS = re.compile(r'/include/c\+\+/|/recorder/library/|sptr_recorder|^\?\?')
+# What has brackets or spaces in a function's name that enclose nothing.
+WITH_BRACKETS = re.compile(r'operator(\(\)|[^\w\s(]+ ?| (?=\w))|\(anonymous namespace\)|\{lambda\(.*?\)#\d+\}|->')
 OF_THE_LIBRARY = 'std::', '__gnu_cxx::', 'sptr_recorder', 'operator new', '__cxx_global_var_init'
 
 
@@ -62,32 +64,19 @@ def ask_about(record):
     return answers
 
 
-def at_depth(text):
-    """Each place of a text with how deep in brackets it lies."""
-    depth = 0
-    for at, letter in enumerate(text):
-        depth -= letter in ')}>' and not text.endswith('-', 0, at)
-        yield at, depth
-        depth += letter in '({<'
-
-
 def own_name(function):
     """A function's name without its result, its arguments and what follows these."""
-    name = re.sub(r'\boperator(\(\)|[<>=!+*/%&|^~-]+)', lambda it: 'operator' + '\1' * len(it[1]), function)
-    name = name.replace('(anonymous namespace)', '\2').replace('{lambda', '{\3')
-    outer = [at for at, depth in at_depth(name) if depth == 0]
-    end = next((at for at in outer if name[at] == '('), len(name))
-    begin = max(
-        (at + 1 for at in outer if at < end and name[at] == ' ' and not name[:at].endswith('operator')), default=0
-    )
-    found = function_part(name[begin:end], function)
-    return found.replace('\2', '(anonymous namespace)').replace('{\3', '{lambda')
-
-
-def function_part(name, function):
-    """The name with its operator written again."""
-    operator = re.search(r'operator(\(\)|[<>=!+*/%&|^~-]+)', function)
-    return re.sub(r'\x01+', lambda it: operator[1] if operator else '', name)
+    masked = WITH_BRACKETS.sub(lambda it: '_' * len(it[0]), function)
+    depth, begin, end = 0, 0, len(masked)
+    for at, letter in enumerate(masked):
+        depth -= letter in ')}>'
+        if depth == 0 and letter == ' ':
+            begin = at + 1
+        if depth == 0 and letter == '(':
+            end = at
+            break
+        depth += letter in '({<'
+    return function[begin:end]
 
 
 def symbolizer():

@@ -9,7 +9,7 @@ from recorder import owner_search
 
 PROVED = Path(__file__).resolve().parent.parent / 'crates/sptr/out/sptr'
 LONGEST_LABEL = 1000
-SAME_CUTS = 2000
+MOST_CUTS = 2000  # objects up to which the search tells single cuts, which only drawings show
 
 
 @dataclass
@@ -82,24 +82,21 @@ def labels_in(text, labels):
 
 
 def ask(graph):
-    """The answer to a graph, and whether a proved program told it."""
+    """The answer to a graph, by the proved program where there is one."""
     text, labels = graph.text(), {label for _, _, label in graph.owners}
     if PROVED.is_file():
         ran = subprocess.run([PROVED, 'owners'], input=text, capture_output=True, text=True)
-        if (
-            ran.returncode in (0, 3)
-            and ran.stdout.splitlines()[-1:]
-            and ran.stdout.splitlines()[-1].startswith('objects ')
-        ):
+        last = ran.stdout.rstrip('\n').rpartition('\n')[2]
+        if ran.returncode in (0, 3) and last.startswith('objects '):
             answer = read_answer(ran.stdout, labels)
             answer.is_proved = True
             return answer
-    return read_answer(owner_search.answer(text, with_cuts=len(graph.objects) <= SAME_CUTS), labels)
+    return read_answer(owner_search.answer(text, with_cuts=len(graph.objects) <= MOST_CUTS), labels)
 
 
 def graph_of(record, counts):
-    """The graph of the objects that are left. Returns it with the number of each block's object, and what was
-    met: an owner that a block counts and nobody found is a root."""
+    """The graph of the objects that are left, and in it the number of each block's object. An owner that a block
+    counts and nobody found is a root."""
     graph = Graph()
     numbers = {}
     for at, block in enumerate(record.blocks):

@@ -2,7 +2,7 @@
 """Which objects of a graph of owners leak, by a plain search: the text of a graph on standard input, the answer of
 `sptr owners` on standard output.
 
-Exit status 3 where something leaks, 10 where a line is none of the graph's."""
+Exit status 3 where something leaks, 1 where a line is none of the graph's."""
 import collections
 import sys
 
@@ -178,7 +178,7 @@ def main():
         said = answer(sys.stdin.read())
     except (ValueError, IndexError) as fault:
         print(f'refused 10: {fault}', file=sys.stderr)
-        return 10
+        return 1
     sys.stdout.write(said)
     return 0 if said.endswith(' leaked 0\n') else 3
 

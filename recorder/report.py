@@ -86,14 +86,11 @@ def doubt_lines(told):
         yield 'record: it loads no libstdc++; what it starts is told with --children'
 
 
-def as_json(told):
-    """All of a report as plain data."""
-    answer, record = told.answer, told.record
-
+def objects_as_json(told):
     def verdict(number):
-        return 'reached' if number in told.reached else answer.verdicts.get(number, 'kept')
+        return 'reached' if number in told.reached else told.answer.verdicts[number]
 
-    objects = [
+    return [
         {
             'number': number,
             'type': short(block.name),
@@ -105,28 +102,39 @@ def as_json(told):
         }
         for number, block in enumerate(told.blocks, 1)
     ]
-    knots = [
+
+
+def handles_as_json(handles):
+    return [{'from': a, 'to': b, 'member': label} for a, b, label in handles]
+
+
+def knots_as_json(told):
+    return [
         {
             'objects': knot.objects,
-            'ties': [{'from': a, 'to': b, 'member': label} for a, b, label in knot.ties],
+            'ties': handles_as_json(knot.ties),
             'weaken': [list(it) for it in verdicts.ordered_weakens(knot)],
             'owned_by_another': told.is_owned_from_outside(knot),
             'reached': knot.objects[0] in told.reached,
         }
-        for knot in answer.knots
+        for knot in told.answer.knots
     ]
+
+
+def as_json(told):
+    """All of a report as plain data."""
     return {
-        'when': record.when,
-        'how': record.how,
-        'left': len(objects),
+        'when': told.record.when,
+        'how': told.record.how,
+        'left': len(told.blocks),
         'leaked': len(told.alarming),
-        'counts': {'blocks': len(record.blocks), 'met': told.met},
-        'graph_answer_is_proved': answer.is_proved,
-        'objects': objects,
-        'owners': [{'from': a, 'to': b, 'member': label} for a, b, label in told.graph.owners],
-        'weak': [{'from': a, 'to': b, 'member': label} for a, b, label in told.graph.weaks],
+        'counts': {'blocks': len(told.record.blocks), 'met': told.met},
+        'graph_answer_is_proved': told.answer.is_proved,
+        'objects': objects_as_json(told),
+        'owners': handles_as_json(told.graph.owners),
+        'weak': handles_as_json(told.graph.weaks),
         'roots': [{'to': to, 'from': label} for to, label in told.graph.roots],
-        'knots': knots,
+        'knots': knots_as_json(told),
     }
 
 

@@ -9,7 +9,7 @@ from recorder import debug_information, labels, owner_graph, type_names
 @dataclass
 class Told:
     """Objects are numbered as in the graph, from 1. `reached` has from where a raw pointer leads to a leaked
-    object, and `age` the share of a label's owners that point at an object made before."""
+    object; `met` is how many blocks count just the handles that were found."""
 
     record: object
     graph: object

@@ -131,8 +131,13 @@ def a_snapshot_by_signal():
         'weaken Node::next',
     ]
     last = 'record: 1 object that shared pointers own is left, 1 leaked'
-    lines = said.splitlines()
-    return differences(now=(lines[:5], wanted), end=(lines[6], last), status=(ran.returncode, 3))
+    asks, *lines = said.splitlines()
+    return differences(
+        asks=(asks, f'record: kill -USR2 {child} asks for a report'),
+        now=(lines[:5], wanted),
+        end=(lines[6], last),
+        status=(ran.returncode, 3),
+    )
 
 
 def children_are_told():

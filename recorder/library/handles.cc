@@ -19,10 +19,17 @@ bool Snapshot::is_dead(Word at) const {
   return block.chunk == chunk && block.kind == ControlBlock::IN_PLACE && !block.is_live();
 }
 
+// Whether a word is the address of a block; an atomic pointer's lock is the lowest bit.
+bool Snapshot::is_block(Word word) const {
+  word &= ~Word(1);
+  if (!word || word % WORD || block_at.empty()) return false;
+  return word >= block_at.begin()->first && word <= block_at.rbegin()->first && block_at.count(word);
+}
+
 // `before` is the word before it, in which a handle has the pointer to its object.
 void Snapshot::add_candidate(Word at, Word before, Word word) {
-  auto block = block_at.find(word & ~Word(1));  // (an atomic pointer's lock is the lowest bit)
-  if (block == block_at.end() || (before && !is_pointer(before)) || is_dead(at)) return;
+  if (!is_block(word) || (before && !is_pointer(before)) || is_dead(at)) return;
+  auto block = block_at.find(word & ~Word(1));
   if (hooked && !handle_at.emplace(at, true).second) return;
   handles.push_back({Handle::EITHER, at, block->second, before});
 }

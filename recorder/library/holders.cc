@@ -36,7 +36,7 @@ public:
         region.chunk < 0 && region.holder.kind == Holder::AREA && all.areas[region.holder.number].is_of_malloc;
     auto look = [&](Word at, Word word) {
       if (is_of_malloc && all.chunk_of(word) != all.chunk_of(word + WORD)) word = 0;  // a free chunk's head
-      bool is_block = word && all.block_at.count(word & ~Word(1)) > 0;
+      bool is_block = all.is_block(word);
       if (before && !is_block) visit(before_at, before);
       before_at = at;
       before = is_block ? 0 : word;

@@ -105,6 +105,7 @@ private:
   void find_handles();
   void add_candidate(Word at, Word before, Word word);
   bool is_dead(Word at) const;
+  bool is_block(Word word) const;
   void find_objects();
   void place_object(ControlBlock& block, const std::vector<Word>& stored);
   void find_holders();
