@@ -42,6 +42,17 @@ module _ {V P : Type 0} (team : P → Team) (manned : P → Option Manned) where
   next_call p q None how t u next is call = absurd (no_manned (sym is))
   next_call p q (Some m) how t u next is call = (call.0, call.1 ∙ is, call.2)
 
+  -- a first call, and the one that is told of a team
+  pub leads_first : (p q : P) (before : Option Manned) (t u : TableNow V) (next : Option Team) → before ≡ None
+      → next ≡ Some (team p) → (n : ℕ) × GivesToShelf n t u → leads_once team manned p before t next q u
+  leads_first p q None t u next is starts shelves = (starts, shelves.0, shelves.1)
+  leads_first p q (Some m) t u next is starts shelves = absurd (no_manned is)
+
+  pub leads_then : (p q : P) (before : Option Manned) (how : Manned) (t u : TableNow V) (next : Option Team)
+      → before ≡ Some how → next ≡ None → manned q ≡ Some how → u ≡ t → leads_once team manned p before t next q u
+  leads_then p q None how t u next is none told same = absurd (no_manned (sym is))
+  leads_then p q (Some m) how t u next is none told same = (none, told ∙ sym is, same)
+
   by_past : (p q : P) (t u : TableNow V) (past : List (Led V P)) (last : Led V P)
       → AreTeams (leads_once team manned) (record { leader = p; before = None; table = t }) past last
       → leads_once team manned last.leader last.before last.table None q u → Once p t q u

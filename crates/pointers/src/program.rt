@@ -93,6 +93,10 @@ impl<'p, V: Drop, R: Threads + Wait + Sync, P: Program<V, R> + Sync> handle_tabl
 
 impl<'p, V: Drop, R: Threads + Wait + Sync, P: Program<V, R> + Sync> handle_table::Leader<V, R>
     for Seats<'p, P> {
+    ghost use Rattle.pointers.specs.Programs.{leads_once};
+
+    ghost leads = { leads_once (λ s. s.team) (λ s. s.manned) };
+
     fn lead<H: Home>(
         &mut self,
         _rt: &R,
