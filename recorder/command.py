@@ -3,6 +3,7 @@ import argparse
 import gc
 import os
 import signal
+import subprocess
 import sys
 import tempfile
 from pathlib import Path
@@ -108,10 +109,17 @@ WHEN = {
 }
 
 
+def built_library():
+    try:
+        return str(library.build())
+    except (OSError, subprocess.CalledProcessError) as fault:
+        raise program.Refusal(f'the library could not be built: {fault}') from fault
+
+
 def run(options, folder, path, reports):
     """Runs the program under the library. Returns its exit status, as shells have it."""
     names = {'RECORDER_FILE': f'{folder}/record', 'RECORDER_FRAMES': str(options.frames)}
-    names['LD_PRELOAD'] = ':'.join(filter(None, [str(library.build()), os.environ.get('LD_PRELOAD')]))
+    names['LD_PRELOAD'] = ':'.join(filter(None, [built_library(), os.environ.get('LD_PRELOAD')]))
     if options.children:
         names['RECORDER_CHILDREN'] = '1'
     if options.now:
