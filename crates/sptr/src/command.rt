@@ -13,7 +13,7 @@ use std::alloc::{AllocError, Global};
 use std::convert::AsStr;
 
 /// What `--version` tells.
-const VERSION: &str = "1.0.0";
+const VERSION: &str = "1.1.0";
 
 /// What a command line asks for.
 #[derive(Clone, Copy)]
