@@ -4,6 +4,8 @@
 
 pub mod calls;
 #[cfg(test)]
+mod gates;
+#[cfg(test)]
 mod leaks;
 #[cfg(test)]
 mod machine;

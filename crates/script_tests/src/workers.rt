@@ -4,7 +4,7 @@ use crate::same::same;
 use control_block::census::close;
 use control_word::Refusal;
 use ownership_ledger::Totals;
-use script_runner::{Gate, Report, desk_calls, run_script, table_calls, team_laws, worker_logs};
+use script_runner::{Gate, Report, run_script};
 use script_text::{Script, parse};
 use std::alloc::Global;
 use std::hint::spin_loop;
@@ -108,8 +108,8 @@ fn run_again<R: Abort + Threads + Wait + Sync>(
     };
     let ran = match run_and_close(rt, alloc, script, &gate) {
         Err(Refusal::Memory) => {
-            let begun = gate.begun.load(Ordering::SeqCst);
-            same(rt, begun, gate.run.load(Ordering::SeqCst));
+            let told = [&gate.begun, &gate.run].map(|it| it.load(Ordering::SeqCst));
+            same(rt, told, [0, 0]);
             run_and_close(rt, alloc, script, &gate)
         }
         ran => ran,
@@ -120,8 +120,8 @@ fn run_again<R: Abort + Threads + Wait + Sync>(
     }
 }
 
-// `tests/refuse_allocations` refuses each allocation in turn. A run that wants it is refused `Memory` once all that
-// began has run, and the same script runs later.
+// `tests/refuse_allocations` refuses each allocation in turn. A run that wants it is refused `Memory` before a statement
+// begins, and the same script runs later.
 #[test]
 fn a_refused_run_leaves_nothing(rt: HostRuntime) -> Result<(), Fail> {
     let text = b"make a 1\ncopy b a\nthread\nmake c 2\nreset c\n";
@@ -132,12 +132,4 @@ fn a_refused_run_leaves_nothing(rt: HostRuntime) -> Result<(), Fail> {
     let told = run_again(&rt, rt.alloc(), &script)?;
     same(&rt, told, (Totals { made: 2, ended: 2 }, 4094));
     Ok(())
-}
-
-#[test]
-fn laws_cost_nothing(_rt: HostRuntime) {
-    worker_logs::<u64>();
-    desk_calls::<u64>();
-    table_calls::<u64>();
-    team_laws::<u64>();
 }

@@ -6,13 +6,14 @@ use std::alloc::{AllocError, Global};
 use std::sync::Wait;
 use std::thread::Threads;
 
-/// Pushes 100 nodes, pops till none is found, and counts the nodes and adds up their fields.
+/// Pushes so many nodes, with numbers from its first one on, pops till none is found, and has the numbers of those that
+/// came out.
 #[derive(Drop)]
 struct Pusher {
     alloc: Global,
     first: u64,
-    popped: u64,
-    sum: u64,
+    nodes: u64,
+    popped: Vec<u64>,
 }
 
 impl Pusher {
@@ -22,7 +23,7 @@ impl Pusher {
         table: &mut HandleTable<'_, u64, H>,
         stack: &mut TableStack<u64, H>,
     ) {
-        for number in 0..100u64 {
+        for number in 0..self.nodes {
             let value = self.first.wrapping_add(number);
             let _ = table.push(rt, stack, [value, 0, 0, 0], value);
         }
@@ -52,8 +53,7 @@ impl Pusher {
             return false;
         }
         if let Ok(field) = table.read(0) {
-            self.popped = self.popped.wrapping_add(1);
-            self.sum = self.sum.wrapping_add(field);
+            let _ = self.popped.push(field);
         }
         table.settle(rt);
         true
@@ -71,45 +71,57 @@ impl<R: Threads + Wait + Sync> Work<u64, R> for Pusher {
     }
 }
 
-/// So many workers, with numbers from 0 on.
-fn pushers(alloc: Global, threads: u32) -> Result<Vec<Pusher>, AllocError> {
+/// So many workers, whose nodes have numbers from 0 on.
+fn pushers(alloc: Global, threads: u32, nodes: u32) -> Result<Vec<Pusher>, AllocError> {
     let mut workers = Vec::with_capacity(alloc, threads as usize)?;
     for number in 0..threads {
         workers.push(Pusher {
             alloc,
-            first: u64::from(number).wrapping_mul(100),
-            popped: 0,
-            sum: 0,
+            first: u64::from(number).wrapping_mul(u64::from(nodes)),
+            nodes: u64::from(nodes),
+            popped: Vec::new(alloc),
         })?;
     }
     Ok(workers)
 }
 
-/// How many nodes came out of the workers' stack, and their sum.
-fn sums(workers: &[Pusher]) -> (u64, u64) {
-    let (mut popped, mut sum) = (0u64, 0u64);
+/// The numbers of the nodes that came out of the workers' stack, in order.
+fn all_popped(alloc: Global, workers: &[Pusher]) -> Result<Vec<u64>, AllocError> {
+    let mut all = Vec::new(alloc);
     for worker in workers {
-        popped = popped.wrapping_add(worker.popped);
-        sum = sum.wrapping_add(worker.sum);
+        all.extend_from_slice(worker.popped.as_slice())?;
     }
-    (popped, sum)
+    all.sort_unstable();
+    Ok(all)
 }
 
-/// So many threads push 100 nodes each, and pop them: how many blocks are vacant then, and what came out.
+/// How many nodes came out, and whether each of them once: those from 0 on.
+fn each_once(popped: &[u64]) -> (usize, bool) {
+    let mut wanted = 0..u64::MAX;
+    let is_next = |number: &u64| wanted.next() == Some(*number);
+    (popped.len(), popped.iter().all(is_next))
+}
+
+/// So many threads push so many nodes each, and pop them: how many blocks are vacant then, how many nodes came out, and
+/// whether each once.
 pub(crate) fn popped<R: Threads + Wait + Sync>(
     rt: &R,
     alloc: Global,
     threads: u32,
-) -> Result<(u32, (u64, u64)), Refusal> {
-    let mut workers = pushers(alloc, threads)?;
+    nodes: u32,
+) -> Result<(u32, (usize, bool)), Refusal> {
+    let mut workers = pushers(alloc, threads, nodes)?;
     let share = Share {
         slots: 1,
         allowance: 8,
-        blocks: 100,
+        blocks: nodes,
     };
-    let blocks = threads.wrapping_mul(100);
-    match run_workers(rt, alloc, shape(blocks, 1, 0, 100), share, &mut workers) {
-        Ok(census) => Ok((census.vacant(), sums(workers.as_slice()))),
+    let shape = shape(threads.wrapping_mul(nodes), 1, 0, 100);
+    match run_workers(rt, alloc, shape, share, &mut workers) {
+        Ok(census) => {
+            let all = all_popped(alloc, workers.as_slice())?;
+            Ok((census.vacant(), each_once(all.as_slice())))
+        }
         Err(why) => Err(why),
     }
 }

@@ -191,14 +191,23 @@ fn no_call_is_made(rt: HostRuntime) {
 
 #[test]
 fn two_threads_pop_each_node_once(rt: HostRuntime) {
-    same(&rt, popped(&rt, rt.alloc(), 2), Ok((200, (200, 19_900))));
+    same(&rt, popped(&rt, rt.alloc(), 2, 100), Ok((200, (200, true))));
+}
+
+#[test]
+fn four_threads_pop_each_node_once(rt: HostRuntime) {
+    same(
+        &rt,
+        popped(&rt, rt.alloc(), 4, 250),
+        Ok((1_000, (1_000, true))),
+    );
 }
 
 #[test]
 fn ten_threads_pop_each_node_once(rt: HostRuntime) {
     same(
         &rt,
-        popped(&rt, rt.alloc(), 10),
-        Ok((1_000, (1_000, 499_500))),
+        popped(&rt, rt.alloc(), 10, 100),
+        Ok((1_000, (1_000, true))),
     );
 }
