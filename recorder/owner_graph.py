@@ -1,13 +1,10 @@
-"""The graph of owners, and its answer: by `sptr owners` where that is built, else by this folder's own search."""
+"""The graph of owners, and its answer."""
 import collections
 import functools
-import subprocess
 from dataclasses import dataclass, field
-from pathlib import Path
 
 from recorder import owner_search
 
-PROVED = Path(__file__).resolve().parent.parent / 'crates/sptr/out/sptr'
 LONGEST_LABEL = 1000
 MOST_CUTS = 2000  # objects up to which the search tells single cuts, which only drawings show
 
@@ -42,7 +39,6 @@ class Answer:
     verdicts: dict = field(default_factory=dict)
     leaked: set = field(default_factory=set)
     knots: list = field(default_factory=list)
-    is_proved: bool = False
 
 
 @functools.lru_cache(maxsize=None)
@@ -82,16 +78,9 @@ def labels_in(text, labels):
 
 
 def ask(graph):
-    """The answer to a graph, by the proved program where there is one."""
-    text, labels = graph.text(), {label for _, _, label in graph.owners}
-    if PROVED.is_file():
-        ran = subprocess.run([PROVED, 'owners'], input=text, capture_output=True, text=True)
-        last = ran.stdout.rstrip('\n').rpartition('\n')[2]
-        if ran.returncode in (0, 3) and last.startswith('objects '):
-            answer = read_answer(ran.stdout, labels)
-            answer.is_proved = True
-            return answer
-    return read_answer(owner_search.answer(text, with_cuts=len(graph.objects) <= MOST_CUTS), labels)
+    """The answer to a graph."""
+    labels = {label for _, _, label in graph.owners}
+    return read_answer(owner_search.answer(graph.text(), with_cuts=len(graph.objects) <= MOST_CUTS), labels)
 
 
 def graph_of(record, counts):

@@ -1,6 +1,6 @@
 #!/usr/bin/env python3
-"""Which objects of a graph of owners leak, by a plain search: the text of a graph on standard input, the answer of
-`sptr owners` on standard output.
+"""Which objects of a graph of owners leak, by a plain search: the text of a graph on standard input, the answer on
+standard output.
 
 Exit status 3 where something leaks, 1 where a line is none of the graph's."""
 import collections

@@ -59,11 +59,8 @@ def kept_by_unknown(told):
 
 
 def trust_line(told):
-    by = 'sptr owners told the graph\'s answer, which is proved'
-    if not told.answer.is_proved:
-        by = 'a search in Python told the graph\'s answer, which is not proved so'
-    read = 'the reading of memory is not' if told.answer.is_proved else 'nor is the reading of memory'
-    return f'record: the counts of {told.met} of {len(told.record.blocks)} control blocks were met; {by}; {read}'
+    met = f'the counts of {told.met} of {len(told.record.blocks)} control blocks were met'
+    return f'record: {met}; neither the reading of memory nor the answer is proved'
 
 
 def lines(told):
@@ -129,7 +126,6 @@ def as_json(told):
         'left': len(told.blocks),
         'leaked': len(told.alarming),
         'counts': {'blocks': len(told.record.blocks), 'met': told.met},
-        'graph_answer_is_proved': told.answer.is_proved,
         'objects': objects_as_json(told),
         'owners': handles_as_json(told.graph.owners),
         'weak': handles_as_json(told.graph.weaks),
