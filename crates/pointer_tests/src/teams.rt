@@ -39,8 +39,9 @@ impl<R: Threads + Wait + Sync> Program<u64, R> for Crowd {
         number: usize,
         desk: &Desk<D>,
     ) -> Result<(), Fault> {
+        let first = u32::try_from(number).unwrap_or(0);
         for at in 0..2_000u32 {
-            turn(rt, desk, at.wrapping_mul(7).wrapping_add(number as u32))?;
+            turn(rt, desk, at.wrapping_mul(7).wrapping_add(first))?;
         }
         leave(desk)
     }
