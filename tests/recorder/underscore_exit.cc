@@ -1,4 +1,4 @@
-// _exit: statics and frames live still.
+// _exit: statics and frames live still. An optimizer may keep the local owner in a register, where nobody finds it.
 #include <unistd.h>
 
 #include <memory>
