@@ -8,7 +8,8 @@ use std::alloc::Global;
 fn tree<'t, D: Domain<Value = Value>>(
     desk: &'t Desk<D>,
     told: &Told,
-) -> Result<[Option<Shared<'t, D>>; 4], Fault> {
+    alloc: Global,
+) -> Result<Vec<Option<Shared<'t, D>>>, Fault> {
     let one = object(desk, told, 1)?;
     let two = object(desk, told, 2)?;
     let three = object(desk, told, 3)?;
@@ -16,7 +17,12 @@ fn tree<'t, D: Domain<Value = Value>>(
     two.next().store(Some(three.share()?))?;
     one.first().store(Some(two.share()?))?;
     one.next().store(Some(four.share()?))?;
-    Ok([Some(one), Some(two), Some(three), Some(four)])
+    let mut pointers = Vec::new(alloc);
+    pointers.push(Some(one))?;
+    pointers.push(Some(two))?;
+    pointers.push(Some(three))?;
+    pointers.push(Some(four))?;
+    Ok(pointers)
 }
 
 /// In which order the pointers to a tree let go, and which objects end by each, as digits in the order of their ends.
@@ -34,10 +40,10 @@ const ORDERS: [([usize; 4], [u64; 4]); 6] = [
 fn ends_in<D: Domain<Value = Value>>(
     desk: &Desk<D>,
     told: &Told,
-    number: u32,
-    order_of: &([usize; 4], [u64; 4]),
+    alloc: Global,
+    (number, order_of): (u32, &([usize; 4], [u64; 4])),
 ) -> Result<(), Fault> {
-    let mut pointers = tree(desk, told)?;
+    let mut pointers = tree(desk, told, alloc)?;
     for (at, wanted) in order_of.0.iter().zip(&order_of.1) {
         begin(told);
         if let Some(pointer) = pointers.get_mut(*at) {
@@ -52,10 +58,11 @@ fn ends_in<D: Domain<Value = Value>>(
 fn ends_anyhow<D: Domain<Value = Value>>(
     desk: &Desk<D>,
     told: &Told,
+    alloc: Global,
     number: usize,
 ) -> Result<(), Fault> {
     begin(told);
-    let mut pointers = tree(desk, told)?;
+    let mut pointers = tree(desk, told, alloc)?;
     for (at, left) in [
         (number / 6 % 4, 4),
         (number / 2 % 3, 3),
@@ -124,10 +131,10 @@ pub(crate) fn play<D: Domain<Value = Value>>(
     alloc: Global,
 ) -> Result<(), Fault> {
     for (number, order_of) in (1u32..).zip(&ORDERS) {
-        ends_in(desk, told, number, order_of)?;
+        ends_in(desk, told, alloc, (number, order_of))?;
     }
     for number in 0..24 {
-        ends_anyhow(desk, told, number)?;
+        ends_anyhow(desk, told, alloc, number)?;
     }
     chain(desk, told, 64)?;
     begin(told);
