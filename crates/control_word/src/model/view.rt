@@ -13,7 +13,8 @@ pub enum Pending<V> {
         block: Block,
         known: LinkedList<u64>,
     },
-    /// A cell call: funds are out on the word that counts the handle, and as many loads are under way.
+    /// A cell call: funds are out on the word that counts the handle, and `loads` of the desk, one at
+    /// most, are under way.
     Paying {
         kind: Kind,
         object: u64,

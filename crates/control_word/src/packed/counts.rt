@@ -64,15 +64,7 @@ pub struct Counts {
     pub weaks: u32,
 }
 
-/// The word of a count (own).
-#[inline]
-pub fn pack_count(count: Count) -> u64
-    ensures { result ≡ count_bits count }
-{
-    u64::from(count.number) | u64::from(count.funds) << FUNDS_SHIFT
-}
-
-/// What a count's word says (own): the very count that `pack_count` was given.
+/// What a count's word says (own): the very count that was packed.
 #[inline]
 pub fn unpack_count(word: u64) -> Count
     ensures number { result.number ≡ number_of word }
@@ -153,15 +145,6 @@ pub fn is_last(word: u64) -> bool
     ensures { IsTrue result ↔ ((number_of word ≡ 1) × (funds_of word ≡ 0)) }
 {
     word == ONE_HANDLE
-}
-
-/// Whether the object of this owner word is live: a lock succeeds, and a weak handle isn't expired
-/// ([util.smartptr.weak.obs]).
-#[inline]
-pub fn has_owner(word: u64) -> bool
-    ensures { IsTrue result ↔ (0 < number_of word + funds_of word) }
-{
-    word != 0
 }
 
 /// What `use_count` tells of this owner word ([util.smartptr.shared.obs]): the number, but 1 where

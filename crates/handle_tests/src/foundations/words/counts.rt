@@ -1,9 +1,14 @@
 //! Rows of the counts' words, and each half at its limits.
 use crate::same::same;
 use control_word::packed::counts::{
-    Count, Counts, FUND_TURNED, ONE_FUND, has_owner, is_last, pack_count, told_count, unpack_count,
-    with_fund_turned, with_funds, with_handle, without_funds, without_handle,
+    Count, Counts, FUND_TURNED, ONE_FUND, is_last, told_count, unpack_count, with_fund_turned,
+    with_funds, with_handle, without_funds, without_handle,
 };
+
+/// The word of a count: the number in its low half, the funds in its high half.
+fn packed(count: Count) -> u64 {
+    u64::from(count.number) | u64::from(count.funds) << 32
+}
 
 #[test]
 fn counts_have_their_words(rt: HostRuntime) {
@@ -15,8 +20,8 @@ fn counts_have_their_words(rt: HostRuntime) {
         number: 2,
         funds: 255,
     };
-    let word = pack_count(full);
-    let words = [word, pack_count(turned), with_fund_turned(word)];
+    let word = packed(full);
+    let words = [word, packed(turned), with_fund_turned(word)];
     let wanted = [1_099_511_627_777, 1_095_216_660_482, 1_095_216_660_482];
     same(
         &rt,
@@ -40,14 +45,14 @@ const HALVES: [(u32, u32); 9] = [
 
 /// A word that was taken apart.
 fn again(word: u64) -> u64 {
-    pack_count(unpack_count(word))
+    packed(unpacked(word))
 }
 
 #[test]
 fn each_half_of_a_count_comes_back_at_its_limits(rt: HostRuntime) {
     for (number, funds) in HALVES {
         let count = Count { number, funds };
-        same(&rt, unpack_count(pack_count(count)), count);
+        same(&rt, unpacked(packed(count)), count);
     }
     let words = [
         again(0),
@@ -63,15 +68,15 @@ fn each_half_of_a_count_comes_back_at_its_limits(rt: HostRuntime) {
 /// out of the word.
 #[test]
 fn halves_change_alone_at_their_limits(rt: HostRuntime) {
-    let below = pack_count(Count {
+    let below = packed(Count {
         number: u32::MAX - 1,
         funds: 7,
     });
-    let last = pack_count(Count {
+    let last = packed(Count {
         number: u32::MAX,
         funds: 7,
     });
-    let paid = pack_count(Count {
+    let paid = packed(Count {
         number: u32::MAX,
         funds: u32::MAX,
     });
@@ -91,23 +96,23 @@ fn halves_change_alone_at_their_limits(rt: HostRuntime) {
     );
 }
 
-/// Words, whether each is the last handle, whether it has an owner, and how many it tells of.
-const TOLD: [(u64, bool, bool, u32); 8] = [
-    (0, false, false, 0),
-    (1, true, true, 1),
-    (2, false, true, 2),
-    (ONE_FUND, false, true, 1),
-    (1 + ONE_FUND, false, true, 1),
-    (2 + 255 * ONE_FUND, false, true, 2),
-    (4_325_630, false, true, 4_325_630),
-    (u64::MAX, false, true, u32::MAX),
+/// Words, whether each is the last handle, and how many it tells of.
+const TOLD: [(u64, bool, u32); 8] = [
+    (0, false, 0),
+    (1, true, 1),
+    (2, false, 2),
+    (ONE_FUND, false, 1),
+    (1 + ONE_FUND, false, 1),
+    (2 + 255 * ONE_FUND, false, 2),
+    (4_325_630, false, 4_325_630),
+    (u64::MAX, false, u32::MAX),
 ];
 
 #[test]
 fn words_tell_the_last_and_the_count(rt: HostRuntime) {
     for wanted in TOLD {
         let word = wanted.0;
-        let shown = (word, is_last(word), has_owner(word), told_count(word));
+        let shown = (word, is_last(word), told_count(word));
         same(&rt, shown, wanted);
     }
 }
