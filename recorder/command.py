@@ -54,7 +54,7 @@ class Reports:
 
     def __init__(self, options, folder):
         self.options, self.folder = options, folder
-        self.seen, self.told, self.refused = set(), [], []
+        self.seen, self.told, self.refused, self.leaks = set(), [], [], False
         for path in program.records(folder):
             path.unlink()  # of an earlier run
 
@@ -84,7 +84,9 @@ class Reports:
             say(f'record: process {path.suffixes[0][1:]}')
         for line in report.lines(told):
             say(line)
-        self.told.append(report.as_json(told))
+        self.leaks |= bool(told.alarming)
+        if self.options.json:
+            self.told.append(report.as_json(told))
         if self.options.dot:
             Path(self.options.dot).write_text(drawing.dot(told))
         if self.options.keep:
@@ -97,7 +99,7 @@ class Reports:
         say(f'record: refused: {why}')
 
     def status(self, of_program):
-        if any(it['leaked'] for it in self.told):
+        if self.leaks:
             return LEAKED
         return REFUSED if self.refused else of_program
 

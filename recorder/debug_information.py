@@ -124,7 +124,7 @@ def name_places(record):
     def module_of(frame):
         return max((it for it in bases if it[0] <= frame), default=None)
 
-    for frames in {tuple(it.frames) for it in record.blocks}:
+    for frames in {it.frames for it in record.blocks}:
         for frame in frames:
             module = module_of(frame)
             if module and not re.search(r'/lib(c|stdc\+\+|gcc_s)\.so', module[1]):
@@ -134,8 +134,8 @@ def name_places(record):
     }
     places = {}
     for block in record.blocks:
-        key = tuple(block.frames)
-        if key not in places:
-            every = [(place, own_name(it)) for frame in key for place, it in said.get(frame - 1, [])]
-            places[key] = first_place([it for it in every if not it[1].startswith(OF_THE_LIBRARY)])
-        block.made = places[key]
+        frames = block.frames
+        if frames not in places:
+            every = [(place, own_name(it)) for frame in frames for place, it in said.get(frame - 1, [])]
+            places[frames] = first_place([it for it in every if not it[1].startswith(OF_THE_LIBRARY)])
+        block.made = places[frames]

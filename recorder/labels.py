@@ -62,6 +62,8 @@ def drop_beyond(record, answers):
 class Counts:
     """The handles on one block, beside what it counts itself."""
 
+    __slots__ = 'handles', 'owners_wanted', 'weaks_wanted', 'owners_missing', 'weaks_missing', 'open'
+
     def __init__(self, block, handles):
         self.handles = handles
         self.owners_wanted, self.weaks_wanted = block.uses, block.weaks - block.is_live
@@ -92,7 +94,11 @@ class Counts:
         for it in self.handles:
             if it.kind == 'either':
                 it.kind = kind
-        self.count()
+        if kind == 'owner':
+            self.owners_missing -= self.open
+        else:
+            self.weaks_missing -= self.open
+        self.open = 0
 
     def drop(self, kind, excess):
         """Drops so many of a kind that lie in statics themselves."""

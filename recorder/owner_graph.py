@@ -36,8 +36,10 @@ class Knot:
 
 @dataclass
 class Answer:
-    verdicts: dict = field(default_factory=dict)
-    leaked: set = field(default_factory=set)
+    """Verdicts by number: `kept`, `ended` or `leaked`."""
+
+    verdicts: list
+    leaked: set
     knots: list = field(default_factory=list)
 
 
@@ -48,39 +50,18 @@ def plain(label):
     return ' '.join(text.split())[:LONGEST_LABEL].strip()
 
 
-def read_answer(text, labels):
-    answer = Answer()
-    for line in text.splitlines():
-        word, rest = line.lstrip().split(' ', 1)
-        if word == 'object':
-            number, verdict = rest.split(' ', 2)[:2]
-            answer.verdicts[int(number)] = verdict
-            if verdict == 'leaked':
-                answer.leaked.add(int(number))
-        elif word == 'knot':
-            answer.knots.append(Knot([int(it) for it in rest.split()]))
-        elif word in ('tie', 'cut'):
-            a, b, label = rest.split(' ', 2)
-            knot = answer.knots[-1]
-            (knot.ties if word == 'tie' else knot.cuts).append((int(a), int(b), label))
-        elif word == 'weaken':
-            answer.knots[-1].weakens.append(labels_in(rest, labels))
-    return answer
-
-
-def labels_in(text, labels):
-    """One label, or the two of `A and B`."""
-    if text in labels:
-        return (text,)
-    parts = text.split(' and ')
-    pairs = ((' and '.join(parts[:at]), ' and '.join(parts[at:])) for at in range(1, len(parts)))
-    return next((it for it in pairs if it[0] in labels and it[1] in labels), (text,))
-
-
 def ask(graph):
-    """The answer to a graph."""
-    labels = {label for _, _, label in graph.owners}
-    return read_answer(owner_search.answer(graph.text(), with_cuts=len(graph.objects) <= MOST_CUTS), labels)
+    """The answer to a graph. A knot that another object owns has nothing to cut or to weaken."""
+    verdicts = owner_search.verdicts(len(graph.objects), graph.owners, [to for to, _ in graph.roots])
+    answer = Answer(verdicts, {it for it in range(1, len(verdicts)) if verdicts[it] == 'leaked'})
+    for objects, ties, is_owned in owner_search.knots(verdicts, graph.owners):
+        knot = Knot(objects, ties)
+        if not is_owned:
+            knot.weakens = owner_search.weakens(objects, ties)
+            if len(graph.objects) <= MOST_CUTS:
+                knot.cuts = owner_search.cuts(objects, ties)
+        answer.knots.append(knot)
+    return answer
 
 
 def graph_of(record, counts):

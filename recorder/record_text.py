@@ -13,7 +13,7 @@ class Place(NamedTuple):
     inner: int
 
 
-@dataclass
+@dataclass(slots=True)
 class Block:
     at: int
     object: int
@@ -24,7 +24,7 @@ class Block:
     in_pool: bool
     control_type: str
     dynamic_type: str
-    frames: list
+    frames: tuple
     told_type: str = ''
     name: str = ''
     made: str = ''
@@ -34,7 +34,7 @@ class Block:
         return self.uses > 0
 
 
-@dataclass
+@dataclass(slots=True)
 class Handle:
     kind: str
     block: int
@@ -43,7 +43,7 @@ class Handle:
     declared: str = ''
 
 
-@dataclass
+@dataclass(slots=True)
 class RawPointer:
     to: int
     to_byte: int
@@ -68,25 +68,28 @@ def place_of(words):
     return Place(words[0], int(words[1]), int(words[2]), int(words[3]))
 
 
-def block_of(words):
+def block_of(words, known):
+    """`known` are the frames so far by their text: few places make all blocks."""
     at, start = int(words[0], 16), int(words[1], 16)
     size, uses, weaks = map(int, words[2:5])
-    frames = [int(it, 16) for it in words[9:]]
-    return Block(at, start, size, uses, weaks, words[5], words[6] == '1', words[7], words[8], frames)
+    text = words[9] if len(words) > 9 else ''
+    if text not in known:
+        known[text] = tuple(int(it, 16) for it in text.split())
+    return Block(at, start, size, uses, weaks, words[5], words[6] == '1', words[7], words[8], known[text])
 
 
 def read(path):
     """The record in a file, whose last line has to be `end`."""
-    record, line = Record(), ''
+    record, line, known = Record(), '', {}
     with open(path, errors='replace') as lines:
         for line in lines:
-            kind, *words = line.split()
+            kind, *words = line.split(None, 11)
             if kind == 'handle':
                 record.handles.append(Handle(words[0], int(words[1]), place_of(words[2:])))
             elif kind == 'raw':
                 record.raw_pointers.append(RawPointer(int(words[0]), int(words[1]), place_of(words[2:])))
             elif kind == 'block':
-                record.blocks.append(block_of(words[1:]))
+                record.blocks.append(block_of(words[1:], known))
             elif kind == 'told':
                 record.blocks[int(words[0])].told_type = line.split(' ', 2)[2].strip()
             elif kind == 'module':

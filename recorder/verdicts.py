@@ -1,6 +1,7 @@
 """What a record says of each object that is left: kept, leaked but reached by a raw pointer, or leaked."""
 import collections
 import functools
+import operator
 from dataclasses import dataclass, field
 
 from recorder import debug_information, labels, owner_graph, type_names
@@ -18,7 +19,7 @@ class Told:
     met: int
     reached: dict = field(default_factory=dict)
 
-    @property
+    @functools.cached_property
     def alarming(self):
         return self.answer.leaked - set(self.reached)
 
@@ -47,7 +48,7 @@ def tell(record):
     answers = debug_information.ask_about(record)
     labels.drop_beyond(record, answers)
     labels.label_places(record, answers)
-    record.handles.sort(key=lambda it: it.place)
+    record.handles.sort(key=operator.attrgetter('place'))
     counts = labels.decide_kinds(record)
     graph, numbers = owner_graph.graph_of(record, counts)
     answer = owner_graph.ask(graph)
@@ -69,7 +70,7 @@ def reached_by_raw_pointers(record, numbers, graph, answer):
     for it in record.raw_pointers:
         to = numbers.get(it.to)
         holder = numbers.get(it.place.number) if it.place.kind in ('object', 'deleter') else None
-        if to and holder and answer.verdicts.get(holder) == 'leaked':
+        if to and holder in answer.leaked:
             raw[holder].append(to)
         elif to and (holder or it.place.kind in ('static', 'thread-local', 'stack')):
             first.append((to, it.label))

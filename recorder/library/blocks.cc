@@ -85,6 +85,7 @@ void Snapshot::find_blocks() {
     if (chunks[it.chunk].is_pool && !it.is_hooked) it.trace = nullptr;  // which tells of the pool's making
   for (auto& it : untyped) block_at.emplace(it.first, -it.second);
   if (!untyped.empty()) find_untyped();
+  block_of.insert(block_at.begin(), block_at.end());
 }
 
 // Of those that may be blocks without a type: how many have a handle, and no more than their counts say.

@@ -23,15 +23,14 @@ bool Snapshot::is_dead(Word at) const {
 bool Snapshot::is_block(Word word) const {
   word &= ~Word(1);
   if (!word || word % WORD || block_at.empty()) return false;
-  return word >= block_at.begin()->first && word <= block_at.rbegin()->first && block_at.count(word);
+  return word >= block_at.begin()->first && word <= block_at.rbegin()->first && block_of.count(word);
 }
 
 // `before` is the word before it, in which a handle has the pointer to its object.
 void Snapshot::add_candidate(Word at, Word before, Word word) {
   if (!is_block(word) || (before && !is_pointer(before)) || is_dead(at)) return;
-  auto block = block_at.find(word & ~Word(1));
   if (hooked && !handle_at.emplace(at, true).second) return;
-  handles.push_back({Handle::EITHER, at, block->second, before});
+  handles.push_back({Handle::EITHER, at, block_of[word & ~Word(1)], before});
 }
 
 void Snapshot::find_handles() {

@@ -2,6 +2,7 @@
 #pragma once
 #include <map>
 #include <string>
+#include <unordered_map>
 #include <vector>
 
 #include "chunks.h"
@@ -112,6 +113,7 @@ private:
   void find_raw_pointers();
 
   std::map<Word, int> block_at;
+  std::unordered_map<Word, int> block_of;  // the same unordered, in which each word of memory is looked up
   std::vector<std::pair<Word, int>> objects;  // by address
   std::map<Word, bool> handle_at;             // (only where hooks tell of handles)
 };
