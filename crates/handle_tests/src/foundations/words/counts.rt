@@ -45,14 +45,14 @@ const HALVES: [(u32, u32); 9] = [
 
 /// A word that was taken apart.
 fn again(word: u64) -> u64 {
-    packed(unpacked(word))
+    packed(unpack_count(word))
 }
 
 #[test]
 fn each_half_of_a_count_comes_back_at_its_limits(rt: HostRuntime) {
     for (number, funds) in HALVES {
         let count = Count { number, funds };
-        same(&rt, unpacked(packed(count)), count);
+        same(&rt, unpack_count(packed(count)), count);
     }
     let words = [
         again(0),
