@@ -1,4 +1,7 @@
 //! Rows of the counts' words, and each half at its limits.
+ghost use Rattle.std.specs.Prelude.{◌≡◌};
+ghost use Rattle.control_word.specs.Packing.{count_bits};
+
 use crate::same::same;
 use control_word::packed::counts::{
     Count, Counts, FUND_TURNED, ONE_FUND, is_last, told_count, unpack_count, with_fund_turned,
@@ -6,7 +9,9 @@ use control_word::packed::counts::{
 };
 
 /// The word of a count: the number in its low half, the funds in its high half.
-fn packed(count: Count) -> u64 {
+fn packed(count: Count) -> u64
+    ensures { result ≡ count_bits count }
+{
     u64::from(count.number) | u64::from(count.funds) << 32
 }
 
