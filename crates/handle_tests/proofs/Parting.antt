@@ -1,16 +1,16 @@
 -- Handles of a desk that parts with some, and takes them back.
-use Rattle.std.proofs.Common.{◌≡◌, ℕ, zero, suc, ◌+◌, ◌<◌, ◌≢◌, ◌⊎◌, List, [], ◌∷◌, ◌++◌, length, take, drop, Option, Some, None}
-use Rattle.std.proofs.Common.{refl, sym, ap, subst, ◌∙◌, inl, inr, ⊎_elim, arith, append-nil, take-append-drop}
+use Rattle.std.proofs.Common.{◌≡◌, ℕ, ◌+◌, List, [], ◌∷◌, ◌++◌, take, drop, Option, Some, None}
+use Rattle.std.proofs.Common.{refl, sym, ap, subst, ◌∙◌, append-nil, take-append-drop}
 use Rattle.std.specs.List.Sorted.{IsPermutation}
 use Rattle.std.proofs.lemmas.List.Sorted.{IsPermutation-append_comm}
 use Rattle.control_word.specs.declared.model.handle.Kind.TheVariants.{Owner, Weak}
 use Rattle.control_block.specs.CellCalls.{with_handle}
-use Rattle.control_block.specs.Desks.{DeskNow, IsSameDesk, allowance_of, bag_of}
+use Rattle.control_block.specs.Desks.{DeskNow, IsSameDesk, bag_of}
 use Rattle.control_block.specs.declared.handles.Shared.{Shared}
 use Rattle.control_block.specs.declared.handles.Weak as weak_handle
 use Rattle.shared_handle.specs.Calls.{weak_place}
 use Rattle.control_block.specs.HandleLists.{IsHeldByDesk, without_held}
-use Rattle.control_block.specs.Parting.{HoldsAll, IsTooMuch, SplitsOff}
+use Rattle.control_block.specs.Parting.{HoldsAll, SplitsOff}
 use Rattle.control_block.specs.SlotLists.{handles_in}
 use Rattle.control_block.specs.Standing.{Standing}
 use Rattle.control_block.specs.declared.handles.Held.{Held}
@@ -33,12 +33,15 @@ module _ (n : ℕ) where
   last_part d ss all =
       holds_in_order d _ _ (IsPermutation-append_comm (handles_in (take n ss)) (handles_in (drop n ss))) (subst (HoldsAll d) (both_parts ss) all)
 
-  pub may_lend : (d : DeskNow ℕ) (ss : List (Option Held)) → HoldsSlots d ss → HoldsSlots d (drop n ss)
-  may_lend d ss all = holds_part d _ _ (last_part d ss all)
+  -- those that are lent are the desk's, and then the new desk's
+  pub may_lend : (d : DeskNow ℕ) (ss ks : List (Option Held)) → HoldsSlots d ss → ks ≡ drop n ss → HoldsSlots d ks
+  may_lend d ss ks all is = subst (HoldsSlots d) (sym is) (holds_part d _ _ (last_part d ss all))
 
-  pub lent : (d e new : DeskNow ℕ) (a k : ℕ) (ss : List (Option Held)) → HoldsSlots d ss → SplitsOff d a k (handles_in (drop n ss)) e new
+  pub lent : (d e new : DeskNow ℕ) (a k : ℕ) (ss ks : List (Option Held)) → HoldsSlots d ss → ks ≡ drop n ss → SplitsOff d a k (handles_in ks) e new
       → HoldsSlots new (drop n ss) × HoldsSlots e (take n ss)
-  lent d e new a k ss all parts = holds_apart d a k (handles_in (drop n ss)) (handles_in (take n ss)) e new (last_part d ss all) parts
+  lent d e new a k ss ks all is parts =
+      holds_apart d a k (handles_in (drop n ss)) (handles_in (take n ss)) e new (last_part d ss all)
+      (subst (λ (l : List (Option Held)). SplitsOff d a k (handles_in l) e new) is parts)
 
   pub back : (d other e : DeskNow ℕ) (ss : List (Option Held)) → Standing d → Standing other → HoldsSlots d (take n ss) → HoldsSlots other (drop n ss)
       → IsPermutation (bag_of d ++ bag_of other) (bag_of e) → e.held ≡ d.held + other.held
@@ -76,33 +79,3 @@ last_held d h hs all = hand_held d h hs (last_in_hand d h hs all)
 pub last_left : (d e : DeskNow ℕ) (h : Held) (hs : List Held) → HoldsAll d (hs ++ h ∷ []) → bag_of e ≡ without_held h (bag_of d) → e.held + 1 ≡ d.held
     → HoldsAll e hs
 last_left d e h hs all bag count = all_less d e h hs (last_in_hand d h hs all) bag count
-
--- a desk can't give all that it has, and has less than all when it gave some
-pub all_too_much : (d : DeskNow ℕ) (a : ℕ) → a ≡ allowance_of d → IsTooMuch d a 0
-all_too_much d a is =
-    ⊎_elim (λ (z : a ≡ 0). inl z) (λ (p : 0 < a). inr (inr (omega arith))) (none_or_some a)
-  where
-    none_or_some : (n : ℕ) → (n ≡ 0) ⊎ (0 < n)
-    none_or_some zero = inl refl
-    none_or_some (suc n) = inr (omega arith)
-
-pub kept_less : (d e new : DeskNow ℕ) (a k n whole : ℕ) (hs : List Held) → SplitsOff d a k hs e new → (IsTooMuch d a n → ⊥)
-    → allowance_of d ≡ whole → allowance_of e < whole
-kept_less d e new a k n whole hs parts fits is =
-    let p = parts.allowance.1 in let z : a ≢ 0 = λ (s : a ≡ 0). fits (inl s) in omega arith
-
--- the first slots and the others
-module _ (n : ℕ) (front back ss : List (Option Held)) (is : ss ≡ front ++ back) (len : length front ≡ n) where
-  pub first_part : take n ss ≡ front
-  first_part = ap (take n) is ∙ (ap (λ (m : ℕ). take m (front ++ back)) (sym len) ∙ take_first front)
-    where
-      take_first : (l : List (Option Held)) → take (length l) (l ++ back) ≡ l
-      take_first [] = refl
-      take_first (x ∷ l) = ap (λ (m : List (Option Held)). x ∷ m) (take_first l)
-
-  pub other_part : drop n ss ≡ back
-  other_part = ap (drop n) is ∙ (ap (λ (m : ℕ). drop m (front ++ back)) (sym len) ∙ drop_first front)
-    where
-      drop_first : (l : List (Option Held)) → drop (length l) (l ++ back) ≡ back
-      drop_first [] = refl
-      drop_first (x ∷ l) = drop_first l

@@ -3,3 +3,4 @@ pub(crate) mod alone;
 pub(crate) mod cells;
 pub(crate) mod handles;
 pub(crate) mod limits;
+pub(crate) mod parted;
