@@ -44,7 +44,12 @@ def as_opened(crate):
 REFUSED = {
     "handle_tests::foundations::ledger": ["foundations::ledger::a_refused_opening_leaves_nothing=0"],
     "handle_tests::foundations::arena": ["foundations::arena::an_arena_may_be_refused=0"],
-    "handle_tests::memory": ["memory::a_refused_opening_leaves_nothing=0", "--", *as_opened("handle_tests")],
+    "handle_tests::memory": [
+        "memory::a_refused_opening_leaves_nothing=0",
+        "memory::splits::a_refused_split_hands_its_handles_back_in_order=0",
+        "--",
+        *as_opened("handle_tests"),
+    ],
     "table_tests::memory": ["--", *as_opened("table_tests")],
     "scene_tests::memory": [],
     "scene_tests::accesses": ["accesses::a_refused_access_is_sought_again=0"],

@@ -3,4 +3,5 @@ pub(crate) mod cascade;
 pub(crate) mod drops;
 pub(crate) mod forgotten;
 pub(crate) mod piles;
+pub(crate) mod resets;
 pub(crate) mod this;

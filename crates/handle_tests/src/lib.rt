@@ -2,6 +2,8 @@
 #![tactic(auto)]
 
 #[cfg(test)]
+mod bare;
+#[cfg(test)]
 mod desks;
 #[cfg(test)]
 mod ending;
@@ -10,7 +12,7 @@ mod example;
 #[cfg(test)]
 mod foundations;
 #[cfg(test)]
-mod laws;
+mod listed;
 #[cfg(test)]
 mod memory;
 #[cfg(test)]

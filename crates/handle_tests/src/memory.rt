@@ -10,6 +10,8 @@ use control_word::Refusal;
 use std::alloc::Global;
 use std::test::Fail;
 
+mod splits;
+
 // What the first desk of a domain has.
 fn opened(alloc: Global) -> Result<(u32, u32, u32), Refusal> {
     match open::<u64>(alloc, shape(4, 8)) {

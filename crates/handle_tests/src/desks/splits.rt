@@ -139,7 +139,7 @@ fn refused_close(domain: Domain<u64>, desk: Desk<u64>) -> Option<(Domain<u64>, D
 }
 
 // What a desk has that was cut, what the other has, and the first once they are joined.
-type Parts = [(u32, u32, u32); 3];
+pub(crate) type Parts = [(u32, u32, u32); 3];
 
 // A desk is joined with the one that was cut from it: why it can't close its domain before that, and which blocks are
 // vacant then.

@@ -1,4 +1,7 @@
 //! Rows of the counts' words, and each half at its limits.
+ghost use Rattle.std.specs.Prelude.{◌≡◌};
+ghost use Rattle.control_word.specs.Packing.{count_bits};
+
 use crate::same::same;
 use control_word::packed::counts::{
     Count, Counts, FUND_TURNED, ONE_FUND, is_last, told_count, unpack_count, with_fund_turned,
@@ -6,7 +9,9 @@ use control_word::packed::counts::{
 };
 
 /// The word of a count: the number in its low half, the funds in its high half.
-fn packed(count: Count) -> u64 {
+fn packed(count: Count) -> u64
+    ensures { result ≡ count_bits count }
+{
     u64::from(count.number) | u64::from(count.funds) << 32
 }
 
@@ -45,14 +50,14 @@ const HALVES: [(u32, u32); 9] = [
 
 /// A word that was taken apart.
 fn again(word: u64) -> u64 {
-    packed(unpacked(word))
+    packed(unpack_count(word))
 }
 
 #[test]
 fn each_half_of_a_count_comes_back_at_its_limits(rt: HostRuntime) {
     for (number, funds) in HALVES {
         let count = Count { number, funds };
-        same(&rt, unpacked(packed(count)), count);
+        same(&rt, unpack_count(packed(count)), count);
     }
     let words = [
         again(0),

@@ -1,4 +1,4 @@
-use Rattle.std.proofs.Common.{ℕ, subst, sym}
+use Rattle.std.proofs.Common.{subst, sym}
 use Rattle.shared_handle.specs.Piles.{NotAmong}
 use Rattle.shared_handle.proofs.Callers.{ends_kept}
 use Rattle.shared_handle.proofs.Piles.{carries_kept}

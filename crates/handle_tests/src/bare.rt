@@ -1,0 +1,6 @@
+//! Handles and cells as they are, without a table.
+pub(crate) mod alone;
+pub(crate) mod cells;
+pub(crate) mod handles;
+pub(crate) mod limits;
+pub(crate) mod parted;
