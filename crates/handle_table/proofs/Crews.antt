@@ -1,6 +1,8 @@
 -- Tables for a team, and how the desk that has all they leave closes its domain.
-use Rattle.std.proofs.Common.{◌≡◌, ℕ, List, [], ◌∷◌, ◌++◌, ap, length, refl, subst, sym, ◌∙◌}
+use Rattle.std.proofs.Common.{◌≡◌, ◌⊎◌, inl, inr, ℕ, ◌<◌, Option, None, Some, arith, List, [], ◌∷◌, ◌++◌, ap, length, refl, subst, sym, ◌∙◌}
 use Rattle.std.proofs.lemmas.List.{nil_from_length}
+use Rattle.control_word.specs.declared.refusal.Refusal.{Refusal}
+use Rattle.control_word.specs.declared.refusal.Refusal.TheVariants.{Memory}
 use Rattle.control_word.specs.declared.shape.Shape.{Shape}
 use Rattle.control_word.specs.Histories.{IsLegal}
 use Rattle.control_block.specs.Census.{CensusNow}
@@ -10,11 +12,17 @@ use Rattle.control_block.specs.Rule.{opening_of}
 use Rattle.control_block.specs.Standing.{Standing}
 use Rattle.handle_table.proofs.Filling.{total_one}
 use Rattle.handle_table.specs.Parting.{AbsorbsAll, IsNew, IsPartedInto, WhyFewer, WindsUp}
-use Rattle.handle_table.specs.Programs.{CanClose, IsClosed, Runs, Works, WorksIn, WorksOut}
+use Rattle.handle_table.specs.Programs.{CanClose, HaveWorked, IsClosed, IsManned, Runs, Works, WorksIn, WorksOut}
 use Rattle.handle_table.specs.Tables.{FitsSlots, TableNow}
 use Rattle.handle_table.specs.declared.program.Manned.{Manned}
 use Rattle.handle_table.specs.declared.program.Team.{Team}
 use Rattle.std.specs.Prelude.{All, IfSome}
+
+-- some worker was asked for
+some_asked : (asked had : ℕ) (fewer : Option Refusal) → IsManned asked had fewer → (fewer ≡ Some Memory) ⊎ (0 < had) → 0 < asked
+some_asked asked had None is (inl e) = absurd (cc e)
+some_asked asked had None is (inr some) = omega (arith, is, some)
+some_asked asked had (Some why) is some = omega (arith, is)
 
 module _ {V : Type 0} where
   -- one table more
@@ -23,22 +31,45 @@ module _ {V : Type 0} where
   parted_more d m e a k [] t is parts = (e, subst (λ (x : DeskNow V). SplitsOff x a k [] e t.desk) is parts, refl)
   parted_more d m e a k (s ∷ ts) t is parts = (is.0, is.1, parted_more is.0 m e a k ts t is.2 parts)
 
+  -- why workers are fewer
+  why_fewer : (x : DeskNow V) (a k : ℕ) (fewer : Option Refusal) (manned : Manned) (lent left : List (TableNow V))
+      → HaveWorked lent left fewer manned → IfSome fewer (WhyFewer x a k) → IfSome manned.fewer (WhyFewer x a k)
+  why_fewer x a k fewer manned lent left (many, inl all) why = subst (λ (o : Option Refusal). IfSome o (WhyFewer x a k)) (sym all.1) why
+  why_fewer x a k fewer manned lent left (many, inr none) why =
+      subst (λ (o : Option Refusal). IfSome o (WhyFewer x a k)) (sym none.2) (inl refl)
+
+  all_or_none : (fewer : Option Refusal) (manned : Manned) (lent left : List (TableNow V)) → HaveWorked lent left fewer manned
+      → (length lent ≡ manned.workers) ⊎ ((left ≡ lent) × (manned.workers ≡ 0) × (manned.fewer ≡ Some Memory))
+  all_or_none fewer manned lent left (many, inl all) = inl (sym all.0)
+  all_or_none fewer manned lent left (many, inr none) = inr (none.0, none.1, none.2)
+
+  -- so many worked, or fewer and why
+  pub manned_so : (asked : ℕ) (fewer : Option Refusal) (manned : Manned) (lent left : List (TableNow V))
+      → IsManned asked (length lent) fewer → HaveWorked lent left fewer manned → IsManned asked manned.workers manned.fewer
+  manned_so asked fewer manned lent left is (many, inl all) =
+      subst (λ (o : Option Refusal). IsManned asked manned.workers o) (sym all.1)
+      (subst (λ (n : ℕ). IsManned asked n fewer) (sym all.0) is)
+  manned_so asked fewer manned lent left is (many, inr none) =
+      subst (λ (o : Option Refusal). IsManned asked manned.workers o) (sym none.2)
+      (subst (λ (n : ℕ). n < asked) (sym none.1) (some_asked asked (length lent) fewer is none.3))
+
   -- the tables that were lent came back, and were absorbed
-  pub works : (t x u : TableNow V) (team : Team) (manned : Manned) (lent left : List (TableNow V))
+  pub works : (t x u : TableNow V) (team : Team) (fewer : Option Refusal) (manned : Manned) (lent left : List (TableNow V))
       → IsPartedInto t.desk team.allowance team.blocks lent x.desk
       → All (IsNew team.slots) lent → (x.slots ≡ t.slots) × (x.endings ≡ t.endings)
-      → IfSome manned.fewer (WhyFewer x.desk team.allowance team.blocks)
-      → length lent ≡ manned.workers → length left ≡ length lent → AbsorbsAll x left u → Works t team manned u
-  works t x u team manned lent left parts new rest fewer many same absorbs =
+      → IfSome fewer (WhyFewer x.desk team.allowance team.blocks)
+      → HaveWorked lent left fewer manned → AbsorbsAll x left u → Works t team manned u
+  works t x u team fewer manned lent left parts new rest why worked absorbs =
       let is : x ≡ record t { desk = x.desk } = λ i. record { desk = x.desk; slots = rest.0 i; endings = rest.1 i } in
       record {
         lent = lent;
         between = x.desk;
         parts = parts;
         new = new;
-        fewer = fewer;
+        fewer = why_fewer x.desk team.allowance team.blocks fewer manned lent left worked why;
         left = left;
-        many = (many, same ∙ many);
+        many = worked.0;
+        worked = all_or_none fewer manned lent left worked;
         absorbs = subst (λ (y : TableNow V). AbsorbsAll y left u) is absorbs;
       }
 

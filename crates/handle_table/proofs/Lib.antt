@@ -17,3 +17,4 @@ pub mod Sharing
 pub mod Regained
 pub mod Structured
 pub mod Lasts
+pub mod Starting

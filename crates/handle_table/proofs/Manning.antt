@@ -176,3 +176,24 @@ pub part_shape : (shape : Shape) (why : Refusal) → IsRefusedPart why → IsWit
 part_shape shape why (inl e) within = (λ is. absurd (cc (e, is)), λ no. absurd (no within))
 part_shape shape why (inr (inl e)) within = (λ is. absurd (cc (e, is)), λ no. absurd (no within))
 part_shape shape why (inr (inr e)) within = (λ is. absurd (cc (e, is)), λ no. absurd (no within))
+
+module _ {V W : Type 0} (does : WorkerRelation V W) where
+  -- as many tables come back as were lent
+  pub each_many : (had : List W) (lent : List (TableNow V)) (has : List W) (left : List (TableNow V)) → EachDoes does had lent has left
+      → length left ≡ length lent
+  each_many [] [] [] [] h = refl
+  each_many [] [] [] (u ∷ us) h = absurd h
+  each_many [] [] (x ∷ xs) [] h = absurd h
+  each_many [] [] (x ∷ xs) (u ∷ us) h = absurd h
+  each_many [] (t ∷ ts) [] [] h = absurd h
+  each_many [] (t ∷ ts) [] (u ∷ us) h = absurd h
+  each_many [] (t ∷ ts) (x ∷ xs) [] h = absurd h
+  each_many [] (t ∷ ts) (x ∷ xs) (u ∷ us) h = absurd h
+  each_many (w ∷ ws) [] [] [] h = absurd h
+  each_many (w ∷ ws) [] [] (u ∷ us) h = absurd h
+  each_many (w ∷ ws) [] (x ∷ xs) [] h = absurd h
+  each_many (w ∷ ws) [] (x ∷ xs) (u ∷ us) h = absurd h
+  each_many (w ∷ ws) (t ∷ ts) [] [] h = absurd h
+  each_many (w ∷ ws) (t ∷ ts) [] (u ∷ us) h = absurd h
+  each_many (w ∷ ws) (t ∷ ts) (x ∷ xs) [] h = absurd h
+  each_many (w ∷ ws) (t ∷ ts) (x ∷ xs) (u ∷ us) h = ap suc (each_many ws ts xs us h.1)

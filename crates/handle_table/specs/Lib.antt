@@ -17,3 +17,4 @@ pub mod Staffs
 pub mod Peeks
 pub mod Structures
 pub mod Slots
+pub mod Jobs

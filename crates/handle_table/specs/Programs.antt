@@ -1,6 +1,7 @@
 -- What is said of programs whose workers have tables.
-use Rattle.std.specs.Prelude.{◌≡◌, ℕ, ◌<◌, All, List, [], length, Option, None, Some, IfSome}
+use Rattle.std.specs.Prelude.{◌≡◌, ◌⊎◌, ℕ, ◌<◌, All, List, [], length, Option, None, Some, IfSome}
 use Rattle.control_word.specs.declared.refusal.Refusal.{Refusal}
+use Rattle.control_word.specs.declared.refusal.Refusal.TheVariants.{Memory}
 use Rattle.control_word.specs.declared.shape.Shape.{Shape}
 use Rattle.control_word.specs.Histories.{IsLegal}
 use Rattle.control_block.specs.Census.{CensusNow, TellsAll}
@@ -18,7 +19,15 @@ IsManned asked had None = had ≡ asked
 IsManned asked had (Some why) = had < asked
 
 module _ {V : Type 0} where
-  -- tables of a desk's parts were lent to workers, so many as had one, and absorbed as these left them
+  -- the workers that had these tables worked, all of them, or none, where memory was refused for one
+  abbrev pub HaveWorked : List (TableNow V) → List (TableNow V) → Option Refusal → Manned → Type 0
+  HaveWorked lent left fewer manned = (length left ≡ length lent)
+      × (((manned.workers ≡ length lent) × (manned.fewer ≡ fewer))
+      ⊎ ((left ≡ lent) × (manned.workers ≡ 0) × (manned.fewer ≡ Some Memory)
+      × ((fewer ≡ Some Memory) ⊎ (0 < length lent))))
+
+  -- tables of a desk's parts were lent to workers, so many as had one, and absorbed as these left them: all of them
+  -- worked, or none, where memory was refused for one
   pub record Works (t : TableNow V) (team : Team) (manned : Manned) (u : TableNow V) : Type 0 where
     pub lent : List (TableNow V)
     pub between : DeskNow V
@@ -26,7 +35,9 @@ module _ {V : Type 0} where
     pub new : All (IsNew team.slots) lent
     pub fewer : IfSome manned.fewer (WhyFewer between team.allowance team.blocks)
     pub left : List (TableNow V)
-    pub many : (length lent ≡ manned.workers) × (length left ≡ manned.workers)
+    pub many : length left ≡ length lent
+    pub worked : (length lent ≡ manned.workers)
+        ⊎ ((left ≡ lent) × (manned.workers ≡ 0) × (manned.fewer ≡ Some Memory))
     pub absorbs : AbsorbsAll (record t { desk = between }) left u
 
   -- a team worked with what a table lent it, and then all handles left the table and what was left to end did so

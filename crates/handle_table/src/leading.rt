@@ -30,8 +30,8 @@ pub trait Leader<V: Drop, R: Threads + Wait + Sync>: Program<V, R> {
     ghost leads: { Lead V Self } = { unsaid };
 
     /// What the first thread does before the first team, between two, and after the last one. It answers the next team,
-    /// or none where there is no more to do. `before` says how many workers of the team before had a table, and why
-    /// they were fewer than were asked for, where they were; at first there was no such team.
+    /// or none where there is no more to do. `before` says how many workers of the team before worked, and why they
+    /// were fewer than were asked for, where they were; at first there was no such team.
     fn lead<H: Home>(
         &mut self,
         rt: &R,

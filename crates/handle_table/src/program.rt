@@ -5,12 +5,14 @@ ghost use Rattle.control_word.specs.Layout.{IsWithinLimits};
 ghost use Rattle.control_block.specs.Desks.{IsFirstDesk, Belongs, DeskNow, endings_of};
 ghost use Rattle.shared_handle.specs.Piles.{Bears};
 ghost use Rattle.handle_table.specs.Parting.{AbsorbsAll, IsNew, IsPartedInto, WhyFewer};
-ghost use Rattle.handle_table.specs.Programs.{IsManned, Runs, Works, WorksIn, WorksOut};
+ghost use Rattle.handle_table.specs.Programs.{HaveWorked, IsManned, Runs, Works, WorksIn, WorksOut};
 ghost use Rattle.handle_table.specs.Tables.{AllVacant, FitsSlots, on_pile};
 
 use crate::closing::close_bare;
 use crate::opening::{Opened, open_domain};
+use crate::program::part::{Part, is_memory, parts_of};
 use crate::slots::slot::Slot;
+use crate::staff::posts::worked;
 use crate::table::{HandleTable, Home};
 use control_block::census::Census;
 use control_block::desk::Desk;
@@ -20,7 +22,9 @@ use shared_handle::{Held, Pile};
 use std::alloc::Global;
 use std::marker::{Brand, PhantomData};
 use std::sync::Wait;
-use std::thread::{Threads, for_each_mut};
+use std::thread::Threads;
+
+mod part;
 
 /// What each worker of a team does, in a thread with a table of its own.
 pub trait Program<V: Drop, R: Threads + Wait + Sync> {
@@ -42,15 +46,16 @@ pub struct Crew<'d, V: Drop, H: Home> {
     pub fewer: Option<Refusal>,
 }
 
-/// How many workers of a team had a table, and why they are fewer than were asked for, where they are.
+/// How many workers of a team worked, and why they are fewer than were asked for, where they are: none works where
+/// memory was refused for one, and else all that had a table.
 #[derive(Clone, Copy, Drop)]
 pub struct Manned {
     pub workers: usize,
     pub fewer: Option<Refusal>,
 }
 
-/// What a program's run left: the census of its domain, how many workers had a table, and why they are fewer than were
-/// asked for, where they are.
+/// What a program's run left: the census of its domain, how many workers worked, and why they are fewer than were asked
+/// for, where the domain had no such parts for all.
 #[derive(Drop)]
 pub struct Ran<V: Drop> {
     pub census: Census<V>,
@@ -142,28 +147,48 @@ impl<'d, V: Drop, H: Home> HandleTable<'d, V, H> {
     }
 }
 
-/// Each worker of a team works, in a thread with a table of its own.
+/// Each worker of a program that has a table works, in a thread of its own, or none, where memory is refused for one.
 fn lend_all<
     'd,
     V: Drop + Send,
     H: Home + Send + Sync,
     R: Threads + Wait + Sync,
     P: Program<V, R> + Sync,
->(rt: &R, tables: &mut Vec<HandleTable<'d, V, H>>, threads: usize, program: &P)
-    ensures { length tables.new.items ≡ length tables.old.items }
+>(
+    rt: &R,
+    alloc: Global,
+    tables: &mut Vec<HandleTable<'d, V, H>>,
+    fewer: Option<Refusal>,
+    program: &P,
+) -> Manned
+    ensures worked { HaveWorked tables.old.items tables.new.items fewer result }
 {
-    for_each_mut(
-        rt,
-        tables.as_mut_slice(),
-        threads.max(1),
-        &|i, t| { program.work::<H>(rt, i, t) },
-    );
+    let workers = tables.len();
+    let none = Manned {
+        workers: 0,
+        fewer: Some(Refusal::Memory),
+    };
+    if is_memory(fewer) {
+        return none;
+    }
+    if workers == 0 {
+        return Manned { workers, fewer };
+    }
+    let Some(parts) = parts_of(alloc, program, workers) else {
+        return none;
+    };
+    let mut parts = parts;
+    if worked::<V, H, R, Part<'_, P>>(rt, alloc, tables, &mut parts) {
+        Manned { workers, fewer }
+    } else {
+        none
+    }
 }
 
 impl<'d, V: Drop + Send, H: Home + Send + Sync> HandleTable<'d, V, H> {
     /// The workers of a team work, each in a thread with a table of its own, and all they leave comes back: the handles
-    /// in their slots leave, and what is left to end does so (own). It says how many had a table, and why they are
-    /// fewer than were asked for, where they are.
+    /// in their slots leave, and what is left to end does so (own). It says how many worked, and why they are fewer than
+    /// were asked for, where they are: none works where memory is refused for one.
     pub(crate) fn scope<R: Threads + Wait + Sync, P: Program<V, R> + Sync>(
         &mut self,
         rt: &R,
@@ -177,10 +202,9 @@ impl<'d, V: Drop + Send, H: Home + Send + Sync> HandleTable<'d, V, H> {
         let crew = self.team(alloc, team);
         let Crew { tables, fewer } = crew;
         let mut tables = tables;
-        let workers = tables.len();
-        lend_all(rt, &mut tables, team.workers, program);
+        let manned = lend_all(rt, alloc, &mut tables, fewer, program);
         self.absorb_all(rt, tables);
-        Manned { workers, fewer }
+        manned
     }
 }
 
@@ -230,9 +254,9 @@ fn run_in<V: Drop + Send, H: Home + Send + Sync, R: Threads + Wait + Sync, P: Pr
 /// A domain is opened, each worker of the team does its part of the program in a thread with a table of its own, and
 /// the domain is closed (own). The handles that a worker leaves in its slots leave, and what is left to end does so.
 /// The workers' tables are parts of a first one, which has all again at the end: what each had and what it left is in
-/// `runs`. It is refused `Shape` just where the shape is outside the limits, `Memory` only where a growth was really
-/// refused, and `NotSole` where a worker kept a table for itself. No clause says what a worker did with its table, or
-/// that it did anything: `run_workers` says that of each.
+/// `runs`. It is refused `Shape` just where the shape is outside the limits, `Memory` only where a growth or the start of
+/// a thread was really refused, and then no worker works; and `NotSole` where a worker kept a table for itself. No clause
+/// says what a worker did with its table, or that it did anything: `run_workers` says that of each.
 pub fn run<V: Drop + Send, R: Threads + Wait + Sync, P: Program<V, R> + Sync>(
     rt: &R,
     alloc: Global,
@@ -242,6 +266,7 @@ pub fn run<V: Drop + Send, R: Threads + Wait + Sync, P: Program<V, R> + Sync>(
 ) -> Result<Ran<V>, Refusal>
     ensures runs { IfOk result (λ r. Runs V shape team (record { workers = r.workers; fewer = r.fewer }) r.census) }
     ensures manned { IfOk result (λ r. IsManned team.workers r.workers r.fewer) }
+    ensures fewer { IfOk result (λ r. r.fewer ≡ Some Refusal.Memory → ⊥) }
     ensures within { IfOk result (λ _. IsWithinLimits shape) }
     ensures shape { IfErr result (λ why. why ≡ Refusal.Shape ↔ (IsWithinLimits shape → ⊥)) }
     ensures refused { IfErr result
@@ -256,7 +281,11 @@ pub fn run<V: Drop + Send, R: Threads + Wait + Sync, P: Program<V, R> + Sync>(
     let (desk, manned) = run_in::<V, Brand, R, P>(
         rt, alloc, &domain, desk, slots, pile, team, program,
     );
-    match close_bare(domain, desk) {
+    let closed = close_bare(domain, desk);
+    if is_memory(manned.fewer) {
+        return Err(Refusal::Memory);
+    }
+    match closed {
         Ok(census) => Ok(Ran {
             census,
             workers: manned.workers,

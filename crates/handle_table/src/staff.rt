@@ -25,7 +25,8 @@ use std::marker::Brand;
 use std::sync::Wait;
 use std::thread::Threads;
 
-mod posts;
+mod jobs;
+pub(crate) mod posts;
 
 /// What a worker with a state of its own does, in a thread with a table of its own. `does` says what comes of it: by
 /// the worker and its table before and after. A worker that gives no such member says nothing.
@@ -48,8 +49,8 @@ pub struct Share {
 
 impl<'d, V: Drop + Send, H: Home + Send + Sync> HandleTable<'d, V, H> {
     /// Each worker works, in a thread with a table of its own, and all that they leave with these comes back: the
-    /// handles in their slots leave, and what is left to end does so (own). Or why a worker had no table: then none
-    /// works.
+    /// handles in their slots leave, and what is left to end does so (own). Or why a worker had no table or no thread:
+    /// then none works.
     pub(crate) fn staff<R: Threads + Wait + Sync, W: Work<V, R> + Send>(
         &mut self,
         rt: &R,
@@ -62,12 +63,8 @@ impl<'d, V: Drop + Send, H: Home + Send + Sync> HandleTable<'d, V, H> {
         ensures shared { CanShare self.old.desk share (length workers.old.items)
             → IfSome result (λ why. why ≡ Refusal.Memory) }
     {
-        let many = workers.len();
-        let Ok(posts) = Vec::with_capacity(alloc, many) else {
-            return Some(Refusal::Memory);
-        };
         let team = Team {
-            workers: many,
+            workers: workers.len(),
             slots: share.slots,
             allowance: share.allowance,
             blocks: share.blocks,
@@ -76,11 +73,13 @@ impl<'d, V: Drop + Send, H: Home + Send + Sync> HandleTable<'d, V, H> {
         let Crew { tables, fewer } = crew;
         let mut tables = tables;
         if let Some(why) = fewer {
-            posts.destroy_empty();
             self.absorb_all(rt, tables);
             return Some(why);
         }
-        worked::<V, H, R, W>(rt, &mut tables, workers, posts);
+        if !worked::<V, H, R, W>(rt, alloc, &mut tables, workers) {
+            self.absorb_all(rt, tables);
+            return Some(Refusal::Memory);
+        }
         self.absorb_all(rt, tables);
         None
     }
@@ -141,10 +140,11 @@ fn staff_in<V: Drop + Send, H: Home + Send + Sync, R: Threads + Wait + Sync, W: 
 /// and what is left to end does so. What `Work::does` says of a worker and its table holds of each,
 /// and the tables are parts of a first one, which has all again at the end.
 ///
-/// It is refused `Shape` just where the shape is outside the limits, `Memory` only where a growth
-/// was really refused, `Limit` or `Full` where there is no such share for each, and `NotSole` where
-/// a worker kept a table for itself. Only with the last has any worked, and then `Work::does` holds
-/// of each too. At each refusal the domain is gone: closed, or with its last desk given up.
+/// It is refused `Shape` just where the shape is outside the limits, `Memory` only where a growth or
+/// the start of a thread was really refused, `Limit` or `Full` where there is no such share for
+/// each, and `NotSole` where a worker kept a table for itself. Only with the last has any worked,
+/// and then `Work::does` holds of each too: a worker begins once the threads of all are started. At
+/// each refusal the domain is gone: closed, or with its last desk given up.
 pub fn run_workers_open<V: Drop + Send, R: Threads + Wait + Sync, W: Work<V, R> + Send>(
     rt: &R,
     alloc: Global,
@@ -192,9 +192,10 @@ pub fn run_workers_open<V: Drop + Send, R: Threads + Wait + Sync, W: Work<V, R> 
 /// The handles that a worker leaves in its slots leave, and what is left to end does so. What `Work::does` says of a
 /// worker and its table holds of each, and the tables are parts of a first one, which has all again at the end.
 ///
-/// It is refused `Shape` just where the shape is outside the limits, `Memory` only where a growth was really refused,
-/// `Limit` or `Full` where there is no such share for each, and `NotSole` where a worker kept a table for itself. Only
-/// with the last has any worked, and then `Work::does` holds of each too.
+/// It is refused `Shape` just where the shape is outside the limits, `Memory` only where a growth or the start of a
+/// thread was really refused, `Limit` or `Full` where there is no such share for each, and `NotSole` where a worker kept
+/// a table for itself. Only with the last has any worked, and then `Work::does` holds of each too: a worker begins once
+/// the threads of all are started.
 pub fn run_workers<V: Drop + Send, R: Threads + Wait + Sync, W: Work<V, R> + Send>(
     rt: &R,
     alloc: Global,

@@ -1,12 +1,13 @@
 //! Workers at their posts.
-ghost use Rattle.std.specs.Prelude.{◌≡◌, ◌≤◌, [], length, map, reverse, vec_capacity};
-ghost use Rattle.std.specs.List.{AllZip};
+ghost use Rattle.std.specs.Prelude.{◌≡◌, ◌≤◌, [], false, length, map, reverse, true, vec_capacity};
 ghost use Rattle.handle_table.specs.Staffs.{EachDoes};
 
 use crate::staff::Work;
+use crate::staff::jobs::{Job, run_all};
 use crate::table::{HandleTable, Home};
+use std::alloc::Global;
 use std::sync::Wait;
-use std::thread::{Threads, for_each_mut};
+use std::thread::Threads;
 
 /// A worker with its table.
 pub(crate) struct Post<'d, V: Drop, H: Home, W> {
@@ -55,43 +56,38 @@ fn dismiss<'d, V: Drop, H: Home, W>(
     }
 }
 
-/// Each worker works, in a thread with its table.
-fn post_all<
-    'd,
-    V: Drop + Send,
-    H: Home + Send + Sync,
-    R: Threads + Wait + Sync,
-    W: Work<V, R> + Send,
->(rt: &R, posts: &mut Vec<Post<'d, V, H, W>>, threads: usize)
-    ensures { AllZip (λ p q. W.does p.worker p.table q.worker q.table) posts.old.items posts.new.items }
-{
-    let work = |_: usize, post: &mut Post<'_, V, H, W>|
-        ensures { W.does post.old.worker post.old.table post.new.worker post.new.table }
-    { post.worker.work::<H>(rt, &mut post.table) };
-    for_each_mut(rt, posts.as_mut_slice(), threads.max(1), &work);
+impl<'d, V: Drop + Send, H: Home + Send + Sync, R: Threads + Wait + Sync, W: Work<V, R> + Send> Job<
+    R,
+> for Post<'d, V, H, W> {
+    ghost does = { λ p q. W.does p.worker p.table q.worker q.table };
+
+    fn run(&mut self, rt: &R) {
+        self.worker.work::<H>(rt, &mut self.table);
+    }
 }
 
-/// Each worker works, in a thread with the table of its number.
+/// Each worker works, in a thread with the table of its number, or none, where memory is refused for one: then whether
+/// all worked is false.
 pub(crate) fn worked<
     'd,
     V: Drop + Send,
     H: Home + Send + Sync,
     R: Threads + Wait + Sync,
     W: Work<V, R> + Send,
->(
-    rt: &R,
-    tables: &mut Vec<HandleTable<'d, V, H>>,
-    workers: &mut Vec<W>,
-    posts: Vec<Post<'d, V, H, W>>,
-)
+>(rt: &R, alloc: Global, tables: &mut Vec<HandleTable<'d, V, H>>, workers: &mut Vec<W>) -> bool
     requires many { length tables.old.items ≡ length workers.old.items }
-    requires room { (posts.items ≡ []) × (length workers.old.items ≤ vec_capacity posts) }
-    ensures { EachDoes W.does workers.old.items tables.old.items workers.new.items tables.new.items }
+    ensures worked { result ≡ true
+        → EachDoes W.does workers.old.items tables.old.items workers.new.items tables.new.items }
+    ensures same { result ≡ false
+        → (workers.new.items ≡ workers.old.items) × (tables.new.items ≡ tables.old.items) }
 {
-    let threads = workers.len();
-    let mut posts = posts;
+    let Ok(mut posts) = Vec::with_capacity(alloc, workers.len()) else {
+        return false;
+    };
     man(tables, workers, &mut posts);
-    post_all::<V, H, R, W>(rt, &mut posts, threads);
+    let (all, posts) = run_all(rt, alloc, posts);
+    let mut posts = posts;
     dismiss(&mut posts, tables, workers);
     posts.destroy_empty();
+    all
 }
