@@ -42,9 +42,10 @@ fn shape_of(blocks: u32, threads: u32) -> Shape
 }
 
 /// Workers with these assignments do a script's threads, each with a share of the book. What each said goes into a
-/// list, the shares come back, and the domain comes out with its sole desk. It is refused only where a growth was,
-/// before the first worker starts: the domain has a share for each thread, and each worker leaves its table the
-/// allowance that it had. No log is full: by the history of all, no thread says more than its worker has room for.
+/// list, the shares come back, and the domain comes out with its sole desk. It is refused only where a growth or the
+/// start of a thread was, and no worker has worked then: the domain has a share for each thread, and each worker leaves
+/// its table the allowance that it had. No log is full: by the history of all, no thread says more than its worker has
+/// room for.
 fn perform<'a, R: Threads + Wait + Sync, G: Gate + Sync>(
     rt: &R,
     alloc: Global,
@@ -92,10 +93,10 @@ fn perform<'a, R: Threads + Wait + Sync, G: Gate + Sync>(
 /// sole desk, which has seen all that the workers did, and has no handle and nothing to end. `close` by it isn't
 /// refused. Each worker has an allowance of 65,535, and a store of the script's blocks over its threads.
 ///
-/// It is refused `Memory` and nothing else, and only where a growth was refused. All growths come before the first
-/// worker starts: no worker has worked then, and there is no report. Where the workers start, it answers once all of
-/// them have ended. There is memory for all that a thread may say, and a share has room for all that may be added to
-/// it.
+/// It is refused `Memory` and nothing else, and only where a growth or the start of a thread was refused. A worker begins
+/// once all threads are started: at a refusal none has worked, and there is no report. It answers once all threads that
+/// were started have ended. There is memory for all that a thread may say, and a share has room for all that may be added
+/// to it.
 pub fn run_script<R: Threads + Wait + Sync, G: Gate + Sync>(
     rt: &R,
     alloc: Global,

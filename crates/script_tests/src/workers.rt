@@ -120,8 +120,8 @@ fn run_again<R: Abort + Threads + Wait + Sync>(
     }
 }
 
-// `tests/refuse_allocations` refuses each allocation in turn. A run that wants it is refused `Memory` before a statement
-// begins, and the same script runs later.
+// `tests/refuse_allocations` refuses each allocation in turn, and `tests/refuse_threads` each start of a thread. A run
+// that wants it is refused `Memory` before a statement begins, and the same script runs later.
 #[test]
 fn a_refused_run_leaves_nothing(rt: HostRuntime) -> Result<(), Fail> {
     let text = b"make a 1\ncopy b a\nthread\nmake c 2\nreset c\n";
