@@ -11,9 +11,13 @@ mod crowds;
 #[cfg(test)]
 mod drops;
 #[cfg(test)]
+mod leaders;
+#[cfg(test)]
 mod lists;
 #[cfg(test)]
 mod members;
+#[cfg(test)]
+mod memory;
 #[cfg(test)]
 mod owners;
 #[cfg(test)]

@@ -2,7 +2,9 @@
 
 use crate::shapes::one_worker;
 use crate::values::{Told, Value, begin, new_ends};
-use crate::{cells, compares, crowds, drops, lists, members, owners, spares, visits, weaks};
+use crate::{
+    cells, compares, crowds, drops, lists, members, owners, spares, visits, weaks,
+};
 use pointers::{Desk, Domain, Fault, Program, Ran, run};
 use std::alloc::Global;
 use std::sync::Wait;
