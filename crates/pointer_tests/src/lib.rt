@@ -26,9 +26,13 @@ mod plays;
 mod refusals;
 pub mod shapes;
 #[cfg(test)]
+mod shared_structures;
+#[cfg(test)]
 mod snapshots;
 #[cfg(test)]
 mod spares;
+#[cfg(test)]
+mod structures;
 #[cfg(test)]
 mod teams;
 #[cfg(test)]
