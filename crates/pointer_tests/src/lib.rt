@@ -11,9 +11,13 @@ mod crowds;
 #[cfg(test)]
 mod drops;
 #[cfg(test)]
+mod leaders;
+#[cfg(test)]
 mod lists;
 #[cfg(test)]
 mod members;
+#[cfg(test)]
+mod memory;
 #[cfg(test)]
 mod owners;
 #[cfg(test)]
@@ -22,9 +26,13 @@ mod plays;
 mod refusals;
 pub mod shapes;
 #[cfg(test)]
+mod shared_structures;
+#[cfg(test)]
 mod snapshots;
 #[cfg(test)]
 mod spares;
+#[cfg(test)]
+mod structures;
 #[cfg(test)]
 mod teams;
 #[cfg(test)]

@@ -2,7 +2,9 @@
 
 use crate::shapes::one_worker;
 use crate::values::{Told, Value, begin, new_ends};
-use crate::{cells, compares, crowds, drops, lists, members, owners, spares, visits, weaks};
+use crate::{
+    cells, compares, crowds, drops, lists, members, owners, spares, structures, visits, weaks,
+};
 use pointers::{Desk, Domain, Fault, Program, Ran, run};
 use std::alloc::Global;
 use std::sync::Wait;
@@ -24,6 +26,7 @@ enum Play {
     Crowds,
     Lists,
     Spares,
+    Structures,
 }
 
 /// A worker that does a play.
@@ -59,6 +62,7 @@ impl Player {
             Play::Crowds => crowds::play(rt, desk, &self.told, self.alloc, BLOCKS),
             Play::Lists => lists::play(rt, desk, &self.told),
             Play::Spares => spares::play(rt, desk, &self.told),
+            Play::Structures => structures::play(rt, desk, &self.told, self.alloc),
             _ => Err(Fault::Other(0)),
         }
     }
@@ -113,6 +117,7 @@ mod tests {
             Play::Crowds,
             Play::Lists,
             Play::Spares,
+            Play::Structures,
         ] {
             assert_eq!(rt; played(&rt, play), Ok((None, BLOCKS)), "at {play:?}");
         }

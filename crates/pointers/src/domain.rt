@@ -4,9 +4,12 @@ ghost use Rattle.std.specs.Prelude.{◌≡◌};
 use control_word::Place;
 use handle_table::{Cell, Fault, Returned};
 use shared_handle::{Gone, Round};
+use std::alloc::Global;
 use std::sync::Wait;
 
+mod accesses;
 mod lent;
+mod taking;
 
 pub(crate) use lent::Lent;
 
@@ -15,6 +18,15 @@ pub(crate) use lent::Lent;
 pub trait Domain {
     /// The objects' values.
     type Value: Drop;
+
+    /// An access to a stack.
+    type Stack: Drop;
+
+    /// An access to observers.
+    type Observers: Drop;
+
+    /// An access to trees of nodes.
+    type Scene: Drop;
 
     /// A new object's owner comes into a slot.
     fn make_in(
@@ -116,4 +128,72 @@ pub trait Domain {
 
     /// Vacant blocks come from the shelf: how many did.
     fn unshelve(&mut self, count: u32) -> u32;
+
+    /// An access to the stack in a free cell.
+    fn stack_in(&self, alloc: Global, cell: u32) -> Result<Self::Stack, Fault>;
+
+    /// A new object goes on top of the stack.
+    fn push_on<R: Wait>(
+        &mut self,
+        rt: &R,
+        stack: &mut Self::Stack,
+        fields: [u64; 4],
+        value: Self::Value,
+    ) -> Result<(), Returned<Self::Value>>;
+
+    /// The owner of the top object comes into a slot; whether there was one.
+    fn pop_from<R: Wait>(
+        &mut self,
+        rt: &R,
+        stack: &mut Self::Stack,
+        to: usize,
+    ) -> Result<bool, Fault>;
+
+    /// An access to the observers in a free cell.
+    fn observers_in(&self, alloc: Global, cell: u32) -> Result<Self::Observers, Fault>;
+
+    /// A new object comes in front of the observers, and watches what an owner owns.
+    fn attach_to<R: Wait>(
+        &mut self,
+        rt: &R,
+        observers: &mut Self::Observers,
+        subject: usize,
+        value: Self::Value,
+    ) -> Result<(), Returned<Self::Value>>;
+
+    /// Field 0 of each observer's subject that has an owner is told.
+    fn tell_each<R: Wait, F: FnMut(u64)>(
+        &mut self,
+        rt: &R,
+        observers: &mut Self::Observers,
+        tell: F,
+    ) -> Result<(), Fault>
+        requires { F.IsAlwaysCallable tell };
+
+    /// The observers whose subject has no owner go out: how many did.
+    fn prune_all<R: Wait>(&mut self, rt: &R, observers: &mut Self::Observers) -> Result<u32, Fault>;
+
+    /// An access to trees of nodes.
+    fn scene_in(&self, alloc: Global) -> Result<Self::Scene, Fault>;
+
+    /// A new first child of what the owner in the first slot owns; its owner comes into the second slot.
+    fn add_child_in<R: Wait>(
+        &mut self,
+        rt: &R,
+        scene: &mut Self::Scene,
+        slots: (usize, usize),
+        fields: [u64; 4],
+        value: Self::Value,
+    ) -> Result<(), Returned<Self::Value>>;
+
+    /// A node goes out of its parent's children.
+    fn detach_at<R: Wait>(
+        &mut self,
+        rt: &R,
+        scene: &mut Self::Scene,
+        node: usize,
+    ) -> Result<(), Fault>;
+
+    /// An owner leaves its slot, and the values come out of all that ends by that.
+    fn teardown_at(&mut self, alloc: Global, root: usize) -> Result<Vec<Self::Value>, Fault>;
 }

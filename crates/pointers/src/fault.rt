@@ -3,7 +3,7 @@ ghost use Rattle.std.specs.Prelude.{◌≡◌};
 
 use crate::fault::call::Call;
 use control_word::Refusal;
-use handle_table;
+use handle_table::{self, Returned};
 use std::alloc::{AllocError, AllocFailed};
 use std::error::Error;
 use std::{fmt, io};
@@ -39,6 +39,7 @@ impl Fault {
     #[inline(never)]
     pub(crate) fn of(call: Call, why: handle_table::Fault) -> Fault {
         match why {
+            handle_table::Fault::Call(Refusal::Memory) => Fault::Memory,
             handle_table::Fault::Call(why) => Fault::Refused(call, why),
             handle_table::Fault::Cell => Fault::Cell(call),
             handle_table::Fault::Place => Fault::Place(call),
@@ -108,6 +109,15 @@ impl From<io::Error> for Fault {
 pub struct Refused<T> {
     pub why: Fault,
     pub back: T,
+}
+
+impl<T: Drop> Refused<T> {
+    /// What the table below handed back, of a call.
+    pub(crate) fn of(call: Call, returned: Returned<T>) -> Refused<T> {
+        let Returned { why, back } = returned;
+        let why = Fault::of(call, why);
+        Refused { why, back }
+    }
 }
 
 impl<T: Drop> From<Refused<T>> for Fault {

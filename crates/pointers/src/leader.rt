@@ -92,6 +92,29 @@ impl<'p, V: Drop, R: Threads + Wait + Sync, P: Leader<V, R> + Sync> handle_table
 }
 
 impl<'p, P> Lead<'p, P> {
+    /// A leader that hasn't led yet. None where there is no memory for the slots of what it keeps, and for its fault.
+    fn new(
+        alloc: Global,
+        leader: &'p mut P,
+        own: handle_table::Team,
+        room: u64,
+    ) -> Option<Lead<'p, P>> {
+        let kept = Vec::with_capacity(alloc, own.slots).ok()?;
+        let failed = Vec::with_capacity(alloc, 1).ok()?;
+        Some(Lead {
+            alloc,
+            leader,
+            slots: own.slots,
+            kept,
+            room,
+            team: own,
+            workers: 0,
+            fewer: None,
+            fault: None,
+            failed: Mutex::new(failed),
+        })
+    }
+
     /// How the last team was manned.
     fn told(&mut self, before: Option<Manned>) {
         if let Some(manned) = before {
@@ -100,18 +123,31 @@ impl<'p, P> Lead<'p, P> {
         }
     }
 
-    /// The next team, where the domain has room for it; else why there is none.
-    fn next(&mut self, next: Result<Option<Team>, Fault>) -> Option<handle_table::Team> {
-        match next {
-            Ok(Some(team)) if team.handles() <= self.room => {
+    /// Whether the domain has room for the team, and there is memory for the faults of its workers and the leader's.
+    fn takes<R: Wait>(&self, rt: &R, team: &Team) -> Result<(), Fault> {
+        if team.handles() > self.room {
+            return Err(Fault::Refused(Call::Team, Refusal::Limit));
+        }
+        let faults = team.workers.saturating_add(1);
+        Ok(self.failed.lock(rt).reserve(faults)?)
+    }
+
+    /// The next team, where it can be taken; else why there is none.
+    fn next<R: Wait>(
+        &mut self,
+        rt: &R,
+        next: Result<Option<Team>, Fault>,
+    ) -> Option<handle_table::Team> {
+        let taken = match next {
+            Ok(Some(team)) => {
                 self.team = team.below();
-                Some(self.team)
+                self.takes(rt, &team)
             }
-            Ok(Some(_)) => {
-                self.fault = Some(Fault::Refused(Call::Team, Refusal::Limit));
-                None
-            }
-            Ok(None) => None,
+            Ok(None) => return None,
+            Err(why) => Err(why),
+        };
+        match taken {
+            Ok(()) => Some(self.team),
             Err(why) => {
                 self.fault = Some(why);
                 None
@@ -145,7 +181,7 @@ impl<'p, V: Drop, R: Threads + Wait + Sync, P: Leader<V, R> + Sync> handle_table
         };
         let _ = desk.shelve();
         drop(desk.into_table());
-        self.next(next)
+        self.next(rt, next)
     }
 }
 
@@ -172,21 +208,10 @@ pub fn run_leader<V: Drop + Send, R: Threads + Wait + Sync, P: Leader<V, R> + Sy
         return Err(why);
     }
     let below = alone.below();
-    let Ok(kept) = Vec::with_capacity(alloc, below.slots) else {
-        return Err(NotRun::Memory);
-    };
     let own = u64::from(pointers).saturating_add(u64::from(SPARE));
-    let mut lead = Lead {
-        alloc,
-        leader,
-        slots: below.slots,
-        kept,
-        room: u64::from(shape.allowance).saturating_sub(own),
-        team: below,
-        workers: 0,
-        fewer: None,
-        fault: None,
-        failed: Mutex::new(Vec::new(alloc)),
+    let room = u64::from(shape.allowance).saturating_sub(own);
+    let Some(mut lead) = Lead::new(alloc, leader, below, room) else {
+        return Err(NotRun::Memory);
     };
     match handle_table::run_leader(rt, alloc, shape, below.slots, &mut lead) {
         Ok(census) => Ok(lead.ran(census)),
@@ -243,7 +268,7 @@ impl<'p, P> Lead<'p, P> {
     }
 }
 
-/// The workers' faults, and last that of the leader.
+/// The workers' faults, and last that of the leader, for which there is room.
 fn with_leader(failed: Mutex<Vec<Failed, Global>>, fault: Option<Fault>) -> Vec<Failed, Global> {
     let mut failed = failed.into_inner();
     if let Some(why) = fault {

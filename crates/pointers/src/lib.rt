@@ -10,6 +10,7 @@ mod leader;
 mod list;
 mod program;
 mod shared;
+mod structures;
 mod weak;
 
 pub use cells::link::Link;
@@ -30,4 +31,7 @@ pub use program::not_run::{Limit, NotRun, Number};
 pub use program::team::Team;
 pub use program::{Failed, Program, Ran, run};
 pub use shared::Shared;
+pub use structures::observers::Observers;
+pub use structures::scene::Scene;
+pub use structures::stack::Stack;
 pub use weak::Weak;

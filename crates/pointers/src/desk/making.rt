@@ -40,9 +40,7 @@ impl<D: Domain> Desk<D> {
             Ok(()) => Ok(Shared { desk: self, at: to }),
             Err(returned) => {
                 self.give_slot(to);
-                let Returned { why, back } = returned;
-                let why = Fault::of(Call::Make, why);
-                Err(Refused { why, back })
+                Err(Refused::of(Call::Make, returned))
             }
         }
     }

@@ -2,13 +2,13 @@
 ghost use Rattle.std.specs.Prelude.{◌≡◌};
 
 use crate::domain::Domain;
+use crate::domain::accesses::{LentObservers, LentScene, LentStack};
+use crate::domain::taking::{is_some, restock};
 use control_word::Place;
 use handle_table::{Cell, Fault, HandleTable, Home, Returned};
 use shared_handle::{Gone, Round};
+use std::alloc::Global;
 use std::sync::Wait;
-
-/// How many blocks a make takes from the shelf where its desk has none.
-const BATCH: u32 = 2;
 
 /// A handle table that is lent to a desk.
 pub(crate) struct Lent<'m, 'd, V: Drop, H: Home> {
@@ -27,34 +27,14 @@ impl<'m, 'd, V: Drop, H: Home> Drop for Lent<'m, 'd, V, H> {
     }
 }
 
-/// Whether a slot has more than an empty handle.
-#[inline(always)]
-fn is_some<V: Drop, H: Home>(table: &HandleTable<'_, V, H>, at: usize) -> bool {
-    match table.place(at) {
-        Ok(Some(_)) => true,
-        _ => is_some_at_all(table, at),
-    }
-}
-
-/// The same of a weak handle, and of an owner that points at nothing.
-#[cold]
-#[inline(never)]
-fn is_some_at_all<V: Drop, H: Home>(table: &HandleTable<'_, V, H>, at: usize) -> bool {
-    match table.peek(at) {
-        Ok(peeked) => peeked.block.is_some() || peeked.place.is_some(),
-        Err(_) => false,
-    }
-}
-
-/// A table with no vacant block takes some from the shelf.
-#[cold]
-#[inline(never)]
-fn restock<V: Drop, H: Home>(table: &mut HandleTable<'_, V, H>) {
-    table.unshelve(BATCH);
-}
-
 impl<'m, 'd, V: Drop, H: Home> Domain for Lent<'m, 'd, V, H> {
     type Value = V;
+
+    type Stack = LentStack<V, H>;
+
+    type Observers = LentObservers<V, H>;
+
+    type Scene = LentScene<V, H>;
 
     #[inline(always)]
     fn make_in(
@@ -64,17 +44,13 @@ impl<'m, 'd, V: Drop, H: Home> Domain for Lent<'m, 'd, V, H> {
         enabled: bool,
         value: V,
     ) -> Result<(), Returned<V>> {
-        if self.table.stock() == 0 {
-            restock(self.table);
-        }
+        restock(self.table);
         self.table.make_from_stock(to, fields, enabled, value)
     }
 
     #[inline(always)]
     fn make_null_in(&mut self, to: usize, value: V) -> Result<(), Returned<V>> {
-        if self.table.stock() == 0 {
-            restock(self.table);
-        }
+        restock(self.table);
         self.table.make_null_from_stock(to, value)
     }
 
@@ -228,5 +204,95 @@ impl<'m, 'd, V: Drop, H: Home> Domain for Lent<'m, 'd, V, H> {
     #[inline(always)]
     fn unshelve(&mut self, count: u32) -> u32 {
         self.table.unshelve(count)
+    }
+
+    fn stack_in(&self, alloc: Global, cell: u32) -> Result<LentStack<V, H>, Fault> {
+        let stack = self.table.stack(alloc, cell)?;
+        Ok(LentStack { stack })
+    }
+
+    fn push_on<R: Wait>(
+        &mut self,
+        rt: &R,
+        stack: &mut LentStack<V, H>,
+        fields: [u64; 4],
+        value: V,
+    ) -> Result<(), Returned<V>> {
+        restock(self.table);
+        self.table.push(rt, &mut stack.stack, fields, value)
+    }
+
+    fn pop_from<R: Wait>(
+        &mut self,
+        rt: &R,
+        stack: &mut LentStack<V, H>,
+        to: usize,
+    ) -> Result<bool, Fault> {
+        self.table.pop(rt, &mut stack.stack, to)
+    }
+
+    fn observers_in(&self, alloc: Global, cell: u32) -> Result<LentObservers<V, H>, Fault> {
+        let observers = self.table.observers(alloc, cell)?;
+        Ok(LentObservers { observers })
+    }
+
+    fn attach_to<R: Wait>(
+        &mut self,
+        rt: &R,
+        observers: &mut LentObservers<V, H>,
+        subject: usize,
+        value: V,
+    ) -> Result<(), Returned<V>> {
+        restock(self.table);
+        self.table
+            .attach(rt, &mut observers.observers, subject, value)
+    }
+
+    fn tell_each<R: Wait, F: FnMut(u64)>(
+        &mut self,
+        rt: &R,
+        observers: &mut LentObservers<V, H>,
+        tell: F,
+    ) -> Result<(), Fault> {
+        self.table.each(rt, &mut observers.observers, tell)
+    }
+
+    fn prune_all<R: Wait>(
+        &mut self,
+        rt: &R,
+        observers: &mut LentObservers<V, H>,
+    ) -> Result<u32, Fault> {
+        self.table.prune(rt, &mut observers.observers)
+    }
+
+    fn scene_in(&self, alloc: Global) -> Result<LentScene<V, H>, Fault> {
+        let scene = self.table.scene(alloc)?;
+        Ok(LentScene { scene })
+    }
+
+    fn add_child_in<R: Wait>(
+        &mut self,
+        rt: &R,
+        scene: &mut LentScene<V, H>,
+        (parent, to): (usize, usize),
+        fields: [u64; 4],
+        value: V,
+    ) -> Result<(), Returned<V>> {
+        restock(self.table);
+        self.table
+            .add_child(rt, &mut scene.scene, parent, fields, value, to)
+    }
+
+    fn detach_at<R: Wait>(
+        &mut self,
+        rt: &R,
+        scene: &mut LentScene<V, H>,
+        node: usize,
+    ) -> Result<(), Fault> {
+        self.table.detach(rt, &mut scene.scene, node)
+    }
+
+    fn teardown_at(&mut self, alloc: Global, root: usize) -> Result<Vec<V>, Fault> {
+        self.table.teardown(alloc, root)
     }
 }

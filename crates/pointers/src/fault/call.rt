@@ -54,6 +54,17 @@ pub enum Call {
     CompareExchange(Spot),
     Shelve,
     Team,
+    Stack(Spot),
+    Push,
+    Pop,
+    Observers(Spot),
+    Attach,
+    Each,
+    Prune,
+    Scene,
+    AddChild,
+    Detach,
+    Teardown,
 }
 
 impl Call {
@@ -82,6 +93,24 @@ impl Call {
             Call::CompareExchange(_) => "compare_exchange",
             Call::Shelve => "shelve",
             Call::Team => "team",
+            _ => self.name_of_structure(),
+        }
+    }
+
+    /// The same of a call on a structure.
+    fn name_of_structure(&self) -> &'static str {
+        match self {
+            Call::Stack(_) => "stack",
+            Call::Push => "push",
+            Call::Pop => "pop",
+            Call::Observers(_) => "observers",
+            Call::Attach => "attach",
+            Call::Each => "each",
+            Call::Prune => "prune",
+            Call::Scene => "scene",
+            Call::AddChild => "add_child",
+            Call::Detach => "detach",
+            _ => "teardown",
         }
     }
 
@@ -93,6 +122,8 @@ impl Call {
             Call::Exchange(spot) => Some(*spot),
             Call::Clear(spot) => Some(*spot),
             Call::CompareExchange(spot) => Some(*spot),
+            Call::Stack(spot) => Some(*spot),
+            Call::Observers(spot) => Some(*spot),
             _ => None,
         }
     }
