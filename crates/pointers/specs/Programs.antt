@@ -10,7 +10,6 @@ use Rattle.handle_table.specs.Shelving.{GivesToShelf}
 use Rattle.handle_table.specs.Tables.{TableNow}
 use Rattle.handle_table.specs.declared.program.Manned.{Manned}
 use Rattle.handle_table.specs.declared.program.Team.{Team}
-use Rattle.control_word.specs.declared.refusal.Refusal.{Refusal}
 use Rattle.pointers.specs.declared.program.team.Team.{Team as DeskTeam}
 
 module _ {V P : Type 0} where
@@ -39,14 +38,13 @@ module _ (V : Type 0) where
     pub winds_up : WindsUp after last
     pub closed : IsClosed last shape c
 
-  -- the same of workers with desks: each table has a slot more than its desk may have pointers
-  pub record RunsTeam (shape : Shape) (team : DeskTeam) (workers : ℕ) (fewer : Option Refusal)
-      (c : CensusNow) : Type 0 where
+  -- the same of workers with desks, all of which worked: each table has a slot more than its desk may have pointers
+  pub record RunsTeam (shape : Shape) (team : DeskTeam) (c : CensusNow) : Type 0 where
     pub below : Team
     pub asked : below.workers ≡ team.workers
     pub slots : below.slots ≡ team.pointers + 1
     pub blocks : below.blocks ≡ 0
-    pub runs : Runs shape below (record { workers = workers; fewer = fewer }) c
+    pub runs : Runs shape below (record { workers = team.workers; fewer = None }) c
 
   -- a desk of a domain of this shape that had all, with no handle left and nothing to end, closed it
   pub record Ends (shape : Shape) (c : CensusNow) : Type 0 where

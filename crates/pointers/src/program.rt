@@ -1,5 +1,5 @@
 //! A program over a domain of its own, with a desk for each of its threads.
-ghost use Rattle.std.specs.Prelude.{◌≡◌, IfOk, IfSome};
+ghost use Rattle.std.specs.Prelude.{◌≡◌, IfOk, None, Some, is_some, true};
 ghost use Rattle.control_word.specs.Layout.{IsWithinLimits};
 ghost use Rattle.handle_table.specs.declared.program.Manned.{Manned};
 ghost use Rattle.pointers.specs.Programs.{Runs, RunsTeam};
@@ -36,8 +36,9 @@ pub struct Failed {
     pub why: Fault,
 }
 
-/// What a program's run left: the census of its domain, how many workers worked, and the faults that their work
-/// ended with. There are fewer than were asked for only where memory was refused, and `fewer` says so.
+/// What a program's run left: the census of its domain, how many workers worked, and the faults that their work ended
+/// with. Of `run` these are all workers, and `fewer` is none. Of a leader's run they are those of all its teams, and
+/// `fewer` says why one of them didn't work, where one didn't.
 #[derive(Drop)]
 pub struct Ran<V: Drop> {
     pub census: Census<V>,
@@ -117,10 +118,12 @@ impl<'p, V: Drop, R: Threads + Wait + Sync, P: Program<V, R> + Sync> handle_tabl
 }
 
 impl<'p, P> Seats<'p, P> {
-    /// What is told of a run.
-    fn ran<V: Drop>(self, census: Census<V>) -> Ran<V>
-        ensures census { result.census ≡ census }
-        ensures manned { IfSome self.entry.manned (λ m. (result.workers ≡ m.workers) × (result.fewer ≡ m.fewer)) }
+    /// What is told of a run in which all workers worked, or else why they didn't.
+    fn ran<V: Drop>(self, census: Census<V>) -> Result<Ran<V>, NotRun>
+        requires manned { is_some self.manned ≡ true }
+        ensures census { IfOk result (λ r. r.census ≡ census) }
+        ensures all { IfOk result (λ r. (r.fewer ≡ None)
+            × (self.entry.manned ≡ Some (record { workers = r.workers; fewer = r.fewer }))) }
     {
         let Seats {
             alloc: _,
@@ -130,19 +133,17 @@ impl<'p, P> Seats<'p, P> {
             failed,
         } = self;
         let failed = in_order(failed);
-        match manned {
-            Some(manned) => Ran {
+        let Some(Manned { workers, fewer }) = manned else {
+            unreachable!()
+        };
+        match fewer {
+            None => Ok(Ran {
                 census,
-                workers: manned.workers,
-                fewer: manned.fewer,
+                workers,
+                fewer,
                 failed,
-            },
-            None => Ran {
-                census,
-                workers: 0,
-                fewer: None,
-                failed,
-            },
+            }),
+            Some(why) => Err(NotRun::of(why)),
         }
     }
 
@@ -182,8 +183,9 @@ fn at_seats<V: Drop + Send, R: Threads + Wait + Sync, P: Program<V, R> + Sync>(
 
 /// A domain is opened, each worker of the team does its part of the program in a thread with a desk of its own, and the
 /// domain is closed (own). Pointers that a worker forgot or kept let go, and what is left to end does so. All vacant
-/// blocks are any worker's: they lie on the domain's shelf, but for a reserve of each desk. Where a number doesn't fit
-/// (`Small`, `Large`) no worker works; `Memory` comes only where memory was refused.
+/// blocks are any worker's: they lie on the domain's shelf, but for a reserve of each desk. All workers work, or none:
+/// where a number doesn't fit (`Small`, `Large`), where memory or a thread is refused for one (`Memory`), and where the
+/// domain refuses it.
 pub fn run<V: Drop + Send, R: Threads + Wait + Sync, P: Program<V, R> + Sync>(
     rt: &R,
     alloc: Global,
@@ -191,7 +193,8 @@ pub fn run<V: Drop + Send, R: Threads + Wait + Sync, P: Program<V, R> + Sync>(
     team: Team,
     program: &P,
 ) -> Result<Ran<V>, NotRun>
-    ensures runs { IfOk result (λ r. RunsTeam V shape team r.workers r.fewer r.census) }
+    ensures runs { IfOk result (λ r. RunsTeam V shape team r.census) }
+    ensures all { IfOk result (λ r. (r.workers ≡ team.workers) × (r.fewer ≡ None)) }
     ensures within { IfOk result (λ _. IsWithinLimits shape) }
 {
     if let Some(why) = team.misfit(&shape) {
@@ -208,7 +211,7 @@ pub fn run<V: Drop + Send, R: Threads + Wait + Sync, P: Program<V, R> + Sync>(
         failed: Mutex::new(failed),
     };
     match at_seats(rt, alloc, shape, &mut seats) {
-        Ok(census) => Ok(seats.ran(census)),
+        Ok(census) => seats.ran(census),
         Err(why) => {
             seats.end();
             Err(NotRun::of(why))
