@@ -171,7 +171,8 @@ module _ {G : Type 0} where
               new = st.new;
               fewer = tt;
               left = st.left;
-              many = (many.0, many.1);
+              many = many.1 ∙ sym many.0;
+              worked = inl many.0;
               absorbs = st.absorbs;
             };
             winds_up = s.works.out.winds_up;
