@@ -11,6 +11,7 @@ ghost use Rattle.measure.specs.Workers.{IsManaged, IsTeamReady};
 
 mod domains;
 mod handles;
+mod pointer_rows;
 mod rows;
 mod shelf;
 mod soak;
@@ -135,6 +136,7 @@ fn passes_of_others<R: Clock + CpuClock + Threads + Wait + Sync + Print>(
     passes: u32,
 ) -> io::Result<()> {
     tables::measure(rt, alloc, passes)?;
+    pointer_rows::measure(rt, alloc, passes)?;
     structures::scenes::measure(rt, alloc, passes)?;
     handles::pages::measure(rt, alloc, passes)
 }

@@ -102,6 +102,19 @@ impl<'d, H: Home> Work<HandleTable<'d, (), H>> for CopyAndReset {
     }
 }
 
+/// A weak handle of the worker's own object comes and leaves.
+#[derive(Clone, Copy, Drop)]
+struct DowngradeAndReset;
+
+impl<'d, H: Home> Work<HandleTable<'d, (), H>> for DowngradeAndReset {
+    ghost is_ready = { λ _ _. Unit {0} };
+
+    #[inline(always)]
+    fn once<R: Wait>(&self, _rt: &R, table: &mut HandleTable<'d, (), H>) -> bool {
+        done(table.downgrade(OWN, SPARE)) && done(table.reset(SPARE))
+    }
+}
+
 /// An owner comes of the weak handle and leaves.
 #[derive(Clone, Copy, Drop)]
 struct LockAndReset;
@@ -144,7 +157,7 @@ impl Rows {
     ) -> io::Result<()> {
         let filled = fill(table);
         self.tell_makes_and_copies(rt, table, filled)?;
-        self.tell_locks_and_loads(rt, table, filled)
+        self.tell_weaks_and_loads(rt, table, filled)
     }
 
     /// The rows of objects that are made, and of copies.
@@ -161,14 +174,16 @@ impl Rows {
         tell_all(rt, &CopyAndReset, table, &copy, filled, passes)
     }
 
-    /// The rows of a weak handle and of a cell.
-    fn tell_locks_and_loads<H: Home, R: Clock + CpuClock + Wait + Print>(
+    /// The rows of weak handles, and of a cell.
+    fn tell_weaks_and_loads<H: Home, R: Clock + CpuClock + Wait + Print>(
         &self,
         rt: &R,
         table: &mut HandleTable<'_, (), H>,
         filled: bool,
     ) -> io::Result<()> {
         let passes = self.passes;
+        let downgrade = label("downgrade + release_weak, own object");
+        tell_all(rt, &DowngradeAndReset, table, &downgrade, filled, passes)?;
         let lock = label("lock + release, own object");
         tell_all(rt, &LockAndReset, table, &lock, filled, passes)?;
         let load = label("cell load + release, own cell");
