@@ -107,33 +107,6 @@ fn outside<R: Wait, D: Domain<Value = Value>>(
     row(29, desk.load(rt, most).is_err())
 }
 
-/// The same of weak pointers.
-fn outside_weak<R: Wait, D: Domain<Value = Value>>(
-    rt: &R,
-    desk: &Desk<D>,
-    told: &Told,
-) -> Result<(), Fault> {
-    let spot = Spot::Weak(2);
-    let cell = WeakCell(2);
-    let of = object(desk, told, 3)?;
-    let mut expected = None;
-    let mut desired = Some(of.downgrade()?);
-    let place = desk.weak_cell(cell);
-    let compared = place.compare_exchange_strong(rt, &mut expected, &mut desired);
-    let rows = [
-        (of.downgrade()?.store(cell).err(), Call::Store(spot)),
-        (of.downgrade()?.exchange(cell).err(), Call::Exchange(spot)),
-        (desk.store_weak(cell, None).err(), Call::Clear(spot)),
-        (desk.clear_weak(cell).err(), Call::Clear(spot)),
-        (place.take().err(), Call::Exchange(spot)),
-        (compared.err(), Call::CompareExchange(spot)),
-    ];
-    for (number, (why, call)) in (40u32..).zip(&rows) {
-        row(number, *why == Some(Fault::Cell(*call)))?;
-    }
-    row(46, expected.is_none() && desired.is_some())
-}
-
 /// Free cells, all rows.
 pub(crate) fn play<R: Wait, D: Domain<Value = Value>>(
     rt: &R,
@@ -145,6 +118,5 @@ pub(crate) fn play<R: Wait, D: Domain<Value = Value>>(
     taken(rt, desk, told)?;
     begin(told);
     outside(rt, desk, told)?;
-    outside_weak(rt, desk, told)?;
     empty(rt, desk)
 }

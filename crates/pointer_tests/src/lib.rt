@@ -11,13 +11,9 @@ mod crowds;
 #[cfg(test)]
 mod drops;
 #[cfg(test)]
-mod leaders;
-#[cfg(test)]
 mod lists;
 #[cfg(test)]
 mod members;
-#[cfg(test)]
-mod memory;
 #[cfg(test)]
 mod owners;
 #[cfg(test)]
@@ -26,13 +22,9 @@ mod plays;
 mod refusals;
 pub mod shapes;
 #[cfg(test)]
-mod shared_structures;
-#[cfg(test)]
 mod snapshots;
 #[cfg(test)]
 mod spares;
-#[cfg(test)]
-mod structures;
 #[cfg(test)]
 mod teams;
 #[cfg(test)]

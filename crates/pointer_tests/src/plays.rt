@@ -2,9 +2,7 @@
 
 use crate::shapes::one_worker;
 use crate::values::{Told, Value, begin, new_ends};
-use crate::{
-    cells, compares, crowds, drops, lists, members, owners, spares, structures, visits, weaks,
-};
+use crate::{cells, compares, crowds, drops, lists, members, owners, spares, visits, weaks};
 use pointers::{Desk, Domain, Fault, Program, Ran, run};
 use std::alloc::Global;
 use std::sync::Wait;
@@ -26,7 +24,6 @@ enum Play {
     Crowds,
     Lists,
     Spares,
-    Structures,
 }
 
 /// A worker that does a play.
@@ -62,7 +59,6 @@ impl Player {
             Play::Crowds => crowds::play(rt, desk, &self.told, self.alloc, BLOCKS),
             Play::Lists => lists::play(rt, desk, &self.told),
             Play::Spares => spares::play(rt, desk, &self.told),
-            Play::Structures => structures::play(rt, desk, &self.told, self.alloc),
             _ => Err(Fault::Other(0)),
         }
     }
@@ -117,7 +113,6 @@ mod tests {
             Play::Crowds,
             Play::Lists,
             Play::Spares,
-            Play::Structures,
         ] {
             assert_eq!(rt; played(&rt, play), Ok((None, BLOCKS)), "at {play:?}");
         }

@@ -5,8 +5,8 @@ use pointers::{
     Desk, Domain, Fault, FreeCells, Leader, Manned, Program, Shared, SharedCell, Team, WeakCell,
     run, run_leader,
 };
+use std::sync::Wait;
 use std::sync::atomic::{AtomicU64, Ordering};
-use std::sync::{Mutex, Wait};
 use std::thread::Threads;
 
 /// Workers that load, store and exchange in three cells.
@@ -131,31 +131,6 @@ impl<R: Threads + Wait + Sync> Program<u64, R> for Pool {
     }
 }
 
-/// Workers with a state of their own each, behind a lock that no other worker takes.
-#[derive(Drop)]
-struct Counters {
-    of: Vec<Mutex<u64>>,
-}
-
-impl<R: Threads + Wait + Sync> Program<u64, R> for Counters {
-    fn work<D: Domain<Value = u64>>(
-        &self,
-        rt: &R,
-        number: usize,
-        desk: &Desk<D>,
-    ) -> Result<(), Fault> {
-        let Some(own) = self.of.get(number) else {
-            return Err(Fault::Other(1));
-        };
-        let mut own = own.lock(rt);
-        for _ in 0..10u32 {
-            let object = desk.new(number as u64)?;
-            *own = own.wrapping_add(object.visit(rt, |value| *value)?);
-        }
-        Ok(())
-    }
-}
-
 #[cfg(test)]
 mod tests {
     use super::*;
@@ -186,30 +161,6 @@ mod tests {
         };
         assert_eq!(rt; ran.fault(), None);
         assert_eq!(rt; ran.census.vacant(), 13);
-    }
-
-    #[test]
-    fn each_worker_has_a_state_of_its_own(rt: HostRuntime) {
-        let mut of = Vec::new(rt.alloc());
-        for _ in 0..3u32 {
-            if of.push(Mutex::new(0)).is_err() {
-                panic!(rt; "no memory");
-            }
-        }
-        let counters = Counters { of };
-        let team = Team {
-            workers: 3,
-            pointers: 2,
-        };
-        let ran = match run(&rt, rt.alloc(), team.shape(9, 0, 0), team, &counters) {
-            Ok(ran) => ran,
-            Err(why) => panic!(rt; "{why}"),
-        };
-        assert_eq!(rt; (ran.fault(), ran.workers), (None, 3));
-        for (number, own) in counters.of.iter().enumerate() {
-            let sum = *own.lock(&rt);
-            assert_eq!(rt; sum, (number as u64).wrapping_mul(10));
-        }
     }
 
     #[test]

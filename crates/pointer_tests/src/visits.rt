@@ -1,7 +1,7 @@
 //! What may be done within a visit.
 
 use crate::values::{Told, Value, begin, ended, object, refused, row, same};
-use pointers::{Call, Desk, Domain, Fault, SharedCell, Spot, WeakCell};
+use pointers::{Call, Desk, Domain, Fault, SharedCell};
 use std::sync::Wait;
 use std::sync::atomic::Ordering;
 
@@ -26,77 +26,6 @@ fn busy<R: Wait, D: Domain<Value = Value>>(
         value.number
     })?;
     same(6, number, 9)
-}
-
-/// Each of these was refused so, as a call within a visit.
-fn all_busy(number: u32, told: &[(Option<Fault>, Call)]) -> Result<(), Fault> {
-    for (number, (why, call)) in (number..).zip(told) {
-        row(number, *why == Some(Fault::Busy(*call)))?;
-    }
-    Ok(())
-}
-
-/// Calls on pointers within a visit.
-fn busy_pointers<R: Wait, D: Domain<Value = Value>>(
-    rt: &R,
-    desk: &Desk<D>,
-    told: &Told,
-) -> Result<(), Fault> {
-    let one = object(desk, told, 1)?;
-    let weak = one.downgrade()?;
-    let told = one.visit(rt, |_| {
-        [
-            (one.share().err(), Call::Share),
-            (one.alias(None).err(), Call::Alias),
-            (one.downgrade().err(), Call::Downgrade),
-            (one.shared_from_this().err(), Call::SharedFromThis),
-            (one.weak_from_this().err(), Call::WeakFromThis),
-            (one.place().err(), Call::Place),
-            (one.use_count().err(), Call::UseCount),
-            (one.is(&one).err(), Call::OwnerBefore),
-            (one.same_place(&one).err(), Call::SamePlace),
-            (weak.share().err(), Call::Share),
-            (weak.expired().err(), Call::Expired),
-            (weak.lock(rt).err(), Call::Lock),
-            (weak.upgrade(rt).err(), Call::Upgrade),
-        ]
-    })?;
-    all_busy(30, &told)?;
-    same(43, u64::from(one.use_count()?), 1)
-}
-
-/// Calls on free cells and members within a visit.
-fn busy_places<R: Wait, D: Domain<Value = Value>>(
-    rt: &R,
-    desk: &Desk<D>,
-    told: &Told,
-) -> Result<(), Fault> {
-    let one = object(desk, told, 1)?;
-    let (cell, weak) = (SharedCell(0), WeakCell(0));
-    let (shared_spot, weak_spot) = (Spot::Shared(0), Spot::Weak(0));
-    let mut expected = None;
-    let mut desired = None;
-    let told = one.visit(rt, |_| {
-        [
-            (desk.load(rt, cell).err(), Call::Load(shared_spot)),
-            (desk.load_weak(rt, weak).err(), Call::Load(weak_spot)),
-            (desk.store(cell, None).err(), Call::Clear(shared_spot)),
-            (desk.store_weak(weak, None).err(), Call::Clear(weak_spot)),
-            (desk.take(cell).err(), Call::Exchange(shared_spot)),
-            (
-                desk.cell(cell)
-                    .compare_exchange_strong(rt, &mut expected, &mut desired)
-                    .err(),
-                Call::CompareExchange(shared_spot),
-            ),
-            (one.first().load(rt).err(), Call::Load(Spot::First)),
-            (one.next().clear().err(), Call::Clear(Spot::Next)),
-            (one.up().take().err(), Call::Exchange(Spot::Up)),
-            (desk.unshelve().err(), Call::Shelve),
-        ]
-    })?;
-    all_busy(50, &told)?;
-    row(60, expected.is_none() && desired.is_none())
 }
 
 /// Pointers that are dropped within a visit let go when it is over.
@@ -148,8 +77,6 @@ pub(crate) fn play<R: Wait, D: Domain<Value = Value>>(
     told: &Told,
 ) -> Result<(), Fault> {
     busy(rt, desk, told)?;
-    busy_pointers(rt, desk, told)?;
-    busy_places(rt, desk, told)?;
     put_off(rt, desk, told)?;
     handed_in(rt, desk, told)
 }
