@@ -3,9 +3,9 @@
 
 usage: messages/tell.py PROGRAM [--explain] [WORD..]
 
-`--explain` stands before the program's own words or among them; with it, what the numbers of refused statements mean is
-told too, on standard error once the run has ended. Standard output and the first line of a refusal are the program's,
-and so is the exit status."""
+`--explain` stands before the program's own words or among them. With it, more is told on standard error once the run
+has ended: what the numbers of refused statements mean, and which statement made each block that is left. Standard
+output and the first line of a refusal are the program's, and so is the exit status."""
 
 import os
 import pathlib
@@ -14,6 +14,7 @@ import subprocess
 import sys
 
 sys.dont_write_bytecode = True
+import made
 from explain import OF_STATEMENTS, Asked, explanation
 
 # The commands that read a script, and their options that take a word.
@@ -62,12 +63,12 @@ def meanings(output):
 
 
 def main(program, *words):
-    wants_meanings = '--explain' in words
+    explains = '--explain' in words
     words = [it for it in words if it != '--explain']
     options, others = parted(words)
     command, files = others[0] if others else '', others[1:]
     given = sys.stdin.buffer.read() if command in COMMANDS and not files else None
-    watched = wants_meanings and command in ('step', 'fine', 'run')
+    watched = explains and command in ('step', 'fine', 'run')
     ran = subprocess.run(
         [program, *words],
         input=given,
@@ -79,8 +80,12 @@ def main(program, *words):
         sys.stdout.buffer.flush()
     sys.stderr.buffer.write(ran.stderr)
     refusal = ran.stderr.decode('latin-1').removesuffix('\n')
-    told = explanation(refusal, asked_by(options, files, given)) if ran.returncode == 1 else []
-    for line in told + (meanings(ran.stdout) if watched else []):
+    asked = asked_by(options, files, given)
+    told = explanation(refusal, asked) if ran.returncode == 1 else []
+    told += meanings(ran.stdout) if watched else []
+    if explains and command == 'left' and ran.returncode != 1:
+        told += made.of_blocks(program, [f'{name}={value}' for name, value in options.items()], asked.script)
+    for line in told:
         print(line, file=sys.stderr)
     return ran.returncode if ran.returncode >= 0 else 128 - ran.returncode
 

@@ -1,5 +1,6 @@
 -- Handles of a desk in slots, as they come and go.
-use Rattle.std.proofs.Common.{◌≡◌, ℕ, zero, suc, ◌+◌, ◌-◌, ◌≤◌, List, [], ◌∷◌, ◌++◌, length, set, cond, Option, Some, None, Ok, Err}
+use Rattle.std.proofs.Common.{◌≡◌, ℕ, zero, suc, ◌+◌, ◌-◌, ◌≤◌, List, [], ◌∷◌, ◌++◌, length, set, cond}
+use Rattle.std.proofs.Common.{Option, Some, None, Ok, Err}
 use Rattle.std.proofs.Common.{Result, refl, sym, ap, subst, ◌∙◌, inl, arith, add-zero}
 use Rattle.std.proofs.Common.{IfErr, IfOk, OnOk, MatchResult}
 use Rattle.std.specs.Prelude.{slice_get, MatchOption}
@@ -97,8 +98,8 @@ pub all_still : (d e : DeskNow ℕ) (hs : List Held) → HoldsAll d hs → Stays
 all_still d e hs all s = by_bag e hs (bag_of d) d.held s.bag s.held (all.objects, all.empty)
 
 -- a handle came
-pub all_more : (d e : DeskNow ℕ) (h : Held) (hs : List Held) → Standing d → HoldsAll d hs → bag_of e ≡ with_held h (bag_of d) → e.held ≡ d.held + 1
-    → HoldsAll e (h ∷ hs)
+pub all_more : (d e : DeskNow ℕ) (h : Held) (hs : List Held) → Standing d → HoldsAll d hs
+    → bag_of e ≡ with_held h (bag_of d) → e.held ≡ d.held + 1 → HoldsAll e (h ∷ hs)
 all_more d e h hs stands all bag count = holds_more d e h hs stands all bag count
 
 -- a handle left
@@ -107,8 +108,8 @@ pub all_less : (d e : DeskNow ℕ) (h : Held) (hs : List Held) → HoldsAll d (h
 all_less d e h hs all bag count = holds_less d e h hs all bag count
 
 -- a handle left, and what it was the last owner of ended
-pub ended_less : (d m e : DeskNow ℕ) (h : Held) (hs : List Held) → HoldsAll d (h ∷ hs) → bag_of m ≡ without_held h (bag_of d) → m.held + 1 ≡ d.held
-    → bag_of e ≡ bag_of m → e.held ≡ m.held → HoldsAll e hs
+pub ended_less : (d m e : DeskNow ℕ) (h : Held) (hs : List Held) → HoldsAll d (h ∷ hs)
+    → bag_of m ≡ without_held h (bag_of d) → m.held + 1 ≡ d.held → bag_of e ≡ bag_of m → e.held ≡ m.held → HoldsAll e hs
 ended_less d m e h hs all bag count after many = all_less d e h hs all (after ∙ bag) (ap (λ (n : ℕ). n + 1) many ∙ count)
 
 -- a handle was exchanged for another
@@ -240,7 +241,8 @@ module _ (d : DeskNow ℕ) (ss : List (Option Held)) (c : Compared Shared) where
   pub owner_seen : (h k : Shared) (e : DeskNow ℕ) → HoldsShared d c ss → c ≡ Differs h k → Keeps d e → bag_of e ≡ bag_of d → e.held ≡ d.held
       → HoldsAll e (held.Owner h ∷ held.Owner k ∷ handles_in ss)
   owner_seen h k e all is keeps bag count =
-      all_still d e (held.Owner h ∷ held.Owner k ∷ handles_in ss) (owner_differs h k all is) (record { desk = keeps_desk d e keeps; bag = bag; held = count })
+      all_still d e (held.Owner h ∷ held.Owner k ∷ handles_in ss) (owner_differs h k all is)
+      (record { desk = keeps_desk d e keeps; bag = bag; held = count })
 
 module _ (d : DeskNow ℕ) (ss : List (Option Held)) (c : Compared weak_handle.Weak) where
   pub weak_swapped : (old : weak_handle.Weak) → HoldsWeak d c ss → c ≡ Swapped old → HoldsBeside d (held.Weak old) ss
@@ -249,8 +251,8 @@ module _ (d : DeskNow ℕ) (ss : List (Option Held)) (c : Compared weak_handle.W
   pub weak_differs : (h k : weak_handle.Weak) → HoldsWeak d c ss → c ≡ Differs h k → HoldsAll d (held.Weak h ∷ held.Weak k ∷ handles_in ss)
   weak_differs h k all is = subst (λ (x : Compared weak_handle.Weak). HoldsWeak d x ss) is all
 
-  pub weak_seen : (h k : weak_handle.Weak) (e : DeskNow ℕ) → HoldsWeak d c ss → c ≡ Differs h k → Keeps d e → bag_of e ≡ bag_of d → e.held ≡ d.held
-      → HoldsAll e (held.Weak h ∷ held.Weak k ∷ handles_in ss)
+  pub weak_seen : (h k : weak_handle.Weak) (e : DeskNow ℕ) → HoldsWeak d c ss → c ≡ Differs h k
+      → Keeps d e → bag_of e ≡ bag_of d → e.held ≡ d.held → HoldsAll e (held.Weak h ∷ held.Weak k ∷ handles_in ss)
   weak_seen h k e all is keeps bag count =
       all_still d e (held.Weak h ∷ held.Weak k ∷ handles_in ss) (weak_differs h k all is) (record { desk = keeps_desk d e keeps; bag = bag; held = count })
 

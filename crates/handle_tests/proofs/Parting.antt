@@ -76,6 +76,6 @@ pub last_held : (d : DeskNow ℕ) (h : Held) (hs : List Held) → HoldsAll d (hs
 last_held d h hs all = hand_held d h hs (last_in_hand d h hs all)
 
 -- and leaves
-pub last_left : (d e : DeskNow ℕ) (h : Held) (hs : List Held) → HoldsAll d (hs ++ h ∷ []) → bag_of e ≡ without_held h (bag_of d) → e.held + 1 ≡ d.held
-    → HoldsAll e hs
+pub last_left : (d e : DeskNow ℕ) (h : Held) (hs : List Held) → HoldsAll d (hs ++ h ∷ [])
+    → bag_of e ≡ without_held h (bag_of d) → e.held + 1 ≡ d.held → HoldsAll e hs
 last_left d e h hs all bag count = all_less d e h hs (last_in_hand d h hs all) bag count

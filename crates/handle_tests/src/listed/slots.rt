@@ -1,5 +1,6 @@
 //! Handles come into slots and go out of them.
-ghost use Rattle.std.specs.Prelude.{◌≡◌, ◌+◌, ◌<◌, IfSome, MatchOption, None, Some, length, slice_get, slice_set};
+ghost use Rattle.std.specs.Prelude.{◌≡◌, ◌+◌, ◌<◌, IfSome, MatchOption, None, Some};
+ghost use Rattle.std.specs.Prelude.{length, slice_get, slice_set};
 ghost use Rattle.shared_handle.specs.Prelude.{Owner, Weak, HoldsHandle};
 ghost use Rattle.control_block.specs.Desks.{Belongs, IsSameDesk, bag_of};
 ghost use Rattle.control_block.specs.HandleLists.{IsHeldByDesk, without_held};

@@ -19,7 +19,8 @@ pub leave-requires-clause-held : goal.leave-requires-clause-held
 leave-requires-clause-held c =
     let x = c.in-Differs in let u = c.use_count-owners in
     hand_held u.new.desk (held.Owner x.held) (held.Owner x.desired ∷ handles_in c.args._slots.now)
-    (owner_seen c.args.desk.now c.args._slots.now c.args.compared x.held x.desired u.new.desk c.requires.holds x.is u.ensures.keeps u.ensures.bag u.ensures.held)
+    (owner_seen c.args.desk.now c.args._slots.now c.args.compared x.held x.desired u.new.desk c.requires.holds x.is
+    u.ensures.keeps u.ensures.bag u.ensures.held)
 
 pub returns-in-Swapped-clause-holds : goal.returns-in-Swapped-clause-holds
 returns-in-Swapped-clause-holds c =
@@ -31,5 +32,6 @@ pub returns-in-Differs-clause-holds : goal.returns-in-Differs-clause-holds
 returns-in-Differs-clause-holds c =
     let x = c.in-Differs in let u = c.use_count-owners in let l = c.leave in
     all_less u.new.desk l.new.desk (held.Owner x.held) (held.Owner x.desired ∷ handles_in c.args._slots.now)
-    (owner_seen c.args.desk.now c.args._slots.now c.args.compared x.held x.desired u.new.desk c.requires.holds x.is u.ensures.keeps u.ensures.bag u.ensures.held)
+    (owner_seen c.args.desk.now c.args._slots.now c.args.compared x.held x.desired u.new.desk c.requires.holds x.is
+    u.ensures.keeps u.ensures.bag u.ensures.held)
     l.ensures.bag l.ensures.held
