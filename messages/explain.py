@@ -14,6 +14,8 @@ NAMES = 'a name is a letter a to z, then letters, digits or _, at most 16 bytes'
 CELLS = 'free cells are s0 to s127 for owners and w0 to w127 for weak pointers'
 HEADER = 'the header is `version 2 blocks N`, with N from 64 to 65535'
 KINDS = {'O': 'owner', 'W': 'weak pointer'}
+# How the table of statements writes names that are set: both kinds of them are T there.
+LETTERS = {'Tw': 'T', 'Tc': 'T'}
 
 # What a refused statement's number means, as the run tells it.
 OF_STATEMENTS = {
@@ -23,6 +25,12 @@ OF_STATEMENTS = {
     6: 'the name points nowhere',
     7: 'the name points outside of what it owns',
     8: 'the object was not made by `makethis`, so that it gives no pointers to itself',
+}
+
+# What a refusal without a place means.
+OF_REFUSALS = {
+    'refused 1: memory': ['the system gave less memory than the run takes; a script takes 128 bytes a block'],
+    'refused 12: output': ['what reads the output took no more of it'],
 }
 
 
@@ -54,11 +62,9 @@ def explanation(refusal, asked):
     turn = re.fullmatch(r'refused 11: turn (\d+)', refusal)
     if turn:
         return of_turn(int(turn[1]), asked)
-    return {
-        'refused 1: memory': ['the system gave less memory than the run takes; a script takes 128 bytes a block'],
-        'refused 12: output': ['what reads the output took no more of it'],
-        'refused 13: input': [f'{asked.name}: {asked.reason or "it could not be read"}'],
-    }.get(refusal, [])
+    if refusal == 'refused 13: input':
+        return [f'{asked.name}: {asked.reason or "it could not be read"}']
+    return OF_REFUSALS.get(refusal, [])
 
 
 def of_turn(position, asked):
@@ -98,6 +104,12 @@ def of_line(number, cause, asked):
     ]
 
 
+def written(statement):
+    """The forms of a statement, by the letters of the table of the language."""
+    forms = [' '.join((statement, *(LETTERS.get(it, it) for it in shape))) for shape in SHAPES.get(statement, [[]])]
+    return f'it is written `{"` or `".join(forms)}`'
+
+
 def whole(text, why):
     """All words of a line are at fault."""
     words = words_of(text)
@@ -129,12 +141,17 @@ def unknown_statement(text, _before):
     return Fault(word.start, len(word), why, near(word.text, [*SHAPES, 'thread', 'version']))
 
 
+def comment(word):
+    return ['a comment stands in a line of its own'] if word.startswith('#') else []
+
+
 def wrong_number(text, _before):
-    first = words_of(text)[0].text
+    first, *others = (it.text for it in words_of(text))
     if first == 'version':
         return whole(text, HEADER)
-    forms = [' '.join((first, *it)) for it in SHAPES.get(first, [[]])]
-    return whole(text, f'it is written `{"` or `".join(forms)}`')
+    fault = whole(text, written(first))
+    fault.more = [hint for word in others for hint in comment(word)][:1]
+    return fault
 
 
 def too_many_threads(text, _before):
@@ -178,7 +195,10 @@ def is_name(role):
 
 
 def bad_name(text, _before):
-    return first_of(text, lambda word, role: is_name(role) and not NAME.fullmatch(word), lambda word: NAMES)
+    def hints(word):
+        return [f'a member is loaded first: `load x {word}`, and then `x` is a name'] if CELL(word) and '.' in word else []
+
+    return first_of(text, lambda word, role: is_name(role) and not NAME.fullmatch(word), lambda word: NAMES, hints)
 
 
 def bad_number(text, _before):
@@ -186,7 +206,7 @@ def bad_number(text, _before):
         word = words_of(text)[-1]
         return Fault(word.start, len(word), 'a script has 64 to 65535 blocks')
     why = 'a number is decimal, and at most 18446744073709551615'
-    return first_of(text, lambda word, role: role == 'n' and not NUMBER(word), lambda word: why)
+    return first_of(text, lambda word, role: role == 'n' and not NUMBER(word), lambda word: why, comment)
 
 
 def bad_field(text, _before):
@@ -197,9 +217,12 @@ def bad_cell(text, _before):
     def why(word):
         return 'members are first, next and up, of a name' if '.' in word else CELLS
 
-    return first_of(text, lambda word, role: role == 'C' and not CELL(word), why, lambda word: [
-        hint for part in word.split('.')[1:2] for hint in near(part, MEMBERS)
-    ])
+    def hints(word):
+        statement, *others = (it.text for it in words_of(text))
+        swapped = [written(statement)] if any(map(CELL, others)) else []
+        return [hint for part in word.split('.')[1:2] for hint in near(part, MEMBERS)] or swapped
+
+    return first_of(text, lambda word, role: role == 'C' and not CELL(word), why, hints)
 
 
 def sources(text):

@@ -15,11 +15,14 @@ import sys
 
 sys.dont_write_bytecode = True
 import made
-from explain import OF_STATEMENTS, Asked, explanation
+from explain import OF_REFUSALS, OF_STATEMENTS, Asked, explanation
 
 # The commands that read a script, and their options that take a word.
 COMMANDS = ('check', 'convert', 'step', 'fine', 'run', 'left', 'draw')
-TAKING = ('--turns', '--turns-file', '--from', '--to')
+TURNS = ('--turns', '--turns-file')
+TAKING = (*TURNS, '--from', '--to')
+WITHOUT_TURNS = ('check', 'convert', 'run')
+OUTPUT = 'refused 12: output'
 
 
 def parted(words):
@@ -62,22 +65,40 @@ def meanings(output):
     return [f'refused {it}: {OF_STATEMENTS[it]}' for it in numbers if it in OF_STATEMENTS]
 
 
+def uncut(output):
+    """A line for each knot that no pointer alone cuts."""
+    knots = re.split(r'(?m)^cycle ', output.decode('latin-1'))[1:]
+    ties = [it.partition('\n')[0] for it in knots if '\ncut ' not in it]
+    return [f'no pointer alone cuts the knot of {it}: circles run through each other, or another knot owns it' for it in ties]
+
+
+def passed_on(output):
+    """Whether what reads standard output takes this."""
+    try:
+        sys.stdout.buffer.write(output)
+        sys.stdout.buffer.flush()
+    except OSError:
+        os.dup2(os.open(os.devnull, os.O_WRONLY), sys.stdout.fileno())  # (else Python tries again at its end)
+        return False
+    return True
+
+
 def main(program, *words):
     explains = '--explain' in words
     words = [it for it in words if it != '--explain']
     options, others = parted(words)
     command, files = others[0] if others else '', others[1:]
     given = sys.stdin.buffer.read() if command in COMMANDS and not files else None
-    watched = explains and command in ('step', 'fine', 'run')
+    watched = explains and command in ('step', 'fine', 'run', 'left')
     ran = subprocess.run(
         [program, *words],
         input=given,
         stdout=subprocess.PIPE if watched else None,
         stderr=subprocess.PIPE,
     )
-    if watched:
-        sys.stdout.buffer.write(ran.stdout)
-        sys.stdout.buffer.flush()
+    if watched and not passed_on(ran.stdout):
+        print(OUTPUT, *OF_REFUSALS[OUTPUT], sep='\n', file=sys.stderr)
+        return 1
     sys.stderr.buffer.write(ran.stderr)
     refusal = ran.stderr.decode('latin-1').removesuffix('\n')
     asked = asked_by(options, files, given)
@@ -85,6 +106,9 @@ def main(program, *words):
     told += meanings(ran.stdout) if watched else []
     if explains and command == 'left' and ran.returncode != 1:
         told += made.of_blocks(program, [f'{name}={value}' for name, value in options.items()], asked.script)
+        told += uncut(ran.stdout)
+    if command in WITHOUT_TURNS and set(TURNS) & set(options):
+        told.append(f'{command} takes no turns; step, fine and left do')
     for line in told:
         print(line, file=sys.stderr)
     return ran.returncode if ran.returncode >= 0 else 128 - ran.returncode

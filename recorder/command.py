@@ -113,6 +113,8 @@ WHEN = {
 
 def built_library():
     try:
+        if not library.is_built() and sys.stderr.isatty():
+            say('record: building its library, which takes some seconds, this once')
         return str(library.build())
     except (OSError, subprocess.CalledProcessError) as fault:
         raise program.Refusal(f'the library could not be built: {fault}') from fault
@@ -138,11 +140,19 @@ def run(options, folder, path, reports):
     return 128 - status if status < 0 else status
 
 
+def check_writable(options):
+    """Opens what is asked for, so that what can't be written is told before the program runs."""
+    for path in filter(None, [options.json, options.dot]):
+        with open(path, 'a'):
+            pass
+    if options.keep:
+        Path(options.keep).mkdir(parents=True, exist_ok=True)
+
+
 def told(options, path):
     """Runs the program and tells. Returns the exit status."""
     with tempfile.TemporaryDirectory() as scratch:
         folder = options.keep or scratch
-        Path(folder).mkdir(parents=True, exist_ok=True)
         reports = Reports(options, folder)
         status = REFUSED
         try:
@@ -167,7 +177,12 @@ def main():
         return 0
     try:
         path = program.find(options.program)
-    except FileNotFoundError:
-        say(f'record: {options.program}: no such program')
+    except program.NotFound as why:
+        say(f'record: {options.program}: {why}')
         return 127
+    try:
+        check_writable(options)
+    except OSError as fault:
+        say(f'record: refused: {fault.filename}: {fault.strerror}')
+        return REFUSED
     return told(options, path)

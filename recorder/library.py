@@ -36,10 +36,18 @@ def key():
     return made_of.hexdigest()[:16]
 
 
+def path():
+    return home() / key() / 'librecorder.so'
+
+
+def is_built():
+    return path().exists()
+
+
 def build():
     """The built library's path."""
-    folder = home() / key()
-    library = folder / 'librecorder.so'
+    library = path()
+    folder = library.parent
     folder.mkdir(exist_ok=True)
     with open(folder / 'lock', 'w') as lock:
         fcntl.flock(lock, fcntl.LOCK_EX)

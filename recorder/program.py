@@ -11,15 +11,29 @@ SANITIZERS = re.compile(r'lib(asan|lsan|tsan|hwasan|msan)\.so')
 SANITIZER_SYMBOLS = re.compile(r'__(asan|lsan|tsan|hwasan|msan)_init')
 
 
+# What ends a program from outside: it is passed on, and what keys send goes to the program anyway.
+PASSED_ON = signal.SIGTERM, signal.SIGHUP
+OF_KEYS = signal.SIGINT, signal.SIGQUIT
+
+
 class Refusal(Exception):
     """Why nothing can be told."""
 
 
+class NotFound(Exception):
+    """Why there is no such program."""
+
+
 def find(name):
+    """The program's path, as a shell finds it."""
     path = shutil.which(name)
-    if not path:
-        raise FileNotFoundError(name)
-    return path
+    if path:
+        return path
+    if not Path(name).exists():
+        raise NotFound('no such program')
+    if '/' not in name and os.access(name, os.X_OK):
+        raise NotFound(f'no such program; did you mean ./{name}?')
+    raise NotFound('it is a folder' if Path(name).is_dir() else 'it is not executable')
 
 
 def interpreter_of(path):
@@ -67,8 +81,9 @@ def start(command, names):
 
 
 def wait(process, look):
-    """Waits for the end, calling `look` again and again. Signals from the keyboard are the program's."""
-    before = {it: signal.signal(it, signal.SIG_IGN) for it in (signal.SIGINT, signal.SIGQUIT)}
+    """Waits for the end, calling `look` again and again. Signals that end a program are the program's."""
+    before = {it: signal.signal(it, signal.SIG_IGN) for it in OF_KEYS}
+    before |= {it: signal.signal(it, lambda number, _: os.kill(process, number)) for it in PASSED_ON}
     try:
         pause = 0.001
         while True:

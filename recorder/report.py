@@ -58,8 +58,16 @@ def kept_by_unknown(told):
     return sum(labels <= unknown for labels in by.values())
 
 
+def advice_lines(told):
+    knots = [it for it in told.alarming_knots() if not told.is_owned_from_outside(it)]
+    if any(len(verdicts.ordered_weakens(it)) > 1 for it in knots):
+        yield 'record: each weaken line mends its knot by itself; take the first'
+    if any(' at byte ' in label for it in knots for label in owner_graph.tied_by(it)):
+        yield 'record: members are told by their names where the program is compiled with -g'
+
+
 def trust_line(told):
-    met = f'the counts of {told.met} of {len(told.record.blocks)} control blocks were met'
+    met = f'the pointers found explain the counts of {told.met} of {len(told.record.blocks)} control blocks'
     return f'record: {met}; neither the reading of memory nor the answer is proved'
 
 
@@ -70,7 +78,7 @@ def lines(told):
     if told.reached:
         first += f', {len(told.reached)} that raw pointers reach'
     found = [first, *leaked_lines(told), *knot_texts(told), *reached_lines(told)]
-    return [*found, *doubt_lines(told), trust_line(told)]
+    return [*found, *advice_lines(told), *doubt_lines(told), trust_line(told)]
 
 
 def doubt_lines(told):

@@ -66,6 +66,45 @@ def dot_and_keep():
     )
 
 
+def what_cannot_be_written():
+    """It is refused before the program runs."""
+    with tempfile.TemporaryDirectory() as folder:
+        circle, found = built(folder, 'circle'), {}
+        for option in '--json', '--dot', '--keep':
+            ran = record(option, f'{circle}/file', circle)
+            found[option] = (ran.returncode, ran.stderr), (125, f'record: refused: {circle}/file: Not a directory\n')
+    return differences(**found)
+
+
+def what_is_no_program():
+    with tempfile.TemporaryDirectory() as folder:
+        built(folder, 'circle')
+        Path(folder, 'text').write_text('')
+        found = {}
+        for name, why in {
+            'circle': 'no such program; did you mean ./circle?',
+            './text': 'it is not executable',
+            './none': 'no such program',
+            '.': 'it is a folder',
+        }.items():
+            ran = subprocess.run([ROOT / 'record', name], capture_output=True, text=True, cwd=folder)
+            found[name] = (ran.returncode, ran.stderr), (127, f'record: {name}: {why}\n')
+    return differences(**found)
+
+
+def a_signal_to_it_is_the_programs():
+    """What ends it from outside ends the program."""
+    text = '#include <cstdio>\n#include <unistd.h>\nint main() { std::puts("up"); std::fflush(stdout); sleep(60); }\n'
+    with tempfile.TemporaryDirectory() as folder:
+        words = [ROOT / 'record', built(folder, 'sleeping', text)]
+        with subprocess.Popen(words, stdout=subprocess.PIPE, stderr=subprocess.PIPE, text=True) as process:
+            process.stdout.readline()
+            process.terminate()
+            told = process.communicate(timeout=30)[1]
+    wanted = 'record: the program was ended by SIGTERM: what it left was not read\n'
+    return differences(told=(told, wanted), status=(process.returncode, 128 + signal.SIGTERM))
+
+
 def no_frames():
     with tempfile.TemporaryDirectory() as folder:
         ran = record('--frames', '0', built(folder, 'circle'))
@@ -77,12 +116,14 @@ def no_debug_information():
     with tempfile.TemporaryDirectory() as folder:
         program = Path(folder, 'circle')
         subprocess.run(['g++', 'circle.cc', '-o', program], check=True, cwd=PROGRAMS)
-        lines = record(program).stderr.splitlines()[1:5]
+        lines = record(program).stderr.splitlines()[1:7]
     wanted = [
         'leaked 2 Node, made in main',
         'knot 2 Node, tied by Node at byte 0 1, Node at byte 16 1',
         'weaken Node at byte 16',
         'weaken Node at byte 0',
+        'record: each weaken line mends its knot by itself; take the first',
+        'record: members are told by their names where the program is compiled with -g',
     ]
     return differences(lines=(lines, wanted))
 
@@ -194,7 +235,7 @@ def units_of_both_kinds():
                 said = record(program).stderr.splitlines()[2:5]
                 right = ['knot 1 Plugin, tied by Plugin::friends 1', 'weaken Plugin::friends']
                 wrong += (
-                    [] if said[:2] == right and 'the counts of 1 of 1' in said[2] else [f'{hooked} {level} {said}']
+                    [] if said[:2] == right and 'counts of 1 of 1' in said[2] else [f'{hooked} {level} {said}']
                 )
     return '\n'.join(wrong)
 
@@ -204,6 +245,9 @@ CHECKS = [
     units_of_both_kinds,
     json_tells_all,
     dot_and_keep,
+    what_cannot_be_written,
+    what_is_no_program,
+    a_signal_to_it_is_the_programs,
     no_frames,
     no_debug_information,
     streams_and_status,
