@@ -31,9 +31,11 @@ def find(name):
         return path
     if not Path(name).exists():
         raise NotFound('no such program')
+    if Path(name).is_dir():
+        raise NotFound('it is a folder')
     if '/' not in name and os.access(name, os.X_OK):
         raise NotFound(f'no such program; did you mean ./{name}?')
-    raise NotFound('it is a folder' if Path(name).is_dir() else 'it is not executable')
+    raise NotFound('it is not executable')
 
 
 def interpreter_of(path):
