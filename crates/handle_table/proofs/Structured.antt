@@ -9,6 +9,7 @@ use Rattle.shared_handle.specs.Piles.{AllEnd, Bears, Carries}
 use Rattle.shared_handle.specs.declared.pile.Pile.{Pile}
 use Rattle.scene_structures.proofs.Others.{all_others}
 use Rattle.scene_structures.specs.Others.{KeepsOthers}
+use Rattle.scene_structures.specs.Orders.{EndsInOrder}
 use Rattle.scene_structures.specs.Scenes.{IsNearLimit}
 use Rattle.scene_structures.specs.Stacks.{ServesDomain, StackNow, StandsIn}
 use Rattle.handle_table.proofs.Filling.{fits_still}
@@ -36,10 +37,10 @@ module _ {V : Type 0} where
 
   -- what a desk did by a structure in a cell
   pub desk_does : (does : ℕ → DeskNow V → DeskNow V → Type 0) (s t u : TableNow V) (a b : StackNow) → (IsNearLimit s.desk → ⊥)
-      → does a.cell s.desk u.desk → u.slots ≡ s.slots → u.endings ≡ s.endings → s ≡ t → a ≡ b → DeskDoes (does b.cell) t u
-  desk_does does s t u a b room done slots endings same there =
+      → does a.cell s.desk u.desk → EndsInOrder s.desk [] u.desk [] → u.slots ≡ s.slots → u.endings ≡ s.endings → s ≡ t → a ≡ b → DeskDoes (does b.cell) t u
+  desk_does does s t u a b room done order slots endings same there =
       subst (λ (k : StackNow). DeskDoes (does k.cell) t u) there
-      (subst (λ (x : TableNow V). DeskDoes (does a.cell) x u) same (record { room = room; done = done; slots = slots; endings = endings }))
+      (subst (λ (x : TableNow V). DeskDoes (does a.cell) x u) same (record { room = room; done = done; order = order; slots = slots; endings = endings }))
 
 -- a desk with six handles free is below its allowance
 pub far_below : {V : Type 0} (d : DeskNow V) → (IsNearLimit d → ⊥) → IsBelow d

@@ -1,5 +1,5 @@
 -- What lies in a slot, by its parts in memory.
-use Rattle.std.specs.Prelude.{◌≡◌, ◌==◌, ℕ, cond, Option, None, Some}
+use Rattle.std.specs.Prelude.{◌≡◌, ◌==◌, ℕ, ◌<◌, cond, List, slice_get, Option, None, Some}
 use Rattle.control_word.specs.Packing.{block_number}
 use Rattle.control_word.specs.declared.place.Place.{Place}
 use Rattle.control_block.specs.declared.handles.Held.{Held}
@@ -18,3 +18,11 @@ abbrev pub IsOther : Option Held → Type 0
 IsOther None = Unit {0}
 IsOther (Some (Owner h)) = block_number h.block ≡ 0
 IsOther (Some (Weak w)) = Unit {0}
+
+-- an owner of an object lies in this slot
+abbrev pub IsOwned : Option Held → Type 0
+IsOwned s = (n : ℕ) × (p : Option Place) × (0 < n) × (s ≡ Some (owner_in n p))
+
+-- the same of the slot of a number
+abbrev pub IsOwnedAt : List (Option Held) → ℕ → Type 0
+IsOwnedAt ss i = (n : ℕ) × (p : Option Place) × (0 < n) × (slice_get ss i ≡ Some (Some (owner_in n p)))

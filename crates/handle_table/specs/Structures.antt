@@ -14,6 +14,7 @@ use Rattle.scene_structures.specs.Detaches.{Detaches}
 use Rattle.scene_structures.specs.Hands.{node_in}
 use Rattle.scene_structures.specs.Leaves.{IsDetached}
 use Rattle.scene_structures.specs.Observers.{Attaches, IsAttached}
+use Rattle.scene_structures.specs.Orders.{EndsInOrder}
 use Rattle.scene_structures.specs.Parents.{IsNode, IsParent, LocksUp, WhyNoNode}
 use Rattle.scene_structures.specs.Pops.{TakesNode}
 use Rattle.scene_structures.specs.Prunes.{IsPruned, Prunes}
@@ -35,10 +36,12 @@ module _ {V : Type 0} where
   abbrev pub WhyNoAccess : TableNow V → ℕ → Fault → Type 0
   WhyNoAccess t n why = WhyNoCell t.desk.shape t.slots (cell.Shared n) why ⊎ (why ≡ fault.Call Memory)
 
-  -- the desk did this, with six handles free before, and neither slots nor what is left to end changed
+  -- the desk did this, with six handles free before, what ended by it did so in its order, and neither slots nor what
+  -- is left to end changed
   pub record DeskDoes (does : DeskNow V → DeskNow V → Type 0) (t u : TableNow V) : Type 0 where
     pub room : IsNearLimit t.desk → ⊥
     pub done : does t.desk u.desk
+    pub order : EndsInOrder t.desk [] u.desk []
     pub slots : u.slots ≡ t.slots
     pub endings : u.endings ≡ t.endings
 
@@ -59,7 +62,8 @@ module _ {V : Type 0} where
   -- the top node went out of the stack, and its owner was assigned to a slot; or there was none
   abbrev pub PopsIntoSlot : TableNow V → ℕ → ℕ → Bool → TableNow V → Type 0
   PopsIntoSlot t n to true u = (IsNearLimit t.desk → ⊥) × Comes
-      (IsOwner (λ d h e. TakesNode d (Free n) h e × (IsSole d → IsPopped d (Free n) h e))) t to u
+      (IsOwner (λ d h e. TakesNode d (Free n) h e × (IsSole d → IsPopped d (Free n) h e)
+      × EndsInOrder d [] e [])) t to u
   PopsIntoSlot t n to false u =
       DeskDoes (λ d e. FindsNone d (Free n) e × (IsSole d → IsEmptyList d (Free n) e)) t u
 
@@ -78,6 +82,7 @@ module _ {V : Type 0} where
     pub at : slice_get ss subject ≡ Some (Some (Owner of))
     pub room : IsNearLimit d → ⊥
     pub done : Attaches d (Free n) of x e × (IsSole d → IsAttached d (Free n) of e)
+    pub order : EndsInOrder d [] e []
 
   abbrev pub WhyNotAttached : TableNow V → ℕ → Fault → Type 0
   WhyNotAttached t subject why = WhyNoOwner t.slots subject why ⊎ WhyNoNewNode t why
@@ -103,12 +108,12 @@ module _ {V : Type 0} where
     pub at : IsAt t parent (Owner of)
     pub may : MayHaveChild t.desk of.block of.place
     pub child : Comes
-        (IsOwner (λ d h e. Adopts d of fields x h e × (IsSole d → IsAdopted d of e))) t to u
+        (IsOwner (λ d h e. Adopts d of fields x h e × (IsSole d → IsAdopted d of e) × EndsInOrder d [] e [])) t to u
 
   -- the same of the desk alone
   abbrev pub IsChild : List ℕ → V → Shared → Coming V
   IsChild fields x of d h e = MayHaveChild d of.block of.place
-      × IsOwner (λ d h e. Adopts d of fields x h e × (IsSole d → IsAdopted d of e)) d h e
+      × IsOwner (λ d h e. Adopts d of fields x h e × (IsSole d → IsAdopted d of e) × EndsInOrder d [] e []) d h e
 
   -- why what the owner in the slot owns is not taken for a node
   abbrev pub IsRefusedBy : (DeskNow V → Shared → Refusal → Type 0) → TableNow V → ℕ → Fault → Type 0

@@ -187,8 +187,8 @@ fn lend_all<
 
 impl<'d, V: Drop + Send, H: Home + Send + Sync> HandleTable<'d, V, H> {
     /// The workers of a team work, each in a thread with a table of its own, and all they leave comes back: the handles
-    /// in their slots leave, and what is left to end does so (own). It says how many worked, and why they are fewer than
-    /// were asked for, where they are: none works where memory is refused for one.
+    /// in their slots leave, and what is left to end does so (own). It says how many worked, and why they are fewer
+    /// than were asked for, where they are: none works where memory is refused for one.
     pub(crate) fn scope<R: Threads + Wait + Sync, P: Program<V, R> + Sync>(
         &mut self,
         rt: &R,
@@ -254,9 +254,9 @@ fn run_in<V: Drop + Send, H: Home + Send + Sync, R: Threads + Wait + Sync, P: Pr
 /// A domain is opened, each worker of the team does its part of the program in a thread with a table of its own, and
 /// the domain is closed (own). The handles that a worker leaves in its slots leave, and what is left to end does so.
 /// The workers' tables are parts of a first one, which has all again at the end: what each had and what it left is in
-/// `runs`. It is refused `Shape` just where the shape is outside the limits, `Memory` only where a growth or the start of
-/// a thread was really refused, and then no worker works; and `NotSole` where a worker kept a table for itself. No clause
-/// says what a worker did with its table, or that it did anything: `run_workers` says that of each.
+/// `runs`. It is refused `Shape` just where the shape is outside the limits, `Memory` only where a growth or the start
+/// of a thread was really refused, and then no worker works; and `NotSole` where a worker kept a table for itself. No
+/// clause says what a worker did with its table, or that it did anything: `run_workers` says that of each.
 pub fn run<V: Drop + Send, R: Threads + Wait + Sync, P: Program<V, R> + Sync>(
     rt: &R,
     alloc: Global,

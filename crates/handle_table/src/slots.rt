@@ -1,10 +1,10 @@
 //! Slots, and what is in them.
-ghost use Rattle.std.specs.Prelude.{◌≡◌, ◌≤◌, ◌<◌, true, [], length, slice_get, slice_set};
-ghost use Rattle.std.specs.Prelude.{vec_capacity, IfErr, IfOk, IfSome};
+ghost use Rattle.std.specs.Prelude.{◌≡◌, ◌≤◌, ◌<◌, false, true, [], length, None, slice_get, slice_set, Some};
+ghost use Rattle.std.specs.Prelude.{vec_capacity, IfErr, IfNone, IfOk, IfSome};
 ghost use Rattle.control_word.specs.Views.{total};
 ghost use Rattle.control_block.specs.declared.handles.Held.TheVariants as held;
 ghost use Rattle.handle_table.specs.Calls.{WhyNoHandle, WhyNoOwner, WhyNoWeak};
-ghost use Rattle.handle_table.specs.Slots.{owner_in};
+ghost use Rattle.handle_table.specs.Slots.{IsOwnedAt, owner_in};
 ghost use Rattle.handle_table.specs.Tables.{AllVacant};
 
 use crate::fault::Fault;
@@ -131,7 +131,8 @@ pub(crate) fn put(slots: &mut Vec<Slot>, at: usize, handle: Held) -> Option<Held
 #[inline(always)]
 pub(crate) fn is_vacant(slots: &Vec<Slot>, at: usize) -> bool
     requires { at < length slots.now.items }
-    ensures { result ≡ true → slice_get slots.now.items at ≡ Some None }
+    ensures vacant { result ≡ true → slice_get slots.now.items at ≡ Some None }
+    ensures taken { result ≡ false → slice_get slots.now.items at ≡ Some None → ⊥ }
 {
     slots[at].is_vacant()
 }
@@ -145,11 +146,13 @@ pub(crate) fn fill(slots: &mut Vec<Slot>, at: usize, handle: Held)
     slots[at].fill(handle);
 }
 
-/// The owner of an object in the slot, by the number of its block and its place; it stays there. None where no such is.
+/// The owner of an object in the slot, by the number of its block and its place; it stays there. None just where there
+/// is no such.
 #[inline(always)]
 pub(crate) fn owned_at(slots: &Vec<Slot>, at: usize) -> Option<(u16, Option<Place>)>
-    ensures { IfSome result
+    ensures owned { IfSome result
         (λ r. (0 < r.0) × (slice_get slots.now.items at ≡ Some (Some (owner_in r.0 r.1)))) }
+    ensures none { IfNone result (IsOwnedAt slots.now.items at → ⊥) }
 {
     if at >= slots.len() {
         return None;

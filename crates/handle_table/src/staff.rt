@@ -193,9 +193,9 @@ pub fn run_workers_open<V: Drop + Send, R: Threads + Wait + Sync, W: Work<V, R> 
 /// worker and its table holds of each, and the tables are parts of a first one, which has all again at the end.
 ///
 /// It is refused `Shape` just where the shape is outside the limits, `Memory` only where a growth or the start of a
-/// thread was really refused, `Limit` or `Full` where there is no such share for each, and `NotSole` where a worker kept
-/// a table for itself. Only with the last has any worked, and then `Work::does` holds of each too: a worker begins once
-/// the threads of all are started.
+/// thread was really refused, `Limit` or `Full` where there is no such share for each, and `NotSole` where a worker
+/// kept a table for itself. Only with the last has any worked, and then `Work::does` holds of each too: a worker begins
+/// once the threads of all are started.
 pub fn run_workers<V: Drop + Send, R: Threads + Wait + Sync, W: Work<V, R> + Send>(
     rt: &R,
     alloc: Global,

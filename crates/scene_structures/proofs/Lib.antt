@@ -1,4 +1,5 @@
 pub mod Others
+pub mod Orders
 pub mod Hands
 pub mod Latest
 pub mod Sites

@@ -1,6 +1,7 @@
 pub mod Chains
 pub mod Puts
 pub mod Others
+pub mod Orders
 pub mod Hands
 pub mod Stacks
 pub mod Pops

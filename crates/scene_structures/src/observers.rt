@@ -13,6 +13,7 @@ ghost use Rattle.scene_structures.specs.Observers.{Attaches, IsAttached};
 ghost use Rattle.scene_structures.specs.Prunes.{IsPruned, Prunes};
 ghost use Rattle.scene_structures.specs.Stacks.{StandsIn};
 ghost use Rattle.scene_structures.specs.Walks.{IsToldList, WalksOver};
+ghost use Rattle.scene_structures.specs.Orders.{EndsInOrder};
 
 use crate::lists::attaching::watch;
 use crate::lists::pruning::clear_list;
@@ -80,6 +81,7 @@ impl<V: Drop> Observers<V> {
         ensures stands { (self.new.cell ≡ self.old.cell) × StandsIn self.new domain.now }
         ensures endings { KeepsEndings desk.old desk.new }
         ensures count { endings_of desk.new ≡ endings_of desk.old }
+        ensures order { OnOk result (EndsInOrder desk.old [] desk.new []) }
         ensures desk { IsSameDesk desk.old desk.new }
         ensures bag { bag_of desk.new ≡ bag_of desk.old }
         ensures held { desk.new.held ≡ desk.old.held }
@@ -122,6 +124,7 @@ impl<V: Drop> Observers<V> {
         ensures stands { (self.new.cell ≡ self.old.cell) × StandsIn self.new domain.now }
         ensures endings { KeepsEndings desk.old desk.new }
         ensures count { endings_of desk.new ≡ endings_of desk.old }
+        ensures order { OnOk result (EndsInOrder desk.old [] desk.new []) }
         ensures desk { IsSameDesk desk.old desk.new }
         ensures bag { bag_of desk.new ≡ bag_of desk.old }
         ensures held { desk.new.held ≡ desk.old.held }
@@ -158,6 +161,7 @@ impl<V: Drop> Observers<V> {
         ensures stands { (self.new.cell ≡ self.old.cell) × StandsIn self.new domain.now }
         ensures endings { KeepsEndings desk.old desk.new }
         ensures count { endings_of desk.new ≡ endings_of desk.old }
+        ensures order { OnOk result (EndsInOrder desk.old [] desk.new []) }
         ensures desk { IsSameDesk desk.old desk.new }
         ensures bag { bag_of desk.new ≡ bag_of desk.old }
         ensures held { desk.new.held ≡ desk.old.held }

@@ -9,6 +9,7 @@ ghost use Rattle.shared_handle.specs.Piles.{Carries};
 ghost use Rattle.scene_structures.specs.Scenes.{Adopts, IsAdopted, MayHaveChild, WhyNoChild};
 ghost use Rattle.scene_structures.specs.Stacks.{ServesDomain};
 ghost use Rattle.scene_structures.specs.Others.{KeepsOthers};
+ghost use Rattle.scene_structures.specs.Orders.{EndsInOrder};
 
 use crate::lists::attaching::watch;
 use crate::lists::pushing::{Attempt, raise};
@@ -73,6 +74,7 @@ impl<V: Drop> Scene<V> {
             (λ r. (r.back ≡ value) × (desk.new ≡ desk.old) × (self.new ≡ self.old)) }
         ensures carries { Carries domain.now desk.new self.new }
         ensures others { KeepsOthers desk.old self.old.endings.items desk.new self.new.endings.items }
+        ensures order { OnOk result (EndsInOrder desk.old self.old.endings.items desk.new self.new.endings.items) }
         ensures none { OnOk result (self.new.endings.items ≡ []) }
         ensures desk { IsSameDesk desk.old desk.new }
         ensures bag { IfOk result (λ h. bag_of desk.new ≡ with_handle Owner h.block h.place (bag_of desk.old)) }

@@ -10,6 +10,7 @@ ghost use Rattle.control_block.specs.Refusals.{IsFullOrLimit};
 ghost use Rattle.control_block.specs.CellCalls.{HoldsHandle, with_handle};
 ghost use Rattle.scene_structures.specs.Pops.{TakesNode};
 ghost use Rattle.scene_structures.specs.Stacks.{FindsNone, IsEmptyList, IsPopped, IsPushed, Pushes, StandsIn};
+ghost use Rattle.scene_structures.specs.Orders.{EndsInOrder};
 
 use crate::lists::popping::take;
 use crate::lists::pushing::{Attempt, raise};
@@ -84,6 +85,7 @@ impl<V: Drop> Stack<V> {
         ensures stands { (self.new.cell ≡ self.old.cell) × StandsIn self.new domain.now }
         ensures endings { KeepsEndings desk.old desk.new }
         ensures count { endings_of desk.new ≡ endings_of desk.old }
+        ensures order { OnOk result (EndsInOrder desk.old [] desk.new []) }
         ensures desk { IsSameDesk desk.old desk.new }
         ensures bag { bag_of desk.new ≡ bag_of desk.old }
         ensures held { desk.new.held ≡ desk.old.held }
@@ -122,6 +124,7 @@ impl<V: Drop> Stack<V> {
         ensures stands { (self.new.cell ≡ self.old.cell) × StandsIn self.new domain.now }
         ensures endings { KeepsEndings desk.old desk.new }
         ensures count { endings_of desk.new ≡ endings_of desk.old }
+        ensures order { OnOk result (EndsInOrder desk.old [] desk.new []) }
         ensures desk { IsSameDesk desk.old desk.new }
         ensures bag { IfOk result (λ r. MatchOption r (bag_of desk.new ≡ bag_of desk.old)
             (λ h. bag_of desk.new ≡ with_handle Owner h.block h.place (bag_of desk.old))) }

@@ -1,11 +1,12 @@
 //! Handles that come of others, and go to other slots.
-ghost use Rattle.std.specs.Prelude.{◌≡◌, ◌+◌, false, true, IfErr, IfOk, OnOk};
+ghost use Rattle.std.specs.Prelude.{◌≡◌, ◌+◌, false, true, IfErr, IfOk, None, OnOk, slice_get, Some};
 ghost use Rattle.control_word.specs.declared.refusal.Refusal.TheVariants.{Limit};
 ghost use Rattle.control_block.specs.Desks.{Belongs, Keeps, allowance_of, bag_of, held_of};
 ghost use Rattle.control_block.specs.HandleLists.{IsHeldByDesk, with_held};
 ghost use Rattle.handle_table.specs.Bringing.{Brought, Fills, IsWeakCopy, OfHandle, OfOwner, beside_pile};
 ghost use Rattle.handle_table.specs.Calls.{Copies, Downgrades, IsBelow, IsCopy, IsHandleAt, IsOwnerAt, LimitLast};
 ghost use Rattle.handle_table.specs.Calls.{MovesSlot, WhyNoCopy, WhyNotDowngraded, WhyNotMoved};
+ghost use Rattle.handle_table.specs.Slots.{IsOwnedAt};
 ghost use Rattle.handle_table.specs.Tables.{FitsSlots};
 ghost use Rattle.handle_table.specs.declared.fault.Fault.TheVariants as fault;
 
@@ -78,9 +79,9 @@ fn copy_from<V: Drop>(
     }
 }
 
-/// An owner of an object in a slot is copied into another, which is vacant: whether that was so, and the desk was below
-/// its allowance. Else nothing changes. The copy lies in its slot before its step, since two locked instructions cost
-/// less where no store stands between them and few instructions do.
+/// An owner of an object in a slot is copied into another, which is vacant: just where that is so, and the desk is
+/// below its allowance. Else nothing changes. The copy lies in its slot before its step, since two locked instructions
+/// cost less where no store stands between them and few instructions do.
 #[inline(always)]
 fn copy_owner<V: Drop>(
     domain: &Domain<V>,
@@ -94,6 +95,8 @@ fn copy_owner<V: Drop>(
     ensures copied { result ≡ true → Fills (OfHandle IsCopy slots.old.items from) desk.old slots.old.items to
         desk.new slots.new.items }
     ensures same { result ≡ false → (desk.new ≡ desk.old) × (slots.new.items ≡ slots.old.items) }
+    ensures not { result ≡ false → IsOwnedAt slots.old.items from → slice_get slots.old.items to ≡ Some None
+        → IsBelow desk.old → ⊥ }
 {
     if from >= slots.len() || to >= slots.len() {
         return false;

@@ -3,6 +3,7 @@ ghost use Rattle.std.specs.Prelude.{◌≡◌, [], List, IfErr, IfNone, IfOk, If
 ghost use Rattle.shared_handle.specs.Piles.{FoldsBack, Past, values_of};
 ghost use Rattle.shared_handle.specs.Piles.{Bears};
 ghost use Rattle.handle_table.specs.Calls.{EndsOne, Resets, SettlesEndings, WhyNoHandle};
+ghost use Rattle.handle_table.specs.Slots.{IsOwnedAt};
 ghost use Rattle.handle_table.specs.Tables.{FitsSlots, with_pile};
 
 use crate::fault::Fault;
@@ -16,8 +17,8 @@ use control_word::Block;
 use shared_handle::{Gone, Pile, Shared, drop_shared};
 use std::sync::Wait;
 
-/// An owner of an object leaves its slot: what is told of it. None where no such owner lies there, and then nothing
-/// changes. Its slot is vacated after its step, so that no store stands between that and a step before.
+/// An owner of an object leaves its slot: what is told of it. None just where no such owner lies there, and then
+/// nothing changes. Its slot is vacated after its step, so that no store stands between that and a step before.
 #[inline(always)]
 fn reset_owner<V: Drop>(
     domain: &Domain<V>,
@@ -34,6 +35,7 @@ fn reset_owner<V: Drop>(
         (with_pile desk.new slots.new.items pile.new)) }
     ensures same { IfNone result
         ((desk.new ≡ desk.old) × (slots.new.items ≡ slots.old.items) × (pile.new ≡ pile.old)) }
+    ensures none { IfNone result (IsOwnedAt slots.old.items at → ⊥) }
 {
     let (number, place) = owned_at(slots, at)?;
     let owner = Shared::of_parts(Some(Block(number)), place);

@@ -1,9 +1,9 @@
 //! A slot: a handle lies in it, or none.
-ghost use Rattle.std.specs.Prelude.{◌≡◌, ◌<◌, Decides, IfSome, ℕ, Option, None, Some};
+ghost use Rattle.std.specs.Prelude.{◌≡◌, ◌<◌, Decides, IfNone, IfSome, ℕ, Option, None, Some};
 ghost use Rattle.control_block.specs.declared.handles.Held.{Held};
 ghost use Rattle.control_word.specs.Packing.{block_number};
 ghost use Rattle.control_word.specs.declared.place.Place.{Place};
-ghost use Rattle.handle_table.specs.Slots.{owner_in};
+ghost use Rattle.handle_table.specs.Slots.{IsOwned, owner_in};
 
 use crate::slots::{owner_again, spent, weak_again};
 use control_block::Lent;
@@ -60,10 +60,12 @@ impl Slot {
         (self.owned == 0) & self.other.is_none()
     }
 
-    /// The owner of an object that lies here, by the number of its block and its place. None where there is no such.
+    /// The owner of an object that lies here, by the number of its block and its place. None just where there is no
+    /// such.
     #[inline(always)]
     pub(crate) fn owned(&self) -> Option<(u16, Option<Place>)>
-        ensures { IfSome result (λ r. (0 < r.0) × (self.now ≡ Some (owner_in r.0 r.1))) }
+        ensures owned { IfSome result (λ r. (0 < r.0) × (self.now ≡ Some (owner_in r.0 r.1))) }
+        ensures none { IfNone result (IsOwned self.now → ⊥) }
     {
         if self.owned == 0 {
             return None;

@@ -1,8 +1,8 @@
 //! Jobs that all run, each in a thread of its own, or none.
 //!
-//! What a thread writes into a value that it borrows no clause says, so a job goes to its thread by value and comes back
-//! as the thread's result, by which its promise is kept. A started job waits for a signal: it is given once all are
-//! started, and says that they run; or where one can't be started, and says that none does.
+//! What a thread writes into a value that it borrows no clause says, so a job goes to its thread by value and comes
+//! back as the thread's result, by which its promise is kept. A started job waits for a signal: it is given once all
+//! are started, and says that they run; or where one can't be started, and says that none does.
 ghost use Rattle.std.specs.Prelude.{◌≡◌, ◌≤◌, ℕ, List, [], length, reverse, vec_capacity};
 ghost use Rattle.std.specs.List.{AllZip};
 ghost use Rattle.handle_table.specs.Jobs.{IsStarted, Keeps};
@@ -208,7 +208,8 @@ fn in_scope<'g, R: Threads + Wait + Sync, J: Job<R> + Send>(
         thread::scope_env(),
         rt,
         move |scope| -> (bool, Vec<J>)
-            requires { (held.value.started.items ≡ []) × (length held.value.jobs.items ≤ vec_capacity held.value.started) }
+            requires { (held.value.started.items ≡ [])
+                × (length held.value.jobs.items ≤ vec_capacity held.value.started) }
             ensures { AllZip (Keeps J.does result.0) held.entry.value.jobs.items result.1.items }
         { run_in(scope, ManuallyDrop::into_inner(held)) },
     )

@@ -6,6 +6,8 @@ ghost use Rattle.control_block.specs.Desks.{Belongs, IsSameDesk, KeepsEndings, a
 ghost use Rattle.control_block.specs.Desks.{held_of};
 ghost use Rattle.control_block.specs.CellCalls.{HoldsHandle};
 ghost use Rattle.shared_handle.specs.Endings.{IsWithin};
+ghost use Rattle.control_block.specs.Own.{Does};
+ghost use Rattle.scene_structures.specs.Orders.{EndsNothing};
 ghost use Rattle.scene_structures.specs.Hands.{KeepsHeld, node_in};
 ghost use Rattle.scene_structures.specs.Watches.{Watches, weak_of_owner};
 
@@ -33,6 +35,7 @@ pub(crate) fn watch<V: Drop>(
     ensures count { endings_of desk.new ≡ endings_of desk.old }
     ensures own { Watches desk.old (object_of (node_in desk.old node.now))
         (weak_of_owner desk.old subject.now) desk.new }
+    ensures still { Does EndsNothing desk.old desk.new }
     ensures latest { KeepsHeld desk.old desk.new }
 {
     let Ok(weak) = downgrade(domain, desk, subject) else {

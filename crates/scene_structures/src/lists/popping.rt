@@ -8,6 +8,7 @@ ghost use Rattle.shared_handle.specs.Piles.{Carries};
 ghost use Rattle.scene_structures.specs.Pops.{HandsAfter, HeldAfter, TakesNode, Tries};
 ghost use Rattle.scene_structures.specs.Stacks.{FindsNone, Looks};
 ghost use Rattle.scene_structures.specs.Others.{KeepsOthers};
+ghost use Rattle.scene_structures.specs.Orders.{EndsInOrder};
 
 use crate::pause::Pause;
 use crate::tree::endings::let_go;
@@ -43,6 +44,7 @@ fn try_pop<V: Drop, R: Wait>(
     requires empty { pile.old.endings.items ≡ [] }
     ensures carries { Carries domain.now desk.new pile.new }
     ensures others { KeepsOthers desk.old pile.old.endings.items desk.new pile.new.endings.items }
+    ensures order { EndsInOrder desk.old pile.old.endings.items desk.new pile.new.endings.items }
     ensures none { pile.new.endings.items ≡ [] }
     ensures desk { IsSameDesk desk.old desk.new }
     ensures bag { (base : List Handle) → HasHands base (top ∷ []) desk.old → HandsAfter base result desk.new }
@@ -87,6 +89,7 @@ pub(crate) fn take<V: Drop, R: Wait>(
     requires empty { pile.old.endings.items ≡ [] }
     ensures carries { Carries domain.now desk.new pile.new }
     ensures others { KeepsOthers desk.old pile.old.endings.items desk.new pile.new.endings.items }
+    ensures order { EndsInOrder desk.old pile.old.endings.items desk.new pile.new.endings.items }
     ensures none { pile.new.endings.items ≡ [] }
     ensures desk { IsSameDesk desk.old desk.new }
     ensures bag { (base : List Handle) → HasHands base (first ∷ []) desk.old

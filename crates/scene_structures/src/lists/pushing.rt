@@ -14,6 +14,7 @@ ghost use Rattle.shared_handle.specs.Piles.{Carries};
 ghost use Rattle.scene_structures.specs.Puts.{PutsOnly};
 ghost use Rattle.scene_structures.specs.Stacks.{Fills, NextOf, Rises};
 ghost use Rattle.scene_structures.specs.Others.{KeepsOthers};
+ghost use Rattle.scene_structures.specs.Orders.{EndsInOrder};
 
 use crate::pause::Pause;
 use crate::tree::endings::let_go;
@@ -44,6 +45,7 @@ pub(crate) fn store_next<V: Drop, R: Wait>(
         × HoldsHandle desk.old Owner below.block below.place }
     ensures carries { Carries domain.now desk.new pile.new }
     ensures others { KeepsOthers desk.old pile.old.endings.items desk.new pile.new.endings.items }
+    ensures order { EndsInOrder desk.old pile.old.endings.items desk.new pile.new.endings.items }
     ensures none { pile.new.endings.items ≡ [] }
     ensures bag { bag_of desk.new ≡ without_handle Owner below.block below.place (bag_of desk.old) }
     ensures held { desk.new.held + 1 ≡ desk.old.held }
@@ -75,6 +77,7 @@ fn try_push<V: Drop, R: Wait>(
     requires room { desk.old.held + 2 < allowance_of desk.old }
     ensures carries { Carries domain.now desk.new pile.new }
     ensures others { KeepsOthers desk.old pile.old.endings.items desk.new pile.new.endings.items }
+    ensures order { EndsInOrder desk.old pile.old.endings.items desk.new pile.new.endings.items }
     ensures none { pile.new.endings.items ≡ [] }
     ensures desk { IsSameDesk desk.old desk.new }
     ensures node { IfSome result (λ a. (a.node ≡ attempt.node) × SameNode desk.old attempt.node desk.new) }
@@ -125,6 +128,7 @@ pub(crate) fn raise<V: Drop, R: Wait>(
     requires room { desk.old.held + 2 < allowance_of desk.old }
     ensures carries { Carries domain.now desk.new pile.new }
     ensures others { KeepsOthers desk.old pile.old.endings.items desk.new pile.new.endings.items }
+    ensures order { EndsInOrder desk.old pile.old.endings.items desk.new pile.new.endings.items }
     ensures none { pile.new.endings.items ≡ [] }
     ensures desk { IsSameDesk desk.old desk.new }
     ensures bag { (base : List Handle) → HasHands base (first.top ∷ first.node ∷ []) desk.old

@@ -12,6 +12,7 @@ ghost use Rattle.scene_structures.specs.Hands.{HasHands, KeepsHeld, node_in};
 ghost use Rattle.scene_structures.specs.Walks.{HandsVisited, HasLooked, HeldVisited, IsAsked, IsNodeVisit, TellsField};
 ghost use Rattle.scene_structures.specs.Walks.{WalksFrom};
 ghost use Rattle.scene_structures.specs.Others.{KeepsOthers};
+ghost use Rattle.scene_structures.specs.Orders.{EndsInOrder};
 
 use crate::tree::endings::let_go;
 use atomic_cells::{SharedAt, SharedMember, WeakAt};
@@ -35,6 +36,7 @@ fn first_field<V: Drop, R: Wait>(
     requires room { desk.old.held + 1 < allowance_of desk.old }
     ensures carries { Carries domain.now desk.new pile.new }
     ensures others { KeepsOthers desk.old pile.old.endings.items desk.new pile.new.endings.items }
+    ensures order { EndsInOrder desk.old pile.old.endings.items desk.new pile.new.endings.items }
     ensures none { pile.new.endings.items ≡ [] }
     ensures bag { bag_of desk.new ≡ bag_of desk.old }
     ensures held { desk.new.held ≡ desk.old.held }
@@ -69,6 +71,7 @@ fn ask<V: Drop, R: Wait>(
     requires room { desk.old.held + 3 < allowance_of desk.old }
     ensures carries { Carries domain.now desk.new pile.new }
     ensures others { KeepsOthers desk.old pile.old.endings.items desk.new pile.new.endings.items }
+    ensures order { EndsInOrder desk.old pile.old.endings.items desk.new pile.new.endings.items }
     ensures none { pile.new.endings.items ≡ [] }
     ensures bag { bag_of desk.new ≡ bag_of desk.old }
     ensures held { desk.new.held ≡ desk.old.held }
@@ -114,6 +117,7 @@ fn visit<V: Drop, R: Wait>(
     requires room { desk.old.held + 3 < allowance_of desk.old }
     ensures carries { Carries domain.now desk.new pile.new }
     ensures others { KeepsOthers desk.old pile.old.endings.items desk.new pile.new.endings.items }
+    ensures order { EndsInOrder desk.old pile.old.endings.items desk.new pile.new.endings.items }
     ensures none { pile.new.endings.items ≡ [] }
     ensures desk { IsSameDesk desk.old desk.new }
     ensures bag { (base : List Handle) → HasHands base (node ∷ []) desk.old → HandsVisited base result desk.new }
@@ -155,6 +159,7 @@ pub(crate) fn walk<V: Drop, R: Wait, F: FnMut(u64)>(
     requires callable { F.IsAlwaysCallable tell }
     ensures carries { Carries domain.now desk.new pile.new }
     ensures others { KeepsOthers desk.old pile.old.endings.items desk.new pile.new.endings.items }
+    ensures order { EndsInOrder desk.old pile.old.endings.items desk.new pile.new.endings.items }
     ensures none { pile.new.endings.items ≡ [] }
     ensures desk { IsSameDesk desk.old desk.new }
     ensures bag { (base : List Handle) → HasHands base (first ∷ []) desk.old → HasHands base [] desk.new }

@@ -13,6 +13,7 @@ ghost use Rattle.scene_structures.specs.Hands.{HasHands, KeepsHeld, KeepsThese, 
 ghost use Rattle.scene_structures.specs.Leaves.{IsDetached};
 ghost use Rattle.scene_structures.specs.Parents.{IsNode, WhyNoNode};
 ghost use Rattle.scene_structures.specs.Others.{KeepsOthers};
+ghost use Rattle.scene_structures.specs.Orders.{EndsInOrder};
 
 use crate::lists::attaching::watch;
 use crate::lists::cutting::cut_child;
@@ -41,6 +42,7 @@ fn unlink<V: Drop, R: Wait>(
     requires room { desk.old.held + 2 < allowance_of desk.old }
     ensures carries { Carries domain.now desk.new pile.new }
     ensures others { KeepsOthers desk.old pile.old.endings.items desk.new pile.new.endings.items }
+    ensures order { EndsInOrder desk.old pile.old.endings.items desk.new pile.new.endings.items }
     ensures none { pile.new.endings.items ≡ [] }
     ensures desk { IsSameDesk desk.old desk.new }
     ensures bag { bag_of desk.new ≡ bag_of desk.old }
@@ -76,6 +78,7 @@ fn leave<V: Drop, R: Wait>(
     requires room { desk.old.held + 4 < allowance_of desk.old }
     ensures carries { Carries domain.now desk.new pile.new }
     ensures others { KeepsOthers desk.old pile.old.endings.items desk.new pile.new.endings.items }
+    ensures order { EndsInOrder desk.old pile.old.endings.items desk.new pile.new.endings.items }
     ensures none { pile.new.endings.items ≡ [] }
     ensures desk { IsSameDesk desk.old desk.new }
     ensures bag { (base : List Handle) → HasHands base (parent ∷ []) desk.old → HasHands base [] desk.new }
@@ -112,6 +115,7 @@ impl<V: Drop> Scene<V> {
         ensures refused { IfErr result (λ _. (desk.new ≡ desk.old) × (self.new ≡ self.old)) }
         ensures carries { Carries domain.now desk.new self.new }
         ensures others { KeepsOthers desk.old self.old.endings.items desk.new self.new.endings.items }
+        ensures order { OnOk result (EndsInOrder desk.old self.old.endings.items desk.new self.new.endings.items) }
         ensures none { OnOk result (self.new.endings.items ≡ []) }
         ensures desk { IsSameDesk desk.old desk.new }
         ensures bag { bag_of desk.new ≡ bag_of desk.old }

@@ -1,12 +1,13 @@
 //! Owners that leave, with all that ends by that.
-ghost use Rattle.std.specs.Prelude.{◌≡◌, ◌+◌, []};
+ghost use Rattle.std.specs.Prelude.{◌≡◌, ◌+◌, List, []};
 ghost use Rattle.control_word.specs.declared.model.handle.Kind.TheVariants.{Owner};
 ghost use Rattle.control_block.specs.Desks.{IsSameDesk, bag_of};
 ghost use Rattle.control_block.specs.Own.{Does};
 ghost use Rattle.control_block.specs.CellCalls.{HoldsHandle, without_handle};
-ghost use Rattle.shared_handle.specs.Piles.{Carries, IsParting};
+ghost use Rattle.shared_handle.specs.Piles.{AreRounds, Carries, IsParting, Past};
 ghost use Rattle.scene_structures.specs.Hands.{KeepsHeld};
 ghost use Rattle.scene_structures.specs.Others.{KeepsOthers};
+ghost use Rattle.scene_structures.specs.Orders.{EndsInOrder};
 
 use control_block::desk::Desk;
 use control_block::domain::Domain;
@@ -18,6 +19,8 @@ fn settle<V: Drop, R: Wait>(rt: &R, domain: &Domain<V>, desk: &mut Desk<V>, pile
     requires carries { Carries domain.now desk.old pile.old }
     ensures carries { Carries domain.now desk.new pile.new }
     ensures others { KeepsOthers desk.old pile.old.endings.items desk.new pile.new.endings.items }
+    ensures rounds { (rs : List (Past V)) × AreRounds desk.old pile.old.endings.items rs desk.new
+        pile.new.endings.items }
     ensures none { pile.new.endings.items ≡ [] }
     ensures bag { bag_of desk.new ≡ bag_of desk.old }
     ensures held { desk.new.held ≡ desk.old.held }
@@ -47,6 +50,7 @@ pub(crate) fn let_go<V: Drop, R: Wait>(
     requires holds { HoldsHandle desk.old Owner owner.block owner.place }
     ensures carries { Carries domain.now desk.new pile.new }
     ensures others { KeepsOthers desk.old pile.old.endings.items desk.new pile.new.endings.items }
+    ensures order { EndsInOrder desk.old pile.old.endings.items desk.new pile.new.endings.items }
     ensures none { pile.new.endings.items ≡ [] }
     ensures bag { bag_of desk.new ≡ without_handle Owner owner.block owner.place (bag_of desk.old) }
     ensures held { desk.new.held + 1 ≡ desk.old.held }

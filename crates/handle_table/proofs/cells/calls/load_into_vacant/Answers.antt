@@ -27,6 +27,6 @@ returns-clause-loaded g c = λ _.
         fits = fits_more d m c.args.slots.now.items h c.requires.fits e.bag e.held;
         bears = λ domain p w. kept domain d m p w e.keeps;
       };
-      vacant = c.is_vacant.ensures c.if-not-is_vacant.false;
+      vacant = c.is_vacant.ensures.vacant c.if-not-is_vacant.false;
       slots = c.fill.ensures;
     }

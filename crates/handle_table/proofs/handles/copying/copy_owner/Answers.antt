@@ -14,7 +14,7 @@ pub share-copied-requires-clause-holds : goal.share-copied-requires-clause-holds
 share-copied-requires-clause-holds g c =
     let d = c.args.desk.now in let n = c.in-Some.number in let p = c.in-Some.place in let e = c.of_parts-owner.ensures in
     subst (λ (x : Shared). HoldsHandle d Owner x.block x.place) (sym (same_owner c.of_parts-owner.result (owner_parts n p) e.0 e.1))
-    (fits_at d c.args.slots.now.items c.args.from (owner_in n p) c.requires.fits c.in-Some.ensures.1)
+    (fits_at d c.args.slots.now.items c.args.from (owner_in n p) c.requires.fits c.in-Some.ensures.owned.1)
 
 pub returns-clause-copied : goal.returns-clause-copied
 returns-clause-copied g c = λ _.
@@ -29,7 +29,7 @@ returns-clause-copied g c = λ _.
         room = λ full. absurd (cc (e.limit.1 full));
         comes = (
           owner_in n p,
-          c.in-Some.ensures.1,
+          c.in-Some.ensures.owned.1,
           record {
             owner = owner_parts n p;
             is = refl;
@@ -39,6 +39,6 @@ returns-clause-copied g c = λ _.
         fits = fits_more d m ss (owner_in n p) c.requires.fits bag e.held;
         bears = λ domain q w. kept domain d m q w e.keeps;
       };
-      vacant = c.is_vacant.ensures (none_full c.is_vacant.result c.is_full.result c.if-is_vacant-is_full.false);
+      vacant = c.is_vacant.ensures.vacant (none_full c.is_vacant.result c.is_full.result c.if-is_vacant-is_full.false);
       slots = c.lay.ensures;
     }

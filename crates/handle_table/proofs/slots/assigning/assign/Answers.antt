@@ -7,4 +7,4 @@ pub returns-then-is_vacant-clause-fits : goal.returns-then-is_vacant-clause-fits
 returns-then-is_vacant-clause-fits g c =
     subst (FitsSlots c.args.desk.now) (sym c.fill.ensures)
     (fits_none c.args.desk.now _
-    (fits_swap c.args.desk.now c.args.slots.now.items c.args.to (Some c.args.handle) None c.requires.fits (c.is_vacant.ensures c.if-is_vacant.true)))
+    (fits_swap c.args.desk.now c.args.slots.now.items c.args.to (Some c.args.handle) None c.requires.fits (c.is_vacant.ensures.vacant c.if-is_vacant.true)))

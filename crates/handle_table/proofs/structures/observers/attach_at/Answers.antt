@@ -32,4 +32,4 @@ returns-in-Err-attached-clause-fits g c =
 pub returns-in-Ok-attached-clause-attached : goal.returns-in-Ok-attached-clause-attached
 returns-in-Ok-attached-clause-attached g c =
     let e = c.in-Ok-attached.ensures in
-    record { of = c.in-Ok.owner; at = c.in-Ok.ensures.found; room = e.refusals.0; done = (e.own, e.list) }
+    record { of = c.in-Ok.owner; at = c.in-Ok.ensures.found; room = e.refusals.0; done = (e.own, e.list); order = e.order }

@@ -1,6 +1,7 @@
 use Rattle.std.proofs.Common.{◌∙◌, arith, inl, inr, refl, subst, sym}
 use Rattle.control_block.specs.declared.handles.Held.TheVariants.{Owner}
 use Rattle.scene_structures.specs.Stacks.{ServesDomain}
+use Rattle.scene_structures.proofs.Orders.{order_clear}
 use Rattle.handle_table.proofs.Filling.{fits_at, fits_more}
 use Rattle.handle_table.proofs.Structured.{bears_beside, far_below, scene_serves, serves_carries}
 use Rattle.handle_table.proofs.structures.scene.child_of.Goals as goal
@@ -25,7 +26,11 @@ returns-in-Ok-added-clause-brought g c =
     record {
       there = omega arith;
       room = far_below d e.may.0;
-      comes = (c.in-Ok.owner, c.in-Ok.ensures.found, (e.may, record { owner = k; is = refl; event = (e.own, e.tree) }));
+      comes = (
+        c.in-Ok.owner,
+        c.in-Ok.ensures.found,
+        (e.may, record { owner = k; is = refl; event = (e.own, e.tree, order_clear d m _ _ c.requires.serves.none e.none e.order) }),
+      );
       fits = fits_more d m c.args.slots.now.items (Owner k) c.requires.fits e.bag e.held;
       bears = λ domain p w. bears_beside domain d m p c.args.scene.now c.add_child-added.new.self w e.desk c.requires.serves.none e.none e.others;
     }

@@ -33,7 +33,7 @@ returns-clause-attached g c =
       of = a.of;
       at = subst (λ (t : TableNow g.row.V.Denot). IsAt t c.args.subject (Owner a.of)) c.self.view_is a.at;
       attaches = desk_does (λ n x f. Attaches x (Free n) a.of c.args.value f × (IsSole x → IsAttached x (Free n) a.of f))
-          (seen d ss p) c.args.self.now (seen m ss p) c.observers.inside.observers c.args.observers.now a.room a.done refl refl
+          (seen d ss p) c.args.self.now (seen m ss p) c.observers.inside.observers c.args.observers.now a.room a.done a.order refl refl
           c.self.view_is c.observers.view_is;
     }) c.attach_at.ensures.attached
 

@@ -1,6 +1,7 @@
 use Rattle.std.proofs.Common.{◌∙◌, ap, inl, inr, refl, subst}
 use Rattle.control_block.specs.Desks.{DeskNow}
 use Rattle.control_block.specs.declared.handles.Held.TheVariants.{Owner}
+use Rattle.scene_structures.proofs.Orders.{order_clear}
 use Rattle.handle_table.specs.Structures.{DetachesNode, WhyNotDetached}
 use Rattle.handle_table.specs.Tables.{TableNow}
 use Rattle.handle_table.specs.declared.fault.Fault.TheVariants as fault
@@ -20,14 +21,20 @@ detach-detached-requires-clause-holds g c =
 
 pub returns-in-Ok-detached-clause-detached : goal.returns-in-Ok-detached-clause-detached
 returns-in-Ok-detached-clause-detached g c =
-    let e = c.in-Ok-detached.ensures in
+    let e = c.in-Ok-detached.ensures in let d = c.self.inside.desk in let m = c.detach-detached.new.desk in
     subst (λ (t : TableNow g.row.V.Denot). DetachesNode t c.args.node (seen c.detach-detached.new.desk c.self.inside.slots.items c.self.inside.pile))
     c.self.view_is
     record {
       of = c.in-Ok.owner;
       at = c.in-Ok.ensures.found;
       may = e.may;
-      detaches = record { room = e.may.0; done = (e.own, e.tree); slots = refl; endings = refl };
+      detaches = record {
+        room = e.may.0;
+        done = (e.own, e.tree);
+        order = order_clear d m _ _ c.scene.invariant.none e.none e.order;
+        slots = refl;
+        endings = refl;
+      };
     }
 
 pub returns-in-Err-clause-refused : goal.returns-in-Err-clause-refused

@@ -20,7 +20,8 @@ returns-in-Ok-clause-told g c =
       w.0,
       desk_does (λ n d f. WalksOver d (Free n) w.0 f × (IsSole d → IsToldList d (Free n) w.0 f))
           (seen c.self.inside.desk ss c.self.inside.pile) c.args.self.now (seen c.each.new.desk ss c.self.inside.pile)
-          c.observers.inside.observers c.args.observers.now (λ near. absurd (cc (e.limit.1 near))) (w.1, w.3) refl refl c.self.view_is c.observers.view_is,
+          c.observers.inside.observers c.args.observers.now (λ near. absurd (cc (e.limit.1 near))) (w.1, w.3) e.order refl refl
+          c.self.view_is c.observers.view_is,
       w.2,
     )
 

@@ -46,7 +46,7 @@ returns-in-None-clause-popped g c =
       at_none (FindsNone d at m) (λ (h : Shared). TakesNode d at h m) c.in-Ok.top c.in-None.is e.own,
       λ sole. at_none (IsEmptyList d at m) (λ (h : Shared). IsPopped d at h m) c.in-Ok.top c.in-None.is (e.list sole),
     )
-    refl refl c.self.view_is c.stack.view_is
+    e.order refl refl c.self.view_is c.stack.view_is
 
 pub returns-clause-popped : goal.returns-clause-popped
 returns-clause-popped g c =
@@ -65,6 +65,7 @@ returns-clause-popped g c =
           event = (
             at_some (FindsNone d at m) (λ (k : Shared). TakesNode d at k m) c.in-Ok.top h c.in-Some.is e.own,
             λ sole. at_some (IsEmptyList d at m) (λ (k : Shared). IsPopped d at k m) c.in-Ok.top h c.in-Some.is (e.list sole),
+            e.order,
           );
         };
         assigns = c.assign.ensures.assigns;

@@ -19,7 +19,7 @@ returns-in-Ok-clause-pruned g c =
     desk_does (λ k d f. (many : ℕ) × (count ≡ many % 2 ^ 32) × ((kept : List ℕ) × Prunes d (Free k) kept many None f)
     × IsPruned d (Free k) count f)
     (seen c.self.inside.desk ss c.self.inside.pile) c.args.self.now (seen c.prune.new.desk ss c.self.inside.pile)
-    c.observers.inside.observers c.args.observers.now (λ near. absurd (cc (e.limit.1 near))) e.own refl refl c.self.view_is c.observers.view_is
+    c.observers.inside.observers c.args.observers.now (λ near. absurd (cc (e.limit.1 near))) e.own e.order refl refl c.self.view_is c.observers.view_is
 
 pub prune-requires-clause-stands : goal.prune-requires-clause-stands
 prune-requires-clause-stands g c =

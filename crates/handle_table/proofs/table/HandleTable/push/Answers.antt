@@ -19,7 +19,7 @@ returns-in-Ok-clause-pushed g c =
     let e = c.in-Ok.ensures in let ss = c.self.inside.slots.items in
     desk_does (λ n d f. Pushes d (Free n) c.args.fields c.args.value f × (IsSole d → IsPushed d (Free n) f))
     (seen c.self.inside.desk ss c.self.inside.pile) c.args.self.now (seen c.push.new.desk ss c.self.inside.pile)
-    c.stack.inside.stack c.args.stack.now e.refusals.0 (e.own, e.list) refl refl c.self.view_is c.stack.view_is
+    c.stack.inside.stack c.args.stack.now e.refusals.0 (e.own, e.list) e.order refl refl c.self.view_is c.stack.view_is
 
 pub push-requires-clause-stands : goal.push-requires-clause-stands
 push-requires-clause-stands g c =

@@ -1,4 +1,5 @@
 use Rattle.scene_structures.proofs.Watches.{endings_both, watched_latest, watches}
+use Rattle.scene_structures.proofs.Orders.{still_hung}
 use Rattle.scene_structures.proofs.lists.attaching.watch.Goals as goal
 
 pub returns-clause-own : goal.returns-clause-own
@@ -17,3 +18,9 @@ pub returns-clause-endings : goal.returns-clause-endings
 returns-clause-endings g c =
     let d = c.args.desk.now in let m = c.downgrade.new.desk in let x = c.exchange-old in let r = c.release_weak in
     endings_both d x.new.desk r.new.desk (endings_both d m x.new.desk c.in-Ok.ensures.keeps.endings x.ensures.keeps.endings) r.ensures.endings
+
+pub returns-clause-still : goal.returns-clause-still
+returns-clause-still g c =
+    let x = c.exchange-old in let r = c.release_weak in
+    still_hung c.args.desk.now c.downgrade.new.desk x.new.desk r.new.desk c.args.subject.now.block x.result.block _ x.result.place r.ensures.event.0 _
+    c.in-Ok.ensures.event x.ensures.event tt r.ensures.event.1

@@ -13,6 +13,7 @@ use Rattle.scene_structures.proofs.Sites.{cell_these, open_same, these_both}
 use Rattle.scene_structures.proofs.Others.{others_both, others_none}
 use Rattle.std.proofs.Common.{arith}
 use Rattle.scene_structures.proofs.Kept.{same_then, held_from}
+use Rattle.scene_structures.proofs.Orders.{order_both, order_none}
 use Rattle.scene_structures.proofs.lists.cutting.cut.Goals as goal
 
 pub loop-init : goal.loop-init
@@ -20,6 +21,7 @@ loop-init g c =
     record {
       carries = c.requires.carries;
       others = others_none c.args.desk.now c.args.pile.now.endings.items;
+      order = order_none c.args.desk.now c.args.pile.now.endings.items;
       none = c.requires.empty;
       held = refl;
       same = same_desk c.args.desk.now;
@@ -39,6 +41,7 @@ loop-preserved g c =
     record {
       carries = e.carries;
       others = others_both i.others e.others;
+      order = order_both i.order e.order;
       none = e.none;
       held = e.held ∙ i.held;
       same = same_both d l t i.same e.desk;
@@ -60,6 +63,9 @@ returns-in-Some-try_cut-clause-own g c =
 
 pub returns-in-Some-try_cut-clause-others : goal.returns-in-Some-try_cut-clause-others
 returns-in-Some-try_cut-clause-others g c = others_both c.loop.invariant.others c.try_cut.ensures.others
+
+pub returns-in-Some-try_cut-clause-order : goal.returns-in-Some-try_cut-clause-order
+returns-in-Some-try_cut-clause-order g c = order_both c.loop.invariant.order c.try_cut.ensures.order
 
 pub try_cut-requires-clause-room : goal.try_cut-requires-clause-room
 try_cut-requires-clause-room g c =

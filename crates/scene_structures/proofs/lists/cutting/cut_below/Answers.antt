@@ -14,6 +14,7 @@ use Rattle.scene_structures.proofs.Pushes.{same_left}
 use Rattle.scene_structures.proofs.Others.{others_both, others_none}
 use Rattle.scene_structures.proofs.Kept.{same_then}
 use Rattle.scene_structures.proofs.Looks.{no_member}
+use Rattle.scene_structures.proofs.Orders.{order_both, order_none}
 use Rattle.scene_structures.proofs.lists.cutting.cut_below.Goals as goal
 
 pub loop-init : goal.loop-init
@@ -21,6 +22,7 @@ loop-init g c =
     record {
       carries = c.requires.carries;
       others = others_none c.args.desk.now c.args.pile.now.endings.items;
+      order = order_none c.args.desk.now c.args.pile.now.endings.items;
       none = c.requires.empty;
       held = refl;
       same = same_desk c.args.desk.now;
@@ -112,6 +114,7 @@ loop-preserved g c =
     record {
       carries = c.let_go.ensures.carries;
       others = others_both i.others (others_both m.ensures.others c.let_go.ensures.others);
+      order = order_both i.order (order_both m.ensures.order c.let_go.ensures.order);
       none = c.let_go.ensures.none;
       held = let x : t.held ≡ l.held + 1 = subst (λ (s : Sought). HeldSought l s t) is m.ensures.held in let y = c.let_go.ensures.held in
           let z = i.held in omega arith;
@@ -133,8 +136,14 @@ loop-preserved g c =
 pub returns-in-Cut-clause-others : goal.returns-in-Cut-clause-others
 returns-in-Cut-clause-others g c = others_both c.loop.invariant.others (others_both c.cut-sought.ensures.others c.let_go.ensures.others)
 
+pub returns-in-Cut-clause-order : goal.returns-in-Cut-clause-order
+returns-in-Cut-clause-order g c = order_both c.loop.invariant.order (order_both c.cut-sought.ensures.order c.let_go.ensures.order)
+
 pub returns-in-End-clause-others : goal.returns-in-End-clause-others
 returns-in-End-clause-others g c = others_both c.loop.invariant.others (others_both c.cut-sought.ensures.others c.let_go.ensures.others)
+
+pub returns-in-End-clause-order : goal.returns-in-End-clause-order
+returns-in-End-clause-order g c = order_both c.loop.invariant.order (order_both c.cut-sought.ensures.order c.let_go.ensures.order)
 
 pub cut-sought-requires-clause-room : goal.cut-sought-requires-clause-room
 cut-sought-requires-clause-room g c =

@@ -12,6 +12,7 @@ use Rattle.scene_structures.proofs.Kept.{same_then, open_listed}
 use Rattle.scene_structures.proofs.Sites.{these_both}
 use Rattle.scene_structures.specs.Stacks.{FindsNone}
 use Rattle.scene_structures.specs.Detaches.{CutsOut}
+use Rattle.scene_structures.proofs.Orders.{order_both}
 use Rattle.scene_structures.proofs.lists.cutting.cut_child.Goals as goal
 
 pub returns-in-Other-clause-own : goal.returns-in-Other-clause-own
@@ -26,6 +27,9 @@ returns-in-Other-clause-own g c =
 
 pub returns-in-Other-clause-others : goal.returns-in-Other-clause-others
 returns-in-Other-clause-others g c = others_both c.cut.ensures.others c.cut_below.ensures.others
+
+pub returns-in-Other-clause-order : goal.returns-in-Other-clause-order
+returns-in-Other-clause-order g c = order_both c.cut.ensures.order c.cut_below.ensures.order
 
 pub cut-requires-clause-bag : goal.cut-requires-clause-bag
 cut-requires-clause-bag g c =
@@ -67,6 +71,9 @@ returns-in-Cut-clause-latest g c base has = c.in-Cut.ensures.latest base has
 pub returns-in-Cut-clause-others : goal.returns-in-Cut-clause-others
 returns-in-Cut-clause-others g c = c.in-Cut.ensures.others
 
+pub returns-in-Cut-clause-order : goal.returns-in-Cut-clause-order
+returns-in-Cut-clause-order g c = c.in-Cut.ensures.order
+
 pub returns-in-Cut-clause-own : goal.returns-in-Cut-clause-own
 returns-in-Cut-clause-own g c =
     let d = c.args.desk.now in let m = c.cut.new.desk in let o = object_of (node_in d c.args.node.now) in
@@ -77,6 +84,9 @@ returns-in-End-clause-latest g c base has = c.in-End.ensures.latest base has
 
 pub returns-in-End-clause-others : goal.returns-in-End-clause-others
 returns-in-End-clause-others g c = c.in-End.ensures.others
+
+pub returns-in-End-clause-order : goal.returns-in-End-clause-order
+returns-in-End-clause-order g c = c.in-End.ensures.order
 
 pub returns-in-End-clause-own : goal.returns-in-End-clause-own
 returns-in-End-clause-own g c =

@@ -9,6 +9,7 @@ use Rattle.scene_structures.proofs.Others.{others_both, others_call}
 use Rattle.std.proofs.Common.{refl, arith}
 use Rattle.scene_structures.proofs.Kept.{same_call, same_then, carries_call, granted}
 use Rattle.scene_structures.proofs.Sites.{open_now}
+use Rattle.scene_structures.proofs.Orders.{order_both, order_event}
 use Rattle.scene_structures.proofs.lists.cutting.find.Goals as goal
 
 pub returns-in_default-member-clause-latest : goal.returns-in_default-member-clause-latest
@@ -31,8 +32,14 @@ returns-clause-latest g c base has =
 pub returns-in_default-member-clause-others : goal.returns-in_default-member-clause-others
 returns-in_default-member-clause-others g c = others_both (others_call _ c.in-Ok.ensures.keeps) c.let_go.ensures.others
 
+pub returns-in_default-member-clause-order : goal.returns-in_default-member-clause-order
+returns-in_default-member-clause-order g c = order_both (order_event c.args.desk.now c.load.new.desk _ _ c.in-Ok.ensures.event tt) c.let_go.ensures.order
+
 pub returns-clause-others : goal.returns-clause-others
 returns-clause-others g c = others_call _ c.in-Ok.ensures.keeps
+
+pub returns-clause-order : goal.returns-clause-order
+returns-clause-order g c = order_event c.args.desk.now c.load.new.desk _ _ c.in-Ok.ensures.event tt
 
 pub load-requires-clause-cell : goal.load-requires-clause-cell
 load-requires-clause-cell g c =

@@ -22,6 +22,7 @@ use Rattle.scene_structures.proofs.Pruned.{hands_below, open_next}
 use Rattle.scene_structures.proofs.Looks.{no_member}
 use Rattle.scene_structures.specs.Hands.{stacked}
 use Rattle.control_block.specs.CellCalls.{HoldsHandle}
+use Rattle.scene_structures.proofs.Orders.{order_both, order_event}
 use Rattle.scene_structures.proofs.lists.cutting.skip.Goals as goal
 
 pub compare_exchange_weak-requires-clause-cell : goal.compare_exchange_weak-requires-clause-cell
@@ -118,12 +119,25 @@ returns-in-Ok-Swapped-clause-others g c =
     (others_both (others_call _ c.in-Ok-Swapped.ensures.keeps)
     (others_both c.let_go.ensures.others c.let_go-in-Ok-Swapped.ensures.others))
 
+pub returns-in-Ok-Swapped-clause-order : goal.returns-in-Ok-Swapped-clause-order
+returns-in-Ok-Swapped-clause-order g c =
+    order_both (order_event c.args.desk.now c.load.new.desk _ _ c.in-Ok-load.ensures.event tt)
+    (order_both (order_event c.load.new.desk c.compare_exchange_weak.new.desk _ _ c.in-Ok-Swapped.ensures.compared tt)
+    (order_both c.let_go.ensures.order c.let_go-in-Ok-Swapped.ensures.order))
+
 pub returns-in-Ok-Differs-clause-others : goal.returns-in-Ok-Differs-clause-others
 returns-in-Ok-Differs-clause-others g c =
     others_both (others_call _ c.in-Ok-load.ensures.keeps)
     (others_both (others_call _ c.in-Ok-Differs.ensures.keeps)
     (others_both c.let_go-in-Ok-Differs.ensures.others
     (others_both c.let_go-in-Ok-Differs-2.ensures.others c.let_go-in-Ok-Differs-3.ensures.others)))
+
+pub returns-in-Ok-Differs-clause-order : goal.returns-in-Ok-Differs-clause-order
+returns-in-Ok-Differs-clause-order g c =
+    order_both (order_event c.args.desk.now c.load.new.desk _ _ c.in-Ok-load.ensures.event tt)
+    (order_both (order_event c.load.new.desk c.compare_exchange_weak.new.desk _ _ c.in-Ok-Differs.ensures.compared tt)
+    (order_both c.let_go-in-Ok-Differs.ensures.order
+    (order_both c.let_go-in-Ok-Differs-2.ensures.order c.let_go-in-Ok-Differs-3.ensures.order)))
 
 pub compare_exchange_weak-requires-clause-holds : goal.compare_exchange_weak-requires-clause-holds
 compare_exchange_weak-requires-clause-holds g c =

@@ -14,6 +14,7 @@ use Rattle.scene_structures.proofs.Others.{others_both}
 use Rattle.std.proofs.Common.{arith}
 use Rattle.scene_structures.proofs.Kept.{same_then}
 use Rattle.scene_structures.proofs.Sites.{open_same, these_both}
+use Rattle.scene_structures.proofs.Orders.{order_both}
 use Rattle.scene_structures.proofs.lists.cutting.try_cut.Goals as goal
 
 pub returns-then-not-is_same-clause-own : goal.returns-then-not-is_same-clause-own
@@ -46,8 +47,14 @@ returns-else-skip-clause-own g c =
 pub returns-then-skip-clause-others : goal.returns-then-skip-clause-others
 returns-then-skip-clause-others g c = others_both c.find.ensures.others c.skip.ensures.others
 
+pub returns-then-skip-clause-order : goal.returns-then-skip-clause-order
+returns-then-skip-clause-order g c = order_both c.find.ensures.order c.skip.ensures.order
+
 pub returns-else-skip-clause-others : goal.returns-else-skip-clause-others
 returns-else-skip-clause-others g c = others_both c.find.ensures.others c.skip.ensures.others
+
+pub returns-else-skip-clause-order : goal.returns-else-skip-clause-order
+returns-else-skip-clause-order g c = order_both c.find.ensures.order c.skip.ensures.order
 
 pub skip-requires-clause-bag : goal.skip-requires-clause-bag
 skip-requires-clause-bag g c =

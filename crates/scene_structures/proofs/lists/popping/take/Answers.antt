@@ -5,6 +5,7 @@ use Rattle.std.proofs.Common.{◌<◌}
 use Rattle.control_word.specs.declared.shape.Shape.{Shape}
 use Rattle.std.proofs.Common.{sym, subst, arith}
 use Rattle.scene_structures.proofs.Kept.{same_then}
+use Rattle.scene_structures.proofs.Orders.{order_both, order_none}
 use Rattle.scene_structures.proofs.lists.popping.take.Goals as goal
 
 pub loop-init : goal.loop-init
@@ -12,6 +13,7 @@ loop-init g c =
     record {
       carries = c.requires.carries;
       others = others_none c.args.desk.now c.args.pile.now.endings.items;
+      order = order_none c.args.desk.now c.args.pile.now.endings.items;
       none = c.requires.empty;
       held = refl;
       same = same_desk c.args.desk.now;
@@ -25,6 +27,7 @@ loop-preserved g c =
     record {
       carries = e.carries;
       others = others_both i.others e.others;
+      order = order_both i.order e.order;
       none = e.none;
       held = e.held ∙ i.held;
       same = same_both c.args.desk.now c.loop.desk t.new.desk i.same e.desk;
@@ -55,6 +58,7 @@ returns-in-Found g c =
     record {
       carries = e.carries;
       others = others_both i.others e.others;
+      order = order_both i.order e.order;
       none = e.none;
       desk = same_then i.same e.desk;
       bag = λ base has. e.bag base (i.bag base has);
@@ -68,6 +72,7 @@ returns-in-Took g c =
     record {
       carries = e.carries;
       others = others_both i.others e.others;
+      order = order_both i.order e.order;
       none = e.none;
       desk = same_then i.same e.desk;
       bag = λ base has. e.bag base (i.bag base has);

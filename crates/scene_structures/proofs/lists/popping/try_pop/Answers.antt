@@ -23,6 +23,7 @@ use Rattle.scene_structures.proofs.Hands.{holds_first}
 use Rattle.control_block.specs.CellCalls.{HoldsHandle}
 use Rattle.atomic_cells.specs.Sites.{IsOpenSite}
 use Rattle.control_word.specs.declared.shape.Shape.{Shape}
+use Rattle.scene_structures.proofs.Orders.{order_both, order_event}
 use Rattle.scene_structures.proofs.lists.popping.try_pop.Goals as goal
 
 pub returns-in_default-clause-own : goal.returns-in_default-clause-own
@@ -95,11 +96,22 @@ returns-in-Ok-Swapped-clause-others g c =
     others_both (others_call _ c.in-Ok-load.ensures.keeps)
     (others_both (others_call _ c.in-Ok-Swapped.ensures.keeps) c.let_go-in-Ok-Swapped.ensures.others)
 
+pub returns-in-Ok-Swapped-clause-order : goal.returns-in-Ok-Swapped-clause-order
+returns-in-Ok-Swapped-clause-order g c =
+    order_both (order_event c.args.desk.now c.load.new.desk _ _ c.in-Ok-load.ensures.event tt)
+    (order_both (order_event c.load.new.desk c.compare_exchange_weak.new.desk _ _ c.in-Ok-Swapped.ensures.compared tt) c.let_go-in-Ok-Swapped.ensures.order)
+
 pub returns-in-Ok-Differs-clause-others : goal.returns-in-Ok-Differs-clause-others
 returns-in-Ok-Differs-clause-others g c =
     others_both (others_call _ c.in-Ok-load.ensures.keeps)
     (others_both (others_call _ c.in-Ok-Differs.ensures.keeps)
     (others_both c.let_go-in-Ok-Differs.ensures.others c.let_go-in-Ok-Differs-2.ensures.others))
+
+pub returns-in-Ok-Differs-clause-order : goal.returns-in-Ok-Differs-clause-order
+returns-in-Ok-Differs-clause-order g c =
+    order_both (order_event c.args.desk.now c.load.new.desk _ _ c.in-Ok-load.ensures.event tt)
+    (order_both (order_event c.load.new.desk c.compare_exchange_weak.new.desk _ _ c.in-Ok-Differs.ensures.compared tt)
+    (order_both c.let_go-in-Ok-Differs.ensures.order c.let_go-in-Ok-Differs-2.ensures.order))
 
 pub load-requires-clause-cell : goal.load-requires-clause-cell
 load-requires-clause-cell g c =

@@ -11,6 +11,7 @@ use Rattle.scene_structures.proofs.Pruned.{Left, descends, hands_below, left_hol
 use Rattle.scene_structures.proofs.Others.{others_both, others_none}
 use Rattle.scene_structures.proofs.Kept.{same_then}
 use Rattle.scene_structures.proofs.Looks.{no_member}
+use Rattle.scene_structures.proofs.Orders.{order_both, order_none}
 use Rattle.scene_structures.proofs.lists.pruning.clear_below.Goals as goal
 
 pub loop-init : goal.loop-init
@@ -18,6 +19,7 @@ loop-init g c =
     record {
       carries = c.requires.carries;
       others = others_none c.args.desk.now c.args.pile.now.endings.items;
+      order = order_none c.args.desk.now c.args.pile.now.endings.items;
       none = c.requires.empty;
       held = refl;
       same = same_desk c.args.desk.now;
@@ -75,6 +77,7 @@ loop-preserved g c =
     record {
       carries = c.let_go.ensures.carries;
       others = others_both i.others (others_both m.ensures.others c.let_go.ensures.others);
+      order = order_both i.order (order_both m.ensures.order c.let_go.ensures.order);
       none = c.let_go.ensures.none;
       held = let x : t.held ≡ l.held + 1 = subst (λ (h : Option Shared). MatchOption h (t.held ≡ l.held) (λ k. t.held ≡ l.held + 1)) some'
           m.ensures.held in let y = c.let_go.ensures.held in let z = i.held in omega arith;
@@ -107,6 +110,9 @@ loop-preserved g c =
 
 pub returns-in-None-last-clause-others : goal.returns-in-None-last-clause-others
 returns-in-None-last-clause-others g c = others_both c.loop.invariant.others (others_both c.clear_front-more.ensures.others c.let_go.ensures.others)
+
+pub returns-in-None-last-clause-order : goal.returns-in-None-last-clause-order
+returns-in-None-last-clause-order g c = order_both c.loop.invariant.order (order_both c.clear_front-more.ensures.order c.let_go.ensures.order)
 
 pub clear_front-more-requires-clause-room : goal.clear_front-more-requires-clause-room
 clear_front-more-requires-clause-room g c =

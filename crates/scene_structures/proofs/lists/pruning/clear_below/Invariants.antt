@@ -5,6 +5,7 @@ use Rattle.control_block.specs.Desks.{DeskNow, IsSameDesk}
 use Rattle.shared_handle.specs.Endings.{IsWithin}
 use Rattle.shared_handle.specs.Piles.{Carries}
 use Rattle.scene_structures.specs.Others.{KeepsOthers}
+use Rattle.scene_structures.specs.Orders.{EndsInOrder}
 use Rattle.scene_structures.specs.Hands.{HasHands}
 use Rattle.scene_structures.specs.Prunes.{Prunes}
 use Rattle.scene_structures.proofs.lists.pruning.clear_below.Given as goal
@@ -13,6 +14,7 @@ abbrev pub invariant-loop : goal.invariant-loop
 invariant-loop g l = record {
   carries : Carries l.domain l.desk l.pile;
   others : KeepsOthers l.initial.desk l.initial.pile.endings.items l.desk l.pile.endings.items;
+  order : EndsInOrder l.initial.desk l.initial.pile.endings.items l.desk l.pile.endings.items;
   none : l.pile.endings.items ≡ [];
   held : l.desk.held ≡ l.initial.desk.held;
   same : IsSameDesk l.initial.desk l.desk;

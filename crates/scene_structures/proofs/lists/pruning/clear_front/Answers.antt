@@ -10,6 +10,7 @@ use Rattle.std.proofs.Common.{◌∙◌, false}
 use Rattle.scene_structures.proofs.Kept.{same_then}
 use Rattle.scene_structures.proofs.Sites.{open_same}
 use Rattle.scene_structures.specs.Stacks.{FindsNone}
+use Rattle.scene_structures.proofs.Orders.{order_both, order_none}
 use Rattle.scene_structures.proofs.lists.pruning.clear_front.Goals as goal
 
 pub loop-preserved : goal.loop-preserved
@@ -22,6 +23,7 @@ loop-preserved g c =
     record {
       carries = p.carries;
       others = others_both i.others (others_both c.look_in.ensures.others p.others);
+      order = order_both i.order (order_both c.look_in.ensures.order p.order);
       none = p.none;
       held = held;
       same = same_both d l e i.same (same_both l f e t.desk p.desk);
@@ -48,14 +50,21 @@ loop-preserved g c =
 pub returns-in-End-clause-others : goal.returns-in-End-clause-others
 returns-in-End-clause-others g c = others_both c.loop.invariant.others c.look_in.ensures.others
 
+pub returns-in-End-clause-order : goal.returns-in-End-clause-order
+returns-in-End-clause-order g c = order_both c.loop.invariant.order c.look_in.ensures.order
+
 pub returns-in-Stays-clause-others : goal.returns-in-Stays-clause-others
 returns-in-Stays-clause-others g c = others_both c.loop.invariant.others c.look_in.ensures.others
+
+pub returns-in-Stays-clause-order : goal.returns-in-Stays-clause-order
+returns-in-Stays-clause-order g c = order_both c.loop.invariant.order c.look_in.ensures.order
 
 pub loop-init : goal.loop-init
 loop-init g c =
     record {
       carries = c.requires.carries;
       others = others_none c.args.desk.now c.args.pile.now.endings.items;
+      order = order_none c.args.desk.now c.args.pile.now.endings.items;
       none = c.requires.empty;
       held = refl;
       same = same_desk c.args.desk.now;

@@ -8,6 +8,7 @@ use Rattle.scene_structures.proofs.Others.{others_both}
 use Rattle.std.proofs.Common.{◌≡◌, ◌∷◌, sym, None, MatchOption, IfSome}
 use Rattle.scene_structures.specs.Hands.{HasHands, IsOpenBy}
 use Rattle.shared_handle.specs.Endings.{IsWithin}
+use Rattle.scene_structures.proofs.Orders.{order_both}
 use Rattle.scene_structures.proofs.lists.pruning.clear_list.Goals as goal
 
 pub returns-in-Some-clause-own : goal.returns-in-Some-clause-own
@@ -21,6 +22,9 @@ returns-in-Some-clause-own g c =
 
 pub returns-in-Some-clause-others : goal.returns-in-Some-clause-others
 returns-in-Some-clause-others g c = others_both c.clear_front-count.ensures.others c.clear_below.ensures.others
+
+pub returns-in-Some-clause-order : goal.returns-in-Some-clause-order
+returns-in-Some-clause-order g c = order_both c.clear_front-count.ensures.order c.clear_below.ensures.order
 
 pub clear_front-count-requires-clause-bag : goal.clear_front-count-requires-clause-bag
 clear_front-count-requires-clause-bag g c =

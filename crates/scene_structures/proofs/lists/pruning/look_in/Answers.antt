@@ -11,6 +11,7 @@ use Rattle.scene_structures.proofs.Others.{others_both, others_call, others_kept
 use Rattle.std.proofs.Common.{◌∙◌, refl, arith}
 use Rattle.scene_structures.proofs.Kept.{same_call, same_then, carries_call, carries_over, granted, open_up}
 use Rattle.scene_structures.proofs.Sites.{open_now}
+use Rattle.scene_structures.proofs.Orders.{order_asked, order_both, order_event}
 use Rattle.scene_structures.proofs.lists.pruning.look_in.Goals as goal
 
 pub returns-in_default-member-clause-latest : goal.returns-in_default-member-clause-latest
@@ -59,15 +60,28 @@ returns-clause-own g c =
 pub returns-in_default-member-clause-others : goal.returns-in_default-member-clause-others
 returns-in_default-member-clause-others g c = others_both (others_call _ c.in-Ok.ensures.keeps) c.let_go.ensures.others
 
+pub returns-in_default-member-clause-order : goal.returns-in_default-member-clause-order
+returns-in_default-member-clause-order g c = order_both (order_event c.args.desk.now c.load.new.desk _ _ c.in-Ok.ensures.event tt) c.let_go.ensures.order
+
 pub returns-then-is_expired-clause-others : goal.returns-then-is_expired-clause-others
 returns-then-is_expired-clause-others g c =
     others_both (others_call _ c.in-Ok.ensures.keeps)
     (others_kept c.load.new.desk c.is_expired.new.desk _ c.is_expired.ensures.endings c.is_expired.ensures.count)
 
+pub returns-then-is_expired-clause-order : goal.returns-then-is_expired-clause-order
+returns-then-is_expired-clause-order g c =
+    order_both (order_event c.args.desk.now c.load.new.desk _ _ c.in-Ok.ensures.event tt)
+    (order_asked c.load.new.desk c.is_expired.new.desk _ c.is_expired.result _ c.is_expired.ensures.own)
+
 pub returns-clause-others : goal.returns-clause-others
 returns-clause-others g c =
     others_both (others_call _ c.in-Ok.ensures.keeps)
     (others_kept c.load.new.desk c.is_expired.new.desk _ c.is_expired.ensures.endings c.is_expired.ensures.count)
+
+pub returns-clause-order : goal.returns-clause-order
+returns-clause-order g c =
+    order_both (order_event c.args.desk.now c.load.new.desk _ _ c.in-Ok.ensures.event tt)
+    (order_asked c.load.new.desk c.is_expired.new.desk _ c.is_expired.result _ c.is_expired.ensures.own)
 
 pub load-requires-clause-cell : goal.load-requires-clause-cell
 load-requires-clause-cell g c =

@@ -14,6 +14,7 @@ use Rattle.scene_structures.proofs.Others.{others_both, others_call}
 use Rattle.std.proofs.Common.{arith}
 use Rattle.scene_structures.proofs.Kept.{same_call, same_then, carries_call, granted, open_held}
 use Rattle.scene_structures.proofs.Hands.{holds_first}
+use Rattle.scene_structures.proofs.Orders.{order_both, order_event}
 use Rattle.scene_structures.proofs.lists.pruning.pass.Goals as goal
 
 pub exchange-old-requires-clause-cell : goal.exchange-old-requires-clause-cell
@@ -59,6 +60,12 @@ returns-clause-others g c =
     others_both (others_call _ c.in-Ok-load.ensures.keeps)
     (others_both (others_call _ c.exchange-old.ensures.keeps)
     (others_both c.let_go.ensures.others c.let_go-2.ensures.others))
+
+pub returns-clause-order : goal.returns-clause-order
+returns-clause-order g c =
+    order_both (order_event c.args.desk.now c.load.new.desk _ _ c.in-Ok-load.ensures.event tt)
+    (order_both (order_event c.load.new.desk c.exchange-old.new.desk _ _ c.exchange-old.ensures.event tt)
+    (order_both c.let_go.ensures.order c.let_go-2.ensures.order))
 
 pub load-requires-clause-cell : goal.load-requires-clause-cell
 load-requires-clause-cell g c =

@@ -16,6 +16,7 @@ use Rattle.shared_handle.proofs.Piles.{same_both, same_desk}
 use Rattle.scene_structures.proofs.Others.{others_both, others_none}
 use Rattle.std.proofs.Common.{arith}
 use Rattle.scene_structures.proofs.Kept.{same_then}
+use Rattle.scene_structures.proofs.Orders.{order_both, order_none}
 use Rattle.scene_structures.proofs.lists.pushing.raise.Goals as goal
 
 pub loop-init : goal.loop-init
@@ -24,6 +25,7 @@ loop-init g c =
     record {
       carries = c.requires.carries;
       others = others_none c.args.desk.now c.args.pile.now.endings.items;
+      order = order_none c.args.desk.now c.args.pile.now.endings.items;
       node = (refl, refl);
       held = refl;
       latest = λ base has k p b in'. refl;
@@ -40,6 +42,7 @@ loop-preserved g c =
     record {
       carries = e.carries;
       others = others_both i.others e.others;
+      order = order_both i.order e.order;
       node = (e.node.0 ∙ i.node.0, subst (λ (n : Shared). SameNode l n f) i.node.0 e.node.1 ∙ i.node.1);
       held = e.held ∙ i.held;
       latest = λ base has. these_both d l f base (i.latest base has) (e.latest base (i.bag base has));
@@ -75,6 +78,9 @@ returns-in-None-try_push-clause-latest g c base has =
 
 pub returns-in-None-try_push-clause-others : goal.returns-in-None-try_push-clause-others
 returns-in-None-try_push-clause-others g c = others_both c.loop.invariant.others c.try_push.ensures.others
+
+pub returns-in-None-try_push-clause-order : goal.returns-in-None-try_push-clause-order
+returns-in-None-try_push-clause-order g c = order_both c.loop.invariant.order c.try_push.ensures.order
 
 pub try_push-requires-clause-room : goal.try_push-requires-clause-room
 try_push-requires-clause-room g c =

@@ -6,6 +6,7 @@ use Rattle.control_block.specs.Own.{Does}
 use Rattle.scene_structures.specs.Hands.{HasHands, KeepsThese, SameNode, node_in}
 use Rattle.shared_handle.specs.Piles.{Carries}
 use Rattle.scene_structures.specs.Others.{KeepsOthers}
+use Rattle.scene_structures.specs.Orders.{EndsInOrder}
 use Rattle.scene_structures.specs.Puts.{PutsOnly}
 use Rattle.scene_structures.specs.Stacks.{NextOf}
 use Rattle.scene_structures.proofs.lists.pushing.raise.Given as goal
@@ -14,6 +15,7 @@ abbrev pub invariant-loop : goal.invariant-loop
 invariant-loop g l = record {
   carries : Carries l.domain l.desk l.pile;
   others : KeepsOthers l.initial.desk l.initial.pile.endings.items l.desk l.pile.endings.items;
+  order : EndsInOrder l.initial.desk l.initial.pile.endings.items l.desk l.pile.endings.items;
   node : (l.attempt.node ≡ l.initial.attempt.node) × SameNode l.initial.desk l.initial.attempt.node l.desk;
   held : l.desk.held ≡ l.initial.desk.held;
   latest : (base : List Handle) → HasHands base (l.initial.attempt.top ∷ l.initial.attempt.node ∷ []) l.initial.desk

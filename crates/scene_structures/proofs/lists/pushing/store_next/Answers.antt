@@ -7,6 +7,7 @@ use Rattle.control_block.specs.CellCalls.{without_handle}
 use Rattle.control_word.specs.declared.model.handle.Kind.TheVariants.{Owner}
 use Rattle.control_block.specs.Desks.{bag_of}
 use Rattle.shared_handle.proofs.Callers.{first_out}
+use Rattle.scene_structures.proofs.Orders.{order_both, order_event}
 use Rattle.scene_structures.proofs.lists.pushing.store_next.Goals as goal
 
 pub let_go-requires-clause-carries : goal.let_go-requires-clause-carries
@@ -27,6 +28,9 @@ returns-clause-latest g c =
 
 pub returns-clause-others : goal.returns-clause-others
 returns-clause-others g c = others_both (others_call _ c.exchange-old.ensures.keeps) c.let_go.ensures.others
+
+pub returns-clause-order : goal.returns-clause-order
+returns-clause-order g c = order_both (order_event c.args.desk.now c.exchange-old.new.desk _ _ c.exchange-old.ensures.event tt) c.let_go.ensures.order
 
 pub exchange-old-requires-clause-cell : goal.exchange-old-requires-clause-cell
 exchange-old-requires-clause-cell g c =

@@ -23,6 +23,7 @@ use Rattle.scene_structures.proofs.Sites.{cell_these, open_now, these_after, the
 use Rattle.scene_structures.proofs.Others.{others_both, others_call}
 use Rattle.std.proofs.Common.{arith}
 use Rattle.scene_structures.proofs.Kept.{same_call, same_then, granted, unrefused}
+use Rattle.scene_structures.proofs.Orders.{order_both, order_event, order_shares}
 use Rattle.scene_structures.proofs.lists.pushing.try_push.Goals as goal
 
 pub share-requires-clause-holds : goal.share-requires-clause-holds
@@ -206,11 +207,27 @@ returns-in-Ok-Swapped-clause-others g c =
     (others_both (others_call _ c.in-Ok-Swapped.ensures.keeps)
     (others_both c.let_go.ensures.others c.let_go-in-Ok-Swapped.ensures.others)))
 
+pub returns-in-Ok-Swapped-clause-order : goal.returns-in-Ok-Swapped-clause-order
+returns-in-Ok-Swapped-clause-order g c =
+    let top = c.args.attempt.top in
+    order_both (order_shares c.args.desk.now c.share.new.desk top.block top.place top.place _ c.in-Ok.ensures.event)
+    (order_both c.store_next.ensures.order
+    (order_both (order_event c.store_next.new.desk c.compare_exchange_weak.new.desk _ _ c.in-Ok-Swapped.ensures.compared tt)
+    (order_both c.let_go.ensures.order c.let_go-in-Ok-Swapped.ensures.order)))
+
 pub returns-in-Ok-Differs-clause-others : goal.returns-in-Ok-Differs-clause-others
 returns-in-Ok-Differs-clause-others g c =
     others_both (others_call _ c.in-Ok.ensures.keeps)
     (others_both c.store_next.ensures.others
     (others_both (others_call _ c.in-Ok-Differs.ensures.keeps) c.let_go-in-Ok-Differs.ensures.others))
+
+pub returns-in-Ok-Differs-clause-order : goal.returns-in-Ok-Differs-clause-order
+returns-in-Ok-Differs-clause-order g c =
+    let top = c.args.attempt.top in
+    order_both (order_shares c.args.desk.now c.share.new.desk top.block top.place top.place _ c.in-Ok.ensures.event)
+    (order_both c.store_next.ensures.order
+    (order_both (order_event c.store_next.new.desk c.compare_exchange_weak.new.desk _ _ c.in-Ok-Differs.ensures.compared tt)
+    c.let_go-in-Ok-Differs.ensures.order))
 
 pub let_go-requires-clause-holds : goal.let_go-requires-clause-holds
 let_go-requires-clause-holds g c =

@@ -7,6 +7,7 @@ use Rattle.control_word.specs.declared.model.handle.Kind.TheVariants.{Owner, Wea
 use Rattle.control_block.specs.Desks.{bag_of}
 use Rattle.scene_structures.proofs.Rooms.{holds_still}
 use Rattle.shared_handle.proofs.Callers.{first_out}
+use Rattle.scene_structures.proofs.Orders.{order_both, order_event, order_locks, order_weak}
 use Rattle.scene_structures.proofs.lists.walking.ask.Goals as goal
 
 pub returns-clause-latest : goal.returns-clause-latest
@@ -29,6 +30,14 @@ returns-clause-others g c =
     (others_both (others_call _ c.in-Ok-lock.ensures.keeps)
     (others_both c.first_field-told.ensures.others
     (others_both c.let_go.ensures.others (others_kept c.let_go.new.desk r.new.desk _ r.ensures.endings r.ensures.count))))
+
+pub returns-clause-order : goal.returns-clause-order
+returns-clause-order g c =
+    let r = c.release_weak in
+    order_both (order_event c.args.desk.now c.load.new.desk _ _ c.in-Ok.ensures.event tt)
+    (order_both (order_locks c.load.new.desk c.lock.new.desk c.in-Ok.weak.block c.in-Ok.weak.place _ _ c.in-Ok-lock.ensures.lock)
+    (order_both c.first_field-told.ensures.order
+    (order_both c.let_go.ensures.order (order_weak c.let_go.new.desk r.new.desk c.in-Ok.weak.block c.in-Ok.weak.place r.ensures.event.0 _ r.ensures.event.1))))
 
 pub first_field-told-requires-clause-carries : goal.first_field-told-requires-clause-carries
 first_field-told-requires-clause-carries g c =

@@ -15,6 +15,7 @@ use Rattle.scene_structures.proofs.Kept.{same_call, same_then, carries_call, gra
 use Rattle.control_block.specs.CellCalls.{without_handle}
 use Rattle.scene_structures.proofs.Rooms.{holds_still}
 use Rattle.shared_handle.proofs.Callers.{first_out}
+use Rattle.scene_structures.proofs.Orders.{order_both, order_none, order_read, order_shares}
 use Rattle.scene_structures.proofs.lists.walking.first_field.Goals as goal
 
 pub returns-clause-latest : goal.returns-clause-latest
@@ -44,10 +45,18 @@ returns-clause-own g c =
 pub returns-in_default-clause-others : goal.returns-in_default-clause-others
 returns-in_default-clause-others g c = others_none c.args.desk.now c.args.pile.now.endings.items
 
+pub returns-in_default-clause-order : goal.returns-in_default-clause-order
+returns-in_default-clause-order g c = order_none c.args.desk.now c.args.pile.now.endings.items
+
 pub returns-clause-others : goal.returns-clause-others
 returns-clause-others g c =
     others_both (others_call _ c.in-Ok.ensures.keeps)
     (others_both (others_call _ c.in-Ok-read.ensures.keeps) c.let_go.ensures.others)
+
+pub returns-clause-order : goal.returns-clause-order
+returns-clause-order g c =
+    order_both (order_shares c.args.desk.now c.alias.new.desk c.args.owner.now.block c.args.owner.now.place _ _ c.in-Ok.ensures.event)
+    (order_both (order_read c.alias.new.desk c.read.new.desk _ _ c.read.result _ c.read.ensures.read) c.let_go.ensures.order)
 
 pub let_go-requires-clause-carries : goal.let_go-requires-clause-carries
 let_go-requires-clause-carries g c =

@@ -9,6 +9,7 @@ use Rattle.scene_structures.proofs.Kept.{same_call, same_then, carries_call, gra
 use Rattle.scene_structures.proofs.Hands.{hands_first}
 use Rattle.control_word.specs.declared.model.handle.Kind.TheVariants.{Owner}
 use Rattle.scene_structures.proofs.Rooms.{holds_more, holds_still}
+use Rattle.scene_structures.proofs.Orders.{order_both, order_event}
 use Rattle.scene_structures.proofs.lists.walking.visit.Goals as goal
 
 pub returns-in_default-clause-own : goal.returns-in_default-clause-own
@@ -46,10 +47,20 @@ returns-in-None-clause-others g c =
     others_both c.ask-told.ensures.others
     (others_both (others_call _ c.in-Ok-load.ensures.keeps) c.let_go-2.ensures.others)
 
+pub returns-in-None-clause-order : goal.returns-in-None-clause-order
+returns-in-None-clause-order g c =
+    order_both c.ask-told.ensures.order
+    (order_both (order_event c.ask-told.new.desk c.load.new.desk _ _ c.in-Ok-load.ensures.event tt) c.let_go-2.ensures.order)
+
 pub returns-in-Some-clause-others : goal.returns-in-Some-clause-others
 returns-in-Some-clause-others g c =
     others_both c.ask-told.ensures.others
     (others_both (others_call _ c.in-Ok-load.ensures.keeps) c.let_go-2.ensures.others)
+
+pub returns-in-Some-clause-order : goal.returns-in-Some-clause-order
+returns-in-Some-clause-order g c =
+    order_both c.ask-told.ensures.order
+    (order_both (order_event c.ask-told.new.desk c.load.new.desk _ _ c.in-Ok-load.ensures.event tt) c.let_go-2.ensures.order)
 
 pub ask-told-requires-clause-cell : goal.ask-told-requires-clause-cell
 ask-told-requires-clause-cell g c = open_up c.args.desk.now c.args.node c.in-Ok.up c.in-Ok.ensures c.requires.holds

@@ -7,6 +7,7 @@ use Rattle.scene_structures.proofs.Walks.{folded, looked_none, walks_on}
 use Rattle.scene_structures.proofs.Others.{others_both, others_none}
 use Rattle.std.proofs.Common.{arith}
 use Rattle.scene_structures.proofs.Kept.{same_then}
+use Rattle.scene_structures.proofs.Orders.{order_both, order_none}
 use Rattle.scene_structures.proofs.lists.walking.walk.Goals as goal
 
 pub loop-init : goal.loop-init
@@ -14,6 +15,7 @@ loop-init g c =
     record {
       carries = c.requires.carries;
       others = others_none c.args.desk.now c.args.pile.now.endings.items;
+      order = order_none c.args.desk.now c.args.pile.now.endings.items;
       none = c.requires.empty;
       held = refl;
       same = same_desk c.args.desk.now;
@@ -37,6 +39,7 @@ loop-preserved-in-Passed g c =
     record {
       carries = t.carries;
       others = others_both i.others t.others;
+      order = order_both i.order t.order;
       none = t.none;
       held = t.held ∙ i.held;
       same = same_both d m e i.same t.desk;
@@ -59,6 +62,7 @@ loop-preserved g c =
     record {
       carries = t.carries;
       others = others_both i.others t.others;
+      order = order_both i.order t.order;
       none = t.none;
       held = t.held ∙ i.held;
       same = same_both d m e i.same t.desk;
@@ -94,6 +98,9 @@ returns-in-End-clause-own g c =
 
 pub returns-in-End-clause-others : goal.returns-in-End-clause-others
 returns-in-End-clause-others g c = others_both c.loop.invariant.others c.visit.ensures.others
+
+pub returns-in-End-clause-order : goal.returns-in-End-clause-order
+returns-in-End-clause-order g c = order_both c.loop.invariant.order c.visit.ensures.order
 
 pub visit-requires-clause-room : goal.visit-requires-clause-room
 visit-requires-clause-room g c =

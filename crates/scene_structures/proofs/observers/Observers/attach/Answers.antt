@@ -7,7 +7,7 @@ use Rattle.atomic_cells.specs.Sites.{shared_cell}
 use Rattle.atomic_cells.specs.declared.sites.SharedSite.{SharedSite}
 use Rattle.scene_structures.specs.Hands.{IsOpenBy, node_in}
 use Rattle.scene_structures.proofs.Hands.{hands_got}
-use Rattle.std.proofs.Common.{[], ◌∷◌, sym, ◌∙◌}
+use Rattle.std.proofs.Common.{[], ◌∷◌, false, sym, ◌∙◌}
 use Rattle.control_block.specs.Desks.{bag_of}
 use Rattle.scene_structures.proofs.Calls.{hands_one}
 use Rattle.scene_structures.specs.Stacks.{Rises, StackNow}
@@ -22,6 +22,7 @@ use Rattle.scene_structures.proofs.Rooms.{far, made_within, serves, holds_more}
 use Rattle.std.proofs.lemmas.Bool.{iff_false}
 use Rattle.std.proofs.Common.{◌≤◌}
 use Rattle.control_word.specs.declared.model.handle.Kind.TheVariants.{Owner}
+use Rattle.scene_structures.proofs.Orders.{order_both, order_clear, order_event, order_makes, order_still}
 use Rattle.scene_structures.proofs.observers.Observers.attach.Goals as goal
 
 pub returns-clause-own : goal.returns-clause-own
@@ -142,3 +143,10 @@ unreachable-requires g c =
     let one = c.in_ok-node.ensures.held in let a = c.in_ok-node.ensures.desk.allowance in let two = c.watch.ensures.held in
     let b = c.watch.ensures.desk.allowance in
     granted c.watch.new.desk c.load.result c.load.ensures.limit (omega arith) c.in_default.not-Ok
+
+pub returns-clause-order : goal.returns-clause-order
+returns-clause-order g c =
+    let d = c.args.desk.now in let m = c.make.new.desk in let w = c.watch in let l = c.load.new.desk in let node = c.in_ok-node.node in
+    order_clear d c.raise.new.desk _ _ c.self.invariant c.raise.ensures.none
+    (order_both (order_makes d m false false (0 ∷ 0 ∷ 0 ∷ 0 ∷ []) c.args.value node.block node.place _ c.in_ok-node.ensures.event)
+    (order_both (order_still m w.new.desk _ w.ensures.still) (order_both (order_event w.new.desk l _ _ c.in-Ok.ensures.event tt) c.raise.ensures.order)))

@@ -18,6 +18,7 @@ use Rattle.std.proofs.Common.{sym, ◌≤◌}
 use Rattle.scene_structures.proofs.Kept.{same_call, same_then, carries_call, granted}
 use Rattle.atomic_cells.specs.Sites.{IsOpenSite}
 use Rattle.scene_structures.proofs.Rooms.{far, serves}
+use Rattle.scene_structures.proofs.Orders.{order_both, order_clear, order_event}
 use Rattle.scene_structures.proofs.observers.Observers.each.Goals as goal
 
 pub walk-requires-clause-bag : goal.walk-requires-clause-bag
@@ -93,3 +94,9 @@ pub unreachable-requires : goal.unreachable-requires
 unreachable-requires g c =
     let far' = far c.is_near_limit.ensures c.if-is_near_limit.false in
     granted c.args.desk.now c.load.result c.load.ensures.limit (omega arith) c.in_default.not-Ok
+
+pub returns-clause-order : goal.returns-clause-order
+returns-clause-order g c =
+    let d = c.args.desk.now in
+    order_clear d c.walk.new.desk _ _ c.self.invariant c.walk.ensures.none
+    (order_both (order_event d c.load.new.desk _ _ c.in-Ok.ensures.event tt) c.walk.ensures.order)

@@ -12,6 +12,7 @@ use Rattle.scene_structures.proofs.observers.Observers.prune.Given.{Over}
 use Rattle.std.proofs.Common.{refl, sym, ◌≤◌}
 use Rattle.control_block.specs.Desks.{bag_of}
 use Rattle.scene_structures.proofs.Rooms.{far, serves}
+use Rattle.scene_structures.proofs.Orders.{order_clear}
 use Rattle.scene_structures.proofs.observers.Observers.prune.Goals as goal
 
 pub returns-clause-own : goal.returns-clause-own
@@ -64,3 +65,7 @@ returns-clause-stands g c =
     let same : c.self.inside.cell ≡ c.args.self.now.cell = ap (λ (s : StackNow). s.cell) c.self.view_is in
     let there = subst (λ n. n < c.args.domain.now.shape.shared_cells) (sym same) c.requires.stands.cell in
     (same, record { cell = there; room = c.clear_list.ensures.carries.room })
+
+pub returns-clause-order : goal.returns-clause-order
+returns-clause-order g c =
+    order_clear c.args.desk.now c.clear_list.new.desk _ _ c.self.invariant c.clear_list.ensures.none c.clear_list.ensures.order

@@ -13,14 +13,16 @@ use Rattle.scene_structures.proofs.Watches.{endings_both, lists_of}
 use Rattle.scene_structures.proofs.Pushes.{shares_does}
 use Rattle.scene_structures.proofs.scene.Scene.add_child.Given.{Over}
 use Rattle.scene_structures.specs.Others.{KeepsOthers}
+use Rattle.scene_structures.specs.Orders.{EndsInOrder}
 use Rattle.scene_structures.proofs.Others.{others_both, others_call, others_kept}
-use Rattle.std.proofs.Common.{arith, length}
+use Rattle.std.proofs.Common.{arith, false, length}
 use Rattle.scene_structures.proofs.Kept.{same_call, same_then, granted, open_listed, open_held}
 use Rattle.scene_structures.proofs.Hands.{lists_first, lists_under}
 use Rattle.scene_structures.proofs.Rooms.{far, fine, nil_of, made_within}
 use Rattle.std.proofs.lemmas.Bool.{iff_false}
 use Rattle.control_block.specs.Desks.{stock_of}
 use Rattle.scene_structures.proofs.Detached.{within_holds}
+use Rattle.scene_structures.proofs.Orders.{order_both, order_event, order_makes, order_shares, order_still}
 use Rattle.scene_structures.proofs.scene.Scene.add_child.Goals as goal
 
 pub raise-requires-clause-carries : goal.raise-requires-clause-carries
@@ -72,6 +74,16 @@ returns-clause-others g c =
     (others_both (others_kept d m _ a.endings a.count)
     (others_both (others_kept m n _ h.endings h.count)
     (others_both (others_call _ c.in-Ok-share.ensures.keeps) (others_both (others_call _ c.in-Ok-load.ensures.keeps) c.raise.ensures.others))))
+
+pub returns-clause-order : goal.returns-clause-order
+returns-clause-order g c =
+    let d = c.args.desk.now in let m = c.make.new.desk in let n = c.watch.new.desk in
+    let a = c.in-Ok-make.ensures in let h = c.watch.ensures in let node = c.in-Ok-make.node in
+    subst (λ (p : Pile g.row.V.Denot). EndsInOrder d p.endings.items c.raise.new.desk c.raise.new.pile.endings.items) c.self.view_is
+    (order_both (order_makes d m false false c.args.fields c.args.value node.block node.place _ a.event)
+    (order_both (order_still m n _ h.still)
+    (order_both (order_shares n c.share.new.desk node.block node.place node.place _ c.in-Ok-share.ensures.event)
+    (order_both (order_event c.share.new.desk c.load.new.desk _ _ c.in-Ok-load.ensures.event tt) c.raise.ensures.order))))
 
 pub returns-clause-may : goal.returns-clause-may
 returns-clause-may g c =

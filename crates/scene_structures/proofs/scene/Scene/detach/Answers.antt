@@ -26,10 +26,12 @@ use Rattle.scene_structures.proofs.Pushes.{same_left, same_node, shares_does}
 use Rattle.scene_structures.proofs.Watches.{endings_both, lists_of}
 use Rattle.scene_structures.proofs.scene.Scene.detach.Given.{Over}
 use Rattle.scene_structures.specs.Others.{KeepsOthers}
+use Rattle.scene_structures.specs.Orders.{EndsInOrder}
 use Rattle.scene_structures.proofs.Others.{others_both, others_call, others_kept}
 use Rattle.std.proofs.Common.{arith}
 use Rattle.scene_structures.proofs.Kept.{same_call, same_then, granted}
 use Rattle.scene_structures.proofs.Rooms.{holds_more, far_off}
+use Rattle.scene_structures.proofs.Orders.{order_both, order_shares, order_up}
 use Rattle.scene_structures.proofs.scene.Scene.detach.Goals as goal
 
 pub let_go-requires-clause-carries : goal.let_go-requires-clause-carries
@@ -136,12 +138,26 @@ returns-in_default-clause-others g c =
     subst (λ (x : Pile g.row.V.Denot). KeepsOthers d x.endings.items c.let_go.new.desk c.let_go.new.pile.endings.items) c.self.view_is
     (others_both (others_kept d c.parent.new.desk _ p.endings p.count) c.let_go.ensures.others)
 
+pub returns-in_default-clause-order : goal.returns-in_default-clause-order
+returns-in_default-clause-order g c =
+    let d = c.args.desk.now in let p = c.in_ok-owner.ensures in
+    subst (λ (x : Pile g.row.V.Denot). EndsInOrder d x.endings.items c.let_go.new.desk c.let_go.new.pile.endings.items) c.self.view_is
+    (order_both (order_up d c.parent.new.desk _ _ _ p.own) c.let_go.ensures.order)
+
 pub returns-clause-others : goal.returns-clause-others
 returns-clause-others g c =
     let d = c.args.desk.now in let p = c.in_ok-owner.ensures in
     subst (λ (x : Pile g.row.V.Denot). KeepsOthers d x.endings.items c.leave.new.desk c.leave.new.pile.endings.items) c.self.view_is
     (others_both (others_kept d c.parent.new.desk _ p.endings p.count)
     (others_both (others_call _ c.in-Ok.ensures.keeps) (others_both c.let_go-2.ensures.others c.leave.ensures.others)))
+
+pub returns-clause-order : goal.returns-clause-order
+returns-clause-order g c =
+    let d = c.args.desk.now in let p = c.in_ok-owner.ensures in let owner = c.in_ok-owner.owner in
+    subst (λ (x : Pile g.row.V.Denot). EndsInOrder d x.endings.items c.leave.new.desk c.leave.new.pile.endings.items) c.self.view_is
+    (order_both (order_up d c.parent.new.desk _ _ _ p.own)
+    (order_both (order_shares c.parent.new.desk c.alias.new.desk owner.block owner.place _ _ c.in-Ok.ensures.event)
+    (order_both c.let_go-2.ensures.order c.leave.ensures.order)))
 
 pub alias-requires-clause-holds : goal.alias-requires-clause-holds
 alias-requires-clause-holds g c = c.in_ok-owner.ensures.holds

@@ -19,6 +19,7 @@ use Rattle.scene_structures.proofs.Kept.{same_call, same_then, carries_call, gra
 use Rattle.atomic_cells.specs.Sites.{IsOpenSite}
 use Rattle.scene_structures.proofs.Rooms.{far, serves, bag_taken, holds_taken, held_taken}
 use Rattle.std.proofs.Common.{◌≤◌}
+use Rattle.scene_structures.proofs.Orders.{order_both, order_clear, order_event}
 use Rattle.scene_structures.proofs.stack.Stack.pop.Goals as goal
 
 pub returns-clause-own : goal.returns-clause-own
@@ -111,3 +112,9 @@ pub unreachable-requires : goal.unreachable-requires
 unreachable-requires g c =
     let far' = far c.is_near_limit.ensures c.if-is_near_limit.false in
     granted c.args.desk.now c.load.result c.load.ensures.limit (omega arith) c.in_default.not-Ok
+
+pub returns-clause-order : goal.returns-clause-order
+returns-clause-order g c =
+    let d = c.args.desk.now in
+    order_clear d c.take.new.desk _ _ c.self.invariant c.take.ensures.none
+    (order_both (order_event d c.load.new.desk _ _ c.in-Ok.ensures.event tt) c.take.ensures.order)

@@ -7,7 +7,7 @@ use Rattle.atomic_cells.specs.Sites.{shared_cell}
 use Rattle.atomic_cells.specs.declared.sites.SharedSite.{SharedSite}
 use Rattle.scene_structures.specs.Hands.{IsOpenBy, node_in}
 use Rattle.scene_structures.proofs.Hands.{hands_got}
-use Rattle.std.proofs.Common.{[], ◌∷◌, sym, ◌∙◌}
+use Rattle.std.proofs.Common.{[], ◌∷◌, false, sym, ◌∙◌}
 use Rattle.control_block.specs.Desks.{bag_of}
 use Rattle.scene_structures.proofs.Calls.{hands_one}
 use Rattle.scene_structures.specs.Stacks.{Rises, StackNow}
@@ -21,6 +21,7 @@ use Rattle.atomic_cells.specs.Sites.{IsOpenSite}
 use Rattle.scene_structures.proofs.Rooms.{far, made_within, serves}
 use Rattle.std.proofs.lemmas.Bool.{iff_false}
 use Rattle.std.proofs.Common.{◌≤◌}
+use Rattle.scene_structures.proofs.Orders.{order_both, order_clear, order_event, order_makes}
 use Rattle.scene_structures.proofs.stack.Stack.push.Goals as goal
 
 pub returns-clause-own : goal.returns-clause-own
@@ -118,3 +119,10 @@ unreachable-requires g c =
     let far' = far c.is_near_limit.ensures c.if-is_near_limit.false in
     let one = c.in_ok-node.ensures.held in let a = c.in_ok-node.ensures.desk.allowance in
     granted c.make.new.desk c.load.result c.load.ensures.limit (omega arith) c.in_default.not-Ok
+
+pub returns-clause-order : goal.returns-clause-order
+returns-clause-order g c =
+    let d = c.args.desk.now in let m = c.make.new.desk in let l = c.load.new.desk in let node = c.in_ok-node.node in
+    order_clear d c.raise.new.desk _ _ c.self.invariant c.raise.ensures.none
+    (order_both (order_makes d m false false c.args.fields c.args.value node.block node.place _ c.in_ok-node.ensures.event)
+    (order_both (order_event m l _ _ c.in-Ok.ensures.event tt) c.raise.ensures.order))

@@ -12,6 +12,7 @@ use Rattle.scene_structures.proofs.Pushes.{same_left}
 use Rattle.scene_structures.proofs.Pruned.{hands_below}
 use Rattle.scene_structures.proofs.Sites.{these_after, these_both}
 use Rattle.scene_structures.proofs.Others.{others_both}
+use Rattle.scene_structures.proofs.Orders.{order_both}
 use Rattle.scene_structures.proofs.tree.detaching.leave.Goals as goal
 
 pub cut_child-went-requires-clause-bag : goal.cut_child-went-requires-clause-bag
@@ -84,3 +85,6 @@ returns-clause-own g c =
 
 pub returns-clause-others : goal.returns-clause-others
 returns-clause-others g c = others_both c.cut_child-went.ensures.others (others_both c.unlink.ensures.others c.let_go.ensures.others)
+
+pub returns-clause-order : goal.returns-clause-order
+returns-clause-order g c = order_both c.cut_child-went.ensures.order (order_both c.unlink.ensures.order c.let_go.ensures.order)

@@ -9,6 +9,7 @@ use Rattle.scene_structures.proofs.Watches.{lists_of}
 use Rattle.scene_structures.proofs.Others.{others_both, others_counted, others_kept, others_none}
 use Rattle.std.proofs.Common.{arith}
 use Rattle.control_block.specs.Desks.{allowance_of, endings_of}
+use Rattle.scene_structures.proofs.Orders.{order_both, order_counted, order_none, order_still}
 use Rattle.scene_structures.proofs.tree.detaching.unlink.Goals as goal
 
 pub store_next-requires-clause-holds : goal.store_next-requires-clause-holds
@@ -38,11 +39,20 @@ returns-clause-latest g c =
 pub returns-then-not-went-clause-others : goal.returns-then-not-went-clause-others
 returns-then-not-went-clause-others g c = others_none c.args.desk.now c.args.pile.now.endings.items
 
+pub returns-then-not-went-clause-order : goal.returns-then-not-went-clause-order
+returns-then-not-went-clause-order g c = order_none c.args.desk.now c.args.pile.now.endings.items
+
 pub returns-clause-others : goal.returns-clause-others
 returns-clause-others g c =
     let w = c.watch in
     others_both (others_counted c.args.desk.now c.empty.new.desk _ _ c.in-Ok.ensures.counted)
     (others_both (others_kept c.empty.new.desk w.new.desk _ w.ensures.endings w.ensures.count) c.store_next.ensures.others)
+
+pub returns-clause-order : goal.returns-clause-order
+returns-clause-order g c =
+    let w = c.watch in
+    order_both (order_counted c.args.desk.now c.empty.new.desk _ _ c.in-Ok.ensures.counted)
+    (order_both (order_still c.empty.new.desk w.new.desk _ w.ensures.still) c.store_next.ensures.order)
 
 pub watch-requires-clause-room : goal.watch-requires-clause-room
 watch-requires-clause-room g c =

@@ -3,6 +3,7 @@ use Rattle.shared_handle.proofs.Goings.{does_both}
 use Rattle.shared_handle.specs.Piles.{IsParting}
 use Rattle.scene_structures.proofs.Latest.{held_both, keeps_rest, left_latest}
 use Rattle.scene_structures.proofs.Others.{others_both, others_left}
+use Rattle.scene_structures.proofs.Orders.{order_left}
 use Rattle.scene_structures.proofs.tree.endings.let_go.Goals as goal
 
 pub returns-clause-own : goal.returns-clause-own
@@ -19,3 +20,8 @@ pub returns-clause-others : goal.returns-clause-others
 returns-clause-others g c =
     let t = c.drop_shared-gone in let e = t.ensures in
     others_both (others_left c.args.desk.now t.new.desk _ _ c.requires.carries.ends e.elsewhere e.keeps.endings) c.settle.ensures.others
+
+pub returns-clause-order : goal.returns-clause-order
+returns-clause-order g c =
+    let t = c.drop_shared-gone in let s = c.settle.ensures in
+    order_left c.args.desk.now t.new.desk c.settle.new.desk _ _ _ _ _ _ s.rounds.0 t.ensures.left s.rounds.1 s.none

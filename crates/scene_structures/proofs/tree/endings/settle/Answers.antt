@@ -1,10 +1,11 @@
-use Rattle.std.proofs.Common.{refl, ◌∙◌}
+use Rattle.std.proofs.Common.{[], refl, ◌∙◌}
 use Rattle.shared_handle.proofs.Goings.{does_both, does_none}
 use Rattle.shared_handle.proofs.Piles.{same_both, same_desk}
 use Rattle.scene_structures.proofs.Others.{others_both, others_none, others_round}
 use Rattle.shared_handle.specs.Piles.{IsParting}
 use Rattle.scene_structures.proofs.Latest.{held_both, held_here, keeps_same, round_latest}
 use Rattle.scene_structures.proofs.Kept.{same_then}
+use Rattle.scene_structures.proofs.Orders.{next_round}
 use Rattle.scene_structures.proofs.tree.endings.settle.Goals as goal
 
 pub loop-init : goal.loop-init
@@ -13,6 +14,7 @@ loop-init g c =
     record {
       carries = c.requires.carries;
       others = others_none d c.args.pile.now.endings.items;
+      rounds = ([], (refl, refl));
       bag = refl;
       held = refl;
       same = same_desk d;
@@ -26,6 +28,7 @@ loop-preserved g c =
     record {
       carries = e.carries;
       others = others_both i.others (others_round l r.new.desk _ _ r.result i.carries.ends e.elsewhere e.round);
+      rounds = next_round d l r.new.desk _ _ _ r.result i.rounds e.round;
       bag = e.bag ∙ i.bag;
       held = e.held ∙ i.held;
       same = same_both d l r.new.desk i.same e.desk;
@@ -39,6 +42,7 @@ loop-preserved-in-Cleared g c =
     record {
       carries = e.carries;
       others = others_both i.others (others_round l r.new.desk _ _ r.result i.carries.ends e.elsewhere e.round);
+      rounds = next_round d l r.new.desk _ _ _ r.result i.rounds e.round;
       bag = e.bag ∙ i.bag;
       held = e.held ∙ i.held;
       same = same_both d l r.new.desk i.same e.desk;
@@ -55,6 +59,10 @@ pub returns-in-Settled-clause-others : goal.returns-in-Settled-clause-others
 returns-in-Settled-clause-others g c =
     let r = c.round in let e = r.ensures in let i = c.loop.invariant in let l = c.loop.desk in
     others_both i.others (others_round l r.new.desk _ _ r.result i.carries.ends e.elsewhere e.round)
+
+pub returns-in-Settled-clause-rounds : goal.returns-in-Settled-clause-rounds
+returns-in-Settled-clause-rounds g c =
+    let r = c.round in next_round c.args.desk.now c.loop.desk r.new.desk _ _ _ r.result c.loop.invariant.rounds r.ensures.round
 
 pub round-requires : goal.round-requires
 round-requires g c = record { carries = (c.loop.invariant.carries) }
