@@ -1,5 +1,5 @@
 -- Tables for a team, and how the desk that has all they leave closes its domain.
-use Rattle.std.proofs.Common.{◌≡◌, ◌⊎◌, inl, inr, ℕ, ◌<◌, Option, None, Some, arith, List, [], ◌∷◌, ◌++◌, ap, length, refl, subst, sym, ◌∙◌}
+use Rattle.std.proofs.Common.{◌≡◌, ◌⊎◌, inl, inr, ℕ, suc, ◌+◌, ◌<◌, Option, None, Some, arith, List, [], ◌∷◌, ◌++◌, ap, length, refl, subst, sym, ◌∙◌}
 use Rattle.std.proofs.lemmas.List.{nil_from_length}
 use Rattle.control_word.specs.declared.refusal.Refusal.{Refusal}
 use Rattle.control_word.specs.declared.refusal.Refusal.TheVariants.{Memory}
@@ -12,10 +12,12 @@ use Rattle.control_block.specs.Rule.{opening_of}
 use Rattle.control_block.specs.Standing.{Standing}
 use Rattle.handle_table.proofs.Filling.{total_one}
 use Rattle.handle_table.specs.Parting.{AbsorbsAll, IsNew, IsPartedInto, WhyFewer, WindsUp}
-use Rattle.handle_table.specs.Programs.{CanClose, HaveWorked, IsClosed, IsManned, Runs, Works, WorksIn, WorksOut}
+use Rattle.handle_table.specs.Programs.{ArePartsOf, CanClose, EachWorks, HaveWorked, IsClosed, IsManned, NumberedWork, Runs, any_work, Works, WorksIn, WorksOut}
+use Rattle.handle_table.specs.Staffs.{EachDoes}
 use Rattle.handle_table.specs.Tables.{FitsSlots, TableNow}
 use Rattle.handle_table.specs.declared.program.Manned.{Manned}
 use Rattle.handle_table.specs.declared.program.Team.{Team}
+use Rattle.handle_table.specs.declared.program.part.Part.{Part}
 use Rattle.std.specs.Prelude.{All, IfSome}
 
 -- some worker was asked for
@@ -32,44 +34,45 @@ module _ {V : Type 0} where
   parted_more d m e a k (s ∷ ts) t is parts = (is.0, is.1, parted_more is.0 m e a k ts t is.2 parts)
 
   -- why workers are fewer
-  why_fewer : (x : DeskNow V) (a k : ℕ) (fewer : Option Refusal) (manned : Manned) (lent left : List (TableNow V))
-      → HaveWorked lent left fewer manned → IfSome fewer (WhyFewer x a k) → IfSome manned.fewer (WhyFewer x a k)
-  why_fewer x a k fewer manned lent left (many, inl all) why = subst (λ (o : Option Refusal). IfSome o (WhyFewer x a k)) (sym all.1) why
-  why_fewer x a k fewer manned lent left (many, inr none) why =
+  why_fewer : (did : NumberedWork V) (x : DeskNow V) (a k : ℕ) (fewer : Option Refusal) (manned : Manned) (lent left : List (TableNow V))
+      → HaveWorked did lent left fewer manned → IfSome fewer (WhyFewer x a k) → IfSome manned.fewer (WhyFewer x a k)
+  why_fewer did x a k fewer manned lent left (many, inl all) why = subst (λ (o : Option Refusal). IfSome o (WhyFewer x a k)) (sym all.2) why
+  why_fewer did x a k fewer manned lent left (many, inr none) why =
       subst (λ (o : Option Refusal). IfSome o (WhyFewer x a k)) (sym none.2) (inl refl)
 
-  all_or_none : (fewer : Option Refusal) (manned : Manned) (lent left : List (TableNow V)) → HaveWorked lent left fewer manned
-      → (length lent ≡ manned.workers) ⊎ ((left ≡ lent) × (manned.workers ≡ 0) × (manned.fewer ≡ Some Memory))
-  all_or_none fewer manned lent left (many, inl all) = inl (sym all.0)
-  all_or_none fewer manned lent left (many, inr none) = inr (none.0, none.1, none.2)
+  all_or_none : (did : NumberedWork V) (fewer : Option Refusal) (manned : Manned) (lent left : List (TableNow V))
+      → HaveWorked did lent left fewer manned
+      → (EachWorks did 0 lent left × (length lent ≡ manned.workers)) ⊎ ((left ≡ lent) × (manned.workers ≡ 0) × (manned.fewer ≡ Some Memory))
+  all_or_none did fewer manned lent left (many, inl all) = inl (all.0, sym all.1)
+  all_or_none did fewer manned lent left (many, inr none) = inr (none.0, none.1, none.2)
 
   -- so many worked, or fewer and why
-  pub manned_so : (asked : ℕ) (fewer : Option Refusal) (manned : Manned) (lent left : List (TableNow V))
-      → IsManned asked (length lent) fewer → HaveWorked lent left fewer manned → IsManned asked manned.workers manned.fewer
-  manned_so asked fewer manned lent left is (many, inl all) =
-      subst (λ (o : Option Refusal). IsManned asked manned.workers o) (sym all.1)
-      (subst (λ (n : ℕ). IsManned asked n fewer) (sym all.0) is)
-  manned_so asked fewer manned lent left is (many, inr none) =
+  pub manned_so : (did : NumberedWork V) (asked : ℕ) (fewer : Option Refusal) (manned : Manned) (lent left : List (TableNow V))
+      → IsManned asked (length lent) fewer → HaveWorked did lent left fewer manned → IsManned asked manned.workers manned.fewer
+  manned_so did asked fewer manned lent left is (many, inl all) =
+      subst (λ (o : Option Refusal). IsManned asked manned.workers o) (sym all.2)
+      (subst (λ (n : ℕ). IsManned asked n fewer) (sym all.1) is)
+  manned_so did asked fewer manned lent left is (many, inr none) =
       subst (λ (o : Option Refusal). IsManned asked manned.workers o) (sym none.2)
       (subst (λ (n : ℕ). n < asked) (sym none.1) (some_asked asked (length lent) fewer is none.3))
 
   -- the tables that were lent came back, and were absorbed
-  pub works : (t x u : TableNow V) (team : Team) (fewer : Option Refusal) (manned : Manned) (lent left : List (TableNow V))
+  pub works : (did : NumberedWork V) (t x u : TableNow V) (team : Team) (fewer : Option Refusal) (manned : Manned) (lent left : List (TableNow V))
       → IsPartedInto t.desk team.allowance team.blocks lent x.desk
       → All (IsNew team.slots) lent → (x.slots ≡ t.slots) × (x.endings ≡ t.endings)
       → IfSome fewer (WhyFewer x.desk team.allowance team.blocks)
-      → HaveWorked lent left fewer manned → AbsorbsAll x left u → Works t team manned u
-  works t x u team fewer manned lent left parts new rest why worked absorbs =
+      → HaveWorked did lent left fewer manned → AbsorbsAll x left u → Works did t team manned u
+  works did t x u team fewer manned lent left parts new rest why worked absorbs =
       let is : x ≡ record t { desk = x.desk } = λ i. record { desk = x.desk; slots = rest.0 i; endings = rest.1 i } in
       record {
         lent = lent;
         between = x.desk;
         parts = parts;
         new = new;
-        fewer = why_fewer x.desk team.allowance team.blocks fewer manned lent left worked why;
+        fewer = why_fewer did x.desk team.allowance team.blocks fewer manned lent left worked why;
         left = left;
         many = worked.0;
-        worked = all_or_none fewer manned lent left worked;
+        worked = all_or_none did fewer manned lent left worked;
         absorbs = subst (λ (y : TableNow V). AbsorbsAll y left u) is absorbs;
       }
 
@@ -85,19 +88,57 @@ module _ {V : Type 0} where
       }
 
   -- the table was wound up after its team's work
-  pub works_out : (t u : TableNow V) (team : Team) (manned : Manned) (last : DeskNow V) → Works t team manned u → WindsUp u last
-      → WorksOut t team manned last
-  works_out t u team manned last works winds = record { after = u; works = works; winds_up = winds }
+  pub works_out : (did : NumberedWork V) (t u : TableNow V) (team : Team) (manned : Manned) (last : DeskNow V) → Works did t team manned u
+      → WindsUp u last → WorksOut did t team manned last
+  works_out did t u team manned last works winds = record { after = u; works = works; winds_up = winds }
 
   -- the table was the domain's first one
-  pub works_in : (domain : DomainNow) (d : DeskNow V) (t : TableNow V) (team : Team) (manned : Manned) (last : DeskNow V)
+  pub works_in : (did : NumberedWork V) (domain : DomainNow) (d : DeskNow V) (t : TableNow V) (team : Team) (manned : Manned) (last : DeskNow V)
       → IsFirstDesk domain d → t.desk ≡ d
-      → IsNew team.slots t → WorksOut t team manned last → WorksIn domain team manned last
-  works_in domain d t team manned last begins is new out =
+      → IsNew team.slots t → WorksOut did t team manned last → WorksIn did domain team manned last
+  works_in did domain d t team manned last begins is new out =
       record { first = t; begins = subst (λ (x : DeskNow V). IsFirstDesk domain x) (sym is) begins; new = new; out = out }
 
   -- and its desk closed the domain
-  pub runs : (domain : DomainNow) (shape : Shape) (team : Team) (manned : Manned) (last : DeskNow V) (c : CensusNow) → domain.shape ≡ shape
-      → WorksIn domain team manned last → IsClosed last domain.shape c → Runs V shape team manned c
-  runs domain shape team manned last c of works is =
+  pub runs : (did : NumberedWork V) (domain : DomainNow) (shape : Shape) (team : Team) (manned : Manned) (last : DeskNow V) (c : CensusNow)
+      → domain.shape ≡ shape → WorksIn did domain team manned last → IsClosed last domain.shape c → Runs V did shape team manned c
+  runs did domain shape team manned last c of works is =
       record { domain = domain; of = of; last = last; works = works; closed = subst (λ (s : Shape). IsClosed last s c) of is }
+
+  -- what each worker's part says, by the program and the worker's number
+  pub parts_work : {P : Type 0} (did : P → NumberedWork V) (p : P) (n : ℕ) (xs ys : List (Part P)) (ts us : List (TableNow V)) → ArePartsOf p n xs
+      → EachDoes (λ (x : Part P) t y u. did x.program.now x.number t u) xs ts ys us → EachWorks (did p) n ts us
+  parts_work did p n [] [] [] [] are each = tt
+  parts_work did p n [] [] [] (u ∷ us) are each = absurd each
+  parts_work did p n [] [] (t ∷ ts) [] are each = absurd each
+  parts_work did p n [] [] (t ∷ ts) (u ∷ us) are each = absurd each
+  parts_work did p n [] (y ∷ ys) [] [] are each = absurd each
+  parts_work did p n [] (y ∷ ys) [] (u ∷ us) are each = absurd each
+  parts_work did p n [] (y ∷ ys) (t ∷ ts) [] are each = absurd each
+  parts_work did p n [] (y ∷ ys) (t ∷ ts) (u ∷ us) are each = absurd each
+  parts_work did p n (x ∷ xs) [] [] [] are each = absurd each
+  parts_work did p n (x ∷ xs) [] [] (u ∷ us) are each = absurd each
+  parts_work did p n (x ∷ xs) [] (t ∷ ts) [] are each = absurd each
+  parts_work did p n (x ∷ xs) [] (t ∷ ts) (u ∷ us) are each = absurd each
+  parts_work did p n (x ∷ xs) (y ∷ ys) [] [] are each = absurd each
+  parts_work did p n (x ∷ xs) (y ∷ ys) [] (u ∷ us) are each = absurd each
+  parts_work did p n (x ∷ xs) (y ∷ ys) (t ∷ ts) [] are each = absurd each
+  parts_work did p n (x ∷ xs) (y ∷ ys) (t ∷ ts) (u ∷ us) (program, number, rest) (one, each) =
+      (subst (λ k. did p k t u) number (subst (λ q. did q x.number t u) program one), parts_work did p (suc n) xs ys ts us rest each)
+
+  -- where nothing is said of it
+  pub any_each : (n : ℕ) (ts us : List (TableNow V)) → length us ≡ length ts → EachWorks any_work n ts us
+  any_each n [] [] many = tt
+  any_each n (t ∷ ts) (u ∷ us) many = (tt, any_each (suc n) ts us (omega (arith, many)))
+  any_each n [] (u ∷ us) many = absurd (cc many)
+  any_each n (t ∷ ts) [] many = absurd (cc many)
+
+  pub each_none : (did : NumberedWork V) (n : ℕ) (ts : List (TableNow V)) → length ts ≡ 0 → EachWorks did n ts ts
+  each_none did n [] none = tt
+  each_none did n (t ∷ ts) none = absurd (cc none)
+
+-- one part more
+pub parts_more : {P : Type 0} (p : P) (n : ℕ) (xs : List (Part P)) (x : Part P) → ArePartsOf p n xs → x.program.now ≡ p → x.number ≡ n + length xs
+    → ArePartsOf p n (xs ++ x ∷ [])
+parts_more p n [] x are program number = (program, omega (arith, number), tt)
+parts_more p n (y ∷ xs) x (a, b, rest) program number = (a, b, parts_more p (suc n) xs x rest program (omega (arith, number)))

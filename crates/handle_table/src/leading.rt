@@ -56,7 +56,7 @@ fn lead_once<
     leader: &mut P,
 ) -> Option<Manned>
     ensures started { IfSome result
-        (λ manned. StartsTeam P.leads leader.old before table.old manned leader.new table.new) }
+        (λ manned. StartsTeam P.leads P.works leader.old before table.old manned leader.new table.new) }
     ensures over { IfNone result (P.leads leader.old before table.old None leader.new table.new) }
 {
     match leader.lead::<H>(rt, before, table) {
@@ -73,7 +73,7 @@ fn lead_on<
     R: Threads + Wait + Sync,
     P: Leader<V, R> + Sync,
 >(rt: &R, alloc: Global, table: &mut HandleTable<'d, V, H>, leader: &mut P)
-    ensures { LeadsOn P.leads leader.old table.old leader.new table.new }
+    ensures { LeadsOn P.leads P.works leader.old table.old leader.new table.new }
 {
     let mut before = None;
     for _ in rt.forever() {
@@ -94,7 +94,7 @@ fn lead_out<
 >(rt: &R, alloc: Global, table: HandleTable<'_, V, H>, leader: &mut P) -> Desk<V>
     ensures here { Belongs result H.domain }
     ensures none { FitsSlots result [] × (endings_of result ≡ 0) }
-    ensures led { LeadsOut P.leads leader.old table.entry leader.new result }
+    ensures led { LeadsOut P.leads P.works leader.old table.entry leader.new result }
 {
     let mut table = table;
     lead_on(rt, alloc, &mut table, leader);
@@ -118,7 +118,7 @@ fn lead_in<V: Drop + Send, H: Home + Send + Sync, R: Threads + Wait + Sync, P: L
     requires empty { on_pile pile ≡ [] }
     ensures here { Belongs result domain.now }
     ensures none { FitsSlots result [] × (endings_of result ≡ 0) }
-    ensures led { LeadsIn P.leads domain.now (length slots.items) leader.old leader.new result }
+    ensures led { LeadsIn P.leads P.works domain.now (length slots.items) leader.old leader.new result }
 {
     let table = first_table::<V, H>(domain, desk, slots, pile);
     lead_out(rt, alloc, table, leader)
@@ -129,8 +129,8 @@ fn lead_in<V: Drop + Send, H: Home + Send + Sync, R: Threads + Wait + Sync, P: L
 /// `run` has it. Where no further team is started the handles in the first table leave, what is left to end does so,
 /// and the domain is closed (own). Nothing bounds how often `lead` is called but the leader. It is refused `Shape` just
 /// where the shape is outside the limits, `Memory` only where a growth was really refused, both before the first call
-/// of `lead`, and `NotSole` where a table was kept. What the calls of `lead` did the clauses say, and of the teams as
-/// little as of `run`'s.
+/// of `lead`, and `NotSole` where a table was kept. What the calls of `lead` did the clauses say, and of the teams what
+/// they say of `run`'s, by the leader that started it.
 pub fn run_leader<V: Drop + Send, R: Threads + Wait + Sync, P: Leader<V, R> + Sync>(
     rt: &R,
     alloc: Global,
@@ -138,7 +138,7 @@ pub fn run_leader<V: Drop + Send, R: Threads + Wait + Sync, P: Leader<V, R> + Sy
     slots: usize,
     leader: &mut P,
 ) -> Result<Census<V>, Refusal>
-    ensures led { IfOk result (LeadsDomain P.leads shape slots leader.old leader.new) }
+    ensures led { IfOk result (LeadsDomain P.leads P.works shape slots leader.old leader.new) }
     ensures within { IfOk result (λ _. IsWithinLimits shape) }
     ensures shape { IfErr result (λ why. why ≡ Refusal.Shape ↔ (IsWithinLimits shape → ⊥)) }
     ensures refused { IfErr result

@@ -26,9 +26,15 @@ use std::thread::Threads;
 
 mod part;
 
-/// What each worker of a team does, in a thread with a table of its own.
+/// What each worker of a team does, in a thread with a table of its own. `works` says what comes of it: by the program,
+/// the worker's number, and its table before and after. A program that gives no such member says nothing.
 pub trait Program<V: Drop, R: Threads + Wait + Sync> {
-    fn work<H: Home>(&self, rt: &R, number: usize, table: &mut HandleTable<'_, V, H>);
+    ghost use Rattle.handle_table.specs.Programs.{NumberedWork, any_work};
+
+    ghost works: { Self → NumberedWork V } = { λ _. any_work };
+
+    fn work<H: Home>(&self, rt: &R, number: usize, table: &mut HandleTable<'_, V, H>)
+        ensures { works self.now number table.old table.new };
 }
 
 /// How many workers there are, and what each gets: slots, a part of the allowance, and vacant blocks.
@@ -161,7 +167,7 @@ fn lend_all<
     fewer: Option<Refusal>,
     program: &P,
 ) -> Manned
-    ensures worked { HaveWorked tables.old.items tables.new.items fewer result }
+    ensures worked { HaveWorked (P.works program.now) tables.old.items tables.new.items fewer result }
 {
     let workers = tables.len();
     let none = Manned {
@@ -196,7 +202,7 @@ impl<'d, V: Drop + Send, H: Home + Send + Sync> HandleTable<'d, V, H> {
         team: Team,
         program: &P,
     ) -> Manned
-        ensures works { Works self.old team result self.new }
+        ensures works { Works (P.works program.now) self.old team result self.new }
         ensures manned { IsManned team.workers result.workers result.fewer }
     {
         let crew = self.team(alloc, team);
@@ -218,7 +224,7 @@ fn run_at<V: Drop + Send, H: Home + Send + Sync, R: Threads + Wait + Sync, P: Pr
 ) -> (Desk<V>, Manned)
     ensures here { Belongs result.0 H.domain }
     ensures none { FitsSlots result.0 [] × (endings_of result.0 ≡ 0) }
-    ensures works { WorksOut table.entry team result.1 result.0 }
+    ensures works { WorksOut (P.works program.now) table.entry team result.1 result.0 }
     ensures manned { IsManned team.workers result.1.workers result.1.fewer }
 {
     let mut table = table;
@@ -244,7 +250,7 @@ fn run_in<V: Drop + Send, H: Home + Send + Sync, R: Threads + Wait + Sync, P: Pr
     requires empty { on_pile pile ≡ [] }
     ensures here { Belongs result.0 domain.now }
     ensures none { FitsSlots result.0 [] × (endings_of result.0 ≡ 0) }
-    ensures works { WorksIn domain.now team result.1 result.0 }
+    ensures works { WorksIn (P.works program.now) domain.now team result.1 result.0 }
     ensures manned { IsManned team.workers result.1.workers result.1.fewer }
 {
     let table = first_table::<V, H>(domain, desk, slots, pile);
@@ -255,8 +261,8 @@ fn run_in<V: Drop + Send, H: Home + Send + Sync, R: Threads + Wait + Sync, P: Pr
 /// the domain is closed (own). The handles that a worker leaves in its slots leave, and what is left to end does so.
 /// The workers' tables are parts of a first one, which has all again at the end: what each had and what it left is in
 /// `runs`. It is refused `Shape` just where the shape is outside the limits, `Memory` only where a growth or the start
-/// of a thread was really refused, and then no worker works; and `NotSole` where a worker kept a table for itself. No
-/// clause says what a worker did with its table, or that it did anything: `run_workers` says that of each.
+/// of a thread was really refused, and then no worker works; and `NotSole` where a worker kept a table for itself. Each
+/// worker that had a table worked with it, once, and what `Program::works` says of that holds.
 pub fn run<V: Drop + Send, R: Threads + Wait + Sync, P: Program<V, R> + Sync>(
     rt: &R,
     alloc: Global,
@@ -264,7 +270,8 @@ pub fn run<V: Drop + Send, R: Threads + Wait + Sync, P: Program<V, R> + Sync>(
     team: Team,
     program: &P,
 ) -> Result<Ran<V>, Refusal>
-    ensures runs { IfOk result (λ r. Runs V shape team (record { workers = r.workers; fewer = r.fewer }) r.census) }
+    ensures runs { IfOk result (λ r. Runs V (P.works program.now) shape team
+        (record { workers = r.workers; fewer = r.fewer }) r.census) }
     ensures manned { IfOk result (λ r. IsManned team.workers r.workers r.fewer) }
     ensures fewer { IfOk result (λ r. r.fewer ≡ Some Refusal.Memory → ⊥) }
     ensures within { IfOk result (λ _. IsWithinLimits shape) }

@@ -3,7 +3,7 @@ use Rattle.std.proofs.Common.{◌≡◌, ℕ, List, [], ◌∷◌, Option, None,
 use Rattle.control_word.specs.declared.shape.Shape.{Shape}
 use Rattle.control_block.specs.Census.{CensusNow}
 use Rattle.handle_table.specs.Leading.{AreTeams, Lead, Led, LeadsDomain, LeadsOn, Starts}
-use Rattle.handle_table.specs.Programs.{IsManned, Works}
+use Rattle.handle_table.specs.Programs.{IsManned, Works, any_work}
 use Rattle.handle_table.specs.Shelving.{GivesToShelf}
 use Rattle.handle_table.specs.Tables.{TableNow}
 use Rattle.handle_table.specs.declared.program.Manned.{Manned}
@@ -28,7 +28,7 @@ module _ {V P : Type 0} (team : P → Team) (manned : P → Option Manned) where
     pub shelved : ℕ
     pub lending : TableNow V
     pub shelves : GivesToShelf shelved t lending
-    pub works : Works lending (team p) how u
+    pub works : Works any_work lending (team p) how u
     pub count : IsManned (team p).workers how.workers how.fewer
 
   first_call : (p q : P) (before : Option Manned) (t u : TableNow V) (next : Option Team) → before ≡ None
@@ -54,7 +54,7 @@ module _ {V P : Type 0} (team : P → Team) (manned : P → Option Manned) where
   leads_then p q (Some m) how t u next is none told same = (none, told ∙ sym is, same)
 
   by_past : (p q : P) (t u : TableNow V) (past : List (Led V P)) (last : Led V P)
-      → AreTeams (leads_once team manned) (record { leader = p; before = None; table = t }) past last
+      → AreTeams (leads_once team manned) (λ x. any_work) (record { leader = p; before = None; table = t }) past last
       → leads_once team manned last.leader last.before last.table None q u → Once p t q u
   by_past p q t u [] last teams over =
       let none = first_call last.leader q last.before last.table u None (ap (λ (l : Led V P). l.before) teams) over in
@@ -73,8 +73,8 @@ module _ {V P : Type 0} (team : P → Team) (manned : P → Option Manned) where
         shelved = f.1;
         lending = s.lent;
         shelves = subst (λ (k : TableNow V). GivesToShelf f.1 k s.lent) is_table f.2;
-        works = subst (λ (k : TableNow V). Works s.lent (team p) s.manned k) (sym g.2)
-            (subst (λ (k : Team). Works s.lent k s.manned last.table) is_team s.works);
+        works = subst (λ (k : TableNow V). Works any_work s.lent (team p) s.manned k) (sym g.2)
+            (subst (λ (k : Team). Works any_work s.lent k s.manned last.table) is_team s.works);
         count = subst (λ (k : Team). IsManned k.workers s.manned.workers s.manned.fewer) is_team s.count;
       }
   by_past p q t u (x ∷ y ∷ rest) last teams over =
@@ -82,11 +82,11 @@ module _ {V P : Type 0} (team : P → Team) (manned : P → Option Manned) where
       let g = next_call x.leader last.leader x.before before.manned x.table s.lent (Some s.team) before.told s.call in
       absurd (no_team (sym g.0))
 
-  pub once : (p q : P) (t u : TableNow V) → LeadsOn (leads_once team manned) p t q u → Once p t q u
+  pub once : (p q : P) (t u : TableNow V) → LeadsOn (leads_once team manned) (λ x. any_work) p t q u → Once p t q u
   once p q t u on = by_past p q t u on.past on.last on.teams on.over
 
   -- the same of a domain
-  pub runs : (shape : Shape) (p q : P) (c : CensusNow) → LeadsDomain {V = V} (leads_once {V = V} team manned) shape 0 p q c
+  pub runs : (shape : Shape) (p q : P) (c : CensusNow) → LeadsDomain {V = V} (leads_once {V = V} team manned) (λ x. any_work) shape 0 p q c
       → (m : Manned) × (manned q ≡ Some m) × Runs V shape (team p) m c
   runs shape p q c led =
       let out = led.led.out in let o = once p q led.led.first out.after out.led in (
@@ -113,6 +113,6 @@ module _ {V P : Type 0} (team : P → Team) (manned : P → Option Manned) where
 module _ {V P : Type 0} where
   -- what a program's workers at desks have done, as the leader of one team
   pub seats_run : (shape : Shape) (s t : Seats P) (c : CensusNow)
-      → LeadsDomain {V = V} (leads_once {V = V} (λ (x : Seats P). x.team) (λ (x : Seats P). x.manned)) shape 0 s t c
+      → LeadsDomain {V = V} (leads_once {V = V} (λ (x : Seats P). x.team) (λ (x : Seats P). x.manned)) (λ x. any_work) shape 0 s t c
       → (m : Manned) × (t.manned ≡ Some m) × Runs V shape s.team m c
   seats_run shape s t c led = runs (λ (x : Seats P). x.team) (λ (x : Seats P). x.manned) shape s t c led

@@ -5,7 +5,7 @@ use Rattle.control_block.specs.Census.{CensusNow}
 use Rattle.control_block.specs.Desks.{IsFirstDesk, DeskNow, DomainNow}
 use Rattle.handle_table.specs.Leading.{Lead}
 use Rattle.handle_table.specs.Parting.{IsNew, WindsUp}
-use Rattle.handle_table.specs.Programs.{IsClosed, IsManned, Works}
+use Rattle.handle_table.specs.Programs.{IsClosed, IsManned, Works, any_work}
 use Rattle.handle_table.specs.Shelving.{GivesToShelf}
 use Rattle.handle_table.specs.Tables.{TableNow}
 use Rattle.handle_table.specs.declared.program.Manned.{Manned}
@@ -32,7 +32,7 @@ module _ (V : Type 0) where
     pub lending : TableNow V
     pub shelves : GivesToShelf shelved first lending
     pub after : TableNow V
-    pub works : Works lending team manned after
+    pub works : Works any_work lending team manned after
     pub count : IsManned team.workers manned.workers manned.fewer
     pub last : DeskNow V
     pub winds_up : WindsUp after last

@@ -16,8 +16,9 @@ use Rattle.control_word.specs.declared.model.event.Entry.{Entry}
 use Rattle.control_word.specs.declared.refusal.Refusal.{Refusal}
 use Rattle.control_word.specs.declared.refusal.Refusal.TheVariants.{NotSole}
 use Rattle.control_word.specs.declared.shape.Shape.{Shape}
+use Rattle.handle_table.proofs.Crews.{any_each}
 use Rattle.handle_table.specs.Parting.{IsNew}
-use Rattle.handle_table.specs.Programs.{WorksIn}
+use Rattle.handle_table.specs.Programs.{WorksIn, any_work}
 use Rattle.handle_table.specs.Staffs.{StaffsOpen}
 use Rattle.handle_table.specs.declared.staff.Share.{Share}
 use Rattle.ownership_ledger.specs.Now.{ShareNow}
@@ -60,10 +61,10 @@ as_share script share blocks threads is all many =
 
 -- the team, by how many they are and by their share
 manned : (domain : DomainNow) (desk : DeskNow ℕ) (share own : Share) (n k : ℕ) → share ≡ own → n ≡ k
-    → WorksIn domain (team_of n share) (all_of n) desk → WorksIn domain (team_of k own) (all_of k) desk
+    → WorksIn any_work domain (team_of n share) (all_of n) desk → WorksIn any_work domain (team_of k own) (all_of k) desk
 manned domain desk share own n k is all works =
-    subst (λ (j : ℕ). WorksIn domain (team_of j own) (all_of j) desk) all
-    (subst (λ (x : Share). WorksIn domain (team_of n x) (all_of n) desk) is works)
+    subst (λ (j : ℕ). WorksIn any_work domain (team_of j own) (all_of j) desk) all
+    (subst (λ (x : Share). WorksIn any_work domain (team_of n x) (all_of n) desk) is works)
 
 module _ {G : Type 0} where
   -- what those said is told of so many threads
@@ -172,7 +173,7 @@ module _ {G : Type 0} where
               fewer = tt;
               left = st.left;
               many = many.1 ∙ sym many.0;
-              worked = inl many.0;
+              worked = inl (any_each 0 st.lent st.left (many.1 ∙ sym many.0), many.0);
               absorbs = st.absorbs;
             };
             winds_up = s.works.out.winds_up;

@@ -5,7 +5,7 @@ use Rattle.control_block.specs.Desks.{Belongs, DeskNow, DomainNow}
 use Rattle.control_block.specs.Rule.{opening_of}
 use Rattle.control_word.specs.declared.model.event.Entry.{Entry}
 use Rattle.control_word.specs.declared.shape.Shape.{Shape}
-use Rattle.handle_table.specs.Programs.{CanClose, WorksIn}
+use Rattle.handle_table.specs.Programs.{CanClose, WorksIn, any_work}
 use Rattle.handle_table.specs.declared.program.Manned.{Manned}
 use Rattle.handle_table.specs.declared.program.Team.{Team}
 use Rattle.handle_table.specs.declared.staff.Share.{Share}
@@ -53,7 +53,8 @@ pub record IsPerformed (script : ScriptView) (lines : List (List Said)) (domain 
   pub of : domain.shape ≡ domain_shape script
   pub here : Belongs desk domain
   pub can_close : CanClose desk (domain_shape script)
-  pub works : WorksIn domain (team_of (length script.threads) (share_for script)) (all_of (length script.threads)) desk
+  pub works : WorksIn any_work domain (team_of (length script.threads) (share_for script))
+      (all_of (length script.threads)) desk
   pub interleaved : IsInterleaved field_0 (opening_of (domain_shape script)) desk.seen
       (program_in script.threads) lines
   pub added : AllZip (HasAdded desk.seen) interleaved.names shares

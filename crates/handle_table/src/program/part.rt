@@ -1,5 +1,6 @@
 //! A program's workers, by their numbers.
 ghost use Rattle.std.specs.Prelude.{◌≡◌, false, IfSome, length, Some, true};
+ghost use Rattle.handle_table.specs.Programs.{ArePartsOf};
 
 use crate::program::Program;
 use crate::staff::Work;
@@ -17,6 +18,8 @@ pub(crate) struct Part<'p, P> {
 }
 
 impl<'p, V: Drop, R: Threads + Wait + Sync, P: Program<V, R> + Sync> Work<V, R> for Part<'p, P> {
+    ghost does = { λ p t _ u. P.works p.program.now p.number t u };
+
     fn work<H: Home>(&mut self, rt: &R, table: &mut HandleTable<'_, V, H>) {
         self.program.work::<H>(rt, self.number, table);
     }
@@ -42,7 +45,8 @@ pub(crate) fn parts_of<'p, P>(
     program: &'p P,
     many: usize,
 ) -> Option<Vec<Part<'p, P>>>
-    ensures { IfSome result (λ parts. length parts.items ≡ many) }
+    ensures many { IfSome result (λ parts. length parts.items ≡ many) }
+    ensures parts { IfSome result (λ parts. ArePartsOf program.now 0 parts.items) }
 {
     let mut parts = Vec::with_capacity(alloc, many).ok()?;
     while parts.len() < many {

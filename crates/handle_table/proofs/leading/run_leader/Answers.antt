@@ -14,8 +14,8 @@ returns-clause-led g c =
       domain = domain;
       of = of;
       last = last;
-      led = subst (λ (n : ℕ). LeadsIn g.P.Leader.leads domain n c.args.leader.now c.lead_in-desk.new.leader last) c.in_ok-domain.ensures.slots.1
-          c.lead_in-desk.ensures.led;
+      led = subst (λ (n : ℕ). LeadsIn g.P.Leader.leads g.P.Program.works domain n c.args.leader.now c.lead_in-desk.new.leader last)
+          c.in_ok-domain.ensures.slots.1 c.lead_in-desk.ensures.led;
       closed = subst (λ (s : Shape). IsClosed last s x) of is;
     }) c.close_bare.ensures.closed
 
