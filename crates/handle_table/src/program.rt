@@ -52,16 +52,14 @@ pub struct Crew<'d, V: Drop, H: Home> {
     pub fewer: Option<Refusal>,
 }
 
-/// How many workers of a team worked, and why they are fewer than were asked for, where they are: none works where
-/// memory was refused for one, and else all that had a table.
+/// How many workers worked, and why they are fewer: none where memory was refused for one, else all that had a table.
 #[derive(Clone, Copy, Drop)]
 pub struct Manned {
     pub workers: usize,
     pub fewer: Option<Refusal>,
 }
 
-/// What a program's run left: the census of its domain, how many workers worked, and why they are fewer than were asked
-/// for, where the domain had no such parts for all.
+/// What a program's run left: the census, how many workers worked, and why they are fewer, where they are.
 #[derive(Drop)]
 pub struct Ran<V: Drop> {
     pub census: Census<V>,
@@ -193,8 +191,7 @@ fn lend_all<
 
 impl<'d, V: Drop + Send, H: Home + Send + Sync> HandleTable<'d, V, H> {
     /// The workers of a team work, each in a thread with a table of its own, and all they leave comes back: the handles
-    /// in their slots leave, and what is left to end does so (own). It says how many worked, and why they are fewer
-    /// than were asked for, where they are: none works where memory is refused for one.
+    /// in their slots leave, and what is left to end does so (own). It says how many worked, and why they are fewer.
     pub(crate) fn scope<R: Threads + Wait + Sync, P: Program<V, R> + Sync>(
         &mut self,
         rt: &R,
@@ -260,9 +257,9 @@ fn run_in<V: Drop + Send, H: Home + Send + Sync, R: Threads + Wait + Sync, P: Pr
 /// A domain is opened, each worker of the team does its part of the program in a thread with a table of its own, and
 /// the domain is closed (own). The handles that a worker leaves in its slots leave, and what is left to end does so.
 /// The workers' tables are parts of a first one, which has all again at the end: what each had and what it left is in
-/// `runs`. It is refused `Shape` just where the shape is outside the limits, `Memory` only where a growth or the start
-/// of a thread was really refused, and then no worker works; and `NotSole` where a worker kept a table for itself. Each
-/// worker that had a table worked with it, once, and what `Program::works` says of that holds.
+/// `runs`, and that each worked once, as `works` has it. It is refused `Shape` just where the shape is outside the
+/// limits, `Memory` only where a growth or the start of a thread was really refused, and then no worker works; and
+/// `NotSole` where a worker kept a table for itself.
 pub fn run<V: Drop + Send, R: Threads + Wait + Sync, P: Program<V, R> + Sync>(
     rt: &R,
     alloc: Global,
