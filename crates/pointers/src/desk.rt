@@ -6,7 +6,8 @@ use crate::fault::call::Call;
 use std::alloc::Global;
 use std::cell::{Cell, RefCell, RefMut};
 
-mod bringing;
+pub(crate) mod bringing;
+pub(crate) mod comparing;
 mod ending;
 mod free_cells;
 mod looking;

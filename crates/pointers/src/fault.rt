@@ -104,6 +104,15 @@ impl From<io::Error> for Fault {
     }
 }
 
+/// What the table below answered, of a call.
+#[inline(always)]
+pub(crate) fn told<T: Drop>(call: Call, is: Result<T, handle_table::Fault>) -> Result<T, Fault> {
+    match is {
+        Ok(is) => Ok(is),
+        Err(why) => Err(Fault::of(call, why)),
+    }
+}
+
 /// A refused make, with the value that was handed in (own). `?` turns it into its fault, and drops the value.
 #[derive(Drop)]
 pub struct Refused<T> {

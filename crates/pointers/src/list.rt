@@ -125,6 +125,21 @@ impl<'p, 't, D: Domain, E: Element<'t, D>> List<'p, 't, D, E> {
         }
     }
 
+    /// The place behind a node, where that is kept; else the node goes out, and it is the place where that was.
+    fn passed<R: Wait>(
+        &self,
+        rt: &R,
+        before: Option<Link<'t, D>>,
+        node: Shared<'t, D>,
+        kept: bool,
+    ) -> Result<Option<Link<'t, D>>, Fault> {
+        if kept {
+            return Ok(Some(node.into_next()));
+        }
+        self.unlink(rt, &before, node)?;
+        Ok(before)
+    }
+
     /// The elements for which `keep` answers false go out, in C++ `std::erase_if` (waits): how many did. Where it
     /// answers a fault the walk ends with it.
     pub fn retain<R: Wait, F: FnMut(&E) -> Result<bool, Fault>>(
@@ -145,12 +160,8 @@ impl<'p, 't, D: Domain, E: Element<'t, D>> List<'p, 't, D, E> {
                 Some(element) => keep(&element)?,
                 None => false,
             };
-            if kept {
-                before = Some(node.into_next());
-            } else {
-                self.unlink(rt, &before, node)?;
-                out = out.saturating_add(1);
-            }
+            out = out.saturating_add(usize::from(!kept));
+            before = self.passed(rt, before, node, kept)?;
         }
         Ok(out)
     }
@@ -163,11 +174,7 @@ impl<'p, 't, D: Domain, E: Element<'t, D>> List<'p, 't, D, E> {
             let Some(node) = self.behind(rt, &before)? else {
                 break;
             };
-            let same = match E::get(rt, &node)? {
-                Some(found) => found.same(element)?,
-                None => false,
-            };
-            if same {
+            if is_of(rt, &node, element)? {
                 self.unlink(rt, &before, node)?;
                 return Ok(true);
             }
@@ -192,6 +199,18 @@ impl<'p, 't, D: Domain, E: Element<'t, D>> List<'p, 't, D, E> {
     }
 }
 
+/// Whether a node's element is the same as this one.
+fn is_of<'t, R: Wait, D: Domain, E: Element<'t, D>>(
+    rt: &R,
+    node: &Shared<'t, D>,
+    element: &E,
+) -> Result<bool, Fault> {
+    match E::get(rt, node)? {
+        Some(found) => found.same(element),
+        None => Ok(false),
+    }
+}
+
 /// The node is before another, or is the last one.
 fn follow<'t, D: Domain>(
     node: &Option<Shared<'t, D>>,
@@ -200,11 +219,15 @@ fn follow<'t, D: Domain>(
     let Some(node) = node else {
         return Ok(());
     };
-    let next = match next {
-        Some(next) => Some(next.share()?),
-        None => None,
-    };
-    node.next().store(next)
+    node.next().store(shared(next)?)
+}
+
+/// One owner more, where there is one.
+fn shared<'t, D: Domain>(of: &Option<Shared<'t, D>>) -> Result<Option<Shared<'t, D>>, Fault> {
+    match of {
+        Some(of) => Ok(Some(of.share()?)),
+        None => Ok(None),
+    }
 }
 
 impl<'p, 't, D: Domain> Member<'p, 't, D> {

@@ -6,10 +6,11 @@ use crate::cells::link::Link;
 use crate::cells::member::Member;
 use crate::cells::up::Up;
 use crate::desk::Desk;
+use crate::desk::bringing::Bring;
 use crate::desk::placing::Target;
 use crate::domain::Domain;
 use crate::fault::Fault;
-use crate::fault::call::Spot;
+use crate::fault::call::{Call, Spot};
 use crate::weak::Weak;
 use control_word::Place;
 use handle_table::{Cell as At, SharedMember};
@@ -67,33 +68,37 @@ impl<'t, D: Domain> Shared<'t, D> {
     /// One owner more, in C++ a copy ([util.smartptr.shared.const]), in Rust `Arc::clone`.
     #[inline(always)]
     pub fn share(&self) -> Result<Shared<'t, D>, Fault> {
-        self.owner(self.desk.copied(self.at))
+        self.owner(self.desk.brought(Call::Share, Bring::Copy(self.at)))
     }
 
     /// An owner of the same object that points elsewhere, or nowhere, in C++ the aliasing constructor. `Place` where
     /// the place is none of a block's fields.
     #[inline(always)]
     pub fn alias(&self, place: Option<Place>) -> Result<Shared<'t, D>, Fault> {
-        self.owner(self.desk.aliased(self.at, place))
+        let bring = Bring::Alias(self.at, place);
+        self.owner(self.desk.brought(Call::Alias, bring))
     }
 
     /// A weak pointer to the object, in C++ `weak_ptr(shared_ptr)`.
     #[inline(always)]
     pub fn downgrade(&self) -> Result<Weak<'t, D>, Fault> {
-        self.weak(self.desk.downgraded(self.at))
+        let bring = Bring::Downgrade(self.at);
+        self.weak(self.desk.brought(Call::Downgrade, bring))
     }
 
     /// An owner that the object gives of itself, in C++ `p->shared_from_this()` ([util.smartptr.enab]).
     /// `Refused(_, NotEnabled)` where the object was not made so.
     #[inline(always)]
     pub fn shared_from_this(&self) -> Result<Shared<'t, D>, Fault> {
-        self.owner(self.desk.owner_of_this(self.at))
+        let bring = Bring::OwnerOfThis(self.at);
+        self.owner(self.desk.brought(Call::SharedFromThis, bring))
     }
 
     /// The same with a weak pointer, in C++ `p->weak_from_this()`.
     #[inline(always)]
     pub fn weak_from_this(&self) -> Result<Weak<'t, D>, Fault> {
-        self.weak(self.desk.weak_of_this(self.at))
+        let bring = Bring::WeakOfThis(self.at);
+        self.weak(self.desk.brought(Call::WeakFromThis, bring))
     }
 
     /// The field that it points at, in C++ `*p` of a field. `Refused(Read, Null)` where it points nowhere,

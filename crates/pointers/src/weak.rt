@@ -2,8 +2,10 @@
 
 use crate::cells::WeakCell;
 use crate::desk::Desk;
+use crate::desk::bringing::Bring;
 use crate::domain::Domain;
 use crate::fault::Fault;
+use crate::fault::call::Call;
 use crate::shared::Shared;
 use std::sync::Wait;
 
@@ -39,7 +41,7 @@ impl<'t, D: Domain> Weak<'t, D> {
     #[inline(always)]
     pub fn share(&self) -> Result<Weak<'t, D>, Fault> {
         let desk = self.desk;
-        match desk.copied(self.at) {
+        match desk.brought(Call::Share, Bring::Copy(self.at)) {
             Ok(at) => Ok(Weak { desk, at }),
             Err(why) => Err(why),
         }

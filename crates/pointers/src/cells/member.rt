@@ -2,10 +2,10 @@
 ghost use Rattle.std.specs.Prelude.{◌≡◌};
 
 use crate::desk::Desk;
-use crate::desk::placing::{Compared, Target};
+use crate::desk::comparing::{Compare, Compared};
+use crate::desk::placing::Target;
 use crate::domain::Domain;
 use crate::fault::Fault;
-use crate::fault::call::Call;
 use crate::shared::Shared;
 use std::sync::Wait;
 
@@ -109,23 +109,6 @@ impl<'p, 't, D: Domain> Member<'p, 't, D> {
         self.compare(rt, expected, desired, true)
     }
 
-    /// The slot of a pointer, or a slot with an empty one.
-    fn slot_of(&self, pointer: &Option<Shared<'t, D>>) -> Result<usize, Fault> {
-        match pointer {
-            Some(pointer) => Ok(pointer.at),
-            None => self
-                .desk
-                .emptied(Call::CompareExchange(self.target.spot), false),
-        }
-    }
-
-    /// A slot that had an empty pointer for the call is vacant again.
-    fn give_back(&self, pointer: &Option<Shared<'t, D>>, at: usize) {
-        if pointer.is_none() {
-            self.desk.let_go(at);
-        }
-    }
-
     fn compare<R: Wait>(
         &self,
         rt: &R,
@@ -133,36 +116,40 @@ impl<'p, 't, D: Domain> Member<'p, 't, D> {
         desired: &mut Option<Shared<'t, D>>,
         weak: bool,
     ) -> Result<bool, Fault> {
-        let hoped = self.slot_of(expected)?;
-        let new = match self.slot_of(desired) {
-            Ok(new) => new,
-            Err(why) => {
-                self.give_back(expected, hoped);
-                return Err(why);
-            }
+        let compare = Compare {
+            place: self.target,
+            expected: slot_of(expected),
+            desired: slot_of(desired),
+            weak,
         };
-        match self.desk.compared(rt, self.target, (hoped, new), weak) {
+        match self.desk.compared(rt, compare) {
             Ok(Compared::Exchanged) => {
-                self.give_back(expected, hoped);
                 went(desired);
                 Ok(true)
             }
-            Ok(Compared::Found(some)) => {
-                self.give_back(desired, new);
+            Ok(Compared::Found(found)) => {
                 went(expected);
-                if some {
-                    *expected = Some(self.pointer(hoped));
-                } else {
-                    self.desk.let_go(hoped);
-                }
+                *expected = self.some(found);
                 Ok(false)
             }
-            Err(why) => {
-                self.give_back(expected, hoped);
-                self.give_back(desired, new);
-                Err(why)
-            }
+            Err(why) => Err(why),
         }
+    }
+
+    /// The pointer in a slot, if there is one.
+    fn some(&self, at: Option<usize>) -> Option<Shared<'t, D>> {
+        match at {
+            Some(at) => Some(self.pointer(at)),
+            None => None,
+        }
+    }
+}
+
+/// The slot of a pointer, if there is one.
+fn slot_of<D: Domain>(pointer: &Option<Shared<'_, D>>) -> Option<usize> {
+    match pointer {
+        Some(pointer) => Some(pointer.at),
+        None => None,
     }
 }
 

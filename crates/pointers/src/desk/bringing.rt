@@ -6,6 +6,7 @@ use crate::fault::Fault;
 use crate::fault::call::Call;
 use control_word::Place;
 use handle_table;
+use std::cell::RefMut;
 use std::sync::Wait;
 
 impl<D: Domain> Desk<D> {
@@ -47,55 +48,26 @@ impl<D: Domain> Desk<D> {
         }
     }
 
+    /// The table, for a call that brings a handle, and the vacant slot that it comes into.
     #[inline(always)]
-    pub(crate) fn copied(&self, from: usize) -> Result<usize, Fault> {
-        let mut table = self.open(Call::Share)?;
-        let to = self.take_slot(Call::Share)?;
-        let came = table.copy_in(from, to);
-        drop(table);
-        self.came(to, Call::Share, came)
+    pub(crate) fn open_slot(&self, call: Call) -> Result<(RefMut<'_, D>, usize), Fault> {
+        let table = self.open(call)?;
+        let to = self.take_slot(call)?;
+        Ok((table, to))
     }
 
+    /// A handle comes into a vacant slot.
     #[inline(always)]
-    pub(crate) fn aliased(&self, of: usize, place: Option<Place>) -> Result<usize, Fault> {
-        let mut table = self.open(Call::Alias)?;
-        let to = self.take_slot(Call::Alias)?;
-        let came = table.alias_in(of, place, to);
+    pub(crate) fn brought(&self, call: Call, bring: Bring) -> Result<usize, Fault> {
+        let (mut table, to) = self.open_slot(call)?;
+        let came = bring.into_slot(&mut *table, to);
         drop(table);
-        self.came(to, Call::Alias, came)
-    }
-
-    #[inline(always)]
-    pub(crate) fn downgraded(&self, from: usize) -> Result<usize, Fault> {
-        let mut table = self.open(Call::Downgrade)?;
-        let to = self.take_slot(Call::Downgrade)?;
-        let came = table.downgrade_in(from, to);
-        drop(table);
-        self.came(to, Call::Downgrade, came)
-    }
-
-    #[inline(always)]
-    pub(crate) fn owner_of_this(&self, of: usize) -> Result<usize, Fault> {
-        let mut table = self.open(Call::SharedFromThis)?;
-        let to = self.take_slot(Call::SharedFromThis)?;
-        let came = table.owner_of_this_in(of, to);
-        drop(table);
-        self.came(to, Call::SharedFromThis, came)
-    }
-
-    #[inline(always)]
-    pub(crate) fn weak_of_this(&self, of: usize) -> Result<usize, Fault> {
-        let mut table = self.open(Call::WeakFromThis)?;
-        let to = self.take_slot(Call::WeakFromThis)?;
-        let came = table.weak_of_this_in(of, to);
-        drop(table);
-        self.came(to, Call::WeakFromThis, came)
+        self.came(to, call, came)
     }
 
     #[inline(always)]
     pub(crate) fn locked<R: Wait>(&self, rt: &R, from: usize) -> Result<Option<usize>, Fault> {
-        let mut table = self.open(Call::Lock)?;
-        let to = self.take_slot(Call::Lock)?;
+        let (mut table, to) = self.open_slot(Call::Lock)?;
         let came = table.lock_in(rt, from, to);
         drop(table);
         self.came_with(to, Call::Lock, came)
@@ -103,19 +75,36 @@ impl<D: Domain> Desk<D> {
 
     #[inline(always)]
     pub(crate) fn upgraded<R: Wait>(&self, rt: &R, from: usize) -> Result<usize, Fault> {
-        let mut table = self.open(Call::Upgrade)?;
-        let to = self.take_slot(Call::Upgrade)?;
+        let (mut table, to) = self.open_slot(Call::Upgrade)?;
         let came = table.upgrade_in(rt, from, to);
         drop(table);
         self.came(to, Call::Upgrade, came)
     }
+}
 
-    /// An empty handle in a slot.
-    pub(crate) fn emptied(&self, call: Call, weak: bool) -> Result<usize, Fault> {
-        let mut table = self.open(call)?;
-        let to = self.take_slot(call)?;
-        let came = table.empty_in(to, weak);
-        drop(table);
-        self.came(to, call, came)
+/// How a handle comes into a slot without waiting for another thread.
+#[derive(Clone, Copy, Drop)]
+pub(crate) enum Bring {
+    /// One more of what lies in a slot.
+    Copy(usize),
+    Alias(usize, Option<Place>),
+    Downgrade(usize),
+    OwnerOfThis(usize),
+    WeakOfThis(usize),
+    /// An empty one, weak or not.
+    Empty(bool),
+}
+
+impl Bring {
+    #[inline(always)]
+    fn into_slot<D: Domain>(self, table: &mut D, to: usize) -> Result<(), handle_table::Fault> {
+        match self {
+            Bring::Copy(from) => table.copy_in(from, to),
+            Bring::Alias(of, place) => table.alias_in(of, place, to),
+            Bring::Downgrade(from) => table.downgrade_in(from, to),
+            Bring::OwnerOfThis(of) => table.owner_of_this_in(of, to),
+            Bring::WeakOfThis(of) => table.weak_of_this_in(of, to),
+            Bring::Empty(weak) => table.empty_in(to, weak),
+        }
     }
 }

@@ -3,58 +3,43 @@ ghost use Rattle.std.specs.Prelude.{◌≡◌};
 
 use crate::desk::Desk;
 use crate::domain::Domain;
-use crate::fault::Fault;
 use crate::fault::call::Call;
+use crate::fault::{Fault, told};
 use control_word::Place;
 use std::sync::Wait;
 
 impl<D: Domain> Desk<D> {
     #[inline(always)]
     pub(crate) fn field(&self, at: usize) -> Result<u64, Fault> {
-        match self.open(Call::Read)?.field(at) {
-            Ok(field) => Ok(field),
-            Err(why) => Err(Fault::of(Call::Read, why)),
-        }
+        told(Call::Read, self.open(Call::Read)?.field(at))
     }
 
     #[inline(always)]
     pub(crate) fn place_of(&self, at: usize) -> Result<Option<Place>, Fault> {
-        match self.open(Call::Place)?.place_of(at) {
-            Ok(place) => Ok(place),
-            Err(why) => Err(Fault::of(Call::Place, why)),
-        }
+        told(Call::Place, self.open(Call::Place)?.place_of(at))
     }
 
     #[inline(always)]
     pub(crate) fn owners(&self, at: usize) -> Result<u32, Fault> {
-        match self.open(Call::UseCount)?.owners(at) {
-            Ok(count) => Ok(count),
-            Err(why) => Err(Fault::of(Call::UseCount, why)),
-        }
+        told(Call::UseCount, self.open(Call::UseCount)?.owners(at))
     }
 
     #[inline(always)]
     pub(crate) fn expired_at(&self, at: usize) -> Result<bool, Fault> {
-        match self.open(Call::Expired)?.expired_at(at) {
-            Ok(expired) => Ok(expired),
-            Err(why) => Err(Fault::of(Call::Expired, why)),
-        }
+        told(Call::Expired, self.open(Call::Expired)?.expired_at(at))
     }
 
     #[inline(always)]
     pub(crate) fn same(&self, a: usize, b: usize) -> Result<bool, Fault> {
-        match self.open(Call::SamePlace)?.same(a, b) {
-            Ok(same) => Ok(same),
-            Err(why) => Err(Fault::of(Call::SamePlace, why)),
-        }
+        told(Call::SamePlace, self.open(Call::SamePlace)?.same(a, b))
     }
 
     #[inline(always)]
     pub(crate) fn before(&self, a: usize, b: usize) -> Result<bool, Fault> {
-        match self.open(Call::OwnerBefore)?.before(a, b) {
-            Ok(before) => Ok(before),
-            Err(why) => Err(Fault::of(Call::OwnerBefore, why)),
-        }
+        told(
+            Call::OwnerBefore,
+            self.open(Call::OwnerBefore)?.before(a, b),
+        )
     }
 
     /// Whether two handles are of one object, or both of none.

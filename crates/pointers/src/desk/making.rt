@@ -2,29 +2,23 @@
 
 use crate::desk::Desk;
 use crate::domain::Domain;
+use crate::fault::Refused;
 use crate::fault::call::Call;
-use crate::fault::{Fault, Refused};
 use crate::shared::Shared;
 use handle_table::Returned;
 
 impl<D: Domain> Desk<D> {
-    /// A new object in a vacant slot.
+    /// A new object's owner in a vacant slot, or that of a null pointer.
     #[inline(always)]
-    fn made(
-        &self,
-        fields: [u64; 4],
-        enabled: bool,
-        value: D::Value,
-    ) -> Result<Shared<'_, D>, Refused<D::Value>> {
-        let mut table = match self.open(Call::Make) {
-            Ok(table) => table,
+    fn made(&self, new: New, value: D::Value) -> Result<Shared<'_, D>, Refused<D::Value>> {
+        let (mut table, to) = match self.open_slot(Call::Make) {
+            Ok(opened) => opened,
             Err(why) => return Err(Refused { why, back: value }),
         };
-        let to = match self.take_slot(Call::Make) {
-            Ok(to) => to,
-            Err(why) => return Err(Refused { why, back: value }),
+        let came = match new {
+            New::Object(fields, enabled) => table.make_in(to, fields, enabled, value),
+            New::Null => table.make_null_in(to, value),
         };
-        let came = table.make_in(to, fields, enabled, value);
         drop(table);
         self.made_in(to, came)
     }
@@ -54,13 +48,13 @@ impl<D: Domain> Desk<D> {
         fields: [u64; 4],
         value: D::Value,
     ) -> Result<Shared<'_, D>, Refused<D::Value>> {
-        self.made(fields, false, value)
+        self.made(New::Object(fields, false), value)
     }
 
     /// The same with four fields of 0, in Rust `Arc::new`.
     #[inline(always)]
     pub fn new(&self, value: D::Value) -> Result<Shared<'_, D>, Refused<D::Value>> {
-        self.made([0; 4], false, value)
+        self.made(New::Object([0; 4], false), value)
     }
 
     /// The same as `make` of an object that gives pointers to itself, in C++ one whose class derives from
@@ -71,22 +65,19 @@ impl<D: Domain> Desk<D> {
         fields: [u64; 4],
         value: D::Value,
     ) -> Result<Shared<'_, D>, Refused<D::Value>> {
-        self.made(fields, true, value)
+        self.made(New::Object(fields, true), value)
     }
 
     /// An owner of a null pointer, with a value for its end, in C++ `shared_ptr(nullptr, d)`
     /// ([util.smartptr.shared.const]). Refused as `make` is.
     pub fn make_null(&self, value: D::Value) -> Result<Shared<'_, D>, Refused<D::Value>> {
-        let mut table = match self.open(Call::Make) {
-            Ok(table) => table,
-            Err(why) => return Err(Refused { why, back: value }),
-        };
-        let to = match self.take_slot(Call::Make) {
-            Ok(to) => to,
-            Err(why) => return Err(Refused { why, back: value }),
-        };
-        let came = table.make_null_in(to, value);
-        drop(table);
-        self.made_in(to, came)
+        self.made(New::Null, value)
     }
+}
+
+/// What a make brings: an object with these fields, which gives pointers to itself or not, or an owner of null.
+#[derive(Clone, Copy, Drop)]
+enum New {
+    Object([u64; 4], bool),
+    Null,
 }

@@ -1,10 +1,11 @@
 //! Calls on places, where pointers lie that other threads see too.
 
 use crate::desk::Desk;
+use crate::desk::bringing::Bring;
 use crate::domain::Domain;
 use crate::fault::Fault;
 use crate::fault::call::{Call, Spot};
-use handle_table::Cell as At;
+use handle_table::{self, Cell as At};
 use shared_handle::Gone;
 use std::sync::Wait;
 
@@ -21,7 +22,7 @@ pub(crate) struct Target {
 impl Target {
     /// Whether it is for weak pointers.
     #[inline(always)]
-    fn is_weak(&self) -> bool {
+    pub(crate) fn is_weak(&self) -> bool {
         match self.spot {
             Spot::Weak(_) => true,
             Spot::Up => true,
@@ -35,8 +36,7 @@ impl<D: Domain> Desk<D> {
     #[inline(always)]
     pub(crate) fn loaded<R: Wait>(&self, rt: &R, from: Target) -> Result<Option<usize>, Fault> {
         let call = Call::Load(from.spot);
-        let mut table = self.open(call)?;
-        let to = self.take_slot(call)?;
+        let (mut table, to) = self.open_slot(call)?;
         let came = table.load_in(rt, from.at, to);
         drop(table);
         self.came_with(to, call, came)
@@ -103,7 +103,7 @@ impl<D: Domain> Desk<D> {
     /// What a place holds comes out of it. None where it is empty.
     #[inline(always)]
     pub(crate) fn taken(&self, from: Target) -> Result<Option<usize>, Fault> {
-        let at = self.emptied(Call::Exchange(from.spot), from.is_weak())?;
+        let at = self.brought(Call::Exchange(from.spot), Bring::Empty(from.is_weak()))?;
         self.exchanged(at, from)
     }
 
@@ -111,13 +111,7 @@ impl<D: Domain> Desk<D> {
     pub(crate) fn cleared(&self, to: Target) -> Result<(), Fault> {
         let call = Call::Clear(to.spot);
         let mut table = self.open(call)?;
-        if let Err(why) = table.empty_in(OWN, to.is_weak()) {
-            return Err(Fault::of(call, why));
-        }
-        let left = table.store_from(OWN, to.at);
-        if left.is_err() {
-            let _ = table.leave(OWN);
-        }
+        let left = emptied(&mut *table, to);
         drop(table);
         match left {
             Ok(gone) => {
@@ -127,41 +121,14 @@ impl<D: Domain> Desk<D> {
             Err(why) => Err(Fault::of(call, why)),
         }
     }
-
-    /// A compare of what a place holds with the handle in one slot, and if they are equivalent, an exchange for that in
-    /// another, which is vacant then. Else the first slot has a copy of what the place holds: whether it is empty.
-    pub(crate) fn compared<R: Wait>(
-        &self,
-        rt: &R,
-        place: Target,
-        slots: (usize, usize),
-        weak: bool,
-    ) -> Result<Compared, Fault> {
-        let call = Call::CompareExchange(place.spot);
-        let mut table = self.open(call)?;
-        let came = table.compare_at(rt, place.at, slots, weak);
-        let found = table.holds(slots.0);
-        drop(table);
-        match came {
-            Ok(true) => {
-                self.give_slot(slots.1);
-                self.end_some();
-                Ok(Compared::Exchanged)
-            }
-            Ok(false) => {
-                self.end_some();
-                Ok(Compared::Found(found))
-            }
-            Err(why) => Err(Fault::of(call, why)),
-        }
-    }
 }
 
-/// What a compare did.
-#[derive(Clone, Copy, Drop)]
-pub(crate) enum Compared {
-    /// What was desired is in the place.
-    Exchanged,
-    /// Another pointer is; whether it is more than an empty one.
-    Found(bool),
+/// An empty handle goes into a place by the desk's own slot, and what the place held leaves.
+fn emptied<D: Domain>(table: &mut D, to: Target) -> Result<Gone, handle_table::Fault> {
+    table.empty_in(OWN, to.is_weak())?;
+    let left = table.store_from(OWN, to.at);
+    if left.is_err() {
+        let _ = table.leave(OWN);
+    }
+    left
 }

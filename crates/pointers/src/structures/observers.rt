@@ -4,7 +4,7 @@ use crate::cells::SharedCell;
 use crate::desk::Desk;
 use crate::domain::Domain;
 use crate::fault::call::{Call, Spot};
-use crate::fault::{Fault, Refused};
+use crate::fault::{Fault, Refused, told};
 use crate::shared::Shared;
 use std::alloc::Global;
 use std::sync::Wait;
@@ -29,10 +29,8 @@ impl<D: Domain> Desk<D> {
     /// blocks, and no other call on it does: `Memory`. `Cell` where there is no such cell.
     pub fn observers(&self, alloc: Global, cell: SharedCell) -> Result<Observers<'_, D>, Fault> {
         let call = Call::Observers(Spot::Shared(cell.0));
-        match self.open(call)?.observers_in(alloc, cell.0) {
-            Ok(access) => Ok(Observers { desk: self, access }),
-            Err(why) => Err(Fault::of(call, why)),
-        }
+        let access = told(call, self.open(call)?.observers_in(alloc, cell.0))?;
+        Ok(Observers { desk: self, access })
     }
 }
 
@@ -64,14 +62,11 @@ impl<'t, D: Domain> Observers<'t, D> {
         requires { F.IsAlwaysCallable tell }
     {
         let mut table = self.desk.open(Call::Each)?;
-        let told = table.tell_each(rt, &mut self.access, tell);
+        let done = table.tell_each(rt, &mut self.access, tell);
         drop(table);
         self.desk.catch_up();
         self.desk.spare();
-        match told {
-            Ok(()) => Ok(()),
-            Err(why) => Err(Fault::of(Call::Each, why)),
-        }
+        told(Call::Each, done)
     }
 
     /// The observers whose subject has no owner go out and end (waits): how many did. `Refused(Prune, NotSole)` where
@@ -81,9 +76,6 @@ impl<'t, D: Domain> Observers<'t, D> {
         let pruned = table.prune_all(rt, &mut self.access);
         drop(table);
         self.desk.spare();
-        match pruned {
-            Ok(count) => Ok(count),
-            Err(why) => Err(Fault::of(Call::Prune, why)),
-        }
+        told(Call::Prune, pruned)
     }
 }

@@ -3,7 +3,7 @@
 use crate::desk::Desk;
 use crate::domain::Domain;
 use crate::fault::call::Call;
-use crate::fault::{Fault, Refused};
+use crate::fault::{Fault, Refused, told};
 use crate::shared::Shared;
 use std::alloc::Global;
 use std::sync::Wait;
@@ -28,10 +28,8 @@ impl<D: Domain> Desk<D> {
     /// An access to the trees of the domain (own). It takes memory for the ends of as many objects as there are blocks,
     /// and no other call on it does: `Memory`.
     pub fn scene(&self, alloc: Global) -> Result<Scene<'_, D>, Fault> {
-        match self.open(Call::Scene)?.scene_in(alloc) {
-            Ok(access) => Ok(Scene { desk: self, access }),
-            Err(why) => Err(Fault::of(Call::Scene, why)),
-        }
+        let access = told(Call::Scene, self.open(Call::Scene)?.scene_in(alloc))?;
+        Ok(Scene { desk: self, access })
     }
 
     /// The owner lets go, and the values come out of all that ends by that, in the order in which it did: an object
@@ -73,12 +71,8 @@ impl<'t, D: Domain> Scene<'t, D> {
         value: D::Value,
     ) -> Result<Shared<'t, D>, Refused<D::Value>> {
         let desk = self.desk;
-        let mut table = match desk.open(Call::AddChild) {
-            Ok(table) => table,
-            Err(why) => return Err(Refused { why, back: value }),
-        };
-        let at = match desk.take_slot(Call::AddChild) {
-            Ok(at) => at,
+        let (mut table, at) = match desk.open_slot(Call::AddChild) {
+            Ok(opened) => opened,
             Err(why) => return Err(Refused { why, back: value }),
         };
         let added = table.add_child_in(rt, &mut self.access, (parent.at, at), fields, value);
@@ -100,9 +94,6 @@ impl<'t, D: Domain> Scene<'t, D> {
         let detached = table.detach_at(rt, &mut self.access, node.at);
         drop(table);
         self.desk.spare();
-        match detached {
-            Ok(()) => Ok(()),
-            Err(why) => Err(Fault::of(Call::Detach, why)),
-        }
+        told(Call::Detach, detached)
     }
 }

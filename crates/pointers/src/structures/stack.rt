@@ -4,7 +4,7 @@ use crate::cells::SharedCell;
 use crate::desk::Desk;
 use crate::domain::Domain;
 use crate::fault::call::{Call, Spot};
-use crate::fault::{Fault, Refused};
+use crate::fault::{Fault, Refused, told};
 use crate::shared::Shared;
 use std::alloc::Global;
 use std::sync::Wait;
@@ -29,10 +29,8 @@ impl<D: Domain> Desk<D> {
     /// blocks, and no other call on it does: `Memory`. `Cell` where there is no such cell.
     pub fn stack(&self, alloc: Global, cell: SharedCell) -> Result<Stack<'_, D>, Fault> {
         let call = Call::Stack(Spot::Shared(cell.0));
-        match self.open(call)?.stack_in(alloc, cell.0) {
-            Ok(access) => Ok(Stack { desk: self, access }),
-            Err(why) => Err(Fault::of(call, why)),
-        }
+        let access = told(call, self.open(call)?.stack_in(alloc, cell.0))?;
+        Ok(Stack { desk: self, access })
     }
 }
 
@@ -60,8 +58,7 @@ impl<'t, D: Domain> Stack<'t, D> {
     /// The top object comes out (waits). None where there is none. It keeps what its `next` owns.
     pub fn pop<R: Wait>(&mut self, rt: &R) -> Result<Option<Shared<'t, D>>, Fault> {
         let desk = self.desk;
-        let mut table = desk.open(Call::Pop)?;
-        let at = desk.take_slot(Call::Pop)?;
+        let (mut table, at) = desk.open_slot(Call::Pop)?;
         let came = table.pop_from(rt, &mut self.access, at);
         drop(table);
         desk.spare();
