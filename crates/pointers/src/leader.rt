@@ -75,20 +75,6 @@ fn put_down<D: Domain>(pointers: Vec<Shared<'_, D>>, kept: &mut Vec<usize, Globa
     }
 }
 
-/// The leader leads at its desk, with the pointers that it kept.
-fn led<V: Drop, R: Threads + Wait + Sync, P: Leader<V, R>, D: Domain<Value = V>>(
-    rt: &R,
-    leader: &mut P,
-    before: Option<Manned>,
-    desk: &Desk<D>,
-    (alloc, kept): (Global, &mut Vec<usize, Global>),
-) -> Result<Option<Team>, Fault> {
-    let mut pointers = regained(alloc, desk, kept)?;
-    let next = leader.lead(rt, before, desk, &mut pointers);
-    put_down(pointers, kept);
-    next
-}
-
 impl<'p, V: Drop, R: Threads + Wait + Sync, P: Leader<V, R> + Sync> handle_table::Program<V, R>
     for Lead<'p, P> {
     fn work<H: Home>(&self, rt: &R, number: usize, table: &mut HandleTable<'_, V, H>) {
@@ -184,7 +170,15 @@ impl<'p, V: Drop, R: Threads + Wait + Sync, P: Leader<V, R> + Sync> handle_table
             return None;
         };
         let desk = Desk::over(Lent::new(table), links);
-        let next = led(rt, self.leader, before, &desk, (self.alloc, &mut self.kept));
+        let next = match regained(self.alloc, &desk, &mut self.kept) {
+            Ok(pointers) => {
+                let mut pointers = pointers;
+                let next = self.leader.lead(rt, before, &desk, &mut pointers);
+                put_down(pointers, &mut self.kept);
+                next
+            }
+            Err(why) => Err(why),
+        };
         let _ = desk.shelve();
         drop(desk.into_table());
         self.next(rt, next)
