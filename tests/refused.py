@@ -51,6 +51,10 @@ REFUSED = {
         *as_opened("handle_tests"),
     ],
     "table_tests::memory": ["--", *as_opened("table_tests")],
+    "pointer_tests::memory": [
+        "memory::tests::a_refused_run_is_made_again=0",
+        "memory::tests::a_refused_leader_is_run_again=0",
+    ],
     "scene_tests::memory": [],
     "scene_tests::accesses": ["accesses::a_refused_access_is_sought_again=0"],
     "script_tests::machine::opening::a_refused_world_gives_its_program_back": [

@@ -61,12 +61,21 @@ impl Topic {
             let Some(subscriber) = known.lock(rt)? else {
                 return Ok(false);
             };
-            let took = subscriber.visit(rt, |it| take(it, message))?;
-            told = told.saturating_add(u32::from(took));
+            told = told.saturating_add(tell(rt, &subscriber, message)?);
             Ok(true)
         })?;
         Ok(told)
     }
+}
+
+/// A subscriber gets the message: how many took it.
+fn tell<D: Domain<Value = Subscriber>, R: Wait>(
+    rt: &R,
+    subscriber: &Shared<'_, D>,
+    message: u64,
+) -> Result<u32, Fault> {
+    let took = subscriber.visit(rt, |it| take(it, message))?;
+    Ok(u32::from(took))
 }
 
 /// The message comes into the inbox: whether there was room for it.
@@ -87,6 +96,23 @@ struct Bus {
 }
 
 impl Bus {
+    /// A new subscriber to the news, and to the weather in each second round.
+    fn subscriber<'t, D: Domain<Value = Subscriber>, R: Wait>(
+        &self,
+        rt: &R,
+        desk: &'t Desk<D>,
+        round: u64,
+    ) -> Result<Shared<'t, D>, Fault> {
+        let messages = Vec::new(self.alloc);
+        let received = self.received.clone()?;
+        let mine = desk.new(Some(Inbox { messages, received }))?;
+        self.news.subscribe(rt, &mine)?;
+        if round % 2 == 1 {
+            self.weather.subscribe(rt, &mine)?;
+        }
+        Ok(mine)
+    }
+
     /// Twenty subscribers, one after another, with five messages each while they are there.
     fn talk<D: Domain<Value = Subscriber>, R: Wait>(
         &self,
@@ -94,13 +120,7 @@ impl Bus {
         desk: &Desk<D>,
     ) -> Result<(), Fault> {
         for round in 0..20u64 {
-            let messages = Vec::new(self.alloc);
-            let received = self.received.clone()?;
-            let mine = desk.new(Some(Inbox { messages, received }))?;
-            self.news.subscribe(rt, &mine)?;
-            if round % 2 == 1 {
-                self.weather.subscribe(rt, &mine)?;
-            }
+            let _mine = self.subscriber(rt, desk, round)?;
             for message in 0..5u64 {
                 let topic = if message % 2 == 0 {
                     &self.news

@@ -1,122 +1,104 @@
 //! Each call on a free cell for owners.
 
-use crate::values::{Told, Value, begin, ended, object, refused, row, same};
-use pointers::{Call, Desk, Domain, Fault, SharedCell, Spot, WeakCell};
-use std::sync::Wait;
+use crate::plays::{answers, answers_often};
+use crate::steps::Answer::{Done, Not, Nothing, Number};
+use crate::steps::Cell::{Desk, Free, Place};
+use crate::steps::Look::Read;
+use crate::steps::New::Object;
+use crate::steps::Step::{
+    Clear, Drop, Ends, Exchange, Load, LockIn, Look, Make, Store, Take, TakeWeak,
+};
+use crate::steps::{Row, WatchCell};
+use pointers::{Call, Fault, Spot};
 
-/// The field that a cell's owner points at, or 0.
-fn read_of<R: Wait, D: Domain<Value = Value>>(
-    rt: &R,
-    desk: &Desk<D>,
-    cell: SharedCell,
-) -> Result<u64, Fault> {
-    match desk.load(rt, cell)? {
-        Some(now) => now.read(),
-        None => Ok(0),
-    }
+/// Stores, loads, exchanges, and cells that are emptied in each way.
+const CALLS: [Row; 37] = [
+    (Load(Free(0), 0), Nothing),
+    (Make(Object, 1, 0), Done),
+    (Store(0, Free(0)), Done),
+    (Drop(0), Nothing),
+    (Load(Free(0), 0), Done),
+    (Look(0, Read), Number(1)),
+    (Drop(0), Done),
+    (Make(Object, 2, 0), Done),
+    (Store(0, Place(0)), Done),
+    (Ends, Number(1)),
+    (Make(Object, 3, 0), Done),
+    (Exchange(0, Free(0)), Done),
+    (Look(0, Read), Number(2)),
+    (Load(Place(0), 1), Done),
+    (Look(1, Read), Number(3)),
+    (Drop(1), Done),
+    (Store(0, Desk(0)), Done),
+    (Ends, Number(3)),
+    (Store(9, Desk(0)), Done),
+    (Ends, Number(2)),
+    (Load(Free(0), 0), Nothing),
+    (Take(Free(1), 0), Nothing),
+    (Make(Object, 4, 0), Done),
+    (Store(0, Free(1)), Done),
+    (Take(Free(1), 0), Done),
+    (Look(0, Read), Number(4)),
+    (Load(Free(1), 1), Nothing),
+    (Exchange(0, Place(1)), Nothing),
+    (Exchange(9, Place(1)), Done),
+    (Drop(9), Done),
+    (Ends, Number(4)),
+    (Clear(Free(1)), Done),
+    (Make(Object, 5, 0), Done),
+    (Store(0, Free(1)), Done),
+    (Clear(Place(1)), Done),
+    (Ends, Number(5)),
+    (Take(Place(1), 0), Nothing),
+];
+
+#[test]
+fn a_free_cell_has_an_owner(rt: HostRuntime) {
+    answers(&rt, rt.alloc(), &CALLS);
 }
 
-/// Stores, loads and exchanges.
-fn stored<R: Wait, D: Domain<Value = Value>>(
-    rt: &R,
-    desk: &Desk<D>,
-    told: &Told,
-) -> Result<(), Fault> {
-    let cell = SharedCell(0);
-    same(1, read_of(rt, desk, cell)?, 0)?;
-    object(desk, told, 1)?.store(cell)?;
-    same(2, read_of(rt, desk, cell)?, 1)?;
-    object(desk, told, 2)?.store(cell)?;
-    same(3, u64::from(ended(told)), 1)?;
-    let Some(two) = object(desk, told, 3)?.exchange(cell)? else {
-        return Err(Fault::Other(4));
-    };
-    same(5, two.read()?, 2)?;
-    same(6, read_of(rt, desk, cell)?, 3)?;
-    desk.store(cell, Some(two))?;
-    same(7, u64::from(ended(told)), 2)?;
-    desk.store(cell, None)?;
-    same(8, u64::from(ended(told)), 3)?;
-    same(9, read_of(rt, desk, cell)?, 0)
+const OUTSIDE: Spot = Spot::Shared(2);
+
+/// A cell that isn't there: what was handed in lets go.
+const NO_CELL: [Row; 14] = [
+    (Load(Free(2), 0), Not(Fault::Cell(Call::Load(OUTSIDE)))),
+    (Clear(Free(2)), Not(Fault::Cell(Call::Clear(OUTSIDE)))),
+    (Store(9, Desk(2)), Not(Fault::Cell(Call::Clear(OUTSIDE)))),
+    (Take(Free(2), 0), Not(Fault::Cell(Call::Exchange(OUTSIDE)))),
+    (Make(Object, 1, 0), Done),
+    (Store(0, Free(2)), Not(Fault::Cell(Call::Store(OUTSIDE)))),
+    (Ends, Number(1)),
+    (Make(Object, 2, 0), Done),
+    (
+        Exchange(0, Free(2)),
+        Not(Fault::Cell(Call::Exchange(OUTSIDE))),
+    ),
+    (Ends, Number(2)),
+    (Make(Object, 3, 0), Done),
+    (Store(0, Place(2)), Not(Fault::Cell(Call::Store(OUTSIDE)))),
+    (Ends, Number(3)),
+    (
+        Load(Free(u32::MAX), 0),
+        Not(Fault::Cell(Call::Load(Spot::Shared(u32::MAX)))),
+    ),
+];
+
+#[test]
+fn a_call_on_no_cell_is_refused(rt: HostRuntime) {
+    answers(&rt, rt.alloc(), &NO_CELL);
 }
 
-/// A cell that is emptied in each way.
-fn taken<R: Wait, D: Domain<Value = Value>>(
-    rt: &R,
-    desk: &Desk<D>,
-    told: &Told,
-) -> Result<(), Fault> {
-    let cell = SharedCell::at(1);
-    row(10, desk.take(cell)?.is_none())?;
-    object(desk, told, 1)?.store(cell)?;
-    let Some(one) = desk.take(cell)? else {
-        return Err(Fault::Other(11));
-    };
-    same(12, one.read()?, 1)?;
-    same(13, read_of(rt, desk, cell)?, 0)?;
-    let place = desk.cell(cell);
-    row(14, place.exchange(Some(one))?.is_none())?;
-    row(15, place.exchange(None)?.is_some())?;
-    same(16, u64::from(ended(told)), 1)?;
-    desk.clear(cell)?;
-    object(desk, told, 2)?.store(cell)?;
-    desk.clear(cell)?;
-    same(17, u64::from(ended(told)), 2)
-}
+/// What finds nothing.
+const FINDS: [Row; 5] = [
+    (Load(Free(0), 0), Nothing),
+    (LockIn(WatchCell::Free(0), 0), Nothing),
+    (Take(Free(0), 0), Nothing),
+    (TakeWeak(WatchCell::Free(0), 0), Nothing),
+    (Load(Free(2), 0), Not(Fault::Cell(Call::Load(OUTSIDE)))),
+];
 
-/// Loads, locks and exchanges that find nothing keep no pointer of the desk's.
-fn empty<R: Wait, D: Domain<Value = Value>>(rt: &R, desk: &Desk<D>) -> Result<(), Fault> {
-    for _ in 0..40 {
-        row(30, desk.load(rt, SharedCell(0))?.is_none())?;
-        row(31, desk.lock(rt, WeakCell(0))?.is_none())?;
-        row(32, desk.take(SharedCell(0))?.is_none())?;
-        row(33, desk.load(rt, SharedCell(2)).is_err())?;
-    }
-    Ok(())
-}
-
-/// Cells that aren't there: what was handed in lets go.
-fn outside<R: Wait, D: Domain<Value = Value>>(
-    rt: &R,
-    desk: &Desk<D>,
-    told: &Told,
-) -> Result<(), Fault> {
-    let spot = Spot::Shared(2);
-    let cell = SharedCell(2);
-    refused(20, desk.load(rt, cell), Fault::Cell(Call::Load(spot)))?;
-    refused(21, desk.clear(cell), Fault::Cell(Call::Clear(spot)))?;
-    refused(22, desk.take(cell), Fault::Cell(Call::Exchange(spot)))?;
-    let one = object(desk, told, 1)?;
-    refused(23, one.store(cell), Fault::Cell(Call::Store(spot)))?;
-    same(24, u64::from(ended(told)), 1)?;
-    let two = object(desk, told, 2)?;
-    refused(25, two.exchange(cell), Fault::Cell(Call::Exchange(spot)))?;
-    same(26, u64::from(ended(told)), 2)?;
-    let spot = Spot::Weak(2);
-    refused(
-        27,
-        desk.load_weak(rt, WeakCell(2)),
-        Fault::Cell(Call::Load(spot)),
-    )?;
-    refused(
-        28,
-        desk.lock(rt, WeakCell(2)),
-        Fault::Cell(Call::Load(spot)),
-    )?;
-    let most = SharedCell::at(usize::MAX);
-    row(29, desk.load(rt, most).is_err())
-}
-
-/// Free cells, all rows.
-pub(crate) fn play<R: Wait, D: Domain<Value = Value>>(
-    rt: &R,
-    desk: &Desk<D>,
-    told: &Told,
-) -> Result<(), Fault> {
-    stored(rt, desk, told)?;
-    begin(told);
-    taken(rt, desk, told)?;
-    begin(told);
-    outside(rt, desk, told)?;
-    empty(rt, desk)
+/// A desk of 16 pointers keeps none for what found nothing.
+#[test]
+fn what_finds_nothing_keeps_no_pointer(rt: HostRuntime) {
+    answers_often(&rt, rt.alloc(), &FINDS);
 }

@@ -1,126 +1,113 @@
-//! Compares, of owners and of weak pointers.
+//! Compares, of owners and of weak pointers. Slots 8 and 9 are vacant: there an empty pointer is expected or desired.
 
-use crate::values::{Told, Value, ended, object, refused, row, same};
-use pointers::{Call, Desk, Domain, Fault, SharedCell, Spot, WeakCell};
-use std::sync::Wait;
+use crate::plays::answers;
+use crate::steps::Answer::{Done, Is, Not, Nothing, Number};
+use crate::steps::Form::{Strong, Until, Weak};
+use crate::steps::New::Object;
+use crate::steps::Step::{
+    Clear, Come, Compare, CompareWeak, Drop, DropWeak, Ends, Load, LoadWeak, Look, Make, Store,
+    Watch,
+};
+use crate::steps::Watch::Downgrade;
+use crate::steps::Way::Share;
+use crate::steps::{Cell, Look as Asks, Row, WatchCell};
+use pointers::{Call, Fault, Spot};
+
+/// A free cell, by its place.
+const CELL: Cell = Cell::Place(0);
 
 /// An empty cell, and one that holds what was expected.
-fn swapped<R: Wait, D: Domain<Value = Value>>(
-    rt: &R,
-    desk: &Desk<D>,
-    told: &Told,
-) -> Result<(), Fault> {
-    let cell = desk.cell(SharedCell(0));
-    let one = object(desk, told, 1)?;
-    let mut expected = None;
-    let mut desired = Some(one.share()?);
-    row(
-        1,
-        cell.compare_exchange_strong(rt, &mut expected, &mut desired)?,
-    )?;
-    row(2, expected.is_none() && desired.is_none())?;
-    same(3, u64::from(one.use_count()?), 2)?;
-    expected = Some(one);
-    desired = Some(object(desk, told, 2)?);
-    row(
-        4,
-        cell.compare_exchange_strong(rt, &mut expected, &mut desired)?,
-    )?;
-    row(5, desired.is_none())?;
-    drop(expected);
-    same(6, u64::from(ended(told)), 1)?;
-    cell.clear()?;
-    same(7, u64::from(ended(told)), 2)
+const SWAPS: [Row; 15] = [
+    (Make(Object, 1, 0), Done),
+    (Come(0, Share, 1), Done),
+    (Compare(Strong, CELL, 9, 1), Is(true)),
+    (Drop(9), Nothing),
+    (Drop(1), Nothing),
+    (Look(0, Asks::UseCount), Number(2)),
+    (Make(Object, 2, 1), Done),
+    (Compare(Until, CELL, 0, 1), Is(true)),
+    (Drop(1), Nothing),
+    (Look(0, Asks::UseCount), Number(1)),
+    (Drop(0), Done),
+    (Ends, Number(1)),
+    (Load(CELL, 0), Done),
+    (Compare(Strong, CELL, 0, 9), Is(true)),
+    (Load(CELL, 1), Nothing),
+];
+
+#[test]
+fn what_is_expected_is_exchanged(rt: HostRuntime) {
+    answers(&rt, rt.alloc(), &SWAPS);
 }
 
-/// A cell that holds something else.
-fn differs<R: Wait, D: Domain<Value = Value>>(
-    rt: &R,
-    desk: &Desk<D>,
-    told: &Told,
-) -> Result<(), Fault> {
-    let cell = desk.cell(SharedCell(0));
-    cell.store(Some(object(desk, told, 3)?))?;
-    let mut expected = None;
-    let mut desired = None;
-    row(
-        10,
-        !cell.compare_exchange_strong(rt, &mut expected, &mut desired)?,
-    )?;
-    let Some(found) = &expected else {
-        return Err(Fault::Other(11));
-    };
-    same(12, found.read()?, 3)?;
-    row(
-        13,
-        cell.compare_exchange_strong(rt, &mut expected, &mut desired)?,
-    )?;
-    expected = Some(object(desk, told, 4)?);
-    desired = Some(object(desk, told, 5)?);
-    let before = ended(told);
-    row(
-        14,
-        !cell.compare_exchange_weak(rt, &mut expected, &mut desired)?,
-    )?;
-    row(15, expected.is_none() && desired.is_some())?;
-    same(16, u64::from(ended(told).wrapping_sub(before)), 1)
+/// A cell that holds something else: what was expected becomes a copy of that.
+const DIFFERS: [Row; 16] = [
+    (Make(Object, 3, 0), Done),
+    (Store(0, CELL), Done),
+    (Compare(Strong, CELL, 8, 9), Is(false)),
+    (Look(8, Asks::Read), Number(3)),
+    (Compare(Strong, CELL, 8, 9), Is(true)),
+    (Drop(8), Done),
+    (Ends, Number(3)),
+    (Make(Object, 4, 1), Done),
+    (Make(Object, 5, 2), Done),
+    (Compare(Weak, CELL, 1, 2), Is(false)),
+    (Ends, Number(4)),
+    (Drop(1), Nothing),
+    (Look(2, Asks::Read), Number(5)),
+    (Compare(Strong, CELL, 9, 2), Is(true)),
+    (Clear(CELL), Done),
+    (Ends, Number(5)),
+];
+
+#[test]
+fn what_differs_is_told(rt: HostRuntime) {
+    answers(&rt, rt.alloc(), &DIFFERS);
 }
 
-/// Of weak pointers, until it is no spurious answer.
-fn weak<R: Wait, D: Domain<Value = Value>>(
-    rt: &R,
-    desk: &Desk<D>,
-    told: &Told,
-) -> Result<(), Fault> {
-    let cell = desk.weak_cell(WeakCell(0));
-    let one = object(desk, told, 6)?;
-    let mut expected = None;
-    let mut desired = Some(one.downgrade()?);
-    for _ in 0..1_000 {
-        if cell.compare_exchange_weak(rt, &mut expected, &mut desired)? {
-            break;
-        }
-    }
-    row(20, desired.is_none() && expected.is_none())?;
-    desired = None;
-    row(
-        21,
-        !cell.compare_exchange_strong(rt, &mut expected, &mut desired)?,
-    )?;
-    row(22, expected.is_some())?;
-    row(
-        23,
-        cell.compare_exchange_strong(rt, &mut expected, &mut desired)?,
-    )?;
-    row(24, cell.load(rt)?.is_none())
+/// The same of weak pointers.
+const WEAK: [Row; 13] = [
+    (Make(Object, 6, 0), Done),
+    (Watch(0, Downgrade, 0), Done),
+    (CompareWeak(Until, WatchCell::Place(0), 9, 0), Is(true)),
+    (DropWeak(9), Nothing),
+    (DropWeak(0), Nothing),
+    (CompareWeak(Strong, WatchCell::Place(0), 8, 9), Is(false)),
+    (CompareWeak(Strong, WatchCell::Place(0), 8, 9), Is(true)),
+    (DropWeak(8), Done),
+    (LoadWeak(WatchCell::Place(0), 1), Nothing),
+    (Watch(0, Downgrade, 0), Done),
+    (CompareWeak(Weak, WatchCell::Place(0), 0, 9), Is(false)),
+    (DropWeak(0), Nothing),
+    (Look(0, Asks::UseCount), Number(1)),
+];
+
+#[test]
+fn weak_pointers_are_compared(rt: HostRuntime) {
+    answers(&rt, rt.alloc(), &WEAK);
 }
 
 /// A cell that isn't there: both pointers stay.
-fn outside<R: Wait, D: Domain<Value = Value>>(
-    rt: &R,
-    desk: &Desk<D>,
-    told: &Told,
-) -> Result<(), Fault> {
-    let cell = desk.cell(SharedCell(9));
-    let mut expected = None;
-    let mut desired = Some(object(desk, told, 7)?);
-    let why = Fault::Cell(Call::CompareExchange(Spot::Shared(9)));
-    refused(
-        30,
-        cell.compare_exchange_strong(rt, &mut expected, &mut desired),
-        why,
-    )?;
-    row(31, expected.is_none() && desired.is_some())
-}
+const NO_CELL: [Row; 10] = [
+    (Make(Object, 7, 0), Done),
+    (
+        Compare(Strong, Cell::Place(9), 9, 0),
+        Not(Fault::Cell(Call::CompareExchange(Spot::Shared(9)))),
+    ),
+    (Drop(9), Nothing),
+    (Look(0, Asks::UseCount), Number(1)),
+    (Watch(0, Downgrade, 0), Done),
+    (
+        CompareWeak(Weak, WatchCell::Place(9), 0, 9),
+        Not(Fault::Cell(Call::CompareExchange(Spot::Weak(9)))),
+    ),
+    (DropWeak(9), Nothing),
+    (DropWeak(0), Done),
+    (Drop(0), Done),
+    (Ends, Number(7)),
+];
 
-/// Compares, all rows.
-pub(crate) fn play<R: Wait, D: Domain<Value = Value>>(
-    rt: &R,
-    desk: &Desk<D>,
-    told: &Told,
-) -> Result<(), Fault> {
-    swapped(rt, desk, told)?;
-    differs(rt, desk, told)?;
-    weak(rt, desk, told)?;
-    outside(rt, desk, told)
+#[test]
+fn a_refused_compare_keeps_both(rt: HostRuntime) {
+    answers(&rt, rt.alloc(), &NO_CELL);
 }

@@ -1,83 +1,145 @@
 //! A desk with as many pointers as it may have, and a domain with as many objects.
 
-use crate::values::{Told, Value, begin, ended, numbered, object, row, same};
-use pointers::{Call, Desk, Domain, Fault, Refusal, Refused, Shared, SharedCell};
-use std::alloc::Global;
-use std::sync::Wait;
+use crate::plays::answers;
+use crate::steps::Answer::{Done, Is, Not, Nothing, Number};
+use crate::steps::Form::{Strong, Weak};
+use crate::steps::New::{Enabled, Null, Object};
+use crate::steps::Step::{
+    Chain, Clear, Come, Compare, CompareWeak, Drop, DropWeak, Ends, EndsCount, Exchange, Forget,
+    ForgetWeak, Load, LoadWeak, LockIn, Look, LookWeak, Make, Parent, Rise, ShareWeak, Store,
+    Structure, Take, TakeWeak, Watch,
+};
+use crate::steps::Way::{Nowhere, Share, This};
+use crate::steps::{
+    Cell, Look as Asks, Rise as Rises, Row, Structure as Built, Watch as Watches, WatchCell,
+    WeakLook,
+};
+use pointers::{Call, Fault, Refusal, Spot};
 
-/// Owners of one object until the desk has no pointer more: how many.
-fn fill<'t, D: Domain<Value = Value>>(
-    first: &Shared<'t, D>,
-    all: &mut Vec<Shared<'t, D>>,
-) -> Result<Fault, Fault> {
-    for _ in 0..1_000 {
-        match first.share() {
-            Ok(more) => all.push(more)?,
-            Err(why) => return Ok(why),
-        }
-    }
-    Ok(Fault::Other(0))
+/// A free cell, which has an owner of the object.
+const CELL: Cell = Cell::Free(0);
+
+const WATCHED: WatchCell = WatchCell::Free(0);
+
+const CROWDED_SWAP: Spot = Spot::Shared(0);
+
+/// Each call that brings a pointer, at a desk that has all that it may have: an owner in slots 0 to 14, and a weak
+/// pointer. Then what needs no pointer more.
+const CROWD: [Row; 47] = [
+    (Structure(Built::Scene), Done),
+    (Structure(Built::Stack(1)), Done),
+    (Make(Enabled, 1, 0), Done),
+    (Come(0, Share, 1), Done),
+    (Store(1, CELL), Done),
+    (Watch(0, Watches::Downgrade, 0), Done),
+    (Come(0, Share, 1), Done),
+    (Come(0, Share, 2), Done),
+    (Come(0, Share, 3), Done),
+    (Come(0, Share, 4), Done),
+    (Come(0, Share, 5), Done),
+    (Come(0, Share, 6), Done),
+    (Come(0, Share, 7), Done),
+    (Come(0, Share, 8), Done),
+    (Come(0, Share, 9), Done),
+    (Come(0, Share, 10), Done),
+    (Come(0, Share, 11), Done),
+    (Come(0, Share, 12), Done),
+    (Come(0, Share, 13), Done),
+    (Come(0, Share, 14), Done),
+    (Come(0, Share, 15), Not(Fault::Crowded(Call::Share))),
+    (Come(0, Nowhere, 15), Not(Fault::Crowded(Call::Alias))),
+    (Come(0, This, 15), Not(Fault::Crowded(Call::SharedFromThis))),
+    (
+        Watch(0, Watches::Downgrade, 1),
+        Not(Fault::Crowded(Call::Downgrade)),
+    ),
+    (
+        Watch(0, Watches::This, 1),
+        Not(Fault::Crowded(Call::WeakFromThis)),
+    ),
+    (ShareWeak(0, 1), Not(Fault::Crowded(Call::Share))),
+    (Rise(0, Rises::Lock, 15), Not(Fault::Crowded(Call::Lock))),
+    (
+        Rise(0, Rises::Upgrade, 15),
+        Not(Fault::Crowded(Call::Upgrade)),
+    ),
+    (
+        Load(CELL, 15),
+        Not(Fault::Crowded(Call::Load(CROWDED_SWAP))),
+    ),
+    (
+        Take(CELL, 15),
+        Not(Fault::Crowded(Call::Exchange(CROWDED_SWAP))),
+    ),
+    (
+        Compare(Weak, Cell::Place(0), 15, 16),
+        Not(Fault::Crowded(Call::CompareExchange(CROWDED_SWAP))),
+    ),
+    (
+        LoadWeak(WATCHED, 1),
+        Not(Fault::Crowded(Call::Load(Spot::Weak(0)))),
+    ),
+    (
+        Load(Cell::First(0), 15),
+        Not(Fault::Crowded(Call::Load(Spot::First))),
+    ),
+    (Make(Enabled, 2, 15), Not(Fault::Crowded(Call::Make))),
+    (Make(Null, 3, 15), Not(Fault::Crowded(Call::Make))),
+    (Structure(Built::Pop(15)), Not(Fault::Crowded(Call::Pop))),
+    (
+        Structure(Built::AddChild(0, 4, 15)),
+        Not(Fault::Crowded(Call::AddChild)),
+    ),
+    (Ends, Number(234)),
+    (Look(0, Asks::UseCount), Number(16)),
+    (Compare(Strong, Cell::Place(0), 13, 14), Is(true)),
+    (Drop(14), Nothing),
+    (
+        LookWeak(0, WeakLook::Expired),
+        crate::steps::Answer::Is(false),
+    ),
+    (Look(0, Asks::UseCount), Number(15)),
+    (Clear(CELL), Done),
+    (LookWeak(0, WeakLook::UseCount), Number(14)),
+    (Come(0, Share, 14), Done),
+    (Come(0, Share, 15), Not(Fault::Crowded(Call::Share))),
+];
+
+#[test]
+fn a_crowded_desk_brings_no_pointer(rt: HostRuntime) {
+    answers(&rt, rt.alloc(), &CROWD);
 }
 
-/// A desk of 16 pointers.
-fn crowded<R: Wait, D: Domain<Value = Value>>(
-    rt: &R,
-    desk: &Desk<D>,
-    told: &Told,
-    alloc: Global,
-) -> Result<(), Fault> {
-    begin(told);
-    let first = object(desk, told, 1)?;
-    first.share()?.store(SharedCell(0))?;
-    let mut all = Vec::new(alloc);
-    row(1, fill(&first, &mut all)? == Fault::Crowded(Call::Share))?;
-    same(2, all.len() as u64, 15)?;
-    row(3, desk.load(rt, SharedCell(0)).is_err())?;
-    row(4, object(desk, told, 2).is_err())?;
-    same(5, u64::from(ended(told)), 1)?;
-    desk.clear(SharedCell(0))?;
-    same(6, u64::from(first.use_count()?), 16)?;
-    drop(all.pop());
-    row(7, first.share().is_ok())
+/// Objects until the domain has no block more, in a chain.
+const FULL: [Row; 6] = [
+    (Chain(64, 0), Done),
+    (
+        Make(Object, 7, 1),
+        Not(Fault::Refused(Call::Make, Refusal::Full)),
+    ),
+    (EndsCount, Number(1)),
+    (Drop(0), Done),
+    (EndsCount, Number(64)),
+    (Make(Object, 7, 1), Done),
+];
+
+#[test]
+fn a_full_domain_makes_no_object(rt: HostRuntime) {
+    answers(&rt, rt.alloc(), &FULL);
 }
 
-/// Objects until the domain has no block more, kept by one owner each, in a chain.
-fn full<D: Domain<Value = Value>>(desk: &Desk<D>, told: &Told, blocks: u32) -> Result<(), Fault> {
-    begin(told);
-    let mut head = object(desk, told, 0)?;
-    for _ in 1..blocks {
-        let node = object(desk, told, 0)?;
-        node.next().store(Some(head))?;
-        head = node;
-    }
-    match desk.new(numbered(told, 7)?) {
-        Ok(_) => return Err(Fault::Other(10)),
-        Err(refused) => {
-            let Refused { why, back } = refused;
-            row(11, why == Fault::Refused(Call::Make, Refusal::Full))?;
-            same(12, back.number, 7)?;
-        }
-    }
-    drop(head);
-    same(
-        14,
-        u64::from(ended(told)),
-        u64::from(blocks).wrapping_add(1),
-    )
-}
+/// Forgotten pointers let go when their worker has worked.
+const FORGOTTEN: [Row; 7] = [
+    (Make(Object, 1, 0), Done),
+    (Forget(0), Done),
+    (Make(Object, 2, 0), Done),
+    (Watch(0, Watches::Downgrade, 0), Done),
+    (ForgetWeak(0), Done),
+    (Drop(0), Done),
+    (Ends, Number(2)),
+];
 
-/// Crowds, all rows: of a desk with 16 pointers in a domain of so many blocks.
-pub(crate) fn play<R: Wait, D: Domain<Value = Value>>(
-    rt: &R,
-    desk: &Desk<D>,
-    told: &Told,
-    alloc: Global,
-    blocks: u32,
-) -> Result<(), Fault> {
-    crowded(rt, desk, told, alloc)?;
-    full(desk, told, blocks)?;
-    begin(told);
-    std::mem::forget(object(desk, told, 1)?);
-    std::mem::forget(object(desk, told, 2)?.downgrade()?);
-    same(20, u64::from(ended(told)), 1)
+#[test]
+fn forgotten_pointers_let_go(rt: HostRuntime) {
+    answers(&rt, rt.alloc(), &FORGOTTEN);
 }

@@ -1,5 +1,5 @@
-//! Tests of pointers, by their public calls alone. A play is what one worker does at its desk; each of its rows says
-//! what a call is to answer, and one that answers something else ends the play with the row's number.
+//! Tests of pointers, by their public calls alone. A list of calls is what one worker does at its desk; each of its rows
+//! says what a call is to answer, and one that answers something else ends the list with the row's number.
 #![tactic(auto)]
 
 #[cfg(test)]
@@ -11,20 +11,32 @@ mod crowds;
 #[cfg(test)]
 mod drops;
 #[cfg(test)]
+mod leaders;
+#[cfg(test)]
 mod lists;
 #[cfg(test)]
 mod members;
+#[cfg(test)]
+mod memory;
 #[cfg(test)]
 mod owners;
 #[cfg(test)]
 mod plays;
 #[cfg(test)]
 mod refusals;
+#[cfg(test)]
+mod runs;
 pub mod shapes;
+#[cfg(test)]
+mod shared_structures;
 #[cfg(test)]
 mod snapshots;
 #[cfg(test)]
 mod spares;
+#[cfg(test)]
+mod steps;
+#[cfg(test)]
+mod structures;
 #[cfg(test)]
 mod teams;
 #[cfg(test)]

@@ -1,72 +1,67 @@
 //! Lists of pointers in an object.
 
-use crate::values::{Told, Value, begin, ended, numbered, object, row, same};
-use pointers::{Desk, Domain, Fault, List, Shared};
-use std::sync::Wait;
+use crate::plays::answers;
+use crate::steps::Answer::{Done, Is, Number};
+use crate::steps::Cell::{First, Next};
+use crate::steps::ListCall::{Clear, Count, Each, Push, PushFront, Remove, Retain};
+use crate::steps::New::Object;
+use crate::steps::Row;
+use crate::steps::Step::{Come, Drop, Ends, EndsCount, List, Make, Watch, WeakList};
+use crate::steps::Watch::Downgrade;
+use crate::steps::Way::Share;
 
-/// The fields of what the elements own, as decimal digits.
-fn digits<'t, R: Wait, D: Domain<Value = Value>>(
-    rt: &R,
-    list: &List<'_, 't, D, Shared<'t, D>>,
-) -> Result<u64, Fault> {
-    let mut digits = 0u64;
-    list.each(rt, |element| {
-        let digit = element.read()?;
-        digits = digits.wrapping_mul(10).wrapping_add(digit);
-        Ok(())
-    })?;
-    Ok(digits)
-}
+/// Owners. The nodes have the number 8.
+const OWNERS: [Row; 21] = [
+    (Make(Object, 9, 0), Done),
+    (Make(Object, 1, 1), Done),
+    (List(First(0), Push(1)), Done),
+    (Make(Object, 2, 1), Done),
+    (List(First(0), Push(1)), Done),
+    (Make(Object, 3, 1), Done),
+    (List(First(0), Push(1)), Done),
+    (Make(Object, 4, 1), Done),
+    (List(First(0), Push(1)), Done),
+    (Make(Object, 5, 5), Done),
+    (Come(5, Share, 1), Done),
+    (List(First(0), PushFront(1)), Done),
+    (List(First(0), Each), Number(51_234)),
+    (List(First(0), Count), Number(5)),
+    (List(First(0), Remove(5)), Is(true)),
+    (List(First(0), Remove(5)), Is(false)),
+    (List(First(0), Retain), Number(2)),
+    (List(First(0), Each), Number(24)),
+    (EndsCount, Number(5)),
+    (List(First(0), Clear), Done),
+    (EndsCount, Number(4)),
+];
 
-/// Owners.
-fn owners<R: Wait, D: Domain<Value = Value>>(
-    rt: &R,
-    desk: &Desk<D>,
-    told: &Told,
-) -> Result<(), Fault> {
-    let of = object(desk, told, 9)?;
-    let list = of.first().list();
-    for number in 1..=4 {
-        list.push(rt, object(desk, told, number)?, numbered(told, 8)?)?;
-    }
-    let five = object(desk, told, 5)?;
-    list.push_front(rt, five.share()?, numbered(told, 8)?)?;
-    same(1, digits(rt, &list)?, 51_234)?;
-    same(2, list.count(rt)? as u64, 5)?;
-    row(3, list.remove(rt, &five)? && !list.remove(rt, &five)?)?;
-    let out = list.retain(rt, |element| Ok(element.read()? % 2 == 0))?;
-    same(4, out as u64, 2)?;
-    same(5, digits(rt, &list)?, 24)?;
-    begin(told);
-    list.clear()?;
-    same(6, u64::from(ended(told)), 4)
+#[test]
+fn a_list_has_owners(rt: HostRuntime) {
+    answers(&rt, rt.alloc(), &OWNERS);
 }
 
 /// Weak pointers, of which the expired ones go out.
-fn weaks<R: Wait, D: Domain<Value = Value>>(
-    rt: &R,
-    desk: &Desk<D>,
-    told: &Told,
-) -> Result<(), Fault> {
-    let of = object(desk, told, 9)?;
-    let list = of.next().weak_list();
-    let one = object(desk, told, 1)?;
-    let two = object(desk, told, 2)?;
-    list.push(rt, one.downgrade()?, numbered(told, 8)?)?;
-    list.push(rt, two.downgrade()?, numbered(told, 8)?)?;
-    drop(one);
-    let out = list.retain(rt, |element| Ok(!element.expired()?))?;
-    same(10, out as u64, 1)?;
-    row(11, list.remove(rt, &two.downgrade()?)?)?;
-    same(12, list.count(rt)? as u64, 0)
-}
+const WEAKS: [Row; 17] = [
+    (Make(Object, 9, 0), Done),
+    (Make(Object, 1, 1), Done),
+    (Make(Object, 2, 2), Done),
+    (Watch(1, Downgrade, 1), Done),
+    (WeakList(Next(0), Push(1)), Done),
+    (Watch(2, Downgrade, 1), Done),
+    (WeakList(Next(0), PushFront(1)), Done),
+    (WeakList(Next(0), Each), Number(2)),
+    (Drop(1), Done),
+    (Ends, Number(1)),
+    (WeakList(Next(0), Each), Number(1)),
+    (WeakList(Next(0), Retain), Number(1)),
+    (Ends, Number(8)),
+    (Watch(2, Downgrade, 1), Done),
+    (WeakList(Next(0), Remove(1)), Is(true)),
+    (WeakList(Next(0), Count), Number(0)),
+    (WeakList(Next(0), Clear), Done),
+];
 
-/// Lists, all rows.
-pub(crate) fn play<R: Wait, D: Domain<Value = Value>>(
-    rt: &R,
-    desk: &Desk<D>,
-    told: &Told,
-) -> Result<(), Fault> {
-    owners(rt, desk, told)?;
-    weaks(rt, desk, told)
+#[test]
+fn a_list_has_weak_pointers(rt: HostRuntime) {
+    answers(&rt, rt.alloc(), &WEAKS);
 }

@@ -1,116 +1,110 @@
 //! Each call on an owner.
 
-use crate::values::{Told, Value, begin, ended, numbered, object, refused, row, same};
-use pointers::{Call, Desk, Domain, Fault, Place, Refusal};
-use std::sync::Wait;
+use crate::plays::answers;
+use crate::steps::Answer::{Done, Is, Not, Nothing, Number};
+use crate::steps::Look::{self as Asks, Field, Read, UseCount, Visit};
+use crate::steps::New::{Enabled, Null, Object, Zeros};
+use crate::steps::Pair::{self, OwnerBefore, SamePlace};
+use crate::steps::Step::{Both, Come, Drop, Ends, Look, Make, Rise, Watch};
+use crate::steps::Way::{AtItsDesk, Into, Nowhere, Share, This};
+use crate::steps::{self, Row, Way};
+use pointers::{Call, Fault, Refusal};
 
-/// What two owners of one object tell.
-fn shared<D: Domain<Value = Value>>(desk: &Desk<D>, told: &Told) -> Result<(), Fault> {
-    let one = object(desk, told, 1)?;
-    same(1, one.read()?, 1)?;
-    same(2, u64::from(one.use_count()?), 1)?;
-    let two = one.share()?;
-    same(3, u64::from(two.use_count()?), 2)?;
-    row(4, one.is(&two)?)?;
-    row(5, one.same_place(&two)?)?;
-    drop(one);
-    same(6, u64::from(two.use_count()?), 1)?;
-    same(7, u64::from(ended(told)), 0)?;
-    drop(two);
-    same(8, u64::from(ended(told)), 1)
+/// Two owners of one object.
+const SHARED: [Row; 12] = [
+    (Make(Object, 1, 0), Done),
+    (Look(0, Read), Number(1)),
+    (Look(0, UseCount), Number(1)),
+    (Come(0, Share, 1), Done),
+    (Look(1, UseCount), Number(2)),
+    (Both(0, Pair::Is, 1), Is(true)),
+    (Both(0, SamePlace, 1), Is(true)),
+    (Drop(0), Done),
+    (Look(1, UseCount), Number(1)),
+    (Ends, Number(0)),
+    (Drop(1), Done),
+    (Ends, Number(1)),
+];
+
+#[test]
+fn the_last_owner_ends_its_object(rt: HostRuntime) {
+    answers(&rt, rt.alloc(), &SHARED);
 }
 
-/// What aliases point at.
-fn aliased<D: Domain<Value = Value>>(desk: &Desk<D>, told: &Told) -> Result<(), Fault> {
-    let one = object(desk, told, 1)?;
-    let Some(place) = one.place()? else {
-        return Err(Fault::Other(10));
-    };
-    same(11, u64::from(place.field), 0)?;
-    let block = place.block;
-    let third = one.alias(Some(Place { block, field: 2 }))?;
-    same(12, third.read()?, 30)?;
-    row(13, third.is(&one)? && !third.same_place(&one)?)?;
-    let nowhere = one.alias(None)?;
-    row(14, nowhere.place()?.is_none())?;
-    refused(
-        15,
-        nowhere.read(),
-        Fault::Refused(Call::Read, Refusal::Null),
-    )?;
-    refused(
-        16,
-        one.alias(Some(Place { block, field: 4 })),
-        Fault::Place(Call::Alias),
-    )?;
-    same(17, u64::from(nowhere.use_count()?), 3)
-}
+/// Owners that point at a field, nowhere, and into another object.
+const ALIASES: [Row; 26] = [
+    (Make(Object, 1, 0), Done),
+    (Look(0, Field), Number(0)),
+    (Come(0, Way::Field(2), 1), Done),
+    (Look(1, Read), Number(30)),
+    (Both(1, Pair::Is, 0), Is(true)),
+    (Both(1, SamePlace, 0), Is(false)),
+    (Come(0, Nowhere, 2), Done),
+    (Look(2, Field), Nothing),
+    (
+        Look(2, Read),
+        Not(Fault::Refused(Call::Read, Refusal::Null)),
+    ),
+    (Look(2, Visit), Number(1)),
+    (Come(0, Way::Field(4), 3), Not(Fault::Place(Call::Alias))),
+    (Look(2, UseCount), Number(3)),
+    (Make(Object, 2, 3), Done),
+    (Come(0, Into(3), 4), Done),
+    (Both(4, SamePlace, 3), Is(true)),
+    (Both(4, Pair::Is, 3), Is(false)),
+    (
+        Look(4, Read),
+        Not(Fault::Refused(Call::Read, Refusal::Outside)),
+    ),
+    (Look(4, Visit), Number(1)),
+    (Both(0, OwnerBefore, 4), Is(false)),
+    (Drop(0), Done),
+    (Drop(1), Done),
+    (Drop(2), Done),
+    (Drop(3), Done),
+    (Ends, Number(2)),
+    (Drop(4), Done),
+    (Ends, Number(1)),
+];
 
-/// An alias into another object.
-fn elsewhere<D: Domain<Value = Value>>(desk: &Desk<D>, told: &Told) -> Result<(), Fault> {
-    let one = object(desk, told, 1)?;
-    let two = object(desk, told, 2)?;
-    let there = one.alias(two.place()?)?;
-    row(20, there.same_place(&two)? && !there.is(&two)?)?;
-    refused(
-        21,
-        there.read(),
-        Fault::Refused(Call::Read, Refusal::Outside),
-    )?;
-    let before = one.owner_before(&two)?;
-    row(22, before != two.owner_before(&one)?)?;
-    row(23, !one.owner_before(&there)?)?;
-    drop(one);
-    same(24, u64::from(ended(told)), 0)?;
-    drop(there);
-    same(25, u64::from(ended(told)), 1)
+#[test]
+fn an_alias_owns_one_object_and_points_at_another(rt: HostRuntime) {
+    answers(&rt, rt.alloc(), &ALIASES);
 }
 
 /// Pointers that an object gives of itself, and owners of null.
-fn this<R: Wait, D: Domain<Value = Value>>(
-    rt: &R,
-    desk: &Desk<D>,
-    told: &Told,
-) -> Result<(), Fault> {
-    let one = desk.make_enabled([5, 0, 0, 0], numbered(told, 1)?)?;
-    let again = one.shared_from_this()?;
-    same(30, u64::from(again.use_count()?), 2)?;
-    row(31, one.weak_from_this()?.lock(rt)?.is_some())?;
-    let plain = desk.new(numbered(told, 2)?)?;
-    same(32, plain.read()?, 0)?;
-    refused(
-        33,
-        plain.shared_from_this(),
-        Fault::Refused(Call::SharedFromThis, Refusal::NotEnabled),
-    )?;
-    refused(
-        34,
-        plain.weak_from_this(),
-        Fault::Refused(Call::WeakFromThis, Refusal::NotEnabled),
-    )?;
-    null(desk, told)
-}
+const THIS: [Row; 22] = [
+    (Make(Enabled, 5, 0), Done),
+    (Come(0, This, 1), Done),
+    (Look(1, UseCount), Number(2)),
+    (Both(1, SamePlace, 0), Is(true)),
+    (Watch(0, steps::Watch::This, 0), Done),
+    (Rise(0, steps::Rise::Lock, 2), Done),
+    (Both(2, Pair::Is, 0), Is(true)),
+    (Make(Zeros, 2, 3), Done),
+    (Look(3, Read), Number(0)),
+    (
+        Come(3, This, 4),
+        Not(Fault::Refused(Call::SharedFromThis, Refusal::NotEnabled)),
+    ),
+    (
+        Watch(3, steps::Watch::This, 1),
+        Not(Fault::Refused(Call::WeakFromThis, Refusal::NotEnabled)),
+    ),
+    (Make(Null, 3, 4), Done),
+    (Look(4, Field), Nothing),
+    (Look(4, UseCount), Number(1)),
+    (Look(4, Visit), Number(3)),
+    (Look(4, Asks::Number(9)), Number(9)),
+    (Look(4, Visit), Number(9)),
+    (Drop(4), Done),
+    (Ends, Number(9)),
+    (Come(3, AtItsDesk(7), 5), Done),
+    (Look(5, Read), Number(7)),
+    (Both(3, Pair::Is, 5), Is(false)),
+];
 
-/// An owner of a null pointer.
-fn null<D: Domain<Value = Value>>(desk: &Desk<D>, told: &Told) -> Result<(), Fault> {
-    let null = desk.make_null(numbered(told, 3)?)?;
-    row(40, null.place()?.is_none())?;
-    same(41, u64::from(null.use_count()?), 1)?;
-    let before = ended(told);
-    drop(null);
-    same(42, u64::from(ended(told).wrapping_sub(before)), 1)
-}
-
-/// Owners, all rows.
-pub(crate) fn play<R: Wait, D: Domain<Value = Value>>(
-    rt: &R,
-    desk: &Desk<D>,
-    told: &Told,
-) -> Result<(), Fault> {
-    shared(desk, told)?;
-    begin(told);
-    aliased(desk, told)?;
-    begin(told);
-    elsewhere(desk, told)?;
-    this(rt, desk, told)
+#[test]
+fn an_object_gives_pointers_of_itself(rt: HostRuntime) {
+    answers(&rt, rt.alloc(), &THIS);
 }

@@ -77,23 +77,6 @@ pub(crate) fn row(number: u32, holds: bool) -> Result<(), Fault> {
     }
 }
 
-/// A row of a number that is to be another.
-pub(crate) fn same(number: u32, is: u64, wanted: u64) -> Result<(), Fault> {
-    row(number, is == wanted)
-}
-
-/// A row of a call that is to be refused so.
-pub(crate) fn refused<T: Drop>(
-    number: u32,
-    is: Result<T, Fault>,
-    wanted: Fault,
-) -> Result<(), Fault> {
-    match is {
-        Ok(_) => Err(Fault::Other(number)),
-        Err(why) => row(number, why == wanted),
-    }
-}
-
 /// Nothing has ended yet.
 pub(crate) fn begin(told: &Told) {
     told.count.store(0, Ordering::SeqCst);

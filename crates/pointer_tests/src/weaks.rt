@@ -1,87 +1,139 @@
-//! Each call on a weak pointer.
+//! Each call on a weak pointer, and on free cells for them.
 
-use crate::values::{Told, Value, object, refused, row, same};
-use pointers::{Call, Desk, Domain, Fault, Refusal, WeakCell};
-use std::sync::Wait;
+use crate::plays::answers;
+use crate::steps::Answer::{Done, Is, Not, Nothing, Number};
+use crate::steps::New::Object;
+use crate::steps::Pair::{self, OwnerBeforeWeak, WeakBefore, WeakBeforeOwner, WeakIs};
+use crate::steps::Rise::{Lock, Upgrade};
+use crate::steps::Step::{
+    AtItsDesk, Both, ClearWeak, Drop, DropWeak, ExchangeWeak, LoadWeak, LockIn, Look, LookWeak,
+    Make, Rise, ShareWeak, Store, StoreWeak, TakeWeak, Watch,
+};
+use crate::steps::Watch::Downgrade;
+use crate::steps::WatchCell::{Desk, Free, Place};
+use crate::steps::WeakLook::{Expired, UseCount};
+use crate::steps::{self, Cell, Row};
+use pointers::{Call, Fault, Refusal, Spot};
 
 /// While the object lives, and after its end.
-fn locked<R: Wait, D: Domain<Value = Value>>(
-    rt: &R,
-    desk: &Desk<D>,
-    told: &Told,
-) -> Result<(), Fault> {
-    let one = object(desk, told, 1)?;
-    let weak = one.downgrade()?;
-    row(1, !weak.expired()?)?;
-    same(2, u64::from(weak.use_count()?), 1)?;
-    let Some(two) = weak.lock(rt)? else {
-        return Err(Fault::Other(3));
-    };
-    row(4, two.is(&one)?)?;
-    drop(two);
-    same(5, u64::from(weak.upgrade(rt)?.use_count()?), 2)?;
-    drop(one);
-    row(6, weak.expired()?)?;
-    same(7, u64::from(weak.use_count()?), 0)?;
-    row(8, weak.lock(rt)?.is_none())?;
-    refused(
-        9,
-        weak.upgrade(rt),
-        Fault::Refused(Call::Upgrade, Refusal::BadWeak),
-    )
+const LOCKS: [Row; 15] = [
+    (Make(Object, 1, 0), Done),
+    (Watch(0, Downgrade, 0), Done),
+    (LookWeak(0, Expired), Is(false)),
+    (LookWeak(0, UseCount), Number(1)),
+    (Rise(0, Lock, 1), Done),
+    (Both(1, Pair::Is, 0), Is(true)),
+    (Drop(1), Done),
+    (Rise(0, Upgrade, 1), Done),
+    (Look(1, steps::Look::UseCount), Number(2)),
+    (Drop(0), Done),
+    (Drop(1), Done),
+    (LookWeak(0, Expired), Is(true)),
+    (LookWeak(0, UseCount), Number(0)),
+    (Rise(0, Lock, 1), Nothing),
+    (
+        Rise(0, Upgrade, 1),
+        Not(Fault::Refused(Call::Upgrade, Refusal::BadWeak)),
+    ),
+];
+
+#[test]
+fn a_weak_pointer_locks_while_an_owner_remains(rt: HostRuntime) {
+    answers(&rt, rt.alloc(), &LOCKS);
 }
 
-/// Copies, and whose they are.
-fn shared<D: Domain<Value = Value>>(desk: &Desk<D>, told: &Told) -> Result<(), Fault> {
-    let one = object(desk, told, 1)?;
-    let two = object(desk, told, 2)?;
-    let weak = one.downgrade()?;
-    let more = weak.share()?;
-    let other = two.downgrade()?;
-    row(10, weak.is(&more)? && !weak.is(&other)?)?;
-    row(11, weak.owner_before(&other)? != other.owner_before(&weak)?)?;
-    row(12, !weak.owner_before_shared(&one)?)?;
-    row(13, !one.owner_before_weak(&weak)?)?;
-    row(
-        14,
-        one.owner_before_weak(&other)? == one.owner_before(&two)?,
-    )
+/// Copies, and whose they are. The first object has the lower block, or the higher one.
+const COPIES: [Row; 11] = [
+    (Make(Object, 1, 0), Done),
+    (Make(Object, 2, 1), Done),
+    (Watch(0, Downgrade, 0), Done),
+    (ShareWeak(0, 1), Done),
+    (Watch(1, Downgrade, 2), Done),
+    (Both(0, WeakIs, 1), Is(true)),
+    (Both(0, WeakIs, 2), Is(false)),
+    (Both(0, WeakBefore, 1), Is(false)),
+    (Both(0, WeakBeforeOwner, 0), Is(false)),
+    (Both(0, OwnerBeforeWeak, 0), Is(false)),
+    (AtItsDesk(0, 0), Number(0)),
+];
+
+#[test]
+fn copies_are_of_one_object(rt: HostRuntime) {
+    answers(&rt, rt.alloc(), &COPIES);
 }
 
-/// Free cells for weak pointers.
-fn placed<R: Wait, D: Domain<Value = Value>>(
-    rt: &R,
-    desk: &Desk<D>,
-    told: &Told,
-) -> Result<(), Fault> {
-    let cell = WeakCell::at(1);
-    row(20, desk.load_weak(rt, cell)?.is_none())?;
-    row(21, desk.lock(rt, cell)?.is_none())?;
-    let one = object(desk, told, 1)?;
-    one.downgrade()?.store(cell)?;
-    row(22, desk.lock(rt, cell)?.is_some())?;
-    let two = object(desk, told, 2)?;
-    let Some(old) = two.downgrade()?.exchange(cell)? else {
-        return Err(Fault::Other(23));
-    };
-    row(24, old.is(&one.downgrade()?)?)?;
-    drop(two);
-    row(25, desk.lock(rt, cell)?.is_none())?;
-    row(26, desk.load_weak(rt, cell)?.is_some())?;
-    desk.clear_weak(cell)?;
-    row(27, desk.load_weak(rt, cell)?.is_none())?;
-    desk.store_weak(cell, Some(old))?;
-    desk.store_weak(cell, None)?;
-    row(28, desk.weak_cell(cell).take()?.is_none())
+/// Free cells, with what a desk stores and what their places do.
+const CELLS: [Row; 28] = [
+    (LoadWeak(Free(1), 0), Nothing),
+    (LockIn(Free(1), 0), Nothing),
+    (Make(Object, 1, 0), Done),
+    (Watch(0, Downgrade, 0), Done),
+    (StoreWeak(0, Free(1)), Done),
+    (LockIn(Free(1), 1), Done),
+    (LockIn(Place(1), 1), Done),
+    (Make(Object, 2, 2), Done),
+    (Watch(2, Downgrade, 1), Done),
+    (ExchangeWeak(1, Free(1)), Done),
+    (Watch(0, Downgrade, 0), Done),
+    (Both(0, WeakIs, 1), Is(true)),
+    (Drop(2), Done),
+    (LockIn(Free(1), 3), Nothing),
+    (LoadWeak(Free(1), 3), Done),
+    (LookWeak(3, Expired), Is(true)),
+    (ClearWeak(Free(1)), Done),
+    (LoadWeak(Place(1), 3), Nothing),
+    (StoreWeak(0, Desk(1)), Done),
+    (StoreWeak(4, Desk(1)), Done),
+    (TakeWeak(Place(1), 3), Nothing),
+    (StoreWeak(1, Place(1)), Done),
+    (ExchangeWeak(4, Place(1)), Done),
+    (Rise(4, Lock, 3), Done),
+    (StoreWeak(4, Free(1)), Done),
+    (TakeWeak(Free(1), 4), Done),
+    (StoreWeak(5, Free(1)), Done),
+    (ClearWeak(Place(1)), Done),
+];
+
+#[test]
+fn a_free_cell_has_a_weak_pointer(rt: HostRuntime) {
+    answers(&rt, rt.alloc(), &CELLS);
 }
 
-/// Weak pointers, all rows.
-pub(crate) fn play<R: Wait, D: Domain<Value = Value>>(
-    rt: &R,
-    desk: &Desk<D>,
-    told: &Told,
-) -> Result<(), Fault> {
-    locked(rt, desk, told)?;
-    shared(desk, told)?;
-    placed(rt, desk, told)
+const OUTSIDE: Spot = Spot::Weak(2);
+
+/// A cell that isn't there: what was handed in lets go.
+const NO_CELL: [Row; 16] = [
+    (Make(Object, 3, 0), Done),
+    (Watch(0, Downgrade, 0), Done),
+    (ShareWeak(0, 1), Done),
+    (LoadWeak(Free(2), 2), Not(Fault::Cell(Call::Load(OUTSIDE)))),
+    (LockIn(Free(2), 2), Not(Fault::Cell(Call::Load(OUTSIDE)))),
+    (
+        StoreWeak(0, Free(2)),
+        Not(Fault::Cell(Call::Store(OUTSIDE))),
+    ),
+    (DropWeak(0), Nothing),
+    (
+        ExchangeWeak(1, Free(2)),
+        Not(Fault::Cell(Call::Exchange(OUTSIDE))),
+    ),
+    (DropWeak(1), Nothing),
+    (
+        StoreWeak(3, Desk(2)),
+        Not(Fault::Cell(Call::Clear(OUTSIDE))),
+    ),
+    (ClearWeak(Free(2)), Not(Fault::Cell(Call::Clear(OUTSIDE)))),
+    (
+        TakeWeak(Place(2), 2),
+        Not(Fault::Cell(Call::Exchange(OUTSIDE))),
+    ),
+    (Look(0, steps::Look::UseCount), Number(1)),
+    (Store(0, Cell::Free(1)), Done),
+    (AtItsDesk(0, 1), Not(Fault::Other(1_000))),
+    (Store(9, Cell::Free(1)), Done),
+];
+
+#[test]
+fn a_call_on_no_cell_for_weak_pointers_is_refused(rt: HostRuntime) {
+    answers(&rt, rt.alloc(), &NO_CELL);
 }
