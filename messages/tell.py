@@ -14,10 +14,11 @@ import subprocess
 import sys
 
 sys.dont_write_bytecode = True
+import graphs
 from explain import OF_STATEMENTS, Asked, explanation
 
-# The commands that read a script, and their options that take a word.
-COMMANDS = ('check', 'convert', 'step', 'fine', 'run', 'left', 'draw')
+# The commands that read a script or a graph, and their options that take a word.
+COMMANDS = ('check', 'convert', 'step', 'fine', 'run', 'left', 'draw', 'owners')
 TAKING = ('--turns', '--turns-file', '--from', '--to')
 
 
@@ -79,7 +80,10 @@ def main(program, *words):
         sys.stdout.buffer.flush()
     sys.stderr.buffer.write(ran.stderr)
     refusal = ran.stderr.decode('latin-1').removesuffix('\n')
-    told = explanation(refusal, asked_by(options, files, given)) if ran.returncode == 1 else []
+    asked = asked_by(options, files, given)
+    if command == 'owners':
+        asked.finders = graphs.FINDERS
+    told = explanation(refusal, asked) if ran.returncode == 1 else []
     for line in told + (meanings(ran.stdout) if watched else []):
         print(line, file=sys.stderr)
     return ran.returncode if ran.returncode >= 0 else 128 - ran.returncode
