@@ -36,12 +36,14 @@ OF_REFUSALS = {
 
 @dataclass
 class Asked:
-    """What the program was asked: the script's name and bytes, the list of turns, and why it could not be read."""
+    """What the program was asked: the script's name and bytes, the list of turns, why it could not be read, and what
+    finds the faults of its lines, by their causes."""
 
     name: str = 'standard input'
     script: bytes = b''
     turns: str = ''
     reason: str = ''
+    finders: dict = field(default_factory=lambda: FINDERS)
 
 
 @dataclass
@@ -91,7 +93,7 @@ def of_line(number, cause, asked):
     text = lines[number - 1]
     text = text[:-1] if text.endswith(b'\r') else text
     # (tabs are one column wide here, as the mark below counts columns)
-    fault = FINDERS[cause](text, lines[:number - 1])
+    fault = asked.finders[cause](text, lines[:number - 1])
     before = len(shown(text[:fault.start].replace(b'\t', b' ')))
     wide = max(len(shown(text[fault.start:fault.start + fault.length].replace(b'\t', b' '))), 1)
     left = str(number)

@@ -14,11 +14,12 @@ import subprocess
 import sys
 
 sys.dont_write_bytecode = True
+import graphs
 import made
 from explain import OF_REFUSALS, OF_STATEMENTS, Asked, explanation
 
-# The commands that read a script, and their options that take a word.
-COMMANDS = ('check', 'convert', 'step', 'fine', 'run', 'left', 'draw')
+# The commands that read a script or a graph, and their options that take a word.
+COMMANDS = ('check', 'convert', 'step', 'fine', 'run', 'left', 'draw', 'owners')
 TURNS = ('--turns', '--turns-file')
 TAKING = (*TURNS, '--from', '--to')
 WITHOUT_TURNS = ('check', 'convert', 'run')
@@ -102,6 +103,8 @@ def main(program, *words):
     sys.stderr.buffer.write(ran.stderr)
     refusal = ran.stderr.decode('latin-1').removesuffix('\n')
     asked = asked_by(options, files, given)
+    if command == 'owners':
+        asked.finders = graphs.FINDERS
     told = explanation(refusal, asked) if ran.returncode == 1 else []
     told += meanings(ran.stdout) if watched else []
     if explains and command == 'left' and ran.returncode != 1:

@@ -26,7 +26,7 @@ pub struct Index {
 }
 
 /// The row with a number; an empty one where there are fewer.
-pub(crate) fn row(rows: &[Vec<Holding>], index: usize) -> &[Holding]
+pub fn row(rows: &[Vec<Holding>], index: usize) -> &[Holding]
     ensures { result.now ≡ row_at rows.now index }
 {
     if index < rows.len() {

@@ -48,7 +48,7 @@ fn add_ties(
 
 /// The owners that tie a knot (own), in the order of its vertices, by what is in each vertex. It takes time linear in
 /// the knot's vertices and the handles in them, and is refused only where a growth of memory was.
-pub(crate) fn knot_ties(
+pub fn knot_ties(
     alloc: Global,
     sources: &[Vec<Holding>],
     kept: &[bool],

@@ -129,7 +129,9 @@ fn bare_program<'a>(alloc: Global) -> Command<'a>
     ensures { app_of result ≡ bare }
 {
     Command::new(alloc, "sptr")
-        .about("Runs scripts of shared and weak pointers")
+        .about(
+            "Runs scripts of shared and weak pointers; `sptr owners --help` is on graphs of owners",
+        )
         .version(VERSION)
         .subcommand_required(true)
 }

@@ -3,9 +3,11 @@
 
 mod answers;
 mod command;
+mod owners;
 mod serve;
 mod sources;
 
+use owners::serve_owners;
 use script_stepper::{Output, write_fault};
 use script_text::Fault;
 use serve::serve;
@@ -26,13 +28,12 @@ fn main(rt: HostRuntime) -> ExitCode {
             return ExitCode::from(1);
         }
     }
-    let status = serve(
-        &rt,
-        alloc,
-        words.as_slice(),
-        &mut rt.stdin(),
-        &mut Output::new(rt.stdout()),
-        &mut faults,
-    );
+    let (mut input, mut output) = (rt.stdin(), Output::new(rt.stdout()));
+    let status = match words.as_slice() {
+        [_, command, rest @ ..] if command.as_str() == "owners" => {
+            serve_owners(&rt, alloc, rest, &mut input, &mut output, &mut faults)
+        }
+        words => serve(&rt, alloc, words, &mut input, &mut output, &mut faults),
+    };
     ExitCode::from(status)
 }

@@ -1,0 +1,8 @@
+pub mod AnswerLemmas
+pub mod DraftLemmas
+pub mod GrammarLemmas
+pub mod LabelLemmas
+pub mod LineLemmas
+pub mod RoomLemmas
+pub mod TextLemmas
+pub mod WordLemmas

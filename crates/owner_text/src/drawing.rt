@@ -1,0 +1,246 @@
+//! A graph of owners for Graphviz.
+
+ghost use Rattle.std.specs.Prelude.{◌≡◌, ◌∷◌, ◌++◌, [], ℕ, IfOk, OnOk, codes, string_bytes};
+ghost use Rattle.std.specs.List.{flat_map, list_any};
+ghost use Rattle.script_text.specs.Canonical.{AddsLines};
+ghost use Rattle.script_text.specs.Grammar.{ended};
+ghost use Rattle.owner_graph.specs.Findings.{AreFindings};
+ghost use Rattle.owner_graph.specs.Rows.{held_in, row_at};
+ghost use Rattle.owner_graph.specs.Ties.{is_tie};
+ghost use Rattle.owner_text.specs.Drafts.{draft_of};
+ghost use Rattle.owner_text.specs.Drawing.{box_text, color_text, edge_lines, edge_text, graph_lines, has_tie, head_lines};
+ghost use Rattle.owner_text.specs.Drawing.{node_lines, node_text, quoted, quoted_byte, root_edge_text, root_lines};
+ghost use Rattle.owner_text.specs.Drawing.{style_text, tie_color};
+ghost use Rattle.owner_text.specs.Lines.{lines_to, vertices_of};
+
+use crate::draft::{Draft, is_object};
+use crate::listing::label_of;
+use crate::looks::{handles_in, is_cut, is_kept, stays};
+use owner_graph::{Findings, Holding, is_tie};
+use std::alloc::{AllocError, Global};
+use std::fmt::Write;
+
+/// Adds a byte as it stands between quotes.
+fn put_byte(text: &mut String, byte: u8) -> Result<(), AllocError>
+    ensures { OnOk result (string_bytes text.new ≡ string_bytes text.old ++ quoted_byte byte) }
+{
+    if byte == b'"' || byte == b'\\' {
+        text.push_str("\\")?;
+    }
+    text.push(char::from(byte))?;
+    Ok(())
+}
+
+/// Adds a label as it stands between quotes.
+fn put_quoted(text: &mut String, label: &str) -> Result<(), AllocError>
+    ensures { OnOk result (string_bytes text.new ≡ string_bytes text.old ++ quoted label.now) }
+{
+    for byte in label.as_bytes() {
+        put_byte(text, *byte)?;
+    }
+    Ok(())
+}
+
+/// The color of an object.
+fn color_word(is_kept: bool, stays: bool, is_tied: bool) -> &'static str
+    ensures { result.now ≡ color_text is_kept stays is_tied }
+{
+    if is_kept {
+        "white"
+    } else if !stays {
+        "white, fontcolor=grey"
+    } else if is_tied {
+        "orange"
+    } else {
+        "lightgrey"
+    }
+}
+
+/// Adds an object.
+fn put_node(text: &mut String, number: u32, label: &str, color: &str) -> Result<(), AllocError>
+    ensures { OnOk result (AddsLines text.old text.new (node_text number label.now color.now ∷ [])) }
+{
+    write!(text, "o{number} [label=\"{number} ")?;
+    put_quoted(text, label)?;
+    writeln!(text, "\", fillcolor={color}];")?;
+    Ok(())
+}
+
+/// Whether a handle ties its knot.
+fn is_tied(found: &Findings, handle: Holding) -> bool
+    ensures { result ≡ is_tie found.now.kept.items found.now.knots.items handle }
+{
+    is_tie(handle, found.kept.as_slice(), found.knots.as_slice())
+}
+
+/// Whether one of these handles does.
+fn has_tie(found: &Findings, handles: &[Holding]) -> bool
+    ensures { result ≡ list_any (is_tie found.now.kept.items found.now.knots.items) handles.now }
+{
+    handles.iter().any(|handle| is_tied(found, *handle))
+}
+
+/// Adds an object, where there is one.
+fn put_object(
+    text: &mut String,
+    draft: &Draft,
+    found: &Findings,
+    number: u32,
+) -> Result<(), AllocError>
+    requires { (b : ℕ) → row_at found.now.sources.items b ≡ held_in draft.now.handles.items b }
+    ensures { OnOk result (AddsLines text.old text.new (node_lines (draft_of draft.now) found.now number)) }
+{
+    if !is_object(draft, number) {
+        return Ok(());
+    }
+    let is_tied = has_tie(found, handles_in(found, number));
+    let color = color_word(is_kept(found, number), stays(found, number), is_tied);
+    put_node(text, number, label_of(draft, number), color)?;
+    Ok(())
+}
+
+/// Adds all objects, in order.
+fn put_objects(
+    text: &mut String,
+    draft: &Draft,
+    found: &Findings,
+    vertices: u32,
+) -> Result<(), AllocError>
+    requires { (b : ℕ) → row_at found.now.sources.items b ≡ held_in draft.now.handles.items b }
+    ensures { OnOk result (AddsLines text.old text.new
+        (lines_to (node_lines (draft_of draft.now) found.now) vertices)) }
+{
+    for before in 0..vertices {
+        put_object(text, draft, found, before + 1)?;
+    }
+    Ok(())
+}
+
+/// How the line of a handle is drawn.
+fn style_word(is_owner: bool, is_cut: bool) -> &'static str
+    ensures { result.now ≡ style_text is_owner is_cut }
+{
+    if !is_owner {
+        "dashed"
+    } else if is_cut {
+        "bold"
+    } else {
+        "solid"
+    }
+}
+
+/// The color of a handle's line, where it ties a knot.
+fn tie_word(is_tie: bool) -> &'static str
+    ensures { result.now ≡ tie_color is_tie }
+{
+    if is_tie { ", color=red" } else { "" }
+}
+
+/// Adds something that is no object.
+fn put_box(text: &mut String, slot: u32, label: &str) -> Result<(), AllocError>
+    ensures { OnOk result (AddsLines text.old text.new (box_text slot label.now ∷ [])) }
+{
+    write!(text, "r{slot}")?;
+    write!(text, " [shape=box, label=\"")?;
+    put_quoted(text, label)?;
+    writeln!(text, "\"];")?;
+    Ok(())
+}
+
+/// Adds the handle of something that is no object.
+fn put_root_edge(text: &mut String, slot: u32, to: u32) -> Result<(), AllocError>
+    ensures { OnOk result (AddsLines text.old text.new (root_edge_text slot to ∷ [])) }
+{
+    write!(text, "r{slot} -> o{to}")?;
+    writeln!(text, " [style=solid];")?;
+    Ok(())
+}
+
+/// Adds something that is no object, and its handle.
+fn put_root(text: &mut String, slot: u32, to: u32, label: &str) -> Result<(), AllocError>
+    ensures { OnOk result (AddsLines text.old text.new (root_lines slot to label.now)) }
+{
+    put_box(text, slot, label)?;
+    put_root_edge(text, slot, to)?;
+    Ok(())
+}
+
+/// Adds a handle in an object.
+fn put_edge(
+    text: &mut String,
+    handle: Holding,
+    label: &str,
+    style: &str,
+    color: &str,
+) -> Result<(), AllocError>
+    ensures { OnOk result (AddsLines text.old text.new
+        (edge_text handle.from handle.to label.now style.now color.now ∷ [])) }
+{
+    let Holding { from, to, .. } = handle;
+    write!(text, "o{from} -> o{to}")?;
+    write!(text, " [label=\" ")?;
+    put_quoted(text, label)?;
+    writeln!(text, "\", style={style}{color}];")?;
+    Ok(())
+}
+
+/// Adds a handle.
+fn put_handle(
+    text: &mut String,
+    draft: &Draft,
+    found: &Findings,
+    handle: Holding,
+) -> Result<(), AllocError>
+    ensures { OnOk result (AddsLines text.old text.new (edge_lines (draft_of draft.now) found.now handle)) }
+{
+    let label = draft.labels.text(handle.label);
+    if handle.from == 0 {
+        return put_root(text, handle.slot, handle.to, label);
+    }
+    let style = style_word(handle.is_owner, is_cut(found, handle.slot));
+    let color = tie_word(is_tied(found, handle));
+    put_edge(text, handle, label, style, color)
+}
+
+/// Adds handles, in order.
+fn put_handles(
+    text: &mut String,
+    draft: &Draft,
+    found: &Findings,
+    handles: &[Holding],
+) -> Result<(), AllocError>
+    ensures { OnOk result (AddsLines text.old text.new
+        (flat_map (edge_lines (draft_of draft.now) found.now) handles.now)) }
+{
+    for handle in handles {
+        put_handle(text, draft, found, *handle)?;
+    }
+    Ok(())
+}
+
+/// Adds how the drawing begins.
+fn put_head(text: &mut String) -> Result<(), AllocError>
+    ensures { OnOk result (AddsLines text.old text.new head_lines) }
+{
+    text.push_str("digraph owners {\nnode [style=filled, fillcolor=white];\n")?;
+    Ok(())
+}
+
+/// All lines of a graph's drawing.
+pub(crate) fn drawn(
+    alloc: Global,
+    draft: &Draft,
+    found: &Findings,
+    vertices: u32,
+) -> Result<String, AllocError>
+    requires vertices { vertices ≡ vertices_of (draft_of draft.now) }
+    requires found { AreFindings vertices draft.now.handles.items found.now }
+    ensures { IfOk result (λ text. string_bytes text ≡ ended (graph_lines (draft_of draft.now) found.now)) }
+{
+    let mut text = String::new(alloc);
+    put_head(&mut text)?;
+    put_objects(&mut text, draft, found, vertices)?;
+    put_handles(&mut text, draft, found, draft.handles.as_slice())?;
+    text.push_str("}\n")?;
+    Ok(text)
+}
