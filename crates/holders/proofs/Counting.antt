@@ -16,18 +16,16 @@ use Rattle.control_word.specs.declared.model.handle.Handle.{Handle}
 use Rattle.control_word.specs.declared.model.handle.Kind.{Kind}
 use Rattle.control_word.specs.declared.model.handle.Kind.TheVariants.{Owner, Weak}
 use Rattle.control_word.specs.Handles.{same_kind, same_number}
-use Rattle.control_word.specs.State.{Held, Opening, State, common, count, handles, in_cells, kind_of_free, kind_of_member, members, tally, upto, weak}
+use Rattle.control_word.specs.State.{Held, Opening, State, common, count, handles, in_cells, kind_of_member, members, tally, upto, weak}
 use Rattle.control_word.specs.State.{weak_number}
 use Rattle.control_word.specs.Words.{block_of, blocks_of}
 use Rattle.step_table.specs.declared.cell_steps.cell_deed.Cell.{Cell}
 use Rattle.step_table.specs.declared.cell_steps.cell_deed.Cell.TheVariants.{Free}
 use Rattle.step_table.specs.Openings.{opening}
 use Rattle.step_table.specs.Stories.{Kept, Story, story_state}
-use Rattle.step_table.proofs.contained.Told.{shared_is}
 use Rattle.step_threads.specs.Stocks.{from}
-use Rattle.owner_graph.specs.Owners.{is_owner}
 use Rattle.owner_graph.specs.Rows.{held_on}
-use Rattle.holders.specs.Holdings.{AllCounted, AreCounted, all_held, held_by, held_by_block, held_by_free, held_by_members, holdings_in, member}
+use Rattle.holders.specs.Holdings.{AllCounted, AreCounted, all_held, held_by, held_by_block, held_by_free, held_by_members, holding, holdings_in, holds_owner, member}
 use Rattle.holders.proofs.Listing.{all_kinds, hits, hits_append, hits_sum, is_of, kind_by, of_kind, one_by, tally_sum}
 use Rattle.holders.proofs.Summing.{IsOnly, sum_by_way, sum_same}
 
@@ -44,15 +42,15 @@ abbrev AtHome : State → ℕ → Option ℕ → Type 0
 AtHome s b x = (o : ℕ) → x ≡ Some o → (blocks_of s o == b) ≡ (s.latest b == o)
 
 -- one cell: its handle is listed on the block just where it is counted for the object there
-one_cell : (k : Kind) (shared b : ℕ) (s : State) (c : Cell) (h : Handle) → is_of k (is_owner shared c) ≡ same_kind k h.kind
-    → AtHome s b h.object → hits k shared b (held_by c (block_of (blocks_of s) h.object)) ≡ tally k (s.latest b) (h ∷ [])
-one_cell k shared b s c h kind home = go h.object home
+one_cell : (k : Kind) (b : ℕ) (s : State) (c : Cell) (h : Handle) → is_of k (holds_owner s.shared c) ≡ same_kind k h.kind
+    → AtHome s b h.object → hits k b (held_by s.shared c (block_of (blocks_of s) h.object)) ≡ tally k (s.latest b) (h ∷ [])
+one_cell k b s c h kind home = go h.object home
   where
-    go : (x : Option ℕ) → AtHome s b x → hits k shared b (held_by c (block_of (blocks_of s) x))
+    go : (x : Option ℕ) → AtHome s b x → hits k b (held_by s.shared c (block_of (blocks_of s) x))
         ≡ length (cond (same_kind k h.kind && same_number (Some (s.latest b)) x) (h ∷ []) [])
     go None at = sym (ap (length {A = Handle}) (cond-false (same_kind k h.kind && false) (h ∷ []) [] (and_none (same_kind k h.kind))))
     go (Some o) at =
-        one_by (of_kind k shared) (record { cell = c; block = record { 0 = blocks_of s o } }) h (same_kind k h.kind) (blocks_of s o == b) kind
+        one_by (of_kind k) (holding s.shared c (record { 0 = blocks_of s o })) h (same_kind k h.kind) (blocks_of s o == b) kind
         ∙ ap (λ (t : Bool). length (cond (same_kind k h.kind && t) (h ∷ []) [])) (at o refl)
 
 module _ (z : Opening) (s : State) (fine : Sound z s) (form : Formed s) where
@@ -70,20 +68,20 @@ module _ (z : Opening) (s : State) (fine : Sound z s) (form : Formed s) where
       ne (ap (blocks_of s) (sym e) ∙ fine.latest_in b (λ none. made_some o (busy o is) (sym e ∙ none))))))
       (cases_eq (blocks_of s o) b)
 
-  free_cell : (k : Kind) (shared b n : ℕ) → s.shared ≡ shared → n < s.cells
-      → hits k shared b (held_by_free s n) ≡ tally k (s.latest b) (s.cell n ∷ [])
-  free_cell k shared b n is lt =
-      one_cell k shared b s (Free n) (s.cell n)
-      (kind_by k (nat_lt n shared) ∙ ap (λ (i : ℕ). same_kind k (kind_of_free i n)) (sym is) ∙ ap (same_kind k) (sym (form.frees n lt).1))
+  free_cell : (k : Kind) (b n : ℕ) → n < s.cells
+      → hits k b (held_by_free s n) ≡ tally k (s.latest b) (s.cell n ∷ [])
+  free_cell k b n lt =
+      one_cell k b s (Free n) (s.cell n)
+      (kind_by k (nat_lt n s.shared) ∙ ap (same_kind k) (sym (form.frees n lt).1))
       (at_home b (s.cell n).object (λ o e. cell_busy z s fine n o lt e))
 
-  member_cell : (k : Kind) (shared b a m : ℕ) → m < 3 → is_of k (is_owner shared (member a m)) ≡ same_kind k (kind_of_member m)
-      → hits k shared b (holdings_in s (member a m)) ≡ tally k (s.latest b) ((s.object (s.latest a)).member m ∷ [])
-  member_cell k shared b a m lt kind =
+  member_cell : (k : Kind) (b a m : ℕ) → m < 3 → is_of k (holds_owner s.shared (member a m)) ≡ same_kind k (kind_of_member m)
+      → hits k b (holdings_in s (member a m)) ≡ tally k (s.latest b) ((s.object (s.latest a)).member m ∷ [])
+  member_cell k b a m lt kind =
       let i = s.latest a in
       let h = (s.object i).member m in
       let l = fine.latest_made a in
-      one_cell k shared b s (member a m) h (kind ∙ ap (same_kind k) (sym (form.members i m lt).1))
+      one_cell k b s (member a m) h (kind ∙ ap (same_kind k) (sym (form.members i m lt).1))
       (at_home b h.object (λ o e. member_busy z s fine i m o (omega (arith, l)) lt e))
 
   -- what is counted in the members of an object
@@ -108,13 +106,13 @@ module _ (z : Opening) (s : State) (fine : Sound z s) (form : Formed s) where
   counts_of b = record { owners = count s (s.latest b); weaks = weak s (s.latest b) }
 
   -- a block
-  block_cells : (k : Kind) (shared b a : ℕ) → hits k shared b (held_by_block s a) ≡ in_members k (s.latest b) (s.latest a)
-  block_cells k shared b a =
+  block_cells : (k : Kind) (b a : ℕ) → hits k b (held_by_block s a) ≡ in_members k (s.latest b) (s.latest a)
+  block_cells k b a =
       let i = s.latest a in
       let n = weak_number s i in
       ⊎_elim
       (λ (e : n ≡ 0).
-      ap (λ (c : Option Counts). hits k shared b (held_by_members s a c)) (cond-true (n == 0) None (Some (counts_of a)) (eq-eqb n 0 e))
+      ap (λ (c : Option Counts). hits k b (held_by_members s a c)) (cond-true (n == 0) None (Some (counts_of a)) (eq-eqb n 0 e))
       ∙ sym (idle_members k (s.latest b) i e))
       (λ (ne : n ≢ 0).
       let first = holdings_in s (member a 0) in
@@ -123,14 +121,14 @@ module _ (z : Opening) (s : State) (fine : Sound z s) (form : Formed s) where
       let x = (s.object i).member 0 in
       let y = (s.object i).member 1 in
       let w = (s.object i).member 2 in
-      let c = ap (λ (c : Option Counts). hits k shared b (held_by_members s a c)) (cond-false (n == 0) None (Some (counts_of a)) (ne_eqb n 0 ne)) in
-      let p = hits_append k shared b (first ++ next) up in
-      let q = hits_append k shared b first next in
-      let r = hits_append k shared b first (next ++ up) in
-      let t = hits_append k shared b next up in
-      let e0 = member_cell k shared b a 0 (omega arith) (kind_by k true) in
-      let e1 = member_cell k shared b a 1 (omega arith) (kind_by k true) in
-      let e2 = member_cell k shared b a 2 (omega arith) (kind_by k false) in
+      let c = ap (λ (c : Option Counts). hits k b (held_by_members s a c)) (cond-false (n == 0) None (Some (counts_of a)) (ne_eqb n 0 ne)) in
+      let p = hits_append k b (first ++ next) up in
+      let q = hits_append k b first next in
+      let r = hits_append k b first (next ++ up) in
+      let t = hits_append k b next up in
+      let e0 = member_cell k b a 0 (omega arith) (kind_by k true) in
+      let e1 = member_cell k b a 1 (omega arith) (kind_by k true) in
+      let e2 = member_cell k b a 2 (omega arith) (kind_by k false) in
       let u = tally_cons k (s.latest b) x (y ∷ w ∷ []) in
       let v = tally_cons k (s.latest b) y (w ∷ []) in
       omega (arith, c, p, q, r, t, e0, e1, e2, u, v))
@@ -157,48 +155,47 @@ module _ (z : Opening) (s : State) (fine : Sound z s) (form : Formed s) where
       )
 
   -- all that cells hold on a block
-  cells_counted : (k : Kind) (shared b : ℕ) → s.shared ≡ shared
-      → hits k shared b (all_held s z.blocks) ≡ tally k (s.latest b) (in_cells s)
-  cells_counted k shared b is =
+  cells_counted : (k : Kind) (b : ℕ) → hits k b (all_held s z.blocks) ≡ tally k (s.latest b) (in_cells s)
+  cells_counted k b =
       let o = s.latest b in
       let frees = upto s.cells (λ c. s.cell c ∷ []) in
       let rest = upto (suc s.made) (λ i. members (s.object i)) in
-      let p = hits_append k shared b (flat_map (held_by_free s) (from 0 s.cells)) (flat_map (held_by_block s) (from 1 z.blocks)) in
+      let p = hits_append k b (flat_map (held_by_free s) (from 0 s.cells)) (flat_map (held_by_block s) (from 1 z.blocks)) in
       let q = tally_append k o frees rest in
-      let a = hits_sum k shared b (held_by_free s) 0 s.cells in
+      let a = hits_sum k b (held_by_free s) 0 s.cells in
       let c = tally_sum k o (λ c. s.cell c ∷ []) s.cells in
-      let d = sum_same s.cells (λ i. hits k shared b (held_by_free s (0 + i))) (λ i. tally k o (s.cell i ∷ []))
-      (λ i lt. let n : 0 + i ≡ i = omega arith in ap (λ (j : ℕ). hits k shared b (held_by_free s j)) n ∙ free_cell k shared b i is lt) in
-      let e = hits_sum k shared b (held_by_block s) 1 z.blocks in
-      let f = sum_same z.blocks (λ i. hits k shared b (held_by_block s (1 + i))) (λ i. in_members k o (s.latest (1 + i)))
-      (λ i lt. block_cells k shared b (1 + i)) in
+      let d = sum_same s.cells (λ i. hits k b (held_by_free s (0 + i))) (λ i. tally k o (s.cell i ∷ []))
+      (λ i lt. let n : 0 + i ≡ i = omega arith in ap (λ (j : ℕ). hits k b (held_by_free s j)) n ∙ free_cell k b i lt) in
+      let e = hits_sum k b (held_by_block s) 1 z.blocks in
+      let f = sum_same z.blocks (λ i. hits k b (held_by_block s (1 + i))) (λ i. in_members k o (s.latest (1 + i)))
+      (λ i lt. block_cells k b (1 + i)) in
       let g = sum_by_way z.blocks (suc s.made) (in_members k o) (λ i. s.latest (1 + i))
       (λ i lt. let l = fine.latest_made (1 + i) in omega (arith, l)) (λ i lt some. one_block k o i some) in
       let h = tally_sum k o (λ i. members (s.object i)) (suc s.made) in
       omega (arith, p, q, a, c, d, e, f, g, h)
 
-  kind_counted : (k : Kind) (shared b : ℕ) → s.shared ≡ shared → s.hands ≡ []
-      → hits k shared b (all_held s z.blocks) ≡ tally k (s.latest b) (handles s)
-  kind_counted k shared b is none =
-      cells_counted k shared b is
+  kind_counted : (k : Kind) (b : ℕ) → s.hands ≡ []
+      → hits k b (all_held s z.blocks) ≡ tally k (s.latest b) (handles s)
+  kind_counted k b none =
+      cells_counted k b
       ∙ ap (λ (l : List Held). tally k (s.latest b) (map (λ (x : Held). x.handle) l ++ in_cells s)) (sym none)
 
-  owners_counted : (shared b : ℕ) → s.shared ≡ shared → s.hands ≡ [] → hits Owner shared b (all_held s z.blocks) ≡ count s (s.latest b)
+  owners_counted : (b : ℕ) → s.hands ≡ [] → hits Owner b (all_held s z.blocks) ≡ count s (s.latest b)
   unfolding count
-  owners_counted shared b is none = kind_counted Owner shared b is none
+  owners_counted b none = kind_counted Owner b none
 
-  weaks_counted : (shared b : ℕ) → s.shared ≡ shared → s.hands ≡ [] → hits Weak shared b (all_held s z.blocks) ≡ weak s (s.latest b)
+  weaks_counted : (b : ℕ) → s.hands ≡ [] → hits Weak b (all_held s z.blocks) ≡ weak s (s.latest b)
   unfolding weak
-  weaks_counted shared b is none = kind_counted Weak shared b is none
+  weaks_counted b none = kind_counted Weak b none
 
   -- on a vacant block there is none
-  none_listed : (shared b : ℕ) → s.shared ≡ shared → s.hands ≡ [] → weak_number s (s.latest b) ≡ 0
+  none_listed : (b : ℕ) → s.hands ≡ [] → weak_number s (s.latest b) ≡ 0
       → length (held_on (all_held s z.blocks) b) ≡ 0
-  none_listed shared b is none e =
+  none_listed b none e =
       let hs = all_held s z.blocks in
-      let a = all_kinds shared b hs in
-      let p = kind_counted Owner shared b is none in
-      let q = kind_counted Weak shared b is none in
+      let a = all_kinds b hs in
+      let p = kind_counted Owner b none in
+      let q = kind_counted Weak b none in
       let here : (k : Kind) → tally k (s.latest b) (handles s) ≡ 0 =
       λ k. ⊎_elim (λ (t : tally k (s.latest b) (handles s) ≡ 0). t)
       (λ (ne : tally k (s.latest b) (handles s) ≢ 0).
@@ -207,21 +204,21 @@ module _ (z : Opening) (s : State) (fine : Sound z s) (form : Formed s) where
       let x = here Owner in let y = here Weak in
       omega (arith, a, p, q, x, y)
 
-  all_counted : (shared : ℕ) → s.shared ≡ shared → s.hands ≡ [] → AllCounted shared z.blocks s (all_held s z.blocks)
-  all_counted shared is none b from within =
+  all_counted : s.hands ≡ [] → AllCounted z.blocks s (all_held s z.blocks)
+  all_counted none b from within =
       let n = weak_number s (s.latest b) in
       let hs = held_on (all_held s z.blocks) b in
       ⊎_elim
       (λ (e : n ≡ 0).
-      subst (AreCounted shared hs) (sym (cond-true (n == 0) None (Some (counts_of b)) (eq-eqb n 0 e)))
-      (empty_list hs (none_listed shared b is none e)))
+      subst (AreCounted hs) (sym (cond-true (n == 0) None (Some (counts_of b)) (eq-eqb n 0 e)))
+      (empty_list hs (none_listed b none e)))
       (λ (ne : n ≢ 0).
-      subst (AreCounted shared hs) (sym (cond-false (n == 0) None (Some (counts_of b)) (ne_eqb n 0 ne)))
-      (owners_counted shared b is none, weaks_counted shared b is none))
+      subst (AreCounted hs) (sym (cond-false (n == 0) None (Some (counts_of b)) (ne_eqb n 0 ne)))
+      (owners_counted b none, weaks_counted b none))
       (cases_eq n 0)
 
 pub counted : (v : Story) → Kept v → (story_state v).hands ≡ []
-    → AllCounted v.extent.shape.shared_cells v.extent.shape.blocks (story_state v) (all_held (story_state v) v.extent.shape.blocks)
+    → AllCounted v.extent.shape.blocks (story_state v) (all_held (story_state v) v.extent.shape.blocks)
 counted v kept none =
     let z = opening v.extent in
-    all_counted z (story_state v) (sound z v.history kept.stands.legal) (formed z v.history kept.stands.legal) v.extent.shape.shared_cells (shared_is v) none
+    all_counted z (story_state v) (sound z v.history kept.stands.legal) (formed z v.history kept.stands.legal) none

@@ -14,7 +14,6 @@ use Rattle.control_word.specs.Handles.{same_kind}
 use Rattle.control_word.specs.State.{sum_below, tally, upto}
 use Rattle.step_threads.specs.Stocks.{from}
 use Rattle.owner_graph.specs.declared.holding.Holding.{Holding}
-use Rattle.owner_graph.specs.Owners.{is_owner}
 use Rattle.owner_graph.specs.Rows.{held_on}
 use Rattle.owner_graph.proofs.Joining.{nil_right}
 use Rattle.holders.proofs.Adding.{from-suc}
@@ -23,11 +22,11 @@ abbrev pub is_of : Kind → Bool → Bool
 is_of Owner owner = owner
 is_of Weak owner = not owner
 
-abbrev pub of_kind : Kind → ℕ → Holding → Bool
-of_kind k shared h = is_of k (is_owner shared h.cell)
+abbrev pub of_kind : Kind → Holding → Bool
+of_kind k h = is_of k h.is_owner
 
-abbrev pub hits : Kind → ℕ → ℕ → List Holding → ℕ
-hits k shared b hs = num (of_kind k shared) (held_on hs b)
+abbrev pub hits : Kind → ℕ → List Holding → ℕ
+hits k b hs = num (of_kind k) (held_on hs b)
 
 pub kind_by : (k : Kind) (owner : Bool) → is_of k owner ≡ same_kind k (cond owner Owner Weak)
 kind_by Owner true = refl
@@ -37,30 +36,30 @@ kind_by Weak false = refl
 
 held_append : (xs ys : List Holding) (b : ℕ) → held_on (xs ++ ys) b ≡ held_on xs b ++ held_on ys b
 held_append [] ys b = refl
-held_append (x ∷ xs) ys b = go (x.block.0 == b) (held_append xs ys b)
+held_append (x ∷ xs) ys b = go (x.to == b) (held_append xs ys b)
   where
     go : (t : Bool) → held_on (xs ++ ys) b ≡ held_on xs b ++ held_on ys b
         → cond t (x ∷ held_on (xs ++ ys) b) (held_on (xs ++ ys) b) ≡ cond t (x ∷ held_on xs b) (held_on xs b) ++ held_on ys b
     go true e = ap (λ (l : List Holding). x ∷ l) e
     go false e = e
 
-pub hits_append : (k : Kind) (shared b : ℕ) (xs ys : List Holding) → hits k shared b (xs ++ ys) ≡ hits k shared b xs + hits k shared b ys
-hits_append k shared b xs ys =
-    let p = of_kind k shared in
+pub hits_append : (k : Kind) (b : ℕ) (xs ys : List Holding) → hits k b (xs ++ ys) ≡ hits k b xs + hits k b ys
+hits_append k b xs ys =
+    let p = of_kind k in
     ap (num p) (held_append xs ys b) ∙ ap (length {A = Holding}) (filter-append p (held_on xs b) (held_on ys b))
     ∙ length-append (filter p (held_on xs b)) (filter p (held_on ys b))
 
 -- lists one after another
-pub hits_sum : (k : Kind) (shared b : ℕ) (f : ℕ → List Holding) (a n : ℕ)
-    → hits k shared b (flat_map f (from a n)) ≡ sum_below n (λ i. hits k shared b (f (a + i)))
-hits_sum k shared b f a zero = refl
-hits_sum k shared b f a (suc n) =
-    let e : hits k shared b (flat_map f (from a (suc n))) ≡ hits k shared b (flat_map f (from a n) ++ f (a + n)) =
-    ap (λ (l : List ℕ). hits k shared b (flat_map f l)) (from-suc a n)
-    ∙ ap (hits k shared b) (flat_map-append f (from a n) ((a + n) ∷ [])
+pub hits_sum : (k : Kind) (b : ℕ) (f : ℕ → List Holding) (a n : ℕ)
+    → hits k b (flat_map f (from a n)) ≡ sum_below n (λ i. hits k b (f (a + i)))
+hits_sum k b f a zero = refl
+hits_sum k b f a (suc n) =
+    let e : hits k b (flat_map f (from a (suc n))) ≡ hits k b (flat_map f (from a n) ++ f (a + n)) =
+    ap (λ (l : List ℕ). hits k b (flat_map f l)) (from-suc a n)
+    ∙ ap (hits k b) (flat_map-append f (from a n) ((a + n) ∷ [])
     ∙ ap (λ (l : List Holding). flat_map f (from a n) ++ l) (nil_right (f (a + n)))) in
-    let p = hits_append k shared b (flat_map f (from a n)) (f (a + n)) in
-    let q = hits_sum k shared b f a n in
+    let p = hits_append k b (flat_map f (from a n)) (f (a + n)) in
+    let q = hits_sum k b f a n in
     omega (arith, e, p, q)
 
 pub tally_sum : (k : Kind) (o : ℕ) (g : ℕ → List Handle) (n : ℕ) → tally k o (upto n g) ≡ sum_below n (λ i. tally k o (g i))
@@ -76,15 +75,15 @@ one_by p h x false true e = ap (length {A = Holding}) (cond-false (p h) (h ∷ [
 one_by p h x false false e = refl
 
 -- owners and weak handles are all
-both_kinds : (shared : ℕ) (l : List Holding) → num (of_kind Owner shared) l + num (of_kind Weak shared) l ≡ length l
-both_kinds shared [] = refl
-both_kinds shared (x ∷ xs) = go (is_owner shared x.cell) (both_kinds shared xs)
+both_kinds : (l : List Holding) → num (of_kind Owner) l + num (of_kind Weak) l ≡ length l
+both_kinds [] = refl
+both_kinds (x ∷ xs) = go (x.is_owner) (both_kinds xs)
   where
-    go : (t : Bool) → num (of_kind Owner shared) xs + num (of_kind Weak shared) xs ≡ length xs
-        → length (cond t (x ∷ filter (of_kind Owner shared) xs) (filter (of_kind Owner shared) xs))
-        + length (cond (not t) (x ∷ filter (of_kind Weak shared) xs) (filter (of_kind Weak shared) xs)) ≡ suc (length xs)
+    go : (t : Bool) → num (of_kind Owner) xs + num (of_kind Weak) xs ≡ length xs
+        → length (cond t (x ∷ filter (of_kind Owner) xs) (filter (of_kind Owner) xs))
+        + length (cond (not t) (x ∷ filter (of_kind Weak) xs) (filter (of_kind Weak) xs)) ≡ suc (length xs)
     go true e = omega (arith, e)
     go false e = omega (arith, e)
 
-pub all_kinds : (shared b : ℕ) (hs : List Holding) → hits Owner shared b hs + hits Weak shared b hs ≡ length (held_on hs b)
-all_kinds shared b hs = both_kinds shared (held_on hs b)
+pub all_kinds : (b : ℕ) (hs : List Holding) → hits Owner b hs + hits Weak b hs ≡ length (held_on hs b)
+all_kinds b hs = both_kinds (held_on hs b)

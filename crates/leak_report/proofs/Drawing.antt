@@ -5,19 +5,17 @@ use Rattle.std.proofs.Common.{get_or, refl, sym, ap, ◌∙◌, Option, Some, �
 use Rattle.std.specs.Global.{Vec}
 use Rattle.std.specs.List.{flat_map}
 use Rattle.std.specs.Prelude.{All, nat_lt, slice_index_or}
-use Rattle.std.proofs.lemmas.Bool.{and_parts, cases_eq, cond-true, cond-false, false≢true}
+use Rattle.std.proofs.lemmas.Bool.{and_parts, cases_eq, cond-true, cond-false}
 use Rattle.std.proofs.lemmas.List.{map-append, take_more}
 use Rattle.std.proofs.lemmas.List.Elements.{All-cons, All-head, All-nil, All-tail}
 use Rattle.control_word.specs.State.{State}
 use Rattle.script_text.specs.Grammar.{ended}
 use Rattle.script_stepper.proofs.LineLemmas.{lines_then}
 use Rattle.step_core.specs.Totals.{fields_of}
-use Rattle.step_table.specs.declared.cell_steps.cell_deed.Cell.{Cell}
-use Rattle.step_table.specs.declared.cell_steps.cell_deed.Cell.TheVariants.{Free, Member}
 use Rattle.step_threads.specs.Scenes.{Scene, state_in}
 use Rattle.owner_graph.specs.declared.holding.Holding.{Holding}
-use Rattle.owner_graph.specs.Ends.{same_cell}
-use Rattle.owner_graph.specs.Owners.{IsAmong, is_owner, source}
+use Rattle.owner_graph.specs.Ends.{same_place}
+use Rattle.owner_graph.specs.Owners.{IsAmong}
 use Rattle.owner_graph.specs.Ties.{is_tie}
 use Rattle.owner_graph.specs.Labels.{at}
 use Rattle.owner_graph.specs.Rows.{held_on, row_at}
@@ -25,35 +23,29 @@ use Rattle.leak_report.specs.Findings.{Findings, held_at, ties_at}
 use Rattle.leak_report.specs.Graph.{all_nodes, at_source, color_text, edge_by, edge_lines, graph_lines, head_lines, is_listed, is_tied, node_if, node_lines}
 use Rattle.leak_report.specs.Graph.{node_text, style_text, tie_text}
 
--- one cell is in one block
-same_source : (one two : Cell) → same_cell one two ≡ true → source one ≡ source two
-same_source (Free n) (Free m) e = refl
-same_source (Free n) (Member b m) e = absurd (false≢true e)
-same_source (Member a n) (Free m) e = absurd (false≢true e)
-same_source (Member a n) (Member b m) e = eqb-true a.0 b.0 (and_parts (a.0 == b.0) (n == m) e).0
-
-other_cell : (one two : Cell) → source one ≢ source two → same_cell one two ≡ false
-other_cell one two ne = go (same_cell one two) refl
+-- one place is in one block
+other_place : (one two : Holding) → one.from ≢ two.from → same_place one two ≡ false
+other_place one two ne = go (same_place one two) refl
   where
-    go : (t : Bool) → same_cell one two ≡ t → t ≡ false
-    go true e = absurd (ne (same_source one two e))
+    go : (t : Bool) → same_place one two ≡ t → t ≡ false
+    go true e = absurd (ne (eqb-true one.from two.from (and_parts (one.from == two.from) (one.slot == two.slot) e).0))
     go false e = refl
 
 -- a cell is listed just where it is with its block
-pub listed_at : (c : Cell) (hs : List Holding) → is_listed c (held_on (map at_source hs) (source c)) ≡ is_listed c hs
+pub listed_at : (c : Holding) (hs : List Holding) → is_listed c (held_on (map at_source hs) c.from) ≡ is_listed c hs
 listed_at c [] = refl
 listed_at c (h ∷ hs) =
     let later = listed_at c hs in
-    let rest = held_on (map at_source hs) (source c) in
-    let is = source h.cell == source c in
+    let rest = held_on (map at_source hs) c.from in
+    let is = h.from == c.from in
     ⊎_elim
-    (λ (e : source h.cell ≡ source c).
-    ap (is_listed c) (cond-true is (at_source h ∷ rest) rest (eq-eqb (source h.cell) (source c) e))
-    ∙ ap (λ (t : Bool). same_cell h.cell c || t) later)
-    (λ (ne : source h.cell ≢ source c).
-    ap (is_listed c) (cond-false is (at_source h ∷ rest) rest (ne_eqb (source h.cell) (source c) ne))
-    ∙ later ∙ ap (λ (t : Bool). t || is_listed c hs) (sym (other_cell h.cell c ne)))
-    (cases_eq (source h.cell) (source c))
+    (λ (e : h.from ≡ c.from).
+    ap (is_listed c) (cond-true is (at_source h ∷ rest) rest (eq-eqb h.from c.from e))
+    ∙ ap (λ (t : Bool). same_place h c || t) later)
+    (λ (ne : h.from ≢ c.from).
+    ap (is_listed c) (cond-false is (at_source h ∷ rest) rest (ne_eqb h.from c.from ne))
+    ∙ later ∙ ap (λ (t : Bool). t || is_listed c hs) (sym (other_place h c ne)))
+    (cases_eq h.from c.from)
 
 pub moved_among : (blocks : ℕ) (hs : List Holding) → All (IsAmong blocks) hs → All (IsAmong blocks) (map at_source hs)
 moved_among blocks [] all = All-nil (IsAmong blocks)
@@ -70,9 +62,9 @@ moved_more hs i x d so_far next lt p q is =
 
 -- the rows of moved cells tell what is listed
 pub rows_tell : (rows : List (Vec Holding)) (moved hs : List Holding) → ((b : ℕ) → row_at rows b ≡ held_on moved b) → moved ≡ map at_source hs
-    → (c : Cell) → is_listed c (row_at rows (source c)) ≡ is_listed c hs
+    → (c : Holding) → is_listed c (row_at rows c.from) ≡ is_listed c hs
 rows_tell rows moved hs at is c =
-    ap (is_listed c) (at (source c) ∙ ap (λ (l : List Holding). held_on l (source c)) is) ∙ listed_at c hs
+    ap (is_listed c) (at c.from ∙ ap (λ (l : List Holding). held_on l c.from) is) ∙ listed_at c hs
 
 -- there is no row past the last
 pub row_past : (rows : List (Vec Holding)) (n : ℕ) → length rows ≤ n → row_at rows n ≡ []
@@ -102,11 +94,11 @@ node_then s kept knots ties row number fields color is_kept tied a b some mark k
 
 -- a handle's line
 pub held_then : (shared : ℕ) (f : Findings) (h : Holding) (style color : List ℕ) (a b : List ℕ)
-    → style ≡ style_text (is_owner shared h.cell) (is_listed h.cell f.cuts) → color ≡ tie_text (is_tie shared f.kept f.knots h)
-    → b ≡ a ++ ended (edge_by shared h.block.0 style color h.cell) → b ≡ a ++ ended (edge_lines shared f h)
+    → style ≡ style_text h.is_owner (is_listed h f.cuts) → color ≡ tie_text (is_tie f.kept f.knots h)
+    → b ≡ a ++ ended (edge_by shared style color h) → b ≡ a ++ ended (edge_lines shared f h)
 held_then shared f h style color a b drawn tied p =
-    p ∙ ap (λ (t : List ℕ). a ++ ended (edge_by shared h.block.0 t color h.cell)) drawn
-    ∙ ap (λ (t : List ℕ). a ++ ended (edge_by shared h.block.0 (style_text (is_owner shared h.cell) (is_listed h.cell f.cuts)) t h.cell)) tied
+    p ∙ ap (λ (t : List ℕ). a ++ ended (edge_by shared t color h)) drawn
+    ∙ ap (λ (t : List ℕ). a ++ ended (edge_by shared (style_text h.is_owner (is_listed h f.cuts)) t h)) tied
 
 -- the head, the nodes, the lines of handles, and the end
 pub graph_then : (u : Scene) (f : Findings) (ties held : List Holding) (shared blocks : ℕ) (b c d e : List ℕ)

@@ -70,10 +70,10 @@ all_then u f found shared blocks made over b c d few all one two ties p q r =
 
 -- what cells hold is counted, whatever it was found as
 pub counted_at : (c : Scene) (blocks : ℕ) (hs : List Holding) → blocks ≡ c.extent.shape.blocks → hs ≡ held_at c
-    → AllCounted c.extent.shape.shared_cells blocks (state_in c) hs → IsCountedAt c
+    → AllCounted blocks (state_in c) hs → IsCountedAt c
 counted_at c blocks hs all is h =
-    subst (λ (n : ℕ). AllCounted c.extent.shape.shared_cells n (state_in c) (held_at c)) all
-    (subst (λ (l : List Holding). AllCounted c.extent.shape.shared_cells blocks (state_in c) l) is h)
+    subst (λ (n : ℕ). AllCounted n (state_in c) (held_at c)) all
+    (subst (λ (l : List Holding). AllCounted blocks (state_in c) l) is h)
 
 -- what was answered may be forgotten
 pub forgotten : (draws leaks : Bool) (fault : Fault) (bytes list text : List ℕ) → IsScriptRun (IsLeftText draws (Ok leaks)) bytes list text

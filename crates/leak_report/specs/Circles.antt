@@ -8,7 +8,7 @@ use Rattle.leak_report.specs.Cells.{block_cell_text}
 
 -- an owner's cell, after a space
 abbrev pub owner_cell_text : ℕ → Holding → List ℕ
-owner_cell_text shared h = codes " " ++ block_cell_text shared h.cell
+owner_cell_text shared h = codes " " ++ block_cell_text shared h
 
 -- the owners that tie a knot
 abbrev pub cycle_text : ℕ → List Holding → List ℕ

@@ -21,4 +21,4 @@ findings kept knots cuts = record { kept = kept; knots = knots; cuts = cuts }
 
 -- the owners at a scene that tie knots of leaked blocks
 abbrev pub ties_at : Findings → Scene → List Holding
-ties_at f c = ties c.extent.shape.shared_cells f.kept f.knots (held_at c)
+ties_at f c = ties f.kept f.knots (held_at c)

@@ -1,21 +1,18 @@
 -- What is left as a graph for Graphviz, line by line, each without its line feed. All of it is own.
-use Rattle.std.specs.Prelude.{ℕ, ◌++◌, Bool, false, cond, nat_lt, List, [], ◌∷◌, length, codes, decimal}
+use Rattle.std.specs.Prelude.{ℕ, ◌++◌, ◌==◌, Bool, false, cond, nat_lt, List, [], ◌∷◌, length, codes, decimal}
 use Rattle.std.specs.Prelude.{slice_index}
 use Rattle.std.specs.Prelude.{Option, Some, None, slice_index_or}
 use Rattle.std.specs.List.{flat_map, list_any}
 use Rattle.control_word.specs.State.{State}
-use Rattle.step_table.specs.declared.cell_steps.cell_deed.Cell.{Cell}
-use Rattle.step_table.specs.declared.cell_steps.cell_deed.Cell.TheVariants.{Free, Member}
 use Rattle.step_threads.specs.Scenes.{Scene, state_in}
 use Rattle.step_threads.specs.Stocks.{from}
 use Rattle.step_core.specs.Totals.{fields_of}
 use Rattle.owner_graph.specs.declared.holding.Holding.{Holding}
-use Rattle.owner_graph.specs.Ends.{same_cell}
+use Rattle.owner_graph.specs.Ends.{same_place}
 use Rattle.owner_graph.specs.Labels.{at}
-use Rattle.owner_graph.specs.Owners.{is_owner, source}
 use Rattle.owner_graph.specs.Rows.{held_on}
 use Rattle.owner_graph.specs.Ties.{is_tie}
-use Rattle.leak_report.specs.Cells.{block_cell_text}
+use Rattle.leak_report.specs.Cells.{free_cell_text}
 use Rattle.script_text.specs.Cells.{member_text}
 use Rattle.leak_report.specs.Findings.{Findings, held_at, ties_at}
 
@@ -50,13 +47,14 @@ node_lines s kept knots ties block =
 abbrev pub all_nodes : State → List Bool → List ℕ → List Holding → ℕ → List (List ℕ)
 all_nodes s kept knots ties blocks = flat_map (node_lines s kept knots ties) (from 1 blocks)
 
--- the cell is among those that are listed
-abbrev pub is_listed : Cell → List Holding → Bool
-is_listed c hs = list_any (λ (h : Holding). same_cell h.cell c) hs
+-- the cell of a handle is among those that are listed
+abbrev pub is_listed : Holding → List Holding → Bool
+is_listed c hs = list_any (λ (h : Holding). same_place h c) hs
 
--- the cell of a handle, with the block in which it is
+-- a handle, but on the block in which it is
 abbrev pub at_source : Holding → Holding
-at_source h = record { cell = h.cell; block = record { 0 = source h.cell } }
+at_source h =
+    record { from = h.from; to = h.from; slot = h.slot; label = h.label; is_owner = h.is_owner }
 
 -- an owner is a full line, a bold one where it cuts its knot, and a weak handle a dashed one
 abbrev pub style_text : Bool → Bool → List ℕ
@@ -68,11 +66,11 @@ tie_text is_tie = cond is_tie (codes ", color=red") []
 
 -- a free cell, and the line of the handle in it
 abbrev pub box_text : ℕ → ℕ → List ℕ
-box_text shared number = block_cell_text shared (Free number) ++ codes " [shape=box];"
+box_text shared number = free_cell_text shared number ++ codes " [shape=box];"
 
 abbrev pub free_text : ℕ → ℕ → ℕ → List ℕ → List ℕ
 free_text shared number block style =
-    block_cell_text shared (Free number) ++ codes " -> b" ++ decimal block ++ codes " [style=" ++ style ++ codes "];"
+    free_cell_text shared number ++ codes " -> b" ++ decimal block ++ codes " [style=" ++ style ++ codes "];"
 
 abbrev pub free_lines : ℕ → ℕ → ℕ → List ℕ → List (List ℕ)
 free_lines shared number block style = box_text shared number ∷ [] ++ free_text shared number block style ∷ []
@@ -83,15 +81,14 @@ member_lines from member block style color =
     (codes "b" ++ decimal from ++ codes " -> b" ++ decimal block ++ codes " [label=\" " ++ member_text member
     ++ codes "\", style=" ++ style ++ color ++ codes "];") ∷ []
 
-abbrev pub edge_by : ℕ → ℕ → List ℕ → List ℕ → Cell → List (List ℕ)
-edge_by shared block style color (Free number) = free_lines shared number block style
-edge_by shared block style color (Member from member) = member_lines from.0 member block style color
+abbrev pub edge_by : ℕ → List ℕ → List ℕ → Holding → List (List ℕ)
+edge_by shared style color h =
+    cond (h.from == 0) (free_lines shared h.slot h.to style) (member_lines h.from h.slot h.to style color)
 
 -- a handle
 abbrev pub edge_lines : ℕ → Findings → Holding → List (List ℕ)
 edge_lines shared f h =
-    edge_by shared h.block.0 (style_text (is_owner shared h.cell) (is_listed h.cell f.cuts))
-    (tie_text (is_tie shared f.kept f.knots h)) h.cell
+    edge_by shared (style_text h.is_owner (is_listed h f.cuts)) (tie_text (is_tie f.kept f.knots h)) h
 
 -- how the graph begins
 abbrev pub head_lines : List (List ℕ)

@@ -19,7 +19,7 @@ use Rattle.leak_report.specs.Lines.{all_lines}
 
 -- a path of owners leads to the block from a free cell
 abbrev pub IsKeptAt : Scene → ℕ → Type 0
-IsKeptAt c b = IsKept c.extent.shape.shared_cells (held_at c) b
+IsKeptAt c b = IsKept (held_at c) b
 
 -- the block isn't vacant, and no path leads to it
 abbrev pub IsLeaked : Scene → ℕ → Type 0
@@ -39,8 +39,8 @@ pub record MarksKept (c : Scene) (kept : List Bool) : Type 0 where
 -- what was found is so: what is kept, the knots, and which of the owners that tie one cut it
 pub record AreFound (c : Scene) (f : Findings) : Type 0 where
   pub kept : MarksKept c f.kept
-  pub knots : KnotsAre c.extent.shape.shared_cells c.extent.shape.blocks (held_at c) f.knots
-  pub cuts : AreCuts c.extent.shape.shared_cells c.extent.shape.blocks (held_at c) (ties_at f c) f.cuts
+  pub knots : KnotsAre c.extent.shape.blocks (held_at c) f.knots
+  pub cuts : AreCuts c.extent.shape.blocks (held_at c) (ties_at f c) f.cuts
 
 -- the lines that are told, or those of a graph
 abbrev pub lines_told : Bool → Findings → Scene → List (List ℕ)
@@ -49,7 +49,7 @@ lines_told true f c = graph_lines f c
 
 -- what cells hold on a block, each cell once, is just what is counted there
 abbrev pub IsCountedAt : Scene → Type 0
-IsCountedAt c = AllCounted c.extent.shape.shared_cells c.extent.shape.blocks (state_in c) (held_at c)
+IsCountedAt c = AllCounted c.extent.shape.blocks (state_in c) (held_at c)
 
 -- the text tells what is left at a scene, or draws it, and whether something is leaked
 pub record TellsOf (c : Scene) (draws leaks : Bool) (text : List ℕ) : Type 0 where

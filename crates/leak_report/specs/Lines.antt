@@ -9,7 +9,6 @@ use Rattle.step_threads.specs.Stocks.{from}
 use Rattle.step_core.specs.Totals.{census_of, ended_in, made_in}
 use Rattle.script_stepper.specs.Lines.{block_text, totals_text}
 use Rattle.owner_graph.specs.declared.holding.Holding.{Holding}
-use Rattle.owner_graph.specs.Owners.{is_owner}
 use Rattle.owner_graph.specs.Rows.{held_on}
 use Rattle.leak_report.specs.Cells.{block_cell_text}
 use Rattle.leak_report.specs.Circles.{circles}
@@ -20,7 +19,7 @@ kind_text is_owner = cond is_owner (codes "owner") (codes "weak")
 
 -- a handle, by where it is
 abbrev pub holder_text : ℕ → Holding → List ℕ
-holder_text shared h = codes "  " ++ kind_text (is_owner shared h.cell) ++ codes " in " ++ block_cell_text shared h.cell
+holder_text shared h = codes "  " ++ kind_text h.is_owner ++ codes " in " ++ block_cell_text shared h
 
 abbrev pub holder_lines : ℕ → Holding → List (List ℕ)
 holder_lines shared h = holder_text shared h ∷ []

@@ -16,7 +16,7 @@ fn put_word(text: &mut String, shared: u32, tie: Holding) -> Result<(), AllocErr
     ensures { OnOk result (string_bytes text.new ≡ string_bytes text.old ++ owner_cell_text shared tie) }
 {
     text.push_str(" ")?;
-    put_cell(text, shared, tie.cell)
+    put_cell(text, shared, tie)
 }
 
 /// Adds the cells of owners, in order.

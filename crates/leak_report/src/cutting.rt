@@ -1,37 +1,24 @@
 //! Which cells cut a knot, found by the blocks in which they are.
 ghost use Rattle.std.specs.Prelude.{◌≡◌, All, IfOk, map};
-ghost use Rattle.owner_graph.specs.Owners.{IsAmong, source};
+ghost use Rattle.owner_graph.specs.Owners.{IsAmong};
 ghost use Rattle.owner_graph.specs.Rows.{row_at};
-ghost use Rattle.step_table.specs.declared.cell_steps.cell_deed.Cell.{Cell};
+ghost use Rattle.owner_graph.specs.declared.holding.Holding.{Holding};
 ghost use Rattle.leak_report.specs.Graph.{at_source, is_listed};
 
-use control_word::Block;
-use owner_graph::{Holding, by_block, same_cell, source};
+use owner_graph::{Holding, by_vertex, same_place};
 use std::alloc::{AllocError, Global};
-use step_core::Cell;
 
-/// The block in which a cell is; 0 for a free one.
-fn block_of(cell: Cell) -> Block
-    ensures { result ≡ record { 0 = source cell } }
-{
-    match cell {
-        Cell::Free { .. } => Block(0),
-        Cell::Member { block, .. } => block,
-    }
-}
-
-/// A cell, with the block in which it is.
+/// A handle, but on the block in which it is.
 fn at_source(holding: Holding) -> Holding
     ensures { result ≡ at_source holding }
 {
-    let cell = holding.cell;
     Holding {
-        cell,
-        block: block_of(cell),
+        to: holding.from,
+        ..holding
     }
 }
 
-/// The same cells, each with the block in which it is.
+/// The same handles, each on the block in which it is.
 fn at_sources(alloc: Global, holdings: &[Holding]) -> Result<Vec<Holding>, AllocError>
     ensures { IfOk result (λ v. v.items ≡ map at_source holdings.now) }
 {
@@ -45,28 +32,28 @@ fn at_sources(alloc: Global, holdings: &[Holding]) -> Result<Vec<Holding>, Alloc
 /// The cells that are listed, by the blocks in which they are.
 pub(crate) fn by_source(
     alloc: Global,
-    blocks: u16,
+    blocks: u32,
     holdings: &[Holding],
 ) -> Result<Vec<Vec<Holding>>, AllocError>
     requires { All (IsAmong blocks) holdings.now }
-    ensures { IfOk result (λ rows. (c : Cell)
-        → is_listed c (row_at rows.items (source c)) ≡ is_listed c holdings.now) }
+    ensures { IfOk result (λ rows. (c : Holding)
+        → is_listed c (row_at rows.items c.from) ≡ is_listed c holdings.now) }
 {
     let moved = at_sources(alloc, holdings)?;
-    by_block(alloc, blocks, moved.as_slice())
+    by_vertex(alloc, blocks, moved.as_slice())
 }
 
-/// Whether a cell is listed.
-fn is_listed(cell: Cell, holdings: &[Holding]) -> bool
-    ensures { result ≡ is_listed cell holdings.now }
+/// Whether the cell of a handle is listed.
+fn is_listed(held: Holding, holdings: &[Holding]) -> bool
+    ensures { result ≡ is_listed held holdings.now }
 {
-    holdings.iter().any(|holding| same_cell(holding.cell, cell))
+    holdings.iter().any(|holding| same_place(*holding, held))
 }
 
-/// Whether a cell is listed with the block in which it is.
-pub(crate) fn is_listed_in(cell: Cell, rows: &[Vec<Holding>]) -> bool
-    ensures { result ≡ is_listed cell (row_at rows.now (source cell)) }
+/// Whether the cell of a handle is listed with the block in which it is.
+pub(crate) fn is_listed_in(held: Holding, rows: &[Vec<Holding>]) -> bool
+    ensures { result ≡ is_listed held (row_at rows.now held.from) }
 {
-    let from = source(cell);
-    from < rows.len() && is_listed(cell, rows[from].as_slice())
+    let from = held.from as usize;
+    from < rows.len() && is_listed(held, rows[from].as_slice())
 }

@@ -14,24 +14,19 @@ use crate::knotting::{Circles, find_circles};
 use control_word::Block;
 use control_word::limits::{SCRIPT_SHARED_CELLS, SCRIPT_WEAK_CELLS};
 use holders::holdings;
-use owner_graph::{GraphError, Holding, by_block, kept};
+use owner_graph::{GraphError, Holding, by_vertex, kept};
 use script_stepper::End;
 use std::alloc::{AllocError, Global};
 use step_core::World;
 
 /// Which blocks are kept, where all owners are in and on blocks of the world.
-fn marks_of(
-    alloc: Global,
-    shared: u32,
-    blocks: u16,
-    holdings: &[Holding],
-) -> Result<Vec<bool>, AllocError>
+fn marks_of(alloc: Global, blocks: u32, holdings: &[Holding]) -> Result<Vec<bool>, AllocError>
     requires { All (IsAmong blocks) holdings.now }
     ensures size { IfOk result (λ v. length v.items ≡ blocks + 1) }
     ensures kept { IfOk result (λ v. (b : ℕ) → b ≤ blocks
-        → slice_index_or v.items b false ≡ true ↔ IsKept shared holdings.now b) }
+        → slice_index_or v.items b false ≡ true ↔ IsKept holdings.now b) }
 {
-    match kept(alloc, shared, blocks, holdings) {
+    match kept(alloc, blocks, holdings) {
         Ok(marks) => Ok(marks),
         Err(GraphError::Memory) => Err(AllocError),
         Err(GraphError::Outside) => unreachable!(),
@@ -51,7 +46,7 @@ pub(crate) struct Found {
 /// Finds what is held at a run's end.
 pub(crate) fn find(alloc: Global, end: &End) -> Result<Found, AllocError>
     ensures held { IfOk result (λ found. found.held.items ≡ held_at (scene end.now.world)) }
-    ensures counted { IfOk result (λ found. AllCounted end.now.world.story.extent.shape.shared_cells end.now.blocks
+    ensures counted { IfOk result (λ found. AllCounted end.now.blocks
         (state_in (scene end.now.world)) found.held.items) }
     ensures cuts { IfOk result (λ found. All (IsAmong end.now.blocks) found.circles.cuts.items) }
     ensures size { IfOk result (λ found. length found.rows.items ≡ end.now.blocks + 1) }
@@ -71,18 +66,14 @@ pub(crate) fn find(alloc: Global, end: &End) -> Result<Found, AllocError>
     let held = holdings(
         alloc,
         &end.world,
+        SCRIPT_SHARED_CELLS,
         SCRIPT_SHARED_CELLS + SCRIPT_WEAK_CELLS,
         end.blocks,
     )?;
-    let kept = marks_of(alloc, SCRIPT_SHARED_CELLS, end.blocks, held.as_slice())?;
-    let rows = by_block(alloc, end.blocks, held.as_slice())?;
-    let circles = find_circles(
-        alloc,
-        SCRIPT_SHARED_CELLS,
-        end.blocks,
-        held.as_slice(),
-        kept.as_slice(),
-    )?;
+    let blocks = end.blocks as u32;
+    let kept = marks_of(alloc, blocks, held.as_slice())?;
+    let rows = by_vertex(alloc, blocks, held.as_slice())?;
+    let circles = find_circles(alloc, blocks, held.as_slice(), kept.as_slice())?;
     Ok(Found {
         held,
         rows,

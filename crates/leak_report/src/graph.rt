@@ -7,10 +7,10 @@ ghost use Rattle.std.specs.List.{flat_map};
 ghost use Rattle.script_text.specs.Canonical.{AddsLines};
 ghost use Rattle.step_core.specs.Totals.{IsAtEnd};
 ghost use Rattle.step_core.specs.Worlds.{scene};
-ghost use Rattle.step_table.specs.declared.cell_steps.cell_deed.Cell.{Cell};
+ghost use Rattle.owner_graph.specs.declared.holding.Holding.{Holding};
 ghost use Rattle.step_threads.specs.Scenes.{state_in};
 ghost use Rattle.owner_graph.specs.Labels.{at};
-ghost use Rattle.owner_graph.specs.Owners.{IsAmong, source};
+ghost use Rattle.owner_graph.specs.Owners.{IsAmong};
 ghost use Rattle.owner_graph.specs.Rows.{held_on, row_at};
 ghost use Rattle.holders.specs.Holdings.{AllCounted};
 ghost use Rattle.leak_report.specs.Findings.{findings, held_at, ties_at};
@@ -22,16 +22,15 @@ ghost use Rattle.leak_report.specs.Left.{AreFound, TellsOf};
 use crate::cutting::{by_source, is_listed_in};
 use crate::finding::{Found, leaks};
 use crate::knotting::Circles;
-use crate::lines::put_free;
+use crate::lines::{member_word, put_free};
 use crate::listing::Left;
 use control_word::Block;
 use control_word::limits::SCRIPT_SHARED_CELLS;
-use owner_graph::{Holding, is_owner, is_tie};
+use owner_graph::{Holding, is_tie};
 use script_stepper::End;
-use script_text::member_text;
 use std::alloc::{AllocError, Global};
 use std::fmt::Write;
-use step_core::{Cell, World};
+use step_core::World;
 
 /// The color of a block: whether it is kept, and else whether something ties its knot.
 fn color_word(is_kept: bool, is_tied: bool) -> &'static str
@@ -155,7 +154,7 @@ fn put_from_box(
     text: &mut String,
     shared: u32,
     number: u32,
-    block: u16,
+    block: u32,
     style: &str,
 ) -> Result<(), AllocError>
     ensures { OnOk result (AddsLines text.old text.new (free_text shared number block style.now ∷ [])) }
@@ -171,7 +170,7 @@ fn put_free_edge(
     text: &mut String,
     shared: u32,
     number: u32,
-    block: u16,
+    block: u32,
     style: &str,
 ) -> Result<(), AllocError>
     ensures { OnOk result (AddsLines text.old text.new (free_lines shared number block style.now)) }
@@ -184,15 +183,15 @@ fn put_free_edge(
 /// Adds the line of a handle in a member.
 fn put_member_edge(
     text: &mut String,
-    from: u16,
-    member: u8,
-    block: u16,
+    from: u32,
+    member: u32,
+    block: u32,
     style: &str,
     color: &str,
 ) -> Result<(), AllocError>
     ensures { OnOk result (AddsLines text.old text.new (member_lines from member block style.now color.now)) }
 {
-    let word = member_text(member);
+    let word = member_word(member);
     write!(text, "b{from} -> b{block}")?;
     write!(text, " [label=\" {word}\"")?;
     writeln!(text, ", style={style}{color}];")?;
@@ -203,20 +202,16 @@ fn put_member_edge(
 fn put_edge(
     text: &mut String,
     shared: u32,
-    block: u16,
     style: &str,
     color: &str,
-    cell: Cell,
+    held: Holding,
 ) -> Result<(), AllocError>
-    ensures { OnOk result (AddsLines text.old text.new (edge_by shared block style.now color.now cell)) }
+    ensures { OnOk result (AddsLines text.old text.new (edge_by shared style.now color.now held)) }
 {
-    match cell {
-        Cell::Free { number } => put_free_edge(text, shared, number, block, style),
-        Cell::Member {
-            block: from,
-            member,
-        } => put_member_edge(text, from.0, member, block, style, color),
+    if held.from == 0 {
+        return put_free_edge(text, shared, held.slot, held.to, style);
     }
+    put_member_edge(text, held.from, held.slot, held.to, style, color)
 }
 
 /// Adds the line of what is held in a cell, where the cells that cut a knot are listed by their blocks.
@@ -227,14 +222,14 @@ fn put_held(
     cuts: &[Vec<Holding>],
     held: Holding,
 ) -> Result<(), AllocError>
-    requires { (c : Cell) → is_listed c (row_at cuts.now (source c)) ≡ is_listed c found.now.circles.cuts.items }
+    requires { (c : Holding) → is_listed c (row_at cuts.now c.from) ≡ is_listed c found.now.circles.cuts.items }
     ensures { OnOk result (AddsLines text.old text.new (edge_lines shared (findings found.now.kept.items
         found.now.circles.knots.items found.now.circles.cuts.items) held)) }
 {
-    let style = style_word(is_owner(shared, held.cell), is_listed_in(held.cell, cuts));
+    let style = style_word(held.is_owner, is_listed_in(held, cuts));
     let kept = found.kept.as_slice();
-    let color = tie_word(is_tie(shared, held, kept, found.circles.knots.as_slice()));
-    put_edge(text, shared, held.block.0, style, color, held.cell)?;
+    let color = tie_word(is_tie(held, kept, found.circles.knots.as_slice()));
+    put_edge(text, shared, style, color, held)?;
     Ok(())
 }
 
@@ -246,7 +241,7 @@ fn put_all_held(
     cuts: &[Vec<Holding>],
     holdings: &[Holding],
 ) -> Result<(), AllocError>
-    requires { (c : Cell) → is_listed c (row_at cuts.now (source c)) ≡ is_listed c found.now.circles.cuts.items }
+    requires { (c : Holding) → is_listed c (row_at cuts.now c.from) ≡ is_listed c found.now.circles.cuts.items }
     ensures { OnOk result (AddsLines text.old text.new (flat_map (edge_lines shared (findings found.now.kept.items
         found.now.circles.knots.items found.now.circles.cuts.items)) holdings.now)) }
 {
@@ -257,7 +252,7 @@ fn put_all_held(
 }
 
 /// Adds the lines of all that was found to be held.
-fn put_edges(alloc: Global, blocks: u16, found: &Found, text: &mut String) -> Result<(), AllocError>
+fn put_edges(alloc: Global, blocks: u32, found: &Found, text: &mut String) -> Result<(), AllocError>
     requires { All (IsAmong blocks) found.now.circles.cuts.items }
     ensures { OnOk result (AddsLines text.old text.new (flat_map (edge_lines 128 (findings found.now.kept.items
         found.now.circles.knots.items found.now.circles.cuts.items)) found.now.held.items)) }
@@ -279,7 +274,7 @@ fn put_head(text: &mut String) -> Result<(), AllocError>
 /// Draws what is left at a run's end.
 pub(crate) fn drawn_at(alloc: Global, end: &End, found: &Found) -> Result<Left, AllocError>
     requires held { found.now.held.items ≡ held_at (scene end.now.world) }
-    requires counted { AllCounted end.now.world.story.extent.shape.shared_cells end.now.blocks
+    requires counted { AllCounted end.now.blocks
         (state_in (scene end.now.world)) found.now.held.items }
     requires cuts { All (IsAmong end.now.blocks) found.now.circles.cuts.items }
     requires tie_rows { (block : ℕ) → row_at found.now.circles.tie_rows.items block
@@ -293,7 +288,7 @@ pub(crate) fn drawn_at(alloc: Global, end: &End, found: &Found) -> Result<Left, 
     let mut text = String::new(alloc);
     put_head(&mut text)?;
     put_blocks(&end.world, end.blocks, found, &mut text)?;
-    put_edges(alloc, end.blocks, found, &mut text)?;
+    put_edges(alloc, end.blocks as u32, found, &mut text)?;
     text.push_str("}\n")?;
     let leaks = leaks(&end.world, end.blocks, found.kept.as_slice());
     Ok(Left { text, leaks })

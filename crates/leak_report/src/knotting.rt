@@ -5,7 +5,7 @@ ghost use Rattle.owner_graph.specs.Owners.{IsAmong};
 ghost use Rattle.owner_graph.specs.Rows.{held_on, row_at};
 ghost use Rattle.owner_graph.specs.Ties.{AreCuts, ties};
 
-use owner_graph::{Holding, by_block, cuts, knots, ties};
+use owner_graph::{Holding, by_vertex, cuts, knots, ties};
 use std::alloc::{AllocError, Global};
 
 /// The least block of each one's knot, the owners that tie leaked blocks and those that cut a knot, and the same by the
@@ -22,15 +22,14 @@ pub(crate) struct Circles {
 /// Finds the knots of blocks that aren't kept, and what cuts them.
 pub(crate) fn find_circles(
     alloc: Global,
-    shared: u32,
-    blocks: u16,
+    blocks: u32,
     holdings: &[Holding],
     kept: &[bool],
 ) -> Result<Circles, AllocError>
     requires { All (IsAmong blocks) holdings.now }
-    ensures knots { IfOk result (λ c. KnotsAre shared blocks holdings.now c.knots.items) }
-    ensures ties { IfOk result (λ c. c.ties.items ≡ ties shared kept.now c.knots.items holdings.now) }
-    ensures cuts { IfOk result (λ c. AreCuts shared blocks holdings.now c.ties.items c.cuts.items) }
+    ensures knots { IfOk result (λ c. KnotsAre blocks holdings.now c.knots.items) }
+    ensures ties { IfOk result (λ c. c.ties.items ≡ ties kept.now c.knots.items holdings.now) }
+    ensures cuts { IfOk result (λ c. AreCuts blocks holdings.now c.ties.items c.cuts.items) }
     ensures among { IfOk result (λ c. All (IsAmong blocks) c.cuts.items) }
     ensures sizes { IfOk result (λ c. (length c.tie_rows.items ≡ blocks + 1)
         × (length c.cut_rows.items ≡ blocks + 1)) }
@@ -39,18 +38,11 @@ pub(crate) fn find_circles(
     ensures cut_rows { IfOk result (λ c. (block : ℕ)
         → row_at c.cut_rows.items block ≡ held_on c.cuts.items block) }
 {
-    let knots = knots(alloc, shared, blocks, holdings)?;
-    let ties = ties(alloc, shared, blocks, holdings, kept, knots.as_slice())?;
-    let cuts = cuts(
-        alloc,
-        shared,
-        blocks,
-        holdings,
-        knots.as_slice(),
-        ties.as_slice(),
-    )?;
-    let tie_rows = by_block(alloc, blocks, ties.as_slice())?;
-    let cut_rows = by_block(alloc, blocks, cuts.as_slice())?;
+    let knots = knots(alloc, blocks, holdings)?;
+    let ties = ties(alloc, blocks, holdings, kept, knots.as_slice())?;
+    let cuts = cuts(alloc, blocks, holdings, knots.as_slice(), ties.as_slice())?;
+    let tie_rows = by_vertex(alloc, blocks, ties.as_slice())?;
+    let cut_rows = by_vertex(alloc, blocks, cuts.as_slice())?;
     Ok(Circles {
         knots,
         ties,

@@ -2,15 +2,15 @@
 ghost use Rattle.std.specs.Prelude.{◌≡◌, ◌∷◌, ◌++◌, [], OnOk, codes, decimal, string_bytes};
 ghost use Rattle.std.specs.List.{flat_map};
 ghost use Rattle.script_text.specs.Canonical.{AddsLines};
-ghost use Rattle.leak_report.specs.Cells.{block_cell_text};
+ghost use Rattle.leak_report.specs.Cells.{block_cell_text, free_cell_text};
+ghost use Rattle.script_text.specs.Cells.{member_text};
 ghost use Rattle.leak_report.specs.Lines.{holder_lines, holder_text, kept_text, kind_text, left_text};
 
 use control_word::Counts;
-use owner_graph::{Holding, is_owner};
+use owner_graph::Holding;
 use script_text::{member_text, put_number};
 use std::alloc::AllocError;
 use std::fmt::Write;
-use step_core::Cell;
 
 /// What a handle is.
 fn kind_word(is_owner: bool) -> &'static str
@@ -28,8 +28,7 @@ fn kept_word(is_kept: bool) -> &'static str
 
 /// Adds a free cell's word.
 pub(crate) fn put_free(text: &mut String, shared: u32, number: u32) -> Result<(), AllocError>
-    ensures { OnOk result (string_bytes text.new ≡ string_bytes text.old ++ block_cell_text shared
-        (Cell.Free number)) }
+    ensures { OnOk result (string_bytes text.new ≡ string_bytes text.old ++ free_cell_text shared number) }
 {
     if number < shared {
         put_number(text, "s", u64::from(number))
@@ -39,7 +38,7 @@ pub(crate) fn put_free(text: &mut String, shared: u32, number: u32) -> Result<()
 }
 
 /// Adds a member's word.
-fn put_member(text: &mut String, block: u16, member: &str) -> Result<(), AllocError>
+fn put_member(text: &mut String, block: u32, member: &str) -> Result<(), AllocError>
     ensures { OnOk result
         (string_bytes text.new ≡ string_bytes text.old ++ decimal block ++ codes "." ++ member.now) }
 {
@@ -47,14 +46,25 @@ fn put_member(text: &mut String, block: u16, member: &str) -> Result<(), AllocEr
     Ok(())
 }
 
-/// Adds a cell's word.
-pub(crate) fn put_cell(text: &mut String, shared: u32, cell: Cell) -> Result<(), AllocError>
-    ensures { OnOk result (string_bytes text.new ≡ string_bytes text.old ++ block_cell_text shared cell) }
+/// The word of a member.
+pub(crate) fn member_word(slot: u32) -> &'static str
+    ensures { result.now ≡ member_text slot }
 {
-    match cell {
-        Cell::Free { number } => put_free(text, shared, number),
-        Cell::Member { block, member } => put_member(text, block.0, member_text(member)),
+    match slot {
+        0 => member_text(0),
+        1 => member_text(1),
+        _ => member_text(2),
     }
+}
+
+/// Adds the word of the cell of a handle.
+pub(crate) fn put_cell(text: &mut String, shared: u32, holding: Holding) -> Result<(), AllocError>
+    ensures { OnOk result (string_bytes text.new ≡ string_bytes text.old ++ block_cell_text shared holding) }
+{
+    if holding.from == 0 {
+        return put_free(text, shared, holding.slot);
+    }
+    put_member(text, holding.from, member_word(holding.slot))
 }
 
 /// Adds how the line of a handle begins.
@@ -70,8 +80,8 @@ fn put_kind(text: &mut String, kind: &str) -> Result<(), AllocError>
 fn put_holder(text: &mut String, shared: u32, holding: Holding) -> Result<(), AllocError>
     ensures { OnOk result (AddsLines text.old text.new (holder_lines shared holding)) }
 {
-    put_kind(text, kind_word(is_owner(shared, holding.cell)))?;
-    put_cell(text, shared, holding.cell)?;
+    put_kind(text, kind_word(holding.is_owner))?;
+    put_cell(text, shared, holding)?;
     text.push_str("\n")?;
     Ok(())
 }

@@ -88,7 +88,7 @@ pub(crate) struct Left {
 /// Tells what is left at a run's end.
 pub(crate) fn left_at(alloc: Global, end: &End, found: &Found) -> Result<Left, AllocError>
     requires held { found.now.held.items ≡ held_at (scene end.now.world) }
-    requires counted { AllCounted end.now.world.story.extent.shape.shared_cells end.now.blocks
+    requires counted { AllCounted end.now.blocks
         (state_in (scene end.now.world)) found.now.held.items }
     requires size { length found.now.rows.items ≡ end.now.blocks + 1 }
     requires rows { (block : ℕ)

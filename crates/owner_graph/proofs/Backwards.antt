@@ -50,35 +50,35 @@ returned (e ∷ es) a b p =
     (λ (ne : e.to ≢ b). later e es a b (returned es a b (subst (HasVertex a) (leading_else f (back_edges es) b ne) p))) (cases_eq e.to b)
 
 -- a path and one owner more
-pub and_on : (shared : ℕ) (hs : List Holding) (a x b : ℕ) (path : List ℕ) → IsOwnerPath shared hs a path x → Owns shared hs x b
-    → IsOwnerPath shared hs a (path ++ b ∷ []) b
-and_on shared hs a x b [] e o = (subst (λ y. Owns shared hs y b) (sym e) o, refl)
-and_on shared hs a x b (y ∷ ys) p o = (p.0, and_on shared hs y x b ys p.1 o)
+pub and_on : (hs : List Holding) (a x b : ℕ) (path : List ℕ) → IsOwnerPath hs a path x → Owns hs x b
+    → IsOwnerPath hs a (path ++ b ∷ []) b
+and_on hs a x b [] e o = (subst (λ y. Owns hs y b) (sym e) o, refl)
+and_on hs a x b (y ∷ ys) p o = (p.0, and_on hs y x b ys p.1 o)
 
 and_back : (g : Rows) (a x b : ℕ) (path : List ℕ) → IsPath g a path x → HasVertex b (targets g x) → IsPath g a (path ++ b ∷ []) b
 and_back g a x b [] e o = (subst (λ y. HasVertex b (targets g y)) (sym e) o, refl)
 and_back g a x b (y ∷ ys) p o = (p.0, and_back g y x b ys p.1 o)
 
-module _ (g : Rows) (shared : ℕ) (hs : List Holding) (rows : (v : ℕ) → targets g v ≡ leading (back_edges (owner_edges shared hs)) v) where
-  forward : (b a : ℕ) (path : List ℕ) → IsPath g b path a → OwnersLead shared hs a b
+module _ (g : Rows) (hs : List Holding) (rows : (v : ℕ) → targets g v ≡ leading (back_edges (owner_edges hs)) v) where
+  forward : (b a : ℕ) (path : List ℕ) → IsPath g b path a → OwnersLead hs a b
   forward b a [] e = ([], sym e)
   forward b a (x ∷ xs) p =
       let rest = forward x a xs p.1 in
-      let o = owns shared hs x b (returned (owner_edges shared hs) x b (subst (HasVertex x) (rows b) p.0)) in
-      (rest.0 ++ b ∷ [], and_on shared hs a x b rest.0 rest.1 o)
+      let o = owns hs x b (returned (owner_edges hs) x b (subst (HasVertex x) (rows b) p.0)) in
+      (rest.0 ++ b ∷ [], and_on hs a x b rest.0 rest.1 o)
 
-  backward : (a b : ℕ) (path : List ℕ) → IsOwnerPath shared hs a path b → (q : List ℕ) × IsPath g b q a
+  backward : (a b : ℕ) (path : List ℕ) → IsOwnerPath hs a path b → (q : List ℕ) × IsPath g b q a
   backward a b [] e = ([], sym e)
   backward a b (x ∷ xs) p =
       let rest = backward x b xs p.1 in
-      let o = subst (HasVertex a) (sym (rows x)) (turned (owner_edges shared hs) a x (owned shared hs a x p.0)) in
+      let o = subst (HasVertex a) (sym (rows x)) (turned (owner_edges hs) a x (owned hs a x p.0)) in
       (rest.0 ++ a ∷ [], and_back g b x a rest.0 rest.1 o)
 
   -- what is reached backwards owns
-  pub led : (marked : List Bool) (blocks root start : ℕ) → length g ≡ blocks + 1 → root ≡ start → MarksReached g root marked
-      → (b : ℕ) → b ≤ blocks → slice_index_or marked b false ≡ true ↔ OwnersLead shared hs b start
-  led marked blocks root start size same marks b le =
-      subst (λ (a : ℕ). slice_index_or marked b false ≡ true ↔ OwnersLead shared hs b a) same (
+  pub led : (marked : List Bool) (vertices root start : ℕ) → length g ≡ vertices + 1 → root ≡ start → MarksReached g root marked
+      → (b : ℕ) → b ≤ vertices → slice_index_or marked b false ≡ true ↔ OwnersLead hs b start
+  led marked vertices root start size same marks b le =
+      subst (λ (a : ℕ). slice_index_or marked b false ≡ true ↔ OwnersLead hs b a) same (
         λ is. let r = (marks.reached b (omega (arith, size, le))).0 is in forward root b r.0 r.1,
         λ k. (marks.reached b (omega (arith, size, le))).1 (backward b root k.0 k.1),
       )

@@ -1,4 +1,4 @@
--- Owners that are left once a cell is emptied, one more at a time, and the blocks that they are on.
+-- Owners that are left where some are weak, one more at a time, and the vertices that they are on.
 use Rattle.std.proofs.Common.{◌≡◌, ◌≢◌, ◌↔◌, inl, inr, ◌⊎◌, ℕ, zero, suc, ◌+◌, ◌<◌, Bool, true, false, true≢false, cond}
 use Rattle.std.proofs.Common.{List, [], ◌∷◌}
 use Rattle.std.proofs.Common.{length, take, get_or, set, length-set}
@@ -6,31 +6,30 @@ use Rattle.std.proofs.Common.{refl, sym, ap, subst, ◌∙◌, arith}
 use Rattle.std.specs.Prelude.{◌≤◌, All, slice_index_or}
 use Rattle.std.proofs.lemmas.Bool.{cases_eq}
 use Rattle.std.proofs.lemmas.List.Elements.{All-head, All-tail}
-use Rattle.step_table.specs.declared.cell_steps.cell_deed.Cell.{Cell}
 use Rattle.owner_graph.specs.declared.holding.Holding.{Holding}
-use Rattle.owner_graph.specs.Ends.{EndsWithOwners, same_cell, without_cell}
+use Rattle.owner_graph.specs.Ends.{EndsWithOwners, without}
 use Rattle.owner_graph.specs.Ends.EndsWithOwners.{Ended}
 use Rattle.owner_graph.specs.Fed.{Feeds, HaveEnded, IsFed, IsFedBy, Starves, marked, trues}
-use Rattle.owner_graph.specs.Owners.{IsAmong, Owns, is_owner, source}
+use Rattle.owner_graph.specs.Owners.{IsAmong, Owns}
 
--- ---- owners elsewhere than in the cell
+-- ---- owners that are left
 
-abbrev pub IsHere : ℕ → Cell → Holding → ℕ → ℕ → Type 0
-IsHere shared c h a b = (same_cell h.cell c ≡ false) × (is_owner shared h.cell ≡ true) × (source h.cell ≡ a) × (h.block.0 ≡ b)
+abbrev pub IsHere : (Holding → Bool) → Holding → ℕ → ℕ → Type 0
+IsHere gone h a b = (gone h ≡ false) × (h.is_owner ≡ true) × (h.from ≡ a) × (h.to ≡ b)
 
-module _ (shared : ℕ) (c : Cell) (a b : ℕ) where
-  lift : (h : Holding) (t : Bool) (hs : List Holding) → Owns shared hs a b → Owns shared (cond t hs (h ∷ hs)) a b
+module _ (gone : Holding → Bool) (a b : ℕ) where
+  lift : (h : Holding) (t : Bool) (hs : List Holding) → Owns hs a b → Owns (cond t hs (h ∷ hs)) a b
   lift h true hs o = o
   lift h false hs o = inr o
 
-  through : (h : Holding) (t : Bool) (hs hs' : List Holding) → (Owns shared hs a b → Owns shared hs' a b)
-      → Owns shared (cond t hs (h ∷ hs)) a b → Owns shared (cond t hs' (h ∷ hs')) a b
+  through : (h : Holding) (t : Bool) (hs hs' : List Holding) → (Owns hs a b → Owns hs' a b)
+      → Owns (cond t hs (h ∷ hs)) a b → Owns (cond t hs' (h ∷ hs')) a b
   through h true hs hs' f o = f o
   through h false hs hs' f (inl o) = inl o
   through h false hs hs' f (inr o) = inr (f o)
 
-  apart : {X : Type 0} → (h : Holding) (t : Bool) (hs hs' : List Holding) → (Owns shared hs' a b → Owns shared hs a b ⊎ X)
-      → Owns shared (cond t hs' (h ∷ hs')) a b → Owns shared (cond t hs (h ∷ hs)) a b ⊎ X
+  apart : {X : Type 0} → (h : Holding) (t : Bool) (hs hs' : List Holding) → (Owns hs' a b → Owns hs a b ⊎ X)
+      → Owns (cond t hs' (h ∷ hs')) a b → Owns (cond t hs (h ∷ hs)) a b ⊎ X
   apart h true hs hs' f o = f o
   apart h false hs hs' f (inl o) = inl (inl o)
   apart h false hs hs' f (inr o) = elim (f o) [
@@ -38,47 +37,47 @@ module _ (shared : ℕ) (c : Cell) (a b : ℕ) where
     | inr x ↦ inr x
   ]
 
-  alone : (h : Holding) (t : Bool) → same_cell h.cell c ≡ t → Owns shared (cond t [] (h ∷ [])) a b → IsHere shared c h a b
+  alone : (h : Holding) (t : Bool) → gone h ≡ t → Owns (cond t [] (h ∷ [])) a b → IsHere gone h a b
   alone h true is o = absurd o
   alone h false is (inl o) = (is, o.0, o.1, o.2)
   alone h false is (inr none) = absurd none
 
-  pub owned_next : (hs : List Holding) (i : ℕ) (d : Holding) → i < length hs → Owns shared (without_cell c (take (suc i) hs)) a b
-      → Owns shared (without_cell c (take i hs)) a b ⊎ IsHere shared c (get_or hs i d) a b
+  pub owned_next : (hs : List Holding) (i : ℕ) (d : Holding) → i < length hs → Owns (without gone (take (suc i) hs)) a b
+      → Owns (without gone (take i hs)) a b ⊎ IsHere gone (get_or hs i d) a b
   owned_next [] i d lt o = absurd (omega arith)
-  owned_next (h ∷ hs) zero d lt o = inr (alone h (same_cell h.cell c) refl o)
+  owned_next (h ∷ hs) zero d lt o = inr (alone h (gone h) refl o)
   owned_next (h ∷ hs) (suc i) d lt o =
-      apart h (same_cell h.cell c) (without_cell c (take i hs)) (without_cell c (take (suc i) hs)) (owned_next hs i d (omega arith)) o
+      apart h (gone h) (without gone (take i hs)) (without gone (take (suc i) hs)) (owned_next hs i d (omega arith)) o
 
-  pub owned_still : (hs : List Holding) (i : ℕ) → Owns shared (without_cell c (take i hs)) a b → Owns shared (without_cell c (take (suc i) hs)) a b
+  pub owned_still : (hs : List Holding) (i : ℕ) → Owns (without gone (take i hs)) a b → Owns (without gone (take (suc i) hs)) a b
   owned_still [] zero o = absurd o
   owned_still [] (suc i) o = absurd o
   owned_still (h ∷ hs) zero o = absurd o
   owned_still (h ∷ hs) (suc i) o =
-      through h (same_cell h.cell c) (without_cell c (take i hs)) (without_cell c (take (suc i) hs)) (owned_still hs i) o
+      through h (gone h) (without gone (take i hs)) (without gone (take (suc i) hs)) (owned_still hs i) o
 
-  pub owned_here : (hs : List Holding) (i : ℕ) (d : Holding) → i < length hs → IsHere shared c (get_or hs i d) a b
-      → Owns shared (without_cell c (take (suc i) hs)) a b
+  pub owned_here : (hs : List Holding) (i : ℕ) (d : Holding) → i < length hs → IsHere gone (get_or hs i d) a b
+      → Owns (without gone (take (suc i) hs)) a b
   owned_here [] i d lt o = absurd (omega arith)
-  owned_here (h ∷ hs) zero d lt o = subst (λ (t : Bool). Owns shared (cond t [] (h ∷ [])) a b) (sym o.0) (inl (o.1, o.2, o.3))
+  owned_here (h ∷ hs) zero d lt o = subst (λ (t : Bool). Owns (cond t [] (h ∷ [])) a b) (sym o.0) (inl (o.1, o.2, o.3))
   owned_here (h ∷ hs) (suc i) d lt o =
-      lift h (same_cell h.cell c) (without_cell c (take (suc i) hs)) (owned_here hs i d (omega arith) o)
+      lift h (gone h) (without gone (take (suc i) hs)) (owned_here hs i d (omega arith) o)
 
--- what is owned without the cell is owned
-pub still_owned : (shared : ℕ) (c : Cell) (a b : ℕ) (hs : List Holding) → Owns shared (without_cell c hs) a b → Owns shared hs a b
-still_owned shared c a b [] o = absurd o
-still_owned shared c a b (h ∷ hs) o = split (same_cell h.cell c) (λ p. still_owned shared c a b hs p) o
+-- what is owned without some owners is owned
+pub still_owned : (gone : Holding → Bool) (a b : ℕ) (hs : List Holding) → Owns (without gone hs) a b → Owns hs a b
+still_owned gone a b [] o = absurd o
+still_owned gone a b (h ∷ hs) o = split (gone h) (λ p. still_owned gone a b hs p) o
   where
-    split : (t : Bool) → (Owns shared (without_cell c hs) a b → Owns shared hs a b)
-        → Owns shared (cond t (without_cell c hs) (h ∷ without_cell c hs)) a b → Owns shared (h ∷ hs) a b
+    split : (t : Bool) → (Owns (without gone hs) a b → Owns hs a b)
+        → Owns (cond t (without gone hs) (h ∷ without gone hs)) a b → Owns (h ∷ hs) a b
     split true f p = inr (f p)
     split false f (inl p) = inl p
     split false f (inr p) = inr (f p)
 
-pub owner_among : (shared blocks : ℕ) (hs : List Holding) (a b : ℕ) → All (IsAmong blocks) hs → Owns shared hs a b → a ≤ blocks
-owner_among shared blocks [] a b all o = absurd o
-owner_among shared blocks (h ∷ hs) a b all (inl o) = subst (λ (x : ℕ). x ≤ blocks) o.1 (All-head (IsAmong blocks) h hs all).0
-owner_among shared blocks (h ∷ hs) a b all (inr o) = owner_among shared blocks hs a b (All-tail (IsAmong blocks) h hs all) o
+pub owner_among : (vertices : ℕ) (hs : List Holding) (a b : ℕ) → All (IsAmong vertices) hs → Owns hs a b → a ≤ vertices
+owner_among vertices [] a b all o = absurd o
+owner_among vertices (h ∷ hs) a b all (inl o) = subst (λ (x : ℕ). x ≤ vertices) o.1 (All-head (IsAmong vertices) h hs all).0
+owner_among vertices (h ∷ hs) a b all (inr o) = owner_among vertices hs a b (All-tail (IsAmong vertices) h hs all) o
 
 -- ---- marks
 
@@ -96,29 +95,29 @@ set_else (x ∷ xs) (suc k) (suc j) v ne = set_else xs k j v (λ e. ne (ap suc e
 
 -- ---- one handle more is looked at
 
-abbrev pub AreFed : ℕ → List Holding → List Bool → List Bool → Type 0
-AreFed shared hs stays fed = (length fed ≡ length stays) × ((b : ℕ) → b < length stays → marked fed b ≡ true ↔ IsFedBy shared hs stays b)
+abbrev pub AreFed : List Holding → List Bool → List Bool → Type 0
+AreFed hs stays fed = (length fed ≡ length stays) × ((b : ℕ) → b < length stays → marked fed b ≡ true ↔ IsFedBy hs stays b)
 
-module _ (shared : ℕ) (c : Cell) (hs : List Holding) (i k : ℕ) (d : Holding) (stays fed : List Bool) (lt : i < length hs)
-    (is : k ≡ (get_or hs i d).block.0) (so_far : AreFed shared (without_cell c (take i hs)) stays fed) where
+module _ (gone : Holding → Bool) (hs : List Holding) (i k : ℕ) (d : Holding) (stays fed : List Bool) (lt : i < length hs)
+    (is : k ≡ (get_or hs i d).to) (so_far : AreFed (without gone (take i hs)) stays fed) where
   next : i + 1 ≡ suc i
   next = omega arith
 
-  old : (b : ℕ) → IsFedBy shared (without_cell c (take i hs)) stays b → IsFedBy shared (without_cell c (take (suc i) hs)) stays b
-  old b f = (f.0, owned_still shared c f.0 b hs i f.1, f.2)
+  old : (b : ℕ) → IsFedBy (without gone (take i hs)) stays b → IsFedBy (without gone (take (suc i) hs)) stays b
+  old b f = (f.0, owned_still gone f.0 b hs i f.1, f.2)
 
   -- it feeds
-  fed_now : k < length fed → Feeds shared c stays (get_or hs i d) → AreFed shared (without_cell c (take (suc i) hs)) stays (set fed k true)
+  fed_now : k < length fed → Feeds gone stays (get_or hs i d) → AreFed (without gone (take (suc i) hs)) stays (set fed k true)
   fed_now inside f = (
     length-set fed k true ∙ so_far.0,
     λ b small. (
       λ yes. elim (cases_eq k b) [
-        | inl same ↦ (source (get_or hs i d).cell, owned_here shared c _ b hs i d lt (f.0, f.1, refl, sym is ∙ same), f.2)
+        | inl same ↦ ((get_or hs i d).from, owned_here gone _ b hs i d lt (f.0, f.1, refl, sym is ∙ same), f.2)
         | inr ne ↦ old b ((so_far.1 b small).0 (sym (set_else fed k b true ne) ∙ yes))
       ],
       λ by. elim (cases_eq k b) [
         | inl same ↦ subst (λ (j : ℕ). marked (set fed k true) j ≡ true) same (set_here fed k true inside)
-        | inr ne ↦ set_else fed k b true ne ∙ (elim (owned_next shared c by.0 b hs i d lt by.1) [
+        | inr ne ↦ set_else fed k b true ne ∙ (elim (owned_next gone by.0 b hs i d lt by.1) [
           | inl o ↦ (so_far.1 b small).1 (by.0, o, by.2)
           | inr h ↦ absurd (ne (is ∙ h.3))
         ])
@@ -127,12 +126,12 @@ module _ (shared : ℕ) (c : Cell) (hs : List Holding) (i k : ℕ) (d : Holding)
   )
 
   -- it doesn't
-  fed_else : (k < length fed → Feeds shared c stays (get_or hs i d) → ⊥) → AreFed shared (without_cell c (take (suc i) hs)) stays fed
+  fed_else : (k < length fed → Feeds gone stays (get_or hs i d) → ⊥) → AreFed (without gone (take (suc i) hs)) stays fed
   fed_else none = (
     so_far.0,
     λ b small. (
       λ yes. old b ((so_far.1 b small).0 yes),
-      λ by. elim (owned_next shared c by.0 b hs i d lt by.1) [
+      λ by. elim (owned_next gone by.0 b hs i d lt by.1) [
         | inl o ↦ (so_far.1 b small).1 (by.0, o, by.2)
         | inr h ↦
             let size = so_far.0 in
@@ -142,11 +141,11 @@ module _ (shared : ℕ) (c : Cell) (hs : List Holding) (i k : ℕ) (d : Holding)
     ),
   )
 
-  pub fed_more : k < length fed → Feeds shared c stays (get_or hs i d) → AreFed shared (without_cell c (take (i + 1) hs)) stays (set fed k true)
-  fed_more inside f = subst (λ (n : ℕ). AreFed shared (without_cell c (take n hs)) stays (set fed k true)) (sym next) (fed_now inside f)
+  pub fed_more : k < length fed → Feeds gone stays (get_or hs i d) → AreFed (without gone (take (i + 1) hs)) stays (set fed k true)
+  fed_more inside f = subst (λ (n : ℕ). AreFed (without gone (take n hs)) stays (set fed k true)) (sym next) (fed_now inside f)
 
-  pub fed_no_more : (k < length fed → Feeds shared c stays (get_or hs i d) → ⊥) → AreFed shared (without_cell c (take (i + 1) hs)) stays fed
-  fed_no_more none = subst (λ (n : ℕ). AreFed shared (without_cell c (take n hs)) stays fed) (sym next) (fed_else none)
+  pub fed_no_more : (k < length fed → Feeds gone stays (get_or hs i d) → ⊥) → AreFed (without gone (take (i + 1) hs)) stays fed
+  fed_no_more none = subst (λ (n : ℕ). AreFed (without gone (take n hs)) stays fed) (sym next) (fed_else none)
 
 -- ---- fewer stay
 
@@ -211,19 +210,19 @@ unmarked false h = refl
 
 -- ---- what stays
 
-module _ (shared blocks : ℕ) (c : Cell) (hs : List Holding) (stays fed : List Bool) (all : All (IsAmong blocks) hs)
-    (size : length stays ≡ blocks + 1) (is_fed : IsFed shared (without_cell c hs) stays fed)
-    (so_far : HaveEnded shared blocks (without_cell c hs) stays) where
-  pub ended_more : (now : List Bool) → Starves fed stays now → HaveEnded shared blocks (without_cell c hs) now
+module _ (vertices : ℕ) (gone : Holding → Bool) (hs : List Holding) (stays fed : List Bool) (all : All (IsAmong vertices) hs)
+    (size : length stays ≡ vertices + 1) (is_fed : IsFed (without gone hs) stays fed)
+    (so_far : HaveEnded vertices (without gone hs) stays) where
+  pub ended_more : (now : List Bool) → Starves fed stays now → HaveEnded vertices (without gone hs) now
   ended_more now st b le off_now = elim (st.off b off_now) [
     | inl was ↦ so_far b le was
     | inr x ↦
         Ended b x.0 (λ a o.
-        so_far a (owner_among shared blocks hs a b all (still_owned shared c a b hs o))
+        so_far a (owner_among vertices hs a b all (still_owned gone a b hs o))
         (unmarked (marked stays a) (λ is. true≢false (sym ((is_fed.marks b (omega (arith, le, size))).1 (a, o, is)) ∙ x.1))))
   ]
 
-  stuck : ((b : ℕ) → b ≢ 0 → marked stays b ≡ true → marked fed b ≡ true) → (b : ℕ) → EndsWithOwners shared (without_cell c hs) b
+  stuck : ((b : ℕ) → b ≢ 0 → marked stays b ≡ true → marked fed b ≡ true) → (b : ℕ) → EndsWithOwners (without gone hs) b
       → marked stays b ≡ true → ⊥
   stuck none _ (Ended b ne f) is =
       let l = in_range stays b is in
@@ -231,5 +230,5 @@ module _ (shared blocks : ℕ) (c : Cell) (hs : List Holding) (stays fed : List 
       stuck none by.0 (f by.0 by.1) by.2
 
   pub stay_or_end : ((b : ℕ) → b ≢ 0 → marked stays b ≡ true → marked fed b ≡ true)
-      → (b : ℕ) → b ≤ blocks → marked stays b ≡ false ↔ EndsWithOwners shared (without_cell c hs) b
+      → (b : ℕ) → b ≤ vertices → marked stays b ≡ false ↔ EndsWithOwners (without gone hs) b
   stay_or_end none b le = (so_far b le, λ e. unmarked (marked stays b) (stuck none b e))

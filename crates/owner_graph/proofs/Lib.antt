@@ -2,12 +2,17 @@ pub mod Among
 pub mod Backwards
 pub mod Cutting
 pub mod Feeding
+pub mod FindingLemmas
+pub mod Homes
+pub mod Inside
 pub mod Joining
 pub mod Labelling
 pub mod Layering
+pub mod OneKnot
 pub mod Owning
 pub mod RowLemmas
 pub mod Segments
 pub mod Sparing
 pub mod Stepping
 pub mod TieLemmas
+pub mod WeakeningLemmas

@@ -4,10 +4,10 @@ use Rattle.std.proofs.Common.{◌++◌, length, take, get_or, set}
 use Rattle.std.proofs.Common.{refl, sym, ap, subst, ◌∙◌, ⊎_elim, arith, eq-eqb, ne_eqb, length-set, length-append}
 use Rattle.std.proofs.lemmas.Bool.{cases_eq, cond-true, cond-false}
 use Rattle.std.specs.Global.{Vec}
-use Rattle.std.specs.Prelude.{All}
+use Rattle.std.specs.Prelude.{◌≤◌, All}
 use Rattle.owner_graph.specs.Owners.{IsAmong}
 use Rattle.owner_graph.specs.declared.holding.Holding.{Holding}
-use Rattle.owner_graph.specs.Rows.{held_on, row_at}
+use Rattle.owner_graph.specs.Rows.{held_in, held_on, row_at}
 
 none_more : (g : List (Vec Holding)) (row : Vec Holding) → row.items ≡ [] → ((v : ℕ) → row_at g v ≡ []) → (v : ℕ)
     → row_at (g ++ row ∷ []) v ≡ []
@@ -54,19 +54,19 @@ apart false true y x l l' e = e
 apart false false y x l l' e = e
 
 held_next : (hs : List Holding) (i v : ℕ) (d : Holding) → i < length hs
-    → held_on (take (suc i) hs) v ≡ cond ((get_or hs i d).block.0 == v) (held_on (take i hs) v ++ get_or hs i d ∷ []) (held_on (take i hs) v)
+    → held_on (take (suc i) hs) v ≡ cond ((get_or hs i d).to == v) (held_on (take i hs) v ++ get_or hs i d ∷ []) (held_on (take i hs) v)
 held_next [] i v d lt = absurd (omega arith)
 held_next (h ∷ hs) zero v d lt = refl
 held_next (h ∷ hs) (suc i) v d lt =
-    apart (h.block.0 == v) ((get_or hs i d).block.0 == v) h (get_or hs i d) (held_on (take i hs) v) (held_on (take (suc i) hs) v)
+    apart (h.to == v) ((get_or hs i d).to == v) h (get_or hs i d) (held_on (take i hs) v) (held_on (take (suc i) hs) v)
     (held_next hs i v d (omega arith))
 
--- a handle more, on block k
-pub held_more : (g : List (Vec Holding)) (hs : List Holding) (blocks i k : ℕ) (d : Holding) (row row' : Vec Holding) → All (IsAmong blocks) hs
-    → i < length hs → length g ≡ blocks + 1 → ((v : ℕ) → row_at g v ≡ held_on (take i hs) v) → k ≡ (get_or hs i d).block.0
+-- a handle more, on vertex k
+pub held_more : (g : List (Vec Holding)) (hs : List Holding) (vertices i k : ℕ) (d : Holding) (row row' : Vec Holding) → All (IsAmong vertices) hs
+    → i < length hs → length g ≡ vertices + 1 → ((v : ℕ) → row_at g v ≡ held_on (take i hs) v) → k ≡ (get_or hs i d).to
     → row ≡ get_or g k row → row'.items ≡ row.items ++ get_or hs i d ∷ []
-    → (length (set g k row') ≡ blocks + 1) × ((v : ℕ) → row_at (set g k row') v ≡ held_on (take (i + 1) hs) v)
-held_more g hs blocks i k d row row' all lt size rows is e new =
+    → (length (set g k row') ≡ vertices + 1) × ((v : ℕ) → row_at (set g k row') v ≡ held_on (take (i + 1) hs) v)
+held_more g hs vertices i k d row row' all lt size rows is e new =
     let x = get_or hs i d in
     let one : i + 1 ≡ suc i = omega arith in
     let among = (all i d lt).1 in (
@@ -77,3 +77,45 @@ held_more g hs blocks i k d row row' all lt size rows is e new =
           ∙ ap (λ (j : ℕ). cond (j == v) (held_on (take i hs) v ++ x ∷ []) (held_on (take i hs) v)) is
           ∙ sym (held_next hs i v d lt) ∙ ap (λ (j : ℕ). held_on (take j hs) v) (sym one),
     )
+
+in_next : (hs : List Holding) (i v : ℕ) (d : Holding) → i < length hs
+    → held_in (take (suc i) hs) v ≡ cond ((get_or hs i d).from == v) (held_in (take i hs) v ++ get_or hs i d ∷ []) (held_in (take i hs) v)
+in_next [] i v d lt = absurd (omega arith)
+in_next (h ∷ hs) zero v d lt = refl
+in_next (h ∷ hs) (suc i) v d lt =
+    apart (h.from == v) ((get_or hs i d).from == v) h (get_or hs i d) (held_in (take i hs) v) (held_in (take (suc i) hs) v)
+    (in_next hs i v d (omega arith))
+
+-- a handle more, in vertex k
+pub in_more : (g : List (Vec Holding)) (hs : List Holding) (vertices i k : ℕ) (d : Holding) (row row' : Vec Holding) → All (IsAmong vertices) hs
+    → i < length hs → length g ≡ vertices + 1 → ((v : ℕ) → row_at g v ≡ held_in (take i hs) v) → k ≡ (get_or hs i d).from
+    → row ≡ get_or g k row → row'.items ≡ row.items ++ get_or hs i d ∷ []
+    → (length (set g k row') ≡ vertices + 1) × ((v : ℕ) → row_at (set g k row') v ≡ held_in (take (i + 1) hs) v)
+in_more g hs vertices i k d row row' all lt size rows is e new =
+    let x = get_or hs i d in
+    let one : i + 1 ≡ suc i = omega arith in
+    let among = (all i d lt).0 in (
+      length-set g k row' ∙ size,
+      λ v.
+          pushed g k x v row row' (omega (arith, is, among, size)) e new
+          ∙ ap (λ (l : List Holding). cond (k == v) (l ++ x ∷ []) l) (rows v)
+          ∙ ap (λ (j : ℕ). cond (j == v) (held_in (take i hs) v ++ x ∷ []) (held_in (take i hs) v)) is
+          ∙ sym (in_next hs i v d lt) ∙ ap (λ (j : ℕ). held_in (take j hs) v) (sym one),
+    )
+
+-- ---- one row
+
+row_in_range : (rows : List (Vec Holding)) (n : ℕ) (v : Vec Holding) → n < length rows → v ≡ get_or rows n v → v.items ≡ row_at rows n
+row_in_range [] n v lt e = absurd (omega arith)
+row_in_range (r ∷ rs) zero v lt e = ap (λ (x : Vec Holding). x.items) e
+row_in_range (r ∷ rs) (suc n) v lt e = row_in_range rs n v (omega arith) e
+
+pub row_is : (rows : List (Vec Holding)) (n : ℕ) (v : Vec Holding) (items : List Holding) → n < length rows → v ≡ get_or rows n v
+    → items ≡ v.items → items ≡ row_at rows n
+row_is rows n v items lt e it = it ∙ row_in_range rows n v lt e
+
+-- there is no row past the last
+pub row_past : (rows : List (Vec Holding)) (n : ℕ) → length rows ≤ n → row_at rows n ≡ []
+row_past [] n le = refl
+row_past (r ∷ rs) zero le = absurd (omega (arith, le))
+row_past (r ∷ rs) (suc n) le = row_past rs n (omega (arith, le))

@@ -1,86 +1,85 @@
--- Steps by which blocks of one label are reached, and what they show.
+-- Steps by which vertices of one label are reached, and what they show.
 use Rattle.std.proofs.Common.{◌≡◌, ◌≢◌, inl, inr, ◌⊎◌, ℕ, zero, suc, ◌+◌, ◌<◌, Bool, true, false, true≢false, ◌↔◌, List, []}
 use Rattle.std.proofs.Common.{◌∷◌, ◌++◌, length, get_or}
 use Rattle.std.proofs.Common.{refl, sym, ap, subst, ◌∙◌, ⊎_elim, arith, length-append}
 use Rattle.std.specs.Prelude.{◌≤◌, All, slice_index_or}
 use Rattle.std.proofs.lemmas.Bool.{cases_eq, cases_lt}
 use Rattle.std.proofs.lemmas.List.Elements.{All-head, All-tail}
-use Rattle.step_table.specs.declared.cell_steps.cell_deed.Cell.TheVariants.{Free, Member}
 use Rattle.owner_graph.specs.declared.holding.Holding.{Holding}
-use Rattle.owner_graph.specs.Owners.{IsAmong, OwnersLead, Owns, is_owner, source}
+use Rattle.owner_graph.specs.Owners.{IsAmong, OwnersLead, Owns}
 use Rattle.owner_graph.specs.Knots.{IsLeast, KeepEachOther, KnotsAre}
-use Rattle.owner_graph.specs.Labels.{AreInner, AreLow, AreRanked, InnerStep, IsRanked, at}
+use Rattle.owner_graph.specs.Labels.{AreInner, AreLow, AreRanked, InnerStep, IsRanked, at, step}
 use Rattle.owner_graph.specs.Labels.InnerStep.{Down, Up, Within}
 use Rattle.owner_graph.proofs.Labelling.{is_least, led_among}
 
-owns_end : (shared : ℕ) (xs : List Holding) (h : Holding) (a b : ℕ) → Owns shared (xs ++ h ∷ []) a b
-    → Owns shared xs a b ⊎ ((is_owner shared h.cell ≡ true) × (source h.cell ≡ a) × (h.block.0 ≡ b))
-owns_end shared [] h a b (inl o) = inr o
-owns_end shared [] h a b (inr none) = absurd none
-owns_end shared (x ∷ xs) h a b (inl o) = inl (inl o)
-owns_end shared (x ∷ xs) h a b (inr o) = elim (owns_end shared xs h a b o) [
+owns_end : (xs : List Holding) (h : Holding) (a b : ℕ) → Owns (xs ++ h ∷ []) a b
+    → Owns xs a b ⊎ ((h.is_owner ≡ true) × (h.from ≡ a) × (h.to ≡ b))
+owns_end [] h a b (inl o) = inr o
+owns_end [] h a b (inr none) = absurd none
+owns_end (x ∷ xs) h a b (inl o) = inl (inl o)
+owns_end (x ∷ xs) h a b (inr o) = elim (owns_end xs h a b o) [
   | inl p ↦ inl (inr p)
   | inr q ↦ inr q
 ]
 
 -- one step more
-inner_more : (shared : ℕ) (hs : List Holding) (labels : List ℕ) (xs : List Holding) (h : Holding) → AreInner shared hs labels xs
-    → (is_owner shared h.cell ≡ true → InnerStep shared hs labels (source h.cell) h.block.0) → AreInner shared hs labels (xs ++ h ∷ [])
-inner_more shared hs labels xs h all here a b o = elim (owns_end shared xs h a b o) [
+inner_more : (hs : List Holding) (labels : List ℕ) (xs : List Holding) (h : Holding) → AreInner hs labels xs
+    → (h.is_owner ≡ true → InnerStep hs labels h.from h.to) → AreInner hs labels (xs ++ h ∷ [])
+inner_more hs labels xs h all here a b o = elim (owns_end xs h a b o) [
   | inl p ↦ all a b p
-  | inr q ↦ subst (λ (x : ℕ). InnerStep shared hs labels x b) q.1 (subst (λ (y : ℕ). InnerStep shared hs labels (source h.cell) y) q.2 (here q.0))
+  | inr q ↦ subst (λ (x : ℕ). InnerStep hs labels x b) q.1 (subst (λ (y : ℕ). InnerStep hs labels h.from y) q.2 (here q.0))
 ]
 
 abbrev down_step : ℕ → Holding
-down_step n = record { cell = Free 0; block = record { 0 = n } }
+down_step n = step 0 n
 
 abbrev up_step : ℕ → Holding
-up_step n = record { cell = Member (record { 0 = n }) 0; block = record { 0 = 0 } }
+up_step n = step n 0
 
--- from 0 to a block that is its own label, and back
-pub ends_more : (shared : ℕ) (hs : List Holding) (labels : List ℕ) (n : ℕ) (xs ys zs : List Holding) → 1 ≤ n → at labels n ≡ n
+-- from 0 to a vertex that is its own label, and back
+pub ends_more : (hs : List Holding) (labels : List ℕ) (n : ℕ) (xs ys zs : List Holding) → 1 ≤ n → at labels n ≡ n
     → ys ≡ xs ++ down_step n ∷ [] → zs ≡ ys ++ up_step n ∷ []
-    → AreInner shared hs labels xs → AreInner shared hs labels zs
-ends_more shared hs labels n xs ys zs some own one two all =
+    → AreInner hs labels xs → AreInner hs labels zs
+ends_more hs labels n xs ys zs some own one two all =
     let ne : n ≢ 0 = λ e. absurd (omega (arith, e, some)) in
-    subst (AreInner shared hs labels) (sym two) (inner_more shared hs labels ys (up_step n)
-    (subst (AreInner shared hs labels) (sym one) (inner_more shared hs labels xs (down_step n) all (λ is. Down refl ne own)))
+    subst (AreInner hs labels) (sym two) (inner_more hs labels ys (up_step n)
+    (subst (AreInner hs labels) (sym one) (inner_more hs labels xs (down_step n) all (λ is. Down refl ne own)))
     (λ is. Up ne refl own))
 
--- an owner within blocks of one label
-pub within_more : (shared : ℕ) (hs : List Holding) (labels : List ℕ) (h : Holding) (xs ys : List Holding) → source h.cell ≢ 0 → h.block.0 ≢ 0
-    → at labels (source h.cell) ≡ at labels h.block.0 → ys ≡ xs ++ h ∷ []
-    → (is_owner shared h.cell ≡ true → Owns shared hs (source h.cell) h.block.0) → AreInner shared hs labels xs → AreInner shared hs labels ys
-within_more shared hs labels h xs ys from to same is owns all =
-    subst (AreInner shared hs labels) (sym is) (inner_more shared hs labels xs h all (λ o. Within from to same (owns o)))
+-- an owner within vertices of one label
+pub within_more : (hs : List Holding) (labels : List ℕ) (h : Holding) (xs ys : List Holding) → h.from ≢ 0 → h.to ≢ 0
+    → at labels h.from ≡ at labels h.to → ys ≡ xs ++ h ∷ []
+    → (h.is_owner ≡ true → Owns hs h.from h.to) → AreInner hs labels xs → AreInner hs labels ys
+within_more hs labels h xs ys from to same is owns all =
+    subst (AreInner hs labels) (sym is) (inner_more hs labels xs h all (λ o. Within from to same (owns o)))
 
 -- an owner that is listed owns
-pub owned_at : (shared : ℕ) (hs : List Holding) (i : ℕ) (d : Holding) → i < length hs → is_owner shared (get_or hs i d).cell ≡ true
-    → Owns shared hs (source (get_or hs i d).cell) (get_or hs i d).block.0
-owned_at shared [] i d lt o = absurd (omega arith)
-owned_at shared (h ∷ hs) zero d lt o = inl (o, refl, refl)
-owned_at shared (h ∷ hs) (suc i) d lt o = inr (owned_at shared hs i d (omega arith) o)
+pub owned_at : (hs : List Holding) (i : ℕ) (d : Holding) → i < length hs → (get_or hs i d).is_owner ≡ true
+    → Owns hs ((get_or hs i d).from) (get_or hs i d).to
+owned_at [] i d lt o = absurd (omega arith)
+owned_at (h ∷ hs) zero d lt o = inl (o, refl, refl)
+owned_at (h ∷ hs) (suc i) d lt o = inr (owned_at hs i d (omega arith) o)
 
-all_ranked : (shared : ℕ) (ranks : List ℕ) (hs : List Holding) → All (IsRanked shared ranks) hs → AreRanked shared hs ranks
-all_ranked shared ranks [] all a b o = absurd o
-all_ranked shared ranks (h ∷ hs) all a b (inl o) =
-    let r = All-head (IsRanked shared ranks) h hs all o.0 in (
+all_ranked : (ranks : List ℕ) (hs : List Holding) → All (IsRanked ranks) hs → AreRanked hs ranks
+all_ranked ranks [] all a b o = absurd o
+all_ranked ranks (h ∷ hs) all a b (inl o) =
+    let r = All-head (IsRanked ranks) h hs all o.0 in (
       λ e. r.0 (o.2 ∙ e),
       λ ne.
           subst (λ (x : ℕ). at ranks x ≤ at ranks b) o.1
-          (subst (λ (y : ℕ). at ranks (source h.cell) ≤ at ranks y) o.2 (r.1 (λ e. ne (sym o.1 ∙ e)))),
+          (subst (λ (y : ℕ). at ranks h.from ≤ at ranks y) o.2 (r.1 (λ e. ne (sym o.1 ∙ e)))),
     )
-all_ranked shared ranks (h ∷ hs) all a b (inr o) = all_ranked shared ranks hs (All-tail (IsRanked shared ranks) h hs all) a b o
+all_ranked ranks (h ∷ hs) all a b (inr o) = all_ranked ranks hs (All-tail (IsRanked ranks) h hs all) a b o
 
-pub knots_are : (shared blocks : ℕ) (hs : List Holding) (ranks labels : List ℕ) (steps : List Holding) → All (IsAmong blocks) hs
-    → length labels ≡ blocks + 1
-    → ((a b : ℕ) → a ≤ blocks → b ≤ blocks → at ranks a ≡ at ranks b → at labels a ≡ at labels b)
-    → All (IsRanked shared ranks) hs → AreLow blocks labels → AreInner shared hs labels steps
-    → ((b : ℕ) → 1 ≤ b → b ≤ blocks → OwnersLead shared steps 0 b) → ((b : ℕ) → 1 ≤ b → b ≤ blocks → OwnersLead shared steps b 0)
-    → KnotsAre shared blocks hs labels
-knots_are shared blocks hs ranks labels steps all size told ranked low inner down up = record {
+pub knots_are : (vertices : ℕ) (hs : List Holding) (ranks labels : List ℕ) (steps : List Holding) → All (IsAmong vertices) hs
+    → length labels ≡ vertices + 1
+    → ((a b : ℕ) → a ≤ vertices → b ≤ vertices → at ranks a ≡ at ranks b → at labels a ≡ at labels b)
+    → All (IsRanked ranks) hs → AreLow vertices labels → AreInner hs labels steps
+    → ((b : ℕ) → 1 ≤ b → b ≤ vertices → OwnersLead steps 0 b) → ((b : ℕ) → 1 ≤ b → b ≤ vertices → OwnersLead steps b 0)
+    → KnotsAre vertices hs labels
+knots_are vertices hs ranks labels steps all size told ranked low inner down up = record {
   size = size;
-  each = is_least shared hs labels steps inner blocks ranks all (all_ranked shared ranks hs ranked) told low down up;
+  each = is_least hs labels steps inner vertices ranks all (all_ranked ranks hs ranked) told low down up;
 }
 
 -- ---- what is so of each number up to n, and of one more
@@ -139,35 +138,35 @@ low_at labels k n label is e ne le =
     subst (λ (m : ℕ). (1 ≤ at labels (m + 1)) × (at labels (m + 1) ≤ m + 1)) is
     (subst (λ (l : ℕ). (1 ≤ l) × (l ≤ k + 1)) e (omega (arith, ne), le))
 
--- ---- the least block that is marked
+-- ---- the least vertex that is marked
 
-module _ (shared blocks : ℕ) (hs : List Holding) (marks : List Bool) (b : ℕ) (all : All (IsAmong blocks) hs) (within : b ≤ blocks)
-    (known : (a : ℕ) → a ≤ blocks → slice_index_or marks a false ≡ true ↔ (OwnersLead shared hs b a × OwnersLead shared hs a b)) where
+module _ (vertices : ℕ) (hs : List Holding) (marks : List Bool) (b : ℕ) (all : All (IsAmong vertices) hs) (within : b ≤ vertices)
+    (known : (a : ℕ) → a ≤ vertices → slice_index_or marks a false ≡ true ↔ (OwnersLead hs b a × OwnersLead hs a b)) where
   later : (n a : ℕ) → ((k : ℕ) → 1 ≤ k → k ≤ n → slice_index_or marks k false ≡ false) → 1 ≤ a
-      → KeepEachOther shared hs b a → n + 1 ≤ a
+      → KeepEachOther hs b a → n + 1 ≤ a
   later n a none one both =
-      let le : a ≤ blocks = led_among shared blocks hs b both.0.0 a all within both.0.1 in
+      let le : a ≤ vertices = led_among vertices hs b both.0.0 a all within both.0.1 in
       elim (cases_lt n a) [
         | inl big ↦ omega (arith, big)
         | inr small ↦ absurd (true≢false (sym ((known a le).1 both) ∙ none a one small))
       ]
 
-  pub least_is : (n : ℕ) → n < blocks → ((k : ℕ) → 1 ≤ k → k ≤ n → slice_index_or marks k false ≡ false)
-      → slice_index_or marks (n + 1) false ≡ true → IsLeast shared hs b (n + 1)
+  pub least_is : (n : ℕ) → n < vertices → ((k : ℕ) → 1 ≤ k → k ≤ n → slice_index_or marks k false ≡ false)
+      → slice_index_or marks (n + 1) false ≡ true → IsLeast hs b (n + 1)
   least_is n lt none mark = record {
     some = omega arith;
     knotted = (known (n + 1) (omega (arith, lt))).0 mark;
     first = λ a one both. later n a none one both;
   }
 
-  pub none_is : {A : Type 0} → 1 ≤ b → ((k : ℕ) → 1 ≤ k → k ≤ blocks → slice_index_or marks k false ≡ false) → A
+  pub none_is : {A : Type 0} → 1 ≤ b → ((k : ℕ) → 1 ≤ k → k ≤ vertices → slice_index_or marks k false ≡ false) → A
   none_is some none = absurd (true≢false (sym ((known b within).1 (([], refl), ([], refl))) ∙ none b some within))
 
 -- labels that ranks give are the same where these are
-pub told_apart : (firsts ranks ranks' labels labels' : List ℕ) (blocks : ℕ) → ranks' ≡ ranks → labels' ≡ labels
-    → ((b : ℕ) → b ≤ blocks → at labels b ≡ at firsts (at ranks b))
-    → (a b : ℕ) → a ≤ blocks → b ≤ blocks → at ranks' a ≡ at ranks' b → at labels' a ≡ at labels' b
-told_apart firsts ranks ranks' labels labels' blocks r l each a b la lb same =
+pub told_apart : (firsts ranks ranks' labels labels' : List ℕ) (vertices : ℕ) → ranks' ≡ ranks → labels' ≡ labels
+    → ((b : ℕ) → b ≤ vertices → at labels b ≡ at firsts (at ranks b))
+    → (a b : ℕ) → a ≤ vertices → b ≤ vertices → at ranks' a ≡ at ranks' b → at labels' a ≡ at labels' b
+told_apart firsts ranks ranks' labels labels' vertices r l each a b la lb same =
     let e : at ranks a ≡ at ranks b = subst (λ (x : List ℕ). at x a ≡ at x b) r same in
     subst (λ (x : List ℕ). at x a ≡ at x b) (sym l) (each a la ∙ ap (at firsts) e ∙ sym (each b lb))
 
@@ -175,3 +174,24 @@ pub label_same : (knots : List ℕ) (f n g b r l : ℕ) → f ≡ n → g ≡ b 
     → at knots (n + 1) ≡ at knots b
 label_same knots f n g b r l e1 e2 r_is l_is same =
     ap (λ (m : ℕ). at knots (m + 1)) (sym e1) ∙ sym r_is ∙ same ∙ l_is ∙ ap (at knots) e2
+
+marks_pushed_in : (P : ℕ → Bool → Type 0) (xs : List Bool) (x : Bool) → ((k : ℕ) → k < length xs → P k (slice_index_or xs k false))
+    → P (length xs) x → (k : ℕ) → k < suc (length xs) → P k (slice_index_or (xs ++ x ∷ []) k false)
+marks_pushed_in P [] x all here zero lt = here
+marks_pushed_in P [] x all here (suc k) lt = absurd (omega (arith, lt))
+marks_pushed_in P (y ∷ ys) x all here zero lt = all 0 (omega arith)
+marks_pushed_in P (y ∷ ys) x all here (suc k) lt =
+    marks_pushed_in (λ m b. P (suc m) b) ys x (λ j l. all (suc j) (omega (arith, l))) here k (omega (arith, lt))
+
+-- one mark more at the end of a list
+pub marks_pushed : (P : ℕ → Bool → Type 0) (xs ys : List Bool) (x : Bool) (n : ℕ) → ys ≡ xs ++ x ∷ [] → length xs ≡ n
+    → ((k : ℕ) → k < n → P k (slice_index_or xs k false)) → P n x
+    → (length ys ≡ n + 1) × ((k : ℕ) → k < n + 1 → P k (slice_index_or ys k false))
+marks_pushed P xs ys x n is size all here =
+    let a = length-append xs (x ∷ []) in
+    let e = ap (length {A = Bool}) is in (
+      omega (arith, a, e, size),
+      λ k lt.
+          subst (λ (l : List Bool). P k (slice_index_or l k false)) (sym is)
+          (marks_pushed_in P xs x (λ j l. all j (omega (arith, l, size))) (subst (λ (m : ℕ). P m x) (sym size) here) k (omega (arith, lt, size))),
+    )

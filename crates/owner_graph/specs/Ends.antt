@@ -1,29 +1,37 @@
--- What ends once a cell is emptied. All of it is own.
-use Rattle.std.specs.Prelude.{◌≢◌, ℕ, ◌≤◌, ◌==◌, ◌&&◌, Bool, false, cond, List, []}
-use Rattle.std.specs.Prelude.{◌∷◌}
-use Rattle.step_table.specs.declared.cell_steps.cell_deed.Cell.{Cell}
-use Rattle.step_table.specs.declared.cell_steps.cell_deed.Cell.TheVariants.{Free, Member}
+-- What ends where some owners are weak. All of it is own.
+use Rattle.std.specs.Prelude.{◌≢◌, ℕ, ◌≤◌, ◌==◌, ◌&&◌, ◌||◌, Bool, cond, false, List, []}
+use Rattle.std.specs.Prelude.{◌∷◌, nat_lt, slice_index_or}
 use Rattle.owner_graph.specs.declared.holding.Holding.{Holding}
+use Rattle.owner_graph.specs.declared.weakening.Weakening.{Weakening}
+use Rattle.owner_graph.specs.declared.weakening.Weakening.TheVariants.{Labelled, Nobody, One}
 use Rattle.owner_graph.specs.Owners.{Owns}
 use Rattle.owner_graph.specs.Knots.{KeepEachOther}
 
--- a block ends where each owner of it is in a block that ends. What is in a free cell never does
-pub data EndsWithOwners (shared : ℕ) (hs : List Holding) : ℕ → Type 0 where
-  Ended : (b : ℕ) → b ≢ 0 → ((a : ℕ) → Owns shared hs a b → EndsWithOwners shared hs a)
-      → EndsWithOwners shared hs b
+-- a vertex ends where each owner of it is in a vertex that ends. What is outside never does
+pub data EndsWithOwners (hs : List Holding) : ℕ → Type 0 where
+  Ended : (b : ℕ) → b ≢ 0 → ((a : ℕ) → Owns hs a b → EndsWithOwners hs a) → EndsWithOwners hs b
 
-abbrev pub same_cell : Cell → Cell → Bool
-same_cell (Free n) (Free m) = n == m
-same_cell (Free n) (Member b m) = false
-same_cell (Member b n) (Free m) = false
-same_cell (Member a n) (Member b m) = a.0 == b.0 && n == m
+-- two handles are at one place
+abbrev pub same_place : Holding → Holding → Bool
+same_place g h = g.from == h.from && g.slot == h.slot
 
--- what is held where the cell holds nothing
-abbrev pub without_cell : Cell → List Holding → List Holding
-without_cell c [] = []
-without_cell c (h ∷ hs) = cond (same_cell h.cell c) (without_cell c hs) (h ∷ without_cell c hs)
+-- the handle is to be weak: none is, or the one at a place, or those in a knot that have one of two labels
+abbrev pub is_weakened : List ℕ → Weakening → Holding → Bool
+is_weakened knots Nobody h = false
+is_weakened knots (One g) h = same_place h g
+is_weakened knots (Labelled least first second) h =
+    nat_lt 0 h.from && slice_index_or knots h.from 0 == least && (h.label == first || h.label == second)
 
--- where the cell holds nothing, each block of the knot of b ends
-abbrev pub EndsWhenCut : ℕ → ℕ → List Holding → ℕ → Cell → Type 0
-EndsWhenCut shared blocks hs b c = (a : ℕ) → 1 ≤ a → a ≤ blocks → KeepEachOther shared hs b a
-    → EndsWithOwners shared (without_cell c hs) a
+-- the handles that are not among some
+abbrev pub without : (Holding → Bool) → List Holding → List Holding
+without gone [] = []
+without gone (h ∷ hs) = cond (gone h) (without gone hs) (h ∷ without gone hs)
+
+-- without those, each vertex of the knot of b ends
+abbrev pub EndsWithout : ℕ → List Holding → (Holding → Bool) → ℕ → Type 0
+EndsWithout vertices hs gone b = (a : ℕ) → 1 ≤ a → a ≤ vertices → KeepEachOther hs b a
+    → EndsWithOwners (without gone hs) a
+
+-- without the handle at a place
+abbrev pub EndsWhenCut : ℕ → List Holding → ℕ → Holding → Type 0
+EndsWhenCut vertices hs b g = EndsWithout vertices hs (λ h. same_place h g) b

@@ -1,10 +1,15 @@
 pub mod Edges
 pub mod Ends
 pub mod Fed
+pub mod Findings
+pub mod Indices
 pub mod Knots
 pub mod Labels
+pub mod OneKnot
 pub mod Layers
+pub mod Members
 pub mod Owners
 pub mod Plans
 pub mod Rows
 pub mod Ties
+pub mod Weakenings

@@ -1,25 +1,21 @@
--- Knots in segments, from one cut to the next, and rings, for which no other cell is needed. All of it is own.
-use Rattle.std.specs.Prelude.{◌≡◌, ◌≢◌, ◌⊎◌, ℕ, ◌+◌, ◌*◌, ◌<◌, ◌≤◌, true, false}
+-- Knots in segments, from one cut to the next, and rings, for which no other owner is needed. All of it is own.
+use Rattle.std.specs.Prelude.{◌≡◌, ◌≢◌, ◌⊎◌, ℕ, ◌+◌, ◌<◌, ◌≤◌, true, false}
 use Rattle.std.specs.Prelude.{All, Bool, List, length, get_or}
-use Rattle.step_table.specs.declared.cell_steps.cell_deed.Cell.{Cell}
-use Rattle.step_table.specs.declared.cell_steps.cell_deed.Cell.TheVariants.{Free, Member}
 use Rattle.owner_graph.specs.declared.holding.Holding.{Holding}
 use Rattle.owner_graph.specs.declared.guesses.planning.Plan.{Plan}
 use Rattle.owner_graph.specs.declared.guesses.ringing.Ring.{Ring}
 use Rattle.owner_graph.specs.Fed.{marked}
 use Rattle.owner_graph.specs.Labels.{at}
-use Rattle.owner_graph.specs.Owners.{is_owner, source}
 
--- a number for each member that is an owner
-abbrev pub number : Cell → ℕ
-number (Free n) = 0
-number (Member b m) = 2 * b.0 + m
+-- the handle is what leads on from a segment
+abbrev pub IsExit : Plan → ℕ → Holding → Type 0
+IsExit p s h = (h.from ≡ at p.exit_vertices.items s) × (h.slot ≡ at p.exit_slots.items s)
 
 abbrev pub ends_alone : Plan → ℕ → Bool
 ends_alone p b = marked p.ended.items b
 
-abbrev pub block_rank : Plan → ℕ → ℕ
-block_rank p b = at p.ranks.items b
+abbrev pub vertex_rank : Plan → ℕ → ℕ
+vertex_rank p b = at p.ranks.items b
 
 abbrev pub segment : Plan → ℕ → ℕ
 segment p b = at p.segments.items b
@@ -28,60 +24,60 @@ abbrev pub is_known : Plan → ℕ → Bool
 is_known p knot = marked p.known.items knot
 
 -- the owner stays in its segment, with a greater rank, or leads on to the next one; the first comes after the last
-abbrev pub StaysOrLeadsOn : List ℕ → Plan → Cell → ℕ → ℕ → Type 0
+abbrev pub StaysOrLeadsOn : List ℕ → Plan → Holding → ℕ → ℕ → Type 0
 StaysOrLeadsOn knots p c a b =
-    ((segment p a ≡ segment p b) × (block_rank p a < block_rank p b))
-    ⊎ ((number c ≡ at p.exits.items (segment p a)) × ((segment p b ≡ segment p a + 1)
+    ((segment p a ≡ segment p b) × (vertex_rank p a < vertex_rank p b))
+    ⊎ (IsExit p (segment p a) c × ((segment p b ≡ segment p a + 1)
     ⊎ ((segment p a ≡ at p.lasts.items (at knots b)) × (segment p b ≡ at p.firsts.items (at knots b)))))
 
--- what ends by itself has owners only in such blocks, of lesser ranks; and a block of a known knot only in such blocks,
+-- what ends by itself has owners only in such vertices, of lesser ranks; and a vertex of a known knot only in such vertices,
 -- and in the knot's, from where they go on
-abbrev pub IsPlanned : ℕ → List ℕ → Plan → Cell → ℕ → ℕ → Type 0
-IsPlanned shared knots p c a b =
-    is_owner shared c ≡ true
-    → (ends_alone p b ≡ true → (ends_alone p a ≡ true) × (block_rank p a < block_rank p b))
+abbrev pub IsPlanned : List ℕ → Plan → Holding → ℕ → ℕ → Type 0
+IsPlanned knots p c a b =
+    c.is_owner ≡ true
+    → (ends_alone p b ≡ true → (ends_alone p a ≡ true) × (vertex_rank p a < vertex_rank p b))
     × (ends_alone p b ≡ false → is_known p (at knots b) ≡ true → (ends_alone p a ≡ true)
     ⊎ ((a ≢ 0) × (at knots a ≡ at knots b) × StaysOrLeadsOn knots p c a b))
 
 -- the numbers have bounds
 abbrev pub IsBounded : List ℕ → Plan → ℕ → Type 0
 IsBounded knots p b =
-    (block_rank p b < 131072) × (segment p b < 131072)
+    (vertex_rank p b < 4294967296) × (segment p b < 4294967296)
     × (is_known p (at knots b) ≡ true
     → (at p.firsts.items (at knots b) ≤ segment p b) × (segment p b ≤ at p.lasts.items (at knots b)))
 
--- so it is with all owners, and blocks
-abbrev pub IsRight : ℕ → ℕ → List Holding → List ℕ → Plan → Type 0
-IsRight shared blocks hs knots p =
-    (ends_alone p 0 ≡ false) × All (λ h. IsPlanned shared knots p h.cell (source h.cell) h.block.0) hs
-    × ((b : ℕ) → b ≤ blocks → IsBounded knots p b)
+-- so it is with all owners, and vertices
+abbrev pub IsRight : ℕ → List Holding → List ℕ → Plan → Type 0
+IsRight vertices hs knots p =
+    (ends_alone p 0 ≡ false) × All (λ h. IsPlanned knots p h h.from h.to) hs
+    × ((b : ℕ) → b ≤ vertices → IsBounded knots p b)
 
 -- an owner is told to be a cut
-abbrev pub IsSure : ℕ → List ℕ → Plan → Holding → Type 0
-IsSure shared knots p t =
-    (is_owner shared t.cell ≡ true) × (1 ≤ source t.cell) × (at knots (source t.cell) ≡ t.block.0)
-    × (is_known p t.block.0 ≡ true) × (number t.cell ≡ at p.exits.items (segment p (source t.cell)))
+abbrev pub IsSure : List ℕ → Plan → Holding → Type 0
+IsSure knots p t =
+    (t.is_owner ≡ true) × (1 ≤ t.from) × (at knots t.from ≡ t.to)
+    × (is_known p t.to ≡ true) × IsExit p (segment p t.from) t
 
-abbrev pub no_holding : Holding
-no_holding = record { cell = Free 0; block = record { 0 = 0 } }
+abbrev pub no_handle : Holding
+no_handle = record { from = 0; to = 0; slot = 0; label = 0; is_owner = false }
 
-abbrev pub holding_listed : List Holding → ℕ → Holding
-holding_listed hs i = get_or hs i no_holding
+abbrev pub handle_listed : List Holding → ℕ → Holding
+handle_listed hs i = get_or hs i no_handle
 
--- a block of the ring has an owner in such a block
-abbrev pub IsLinked : ℕ → List Holding → Ring → ℕ → Type 0
-IsLinked shared hs r b =
-    at r.places.items b ≢ 0 → (i : ℕ) × (i < length hs) × (is_owner shared (holding_listed hs i).cell ≡ true)
-    × ((holding_listed hs i).block.0 ≡ b) × (at r.places.items (source (holding_listed hs i).cell) ≢ 0)
-    × (marked r.members.items (number (holding_listed hs i).cell) ≡ true)
+-- a vertex of the ring has an owner in such a vertex
+abbrev pub IsLinked : List Holding → Ring → ℕ → Type 0
+IsLinked hs r b =
+    at r.places.items b ≢ 0 → (i : ℕ) × (i < length hs) × ((handle_listed hs i).is_owner ≡ true)
+    × ((handle_listed hs i).to ≡ b) × (at r.places.items (handle_listed hs i).from ≢ 0)
+    × (at r.slots.items (handle_listed hs i).from ≡ (handle_listed hs i).slot + 1)
 
--- so it is with all blocks
-abbrev pub IsRing : ℕ → ℕ → List Holding → Ring → Type 0
-IsRing shared blocks hs r = (b : ℕ) → b ≤ blocks → IsLinked shared hs r b
+-- so it is with all vertices
+abbrev pub IsRing : ℕ → List Holding → Ring → Type 0
+IsRing vertices hs r = (b : ℕ) → b ≤ vertices → IsLinked hs r b
 
 -- an owner is told to be none
 abbrev pub IsSpared : ℕ → List ℕ → Ring → Holding → Type 0
-IsSpared blocks knots r t =
-    let w = at r.witnesses.items t.block.0 in
-    (marked r.members.items (number t.cell) ≡ false) × (1 ≤ w) × (w ≤ blocks) × (at knots w ≡ t.block.0)
+IsSpared vertices knots r t =
+    let w = at r.witnesses.items t.to in
+    (at r.slots.items t.from ≢ t.slot + 1) × (1 ≤ w) × (w ≤ vertices) × (at knots w ≡ t.to)
     × (at r.places.items w ≢ 0)

@@ -1,157 +1,137 @@
-//! Which blocks end once a cell is emptied.
+//! Which vertices end where some owners are weak.
 ghost use Rattle.std.specs.Prelude.{◌≡◌, ◌↔◌, ◌+◌, ◌≤◌, ℕ, All, IfOk, IsTrue, false, length};
 ghost use Rattle.std.specs.Prelude.{slice_index_or, vec_len};
-ghost use Rattle.owner_graph.specs.Ends.{EndsWithOwners, EndsWhenCut, same_cell, without_cell};
+ghost use Rattle.owner_graph.specs.Ends.{EndsWithOwners, EndsWithout, is_weakened, without};
 ghost use Rattle.owner_graph.specs.Fed.{Feeds, IsFed, IsLess, Starves};
 ghost use Rattle.owner_graph.specs.Knots.{KnotsAre};
 ghost use Rattle.owner_graph.specs.Owners.{IsAmong};
 
-use crate::edges::{is_owner, source};
 use crate::guesses::layers::{are_layers, guessed_layers};
 use crate::guesses::search::at;
-use crate::holding::Holding;
+use crate::holding::{Holding, as_index};
+use crate::weakening::{Weakening, is_weakened};
 use std::alloc::{AllocError, Global};
-use step_table::cell_steps::cell_deed::Cell;
 
-/// Whether two cells are one (own).
-pub fn same_cell(one: Cell, other: Cell) -> bool
-    ensures { result ≡ same_cell one other }
+/// Whether a handle is an owner that isn't to be weak, in a vertex that stays.
+fn feeds(knots: &[usize], weakening: Weakening, handle: Holding, stays: &[bool]) -> bool
+    ensures { IsTrue result ↔ Feeds (is_weakened knots.now weakening) stays.now handle }
 {
-    match one {
-        Cell::Free { number } => match other {
-            Cell::Free { number: second } => number == second,
-            Cell::Member { .. } => false,
-        },
-        Cell::Member { block, member } => match other {
-            Cell::Free { .. } => false,
-            Cell::Member {
-                block: second,
-                member: last,
-            } => block.0 == second.0 && member == last,
-        },
-    }
-}
-
-/// Whether a handle is an owner elsewhere than in the cell, and in a block that stays.
-fn feeds(shared: u32, holding: Holding, emptied: Cell, stays: &[bool]) -> bool
-    ensures { IsTrue result ↔ Feeds shared emptied stays.now holding }
-{
-    if same_cell(holding.cell, emptied) || !is_owner(shared, holding.cell) {
+    if is_weakened(knots, weakening, handle) || !handle.is_owner {
         return false;
     }
-    let from = source(holding.cell);
+    let from = as_index(handle.from);
     from < stays.len() && stays[from]
 }
 
-/// Marks the blocks on which an owner is that is not in the cell, and in a block that stays.
+/// Marks the vertices on which an owner is that is not to be weak, in a vertex that stays.
 pub(crate) fn fed_by(
     alloc: Global,
-    shared: u32,
-    holdings: &[Holding],
-    emptied: Cell,
+    handles: &[Holding],
+    knots: &[usize],
+    weakening: Weakening,
     stays: &[bool],
 ) -> Result<Vec<bool>, AllocError>
-    ensures { IfOk result (λ fed. IsFed shared (without_cell emptied holdings.now) stays.now fed.items) }
+    ensures { IfOk result (λ fed. IsFed (without (is_weakened knots.now weakening) handles.now) stays.now fed.items) }
 {
     let mut fed = vec![in alloc; false; stays.len()]?;
-    for holding in holdings {
-        let block = usize::from(holding.block.0);
-        if block >= fed.len() {
+    for handle in handles {
+        let vertex = as_index(handle.to);
+        if vertex >= fed.len() {
             continue;
         }
-        if !feeds(shared, *holding, emptied, stays) {
+        if !feeds(knots, weakening, *handle, stays) {
             continue;
         }
-        fed[block] = true;
+        fed[vertex] = true;
     }
     Ok(fed)
 }
 
-/// Lets the blocks stay no longer, but for number 0, that weren't fed. Answers whether there was one.
+/// Lets the vertices stay no longer, but for number 0, that weren't fed. Answers whether there was one.
 fn starve(stays: &mut Vec<bool>, fed: &[bool]) -> bool
     requires { vec_len stays.old ≡ length fed.now }
     ensures starves { Starves fed.now stays.old.items stays.new.items }
     ensures less { IsLess result fed.now stays.old.items stays.new.items }
 {
     let mut found = false;
-    for block in 0..fed.len() {
-        if block == 0 || fed[block] || !stays[block] {
+    for vertex in 0..fed.len() {
+        if vertex == 0 || fed[vertex] || !stays[vertex] {
             continue;
         }
-        stays[block] = false;
+        stays[vertex] = false;
         found = true;
     }
     found
 }
 
-/// Which blocks stay, once the cell is emptied: all but those that end. It takes as many rounds as the longest of the
-/// paths by which blocks end has blocks.
+/// Which vertices stay, where some owners are weak: all but those that end. It takes as many rounds as the longest of
+/// the paths by which vertices end has vertices.
 fn by_rounds(
     alloc: Global,
-    shared: u32,
-    blocks: u16,
-    holdings: &[Holding],
-    emptied: Cell,
+    vertices: u32,
+    handles: &[Holding],
+    knots: &[usize],
+    weakening: Weakening,
 ) -> Result<Vec<bool>, AllocError>
-    requires { All (IsAmong blocks) holdings.now }
-    ensures size { IfOk result (λ stays. length stays.items ≡ blocks + 1) }
-    ensures ends { IfOk result (λ stays. (b : ℕ) → b ≤ blocks
-        → slice_index_or stays.items b false ≡ false ↔ EndsWithOwners shared
-        (without_cell emptied holdings.now) b) }
+    requires { All (IsAmong vertices) handles.now }
+    ensures size { IfOk result (λ stays. length stays.items ≡ vertices + 1) }
+    ensures ends { IfOk result (λ stays. (b : ℕ) → b ≤ vertices
+        → slice_index_or stays.items b false ≡ false ↔ EndsWithOwners
+        (without (is_weakened knots.now weakening) handles.now) b) }
 {
-    let mut stays = vec![in alloc; true; usize::from(blocks) + 1]?;
+    let mut stays = vec![in alloc; true; as_index(vertices) + 1]?;
     loop {
-        let fed = fed_by(alloc, shared, holdings, emptied, stays.as_slice())?;
+        let fed = fed_by(alloc, handles, knots, weakening, stays.as_slice())?;
         if !starve(&mut stays, fed.as_slice()) {
             return Ok(stays);
         }
     }
 }
 
-/// The same. A search guesses them, and where a look finds the guess right, this takes time linear in blocks and
+/// The same. A search guesses them, and where a look finds the guess right, this takes time linear in vertices and
 /// handles.
-fn staying(
+pub(crate) fn staying(
     alloc: Global,
-    shared: u32,
-    blocks: u16,
-    holdings: &[Holding],
-    emptied: Cell,
+    vertices: u32,
+    handles: &[Holding],
+    knots: &[usize],
+    weakening: Weakening,
 ) -> Result<Vec<bool>, AllocError>
-    requires { All (IsAmong blocks) holdings.now }
-    ensures size { IfOk result (λ stays. length stays.items ≡ blocks + 1) }
-    ensures ends { IfOk result (λ stays. (b : ℕ) → b ≤ blocks
-        → slice_index_or stays.items b false ≡ false ↔ EndsWithOwners shared
-        (without_cell emptied holdings.now) b) }
+    requires { All (IsAmong vertices) handles.now }
+    ensures size { IfOk result (λ stays. length stays.items ≡ vertices + 1) }
+    ensures ends { IfOk result (λ stays. (b : ℕ) → b ≤ vertices
+        → slice_index_or stays.items b false ≡ false ↔ EndsWithOwners
+        (without (is_weakened knots.now weakening) handles.now) b) }
 {
-    let layers = guessed_layers(alloc, shared, blocks, holdings, emptied)?;
-    if are_layers(alloc, shared, blocks, holdings, emptied, &layers)? {
+    let layers = guessed_layers(alloc, vertices, handles, knots, weakening)?;
+    if are_layers(alloc, vertices, handles, knots, weakening, &layers)? {
         return Ok(layers.stays);
     }
-    by_rounds(alloc, shared, blocks, holdings, emptied)
+    by_rounds(alloc, vertices, handles, knots, weakening)
 }
 
-/// Whether each block of the knot of a block would end, if the cell were emptied, or what it holds made weak (own). The
-/// least block of each one's knot is what [`crate::knots`] gives. It takes time linear in blocks and handles,
-/// and is refused only where a growth of memory was. Conditions: the blocks of all that
-/// is listed are among so many, and the block is one of them, from 1.
+/// Whether each vertex of the knot of a vertex would end, if some owners were weak (own). The least vertex of each
+/// one's knot is what [`crate::knots`] gives. It takes time linear in vertices and handles, and is refused only where
+/// a growth of memory was. Conditions: the vertices of all handles are among so many, and the vertex is one of them,
+/// from 1.
 pub fn is_cut(
     alloc: Global,
-    shared: u32,
-    blocks: u16,
-    holdings: &[Holding],
+    vertices: u32,
+    handles: &[Holding],
     knots: &[usize],
-    block: u16,
-    cell: Cell,
+    vertex: u32,
+    weakening: Weakening,
 ) -> Result<bool, AllocError>
-    requires among { All (IsAmong blocks) holdings.now }
-    requires knots { KnotsAre shared blocks holdings.now knots.now }
-    requires block { (1 ≤ block) × (block ≤ blocks) }
-    ensures { IfOk result (λ is. IsTrue is ↔ EndsWhenCut shared blocks holdings.now block cell) }
+    requires among { All (IsAmong vertices) handles.now }
+    requires knots { KnotsAre vertices handles.now knots.now }
+    requires vertex { (1 ≤ vertex) × (vertex ≤ vertices) }
+    ensures { IfOk result (λ is. IsTrue is ↔ EndsWithout vertices handles.now
+        (is_weakened knots.now weakening) vertex) }
 {
-    let stays = staying(alloc, shared, blocks, holdings, cell)?;
-    let least = at(knots, usize::from(block));
-    for before in 0..blocks {
-        let number = usize::from(before) + 1;
+    let stays = staying(alloc, vertices, handles, knots, weakening)?;
+    let least = at(knots, as_index(vertex));
+    for before in 0..vertices {
+        let number = as_index(before) + 1;
         if at(knots, number) != least {
             continue;
         }

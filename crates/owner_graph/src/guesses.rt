@@ -6,4 +6,5 @@ pub(crate) mod ordering;
 pub(crate) mod planning;
 pub(crate) mod ringing;
 pub(crate) mod search;
+pub(crate) mod walk;
 pub(crate) mod web;

@@ -1,10 +1,32 @@
-//! Handles, by where they are.
-use control_word::Block;
-use step_table::cell_steps::cell_deed::Cell;
+//! Handles between vertices.
+ghost use Rattle.std.specs.Prelude.{◌≡◌};
+ghost use Rattle.owner_graph.specs.Ends.{same_place};
 
-/// A cell that holds a handle, and the block of the object that the handle is on (own).
+/// A handle in one vertex, on another one (own). Vertex 0 is no object, and stands for what holds objects from outside.
 #[derive(Clone, Copy, Drop)]
 pub struct Holding {
-    pub cell: Cell,
-    pub block: Block,
+    /// The vertex that the handle is in.
+    pub from: u32,
+    /// The vertex that it is on.
+    pub to: u32,
+    /// Which of the handles in that vertex it is.
+    pub slot: u32,
+    /// The number of its label.
+    pub label: u32,
+    /// Whether it is an owner; else it is weak, and keeps nothing.
+    pub is_owner: bool,
+}
+
+/// Whether two handles are at one place: in one vertex, with one slot (own).
+pub fn same_place(one: Holding, other: Holding) -> bool
+    ensures { result ≡ same_place one other }
+{
+    one.from == other.from && one.slot == other.slot
+}
+
+/// A number as an index.
+pub(crate) fn as_index(number: u32) -> usize
+    ensures { result ≡ number }
+{
+    number as usize
 }

@@ -1,21 +1,27 @@
-//! Which blocks owners keep, and which keep each other, by the cells that hold handles on them.
+//! A graph of owners: which vertices are kept, which keep each other, and what would end where some owners are weak.
 #![tactic(auto)]
 
 mod edges;
 mod ending;
+mod findings;
 mod grouping;
 mod guesses;
 mod holding;
+mod index;
 mod keeping;
 mod labels;
 mod looks;
+mod one_knot;
 mod tying;
+mod weakening;
+mod weakenings;
 
 pub use directed_graph::GraphError;
-pub use edges::{is_owner, source};
-pub use ending::{is_cut, same_cell};
-pub use grouping::by_block;
-pub use holding::Holding;
+pub use findings::Findings;
+pub use grouping::by_vertex;
+pub use holding::{Holding, same_place};
+pub use index::Index;
 pub use keeping::{kept, knot};
 pub use labels::knots;
 pub use tying::{cuts, is_tie, ties};
+pub use weakenings::LabelPair;

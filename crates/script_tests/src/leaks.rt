@@ -1,3 +1,4 @@
 //! What is reached and held at a script's end.
 pub(crate) mod graphs;
 pub(crate) mod holding;
+pub(crate) mod weakening;

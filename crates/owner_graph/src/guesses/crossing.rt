@@ -1,28 +1,19 @@
-//! Owners that lead past blocks of an order. Nothing is known of it: it serves guesses.
+//! Owners that lead past vertices of an order. Nothing is known of it: it serves guesses.
 use crate::guesses::search::{at, put_at, zeros};
-use crate::guesses::web::{Web, handle_at, target_at};
-use crate::holding::Holding;
-use crate::looks::checking::number;
+use crate::guesses::web::{Web, target_at};
+use crate::holding::{Holding, as_index};
 use std::alloc::{AllocError, Global};
 
-/// The number of the member that the handle at a place is in; 0 where there is none.
-pub(crate) fn number_at(holdings: &[Holding], place: usize) -> usize {
-    match handle_at(holdings, place) {
-        Some(holding) => number(holding.cell),
-        None => 0,
-    }
-}
-
-/// The number of an owner on a block, but for the one at a place.
-pub(crate) fn exit_on(holdings: &[Holding], web: &Web, block: usize, without: usize) -> usize {
-    let mut place = web.first_on(block);
-    for _owner in 0..holdings.len() {
+/// The place of an owner on a vertex, but for the one at a place.
+pub(crate) fn exit_on(handles: &[Holding], web: &Web, vertex: usize, without: usize) -> usize {
+    let mut place = web.first_on(vertex);
+    for _owner in 0..handles.len() {
         if place != without {
             break;
         }
         place = web.next_on(place);
     }
-    number_at(holdings, place)
+    place
 }
 
 /// One more at a place of a list, if it has it.
@@ -31,7 +22,7 @@ fn count_at(list: &mut Vec<usize>, index: usize) {
     put_at(list, index, count.saturating_add(1));
 }
 
-/// Of each block of an order how many owners are in it, and how many on it.
+/// Of each vertex of an order how many owners are in it, and how many on it.
 #[derive(Drop)]
 struct Ends {
     begun: Vec<usize>,
@@ -39,29 +30,29 @@ struct Ends {
 }
 
 impl Ends {
-    /// Counts the owners in a block, but for the one at a place.
+    /// Counts the owners in a vertex, but for the one at a place.
     fn count(
         &mut self,
-        holdings: &[Holding],
+        handles: &[Holding],
         web: &Web,
         ranks: &[usize],
-        block: usize,
+        vertex: usize,
         without: usize,
     ) {
-        let mut place = web.first_in(block);
-        for _owner in 0..holdings.len() {
+        let mut place = web.first_in(vertex);
+        for _owner in 0..handles.len() {
             if place == 0 {
                 break;
             }
             if place != without {
-                count_at(&mut self.begun, at(ranks, block));
-                count_at(&mut self.ended, at(ranks, target_at(holdings, place)));
+                count_at(&mut self.begun, at(ranks, vertex));
+                count_at(&mut self.ended, at(ranks, target_at(handles, place)));
             }
             place = web.next_in(place);
         }
     }
 
-    /// Of each block how many owners lead to it or past it from those before it.
+    /// Of each vertex how many owners lead to it or past it from those before it.
     fn crossings(&self, alloc: Global) -> Result<Vec<usize>, AllocError> {
         let mut crossings = Vec::new(alloc);
         let mut open = 0usize;
@@ -74,10 +65,10 @@ impl Ends {
     }
 }
 
-/// Of each block of an order how many owners lead to it or past it from those before it, without the one at a place.
+/// Of each vertex of an order how many owners lead to it or past it from those before it, without the one at a place.
 pub(crate) fn crossings(
     alloc: Global,
-    holdings: &[Holding],
+    handles: &[Holding],
     web: &Web,
     ranks: &[usize],
     order: &[usize],
@@ -87,8 +78,8 @@ pub(crate) fn crossings(
         begun: zeros(alloc, order.len())?,
         ended: zeros(alloc, order.len())?,
     };
-    for block in order {
-        ends.count(holdings, web, ranks, *block, without);
+    for vertex in order {
+        ends.count(handles, web, ranks, *vertex, without);
     }
     ends.crossings(alloc)
 }

@@ -1,8 +1,7 @@
 //! What is within knots. Nothing is known of it: it serves guesses.
-use crate::edges::{is_owner, source};
 use crate::guesses::search::at;
 use crate::guesses::web::Web;
-use crate::holding::Holding;
+use crate::holding::{Holding, as_index};
 use std::alloc::{AllocError, Global};
 
 /// Marks a place of a list, if it has it.
@@ -12,37 +11,37 @@ pub(crate) fn mark_at(marks: &mut Vec<bool>, index: usize) {
     }
 }
 
-/// The blocks of each knot, by its least block.
+/// The vertices of each knot, by its least vertex.
 pub(crate) fn members_of(
     alloc: Global,
-    blocks: u16,
+    vertices: u32,
     knots: &[usize],
 ) -> Result<Vec<Vec<usize>>, AllocError> {
     let mut members = Vec::new(alloc);
-    for _block in 0..usize::from(blocks) + 1 {
+    for _vertex in 0..as_index(vertices) + 1 {
         members.push(Vec::new(alloc))?;
     }
-    for block in 1..usize::from(blocks) + 1 {
-        let knot = at(knots, block);
+    for vertex in 1..as_index(vertices) + 1 {
+        let knot = at(knots, vertex);
         if knot < members.len() {
-            members[knot].push(block)?;
+            members[knot].push(vertex)?;
         }
     }
     Ok(members)
 }
 
 /// Whether an owner is within a knot.
-fn is_inner(shared: u32, holding: Holding, knots: &[usize]) -> bool {
-    let from = source(holding.cell);
-    let to = usize::from(holding.block.0);
-    is_owner(shared, holding.cell) && from > 0 && at(knots, from) == at(knots, to)
+fn is_inner(handle: Holding, knots: &[usize]) -> bool {
+    let from = as_index(handle.from);
+    let to = as_index(handle.to);
+    handle.is_owner && from > 0 && at(knots, from) == at(knots, to)
 }
 
 /// Adds the owners within knots.
-fn add_inner(shared: u32, holdings: &[Holding], knots: &[usize], web: &mut Web) {
-    for index in 0..holdings.len() {
-        if is_inner(shared, holdings[index], knots) {
-            web.add(holdings, index + 1);
+fn add_inner(handles: &[Holding], knots: &[usize], web: &mut Web) {
+    for index in 0..handles.len() {
+        if is_inner(handles[index], knots) {
+            web.add(handles, index + 1);
         }
     }
 }
@@ -50,25 +49,24 @@ fn add_inner(shared: u32, holdings: &[Holding], knots: &[usize], web: &mut Web) 
 /// The owners within knots.
 pub(crate) fn inner(
     alloc: Global,
-    shared: u32,
-    blocks: u16,
-    holdings: &[Holding],
+    vertices: u32,
+    handles: &[Holding],
     knots: &[usize],
 ) -> Result<Web, AllocError> {
-    let mut web = Web::new(alloc, blocks, holdings.len())?;
-    add_inner(shared, holdings, knots, &mut web);
+    let mut web = Web::new(alloc, vertices, handles.len())?;
+    add_inner(handles, knots, &mut web);
     Ok(web)
 }
 
 /// The knots of ties.
 pub(crate) fn wanted_by(
     alloc: Global,
-    blocks: u16,
+    vertices: u32,
     ties: &[Holding],
 ) -> Result<Vec<bool>, AllocError> {
-    let mut wanted = vec![in alloc; false; usize::from(blocks) + 1]?;
+    let mut wanted = vec![in alloc; false; as_index(vertices) + 1]?;
     for tie in ties {
-        mark_at(&mut wanted, usize::from(tie.block.0));
+        mark_at(&mut wanted, as_index(tie.to));
     }
     Ok(wanted)
 }

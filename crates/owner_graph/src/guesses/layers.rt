@@ -1,22 +1,21 @@
-//! A guess at the blocks that end once a cell is emptied, and a look whether it is right.
+//! A guess at the vertices that end where some owners are weak, and a look whether it is right.
 ghost use Rattle.std.specs.Prelude.{◌≡◌, ◌≢◌, ◌↔◌, ◌+◌, ◌≤◌, ℕ, All, IfOk, IsTrue};
 ghost use Rattle.std.specs.Prelude.{false, length, true};
-ghost use Rattle.owner_graph.specs.Ends.{EndsWithOwners, without_cell};
+ghost use Rattle.owner_graph.specs.Ends.{EndsWithOwners, is_weakened, without};
 ghost use Rattle.owner_graph.specs.Fed.{marked};
 ghost use Rattle.owner_graph.specs.Layers.{AllFed, EndsLater};
 ghost use Rattle.owner_graph.specs.Owners.{IsAmong};
 
-use crate::edges::{is_owner, source};
-use crate::ending::{fed_by, same_cell};
+use crate::ending::fed_by;
 use crate::guesses::ordering::Ordering;
 use crate::guesses::search::{at, put_at, zeros};
 use crate::guesses::web::Web;
-use crate::holding::Holding;
+use crate::holding::{Holding, as_index};
 use crate::tying::marked;
+use crate::weakening::{Weakening, is_weakened};
 use std::alloc::{AllocError, Global};
-use step_table::cell_steps::cell_deed::Cell;
 
-/// Which blocks stay, and of the others a rank, which is greater than that of each owner's block.
+/// Which vertices stay, and of the others a rank, which is greater than that of each owner's vertex.
 #[derive(Drop)]
 pub(crate) struct Layers {
     pub(crate) stays: Vec<bool>,
@@ -24,7 +23,7 @@ pub(crate) struct Layers {
 }
 
 impl Layers {
-    /// All blocks stay.
+    /// All vertices stay.
     fn new(alloc: Global, size: usize) -> Result<Layers, AllocError> {
         Ok(Layers {
             stays: vec![in alloc; true; size]?,
@@ -32,15 +31,15 @@ impl Layers {
         })
     }
 
-    /// A block ends, with this rank.
-    fn end(&mut self, block: usize, rank: usize) {
-        put_at(&mut self.ranks, block, rank);
-        if block < self.stays.len() {
-            self.stays[block] = false;
+    /// A vertex ends, with this rank.
+    fn end(&mut self, vertex: usize, rank: usize) {
+        put_at(&mut self.ranks, vertex, rank);
+        if vertex < self.stays.len() {
+            self.stays[vertex] = false;
         }
     }
 
-    /// Blocks end in an order.
+    /// Vertices end in an order.
     fn end_all(&mut self, order: &[usize]) {
         for rank in 0..order.len() {
             self.end(order[rank], rank);
@@ -48,112 +47,112 @@ impl Layers {
     }
 }
 
-/// Adds the owners that aren't in a cell.
-fn add_others(shared: u32, holdings: &[Holding], emptied: Cell, web: &mut Web) {
-    for index in 0..holdings.len() {
-        let cell = holdings[index].cell;
-        if is_owner(shared, cell) && !same_cell(cell, emptied) {
-            web.add(holdings, index + 1);
+/// Adds the owners that aren't to be weak.
+fn add_others(handles: &[Holding], knots: &[usize], weakening: Weakening, web: &mut Web) {
+    for index in 0..handles.len() {
+        let handle = handles[index];
+        if handle.is_owner && !is_weakened(knots, weakening, handle) {
+            web.add(handles, index + 1);
         }
     }
 }
 
-/// The owners that aren't in a cell.
+/// The owners that aren't to be weak.
 fn others(
     alloc: Global,
-    shared: u32,
-    blocks: u16,
-    holdings: &[Holding],
-    emptied: Cell,
+    vertices: u32,
+    handles: &[Holding],
+    knots: &[usize],
+    weakening: Weakening,
 ) -> Result<Web, AllocError> {
-    let mut web = Web::new(alloc, blocks, holdings.len())?;
-    add_others(shared, holdings, emptied, &mut web);
+    let mut web = Web::new(alloc, vertices, handles.len())?;
+    add_others(handles, knots, weakening, &mut web);
     Ok(web)
 }
 
-/// The numbers of so many blocks, from 1.
-fn numbers(alloc: Global, blocks: u16) -> Result<Vec<usize>, AllocError> {
+/// The numbers of so many vertices, from 1.
+fn numbers(alloc: Global, vertices: u32) -> Result<Vec<usize>, AllocError> {
     let mut numbers = Vec::new(alloc);
-    for before in 0..usize::from(blocks) {
+    for before in 0..as_index(vertices) {
         numbers.push(before + 1)?;
     }
     Ok(numbers)
 }
 
-/// All blocks, in an order in which no owner leads back, as far as there is one.
+/// All vertices, in an order in which no owner leads back, as far as there is one.
 fn ordered(
     alloc: Global,
-    blocks: u16,
-    holdings: &[Holding],
+    vertices: u32,
+    handles: &[Holding],
     web: &Web,
 ) -> Result<Vec<usize>, AllocError> {
-    let numbers = numbers(alloc, blocks)?;
-    let mut ordering = Ordering::new(alloc, blocks)?;
-    ordering.run(holdings, web, numbers.as_slice(), 0)?;
+    let numbers = numbers(alloc, vertices)?;
+    let mut ordering = Ordering::new(alloc, vertices)?;
+    ordering.run(handles, web, numbers.as_slice(), 0)?;
     Ok(ordering.order)
 }
 
-/// A guess at the blocks that end once a cell is emptied.
+/// A guess at the vertices that end where some owners are weak.
 pub(crate) fn guessed_layers(
     alloc: Global,
-    shared: u32,
-    blocks: u16,
-    holdings: &[Holding],
-    emptied: Cell,
+    vertices: u32,
+    handles: &[Holding],
+    knots: &[usize],
+    weakening: Weakening,
 ) -> Result<Layers, AllocError> {
-    let web = others(alloc, shared, blocks, holdings, emptied)?;
-    let order = ordered(alloc, blocks, holdings, &web)?;
-    let mut layers = Layers::new(alloc, usize::from(blocks) + 1)?;
+    let web = others(alloc, vertices, handles, knots, weakening)?;
+    let order = ordered(alloc, vertices, handles, &web)?;
+    let mut layers = Layers::new(alloc, as_index(vertices) + 1)?;
     layers.end_all(order.as_slice());
     Ok(layers)
 }
 
-/// Whether a handle, where it is an owner elsewhere than in the cell, and on a block that doesn't stay, is in one that
+/// Whether a handle, where it is an owner that isn't to be weak, and on a vertex that doesn't stay, is in one that
 /// doesn't either, and whose rank is less.
-fn ends_later(shared: u32, holding: Holding, emptied: Cell, layers: &Layers) -> bool
-    ensures { IsTrue result → EndsLater shared emptied layers.now.stays.items layers.now.ranks.items holding }
+fn ends_later(knots: &[usize], weakening: Weakening, handle: Holding, layers: &Layers) -> bool
+    ensures { IsTrue result → EndsLater (is_weakened knots.now weakening) layers.now.stays.items layers.now.ranks.items handle }
 {
     let stays = layers.stays.as_slice();
     let ranks = layers.ranks.as_slice();
-    let from = source(holding.cell);
-    let to = usize::from(holding.block.0);
-    if same_cell(holding.cell, emptied) || !is_owner(shared, holding.cell) || marked(stays, to) {
+    let from = as_index(handle.from);
+    let to = as_index(handle.to);
+    if is_weakened(knots, weakening, handle) || !handle.is_owner || marked(stays, to) {
         return true;
     }
     !marked(stays, from) && at(ranks, from) < at(ranks, to)
 }
 
 /// The same of all handles.
-fn end_later(shared: u32, holdings: &[Holding], emptied: Cell, layers: &Layers) -> bool
+fn end_later(handles: &[Holding], knots: &[usize], weakening: Weakening, layers: &Layers) -> bool
     ensures { IsTrue result
-        → All (EndsLater shared emptied layers.now.stays.items layers.now.ranks.items) holdings.now }
+        → All (EndsLater (is_weakened knots.now weakening) layers.now.stays.items layers.now.ranks.items) handles.now }
 {
-    holdings
+    handles
         .iter()
-        .all(|holding| ends_later(shared, *holding, emptied, layers))
+        .all(|handle| ends_later(knots, weakening, *handle, layers))
 }
 
-/// Whether there is a mark for each block, and one at 0.
-fn are_marks(blocks: u16, layers: &Layers) -> bool
-    ensures { IsTrue result → (length layers.now.stays.items ≡ blocks + 1)
+/// Whether there is a mark for each vertex, and one at 0.
+fn are_marks(vertices: u32, layers: &Layers) -> bool
+    ensures { IsTrue result → (length layers.now.stays.items ≡ vertices + 1)
         × (marked layers.now.stays.items 0 ≡ true) }
 {
-    layers.stays.len() == usize::from(blocks) + 1 && marked(layers.stays.as_slice(), 0)
+    layers.stays.len() == as_index(vertices) + 1 && marked(layers.stays.as_slice(), 0)
 }
 
-/// Whether a block is fed, where it stays and isn't number 0.
-fn is_fed(stays: &[bool], fed: &[bool], block: usize) -> bool
-    ensures { IsTrue result → block ≢ 0 → marked stays.now block ≡ true → marked fed.now block ≡ true }
+/// Whether a vertex is fed, where it stays and isn't number 0.
+fn is_fed(stays: &[bool], fed: &[bool], vertex: usize) -> bool
+    ensures { IsTrue result → vertex ≢ 0 → marked stays.now vertex ≡ true → marked fed.now vertex ≡ true }
 {
-    block == 0 || !marked(stays, block) || marked(fed, block)
+    vertex == 0 || !marked(stays, vertex) || marked(fed, vertex)
 }
 
-/// Whether each block is.
+/// Whether each vertex is.
 fn are_fed(stays: &[bool], fed: &[bool]) -> bool
     ensures { IsTrue result → AllFed stays.now fed.now }
 {
-    for block in 0..stays.len() {
-        if !is_fed(stays, fed, block) {
+    for vertex in 0..stays.len() {
+        if !is_fed(stays, fed, vertex) {
             return false;
         }
     }
@@ -163,24 +162,24 @@ fn are_fed(stays: &[bool], fed: &[bool]) -> bool
 /// Whether the guess is found to be right.
 pub(crate) fn are_layers(
     alloc: Global,
-    shared: u32,
-    blocks: u16,
-    holdings: &[Holding],
-    emptied: Cell,
+    vertices: u32,
+    handles: &[Holding],
+    knots: &[usize],
+    weakening: Weakening,
     layers: &Layers,
 ) -> Result<bool, AllocError>
-    requires { All (IsAmong blocks) holdings.now }
-    ensures size { IfOk result (λ are. IsTrue are → length layers.now.stays.items ≡ blocks + 1) }
-    ensures ends { IfOk result (λ are. IsTrue are → (b : ℕ) → b ≤ blocks
-        → marked layers.now.stays.items b ≡ false ↔ EndsWithOwners shared (without_cell emptied holdings.now) b) }
+    requires { All (IsAmong vertices) handles.now }
+    ensures size { IfOk result (λ are. IsTrue are → length layers.now.stays.items ≡ vertices + 1) }
+    ensures ends { IfOk result (λ are. IsTrue are → (b : ℕ) → b ≤ vertices
+        → marked layers.now.stays.items b ≡ false ↔ EndsWithOwners (without (is_weakened knots.now weakening) handles.now) b) }
 {
-    if !are_marks(blocks, layers) {
+    if !are_marks(vertices, layers) {
         return Ok(false);
     }
-    if !end_later(shared, holdings, emptied, layers) {
+    if !end_later(handles, knots, weakening, layers) {
         return Ok(false);
     }
     let stays = layers.stays.as_slice();
-    let fed = fed_by(alloc, shared, holdings, emptied, stays)?;
+    let fed = fed_by(alloc, handles, knots, weakening, stays)?;
     Ok(are_fed(stays, fed.as_slice()))
 }

@@ -3,8 +3,7 @@
 ghost use Rattle.std.specs.Prelude.{◌≡◌};
 ghost use Rattle.owner_graph.specs.Labels.{at};
 
-use crate::edges::{is_owner, source};
-use crate::holding::Holding;
+use crate::holding::{Holding, as_index};
 use std::alloc::{AllocError, Global};
 
 /// The number at a place of a list; 0 past its end.
@@ -26,25 +25,25 @@ pub(crate) fn zeros(alloc: Global, count: usize) -> Result<Vec<usize>, AllocErro
     Ok(vec![in alloc; 0; count]?)
 }
 
-/// What is on a block, by its place in the block's row, if there are so many.
-fn holding_at(rows: &[Vec<Holding>], block: usize, index: usize) -> Option<Holding> {
-    if block < rows.len() && index < rows[block].len() {
-        Some(rows[block][index])
+/// What is on a vertex, by its place in the vertex's row, if there are so many.
+pub(crate) fn holding_at(rows: &[Vec<Holding>], vertex: usize, index: usize) -> Option<Holding> {
+    if vertex < rows.len() && index < rows[vertex].len() {
+        Some(rows[vertex][index])
     } else {
         None
     }
 }
 
-/// Of each block the rank of its knot, from 1, and of each rank the least block; no rank falls from an owner's block to
-/// the one that it is on.
+/// Of each vertex the rank of its knot, from 1, and of each rank the least vertex; no rank falls from an owner's
+/// vertex to the one that it is on.
 #[derive(Drop)]
 pub(crate) struct Guess {
     pub(crate) ranks: Vec<usize>,
     pub(crate) firsts: Vec<usize>,
 }
 
-/// A search: when each block was found, from 1, the earliest still open block that it leads back to, how many of the
-/// handles on it were followed, the blocks on the way to where the search is, and those whose knot isn't known.
+/// A search: when each vertex was found, from 1, the earliest still open vertex that it leads back to, how many of the
+/// handles on it were followed, the vertices on the way to where the search is, and those whose knot isn't known.
 #[derive(Drop)]
 struct Search {
     places: Vec<usize>,
@@ -78,45 +77,45 @@ impl Search {
         })
     }
 
-    /// Goes on at a block that wasn't found yet.
-    fn enter(&mut self, block: usize) -> Result<(), AllocError> {
-        self.path.push(block)?;
-        self.open.push(block)?;
+    /// Goes on at a vertex that wasn't found yet.
+    fn enter(&mut self, vertex: usize) -> Result<(), AllocError> {
+        self.path.push(vertex)?;
+        self.open.push(vertex)?;
         self.found = self.found.saturating_add(1);
-        put_at(&mut self.places, block, self.found);
-        put_at(&mut self.lows, block, self.found);
+        put_at(&mut self.places, vertex, self.found);
+        put_at(&mut self.lows, vertex, self.found);
         Ok(())
     }
 
-    /// A block leads back to one that was found at this place.
-    fn lower(&mut self, block: usize, place: usize) {
-        if place < at(self.lows.as_slice(), block) {
-            put_at(&mut self.lows, block, place);
+    /// A vertex leads back to one that was found at this place.
+    fn lower(&mut self, vertex: usize, place: usize) {
+        if place < at(self.lows.as_slice(), vertex) {
+            put_at(&mut self.lows, vertex, place);
         }
     }
 
-    /// Follows an owner of a block back to where it is.
-    fn follow(&mut self, block: usize, owner: usize) -> Result<(), AllocError> {
+    /// Follows an owner of a vertex back to where it is.
+    fn follow(&mut self, vertex: usize, owner: usize) -> Result<(), AllocError> {
         let place = at(self.places.as_slice(), owner);
         if place == 0 {
             return self.enter(owner);
         }
         if at(self.guess.ranks.as_slice(), owner) == 0 {
-            self.lower(block, place);
+            self.lower(vertex, place);
         }
         Ok(())
     }
 
-    /// What is open since a block was found is its knot.
-    fn close(&mut self, block: usize) -> Result<(), AllocError> {
+    /// What is open since a vertex was found is its knot.
+    fn close(&mut self, vertex: usize) -> Result<(), AllocError> {
         let rank = self.guess.firsts.len();
-        let mut first = block;
+        let mut first = vertex;
         while let Some(member) = self.open.pop() {
             put_at(&mut self.guess.ranks, member, rank);
             if member < first {
                 first = member;
             }
-            if member == block {
+            if member == vertex {
                 break;
             }
         }
@@ -124,12 +123,12 @@ impl Search {
         Ok(())
     }
 
-    /// Goes back from a block, all of whose owners were followed.
-    fn leave(&mut self, block: usize) -> Result<(), AllocError> {
+    /// Goes back from a vertex, all of whose owners were followed.
+    fn leave(&mut self, vertex: usize) -> Result<(), AllocError> {
         let _ = self.path.pop();
-        let low = at(self.lows.as_slice(), block);
-        if low == at(self.places.as_slice(), block) {
-            self.close(block)?;
+        let low = at(self.lows.as_slice(), vertex);
+        if low == at(self.places.as_slice(), vertex) {
+            self.close(vertex)?;
         }
         if let Some(before) = self.path.last() {
             let before = *before;
@@ -138,56 +137,49 @@ impl Search {
         Ok(())
     }
 
-    /// Follows the next owner of a block, or goes back.
-    fn step(&mut self, shared: u32, rows: &[Vec<Holding>], block: usize) -> Result<(), AllocError> {
-        let index = at(self.followed.as_slice(), block);
-        put_at(&mut self.followed, block, index.saturating_add(1));
-        let Some(holding) = holding_at(rows, block, index) else {
-            return self.leave(block);
+    /// Follows the next owner of a vertex, or goes back.
+    fn step(&mut self, rows: &[Vec<Holding>], vertex: usize) -> Result<(), AllocError> {
+        let index = at(self.followed.as_slice(), vertex);
+        put_at(&mut self.followed, vertex, index.saturating_add(1));
+        let Some(handle) = holding_at(rows, vertex, index) else {
+            return self.leave(vertex);
         };
-        let owner = source(holding.cell);
-        if owner > 0 && is_owner(shared, holding.cell) {
-            self.follow(block, owner)?;
+        let owner = as_index(handle.from);
+        if owner > 0 && handle.is_owner {
+            self.follow(vertex, owner)?;
         }
         Ok(())
     }
 
-    /// Goes on from a block until all that lead to it are found. It takes so many steps at most.
-    fn run(
-        &mut self,
-        shared: u32,
-        rows: &[Vec<Holding>],
-        block: usize,
-        most: usize,
-    ) -> Result<(), AllocError> {
-        if at(self.places.as_slice(), block) > 0 {
+    /// Goes on from a vertex until all that lead to it are found. It takes so many steps at most.
+    fn run(&mut self, rows: &[Vec<Holding>], vertex: usize, most: usize) -> Result<(), AllocError> {
+        if at(self.places.as_slice(), vertex) > 0 {
             return Ok(());
         }
-        self.enter(block)?;
+        self.enter(vertex)?;
         for _step in 0..most {
             let Some(last) = self.path.last() else {
                 return Ok(());
             };
             let last = *last;
-            self.step(shared, rows, last)?;
+            self.step(rows, last)?;
         }
         Ok(())
     }
 }
 
-/// A guess at the knots, where so many handles are on so many blocks.
+/// A guess at the knots, where so many handles are on so many vertices.
 pub(crate) fn guessed(
     alloc: Global,
-    shared: u32,
-    blocks: u16,
+    vertices: u32,
     handles: usize,
     rows: &[Vec<Holding>],
 ) -> Result<Guess, AllocError> {
-    let size = usize::from(blocks) + 1;
+    let size = as_index(vertices) + 1;
     let most = handles.saturating_add(size);
     let mut search = Search::new(alloc, size)?;
-    for before in 0..blocks {
-        search.run(shared, rows, usize::from(before) + 1, most)?;
+    for before in 0..vertices {
+        search.run(rows, as_index(before) + 1, most)?;
     }
     Ok(search.guess)
 }

@@ -1,17 +1,16 @@
-//! Owners by the blocks where they are and that they are on. Nothing is known of it: it serves guesses.
-use crate::edges::source;
+//! Owners by the vertices where they are and that they are on. Nothing is known of it: it serves guesses.
 use crate::guesses::search::{at, put_at, zeros};
-use crate::holding::Holding;
+use crate::holding::{Holding, as_index};
 use std::alloc::{AllocError, Global};
 
-/// Of each block a first owner, and of each owner the next one, by places in a list from 1 on; 0 is none.
+/// Of each vertex a first owner, and of each owner the next one, by places in a list from 1 on; 0 is none.
 #[derive(Drop)]
 struct Chains {
     first: Vec<usize>,
     next: Vec<usize>,
 }
 
-/// Chains of the owners in each block, and of those on each.
+/// Chains of the owners in each vertex, and of those on each.
 #[derive(Drop)]
 pub(crate) struct Web {
     within: Chains,
@@ -19,26 +18,26 @@ pub(crate) struct Web {
 }
 
 /// The handle at a place, from 1 on, if there is one.
-pub(crate) fn handle_at(holdings: &[Holding], place: usize) -> Option<Holding> {
-    if place > 0 && place <= holdings.len() {
-        Some(holdings[place - 1])
+pub(crate) fn handle_at(handles: &[Holding], place: usize) -> Option<Holding> {
+    if place > 0 && place <= handles.len() {
+        Some(handles[place - 1])
     } else {
         None
     }
 }
 
-/// The block where the handle at a place is; 0 where there is none.
-pub(crate) fn source_at(holdings: &[Holding], place: usize) -> usize {
-    match handle_at(holdings, place) {
-        Some(holding) => source(holding.cell),
+/// The vertex where the handle at a place is; 0 where there is none.
+pub(crate) fn source_at(handles: &[Holding], place: usize) -> usize {
+    match handle_at(handles, place) {
+        Some(handle) => as_index(handle.from),
         None => 0,
     }
 }
 
-/// The block that the handle at a place is on; 0 where there is none.
-pub(crate) fn target_at(holdings: &[Holding], place: usize) -> usize {
-    match handle_at(holdings, place) {
-        Some(holding) => usize::from(holding.block.0),
+/// The vertex that the handle at a place is on; 0 where there is none.
+pub(crate) fn target_at(handles: &[Holding], place: usize) -> usize {
+    match handle_at(handles, place) {
+        Some(handle) => as_index(handle.to),
         None => 0,
     }
 }
@@ -51,18 +50,18 @@ impl Chains {
         })
     }
 
-    /// Adds the owner at a place, as the first one of a block.
-    fn add(&mut self, block: usize, place: usize) {
-        let next = at(self.first.as_slice(), block);
+    /// Adds the owner at a place, as the first one of a vertex.
+    fn add(&mut self, vertex: usize, place: usize) {
+        let next = at(self.first.as_slice(), vertex);
         put_at(&mut self.next, place, next);
-        put_at(&mut self.first, block, place);
+        put_at(&mut self.first, vertex, place);
     }
 }
 
 impl Web {
-    /// No owner, between so many blocks.
-    pub(crate) fn new(alloc: Global, blocks: u16, handles: usize) -> Result<Web, AllocError> {
-        let size = usize::from(blocks) + 1;
+    /// No owner, between so many vertices.
+    pub(crate) fn new(alloc: Global, vertices: u32, handles: usize) -> Result<Web, AllocError> {
+        let size = as_index(vertices) + 1;
         let places = handles.saturating_add(1);
         Ok(Web {
             within: Chains::new(alloc, size, places)?,
@@ -71,14 +70,14 @@ impl Web {
     }
 
     /// Adds the owner at a place.
-    pub(crate) fn add(&mut self, holdings: &[Holding], place: usize) {
-        self.within.add(source_at(holdings, place), place);
-        self.onto.add(target_at(holdings, place), place);
+    pub(crate) fn add(&mut self, handles: &[Holding], place: usize) {
+        self.within.add(source_at(handles, place), place);
+        self.onto.add(target_at(handles, place), place);
     }
 
-    /// The first owner in a block.
-    pub(crate) fn first_in(&self, block: usize) -> usize {
-        at(self.within.first.as_slice(), block)
+    /// The first owner in a vertex.
+    pub(crate) fn first_in(&self, vertex: usize) -> usize {
+        at(self.within.first.as_slice(), vertex)
     }
 
     /// The one after it.
@@ -86,9 +85,9 @@ impl Web {
         at(self.within.next.as_slice(), place)
     }
 
-    /// The first owner on a block.
-    pub(crate) fn first_on(&self, block: usize) -> usize {
-        at(self.onto.first.as_slice(), block)
+    /// The first owner on a vertex.
+    pub(crate) fn first_on(&self, vertex: usize) -> usize {
+        at(self.onto.first.as_slice(), vertex)
     }
 
     /// The one after it.

@@ -3,15 +3,22 @@ use Rattle.std.specs.List.{flat_map}
 use Rattle.control_word.proofs.history.Kept.{cells_led}
 use Rattle.step_table.specs.Openings.{opening}
 use Rattle.step_table.specs.Stories.{story_state}
+use Rattle.step_table.proofs.contained.Told.{shared_is}
 use Rattle.step_threads.specs.Stocks.{from}
 use Rattle.owner_graph.specs.declared.holding.Holding.{Holding}
 use Rattle.holders.specs.Holdings.{AllCounted, all_held, held_by_block, held_by_free}
 use Rattle.holders.proofs.Counting.{counted}
 use Rattle.holders.proofs.held.holdings.Goals as goal
 
-pub add_free-requires : goal.add_free-requires
-add_free-requires c =
+pub add_free-requires-clause-shared : goal.add_free-requires-clause-shared
+add_free-requires-clause-shared c = c.requires.shared ∙ sym (shared_is c.args.world.now.story)
+
+pub add_free-requires-clause-cells : goal.add_free-requires-clause-cells
+add_free-requires-clause-cells c =
     let v = c.args.world.now.story in c.requires.cells ∙ sym (cells_led (opening v.extent) v.history)
+
+pub add_blocks-requires-clause-shared : goal.add_blocks-requires-clause-shared
+add_blocks-requires-clause-shared c = c.requires.shared ∙ sym (shared_is c.args.world.now.story)
 
 pub returns-clause-held : goal.returns-clause-held
 returns-clause-held c =
@@ -27,6 +34,6 @@ returns-clause-held c =
 pub returns-clause-counted : goal.returns-clause-counted
 returns-clause-counted c =
     let v = c.args.world.now.story in
-    subst (AllCounted v.extent.shape.shared_cells c.args.blocks (story_state v)) (sym (returns-clause-held c))
-    (subst (λ (n : ℕ). AllCounted v.extent.shape.shared_cells n (story_state v) (all_held (story_state v) n)) (sym c.requires.blocks)
+    subst (AllCounted c.args.blocks (story_state v)) (sym (returns-clause-held c))
+    (subst (λ (n : ℕ). AllCounted n (story_state v) (all_held (story_state v) n)) (sym c.requires.blocks)
     (counted v c.known_at_end.ensures.kept c.known_at_end.ensures.hands))

@@ -5,13 +5,13 @@ use Rattle.owner_graph.specs.Owners.{IsAmong}
 use Rattle.leak_report.proofs.Drawing.{moved_among, rows_tell}
 use Rattle.leak_report.proofs.cutting.by_source.Goals as goal
 
-pub by_block-requires : goal.by_block-requires
-by_block-requires c =
+pub by_vertex-requires : goal.by_vertex-requires
+by_vertex-requires c =
     subst (All (IsAmong c.args.blocks)) (sym (c.as_slice.ensures.value ∙ c.in_ok-moved.ensures))
     (moved_among c.args.blocks c.args.holdings.now c.requires)
 
 pub returns : goal.returns
 returns c =
-    IfOk-weaker c.by_block.result _ _
+    IfOk-weaker c.by_vertex.result _ _
     (λ rows tells. rows_tell rows.items c.as_slice.result.now c.args.holdings.now tells (c.as_slice.ensures.value ∙ c.in_ok-moved.ensures))
-    c.by_block.ensures.rows
+    c.by_vertex.ensures.rows

@@ -3,4 +3,4 @@ use Rattle.leak_report.proofs.finding.marks_of.Goals as goal
 
 pub unreachable-requires : goal.unreachable-requires
 unreachable-requires c =
-    c.in-Err-Outside.ensures.outside c.in-Err-Outside.field-0-is (among_within c.args.shared c.args.blocks c.args.holdings.now c.requires)
+    c.in-Err-Outside.ensures.outside c.in-Err-Outside.field-0-is (among_within c.args.blocks c.args.holdings.now c.requires)

@@ -1,13 +1,12 @@
 use Rattle.std.proofs.Common.{◌∙◌, ◌++◌, ◌∷◌, [], ℕ, List, ap, append_assoc, codes, sym}
 use Rattle.std.specs.Prelude.{string_bytes}
-use Rattle.step_table.specs.declared.cell_steps.cell_deed.Cell.TheVariants.{Free}
-use Rattle.leak_report.specs.Cells.{block_cell_text}
+use Rattle.leak_report.specs.Cells.{free_cell_text}
 use Rattle.leak_report.proofs.graph.put_box.Goals as goal
 
 pub returns : goal.returns
 returns c =
     let old = string_bytes c.args.text.now in
-    let cell = block_cell_text c.args.shared (Free c.args.number) in
+    let cell = free_cell_text c.args.shared c.args.number in
     c.in_ok-writeln.ensures.bytes
     ∙ ap (λ (t : List ℕ). t ++ codes " [shape=box];\n") c.in_ok-put_free.ensures
     ∙ append_assoc old cell (codes " [shape=box];\n")

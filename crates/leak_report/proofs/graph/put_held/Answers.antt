@@ -11,8 +11,8 @@ returns c =
     let found = c.args.found.now in
     held_then c.args.shared (findings found.kept.items found.circles.knots.items found.circles.cuts.items) c.args.held c.style_word-style.result.now
     c.tie_word-color.result.now (string_bytes c.args.text.now) (string_bytes c.put_edge.new.text)
-    (c.style_word-style.ensures ∙ ap₂ style_text c.is_owner.ensures (c.is_listed_in.ensures ∙ c.requires c.args.held.cell))
+    (c.style_word-style.ensures ∙ ap (style_text c.args.held.is_owner) (c.is_listed_in.ensures ∙ c.requires c.args.held))
     (c.tie_word-color.ensures
     ∙ ap tie_text (c.is_tie.ensures
-    ∙ ap₂ (λ (k : List Bool) (n : List ℕ). is_tie c.args.shared k n c.args.held) c.as_slice-kept.ensures.value c.as_slice.ensures.value))
+    ∙ ap₂ (λ (k : List Bool) (n : List ℕ). is_tie k n c.args.held) c.as_slice-kept.ensures.value c.as_slice.ensures.value))
     c.in_ok-put_edge.ensures

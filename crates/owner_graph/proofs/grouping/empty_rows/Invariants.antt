@@ -2,5 +2,5 @@ use Rattle.std.proofs.Common.{◌≡◌, ℕ, [], length}
 use Rattle.owner_graph.specs.Rows.{row_at}
 use Rattle.owner_graph.proofs.grouping.empty_rows.Given as goal
 
-abbrev pub invariant-loop-block : goal.invariant-loop-block
-invariant-loop-block l = (length l.rows.items ≡ l._block) × ((v : ℕ) → row_at l.rows.items v ≡ [])
+abbrev pub invariant-loop-vertex : goal.invariant-loop-vertex
+invariant-loop-vertex l = (length l.rows.items ≡ l._vertex) × ((v : ℕ) → row_at l.rows.items v ≡ [])

@@ -3,9 +3,9 @@ use Rattle.owner_graph.specs.Labels.{at}
 use Rattle.owner_graph.proofs.Stepping.{at_pushed}
 use Rattle.owner_graph.proofs.labels.labels_of.Goals as goal
 
-pub loop-block-preserved : goal.loop-block-preserved
-loop-block-preserved c =
-    at_pushed (λ k x. x ≡ at c.args.guess.now.firsts.items (at c.args.guess.now.ranks.items k)) c.loop-block.labels.items c.push.new.self.items
-    c.at.result c.loop-block.block c.in_ok-push.ensures.items c.loop-block.invariant.0 c.loop-block.invariant.1
-    (c.at.ensures ∙ ap (λ (l : List ℕ). at l c.at-rank.result) c.as_slice-in-loop-block.ensures.value
-    ∙ ap (λ (r : ℕ). at c.args.guess.now.firsts.items r) (c.at-rank.ensures ∙ ap (λ (l : List ℕ). at l c.loop-block.block) c.as_slice.ensures.value))
+pub loop-vertex-preserved : goal.loop-vertex-preserved
+loop-vertex-preserved c =
+    at_pushed (λ k x. x ≡ at c.args.guess.now.firsts.items (at c.args.guess.now.ranks.items k)) c.loop-vertex.labels.items c.push.new.self.items
+    c.at.result c.loop-vertex.vertex c.in_ok-push.ensures.items c.loop-vertex.invariant.0 c.loop-vertex.invariant.1
+    (c.at.ensures ∙ ap (λ (l : List ℕ). at l c.at-rank.result) c.as_slice-in-loop-vertex.ensures.value
+    ∙ ap (λ (r : ℕ). at c.args.guess.now.firsts.items r) (c.at-rank.ensures ∙ ap (λ (l : List ℕ). at l c.loop-vertex.vertex) c.as_slice.ensures.value))

@@ -2,5 +2,5 @@ use Rattle.std.proofs.Common.{◌≡◌, ◌≢◌, ◌<◌, ℕ, true}
 use Rattle.owner_graph.specs.Fed.{marked}
 use Rattle.owner_graph.proofs.guesses.layers.are_fed.Given as goal
 
-abbrev pub invariant-loop-block : goal.invariant-loop-block
-invariant-loop-block l = (b : ℕ) → b < l.block → b ≢ 0 → marked l.stays b ≡ true → marked l.fed b ≡ true
+abbrev pub invariant-loop-vertex : goal.invariant-loop-vertex
+invariant-loop-vertex l = (b : ℕ) → b < l.vertex → b ≢ 0 → marked l.stays b ≡ true → marked l.fed b ≡ true

@@ -2,5 +2,5 @@ use Rattle.std.proofs.Common.{◌<◌, ℕ}
 use Rattle.owner_graph.specs.Plans.{IsBounded}
 use Rattle.owner_graph.proofs.looks.checking.are_bounded.Given as goal
 
-abbrev pub invariant-loop-block : goal.invariant-loop-block
-invariant-loop-block l = (b : ℕ) → b < l.block → IsBounded l.knots l.plan b
+abbrev pub invariant-loop-vertex : goal.invariant-loop-vertex
+invariant-loop-vertex l = (b : ℕ) → b < l.vertex → IsBounded l.knots l.plan b

@@ -1,0 +1,176 @@
+//! A guess whether one knot ends where some owners are weak, by a walk back along the others. Nothing is known of it:
+//! it is looked at before it is believed.
+use crate::guesses::knotting::mark_at;
+use crate::guesses::search::{at, holding_at, put_at, zeros};
+use crate::holding::{Holding, as_index};
+use crate::index::Index;
+use crate::tying::marked;
+use crate::weakening::{Weakening, is_weakened};
+use std::alloc::{AllocError, Global};
+
+/// The rank of a vertex on the way to where a walk is; 0 is that of one where it wasn't yet.
+const ON_THE_WAY: usize = 1;
+
+/// A walk: of each vertex a rank, which is greater than those of the vertices that its owners are in, how many of the
+/// handles on it were followed, and whether it is found to stay; the vertices on the way to where the walk is, the next
+/// rank, and a vertex that stays, or 0.
+#[derive(Drop)]
+pub(crate) struct Walk {
+    pub(crate) ranks: Vec<usize>,
+    followed: Vec<usize>,
+    pub(crate) stuck: Vec<bool>,
+    path: Vec<usize>,
+    next: usize,
+    pub(crate) witness: usize,
+}
+
+/// What a walk is in: a knot, by its least vertex, and which owners are weak.
+#[derive(Clone, Copy, Drop)]
+pub(crate) struct Knot {
+    pub(crate) least: u32,
+    pub(crate) weakening: Weakening,
+}
+
+impl Walk {
+    pub(crate) fn new(alloc: Global, vertices: u32) -> Result<Walk, AllocError> {
+        let size = as_index(vertices) + 1;
+        Ok(Walk {
+            ranks: zeros(alloc, size)?,
+            followed: zeros(alloc, size)?,
+            stuck: vec![in alloc; false; size]?,
+            path: Vec::new(alloc),
+            next: ON_THE_WAY,
+            witness: 0,
+        })
+    }
+
+    /// Forgets the walks that were in a knot.
+    fn clear(&mut self, members: &[Holding]) {
+        for member in members {
+            let vertex = as_index(member.from);
+            put_at(&mut self.ranks, vertex, 0);
+            put_at(&mut self.followed, vertex, 0);
+            if vertex < self.stuck.len() {
+                self.stuck[vertex] = false;
+            }
+        }
+        self.path.clear();
+        self.next = ON_THE_WAY;
+        self.witness = 0;
+    }
+
+    /// Goes on at a vertex.
+    fn enter(&mut self, vertex: usize) -> Result<(), AllocError> {
+        put_at(&mut self.ranks, vertex, ON_THE_WAY);
+        self.path.push(vertex)?;
+        Ok(())
+    }
+
+    /// Goes back from a vertex, all of whose owners were followed.
+    fn leave(&mut self, vertex: usize) {
+        let _ = self.path.pop();
+        self.next = self.next.saturating_add(1);
+        put_at(&mut self.ranks, vertex, self.next);
+    }
+
+    /// A vertex stays, and so do those on the way since another one.
+    fn close(&mut self, vertex: usize, first: usize) {
+        self.witness = vertex;
+        mark_at(&mut self.stuck, vertex);
+        for _vertex in 0..self.path.len() {
+            let Some(last) = self.path.pop() else {
+                break;
+            };
+            mark_at(&mut self.stuck, last);
+            if last == first {
+                break;
+            }
+        }
+        self.path.clear();
+    }
+
+    /// Follows an owner of a vertex back to where it is.
+    fn follow(
+        &mut self,
+        index: &Index,
+        knots: &[usize],
+        knot: Knot,
+        vertex: usize,
+        owner: usize,
+    ) -> Result<(), AllocError> {
+        if owner == 0 || at(knots, owner) != as_index(knot.least) {
+            if owner == 0 || marked(index.stays.as_slice(), owner) {
+                self.close(vertex, vertex);
+            }
+            return Ok(());
+        }
+        match at(self.ranks.as_slice(), owner) {
+            0 => self.enter(owner),
+            ON_THE_WAY => {
+                self.close(vertex, owner);
+                Ok(())
+            }
+            _ => Ok(()),
+        }
+    }
+
+    /// Follows the next owner of a vertex, or goes back.
+    fn step(
+        &mut self,
+        index: &Index,
+        knots: &[usize],
+        knot: Knot,
+        vertex: usize,
+    ) -> Result<(), AllocError> {
+        let place = at(self.followed.as_slice(), vertex);
+        put_at(&mut self.followed, vertex, place.saturating_add(1));
+        let Some(handle) = holding_at(index.rows.as_slice(), vertex, place) else {
+            self.leave(vertex);
+            return Ok(());
+        };
+        if handle.is_owner && !is_weakened(knots, knot.weakening, handle) {
+            self.follow(index, knots, knot, vertex, as_index(handle.from))?;
+        }
+        Ok(())
+    }
+
+    /// Walks back from a vertex, until all that leads to it is ranked, or a vertex stays.
+    fn walk_from(
+        &mut self,
+        index: &Index,
+        knots: &[usize],
+        knot: Knot,
+        vertex: usize,
+    ) -> Result<(), AllocError> {
+        if at(self.ranks.as_slice(), vertex) > 0 {
+            return Ok(());
+        }
+        self.enter(vertex)?;
+        for _step in 0..usize::MAX {
+            let Some(last) = self.path.last() else {
+                break;
+            };
+            let last = *last;
+            self.step(index, knots, knot, last)?;
+        }
+        Ok(())
+    }
+
+    /// Walks through a knot.
+    pub(crate) fn run(
+        &mut self,
+        index: &Index,
+        knots: &[usize],
+        knot: Knot,
+        members: &[Holding],
+    ) -> Result<(), AllocError> {
+        self.clear(members);
+        for member in members {
+            if self.witness > 0 {
+                break;
+            }
+            self.walk_from(index, knots, knot, as_index(member.from))?;
+        }
+        Ok(())
+    }
+}
