@@ -2,7 +2,7 @@
 ghost use Rattle.std.specs.Prelude.{◌≡◌, ◌∷◌, ◌++◌, ◌+◌, ◌<◌, ◌≤◌, ℕ, []};
 ghost use Rattle.std.specs.Prelude.{All, IfOk, OnOk};
 ghost use Rattle.std.specs.Prelude.{length, nat_lt, string_bytes};
-ghost use Rattle.std.specs.Prelude.{true};
+ghost use Rattle.std.specs.Prelude.{false, slice_index_or, true};
 ghost use Rattle.std.specs.List.{flat_map};
 ghost use Rattle.script_text.specs.Canonical.{AddsLines};
 ghost use Rattle.step_core.specs.Totals.{IsAtEnd};
@@ -78,6 +78,19 @@ fn is_tied(circles: &Circles, block: usize) -> bool
     least < rows.len() && !rows[least].as_slice().is_empty()
 }
 
+/// The color of a block, by what was found.
+pub(crate) fn color_of(found: &Found, number: u16) -> &'static str
+    requires kept { number + 1 ≤ length found.now.kept.items }
+    requires knots { number + 1 ≤ length found.now.circles.knots.items }
+    requires ties { (block : ℕ) → row_at found.now.circles.tie_rows.items block
+        ≡ held_on found.now.circles.ties.items block }
+    ensures { result.now ≡ color_text (slice_index_or found.now.kept.items number false)
+        (is_tied (held_on found.now.circles.ties.items (at found.now.circles.knots.items number))) }
+{
+    let index = usize::from(number);
+    color_word(found.kept[index], is_tied(&found.circles, index))
+}
+
 /// Adds the node of a block, where it isn't vacant.
 fn put_block(world: &World, number: u16, found: &Found, text: &mut String) -> Result<(), AllocError>
     requires end { IsAtEnd world.now }
@@ -92,8 +105,7 @@ fn put_block(world: &World, number: u16, found: &Found, text: &mut String) -> Re
     let Some(fields) = world.fields(Block(number)) else {
         return Ok(());
     };
-    let index = usize::from(number);
-    let color = color_word(found.kept[index], is_tied(&found.circles, index));
+    let color = color_of(found, number);
     put_node(text, number, &fields, color)?;
     Ok(())
 }
