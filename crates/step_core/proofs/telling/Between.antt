@@ -19,7 +19,7 @@ use Rattle.control_word.specs.Histories.{leads}
 use Rattle.control_word.specs.Layout.{spot}
 use Rattle.control_word.specs.Packing.{number_of}
 use Rattle.control_word.specs.State.{InShape, Opening, Phase, State, common, count, ending, gone, live, unmade, weak, weak_number}
-use Rattle.control_word.specs.Views.{Stands, added, adds, owed, owes, paid, pays, used_up}
+use Rattle.control_word.specs.Views.{Stands, added, adds, owed, owes, paid, pays}
 use Rattle.control_word.specs.Words.{bank, block_words}
 use Rattle.control_word.specs.declared.model.event.Entry.{Entry}
 use Rattle.control_word.specs.declared.model.handle.Kind.TheVariants.{Owner, Weak}
@@ -36,12 +36,12 @@ use Rattle.step_threads.specs.declared.thread.Thread.{Thread}
 use Rattle.step_threads.specs.Actors.{HalfFits}
 use Rattle.step_threads.specs.Courses.{Walk, task_at}
 use Rattle.step_threads.specs.Endings.{IsEndingAtStage, endings_in_block}
-use Rattle.step_threads.specs.Scenes.{nowhere, walk_of}
+use Rattle.step_threads.specs.Scenes.{nowhere}
 use Rattle.step_threads.proofs.holding.Ends.{one_more}
 use Rattle.step_core.specs.Showing.{HasNoneBegun, counts_by, ends_in, is_ending_in}
 use Rattle.step_core.specs.Told.{TotalsAreTold, sight}
 use Rattle.step_core.specs.Totals.{census_of}
-use Rattle.step_core.specs.Worlds.{AllFit, Sight, half_of, scene, thread_half, thread_walk}
+use Rattle.step_core.specs.Worlds.{AllFit, Sight, half_of, thread_walk}
 use Rattle.step_core.proofs.Worlds.{thread_at}
 use Rattle.step_core.proofs.telling.Census.{at_thread, at_view, half_at}
 

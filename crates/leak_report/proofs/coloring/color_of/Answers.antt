@@ -4,7 +4,7 @@ use Rattle.owner_graph.specs.Labels.{at}
 use Rattle.owner_graph.specs.Rows.{row_at}
 use Rattle.leak_report.specs.Graph.{color_text, is_tied}
 use Rattle.leak_report.proofs.Telling.{mark_is}
-use Rattle.leak_report.proofs.graph.color_of.Goals as goal
+use Rattle.leak_report.proofs.coloring.color_of.Goals as goal
 
 pub returns : goal.returns
 returns c =
