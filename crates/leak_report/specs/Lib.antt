@@ -1,5 +1,6 @@
 pub mod Cells
 pub mod Circles
+pub mod Coloring
 pub mod Findings
 pub mod Graph
 pub mod Left

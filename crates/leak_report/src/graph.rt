@@ -1,27 +1,25 @@
 //! What is left at a run's end as a graph for Graphviz.
 ghost use Rattle.std.specs.Prelude.{◌≡◌, ◌∷◌, ◌++◌, ◌+◌, ◌<◌, ◌≤◌, ℕ, []};
 ghost use Rattle.std.specs.Prelude.{All, IfOk, OnOk};
-ghost use Rattle.std.specs.Prelude.{length, nat_lt, string_bytes};
-ghost use Rattle.std.specs.Prelude.{true};
+ghost use Rattle.std.specs.Prelude.{length, string_bytes, true};
 ghost use Rattle.std.specs.List.{flat_map};
 ghost use Rattle.script_text.specs.Canonical.{AddsLines};
 ghost use Rattle.step_core.specs.Totals.{IsAtEnd};
 ghost use Rattle.step_core.specs.Worlds.{scene};
 ghost use Rattle.owner_graph.specs.declared.holding.Holding.{Holding};
 ghost use Rattle.step_threads.specs.Scenes.{state_in};
-ghost use Rattle.owner_graph.specs.Labels.{at};
 ghost use Rattle.owner_graph.specs.Owners.{IsAmong};
 ghost use Rattle.owner_graph.specs.Rows.{held_on, row_at};
 ghost use Rattle.holders.specs.Holdings.{AllCounted};
 ghost use Rattle.leak_report.specs.Findings.{findings, held_at, ties_at};
-ghost use Rattle.leak_report.specs.Graph.{all_nodes, color_text, edge_by, edge_lines, free_lines};
-ghost use Rattle.leak_report.specs.Graph.{box_text, fields_text, free_text, head_lines, is_listed, is_tied};
+ghost use Rattle.leak_report.specs.Graph.{all_nodes, edge_by, edge_lines, free_lines};
+ghost use Rattle.leak_report.specs.Graph.{box_text, fields_text, free_text, head_lines, is_listed};
 ghost use Rattle.leak_report.specs.Graph.{member_lines, node_lines, node_text, style_text, tie_text};
 ghost use Rattle.leak_report.specs.Left.{AreFound, TellsOf};
 
+use crate::coloring::color_of;
 use crate::cutting::{by_source, is_listed_in};
 use crate::finding::{Found, leaks};
-use crate::knotting::Circles;
 use crate::lines::{member_word, put_free};
 use crate::listing::Left;
 use control_word::Block;
@@ -31,19 +29,6 @@ use script_stepper::End;
 use std::alloc::{AllocError, Global};
 use std::fmt::Write;
 use step_core::World;
-
-/// The color of a block: whether it is kept, and else whether something ties its knot.
-fn color_word(is_kept: bool, is_tied: bool) -> &'static str
-    ensures { result.now ≡ color_text is_kept is_tied }
-{
-    if is_kept {
-        "white"
-    } else if is_tied {
-        "orange"
-    } else {
-        "lightgrey"
-    }
-}
 
 /// Adds the fields of an object, with a space between.
 fn put_fields(text: &mut String, fields: &[u64; 4]) -> Result<(), AllocError>
@@ -68,16 +53,6 @@ fn put_node(text: &mut String, block: u16, fields: &[u64; 4], color: &str) -> Re
     Ok(())
 }
 
-/// Whether something ties the knot of a block.
-fn is_tied(circles: &Circles, block: usize) -> bool
-    requires { block < length circles.now.knots.items }
-    ensures { result ≡ is_tied (row_at circles.now.tie_rows.items (at circles.now.knots.items block)) }
-{
-    let least = circles.knots[block];
-    let rows = circles.tie_rows.as_slice();
-    least < rows.len() && !rows[least].as_slice().is_empty()
-}
-
 /// Adds the node of a block, where it isn't vacant.
 fn put_block(world: &World, number: u16, found: &Found, text: &mut String) -> Result<(), AllocError>
     requires end { IsAtEnd world.now }
@@ -92,8 +67,7 @@ fn put_block(world: &World, number: u16, found: &Found, text: &mut String) -> Re
     let Some(fields) = world.fields(Block(number)) else {
         return Ok(());
     };
-    let index = usize::from(number);
-    let color = color_word(found.kept[index], is_tied(&found.circles, index));
+    let color = color_of(found, number);
     put_node(text, number, &fields, color)?;
     Ok(())
 }

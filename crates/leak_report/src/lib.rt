@@ -3,6 +3,7 @@
 
 mod answering;
 mod circles;
+mod coloring;
 mod cutting;
 mod finding;
 mod graph;
@@ -11,3 +12,4 @@ mod lines;
 mod listing;
 
 pub use answering::left_text;
+pub use coloring::{Colored, colors};

@@ -12,7 +12,7 @@ use Rattle.script_text.specs.Traces.{in_order}
 use Rattle.script_stepper.proofs.TraceLemmas.{done_past, plays_over}
 use Rattle.script_stepper.proofs.RunLemmas.{run_same, run_size, run_then}
 
-in_order-more : (ns : List ℕ) (n t : ℕ) → in_order t (ns ++ n ∷ []) ≡ in_order t ns ++ replicate n (t + length ns)
+pub in_order-more : (ns : List ℕ) (n t : ℕ) → in_order t (ns ++ n ∷ []) ≡ in_order t ns ++ replicate n (t + length ns)
 in_order-more [] n t = let e : t ≡ t + 0 = omega arith in append-nil (replicate n t) ∙ ap (λ (k : ℕ). replicate n k) e
 in_order-more (m ∷ ns) n t =
     let e : (t + 1) + length ns ≡ t + length (m ∷ ns) = omega arith in

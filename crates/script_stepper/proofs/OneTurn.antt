@@ -126,7 +126,7 @@ done_turn d u u' rests lt kept t =
 
 -- ---- the run that it is
 
-told_one : (thread : ℕ) (c : Scene) (x : Option Said) → x ≡ said (thread - 1) c → items_told (thread ∷ []) c ≡ heard thread x
+pub told_one : (thread : ℕ) (c : Scene) (x : Option Said) → x ≡ said (thread - 1) c → items_told (thread ∷ []) c ≡ heard thread x
 told_one thread c x e = append-nil (heard thread (said (thread - 1) c)) ∙ ap (heard thread) (sym e)
 
 pub turn_run : (thread : ℕ) (u u' : Sight) (x : Option Said) (a b : List ℕ) → Turn (thread - 1) u u' x

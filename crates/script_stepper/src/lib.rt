@@ -12,5 +12,5 @@ pub use faults::write_fault;
 pub use lines::{put_block, put_lines, put_totals};
 pub use listing::{write_lines, write_text};
 pub use runs::ending::{End, end_of};
-pub use runs::stepping::{fine_text, step_text};
+pub use runs::stepping::{Start, fine_text, start_of, step_text};
 pub use sink::{Output, Sink, WriteFailed, write_all};

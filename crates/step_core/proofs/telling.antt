@@ -18,5 +18,6 @@ pub mod Stepping
 pub mod Worlds
 pub mod Starting
 pub mod Census
+pub mod Between
 pub mod Fields
 pub mod Targets

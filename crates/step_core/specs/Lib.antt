@@ -3,6 +3,7 @@ pub mod Chains
 pub mod Following
 pub mod Headline
 pub mod Runs
+pub mod Showing
 pub mod Sights
 pub mod Starts
 pub mod Told

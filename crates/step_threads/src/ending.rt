@@ -1,5 +1,7 @@
 //! The objects that end in a thread's hands.
 ghost use Rattle.std.specs.Prelude.{◌≡◌, ◌<◌, ◌≤◌, [], ◌∷◌, length, sum_by, IfOk, Some};
+ghost use Rattle.std.specs.Prelude.{◌==◌};
+ghost use Rattle.std.specs.List.{list_any};
 ghost use Rattle.step_threads.specs.Endings.{ending_steps, first_of, staged_first};
 
 use control_word::place::Block;
@@ -50,6 +52,13 @@ impl Endings {
         Some(self.items[self.items.len() - 1])
     }
 
+    /// Whether one is of the object in a block.
+    pub fn has(&self, block: Block) -> bool
+        ensures { result ≡ list_any (λ e. e.block.0 == block.0) self.now.list }
+    {
+        has_block(self.items.as_slice(), block)
+    }
+
     /// An ending begins.
     pub(crate) fn begin(&mut self, ending: Ending)
         requires { length self.old.list < self.old.room }
@@ -95,6 +104,13 @@ impl Endings {
     {
         ending_steps(self.items.as_slice())
     }
+}
+
+/// Whether an ending is of the object in a block.
+fn has_block(endings: &[Ending], block: Block) -> bool
+    ensures { result ≡ list_any (λ e. e.block.0 == block.0) endings.now }
+{
+    endings.iter().any(|ending| ending.block == block)
 }
 
 /// The steps that endings have left.

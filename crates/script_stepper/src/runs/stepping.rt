@@ -77,14 +77,14 @@ fn world_of(alloc: Global, script: &Script, shape: Shape) -> Result<World, Fault
 
 /// A world before its first turn, and how many threads and blocks it has.
 #[derive(Drop)]
-pub(crate) struct Start {
+pub struct Start {
     pub world: World,
     pub threads: u8,
     pub blocks: u16,
 }
 
-/// How a script's run begins.
-pub(crate) fn start_of(alloc: Global, script: &Script) -> Result<Start, Fault>
+/// How a script's run begins (own). Refused by 1 alone, where a growth was refused.
+pub fn start_of(alloc: Global, script: &Script) -> Result<Start, Fault>
     ensures sight { IfOk result (λ s. s.world ≡ script_sight script.now) }
     ensures kept { IfOk result (λ s. Kept s.world.story) }
     ensures rests { IfOk result (λ s. AllRest s.world) }

@@ -33,7 +33,7 @@ use Rattle.step_core.specs.Told.{TotalsAreTold, sight}
 use Rattle.step_core.specs.Totals.{IsAtEnd, census_of, counts_in}
 use Rattle.step_core.specs.Worlds.{AllFit, Sight, thread_half, thread_walk}
 
-at_view : (l : List (View Nothing)) (i : ℕ) (w : View Nothing) → get_elem? l i ≡ some w → (i < length l) × (get_or l i used_up ≡ w)
+pub at_view : (l : List (View Nothing)) (i : ℕ) (w : View Nothing) → get_elem? l i ≡ some w → (i < length l) × (get_or l i used_up ≡ w)
 at_view [] i w e = absurd (some-ne-none w (sym e))
 at_view (x ∷ xs) zero w e = (omega arith, some-injective x w e)
 at_view (x ∷ xs) (suc i) w e = let r = at_view xs i w e in (let l = r.0 in omega arith, r.1)
@@ -119,12 +119,12 @@ none_vacant v b kept =
       λ a. cond-true (n == 0) None (counted (count s (s.latest b)) (weak s (s.latest b))) (eq-eqb n 0 (vacant_from (opening v.extent) s b fine a)),
     )
 
-at_thread : (threads : List Thread) (d : ℕ) → d < length threads → (t : Thread) × (slice_get threads d ≡ Some t)
+pub at_thread : (threads : List Thread) (d : ℕ) → d < length threads → (t : Thread) × (slice_get threads d ≡ Some t)
 at_thread [] d lt = absurd (omega arith)
 at_thread (t ∷ ts) zero lt = (t, refl)
 at_thread (t ∷ ts) (suc d) lt = at_thread ts d (omega arith)
 
-half_at : (threads : List Thread) (d : ℕ) (t : Thread) → slice_get threads d ≡ Some t → get_or (map thread_half threads) d Rest ≡ t.half
+pub half_at : (threads : List Thread) (d : ℕ) (t : Thread) → slice_get threads d ≡ Some t → get_or (map thread_half threads) d Rest ≡ t.half
 half_at [] d t e = cc
 half_at (x ∷ xs) zero t e = ap thread_half (same_Some x t e)
 half_at (x ∷ xs) (suc d) t e = half_at xs d t e

@@ -8,7 +8,7 @@ use Rattle.owner_graph.proofs.Stepping.{same_at}
 use Rattle.leak_report.specs.Graph.{is_tied}
 use Rattle.leak_report.proofs.Drawing.{row_past, tied_by}
 use Rattle.leak_report.proofs.Telling.{row_is}
-use Rattle.leak_report.proofs.graph.is_tied.Goals as goal
+use Rattle.leak_report.proofs.coloring.is_tied.Goals as goal
 
 pub returns-then-least-rows : goal.returns-then-least-rows
 returns-then-least-rows c =

@@ -1,0 +1,148 @@
+//! The whole picture.
+
+ghost use Rattle.std.specs.Prelude.{ℕ, List, [], IfOk, OnOk, string_bytes};
+ghost use Rattle.markup.specs.Trees.{Draws, Shows};
+ghost use Rattle.run_picture.specs.Shown.{ShowsRows};
+
+use crate::acts::put_rows;
+use crate::ends::{put_blocks, put_cells, put_end, put_threads};
+use crate::page::{Page, page_of};
+use crate::picture::{Left, Picture};
+use crate::sheet::{LEFT, LINE, at, number, put_words, word};
+use markup::{put_group, put_label};
+use std::alloc::{AllocError, Global};
+use std::fmt::Write;
+
+/// How wide a picture is at least, so that its legend has room.
+const LEAST_WIDTH: u32 = 640;
+
+/// What the parts of a picture are.
+const COUNTS_LEGEND: &[u8] =
+    b"2 w1: two owners and one weak pointer. Red dot: the value comes out.";
+
+const ARROWS_LEGEND: &[u8] = b"Arrow to a cell's lane: written, with the block. From it: read.";
+
+/// How things look, on a light page and on a dark one.
+const STYLE: &[u8] = b"
+svg { color: #1b1b1b; font: 12px monospace; }
+@media (prefers-color-scheme: dark) { svg { color: #e6e6e6; } }
+text { fill: currentColor; }
+.title, .lane, .statement { font-weight: bold; }
+.number, .word, .legend, .held { opacity: 0.7; }
+.number, .held { text-anchor: end; }
+.held { font-size: 11px; }
+.lane, .left { text-anchor: middle; }
+.line, .totals { fill: #1f77d0; }
+.left { fill: #000; }
+.act { fill: currentColor; }
+.out { fill: #d62728; }
+.owned { stroke: #2a9d4a; stroke-width: 4; }
+.watched { stroke: #8a8a8a; stroke-width: 2; stroke-dasharray: 3 3; }
+.cell { stroke: currentColor; stroke-opacity: 0.4; }
+.write, .read { stroke: #c06a00; }
+.read { stroke-dasharray: 5 3; }
+.head { fill: #c06a00; }
+.box { stroke: #000; }
+";
+
+/// A body's size.
+#[derive(Clone, Copy)]
+struct Size {
+    width: u32,
+    height: u32,
+}
+
+/// Adds what stands above the rows.
+#[tactic(auto, using(crate::proofs::Showing::draws_none, crate::proofs::Showing::draws_of, crate::proofs::Showing::draws_then))]
+fn put_top(alloc: Global, page: &Page, threads: u8, text: &mut String) -> Result<(), AllocError>
+    ensures { OnOk result (Draws (string_bytes text.old) (string_bytes text.new)) }
+{
+    put_label(text, "style", &[], STYLE)?;
+    put_words(text, "legend", at(LEFT, 20), COUNTS_LEGEND)?;
+    put_words(text, "legend", at(LEFT, 36), ARROWS_LEGEND)?;
+    put_threads(alloc, text, page.columns.as_slice(), threads)?;
+    Ok(())
+}
+
+/// Adds what is left at the end, if that is known.
+#[tactic(auto, using(crate::proofs::Showing::draws_none, crate::proofs::Showing::draws_of, crate::proofs::Showing::draws_then))]
+fn put_left(
+    alloc: Global,
+    page: &Page,
+    left: &Option<Left>,
+    bottom: u32,
+    text: &mut String,
+) -> Result<(), AllocError>
+    ensures { OnOk result (Draws (string_bytes text.old) (string_bytes text.new)) }
+{
+    match left {
+        Some(left) => put_end(alloc, text, page, left, bottom),
+        None => Ok(()),
+    }
+}
+
+/// Adds the lanes, and what stands below the rows.
+#[tactic(auto, using(crate::proofs::Showing::draws_none, crate::proofs::Showing::draws_of, crate::proofs::Showing::draws_then))]
+fn put_bottom(
+    alloc: Global,
+    page: &Page,
+    left: &Option<Left>,
+    bottom: u32,
+    text: &mut String,
+) -> Result<(), AllocError>
+    ensures { OnOk result (Draws (string_bytes text.old) (string_bytes text.new)) }
+{
+    put_cells(alloc, text, &page.lanes, bottom)?;
+    put_blocks(alloc, text, &page.lanes, bottom)?;
+    put_left(alloc, page, left, bottom, text)?;
+    Ok(())
+}
+
+/// Adds the rows, and all that stands around them. Answers how large it is.
+fn put_body(
+    alloc: Global,
+    page: &mut Page,
+    picture: &Picture,
+    text: &mut String,
+) -> Result<Size, AllocError>
+    ensures { OnOk result (ShowsRows picture.now.rows.items (string_bytes text.old) (string_bytes text.new)) }
+{
+    put_top(alloc, page, picture.threads, text)?;
+    let bottom = put_rows(alloc, page, text, picture.rows.as_slice())?;
+    put_bottom(alloc, page, &picture.left, bottom, text)?;
+    Ok(Size {
+        width: page.lanes.right().max(LEAST_WIDTH),
+        height: bottom.saturating_add(2 * LINE),
+    })
+}
+
+/// The whole text.
+fn document_of(alloc: Global, body: &str, size: Size) -> Result<String, AllocError>
+    ensures { IfOk result (λ text. (shown : List (List ℕ)) → Shows [] body.now shown
+        → Shows [] (string_bytes text) shown) }
+{
+    let Size { width, height } = size;
+    let mut view = String::new(alloc);
+    write!(view, "0 0 {width} {height}")?;
+    let attributes = [
+        word("xmlns", "http://www.w3.org/2000/svg"),
+        number("width", width),
+        number("height", height),
+        word("viewBox", view.as_str()),
+    ];
+    let mut text = String::new(alloc);
+    put_group(&mut text, "svg", &attributes, body)?;
+    Ok(text)
+}
+
+/// A picture as the text of one SVG (own): elements, each closed where it was opened. On them the words of each row are
+/// read just once, in their order. Where things stand is not told. Refused where a growth was.
+#[tactic(auto, using(crate::proofs::Showing::rows_within))]
+pub fn draw(alloc: Global, picture: &Picture) -> Result<String, AllocError>
+    ensures { IfOk result (λ text. ShowsRows picture.now.rows.items [] (string_bytes text)) }
+{
+    let mut page = page_of(alloc, picture)?;
+    let mut body = String::new(alloc);
+    let size = put_body(alloc, &mut page, picture, &mut body)?;
+    document_of(alloc, body.as_str(), size)
+}

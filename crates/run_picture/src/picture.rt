@@ -1,0 +1,54 @@
+//! What a picture shows.
+
+use control_word::Counts;
+use step_table::cell_steps::cell_deed::Cell;
+
+/// What a block's counts are from an act on: its owners and weak pointers; none where it is vacant.
+#[derive(Clone, Copy)]
+pub struct Change {
+    pub block: u16,
+    pub counts: Option<Counts>,
+}
+
+/// A cell that an act wrote or read, and what is said of that.
+#[derive(Drop)]
+pub struct Touch {
+    pub cell: Cell,
+    pub writes: bool,
+    pub shown: String,
+}
+
+/// An act: its number in the run, its thread, its statement, what it did, the lines that it said, the cell that it wrote
+/// or read, and the counts that changed by it.
+#[derive(Drop)]
+pub struct Row {
+    pub number: u32,
+    pub thread: u8,
+    pub statement: String,
+    pub word: &'static str,
+    pub lines: Vec<String>,
+    pub touch: Option<Touch>,
+    pub changes: Vec<Change>,
+}
+
+/// A block that is left, and its color.
+#[derive(Clone, Copy)]
+pub struct LeftBlock {
+    pub block: u16,
+    pub color: &'static str,
+}
+
+/// What is left at the end of a run, and its last line.
+#[derive(Drop)]
+pub struct Left {
+    pub blocks: Vec<LeftBlock>,
+    pub totals: String,
+}
+
+/// The acts of so many threads, in order, and what is left where the last of them is the run's last.
+#[derive(Drop)]
+pub struct Picture {
+    pub threads: u8,
+    pub rows: Vec<Row>,
+    pub left: Option<Left>,
+}

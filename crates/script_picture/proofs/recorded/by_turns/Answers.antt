@@ -1,0 +1,34 @@
+use Rattle.std.proofs.Common.{◌≡◌, ◌∙◌, ◌+◌, ℕ, ap, subst, sym}
+use Rattle.std.specs.Prelude.{◌≤◌, All}
+use Rattle.control_word.specs.declared.shape.Shape.{Shape}
+use Rattle.step_core.specs.Worlds.{Sight}
+use Rattle.script_text.specs.Beginnings.{script_shape}
+use Rattle.script_stepper.proofs.Overs.{at_end}
+use Rattle.script_stepper.proofs.StepLemmas.{same_blocks, same_shape}
+use Rattle.script_picture.specs.Parts.{shown_part}
+use Rattle.script_picture.proofs.Ending.{turns_recorded}
+use Rattle.script_picture.proofs.recorded.by_turns.Goals as goal
+
+pub record_turns-requires-clause-threads : goal.record_turns-requires-clause-threads
+record_turns-requires-clause-threads c =
+    subst (λ (n : ℕ). All (λ t. (1 ≤ t) × (t ≤ n)) c.args.turns.now) (sym c.in_ok-world.ensures.threads) c.requires
+
+pub invariant_of-result : goal.invariant_of-result
+invariant_of-result c =
+    let u = c.in_ok-world.field-0.world in
+    let v = c.record_turns.new.world in
+    let run = c.in-Ok-record_turns.ensures.taken.taken.run in
+    let same : v.story.extent.shape ≡ script_shape c.args.script.now =
+    same_shape _ u v _ _ run ∙ ap (λ (x : Sight). x.story.extent.shape) c.in_ok-world.ensures.sight in
+    record {
+      ended = at_end v run.rests c.in-Ok-record_turns.ensures.over;
+      all = c.in_ok-world.ensures.blocks ∙ sym (same_blocks _ u v _ _ run);
+      shared = ap (λ (x : Shape). x.shared_cells) same;
+      cells = ap (λ (x : Shape). x.shared_cells + x.weak_cells) same;
+    }
+
+pub returns-in-Ok-record_turns-clause-ok : goal.returns-in-Ok-record_turns-clause-ok
+returns-in-Ok-record_turns-clause-ok c =
+    turns_recorded c.args.script.now c.args.turns.now (shown_part c.args.order.part) c.in_ok-world.field-0.world c.record_turns.new.world
+    c.in-Ok.rows c.record_turns.new.rows c.in_ok-world.ensures.sight c.in_ok-world.ensures.kept c.in-Ok-record_turns.ensures.taken
+    c.in-Ok-record_turns.ensures.over c.in-Ok.ensures.none c.in-Ok.ensures.part

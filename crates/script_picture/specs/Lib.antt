@@ -1,0 +1,4 @@
+pub mod Acts
+pub mod Parts
+pub mod Pictures
+pub mod Recording

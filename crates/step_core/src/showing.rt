@@ -1,0 +1,227 @@
+//! What a world shows between any two steps.
+ghost use Rattle.std.specs.Prelude.{◌≡◌, ◌≤◌, ◌<◌, ◌-◌, false, is_some, length, slice_index};
+ghost use Rattle.std.specs.List.{list_any};
+ghost use Rattle.control_word.specs.Layout.{spot};
+ghost use Rattle.control_word.specs.Packing.{number_of};
+ghost use Rattle.step_table.specs.Holdings.{slot_pointer};
+ghost use Rattle.step_table.specs.Stories.{story_state};
+ghost use Rattle.step_threads.specs.declared.half.Half.TheVariants.{Rest};
+ghost use Rattle.step_threads.specs.Courses.{hand, todo};
+ghost use Rattle.step_threads.specs.Endings.{first_of};
+ghost use Rattle.step_threads.specs.Scenes.{walk_of};
+ghost use Rattle.step_core.specs.Sights.{half_of, scene};
+ghost use Rattle.step_core.specs.Showing.{HasNoneBegun, counts_by, ends_in, first_act, is_ending_in};
+ghost use Rattle.step_core.specs.Totals.{census_of};
+
+use crate::world::World;
+use control_word::packed::counts::unpack_count;
+use control_word::packed::layout::{OWNERS, WEAKS};
+use control_word::{Block, Counts};
+use step_table::cell_steps::refill::Stage;
+use step_table::slots::holdings::Pointer;
+use step_threads::course::Course;
+use step_threads::half::Half;
+use step_threads::programs::act::Act;
+use step_threads::programs::call::{Kind, Name};
+use step_threads::thread::Thread;
+
+impl World {
+    /// How many owners and weak handles the object in a block has ([util.smartptr.shared.obs], and own), wherever they
+    /// are; none where the block is vacant. The weak handle that its owners have in common is not counted. What loads
+    /// under way took is counted. Condition: the block is one of the shape's, from 1.
+    pub fn counts(&self, block: Block) -> Option<Counts>
+        requires some { 0 < block.0 }
+        requires within { block.0 ≤ self.now.story.extent.shape.blocks }
+        ensures { HasNoneBegun self.now → result ≡ census_of (story_state self.now.story) block.0 }
+    {
+        self.table.known();
+        let number = self.number(block, WEAKS);
+        if number == 0 {
+            return None;
+        }
+        let owners = more(self.number(block, OWNERS), self.loads(block, Kind::Owner));
+        let weaks = more(number, self.loads(block, Kind::Weak));
+        counted(owners, settled(weaks, self.makes(block)), self.ends(block))
+    }
+
+    /// The number in a count's word.
+    fn number(&self, block: Block, word: usize) -> u32
+        requires some { 0 < block.0 }
+        requires within { block.0 ≤ self.now.story.extent.shape.blocks }
+        requires inside { word < 10 }
+        ensures { result ≡ number_of (slice_index self.now.story.words (spot block.0 word)) }
+    {
+        unpack_count(self.table.word(block, word)).number
+    }
+
+    /// How many loads of handles of this kind on a block are under way, which aren't in its number yet.
+    fn loads(&self, block: Block, kind: Kind) -> u32
+        ensures { HasNoneBegun self.now → result ≡ 0 }
+    {
+        let mut loads = 0u32;
+        for thread in &self.threads {
+            if self.is_load(thread.half, block, kind) {
+                loads = loads.saturating_add(1);
+            }
+        }
+        loads
+    }
+
+    /// Whether what a thread has begun is a load of a handle of this kind on a block.
+    fn is_load(&self, half: Half, block: Block, kind: Kind) -> bool
+        ensures { half ≡ Rest → result ≡ false }
+    {
+        match half {
+            Half::Refill {
+                stage: Stage::Turning,
+                cell,
+                found,
+                ..
+            } => found.owned == Some(block) && self.table.kind_in(cell) == kind,
+            _ => false,
+        }
+    }
+
+    /// Whether an object is being made in a block, whose weak number is 1 by then.
+    fn makes(&self, block: Block) -> bool
+        ensures { HasNoneBegun self.now → result ≡ false }
+    {
+        for thread in &self.threads {
+            if is_make(thread.half, block) {
+                return true;
+            }
+        }
+        false
+    }
+
+    /// Whether an object in a block ends in some thread's hands.
+    fn ends(&self, block: Block) -> bool
+        ensures { result ≡ ends_in block.0 self.now.walks }
+    {
+        end_in(self.threads.as_slice(), block)
+    }
+
+    /// The act of the next task of an actor (own): none behind its last. Where an object ends in its hands, that goes on
+    /// first. Condition: the actor is one of the world's, from 1.
+    pub fn next_act(&self, actor: u8) -> Option<Act>
+        requires some { 0 < actor }
+        requires within { actor ≤ length self.now.walks }
+        ensures { result ≡ first_act (walk_of (scene self.now) (actor - 1)).todo }
+    {
+        act_of(&self.threads[usize::from(actor) - 1].course)
+    }
+
+    /// Whether an object ends in an actor's hands (own). Condition: the actor is one of the world's, from 1.
+    pub fn has_ending(&self, actor: u8) -> bool
+        requires some { 0 < actor }
+        requires within { actor ≤ length self.now.walks }
+        ensures { result ≡ is_some (first_of (walk_of (scene self.now) (actor - 1)).endings) }
+    {
+        let course = &self.threads[usize::from(actor) - 1].course;
+        course.endings.first().is_some()
+    }
+
+    /// What an actor has begun and not ended (own). Condition: the actor is one of the world's, from 1.
+    pub fn half(&self, actor: u8) -> Half
+        requires some { 0 < actor }
+        requires within { actor ≤ length self.now.walks }
+        ensures { result ≡ half_of self.now (actor - 1) }
+    {
+        self.threads[usize::from(actor) - 1].half
+    }
+
+    /// What a name of an actor holds, where it is on an object (own). Condition: the actor is one of the world's, from 1.
+    pub fn held(&self, actor: u8, name: Name) -> Option<Pointer>
+        requires some { 0 < actor }
+        requires within { actor ≤ length self.now.walks }
+        ensures { result ≡ slot_pointer (walk_of (scene self.now) (actor - 1)).slots name.0 }
+    {
+        held_at(&self.threads[usize::from(actor) - 1].course, name)
+    }
+
+    /// What an actor has in hand between two acts, where it is on an object (own). Condition: the actor is one of the
+    /// world's, from 1.
+    pub fn in_hand(&self, actor: u8) -> Option<Pointer>
+        requires some { 0 < actor }
+        requires within { actor ≤ length self.now.walks }
+        ensures { result ≡ slot_pointer (walk_of (scene self.now) (actor - 1)).slots
+            (hand (walk_of (scene self.now) (actor - 1)).slots) }
+    {
+        let holdings = &self.threads[usize::from(actor) - 1].course.holdings;
+        holdings.get(holdings.hand())
+    }
+}
+
+/// Whether an object in a block ends in the hands of one of these threads.
+fn end_in(threads: &[Thread], block: Block) -> bool
+    ensures { result ≡ list_any (λ t. is_ending_in block.0 t.course.endings.list) threads.now }
+{
+    threads
+        .iter()
+        .any(|thread| thread.course.endings.has(block))
+}
+
+/// Whether what a thread has begun is a make in a block.
+fn is_make(half: Half, block: Block) -> bool
+    ensures { half ≡ Rest → result ≡ false }
+{
+    match half {
+        Half::Making { block: made, .. } => made == block,
+        _ => false,
+    }
+}
+
+/// The act of the next task.
+fn act_of(course: &Course) -> Option<Act>
+    ensures { result ≡ first_act (todo course.now) }
+{
+    if course.at < course.tasks.len() {
+        Some(course.tasks[course.at].act)
+    } else {
+        None
+    }
+}
+
+/// What a name holds.
+fn held_at(course: &Course, name: Name) -> Option<Pointer>
+    requires { 0 < length course.now.holdings.slots.items }
+    ensures { result ≡ slot_pointer course.now.holdings.slots.items name.0 }
+{
+    let slot = usize::from(name.0);
+    if slot > course.holdings.hand() {
+        return None;
+    }
+    course.holdings.get(slot)
+}
+
+/// A number with the loads that aren't in it yet.
+fn more(number: u32, loads: u32) -> u32
+    ensures { loads ≡ 0 → result ≡ number }
+{
+    number.saturating_add(loads)
+}
+
+/// A number without what a make has put into it.
+fn settled(number: u32, makes: bool) -> u32
+    ensures { makes ≡ false → result ≡ number }
+{
+    if makes {
+        number.saturating_sub(1)
+    } else {
+        number
+    }
+}
+
+/// The counts of a block by its two numbers.
+fn counted(owners: u32, number: u32, ends: bool) -> Option<Counts>
+    ensures { result ≡ counts_by owners number ends }
+{
+    if number == 0 {
+        return None;
+    }
+    let common = u32::from(owners > 0 || ends);
+    Some(Counts {
+        owners,
+        weaks: number.saturating_sub(common),
+    })
+}
