@@ -37,27 +37,19 @@ void print(const Element& element, int depth = 0) {
   for (const auto& child : element.children) print(*child, depth + 1);
 }
 
-// A new child.
-std::shared_ptr<Element> make_child(const std::shared_ptr<Element>& parent, const char* name) {
-  auto child = make(name);
-  append(parent, child);
-  return child;
-}
-
-// A list with an item, which moves from the left part of a body to its right one.
-std::shared_ptr<Element> make_list(const std::shared_ptr<Element>& html) {
-  auto body = make_child(html, "body"), left = make_child(body, "left"), right = make_child(body, "right");
-  auto list = make_child(left, "list");
-  make_child(list, "item");
+int main() {
+  auto html = make("html"), body = make("body"), left = make("left"), right = make("right");
+  auto list = make("list"), item = make("item");
+  append(html, body);
+  append(body, left);
+  append(body, right);
+  append(left, list);
+  append(list, item);
   print(*html);
   append(right, list);
-  return list;
-}
-
-int main() {
-  auto html = make("html"), list = make_list(html);
   append(list, html);  // that would be a circle
   print(*html);
+  body.reset(), left.reset(), right.reset(), item.reset();
   html.reset();
   std::printf("%d ended, the list has %s parent\n", ended, list->parent.lock() ? "a" : "no");
   print(*list);

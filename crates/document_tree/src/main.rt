@@ -53,20 +53,11 @@ fn append<'t, D: Domain<Value = Object>, R: Wait>(
     if is_under(rt, parent, element)? {
         return Ok(());
     }
-    leave(rt, element)?;
-    element.up().store(Some(parent.downgrade()?))?;
-    parent.first().list().push(rt, element.share()?, None)
-}
-
-/// The element is no child any more.
-fn leave<'t, D: Domain<Value = Object>, R: Wait>(
-    rt: &R,
-    element: &Shared<'t, D>,
-) -> Result<(), Fault> {
     if let Some(before) = element.parent(rt)? {
         before.first().list().remove(rt, element)?;
     }
-    Ok(())
+    element.up().store(Some(parent.downgrade()?))?;
+    parent.first().list().push(rt, element.share()?, None)
 }
 
 /// Prints an element's name.
@@ -75,19 +66,6 @@ fn told<R: Print>(rt: &R, element: &Object) -> io::Result<()> {
         Some(element) => println!(rt; "{}", element.name),
         None => Ok(()),
     }
-}
-
-/// The element as a line.
-fn line<D: Domain<Value = Object>, R: Wait + Print>(
-    rt: &R,
-    element: &Shared<'_, D>,
-    depth: u32,
-) -> Result<(), Fault> {
-    for _ in 0..depth {
-        print!(rt; "  ")?;
-    }
-    element.visit(rt, |it| told(rt, it))??;
-    Ok(())
 }
 
 #[derive(Drop)]
@@ -119,54 +97,22 @@ impl Document {
             let Some((element, depth)) = left.pop() else {
                 break;
             };
-            line(rt, &element, depth)?;
-            let children = self.children(rt, &element)?;
-            for child in children.into_iter().rev() {
-                left.push((child, depth.saturating_add(1)))?;
+            for _ in 0..depth {
+                print!(rt; "  ")?;
+            }
+            element.visit(rt, |it| told(rt, it))??;
+            let mut children = Vec::new(self.alloc);
+            element.first().list().each(rt, |child| {
+                children.push(child.share()?)?;
+                Ok(())
+            })?;
+            for _ in 0..children.len() {
+                if let Some(child) = children.pop() {
+                    left.push((child, depth.saturating_add(1)))?;
+                }
             }
         }
         Ok(())
-    }
-
-    fn children<'t, D: Domain<Value = Object>, R: Wait>(
-        &self,
-        rt: &R,
-        element: &Shared<'t, D>,
-    ) -> Result<Vec<Shared<'t, D>>, Fault> {
-        let mut children = Vec::new(self.alloc);
-        element.first().list().each(rt, |child| {
-            children.push(child.share()?)?;
-            Ok(())
-        })?;
-        Ok(children)
-    }
-
-    /// A new child.
-    fn child<'t, D: Domain<Value = Object>, R: Wait>(
-        &self,
-        rt: &R,
-        parent: &Shared<'t, D>,
-        name: &str,
-    ) -> Result<Shared<'t, D>, Fault> {
-        let child = self.make(parent.desk(), name)?;
-        append(rt, parent, &child)?;
-        Ok(child)
-    }
-
-    /// A list with an item, which moves from the left part of a body to its right one.
-    fn list<'t, D: Domain<Value = Object>, R: Wait + Print>(
-        &self,
-        rt: &R,
-        html: &Shared<'t, D>,
-    ) -> Result<Shared<'t, D>, Fault> {
-        let body = self.child(rt, html, "body")?;
-        let left = self.child(rt, &body, "left")?;
-        let right = self.child(rt, &body, "right")?;
-        let list = self.child(rt, &left, "list")?;
-        drop(self.child(rt, &list, "item")?);
-        self.print(rt, html)?;
-        append(rt, &right, &list)?;
-        Ok(list)
     }
 
     fn play<D: Domain<Value = Object>, R: Wait + Print>(
@@ -175,24 +121,33 @@ impl Document {
         desk: &Desk<D>,
     ) -> Result<(), Fault> {
         let html = self.make(desk, "html")?;
-        let list = self.list(rt, &html)?;
+        let body = self.make(desk, "body")?;
+        let left = self.make(desk, "left")?;
+        let right = self.make(desk, "right")?;
+        let list = self.make(desk, "list")?;
+        let item = self.make(desk, "item")?;
+        append(rt, &html, &body)?;
+        append(rt, &body, &left)?;
+        append(rt, &body, &right)?;
+        append(rt, &left, &list)?;
+        append(rt, &list, &item)?;
+        self.print(rt, &html)?;
+        append(rt, &right, &list)?;
         append(rt, &list, &html)?; // that would be a circle
         self.print(rt, &html)?;
+        drop((body, left, right, item));
         drop(html);
         let parent = if list.parent(rt)?.is_some() {
             "a"
         } else {
             "no"
         };
-        println!(rt; "{} ended, the list has {parent} parent", self.ended())?;
+        let ended = self.ended.load(Ordering::SeqCst);
+        println!(rt; "{ended} ended, the list has {parent} parent")?;
         self.print(rt, &list)?;
         drop(list);
-        println!(rt; "{} ended", self.ended())?;
+        println!(rt; "{} ended", self.ended.load(Ordering::SeqCst))?;
         Ok(())
-    }
-
-    fn ended(&self) -> u32 {
-        self.ended.load(Ordering::SeqCst)
     }
 }
 
