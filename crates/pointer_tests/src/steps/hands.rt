@@ -29,21 +29,8 @@ impl<'t, D: Domain<Value = Value>> Drop for Hands<'t, D> {
 /// How many slots there are of each kind: as many as a desk may have pointers, and one more.
 const SLOTS: usize = 17;
 
-/// Vacant slots for owners.
-fn vacant<'t, D: Domain<Value = Value>>(
-    alloc: Global,
-) -> Result<Vec<Option<Shared<'t, D>>>, Fault> {
-    let mut slots = Vec::with_capacity(alloc, SLOTS)?;
-    for _ in 0..SLOTS {
-        slots.push(None)?;
-    }
-    Ok(slots)
-}
-
-/// Vacant slots for weak pointers.
-fn vacant_weaks<'t, D: Domain<Value = Value>>(
-    alloc: Global,
-) -> Result<Vec<Option<Weak<'t, D>>>, Fault> {
+/// Vacant slots.
+fn vacant<T: Drop>(alloc: Global) -> Result<Vec<Option<T>>, Fault> {
     let mut slots = Vec::with_capacity(alloc, SLOTS)?;
     for _ in 0..SLOTS {
         slots.push(None)?;
@@ -62,7 +49,7 @@ impl<'t, D: Domain<Value = Value>> Hands<'t, D> {
             desk,
             told,
             owners: vacant(alloc)?,
-            weaks: vacant_weaks(alloc)?,
+            weaks: vacant(alloc)?,
         })
     }
 

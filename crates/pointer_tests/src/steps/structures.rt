@@ -159,9 +159,19 @@ fn each_drops<'t, R: Wait, D: Domain<Value = Value>>(
     let Some(observers) = observers else {
         return Err(NO_ACCESS);
     };
-    let mut held = hands.take(at);
+    let held = hands.take(at);
+    tells(rt, observers, held, hands.owner(0)?)
+}
+
+/// Each observer is told, and by that a pointer is dropped and an owner is asked for its count: what that answers.
+fn tells<'t, R: Wait, D: Domain<Value = Value>>(
+    rt: &R,
+    observers: &mut Observers<'t, D>,
+    held: Option<Shared<'t, D>>,
+    owner: &Shared<'t, D>,
+) -> Result<(), Fault> {
+    let mut held = held;
     let mut counted = Ok(0);
-    let owner = hands.owner(0)?;
     observers.each(rt, |_| {
         drop(held.take());
         counted = owner.use_count();
