@@ -20,7 +20,6 @@ use Rattle.handle_table.specs.Bringing.{Fills, IsWeakCopy, OfHandle, OfOwner, be
 use Rattle.handle_table.specs.Calls.{Comes, Copies, Downgrades, IsBelow, IsCopy}
 use Rattle.handle_table.specs.Cells.{LoadsIntoSlot, SwapsFromSlot}
 use Rattle.handle_table.specs.declared.cells.Cell.{Cell}
-use Rattle.handle_table.specs.Structures.{AddsChild, IsChild}
 use Rattle.handle_table.specs.This.{Aliases, SharesThis, SharesThisWeakly}
 use Rattle.handle_table.specs.Tables.{FitsSlots, IsWhole, Slot, TableNow}
 use Rattle.handle_table.proofs.Filling.{fits_none, fits_swap}
@@ -108,16 +107,6 @@ module _ {V : Type 0} where
   pub swaps_of : (d e : DeskNow V) (ss : List Slot) (xs : List (Ending V)) (from : ℕ) (k : Cell) (old : Held)
       → SwapsFromSlot (beside_pile d ss) from k old e → SwapsFromSlot (table_of d ss xs) from k old e
   swaps_of d e ss xs from k old s = record { site = s.site; is = s.is; of = s.of; at = s.at; kinds = s.kinds; exchanges = s.exchanges }
-
-  pub adds_child : (t u : TableNow V) (parent to : ℕ) (fields : List ℕ) (x : V) → Comes (OfOwner (IsChild fields x) t.slots parent) t to u
-      → AddsChild t parent fields x to u
-  adds_child t u parent to fields x c =
-      record {
-        of = c.comes.0;
-        at = c.comes.1;
-        may = c.comes.2.0;
-        child = record { handle = c.handle; between = c.between; room = c.room; comes = c.comes.2.1; assigns = c.assigns };
-      }
 
 -- a weak copy in a bag
 pub weakly : (l : List Handle) (h : weak_handle.Weak) (c : Option Block) (p : Option Place) → h.block ≡ c → h.place ≡ weak_place c p

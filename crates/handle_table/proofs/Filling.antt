@@ -1,7 +1,7 @@
 -- Handles go into slots and out of them, and the desk holds just those that are there.
 use Rattle.std.proofs.Common.{◌≡◌, ℕ, zero, suc, ◌+◌, ◌<◌, ◌≤◌, Bool, true, false, cond, List, [], ◌∷◌, ◌++◌, length, set}
 use Rattle.std.proofs.Common.{Option, Some, None}
-use Rattle.std.proofs.Common.{refl, sym, ap, ◌∙◌, ⊎_elim, ◌⊎◌, inl, inr, arith}
+use Rattle.std.proofs.Common.{refl, sym, ap, subst, ◌∙◌, ⊎_elim, ◌⊎◌, inl, inr, arith}
 use Rattle.std.specs.Prelude.{slice_get}
 use Rattle.std.specs.List.{sum_by}
 use Rattle.std.specs.List.Sorted.{IsPermutation}
@@ -252,3 +252,12 @@ module _ {V : Type 0} where
   -- a desk without handles
   pub fits_vacant : (d : DeskNow V) (l : List Slot) → AllVacant l → bag_of d ≡ [] → d.held ≡ 0 → FitsSlots d l
   fits_vacant d l all bag none = record { bag = λ f. ap (total f) bag ∙ sym (vacant_worth f l all); held = none ∙ sym (vacant_filled l all) }
+
+-- a slot is still there when its handle went out of it
+within : (ss : List Slot) (i : ℕ) (h : Held) → slice_get ss i ≡ Some (Some h) → i < length (set ss i None)
+within [] i h at = absurd (cc at)
+within (s ∷ ss) zero h at = omega arith
+within (s ∷ ss) (suc i) h at = let ih = within ss i h at in omega arith
+
+pub slot_there : (ss ts : List Slot) (i : ℕ) (h : Held) → slice_get ss i ≡ Some (Some h) → ts ≡ set ss i None → i < length ts
+slot_there ss ts i h at is = subst (λ (l : List Slot). i < length l) (sym is) (within ss i h at)

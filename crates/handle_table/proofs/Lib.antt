@@ -15,6 +15,5 @@ pub mod Crews
 pub mod Manning
 pub mod Sharing
 pub mod Regained
-pub mod Structured
 pub mod Lasts
 pub mod Starting

@@ -35,6 +35,13 @@ module _ {V : Type 0} where
   still named domain d e ss p w k bag held =
       record { home = w.home; bears = kept domain d e p w.bears k; fits = fits_still d e ss w.fits bag held }
 
+  -- nothing has changed
+  pub whole_same : (named domain : DomainNow) (d e : DeskNow V) (ss ts : List Slot) (p q : Pile V) → IsWhole named domain d ss p → e ≡ d → ts ≡ ss
+      → q ≡ p → IsWhole named domain e ts q
+  whole_same named domain d e ss ts p q w desk slots pile =
+      subst (λ (x : DeskNow V). IsWhole named domain x ts q) (sym desk)
+      (subst (λ (l : List Slot). IsWhole named domain d l q) (sym slots) (subst (λ (y : Pile V). IsWhole named domain d ss y) (sym pile) w))
+
   -- a read that is refused changes nothing
   pub read_same : (d e : DeskNow V) (b : Option Block) (p : Option Place) (why : Refusal) → IsRead d b p (Err why) e → e ≡ d
   read_same d e b p Null is = is.1

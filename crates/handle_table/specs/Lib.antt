@@ -15,6 +15,5 @@ pub mod Programs
 pub mod Leading
 pub mod Staffs
 pub mod Peeks
-pub mod Structures
 pub mod Slots
 pub mod Jobs

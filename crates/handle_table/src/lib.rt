@@ -13,9 +13,8 @@ mod opening;
 mod parting;
 mod program;
 mod shelf;
-mod slots;
+pub mod slots;
 mod staff;
-mod structures;
 mod table;
 
 pub use atomic_cells::SharedMember;
@@ -27,5 +26,4 @@ pub use looks::Peeked;
 pub use program::{Crew, Manned, Program, Ran, Team, run};
 pub use shared_handle::{Gone, Round};
 pub use staff::{Share, Work, run_workers, run_workers_open};
-pub use structures::{TableObservers, TableScene, TableStack};
 pub use table::{HandleTable, Home};

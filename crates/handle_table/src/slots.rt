@@ -13,9 +13,9 @@ use control_block::handles::Weak;
 use control_word::Place;
 use shared_handle::{Held, Shared};
 
-pub(crate) mod assigning;
+pub mod assigning;
 pub(crate) mod kinds;
-pub(crate) mod slot;
+pub mod slot;
 
 /// So many vacant slots.
 #[tactic(auto, using(crate::proofs::Filling::vacant_append))]
@@ -45,7 +45,7 @@ pub(crate) fn handle_at(slots: &Vec<Slot>, at: usize) -> Result<Held, Fault>
 
 /// The owner in the slot, to be looked at; it stays there.
 #[inline(always)]
-pub(crate) fn owner_at(slots: &Vec<Slot>, at: usize) -> Result<Shared, Fault>
+pub fn owner_at(slots: &Vec<Slot>, at: usize) -> Result<Shared, Fault>
     ensures found { IfOk result (λ h. slice_get slots.now.items at ≡ Some (Some (held.Owner h))) }
     ensures fault { IfErr result (WhyNoOwner slots.now.items at) }
 {
@@ -99,7 +99,7 @@ pub(crate) fn weak_again(weak: &Weak) -> Weak
 
 /// An owner was looked at, and is its slot's still.
 #[inline(always)]
-pub(crate) fn stays(owner: Shared) {
+pub fn stays(owner: Shared) {
     owner.into_parts();
 }
 
@@ -116,7 +116,7 @@ pub(crate) fn handle_stays(handle: Held) {
 
 /// A handle goes into a slot, and what lay there comes out.
 #[inline(always)]
-pub(crate) fn put(slots: &mut Vec<Slot>, at: usize, handle: Held) -> Option<Held>
+pub fn put(slots: &mut Vec<Slot>, at: usize, handle: Held) -> Option<Held>
     requires { at < length slots.old.items }
     ensures { (slice_get slots.old.items at ≡ Some result)
         × (slots.new.items ≡ slice_set slots.old.items at (Some handle)) }
@@ -208,7 +208,7 @@ pub(crate) fn take_handle(slots: &mut Vec<Slot>, at: usize) -> Result<Held, Faul
 }
 
 /// The owner in the slot goes out of it.
-pub(crate) fn take_owner(slots: &mut Vec<Slot>, at: usize) -> Result<Shared, Fault>
+pub fn take_owner(slots: &mut Vec<Slot>, at: usize) -> Result<Shared, Fault>
     ensures taken { IfOk result (λ h. (slice_get slots.old.items at ≡ Some (Some (held.Owner h)))
         × (slots.new.items ≡ slice_set slots.old.items at None)) }
     ensures fault { IfErr result (λ why. WhyNoOwner slots.old.items at why × (slots.new.items ≡ slots.old.items)) }
@@ -231,7 +231,7 @@ pub(crate) fn take_owner(slots: &mut Vec<Slot>, at: usize) -> Result<Shared, Fau
 
 /// None is left of it.
 #[inline(always)]
-pub(crate) fn spent(slot: Option<Held>)
+pub fn spent(slot: Option<Held>)
     requires { slot ≡ None }
 {
     match slot {

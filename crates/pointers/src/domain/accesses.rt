@@ -1,6 +1,7 @@
 //! Accesses to a table's structures that close at their end.
 
-use handle_table::{Home, TableObservers, TableScene, TableStack};
+use handle_table::Home;
+use table_structures::{TableObservers, TableScene, TableStack};
 
 /// An access to a stack.
 pub(crate) struct LentStack<V: Drop, H: Home> {

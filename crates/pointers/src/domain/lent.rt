@@ -9,6 +9,7 @@ use handle_table::{Cell, Fault, HandleTable, Home, Returned};
 use shared_handle::{Gone, Round};
 use std::alloc::Global;
 use std::sync::Wait;
+use table_structures::{ObserverCalls, SceneCalls, StackCalls};
 
 /// A handle table that is lent to a desk.
 pub(crate) struct Lent<'m, 'd, V: Drop, H: Home> {

@@ -11,6 +11,7 @@ use std::process::Abort;
 use std::sync::Wait;
 use std::test::Fail;
 use std::thread::Threads;
+use table_structures::{ObserverCalls, SceneCalls, StackCalls};
 
 const MEMORY: Fault = Fault::Call(Refusal::Memory);
 

@@ -4,11 +4,12 @@ use crate::listed::{Answer, Call, all};
 use crate::same::same;
 use crate::shapes::shape;
 use crate::structures::observers::{On, all_on};
-use handle_table::{Cell, Fault, HandleTable, Home, Leader, Manned, Program, TableObservers, Team};
+use handle_table::{Cell, Fault, HandleTable, Home, Leader, Manned, Program, Team};
 use std::alloc::Global;
 use std::process::Abort;
 use std::sync::Wait;
 use std::thread::Threads;
+use table_structures::{ObserverCalls, TableObservers};
 
 /// The subject, for the workers.
 const SUBJECT: Cell = Cell::Shared(1);

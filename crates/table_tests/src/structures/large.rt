@@ -4,11 +4,12 @@ use crate::listed::{Answer, Call};
 use crate::same::same;
 use crate::shapes::{alone, shape};
 use crate::structures::trees::{On, all_on};
-use handle_table::{HandleTable, Home, Program, TableScene};
+use handle_table::{HandleTable, Home, Program};
 use std::alloc::Global;
 use std::process::Abort;
 use std::sync::Wait;
 use std::thread::Threads;
+use table_structures::{SceneCalls, TableScene};
 
 const NODES: u64 = 4095;
 

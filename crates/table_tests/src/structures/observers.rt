@@ -4,11 +4,12 @@ use crate::listed::{Answer, Call, agree, answer_of, count, handed};
 use crate::same::same;
 use crate::shapes::{alone, shape};
 use control_word::Refusal;
-use handle_table::{Fault, HandleTable, Home, Leader, Manned, Program, TableObservers, Team};
+use handle_table::{Fault, HandleTable, Home, Leader, Manned, Program, Team};
 use std::alloc::Global;
 use std::process::Abort;
 use std::sync::Wait;
 use std::thread::Threads;
+use table_structures::{ObserverCalls, TableObservers};
 
 /// A call on observers, or another on their table.
 #[derive(Clone, Copy, Drop)]

@@ -1,10 +1,11 @@
 //! Threads that share a stack.
 use crate::shapes::shape;
 use control_word::Refusal;
-use handle_table::{HandleTable, Home, Share, TableStack, Work, run_workers};
+use handle_table::{HandleTable, Home, Share, Work, run_workers};
 use std::alloc::{AllocError, Global};
 use std::sync::Wait;
 use std::thread::Threads;
+use table_structures::{StackCalls, TableStack};
 
 /// Pushes so many nodes, with numbers from its first one on, pops till none is found, and has the numbers of those that
 /// came out.

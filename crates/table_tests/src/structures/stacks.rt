@@ -5,11 +5,12 @@ use crate::same::same;
 use crate::shapes::{alone, shape};
 use crate::structures::pushers::popped;
 use control_word::Refusal;
-use handle_table::{Cell, Fault, HandleTable, Home, Program, SharedMember, TableStack};
+use handle_table::{Cell, Fault, HandleTable, Home, Program, SharedMember};
 use std::alloc::Global;
 use std::process::Abort;
 use std::sync::Wait;
 use std::thread::Threads;
+use table_structures::{StackCalls, TableStack};
 
 /// A call on a stack, or another on its table.
 #[derive(Clone, Copy, Drop)]

@@ -7,11 +7,12 @@ use crate::structures::families::{
     BETWEEN, CHILDREN, FIRST, GENERATIONS, KEPT, LAST, MISPLACED, ORDER,
 };
 use control_word::Refusal;
-use handle_table::{Fault, HandleTable, Home, Program, TableScene};
+use handle_table::{Fault, HandleTable, Home, Program};
 use std::alloc::Global;
 use std::process::Abort;
 use std::sync::Wait;
 use std::thread::Threads;
+use table_structures::{SceneCalls, TableScene};
 
 /// A call on a scene, or another on its table.
 #[derive(Clone, Copy, Drop)]

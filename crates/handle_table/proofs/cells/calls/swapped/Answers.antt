@@ -5,8 +5,7 @@ use Rattle.atomic_cells.specs.Cells as cells
 use Rattle.handle_table.specs.Cells.{WhyNoneOf}
 use Rattle.handle_table.specs.Parts.{block_of_held, place_of_held}
 use Rattle.handle_table.specs.Tables.{FitsSlots, Slot}
-use Rattle.handle_table.proofs.Filling.{fits_at, fits_exchange, fits_out}
-use Rattle.handle_table.proofs.Structured.{slot_there}
+use Rattle.handle_table.proofs.Filling.{fits_at, fits_exchange, fits_out, slot_there}
 use Rattle.handle_table.proofs.Wholes.{kept}
 use Rattle.handle_table.proofs.cells.calls.swapped.Goals as goal
 

@@ -3,8 +3,7 @@ use Rattle.handle_table.specs.Calls.{Assigns}
 use Rattle.handle_table.specs.Cells.{ExchangesSlot, WhyNotSwapped}
 use Rattle.handle_table.specs.Tables.{Slot, TableNow, on_pile}
 use Rattle.handle_table.proofs.Bringing.{swaps_of}
-use Rattle.handle_table.proofs.Structured.{whole_same}
-use Rattle.handle_table.proofs.Wholes.{seen}
+use Rattle.handle_table.proofs.Wholes.{seen, whole_same}
 use Rattle.handle_table.proofs.table.HandleTable.exchange.Goals as goal
 
 pub assign-requires-clause-bears : goal.assign-requires-clause-bears

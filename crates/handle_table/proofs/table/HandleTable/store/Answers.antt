@@ -3,8 +3,7 @@ use Rattle.handle_table.specs.Cells.{StoresFromSlot, WhyNotSwapped}
 use Rattle.handle_table.specs.Tables.{TableNow, on_pile}
 use Rattle.handle_table.proofs.Bringing.{swaps_of}
 use Rattle.handle_table.proofs.Filling.{fits_at, fits_less}
-use Rattle.handle_table.proofs.Structured.{whole_same}
-use Rattle.handle_table.proofs.Wholes.{seen}
+use Rattle.handle_table.proofs.Wholes.{seen, whole_same}
 use Rattle.handle_table.proofs.table.HandleTable.store.Goals as goal
 
 pub let_go-requires-clause-bears : goal.let_go-requires-clause-bears
