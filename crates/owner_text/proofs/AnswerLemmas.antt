@@ -1,7 +1,7 @@
 -- What is told is told of the graph that the text spells.
 use Rattle.std.proofs.Common.{◌≡◌, ℕ, Bool, List, subst}
 use Rattle.std.specs.Prelude.{nat_lt}
-use Rattle.script_text.specs.Grammar.{ended}
+use Rattle.text_lines.specs.Lines.{ended}
 use Rattle.owner_graph.specs.declared.findings.Findings.{Findings}
 use Rattle.owner_graph.specs.Findings.{AreFindings}
 use Rattle.owner_text.specs.Answers.{IsOwnersText, lines_told}
@@ -9,8 +9,10 @@ use Rattle.owner_text.specs.Drafts.{Draft}
 use Rattle.owner_text.specs.Grammar.{ReadsAs}
 use Rattle.owner_text.specs.Lines.{leaked_in, vertices_of}
 
-pub told_is : (draws : Bool) (bytes text : List ℕ) (leaks : Bool) (d : Draft) (n : ℕ) (f : Findings) → ReadsAs bytes d → n ≡ vertices_of d
-    → AreFindings n d.handles f → text ≡ ended (lines_told draws d f) → leaks ≡ nat_lt 0 (leaked_in d f)
+pub told_is : (draws : Bool) (bytes text : List ℕ) (leaks : Bool) (d : Draft) (n : ℕ) (f : Findings)
+    → ReadsAs bytes d → n ≡ vertices_of d
+    → AreFindings n d.handles f → text ≡ ended (lines_told draws d f)
+    → leaks ≡ nat_lt 0 (leaked_in d f)
     → IsOwnersText draws bytes leaks text
 told_is draws bytes text leaks d n f reads n_is found says leaks_is = record {
   draft = d;

@@ -1,5 +1,6 @@
 -- Looking a label up in a table, and adding one.
-use Rattle.std.proofs.Common.{◌≡◌, ℕ, suc, ◌+◌, Bool, true, false, not, cond, ltb, List, [], ◌∷◌, ◌++◌, length, Option}
+use Rattle.std.proofs.Common.{◌≡◌, ℕ, suc, ◌+◌, Bool, true, false, not, cond, ltb, List, [], ◌∷◌}
+use Rattle.std.proofs.Common.{◌++◌, length, Option}
 use Rattle.std.proofs.Common.{Some, None, refl, sym, ap, ◌∙◌, arith}
 use Rattle.std.specs.Prelude.{String}
 use Rattle.std.specs.Option.{option_map}
@@ -17,7 +18,8 @@ use Rattle.owner_text.specs.Labels.{find_label, labels_in, with_label}
 abbrev there : Option ℕ → Option ℕ
 there found = option_map (λ n. n + 1) found
 
-next_place : (b : Bool) (m : ℕ) → option_map (λ i. i + 1) (cond b (Some m) None) ≡ cond b (Some (suc m)) None
+next_place : (b : Bool) (m : ℕ) → option_map (λ i. i + 1) (cond b (Some m) None)
+    ≡ cond b (Some (suc m)) None
 next_place true m = ap (λ (i : ℕ). Some i) (omega arith)
 next_place false m = refl
 
@@ -25,7 +27,8 @@ ltb_suc : (m n : ℕ) → ltb (suc m) (suc n) ≡ ltb m n
 ltb_suc m n = grind (arith, nat_tests)
 
 place_by : (b : Bool) (r : Option ℕ) (m n : ℕ) → r ≡ cond (ltb m n) (Some m) None
-    → cond b (Some 0) (there r) ≡ cond (ltb (cond (not b) (1 + m) 0) (suc n)) (Some (cond (not b) (1 + m) 0)) None
+    → cond b (Some 0) (there r) ≡ cond (ltb (cond (not b) (1 + m) 0) (suc n))
+    (Some (cond (not b) (1 + m) 0)) None
 place_by true r m n h =
     let first : ltb 0 (suc n) ≡ true = lt-ltb 0 (suc n) (omega arith) in
     rw first refl
@@ -41,7 +44,8 @@ pub label_place : {A : Type 0} (label : List ℕ) (es : List (String A × Unit {
 label_place label [] = refl
 label_place label (e ∷ es) =
     place_by (bytes_eq label (string_bytes e.0)) (find_label label (labels_in es))
-    (position_or_len (λ k. bytes_eq label (string_bytes k)) (keys_of es)) (length (keys_of es)) (label_place label es)
+    (position_or_len (λ k. bytes_eq label (string_bytes k)) (keys_of es)) (length (keys_of es))
+    (label_place label es)
 
 missed : (b : Bool) (r : Option ℕ) → cond b (Some 0) (there r) ≡ None → (b ≡ false) × (r ≡ None)
 missed true r h = absurd cc
@@ -49,21 +53,27 @@ missed false None h = (refl, refl)
 missed false (Some n) h = absurd cc
 
 -- a new label goes last
-pub label_added : {A : Type 0} (es : List (String A × Unit {0})) (key : String A) (label : List ℕ) → string_bytes key ≡ label
-    → find_label label (labels_in es) ≡ None → labels_in (insert_entry string_eq es key tt) ≡ labels_in es ++ label ∷ []
+pub label_added : {A : Type 0} (es : List (String A × Unit {0})) (key : String A) (label : List ℕ)
+    → string_bytes key ≡ label
+    → find_label label (labels_in es) ≡ None
+    → labels_in (insert_entry string_eq es key tt) ≡ labels_in es ++ label ∷ []
 label_added [] key label same none = ap (λ (l : List ℕ). l ∷ []) same
 label_added (e ∷ es) key label same none =
     let m = missed (bytes_eq label (string_bytes e.0)) (find_label label (labels_in es)) none in
     let test : string_eq key e.0 ≡ false = rw (← same) at m.0 in
     rw test (ap (λ (ls : List (List ℕ)). string_bytes e.0 ∷ ls) (label_added es key label same m.1))
 
-pub label_numbered : {A : Type 0} (es fs : List (String A × Unit {0})) (key : String A) (label : List ℕ) (n : ℕ) → string_bytes key ≡ label
+pub label_numbered : {A : Type 0} (es fs : List (String A × Unit {0})) (key : String A)
+    (label : List ℕ) (n : ℕ) → string_bytes key ≡ label
     → find_label label (labels_in es) ≡ None → n ≡ length es → fs ≡ insert_entry string_eq es key tt
     → with_label label (labels_in es) ≡ (n, labels_in fs)
 label_numbered es fs key label n same none is new =
-    let len : length (labels_in es) ≡ n = length-map es (λ (e : String _ × Unit {0}). string_bytes e.0) ∙ sym is in
-    rw (none, len, new) (ap (λ (ls : List (List ℕ)). (n, ls)) (sym (label_added es key label same none)))
+    let len : length (labels_in es) ≡ n =
+    length-map es (λ (e : String _ × Unit {0}). string_bytes e.0) ∙ sym is in
+    rw (none, len, new) (ap (λ (ls : List (List ℕ)). (n, ls))
+    (sym (label_added es key label same none)))
 
 -- a label that is there keeps its number
-pub label_there : (label : List ℕ) (labels : List (List ℕ)) (n : ℕ) → find_label label labels ≡ Some n → with_label label labels ≡ (n, labels)
+pub label_there : (label : List ℕ) (labels : List (List ℕ)) (n : ℕ)
+    → find_label label labels ≡ Some n → with_label label labels ≡ (n, labels)
 label_there label labels n is = rw is refl

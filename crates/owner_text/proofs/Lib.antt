@@ -1,6 +1,5 @@
 pub mod AnswerLemmas
 pub mod DraftLemmas
-pub mod GrammarLemmas
 pub mod LabelLemmas
 pub mod LineLemmas
 pub mod RoomLemmas

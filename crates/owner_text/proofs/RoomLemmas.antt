@@ -1,5 +1,6 @@
 -- Room for objects, one more at a time.
-use Rattle.std.proofs.Common.{◌≡◌, ℕ, zero, suc, ◌+◌, List, [], ◌∷◌, ◌++◌, refl, ap, sym, ◌∙◌, append_assoc, arith}
+use Rattle.std.proofs.Common.{◌≡◌, ℕ, zero, suc, ◌+◌, List, [], ◌∷◌, ◌++◌, refl, ap, sym, ◌∙◌}
+use Rattle.std.proofs.Common.{append_assoc, arith}
 use Rattle.std.specs.Prelude.{replicate}
 use Rattle.std.proofs.lemmas.List.{append-nil}
 
@@ -10,7 +11,8 @@ replicate_last (suc k) = ap (λ (l : List ℕ). 0 ∷ l) (replicate_last k)
 pub room_none : (a : List ℕ) (k : ℕ) → k ≡ 0 → a ≡ a ++ replicate k 0
 room_none a k none = sym (append-nil a) ∙ ap (λ (n : ℕ). a ++ replicate n 0) (sym none)
 
-pub room_more : (a b b' : List ℕ) (k j : ℕ) → b ≡ a ++ replicate k 0 → b' ≡ b ++ 0 ∷ [] → j ≡ k + 1 → b' ≡ a ++ replicate j 0
+pub room_more : (a b b' : List ℕ) (k j : ℕ) → b ≡ a ++ replicate k 0 → b' ≡ b ++ 0 ∷ [] → j ≡ k + 1
+    → b' ≡ a ++ replicate j 0
 room_more a b b' k j so_far push next =
     let e : suc k ≡ j = omega arith in
     push ∙ ap (λ (l : List ℕ). l ++ 0 ∷ []) so_far ∙ append_assoc a (replicate k 0) (0 ∷ [])

@@ -1,6 +1,6 @@
 -- What is answered to the text of a graph. All of it is own.
 use Rattle.std.specs.Prelude.{◌≡◌, ℕ, Bool, true, false, nat_lt, List}
-use Rattle.script_text.specs.Grammar.{ended}
+use Rattle.text_lines.specs.Lines.{ended}
 use Rattle.owner_graph.specs.declared.findings.Findings.{Findings}
 use Rattle.owner_graph.specs.Findings.{AreFindings}
 use Rattle.owner_text.specs.Drafts.{Draft}
@@ -13,8 +13,10 @@ abbrev pub lines_told : Bool → Draft → Findings → List (List ℕ)
 lines_told false d f = all_lines d f
 lines_told true d f = graph_lines d f
 
--- a text reads as a graph, this was found of it, and the other text tells it, or draws it; and whether something leaks
-pub record IsOwnersText (draws : Bool) (bytes : List ℕ) (leaks : Bool) (text : List ℕ) : Type 0 where
+-- a text reads as a graph, this was found of it, and the other text tells it, or draws it; and
+-- whether something leaks
+pub record IsOwnersText (draws : Bool) (bytes : List ℕ) (leaks : Bool)
+    (text : List ℕ) : Type 0 where
   pub draft : Draft
   pub reads : ReadsAs bytes draft
   pub findings : Findings

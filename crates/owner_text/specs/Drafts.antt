@@ -1,20 +1,24 @@
 -- A graph so far, and what each line adds to it. All of it is own.
 use Rattle.std.specs.Prelude.{ℕ, ◌+◌, ◌-◌, ◌++◌, ◌==◌, ◌&&◌, ◌||◌, Bool, true, false, List, [], ◌∷◌}
-use Rattle.std.specs.Prelude.{length, replicate, slice_set, slice_index_or, Result, Ok, Err, nat_lt, if◌then◌else◌, codes}
+use Rattle.std.specs.Prelude.{length, replicate, slice_set, slice_index_or, Result, Ok, Err, nat_lt}
+use Rattle.std.specs.Prelude.{if◌then◌else◌, codes}
 use Rattle.std.specs.List.{list_all}
 use Rattle.std.specs.Str.{bytes_eq}
 use Rattle.owner_graph.specs.declared.holding.Holding.{Holding}
 use Rattle.owner_text.specs.declared.draft.Draft as rust
 use Rattle.owner_text.specs.declared.fault.Cause.{Cause}
-use Rattle.owner_text.specs.declared.fault.Cause.TheVariants.{BadByte, NoSuchObject, ObjectNamedTwice, TooManyHandles}
+use Rattle.owner_text.specs.declared.fault.Cause.TheVariants.{BadByte, NoSuchObject}
+use Rattle.owner_text.specs.declared.fault.Cause.TheVariants.{ObjectNamedTwice, TooManyHandles}
 use Rattle.owner_text.specs.declared.fault.Cause.TheVariants.{UnknownStatement, WrongNumberOfWords}
 use Rattle.owner_text.specs.Labels.{with_label}
-use Rattle.owner_text.specs.Reading.{◌>>=◌}
-use Rattle.owner_text.specs.Words.{after_word, first_word, is_clean_byte, label_at, line_content, object_number_at}
-use Rattle.owner_text.specs.Words.{without_last_spaces, without_spaces}
+use Rattle.text_lines.specs.Reading.{◌>>=◌}
+use Rattle.owner_text.specs.Words.{label_at, object_number_at}
+use Rattle.text_lines.specs.Lines.{is_clean_byte, line_content}
+use Rattle.text_lines.specs.Words.{after_word, first_word, without_last_spaces, without_spaces}
 
--- a graph so far: of each number, from 0, one more than the number of the object's label, or 0 where there is no such
--- object; the labels; and the handles, each with its place among them as its slot
+-- a graph so far: of each number, from 0, one more than the number of the object's label, or 0
+-- where there is no such object; the labels; and the handles, each with its place among them as its
+-- slot
 pub record Draft : Type 0 where
   pub objects : List ℕ
   pub labels : List (List ℕ)
@@ -49,7 +53,8 @@ with_object d number found = record {
 
 abbrev pub named : Draft → ℕ → List ℕ → Result Draft Cause
 named d number label =
-    if is_object d.objects number then Err ObjectNamedTwice else Ok (with_object d number (with_label label d.labels))
+    if is_object d.objects number then Err ObjectNamedTwice
+    else Ok (with_object d number (with_label label d.labels))
 
 -- a handle more
 abbrev pub with_handle : Draft → ℕ → ℕ → Bool → ℕ × List (List ℕ) → Draft
@@ -57,14 +62,16 @@ with_handle d from to owner found = record {
   objects = d.objects;
   labels = found.1;
   handles = d.handles
-      ++ record { from = from; to = to; slot = length d.handles; label = found.0; is_owner = owner } ∷ [];
+      ++ record { from = from; to = to; slot = length d.handles; label = found.0; is_owner = owner }
+      ∷ [];
 }
 
 -- the handle is in an object, or in something that is none, and on an object
 abbrev pub held : Draft → ℕ → ℕ → Bool → List ℕ → Result Draft Cause
 held d from to owner label =
     if (from == 0 || is_object d.objects from) && is_object d.objects to
-    then (if nat_lt (length d.handles) 67108864 then Ok (with_handle d from to owner (with_label label d.labels))
+    then (if nat_lt (length d.handles) 67108864
+    then Ok (with_handle d from to owner (with_label label d.labels))
     else Err TooManyHandles)
     else Err NoSuchObject
 
@@ -86,7 +93,8 @@ labelled d from to owner rest = do
 abbrev pub root_line : Draft → List ℕ → Result Draft Cause
 root_line d rest =
     if length (after_word rest) == 0 then Err WrongNumberOfWords
-    else (object_number_at (first_word rest) >>= λ number. labelled d 0 number true (after_word rest))
+    else (object_number_at (first_word rest)
+    >>= λ number. labelled d 0 number true (after_word rest))
 
 -- a line of a handle in an object
 abbrev pub handle_line : Draft → Bool → List ℕ → Result Draft Cause
@@ -108,7 +116,8 @@ statement_line d first rest =
 -- a line without words, or whose first word begins with `#`, is skipped
 abbrev pub after_words : Draft → List ℕ → Result Draft Cause
 after_words d [] = Ok d
-after_words d (b ∷ bs) = if b == 35 then Ok d else statement_line d (first_word (b ∷ bs)) (after_word (b ∷ bs))
+after_words d (b ∷ bs) =
+    if b == 35 then Ok d else statement_line d (first_word (b ∷ bs)) (after_word (b ∷ bs))
 
 -- the graph after a line, given without its line feed, or the first cause why the line is faulty
 abbrev pub after_line : Draft → List ℕ → Result Draft Cause

@@ -21,11 +21,13 @@ quoted label = flat_map quoted_byte label
 -- the color of an object: kept, or leaked in a knot, or else leaked, or ended
 abbrev pub color_text : Bool → Bool → Bool → List ℕ
 color_text is_kept stays is_tied =
-    cond is_kept (codes "white") (cond stays (cond is_tied (codes "orange") (codes "lightgrey")) (codes "white, fontcolor=grey"))
+    cond is_kept (codes "white") (cond stays (cond is_tied (codes "orange") (codes "lightgrey"))
+    (codes "white, fontcolor=grey"))
 
 abbrev pub node_text : ℕ → List ℕ → List ℕ → List ℕ
 node_text number label color =
-    codes "o" ++ decimal number ++ codes " [label=\"" ++ decimal number ++ codes " " ++ quoted label ++ codes "\", fillcolor="
+    codes "o" ++ decimal number ++ codes " [label=\"" ++ decimal number ++ codes " " ++ quoted label
+    ++ codes "\", fillcolor="
     ++ color ++ codes "];"
 
 -- an owner in the object ties its knot
@@ -37,21 +39,25 @@ abbrev pub node_lines : Draft → Findings → ℕ → List (List ℕ)
 node_lines d f number =
     cond (is_object d.objects number)
     (node_text number (object_label d number)
-    (color_text (marked f.kept.items number) (marked f.index.stays.items number) (has_tie d f number)) ∷ []) []
+    (color_text (marked f.kept.items number) (marked f.index.stays.items number)
+    (has_tie d f number)) ∷ []) []
 
 -- an owner is a full line, a bold one where it cuts its knot, and a weak handle a dashed one
 abbrev pub style_text : Bool → Bool → List ℕ
-style_text is_owner is_cut = cond is_owner (cond is_cut (codes "bold") (codes "solid")) (codes "dashed")
+style_text is_owner is_cut =
+    cond is_owner (cond is_cut (codes "bold") (codes "solid")) (codes "dashed")
 
 -- what ties a knot is red
 abbrev pub tie_color : Bool → List ℕ
 tie_color is_tie = cond is_tie (codes ", color=red") []
 
 abbrev pub box_text : ℕ → List ℕ → List ℕ
-box_text slot label = codes "r" ++ decimal slot ++ codes " [shape=box, label=\"" ++ quoted label ++ codes "\"];"
+box_text slot label =
+    codes "r" ++ decimal slot ++ codes " [shape=box, label=\"" ++ quoted label ++ codes "\"];"
 
 abbrev pub root_edge_text : ℕ → ℕ → List ℕ
-root_edge_text slot to = codes "r" ++ decimal slot ++ codes " -> o" ++ decimal to ++ codes " [style=solid];"
+root_edge_text slot to =
+    codes "r" ++ decimal slot ++ codes " -> o" ++ decimal to ++ codes " [style=solid];"
 
 -- something that is no object, as a box, and its handle
 abbrev pub root_lines : ℕ → ℕ → List ℕ → List (List ℕ)
@@ -60,14 +66,16 @@ root_lines slot to label = box_text slot label ∷ root_edge_text slot to ∷ []
 -- a handle in an object
 abbrev pub edge_text : ℕ → ℕ → List ℕ → List ℕ → List ℕ → List ℕ
 edge_text from to label style color =
-    codes "o" ++ decimal from ++ codes " -> o" ++ decimal to ++ codes " [label=\" " ++ quoted label ++ codes "\", style="
+    codes "o" ++ decimal from ++ codes " -> o" ++ decimal to ++ codes " [label=\" " ++ quoted label
+    ++ codes "\", style="
     ++ style ++ color ++ codes "];"
 
 -- a handle
 abbrev pub edge_lines : Draft → Findings → Holding → List (List ℕ)
 edge_lines d f h =
     cond (h.from == 0) (root_lines h.slot h.to (label_text d.labels h.label))
-    (edge_text h.from h.to (label_text d.labels h.label) (style_text h.is_owner (marked f.cuts.items h.slot))
+    (edge_text h.from h.to (label_text d.labels h.label)
+    (style_text h.is_owner (marked f.cuts.items h.slot))
     (tie_color (is_tie f.kept.items f.knots.items h)) ∷ [])
 
 -- how the drawing begins
@@ -77,4 +85,5 @@ head_lines = codes "digraph owners {" ∷ codes "node [style=filled, fillcolor=w
 -- all lines of a graph of which this was found
 abbrev pub graph_lines : Draft → Findings → List (List ℕ)
 graph_lines d f =
-    head_lines ++ lines_to (node_lines d f) (vertices_of d) ++ flat_map (edge_lines d f) d.handles ++ codes "}" ∷ []
+    head_lines ++ lines_to (node_lines d f) (vertices_of d) ++ flat_map (edge_lines d f) d.handles
+    ++ codes "}" ∷ []

@@ -12,7 +12,8 @@ labels_in entries = map (λ e. string_bytes e.0) entries
 -- a label's number
 abbrev pub find_label : List ℕ → List (List ℕ) → Option ℕ
 find_label label [] = None
-find_label label (l ∷ ls) = if bytes_eq label l then Some 0 else option_map (λ n. n + 1) (find_label label ls)
+find_label label (l ∷ ls) =
+    if bytes_eq label l then Some 0 else option_map (λ n. n + 1) (find_label label ls)
 
 abbrev pub label_found : Option ℕ → List ℕ → List (List ℕ) → ℕ × List (List ℕ)
 label_found None label labels = (length labels, labels ++ label ∷ [])

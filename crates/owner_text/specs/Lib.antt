@@ -5,5 +5,4 @@ pub mod Faults
 pub mod Grammar
 pub mod Labels
 pub mod Lines
-pub mod Reading
 pub mod Words

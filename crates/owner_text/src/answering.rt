@@ -1,7 +1,7 @@
 //! The answer to the text of a graph.
 
 ghost use Rattle.std.specs.Prelude.{◌≡◌, All, IfErr, IfOk, IfSome, IsTrue, nat_lt, string_bytes};
-ghost use Rattle.script_text.specs.Grammar.{ended};
+ghost use Rattle.text_lines.specs.Lines.{ended};
 ghost use Rattle.owner_graph.specs.Findings.{AreFindings};
 ghost use Rattle.owner_graph.specs.Owners.{IsAmong};
 ghost use Rattle.owner_text.specs.Answers.{IsOwnersText, lines_told};
@@ -37,7 +37,8 @@ fn are_among(handles: &[Holding], vertices: u32) -> bool
 
 /// The greatest number up to which a graph has objects, where all of its handles are among these.
 fn vertices_of(draft: &Draft) -> Option<u32>
-    ensures { IfSome result (λ n. (n ≡ vertices_of (draft_of draft.now)) × All (IsAmong n) draft.now.handles.items) }
+    ensures { IfSome result (λ n. (n ≡ vertices_of (draft_of draft.now))
+        × All (IsAmong n) draft.now.handles.items) }
 {
     let count = draft.objects.len();
     if count == 0 || count > 0xffff_ffff {
@@ -59,7 +60,8 @@ fn listed(
 ) -> Result<String, AllocError>
     requires vertices { vertices ≡ vertices_of (draft_of draft.now) }
     requires found { AreFindings vertices draft.now.handles.items found.now }
-    ensures { IfOk result (λ text. string_bytes text ≡ ended (all_lines (draft_of draft.now) found.now)) }
+    ensures { IfOk result (λ text. string_bytes text
+        ≡ ended (all_lines (draft_of draft.now) found.now)) }
 {
     let mut text = String::new(alloc);
     put_objects(&mut text, draft, found, vertices)?;
@@ -80,7 +82,8 @@ fn answer(
     requires vertices { vertices ≡ vertices_of (draft_of draft.now) }
     requires among { All (IsAmong vertices) draft.now.handles.items }
     ensures found { IfOk result (λ p. AreFindings vertices draft.now.handles.items p.0) }
-    ensures says { IfOk result (λ p. string_bytes p.1.text ≡ ended (lines_told draws (draft_of draft.now) p.0)) }
+    ensures says { IfOk result (λ p. string_bytes p.1.text
+        ≡ ended (lines_told draws (draft_of draft.now) p.0)) }
     ensures leaks { IfOk result (λ p. p.1.leaks ≡ nat_lt 0 (leaked_in (draft_of draft.now) p.0)) }
 {
     let found = Findings::new(alloc, vertices, draft.handles.as_slice())?;
@@ -93,14 +96,15 @@ fn answer(
     Ok((found, Told { text, leaks }))
 }
 
-/// Tells of each object of a graph whether it is kept, leaked, or has ended, and who holds it, and of each knot of
-/// leaked objects what ties it, and what would let it end; or draws it (own). What is told is told of the graph that
-/// the text spells.
+/// Tells of each object of a graph whether it is kept, leaked, or has ended, and who holds it, and
+/// of each knot of leaked objects what ties it, and what would let it end; or draws it (own). What
+/// is told is told of the graph that the text spells.
 ///
-/// Refused by 10, with the number of the first faulty line, from 1, and its cause, just where a line is
-/// faulty; by 1 where a growth is refused.
+/// Refused by 10, with the number of the first faulty line, from 1, and its cause, just where a
+/// line is faulty; by 1 where a growth is refused.
 pub fn owners_text(alloc: Global, bytes: &[u8], draws: bool) -> Result<Told, Fault>
-    ensures told { IfOk result (λ told. IsOwnersText draws bytes.now told.leaks (string_bytes told.text)) }
+    ensures told { IfOk result (λ told. IsOwnersText draws bytes.now told.leaks
+        (string_bytes told.text)) }
     ensures refused { IfErr result (λ fault. Refuses fault bytes.now) }
 {
     let draft = match read(alloc, bytes) {

@@ -1,10 +1,11 @@
 //! A graph so far.
 
 ghost use Rattle.std.specs.Prelude.{◌≡◌, ◌<◌, IfOk, Ok, OnOk, vec_len};
-ghost use Rattle.owner_text.specs.Drafts.{draft_of, held, is_object, named, new_draft, object_at, with_handle, with_object};
+ghost use Rattle.owner_text.specs.Drafts.{draft_of, held, is_object, named, new_draft, object_at};
+ghost use Rattle.owner_text.specs.Drafts.{with_handle, with_object};
 ghost use Rattle.owner_text.specs.Drafts.{with_room};
 ghost use Rattle.owner_text.specs.Labels.{with_label};
-ghost use Rattle.owner_text.specs.Reading.{Gives};
+ghost use Rattle.text_lines.specs.Reading.{Gives};
 
 use crate::fault::{Cause, Stop};
 use crate::labels::Labels;
@@ -14,8 +15,8 @@ use std::alloc::{AllocError, Global};
 /// The most handles that a graph may have.
 const MOST_HANDLES: usize = 67_108_864;
 
-/// A graph so far: of each number, from 0, one more than the number of the object's label, or 0 where there is no such
-/// object; the labels; and the handles.
+/// A graph so far: of each number, from 0, one more than the number of the object's label, or 0
+/// where there is no such object; the labels; and the handles.
 #[derive(Drop)]
 pub(crate) struct Draft {
     pub(crate) objects: Vec<u32>,
@@ -36,7 +37,8 @@ pub(crate) fn empty_draft(alloc: Global) -> Result<Draft, AllocError>
     })
 }
 
-/// What stands for an object: one more than the number of its label, or 0 where there is no such object.
+/// What stands for an object: one more than the number of its label, or 0 where there is no such
+/// object.
 pub(crate) fn object_at(draft: &Draft, number: u32) -> u32
     ensures { result ≡ object_at draft.now.objects.items number }
 {
@@ -68,7 +70,8 @@ fn make_room(objects: &mut Vec<u32>, number: u32) -> Result<(), AllocError>
 /// Adds an object that isn't there yet.
 fn add_object(alloc: Global, draft: &mut Draft, number: u32, label: &str) -> Result<(), Stop>
     ensures { Gives (λ _. draft_of draft.new) result
-        (Ok (with_object (draft_of draft.old) number (with_label label.now (draft_of draft.old).labels))) }
+        (Ok (with_object (draft_of draft.old) number
+        (with_label label.now (draft_of draft.old).labels))) }
 {
     let label = draft.labels.number(alloc, label)?;
     if label == u32::MAX {
@@ -105,7 +108,8 @@ pub(crate) struct Ends {
 /// Adds a handle between objects that are there.
 fn push_handle(alloc: Global, draft: &mut Draft, ends: Ends, label: &str) -> Result<(), Stop>
     requires { vec_len draft.old.handles < 67108864 }
-    ensures { Gives (λ _. draft_of draft.new) result (Ok (with_handle (draft_of draft.old) ends.from ends.to ends.is_owner
+    ensures { Gives (λ _. draft_of draft.new) result
+        (Ok (with_handle (draft_of draft.old) ends.from ends.to ends.is_owner
         (with_label label.now (draft_of draft.old).labels))) }
 {
     let label = draft.labels.number(alloc, label)?;

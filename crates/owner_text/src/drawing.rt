@@ -1,15 +1,16 @@
 //! A graph of owners for Graphviz.
 
-ghost use Rattle.std.specs.Prelude.{◌≡◌, ◌∷◌, ◌++◌, [], ℕ, IfOk, OnOk, codes, string_bytes};
+ghost use Rattle.std.specs.Prelude.{◌≡◌, ◌∷◌, ◌++◌, [], ℕ, IfOk, OnOk, string_bytes};
 ghost use Rattle.std.specs.List.{flat_map, list_any};
-ghost use Rattle.script_text.specs.Canonical.{AddsLines};
-ghost use Rattle.script_text.specs.Grammar.{ended};
+ghost use Rattle.text_lines.specs.Lines.{AddsLines, ended};
 ghost use Rattle.owner_graph.specs.Findings.{AreFindings};
 ghost use Rattle.owner_graph.specs.Rows.{held_in, row_at};
 ghost use Rattle.owner_graph.specs.Ties.{is_tie};
 ghost use Rattle.owner_text.specs.Drafts.{draft_of};
-ghost use Rattle.owner_text.specs.Drawing.{box_text, color_text, edge_lines, edge_text, graph_lines, has_tie, head_lines};
-ghost use Rattle.owner_text.specs.Drawing.{node_lines, node_text, quoted, quoted_byte, root_edge_text, root_lines};
+ghost use Rattle.owner_text.specs.Drawing.{box_text, color_text, edge_lines, edge_text};
+ghost use Rattle.owner_text.specs.Drawing.{graph_lines, has_tie, head_lines};
+ghost use Rattle.owner_text.specs.Drawing.{node_lines, node_text, quoted, quoted_byte};
+ghost use Rattle.owner_text.specs.Drawing.{root_edge_text, root_lines};
 ghost use Rattle.owner_text.specs.Drawing.{style_text, tie_color};
 ghost use Rattle.owner_text.specs.Lines.{lines_to, vertices_of};
 
@@ -58,7 +59,8 @@ fn color_word(is_kept: bool, stays: bool, is_tied: bool) -> &'static str
 
 /// Adds an object.
 fn put_node(text: &mut String, number: u32, label: &str, color: &str) -> Result<(), AllocError>
-    ensures { OnOk result (AddsLines text.old text.new (node_text number label.now color.now ∷ [])) }
+    ensures { OnOk result (AddsLines text.old text.new
+        (node_text number label.now color.now ∷ [])) }
 {
     write!(text, "o{number} [label=\"{number} ")?;
     put_quoted(text, label)?;
@@ -88,7 +90,8 @@ fn put_object(
     number: u32,
 ) -> Result<(), AllocError>
     requires { (b : ℕ) → row_at found.now.sources.items b ≡ held_in draft.now.handles.items b }
-    ensures { OnOk result (AddsLines text.old text.new (node_lines (draft_of draft.now) found.now number)) }
+    ensures { OnOk result (AddsLines text.old text.new
+        (node_lines (draft_of draft.now) found.now number)) }
 {
     if !is_object(draft, number) {
         return Ok(());
@@ -191,7 +194,8 @@ fn put_handle(
     found: &Findings,
     handle: Holding,
 ) -> Result<(), AllocError>
-    ensures { OnOk result (AddsLines text.old text.new (edge_lines (draft_of draft.now) found.now handle)) }
+    ensures { OnOk result (AddsLines text.old text.new
+        (edge_lines (draft_of draft.now) found.now handle)) }
 {
     let label = draft.labels.text(handle.label);
     if handle.from == 0 {
@@ -235,7 +239,8 @@ pub(crate) fn drawn(
 ) -> Result<String, AllocError>
     requires vertices { vertices ≡ vertices_of (draft_of draft.now) }
     requires found { AreFindings vertices draft.now.handles.items found.now }
-    ensures { IfOk result (λ text. string_bytes text ≡ ended (graph_lines (draft_of draft.now) found.now)) }
+    ensures { IfOk result (λ text. string_bytes text
+        ≡ ended (graph_lines (draft_of draft.now) found.now)) }
 {
     let mut text = String::new(alloc);
     put_head(&mut text)?;

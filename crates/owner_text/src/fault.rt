@@ -1,10 +1,9 @@
 //! Why a text is no graph, or a graph has no answer.
 
 ghost use Rattle.std.specs.Prelude.{◌≡◌};
-ghost use Rattle.owner_text.specs.declared.fault.Stop.TheVariants.{Memory};
 ghost use Rattle.owner_text.specs.Faults.{cause_words};
 
-use std::alloc::{AllocError, AllocFailed};
+use text_lines::LineFault;
 
 /// What is wrong with a line, in the order in which causes are looked for on one line (own).
 #[derive(Clone, Copy, Debug, PartialEq, Eq)]
@@ -49,33 +48,7 @@ impl Cause {
 }
 
 /// A refusal of a text.
-#[derive(Clone, Copy, Debug, PartialEq, Eq)]
-pub enum Fault {
-    /// A growth was really refused.
-    Memory,
-    /// The first faulty line, counted from 1, and what is wrong with it.
-    Syntax { line: usize, cause: Cause },
-}
+pub type Fault = LineFault<Cause>;
 
 /// Why a line was not read.
-#[derive(Debug, Drop)]
-pub(crate) enum Stop {
-    Memory,
-    Cause(Cause),
-}
-
-impl From<AllocError> for Stop {
-    ghost from_gives = { λ _ e. e ≡ Memory };
-
-    fn from(_e: AllocError) -> Stop {
-        Stop::Memory
-    }
-}
-
-impl<T: Drop> From<AllocFailed<T>> for Stop {
-    ghost from_gives = { λ _ e. e ≡ Memory };
-
-    fn from(_e: AllocFailed<T>) -> Stop {
-        Stop::Memory
-    }
-}
+pub(crate) type Stop = text_lines::Stop<Cause>;

@@ -1,14 +1,16 @@
 //! The lines of knots.
 
-ghost use Rattle.std.specs.Prelude.{◌≡◌, ◌∷◌, ◌++◌, ◌==◌, [], ℕ, IfOk, OnOk, codes, map, string_bytes};
+ghost use Rattle.std.specs.Prelude.{◌≡◌, ◌∷◌, ◌++◌, ◌==◌, [], ℕ, IfOk, OnOk, codes, map};
+ghost use Rattle.std.specs.Prelude.{string_bytes};
 ghost use Rattle.std.specs.List.{filter, flat_map};
-ghost use Rattle.script_text.specs.Canonical.{AddsLines};
+ghost use Rattle.text_lines.specs.Lines.{AddsLines};
 ghost use Rattle.owner_graph.specs.Labels.{at};
 ghost use Rattle.owner_graph.specs.Members.{homes};
 ghost use Rattle.owner_graph.specs.Rows.{held_in, held_on, row_at};
 ghost use Rattle.owner_graph.specs.Ties.{is_tie};
 ghost use Rattle.owner_text.specs.Drafts.{draft_of};
-ghost use Rattle.owner_text.specs.Lines.{cut_lines, knot_lines, knot_text, lines_to, member_text, tie_text, tied_lines};
+ghost use Rattle.owner_text.specs.Lines.{cut_lines, knot_lines, knot_text, lines_to, member_text};
+ghost use Rattle.owner_text.specs.Lines.{tie_text, tied_lines};
 ghost use Rattle.owner_text.specs.Lines.{vertices_of, weaken_text};
 
 use crate::draft::Draft;
@@ -30,7 +32,8 @@ fn put_member(text: &mut String, member: Holding) -> Result<(), AllocError>
 
 /// Adds the objects of a knot.
 fn put_members(text: &mut String, members: &[Holding]) -> Result<(), AllocError>
-    ensures { OnOk result (string_bytes text.new ≡ string_bytes text.old ++ flat_map member_text members.now) }
+    ensures { OnOk result (string_bytes text.new ≡ string_bytes text.old
+        ++ flat_map member_text members.now) }
 {
     for member in members {
         put_member(text, *member)?;
@@ -49,7 +52,8 @@ fn put_knot(text: &mut String, members: &[Holding]) -> Result<(), AllocError>
 
 /// Adds the lines of the owners that tie a knot.
 fn put_ties(text: &mut String, labels: &Labels, ties: &[Holding]) -> Result<(), AllocError>
-    ensures { OnOk result (AddsLines text.old text.new (map (tie_text (codes "tie") labels.now) ties.now)) }
+    ensures { OnOk result (AddsLines text.old text.new
+        (map (tie_text (codes "tie") labels.now) ties.now)) }
 {
     for tie in ties {
         put_tie(text, "tie", labels, *tie)?;
@@ -64,7 +68,8 @@ fn put_cut(
     found: &Findings,
     tie: Holding,
 ) -> Result<(), AllocError>
-    ensures { OnOk result (AddsLines text.old text.new (cut_lines found.now.cuts.items labels.now tie)) }
+    ensures { OnOk result (AddsLines text.old text.new
+        (cut_lines found.now.cuts.items labels.now tie)) }
 {
     if !is_cut(found, tie.slot) {
         return Ok(());
@@ -108,7 +113,8 @@ fn put_tied(
 ) -> Result<(), AllocError>
     requires { (k : ℕ) → row_at found.now.index.members.items k
         ≡ held_on (homes found.now.knots.items (vertices_of (draft_of draft.now))) k }
-    ensures { OnOk result (AddsLines text.old text.new (tied_lines (draft_of draft.now) found.now least ties.now)) }
+    ensures { OnOk result (AddsLines text.old text.new
+        (tied_lines (draft_of draft.now) found.now least ties.now)) }
 {
     if ties.is_empty() {
         return Ok(());
@@ -135,7 +141,8 @@ fn is_least(found: &Findings, number: u32) -> bool
 
 /// The owners that tie the knot with this least object.
 fn ties_of(alloc: Global, found: &Findings, least: u32) -> Result<Vec<Holding>, AllocError>
-    ensures { IfOk result (λ ties. ties.items ≡ flat_map (λ m. filter (is_tie found.now.kept.items found.now.knots.items)
+    ensures { IfOk result (λ ties. ties.items
+        ≡ flat_map (λ m. filter (is_tie found.now.kept.items found.now.knots.items)
         (row_at found.now.sources.items m.from)) (row_at found.now.index.members.items least)) }
 {
     let members = members_of(found, least);
@@ -154,8 +161,10 @@ fn put_lines(
 ) -> Result<(), AllocError>
     requires members { (k : ℕ) → row_at found.now.index.members.items k
         ≡ held_on (homes found.now.knots.items (vertices_of (draft_of draft.now))) k }
-    requires sources { (b : ℕ) → row_at found.now.sources.items b ≡ held_in draft.now.handles.items b }
-    ensures { OnOk result (AddsLines text.old text.new (knot_lines (draft_of draft.now) found.now least)) }
+    requires sources { (b : ℕ) → row_at found.now.sources.items b
+        ≡ held_in draft.now.handles.items b }
+    ensures { OnOk result (AddsLines text.old text.new
+        (knot_lines (draft_of draft.now) found.now least)) }
 {
     if !is_least(found, least) {
         return Ok(());
@@ -175,7 +184,8 @@ pub(crate) fn put_knots(
 ) -> Result<(), AllocError>
     requires members { (k : ℕ) → row_at found.now.index.members.items k
         ≡ held_on (homes found.now.knots.items (vertices_of (draft_of draft.now))) k }
-    requires sources { (b : ℕ) → row_at found.now.sources.items b ≡ held_in draft.now.handles.items b }
+    requires sources { (b : ℕ) → row_at found.now.sources.items b
+        ≡ held_in draft.now.handles.items b }
     ensures { OnOk result (AddsLines text.old text.new
         (lines_to (knot_lines (draft_of draft.now) found.now) vertices)) }
 {

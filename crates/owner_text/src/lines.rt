@@ -1,9 +1,9 @@
 //! The parts of lines, as text.
 
 ghost use Rattle.std.specs.Prelude.{◌≡◌, ◌∷◌, ◌++◌, [], OnOk, codes, decimal, map, string_bytes};
-ghost use Rattle.script_text.specs.Canonical.{AddsLines};
-ghost use Rattle.owner_text.specs.Labels.{label_text};
-ghost use Rattle.owner_text.specs.Lines.{handle_text, kind_text, label_part, object_text, status_text, tie_text};
+ghost use Rattle.text_lines.specs.Lines.{AddsLines};
+ghost use Rattle.owner_text.specs.Lines.{handle_text, kind_text, label_part, object_text};
+ghost use Rattle.owner_text.specs.Lines.{status_text, tie_text};
 ghost use Rattle.owner_text.specs.Lines.{totals_text, weaken_text};
 
 use crate::labels::Labels;
@@ -57,7 +57,8 @@ pub(crate) fn put_object(
     status: &str,
     label: &str,
 ) -> Result<(), AllocError>
-    ensures { OnOk result (AddsLines text.old text.new (object_text number status.now label.now ∷ [])) }
+    ensures { OnOk result (AddsLines text.old text.new
+        (object_text number status.now label.now ∷ [])) }
 {
     write!(text, "object {number} {status}")?;
     put_label(text, label)?;

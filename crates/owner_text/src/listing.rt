@@ -1,7 +1,7 @@
 //! The lines of objects, and how many there are.
 
-ghost use Rattle.std.specs.Prelude.{◌≡◌, ◌+◌, ◌-◌, ◌≤◌, ℕ, OnOk, string_bytes};
-ghost use Rattle.script_text.specs.Canonical.{AddsLines};
+ghost use Rattle.std.specs.Prelude.{◌≡◌, ◌+◌, ◌-◌, ℕ, OnOk};
+ghost use Rattle.text_lines.specs.Lines.{AddsLines};
 ghost use Rattle.owner_graph.specs.Rows.{held_on, row_at};
 ghost use Rattle.owner_text.specs.Drafts.{draft_of, is_object};
 ghost use Rattle.owner_text.specs.Lines.{counted, is_leaked, lines_to, object_label, object_lines};
@@ -28,7 +28,8 @@ fn put_lines(
     number: u32,
 ) -> Result<(), AllocError>
     requires { (b : ℕ) → row_at found.now.index.rows.items b ≡ held_on draft.now.handles.items b }
-    ensures { OnOk result (AddsLines text.old text.new (object_lines (draft_of draft.now) found.now number)) }
+    ensures { OnOk result (AddsLines text.old text.new
+        (object_lines (draft_of draft.now) found.now number)) }
 {
     if !is_object(draft, number) {
         return Ok(());

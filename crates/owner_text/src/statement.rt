@@ -1,17 +1,17 @@
 //! What each line adds to a graph.
 
-ghost use Rattle.std.specs.Prelude.{◌≡◌};
-ghost use Rattle.owner_text.specs.Drafts.{after_line, after_words, draft_of, handle_line, labelled, object_line, root_line};
+ghost use Rattle.owner_text.specs.Drafts.{after_words, draft_of, handle_line, labelled};
+ghost use Rattle.owner_text.specs.Drafts.{object_line, root_line};
 ghost use Rattle.owner_text.specs.Drafts.{statement_line};
-ghost use Rattle.owner_text.specs.Reading.{Gives};
+ghost use Rattle.text_lines.specs.Reading.{Gives};
 
 use crate::draft::{Draft, Ends, add_handle, name_object};
 use crate::fault::{Cause, Stop};
-use crate::words::{
-    after_word, content, first_word, is_clean, label_of, object_number, without_last_spaces,
-    without_spaces,
-};
+use crate::words::{label_of, object_number};
 use std::alloc::Global;
+use text_lines::{
+    LineReader, after_word, first_word, is_clean, line_content, without_last_spaces, without_spaces,
+};
 
 /// A line that names an object.
 fn add_object_line(alloc: Global, draft: &mut Draft, rest: &[u8]) -> Result<(), Stop>
@@ -58,7 +58,8 @@ fn add_handle_line(
     is_owner: bool,
     rest: &[u8],
 ) -> Result<(), Stop>
-    ensures { Gives (λ _. draft_of draft.new) result (handle_line (draft_of draft.old) is_owner rest.now) }
+    ensures { Gives (λ _. draft_of draft.new) result
+        (handle_line (draft_of draft.old) is_owner rest.now) }
 {
     let second = after_word(rest);
     let label = after_word(second);
@@ -73,7 +74,8 @@ fn add_handle_line(
 
 /// A line that isn't skipped.
 fn add_statement(alloc: Global, draft: &mut Draft, first: &[u8], rest: &[u8]) -> Result<(), Stop>
-    ensures { Gives (λ _. draft_of draft.new) result (statement_line (draft_of draft.old) first.now rest.now) }
+    ensures { Gives (λ _. draft_of draft.new) result
+        (statement_line (draft_of draft.old) first.now rest.now) }
 {
     if first == b"object".as_slice() {
         add_object_line(alloc, draft, rest)
@@ -101,13 +103,22 @@ fn add_words(alloc: Global, draft: &mut Draft, line: &[u8]) -> Result<(), Stop>
     add_statement(alloc, draft, first_word(line), after_word(line))
 }
 
-/// Adds a line, given without its line feed.
-pub(crate) fn add_line(alloc: Global, draft: &mut Draft, line: &[u8]) -> Result<(), Stop>
-    ensures { Gives (λ _. draft_of draft.new) result (after_line (draft_of draft.old) line.now) }
-{
-    let line = content(line);
-    if !is_clean(line) {
-        return Err(Stop::Cause(Cause::BadByte));
+impl LineReader for Draft {
+    ghost use Rattle.owner_text.specs.Drafts.{Draft as DraftView, after_line, draft_of};
+
+    type Cause = Cause;
+
+    ghost State = { DraftView };
+
+    ghost seen = { draft_of };
+
+    ghost after = { after_line };
+
+    fn add_line(&mut self, alloc: Global, line: &[u8]) -> Result<(), Stop> {
+        let line = line_content(line);
+        if !is_clean(line) {
+            return Err(Stop::Cause(Cause::BadByte));
+        }
+        add_words(alloc, self, without_spaces(without_last_spaces(line)))
     }
-    add_words(alloc, draft, without_spaces(without_last_spaces(line)))
 }

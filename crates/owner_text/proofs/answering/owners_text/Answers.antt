@@ -8,5 +8,6 @@ returns-in-Ok-answer-clause-told c =
     let reads = c.in-Ok.ensures in
     let n_is = c.in-Some.ensures in
     let found = c.in-Ok-answer.ensures in
-    told_is c.args.draws c.args.bytes.now (string_bytes c.in-Ok-answer.told.text) c.in-Ok-answer.told.leaks (draft_of c.in-Ok.draft)
+    told_is c.args.draws c.args.bytes.now (string_bytes c.in-Ok-answer.told.text)
+    c.in-Ok-answer.told.leaks (draft_of c.in-Ok.draft)
     c.in-Some.vertices c.in-Ok-answer.found reads n_is.0 found.found found.says found.leaks

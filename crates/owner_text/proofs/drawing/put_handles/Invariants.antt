@@ -1,7 +1,7 @@
 use Rattle.std.proofs.Common.{◌≡◌, ◌++◌, take}
 use Rattle.std.specs.Prelude.{string_bytes}
 use Rattle.std.specs.List.{flat_map}
-use Rattle.script_text.specs.Grammar.{ended}
+use Rattle.text_lines.specs.Lines.{ended}
 use Rattle.owner_text.specs.Drafts.{draft_of}
 use Rattle.owner_text.specs.Drawing.{edge_lines}
 use Rattle.owner_text.proofs.drawing.put_handles.Given as goal

@@ -5,4 +5,5 @@ use Rattle.owner_text.specs.Drawing.{quoted_byte}
 use Rattle.owner_text.proofs.drawing.put_quoted.Given as goal
 
 abbrev pub invariant-loop-byte : goal.invariant-loop-byte
-invariant-loop-byte l = string_bytes l.text ≡ string_bytes l.fn.text ++ flat_map quoted_byte (take l.byte-index l.byte-items)
+invariant-loop-byte l = string_bytes l.text ≡ string_bytes l.fn.text
+    ++ flat_map quoted_byte (take l.byte-index l.byte-items)

@@ -6,5 +6,7 @@ use Rattle.owner_text.proofs.knots.put_knots.Goals as goal
 
 pub loop-before-preserved : goal.loop-before-preserved
 loop-before-preserved c =
-    numbers_on (knot_lines (draft_of c.args.draft.now) c.args.found.now) c.loop-before.before (string_bytes c.args.text.now)
-    (string_bytes c.loop-before.text) (string_bytes c.put_lines.new.text) c.loop-before.invariant c.in_ok-put_lines.ensures
+    numbers_on (knot_lines (draft_of c.args.draft.now) c.args.found.now) c.loop-before.before
+    (string_bytes c.args.text.now)
+    (string_bytes c.loop-before.text) (string_bytes c.put_lines.new.text) c.loop-before.invariant
+    c.in_ok-put_lines.ensures

@@ -5,4 +5,5 @@ use Rattle.owner_text.specs.Lines.{member_text}
 use Rattle.owner_text.proofs.knots.put_members.Given as goal
 
 abbrev pub invariant-loop-member : goal.invariant-loop-member
-invariant-loop-member l = string_bytes l.text ≡ string_bytes l.fn.text ++ (flat_map (member_text) (take l.member-index l.members))
+invariant-loop-member l = string_bytes l.text ≡ string_bytes l.fn.text
+    ++ (flat_map (member_text) (take l.member-index l.members))

@@ -1,8 +1,9 @@
 use Rattle.std.proofs.Common.{◌≡◌, ◌++◌, codes, map, take}
 use Rattle.std.specs.Prelude.{string_bytes}
-use Rattle.script_text.specs.Grammar.{ended}
+use Rattle.text_lines.specs.Lines.{ended}
 use Rattle.owner_text.specs.Lines.{tie_text}
 use Rattle.owner_text.proofs.knots.put_ties.Given as goal
 
 abbrev pub invariant-loop-tie : goal.invariant-loop-tie
-invariant-loop-tie l = string_bytes l.text ≡ string_bytes l.fn.text ++ ended (map (tie_text (codes "tie") l.labels) (take l.tie-index l.ties))
+invariant-loop-tie l = string_bytes l.text ≡ string_bytes l.fn.text
+    ++ ended (map (tie_text (codes "tie") l.labels) (take l.tie-index l.ties))

@@ -1,0 +1,7 @@
+pub mod ByteTests
+pub mod Ended
+pub mod GrammarLemmas
+pub mod LineLemmas
+pub mod NumberLemmas
+pub mod OneReading
+pub mod WordLemmas

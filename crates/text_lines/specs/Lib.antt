@@ -1,0 +1,5 @@
+pub mod Grammar
+pub mod Lines
+pub mod Numbers
+pub mod Reading
+pub mod Words
