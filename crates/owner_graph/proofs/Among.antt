@@ -7,15 +7,19 @@ use Rattle.owner_graph.specs.declared.holding.Holding.{Holding}
 use Rattle.owner_graph.specs.Edges.{edge_of, owner_edges}
 use Rattle.owner_graph.specs.Owners.{IsAmong}
 
-pub among_within : (vertices : ℕ) (hs : List Holding) → All (IsAmong vertices) hs → AreWithin (vertices + 1) (owner_edges hs)
+pub among_within : (vertices : ℕ) (hs : List Holding) → All (IsAmong vertices) hs
+    → AreWithin (vertices + 1) (owner_edges hs)
 among_within vertices [] all = All-nil (IsEdgeWithin (vertices + 1))
 among_within vertices (h ∷ hs) all =
     let a = All-head (IsAmong vertices) h hs all in
     let x = a.0 in
     let y = a.1 in
-    go h.is_owner (omega (arith, x), omega (arith, y)) (among_within vertices hs (All-tail (IsAmong vertices) h hs all))
+    go h.is_owner (omega (arith, x), omega (arith, y))
+    (among_within vertices hs (All-tail (IsAmong vertices) h hs all))
   where
-    go : (t : Bool) → IsEdgeWithin (vertices + 1) (edge_of h) → AreWithin (vertices + 1) (owner_edges hs)
+    go : (t : Bool) → IsEdgeWithin (vertices + 1) (edge_of h)
+        → AreWithin (vertices + 1) (owner_edges hs)
         → AreWithin (vertices + 1) (cond t (edge_of h ∷ []) [] ++ owner_edges hs)
-    go true here rest = All-cons (IsEdgeWithin (vertices + 1)) (edge_of h) (owner_edges hs) here rest
+    go true here rest = All-cons (IsEdgeWithin (vertices + 1)) (edge_of h) (owner_edges hs) here
+        rest
     go false here rest = rest

@@ -22,18 +22,21 @@ pub all_back : {A : Type 0} (P : A → Type 0) (xs ys : List A) → All P (xs ++
 all_back P [] ys all = all
 all_back P (x ∷ xs) ys all = all_back P xs ys (All-tail P x (xs ++ ys) all)
 
-pub held_append : (xs ys : List Holding) (b : ℕ) → held_on (xs ++ ys) b ≡ held_on xs b ++ held_on ys b
+pub held_append : (xs ys : List Holding) (b : ℕ) → held_on (xs ++ ys) b ≡ held_on xs b
+    ++ held_on ys b
 held_append [] ys b = refl
 held_append (x ∷ xs) ys b = go (x.to == b) (held_append xs ys b)
   where
     go : (t : Bool) → held_on (xs ++ ys) b ≡ held_on xs b ++ held_on ys b
-        → cond t (x ∷ held_on (xs ++ ys) b) (held_on (xs ++ ys) b) ≡ cond t (x ∷ held_on xs b) (held_on xs b) ++ held_on ys b
+        → cond t (x ∷ held_on (xs ++ ys) b) (held_on (xs ++ ys) b) ≡ cond t (x ∷ held_on xs b)
+        (held_on xs b) ++ held_on ys b
     go true e = ap (λ (l : List Holding). x ∷ l) e
     go false e = e
 
 module _ (P : Holding → Type 0) (knots : List ℕ) (k : ℕ) where
   -- a vertex of the knot is among its vertices
-  pub home_listed : (n : ℕ) → All P (held_on (homes knots n) k) → (b : ℕ) → 1 ≤ b → b ≤ n → at knots b ≡ k → P (home knots b)
+  pub home_listed : (n : ℕ) → All P (held_on (homes knots n) k) → (b : ℕ) → 1 ≤ b → b ≤ n
+      → at knots b ≡ k → P (home knots b)
   home_listed zero all b one within same = absurd (omega (arith, one, within))
   home_listed (suc n) all b one within same =
       let split : All P (held_on (homes knots n) k ++ held_on (home knots (suc n) ∷ []) k) =
@@ -45,13 +48,16 @@ module _ (P : Holding → Type 0) (knots : List ℕ) (k : ℕ) where
             let here : at knots (suc n) ≡ k = ap (at knots) (sym e) ∙ same in
             subst (λ (m : ℕ). P (home knots m)) (sym e)
             (All-head P (home knots (suc n)) []
-            (subst (All P) (cond-true (at knots (suc n) == k) (home knots (suc n) ∷ []) [] (eq-eqb (at knots (suc n)) k here)) last))
+            (subst (All P) (cond-true (at knots (suc n) == k) (home knots (suc n) ∷ []) []
+            (eq-eqb (at knots (suc n)) k here)) last))
         | inr ne ↦
-            home_listed n (all_front P (held_on (homes knots n) k) (held_on (home knots (suc n) ∷ []) k) split) b one (omega (arith, within, ne)) same
+            home_listed n (all_front P (held_on (homes knots n) k)
+            (held_on (home knots (suc n) ∷ []) k) split) b one (omega (arith, within, ne)) same
       ]
 
 -- one vertex more
-pub homes_more : (knots : List ℕ) (n m k : ℕ) (x : Holding) (old new : List Holding) → old ≡ homes knots n → new ≡ old ++ x ∷ []
+pub homes_more : (knots : List ℕ) (n m k : ℕ) (x : Holding) (old new : List Holding)
+    → old ≡ homes knots n → new ≡ old ++ x ∷ []
     → x ≡ home knots k → k ≡ n + 1 → m ≡ n + 1 → new ≡ homes knots m
 homes_more knots n m k x old new e push is at_ to =
     push ∙ ap (λ (l : List Holding). l ++ x ∷ []) e
@@ -66,10 +72,14 @@ pub with_all : (knots : List ℕ) (hs : List Holding) → without (is_weakened k
 with_all knots [] = refl
 with_all knots (h ∷ hs) = ap (λ (l : List Holding). h ∷ l) (with_all knots hs)
 
-pub none_weak : (knots : List ℕ) (hs : List Holding) (b : ℕ) (off : Type 0) → off ↔ EndsWithOwners (without (is_weakened knots Nobody) hs) b
+pub none_weak : (knots : List ℕ) (hs : List Holding) (b : ℕ) (off : Type 0) → off
+    ↔ EndsWithOwners (without (is_weakened knots Nobody) hs) b
     → off ↔ EndsWithOwners hs b
-none_weak knots hs b off both = subst (λ (l : List Holding). off ↔ EndsWithOwners l b) (with_all knots hs) both
+none_weak knots hs b off both = subst (λ (l : List Holding). off ↔ EndsWithOwners l b)
+    (with_all knots hs) both
 
-pub home_among : (knots : List ℕ) (vertices b : ℕ) (x : Holding) → x ≡ home knots b → ((a : ℕ) → 1 ≤ a → a ≤ vertices → at knots a ≤ vertices)
+pub home_among : (knots : List ℕ) (vertices b : ℕ) (x : Holding) → x ≡ home knots b
+    → ((a : ℕ) → 1 ≤ a → a ≤ vertices → at knots a ≤ vertices)
     → 1 ≤ b → b ≤ vertices → IsAmong vertices x
-home_among knots vertices b x is low one within = subst (IsAmong vertices) (sym is) (within, low b one within)
+home_among knots vertices b x is low one within = subst (IsAmong vertices) (sym is)
+    (within, low b one within)

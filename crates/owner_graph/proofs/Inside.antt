@@ -7,13 +7,15 @@ use Rattle.owner_graph.specs.declared.weakening.Weakening.TheVariants.{Labelled}
 use Rattle.owner_graph.specs.Ends.{is_weakened, same_place}
 use Rattle.owner_graph.specs.Labels.{at}
 
-pub placed_inside : (knots : List ℕ) (t : Holding) (least : ℕ) → 1 ≤ t.from → at knots t.from ≡ least → (h : Holding) → same_place h t ≡ true
+pub placed_inside : (knots : List ℕ) (t : Holding) (least : ℕ) → 1 ≤ t.from
+    → at knots t.from ≡ least → (h : Holding) → same_place h t ≡ true
     → (h.from ≢ 0) × (at knots h.from ≡ least)
 placed_inside knots t least some same h is =
     let from = eqb-true h.from t.from (and_parts (h.from == t.from) (h.slot == t.slot) is).0 in
     (λ z. absurd (omega (arith, z, from, some)), ap (at knots) from ∙ same)
 
-pub labelled_inside : (knots : List ℕ) (least first second : ℕ) (h : Holding) → is_weakened knots (Labelled least first second) h ≡ true
+pub labelled_inside : (knots : List ℕ) (least first second : ℕ) (h : Holding)
+    → is_weakened knots (Labelled least first second) h ≡ true
     → (h.from ≢ 0) × (at knots h.from ≡ least)
 labelled_inside knots least first second h is =
     let a = nat_lt 0 h.from in

@@ -11,13 +11,16 @@ use Rattle.owner_graph.specs.Labels.InnerStep.{Down, Up, Within}
 use Rattle.owner_graph.proofs.Backwards.{and_on}
 
 -- what is owned is among the vertices
-pub owned_among : (vertices : ℕ) (hs : List Holding) (a b : ℕ) → All (IsAmong vertices) hs → Owns hs a b → b ≤ vertices
+pub owned_among : (vertices : ℕ) (hs : List Holding) (a b : ℕ) → All (IsAmong vertices) hs
+    → Owns hs a b → b ≤ vertices
 owned_among vertices [] a b all o = absurd o
 owned_among vertices (h ∷ hs) a b all (inl o) =
     subst (λ (x : ℕ). x ≤ vertices) o.2 (All-head (IsAmong vertices) h hs all).1
-owned_among vertices (h ∷ hs) a b all (inr o) = owned_among vertices hs a b (All-tail (IsAmong vertices) h hs all) o
+owned_among vertices (h ∷ hs) a b all (inr o) = owned_among vertices hs a b
+    (All-tail (IsAmong vertices) h hs all) o
 
-pub led_among : (vertices : ℕ) (hs : List Holding) (a : ℕ) (path : List ℕ) (b : ℕ) → All (IsAmong vertices) hs → a ≤ vertices
+pub led_among : (vertices : ℕ) (hs : List Holding) (a : ℕ) (path : List ℕ) (b : ℕ)
+    → All (IsAmong vertices) hs → a ≤ vertices
     → IsOwnerPath hs a path b → b ≤ vertices
 led_among vertices hs a [] b all le e = subst (λ (x : ℕ). x ≤ vertices) e le
 led_among vertices hs a (x ∷ xs) b all le p =
@@ -25,7 +28,8 @@ led_among vertices hs a (x ∷ xs) b all le p =
 
 module _ (hs : List Holding) where
   -- from a vertex on, ranks never fall
-  pub risen : (ranks : List ℕ) → AreRanked hs ranks → (a : ℕ) (path : List ℕ) (b : ℕ) → a ≢ 0 → IsOwnerPath hs a path b
+  pub risen : (ranks : List ℕ) → AreRanked hs ranks → (a : ℕ) (path : List ℕ) (b : ℕ) → a ≢ 0
+      → IsOwnerPath hs a path b
       → at ranks a ≤ at ranks b
   risen ranks ranked a [] b ne e = subst (λ (x : ℕ). at ranks a ≤ at ranks x) e (omega arith)
   risen ranks ranked a (x ∷ xs) b ne p =
@@ -45,12 +49,21 @@ module _ (hs : List Holding) where
     FromLabel x = (x ≡ 0) ⊎ ((x ≢ 0) × OwnersLead hs (at labels x) x)
 
     down : (x y : ℕ) → FromLabel x → InnerStep hs labels x y → FromLabel y
-    down x y f (Down is ne own) = inr (ne, subst (λ (l : ℕ). OwnersLead hs l y) (sym own) ([], refl))
+    down x y f (Down is ne own) = inr (
+      ne,
+      subst (λ (l : ℕ). OwnersLead hs l y) (sym own)
+          ([], refl),
+    )
     down x y f (Up ne is own) = inl is
     down x y (inl is) (Within ne one same o) = absurd (ne is)
-    down x y (inr f) (Within ne one same o) = inr (one, subst (λ (l : ℕ). OwnersLead hs l y) same (then_one (at labels x) x y f.1 o))
+    down x y (inr f) (Within ne one same o) = inr (
+      one,
+      subst (λ (l : ℕ). OwnersLead hs l y) same
+          (then_one (at labels x) x y f.1 o),
+    )
 
-    pub from_label : (a : ℕ) (path : List ℕ) (b : ℕ) → FromLabel a → IsOwnerPath steps a path b → FromLabel b
+    pub from_label : (a : ℕ) (path : List ℕ) (b : ℕ) → FromLabel a → IsOwnerPath steps a path b
+        → FromLabel b
     from_label a [] b f e = subst FromLabel e f
     from_label a (x ∷ xs) b f p = from_label x xs b (down a x f (inner a x p.0)) p.1
 
@@ -61,7 +74,8 @@ module _ (hs : List Holding) where
     up x y f (Down is ne own) = inl is
     up x y f (Up ne is own) = inr (subst (λ (l : ℕ). OwnersLead hs x l) (sym own) ([], refl))
     up x y (inl is) (Within ne one same o) = absurd (one is)
-    up x y (inr f) (Within ne one same o) = inr (subst (λ (l : ℕ). OwnersLead hs x l) (sym same) (one_then x y (at labels y) o f))
+    up x y (inr f) (Within ne one same o) = inr (subst (λ (l : ℕ). OwnersLead hs x l) (sym same)
+        (one_then x y (at labels y) o f))
 
     pub to_label : (a : ℕ) (path : List ℕ) (b : ℕ) → b ≡ 0 → IsOwnerPath steps a path b → ToLabel a
     to_label a [] b zero_ e = inl (e ∙ zero_)
@@ -77,7 +91,8 @@ module _ (hs : List Holding) where
 
     -- labels that are reached both ways, and that ranks tell apart, are the least of knots
     pub is_least : (vertices : ℕ) (ranks : List ℕ) → All (IsAmong vertices) hs → AreRanked hs ranks
-        → ((a b : ℕ) → a ≤ vertices → b ≤ vertices → at ranks a ≡ at ranks b → at labels a ≡ at labels b)
+        → ((a b : ℕ) → a ≤ vertices → b ≤ vertices → at ranks a ≡ at ranks b
+        → at labels a ≡ at labels b)
         → ((b : ℕ) → 1 ≤ b → b ≤ vertices → (1 ≤ at labels b) × (at labels b ≤ b))
         → ((b : ℕ) → 1 ≤ b → b ≤ vertices → OwnersLead steps 0 b)
         → ((b : ℕ) → 1 ≤ b → b ≤ vertices → OwnersLead steps b 0)

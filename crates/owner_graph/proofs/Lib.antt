@@ -1,5 +1,6 @@
 pub mod Among
 pub mod Backwards
+pub mod Circling
 pub mod Cutting
 pub mod Feeding
 pub mod FindingLemmas
@@ -11,8 +12,6 @@ pub mod Layering
 pub mod OneKnot
 pub mod Owning
 pub mod RowLemmas
-pub mod Segments
-pub mod Sparing
 pub mod Stepping
 pub mod TieLemmas
 pub mod WeakeningLemmas

@@ -1,6 +1,7 @@
 -- What shows of one knot that it ends where some owners are weak, or that it doesn't.
-use Rattle.std.proofs.Common.{◌≡◌, ◌≢◌, ◌↔◌, inl, inr, ◌⊎◌, ℕ, zero, suc, ◌<◌, ◌==◌, Bool, true, false, true≢false, cond}
-use Rattle.std.proofs.Common.{List, [], ◌∷◌, length, get_or, take, refl, sym, ap, subst, ◌∙◌, arith, eq-eqb}
+use Rattle.std.proofs.Common.{◌≡◌, ◌≢◌, ◌↔◌, inl, inr, ◌⊎◌, ℕ, zero, suc, ◌<◌, ◌==◌, Bool, true}
+use Rattle.std.proofs.Common.{false, true≢false, cond}
+use Rattle.std.proofs.Common.{List, [], ◌∷◌, length, refl, sym, ap, subst, ◌∙◌, arith, eq-eqb}
 use Rattle.std.specs.Prelude.{◌≤◌, All}
 use Rattle.std.proofs.lemmas.Bool.{cases_eq, cond-true, eqb-true}
 use Rattle.std.proofs.lemmas.List.Elements.{All-head, All-tail}
@@ -10,14 +11,13 @@ use Rattle.owner_graph.specs.Ends.EndsWithOwners.{Ended}
 use Rattle.owner_graph.specs.Fed.{marked}
 use Rattle.owner_graph.specs.Knots.{KnotsAre}
 use Rattle.owner_graph.specs.Labels.{at}
-use Rattle.owner_graph.specs.OneKnot.{HasHolder, Holds, Rises}
+use Rattle.owner_graph.specs.OneKnot.{HasHolder, IsListed, IsWitness, Rises}
 use Rattle.owner_graph.specs.Owners.{IsAmong, OwnersLead, Owns}
-use Rattle.owner_graph.specs.Plans.{handle_listed, no_handle}
+use Rattle.owner_graph.specs.Rows.{handle_listed}
 use Rattle.owner_graph.specs.Rows.{held_on}
 use Rattle.owner_graph.proofs.Cutting.{knot_label, same_knot}
 use Rattle.owner_graph.proofs.Feeding.{owner_among, still_owned}
 use Rattle.owner_graph.proofs.Labelling.{one_then, then_one}
-use Rattle.owner_graph.proofs.Stepping.{same_at}
 
 -- an owner that is left, as a handle on its vertex
 pub record OnRow (gone : Holding → Bool) (P : Holding → Type 0) (a b : ℕ) : Type 0 where
@@ -28,23 +28,33 @@ pub record OnRow (gone : Holding → Bool) (P : Holding → Type 0) (a b : ℕ) 
   pub so : P handle
 
 module _ (gone : Holding → Bool) where
-  rest_of : (P : Holding → Type 0) (h : Holding) (r : List Holding) (s : Bool) → All P (cond s (h ∷ r) r) → All P r
+  rest_of : (P : Holding → Type 0) (h : Holding) (r : List Holding) (s : Bool)
+      → All P (cond s (h ∷ r) r) → All P r
   rest_of P h r true all = All-tail P h r all
   rest_of P h r false all = all
 
   -- what is so of each handle on a vertex is so of an owner there that is left
-  pub left_on : (P : Holding → Type 0) (hs : List Holding) (a b : ℕ) → All P (held_on hs b) → Owns (without gone hs) a b → OnRow gone P a b
+  pub left_on : (P : Holding → Type 0) (hs : List Holding) (a b : ℕ) → All P (held_on hs b)
+      → Owns (without gone hs) a b → OnRow gone P a b
   left_on P [] a b all o = absurd o
   left_on P (h ∷ hs) a b all o =
       go (gone h) refl (λ p. left_on P hs a b (rest_of P h (held_on hs b) (h.to == b) all) p) o
     where
       here : h.to ≡ b → P h
-      here e = All-head P h (held_on hs b) (subst (All P) (cond-true (h.to == b) (h ∷ held_on hs b) (held_on hs b) (eq-eqb h.to b e)) all)
+      here e = All-head P h (held_on hs b)
+          (subst (All P) (cond-true (h.to == b) (h ∷ held_on hs b) (held_on hs b) (eq-eqb h.to b e))
+          all)
 
       go : (t : Bool) → gone h ≡ t → (Owns (without gone hs) a b → OnRow gone P a b)
           → Owns (cond t (without gone hs) (h ∷ without gone hs)) a b → OnRow gone P a b
       go true is f p = f p
-      go false is f (inl p) = record { handle = h; other = is; owner = p.0; source = p.1; so = here p.2 }
+      go false is f (inl p) = record {
+        handle = h;
+        other = is;
+        owner = p.0;
+        source = p.1;
+        so = here p.2;
+      }
       go false is f (inr p) = f p
 
   lift : (h : Holding) (hs : List Holding) (a b : ℕ) (t : Bool) → Owns (without gone hs) a b
@@ -53,21 +63,30 @@ module _ (gone : Holding → Bool) where
   lift h hs a b false o = inr o
 
   -- a handle on a vertex that is left is an owner on it
-  pub row_owned : (hs : List Holding) (b i : ℕ) → i < length (held_on hs b) → gone (handle_listed (held_on hs b) i) ≡ false
-      → (handle_listed (held_on hs b) i).is_owner ≡ true → Owns (without gone hs) (handle_listed (held_on hs b) i).from b
+  pub row_owned : (hs : List Holding) (b i : ℕ) → i < length (held_on hs b)
+      → gone (handle_listed (held_on hs b) i) ≡ false
+      → (handle_listed (held_on hs b) i).is_owner ≡ true
+      → Owns (without gone hs) (handle_listed (held_on hs b) i).from b
   row_owned [] b i lt other owner = absurd (omega (arith, lt))
-  row_owned (h ∷ hs) b i lt other owner = go (λ k l o w. row_owned hs b k l o w) (h.to == b) refl i lt other owner
+  row_owned (h ∷ hs) b i lt other owner = go (λ k l o w. row_owned hs b k l o w) (h.to == b) refl i
+      lt other owner
     where
       go : ((k : ℕ) → k < length (held_on hs b) → gone (handle_listed (held_on hs b) k) ≡ false
-          → (handle_listed (held_on hs b) k).is_owner ≡ true → Owns (without gone hs) (handle_listed (held_on hs b) k).from b)
-          → (s : Bool) → (h.to == b) ≡ s → (k : ℕ) → k < length (cond s (h ∷ held_on hs b) (held_on hs b))
+          → (handle_listed (held_on hs b) k).is_owner ≡ true
+          → Owns (without gone hs) (handle_listed (held_on hs b) k).from b)
+          → (s : Bool) → (h.to == b) ≡ s → (k : ℕ)
+          → k < length (cond s (h ∷ held_on hs b) (held_on hs b))
           → gone (handle_listed (cond s (h ∷ held_on hs b) (held_on hs b)) k) ≡ false
           → (handle_listed (cond s (h ∷ held_on hs b) (held_on hs b)) k).is_owner ≡ true
-          → Owns (cond (gone h) (without gone hs) (h ∷ without gone hs)) (handle_listed (cond s (h ∷ held_on hs b) (held_on hs b)) k).from b
+          → Owns (cond (gone h) (without gone hs) (h ∷ without gone hs))
+          (handle_listed (cond s (h ∷ held_on hs b) (held_on hs b)) k).from b
       go next true is zero l o w =
-          subst (λ (t : Bool). Owns (cond t (without gone hs) (h ∷ without gone hs)) h.from b) (sym o) (inl (w, refl, eqb-true h.to b is))
-      go next true is (suc k) l o w = lift h hs (handle_listed (held_on hs b) k).from b (gone h) (next k (omega (arith, l)) o w)
-      go next false is k l o w = lift h hs (handle_listed (held_on hs b) k).from b (gone h) (next k l o w)
+          subst (λ (t : Bool). Owns (cond t (without gone hs) (h ∷ without gone hs)) h.from b)
+          (sym o) (inl (w, refl, eqb-true h.to b is))
+      go next true is (suc k) l o w = lift h hs (handle_listed (held_on hs b) k).from b (gone h)
+          (next k (omega (arith, l)) o w)
+      go next false is k l o w = lift h hs (handle_listed (held_on hs b) k).from b (gone h)
+          (next k l o w)
 
   -- with fewer owners, what ends ends
   pub fewer : (hs : List Holding) (b : ℕ) → EndsWithOwners hs b → EndsWithOwners (without gone hs) b
@@ -76,19 +95,24 @@ module _ (gone : Holding → Bool) where
 pub outside_stays : (hs : List Holding) (b : ℕ) → b ≡ 0 → EndsWithOwners hs b → ⊥
 outside_stays hs _ z (Ended b ne f) = ne z
 
-module _ (vertices : ℕ) (hs : List Holding) (knots : List ℕ) (are : KnotsAre vertices hs knots) (among : All (IsAmong vertices) hs)
-    (gone : Holding → Bool) (stays : List Bool) (ends : (b : ℕ) → b ≤ vertices → marked stays b ≡ false ↔ EndsWithOwners hs b)
+module _ (vertices : ℕ) (hs : List Holding) (knots : List ℕ) (are : KnotsAre vertices hs knots)
+    (among : All (IsAmong vertices) hs)
+    (gone : Holding → Bool) (stays : List Bool) (ends : (b : ℕ) → b ≤ vertices
+    → marked stays b ≡ false ↔ EndsWithOwners hs b)
     (least : ℕ) (some : 1 ≤ least) (le : least ≤ vertices) (own : at knots least ≡ least) where
   left_among : (a b : ℕ) → Owns (without gone hs) a b → a ≤ vertices
   left_among a b o = owner_among vertices hs a b among (still_owned gone a b hs o)
 
   rises_end : (ranks : List ℕ)
-      → ((b : ℕ) → 1 ≤ b → b ≤ vertices → at knots b ≡ least → All (Rises gone stays knots ranks least b) (held_on hs b))
-      → (n b : ℕ) → at ranks b < n → 1 ≤ b → b ≤ vertices → at knots b ≡ least → EndsWithOwners (without gone hs) b
+      → ((b : ℕ) → 1 ≤ b → b ≤ vertices → at knots b ≡ least
+      → All (Rises gone stays knots ranks least b) (held_on hs b))
+      → (n b : ℕ) → at ranks b < n → 1 ≤ b → b ≤ vertices → at knots b ≡ least
+      → EndsWithOwners (without gone hs) b
   rises_end ranks all zero b lt one within same = absurd (omega (arith, lt))
   rises_end ranks all (suc n) b lt one within same =
       Ended b (λ e. absurd (omega (arith, e, one))) (λ a o.
-      let l = left_on gone (Rises gone stays knots ranks least b) hs a b (all b one within same) o in
+      let l = left_on gone (Rises gone stays knots ranks least b) hs a b (all b one within same)
+      o in
       let from = l.source in
       let le_a = left_among a b o in
       let inside : l.handle.from ≤ vertices = omega (arith, from, le_a) in
@@ -97,12 +121,14 @@ module _ (vertices : ℕ) (hs : List Holding) (knots : List ℕ) (are : KnotsAre
         | inr x ↦
             let ne = x.0 in
             let less = x.2 in
-            rises_end ranks all n l.handle.from (omega (arith, less, lt)) (omega (arith, ne)) inside x.1
+            rises_end ranks all n l.handle.from (omega (arith, less, lt)) (omega (arith, ne)) inside
+            x.1
       ]))
 
   -- where ranks rise along all owners that are left, the knot ends
   pub all_rise : (ranks : List ℕ)
-      → ((b : ℕ) → 1 ≤ b → b ≤ vertices → at knots b ≡ least → All (Rises gone stays knots ranks least b) (held_on hs b))
+      → ((b : ℕ) → 1 ≤ b → b ≤ vertices → at knots b ≡ least
+      → All (Rises gone stays knots ranks least b) (held_on hs b))
       → EndsWithout vertices hs gone least
   all_rise ranks all a one within keep =
       rises_end ranks all (suc (at ranks a)) a (omega arith) one within
@@ -126,90 +152,63 @@ module _ (vertices : ℕ) (hs : List Holding) (knots : List ℕ) (are : KnotsAre
     still_there (h ∷ l) a b out (inr o) = lift gone h l a b (gone h) (still_there l a b out o)
 
     -- an owner of a vertex outside of the knot that leads to it is not in the knot
-    owner_out : (a y : ℕ) → Owns hs a y → a ≢ 0 → 1 ≤ y → y ≤ vertices → at knots y ≢ least → OwnersLead hs y least → at knots a ≢ least
+    owner_out : (a y : ℕ) → Owns hs a y → a ≢ 0 → 1 ≤ y → y ≤ vertices → at knots y ≢ least
+        → OwnersLead hs y least → at knots a ≢ least
     owner_out a y o ne_a one within out leads e =
         let le_a = owner_among vertices hs a y among o in
-        let k = same_knot hs vertices knots are least a some le (omega (arith, ne_a)) le_a (e ∙ sym own) in
-        out (knot_label hs vertices knots are least y some le one within (then_one hs least a y k.0 o, leads) ∙ own)
+        let k = same_knot hs vertices knots are least a some le (omega (arith, ne_a)) le_a
+        (e ∙ sym own) in
+        out (knot_label hs vertices knots are least y some le one
+        within (then_one hs least a y k.0 o, leads) ∙ own)
 
-    outer_ends : (y : ℕ) → EndsWithOwners (without gone hs) y → at knots y ≢ least → OwnersLead hs y least → y ≤ vertices
+    outer_ends : (y : ℕ) → EndsWithOwners (without gone hs) y → at knots y ≢ least
+        → OwnersLead hs y least → y ≤ vertices
         → EndsWithOwners hs y
     outer_ends _ (Ended y ne f) out leads within =
         Ended y ne (λ a o. elim (cases_eq a 0) [
-          | inl z ↦ absurd (outside_stays (without gone hs) a z (f a (still_there hs a y (inl z) o)))
+          | inl z ↦ absurd (outside_stays (without gone hs) a z
+              (f a (still_there hs a y (inl z) o)))
           | inr ne_a ↦
               let out_a = owner_out a y o ne_a (omega (arith, ne)) within out leads in
-              outer_ends a (f a (still_there hs a y (inr out_a) o)) out_a (one_then hs a y least o leads) (owner_among vertices hs a y among o)
+              outer_ends a (f a (still_there hs a y (inr out_a) o)) out_a
+              (one_then hs a y least o leads) (owner_among vertices hs a y among o)
         ])
 
-    stuck_stays : (stuck : List Bool)
-        → ((b : ℕ) → 1 ≤ b → b ≤ vertices → at knots b ≡ least → marked stuck b ≡ true
-        → HasHolder gone stays knots stuck least (held_on hs b))
-        → (b : ℕ) → EndsWithOwners (without gone hs) b → 1 ≤ b → b ≤ vertices → at knots b ≡ least → marked stuck b ≡ true → ⊥
-    stuck_stays stuck all _ (Ended b ne f) one within same mark =
-        let s = all b one within same mark in
-        let h = handle_listed (held_on hs b) s.0 in
-        let o = row_owned gone hs b s.0 s.1 s.2.1 s.2.0 in
-        let e = f h.from o in
-        let le_h = left_among h.from b o in
-        elim s.2.2 [
-          | inl z ↦ outside_stays (without gone hs) h.from z e
-          | inr more ↦ elim more [
-            | inl x ↦ elim (cases_eq h.from 0) [
-              | inl z ↦ outside_stays (without gone hs) h.from z e
-              | inr ne_h ↦ stuck_stays stuck all h.from (f h.from o) (omega (arith, ne_h)) le_h x.0 x.1
+    module _ (ring : List ℕ)
+        (all : All (λ (b : ℕ). HasHolder gone stays knots ring least (held_on hs b)) ring) where
+      holder : (b : ℕ) → IsListed ring b → HasHolder gone stays knots ring least (held_on hs b)
+      holder b l = subst (λ (x : ℕ). HasHolder gone stays knots ring least (held_on hs x)) l.2
+          (all l.0 0 l.1)
+
+      stuck_stays : (b : ℕ) → EndsWithOwners (without gone hs) b → IsWitness vertices knots least b
+          → IsListed ring b → ⊥
+      unfolding HasHolder
+      stuck_stays _ (Ended b ne f) in_ listed =
+          let s = holder b listed in
+          let h = handle_listed (held_on hs b) s.0 in
+          let o = row_owned gone hs b s.0 s.1 s.2.1 s.2.0 in
+          let e = f h.from o in
+          let le_h = left_among h.from b o in
+          elim s.2.2 [
+            | inl z ↦ outside_stays (without gone hs) h.from z e
+            | inr more ↦ elim more [
+              | inl x ↦ elim (cases_eq h.from 0) [
+                | inl z ↦ outside_stays (without gone hs) h.from z e
+                | inr ne_h ↦ stuck_stays h.from (f h.from o) (omega (arith, ne_h), le_h, x.0) x.1
+              ]
+              | inr x ↦
+                  let to : OwnersLead hs b least =
+                  subst (λ (k : ℕ). OwnersLead hs b k) in_.2 (are.each b in_.0 in_.1).knotted.0 in
+                  let ended = outer_ends h.from e x.0
+                  (one_then hs h.from b least (still_owned gone h.from b hs o) to) le_h in
+                  true≢false (sym x.1 ∙ (ends h.from le_h).1 ended)
             ]
-            | inr x ↦
-                let to : OwnersLead hs b least = subst (λ (k : ℕ). OwnersLead hs b k) same (are.each b one within).knotted.0 in
-                let ended = outer_ends h.from e x.0 (one_then hs h.from b least (still_owned gone h.from b hs o) to) le_h in
-                true≢false (sym x.1 ∙ (ends h.from le_h).1 ended)
           ]
-        ]
 
-    -- where each marked vertex has a holder, the knot doesn't end
-    pub one_stays : (stuck : List Bool)
-        → ((b : ℕ) → 1 ≤ b → b ≤ vertices → at knots b ≡ least → marked stuck b ≡ true
-        → HasHolder gone stays knots stuck least (held_on hs b))
-        → (w : ℕ) → 1 ≤ w → w ≤ vertices → at knots w ≡ least → marked stuck w ≡ true → EndsWithout vertices hs gone least → ⊥
-    one_stays stuck all w one within same mark cut =
-        stuck_stays stuck all w (cut w one within (same_knot hs vertices knots are least w some le one within (same ∙ sym own))) one within same mark
-
--- ---- what looks show, where they look at copies
-
-pub risen_at : (gone : Holding → Bool) (stays stays' : List Bool) (knots ranks ranks' : List ℕ) (least v n : ℕ) (hs hs' : List Holding)
-    → stays' ≡ stays → ranks' ≡ ranks → v ≡ n → hs' ≡ hs
-    → All (Rises gone stays' knots ranks' least v) hs' → All (Rises gone stays knots ranks least n) hs
-risen_at gone stays stays' knots ranks ranks' least v n hs hs' s r e h all =
-    subst (λ (x : List Bool). All (Rises gone x knots ranks least n) hs) s
-    (subst (λ (x : List ℕ). All (Rises gone stays' knots x least n) hs) r
-    (subst (λ (x : ℕ). All (Rises gone stays' knots ranks' least x) hs) e
-    (subst (λ (x : List Holding). All (Rises gone stays' knots ranks' least v) x) h all)))
-
-pub holder_at : (gone : Holding → Bool) (stays stays' : List Bool) (knots : List ℕ) (stuck stuck' : List Bool) (least : ℕ) (hs hs' : List Holding)
-    → stays' ≡ stays → stuck' ≡ stuck → hs' ≡ hs
-    → HasHolder gone stays' knots stuck' least hs' → HasHolder gone stays knots stuck least hs
-holder_at gone stays stays' knots stuck stuck' least hs hs' s r h has =
-    subst (λ (x : List Bool). HasHolder gone x knots stuck least hs) s
-    (subst (λ (x : List Bool). HasHolder gone stays' knots x least hs) r
-    (subst (λ (x : List Holding). HasHolder gone stays' knots stuck' least x) h has))
-
-pub one_holds : (gone : Holding → Bool) (stays : List Bool) (knots : List ℕ) (stuck : List Bool) (least : ℕ) (hs : List Holding) (i : ℕ) (d : Holding)
-    → i < length hs → Holds gone stays knots stuck least (get_or hs i d) → HasHolder gone stays knots stuck least hs
-one_holds gone stays knots stuck least hs i d lt h =
-    (i, lt, subst (Holds gone stays knots stuck least) (same_at hs i d no_handle lt) h)
-
--- what isn't marked in a copy isn't marked
-pub unmarked_at : (stuck stuck' : List Bool) (v n : ℕ) (r : Bool) → stuck' ≡ stuck → v ≡ n → r ≡ marked stuck' v → r ≡ false
-    → marked stuck n ≡ true → ⊥
-unmarked_at stuck stuck' v n r s e m off on =
-    true≢false (sym on ∙ ap (λ (x : List Bool). marked x n) (sym s) ∙ ap (marked stuck') (sym e) ∙ sym m ∙ off)
-
--- what is so of all that was looked at
-take_past : {A : Type 0} → (xs : List A) (i : ℕ) → length xs ≤ i → take i xs ≡ xs
-take_past [] zero le = refl
-take_past [] (suc i) le = refl
-take_past (x ∷ xs) zero le = absurd (omega (arith, le))
-take_past {A} (x ∷ xs) (suc i) le = ap (λ (l : List A). x ∷ l) (take_past xs i (omega (arith, le)))
-
-pub all_taken : {A : Type 0} → (P : A → Type 0) (xs : List A) (i : ℕ) → length xs ≤ i → All P (take i xs) → All P xs
-all_taken P xs i le all = subst (All P) (take_past xs i le) all
+      -- where each vertex of a ring has a holder, the knot of its first one doesn't end
+      pub ring_stays : 0 < length ring → IsWitness vertices knots least (at ring 0)
+          → EndsWithout vertices hs gone least → ⊥
+      ring_stays some_in w cut =
+          let keep = same_knot hs vertices knots are least (at ring 0) some le w.0 w.1
+          (w.2 ∙ sym own) in
+          stuck_stays (at ring 0) (cut (at ring 0) w.0 w.1 keep) w (0, some_in, refl)

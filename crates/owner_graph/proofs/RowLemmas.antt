@@ -1,15 +1,17 @@
 -- A row gets a handle more.
-use Rattle.std.proofs.Common.{◌≡◌, ◌≢◌, ℕ, zero, suc, ◌+◌, ◌<◌, ◌==◌, Bool, true, false, cond, List, [], ◌∷◌}
+use Rattle.std.proofs.Common.{◌≡◌, ◌≢◌, ℕ, zero, suc, ◌+◌, ◌<◌, ◌==◌, Bool, true, false, cond, List}
+use Rattle.std.proofs.Common.{[], ◌∷◌}
 use Rattle.std.proofs.Common.{◌++◌, length, take, get_or, set}
-use Rattle.std.proofs.Common.{refl, sym, ap, subst, ◌∙◌, ⊎_elim, arith, eq-eqb, ne_eqb, length-set, length-append}
+use Rattle.std.proofs.Common.{refl, sym, ap, subst, ◌∙◌, ⊎_elim, arith, eq-eqb, ne_eqb, length-set}
+use Rattle.std.proofs.Common.{length-append}
 use Rattle.std.proofs.lemmas.Bool.{cases_eq, cond-true, cond-false}
 use Rattle.std.specs.Global.{Vec}
-use Rattle.std.specs.Prelude.{◌≤◌, All}
-use Rattle.owner_graph.specs.Owners.{IsAmong}
+use Rattle.std.specs.Prelude.{◌≤◌}
 use Rattle.owner_graph.specs.declared.holding.Holding.{Holding}
-use Rattle.owner_graph.specs.Rows.{held_in, held_on, row_at}
+use Rattle.owner_graph.specs.Rows.{row_at}
 
-none_more : (g : List (Vec Holding)) (row : Vec Holding) → row.items ≡ [] → ((v : ℕ) → row_at g v ≡ []) → (v : ℕ)
+none_more : (g : List (Vec Holding)) (row : Vec Holding) → row.items ≡ []
+    → ((v : ℕ) → row_at g v ≡ []) → (v : ℕ)
     → row_at (g ++ row ∷ []) v ≡ []
 none_more [] row e none zero = e
 none_more [] row e none (suc v) = refl
@@ -17,33 +19,43 @@ none_more (r ∷ rs) row e none zero = none 0
 none_more (r ∷ rs) row e none (suc v) = none_more rs row e (λ w. none (suc w)) v
 
 -- an empty row more
-pub row_more : (g g' : List (Vec Holding)) (row : Vec Holding) (i : ℕ) → g' ≡ g ++ row ∷ [] → row.items ≡ [] → length g ≡ i
+pub row_more : (g g' : List (Vec Holding)) (row : Vec Holding) (i : ℕ) → g' ≡ g ++ row ∷ []
+    → row.items ≡ [] → length g ≡ i
     → ((v : ℕ) → row_at g v ≡ []) → (length g' ≡ i + 1) × ((v : ℕ) → row_at g' v ≡ [])
 row_more g g' row i e none size all =
     let n = ap (length {A = Vec Holding}) e in
-    let a = length-append g (row ∷ []) in
-    (omega (arith, n, a, size), λ v. subst (λ (x : List (Vec Holding)). row_at x v ≡ []) (sym e) (none_more g row none all v))
+    let a = length-append g (row ∷ []) in (
+      omega (arith, n, a, size),
+      λ v. subst (λ (x : List (Vec Holding)). row_at x v ≡ []) (sym e)
+          (none_more g row none all v),
+    )
 
-pushed_same : (g : List (Vec Holding)) (k : ℕ) (x : Holding) (row row' : Vec Holding) → k < length g → row ≡ get_or g k row
+pushed_same : (g : List (Vec Holding)) (k : ℕ) (x : Holding) (row row' : Vec Holding) → k < length g
+    → row ≡ get_or g k row
     → row'.items ≡ row.items ++ x ∷ [] → row_at (set g k row') k ≡ row_at g k ++ x ∷ []
 pushed_same [] k x row row' lt e new = absurd (omega arith)
 pushed_same (r ∷ rs) zero x row row' lt e new = new ∙ ap (λ (z : Vec Holding). z.items ++ x ∷ []) e
 pushed_same (r ∷ rs) (suc k) x row row' lt e new = pushed_same rs k x row row' (omega arith) e new
 
-pushed_other : (g : List (Vec Holding)) (k v : ℕ) (row' : Vec Holding) → k ≢ v → row_at (set g k row') v ≡ row_at g v
+pushed_other : (g : List (Vec Holding)) (k v : ℕ) (row' : Vec Holding) → k ≢ v
+    → row_at (set g k row') v ≡ row_at g v
 pushed_other [] k v row' ne = refl
 pushed_other (r ∷ rs) zero zero row' ne = absurd (ne refl)
 pushed_other (r ∷ rs) zero (suc v) row' ne = refl
 pushed_other (r ∷ rs) (suc k) zero row' ne = refl
 pushed_other (r ∷ rs) (suc k) (suc v) row' ne = pushed_other rs k v row' (λ e. ne (ap suc e))
 
-pushed : (g : List (Vec Holding)) (k : ℕ) (x : Holding) (v : ℕ) (row row' : Vec Holding) → k < length g → row ≡ get_or g k row
-    → row'.items ≡ row.items ++ x ∷ [] → row_at (set g k row') v ≡ cond (k == v) (row_at g v ++ x ∷ []) (row_at g v)
+pushed : (g : List (Vec Holding)) (k : ℕ) (x : Holding) (v : ℕ) (row row' : Vec Holding)
+    → k < length g → row ≡ get_or g k row
+    → row'.items ≡ row.items ++ x ∷ [] → row_at (set g k row') v ≡ cond (k == v) (row_at g v
+    ++ x ∷ []) (row_at g v)
 pushed g k x v row row' lt e new =
     ⊎_elim
-    (λ (same : k ≡ v). subst (λ (w : ℕ). row_at (set g k row') w ≡ row_at g w ++ x ∷ []) same (pushed_same g k x row row' lt e new)
+    (λ (same : k ≡ v). subst (λ (w : ℕ). row_at (set g k row') w ≡ row_at g w ++ x ∷ []) same
+    (pushed_same g k x row row' lt e new)
     ∙ sym (cond-true (k == v) (row_at g v ++ x ∷ []) (row_at g v) (eq-eqb k v same)))
-    (λ (ne : k ≢ v). pushed_other g k v row' ne ∙ sym (cond-false (k == v) (row_at g v ++ x ∷ []) (row_at g v) (ne_eqb k v ne)))
+    (λ (ne : k ≢ v). pushed_other g k v row' ne
+    ∙ sym (cond-false (k == v) (row_at g v ++ x ∷ []) (row_at g v) (ne_eqb k v ne)))
     (cases_eq k v)
 
 apart : (a t : Bool) (y x : Holding) (l l' : List Holding) → l' ≡ cond t (l ++ x ∷ []) l
@@ -53,64 +65,56 @@ apart true false y x l l' e = ap (λ (z : List Holding). y ∷ z) e
 apart false true y x l l' e = e
 apart false false y x l l' e = e
 
-held_next : (hs : List Holding) (i v : ℕ) (d : Holding) → i < length hs
-    → held_on (take (suc i) hs) v ≡ cond ((get_or hs i d).to == v) (held_on (take i hs) v ++ get_or hs i d ∷ []) (held_on (take i hs) v)
-held_next [] i v d lt = absurd (omega arith)
-held_next (h ∷ hs) zero v d lt = refl
-held_next (h ∷ hs) (suc i) v d lt =
-    apart (h.to == v) ((get_or hs i d).to == v) h (get_or hs i d) (held_on (take i hs) v) (held_on (take (suc i) hs) v)
-    (held_next hs i v d (omega arith))
+-- what is held by a vertex, which is the one that handles have by a key
+module _ (key : Holding → ℕ) (held : List Holding → ℕ → List Holding) (none : (v : ℕ)
+    → held [] v ≡ [])
+    (more : (h : Holding) (hs : List Holding) (v : ℕ)
+    → held (h ∷ hs) v ≡ cond (key h == v) (h ∷ held hs v) (held hs v)) where
+  abbrev with_one : Holding → ℕ → List Holding → List Holding
+  with_one x v l = cond (key x == v) (l ++ x ∷ []) l
 
--- a handle more, on vertex k
-pub held_more : (g : List (Vec Holding)) (hs : List Holding) (vertices i k : ℕ) (d : Holding) (row row' : Vec Holding) → All (IsAmong vertices) hs
-    → i < length hs → length g ≡ vertices + 1 → ((v : ℕ) → row_at g v ≡ held_on (take i hs) v) → k ≡ (get_or hs i d).to
-    → row ≡ get_or g k row → row'.items ≡ row.items ++ get_or hs i d ∷ []
-    → (length (set g k row') ≡ vertices + 1) × ((v : ℕ) → row_at (set g k row') v ≡ held_on (take (i + 1) hs) v)
-held_more g hs vertices i k d row row' all lt size rows is e new =
-    let x = get_or hs i d in
-    let one : i + 1 ≡ suc i = omega arith in
-    let among = (all i d lt).1 in (
-      length-set g k row' ∙ size,
-      λ v.
-          pushed g k x v row row' (omega (arith, is, among, size)) e new
-          ∙ ap (λ (l : List Holding). cond (k == v) (l ++ x ∷ []) l) (rows v)
-          ∙ ap (λ (j : ℕ). cond (j == v) (held_on (take i hs) v ++ x ∷ []) (held_on (take i hs) v)) is
-          ∙ sym (held_next hs i v d lt) ∙ ap (λ (j : ℕ). held_on (take j hs) v) (sym one),
-    )
+  held_next : (hs : List Holding) (i v : ℕ) (d : Holding) → i < length hs
+      → held (take (suc i) hs) v ≡ with_one (get_or hs i d) v (held (take i hs) v)
+  held_next [] i v d lt = absurd (omega arith)
+  held_next (h ∷ hs) zero v d lt =
+      more h [] v ∙ ap (λ (l : List Holding). cond (key h == v) (h ∷ l) l) (none v)
+      ∙ sym (ap (with_one h v) (none v))
+  held_next (h ∷ hs) (suc i) v d lt =
+      let x = get_or hs i d in
+      more h (take (suc i) hs) v
+      ∙ apart (key h == v) (key x == v) h x (held (take i hs) v) (held (take (suc i) hs) v)
+      (held_next hs i v d (omega arith))
+      ∙ sym (ap (with_one x v) (more h (take i hs) v))
 
-in_next : (hs : List Holding) (i v : ℕ) (d : Holding) → i < length hs
-    → held_in (take (suc i) hs) v ≡ cond ((get_or hs i d).from == v) (held_in (take i hs) v ++ get_or hs i d ∷ []) (held_in (take i hs) v)
-in_next [] i v d lt = absurd (omega arith)
-in_next (h ∷ hs) zero v d lt = refl
-in_next (h ∷ hs) (suc i) v d lt =
-    apart (h.from == v) ((get_or hs i d).from == v) h (get_or hs i d) (held_in (take i hs) v) (held_in (take (suc i) hs) v)
-    (in_next hs i v d (omega arith))
-
--- a handle more, in vertex k
-pub in_more : (g : List (Vec Holding)) (hs : List Holding) (vertices i k : ℕ) (d : Holding) (row row' : Vec Holding) → All (IsAmong vertices) hs
-    → i < length hs → length g ≡ vertices + 1 → ((v : ℕ) → row_at g v ≡ held_in (take i hs) v) → k ≡ (get_or hs i d).from
-    → row ≡ get_or g k row → row'.items ≡ row.items ++ get_or hs i d ∷ []
-    → (length (set g k row') ≡ vertices + 1) × ((v : ℕ) → row_at (set g k row') v ≡ held_in (take (i + 1) hs) v)
-in_more g hs vertices i k d row row' all lt size rows is e new =
-    let x = get_or hs i d in
-    let one : i + 1 ≡ suc i = omega arith in
-    let among = (all i d lt).0 in (
-      length-set g k row' ∙ size,
-      λ v.
-          pushed g k x v row row' (omega (arith, is, among, size)) e new
-          ∙ ap (λ (l : List Holding). cond (k == v) (l ++ x ∷ []) l) (rows v)
-          ∙ ap (λ (j : ℕ). cond (j == v) (held_in (take i hs) v ++ x ∷ []) (held_in (take i hs) v)) is
-          ∙ sym (in_next hs i v d lt) ∙ ap (λ (j : ℕ). held_in (take j hs) v) (sym one),
-    )
+  -- a handle more, by vertex k
+  pub held_more : (g : List (Vec Holding)) (hs : List Holding) (vertices i k : ℕ) (d : Holding)
+      (row row' : Vec Holding)
+      → key (get_or hs i d) ≤ vertices → i < length hs → length g ≡ vertices + 1
+      → ((v : ℕ) → row_at g v ≡ held (take i hs) v) → k ≡ key (get_or hs i d) → row ≡ get_or g k row
+      → row'.items ≡ row.items ++ get_or hs i d ∷ []
+      → (length (set g k row') ≡ vertices + 1)
+      × ((v : ℕ) → row_at (set g k row') v ≡ held (take (i + 1) hs) v)
+  held_more g hs vertices i k d row row' among lt size rows is e new =
+      let x = get_or hs i d in
+      let one : i + 1 ≡ suc i = omega arith in (
+        length-set g k row' ∙ size,
+        λ v.
+            pushed g k x v row row' (omega (arith, is, among, size)) e new
+            ∙ ap (λ (l : List Holding). cond (k == v) (l ++ x ∷ []) l) (rows v)
+            ∙ ap (λ (j : ℕ). cond (j == v) (held (take i hs) v ++ x ∷ []) (held (take i hs) v)) is
+            ∙ sym (held_next hs i v d lt) ∙ ap (λ (j : ℕ). held (take j hs) v) (sym one),
+      )
 
 -- ---- one row
 
-row_in_range : (rows : List (Vec Holding)) (n : ℕ) (v : Vec Holding) → n < length rows → v ≡ get_or rows n v → v.items ≡ row_at rows n
+row_in_range : (rows : List (Vec Holding)) (n : ℕ) (v : Vec Holding) → n < length rows
+    → v ≡ get_or rows n v → v.items ≡ row_at rows n
 row_in_range [] n v lt e = absurd (omega arith)
 row_in_range (r ∷ rs) zero v lt e = ap (λ (x : Vec Holding). x.items) e
 row_in_range (r ∷ rs) (suc n) v lt e = row_in_range rs n v (omega arith) e
 
-pub row_is : (rows : List (Vec Holding)) (n : ℕ) (v : Vec Holding) (items : List Holding) → n < length rows → v ≡ get_or rows n v
+pub row_is : (rows : List (Vec Holding)) (n : ℕ) (v : Vec Holding) (items : List Holding)
+    → n < length rows → v ≡ get_or rows n v
     → items ≡ v.items → items ≡ row_at rows n
 row_is rows n v items lt e it = it ∙ row_in_range rows n v lt e
 

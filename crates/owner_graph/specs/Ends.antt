@@ -15,12 +15,14 @@ pub data EndsWithOwners (hs : List Holding) : ℕ → Type 0 where
 abbrev pub same_place : Holding → Holding → Bool
 same_place g h = g.from == h.from && g.slot == h.slot
 
--- the handle is to be weak: none is, or the one at a place, or those in a knot that have one of two labels
+-- the handle is to be weak: none is, or the one at a place, or those in a knot that have one of two
+-- labels
 abbrev pub is_weakened : List ℕ → Weakening → Holding → Bool
 is_weakened knots Nobody h = false
 is_weakened knots (One g) h = same_place h g
 is_weakened knots (Labelled least first second) h =
-    nat_lt 0 h.from && slice_index_or knots h.from 0 == least && (h.label == first || h.label == second)
+    nat_lt 0 h.from && slice_index_or knots h.from 0 == least
+    && (h.label == first || h.label == second)
 
 -- the handles that are not among some
 abbrev pub without : (Holding → Bool) → List Holding → List Holding

@@ -36,7 +36,8 @@ pub record Starves (fed old new : List Bool) : Type 0 where
 -- one more did, or there is none
 abbrev pub IsLess : Bool → List Bool → List Bool → List Bool → Type 0
 IsLess true fed old new = trues new < trues old
-IsLess false fed old new = (new ≡ old) × ((b : ℕ) → b ≢ 0 → marked old b ≡ true → marked fed b ≡ true)
+IsLess false fed old new = (new ≡ old) × ((b : ℕ) → b ≢ 0 → marked old b ≡ true
+    → marked fed b ≡ true)
 
 -- what stays no longer ends
 abbrev pub HaveEnded : ℕ → List Holding → List Bool → Type 0

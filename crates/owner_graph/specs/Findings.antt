@@ -1,5 +1,6 @@
 -- What is found of a graph of owners. All of it is own.
-use Rattle.std.specs.Prelude.{◌≡◌, ◌↔◌, ℕ, ◌<◌, ◌≤◌, true, List, [], length, Option, Some, None, slice_get}
+use Rattle.std.specs.Prelude.{◌≡◌, ◌↔◌, ℕ, ◌<◌, ◌≤◌, true, List, [], length}
+use Rattle.std.specs.Prelude.{Option, Some, None, slice_get}
 use Rattle.std.specs.Global.{Vec}
 use Rattle.owner_graph.specs.declared.holding.Holding.{Holding}
 use Rattle.owner_graph.specs.declared.findings.Findings.{Findings}
@@ -10,7 +11,7 @@ use Rattle.owner_graph.specs.Indices.{IsIndex}
 use Rattle.owner_graph.specs.Knots.{KnotsAre}
 use Rattle.owner_graph.specs.Labels.{at}
 use Rattle.owner_graph.specs.Owners.{IsKept}
-use Rattle.owner_graph.specs.Plans.{handle_listed}
+use Rattle.owner_graph.specs.Rows.{handle_listed}
 use Rattle.owner_graph.specs.Rows.{held_in, row_at}
 use Rattle.owner_graph.specs.Ties.{is_tie}
 use Rattle.owner_graph.specs.Weakenings.{AreWeakenings, knot_ties, labels_of}
@@ -26,7 +27,8 @@ pairs_at rows b = pairs_in (slice_get rows b)
 -- the handle ties a knot, and without it each vertex of the knot would end
 abbrev pub IsCut : ℕ → List Holding → Findings → Holding → Type 0
 IsCut vertices hs f h =
-    (is_tie f.kept.items f.knots.items h ≡ true) × EndsWhenCut vertices hs (at f.knots.items h.from) h
+    (is_tie f.kept.items f.knots.items h ≡ true) × EndsWhenCut vertices hs
+    (at f.knots.items h.from) h
 
 -- so much is so of the pairs of labels of the knot with this least vertex
 abbrev pub AreTold : ℕ → List Holding → Findings → ℕ → List LabelPair → Type 0
@@ -34,12 +36,14 @@ AreTold vertices hs f least ws =
     at f.knots.items least ≡ least → AreWeakenings vertices hs f.knots.items least
     (labels_of (knot_ties f.kept.items f.knots.items vertices hs least)) ws
 
--- of so many vertices, from 1: which are kept, their knots, which stay, what is in each and on it, which of the handles
--- are cuts, and what lets knots end
+-- of so many vertices, from 1: which are kept, their knots, which stay, what is in each and on it,
+-- which of the handles are cuts, and what lets knots end
 pub record AreFindings (vertices : ℕ) (hs : List Holding) (f : Findings) : Type 0 where
   pub kept : (b : ℕ) → b ≤ vertices → marked f.kept.items b ≡ true ↔ IsKept hs b
   pub knots : KnotsAre vertices hs f.knots.items
   pub index : IsIndex vertices hs f.knots.items f.index
   pub sources : (b : ℕ) → row_at f.sources.items b ≡ held_in hs b
-  pub cuts : (i : ℕ) → i < length hs → marked f.cuts.items i ≡ true ↔ IsCut vertices hs f (handle_listed hs i)
-  pub weakenings : (k : ℕ) → 1 ≤ k → k ≤ vertices → AreTold vertices hs f k (pairs_at f.weakenings.items k)
+  pub cuts : (i : ℕ) → i < length hs → marked f.cuts.items i ≡ true
+      ↔ IsCut vertices hs f (handle_listed hs i)
+  pub weakenings : (k : ℕ) → 1 ≤ k → k ≤ vertices → AreTold vertices hs f k
+      (pairs_at f.weakenings.items k)

@@ -8,7 +8,8 @@ use Rattle.owner_graph.specs.Members.{homes}
 use Rattle.owner_graph.specs.Rows.{held_on, row_at}
 
 -- of each vertex the handles on it, and whether it stays; and the vertices of each knot
-pub record IsIndex (vertices : ℕ) (hs : List Holding) (knots : List ℕ) (index : Index) : Type 0 where
+pub record IsIndex (vertices : ℕ) (hs : List Holding) (knots : List ℕ)
+    (index : Index) : Type 0 where
   pub rows : (b : ℕ) → row_at index.rows.items b ≡ held_on hs b
   pub members : (k : ℕ) → row_at index.members.items k ≡ held_on (homes knots vertices) k
   pub stays : (b : ℕ) → b ≤ vertices → marked index.stays.items b ≡ false ↔ EndsWithOwners hs b

@@ -10,7 +10,8 @@ at list index = slice_index_or list index 0
 abbrev pub AreRanked : List Holding → List ℕ → Type 0
 AreRanked hs ranks = (a b : ℕ) → Owns hs a b → (b ≢ 0) × (a ≢ 0 → at ranks a ≤ at ranks b)
 
--- an owner within vertices of one label, or a step from 0 to a vertex that is its own label, or back
+-- an owner within vertices of one label, or a step from 0 to a vertex that is its own label, or
+-- back
 pub data InnerStep (hs : List Holding) (labels : List ℕ) (a b : ℕ) : Type 0 where
   Down : a ≡ 0 → b ≢ 0 → at labels b ≡ b → InnerStep hs labels a b
   Up : a ≢ 0 → b ≡ 0 → at labels a ≡ a → InnerStep hs labels a b
@@ -24,7 +25,8 @@ step a b = record { from = a; to = b; slot = 0; label = 0; is_owner = true }
 abbrev pub AreInner : List Holding → List ℕ → List Holding → Type 0
 AreInner hs labels steps = (a b : ℕ) → Owns steps a b → InnerStep hs labels a b
 
--- where a handle is an owner, it is on a vertex, whose rank is no less than that of the vertex where it is
+-- where a handle is an owner, it is on a vertex, whose rank is no less than that of the vertex
+-- where it is
 abbrev pub IsRanked : List ℕ → Holding → Type 0
 IsRanked ranks h =
     h.is_owner ≡ true → (h.to ≢ 0)

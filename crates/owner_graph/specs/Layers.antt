@@ -4,8 +4,8 @@ use Rattle.owner_graph.specs.declared.holding.Holding.{Holding}
 use Rattle.owner_graph.specs.Fed.{marked}
 use Rattle.owner_graph.specs.Labels.{at}
 
--- where a handle is an owner that isn't to be weak, and on a vertex that doesn't stay, it is in one that doesn't
--- either, and whose rank is less
+-- where a handle is an owner that isn't to be weak, and on a vertex that doesn't stay, it is in one
+-- that doesn't either, and whose rank is less
 abbrev pub EndsLater : (Holding → Bool) → List Bool → List ℕ → Holding → Type 0
 EndsLater gone stays ranks h =
     gone h ≡ false → h.is_owner ≡ true → marked stays h.to ≡ false

@@ -1,3 +1,4 @@
+pub mod Circles
 pub mod Edges
 pub mod Ends
 pub mod Fed
@@ -9,7 +10,6 @@ pub mod OneKnot
 pub mod Layers
 pub mod Members
 pub mod Owners
-pub mod Plans
 pub mod Rows
 pub mod Ties
 pub mod Weakenings

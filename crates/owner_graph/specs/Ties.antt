@@ -14,7 +14,13 @@ is_tie kept knots h =
 
 -- it, but on the least vertex of that knot
 abbrev pub tie : List ℕ → Holding → Holding
-tie knots h = record { from = h.from; to = at knots h.from; slot = h.slot; label = h.label; is_owner = h.is_owner }
+tie knots h = record {
+  from = h.from;
+  to = at knots h.from;
+  slot = h.slot;
+  label = h.label;
+  is_owner = h.is_owner;
+}
 
 abbrev pub ties_by : List Bool → List ℕ → Holding → List Holding
 ties_by kept knots h = cond (is_tie kept knots h) (tie knots h ∷ []) []

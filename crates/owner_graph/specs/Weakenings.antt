@@ -15,13 +15,15 @@ ties_in kept knots hs home = filter (is_tie kept knots) (held_in hs home.from)
 
 -- the owners that tie the knot with this least vertex, in the order of its vertices
 abbrev pub knot_ties : List Bool → List ℕ → ℕ → List Holding → ℕ → List Holding
-knot_ties kept knots vertices hs least = flat_map (ties_in kept knots hs) (held_on (homes knots vertices) least)
+knot_ties kept knots vertices hs least =
+    flat_map (ties_in kept knots hs) (held_on (homes knots vertices) least)
 
 -- their labels, each once, without those of a list
 abbrev pub new_labels : List ℕ → List Holding → List ℕ
 new_labels seen [] = []
 new_labels seen (h ∷ hs) =
-    cond (list_any (λ l. l == h.label) seen) (new_labels seen hs) (h.label ∷ new_labels (seen ++ h.label ∷ []) hs)
+    cond (list_any (λ l. l == h.label) seen) (new_labels seen hs)
+    (h.label ∷ new_labels (seen ++ h.label ∷ []) hs)
 
 abbrev pub labels_of : List Holding → List ℕ
 labels_of hs = new_labels [] hs
@@ -44,17 +46,22 @@ pub data AreThose {A : Type 0} (P : A → Type 0) : List A → List A → Type 0
   OneIs : (x : A) (xs ys : List A) → P x → AreThose P xs ys → AreThose P (x ∷ xs) (x ∷ ys)
   NotOne : (x : A) (xs ys : List A) → (P x → ⊥) → AreThose P xs ys → AreThose P (x ∷ xs) ys
 
--- where the owners with these labels in the knot with this least vertex were weak, each vertex of it would end
+-- where the owners with these labels in the knot with this least vertex were weak, each vertex of
+-- it would end
 abbrev pub Suffices : ℕ → List Holding → List ℕ → ℕ → LabelPair → Type 0
 Suffices vertices hs knots least p =
     EndsWithout vertices hs (is_weakened knots (Labelled least p.first p.second)) least
 
--- the labels of a knot that suffice by themselves, and where none does, of at most 20, the pairs that do
-pub data AreWeakenings (vertices : ℕ) (hs : List Holding) (knots : List ℕ) (least : ℕ) (labels : List ℕ)
-    (ws : List LabelPair) : Type 0 where
+-- the labels of a knot that suffice by themselves, and where none does, of at most 20, the pairs
+-- that do
+pub data AreWeakenings (vertices : ℕ) (hs : List Holding) (knots : List ℕ) (least : ℕ)
+    (labels : List ℕ) (ws : List LabelPair) : Type 0 where
   OneSuffices : 0 < length ws → AreThose (Suffices vertices hs knots least) (map twice labels) ws
       → AreWeakenings vertices hs knots least labels ws
-  TwoSuffice : AreThose (Suffices vertices hs knots least) (map twice labels) [] → length labels ≤ 20
-      → AreThose (Suffices vertices hs knots least) (pairs labels) ws → AreWeakenings vertices hs knots least labels ws
-  NoneIsTold : AreThose (Suffices vertices hs knots least) (map twice labels) [] → 20 < length labels → ws ≡ []
+  TwoSuffice : AreThose (Suffices vertices hs knots least) (map twice labels) []
+      → length labels ≤ 20
+      → AreThose (Suffices vertices hs knots least) (pairs labels) ws
+      → AreWeakenings vertices hs knots least labels ws
+  NoneIsTold : AreThose (Suffices vertices hs knots least) (map twice labels) []
+      → 20 < length labels → ws ≡ []
       → AreWeakenings vertices hs knots least labels ws

@@ -31,7 +31,8 @@ pub(crate) fn fed_by(
     weakening: Weakening,
     stays: &[bool],
 ) -> Result<Vec<bool>, AllocError>
-    ensures { IfOk result (λ fed. IsFed (without (is_weakened knots.now weakening) handles.now) stays.now fed.items) }
+    ensures { IfOk result (λ fed. IsFed (without
+        (is_weakened knots.now weakening) handles.now) stays.now fed.items) }
 {
     let mut fed = vec![in alloc; false; stays.len()]?;
     for handle in handles {
@@ -47,7 +48,8 @@ pub(crate) fn fed_by(
     Ok(fed)
 }
 
-/// Lets the vertices stay no longer, but for number 0, that weren't fed. Answers whether there was one.
+/// Lets the vertices stay no longer, but for number 0, that weren't fed. Answers whether there was
+/// one.
 fn starve(stays: &mut Vec<bool>, fed: &[bool]) -> bool
     requires { vec_len stays.old ≡ length fed.now }
     ensures starves { Starves fed.now stays.old.items stays.new.items }
@@ -64,8 +66,8 @@ fn starve(stays: &mut Vec<bool>, fed: &[bool]) -> bool
     found
 }
 
-/// Which vertices stay, where some owners are weak: all but those that end. It takes as many rounds as the longest of
-/// the paths by which vertices end has vertices.
+/// Which vertices stay, where some owners are weak: all but those that end. It takes as many rounds
+/// as the longest of the paths by which vertices end has vertices.
 fn by_rounds(
     alloc: Global,
     vertices: u32,
@@ -88,8 +90,8 @@ fn by_rounds(
     }
 }
 
-/// The same. A search guesses them, and where a look finds the guess right, this takes time linear in vertices and
-/// handles.
+/// The same. A search guesses them, and where a look finds the guess right, this takes time linear
+/// in vertices and handles.
 pub(crate) fn staying(
     alloc: Global,
     vertices: u32,
@@ -110,10 +112,10 @@ pub(crate) fn staying(
     by_rounds(alloc, vertices, handles, knots, weakening)
 }
 
-/// Whether each vertex of the knot of a vertex would end, if some owners were weak (own). The least vertex of each
-/// one's knot is what [`crate::knots`] gives. It takes time linear in vertices and handles, and is refused only where
-/// a growth of memory was. Conditions: the vertices of all handles are among so many, and the vertex is one of them,
-/// from 1.
+/// Whether each vertex of the knot of a vertex would end, if some owners were weak (own). The least
+/// vertex of each one's knot is what [`crate::knots`] gives. It takes time linear in vertices and
+/// handles, and is refused only where a growth of memory was. Conditions: the vertices of all
+/// handles are among so many, and the vertex is one of them, from 1.
 pub fn is_cut(
     alloc: Global,
     vertices: u32,

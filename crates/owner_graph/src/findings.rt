@@ -1,5 +1,6 @@
 //! All that is found of a graph of owners.
 ghost use Rattle.std.specs.Prelude.{◌≡◌, ◌↔◌, ◌+◌, ◌<◌, ◌≤◌, ℕ, All, IfOk, IsTrue, length, true};
+ghost use Rattle.owner_graph.specs.Circles.{IsLinked};
 ghost use Rattle.owner_graph.specs.Ends.{EndsWhenCut};
 ghost use Rattle.owner_graph.specs.Fed.{marked};
 ghost use Rattle.owner_graph.specs.Findings.{AreFindings, pairs_at};
@@ -7,8 +8,7 @@ ghost use Rattle.owner_graph.specs.Indices.{IsIndex};
 ghost use Rattle.owner_graph.specs.Knots.{KnotsAre};
 ghost use Rattle.owner_graph.specs.Labels.{at};
 ghost use Rattle.owner_graph.specs.Owners.{IsAmong, IsKept};
-ghost use Rattle.owner_graph.specs.Plans.{IsRight, IsRing, handle_listed};
-ghost use Rattle.owner_graph.specs.Rows.{held_in, row_at};
+ghost use Rattle.owner_graph.specs.Rows.{handle_listed, held_in, row_at};
 ghost use Rattle.owner_graph.specs.Ties.{is_tie};
 ghost use Rattle.owner_graph.specs.Weakenings.{AreWeakenings, knot_ties, labels_of};
 
@@ -19,14 +19,14 @@ use crate::holding::{Holding, as_index};
 use crate::index::{Index, row};
 use crate::keeping::kept;
 use crate::labels::knots;
-use crate::tying::{Looked, is_cut_by, is_tie, look, ties};
+use crate::tying::{Looked, is_cut_by, is_tie, look};
 use crate::weakenings::{LabelPair, knot_ties, weakenings_of};
 use directed_graph::GraphError;
 use std::alloc::{AllocError, Global};
 
-/// What is found of a graph of owners (own): which vertices are kept, the least vertex of each one's knot, which stay,
-/// the handles in each vertex and on it, which of all handles are cuts, and of each knot, by its least vertex, the
-/// labels whose owners, made weak, would let it end.
+/// What is found of a graph of owners (own): which vertices are kept, the least vertex of each
+/// one's knot, which stay, the handles in each vertex and on it, which of all handles are cuts, and
+/// of each knot, by its least vertex, the labels whose owners, made weak, would let it end.
 #[derive(Drop)]
 pub struct Findings {
     pub kept: Vec<bool>,
@@ -40,7 +40,8 @@ pub struct Findings {
 /// Which vertices are kept, where those of all handles are among so many.
 fn marks_of(alloc: Global, vertices: u32, handles: &[Holding]) -> Result<Vec<bool>, AllocError>
     requires { All (IsAmong vertices) handles.now }
-    ensures { IfOk result (λ v. (b : ℕ) → b ≤ vertices → marked v.items b ≡ true ↔ IsKept handles.now b) }
+    ensures { IfOk result (λ v. (b : ℕ) → b ≤ vertices → marked v.items b ≡ true
+        ↔ IsKept handles.now b) }
 {
     match kept(alloc, vertices, handles) {
         Ok(marks) => Ok(marks),
@@ -62,9 +63,8 @@ fn is_cut_tie(
 ) -> Result<bool, AllocError>
     requires among { All (IsAmong vertices) handles.now }
     requires knots { KnotsAre vertices handles.now knots.now }
-    requires right { IsTrue looked.now.is_right → IsRight vertices handles.now knots.now looked.now.plan }
-    requires one { IsTrue looked.now.is_one → IsRing vertices handles.now looked.now.one }
-    requires other { IsTrue looked.now.is_other → IsRing vertices handles.now looked.now.other }
+    requires circles { IsTrue looked.now.are_circles
+        → All (IsLinked looked.now.index.stays.items knots.now looked.now.circles) handles.now }
     requires index { IsIndex vertices handles.now knots.now looked.now.index }
     requires handle { IsAmong vertices handle }
     ensures { IfOk result (λ is. IsTrue is ↔ ((is_tie kept.now knots.now handle ≡ true)
@@ -94,9 +94,8 @@ fn cuts_of(
 ) -> Result<Vec<bool>, AllocError>
     requires among { All (IsAmong vertices) handles.now }
     requires knots { KnotsAre vertices handles.now knots.now }
-    requires right { IsTrue looked.now.is_right → IsRight vertices handles.now knots.now looked.now.plan }
-    requires one { IsTrue looked.now.is_one → IsRing vertices handles.now looked.now.one }
-    requires other { IsTrue looked.now.is_other → IsRing vertices handles.now looked.now.other }
+    requires circles { IsTrue looked.now.are_circles
+        → All (IsLinked looked.now.index.stays.items knots.now looked.now.circles) handles.now }
     requires index { IsIndex vertices handles.now knots.now looked.now.index }
     ensures { IfOk result (λ v. (i : ℕ) → i < length handles.now → marked v.items i ≡ true
         ↔ ((is_tie kept.now knots.now (handle_listed handles.now i) ≡ true)
@@ -128,7 +127,8 @@ fn weakenings_at(
     requires index { IsIndex vertices handles.now knots.now index.now }
     requires sources { (b : ℕ) → row_at sources.now b ≡ held_in handles.now b }
     requires vertex { (1 ≤ vertex) × (vertex ≤ vertices) }
-    ensures { IfOk result (λ v. at knots.now vertex ≡ vertex → AreWeakenings vertices handles.now knots.now vertex
+    ensures { IfOk result (λ v. at knots.now vertex ≡ vertex
+        → AreWeakenings vertices handles.now knots.now vertex
         (labels_of (knot_ties kept.now knots.now vertices handles.now vertex)) v.items) }
 {
     if at(knots, as_index(vertex)) != as_index(vertex) {
@@ -164,8 +164,10 @@ fn all_weakenings(
     requires knots { KnotsAre vertices handles.now knots.now }
     requires index { IsIndex vertices handles.now knots.now index.now }
     requires sources { (b : ℕ) → row_at sources.now b ≡ held_in handles.now b }
-    ensures { IfOk result (λ v. (k : ℕ) → 1 ≤ k → k ≤ vertices → at knots.now k ≡ k → AreWeakenings vertices handles.now
-        knots.now k (labels_of (knot_ties kept.now knots.now vertices handles.now k)) (pairs_at v.items k)) }
+    ensures { IfOk result (λ v. (k : ℕ) → 1 ≤ k → k ≤ vertices → at knots.now k ≡ k
+        → AreWeakenings vertices handles.now knots.now k
+        (labels_of (knot_ties kept.now knots.now vertices handles.now k))
+        (pairs_at v.items k)) }
 {
     let mut all = Vec::new(alloc);
     all.push(Vec::new(alloc))?;
@@ -187,8 +189,7 @@ fn all_weakenings(
 }
 
 impl Findings {
-    /// Finds all of it (own). The time is linear in vertices and handles where knots have few labels and few owners
-    /// that are neither cuts nor spared by a ring; it is refused only where a growth of memory was. Condition: the
+    /// Finds all of it (own). It is refused only where a growth of memory was. Condition: the
     /// vertices of all handles are among so many.
     pub fn new(alloc: Global, vertices: u32, handles: &[Holding]) -> Result<Findings, AllocError>
         requires { All (IsAmong vertices) handles.now }
@@ -199,8 +200,7 @@ impl Findings {
         let sources = by_source(alloc, vertices, handles)?;
         let marks = kept.as_slice();
         let labels = knots.as_slice();
-        let ties = ties(alloc, vertices, handles, marks, labels)?;
-        let looked = look(alloc, vertices, handles, labels, ties.as_slice())?;
+        let looked = look(alloc, vertices, handles, labels)?;
         let mut walk = Walk::new(alloc, vertices)?;
         let cuts = cuts_of(alloc, vertices, handles, marks, labels, &looked, &mut walk)?;
         let index = looked.index;

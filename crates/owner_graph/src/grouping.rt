@@ -18,9 +18,9 @@ fn empty_rows(alloc: Global, count: usize) -> Result<Vec<Vec<Holding>>, AllocErr
     Ok(rows)
 }
 
-/// Of each vertex, from 0, what is on it, in the order of what is listed (own). It takes time linear in vertices and
-/// handles, and is refused only where a growth of memory was. Condition: the vertices of all that is listed are among
-/// so many.
+/// Of each vertex, from 0, what is on it, in the order of what is listed (own). It takes time
+/// linear in vertices and handles, and is refused only where a growth of memory was. Condition: the
+/// vertices of all that is listed are among so many.
 pub fn by_vertex(
     alloc: Global,
     vertices: u32,
@@ -28,7 +28,8 @@ pub fn by_vertex(
 ) -> Result<Vec<Vec<Holding>>, AllocError>
     requires { All (IsAmong vertices) handles.now }
     ensures size { IfOk result (λ rows. length rows.items ≡ vertices + 1) }
-    ensures rows { IfOk result (λ rows. (vertex : ℕ) → row_at rows.items vertex ≡ held_on handles.now vertex) }
+    ensures rows { IfOk result (λ rows. (vertex : ℕ)
+        → row_at rows.items vertex ≡ held_on handles.now vertex) }
 {
     let mut rows = empty_rows(alloc, as_index(vertices) + 1)?;
     for handle in handles {
@@ -37,9 +38,9 @@ pub fn by_vertex(
     Ok(rows)
 }
 
-/// Of each vertex, from 0, what is in it, in the order of what is listed (own). It takes time linear in vertices and
-/// handles, and is refused only where a growth of memory was. Condition: the vertices of all that is listed are among
-/// so many.
+/// Of each vertex, from 0, what is in it, in the order of what is listed (own). It takes time
+/// linear in vertices and handles, and is refused only where a growth of memory was. Condition: the
+/// vertices of all that is listed are among so many.
 pub(crate) fn by_source(
     alloc: Global,
     vertices: u32,
@@ -47,7 +48,8 @@ pub(crate) fn by_source(
 ) -> Result<Vec<Vec<Holding>>, AllocError>
     requires { All (IsAmong vertices) handles.now }
     ensures size { IfOk result (λ rows. length rows.items ≡ vertices + 1) }
-    ensures rows { IfOk result (λ rows. (vertex : ℕ) → row_at rows.items vertex ≡ held_in handles.now vertex) }
+    ensures rows { IfOk result (λ rows. (vertex : ℕ)
+        → row_at rows.items vertex ≡ held_in handles.now vertex) }
 {
     let mut rows = empty_rows(alloc, as_index(vertices) + 1)?;
     for handle in handles {

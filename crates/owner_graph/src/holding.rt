@@ -2,7 +2,8 @@
 ghost use Rattle.std.specs.Prelude.{◌≡◌};
 ghost use Rattle.owner_graph.specs.Ends.{same_place};
 
-/// A handle in one vertex, on another one (own). Vertex 0 is no object, and stands for what holds objects from outside.
+/// A handle in one vertex, on another one (own). Vertex 0 is no object, and stands for what holds
+/// objects from outside.
 #[derive(Clone, Copy, Drop)]
 pub struct Holding {
     /// The vertex that the handle is in.

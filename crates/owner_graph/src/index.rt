@@ -16,8 +16,8 @@ use crate::holding::{Holding, as_index};
 use crate::weakening::Weakening;
 use std::alloc::{AllocError, Global};
 
-/// Of each vertex the handles on it, and whether it stays where no owner is weak; and of each knot, by its least
-/// vertex, its vertices (own).
+/// Of each vertex the handles on it, and whether it stays where no owner is weak; and of each knot,
+/// by its least vertex, its vertices (own).
 #[derive(Drop)]
 pub struct Index {
     pub rows: Vec<Vec<Holding>>,
@@ -36,9 +36,9 @@ pub fn row(rows: &[Vec<Holding>], index: usize) -> &[Holding]
     }
 }
 
-/// Which vertices stay (own): all but those that end, each of whose owners is in a vertex that ends. It takes time
-/// linear in vertices and handles, and is refused only where a growth of memory was. Condition: the vertices of all
-/// handles are among so many.
+/// Which vertices stay (own): all but those that end, each of whose owners is in a vertex that
+/// ends. It takes time linear in vertices and handles, and is refused only where a growth of memory
+/// was. Condition: the vertices of all handles are among so many.
 pub(crate) fn stays(
     alloc: Global,
     vertices: u32,
@@ -80,8 +80,8 @@ fn homes(alloc: Global, vertices: u32, knots: &[usize]) -> Result<Vec<Holding>, 
     Ok(homes)
 }
 
-/// Of each knot, by its least vertex, its vertices in order, each as a handle in it (own). It takes time linear in
-/// vertices, and is refused only where a growth of memory was.
+/// Of each knot, by its least vertex, its vertices in order, each as a handle in it (own). It takes
+/// time linear in vertices, and is refused only where a growth of memory was.
 pub(crate) fn members(
     alloc: Global,
     vertices: u32,
@@ -90,7 +90,8 @@ pub(crate) fn members(
 ) -> Result<Vec<Vec<Holding>>, AllocError>
     requires among { All (IsAmong vertices) handles.now }
     requires knots { KnotsAre vertices handles.now knots.now }
-    ensures { IfOk result (λ rows. (k : ℕ) → row_at rows.items k ≡ held_on (homes knots.now vertices) k) }
+    ensures { IfOk result (λ rows. (k : ℕ) → row_at rows.items k ≡ held_on
+        (homes knots.now vertices) k) }
 {
     let homes = homes(alloc, vertices, knots)?;
     let rows = by_vertex(alloc, vertices, homes.as_slice())?;
@@ -98,7 +99,8 @@ pub(crate) fn members(
 }
 
 impl Index {
-    /// Looks all of it up, in time linear in vertices and handles. It is refused only where a growth of memory was.
+    /// Looks all of it up, in time linear in vertices and handles. It is refused only where a
+    /// growth of memory was.
     pub(crate) fn new(
         alloc: Global,
         vertices: u32,

@@ -18,7 +18,8 @@ fn led_to(
     vertex: u32,
 ) -> Result<Vec<bool>, GraphError>
     ensures led { IfOk result (λ v. MarksLed vertices edges.now vertex v.items) }
-    ensures outside { IfErr result (λ why. why ≡ GraphError.Outside → AreWithin (vertices + 1) edges.now → ⊥) }
+    ensures outside { IfErr result (λ why. why ≡ GraphError.Outside
+        → AreWithin (vertices + 1) edges.now → ⊥) }
 {
     let vertices = as_index(vertices) + 1;
     let graph = Graph::new(alloc, vertices, edges)?;
@@ -62,10 +63,11 @@ pub(crate) fn reaching(
     Ok(marked)
 }
 
-/// Which vertices are kept (own): those to which a path of owners leads from vertex 0. What is in any other vertex that
-/// isn't vacant is leaked, or only weak handles are on it. It takes time linear in vertices and handles. Of the free
-/// cells so many are. Refused `Outside` only where an owner is in or on a vertex that isn't among so many, and
-/// else `Memory` only where a growth was really refused.
+/// Which vertices are kept (own): those to which a path of owners leads from vertex 0. What is in
+/// any other vertex that isn't vacant is leaked, or only weak handles are on it. It takes time
+/// linear in vertices and handles. Of the free cells so many are. Refused `Outside` only where an
+/// owner is in or on a vertex that isn't among so many, and else `Memory` only where a growth was
+/// really refused.
 pub fn kept(alloc: Global, vertices: u32, handles: &[Holding]) -> Result<Vec<bool>, GraphError>
     ensures size { IfOk result (λ v. length v.items ≡ vertices + 1) }
     ensures kept { IfOk result (λ v. (b : ℕ) → b ≤ vertices
@@ -81,7 +83,8 @@ fn marked_twice(alloc: Global, one: &[bool], other: &[bool]) -> Result<Vec<bool>
     requires { length one.now ≡ length other.now }
     ensures size { IfOk result (λ v. length v.items ≡ length one.now) }
     ensures both { IfOk result (λ v. (k : ℕ) → k < length v.items
-        → slice_index_or v.items k false ≡ (slice_index_or one.now k false && slice_index_or other.now k false)) }
+        → slice_index_or v.items k false ≡ (slice_index_or one.now k false
+        && slice_index_or other.now k false)) }
 {
     let mut both = Vec::new(alloc);
     for index in 0..one.len() {
@@ -90,9 +93,9 @@ fn marked_twice(alloc: Global, one: &[bool], other: &[bool]) -> Result<Vec<bool>
     Ok(both)
 }
 
-/// The knot that a vertex is in (own): just the vertices to which owners lead from it, and from which they lead back.
-/// So they keep each other, and no further one could be added. It takes time linear in vertices and handles. Refused
-/// as [`kept`] is.
+/// The knot that a vertex is in (own): just the vertices to which owners lead from it, and from
+/// which they lead back. So they keep each other, and no further one could be added. It takes time
+/// linear in vertices and handles. Refused as [`kept`] is.
 pub fn knot(
     alloc: Global,
     vertices: u32,

@@ -72,12 +72,14 @@ fn guess_of(alloc: Global, vertices: u32, handles: &[Holding]) -> Result<Guess, 
     guessed(alloc, vertices, handles.len(), rows.as_slice())
 }
 
-/// Of each vertex, from 1, the least of the knot that it is in (own): vertices have one knot just where owners lead
-/// from each to the other. A vertex that nothing ties is a knot of its own. Of the free cells so many are.
+/// Of each vertex, from 1, the least of the knot that it is in (own): vertices have one knot just
+/// where owners lead from each to the other. A vertex that nothing ties is a knot of its own. Of
+/// the free cells so many are.
 ///
-/// One search guesses the knots, and two more look whether the guess is right, so that this takes time linear in
-/// vertices and handles; where it weren't, each vertex would be searched from. It is refused only where a growth of
-/// memory was. Condition: the vertices of all that is listed are among so many.
+/// One search guesses the knots, and two more look whether the guess is right, so that this takes
+/// time linear in vertices and handles; where it weren't, each vertex would be searched from. It is
+/// refused only where a growth of memory was. Condition: the vertices of all that is listed are
+/// among so many.
 pub fn knots(alloc: Global, vertices: u32, handles: &[Holding]) -> Result<Vec<usize>, AllocError>
     requires { All (IsAmong vertices) handles.now }
     ensures { IfOk result (λ knots. KnotsAre vertices handles.now knots.items) }

@@ -1,6 +1,8 @@
-//! A graph of owners: which vertices are kept, which keep each other, and what would end where some owners are weak.
+//! A graph of owners: which vertices are kept, which keep each other, and what would end where some
+//! owners are weak.
 #![tactic(auto)]
 
+mod circles;
 mod edges;
 mod ending;
 mod findings;

@@ -1,5 +1,3 @@
 //! Looks at guesses, by which they are believed.
-pub(crate) mod checking;
 pub(crate) mod looking;
 pub(crate) mod one_knot;
-pub(crate) mod rings;

@@ -15,10 +15,11 @@ use crate::looks::one_knot::{is_risen, is_stuck};
 use crate::weakening::Weakening;
 use std::alloc::{AllocError, Global};
 
-/// Whether each vertex of the knot with this least vertex would end, if some of the owners in it were weak (own). A
-/// walk back along the others guesses it, and where a look finds the guess right, this takes time linear in the knot's
-/// vertices and the handles on them. It is refused only where a growth of memory was. Conditions: the vertices of all
-/// handles are among so many, and what is to be weak is in vertices of the knot.
+/// Whether each vertex of the knot with this least vertex would end, if some of the owners in it
+/// were weak (own). A walk back along the others guesses it, and where a look finds the guess
+/// right, this takes time linear in the knot's vertices and the handles on them. It is refused only
+/// where a growth of memory was. Conditions: the vertices of all handles are among so many, and
+/// what is to be weak is in vertices of the knot.
 pub(crate) fn ends_without(
     alloc: Global,
     vertices: u32,
@@ -45,7 +46,7 @@ pub(crate) fn ends_without(
     if is_risen(index, knots, walk, knot, members) {
         return Ok(true);
     }
-    if is_stuck(vertices, index, knots, walk, knot, members) {
+    if is_stuck(vertices, index, knots, walk, knot) {
         return Ok(false);
     }
     is_cut(alloc, vertices, handles, knots, least, weakening)

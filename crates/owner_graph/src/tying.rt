@@ -1,22 +1,19 @@
 //! Owners that tie knots of leaked vertices, and those of them that cut one.
-ghost use Rattle.std.specs.Prelude.{◌≡◌, ◌↔◌, ◌⊎◌, ◌++◌, ◌≤◌, All, IfOk, IsTrue, OnOk};
+ghost use Rattle.std.specs.Prelude.{◌≡◌, ◌↔◌, ◌++◌, ◌≤◌, All, IfOk, IsTrue, OnOk};
+ghost use Rattle.owner_graph.specs.Circles.{IsLinked, IsTold};
 ghost use Rattle.owner_graph.specs.Ends.{EndsWhenCut};
 ghost use Rattle.owner_graph.specs.Fed.{marked};
 ghost use Rattle.owner_graph.specs.Indices.{IsIndex};
 ghost use Rattle.owner_graph.specs.Knots.{KnotsAre};
 ghost use Rattle.owner_graph.specs.Labels.{at};
 ghost use Rattle.owner_graph.specs.Owners.{IsAmong};
-ghost use Rattle.owner_graph.specs.Plans.{IsRight, IsRing, IsSpared, IsSure};
 ghost use Rattle.owner_graph.specs.Ties.{AreCuts, IsTied, is_tie, ties, ties_by};
 
-use crate::guesses::planning::{CutGuess, Plan, guessed_cuts};
-use crate::guesses::ringing::{Ring, Rings};
+use crate::circles::{Circles, are_circles, guessed_circles, is_told};
 use crate::guesses::search::at;
 use crate::guesses::walk::Walk;
 use crate::holding::{Holding, as_index};
 use crate::index::Index;
-use crate::looks::checking::{is_right, is_sure};
-use crate::looks::rings::{is_ring, is_spared};
 use crate::one_knot::ends_without;
 use crate::weakening::Weakening;
 use std::alloc::{AllocError, Global};
@@ -28,7 +25,8 @@ pub(crate) fn marked(marks: &[bool], index: usize) -> bool
     index < marks.len() && marks[index]
 }
 
-/// Whether a handle is an owner in a vertex that isn't kept, and on a vertex of the same knot (own).
+/// Whether a handle is an owner in a vertex that isn't kept, and on a vertex of the same knot
+/// (own).
 pub fn is_tie(handle: Holding, kept: &[bool], knots: &[usize]) -> bool
     ensures { result ≡ is_tie kept.now knots.now handle }
 {
@@ -57,10 +55,11 @@ fn add_tie(
     Ok(())
 }
 
-/// The owners that tie knots of vertices that aren't kept (own): each owner in such a vertex that is on a vertex of
-/// the same knot, but on the least vertex of that knot, in the order of what is listed. What is kept and the least
-/// vertices are those of [`crate::kept`] and [`crate::knots`]. It takes time linear in handles, and is refused only
-/// where a growth of memory was. Condition: the vertices of all that is listed are among so many.
+/// The owners that tie knots of vertices that aren't kept (own): each owner in such a vertex that
+/// is on a vertex of the same knot, but on the least vertex of that knot, in the order of what is
+/// listed. What is kept and the least vertices are those of [`crate::kept`] and [`crate::knots`].
+/// It takes time linear in handles, and is refused only where a growth of memory was. Condition:
+/// the vertices of all that is listed are among so many.
 pub fn ties(
     alloc: Global,
     vertices: u32,
@@ -82,64 +81,44 @@ pub fn ties(
     Ok(ties)
 }
 
-/// What was looked up, a plan and two rings, and which of these are found to be right.
+/// What was looked up, and circles, where these are found to be some.
 #[derive(Drop)]
 pub(crate) struct Looked {
     pub(crate) index: Index,
-    pub(crate) plan: Plan,
-    pub(crate) one: Ring,
-    pub(crate) other: Ring,
-    pub(crate) is_right: bool,
-    pub(crate) is_one: bool,
-    pub(crate) is_other: bool,
+    pub(crate) circles: Circles,
+    pub(crate) are_circles: bool,
 }
 
-/// Guesses at the cuts of knots, and looks whether the guess is right.
+/// Looks up what is asked again and again, and guesses at circles.
 pub(crate) fn look(
     alloc: Global,
     vertices: u32,
     handles: &[Holding],
     knots: &[usize],
-    ties: &[Holding],
 ) -> Result<Looked, AllocError>
     requires among { All (IsAmong vertices) handles.now }
     requires knots { KnotsAre vertices handles.now knots.now }
     ensures index { IfOk result (λ l. IsIndex vertices handles.now knots.now l.index) }
-    ensures right { IfOk result (λ l. IsTrue l.is_right → IsRight vertices handles.now knots.now l.plan) }
-    ensures one { IfOk result (λ l. IsTrue l.is_one → IsRing vertices handles.now l.one) }
-    ensures other { IfOk result (λ l. IsTrue l.is_other → IsRing vertices handles.now l.other) }
+    ensures circles { IfOk result (λ l. IsTrue l.are_circles
+        → All (IsLinked l.index.stays.items knots.now l.circles) handles.now) }
 {
     let index = Index::new(alloc, vertices, handles, knots)?;
-    let CutGuess { plan, rings } = guessed_cuts(alloc, vertices, handles, knots, ties)?;
-    let Rings { one, other, .. } = rings;
-    let is_right = is_right(vertices, handles, knots, &plan);
-    let is_one = is_ring(vertices, handles, &one);
-    let is_other = is_ring(vertices, handles, &other);
+    let stays = index.stays.as_slice();
+    let circles = guessed_circles(alloc, vertices, handles, knots, stays)?;
+    let are_circles = are_circles(handles, knots, stays, &circles);
     Ok(Looked {
         index,
-        plan,
-        one,
-        other,
-        is_right,
-        is_one,
-        is_other,
+        circles,
+        are_circles,
     })
 }
 
 /// Whether an owner is known to be a cut.
-fn is_known_cut(knots: &[usize], looked: &Looked, tie: Holding) -> bool
-    ensures { IsTrue result → IsTrue looked.now.is_right × IsSure knots.now looked.now.plan tie }
+fn is_known_cut(vertices: u32, knots: &[usize], looked: &Looked, tie: Holding) -> bool
+    ensures { IsTrue result → IsTrue looked.now.are_circles
+        × IsTold vertices knots.now looked.now.circles tie }
 {
-    looked.is_right && is_sure(knots, &looked.plan, tie)
-}
-
-/// Whether an owner is known to be no cut.
-fn is_known_none(vertices: u32, knots: &[usize], looked: &Looked, tie: Holding) -> bool
-    ensures { IsTrue result → (IsTrue looked.now.is_one × IsSpared vertices knots.now looked.now.one tie)
-        ⊎ (IsTrue looked.now.is_other × IsSpared vertices knots.now looked.now.other tie) }
-{
-    (looked.is_one && is_spared(vertices, knots, &looked.one, tie))
-        || (looked.is_other && is_spared(vertices, knots, &looked.other, tie))
+    looked.are_circles && is_told(vertices, knots, &looked.circles, tie)
 }
 
 /// Whether a tie is a cut: where that isn't known, by what would end.
@@ -154,20 +133,16 @@ pub(crate) fn is_cut_by(
 ) -> Result<bool, AllocError>
     requires among { All (IsAmong vertices) handles.now }
     requires knots { KnotsAre vertices handles.now knots.now }
-    requires right { IsTrue looked.now.is_right → IsRight vertices handles.now knots.now looked.now.plan }
-    requires one { IsTrue looked.now.is_one → IsRing vertices handles.now looked.now.one }
-    requires other { IsTrue looked.now.is_other → IsRing vertices handles.now looked.now.other }
+    requires circles { IsTrue looked.now.are_circles
+        → All (IsLinked looked.now.index.stays.items knots.now looked.now.circles) handles.now }
     requires index { IsIndex vertices handles.now knots.now looked.now.index }
     requires vertex { (1 ≤ tie.to) × (tie.to ≤ vertices) }
     requires tie { IsAmong vertices tie }
     requires tied { IsTied knots.now tie }
     ensures { IfOk result (λ is. IsTrue is ↔ EndsWhenCut vertices handles.now tie.to tie) }
 {
-    if is_known_cut(knots, looked, tie) {
+    if is_known_cut(vertices, knots, looked, tie) {
         return Ok(true);
-    }
-    if is_known_none(vertices, knots, looked, tie) {
-        return Ok(false);
     }
     let weakening = Weakening::One { handle: tie };
     let index = &looked.index;
@@ -188,9 +163,8 @@ fn cuts_by(
 ) -> Result<Vec<Holding>, AllocError>
     requires among { All (IsAmong vertices) handles.now }
     requires knots { KnotsAre vertices handles.now knots.now }
-    requires right { IsTrue looked.now.is_right → IsRight vertices handles.now knots.now looked.now.plan }
-    requires one { IsTrue looked.now.is_one → IsRing vertices handles.now looked.now.one }
-    requires other { IsTrue looked.now.is_other → IsRing vertices handles.now looked.now.other }
+    requires circles { IsTrue looked.now.are_circles
+        → All (IsLinked looked.now.index.stays.items knots.now looked.now.circles) handles.now }
     requires index { IsIndex vertices handles.now knots.now looked.now.index }
     requires vertices { All (λ h. (1 ≤ h.to) × (h.to ≤ vertices)) ties.now }
     requires ties { All (IsAmong vertices) ties.now }
@@ -208,9 +182,10 @@ fn cuts_by(
     Ok(cuts)
 }
 
-/// Which ties are cuts (own): by [`is_cut`], just those that, emptied or made weak, would let all vertices of their
-/// knot end. They come in the order of the ties. It is refused only where a growth of memory was. Conditions: the
-/// vertices of all that is listed are among so many, and so are the least vertices of the ties' knots, from 1.
+/// Which ties are cuts (own): by [`is_cut`], just those that, emptied or made weak, would let all
+/// vertices of their knot end. They come in the order of the ties. It is refused only where a
+/// growth of memory was. Conditions: the vertices of all that is listed are among so many, and so
+/// are the least vertices of the ties' knots, from 1.
 pub fn cuts(
     alloc: Global,
     vertices: u32,
@@ -226,7 +201,7 @@ pub fn cuts(
     ensures cuts { IfOk result (λ v. AreCuts vertices handles.now ties.now v.items) }
     ensures among { IfOk result (λ v. All (IsAmong vertices) v.items) }
 {
-    let looked = look(alloc, vertices, handles, knots, ties)?;
+    let looked = look(alloc, vertices, handles, knots)?;
     let mut walk = Walk::new(alloc, vertices)?;
     cuts_by(alloc, vertices, handles, knots, &looked, &mut walk, ties)
 }

@@ -8,7 +8,8 @@ ghost use Rattle.owner_graph.specs.Labels.{at};
 ghost use Rattle.owner_graph.specs.Owners.{IsAmong};
 ghost use Rattle.owner_graph.specs.Rows.{row_at};
 ghost use Rattle.owner_graph.specs.Ties.{is_tie};
-ghost use Rattle.owner_graph.specs.Weakenings.{AreThose, AreWeakenings, Suffices, label_pair, labels_of, pairs, ties_in, twice};
+ghost use Rattle.owner_graph.specs.Weakenings.{AreThose, AreWeakenings, Suffices, label_pair};
+ghost use Rattle.owner_graph.specs.Weakenings.{labels_of, pairs, ties_in, twice};
 
 use crate::guesses::walk::Walk;
 use crate::holding::{Holding, as_index};
@@ -35,7 +36,8 @@ fn add_ties(
     handles: &[Holding],
     ties: &mut Vec<Holding>,
 ) -> Result<(), AllocError>
-    ensures { OnOk result (ties.new.items ≡ ties.old.items ++ filter (is_tie kept.now knots.now) handles.now) }
+    ensures { OnOk result (ties.new.items ≡ ties.old.items ++ filter
+        (is_tie kept.now knots.now) handles.now) }
 {
     for handle in handles {
         if !is_tie(*handle, kept, knots) {
@@ -46,8 +48,9 @@ fn add_ties(
     Ok(())
 }
 
-/// The owners that tie a knot (own), in the order of its vertices, by what is in each vertex. It takes time linear in
-/// the knot's vertices and the handles in them, and is refused only where a growth of memory was.
+/// The owners that tie a knot (own), in the order of its vertices, by what is in each vertex. It
+/// takes time linear in the knot's vertices and the handles in them, and is refused only where a
+/// growth of memory was.
 pub fn knot_ties(
     alloc: Global,
     sources: &[Vec<Holding>],
@@ -126,7 +129,8 @@ fn pairs(alloc: Global, labels: &[u32]) -> Result<Vec<LabelPair>, AllocError>
     Ok(pairs)
 }
 
-/// Those of which this is so: were the owners in the knot that have one of the two labels weak, it would end.
+/// Those of which this is so: were the owners in the knot that have one of the two labels weak, it
+/// would end.
 fn sufficient(
     alloc: Global,
     vertices: u32,
@@ -142,7 +146,8 @@ fn sufficient(
     requires index { IsIndex vertices handles.now knots.now index.now }
     requires least { (1 ≤ least) × (least ≤ vertices) }
     requires own { at knots.now least ≡ least }
-    ensures { IfOk result (λ v. AreThose (Suffices vertices handles.now knots.now least) pairs.now v.items) }
+    ensures { IfOk result (λ v. AreThose
+        (Suffices vertices handles.now knots.now least) pairs.now v.items) }
 {
     let mut found = Vec::new(alloc);
     for pair in pairs {
@@ -163,9 +168,10 @@ fn sufficient(
     Ok(found)
 }
 
-/// The labels of a knot whose owners in it, made weak, would let it end; where no single one does, the pairs that do,
-/// of at most 20 labels (own). It is refused only where a growth of memory was. Conditions: the vertices of all
-/// handles are among so many, and the knot is that with this least vertex.
+/// The labels of a knot whose owners in it, made weak, would let it end; where no single one does,
+/// the pairs that do, of at most 20 labels (own). It is refused only where a growth of memory was.
+/// Conditions: the vertices of all handles are among so many, and the knot is that with this least
+/// vertex.
 pub(crate) fn weakenings_of(
     alloc: Global,
     vertices: u32,
@@ -181,7 +187,8 @@ pub(crate) fn weakenings_of(
     requires index { IsIndex vertices handles.now knots.now index.now }
     requires least { (1 ≤ least) × (least ≤ vertices) }
     requires own { at knots.now least ≡ least }
-    ensures { IfOk result (λ v. AreWeakenings vertices handles.now knots.now least (labels_of ties.now) v.items) }
+    ensures { IfOk result (λ v. AreWeakenings vertices handles.now knots.now least
+        (labels_of ties.now) v.items) }
 {
     let labels = labels_of(alloc, ties)?;
     let ones = singles(alloc, labels.as_slice())?;

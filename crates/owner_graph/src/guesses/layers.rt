@@ -9,13 +9,13 @@ ghost use Rattle.owner_graph.specs.Owners.{IsAmong};
 use crate::ending::fed_by;
 use crate::guesses::ordering::Ordering;
 use crate::guesses::search::{at, put_at, zeros};
-use crate::guesses::web::Web;
 use crate::holding::{Holding, as_index};
 use crate::tying::marked;
 use crate::weakening::{Weakening, is_weakened};
 use std::alloc::{AllocError, Global};
 
-/// Which vertices stay, and of the others a rank, which is greater than that of each owner's vertex.
+/// Which vertices stay, and of the others a rank, which is greater than that of each owner's
+/// vertex.
 #[derive(Drop)]
 pub(crate) struct Layers {
     pub(crate) stays: Vec<bool>,
@@ -47,48 +47,23 @@ impl Layers {
     }
 }
 
-/// Adds the owners that aren't to be weak.
-fn add_others(handles: &[Holding], knots: &[usize], weakening: Weakening, web: &mut Web) {
-    for index in 0..handles.len() {
-        let handle = handles[index];
-        if handle.is_owner && !is_weakened(knots, weakening, handle) {
-            web.add(handles, index + 1);
-        }
-    }
-}
-
-/// The owners that aren't to be weak.
-fn others(
+/// All vertices, from 1, in an order in which no owner leads back that isn't to be weak, as far as
+/// there is one.
+fn ordered(
     alloc: Global,
     vertices: u32,
     handles: &[Holding],
     knots: &[usize],
     weakening: Weakening,
-) -> Result<Web, AllocError> {
-    let mut web = Web::new(alloc, vertices, handles.len())?;
-    add_others(handles, knots, weakening, &mut web);
-    Ok(web)
-}
-
-/// The numbers of so many vertices, from 1.
-fn numbers(alloc: Global, vertices: u32) -> Result<Vec<usize>, AllocError> {
-    let mut numbers = Vec::new(alloc);
-    for before in 0..as_index(vertices) {
-        numbers.push(before + 1)?;
-    }
-    Ok(numbers)
-}
-
-/// All vertices, in an order in which no owner leads back, as far as there is one.
-fn ordered(
-    alloc: Global,
-    vertices: u32,
-    handles: &[Holding],
-    web: &Web,
 ) -> Result<Vec<usize>, AllocError> {
-    let numbers = numbers(alloc, vertices)?;
-    let mut ordering = Ordering::new(alloc, vertices)?;
-    ordering.run(handles, web, numbers.as_slice(), 0)?;
+    let mut ordering = Ordering::new(alloc, vertices, handles.len())?;
+    for index in 0..handles.len() {
+        let handle = handles[index];
+        if handle.is_owner && !is_weakened(knots, weakening, handle) {
+            ordering.add(handles, index + 1);
+        }
+    }
+    ordering.run(handles, as_index(vertices))?;
     Ok(ordering.order)
 }
 
@@ -100,17 +75,17 @@ pub(crate) fn guessed_layers(
     knots: &[usize],
     weakening: Weakening,
 ) -> Result<Layers, AllocError> {
-    let web = others(alloc, vertices, handles, knots, weakening)?;
-    let order = ordered(alloc, vertices, handles, &web)?;
+    let order = ordered(alloc, vertices, handles, knots, weakening)?;
     let mut layers = Layers::new(alloc, as_index(vertices) + 1)?;
     layers.end_all(order.as_slice());
     Ok(layers)
 }
 
-/// Whether a handle, where it is an owner that isn't to be weak, and on a vertex that doesn't stay, is in one that
-/// doesn't either, and whose rank is less.
+/// Whether a handle, where it is an owner that isn't to be weak, and on a vertex that doesn't stay,
+/// is in one that doesn't either, and whose rank is less.
 fn ends_later(knots: &[usize], weakening: Weakening, handle: Holding, layers: &Layers) -> bool
-    ensures { IsTrue result → EndsLater (is_weakened knots.now weakening) layers.now.stays.items layers.now.ranks.items handle }
+    ensures { IsTrue result → EndsLater (is_weakened knots.now weakening) layers.now.stays.items
+        layers.now.ranks.items handle }
 {
     let stays = layers.stays.as_slice();
     let ranks = layers.ranks.as_slice();
@@ -125,7 +100,8 @@ fn ends_later(knots: &[usize], weakening: Weakening, handle: Holding, layers: &L
 /// The same of all handles.
 fn end_later(handles: &[Holding], knots: &[usize], weakening: Weakening, layers: &Layers) -> bool
     ensures { IsTrue result
-        → All (EndsLater (is_weakened knots.now weakening) layers.now.stays.items layers.now.ranks.items) handles.now }
+        → All (EndsLater (is_weakened knots.now weakening) layers.now.stays.items
+        layers.now.ranks.items) handles.now }
 {
     handles
         .iter()
@@ -142,7 +118,8 @@ fn are_marks(vertices: u32, layers: &Layers) -> bool
 
 /// Whether a vertex is fed, where it stays and isn't number 0.
 fn is_fed(stays: &[bool], fed: &[bool], vertex: usize) -> bool
-    ensures { IsTrue result → vertex ≢ 0 → marked stays.now vertex ≡ true → marked fed.now vertex ≡ true }
+    ensures { IsTrue result → vertex ≢ 0 → marked stays.now vertex ≡ true
+        → marked fed.now vertex ≡ true }
 {
     vertex == 0 || !marked(stays, vertex) || marked(fed, vertex)
 }
@@ -171,7 +148,8 @@ pub(crate) fn are_layers(
     requires { All (IsAmong vertices) handles.now }
     ensures size { IfOk result (λ are. IsTrue are → length layers.now.stays.items ≡ vertices + 1) }
     ensures ends { IfOk result (λ are. IsTrue are → (b : ℕ) → b ≤ vertices
-        → marked layers.now.stays.items b ≡ false ↔ EndsWithOwners (without (is_weakened knots.now weakening) handles.now) b) }
+        → marked layers.now.stays.items b ≡ false ↔ EndsWithOwners (without
+        (is_weakened knots.now weakening) handles.now) b) }
 {
     if !are_marks(vertices, layers) {
         return Ok(false);

@@ -1,162 +1,84 @@
-//! Vertices in an order in which no owner leads back, as far as there is one. Nothing is known of it: it serves
-//! guesses.
+//! Vertices in an order in which no owner leads back, as far as there is one. Nothing is known of
+//! it: it serves guesses.
+use crate::guesses::edge_index::{EdgeIndex, target_at};
 use crate::guesses::search::{at, put_at, zeros};
-use crate::guesses::web::{Web, source_at, target_at};
 use crate::holding::{Holding, as_index};
 use std::alloc::{AllocError, Global};
 
-/// Of each vertex how many owners on it are not yet behind.
+/// Owners, of each vertex how many of those on it are not yet behind, and the vertices that are
+/// behind, in order.
 #[derive(Drop)]
 pub(crate) struct Ordering {
+    owners: EdgeIndex,
     counts: Vec<usize>,
-    /// The vertices that are behind, in order.
     pub(crate) order: Vec<usize>,
 }
 
 impl Ordering {
-    pub(crate) fn new(alloc: Global, vertices: u32) -> Result<Ordering, AllocError> {
+    /// No owner.
+    pub(crate) fn new(
+        alloc: Global,
+        vertices: u32,
+        handles: usize,
+    ) -> Result<Ordering, AllocError> {
         Ok(Ordering {
+            owners: EdgeIndex::new(alloc, vertices, handles)?,
             counts: zeros(alloc, as_index(vertices) + 1)?,
             order: Vec::new(alloc),
         })
     }
 
-    /// Whether a vertex isn't behind, for an owner that isn't.
-    pub(crate) fn waits(&self, vertex: usize) -> bool {
-        at(self.counts.as_slice(), vertex) > 0
-    }
-
-    /// The first of the vertices that waits; 0 where none does.
-    pub(crate) fn first_waiting(&self, vertices: &[usize]) -> usize {
-        for vertex in vertices {
-            if self.waits(*vertex) {
-                return *vertex;
-            }
-        }
-        0
-    }
-
-    /// Counts the owners on a vertex, but for the one at a place.
-    fn count(&mut self, web: &Web, most: usize, vertex: usize, without: usize) {
-        let mut count = 0usize;
-        let mut place = web.first_on(vertex);
-        for _owner in 0..most {
-            if place == 0 {
-                break;
-            }
-            if place != without {
-                count = count.saturating_add(1);
-            }
-            place = web.next_on(place);
-        }
-        put_at(&mut self.counts, vertex, count);
-    }
-
-    /// One owner on a vertex is behind; whether it was the last that wasn't.
-    fn was_last(&mut self, vertex: usize) -> bool {
+    /// Adds the owner at a place.
+    pub(crate) fn add(&mut self, handles: &[Holding], place: usize) {
+        self.owners.add(handles, place);
+        let vertex = target_at(handles, place);
         let count = at(self.counts.as_slice(), vertex);
-        if count > 0 {
-            put_at(&mut self.counts, vertex, count - 1);
-        }
-        count == 1
+        put_at(&mut self.counts, vertex, count.saturating_add(1));
     }
 
-    /// One owner on a vertex is behind.
+    /// One owner on a vertex is behind; where none is left, the vertex follows.
     fn lower(&mut self, vertex: usize) -> Result<(), AllocError> {
-        if self.was_last(vertex) {
+        let count = at(self.counts.as_slice(), vertex);
+        put_at(&mut self.counts, vertex, count.saturating_sub(1));
+        if count == 1 {
             self.order.push(vertex)?;
         }
         Ok(())
     }
 
-    /// All owners in a vertex are behind, but for the one at a place.
-    fn pass(
-        &mut self,
-        handles: &[Holding],
-        web: &Web,
-        vertex: usize,
-        without: usize,
-    ) -> Result<(), AllocError> {
-        let mut place = web.first_in(vertex);
+    /// All owners in a vertex are behind.
+    fn pass(&mut self, handles: &[Holding], vertex: usize) -> Result<(), AllocError> {
+        let mut place = self.owners.first_in(vertex);
         for _owner in 0..handles.len() {
             if place == 0 {
                 break;
             }
-            if place != without {
-                self.lower(target_at(handles, place))?;
-            }
-            place = web.next_in(place);
+            self.lower(target_at(handles, place))?;
+            place = self.owners.next_in(place);
         }
         Ok(())
     }
 
-    /// Counts the owners on each vertex, but for the one at a place.
-    fn count_all(&mut self, web: &Web, most: usize, members: &[usize], without: usize) {
-        for vertex in members {
-            self.count(web, most, *vertex, without);
-        }
-    }
-
-    /// The vertices that don't wait come first.
-    fn begin(&mut self, members: &[usize]) -> Result<(), AllocError> {
-        for vertex in members {
-            if !self.waits(*vertex) {
-                self.order.push(*vertex)?;
+    /// The vertices without owners come first.
+    fn begin(&mut self, vertices: usize) -> Result<(), AllocError> {
+        for before in 0..vertices {
+            if at(self.counts.as_slice(), before + 1) == 0 {
+                self.order.push(before + 1)?;
             }
         }
         Ok(())
     }
 
-    /// Passes so many vertices at most, in order.
-    fn pass_all(
-        &mut self,
-        handles: &[Holding],
-        web: &Web,
-        most: usize,
-        without: usize,
-    ) -> Result<(), AllocError> {
-        for index in 0..most {
+    /// Orders so many vertices, from 1.
+    pub(crate) fn run(&mut self, handles: &[Holding], vertices: usize) -> Result<(), AllocError> {
+        self.begin(vertices)?;
+        for index in 0..vertices {
             if index >= self.order.len() {
                 break;
             }
             let vertex = self.order[index];
-            self.pass(handles, web, vertex, without)?;
+            self.pass(handles, vertex)?;
         }
         Ok(())
-    }
-
-    /// Orders vertices, without the owner at a place.
-    pub(crate) fn run(
-        &mut self,
-        handles: &[Holding],
-        web: &Web,
-        members: &[usize],
-        without: usize,
-    ) -> Result<(), AllocError> {
-        self.order.clear();
-        self.count_all(web, handles.len(), members, without);
-        self.begin(members)?;
-        self.pass_all(handles, web, members.len(), without)
-    }
-
-    /// An owner on a vertex that waits, in another that does, but for the one at a place; 0 where there is none.
-    pub(crate) fn waited_for(
-        &self,
-        handles: &[Holding],
-        web: &Web,
-        vertex: usize,
-        without: usize,
-    ) -> usize {
-        let mut place = web.first_on(vertex);
-        for _owner in 0..handles.len() {
-            if place == 0 {
-                break;
-            }
-            if place != without && self.waits(source_at(handles, place)) {
-                return place;
-            }
-            place = web.next_on(place);
-        }
-        0
     }
 }

@@ -1,5 +1,5 @@
-//! A guess at the knots, by one search against the owners' direction. Nothing is known of it: it is looked at before it
-//! is believed.
+//! A guess at the knots, by one search against the owners' direction. Nothing is known of it: it is
+//! looked at before it is believed.
 ghost use Rattle.std.specs.Prelude.{◌≡◌};
 ghost use Rattle.owner_graph.specs.Labels.{at};
 
@@ -34,16 +34,17 @@ pub(crate) fn holding_at(rows: &[Vec<Holding>], vertex: usize, index: usize) -> 
     }
 }
 
-/// Of each vertex the rank of its knot, from 1, and of each rank the least vertex; no rank falls from an owner's
-/// vertex to the one that it is on.
+/// Of each vertex the rank of its knot, from 1, and of each rank the least vertex; no rank falls
+/// from an owner's vertex to the one that it is on.
 #[derive(Drop)]
 pub(crate) struct Guess {
     pub(crate) ranks: Vec<usize>,
     pub(crate) firsts: Vec<usize>,
 }
 
-/// A search: when each vertex was found, from 1, the earliest still open vertex that it leads back to, how many of the
-/// handles on it were followed, the vertices on the way to where the search is, and those whose knot isn't known.
+/// A search: when each vertex was found, from 1, the earliest still open vertex that it leads back
+/// to, how many of the handles on it were followed, the vertices on the way to where the search is,
+/// and those whose knot isn't known.
 #[derive(Drop)]
 struct Search {
     places: Vec<usize>,

@@ -1,6 +1,5 @@
-//! A guess whether one knot ends where some owners are weak, by a walk back along the others. Nothing is known of it:
-//! it is looked at before it is believed.
-use crate::guesses::knotting::mark_at;
+//! A guess whether one knot ends where some owners are weak, by a walk back along the others.
+//! Nothing is known of it: it is looked at before it is believed.
 use crate::guesses::search::{at, holding_at, put_at, zeros};
 use crate::holding::{Holding, as_index};
 use crate::index::Index;
@@ -11,17 +10,19 @@ use std::alloc::{AllocError, Global};
 /// The rank of a vertex on the way to where a walk is; 0 is that of one where it wasn't yet.
 const ON_THE_WAY: usize = 1;
 
-/// A walk: of each vertex a rank, which is greater than those of the vertices that its owners are in, how many of the
-/// handles on it were followed, and whether it is found to stay; the vertices on the way to where the walk is, the next
-/// rank, and a vertex that stays, or 0.
+/// A walk: of each vertex a rank, which is greater than those of the vertices that its owners are
+/// in, and how many of the handles on it were followed; the vertices where it was, those on the way
+/// to where it is, and the next rank. And a ring: vertices that stay, since each has an owner in
+/// another one, or elsewhere; and of each its place in the ring, from 1 on.
 #[derive(Drop)]
 pub(crate) struct Walk {
     pub(crate) ranks: Vec<usize>,
     followed: Vec<usize>,
-    pub(crate) stuck: Vec<bool>,
+    visited: Vec<usize>,
     path: Vec<usize>,
     next: usize,
-    pub(crate) witness: usize,
+    pub(crate) ring: Vec<usize>,
+    pub(crate) places: Vec<usize>,
 }
 
 /// What a walk is in: a knot, by its least vertex, and which owners are weak.
@@ -37,31 +38,31 @@ impl Walk {
         Ok(Walk {
             ranks: zeros(alloc, size)?,
             followed: zeros(alloc, size)?,
-            stuck: vec![in alloc; false; size]?,
+            places: zeros(alloc, size)?,
+            visited: Vec::new(alloc),
             path: Vec::new(alloc),
+            ring: Vec::new(alloc),
             next: ON_THE_WAY,
-            witness: 0,
         })
     }
 
-    /// Forgets the walks that were in a knot.
-    fn clear(&mut self, members: &[Holding]) {
-        for member in members {
-            let vertex = as_index(member.from);
+    /// Forgets the walk before.
+    fn clear(&mut self) {
+        for index in 0..self.visited.len() {
+            let vertex = at(self.visited.as_slice(), index);
             put_at(&mut self.ranks, vertex, 0);
             put_at(&mut self.followed, vertex, 0);
-            if vertex < self.stuck.len() {
-                self.stuck[vertex] = false;
-            }
         }
+        self.visited.clear();
         self.path.clear();
+        self.ring.clear();
         self.next = ON_THE_WAY;
-        self.witness = 0;
     }
 
     /// Goes on at a vertex.
     fn enter(&mut self, vertex: usize) -> Result<(), AllocError> {
         put_at(&mut self.ranks, vertex, ON_THE_WAY);
+        self.visited.push(vertex)?;
         self.path.push(vertex)?;
         Ok(())
     }
@@ -73,20 +74,20 @@ impl Walk {
         put_at(&mut self.ranks, vertex, self.next);
     }
 
-    /// A vertex stays, and so do those on the way since another one.
-    fn close(&mut self, vertex: usize, first: usize) {
-        self.witness = vertex;
-        mark_at(&mut self.stuck, vertex);
+    /// The vertices on the way since this one stay.
+    fn close(&mut self, first: usize) -> Result<(), AllocError> {
         for _vertex in 0..self.path.len() {
-            let Some(last) = self.path.pop() else {
+            let Some(vertex) = self.path.pop() else {
                 break;
             };
-            mark_at(&mut self.stuck, last);
-            if last == first {
+            self.ring.push(vertex)?;
+            put_at(&mut self.places, vertex, self.ring.len());
+            if vertex == first {
                 break;
             }
         }
         self.path.clear();
+        Ok(())
     }
 
     /// Follows an owner of a vertex back to where it is.
@@ -100,16 +101,13 @@ impl Walk {
     ) -> Result<(), AllocError> {
         if owner == 0 || at(knots, owner) != as_index(knot.least) {
             if owner == 0 || marked(index.stays.as_slice(), owner) {
-                self.close(vertex, vertex);
+                self.close(vertex)?;
             }
             return Ok(());
         }
         match at(self.ranks.as_slice(), owner) {
             0 => self.enter(owner),
-            ON_THE_WAY => {
-                self.close(vertex, owner);
-                Ok(())
-            }
+            ON_THE_WAY => self.close(owner),
             _ => Ok(()),
         }
     }
@@ -164,9 +162,9 @@ impl Walk {
         knot: Knot,
         members: &[Holding],
     ) -> Result<(), AllocError> {
-        self.clear(members);
+        self.clear();
         for member in members {
-            if self.witness > 0 {
+            if !self.ring.is_empty() {
                 break;
             }
             self.walk_from(index, knots, knot, as_index(member.from))?;

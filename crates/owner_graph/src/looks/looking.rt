@@ -105,7 +105,8 @@ fn steps_of(
 /// Whether each vertex, from 1, is marked.
 fn are_marked(vertices: u32, marks: &[bool]) -> bool
     requires { length marks.now ≡ vertices + 1 }
-    ensures { IsTrue result → (b : ℕ) → 1 ≤ b → b ≤ vertices → slice_index_or marks.now b false ≡ true }
+    ensures { IsTrue result → (b : ℕ) → 1 ≤ b → b ≤ vertices
+        → slice_index_or marks.now b false ≡ true }
 {
     for before in 0..vertices {
         if !marks[as_index(before) + 1] {

@@ -1,9 +1,8 @@
 //! A look at one knot, by which it is known to end where some owners are weak, or not to.
-ghost use Rattle.std.specs.Prelude.{◌≡◌, ◌≤◌, ℕ, All, IsTrue, true};
+ghost use Rattle.std.specs.Prelude.{◌<◌, ◌≤◌, ℕ, All, IsTrue, length};
 ghost use Rattle.owner_graph.specs.Ends.{is_weakened};
-ghost use Rattle.owner_graph.specs.Fed.{marked};
 ghost use Rattle.owner_graph.specs.Labels.{at};
-ghost use Rattle.owner_graph.specs.OneKnot.{HasHolder, Holds, Rises};
+ghost use Rattle.owner_graph.specs.OneKnot.{HasHolder, Holds, IsListed, IsWitness, Rises};
 ghost use Rattle.owner_graph.specs.Rows.{row_at};
 
 use crate::guesses::search::at;
@@ -13,47 +12,58 @@ use crate::index::{Index, row};
 use crate::tying::marked;
 use crate::weakening::is_weakened;
 
-/// Whether an owner on a vertex of the knot is weak, or in a vertex that ends, or in one of the knot with a lesser
-/// rank.
+/// Whether an owner on a vertex of the knot is weak, or in a vertex that ends, or in one of the
+/// knot with a lesser rank.
 fn rises(
-    stays: &[bool],
+    index: &Index,
     knots: &[usize],
-    ranks: &[usize],
+    walk: &Walk,
     knot: Knot,
     vertex: usize,
     handle: Holding,
 ) -> bool
-    ensures { IsTrue result → Rises (is_weakened knots.now knot.weakening) stays.now knots.now ranks.now knot.least
-        vertex handle }
+    ensures { IsTrue result → Rises (is_weakened knots.now knot.weakening) index.now.stays.items
+        knots.now walk.now.ranks.items knot.least vertex handle }
 {
     if !handle.is_owner || is_weakened(knots, knot.weakening, handle) {
         return true;
     }
     let from = as_index(handle.from);
-    !marked(stays, from)
+    let ranks = walk.ranks.as_slice();
+    !marked(index.stays.as_slice(), from)
         || (from > 0
             && at(knots, from) == as_index(knot.least)
             && at(ranks, from) < at(ranks, vertex))
 }
 
-/// Whether each handle on a vertex is so.
+/// Whether each of the handles is so.
 fn all_rise(
-    stays: &[bool],
+    index: &Index,
     knots: &[usize],
-    ranks: &[usize],
+    walk: &Walk,
     knot: Knot,
     vertex: usize,
     handles: &[Holding],
 ) -> bool
-    ensures { IsTrue result → All (Rises (is_weakened knots.now knot.weakening) stays.now knots.now ranks.now knot.least
-        vertex) handles.now }
+    ensures { IsTrue result → All (Rises (is_weakened knots.now knot.weakening)
+        index.now.stays.items knots.now walk.now.ranks.items knot.least vertex) handles.now }
 {
     handles
         .iter()
-        .all(|handle| rises(stays, knots, ranks, knot, vertex, *handle))
+        .all(|handle| rises(index, knots, walk, knot, vertex, *handle))
 }
 
-/// Whether each vertex of the knot is so.
+/// Whether each of those on a vertex is.
+fn has_risen(index: &Index, knots: &[usize], walk: &Walk, knot: Knot, vertex: usize) -> bool
+    ensures { IsTrue result → All (Rises (is_weakened knots.now knot.weakening)
+        index.now.stays.items knots.now walk.now.ranks.items knot.least vertex)
+        (row_at index.now.rows.items vertex) }
+{
+    let handles = row(index.rows.as_slice(), vertex);
+    all_rise(index, knots, walk, knot, vertex, handles)
+}
+
+/// Whether it is so of each vertex of the knot.
 pub(crate) fn is_risen(
     index: &Index,
     knots: &[usize],
@@ -61,26 +71,26 @@ pub(crate) fn is_risen(
     knot: Knot,
     members: &[Holding],
 ) -> bool
-    ensures { IsTrue result → All (λ m. All (Rises (is_weakened knots.now knot.weakening) index.now.stays.items knots.now
-        walk.now.ranks.items knot.least m.from) (row_at index.now.rows.items m.from)) members.now }
+    ensures { IsTrue result → All (λ m. All (Rises (is_weakened knots.now knot.weakening)
+        index.now.stays.items knots.now walk.now.ranks.items knot.least m.from)
+        (row_at index.now.rows.items m.from)) members.now }
 {
-    let stays = index.stays.as_slice();
-    let ranks = walk.ranks.as_slice();
-    for member in members {
-        let vertex = as_index(member.from);
-        let handles = row(index.rows.as_slice(), vertex);
-        if !all_rise(stays, knots, ranks, knot, vertex, handles) {
-            return false;
-        }
-    }
-    true
+    members.iter().all(|member| has_risen(index, knots, walk, knot, as_index(member.from)))
 }
 
-/// Whether an owner isn't weak, and is outside, or in a vertex of the knot that is marked, or in another one that
-/// stays.
-fn holds(stays: &[bool], knots: &[usize], stuck: &[bool], knot: Knot, handle: Holding) -> bool
-    ensures { IsTrue result → Holds (is_weakened knots.now knot.weakening) stays.now knots.now stuck.now knot.least
-        handle }
+/// Whether a vertex is one of the ring.
+fn is_listed(walk: &Walk, vertex: usize) -> bool
+    ensures { IsTrue result → IsListed walk.now.ring.items vertex }
+{
+    let place = at(walk.places.as_slice(), vertex);
+    place > 0 && place <= walk.ring.len() && at(walk.ring.as_slice(), place - 1) == vertex
+}
+
+/// Whether an owner isn't weak, and is outside, or in a vertex of the knot that is one of the ring,
+/// or in another one that stays.
+fn holds(index: &Index, knots: &[usize], walk: &Walk, knot: Knot, handle: Holding) -> bool
+    ensures { IsTrue result → Holds (is_weakened knots.now knot.weakening) index.now.stays.items
+        knots.now walk.now.ring.items knot.least handle }
 {
     if !handle.is_owner || is_weakened(knots, knot.weakening, handle) {
         return false;
@@ -90,68 +100,56 @@ fn holds(stays: &[bool], knots: &[usize], stuck: &[bool], knot: Knot, handle: Ho
         return true;
     }
     if at(knots, from) == as_index(knot.least) {
-        marked(stuck, from)
+        is_listed(walk, from)
     } else {
-        marked(stays, from)
+        marked(index.stays.as_slice(), from)
     }
 }
 
-/// Whether one of the handles on a vertex is so.
-fn has_holder(
-    stays: &[bool],
-    knots: &[usize],
-    stuck: &[bool],
-    knot: Knot,
-    handles: &[Holding],
-) -> bool
-    ensures { IsTrue result → HasHolder (is_weakened knots.now knot.weakening) stays.now knots.now stuck.now knot.least
-        handles.now }
+/// Whether one of the handles is so.
+#[tactic(auto, unfolding(crate::specs::OneKnot::HasHolder))]
+fn has_holder(index: &Index, knots: &[usize], walk: &Walk, knot: Knot, handles: &[Holding]) -> bool
+    ensures { IsTrue result → HasHolder (is_weakened knots.now knot.weakening)
+        index.now.stays.items knots.now walk.now.ring.items knot.least handles.now }
 {
     for handle in handles {
-        if holds(stays, knots, stuck, knot, *handle) {
+        if holds(index, knots, walk, knot, *handle) {
             return true;
         }
     }
     false
 }
 
-/// Whether each vertex of the knot that is marked has one.
-fn have_holders(
-    index: &Index,
-    knots: &[usize],
-    walk: &Walk,
-    knot: Knot,
-    members: &[Holding],
-) -> bool
-    ensures { IsTrue result → All (λ m. marked walk.now.stuck.items m.from ≡ true
-        → HasHolder (is_weakened knots.now knot.weakening) index.now.stays.items knots.now walk.now.stuck.items
-        knot.least (row_at index.now.rows.items m.from)) members.now }
+/// Whether one of those on a vertex is.
+fn is_held(index: &Index, knots: &[usize], walk: &Walk, knot: Knot, vertex: usize) -> bool
+    ensures { IsTrue result → HasHolder (is_weakened knots.now knot.weakening)
+        index.now.stays.items knots.now walk.now.ring.items knot.least
+        (row_at index.now.rows.items vertex) }
 {
-    let stays = index.stays.as_slice();
-    let stuck = walk.stuck.as_slice();
-    for member in members {
-        let vertex = as_index(member.from);
-        if !marked(stuck, vertex) {
-            continue;
-        }
-        let handles = row(index.rows.as_slice(), vertex);
-        if !has_holder(stays, knots, stuck, knot, handles) {
-            return false;
-        }
-    }
-    true
+    let handles = row(index.rows.as_slice(), vertex);
+    has_holder(index, knots, walk, knot, handles)
 }
 
-/// Whether the witness is a vertex of the knot that is marked.
-fn has_witness(vertices: u32, knots: &[usize], walk: &Walk, knot: Knot) -> bool
-    ensures { IsTrue result → (1 ≤ walk.now.witness) × (walk.now.witness ≤ vertices)
-        × (at knots.now walk.now.witness ≡ knot.least) × (marked walk.now.stuck.items walk.now.witness ≡ true) }
+/// Whether it is so of each vertex of the ring.
+fn are_held(index: &Index, knots: &[usize], walk: &Walk, knot: Knot, ring: &[usize]) -> bool
+    ensures { IsTrue result → All (λ b. HasHolder (is_weakened knots.now knot.weakening)
+        index.now.stays.items knots.now walk.now.ring.items knot.least
+        (row_at index.now.rows.items b)) ring.now }
 {
-    let witness = walk.witness;
-    witness > 0
-        && witness <= as_index(vertices)
-        && at(knots, witness) == as_index(knot.least)
-        && marked(walk.stuck.as_slice(), witness)
+    ring.iter()
+        .all(|vertex| is_held(index, knots, walk, knot, *vertex))
+}
+
+/// Whether the ring has a first vertex, which is one of the knot.
+fn has_witness(vertices: u32, knots: &[usize], walk: &Walk, knot: Knot) -> bool
+    ensures { IsTrue result → 0 < length walk.now.ring.items
+        × IsWitness vertices knots.now knot.least (at walk.now.ring.items 0) }
+{
+    let first = at(walk.ring.as_slice(), 0);
+    walk.ring.len() > 0
+        && first > 0
+        && first <= as_index(vertices)
+        && at(knots, first) == as_index(knot.least)
 }
 
 /// Whether the knot is found to stay.
@@ -161,13 +159,13 @@ pub(crate) fn is_stuck(
     knots: &[usize],
     walk: &Walk,
     knot: Knot,
-    members: &[Holding],
 ) -> bool
-    ensures witness { IsTrue result → (1 ≤ walk.now.witness) × (walk.now.witness ≤ vertices)
-        × (at knots.now walk.now.witness ≡ knot.least) × (marked walk.now.stuck.items walk.now.witness ≡ true) }
-    ensures holders { IsTrue result → All (λ m. marked walk.now.stuck.items m.from ≡ true
-        → HasHolder (is_weakened knots.now knot.weakening) index.now.stays.items knots.now walk.now.stuck.items
-        knot.least (row_at index.now.rows.items m.from)) members.now }
+    ensures witness { IsTrue result → 0 < length walk.now.ring.items
+        × IsWitness vertices knots.now knot.least (at walk.now.ring.items 0) }
+    ensures holders { IsTrue result → All (λ b. HasHolder (is_weakened knots.now knot.weakening)
+        index.now.stays.items knots.now walk.now.ring.items knot.least
+        (row_at index.now.rows.items b)) walk.now.ring.items }
 {
-    has_witness(vertices, knots, walk, knot) && have_holders(index, knots, walk, knot, members)
+    has_witness(vertices, knots, walk, knot)
+        && are_held(index, knots, walk, knot, walk.ring.as_slice())
 }

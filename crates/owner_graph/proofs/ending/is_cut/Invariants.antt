@@ -5,4 +5,5 @@ use Rattle.owner_graph.specs.Labels.{at}
 use Rattle.owner_graph.proofs.ending.is_cut.Given as goal
 
 abbrev pub invariant-loop-before : goal.invariant-loop-before
-invariant-loop-before l = (a : ℕ) → 1 ≤ a → a ≤ l.before → at l.knots a ≡ at l.knots l.vertex → marked l.stays.items a ≡ false
+invariant-loop-before l = (a : ℕ) → 1 ≤ a → a ≤ l.before → at l.knots a ≡ at l.knots l.vertex
+    → marked l.stays.items a ≡ false

@@ -2,12 +2,14 @@ use Rattle.std.proofs.Common.{◌≡◌, ◌↔◌, ◌<◌, ℕ, length, true}
 use Rattle.owner_graph.specs.Ends.{EndsWhenCut}
 use Rattle.owner_graph.specs.Fed.{marked}
 use Rattle.owner_graph.specs.Labels.{at}
-use Rattle.owner_graph.specs.Plans.{handle_listed}
+use Rattle.owner_graph.specs.Rows.{handle_listed}
 use Rattle.owner_graph.specs.Ties.{is_tie}
 use Rattle.owner_graph.proofs.findings.cuts_of.Given as goal
 
 abbrev pub invariant-loop-handle : goal.invariant-loop-handle
 invariant-loop-handle l =
-    (length l.cuts.items ≡ l.handle-index) × ((i : ℕ) → i < l.handle-index → marked l.cuts.items i ≡ true
+    (length l.cuts.items ≡ l.handle-index)
+    × ((i : ℕ) → i < l.handle-index → marked l.cuts.items i ≡ true
     ↔ ((is_tie l.kept l.knots (handle_listed l.handles i) ≡ true)
-    × EndsWhenCut l.vertices l.handles (at l.knots (handle_listed l.handles i).from) (handle_listed l.handles i)))
+    × EndsWhenCut l.vertices l.handles (at l.knots (handle_listed l.handles i).from)
+    (handle_listed l.handles i)))

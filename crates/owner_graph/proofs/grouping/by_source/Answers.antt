@@ -1,8 +1,16 @@
-use Rattle.owner_graph.proofs.RowLemmas.{in_more}
+use Rattle.std.proofs.Common.{refl}
+use Rattle.owner_graph.specs.declared.holding.Holding.{Holding}
+use Rattle.owner_graph.specs.Rows.{held_in}
+use Rattle.owner_graph.proofs.RowLemmas.{held_more}
 use Rattle.owner_graph.proofs.grouping.by_source.Goals as goal
 
 pub loop-handle-preserved : goal.loop-handle-preserved
 loop-handle-preserved c =
-    in_more c.loop-handle.rows.items c.args.handles.now c.args.vertices c.loop-handle.handle-index c.as_index-in-loop-handle.result _
-    c.index_mut.result.now c.push.new.self c.requires c.loop-handle-test.true c.loop-handle.invariant.0 c.loop-handle.invariant.1
-    c.as_index-in-loop-handle.ensures c.index_mut.ensures.value c.in_ok-push.ensures.items
+    held_more (λ (h : Holding). h.from) held_in (λ v. refl) (λ h hs v. refl)
+    c.loop-handle.rows.items c.args.handles.now c.args.vertices
+    c.loop-handle.handle-index c.as_index-in-loop-handle.result _ c.index_mut.result.now
+    c.push.new.self
+    (c.requires c.loop-handle.handle-index _ c.loop-handle-test.true).0 c.loop-handle-test.true
+    c.loop-handle.invariant.0
+    c.loop-handle.invariant.1 c.as_index-in-loop-handle.ensures c.index_mut.ensures.value
+    c.in_ok-push.ensures.items

@@ -4,4 +4,6 @@ use Rattle.owner_graph.proofs.labels.labels_of.Given as goal
 
 abbrev pub invariant-loop-vertex : goal.invariant-loop-vertex
 invariant-loop-vertex l =
-    (length l.labels.items ≡ l.vertex) × ((b : ℕ) → b < l.vertex → at l.labels.items b ≡ at l.guess.firsts.items (at l.guess.ranks.items b))
+    (length l.labels.items ≡ l.vertex)
+    × ((b : ℕ) → b < l.vertex → at l.labels.items b ≡ at l.guess.firsts.items
+    (at l.guess.ranks.items b))

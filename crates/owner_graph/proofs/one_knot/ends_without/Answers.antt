@@ -1,14 +1,13 @@
-use Rattle.std.proofs.Common.{◌≡◌, ◌∙◌, List, ap, refl, subst, sym, true, true≢false}
+use Rattle.std.proofs.Common.{◌≡◌, ◌∙◌, List, ap, get_or, refl, subst, sym, true≢false}
 use Rattle.std.specs.Prelude.{All}
 use Rattle.std.specs.Global.{Vec}
 use Rattle.owner_graph.specs.declared.holding.Holding.{Holding}
 use Rattle.owner_graph.specs.Ends.{is_weakened}
-use Rattle.owner_graph.specs.Fed.{marked}
 use Rattle.owner_graph.specs.Members.{homes}
 use Rattle.owner_graph.specs.OneKnot.{HasHolder, Rises}
 use Rattle.owner_graph.specs.Rows.{held_on, row_at}
 use Rattle.owner_graph.proofs.Homes.{home_listed}
-use Rattle.owner_graph.proofs.OneKnot.{all_rise, one_stays}
+use Rattle.owner_graph.proofs.OneKnot.{all_rise, ring_stays}
 use Rattle.owner_graph.proofs.one_knot.ends_without.Goals as goal
 
 pub returns-then-is_risen : goal.returns-then-is_risen
@@ -17,15 +16,22 @@ returns-then-is_risen c =
     let index = c.args.index.now in
     let walk = c.run.new.self in
     let hs = c.args.handles.now in
-    let members : c.row-members.result.now ≡ held_on (homes c.args.knots.now c.args.vertices) c.args.least =
-    c.row-members.ensures ∙ ap (λ (rows : List (Vec Holding)). row_at rows c.as_index.result) c.as_slice.ensures.value
+    let members : c.row-members.result.now ≡ held_on (homes c.args.knots.now c.args.vertices)
+    c.args.least =
+    c.row-members.ensures ∙ ap (λ (rows : List (Vec Holding)). row_at rows c.as_index.result)
+    c.as_slice.ensures.value
     ∙ ap (row_at index.members.items) c.as_index.ensures ∙ c.requires.index.members c.args.least in
-    let P = λ (m : Holding). All (Rises gone index.stays.items c.args.knots.now walk.ranks.items c.args.least m.from) (row_at index.rows.items m.from) in (
+    let P = λ (m : Holding). All (Rises gone index.stays.items c.args.knots.now walk.ranks.items
+    c.args.least m.from) (row_at index.rows.items m.from) in (
       λ _.
-          all_rise c.args.vertices hs c.args.knots.now c.requires.knots c.requires.among gone index.stays.items c.requires.index.stays c.args.least
+          all_rise c.args.vertices hs c.args.knots.now c.requires.knots c.requires.among gone
+          index.stays.items c.requires.index.stays c.args.least
           c.requires.least.0 c.requires.least.1 c.requires.own walk.ranks.items
-          (λ b one within same. subst (All (Rises gone index.stays.items c.args.knots.now walk.ranks.items c.args.least b)) (c.requires.index.rows b)
-          (home_listed P c.args.knots.now c.args.least c.args.vertices (subst (All P) members (c.is_risen.ensures c.if-is_risen.true)) b one within same)),
+          (λ b one within same. subst
+          (All (Rises gone index.stays.items c.args.knots.now walk.ranks.items c.args.least b))
+          (c.requires.index.rows b)
+          (home_listed P c.args.knots.now c.args.least c.args.vertices
+          (subst (All P) members (c.is_risen.ensures c.if-is_risen.true)) b one within same)),
       λ _. refl,
     )
 
@@ -33,19 +39,16 @@ pub returns-then-is_stuck : goal.returns-then-is_stuck
 returns-then-is_stuck c =
     let gone = is_weakened c.args.knots.now c.args.weakening in
     let index = c.args.index.now in
-    let walk = c.run.new.self in
-    let hs = c.args.handles.now in
-    let members : c.row-members.result.now ≡ held_on (homes c.args.knots.now c.args.vertices) c.args.least =
-    c.row-members.ensures ∙ ap (λ (rows : List (Vec Holding)). row_at rows c.as_index.result) c.as_slice.ensures.value
-    ∙ ap (row_at index.members.items) c.as_index.ensures ∙ c.requires.index.members c.args.least in
-    let w = c.is_stuck.ensures.witness c.if-is_stuck.true in
-    let P = λ (m : Holding). marked walk.stuck.items m.from ≡ true
-    → HasHolder gone index.stays.items c.args.knots.now walk.stuck.items c.args.least (row_at index.rows.items m.from) in (
+    let ring = c.run.new.self.ring.items in
+    let witness = c.is_stuck.ensures.witness c.if-is_stuck.true in
+    let holders = c.is_stuck.ensures.holders c.if-is_stuck.true in (
       λ yes. absurd (true≢false (sym yes)),
       λ cut.
-          absurd (one_stays c.args.vertices hs c.args.knots.now c.requires.knots c.requires.among gone index.stays.items c.requires.index.stays c.args.least
-          c.requires.least.0 c.requires.least.1 c.requires.own c.requires.inside walk.stuck.items
-          (λ b one within same mark. subst (HasHolder gone index.stays.items c.args.knots.now walk.stuck.items c.args.least) (c.requires.index.rows b)
-          (home_listed P c.args.knots.now c.args.least c.args.vertices (subst (All P) members (c.is_stuck.ensures.holders c.if-is_stuck.true)) b one within same
-          mark)) walk.witness w.0 w.1 w.2 w.3 cut),
+          absurd (ring_stays c.args.vertices c.args.handles.now c.args.knots.now c.requires.knots
+          c.requires.among gone
+          index.stays.items c.requires.index.stays c.args.least c.requires.least.0
+          c.requires.least.1 c.requires.own
+          c.requires.inside ring
+          (λ i d lt. subst (HasHolder gone index.stays.items c.args.knots.now ring c.args.least)
+          (c.requires.index.rows (get_or ring i d)) (holders i d lt)) witness.0 witness.1 cut),
     )

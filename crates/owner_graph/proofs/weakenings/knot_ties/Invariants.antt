@@ -7,4 +7,5 @@ use Rattle.owner_graph.proofs.weakenings.knot_ties.Given as goal
 
 abbrev pub invariant-loop-member : goal.invariant-loop-member
 invariant-loop-member l =
-    l.ties.items ≡ flat_map (λ (m : Holding). filter (is_tie l.kept l.knots) (row_at l.sources m.from)) (take l.member-index l.members)
+    l.ties.items ≡ flat_map (λ (m : Holding). filter (is_tie l.kept l.knots)
+    (row_at l.sources m.from)) (take l.member-index l.members)

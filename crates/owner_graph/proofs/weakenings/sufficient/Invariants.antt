@@ -4,4 +4,5 @@ use Rattle.owner_graph.proofs.weakenings.sufficient.Given as goal
 
 abbrev pub invariant-loop-pair : goal.invariant-loop-pair
 invariant-loop-pair l =
-    AreThose (Suffices l.vertices l.handles l.knots l.least) (take l.pair-index l.pairs) l.found.items
+    AreThose (Suffices l.vertices l.handles l.knots l.least) (take l.pair-index l.pairs)
+    l.found.items

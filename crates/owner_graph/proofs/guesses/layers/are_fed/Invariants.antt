@@ -3,4 +3,5 @@ use Rattle.owner_graph.specs.Fed.{marked}
 use Rattle.owner_graph.proofs.guesses.layers.are_fed.Given as goal
 
 abbrev pub invariant-loop-vertex : goal.invariant-loop-vertex
-invariant-loop-vertex l = (b : ℕ) → b < l.vertex → b ≢ 0 → marked l.stays b ≡ true → marked l.fed b ≡ true
+invariant-loop-vertex l = (b : ℕ) → b < l.vertex → b ≢ 0 → marked l.stays b ≡ true
+    → marked l.fed b ≡ true

@@ -5,6 +5,8 @@ use Rattle.owner_graph.proofs.looks.looking.are_low.Goals as goal
 
 pub loop-before-preserved : goal.loop-before-preserved
 loop-before-preserved c =
-    next_low (λ b. (1 ≤ at c.args.labels.now b) × (at c.args.labels.now b ≤ b)) c.loop-before.before c.loop-before.invariant
-    (low_at c.args.labels.now c.as_index-vertex.result c.loop-before.before c.at-label.result c.as_index-vertex.ensures c.at-label.ensures c.if-label-eq0.false
+    next_low (λ b. (1 ≤ at c.args.labels.now b) × (at c.args.labels.now b ≤ b)) c.loop-before.before
+    c.loop-before.invariant
+    (low_at c.args.labels.now c.as_index-vertex.result c.loop-before.before c.at-label.result
+    c.as_index-vertex.ensures c.at-label.ensures c.if-label-eq0.false
     c.if-label-vertex.false)

@@ -5,5 +5,7 @@ use Rattle.owner_graph.proofs.looks.looking.are_marked.Goals as goal
 
 pub loop-before-preserved : goal.loop-before-preserved
 loop-before-preserved c =
-    next_low (λ b. slice_index_or c.args.marks.now b false ≡ true) c.loop-before.before c.loop-before.invariant
-    (subst (λ (k : ℕ). slice_index_or c.args.marks.now (k + 1) false ≡ true) c.as_index.ensures c.if-not-marks-as_index.false)
+    next_low (λ b. slice_index_or c.args.marks.now b false ≡ true) c.loop-before.before
+    c.loop-before.invariant
+    (subst (λ (k : ℕ). slice_index_or c.args.marks.now (k + 1) false ≡ true) c.as_index.ensures
+    c.if-not-marks-as_index.false)

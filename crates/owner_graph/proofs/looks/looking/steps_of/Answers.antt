@@ -6,5 +6,6 @@ loop-before-preserved c = c.in_ok-add_ends.ensures c.args.handles.now c.loop-bef
 
 pub loop-handle-preserved : goal.loop-handle-preserved
 loop-handle-preserved c =
-    c.in_ok-add_within.ensures c.args.handles.now (λ o. owned_at c.args.handles.now c.loop-handle.handle-index _ c.loop-handle-test.true o)
+    c.in_ok-add_within.ensures c.args.handles.now
+    (λ o. owned_at c.args.handles.now c.loop-handle.handle-index _ c.loop-handle-test.true o)
     c.loop-handle.invariant
