@@ -10,7 +10,7 @@ import sys
 from html import escape
 from pathlib import Path
 
-BASE = 'libstdc++ shared_ptr'
+HEAD = '| test | peer |'
 ROW = re.compile(r'^\| ([^|]+) \| ([^|]+) \| ([^|]+) \| ([^|]+) \| ([^|]+) \|$', re.MULTILINE)
 RATIO = re.compile(r'\(([\d.]+)\)')
 DAY = re.compile(r'\d{4}-\d\d-\d\d')
@@ -142,7 +142,7 @@ def note(found):
 
 def picture(text):
     found = ratios(text)
-    day = DAY.findall(text[: text.index('| test | peer |')])[-1]
+    day = DAY.findall(text[: text.index(HEAD)])[-1]
     bottom = TOP + STEP * len(found)
     size = f'width="{width()}" height="{bottom + 34}"'
     yield f'<svg xmlns="http://www.w3.org/2000/svg" viewBox="0 0 {width()} {bottom + 34}" {size}>'
@@ -162,4 +162,7 @@ def picture(text):
 if __name__ == '__main__':
     if len(sys.argv) != 2:
         sys.exit(__doc__)
-    print('\n'.join(picture(Path(sys.argv[1]).read_text())))
+    page = Path(sys.argv[1]).read_text()
+    if HEAD not in page:
+        sys.exit(f'plot.py: {sys.argv[1]} has no table of a run')
+    print('\n'.join(picture(page)))

@@ -1,6 +1,6 @@
 #!/usr/bin/env python3
-"""Times a built `sptr` on worlds of several sizes: time grows with what a script does, and not with the blocks that it
-has. A figure is the lowest of many runs, which come in turn, so that what else the machine does falls on all.
+"""Times a built `sptr` on worlds of several sizes: time grows with what a script does, and a little with the blocks
+that it has. A figure is the lowest of many runs, which come in turn, so that what else the machine does falls on all.
 
 usage: bench/worlds.py PROGRAM [RUNS]"""
 import subprocess

@@ -1,3 +1,2 @@
-mod Kept
-pub mod Observed
+pub mod Keeping
 pub mod Nodes

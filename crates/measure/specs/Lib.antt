@@ -1,6 +1,4 @@
-pub mod Workers
-pub mod Observers
+pub mod Hands
+pub mod Seats
 pub mod Nodes
-pub mod Rows
-pub mod Kept
-pub mod Groves
+pub mod Observers

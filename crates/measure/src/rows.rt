@@ -1,14 +1,39 @@
-//! The rows of the table.
+//! What is measured, and how it is told.
 use crate::timing::Spent;
 use std::io;
+use std::sync::Wait;
 
-/// The ways to call this runtime: by handles, and by scene_structures.
-pub(crate) const RUNTIME: &str = "this runtime";
+/// The ways to call this runtime that have a line or more here: by handles in registers, and by scene_structures.
+pub(crate) const HANDLES: &str = "this runtime";
 
 pub(crate) const STRUCTURES: &str = "this runtime, scene_structures";
 
-/// How a row is called, and the way to call this runtime; how many turns of its work lie between two looks at the
-/// clock, and how many rounds these are.
+/// What is done over and over, on a `T`.
+pub(crate) trait Row<T> {
+    /// What its calls ask.
+    ghost is_ready: { Self → T → Type 0 } = { λ _ _. Unit {0} };
+
+    /// A turn: whether no call was refused.
+    fn once<R: Wait>(&self, rt: &R, on: &mut T) -> bool
+        requires { is_ready self.now on.old }
+        ensures { is_ready self.now on.new };
+
+    /// Whether something is to be made before a turn.
+    fn prepares(&self) -> bool {
+        false
+    }
+
+    /// What a turn is to find is made, outside of the row's time: whether no call was refused.
+    fn prepare<R: Wait>(&self, _rt: &R, _on: &mut T) -> bool
+        requires { is_ready self.now _on.old }
+        ensures { is_ready self.now _on.new }
+    {
+        true
+    }
+}
+
+/// How a row is called, and the way to call this runtime; how many turns lie between two looks at the clock, and how
+/// many rounds these are.
 #[derive(Clone, Copy, Drop)]
 pub(crate) struct Label<'a> {
     pub(crate) name: &'a str,
@@ -17,120 +42,25 @@ pub(crate) struct Label<'a> {
     pub(crate) rounds: u32,
 }
 
-/// What is measured.
-#[derive(Clone, Copy, Drop)]
-pub(crate) enum Row {
-    MakeEnd,
-    ShareOwn,
-    ShareCommon,
-    WeakOwn,
-    CountOwn,
-    LockOwn,
-    LoadOwn,
-    LoadCommon,
-    StoreOwn,
-    ExchangeOwn,
-    CompareOwn,
-    /// The stack of scene_structures.
-    Stack,
-    /// The first thread's part of a row that has one writer.
-    StoreCommon,
-    /// The other threads' part of it.
-    LoadBeside,
-}
-
-impl Row {
-    /// Those of one, two and four threads, of which the first does this.
-    pub(crate) const ALL: [Row; 13] = [
-        Row::MakeEnd,
-        Row::ShareOwn,
-        Row::ShareCommon,
-        Row::WeakOwn,
-        Row::CountOwn,
-        Row::LockOwn,
-        Row::LoadOwn,
-        Row::LoadCommon,
-        Row::StoreOwn,
-        Row::ExchangeOwn,
-        Row::CompareOwn,
-        Row::StoreCommon,
-        Row::Stack,
-    ];
-
-    /// What the threads after the first do.
-    pub(crate) fn beside(self) -> Row {
-        match self {
-            Row::StoreCommon => Row::LoadBeside,
-            row => row,
+impl<'a> Label<'a> {
+    /// A row of which each turn is a round.
+    pub(crate) fn of_turns(name: &'a str, peer: &'a str, turns: u32) -> Self {
+        Self {
+            name,
+            peer,
+            turns,
+            rounds: turns,
         }
     }
 
-    /// How many turns lie between two looks at the clock: fewer where threads wait for each other, so that they end
-    /// together.
-    pub(crate) fn turns(self) -> u32 {
-        match self {
-            Row::ShareCommon | Row::LoadCommon | Row::StoreCommon | Row::LoadBeside | Row::Stack =>
-                100,
-            _ => 2_000,
+    /// A row of which a turn is so many rounds.
+    pub(crate) fn of_rounds(name: &'a str, peer: &'a str, rounds: u32) -> Self {
+        Self {
+            name,
+            peer,
+            turns: 1,
+            rounds,
         }
-    }
-
-    /// What the threads do until each has a processor: not a stack's, in which a node's block goes to the thread that
-    /// leaves it last, so that in the end one would have none left.
-    pub(crate) fn settling(self) -> Row {
-        match self {
-            Row::Stack => Row::ShareCommon,
-            row => row,
-        }
-    }
-
-    /// Its name, as the peers' programs call it.
-    fn name(self) -> &'static str {
-        match self {
-            Row::MakeEnd => "make + end",
-            Row::ShareOwn => "share + release, own object",
-            Row::ShareCommon => "share + release, one object",
-            Row::WeakOwn => "downgrade + release_weak, own object",
-            Row::CountOwn => "use_count, own object",
-            Row::LockOwn => "lock + release, own object",
-            Row::LoadOwn => "cell load + release, own cell",
-            Row::LoadCommon => "cell load + release, one cell",
-            Row::StoreOwn => "cell store of a copy, own cell",
-            Row::ExchangeOwn => "cell exchange, own cell",
-            Row::CompareOwn => "cell compare_exchange of a copy, own cell",
-            Row::Stack => "stack push + pop",
-            Row::StoreCommon => "cell store of a copy, others load",
-            Row::LoadBeside => "cell load + release, the first stores",
-        }
-    }
-
-    /// The way to call this runtime.
-    fn peer(self) -> &'static str {
-        match self {
-            Row::Stack => STRUCTURES,
-            _ => RUNTIME,
-        }
-    }
-
-    fn label(self) -> Label<'static> {
-        Label {
-            name: self.name(),
-            peer: self.peer(),
-            turns: self.turns(),
-            rounds: self.turns(),
-        }
-    }
-
-    /// The lines: one for all threads, or where the others do something else one for the first, and one for them.
-    pub(crate) fn tell<R: Print>(self, rt: &R, spent: &[Spent]) -> io::Result<()> {
-        if !matches!(self, Row::StoreCommon) || spent.is_empty() {
-            return line(rt, &self.label(), spent, spent);
-        }
-        line(rt, &self.label(), spent, &spent[..1])?;
-        if spent.len() == 1 {
-            return Ok(());
-        }
-        line(rt, &self.beside().label(), spent, &spent[1..])
     }
 }
 

@@ -1,7 +1,7 @@
 //! Blocks that go round: one thread makes objects and stores them into a cell, and three load what it holds and end
 //! what comes out. A block is vacant for the thread whose leave vacated it, so that the one that makes runs dry beside
 //! the others, unless they shelve what they have to spare.
-use crate::handles::rounds::FIELDS;
+use crate::hands::FIELDS;
 use crate::tables::done;
 use crate::timing::nanos;
 use control_word::Shape;

@@ -1,32 +1,13 @@
-//! How long the rounds of a row take.
-ghost use denote.Param.Send.{IsSync};
-ghost use Rattle.measure.specs.Rows.{IsLent, KeepsHandles};
-ghost use Rattle.measure.specs.Workers.{IsPairReady, IsReadyWorker, IsTeamReady};
-
-use crate::handles::cell_rounds::{CompareAndExchange, LoadAndRelease, StoreCopy, exchange};
-use crate::handles::rounds::{
-    Act, Count, DowngradeAndRelease, MakeAndEnd, ShareAndRelease, lock_and_release, repeat,
-};
-use crate::rows::Row;
+//! How long the turns of a row take.
+use crate::rows::{Label, Row, line};
 use crate::start::Start;
-use crate::structures::scene_stack::push_and_pop;
-use crate::work::{add_since, moment};
-use crate::workers::{Pair, Team, Worker};
-use control_block::desk::Desk;
-use control_block::domain::Domain;
-use shared_handle::Shared;
 use std::io;
 use std::rt::Clock;
 use std::sync::Wait;
-use std::thread::{Threads, join_mut};
-use std::time::{CpuClock, Duration};
-
-/// The cell that all workers have in common. Each has one more of its own, with an unused one between any two: 128
-/// bytes apart, as the peers' are.
-pub(crate) const COMMON_CELL: u32 = 0;
+use std::time::{CpuClock, Duration, Instant};
 
 /// How many chunks a thread does at most.
-pub(crate) const CHUNKS: u32 = 1_000_000;
+const CHUNKS: u32 = 1_000_000;
 
 /// How long a row runs, in nanoseconds.
 pub(crate) const SPAN: u64 = 3_000_000;
@@ -48,215 +29,130 @@ impl Spent {
         chunks: 0,
         whole: true,
     };
+
+    pub(crate) const REFUSED: Spent = Spent {
+        whole: false,
+        ..Spent::NOTHING
+    };
+}
+
+/// When a thread's turns are over.
+#[derive(Clone, Copy, Drop)]
+pub(crate) enum Until<'a> {
+    /// When they took as long as a row runs.
+    Spent,
+    /// At a moment.
+    Moment(&'a Start, u64),
+}
+
+/// What a thread has spent, and since when it spends.
+#[derive(Drop)]
+struct Stopwatch {
+    spent: Spent,
+    processor: Duration,
+    wall: Instant,
 }
 
 pub(crate) fn nanos(time: Duration) -> u64 {
     u64::try_from(time.as_nanos()).unwrap_or(0)
 }
 
-/// The worker's cell holds the worker's object, and the common cell the common one: whether no call was refused.
-fn fill<R: Wait>(rt: &R, domain: &Domain<()>, worker: &mut Worker) -> bool
-    requires { IsReadyWorker domain.now worker.old }
-    ensures { IsReadyWorker domain.now worker.new }
-{
-    let desk = &mut worker.desk;
-    let own = StoreCopy::once(rt, domain, desk, &worker.own, worker.cell);
-    own & StoreCopy::once(rt, domain, desk, &worker.common, COMMON_CELL)
-}
+impl Stopwatch {
+    fn start<R: Clock + CpuClock>(rt: &R, spent: Spent) -> io::Result<Self> {
+        let processor = rt.thread_cpu_time()?;
+        Ok(Self {
+            spent,
+            processor,
+            wall: Instant::now(rt)?,
+        })
+    }
 
-/// So many turns of a row's act, with an owner and a cell: whether no call was refused.
-fn act<R: Wait>(
-    rt: &R,
-    domain: &Domain<()>,
-    desk: &mut Desk<()>,
-    owner: &Shared,
-    cell: u32,
-    row: Row,
-) -> bool
-    requires { IsLent domain.now desk.old owner.now cell }
-    ensures { KeepsHandles desk.old desk.new }
-{
-    let turns = row.turns();
-    match row {
-        Row::MakeEnd => repeat::<MakeAndEnd, R>(rt, domain, desk, owner, cell, turns),
-        Row::ShareOwn | Row::ShareCommon | Row::Stack => {
-            repeat::<ShareAndRelease, R>(rt, domain, desk, owner, cell, turns)
+    /// What it has spent in all.
+    fn stop<R: Clock + CpuClock>(&self, rt: &R) -> io::Result<Spent> {
+        let wall = nanos(self.wall.elapsed(rt)?);
+        let processor = nanos(rt.thread_cpu_time()?.saturating_sub(self.processor));
+        let mut spent = self.spent;
+        spent.wall = spent.wall.saturating_add(wall);
+        spent.processor = spent.processor.saturating_add(processor);
+        Ok(spent)
+    }
+
+    fn is_over<R: Clock>(&self, rt: &R, until: Until<'_>) -> io::Result<bool> {
+        match until {
+            Until::Spent => {
+                let since = nanos(self.wall.elapsed(rt)?);
+                Ok(self.spent.wall.saturating_add(since) >= SPAN)
+            }
+            Until::Moment(start, end) => Ok(start.now(rt)? >= end),
         }
-        Row::WeakOwn => repeat::<DowngradeAndRelease, R>(rt, domain, desk, owner, cell, turns),
-        Row::CountOwn => repeat::<Count, R>(rt, domain, desk, owner, cell, turns),
-        Row::LockOwn => lock_and_release(rt, domain, desk, owner, turns),
-        Row::LoadOwn | Row::LoadCommon | Row::LoadBeside => {
-            repeat::<LoadAndRelease, R>(rt, domain, desk, owner, cell, turns)
-        }
-        Row::StoreOwn | Row::StoreCommon => {
-            repeat::<StoreCopy, R>(rt, domain, desk, owner, cell, turns)
-        }
-        Row::ExchangeOwn => exchange(domain, desk, owner, cell, turns),
-        Row::CompareOwn => repeat::<CompareAndExchange, R>(rt, domain, desk, owner, cell, turns),
     }
 }
 
-/// A chunk of rounds: whether no call was refused.
-fn work<R: Wait>(rt: &R, domain: &Domain<()>, worker: &mut Worker, row: Row) -> bool
-    requires { IsReadyWorker domain.now worker.old }
-    ensures { IsReadyWorker domain.now worker.new }
+/// What a row's turn is to find is made, while the watch stands still.
+fn prepare<T, W: Row<T>, R: Clock + CpuClock + Wait>(
+    rt: &R,
+    row: &W,
+    on: &mut T,
+    watch: &mut Stopwatch,
+) -> io::Result<()>
+    requires { W.is_ready row.now on.old }
+    ensures { W.is_ready row.now on.new }
 {
-    let Worker {
-        desk,
-        own,
-        common,
-        stack,
-        pile,
-        cell,
-        apart: _,
-    } = worker;
-    match row {
-        Row::Stack => push_and_pop(rt, domain, desk, stack, pile, row.turns()),
-        Row::ShareCommon => act(rt, domain, desk, common, *cell, row),
-        Row::LoadCommon | Row::LoadBeside | Row::StoreCommon => {
-            act(rt, domain, desk, own, COMMON_CELL, row)
-        }
-        _ => act(rt, domain, desk, own, *cell, row),
+    if row.prepares() {
+        let mut spent = watch.stop(rt)?;
+        spent.whole &= row.prepare(rt, on);
+        *watch = Stopwatch::start(rt, spent)?;
     }
+    Ok(())
 }
 
-/// Chunks of rounds up to a moment, one at least: they are noted in what is spent.
-fn work_until<R: Clock + Wait>(
+/// So many turns, or until a call is refused: whether none was.
+fn repeat<T, W: Row<T>, R: Wait>(rt: &R, row: &W, on: &mut T, turns: u32) -> bool
+    requires { W.is_ready row.now on.old }
+    ensures { W.is_ready row.now on.new }
+{
+    for _ in 0..turns {
+        if !row.once(rt, on) {
+            return false;
+        }
+    }
+    true
+}
+
+/// Chunks of so many turns, one at least: what they take.
+pub(crate) fn time<T, W: Row<T>, R: Clock + CpuClock + Wait>(
     rt: &R,
-    domain: &Domain<()>,
-    worker: &mut Worker,
-    row: Row,
-    start: &Start,
-    end: u64,
+    row: &W,
+    on: &mut T,
+    turns: u32,
+    until: Until<'_>,
 ) -> io::Result<Spent>
-    requires { IsReadyWorker domain.now worker.old }
-    ensures { IsReadyWorker domain.now worker.new }
+    requires { W.is_ready row.now on.old }
+    ensures { W.is_ready row.now on.new }
 {
-    let mut spent = Spent::NOTHING;
-    for chunk in 1..=CHUNKS {
-        spent.whole &= work(rt, domain, worker, row);
-        spent.chunks = chunk;
-        if start.now(rt)? >= end {
+    let mut watch = Stopwatch::start(rt, Spent::NOTHING)?;
+    for number in 1..=CHUNKS {
+        prepare(rt, row, on, &mut watch)?;
+        watch.spent.whole &= repeat(rt, row, on, turns);
+        watch.spent.chunks = number;
+        if watch.is_over(rt, until)? {
             break;
         }
     }
-    Ok(spent)
+    watch.stop(rt)
 }
 
-/// Chunks of rounds up to a moment, and the time that they take.
-fn time_until<R: Clock + CpuClock + Wait>(
+/// The row's line by one thread; what comes before it is not told.
+pub(crate) fn tell<T, W: Row<T>, R: Clock + CpuClock + Wait + Print>(
     rt: &R,
-    domain: &Domain<()>,
-    worker: &mut Worker,
-    row: Row,
-    start: &Start,
-    end: u64,
-) -> io::Result<Spent>
-    requires { IsReadyWorker domain.now worker.old }
-    ensures { IsReadyWorker domain.now worker.new }
-{
-    let begin = moment(rt)?;
-    let mut spent = work_until(rt, domain, worker, row, start, end)?;
-    add_since(rt, begin, &mut spent)?;
-    Ok(spent)
-}
-
-/// The same, from when all have come and settled up to a common moment.
-fn time<R: Clock + CpuClock + Wait>(
-    rt: &R,
-    domain: &Domain<()>,
-    worker: &mut Worker,
-    row: Row,
-    start: &Start,
-) -> io::Result<Spent>
-    requires { IsReadyWorker domain.now worker.old }
-    ensures { IsReadyWorker domain.now worker.new }
-{
-    let filled = fill(rt, domain, worker);
-    let end = start.meet(rt)?;
-    let settled = end.saturating_sub(SPAN);
-    work_until(rt, domain, worker, row.settling(), start, settled)?;
-    let mut spent = time_until(rt, domain, worker, row, start, end)?;
-    spent.whole &= filled;
-    Ok(spent)
-}
-
-/// Two threads, of which the first does this row.
-fn time_two<R: Clock + CpuClock + Threads + Wait + Sync>(
-    rt: &R,
-    domain: &Domain<()>,
-    pair: &mut Pair,
-    row: Row,
-    start: &Start,
-) -> io::Result<(Spent, Spent)>
-    requires { IsPairReady domain.now pair.old }
-    ensures { IsPairReady domain.now pair.new }
-{
-    let Pair { left, right } = pair;
-    let beside = row.beside();
-    let (left, right) = join_mut(
-        rt,
-        &mut || time(rt, domain, left, row, start),
-        &mut || time(rt, domain, right, beside, start),
-    );
-    Ok((left?, right?))
-}
-
-/// One thread's row.
-pub(crate) fn one<R: Clock + CpuClock + Wait + Print>(
-    rt: &R,
-    domain: &Domain<()>,
-    worker: &mut Worker,
-    row: Row,
+    row: &W,
+    on: &mut T,
+    label: &Label<'_>,
 ) -> io::Result<()>
-    requires { IsReadyWorker domain.now worker.old }
-    ensures { IsReadyWorker domain.now worker.new }
+    requires { W.is_ready row.now on.old }
+    ensures { W.is_ready row.now on.new }
 {
-    let start = Start::of(rt, 1)?;
-    let spent = time(rt, domain, worker, row, &start)?;
-    row.tell(rt, &[spent])
-}
-
-/// Two threads' row.
-pub(crate) fn two<R: Clock + CpuClock + Threads + Wait + Sync + Print>(
-    rt: &R,
-    domain: &Domain<()>,
-    pair: &mut Pair,
-    row: Row,
-) -> io::Result<()>
-    requires { IsPairReady domain.now pair.old }
-    ensures { IsPairReady domain.now pair.new }
-{
-    let start = Start::of(rt, 2)?;
-    let (left, right) = time_two(rt, domain, pair, row, &start)?;
-    row.tell(rt, &[left, right])
-}
-
-/// Four threads' row.
-pub(crate) fn four<R: Clock + CpuClock + Threads + Wait + Sync + Print>(
-    rt: &R,
-    domain: &Domain<()>,
-    team: &mut Team,
-    row: Row,
-) -> io::Result<()>
-    requires { IsTeamReady domain.now team.old }
-    ensures { IsTeamReady domain.now team.new }
-{
-    let start = Start::of(rt, 4)?;
-    let Team { front, back } = team;
-    let beside = row.beside();
-    let (front, back) = join_mut(
-        rt,
-        &mut || -> io::Result<(Spent, Spent)>
-            requires { IsSync R.row × IsPairReady domain.now front.now }
-            ensures { IsPairReady domain.entry.now front.exit.now }
-        { time_two(rt, domain, front, row, &start) },
-        &mut || -> io::Result<(Spent, Spent)>
-            requires { IsSync R.row × IsPairReady domain.now back.now }
-            ensures { IsPairReady domain.entry.now back.exit.now }
-        { time_two(rt, domain, back, beside, &start) },
-    );
-    let (first, second) = front?;
-    let (third, fourth) = back?;
-    row.tell(rt, &[first, second, third, fourth])
+    time(rt, row, on, label.turns, Until::Spent)?;
+    let spent = time(rt, row, on, label.turns, Until::Spent)?;
+    line(rt, label, &[spent], &[spent])
 }

@@ -1,8 +1,0 @@
-use Rattle.std.proofs.Common.{◌≡◌}
-use Rattle.control_block.specs.Desks.{IsSameDesk, bag_of}
-use Rattle.measure.specs.Nodes.{CanEnd}
-use Rattle.measure.proofs.handles.chain.end_left.Given as goal
-
-abbrev pub invariant-loop : goal.invariant-loop
-invariant-loop l =
-    IsSameDesk l.initial.desk l.desk × (bag_of l.desk ≡ bag_of l.initial.desk) × (l.desk.held ≡ l.initial.desk.held) × CanEnd l.desk l.left

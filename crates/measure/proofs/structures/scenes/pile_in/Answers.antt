@@ -1,5 +1,0 @@
-use Rattle.scene_structures.proofs.Calls.{room_of}
-use Rattle.measure.proofs.structures.scenes.pile_in.Goals as goal
-
-pub returns-in-Ok : goal.returns-in-Ok
-returns-in-Ok c = record { none = c.in-Ok.ensures.empty; room = room_of c.args.domain.now c.in-Ok.pile c.in-Ok.ensures.carries }
