@@ -19,13 +19,14 @@ use Rattle.control_word.specs.Handles.{same_kind, same_number}
 use Rattle.control_word.specs.State.{Held, Opening, State, common, count, handles, in_cells, kind_of_member, members, tally, upto, weak}
 use Rattle.control_word.specs.State.{weak_number}
 use Rattle.control_word.specs.Words.{block_of, blocks_of}
-use Rattle.step_table.specs.declared.cell_steps.cell_deed.Cell.{Cell}
-use Rattle.step_table.specs.declared.cell_steps.cell_deed.Cell.TheVariants.{Free}
+use Rattle.step_table.specs.declared.cell_steps.cell_step.Cell.{Cell}
+use Rattle.step_table.specs.declared.cell_steps.cell_step.Cell.TheVariants.{Free}
 use Rattle.step_table.specs.Openings.{opening}
-use Rattle.step_table.specs.Stories.{Kept, Story, story_state}
+use Rattle.step_table.specs.GhostStates.{Kept, GhostState, model_state}
 use Rattle.step_threads.specs.Stocks.{from}
 use Rattle.owner_graph.specs.Rows.{held_on}
-use Rattle.holders.specs.Holdings.{AllCounted, AreCounted, all_held, held_by, held_by_block, held_by_free, held_by_members, holding, holdings_in, holds_owner, member}
+use Rattle.holders.specs.Registers.{AllCounted, AreCounted, all_held, held_by, held_by_block, held_by_free, held_by_members, holding, holdings_in, holds_owner}
+use Rattle.holders.specs.Registers.{member}
 use Rattle.holders.proofs.Listing.{all_kinds, hits, hits_append, hits_sum, is_of, kind_by, of_kind, one_by, tally_sum}
 use Rattle.holders.proofs.Summing.{IsOnly, sum_by_way, sum_same}
 
@@ -217,8 +218,8 @@ module _ (z : Opening) (s : State) (fine : Sound z s) (form : Formed s) where
       (owners_counted b none, weaks_counted b none))
       (cases_eq n 0)
 
-pub counted : (v : Story) → Kept v → (story_state v).hands ≡ []
-    → AllCounted v.extent.shape.blocks (story_state v) (all_held (story_state v) v.extent.shape.blocks)
+pub counted : (v : GhostState) → Kept v → (model_state v).hands ≡ []
+    → AllCounted v.extent.shape.blocks (model_state v) (all_held (model_state v) v.extent.shape.blocks)
 counted v kept none =
     let z = opening v.extent in
-    all_counted z (story_state v) (sound z v.history kept.stands.legal) (formed z v.history kept.stands.legal) none
+    all_counted z (model_state v) (sound z v.history kept.stands.legal) (formed z v.history kept.stands.legal) none

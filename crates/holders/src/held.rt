@@ -3,10 +3,10 @@ ghost use Rattle.std.specs.Prelude.{◌≡◌, ◌++◌, ◌<◌, ◌≤◌, All
 ghost use Rattle.std.specs.List.{flat_map};
 ghost use Rattle.step_core.specs.Totals.{IsAtEnd};
 ghost use Rattle.step_table.specs.Cells.{IsCellInUse};
-ghost use Rattle.step_table.specs.Stories.{story_state};
+ghost use Rattle.step_table.specs.GhostStates.{model_state};
 ghost use Rattle.step_threads.specs.Stocks.{from};
-ghost use Rattle.holders.specs.Holdings.{AddsAmong, AllCounted, all_held, free_cells, held_by_block, held_by_free};
-ghost use Rattle.holders.specs.Holdings.{holding, holdings_in, holds_owner, slot, source};
+ghost use Rattle.holders.specs.Registers.{AddsAmong, AllCounted, all_held, free_cells, held_by_block, held_by_free};
+ghost use Rattle.holders.specs.Registers.{holding, holdings_in, holds_owner, slot, source};
 ghost use Rattle.owner_graph.specs.Owners.{IsAmong};
 
 use control_word::Block;
@@ -65,12 +65,12 @@ fn add(
     cell: Cell,
     holdings: &mut Vec<Holding>,
 ) -> Result<(), AllocError>
-    requires shared { shared ≡ (story_state world.now.story).shared }
-    requires there { IsCellInUse world.now.story cell }
-    requires among { source cell ≤ world.now.story.extent.shape.blocks }
+    requires shared { shared ≡ (model_state world.now.ghost_state).shared }
+    requires there { IsCellInUse world.now.ghost_state cell }
+    requires among { source cell ≤ world.now.ghost_state.extent.shape.blocks }
     ensures held { OnOk result
-        (holdings.new.items ≡ holdings.old.items ++ holdings_in (story_state world.now.story) cell) }
-    ensures among { OnOk result (AddsAmong world.now.story.extent.shape.blocks holdings.old.items holdings.new.items) }
+        (holdings.new.items ≡ holdings.old.items ++ holdings_in (model_state world.now.ghost_state) cell) }
+    ensures among { OnOk result (AddsAmong world.now.ghost_state.extent.shape.blocks holdings.old.items holdings.new.items) }
 {
     if let Some(block) = world.target(cell) {
         holdings.push(holding(shared, cell, block))?;
@@ -85,11 +85,11 @@ fn add_free(
     cells: u32,
     holdings: &mut Vec<Holding>,
 ) -> Result<(), AllocError>
-    requires shared { shared ≡ (story_state world.now.story).shared }
-    requires cells { cells ≡ (story_state world.now.story).cells }
+    requires shared { shared ≡ (model_state world.now.ghost_state).shared }
+    requires cells { cells ≡ (model_state world.now.ghost_state).cells }
     ensures held { OnOk result (holdings.new.items
-        ≡ holdings.old.items ++ flat_map (held_by_free (story_state world.now.story)) (from 0 cells)) }
-    ensures among { OnOk result (AddsAmong world.now.story.extent.shape.blocks holdings.old.items holdings.new.items) }
+        ≡ holdings.old.items ++ flat_map (held_by_free (model_state world.now.ghost_state)) (from 0 cells)) }
+    ensures among { OnOk result (AddsAmong world.now.ghost_state.extent.shape.blocks holdings.old.items holdings.new.items) }
 {
     for number in 0..cells {
         add(world, shared, Cell::Free { number }, holdings)?;
@@ -104,12 +104,12 @@ fn add_members(
     number: u16,
     holdings: &mut Vec<Holding>,
 ) -> Result<(), AllocError>
-    requires shared { shared ≡ (story_state world.now.story).shared }
+    requires shared { shared ≡ (model_state world.now.ghost_state).shared }
     requires end { IsAtEnd world.now }
-    requires block { (1 ≤ number) × (number ≤ world.now.story.extent.shape.blocks) }
+    requires block { (1 ≤ number) × (number ≤ world.now.ghost_state.extent.shape.blocks) }
     ensures held { OnOk result (holdings.new.items
-        ≡ holdings.old.items ++ held_by_block (story_state world.now.story) number) }
-    ensures among { OnOk result (AddsAmong world.now.story.extent.shape.blocks holdings.old.items holdings.new.items) }
+        ≡ holdings.old.items ++ held_by_block (model_state world.now.ghost_state) number) }
+    ensures among { OnOk result (AddsAmong world.now.ghost_state.extent.shape.blocks holdings.old.items holdings.new.items) }
 {
     let block = Block(number);
     if world.census(block).is_none() {
@@ -128,12 +128,12 @@ fn add_blocks(
     blocks: u16,
     holdings: &mut Vec<Holding>,
 ) -> Result<(), AllocError>
-    requires shared { shared ≡ (story_state world.now.story).shared }
+    requires shared { shared ≡ (model_state world.now.ghost_state).shared }
     requires end { IsAtEnd world.now }
-    requires all { blocks ≡ world.now.story.extent.shape.blocks }
+    requires all { blocks ≡ world.now.ghost_state.extent.shape.blocks }
     ensures held { OnOk result (holdings.new.items
-        ≡ holdings.old.items ++ flat_map (held_by_block (story_state world.now.story)) (from 1 blocks)) }
-    ensures among { OnOk result (AddsAmong world.now.story.extent.shape.blocks holdings.old.items holdings.new.items) }
+        ≡ holdings.old.items ++ flat_map (held_by_block (model_state world.now.ghost_state)) (from 1 blocks)) }
+    ensures among { OnOk result (AddsAmong world.now.ghost_state.extent.shape.blocks holdings.old.items holdings.new.items) }
 {
     for before in 0..blocks {
         add_members(world, shared, before + 1, holdings)?;
@@ -153,12 +153,12 @@ pub fn holdings(
     blocks: u16,
 ) -> Result<Vec<Holding>, AllocError>
     requires end { IsAtEnd world.now }
-    requires shared { shared ≡ world.now.story.extent.shape.shared_cells }
-    requires cells { cells ≡ free_cells world.now.story.extent.shape }
-    requires blocks { blocks ≡ world.now.story.extent.shape.blocks }
-    ensures held { IfOk result (λ v. v.items ≡ all_held (story_state world.now.story) blocks) }
+    requires shared { shared ≡ world.now.ghost_state.extent.shape.shared_cells }
+    requires cells { cells ≡ free_cells world.now.ghost_state.extent.shape }
+    requires blocks { blocks ≡ world.now.ghost_state.extent.shape.blocks }
+    ensures held { IfOk result (λ v. v.items ≡ all_held (model_state world.now.ghost_state) blocks) }
     ensures among { IfOk result (λ v. All (IsAmong blocks) v.items) }
-    ensures counted { IfOk result (λ v. AllCounted blocks (story_state world.now.story) v.items) }
+    ensures counted { IfOk result (λ v. AllCounted blocks (model_state world.now.ghost_state) v.items) }
 {
     world.known_at_end();
     let mut holdings = Vec::new(alloc);

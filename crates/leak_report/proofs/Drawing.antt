@@ -12,7 +12,7 @@ use Rattle.control_word.specs.State.{State}
 use Rattle.script_text.specs.Grammar.{ended}
 use Rattle.script_stepper.proofs.LineLemmas.{lines_then}
 use Rattle.step_core.specs.Totals.{fields_of}
-use Rattle.step_threads.specs.Scenes.{Scene, state_in}
+use Rattle.step_threads.specs.AbstractStates.{AbstractState, state_in}
 use Rattle.owner_graph.specs.declared.holding.Holding.{Holding}
 use Rattle.owner_graph.specs.Ends.{same_place}
 use Rattle.owner_graph.specs.Owners.{IsAmong}
@@ -101,7 +101,7 @@ held_then shared f h style color a b drawn tied p =
     ∙ ap (λ (t : List ℕ). a ++ ended (edge_by shared (style_text h.is_owner (is_listed h f.cuts)) t h)) tied
 
 -- the head, the nodes, the lines of handles, and the end
-pub graph_then : (u : Scene) (f : Findings) (ties held : List Holding) (shared blocks : ℕ) (b c d e : List ℕ)
+pub graph_then : (u : AbstractState) (f : Findings) (ties held : List Holding) (shared blocks : ℕ) (b c d e : List ℕ)
     → shared ≡ u.extent.shape.shared_cells → blocks ≡ u.extent.shape.blocks → ties ≡ ties_at f u → held ≡ held_at u
     → b ≡ [] ++ ended head_lines → c ≡ b ++ ended (all_nodes (state_in u) f.kept f.knots ties blocks)
     → d ≡ c ++ ended (flat_map (edge_lines shared f) held) → e ≡ d ++ ended (codes "}" ∷ []) → e ≡ ended (graph_lines f u)

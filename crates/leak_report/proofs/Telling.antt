@@ -11,7 +11,7 @@ use Rattle.script_text.specs.declared.fault.Fault.{Fault}
 use Rattle.script_stepper.specs.Runs.{IsScriptRun}
 use Rattle.script_stepper.specs.Lines.{totals_text}
 use Rattle.script_stepper.proofs.LineLemmas.{lines_then}
-use Rattle.step_threads.specs.Scenes.{Scene, state_in}
+use Rattle.step_threads.specs.AbstractStates.{AbstractState, state_in}
 use Rattle.step_threads.specs.Stocks.{from}
 use Rattle.step_core.specs.Totals.{census_of, ended_in, made_in}
 use Rattle.owner_graph.specs.declared.holding.Holding.{Holding}
@@ -22,7 +22,7 @@ use Rattle.owner_graph.specs.Rows.{row_at}
 use Rattle.owner_graph.proofs.Stepping.{same_at}
 use Rattle.std.specs.Global.{Vec}
 use Rattle.leak_report.specs.Findings.{Findings, held_at, ties_at}
-use Rattle.holders.specs.Holdings.{AllCounted}
+use Rattle.holders.specs.Registers.{AllCounted}
 use Rattle.leak_report.specs.Left.{IsCountedAt, IsLeftText, TellsOf}
 use Rattle.leak_report.specs.Circles.{circles}
 use Rattle.leak_report.specs.Lines.{all_lines, held_lines_if, holder_lines, left_lines, left_text, listing}
@@ -49,7 +49,7 @@ block_then shared hs row kept s number counts is_kept a b c some mark is p q =
     held_line l = left_text number counts (slice_index_or kept number false) ∷ flat_map (holder_lines shared) l
 
 -- the circles come after the blocks, and the totals last
-pub all_then : (u : Scene) (f : Findings) (found : List Holding) (shared blocks made over : ℕ) (b c d : List ℕ)
+pub all_then : (u : AbstractState) (f : Findings) (found : List Holding) (shared blocks made over : ℕ) (b c d : List ℕ)
     → shared ≡ u.extent.shape.shared_cells → blocks ≡ u.extent.shape.blocks → made ≡ made_in u.history → over ≡ ended_in u.history
     → found ≡ ties_at f u → b ≡ [] ++ ended (listing shared (held_at u) f.kept blocks (state_in u))
     → c ≡ b ++ ended (circles shared found f.cuts blocks) → d ≡ c ++ ended (totals_text made over ∷ []) → d ≡ ended (all_lines f u)
@@ -69,7 +69,7 @@ all_then u f found shared blocks made over b c d few all one two ties p q r =
     text n l m x y = ended (told n l m ++ totals_text x y ∷ [])
 
 -- what cells hold is counted, whatever it was found as
-pub counted_at : (c : Scene) (blocks : ℕ) (hs : List Holding) → blocks ≡ c.extent.shape.blocks → hs ≡ held_at c
+pub counted_at : (c : AbstractState) (blocks : ℕ) (hs : List Holding) → blocks ≡ c.extent.shape.blocks → hs ≡ held_at c
     → AllCounted blocks (state_in c) hs → IsCountedAt c
 counted_at c blocks hs all is h =
     subst (λ (n : ℕ). AllCounted n (state_in c) (held_at c)) all
@@ -101,7 +101,7 @@ row_is rows i n v items held is lt e it h =
     it ∙ row_in_range rows n v lt (subst (λ (k : ℕ). v ≡ get_or rows k v) is e) ∙ h
 
 -- a run's end, and what is told of it
-pub left_told : (bytes list : List ℕ) (c : Scene) (draws leaks : Bool) (text : List ℕ) → IsRunEnd bytes list c → TellsOf c draws leaks text
+pub left_told : (bytes list : List ℕ) (c : AbstractState) (draws leaks : Bool) (text : List ℕ) → IsRunEnd bytes list c → TellsOf c draws leaks text
     → IsScriptRun (IsLeftText draws (Ok leaks)) bytes list text
 left_told bytes list c draws leaks text e t = record {
   script = e.script;

@@ -3,7 +3,7 @@ use Rattle.std.specs.Prelude.{◌≡◌, ℕ, Bool, false, List, [], ◌∷◌, 
 use Rattle.std.specs.List.{flat_map}
 use Rattle.control_word.specs.declared.packed.counts.Counts.{Counts}
 use Rattle.control_word.specs.State.{State}
-use Rattle.step_threads.specs.Scenes.{Scene, state_in}
+use Rattle.step_threads.specs.AbstractStates.{AbstractState, state_in}
 use Rattle.step_threads.specs.Stocks.{from}
 use Rattle.step_core.specs.Totals.{census_of}
 use Rattle.owner_graph.specs.declared.holding.Holding.{Holding}
@@ -30,7 +30,7 @@ abbrev pub in_color : Colored → ℕ × List ℕ
 in_color x = (x.block, x.color.now)
 
 -- all blocks of a scene that aren't vacant, in order, each in the color of its node
-pub record AreColored (c : Scene) (blocks : List Colored) : Type 0 where
+pub record AreColored (c : AbstractState) (blocks : List Colored) : Type 0 where
   pub findings : Findings
   pub found : AreFound c findings
   pub colors : map in_color blocks ≡ flat_map (colored (state_in c) findings.kept findings.knots (ties_at findings c))

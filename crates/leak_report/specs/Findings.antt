@@ -1,12 +1,12 @@
 -- What is found at a scene of the handles that cells hold. All of it is own.
 use Rattle.std.specs.Prelude.{ℕ, Bool, List}
-use Rattle.holders.specs.Holdings.{all_held}
+use Rattle.holders.specs.Registers.{all_held}
 use Rattle.owner_graph.specs.declared.holding.Holding.{Holding}
 use Rattle.owner_graph.specs.Ties.{ties}
-use Rattle.step_threads.specs.Scenes.{Scene, state_in}
+use Rattle.step_threads.specs.AbstractStates.{AbstractState, state_in}
 
 -- what all cells hold at a scene
-abbrev pub held_at : Scene → List Holding
+abbrev pub held_at : AbstractState → List Holding
 held_at c = all_held (state_in c) c.extent.shape.blocks
 
 -- what was found of the owners among them: which blocks are kept, the least block of each one's knot, and the owners
@@ -20,5 +20,5 @@ abbrev pub findings : List Bool → List ℕ → List Holding → Findings
 findings kept knots cuts = record { kept = kept; knots = knots; cuts = cuts }
 
 -- the owners at a scene that tie knots of leaked blocks
-abbrev pub ties_at : Findings → Scene → List Holding
+abbrev pub ties_at : Findings → AbstractState → List Holding
 ties_at f c = ties f.kept f.knots (held_at c)

@@ -4,7 +4,7 @@ use Rattle.std.specs.Prelude.{slice_index}
 use Rattle.std.specs.Prelude.{Option, Some, None, slice_index_or}
 use Rattle.std.specs.List.{flat_map, list_any}
 use Rattle.control_word.specs.State.{State}
-use Rattle.step_threads.specs.Scenes.{Scene, state_in}
+use Rattle.step_threads.specs.AbstractStates.{AbstractState, state_in}
 use Rattle.step_threads.specs.Stocks.{from}
 use Rattle.step_core.specs.Totals.{fields_of}
 use Rattle.owner_graph.specs.declared.holding.Holding.{Holding}
@@ -95,7 +95,7 @@ abbrev pub head_lines : List (List ℕ)
 head_lines = codes "digraph left {" ∷ codes "node [style=filled, fillcolor=white];" ∷ []
 
 -- all lines of the graph of what is left at a scene, where this was found
-abbrev pub graph_lines : Findings → Scene → List (List ℕ)
+abbrev pub graph_lines : Findings → AbstractState → List (List ℕ)
 graph_lines f c =
     head_lines ++ all_nodes (state_in c) f.kept f.knots (ties_at f c) c.extent.shape.blocks
     ++ flat_map (edge_lines c.extent.shape.shared_cells f) (held_at c) ++ codes "}" ∷ []

@@ -3,13 +3,13 @@ use Rattle.std.specs.Prelude.{◌≡◌, ◌≢◌, ◌↔◌, ℕ, ◌+◌, ◌
 use Rattle.std.specs.Prelude.{None, slice_index_or}
 use Rattle.std.specs.Prelude.{Result, Ok, Err}
 use Rattle.script_text.specs.declared.fault.Fault.{Fault}
-use Rattle.script_text.specs.Beginnings.{script_scene}
+use Rattle.script_text.specs.Beginnings.{script_abstraction}
 use Rattle.script_text.specs.Drafts.{ScriptView}
 use Rattle.script_text.specs.Grammar.{ended}
 use Rattle.script_stepper.specs.Ends.{IsRunOut}
-use Rattle.step_threads.specs.Scenes.{Scene, state_in}
+use Rattle.step_threads.specs.AbstractStates.{AbstractState, state_in}
 use Rattle.step_core.specs.Totals.{census_of}
-use Rattle.holders.specs.Holdings.{AllCounted}
+use Rattle.holders.specs.Registers.{AllCounted}
 use Rattle.owner_graph.specs.Knots.{KnotsAre}
 use Rattle.owner_graph.specs.Owners.{IsKept}
 use Rattle.owner_graph.specs.Ties.{AreCuts}
@@ -18,41 +18,41 @@ use Rattle.leak_report.specs.Graph.{graph_lines}
 use Rattle.leak_report.specs.Lines.{all_lines}
 
 -- a path of owners leads to the block from a free cell
-abbrev pub IsKeptAt : Scene → ℕ → Type 0
+abbrev pub IsKeptAt : AbstractState → ℕ → Type 0
 IsKeptAt c b = IsKept (held_at c) b
 
 -- the block isn't vacant, and no path leads to it
-abbrev pub IsLeaked : Scene → ℕ → Type 0
+abbrev pub IsLeaked : AbstractState → ℕ → Type 0
 IsLeaked c b = (1 ≤ b) × (b ≤ c.extent.shape.blocks) × (census_of (state_in c) b ≢ None)
     × (IsKeptAt c b → ⊥)
 
 -- some block is leaked, or none
-abbrev pub Leaks : Bool → Scene → Type 0
+abbrev pub Leaks : Bool → AbstractState → Type 0
 Leaks true c = (b : ℕ) × IsLeaked c b
 Leaks false c = (b : ℕ) → IsLeaked c b → ⊥
 
 -- just the blocks are marked that are kept
-pub record MarksKept (c : Scene) (kept : List Bool) : Type 0 where
+pub record MarksKept (c : AbstractState) (kept : List Bool) : Type 0 where
   pub size : length kept ≡ c.extent.shape.blocks + 1
   pub marks : (b : ℕ) → b ≤ c.extent.shape.blocks → slice_index_or kept b false ≡ true ↔ IsKeptAt c b
 
 -- what was found is so: what is kept, the knots, and which of the owners that tie one cut it
-pub record AreFound (c : Scene) (f : Findings) : Type 0 where
+pub record AreFound (c : AbstractState) (f : Findings) : Type 0 where
   pub kept : MarksKept c f.kept
   pub knots : KnotsAre c.extent.shape.blocks (held_at c) f.knots
   pub cuts : AreCuts c.extent.shape.blocks (held_at c) (ties_at f c) f.cuts
 
 -- the lines that are told, or those of a graph
-abbrev pub lines_told : Bool → Findings → Scene → List (List ℕ)
+abbrev pub lines_told : Bool → Findings → AbstractState → List (List ℕ)
 lines_told false f c = all_lines f c
 lines_told true f c = graph_lines f c
 
 -- what cells hold on a block, each cell once, is just what is counted there
-abbrev pub IsCountedAt : Scene → Type 0
+abbrev pub IsCountedAt : AbstractState → Type 0
 IsCountedAt c = AllCounted c.extent.shape.blocks (state_in c) (held_at c)
 
 -- the text tells what is left at a scene, or draws it, and whether something is leaked
-pub record TellsOf (c : Scene) (draws leaks : Bool) (text : List ℕ) : Type 0 where
+pub record TellsOf (c : AbstractState) (draws leaks : Bool) (text : List ℕ) : Type 0 where
   pub findings : Findings
   pub found : AreFound c findings
   pub counted : IsCountedAt c
@@ -67,8 +67,8 @@ AnswersLeaks (Err fault) leaks = Unit {0}
 -- a script's run with these turns comes to this end, and the text tells what is left there, or draws it
 pub record IsLeftText (draws : Bool) (answer : Result Bool Fault) (script : ScriptView) (turns text : List ℕ)
     : Type 0 where
-  pub last : Scene
-  pub runs : IsRunOut turns (script_scene script) last
+  pub last : AbstractState
+  pub runs : IsRunOut turns (script_abstraction script) last
   pub leaks : Bool
   pub tells : TellsOf last draws leaks text
   pub answers : AnswersLeaks answer leaks

@@ -4,7 +4,7 @@ use Rattle.std.specs.Prelude.{Option, Some, None, slice_index_or, false}
 use Rattle.std.specs.List.{flat_map}
 use Rattle.control_word.specs.declared.packed.counts.Counts.{Counts}
 use Rattle.control_word.specs.State.{State}
-use Rattle.step_threads.specs.Scenes.{Scene, state_in}
+use Rattle.step_threads.specs.AbstractStates.{AbstractState, state_in}
 use Rattle.step_threads.specs.Stocks.{from}
 use Rattle.step_core.specs.Totals.{census_of, ended_in, made_in}
 use Rattle.script_stepper.specs.Lines.{block_text, totals_text}
@@ -49,7 +49,7 @@ abbrev pub listing : ℕ → List Holding → List Bool → ℕ → State → Li
 listing shared hs kept blocks s = flat_map (left_lines shared hs kept s) (from 1 blocks)
 
 -- all lines of what is left at a scene, where this was found
-abbrev pub all_lines : Findings → Scene → List (List ℕ)
+abbrev pub all_lines : Findings → AbstractState → List (List ℕ)
 all_lines f c =
     listing c.extent.shape.shared_cells (held_at c) f.kept c.extent.shape.blocks (state_in c)
     ++ circles c.extent.shape.shared_cells (ties_at f c) f.cuts c.extent.shape.blocks

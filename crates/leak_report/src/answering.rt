@@ -2,7 +2,7 @@
 ghost use Rattle.std.specs.Prelude.{◌≡◌, ℕ, IfErr, IfOk, false, string_bytes};
 ghost use Rattle.script_stepper.specs.Ends.{IsRunEnd, IsRefused};
 ghost use Rattle.script_stepper.specs.Runs.{Delivers, TellsRun, is_output};
-ghost use Rattle.step_core.specs.Worlds.{scene};
+ghost use Rattle.step_core.specs.Worlds.{abstraction};
 ghost use Rattle.leak_report.specs.Left.{IsLeftText, TellsOf};
 
 use crate::finding::find;
@@ -14,7 +14,7 @@ use std::alloc::{AllocError, Global};
 
 /// Tells what is left at a run's end, or draws it.
 fn told_at(alloc: Global, end: &End, draws: bool) -> Result<Left, AllocError>
-    ensures { IfOk result (λ left. TellsOf (scene end.now.world) draws left.leaks (string_bytes left.text)) }
+    ensures { IfOk result (λ left. TellsOf (abstraction end.now.world) draws left.leaks (string_bytes left.text)) }
 {
     let found = find(alloc, end)?;
     if draws {

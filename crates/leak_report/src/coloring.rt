@@ -1,8 +1,8 @@
 //! The colors of blocks that are left at a run's end.
 ghost use Rattle.std.specs.Prelude.{◌≡◌, ◌+◌, ◌<◌, ◌≤◌, ◌++◌, ℕ, IfOk, OnOk, false, length, map, slice_index_or};
 ghost use Rattle.step_core.specs.Totals.{IsAtEnd};
-ghost use Rattle.step_core.specs.Worlds.{scene};
-ghost use Rattle.step_threads.specs.Scenes.{state_in};
+ghost use Rattle.step_core.specs.Worlds.{abstraction};
+ghost use Rattle.step_threads.specs.AbstractStates.{state_in};
 ghost use Rattle.owner_graph.specs.Labels.{at};
 ghost use Rattle.owner_graph.specs.Rows.{held_on, row_at};
 ghost use Rattle.leak_report.specs.Coloring.{AreColored, colored, in_color};
@@ -67,13 +67,13 @@ fn add_colored(
     blocks: &mut Vec<Colored>,
 ) -> Result<(), AllocError>
     requires end { IsAtEnd world.now }
-    requires block { (1 ≤ number) × (number ≤ world.now.story.extent.shape.blocks) }
+    requires block { (1 ≤ number) × (number ≤ world.now.ghost_state.extent.shape.blocks) }
     requires kept { number + 1 ≤ length found.now.kept.items }
     requires knots { number + 1 ≤ length found.now.circles.knots.items }
     requires ties { (block : ℕ) → row_at found.now.circles.tie_rows.items block
         ≡ held_on found.now.circles.ties.items block }
     ensures { OnOk result (map in_color blocks.new.items ≡ map in_color blocks.old.items
-        ++ colored (state_in (scene world.now)) found.now.kept.items found.now.circles.knots.items
+        ++ colored (state_in (abstraction world.now)) found.now.kept.items found.now.circles.knots.items
         found.now.circles.ties.items number) }
 {
     match world.census(Block(number)) {
@@ -91,7 +91,7 @@ fn add_colored(
 
 /// The blocks that aren't vacant at a run's end, in order, each in its color (own). Refused where a growth was.
 pub fn colors(alloc: Global, end: &End) -> Result<Vec<Colored>, AllocError>
-    ensures { IfOk result (λ v. AreColored (scene end.now.world) v.items) }
+    ensures { IfOk result (λ v. AreColored (abstraction end.now.world) v.items) }
 {
     let found = find(alloc, end)?;
     let mut blocks = Vec::new(alloc);

@@ -2,9 +2,9 @@
 ghost use Rattle.std.specs.Prelude.{◌≡◌, ◌≢◌, ◌↔◌, ◌+◌, ◌≤◌, ℕ, None, All, IfOk, IsTrue};
 ghost use Rattle.std.specs.Prelude.{false, true, length, slice_index_or};
 ghost use Rattle.step_core.specs.Totals.{IsAtEnd, census_of};
-ghost use Rattle.step_core.specs.Worlds.{scene};
-ghost use Rattle.holders.specs.Holdings.{AllCounted};
-ghost use Rattle.step_threads.specs.Scenes.{state_in};
+ghost use Rattle.step_core.specs.Worlds.{abstraction};
+ghost use Rattle.holders.specs.Registers.{AllCounted};
+ghost use Rattle.step_threads.specs.AbstractStates.{state_in};
 ghost use Rattle.owner_graph.specs.Owners.{IsAmong, IsKept};
 ghost use Rattle.owner_graph.specs.Rows.{held_on, row_at};
 ghost use Rattle.leak_report.specs.Findings.{findings, held_at, ties_at};
@@ -45,13 +45,13 @@ pub(crate) struct Found {
 
 /// Finds what is held at a run's end.
 pub(crate) fn find(alloc: Global, end: &End) -> Result<Found, AllocError>
-    ensures held { IfOk result (λ found. found.held.items ≡ held_at (scene end.now.world)) }
+    ensures held { IfOk result (λ found. found.held.items ≡ held_at (abstraction end.now.world)) }
     ensures counted { IfOk result (λ found. AllCounted end.now.blocks
-        (state_in (scene end.now.world)) found.held.items) }
+        (state_in (abstraction end.now.world)) found.held.items) }
     ensures cuts { IfOk result (λ found. All (IsAmong end.now.blocks) found.circles.cuts.items) }
     ensures size { IfOk result (λ found. length found.rows.items ≡ end.now.blocks + 1) }
     ensures rows { IfOk result (λ found. (block : ℕ)
-        → row_at found.rows.items block ≡ held_on (held_at (scene end.now.world)) block) }
+        → row_at found.rows.items block ≡ held_on (held_at (abstraction end.now.world)) block) }
     ensures sizes { IfOk result (λ found. (length found.circles.tie_rows.items ≡ end.now.blocks + 1)
         × (length found.circles.cut_rows.items ≡ end.now.blocks + 1)) }
     ensures tie_rows { IfOk result (λ found. (block : ℕ)
@@ -59,8 +59,8 @@ pub(crate) fn find(alloc: Global, end: &End) -> Result<Found, AllocError>
     ensures cut_rows { IfOk result (λ found. (block : ℕ)
         → row_at found.circles.cut_rows.items block ≡ held_on found.circles.cuts.items block) }
     ensures ties { IfOk result (λ found. found.circles.ties.items ≡ ties_at (findings found.kept.items
-        found.circles.knots.items found.circles.cuts.items) (scene end.now.world)) }
-    ensures found { IfOk result (λ found. AreFound (scene end.now.world) (findings found.kept.items
+        found.circles.knots.items found.circles.cuts.items) (abstraction end.now.world)) }
+    ensures found { IfOk result (λ found. AreFound (abstraction end.now.world) (findings found.kept.items
         found.circles.knots.items found.circles.cuts.items)) }
 {
     let held = holdings(
@@ -85,9 +85,9 @@ pub(crate) fn find(alloc: Global, end: &End) -> Result<Found, AllocError>
 /// Whether a block is neither vacant nor marked.
 fn is_leaked(world: &World, number: u16, kept: &[bool]) -> bool
     requires end { IsAtEnd world.now }
-    requires block { (1 ≤ number) × (number ≤ world.now.story.extent.shape.blocks) }
+    requires block { (1 ≤ number) × (number ≤ world.now.ghost_state.extent.shape.blocks) }
     requires marks { number + 1 ≤ length kept.now }
-    ensures { IsTrue result ↔ ((census_of (state_in (scene world.now)) number ≢ None)
+    ensures { IsTrue result ↔ ((census_of (state_in (abstraction world.now)) number ≢ None)
         × (slice_index_or kept.now number false ≡ false)) }
 {
     world.census(Block(number)).is_some() && !kept[usize::from(number)]
@@ -96,9 +96,9 @@ fn is_leaked(world: &World, number: u16, kept: &[bool]) -> bool
 /// Whether a block is leaked.
 pub(crate) fn leaks(world: &World, blocks: u16, kept: &[bool]) -> bool
     requires end { IsAtEnd world.now }
-    requires all { blocks ≡ world.now.story.extent.shape.blocks }
-    requires marks { MarksKept (scene world.now) kept.now }
-    ensures { Leaks result (scene world.now) }
+    requires all { blocks ≡ world.now.ghost_state.extent.shape.blocks }
+    requires marks { MarksKept (abstraction world.now) kept.now }
+    ensures { Leaks result (abstraction world.now) }
 {
     for before in 0..blocks {
         if is_leaked(world, before + 1, kept) {

@@ -5,12 +5,12 @@ ghost use Rattle.std.specs.Prelude.{length, string_bytes, true};
 ghost use Rattle.std.specs.List.{flat_map};
 ghost use Rattle.script_text.specs.Canonical.{AddsLines};
 ghost use Rattle.step_core.specs.Totals.{IsAtEnd};
-ghost use Rattle.step_core.specs.Worlds.{scene};
+ghost use Rattle.step_core.specs.Worlds.{abstraction};
 ghost use Rattle.owner_graph.specs.declared.holding.Holding.{Holding};
-ghost use Rattle.step_threads.specs.Scenes.{state_in};
+ghost use Rattle.step_threads.specs.AbstractStates.{state_in};
 ghost use Rattle.owner_graph.specs.Owners.{IsAmong};
 ghost use Rattle.owner_graph.specs.Rows.{held_on, row_at};
-ghost use Rattle.holders.specs.Holdings.{AllCounted};
+ghost use Rattle.holders.specs.Registers.{AllCounted};
 ghost use Rattle.leak_report.specs.Findings.{findings, held_at, ties_at};
 ghost use Rattle.leak_report.specs.Graph.{all_nodes, edge_by, edge_lines, free_lines};
 ghost use Rattle.leak_report.specs.Graph.{box_text, fields_text, free_text, head_lines, is_listed};
@@ -56,12 +56,12 @@ fn put_node(text: &mut String, block: u16, fields: &[u64; 4], color: &str) -> Re
 /// Adds the node of a block, where it isn't vacant.
 fn put_block(world: &World, number: u16, found: &Found, text: &mut String) -> Result<(), AllocError>
     requires end { IsAtEnd world.now }
-    requires block { (1 ≤ number) × (number ≤ world.now.story.extent.shape.blocks) }
+    requires block { (1 ≤ number) × (number ≤ world.now.ghost_state.extent.shape.blocks) }
     requires kept { number + 1 ≤ length found.now.kept.items }
     requires knots { number + 1 ≤ length found.now.circles.knots.items }
     requires ties { (block : ℕ) → row_at found.now.circles.tie_rows.items block
         ≡ held_on found.now.circles.ties.items block }
-    ensures { OnOk result (AddsLines text.old text.new (node_lines (state_in (scene world.now)) found.now.kept.items
+    ensures { OnOk result (AddsLines text.old text.new (node_lines (state_in (abstraction world.now)) found.now.kept.items
         found.now.circles.knots.items found.now.circles.ties.items number)) }
 {
     let Some(fields) = world.fields(Block(number)) else {
@@ -80,12 +80,12 @@ fn put_blocks(
     text: &mut String,
 ) -> Result<(), AllocError>
     requires end { IsAtEnd world.now }
-    requires all { blocks ≡ world.now.story.extent.shape.blocks }
+    requires all { blocks ≡ world.now.ghost_state.extent.shape.blocks }
     requires kept { blocks + 1 ≤ length found.now.kept.items }
     requires knots { blocks + 1 ≤ length found.now.circles.knots.items }
     requires ties { (block : ℕ) → row_at found.now.circles.tie_rows.items block
         ≡ held_on found.now.circles.ties.items block }
-    ensures { OnOk result (AddsLines text.old text.new (all_nodes (state_in (scene world.now)) found.now.kept.items
+    ensures { OnOk result (AddsLines text.old text.new (all_nodes (state_in (abstraction world.now)) found.now.kept.items
         found.now.circles.knots.items found.now.circles.ties.items blocks)) }
 {
     for before in 0..blocks {
@@ -247,17 +247,17 @@ fn put_head(text: &mut String) -> Result<(), AllocError>
 
 /// Draws what is left at a run's end.
 pub(crate) fn drawn_at(alloc: Global, end: &End, found: &Found) -> Result<Left, AllocError>
-    requires held { found.now.held.items ≡ held_at (scene end.now.world) }
+    requires held { found.now.held.items ≡ held_at (abstraction end.now.world) }
     requires counted { AllCounted end.now.blocks
-        (state_in (scene end.now.world)) found.now.held.items }
+        (state_in (abstraction end.now.world)) found.now.held.items }
     requires cuts { All (IsAmong end.now.blocks) found.now.circles.cuts.items }
     requires tie_rows { (block : ℕ) → row_at found.now.circles.tie_rows.items block
         ≡ held_on found.now.circles.ties.items block }
     requires ties { found.now.circles.ties.items ≡ ties_at (findings found.now.kept.items
-        found.now.circles.knots.items found.now.circles.cuts.items) (scene end.now.world) }
-    requires found { AreFound (scene end.now.world) (findings found.now.kept.items
+        found.now.circles.knots.items found.now.circles.cuts.items) (abstraction end.now.world) }
+    requires found { AreFound (abstraction end.now.world) (findings found.now.kept.items
         found.now.circles.knots.items found.now.circles.cuts.items) }
-    ensures { IfOk result (λ left. TellsOf (scene end.now.world) true left.leaks (string_bytes left.text)) }
+    ensures { IfOk result (λ left. TellsOf (abstraction end.now.world) true left.leaks (string_bytes left.text)) }
 {
     let mut text = String::new(alloc);
     put_head(&mut text)?;

@@ -4,10 +4,10 @@ ghost use Rattle.std.specs.Prelude.{false, length, string_bytes};
 ghost use Rattle.script_text.specs.Canonical.{AddsLines};
 ghost use Rattle.step_core.specs.Totals.{IsAtEnd, ended_in, made_in};
 ghost use Rattle.script_stepper.specs.Lines.{totals_text};
-ghost use Rattle.step_core.specs.Worlds.{scene};
-ghost use Rattle.step_threads.specs.Scenes.{state_in};
+ghost use Rattle.step_core.specs.Worlds.{abstraction};
+ghost use Rattle.step_threads.specs.AbstractStates.{state_in};
 ghost use Rattle.owner_graph.specs.Rows.{held_on, row_at};
-ghost use Rattle.holders.specs.Holdings.{AllCounted};
+ghost use Rattle.holders.specs.Registers.{AllCounted};
 ghost use Rattle.leak_report.specs.Findings.{findings, held_at, ties_at};
 ghost use Rattle.leak_report.specs.Left.{AreFound, TellsOf};
 ghost use Rattle.leak_report.specs.Lines.{left_lines, listing};
@@ -30,12 +30,12 @@ fn put_left(
     text: &mut String,
 ) -> Result<(), AllocError>
     requires end { IsAtEnd world.now }
-    requires block { (1 ≤ number) × (number ≤ world.now.story.extent.shape.blocks) }
+    requires block { (1 ≤ number) × (number ≤ world.now.ghost_state.extent.shape.blocks) }
     requires rows { number + 1 ≤ length found.now.rows.items }
     requires kept { number + 1 ≤ length found.now.kept.items }
-    requires held { row_at found.now.rows.items number ≡ held_on (held_at (scene world.now)) number }
+    requires held { row_at found.now.rows.items number ≡ held_on (held_at (abstraction world.now)) number }
     ensures { OnOk result (AddsLines text.old text.new
-        (left_lines shared (held_at (scene world.now)) found.now.kept.items (state_in (scene world.now)) number)) }
+        (left_lines shared (held_at (abstraction world.now)) found.now.kept.items (state_in (abstraction world.now)) number)) }
 {
     let Some(counts) = world.census(Block(number)) else {
         return Ok(());
@@ -55,12 +55,12 @@ fn put_listing(
     text: &mut String,
 ) -> Result<(), AllocError>
     requires end { IsAtEnd world.now }
-    requires all { blocks ≡ world.now.story.extent.shape.blocks }
+    requires all { blocks ≡ world.now.ghost_state.extent.shape.blocks }
     requires size { blocks + 1 ≤ length found.now.rows.items }
     requires kept { blocks + 1 ≤ length found.now.kept.items }
-    requires held { (block : ℕ) → row_at found.now.rows.items block ≡ held_on (held_at (scene world.now)) block }
+    requires held { (block : ℕ) → row_at found.now.rows.items block ≡ held_on (held_at (abstraction world.now)) block }
     ensures { OnOk result (AddsLines text.old text.new
-        (listing shared (held_at (scene world.now)) found.now.kept.items blocks (state_in (scene world.now)))) }
+        (listing shared (held_at (abstraction world.now)) found.now.kept.items blocks (state_in (abstraction world.now)))) }
 {
     for before in 0..blocks {
         put_left(world, before + 1, shared, found, text)?;
@@ -71,7 +71,7 @@ fn put_listing(
 /// Adds the last line: how many objects were made, have ended, and are left.
 fn put_sums(world: &World, text: &mut String) -> Result<(), AllocError>
     ensures { OnOk result (AddsLines text.old text.new
-        (totals_text (made_in world.now.story.history) (ended_in world.now.story.history) ∷ [])) }
+        (totals_text (made_in world.now.ghost_state.history) (ended_in world.now.ghost_state.history) ∷ [])) }
 {
     put_totals(text, u64::from(world.made()), u64::from(world.ended()))?;
     Ok(())
@@ -87,12 +87,12 @@ pub(crate) struct Left {
 
 /// Tells what is left at a run's end.
 pub(crate) fn left_at(alloc: Global, end: &End, found: &Found) -> Result<Left, AllocError>
-    requires held { found.now.held.items ≡ held_at (scene end.now.world) }
+    requires held { found.now.held.items ≡ held_at (abstraction end.now.world) }
     requires counted { AllCounted end.now.blocks
-        (state_in (scene end.now.world)) found.now.held.items }
+        (state_in (abstraction end.now.world)) found.now.held.items }
     requires size { length found.now.rows.items ≡ end.now.blocks + 1 }
     requires rows { (block : ℕ)
-        → row_at found.now.rows.items block ≡ held_on (held_at (scene end.now.world)) block }
+        → row_at found.now.rows.items block ≡ held_on (held_at (abstraction end.now.world)) block }
     requires sizes { (length found.now.circles.tie_rows.items ≡ end.now.blocks + 1)
         × (length found.now.circles.cut_rows.items ≡ end.now.blocks + 1) }
     requires tie_rows { (block : ℕ) → row_at found.now.circles.tie_rows.items block
@@ -100,10 +100,10 @@ pub(crate) fn left_at(alloc: Global, end: &End, found: &Found) -> Result<Left, A
     requires cut_rows { (block : ℕ) → row_at found.now.circles.cut_rows.items block
         ≡ held_on found.now.circles.cuts.items block }
     requires ties { found.now.circles.ties.items ≡ ties_at (findings found.now.kept.items
-        found.now.circles.knots.items found.now.circles.cuts.items) (scene end.now.world) }
-    requires found { AreFound (scene end.now.world) (findings found.now.kept.items
+        found.now.circles.knots.items found.now.circles.cuts.items) (abstraction end.now.world) }
+    requires found { AreFound (abstraction end.now.world) (findings found.now.kept.items
         found.now.circles.knots.items found.now.circles.cuts.items) }
-    ensures { IfOk result (λ left. TellsOf (scene end.now.world) false left.leaks (string_bytes left.text)) }
+    ensures { IfOk result (λ left. TellsOf (abstraction end.now.world) false left.leaks (string_bytes left.text)) }
 {
     let mut text = String::new(alloc);
     put_listing(

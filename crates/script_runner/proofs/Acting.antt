@@ -20,13 +20,13 @@ use Rattle.script_runner.specs.Deals.{IsActed, IsEmptied, field_0, thread_slots}
 use Rattle.script_runner.specs.Seats.{Acts, Done, IsHand}
 use Rattle.script_runner.specs.TableCalls.{null_form}
 use Rattle.script_runner.specs.declared.acts.went.Went.{Went}
-use Rattle.step_table.specs.Deeds.{aliased, as_owner, this_as}
-use Rattle.step_table.specs.Holdings.{Slots, inside, place_in, slot_pointer, weak_slot}
+use Rattle.step_table.specs.AtomicSteps.{aliased, as_owner, this_as}
+use Rattle.step_table.specs.Registers.{Slots, inside, place_in, slot_pointer, weak_slot}
 use Rattle.step_table.specs.declared.memory.field.Field.{Field}
 use Rattle.step_table.specs.declared.memory.form.Form.{Form}
-use Rattle.step_table.specs.declared.slots.holdings.Pointer.{Pointer}
-use Rattle.step_threads.specs.Courses.{idle}
-use Rattle.step_threads.specs.Doings.{On}
+use Rattle.step_table.specs.declared.slots.registers.Pointer.{Pointer}
+use Rattle.step_threads.specs.Frames.{idle}
+use Rattle.step_threads.specs.TraceLabels.{On}
 use Rattle.step_threads.specs.Rows.{Found, Got, Plain, Reply, row}
 use Rattle.step_threads.specs.Rows as rows
 use Rattle.step_threads.specs.declared.programs.act.Act.TheVariants as act

@@ -1,5 +1,5 @@
--- What a thread does leaves its desk's shape and allowance as they are: only splits and joins change an allowance, and these
--- are no acts.
+-- What a thread does leaves its desk's shape and allowance as they are: only splits and joins change an allowance, and
+-- these are no acts.
 use Rattle.std.proofs.Common.{◌≡◌, inl, inr, ℕ, ◌+◌, ◌-◌, Bool, true, false, List, [], ◌∷◌, ◌++◌}
 use Rattle.std.proofs.Common.{Option, Some, None, refl, sym, ap, subst, ◌∙◌}
 use Rattle.control_block.specs.Desks.{AddsEvent, DeskNow, allowance_of}
@@ -33,9 +33,9 @@ use Rattle.shared_handle.specs.declared.endings.Member.{Member}
 use Rattle.shared_handle.specs.declared.endings.Member.TheVariants.{First, Next, Up}
 use Rattle.shared_handle.specs.declared.pile.Round.{Round}
 use Rattle.shared_handle.specs.declared.pile.Round.TheVariants.{Cleared, Ended, Settled}
-use Rattle.step_table.specs.Holdings.{Slots}
+use Rattle.step_table.specs.Registers.{Slots}
 use Rattle.step_table.specs.declared.memory.form.Form.{Form}
-use Rattle.step_threads.specs.Courses.{idle}
+use Rattle.step_threads.specs.Frames.{idle}
 use Rattle.step_threads.specs.Rows.{Compared, Left, Reply}
 use Rattle.step_threads.specs.declared.programs.act.Act.{Act}
 use Rattle.step_threads.specs.declared.programs.act.Act.TheVariants as act

@@ -32,16 +32,16 @@ use Rattle.script_runner.proofs.Seating as seating
 use Rattle.script_runner.specs.Calls as calls
 use Rattle.script_runner.specs.CellCalls.{IsOfName, LoadsIn, as_cell}
 use Rattle.script_runner.specs.Seats.{as_slot, shown_slots, Acts, IsHand, IsSeated}
-use Rattle.step_table.specs.CellDeeds.{cell_in, kind_in_state as kind_there}
+use Rattle.step_table.specs.CellAtomicSteps.{cell_in, kind_in_state as kind_there}
 use Rattle.step_table.specs.Contents.{slot_by, slot_of}
-use Rattle.step_table.specs.Deeds.{on}
-use Rattle.step_table.specs.Holdings.{inside, into, Slots, is_full, slot_pointer}
+use Rattle.step_table.specs.AtomicSteps.{on}
+use Rattle.step_table.specs.Registers.{inside, into, Slots, is_full, slot_pointer}
 use Rattle.step_table.specs.declared.memory.form.Form.{Form}
-use Rattle.step_table.specs.declared.slots.holdings.Pointer.{Pointer}
+use Rattle.step_table.specs.declared.slots.registers.Pointer.{Pointer}
 use Rattle.step_table.specs.declared.slots.slot.Slot.TheVariants.{Full}
 use Rattle.step_table.specs.declared.slots.slot.Slot.{Slot}
-use Rattle.step_threads.specs.Courses.{block_at, cell_of_name, hand as hand_of, is_there}
-use Rattle.step_threads.specs.Doings.{IsLoadEvent, Where}
+use Rattle.step_threads.specs.Frames.{block_at, cell_of_name, hand as hand_of, is_there}
+use Rattle.step_threads.specs.TraceLabels.{IsLoadEvent, Where}
 use Rattle.step_threads.specs.Programs.{IsIn, kind_at}
 use Rattle.step_threads.specs.Rows.{Came, Hands}
 use Rattle.step_threads.specs.declared.programs.act.Act.TheVariants as act

@@ -36,13 +36,13 @@ use Rattle.script_runner.proofs.Seating as seating
 use Rattle.script_runner.specs.Calls as calls
 use Rattle.script_runner.specs.CellCalls.{as_cell, DiffersIn}
 use Rattle.script_runner.specs.Seats.{Acts, IsQuiet, IsSeated, Leaving, as_slot, shown_slots}
-use Rattle.step_table.specs.CellDeeds.{kind_in_state as kind_there}
+use Rattle.step_table.specs.CellAtomicSteps.{kind_in_state as kind_there}
 use Rattle.step_table.specs.Contents as contents
 use Rattle.step_table.specs.Contents.{slot_of, is_of, slot_by}
-use Rattle.step_table.specs.Holdings.{Slots, is_full, pointer_of, slot_pointer, plain, slot_value}
+use Rattle.step_table.specs.Registers.{Slots, is_full, pointer_of, slot_pointer, plain, slot_value}
 use Rattle.step_table.specs.declared.memory.form.Form.{Form}
 use Rattle.step_table.specs.declared.slots.slot.Slot.{Slot}
-use Rattle.step_threads.specs.Courses.{cell_of_name, hand as hand_of, idle, other as other_of, slots_idle}
+use Rattle.step_threads.specs.Frames.{cell_of_name, hand as hand_of, idle, other as other_of, slots_idle}
 use Rattle.step_threads.specs.Programs.{kind_at}
 use Rattle.step_threads.specs.Rows.{Compared}
 use Rattle.step_threads.specs.declared.programs.act.Act.TheVariants as act

@@ -17,13 +17,13 @@ use Rattle.handle_table.specs.declared.fault.Fault.{Fault}
 use Rattle.script_runner.proofs.Putting.{slice_get-set_other, slice_get-set_same}
 use Rattle.script_runner.proofs.Refusals as refusals
 use Rattle.script_runner.proofs.Seating.{same_some}
-use Rattle.script_runner.proofs.Sights.{full_shown}
+use Rattle.script_runner.proofs.WorldStates.{full_shown}
 use Rattle.script_runner.specs.Deals.{thread_slots}
 use Rattle.script_runner.specs.Kinds.{HasKind, KeepsKinds, SetsKind, kind_in, slot_kinds}
 use Rattle.script_runner.specs.Seats.{IsSeated}
 use Rattle.script_runner.specs.Teams.{HasNoObject}
 use Rattle.shared_handle.specs.declared.pile.Gone.{Gone}
-use Rattle.step_table.specs.Holdings.{is_full, slot_pointer}
+use Rattle.step_table.specs.Registers.{is_full, slot_pointer}
 
 -- what is there already is put there
 pub set_again : {A : Type 0} (l : List A) (i : ℕ) (x : A) → slice_get l i ≡ Some x → slice_set l i x ≡ l

@@ -27,18 +27,18 @@ use Rattle.script_runner.proofs.Logging.{goes_on_by_call, goes_on_by_mark}
 use Rattle.script_runner.proofs.Settling.{settled_again, settled_empty, with_endings}
 use Rattle.script_runner.specs.Calls as calls
 use Rattle.script_runner.specs.EndCalls.{TakesThread}
-use Rattle.script_runner.specs.Logs.{TellsThread, doing, told_line}
+use Rattle.script_runner.specs.Logs.{TellsThread, trace_label, told_line}
 use Rattle.script_runner.specs.Seats.{IsQuiet}
 use Rattle.step_table.specs.Contents.{slot_of}
-use Rattle.step_table.specs.Holdings.{Slots, is_full, plain, slot_pointer, slot_value, pointer_of}
+use Rattle.step_table.specs.Registers.{Slots, is_full, plain, slot_pointer, slot_value, pointer_of}
 use Rattle.step_table.specs.declared.memory.ended.Ended.{Ended}
 use Rattle.step_table.specs.declared.memory.form.Form.{Form}
 use Rattle.step_table.specs.declared.slots.slot.Slot.TheVariants.{Full}
-use Rattle.step_threads.specs.Courses.{Walk, hand, walk_settled}
-use Rattle.step_threads.specs.Doings.{Ahead, AnAct, AnEnd, ClearsNext, FinishesEnding, DoesNext, DoesAhead, GoesThrough, IsMakeEvent, MakesAct}
+use Rattle.step_threads.specs.Frames.{FrameView, hand, frame_settled}
+use Rattle.step_threads.specs.TraceLabels.{Ahead, AnAct, AnEnd, ClearsNext, FinishesEnding, DoesNext, DoesAhead, GoesThrough, IsMakeEvent, MakesAct}
 use Rattle.step_threads.specs.Endings.{staged}
-use Rattle.step_threads.specs.Interleavings.{first_walk}
-use Rattle.step_threads.specs.Rows.{Left, ending_by, walk_after_act, row, said_by_row, with_end}
+use Rattle.step_threads.specs.Interleavings.{first_frame}
+use Rattle.step_threads.specs.Rows.{Left, ending_by, frame_after_act, row, said_by_row, with_end}
 use Rattle.step_threads.specs.Steps.{silent}
 use Rattle.step_threads.specs.declared.programs.act.Act.TheVariants.{Leave}
 use Rattle.step_threads.specs.declared.programs.act.Task.{Task}
@@ -110,34 +110,34 @@ module _ {V : Type 0} where
       sym kept ∙ (ap (λ (s : State). (s.object q).block) (sym se) ∙ out.1)
 
 module _ {V : Type 0} (worth : Form → V) where
-  pub by_event : (d e : DeskNow V) (v : Event V) (adds : AddsEvent d v e) (w u : Walk) (log : List Said) (x : Said)
-      → DoesNext worth (calls.state_before_event V adds) w (doing d.name (Some v) x) u → TakesThread worth d w log e u (log ++ told_line x)
+  pub by_event : (d e : DeskNow V) (v : Event V) (adds : AddsEvent d v e) (w u : FrameView) (log : List Said) (x : Said)
+      → DoesNext worth (calls.state_before_event V adds) w (trace_label d.name (Some v) x) u → TakesThread worth d w log e u (log ++ told_line x)
   by_event d e v adds w u log x does part n tells =
       goes_on_by_call worth part n d e v w u log x tells adds
-      (subst (λ q. DoesNext worth (calls.state_before_event V adds) w (doing q (Some v) x) u) tells.name does)
+      (subst (λ q. DoesNext worth (calls.state_before_event V adds) w (trace_label q (Some v) x) u) tells.name does)
 
-  pub by_quiet : (d e : DeskNow V) → IsQuiet d e → (w : Walk) (log : List Said) → TakesThread worth d w log e w log
+  pub by_quiet : (d e : DeskNow V) → IsQuiet d e → (w : FrameView) (log : List Said) → TakesThread worth d w log e w log
   by_quiet d e quiet w log part n t =
       record {
         name = quiet.name ∙ t.name;
-        doings = t.doings;
+        trace_labels = t.trace_labels;
         events = t.events ∙ sym quiet.seen;
-        goes = subst (λ k. GoesThrough worth (opening_of k) [] n (first_walk part) t.doings w) (sym quiet.shape) t.goes;
+        goes = subst (λ k. GoesThrough worth (opening_of k) [] n (first_frame part) t.trace_labels w) (sym quiet.shape) t.goes;
         says = t.says;
       }
 
-  pub by_mark : (d e : DeskNow V) → IsQuiet d e → (w u : Walk) (log : List Said) (x : Said)
-      → DoesNext worth (state_of d) w (doing d.name None x) u → TakesThread worth d w log e u (log ++ told_line x)
+  pub by_mark : (d e : DeskNow V) → IsQuiet d e → (w u : FrameView) (log : List Said) (x : Said)
+      → DoesNext worth (state_of d) w (trace_label d.name None x) u → TakesThread worth d w log e u (log ++ told_line x)
   by_mark d e quiet w u log x does part n tells =
       by_quiet d e quiet u (log ++ told_line x) part n
-      (goes_on_by_mark worth part n d w u log x tells (subst (λ q. DoesNext worth (state_of d) w (doing q None x) u) tells.name does))
+      (goes_on_by_mark worth part n d w u log x tells (subst (λ q. DoesNext worth (state_of d) w (trace_label q None x) u) tells.name does))
 
   module _ (l : Slots) (taken : Bool) (todo : List Task) (free : slot_value l (hand l) ≡ plain) (few : hand l < length l) where
-    abbrev pub walk_at : List Ending → Walk
-    walk_at es = walk_settled l taken es todo
+    abbrev pub frame_at : List Ending → FrameView
+    frame_at es = frame_settled l taken es todo
 
-    abbrev pub rest : Walk
-    rest = walk_settled l taken [] todo
+    abbrev pub rest : FrameView
+    rest = frame_settled l taken [] todo
 
     empty_hand : slot_value rest.slots (hand rest.slots) ≡ plain
     empty_hand =
@@ -147,13 +147,13 @@ module _ {V : Type 0} (worth : Form → V) where
     within_hand : hand rest.slots < length rest.slots
     within_hand = let x = (settled_empty l taken [] todo free).many in omega (arith, x, few)
 
-    pub walk_is : (es : List Ending) → walk_at es ≡ record rest { endings = es }
-    walk_is es = with_endings l taken es todo
+    pub frame_is : (es : List Ending) → frame_at es ≡ record rest { endings = es }
+    frame_is es = with_endings l taken es todo
 
     -- the next member is cleared
     pub clears : (d e : DeskNow V) (b j : ℕ) (held : Handle) (adds : AddsEvent d (event.ClearMember (latest_of d b) j held) e) (x : V) → IsEnding d b x
         → (f : Ending) (es : List Ending) → f.block.0 ≡ b → f.stage ≡ j → j < 3 → (log : List Said)
-        → TakesThread worth d (walk_at (f ∷ es)) log e
+        → TakesThread worth d (frame_at (f ∷ es)) log e
         (record {
           slots = cond (has_object held) (slice_set rest.slots (hand rest.slots) (slot_of (calls.state_before_event V adds) held)) rest.slots;
           taken = rest.taken;
@@ -163,13 +163,13 @@ module _ {V : Type 0} (worth : Form → V) where
     clears d e b j held adds x ends f es block stage low log part n tells =
         let s = calls.state_before_event V adds in
         let v = event.ClearMember (latest_of d b) j held in
-        let u : Walk = record {
+        let u : FrameView = record {
           slots = cond (has_object held) (slice_set rest.slots (hand rest.slots) (slot_of s held)) rest.slots;
           taken = rest.taken;
           endings = staged f ∷ es;
           todo = rest.todo;
         } in
-        let next : ClearsNext s (record rest { endings = f ∷ es }) f es (doing d.name (Some v) (silent f.statement)) u = record {
+        let next : ClearsNext s (record rest { endings = f ∷ es }) f es (trace_label d.name (Some v) (silent f.statement)) u = record {
           held = held;
           some = omega (arith, stage, low);
           makes = ap (λ q. Some (event.ClearMember q j held)) (sym (ap (λ q. s.latest q) block ∙ ended_latest d e v adds b x ends))
@@ -177,12 +177,12 @@ module _ {V : Type 0} (worth : Form → V) where
           says = refl;
           goes = refl;
         } in
-        let does : DoesNext worth s (record rest { endings = f ∷ es }) (doing d.name (Some v) (silent f.statement)) u =
-        subst (λ (a : Ahead). DoesAhead worth s (record rest { endings = f ∷ es }) (doing d.name (Some v) (silent f.statement)) u a)
+        let does : DoesNext worth s (record rest { endings = f ∷ es }) (trace_label d.name (Some v) (silent f.statement)) u =
+        subst (λ (a : Ahead). DoesAhead worth s (record rest { endings = f ∷ es }) (trace_label d.name (Some v) (silent f.statement)) u a)
         (sym (cond-false (is_full (slot_pointer rest.slots (hand rest.slots))) _ _ (ap (λ y. is_full (pointer_of y)) empty_hand))) (inl next) in
         subst (λ l. TellsThread worth part n e u l) (append-nil log)
         (by_event d e v adds (record rest { endings = f ∷ es }) u log (silent f.statement) does part n
-        (subst (λ w. TellsThread worth part n d w log) (walk_is (f ∷ es)) tells))
+        (subst (λ w. TellsThread worth part n d w log) (frame_is (f ∷ es)) tells))
 
     -- what it held leaves
     pub hand_leaves : (d e : DeskNow V) (v : Event V) (adds : AddsEvent d v e) (k : Kind) (c : Block) (p : Option Place) (last : Bool) (left : Option Ended)
@@ -191,7 +191,7 @@ module _ {V : Type 0} (worth : Form → V) where
         → IsMakeEvent worth (calls.state_before_event V adds) d.name filled (Leave (hand filled)) (Left last left) (Some v))
         → HasHandle d k p c.0 → (f : Ending) (es : List Ending) (log : List Said)
         → TakesThread worth d (record { slots = filled; taken = rest.taken; endings = f ∷ es; todo = rest.todo }) log e
-        (walk_at (with_end f.statement (ending_by last (Some (calls.pointer k c p))) (f ∷ es)))
+        (frame_at (with_end f.statement (ending_by last (Some (calls.pointer k c p))) (f ∷ es)))
         (log ++ told_line record { statement = f.statement; answer = None; ended = left })
     hand_leaves d e v adds k c p last left makes has f es log part n tells =
         let ptr = calls.pointer k c p in
@@ -200,35 +200,35 @@ module _ {V : Type 0} (worth : Form → V) where
         let at : slot_pointer filled (hand filled) ≡ Some ptr =
         ap (λ q. slot_pointer filled q) same ∙ ap pointer_of (get_or-set_same rest.slots (hand rest.slots) (Full ptr) plain within_hand) in
         let s = calls.state_before_event V adds in
-        let w : Walk = record { slots = filled; taken = rest.taken; endings = f ∷ es; todo = rest.todo } in
+        let w : FrameView = record { slots = filled; taken = rest.taken; endings = f ∷ es; todo = rest.todo } in
         let y = row (Leave (hand filled)) filled rest.taken (Left last left) in
         let fs = with_end f.statement (ending_by last (Some ptr)) (f ∷ es) in
         let task : Task = record { statement = f.statement; act = Leave (hand filled) } in
-        let made : MakesAct worth s w task rest.todo (doing d.name (Some v) (said_by_row f.statement y)) (walk_after_act w f.statement rest.todo y) =
+        let made : MakesAct worth s w task rest.todo (trace_label d.name (Some v) (said_by_row f.statement y)) (frame_after_act w f.statement rest.todo y) =
         record { reply = Left last left; makes = makes (record { at = at; has = has }); says = refl; goes = refl } in
-        let does : DoesNext worth s w (doing d.name (Some v) (said_by_row f.statement y)) (walk_after_act w f.statement rest.todo y) =
-        subst (λ (a : Ahead). DoesAhead worth s w (doing d.name (Some v) (said_by_row f.statement y)) (walk_after_act w f.statement rest.todo y) a)
+        let does : DoesNext worth s w (trace_label d.name (Some v) (said_by_row f.statement y)) (frame_after_act w f.statement rest.todo y) =
+        subst (λ (a : Ahead). DoesAhead worth s w (trace_label d.name (Some v) (said_by_row f.statement y)) (frame_after_act w f.statement rest.todo y) a)
         (sym (cond-true (is_full (slot_pointer filled (hand filled))) (AnAct task rest.todo) (AnEnd f es) (ap is_full at))) made in
         let slots : slice_set filled (hand filled) plain ≡ rest.slots =
         ap (λ q. slice_set filled q plain) same
         ∙ (set-set rest.slots (hand rest.slots) (Full ptr) plain
         ∙ (ap (λ q. slice_set rest.slots (hand rest.slots) q) (sym empty_hand) ∙ set-get_or rest.slots (hand rest.slots) plain)) in
-        let goes : walk_after_act w f.statement rest.todo y ≡ walk_at fs =
-        ap (λ q. walk_settled q rest.taken (with_end f.statement (ending_by last (slot_pointer filled (hand filled))) (f ∷ es)) rest.todo) slots
-        ∙ (ap (λ q. walk_settled rest.slots rest.taken (with_end f.statement (ending_by last q) (f ∷ es)) rest.todo) at
-        ∙ (settled_again l taken [] fs todo ∙ sym (walk_is fs))) in
+        let goes : frame_after_act w f.statement rest.todo y ≡ frame_at fs =
+        ap (λ q. frame_settled q rest.taken (with_end f.statement (ending_by last (slot_pointer filled (hand filled))) (f ∷ es)) rest.todo) slots
+        ∙ (ap (λ q. frame_settled rest.slots rest.taken (with_end f.statement (ending_by last q) (f ∷ es)) rest.todo) at
+        ∙ (settled_again l taken [] fs todo ∙ sym (frame_is fs))) in
         subst (λ q. TellsThread worth part n e q (log ++ told_line record { statement = f.statement; answer = None; ended = left })) goes
-        (by_event d e v adds w (walk_after_act w f.statement rest.todo y) log (said_by_row f.statement y) does part n tells)
+        (by_event d e v adds w (frame_after_act w f.statement rest.todo y) log (said_by_row f.statement y) does part n tells)
 
     -- an object without a member left is finished
     pub finishes : (d e : DeskNow V) (b : ℕ) (vacant : Bool) (y : V) (adds : AddsEvent d (event.Finish (latest_of d b) vacant y) e) (x : V) → IsEnding d b x
         → (f : Ending) (es : List Ending) → f.block.0 ≡ b → f.stage ≡ 3 → (log : List Said)
-        → TakesThread worth d (walk_at (f ∷ es)) log e (walk_at es) log
+        → TakesThread worth d (frame_at (f ∷ es)) log e (frame_at es) log
     finishes d e b vacant y adds x ends f es block stage log part n tells =
         let s = calls.state_before_event V adds in
         let v = event.Finish (latest_of d b) vacant y in
-        let u : Walk = record rest { endings = es } in
-        let next : FinishesEnding s (record rest { endings = f ∷ es }) f es (doing d.name (Some v) (silent f.statement)) u = record {
+        let u : FrameView = record rest { endings = es } in
+        let next : FinishesEnding s (record rest { endings = f ∷ es }) f es (trace_label d.name (Some v) (silent f.statement)) u = record {
           vacant = vacant;
           value = y;
           none = omega (arith, stage);
@@ -236,10 +236,10 @@ module _ {V : Type 0} (worth : Form → V) where
           says = refl;
           goes = refl;
         } in
-        let does : DoesNext worth s (record rest { endings = f ∷ es }) (doing d.name (Some v) (silent f.statement)) u =
-        subst (λ (a : Ahead). DoesAhead worth s (record rest { endings = f ∷ es }) (doing d.name (Some v) (silent f.statement)) u a)
+        let does : DoesNext worth s (record rest { endings = f ∷ es }) (trace_label d.name (Some v) (silent f.statement)) u =
+        subst (λ (a : Ahead). DoesAhead worth s (record rest { endings = f ∷ es }) (trace_label d.name (Some v) (silent f.statement)) u a)
         (sym (cond-false (is_full (slot_pointer rest.slots (hand rest.slots))) _ _ (ap (λ q. is_full (pointer_of q)) empty_hand))) (inr next) in
-        subst (λ w. TellsThread worth part n e w log) (sym (walk_is es))
+        subst (λ w. TellsThread worth part n e w log) (sym (frame_is es))
         (subst (λ l. TellsThread worth part n e u l) (append-nil log)
         (by_event d e v adds (record rest { endings = f ∷ es }) u log (silent f.statement) does part n
-        (subst (λ w. TellsThread worth part n d w log) (walk_is (f ∷ es)) tells)))
+        (subst (λ w. TellsThread worth part n d w log) (frame_is (f ∷ es)) tells)))

@@ -1,6 +1,6 @@
 -- Nothing is left to end by an act that takes something.
 use Rattle.std.proofs.Common.{◌≡◌, ℕ, Bool, Option, None, refl}
-use Rattle.step_table.specs.Holdings.{Slots}
+use Rattle.step_table.specs.Registers.{Slots}
 use Rattle.step_table.specs.declared.memory.ended.Ended.{Ended}
 use Rattle.step_table.specs.declared.slots.slot.Slot.{Slot}
 use Rattle.step_threads.specs.Rows.{Came, Compared, Found, Got, Left, Plain, Reply, Told, row}

@@ -31,14 +31,14 @@ use Rattle.script_runner.proofs.Takings.{copies_taken, weak_nowhere}
 use Rattle.script_runner.specs.Calls as calls
 use Rattle.script_runner.specs.CellCalls.{ExchangesIn, OffersIn, as_cell}
 use Rattle.script_runner.specs.Seats.{Acts, Done, IsSeated, as_slot, shown_slots}
-use Rattle.step_table.specs.CellDeeds.{kind_in_state as kind_there}
+use Rattle.step_table.specs.CellAtomicSteps.{kind_in_state as kind_there}
 use Rattle.step_table.specs.Contents as contents
 use Rattle.step_table.specs.Contents.{is_of, slot_by, slot_of}
-use Rattle.step_table.specs.Holdings.{plain, pointer_of, slot_pointer, slot_value}
+use Rattle.step_table.specs.Registers.{plain, pointer_of, slot_pointer, slot_value}
 use Rattle.step_table.specs.declared.memory.form.Form.{Form}
 use Rattle.step_table.specs.declared.slots.slot.Slot.{Slot}
-use Rattle.step_threads.specs.Courses.{cell_of_name, fitting, hand as hand_of, offered}
-use Rattle.step_threads.specs.Doings.{IsSwapEvent, Where, copy}
+use Rattle.step_threads.specs.Frames.{cell_of_name, fitting, hand as hand_of, offered}
+use Rattle.step_threads.specs.TraceLabels.{IsSwapEvent, Where, copy}
 use Rattle.step_threads.specs.Programs.{kind_at}
 use Rattle.step_threads.specs.Rows.{Came, Plain, may_go, Hands}
 use Rattle.step_threads.specs.declared.programs.act.Act.TheVariants as act

@@ -21,7 +21,7 @@ use Rattle.handle_table.specs.declared.ends.Remains.TheVariants as table
 use Rattle.handle_table.specs.declared.ends.Remains.{Remains}
 use Rattle.script_runner.proofs.Ending.{not_none}
 use Rattle.script_runner.specs.EndCalls.{IsFour, RemainsIn, remains_ended}
-use Rattle.step_table.specs.Deeds.{remains}
+use Rattle.step_table.specs.AtomicSteps.{remains}
 use Rattle.step_table.specs.declared.memory.ended.Ended.TheVariants as ended
 
 le_or_lt : (a b : ℕ) → (a ≤ b) ⊎ (b < a)

@@ -30,12 +30,12 @@ use Rattle.script_runner.specs.TableCalls.{MarksAct}
 use Rattle.shared_handle.specs.Calls as inner
 use Rattle.shared_handle.specs.Endings.{MayGiveThis}
 use Rattle.step_table.specs.Contents.{slot_by}
-use Rattle.step_table.specs.Deeds.{handle_of, on, this_as}
-use Rattle.step_table.specs.Holdings.{slot_pointer}
+use Rattle.step_table.specs.AtomicSteps.{handle_of, on, this_as}
+use Rattle.step_table.specs.Registers.{slot_pointer}
 use Rattle.step_table.specs.declared.memory.form.Form.{Form}
-use Rattle.step_threads.specs.Courses.{hand as hand_of}
+use Rattle.step_threads.specs.Frames.{hand as hand_of}
 use Rattle.step_threads.specs.Rows.{Got, row, taking}
-use Rattle.step_threads.specs.Scenes.{answers_order}
+use Rattle.step_threads.specs.AbstractStates.{answers_order}
 use Rattle.step_threads.specs.declared.programs.act.Act.TheVariants as act
 use Rattle.step_threads.specs.declared.programs.act.Question.TheVariants as question
 use Rattle.step_threads.specs.declared.programs.act.Question.{Question}

@@ -8,9 +8,9 @@ use Rattle.script_runner.specs.Goings.{ActsOn, PassesOver, task}
 use Rattle.script_runner.specs.Logs.{TellsThread, told_line}
 use Rattle.script_runner.specs.Seats.{Begun, Done, shown_slots}
 use Rattle.shared_handle.specs.declared.endings.Ending as pile
-use Rattle.step_threads.proofs.Courses.{settled_still}
-use Rattle.step_threads.specs.Courses.{idle, walk_settled, slots_idle, taken_idle}
-use Rattle.step_threads.specs.Rows.{walk_after_act, row, said_by_row, with_end}
+use Rattle.step_threads.proofs.Frames.{settled_still}
+use Rattle.step_threads.specs.Frames.{idle, frame_settled, slots_idle, taken_idle}
+use Rattle.step_threads.specs.Rows.{frame_after_act, row, said_by_row, with_end}
 use Rattle.step_threads.specs.declared.programs.act.Task.{Task}
 use Rattle.step_threads.specs.declared.said.Said.{Said}
 
@@ -28,13 +28,13 @@ module _ {V : Type 0} where
         piled = begun_piled k t.endings u.endings y.ending none acts.ends;
         takes = λ todo log part n tells.
             subst (λ q. TellsThread worth part n u.desk q (log ++ told_line (said_by_row k y)))
-            (ap (λ s. walk_settled s y.taken (with_end k y.ending []) todo) (sym acts.slots))
+            (ap (λ s. frame_settled s y.taken (with_end k y.ending []) todo) (sym acts.slots))
             (did acts.done todo log part n (subst (λ q. TellsThread worth part n t.desk q log) (settled_still l taken [] (task k a) todo busy) tells));
       }
     where
       did : Done worth t.desk (shown_slots m t.slots) a r u.desk → (todo : List Task) (log : List Said)
           → TakesThread worth t.desk (record { slots = shown_slots m t.slots; taken = taken; endings = []; todo = task k a ∷ todo }) log u.desk
-          (walk_after_act (record {
+          (frame_after_act (record {
             slots = shown_slots m t.slots;
             taken = taken;
             endings = [];
@@ -53,6 +53,6 @@ module _ {V : Type 0} where
   passes_over worth m k t u taken a todo log quiet free same part n tells =
       let l = shown_slots m t.slots in
       subst (λ q. TellsThread worth part n u.desk q log)
-      (cond-true (idle a l taken) (walk_settled (slots_idle a l taken) (taken_idle a taken) [] todo) _ free
-      ∙ ap (λ s. walk_settled s (taken_idle a taken) [] todo) (sym same))
-      (by_quiet worth t.desk u.desk quiet (walk_settled l taken [] (task k a ∷ todo)) log part n tells)
+      (cond-true (idle a l taken) (frame_settled (slots_idle a l taken) (taken_idle a taken) [] todo) _ free
+      ∙ ap (λ s. frame_settled s (taken_idle a taken) [] todo) (sym same))
+      (by_quiet worth t.desk u.desk quiet (frame_settled l taken [] (task k a ∷ todo)) log part n tells)

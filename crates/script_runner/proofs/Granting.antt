@@ -38,7 +38,7 @@ use Rattle.script_runner.specs.declared.acts.went.Went.{Went}
 use Rattle.shared_handle.proofs.Owned.{points_well}
 use Rattle.shared_handle.specs.Endings.{WhyNotThis}
 use Rattle.shared_handle.specs.Locks.{IsUpgrade}
-use Rattle.step_table.specs.Deeds.{aliased, field_number}
+use Rattle.step_table.specs.AtomicSteps.{aliased, field_number}
 use Rattle.step_table.specs.declared.memory.field.Field.TheVariants.{Zero, One, Two, Three}
 use Rattle.step_table.specs.declared.memory.field.Field.{Field}
 use Rattle.step_table.specs.declared.memory.form.Form.{Form}

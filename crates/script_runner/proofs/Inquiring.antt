@@ -24,8 +24,8 @@ use Rattle.script_runner.specs.Seats.{IsSeated}
 use Rattle.script_runner.specs.TableCalls.{IsAway, MarksAct}
 use Rattle.script_runner.specs.declared.acts.went.Went.{Went}
 use Rattle.shared_handle.specs.Endings.{IsRead}
-use Rattle.step_table.specs.Holdings.{inside, is_full, place_in, slot_pointer}
-use Rattle.step_threads.specs.Courses.{idle}
+use Rattle.step_table.specs.Registers.{inside, is_full, place_in, slot_pointer}
+use Rattle.step_threads.specs.Frames.{idle}
 use Rattle.step_threads.specs.Rows.{Got, Reply, Told, row, outside}
 use Rattle.step_threads.specs.declared.programs.act.Act.TheVariants as act
 use Rattle.step_threads.specs.declared.programs.act.Act.{Act}

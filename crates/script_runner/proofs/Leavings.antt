@@ -34,14 +34,14 @@ use Rattle.shared_handle.specs.declared.endings.Ending.{Ending}
 use Rattle.shared_handle.specs.declared.endings.Left.TheVariants as left
 use Rattle.shared_handle.specs.declared.endings.Left.{Left}
 use Rattle.shared_handle.specs.declared.pile.Gone.{Gone}
-use Rattle.step_table.specs.Deeds.{remains}
-use Rattle.step_table.specs.Holdings.{Slots, slot_pointer}
+use Rattle.step_table.specs.AtomicSteps.{remains}
+use Rattle.step_table.specs.Registers.{Slots, slot_pointer}
 use Rattle.step_table.specs.declared.memory.ended.Ended.{Ended}
 use Rattle.step_table.specs.declared.memory.form.Form.{Form}
-use Rattle.step_table.specs.declared.slots.holdings.Pointer.{Pointer}
-use Rattle.step_threads.specs.Doings.{IsLeaveEvent}
+use Rattle.step_table.specs.declared.slots.registers.Pointer.{Pointer}
+use Rattle.step_threads.specs.TraceLabels.{IsLeaveEvent}
 use Rattle.step_threads.specs.Rows as rows
-use Rattle.step_threads.specs.Rows.{walk_after_act}
+use Rattle.step_threads.specs.Rows.{frame_after_act}
 use Rattle.step_threads.specs.declared.programs.act.Act.{Act}
 
 module _ {V : Type 0} where

@@ -38,7 +38,7 @@ pub mod Asking
 pub mod Onward
 pub mod Settles
 pub mod Playing
-pub mod Sights
+pub mod WorldStates
 pub mod Offering
 pub mod Swapping
 pub mod Reaching

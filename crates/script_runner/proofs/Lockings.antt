@@ -25,12 +25,12 @@ use Rattle.script_runner.specs.TableCalls.{LocksIn, MakesIn, MakesNot, MakesNull
 use Rattle.shared_handle.specs.Calls as inner
 use Rattle.shared_handle.specs.Locks as locks
 use Rattle.step_table.specs.Contents.{slot_by}
-use Rattle.step_table.specs.Deeds.{as_owner, owned}
-use Rattle.step_table.specs.Holdings.{plain, slot_pointer, slot_value, weak_slot}
+use Rattle.step_table.specs.AtomicSteps.{as_owner, owned}
+use Rattle.step_table.specs.Registers.{plain, slot_pointer, slot_value, weak_slot}
 use Rattle.step_table.specs.declared.memory.form.Form.{Form}
-use Rattle.step_table.specs.declared.slots.holdings.Pointer.{Pointer}
-use Rattle.step_threads.specs.Courses.{hand as hand_of}
-use Rattle.step_threads.specs.Doings.{On}
+use Rattle.step_table.specs.declared.slots.registers.Pointer.{Pointer}
+use Rattle.step_threads.specs.Frames.{hand as hand_of}
+use Rattle.step_threads.specs.TraceLabels.{On}
 use Rattle.step_threads.specs.Rows.{Found, Got, taking}
 use Rattle.step_threads.specs.declared.programs.act.Act.TheVariants as act
 

@@ -12,13 +12,13 @@ use Rattle.control_word.specs.declared.model.event.Event.TheVariants.{Join}
 use Rattle.control_block.specs.Rule.{opening_of}
 use Rattle.step_table.specs.declared.memory.form.Form.{Form}
 use Rattle.step_threads.specs.declared.said.Said.{Said}
-use Rattle.step_threads.specs.Courses.{Walk}
-use Rattle.step_threads.specs.Doings.{DoesNext, Doing, GoesThrough, lines, onto, spoken}
-use Rattle.step_threads.specs.Interleavings.{Marked, first_walk, said_on}
+use Rattle.step_threads.specs.Frames.{FrameView}
+use Rattle.step_threads.specs.TraceLabels.{DoesNext, TraceLabel, GoesThrough, lines, onto, spoken}
+use Rattle.step_threads.specs.Interleavings.{Marked, first_frame, said_on}
 use Rattle.step_threads.specs.Programs.{Part}
 use Rattle.step_threads.specs.Steps.{silent}
 use Rattle.script_runner.specs.Laws.{BeginsThread, GoesOnByCall, GoesOnByMark, IsJoined, StaysJoined}
-use Rattle.script_runner.specs.Logs.{doing, told_line}
+use Rattle.script_runner.specs.Logs.{trace_label, told_line}
 
 -- lines of two lists
 pub said_append : (n : ℕ) (xs ys : List (ℕ × Said)) → said_on n (xs ++ ys) ≡ said_on n xs ++ said_on n ys
@@ -41,11 +41,11 @@ own_line n x l log e =
 
 module _ {V : Type 0} where
   -- events of others, as what they do
-  abbrev foreign : List (Entry V) → List (Doing V) → List (Doing V)
+  abbrev foreign : List (Entry V) → List (TraceLabel V) → List (TraceLabel V)
   foreign [] l = l
   foreign (e ∷ h) l = record { desk = e.desk; event = Some e.event; said = silent 0 } ∷ foreign h l
 
-  foreign_events : (h : List (Entry V)) (l : List (Doing V)) → onto [] (foreign h l) ≡ h ++ onto [] l
+  foreign_events : (h : List (Entry V)) (l : List (TraceLabel V)) → onto [] (foreign h l) ≡ h ++ onto [] l
   foreign_events [] l = refl
   foreign_events (e ∷ h) l = ap (λ k. e ∷ k) (foreign_events h l)
 
@@ -58,12 +58,12 @@ module _ {V : Type 0} where
   others_by n [] none = tt
   others_by n (e ∷ h) none = (none.0, others_by n h none.2)
 
-  foreign_goes : (worth : Form → V) (z : Opening) (n : ℕ) (w u : Walk) (h : List (Entry V)) (l : List (Doing V)) → Others n h
+  foreign_goes : (worth : Form → V) (z : Opening) (n : ℕ) (w u : FrameView) (h : List (Entry V)) (l : List (TraceLabel V)) → Others n h
       → GoesThrough worth z [] n w l u → GoesThrough worth z [] n w (foreign h l) u
   foreign_goes worth z n w u [] l none goes = goes
   foreign_goes worth z n w u (e ∷ h) l none goes = inl (none.0, foreign_goes worth z n w u h l none.1 goes)
 
-  foreign_lines : (h : List (Entry V)) (l : List (Doing V)) → lines (foreign h l) ≡ lines l
+  foreign_lines : (h : List (Entry V)) (l : List (TraceLabel V)) → lines (foreign h l) ≡ lines l
   foreign_lines [] l = refl
   foreign_lines (e ∷ h) l = append-nil (lines (foreign h l)) ∙ foreign_lines h l
 
@@ -73,49 +73,49 @@ module _ {V : Type 0} where
         → Marked worth z h n part log → Marked worth z (later ++ h) n part log
     marked_on z later h log none m =
         record {
-          doings = foreign later m.doings;
-          events = foreign_events later m.doings ∙ ap (λ l. later ++ l) m.events;
+          trace_labels = foreign later m.trace_labels;
+          events = foreign_events later m.trace_labels ∙ ap (λ l. later ++ l) m.events;
           last = m.last;
-          goes = foreign_goes worth z n (first_walk part) m.last later m.doings none m.goes;
+          goes = foreign_goes worth z n (first_frame part) m.last later m.trace_labels none m.goes;
           over = m.over;
-          says = ap (said_on n) (foreign_lines later m.doings) ∙ m.says;
+          says = ap (said_on n) (foreign_lines later m.trace_labels) ∙ m.says;
         }
 
   pub goes_on_by_mark : GoesOnByMark V
   goes_on_by_mark worth part n d w u log x t does =
       let z = opening_of d.shape in
-      let i : Doing V = doing n None x in
+      let i : TraceLabel V = trace_label n None x in
       record {
         name = t.name;
-        doings = i ∷ t.doings;
+        trace_labels = i ∷ t.trace_labels;
         events = t.events;
         goes = inr (refl, (w, t.goes, subst (λ h. DoesNext worth (leads z h) w i u) (sym t.events) does));
-        says = own_line n x (lines t.doings) log t.says;
+        says = own_line n x (lines t.trace_labels) log t.says;
       }
 
   pub goes_on_by_call : GoesOnByCall V
   goes_on_by_call worth part n d e v w u log x t adds does =
       let z = opening_of d.shape in
       let quiet = others_by n adds.between (subst (λ k. NoneBy k adds.between) t.name adds.quiet) in
-      let before = foreign adds.between t.doings in
+      let before = foreign adds.between t.trace_labels in
       let same : onto [] before ≡ adds.between ++ d.seen =
-      foreign_events adds.between t.doings ∙ ap (λ l. adds.between ++ l) t.events in
-      let i : Doing V = doing n (Some v) x in
-      let went : GoesThrough worth z [] n (first_walk part) (i ∷ before) u =
+      foreign_events adds.between t.trace_labels ∙ ap (λ l. adds.between ++ l) t.events in
+      let i : TraceLabel V = trace_label n (Some v) x in
+      let went : GoesThrough worth z [] n (first_frame part) (i ∷ before) u =
       inr (
         refl,
         (
           w,
-          foreign_goes worth z n (first_walk part) w adds.between t.doings quiet t.goes,
+          foreign_goes worth z n (first_frame part) w adds.between t.trace_labels quiet t.goes,
           subst (λ h. DoesNext worth (leads z h) w i u) (sym same) does,
         ),
       ) in
       record {
         name = adds.same.2 ∙ t.name;
-        doings = i ∷ before;
+        trace_labels = i ∷ before;
         events = ap (λ l. entry n v ∷ l) same ∙ (ap (λ k. entry k v ∷ (adds.between ++ d.seen)) (sym t.name) ∙ sym adds.seen);
-        goes = subst (λ k. GoesThrough worth (opening_of k) [] n (first_walk part) (i ∷ before) u) (sym adds.same.1) went;
-        says = own_line n x (lines before) log (ap (said_on n) (foreign_lines adds.between t.doings) ∙ t.says);
+        goes = subst (λ k. GoesThrough worth (opening_of k) [] n (first_frame part) (i ∷ before) u) (sym adds.same.1) went;
+        says = own_line n x (lines before) log (ap (said_on n) (foreign_lines adds.between t.trace_labels) ∙ t.says);
       }
 
   pub begins : BeginsThread V
@@ -131,9 +131,9 @@ module _ {V : Type 0} where
       subst (Others new.name) (sym (splits.beside.2 ∙ adds.seen)) (first, rest) in
       record {
         name = refl;
-        doings = foreign new.seen [];
+        trace_labels = foreign new.seen [];
         events = foreign_events new.seen [] ∙ append-nil new.seen;
-        goes = foreign_goes worth (opening_of new.shape) new.name (first_walk part) (first_walk part) new.seen [] others refl;
+        goes = foreign_goes worth (opening_of new.shape) new.name (first_frame part) (first_frame part) new.seen [] others refl;
         says = ap (said_on new.name) (foreign_lines new.seen []);
       }
 
@@ -145,10 +145,10 @@ module _ {V : Type 0} where
       let first : d.name ≢ n = λ q. legal.1.asks.0 (t.name ∙ sym q) in
       let rest = others_by n later (subst (λ k. NoneBy k later) t.name joins.others.2) in
       let mine : Marked worth z other.seen n part log = record {
-        doings = t.doings;
+        trace_labels = t.trace_labels;
         events = t.events;
         last = w;
-        goes = subst (λ k. GoesThrough worth (opening_of k) [] n (first_walk part) t.doings w) shape t.goes;
+        goes = subst (λ k. GoesThrough worth (opening_of k) [] n (first_frame part) t.trace_labels w) shape t.goes;
         over = over;
         says = t.says;
       } in

@@ -30,12 +30,12 @@ use Rattle.script_runner.specs.TableCalls.{IsAway, MarksAct}
 use Rattle.shared_handle.specs.Calls as inner
 use Rattle.shared_handle.specs.Endings.{IsOutside, IsNotEnabled, WhyNotThis}
 use Rattle.step_table.specs.Contents.{slot_by}
-use Rattle.step_table.specs.Deeds.{handle_of, is_enabled, owned}
-use Rattle.step_table.specs.Holdings as slots
-use Rattle.step_table.specs.Holdings.{inside, place_in, slot_pointer, is_full}
+use Rattle.step_table.specs.AtomicSteps.{handle_of, is_enabled, owned}
+use Rattle.step_table.specs.Registers as slots
+use Rattle.step_table.specs.Registers.{inside, place_in, slot_pointer, is_full}
 use Rattle.step_table.specs.declared.memory.form.Form.{Form}
-use Rattle.step_table.specs.declared.slots.holdings.Pointer.{Pointer}
-use Rattle.step_threads.specs.Doings.{On, copies}
+use Rattle.step_table.specs.declared.slots.registers.Pointer.{Pointer}
+use Rattle.step_threads.specs.TraceLabels.{On, copies}
 use Rattle.step_threads.specs.Rows.{Got, Told, outside}
 use Rattle.step_threads.specs.declared.programs.act.Act.TheVariants as act
 use Rattle.step_threads.specs.declared.said.Answer.TheVariants as answer

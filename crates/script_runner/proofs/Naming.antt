@@ -20,7 +20,7 @@ use Rattle.script_runner.specs.Kinds.{HasKind, IsName, IsVacant, SetsKind, kind_
 use Rattle.script_runner.specs.Seats.{as_slot, shown_slots}
 use Rattle.script_text.specs.Scripts.{HasTextCells}
 use Rattle.step_table.specs.Contents.{slot_by}
-use Rattle.step_table.specs.Holdings.{plain}
+use Rattle.step_table.specs.Registers.{plain}
 
 -- what becomes empty in a vacant slot is only counted, and looks empty to the thread
 pub record IsEmptyAt (i : ℕ) (v u : TableNow ℕ) : Type 0 where

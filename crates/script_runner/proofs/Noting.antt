@@ -9,7 +9,7 @@ use Rattle.script_runner.specs.Deals.{IsDealt, field_0, thread_slots}
 use Rattle.script_runner.specs.Seats.{Done}
 use Rattle.script_runner.specs.Totals.{objects_asked, refuses}
 use Rattle.script_runner.specs.declared.acts.went.Went.{Went}
-use Rattle.step_table.specs.Holdings.{Slots}
+use Rattle.step_table.specs.Registers.{Slots}
 use Rattle.step_threads.specs.Rows.{Reply, row}
 use Rattle.step_threads.specs.declared.programs.act.Act.{Act}
 use Rattle.step_threads.specs.declared.said.Answer.{Answer}

@@ -25,8 +25,8 @@ use Rattle.script_runner.proofs.Uncelled.{cells_not}
 use Rattle.script_runner.specs.CellCalls.{IsOfName, RefusesCell, as_cell}
 use Rattle.script_runner.specs.Deals.{IsActed, IsCompared, IsThird, field_0, thread_slots}
 use Rattle.script_runner.specs.Seats.{IsHand, IsSeated}
-use Rattle.step_table.specs.Holdings.{Slots, place_in, plain}
-use Rattle.step_threads.specs.Courses.{is_there}
+use Rattle.step_table.specs.Registers.{Slots, place_in, plain}
+use Rattle.step_threads.specs.Frames.{is_there}
 use Rattle.step_threads.specs.Programs.{IsIn, kind_at}
 use Rattle.step_threads.specs.Rows.{Came, Plain, Hands, outside, refusal}
 use Rattle.step_threads.specs.declared.programs.act.Act.TheVariants as act

@@ -17,7 +17,7 @@ use Rattle.script_runner.specs.Seats.{Acts, IsQuiet, IsToldEnding}
 use Rattle.script_runner.specs.declared.acts.went.Went.{Went}
 use Rattle.shared_handle.specs.declared.endings.Ending as pile
 use Rattle.step_table.specs.declared.memory.ended.Ended as ended
-use Rattle.step_threads.specs.Courses.{idle, walk_settled}
+use Rattle.step_threads.specs.Frames.{idle, frame_settled}
 use Rattle.step_threads.specs.Rows.{Reply, row, said_by_row}
 use Rattle.step_threads.specs.declared.programs.act.Act.TheVariants as act
 use Rattle.step_threads.specs.declared.programs.act.Act.{Act}
@@ -44,8 +44,8 @@ stays t = record { shape = refl; name = refl; seen = refl }
 acts_any : (hand k : ℕ) (t u : TableNow ℕ) (taken : Bool) (a : Act) (r : Reply) → t.endings ≡ [] → idle a (thread_slots hand t) taken ≡ false
     → Acts field_0 (hand + 1) t taken a r u
     → (es : List Ending) × Piled k u.endings es × ((todo : List Task) (log : List Said)
-    → TakesThread field_0 t.desk (walk_settled (thread_slots hand t) taken [] (task k a ∷ todo)) log u.desk
-    (walk_settled (thread_slots hand u) (row a (thread_slots hand t) taken r).taken es todo)
+    → TakesThread field_0 t.desk (frame_settled (thread_slots hand t) taken [] (task k a ∷ todo)) log u.desk
+    (frame_settled (thread_slots hand u) (row a (thread_slots hand t) taken r).taken es todo)
     (log ++ told_line (said_by_row k (row a (thread_slots hand t) taken r))))
 acts_any hand k t u taken a r none busy acts =
     let g = acts_on field_0 (hand + 1) k t u taken a r none busy acts in (g.endings, g.piled, g.takes)
@@ -58,13 +58,13 @@ none_piled k xs (e ∷ es) p none = absurd (some_last p.0 p.1 (sym none ∙ p.2)
 -- an act that leaves nothing to end
 acts_clear : (hand k : ℕ) (t u : TableNow ℕ) (taken : Bool) (a : Act) (r : Reply) → t.endings ≡ [] → idle a (thread_slots hand t) taken ≡ false
     → Acts field_0 (hand + 1) t taken a r u → u.endings ≡ [] → (todo : List Task) (log : List Said)
-    → TakesThread field_0 t.desk (walk_settled (thread_slots hand t) taken [] (task k a ∷ todo)) log u.desk
-    (walk_settled (thread_slots hand u) (row a (thread_slots hand t) taken r).taken [] todo)
+    → TakesThread field_0 t.desk (frame_settled (thread_slots hand t) taken [] (task k a ∷ todo)) log u.desk
+    (frame_settled (thread_slots hand u) (row a (thread_slots hand t) taken r).taken [] todo)
     (log ++ told_line (said_by_row k (row a (thread_slots hand t) taken r)))
 acts_clear hand k t u taken a r none busy acts clear todo log =
     let g = acts_any hand k t u taken a r none busy acts in
-    subst (λ es. TakesThread field_0 t.desk (walk_settled (thread_slots hand t) taken [] (task k a ∷ todo)) log u.desk
-    (walk_settled (thread_slots hand u) (row a (thread_slots hand t) taken r).taken es todo)
+    subst (λ es. TakesThread field_0 t.desk (frame_settled (thread_slots hand t) taken [] (task k a ∷ todo)) log u.desk
+    (frame_settled (thread_slots hand u) (row a (thread_slots hand t) taken r).taken es todo)
     (log ++ told_line (said_by_row k (row a (thread_slots hand t) taken r))))
     (none_piled k u.endings g.0 g.1 clear) (g.2 todo log)
 
@@ -78,10 +78,10 @@ module _ (hand k : ℕ) (t u : TableNow ℕ) (none : t.endings ≡ []) where
         endings = g.0;
         piled = g.1;
         goes = λ todo log.
-            subst (λ b. TakesThread field_0 t.desk (walk_settled (thread_slots hand t) taken [] (task k a ∷ todo)) log u.desk
-            (walk_settled (thread_slots hand u) b g.0 todo) (log ++ told_line (statement_says k x))) (sym y.takes)
-            (subst (λ s. TakesThread field_0 t.desk (walk_settled (thread_slots hand t) taken [] (task k a ∷ todo)) log u.desk
-            (walk_settled (thread_slots hand u) r.taken g.0 todo) (log ++ told_line s))
+            subst (λ b. TakesThread field_0 t.desk (frame_settled (thread_slots hand t) taken [] (task k a ∷ todo)) log u.desk
+            (frame_settled (thread_slots hand u) b g.0 todo) (log ++ told_line (statement_says k x))) (sym y.takes)
+            (subst (λ s. TakesThread field_0 t.desk (frame_settled (thread_slots hand t) taken [] (task k a ∷ todo)) log u.desk
+            (frame_settled (thread_slots hand u) r.taken g.0 todo) (log ++ told_line s))
             (λ j. record { statement = k; answer = sym y.says j; ended = sym y.tells j })
             (g.2 todo log));
       }
@@ -90,10 +90,10 @@ module _ (hand k : ℕ) (t u : TableNow ℕ) (none : t.endings ≡ []) where
         endings = [];
         piled = y.endings ∙ none;
         goes = λ todo log.
-            subst (λ b. TakesThread field_0 t.desk (walk_settled (thread_slots hand t) taken [] (task k a ∷ todo)) log u.desk
-            (walk_settled (thread_slots hand u) b [] todo) (log ++ told_line (statement_says k x))) (sym y.takes)
-            (subst (λ l. TakesThread field_0 t.desk (walk_settled (thread_slots hand t) taken [] (task k a ∷ todo)) log u.desk
-            (walk_settled (thread_slots hand u) _ [] todo) l) (sym (ap (λ l. log ++ l) (no_line k x.answer x.ended y.silent.0 y.silent.1) ∙ append-nil log))
+            subst (λ b. TakesThread field_0 t.desk (frame_settled (thread_slots hand t) taken [] (task k a ∷ todo)) log u.desk
+            (frame_settled (thread_slots hand u) b [] todo) (log ++ told_line (statement_says k x))) (sym y.takes)
+            (subst (λ l. TakesThread field_0 t.desk (frame_settled (thread_slots hand t) taken [] (task k a ∷ todo)) log u.desk
+            (frame_settled (thread_slots hand u) _ [] todo) l) (sym (ap (λ l. log ++ l) (no_line k x.answer x.ended y.silent.0 y.silent.1) ∙ append-nil log))
             (passes_over field_0 (hand + 1) k t u taken a todo log y.quiet y.free y.slots));
       }
 
@@ -108,8 +108,8 @@ module _ (hand k : ℕ) (t u : TableNow ℕ) (none : t.endings ≡ []) where
       where
         begun : (todo : List Task) (log : List Said)
             → TakesThread field_0 t.desk
-            (walk_settled (thread_slots hand t) true [] (task k (act.Compare i c weak) ∷ task k (act.Put i) ∷ task k act.Drop ∷ todo)) log
-            y.between.desk (walk_settled (thread_slots hand y.between) false [] (task k act.Drop ∷ todo)) (log ++ said true)
+            (frame_settled (thread_slots hand t) true [] (task k (act.Compare i c weak) ∷ task k (act.Put i) ∷ task k act.Drop ∷ todo)) log
+            y.between.desk (frame_settled (thread_slots hand y.between) false [] (task k act.Drop ∷ todo)) (log ++ said true)
         begun todo log part n tells =
             passes_over field_0 (hand + 1) k y.between y.between false (act.Put i) (task k act.Drop ∷ todo) (log ++ said true) (stays y.between) refl
             refl part n
@@ -132,11 +132,11 @@ module _ (hand k : ℕ) (t u : TableNow ℕ) (none : t.endings ≡ []) where
               endings = on.0;
               piled = subst (λ zs. Piled k zs on.0) y.same.2 on.1;
               goes = λ todo log part n tells.
-                  subst (λ l. TellsThread field_0 part n u.desk (walk_settled (thread_slots hand u) false on.0 todo) l)
+                  subst (λ l. TellsThread field_0 part n u.desk (frame_settled (thread_slots hand u) false on.0 todo) l)
                   (append_assoc log (said true) (line k None x.left) ∙ ap (λ q. log ++ (said true ++ line k None q)) (sym told_is))
-                  (subst (λ d. TellsThread field_0 part n d (walk_settled (thread_slots hand u) false on.0 todo)
+                  (subst (λ d. TellsThread field_0 part n d (frame_settled (thread_slots hand u) false on.0 todo)
                   ((log ++ said true) ++ line k None x.left)) y.same.0
-                  (subst (λ l. TellsThread field_0 part n y.after.desk (walk_settled l false on.0 todo)
+                  (subst (λ l. TellsThread field_0 part n y.after.desk (frame_settled l false on.0 todo)
                   ((log ++ said true) ++ line k None x.left)) y.same.1
                   (on.2 todo (log ++ said true) part n (begun todo log part n tells))));
             }
@@ -148,10 +148,10 @@ module _ (hand k : ℕ) (t u : TableNow ℕ) (none : t.endings ≡ []) where
               endings = [];
               piled = ended_none;
               goes = λ todo log part n tells.
-                  subst (λ l. TellsThread field_0 part n u.desk (walk_settled (thread_slots hand u) false [] todo) l)
+                  subst (λ l. TellsThread field_0 part n u.desk (frame_settled (thread_slots hand u) false [] todo) l)
                   (sym (ap (λ q. log ++ (said true ++ line k None q)) nothing ∙ ap (λ l. log ++ l) (append-nil (said true))))
-                  (subst (λ d. TellsThread field_0 part n d (walk_settled (thread_slots hand u) false [] todo) (log ++ said true)) y.same.0
-                  (subst (λ l. TellsThread field_0 part n y.after.desk (walk_settled l false [] todo) (log ++ said true)) y.same.1
+                  (subst (λ d. TellsThread field_0 part n d (frame_settled (thread_slots hand u) false [] todo) (log ++ said true)) y.same.0
+                  (subst (λ l. TellsThread field_0 part n y.after.desk (frame_settled l false [] todo) (log ++ said true)) y.same.1
                   (passes_over field_0 (hand + 1) k y.between y.after false act.Drop todo (log ++ said true) x.0 is x.1 part n
                   (begun todo log part n tells))));
             }
@@ -164,8 +164,8 @@ module _ (hand k : ℕ) (t u : TableNow ℕ) (none : t.endings ≡ []) where
         clear = y.compares.ends ∙ none
 
         begun : (todo : List Task) (log : List Said)
-            → TakesThread field_0 t.desk (walk_settled (thread_slots hand t) true [] (task k (act.Compare i c weak) ∷ task k (act.Put i) ∷ todo)) log
-            y.between.desk (walk_settled (thread_slots hand y.between) true [] (task k (act.Put i) ∷ todo)) (log ++ said false)
+            → TakesThread field_0 t.desk (frame_settled (thread_slots hand t) true [] (task k (act.Compare i c weak) ∷ task k (act.Put i) ∷ todo)) log
+            y.between.desk (frame_settled (thread_slots hand y.between) true [] (task k (act.Put i) ∷ todo)) (log ++ said false)
         begun todo log =
             acts_clear hand k t y.between true (act.Compare i c weak) _ none busy y.compares (y.compares.ends ∙ none) (task k (act.Put i) ∷ todo) log
 
@@ -179,7 +179,7 @@ module _ (hand k : ℕ) (t u : TableNow ℕ) (none : t.endings ≡ []) where
               endings = on.0;
               piled = on.1;
               goes = λ todo log part n tells.
-                  subst (λ l. TellsThread field_0 part n u.desk (walk_settled (thread_slots hand u) false on.0 todo) l)
+                  subst (λ l. TellsThread field_0 part n u.desk (frame_settled (thread_slots hand u) false on.0 todo) l)
                   (append_assoc log (said false) (line k None x.left) ∙ ap (λ q. log ++ (said false ++ line k None q)) (sym told_is))
                   (on.2 todo (log ++ said false) part n (begun todo log part n tells));
             }
@@ -191,7 +191,7 @@ module _ (hand k : ℕ) (t u : TableNow ℕ) (none : t.endings ≡ []) where
               endings = [];
               piled = ended_none;
               goes = λ todo log part n tells.
-                  subst (λ l. TellsThread field_0 part n u.desk (walk_settled (thread_slots hand u) false [] todo) l)
+                  subst (λ l. TellsThread field_0 part n u.desk (frame_settled (thread_slots hand u) false [] todo) l)
                   (sym (ap (λ q. log ++ (said false ++ line k None q)) nothing ∙ ap (λ l. log ++ l) (append-nil (said false))))
                   (passes_over field_0 (hand + 1) k y.between u true (act.Put i) todo (log ++ said false) x.0 is x.1 part n (begun todo log part n tells));
             }

@@ -14,8 +14,8 @@ use Rattle.script_runner.specs.Deals.{IsPassedOver, IsThird, thread_slots}
 use Rattle.script_runner.specs.Reached.{nothing}
 use Rattle.script_runner.specs.Seats.{IsQuiet, IsSeated}
 use Rattle.step_table.specs.Contents.{is_of}
-use Rattle.step_table.specs.Holdings.{Slots, is_full, pointer_of, slot_pointer, slot_value}
-use Rattle.step_threads.specs.Courses.{hand as hand_of, is_there, other as other_of, placed}
+use Rattle.step_table.specs.Registers.{Slots, is_full, pointer_of, slot_pointer, slot_value}
+use Rattle.step_threads.specs.Frames.{hand as hand_of, is_there, other as other_of, placed}
 use Rattle.step_threads.specs.Programs.{kind_at}
 use Rattle.step_threads.specs.declared.programs.act.Act.TheVariants as act
 use Rattle.step_threads.specs.declared.programs.call.CellName.{CellName}

@@ -14,7 +14,7 @@ use Rattle.script_runner.specs.Totals.{objects_asked, refuses}
 use Rattle.script_runner.specs.declared.acts.went.Went.{Went}
 use Rattle.script_runner.specs.declared.workers.log.Log.{Log}
 use Rattle.step_table.specs.declared.memory.ended.Ended.{Ended}
-use Rattle.step_threads.specs.Courses.{walk_settled}
+use Rattle.step_threads.specs.Frames.{frame_settled}
 use Rattle.step_threads.specs.declared.programs.act.Act.TheVariants as act
 use Rattle.step_threads.specs.declared.programs.act.Act.{Act}
 use Rattle.step_threads.specs.declared.programs.act.Task.{Task}
@@ -41,7 +41,7 @@ played_then hand t v u todo rest last w x y a b =
       lines = a.lines ++ b.lines;
       asked = a.asked + b.asked;
       goes = λ log part n tells.
-          subst (λ l. TellsThread field_0 part n u.desk (walk_settled (thread_slots hand u) y.taken [] last) l) (append_assoc log a.lines b.lines)
+          subst (λ l. TellsThread field_0 part n u.desk (frame_settled (thread_slots hand u) y.taken [] last) l) (append_assoc log a.lines b.lines)
           (b.goes (log ++ a.lines) part n (a.goes log part n tells));
       asks = let p = a.asks in let q = b.asks in omega (arith, p, q);
       notes = noted_then w x y a.asked b.asked a.lines b.lines a.notes b.notes;

@@ -27,10 +27,10 @@ use Rattle.shared_handle.specs.declared.endings.Left.TheVariants as left
 use Rattle.shared_handle.specs.declared.endings.Left.{Left}
 use Rattle.shared_handle.specs.declared.pile.Gone.{Gone}
 use Rattle.step_table.specs.Contents.{slot_by}
-use Rattle.step_table.specs.Holdings.{Slots, is_full, plain, pointer_of, slot_pointer, slot_value}
+use Rattle.step_table.specs.Registers.{Slots, is_full, plain, pointer_of, slot_pointer, slot_value}
 use Rattle.step_table.specs.declared.memory.ended.Ended.{Ended}
 use Rattle.step_table.specs.declared.memory.form.Form.{Form}
-use Rattle.step_threads.specs.Courses.{hand as hand_of, placed}
+use Rattle.step_threads.specs.Frames.{hand as hand_of, placed}
 use Rattle.step_threads.specs.Rows as rows
 use Rattle.step_threads.specs.Rows.{row}
 use Rattle.step_threads.specs.declared.programs.act.Act.TheVariants as act

@@ -6,10 +6,10 @@ use Rattle.control_block.specs.Own.{KeepsDesks}
 use Rattle.control_word.specs.State.{State}
 use Rattle.script_runner.proofs.Tallying.{act_counts, ends_of, makes_of, mild_some, tells}
 use Rattle.script_runner.specs.Totals.{asked_in, objects_asked, refuses}
-use Rattle.step_table.specs.Holdings.{Slots, is_full, slot_pointer}
+use Rattle.step_table.specs.Registers.{Slots, is_full, slot_pointer}
 use Rattle.step_table.specs.declared.memory.form.Form.{Form}
-use Rattle.step_threads.specs.Courses.{Walk, hand, idle, walk_settled, slots_idle, taken_idle}
-use Rattle.step_threads.specs.Doings.{Ahead, AnAct, AnEnd, Doing, DoesAhead, Over, ahead, ahead_of}
+use Rattle.step_threads.specs.Frames.{FrameView, hand, idle, frame_settled, slots_idle, taken_idle}
+use Rattle.step_threads.specs.TraceLabels.{Ahead, AnAct, AnEnd, TraceLabel, DoesAhead, Over, ahead, ahead_of}
 use Rattle.step_threads.specs.Rows.{row}
 use Rattle.step_threads.specs.declared.programs.act.Act.{Act}
 use Rattle.step_threads.specs.declared.programs.act.Act.TheVariants as act
@@ -41,10 +41,10 @@ idle_asks (act.Load c) l taken is = refl
 idle_asks (act.Compare k c weak) l taken is = refl
 idle_asks (act.OnShelf x) l taken is = refl
 
-pub settled_asks : (l : Slots) (taken : Bool) (es : List Ending) (ts : List Task) → asked_in (walk_settled l taken es ts).todo ≡ asked_in ts
+pub settled_asks : (l : Slots) (taken : Bool) (es : List Ending) (ts : List Task) → asked_in (frame_settled l taken es ts).todo ≡ asked_in ts
 settled_asks l taken es [] = refl
 settled_asks l taken es (t ∷ ts) =
-    cond_both (idle t.act l taken) (walk_settled (slots_idle t.act l taken) (taken_idle t.act taken) es ts)
+    cond_both (idle t.act l taken) (frame_settled (slots_idle t.act l taken) (taken_idle t.act taken) es ts)
     (record { slots = l; taken = taken; endings = es; todo = t ∷ ts }) (λ w. asked_in w.todo ≡ asked_in (t ∷ ts))
     (λ is. let no = idle_asks t.act l taken is in
     let ih = settled_asks (slots_idle t.act l taken) (taken_idle t.act taken) es ts in omega (arith, no, ih))
@@ -88,19 +88,19 @@ ahead_asks l (e ∷ es) ts us t is = go (is_full (slot_pointer l (hand l))) is
 
 module _ {V : Type 0} (worth : Form → V) where
   -- what a thread does, in the tasks that are left
-  pub record Steps (m : Walk) (x : Doing V) (u : Walk) : Type 0 where
+  pub record Steps (m : FrameView) (x : TraceLabel V) (u : FrameView) : Type 0 where
     pub makes : makes_of x.event + refuses x.said.answer + asked_in u.todo ≡ asked_in m.todo
     pub ends : ends_of x.event ≡ tells x.said.ended
     pub keeps : IfSome x.event KeepsDesks
 
-  pub does_at : (s : State) (m u : Walk) (x : Doing V) (a : Ahead) → ahead m ≡ a → DoesAhead worth s m x u a → Steps m x u
+  pub does_at : (s : State) (m u : FrameView) (x : TraceLabel V) (a : Ahead) → ahead m ≡ a → DoesAhead worth s m x u a → Steps m x u
   does_at s m u x Over is does = absurd does
   does_at s m u x (AnAct t ts) is does =
       let y = row t.act m.slots m.taken does.reply in
       let c = act_counts worth s x.desk m.slots m.taken t.act does.reply x.event does.makes in
       let a = ahead_asks m.slots m.endings m.todo ts t is in
       let left : asked_in u.todo ≡ asked_in ts =
-      ap (λ (w : Walk). asked_in w.todo) does.goes ∙ settled_asks y.slots y.taken _ ts in
+      ap (λ (w : FrameView). asked_in w.todo) does.goes ∙ settled_asks y.slots y.taken _ ts in
       let says : refuses x.said.answer ≡ refuses y.answer = ap (λ (z : Said). refuses z.answer) does.says in
       let made = c.makes in
       record {
@@ -109,7 +109,7 @@ module _ {V : Type 0} (worth : Form → V) where
         keeps = c.keeps;
       }
   does_at s m u x (AnEnd e es) is (inl c) =
-      let left : asked_in u.todo ≡ asked_in m.todo = ap (λ (w : Walk). asked_in w.todo) c.goes in
+      let left : asked_in u.todo ≡ asked_in m.todo = ap (λ (w : FrameView). asked_in w.todo) c.goes in
       let mild = mild_some x.event _ c.makes refl refl tt in
       let made = mild.makes in
       let says : refuses x.said.answer ≡ 0 = ap (λ (z : Said). refuses z.answer) c.says in
@@ -119,7 +119,7 @@ module _ {V : Type 0} (worth : Form → V) where
         keeps = mild.keeps;
       }
   does_at s m u x (AnEnd e es) is (inr c) =
-      let left : asked_in u.todo ≡ asked_in m.todo = ap (λ (w : Walk). asked_in w.todo) c.goes in
+      let left : asked_in u.todo ≡ asked_in m.todo = ap (λ (w : FrameView). asked_in w.todo) c.goes in
       let mild = mild_some x.event _ c.makes refl refl tt in
       let made = mild.makes in
       let says : refuses x.said.answer ≡ 0 = ap (λ (z : Said). refuses z.answer) c.says in

@@ -34,16 +34,16 @@ use Rattle.shared_handle.specs.declared.pile.Gone.{Gone}
 use Rattle.shared_handle.specs.declared.pile.Round.TheVariants.{Settled, Cleared, Ended}
 use Rattle.shared_handle.specs.declared.pile.Round.{Round}
 use Rattle.step_table.specs.Contents.{slot_of}
-use Rattle.step_table.specs.Deeds.{remains}
-use Rattle.step_table.specs.Holdings.{Slots, plain, slot_value}
+use Rattle.step_table.specs.AtomicSteps.{remains}
+use Rattle.step_table.specs.Registers.{Slots, plain, slot_value}
 use Rattle.step_table.specs.declared.memory.ended.Ended as said_end
 use Rattle.step_table.specs.declared.memory.form.Form.{Form}
 use Rattle.step_table.specs.declared.slots.slot.Slot.TheVariants.{Full}
-use Rattle.step_threads.specs.Courses.{hand as hand_of, walk_settled, Walk}
-use Rattle.step_threads.specs.Doings.{IsMakeEvent}
+use Rattle.step_threads.specs.Frames.{hand as hand_of, frame_settled, FrameView}
+use Rattle.step_threads.specs.TraceLabels.{IsMakeEvent}
 use Rattle.step_threads.specs.Endings.{staged}
 use Rattle.step_threads.specs.Rows as rows
-use Rattle.step_threads.specs.Rows.{walk_after_act, with_end}
+use Rattle.step_threads.specs.Rows.{frame_after_act, with_end}
 use Rattle.step_threads.specs.declared.programs.act.Act.TheVariants.{Leave}
 use Rattle.step_threads.specs.declared.programs.act.Task.{Task}
 use Rattle.step_threads.specs.declared.ending.Ending.{Ending}
@@ -56,8 +56,8 @@ record ByRound {V : Type 0} (worth : Form → V) (m k : ℕ) (t u : TableNow V) 
   pub piled : Piled k u.endings endings
   pub lines : List Said
   pub says : RoundSays k u.desk u.endings round lines
-  pub takes : (log : List Said) → TakesThread worth t.desk (walk_settled (shown_slots m t.slots) taken es todo) log u.desk
-      (walk_settled (shown_slots m u.slots) taken endings todo) (log ++ lines)
+  pub takes : (log : List Said) → TakesThread worth t.desk (frame_settled (shown_slots m t.slots) taken es todo) log u.desk
+      (frame_settled (shown_slots m u.slots) taken endings todo) (log ++ lines)
 
 module _ {V : Type 0} (worth : Form → V) (m i k : ℕ) (t u : TableNow V) (is : IsHand m i t) (same : u.slots ≡ t.slots)
     (taken : Bool) (todo : List Task) where
@@ -70,10 +70,10 @@ module _ {V : Type 0} (worth : Form → V) (m i k : ℕ) (t u : TableNow V) (is 
   few : hand_of slots < length slots
   few = let a = hand_is m i t is in let b = shown_many m t.slots is.many in let e = is.last in omega (arith, a, b, e)
 
-  abbrev walk_at : List Ending → Walk
-  walk_at es = walk_settled slots taken es todo
+  abbrev frame_at : List Ending → FrameView
+  frame_at es = frame_settled slots taken es todo
 
-  silent_lines : (d e : DeskNow V) (w v : Walk) → ((log : List Said) → TakesThread worth d w log e v log) → (log : List Said)
+  silent_lines : (d e : DeskNow V) (w v : FrameView) → ((log : List Said) → TakesThread worth d w log e v log) → (log : List Said)
       → TakesThread worth d w log e v (log ++ [])
   silent_lines d e w v takes log part n tells = subst (λ l. TellsThread worth part n e v l) (sym (append-nil log)) (takes log part n tells)
 
@@ -83,10 +83,10 @@ module _ {V : Type 0} (worth : Form → V) (m i k : ℕ) (t u : TableNow V) (is 
     none_gone : (q : Kind) (p : Option Place) (between : DeskNow V)
         → AddsEvent t.desk (event.ClearMember (latest_of t.desk top.block.0) j (handle_in between q None p)) between
         → (n : ℕ) → u.desk ≡ counting n between
-        → (log : List Said) → TakesThread worth t.desk (walk_at (f ∷ fs)) log u.desk (walk_at (staged f ∷ fs)) log
+        → (log : List Said) → TakesThread worth t.desk (frame_at (f ∷ fs)) log u.desk (frame_at (staged f ∷ fs)) log
     none_gone q p between adds n is log part name tells =
-        ending.by_quiet worth between u.desk (quietly between u.desk n is) (walk_at (staged f ∷ fs)) log part name
-        (subst (λ w. TellsThread worth part name between w log) (sym (ending.walk_is worth slots taken todo free few (staged f ∷ fs)))
+        ending.by_quiet worth between u.desk (quietly between u.desk n is) (frame_at (staged f ∷ fs)) log part name
+        (subst (λ w. TellsThread worth part name between w log) (sym (ending.frame_is worth slots taken todo free few (staged f ∷ fs)))
         (ending.clears worth slots taken todo free few t.desk between top.block.0 j (handle_in between q None p) adds top.value ends f fs
         (ap (λ b. b.0) block) stage low log part name tells))
 
@@ -97,8 +97,8 @@ module _ {V : Type 0} (worth : Form → V) (m i k : ℕ) (t u : TableNow V) (is 
         → ((l : Slots) → calls.HasPointer V between l (hand_of l) q c p
         → IsMakeEvent worth (calls.state_before_event V adds) between.name l (Leave (hand_of l)) (rows.Left last left) (Some v))
         → (log : List Said)
-        → TakesThread worth t.desk (walk_at (f ∷ fs)) log u.desk
-        (walk_at (with_end k (rows.ending_by last (Some (calls.pointer q c p))) (staged f ∷ fs)))
+        → TakesThread worth t.desk (frame_at (f ∷ fs)) log u.desk
+        (frame_at (with_end k (rows.ending_by last (Some (calls.pointer q c p))) (staged f ∷ fs)))
         (log ++ told_line record { statement = k; answer = None; ended = left })
     some_gone q c p between cleared v adds last left makes log part name tells =
         let out = ending.came_out t.desk between (latest_of t.desk top.block.0) j q c p cleared in
@@ -110,7 +110,7 @@ module _ {V : Type 0} (worth : Form → V) (m i k : ℕ) (t u : TableNow V) (is 
         ap (λ n. Full (calls.pointer q (record { 0 = n }) p)) (ending.block_before t.desk between _ j q c p cleared) in
         subst (λ s. TakesThread worth between
         (record { slots = filled; taken = rest.taken; endings = staged f ∷ fs; todo = rest.todo }) log u.desk
-        (walk_at (with_end s (rows.ending_by last (Some (calls.pointer q c p))) (staged f ∷ fs)))
+        (frame_at (with_end s (rows.ending_by last (Some (calls.pointer q c p))) (staged f ∷ fs)))
         (log ++ told_line record { statement = s; answer = None; ended = left })) statement
         (ending.hand_leaves worth slots taken todo free few between u.desk v adds q c p last left (makes filled) out.0 (staged f) fs log) part name
         (subst (λ x. TellsThread worth part name between
@@ -132,13 +132,13 @@ module _ {V : Type 0} (worth : Form → V) (m i k : ℕ) (t u : TableNow V) (is 
       (ends : IsEnding t.desk top.block.0 top.value) (j : ℕ) (stage : f.stage ≡ j) (low : j < 3) where
     abbrev MemberGone : Left V → Type 0
     MemberGone y = (log : List Said)
-        → TakesThread worth t.desk (walk_at (f ∷ fs)) log u.desk (walk_at (with_left y (staged f ∷ fs))) (log ++ left_lines y u.desk)
+        → TakesThread worth t.desk (frame_at (f ∷ fs)) log u.desk (frame_at (with_left y (staged f ∷ fs))) (log ++ left_lines y u.desk)
 
     shared_gone : (b : Option Block) (p : Option Place) (between : DeskNow V)
         → AddsEvent t.desk (event.ClearMember (latest_of t.desk top.block.0) j (handle_in between kind.Owner b p)) between
         → (y : Left V) → IsLeft between b p y u.desk → MemberGone y
     shared_gone b p between adds left.Empty leaves log =
-        silent_lines t.desk u.desk (walk_at (f ∷ fs)) (walk_at (staged f ∷ fs))
+        silent_lines t.desk u.desk (frame_at (f ∷ fs)) (frame_at (staged f ∷ fs))
         (none_gone f fs top block statement ends j stage low kind.Owner p between
         (subst (λ x. AddsEvent t.desk (event.ClearMember (latest_of t.desk top.block.0) j (handle_in between kind.Owner x p)) between) leaves.0 adds)
         (between.held - 1) leaves.1) log
@@ -152,7 +152,7 @@ module _ {V : Type 0} (worth : Form → V) (m i k : ℕ) (t u : TableNow V) (is 
         let cleared = subst (λ x. AddsEvent t.desk (event.ClearMember (latest_of t.desk top.block.0) j (handle_in between kind.Owner x p)) between)
         leaves.0 adds in
         let has = (ending.came_out t.desk between (latest_of t.desk top.block.0) j kind.Owner x.block p cleared).0 in
-        subst (λ r. TakesThread worth t.desk (walk_at (f ∷ fs)) log u.desk (walk_at (with_left (left.Last x) (staged f ∷ fs)))
+        subst (λ r. TakesThread worth t.desk (frame_at (f ∷ fs)) log u.desk (frame_at (with_left (left.Last x) (staged f ∷ fs)))
         (log ++ record { statement = k; answer = None; ended = Some r } ∷ []))
         (remains_kept between u.desk _ leaves.1 kind.Owner p x.block.0 has)
         (some_gone f fs top block statement ends j stage low kind.Owner x.block p between cleared
@@ -169,14 +169,14 @@ module _ {V : Type 0} (worth : Form → V) (m i k : ℕ) (t u : TableNow V) (is 
         → (vacant : Bool) → LeavesWeakly between b p vacant u.desk → (y : Left V) → IsGone b y → MemberGone y
     weak_gone b p between adds vacant leaves (left.Last x) gone log = absurd gone
     weak_gone b p between adds vacant leaves left.Empty gone log =
-        silent_lines t.desk u.desk (walk_at (f ∷ fs)) (walk_at (staged f ∷ fs))
+        silent_lines t.desk u.desk (frame_at (f ∷ fs)) (frame_at (staged f ∷ fs))
         (none_gone f fs top block statement ends j stage low kind.Weak p between
         (subst (λ x. AddsEvent t.desk (event.ClearMember (latest_of t.desk top.block.0) j (handle_in between kind.Weak x p)) between) gone adds)
         (between.held - 1) (subst (λ x. LeavesWeakly between x p vacant u.desk) gone leaves).0) log
     weak_gone b p between adds vacant leaves left.Others gone log =
         let c = gone.0 in
         let left = subst (λ x. LeavesWeakly between x p vacant u.desk) gone.1 leaves in
-        subst (λ es. TakesThread worth t.desk (walk_at (f ∷ fs)) log u.desk (walk_at es) (log ++ [])) (weak_end vacant c p (staged f ∷ fs))
+        subst (λ es. TakesThread worth t.desk (frame_at (f ∷ fs)) log u.desk (frame_at es) (log ++ [])) (weak_end vacant c p (staged f ∷ fs))
         (some_gone f fs top block statement ends j stage low kind.Weak c p between
         (subst (λ x. AddsEvent t.desk (event.ClearMember (latest_of t.desk top.block.0) j (handle_in between kind.Weak x p)) between) gone.1 adds)
         (event.WeakLeave (on_latest between kind.Weak p c.0) vacant) left vacant None
@@ -185,7 +185,7 @@ module _ {V : Type 0} (worth : Form → V) (m i k : ℕ) (t u : TableNow V) (is 
   member_gone : (f : Ending) (fs : List Ending) (top : pile.Ending V) → f.block ≡ top.block → f.statement ≡ k → IsEnding t.desk top.block.0 top.value
       → (q : Member) → f.stage ≡ stage_of q → (y : Left V) → IsClearing t.desk top q y u.desk
       → (log : List Said)
-      → TakesThread worth t.desk (walk_at (f ∷ fs)) log u.desk (walk_at (with_left y (staged f ∷ fs))) (log ++ left_lines y u.desk)
+      → TakesThread worth t.desk (frame_at (f ∷ fs)) log u.desk (frame_at (with_left y (staged f ∷ fs))) (log ++ left_lines y u.desk)
   member_gone f fs top block statement ends First stage y c =
       shared_gone f fs top block statement ends 0 stage (omega arith) c.0.block c.0.place c.0.between c.0.takes.event y c.0.leaves
   member_gone f fs top block statement ends Next stage y c =
@@ -221,9 +221,9 @@ module _ {V : Type 0} (worth : Form → V) (m i k : ℕ) (t u : TableNow V) (is 
         piled = subst (λ xs. Piled k xs es) (r.0 ∙ sym r.1) p;
         lines = [];
         says = refl;
-        takes = λ log. silent_lines t.desk u.desk (walk_at es) _
-            (λ log part n tells. subst (λ ss. TellsThread worth part n u.desk (walk_settled (shown_slots m ss) taken es todo) log) (sym same)
-            (ending.by_quiet worth t.desk u.desk (stayed t.desk u.desk r.2) (walk_at es) log part n tells)) log;
+        takes = λ log. silent_lines t.desk u.desk (frame_at es) _
+            (λ log part n tells. subst (λ ss. TellsThread worth part n u.desk (frame_settled (shown_slots m ss) taken es todo) log) (sym same)
+            (ending.by_quiet worth t.desk u.desk (stayed t.desk u.desk r.2) (frame_at es) log part n tells)) log;
       }
   goes_by_round all (Cleared q gone) c [] p = absurd (some_last c.below c.top (sym p ∙ c.were))
   goes_by_round all (Cleared q gone) c (f ∷ fs) p =
@@ -239,8 +239,8 @@ module _ {V : Type 0} (worth : Form → V) (m i k : ℕ) (t u : TableNow V) (is 
             (piled_then c.below c.top q f fs c.left block p.4 next.1 rest (clearing_starts t.desk u.desk c.top q c.left c.clears));
         lines = left_lines c.left u.desk;
         says = round_says q gone c;
-        takes = λ log. subst (λ ss. TakesThread worth t.desk (walk_at (f ∷ fs)) log u.desk
-            (walk_settled (shown_slots m ss) taken (with_left c.left (staged f ∷ fs)) todo) (log ++ left_lines c.left u.desk)) (sym same)
+        takes = λ log. subst (λ ss. TakesThread worth t.desk (frame_at (f ∷ fs)) log u.desk
+            (frame_settled (shown_slots m ss) taken (with_left c.left (staged f ∷ fs)) todo) (log ++ left_lines c.left u.desk)) (sym same)
             (member_gone f fs c.top block p.4 ends q next.0 c.left c.clears log);
       }
   goes_by_round all (Ended v) c [] p = absurd (some_last u.endings c.top (sym p ∙ c.were))
@@ -254,8 +254,8 @@ module _ {V : Type 0} (worth : Form → V) (m i k : ℕ) (t u : TableNow V) (is 
         piled = subst (λ xs. Piled k xs fs) (sym parts.0) p.6;
         lines = [];
         says = refl;
-        takes = λ log. silent_lines t.desk u.desk (walk_at (f ∷ fs)) _
-            (λ log part n tells. subst (λ ss. TellsThread worth part n u.desk (walk_settled (shown_slots m ss) taken fs todo) log) (sym same)
+        takes = λ log. silent_lines t.desk u.desk (frame_at (f ∷ fs)) _
+            (λ log part n tells. subst (λ ss. TellsThread worth part n u.desk (frame_settled (shown_slots m ss) taken fs todo) log) (sym same)
             (ending.finishes worth slots taken todo free few t.desk u.desk c.top.block.0 c.finish.vacant v c.finish.event c.top.value ends f fs
             (ap (λ (b : Block). b.0) block) (all_clear c.top f.stage at c.finish.clear) log part n tells)) log;
       }

@@ -19,9 +19,9 @@ use Rattle.script_runner.specs.Calls.{HasPointer}
 use Rattle.script_runner.specs.Seats.{IsHand, IsQuiet, as_slot, shown_slots}
 use Rattle.shared_handle.specs.Calls.{counting}
 use Rattle.step_table.specs.Contents.{slot_by}
-use Rattle.step_table.specs.Holdings.{pointer_of, slot_pointer, slot_value}
+use Rattle.step_table.specs.Registers.{pointer_of, slot_pointer, slot_value}
 use Rattle.step_table.specs.declared.slots.slot.Slot.{Slot}
-use Rattle.step_threads.specs.Courses.{hand}
+use Rattle.step_threads.specs.Frames.{hand}
 
 abbrev or_else : {A : Type 0} → A → Option A → A
 or_else a None = a

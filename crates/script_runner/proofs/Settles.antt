@@ -16,11 +16,11 @@ use Rattle.shared_handle.specs.declared.endings.Ending as pile
 use Rattle.shared_handle.specs.declared.pile.Gone.TheVariants as gone
 use Rattle.shared_handle.specs.declared.pile.Round.TheVariants.{Settled, Cleared, Ended}
 use Rattle.shared_handle.specs.declared.pile.Round.{Round}
-use Rattle.step_table.specs.Deeds.{remains}
+use Rattle.step_table.specs.AtomicSteps.{remains}
 use Rattle.step_table.specs.declared.memory.ended.Ended as ended
 use Rattle.step_threads.specs.Acts.{tasks_from}
-use Rattle.step_threads.specs.Courses.{walk_settled}
-use Rattle.step_threads.specs.Interleavings.{first_walk, no_slots}
+use Rattle.step_threads.specs.Frames.{frame_settled}
+use Rattle.step_threads.specs.Interleavings.{first_frame, no_slots}
 use Rattle.step_threads.specs.Programs.{Part}
 use Rattle.step_threads.specs.declared.programs.act.Task.{Task}
 use Rattle.step_threads.specs.declared.said.Said.{Said}
@@ -54,8 +54,8 @@ module _ (hand k : ℕ) (t u : TableNow ℕ) (taken : Bool) (s : IsHandOfTable h
       let x = rounds field_0 (hand + 1) hand k t u (in_seat hand t s) same s.ends round r es p in (
         x.endings,
         x.piled,
-        λ todo. subst (λ l. TakesThread field_0 t.desk (walk_settled (thread_slots hand t) taken es todo) log u.desk
-            (walk_settled (thread_slots hand u) taken x.endings todo) l)
+        λ todo. subst (λ l. TakesThread field_0 t.desk (frame_settled (thread_slots hand t) taken es todo) log u.desk
+            (frame_settled (thread_slots hand u) taken x.endings todo) l)
             (ap (λ l. log ++ l) (round_line k u round e x.lines x.says is) ∙ sym more) (x.takes taken todo log),
       )
 
@@ -73,8 +73,8 @@ pub all_ended : (hand k : ℕ) (t u : TableNow ℕ) (taken : Bool) (log lines : 
     → IsSettledBy hand k taken t log u lines
 all_ended hand k t u taken log lines x none es p todo =
     let a = x es p in
-    subst (λ fs. TakesThread field_0 t.desk (walk_settled (thread_slots hand t) taken es todo) log u.desk
-    (walk_settled (thread_slots hand u) taken fs todo) lines)
+    subst (λ fs. TakesThread field_0 t.desk (frame_settled (thread_slots hand t) taken es todo) log u.desk
+    (frame_settled (thread_slots hand u) taken fs todo) lines)
     (none_piled k u.endings a.0 a.1 none) (a.2 todo)
 
 -- an act, and what ended by it
@@ -83,7 +83,7 @@ pub then_settled : (hand k : ℕ) (t v u : TableNow ℕ) (taken takes : Bool) (t
     → (todo : List Task) → GoesOnWith hand t taken (ts ++ todo) log u takes todo lines
 then_settled hand k t v u taken takes ts log more lines said on is s todo part n tells =
     s on.endings on.piled todo part n
-    (subst (λ l. TellsThread field_0 part n v.desk (walk_settled (thread_slots hand v) takes on.endings todo) l) (sym is) (on.goes todo log part n tells))
+    (subst (λ l. TellsThread field_0 part n v.desk (frame_settled (thread_slots hand v) takes on.endings todo) l) (sym is) (on.goes todo log part n tells))
 
 pub played : (hand : ℕ) (part : Part) (t v u : TableNow ℕ) (taken : Bool) (tasks : List Task) (lines : List Said)
     → hand ≡ length part.kinds + 1 → tasks ≡ tasks_from 1 part.calls (length part.kinds)
@@ -92,12 +92,12 @@ pub played : (hand : ℕ) (part : Part) (t v u : TableNow ℕ) (taken : Bool) (t
     → PlaysThread field_0 part t u lines
 played hand part t v u taken tasks lines seat is quiet names goes shape bare none =
     record {
-      last = walk_settled (thread_slots hand u) taken [] [];
+      last = frame_settled (thread_slots hand u) taken [] [];
       shape = shape;
       takes = λ p n tells. goes p n
           (subst (λ w. TellsThread field_0 p n v.desk w [])
-          (λ j. walk_settled (sym names j) false [] (sym is j))
-          (by_quiet field_0 t.desk v.desk quiet (first_walk part) [] p n tells));
+          (λ j. frame_settled (sym names j) false [] (sym is j))
+          (by_quiet field_0 t.desk v.desk quiet (first_frame part) [] p n tells));
       over = refl;
       bare = bare;
       settled = none;

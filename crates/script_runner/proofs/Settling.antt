@@ -3,8 +3,8 @@ use Rattle.std.proofs.Common.{◌≡◌, ℕ, zero, suc, Bool, true, false, cond
 use Rattle.std.proofs.lemmas.Bool.{cond-false, cond_both}
 use Rattle.std.proofs.lemmas.List.{length-set}
 use Rattle.std.specs.Prelude.{slice_set}
-use Rattle.step_table.specs.Holdings.{Slots, plain, slot_value}
-use Rattle.step_threads.specs.Courses.{Walk, hand, idle, other, placed, walk_settled, slots_idle, taken_idle}
+use Rattle.step_table.specs.Registers.{Slots, plain, slot_value}
+use Rattle.step_threads.specs.Frames.{FrameView, hand, idle, other, placed, frame_settled, slots_idle, taken_idle}
 use Rattle.step_threads.specs.declared.programs.act.Act.TheVariants.{Make, Share, Downgrade, Lock, Put, Leave, Clear, Count, Expired, Read, FromThis, Alias}
 use Rattle.step_threads.specs.declared.programs.act.Act.TheVariants.{Move, Ask, Offer, Swap, Exchange, Load, Compare, Drop, OnShelf}
 use Rattle.step_threads.specs.declared.programs.act.Act.{Act}
@@ -12,30 +12,30 @@ use Rattle.step_threads.specs.declared.programs.act.Task.{Task}
 use Rattle.step_threads.specs.declared.ending.Ending.{Ending}
 
 -- one of two walks, with these endings or none
-either : (b : Bool) (es : List Ending) (f g : List Ending → Walk) → f es ≡ record (f []) { endings = es } → g es ≡ record (g []) { endings = es }
+either : (b : Bool) (es : List Ending) (f g : List Ending → FrameView) → f es ≡ record (f []) { endings = es } → g es ≡ record (g []) { endings = es }
     → cond b (f es) (g es) ≡ record (cond b (f []) (g [])) { endings = es }
 either true es f g p q = p
 either false es f g p q = q
 
 -- a settled walk with other endings
 pub with_endings : (l : Slots) (taken : Bool) (es : List Ending) (ts : List Task)
-    → walk_settled l taken es ts ≡ record (walk_settled l taken [] ts) { endings = es }
+    → frame_settled l taken es ts ≡ record (frame_settled l taken [] ts) { endings = es }
 with_endings l taken es [] = refl
 with_endings l taken es (t ∷ ts) =
-    either (idle t.act l taken) es (λ e. walk_settled (slots_idle t.act l taken) (taken_idle t.act taken) e ts)
+    either (idle t.act l taken) es (λ e. frame_settled (slots_idle t.act l taken) (taken_idle t.act taken) e ts)
     (λ e. record { slots = l; taken = taken; endings = e; todo = t ∷ ts })
     (with_endings (slots_idle t.act l taken) (taken_idle t.act taken) es ts) refl
 
 -- a settled walk is settled
 pub settled_again : (l : Slots) (taken : Bool) (es fs : List Ending) (ts : List Task)
-    → let w = walk_settled l taken es ts in walk_settled w.slots w.taken fs w.todo ≡ record w { endings = fs }
+    → let w = frame_settled l taken es ts in frame_settled w.slots w.taken fs w.todo ≡ record w { endings = fs }
 settled_again l taken es fs [] = refl
 settled_again l taken es fs (t ∷ ts) =
-    cond_both (idle t.act l taken) (walk_settled (slots_idle t.act l taken) (taken_idle t.act taken) es ts)
+    cond_both (idle t.act l taken) (frame_settled (slots_idle t.act l taken) (taken_idle t.act taken) es ts)
     (record { slots = l; taken = taken; endings = es; todo = t ∷ ts })
-    (λ (w : Walk). walk_settled w.slots w.taken fs w.todo ≡ record w { endings = fs })
+    (λ (w : FrameView). frame_settled w.slots w.taken fs w.todo ≡ record w { endings = fs })
     (λ is. settled_again (slots_idle t.act l taken) (taken_idle t.act taken) es fs ts)
-    (λ is. cond-false (idle t.act l taken) (walk_settled (slots_idle t.act l taken) (taken_idle t.act taken) fs ts)
+    (λ is. cond-false (idle t.act l taken) (frame_settled (slots_idle t.act l taken) (taken_idle t.act taken) fs ts)
     (record { slots = l; taken = taken; endings = fs; todo = t ∷ ts }) is)
 
 -- a slot that is empty stays so where another is made so
@@ -89,18 +89,18 @@ idle_empty (Load c) l taken e = record { many = refl; hand = e }
 idle_empty (OnShelf x) l taken e = record { many = refl; hand = e }
 
 pub settled_empty : (l : Slots) (taken : Bool) (es : List Ending) (ts : List Task) → slot_value l (hand l) ≡ plain
-    → Empty l (walk_settled l taken es ts).slots
+    → Empty l (frame_settled l taken es ts).slots
 settled_empty l taken es [] e = record { many = refl; hand = e }
 settled_empty l taken es (t ∷ ts) e =
     let x = idle_empty t.act l taken e in
     let h : hand (slots_idle t.act l taken) ≡ hand l = ap (λ n. n - 1) x.many in
     let y = settled_empty (slots_idle t.act l taken) (taken_idle t.act taken) es ts
     (ap (λ n. slot_value (slots_idle t.act l taken) n) h ∙ x.hand) in
-    cond_both (idle t.act l taken) (walk_settled (slots_idle t.act l taken) (taken_idle t.act taken) es ts)
+    cond_both (idle t.act l taken) (frame_settled (slots_idle t.act l taken) (taken_idle t.act taken) es ts)
     (record { slots = l; taken = taken; endings = es; todo = t ∷ ts })
-    (λ (w : Walk). Empty l w.slots)
+    (λ (w : FrameView). Empty l w.slots)
     (λ is. record {
       many = y.many ∙ x.many;
-      hand = ap (λ n. slot_value (walk_settled (slots_idle t.act l taken) (taken_idle t.act taken) es ts).slots n) (sym h) ∙ y.hand;
+      hand = ap (λ n. slot_value (frame_settled (slots_idle t.act l taken) (taken_idle t.act taken) es ts).slots n) (sym h) ∙ y.hand;
     })
     (λ is. record { many = refl; hand = e })

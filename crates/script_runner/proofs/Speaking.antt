@@ -10,13 +10,13 @@ use Rattle.control_word.specs.declared.model.event.Entry.{Entry}
 use Rattle.script_runner.proofs.Logging.{own_said, said_append}
 use Rattle.script_runner.proofs.Summing.{line_tells, told_append}
 use Rattle.script_runner.specs.Totals.{told_in}
-use Rattle.step_table.specs.Holdings.{Slots, is_full, slot_pointer}
+use Rattle.step_table.specs.Registers.{Slots, is_full, slot_pointer}
 use Rattle.step_table.specs.declared.memory.ended.Ended.{Ended}
 use Rattle.step_table.specs.declared.memory.form.Form.{Form}
 use Rattle.step_threads.specs.Acts.{tasks_from}
-use Rattle.step_threads.specs.Courses.{Walk, hand, idle, slots_idle, taken_idle, walk_settled}
-use Rattle.step_threads.specs.Doings.{Ahead, AnAct, AnEnd, Doing, DoesAhead, GoesThrough, Over, ahead, ahead_of, lines, onto, spoken}
-use Rattle.step_threads.specs.Interleavings.{Marked, first_walk, no_slots, said_on}
+use Rattle.step_threads.specs.Frames.{FrameView, hand, idle, slots_idle, taken_idle, frame_settled}
+use Rattle.step_threads.specs.TraceLabels.{Ahead, AnAct, AnEnd, TraceLabel, DoesAhead, GoesThrough, Over, ahead, ahead_of, lines, onto, spoken}
+use Rattle.step_threads.specs.Interleavings.{Marked, first_frame, no_slots, said_on}
 use Rattle.step_threads.specs.Programs.{Part}
 use Rattle.step_threads.specs.Rows.{Left, Reply, row, with_end}
 use Rattle.step_threads.specs.declared.ending.Ending.{Ending}
@@ -46,10 +46,10 @@ line_short (Some a) None x = omega arith
 line_short (Some a) (Some e) x = omega arith
 
 -- of tasks that are passed over none comes again
-settled_fewer : (l : Slots) (taken : Bool) (es : List Ending) (ts : List Task) → length (walk_settled l taken es ts).todo ≤ length ts
+settled_fewer : (l : Slots) (taken : Bool) (es : List Ending) (ts : List Task) → length (frame_settled l taken es ts).todo ≤ length ts
 settled_fewer l taken es [] = omega arith
 settled_fewer l taken es (t ∷ ts) =
-    cond_both (idle t.act l taken) (walk_settled (slots_idle t.act l taken) (taken_idle t.act taken) es ts)
+    cond_both (idle t.act l taken) (frame_settled (slots_idle t.act l taken) (taken_idle t.act taken) es ts)
     (record { slots = l; taken = taken; endings = es; todo = t ∷ ts }) (λ w. length w.todo ≤ length (t ∷ ts))
     (λ is. let ih = settled_fewer (slots_idle t.act l taken) (taken_idle t.act taken) es ts in omega (arith, ih))
     (λ is. omega arith)
@@ -91,7 +91,7 @@ ahead_takes l (e ∷ es) ts us t taken r is = go (is_full (slot_pointer l (hand 
         let c = leave_silent (hand l) l taken r in omega (arith, a, b, c)
     go false is = absurd cc
 
-first_fewer : (part : Part) → length (first_walk part).todo ≤ length (tasks_of part)
+first_fewer : (part : Part) → length (first_frame part).todo ≤ length (tasks_of part)
 first_fewer part = settled_fewer (no_slots (length part.kinds)) false [] (tasks_of part)
 
 -- what another says is passed
@@ -100,29 +100,29 @@ passed_over n d x true ne = cond-false (d == n) (x ∷ []) [] (ne_eqb d n ne)
 passed_over n d x false ne = refl
 
 module _ {V : Type 0} where
-  does_briefly : (worth : Form → V) (s : State) (m u : Walk) (x : Doing V) (a : Ahead) → ahead m ≡ a → DoesAhead worth s m x u a
+  does_briefly : (worth : Form → V) (s : State) (m u : FrameView) (x : TraceLabel V) (a : Ahead) → ahead m ≡ a → DoesAhead worth s m x u a
       → answers x.said.answer + length u.todo ≤ length m.todo
   does_briefly worth s m u x Over is does = absurd does
   does_briefly worth s m u x (AnAct t ts) is does =
       let y = row t.act m.slots m.taken does.reply in
       let a = ahead_takes m.slots m.endings m.todo ts t m.taken does.reply is in
       let es = with_end t.statement y.ending m.endings in
-      let left : length u.todo ≡ length (walk_settled y.slots y.taken es ts).todo = ap (λ (w : Walk). length w.todo) does.goes in
+      let left : length u.todo ≡ length (frame_settled y.slots y.taken es ts).todo = ap (λ (w : FrameView). length w.todo) does.goes in
       let few = settled_fewer y.slots y.taken es ts in
       let says : answers x.said.answer ≡ answers y.answer = ap (λ (z : Said). answers z.answer) does.says in
       omega (arith, a, left, few, says)
   does_briefly worth s m u x (AnEnd e es) is (inl c) =
-      let left : length u.todo ≡ length m.todo = ap (λ (w : Walk). length w.todo) c.goes in
+      let left : length u.todo ≡ length m.todo = ap (λ (w : FrameView). length w.todo) c.goes in
       let says : answers x.said.answer ≡ 0 = ap (λ (z : Said). answers z.answer) c.says in omega (arith, left, says)
   does_briefly worth s m u x (AnEnd e es) is (inr c) =
-      let left : length u.todo ≡ length m.todo = ap (λ (w : Walk). length w.todo) c.goes in
+      let left : length u.todo ≡ length m.todo = ap (λ (w : FrameView). length w.todo) c.goes in
       let says : answers x.said.answer ≡ 0 = ap (λ (z : Said). answers z.answer) c.says in omega (arith, left, says)
 
-  module _ (worth : Form → V) (z : Opening) (n : ℕ) (w : Walk) where
+  module _ (worth : Form → V) (z : Opening) (n : ℕ) (w : FrameView) where
     -- each line takes a task, or tells of an object that ends
-    pub lines_few : (l : List (Doing V)) (u : Walk) → GoesThrough worth z [] n w l u
+    pub lines_few : (l : List (TraceLabel V)) (u : FrameView) → GoesThrough worth z [] n w l u
         → length (said_on n (lines l)) + length u.todo ≤ length w.todo + told_in (said_on n (lines l))
-    lines_few [] u goes = let left : length u.todo ≡ length w.todo = ap (λ (x : Walk). length x.todo) goes in omega (arith, left)
+    lines_few [] u goes = let left : length u.todo ≡ length w.todo = ap (λ (x : FrameView). length x.todo) goes in omega (arith, left)
     lines_few (x ∷ l) u (inl goes) =
         let ih = lines_few l u goes.1 in
         let y = x.said in
@@ -151,6 +151,6 @@ module _ {V : Type 0} where
   pub marked_few : (worth : Form → V) (z : Opening) (h : List (Entry V)) (n : ℕ) (part : Part) (l : List Said)
       → Marked worth z h n part l → length l ≤ length (tasks_of part) + told_in l
   marked_few worth z h n part l m =
-      let few = lines_few worth z n (first_walk part) m.doings m.last m.goes in
+      let few = lines_few worth z n (first_frame part) m.trace_labels m.last m.goes in
       let a = ap length m.says in let b = ap told_in m.says in
       let first = first_fewer part in omega (arith, few, a, b, first)

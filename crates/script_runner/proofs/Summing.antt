@@ -20,11 +20,11 @@ use Rattle.script_runner.specs.Totals.{asked_in, count_ended_by, count_ended_in,
 use Rattle.step_table.specs.declared.memory.ended.Ended.{Ended}
 use Rattle.step_table.specs.declared.memory.form.Form.{Form}
 use Rattle.step_threads.specs.Acts.{tasks_from}
-use Rattle.step_table.specs.Holdings.{Slots, is_full, slot_pointer}
-use Rattle.step_threads.specs.Courses.{Walk, hand}
+use Rattle.step_table.specs.Registers.{Slots, is_full, slot_pointer}
+use Rattle.step_threads.specs.Frames.{FrameView, hand}
 use Rattle.step_threads.specs.declared.programs.act.Act.TheVariants as act
-use Rattle.step_threads.specs.Doings.{AnAct, AnEnd, Doing, GoesThrough, Over, ahead, ahead_of, lines, onto, put_on, spoken}
-use Rattle.step_threads.specs.Interleavings.{IsSplitOrJoin, Marked, first_walk, no_slots, said_on}
+use Rattle.step_threads.specs.TraceLabels.{AnAct, AnEnd, TraceLabel, GoesThrough, Over, ahead, ahead_of, lines, onto, put_on, spoken}
+use Rattle.step_threads.specs.Interleavings.{IsSplitOrJoin, Marked, first_frame, no_slots, said_on}
 use Rattle.step_threads.specs.Programs.{Part}
 use Rattle.step_threads.specs.declared.programs.act.Task.{Task}
 use Rattle.step_threads.specs.declared.ending.Ending.{Ending}
@@ -130,15 +130,15 @@ module _ {V : Type 0} where
   keeps_on n d None h new keeps = keeps
   keeps_on n d (Some v) h new keeps = (new, keeps)
 
-  record Tallied (n : ℕ) (w : Walk) (l : List (Doing V)) (u : Walk) : Type 0 where
+  record Tallied (n : ℕ) (w : FrameView) (l : List (TraceLabel V)) (u : FrameView) : Type 0 where
     pub made : made_by n (onto [] l) + refused_in (said_on n (lines l)) + asked_in u.todo ≡ asked_in w.todo
     pub ended : count_ended_by n (onto [] l) ≡ told_in (said_on n (lines l))
     pub keeps : KeepsAt n (onto [] l)
 
-  module _ (worth : Form → V) (z : Opening) (n : ℕ) (w : Walk) where
-    tallied : (l : List (Doing V)) (u : Walk) → GoesThrough worth z [] n w l u → Tallied n w l u
+  module _ (worth : Form → V) (z : Opening) (n : ℕ) (w : FrameView) where
+    tallied : (l : List (TraceLabel V)) (u : FrameView) → GoesThrough worth z [] n w l u → Tallied n w l u
     tallied [] u goes =
-        let left : asked_in u.todo ≡ asked_in w.todo = ap (λ (x : Walk). asked_in x.todo) goes in
+        let left : asked_in u.todo ≡ asked_in w.todo = ap (λ (x : FrameView). asked_in x.todo) goes in
         record { made = omega (arith, left); ended = refl; keeps = tt }
     tallied (x ∷ l) u (inl goes) =
         let ih = tallied l u goes.1 in
@@ -182,8 +182,8 @@ module _ {V : Type 0} where
         }
 
   module _ (worth : Form → V) (z : Opening) (h : List (Entry V)) (n : ℕ) (part : Part) (l : List Said) (m : Marked worth z h n part l) where
-    all : Tallied n (first_walk part) m.doings m.last
-    all = tallied worth z n (first_walk part) m.doings m.last m.goes
+    all : Tallied n (first_frame part) m.trace_labels m.last
+    all = tallied worth z n (first_frame part) m.trace_labels m.last m.goes
 
     -- a thread made as many objects as its tasks ask for, but those that were refused
     pub marked_made : made_by n h + refused_in l ≡ asked_in (tasks_from 1 part.calls (length part.kinds))

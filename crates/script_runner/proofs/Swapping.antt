@@ -18,9 +18,9 @@ use Rattle.script_runner.specs.Deals.{IsDealt, IsThird, field_0, thread_slots}
 use Rattle.script_runner.specs.Seats.{Acts, Done, IsQuiet, IsSeated, as_slot, shown_slots}
 use Rattle.step_table.specs.Contents as contents
 use Rattle.step_table.specs.Contents.{is_of}
-use Rattle.step_table.specs.Holdings.{Slots, plain, slot_value}
+use Rattle.step_table.specs.Registers.{Slots, plain, slot_value}
 use Rattle.step_table.specs.declared.slots.slot.Slot.{Slot}
-use Rattle.step_threads.specs.Courses.{hand as hand_of, idle, other as other_of}
+use Rattle.step_threads.specs.Frames.{hand as hand_of, idle, other as other_of}
 use Rattle.step_threads.specs.Programs.{kind_at}
 use Rattle.step_threads.specs.Rows.{Came, may_go}
 use Rattle.step_threads.specs.declared.programs.act.Act.TheVariants as act

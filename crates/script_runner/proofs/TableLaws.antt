@@ -11,8 +11,8 @@ use Rattle.script_runner.specs.Seats.{IsHand, IsSeated, shown_slots}
 use Rattle.script_runner.specs.TableCalls.{AlikeIn, CountsIn, EmptiesIn, ExpiresIn, MarksOrder, MovesIn, PlacesIn, PutsIdle, PutsIn, ReadsIn, ReadsNot}
 use Rattle.script_runner.specs.TableCalls.{ResetsIn, ThisIn, ThisNot, WeakThisIn}
 use Rattle.shared_handle.specs.Endings.{WhyNotThis}
-use Rattle.step_table.specs.Holdings.{plain, slot_pointer}
-use Rattle.step_threads.specs.Courses.{other}
+use Rattle.step_table.specs.Registers.{plain, slot_pointer}
+use Rattle.step_threads.specs.Frames.{other}
 use Rattle.step_threads.specs.Rows as rows
 use Rattle.step_threads.specs.declared.programs.act.Act.TheVariants as act
 

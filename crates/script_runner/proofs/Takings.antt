@@ -23,12 +23,12 @@ use Rattle.script_runner.specs.Seats.{Acts, Done, IsHand, IsQuiet, as_slot, show
 use Rattle.script_runner.specs.TableCalls.{AliasesIn, CopiesIn, DowngradesIn}
 use Rattle.shared_handle.specs.Calls as inner
 use Rattle.step_table.specs.Contents.{slot_by}
-use Rattle.step_table.specs.Deeds.{aliased, as_weak}
-use Rattle.step_table.specs.Holdings.{filled, owner_slot, place_in, slot_pointer, slot_value}
+use Rattle.step_table.specs.AtomicSteps.{aliased, as_weak}
+use Rattle.step_table.specs.Registers.{filled, owner_slot, place_in, slot_pointer, slot_value}
 use Rattle.step_table.specs.declared.memory.field.Field.{Field}
 use Rattle.step_table.specs.declared.memory.form.Form.{Form}
-use Rattle.step_table.specs.declared.slots.holdings.Pointer.{Pointer}
-use Rattle.step_threads.specs.Doings.{copy, copies}
+use Rattle.step_table.specs.declared.slots.registers.Pointer.{Pointer}
+use Rattle.step_threads.specs.TraceLabels.{copy, copies}
 use Rattle.step_threads.specs.Rows.{Plain, alias_of}
 use Rattle.step_threads.specs.declared.programs.act.Act.TheVariants as act
 

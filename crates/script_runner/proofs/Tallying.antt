@@ -13,15 +13,15 @@ use Rattle.control_word.specs.declared.place.Block.{Block}
 use Rattle.control_word.specs.declared.place.Place.{Place}
 use Rattle.control_word.specs.declared.refusal.Refusal.TheVariants.{Full, NotEnabled}
 use Rattle.script_runner.specs.Totals.{objects_asked, ends, makes, refuses}
-use Rattle.step_table.specs.Deeds.{aliased, is_enabled, owned}
-use Rattle.step_table.specs.Holdings.{Slots, inside, is_full, owner_slot, place_in, slot_pointer, weak_slot}
+use Rattle.step_table.specs.AtomicSteps.{aliased, is_enabled, owned}
+use Rattle.step_table.specs.Registers.{Slots, inside, is_full, owner_slot, place_in, slot_pointer, weak_slot}
 use Rattle.step_table.specs.declared.memory.ended.Ended.{Ended}
 use Rattle.step_table.specs.declared.memory.form.Form.{Form}
-use Rattle.step_table.specs.declared.slots.holdings.Pointer.{Pointer}
-use Rattle.step_threads.specs.Courses.{hand, is_there, offered, other}
-use Rattle.step_threads.specs.Doings.{IsLeaveEvent, IsMakeEvent, IsLoadEvent, On, IsSwapEvent, Where, copies, copy, leaves_as}
+use Rattle.step_table.specs.declared.slots.registers.Pointer.{Pointer}
+use Rattle.step_threads.specs.Frames.{hand, is_there, offered, other}
+use Rattle.step_threads.specs.TraceLabels.{IsLeaveEvent, IsMakeEvent, IsLoadEvent, On, IsSwapEvent, Where, copies, copy, leaves_as}
 use Rattle.step_threads.specs.Rows.{Came, Compared, Found, Got, Left, Plain, Reply, Told, asked, may_go, not_given, row, lock_answer, outside, refusal}
-use Rattle.step_threads.specs.Scenes.{remains_as}
+use Rattle.step_threads.specs.AbstractStates.{remains_as}
 use Rattle.step_threads.specs.declared.programs.act.Act.{Act}
 use Rattle.step_threads.specs.declared.programs.act.Act.TheVariants as act
 use Rattle.step_threads.specs.declared.programs.act.Question.{Question}

@@ -38,8 +38,8 @@ use Rattle.shared_handle.specs.declared.pile.Gone.{Gone}
 use Rattle.shared_handle.specs.declared.pile.Round.TheVariants.{Settled, Cleared, Ended}
 use Rattle.shared_handle.specs.declared.pile.Round.{Round}
 use Rattle.step_table.specs.declared.memory.form.Form.{Form}
-use Rattle.step_threads.specs.Courses.{Walk}
-use Rattle.step_threads.specs.Doings.{Over, ahead}
+use Rattle.step_threads.specs.Frames.{FrameView}
+use Rattle.step_threads.specs.TraceLabels.{Over, ahead}
 use Rattle.step_threads.specs.Interleavings.{Marked}
 use Rattle.step_threads.specs.Programs.{Part}
 use Rattle.step_threads.specs.declared.said.Said.{Said}
@@ -145,7 +145,7 @@ module _ {V : Type 0} where
 
 -- a table that is ready to be absorbed: its thread is over, and nothing is left
 record IsReady {V : Type 0} (worth : Form → V) (z : Shape) (name : ℕ) (part : Part) (u : TableNow V) (lines : List Said) : Type 0 where
-  pub last : Walk
+  pub last : FrameView
   pub tells : TellsThread worth part name u.desk last lines
   pub over : ahead last ≡ Over
   pub bare : AllBare u.slots

@@ -18,10 +18,10 @@ use Rattle.script_runner.specs.CellCalls.{CellsNot, IsOfName, RefusesCell, as_ce
 use Rattle.script_runner.specs.Seats.{IsSeated, shown_slots}
 use Rattle.script_runner.specs.TableCalls.{IsAway}
 use Rattle.step_table.specs.Contents.{is_of}
-use Rattle.step_table.specs.Holdings.{Slots, is_full, place_in, plain, pointer_of, slot_value}
+use Rattle.step_table.specs.Registers.{Slots, is_full, place_in, plain, pointer_of, slot_value}
 use Rattle.step_table.specs.declared.memory.form.Form.{Form}
-use Rattle.step_threads.specs.Courses.{is_there, fitting, hand as hand_of}
-use Rattle.step_threads.specs.Doings.{copy, IsLoadEvent, IsSwapEvent, Where}
+use Rattle.step_threads.specs.Frames.{is_there, fitting, hand as hand_of}
+use Rattle.step_threads.specs.TraceLabels.{copy, IsLoadEvent, IsSwapEvent, Where}
 use Rattle.step_threads.specs.Programs.{kind_at}
 use Rattle.step_threads.specs.Rows.{may_go, Hands, outside, refusal}
 use Rattle.step_threads.specs.declared.programs.call.CellName.TheVariants as cell

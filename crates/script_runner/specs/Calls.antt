@@ -14,13 +14,13 @@ use Rattle.control_block.specs.Desks.{AddsEvent, DeskNow, HasHandle, latest_of, 
 use Rattle.control_block.specs.Rule.{opening_of}
 use Rattle.step_table.specs.declared.memory.field.Field.{Field}
 use Rattle.step_table.specs.declared.memory.form.Form.{Form}
-use Rattle.step_table.specs.declared.slots.holdings.Pointer.{Pointer}
-use Rattle.step_table.specs.Deeds.{aliased, remains}
-use Rattle.step_table.specs.Holdings.{Slots, place_in, slot_pointer}
+use Rattle.step_table.specs.declared.slots.registers.Pointer.{Pointer}
+use Rattle.step_table.specs.AtomicSteps.{aliased, remains}
+use Rattle.step_table.specs.Registers.{Slots, place_in, slot_pointer}
 use Rattle.step_threads.specs.declared.programs.act.Act.{Act}
 use Rattle.step_threads.specs.declared.programs.act.Act.TheVariants as act
-use Rattle.step_threads.specs.Courses.{other}
-use Rattle.step_threads.specs.Doings.{IsMakeEvent}
+use Rattle.step_threads.specs.Frames.{other}
+use Rattle.step_threads.specs.TraceLabels.{IsMakeEvent}
 use Rattle.step_threads.specs.Rows.{Reply, Plain, Found, Got, Told, Left}
 
 abbrev pub pointer : Kind → Block → Option Place → Pointer

@@ -14,10 +14,10 @@ use Rattle.handle_table.specs.declared.cells.Cell.{Cell}
 use Rattle.handle_table.specs.declared.fault.Fault.TheVariants.{Call}
 use Rattle.script_runner.specs.Seats.{Acts, IsHand, IsSeated, IsQuiet, Leaving, shown_slots}
 use Rattle.script_runner.specs.TableCalls.{MarksAct}
-use Rattle.step_table.specs.Holdings.{plain}
+use Rattle.step_table.specs.Registers.{plain}
 use Rattle.step_table.specs.declared.memory.form.Form.{Form}
 use Rattle.step_table.specs.declared.slots.slot.Slot.{Slot}
-use Rattle.step_threads.specs.Courses.{idle, slots_idle}
+use Rattle.step_threads.specs.Frames.{idle, slots_idle}
 use Rattle.step_threads.specs.Programs.{IsIn, kind_at}
 use Rattle.step_threads.specs.Rows.{Came, Plain, Compared}
 use Rattle.step_threads.specs.declared.programs.act.Act.TheVariants as act

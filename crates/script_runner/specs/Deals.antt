@@ -19,11 +19,11 @@ use Rattle.shared_handle.specs.declared.endings.Ending as pile
 use Rattle.shared_handle.specs.declared.pile.Gone.TheVariants as gone
 use Rattle.shared_handle.specs.declared.pile.Round.TheVariants.{Cleared}
 use Rattle.shared_handle.specs.declared.pile.Round.{Round}
-use Rattle.step_table.specs.Deeds.{remains}
-use Rattle.step_table.specs.Holdings.{Slots}
+use Rattle.step_table.specs.AtomicSteps.{remains}
+use Rattle.step_table.specs.Registers.{Slots}
 use Rattle.step_table.specs.declared.memory.ended.Ended.{Ended}
 use Rattle.step_table.specs.declared.memory.form.Form.{Form}
-use Rattle.step_threads.specs.Courses.{idle, walk_settled, slots_idle, taken_idle}
+use Rattle.step_threads.specs.Frames.{idle, frame_settled, slots_idle, taken_idle}
 use Rattle.step_threads.specs.Rows.{Reply, row}
 use Rattle.step_threads.specs.declared.programs.act.Act.{Act}
 use Rattle.step_threads.specs.declared.programs.act.Act.TheVariants as act
@@ -107,30 +107,30 @@ pub record IsOnward (hand k : ℕ) (t : TableNow ℕ) (taken : Bool) (ts : List 
   pub endings : List Ending
   pub piled : Piled k u.endings endings
   pub goes : (todo : List Task) (log : List Said)
-      → TakesThread field_0 t.desk (walk_settled (thread_slots hand t) taken [] (ts ++ todo)) log u.desk
-      (walk_settled (thread_slots hand u) takes endings todo) (log ++ lines)
+      → TakesThread field_0 t.desk (frame_settled (thread_slots hand t) taken [] (ts ++ todo)) log u.desk
+      (frame_settled (thread_slots hand u) takes endings todo) (log ++ lines)
 
 -- what was left to end by statement k has ended
 abbrev pub IsSettledBy : ℕ → ℕ → Bool → TableNow ℕ → List Said → TableNow ℕ → List Said → Type 0
 IsSettledBy hand k taken t log u lines =
     (es : List Ending) → Piled k t.endings es → (todo : List Task)
-    → TakesThread field_0 t.desk (walk_settled (thread_slots hand t) taken es todo) log u.desk
-    (walk_settled (thread_slots hand u) taken [] todo) lines
+    → TakesThread field_0 t.desk (frame_settled (thread_slots hand t) taken es todo) log u.desk
+    (frame_settled (thread_slots hand u) taken [] todo) lines
 
 -- or some of it: it goes on with what is left
 abbrev pub IsPartlySettled : ℕ → ℕ → Bool → TableNow ℕ → List Said → TableNow ℕ
     → List Said → Type 0
 IsPartlySettled hand k taken t log u lines =
     (es : List Ending) → Piled k t.endings es → (fs : List Ending) × Piled k u.endings fs × ((todo : List Task)
-    → TakesThread field_0 t.desk (walk_settled (thread_slots hand t) taken es todo) log u.desk
-    (walk_settled (thread_slots hand u) taken fs todo) lines)
+    → TakesThread field_0 t.desk (frame_settled (thread_slots hand t) taken es todo) log u.desk
+    (frame_settled (thread_slots hand u) taken fs todo) lines)
 
 -- by its next tasks the thread goes on, with nothing left to end
 abbrev pub GoesOnWith : ℕ → TableNow ℕ → Bool → List Task → List Said
     → TableNow ℕ → Bool → List Task → List Said → Type 0
 GoesOnWith hand t taken todo log u takes rest lines =
-    TakesThread field_0 t.desk (walk_settled (thread_slots hand t) taken [] todo) log u.desk
-    (walk_settled (thread_slots hand u) takes [] rest) lines
+    TakesThread field_0 t.desk (frame_settled (thread_slots hand t) taken [] todo) log u.desk
+    (frame_settled (thread_slots hand u) takes [] rest) lines
 
 -- an object gives no pointer to itself, for this reason
 pub record NotGiven (why : Fault) (x : Went) : Type 0 where

@@ -15,11 +15,11 @@ use Rattle.shared_handle.specs.declared.endings.Ending as pile
 use Rattle.shared_handle.specs.declared.pile.Gone.TheVariants as gone
 use Rattle.shared_handle.specs.declared.pile.Round.TheVariants.{Cleared}
 use Rattle.shared_handle.specs.declared.pile.Round.{Round}
-use Rattle.step_table.specs.Deeds.{remains}
+use Rattle.step_table.specs.AtomicSteps.{remains}
 use Rattle.step_table.specs.declared.memory.ended.Ended.TheVariants as ended
 use Rattle.step_table.specs.declared.memory.ended.Ended.{Ended as EndedAs}
 use Rattle.step_table.specs.declared.memory.form.Form.{Form}
-use Rattle.step_threads.specs.Courses.{Walk, walk_settled}
+use Rattle.step_threads.specs.Frames.{FrameView, frame_settled}
 use Rattle.step_threads.specs.Programs.{Part}
 use Rattle.step_threads.specs.declared.programs.act.Task.{Task}
 use Rattle.step_threads.specs.declared.ending.Ending.{Ending}
@@ -50,7 +50,7 @@ module _ {V : Type 0} where
       × (e.block ≡ top.block) × (e.statement ≡ k) × IsAtStage top e.stage × Piled k below es
 
   -- what a desk does takes its thread from one act to another, and adds lines
-  abbrev pub TakesThread : (Form → V) → DeskNow V → Walk → List Said → DeskNow V → Walk
+  abbrev pub TakesThread : (Form → V) → DeskNow V → FrameView → List Said → DeskNow V → FrameView
       → List Said → Type 0
   TakesThread worth d w log e u lines =
       (part : Part) (n : ℕ) → TellsThread worth part n d w log → TellsThread worth part n e u lines
@@ -71,8 +71,8 @@ module _ {V : Type 0} where
     pub lines : List Said
     pub says : RoundSays k u.desk u.endings round lines
     pub takes : (taken : Bool) (todo : List Task) (log : List Said)
-        → TakesThread worth t.desk (walk_settled (shown_slots m t.slots) taken es todo) log u.desk
-        (walk_settled (shown_slots m u.slots) taken endings todo) (log ++ lines)
+        → TakesThread worth t.desk (frame_settled (shown_slots m t.slots) taken es todo) log u.desk
+        (frame_settled (shown_slots m u.slots) taken endings todo) (log ++ lines)
 
 module _ (V : Type 0) where
   abbrev pub RoundsIn : Type 0

@@ -5,7 +5,7 @@ use Rattle.script_runner.specs.EndCalls.{Piled, TakesThread}
 use Rattle.script_runner.specs.Logs.{told_line}
 use Rattle.script_runner.specs.Seats.{Acts, IsQuiet, shown_slots}
 use Rattle.step_table.specs.declared.memory.form.Form.{Form}
-use Rattle.step_threads.specs.Courses.{idle, walk_settled, slots_idle, taken_idle}
+use Rattle.step_threads.specs.Frames.{idle, frame_settled, slots_idle, taken_idle}
 use Rattle.step_threads.specs.Rows.{Reply, row, said_by_row}
 use Rattle.step_threads.specs.declared.programs.act.Act.{Act}
 use Rattle.step_threads.specs.declared.programs.act.Task.{Task}
@@ -22,8 +22,8 @@ module _ {V : Type 0} where
     pub endings : List Ending
     pub piled : Piled k u.endings endings
     pub takes : (todo : List Task) (log : List Said)
-        → TakesThread worth t.desk (walk_settled (shown_slots m t.slots) taken [] (task k a ∷ todo)) log u.desk
-        (walk_settled (shown_slots m u.slots) (row a (shown_slots m t.slots) taken r).taken endings todo)
+        → TakesThread worth t.desk (frame_settled (shown_slots m t.slots) taken [] (task k a ∷ todo)) log u.desk
+        (frame_settled (shown_slots m u.slots) (row a (shown_slots m t.slots) taken r).taken endings todo)
         (log ++ told_line (said_by_row k (row a (shown_slots m t.slots) taken r)))
 
 module _ (V : Type 0) where
@@ -40,5 +40,5 @@ module _ (V : Type 0) where
       (worth : Form → V) (m k : ℕ) (t u : TableNow V) (taken : Bool) (a : Act) (todo : List Task) (log : List Said)
       → IsQuiet t.desk u.desk → idle a (shown_slots m t.slots) taken ≡ true
       → shown_slots m u.slots ≡ slots_idle a (shown_slots m t.slots) taken
-      → TakesThread worth t.desk (walk_settled (shown_slots m t.slots) taken [] (task k a ∷ todo)) log u.desk
-      (walk_settled (shown_slots m u.slots) (taken_idle a taken) [] todo) log
+      → TakesThread worth t.desk (frame_settled (shown_slots m t.slots) taken [] (task k a ∷ todo)) log u.desk
+      (frame_settled (shown_slots m u.slots) (taken_idle a taken) [] todo) log

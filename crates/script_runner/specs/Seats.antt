@@ -14,12 +14,12 @@ use Rattle.script_runner.specs.Calls.{state_before_event}
 use Rattle.shared_handle.specs.Endings.{IsUncleared}
 use Rattle.shared_handle.specs.declared.endings.Ending.{Ending}
 use Rattle.step_table.specs.Contents.{slot_by}
-use Rattle.step_table.specs.Deeds.{remains}
-use Rattle.step_table.specs.Holdings.{Slots, plain}
+use Rattle.step_table.specs.AtomicSteps.{remains}
+use Rattle.step_table.specs.Registers.{Slots, plain}
 use Rattle.step_table.specs.declared.memory.ended.Ended.{Ended}
 use Rattle.step_table.specs.declared.memory.form.Form.{Form}
 use Rattle.step_table.specs.declared.slots.slot.Slot.{Slot}
-use Rattle.step_threads.specs.Doings.{IsMakeEvent}
+use Rattle.step_threads.specs.TraceLabels.{IsMakeEvent}
 use Rattle.step_threads.specs.Rows.{Left, Reply, row}
 use Rattle.step_threads.specs.declared.programs.act.Act.{Act}
 

@@ -19,11 +19,11 @@ use Rattle.handle_table.specs.declared.fault.Fault.TheVariants.{Call}
 use Rattle.script_runner.specs.Seats.{Acts, IsHand, shown_slots, IsQuiet, IsSeated, Leaving}
 use Rattle.shared_handle.specs.Endings.{IsOutside}
 use Rattle.shared_handle.specs.declared.pile.Gone.{Gone}
-use Rattle.step_table.specs.Deeds.{aliased}
-use Rattle.step_table.specs.Holdings.{place_in, is_full, slot_pointer}
+use Rattle.step_table.specs.AtomicSteps.{aliased}
+use Rattle.step_table.specs.Registers.{place_in, is_full, slot_pointer}
 use Rattle.step_table.specs.declared.memory.field.Field.{Field}
 use Rattle.step_table.specs.declared.memory.form.Form.{Form}
-use Rattle.step_threads.specs.Courses.{placed}
+use Rattle.step_threads.specs.Frames.{placed}
 use Rattle.step_threads.specs.Rows.{Found, Got, Plain, Told, Reply, row}
 use Rattle.step_threads.specs.declared.programs.act.Act.TheVariants as act
 use Rattle.step_threads.specs.declared.programs.act.Act.{Act}

@@ -12,9 +12,9 @@ use Rattle.handle_table.specs.Tables as table
 use Rattle.handle_table.specs.Tables.{TableNow}
 use Rattle.script_runner.specs.EndCalls.{TakesThread}
 use Rattle.step_table.specs.declared.memory.form.Form.{Form}
-use Rattle.step_threads.specs.Courses.{Walk}
-use Rattle.step_threads.specs.Doings.{Over, ahead}
-use Rattle.step_threads.specs.Interleavings.{IsSplitOrJoin, Marked, first_walk}
+use Rattle.step_threads.specs.Frames.{FrameView}
+use Rattle.step_threads.specs.TraceLabels.{Over, ahead}
+use Rattle.step_threads.specs.Interleavings.{IsSplitOrJoin, Marked, first_frame}
 use Rattle.step_threads.specs.Programs.{Part}
 use Rattle.step_threads.specs.declared.said.Said.{Said}
 
@@ -35,9 +35,9 @@ module _ {V : Type 0} where
   -- a worker's table was lent as t and left as u: what its desk did took its thread from its first act to its end, with
   -- these lines, and nothing is left
   pub record PlaysThread (worth : Form → V) (part : Part) (t u : TableNow V) (lines : List Said) : Type 0 where
-    pub last : Walk
+    pub last : FrameView
     pub shape : u.desk.shape ≡ t.desk.shape
-    pub takes : TakesThread worth t.desk (first_walk part) [] u.desk last lines
+    pub takes : TakesThread worth t.desk (first_frame part) [] u.desk last lines
     pub over : ahead last ≡ Over
     pub bare : AllBare u.slots
     pub settled : u.endings ≡ []

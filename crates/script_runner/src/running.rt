@@ -93,10 +93,10 @@ fn perform<'a, R: Threads + Wait + Sync, G: Gate + Sync>(
 /// sole desk, which has seen all that the workers did, and has no handle and nothing to end. `close` by it isn't
 /// refused. Each worker has an allowance of 65,535, and a store of the script's blocks over its threads.
 ///
-/// It is refused `Memory` and nothing else, and only where a growth or the start of a thread was refused. A worker begins
-/// once all threads are started: at a refusal none has worked, and there is no report. It answers once all threads that
-/// were started have ended. There is memory for all that a thread may say, and a share has room for all that may be added
-/// to it.
+/// It is refused `Memory` and nothing else, and only where a growth or the start of a thread was refused. A worker
+/// begins once all threads are started: at a refusal none has worked, and there is no report. It answers once all
+/// threads that were started have ended. There is memory for all that a thread may say, and a share has room for all
+/// that may be added to it.
 pub fn run_script<R: Threads + Wait + Sync, G: Gate + Sync>(
     rt: &R,
     alloc: Global,

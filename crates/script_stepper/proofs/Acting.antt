@@ -12,41 +12,41 @@ use Rattle.step_threads.specs.declared.programs.act.Act.TheVariants.{Read, Ask}
 use Rattle.step_threads.specs.declared.programs.act.Act.TheVariants.{Offer, Swap, Exchange, Load, Compare, Drop, OnShelf}
 use Rattle.step_threads.specs.declared.programs.act.Task.{Task}
 use Rattle.step_threads.specs.declared.ending.Ending.{Ending}
-use Rattle.step_threads.specs.Courses.{Walk, hand, idle, other, placed, walk_settled, slots_idle}
-use Rattle.step_threads.specs.Courses.{taken_idle}
-use Rattle.step_table.specs.Holdings.{Slots, plain, slot_value}
-use Rattle.step_table.specs.Deeds.{exact}
+use Rattle.step_threads.specs.Frames.{FrameView, hand, idle, other, placed, frame_settled, slots_idle}
+use Rattle.step_threads.specs.Frames.{taken_idle}
+use Rattle.step_table.specs.Registers.{Slots, plain, slot_value}
+use Rattle.step_table.specs.AtomicSteps.{exact}
 use Rattle.step_threads.specs.Rows.{with_end}
-use Rattle.step_threads.specs.Scenes.{row_in, went}
+use Rattle.step_threads.specs.AbstractStates.{row_in, went}
 use Rattle.step_core.proofs.telling.Tidying.{idle_size, row_size}
 
 -- ---- the tasks of a settled thread
 
-settled_less : (ts : List Task) (slots : Slots) (taken : Bool) (es : List Ending) → length (walk_settled slots taken es ts).todo ≤ length ts
+settled_less : (ts : List Task) (slots : Slots) (taken : Bool) (es : List Ending) → length (frame_settled slots taken es ts).todo ≤ length ts
 settled_less [] slots taken es = omega arith
 settled_less (t ∷ ts) slots taken es =
-    cond_both (idle t.act slots taken) (walk_settled (slots_idle t.act slots taken) (taken_idle t.act taken) es ts)
+    cond_both (idle t.act slots taken) (frame_settled (slots_idle t.act slots taken) (taken_idle t.act taken) es ts)
     (record { slots = slots; taken = taken; endings = es; todo = t ∷ ts })
-    (λ (w : Walk). length w.todo ≤ suc (length ts))
+    (λ (w : FrameView). length w.todo ≤ suc (length ts))
     (λ _. let k = settled_less ts (slots_idle t.act slots taken) (taken_idle t.act taken) es in omega (arith, k)) (λ _. omega arith)
 
 -- ---- as many slots as before
 
-pub settled_size : (ts : List Task) (slots : Slots) (taken : Bool) (es : List Ending) → length (walk_settled slots taken es ts).slots ≡ length slots
+pub settled_size : (ts : List Task) (slots : Slots) (taken : Bool) (es : List Ending) → length (frame_settled slots taken es ts).slots ≡ length slots
 settled_size [] slots taken es = refl
 settled_size (t ∷ ts) slots taken es =
-    cond_both (idle t.act slots taken) (walk_settled (slots_idle t.act slots taken) (taken_idle t.act taken) es ts)
+    cond_both (idle t.act slots taken) (frame_settled (slots_idle t.act slots taken) (taken_idle t.act taken) es ts)
     (record { slots = slots; taken = taken; endings = es; todo = t ∷ ts })
-    (λ (w : Walk). length w.slots ≡ length slots)
+    (λ (w : FrameView). length w.slots ≡ length slots)
     (λ _. settled_size ts (slots_idle t.act slots taken) (taken_idle t.act taken) es ∙ idle_size t.act slots taken) (λ _. refl)
 
 -- ---- a thread after an act alone
 
-pub went_less : (s : State) (d : ℕ) (w : Walk) (k : ℕ) (ts : List Task) (a : Act) → length (went s d w k ts a).todo ≤ length ts
+pub went_less : (s : State) (d : ℕ) (w : FrameView) (k : ℕ) (ts : List Task) (a : Act) → length (went s d w k ts a).todo ≤ length ts
 went_less s d w k ts a =
     let x = row_in exact s d w.slots w.taken a in settled_less ts x.slots x.taken (with_end k x.ending w.endings)
 
-pub went_size : (s : State) (d : ℕ) (w : Walk) (k : ℕ) (ts : List Task) (a : Act) → length (went s d w k ts a).slots ≡ length w.slots
+pub went_size : (s : State) (d : ℕ) (w : FrameView) (k : ℕ) (ts : List Task) (a : Act) → length (went s d w k ts a).slots ≡ length w.slots
 went_size s d w k ts a =
     let x = row_in exact s d w.slots w.taken a in
     settled_size ts x.slots x.taken (with_end k x.ending w.endings) ∙ row_size s d w.slots w.taken a
@@ -110,15 +110,15 @@ free_idle (Compare k c weak) slots false h = h
 free_idle Drop slots taken h = free_dropped slots h
 free_idle (OnShelf x) slots taken h = h
 
-free_settled : (ts : List Task) (slots : Slots) (taken : Bool) (es : List Ending) → IsFree slots → IsFree (walk_settled slots taken es ts).slots
+free_settled : (ts : List Task) (slots : Slots) (taken : Bool) (es : List Ending) → IsFree slots → IsFree (frame_settled slots taken es ts).slots
 free_settled [] slots taken es h = h
 free_settled (t ∷ ts) slots taken es h =
-    cond_both (idle t.act slots taken) (walk_settled (slots_idle t.act slots taken) (taken_idle t.act taken) es ts)
+    cond_both (idle t.act slots taken) (frame_settled (slots_idle t.act slots taken) (taken_idle t.act taken) es ts)
     (record { slots = slots; taken = taken; endings = es; todo = t ∷ ts })
-    (λ (w : Walk). IsFree w.slots)
+    (λ (w : FrameView). IsFree w.slots)
     (λ _. free_settled ts (slots_idle t.act slots taken) (taken_idle t.act taken) es (free_idle t.act slots taken h)) (λ _. h)
 
-pub went_free : (s : State) (d : ℕ) (w : Walk) (k : ℕ) (ts : List Task) → IsFree (went s d w k ts (Leave (hand w.slots))).slots
+pub went_free : (s : State) (d : ℕ) (w : FrameView) (k : ℕ) (ts : List Task) → IsFree (went s d w k ts (Leave (hand w.slots))).slots
 went_free s d w k ts =
     free_settled ts (slice_set w.slots (hand w.slots) plain) w.taken _
     (free_set w.slots (hand w.slots) refl)

@@ -4,7 +4,7 @@ use Rattle.std.specs.List.{flat_map}
 use Rattle.std.proofs.lemmas.Grind.{flat_map-append}
 use Rattle.script_text.specs.Grammar.{ended}
 use Rattle.step_threads.specs.Stocks.{from}
-use Rattle.step_threads.specs.Scenes.{Scene, state_in}
+use Rattle.step_threads.specs.AbstractStates.{AbstractState, state_in}
 use Rattle.step_core.specs.Totals.{ended_in, made_in}
 use Rattle.script_stepper.specs.Lines.{census_lines, closing_lines, totals_text}
 use Rattle.script_stepper.proofs.LineLemmas.{flat_map-one, lines_then}
@@ -33,7 +33,7 @@ pub numbered_then : (f : ℕ → List (List ℕ)) (n : ℕ) (a b c : List ℕ) �
 numbered_then f n a b c p q =
     lines_then (flat_map f (from 1 n)) (f (n + 1)) a b c p q ∙ ap (λ (l : List (List ℕ)). a ++ ended l) (sym (numbered_more f n))
 
-pub closing_then : (u : Scene) (blocks made over : ℕ) (a b c : List ℕ) → blocks ≡ u.extent.shape.blocks → made ≡ made_in u.history
+pub closing_then : (u : AbstractState) (blocks made over : ℕ) (a b c : List ℕ) → blocks ≡ u.extent.shape.blocks → made ≡ made_in u.history
     → over ≡ ended_in u.history
     → b ≡ a ++ ended (census_lines blocks (state_in u)) → c ≡ b ++ ended (totals_text made over ∷ []) → c ≡ a ++ ended (closing_lines u)
 closing_then u blocks made over a b c all one two p q =

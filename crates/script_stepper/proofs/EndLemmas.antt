@@ -5,12 +5,12 @@ use Rattle.std.proofs.Common.{arith, append_assoc, length-append}
 use Rattle.std.specs.Prelude.{None}
 use Rattle.std.proofs.lemmas.Bool.{cases_eq, cases_lt}
 use Rattle.std.proofs.lemmas.List.{append-nil}
-use Rattle.step_threads.specs.Scenes.{Scene, next, walk_of}
-use Rattle.step_core.specs.Worlds.{Sight, scene}
+use Rattle.step_threads.specs.AbstractStates.{AbstractState, next, frame_of}
+use Rattle.step_core.specs.Worlds.{WorldState, abstraction}
 use Rattle.script_stepper.specs.Running.{AllOver, HasRun, RunsAlone}
 use Rattle.script_text.specs.Traces.{in_order}
 use Rattle.script_stepper.proofs.TraceLemmas.{done_past, plays_over}
-use Rattle.script_stepper.proofs.RunLemmas.{run_same, run_size, run_then}
+use Rattle.script_stepper.proofs.RunLemmas.{run_plays, run_same, run_size, run_then}
 
 pub in_order-more : (ns : List ℕ) (n t : ℕ) → in_order t (ns ++ n ∷ []) ≡ in_order t ns ++ replicate n (t + length ns)
 in_order-more [] n t = let e : t ≡ t + 0 = omega arith in append-nil (replicate n t) ∙ ap (λ (k : ℕ). replicate n k) e
@@ -21,28 +21,28 @@ in_order-more (m ∷ ns) n t =
     ∙ sym (append_assoc (replicate m t) (in_order (t + 1) ns) (replicate n (t + length (m ∷ ns))))
 
 -- the threads before this one are at their ends, by these turns and some more of each
-pub record Ended (turns : List ℕ) (i : ℕ) (u v : Sight) (a b : List ℕ) : Type 0 where
+pub record Ended (turns : List ℕ) (i : ℕ) (u v : WorldState) (a b : List ℕ) : Type 0 where
   pub more : List ℕ
   pub each : length more ≡ i
   pub run : HasRun (turns ++ in_order 1 more) u v a b
-  pub over : (d : ℕ) → d < i → next (walk_of (scene v) d) ≡ None
+  pub over : (d : ℕ) → d < i → next (frame_of (abstraction v) d) ≡ None
 
-pub none_ended : (turns : List ℕ) (u v : Sight) (a b : List ℕ) → HasRun turns u v a b → Ended turns 0 u v a b
+pub none_ended : (turns : List ℕ) (u v : WorldState) (a b : List ℕ) → HasRun turns u v a b → Ended turns 0 u v a b
 none_ended turns u v a b h =
     record { more = []; each = refl; run = run_same _ _ u v a b (sym (append-nil turns)) h; over = λ d lt. absurd (omega (arith, lt)) }
 
-over_then : (i : ℕ) (v w : Sight) (b e : List ℕ) → ((d : ℕ) → d < i → next (walk_of (scene v) d) ≡ None)
-    → RunsAlone (i + 1) v w b e → next (walk_of (scene w) (i + 1 - 1)) ≡ None → (d : ℕ) → d < i + 1 → next (walk_of (scene w) d) ≡ None
+over_then : (i : ℕ) (v w : WorldState) (b e : List ℕ) → ((d : ℕ) → d < i → next (frame_of (abstraction v) d) ≡ None)
+    → RunsAlone (i + 1) v w b e → next (frame_of (abstraction w) (i + 1 - 1)) ≡ None → (d : ℕ) → d < i + 1 → next (frame_of (abstraction w) d) ≡ None
 over_then i v w b e h alone over d lt =
     elim (cases_eq d i) [
-      | inl same ↦ (let s : i + 1 - 1 ≡ d = omega (arith, same) in subst (λ (z : ℕ). next (walk_of (scene w) z) ≡ None) s over)
-      | inr ne ↦ subst (λ (c : Scene). next (walk_of c d) ≡ None) (sym alone.1.scene_is)
-          (plays_over (replicate alone.0 (i + 1)) d (scene v) (h d (omega (arith, lt, ne))))
+      | inl same ↦ (let s : i + 1 - 1 ≡ d = omega (arith, same) in subst (λ (z : ℕ). next (frame_of (abstraction w) z) ≡ None) s over)
+      | inr ne ↦ subst (λ (c : AbstractState). next (frame_of c d) ≡ None) (sym (run_plays (replicate alone.0 (i + 1)) v w b e alone.1))
+          (plays_over (replicate alone.0 (i + 1)) d (abstraction v) (h d (omega (arith, lt, ne))))
     ]
 
 -- one thread more at its end
-pub ended_then : (turns : List ℕ) (i : ℕ) (u v w : Sight) (a b e : List ℕ) → Ended turns i u v a b → RunsAlone (i + 1) v w b e
-    → next (walk_of (scene w) (i + 1 - 1)) ≡ None → Ended turns (i + 1) u w a e
+pub ended_then : (turns : List ℕ) (i : ℕ) (u v w : WorldState) (a b e : List ℕ) → Ended turns i u v a b → RunsAlone (i + 1) v w b e
+    → next (frame_of (abstraction w) (i + 1 - 1)) ≡ None → Ended turns (i + 1) u w a e
 ended_then turns i u v w a b e p alone over =
     let here : 1 + length p.more ≡ i + 1 = (let n = p.each in omega (arith, n)) in
     let all : (turns ++ in_order 1 p.more) ++ replicate alone.0 (i + 1) ≡ turns ++ in_order 1 (p.more ++ alone.0 ∷ []) =
@@ -56,8 +56,8 @@ ended_then turns i u v w a b e p alone over =
       over = over_then i v w b e p.over alone over;
     }
 
-pub all_over : (ts : List ℕ) (i : ℕ) (u v : Sight) (a b : List ℕ) → length u.walks ≤ i → HasRun ts u v a b
-    → ((d : ℕ) → d < i → next (walk_of (scene v) d) ≡ None) → AllOver v
+pub all_over : (ts : List ℕ) (i : ℕ) (u v : WorldState) (a b : List ℕ) → length u.frame_views ≤ i → HasRun ts u v a b
+    → ((d : ℕ) → d < i → next (frame_of (abstraction v) d) ≡ None) → AllOver v
 all_over ts i u v a b le h over d =
     let size = run_size ts u v a b h in
-    elim (cases_lt d i) [ inl lt ↦ over d lt | inr ge ↦ done_past (scene v) d (omega (arith, size, le, ge)) ]
+    elim (cases_lt d i) [ inl lt ↦ over d lt | inr ge ↦ done_past (abstraction v) d (omega (arith, size, le, ge)) ]

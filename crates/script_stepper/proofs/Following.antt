@@ -15,31 +15,35 @@ use Rattle.control_word.specs.Histories.{entry, leads}
 use Rattle.control_word.specs.State.{Opening, weak}
 use Rattle.step_table.specs.declared.slots.slot.Slot.{Slot}
 use Rattle.step_table.specs.Contents.{slot_of}
-use Rattle.step_table.specs.Deeds.{exact}
-use Rattle.step_table.specs.Holdings.{Slots, is_full, slot_pointer}
+use Rattle.step_table.specs.AtomicSteps.{exact}
+use Rattle.step_table.specs.Registers.{Slots, is_full, slot_pointer}
 use Rattle.step_table.specs.Openings.{opening}
-use Rattle.step_table.specs.Stories.{Nothing}
+use Rattle.step_table.specs.GhostStates.{Nothing}
 use Rattle.step_threads.specs.declared.programs.act.Act.TheVariants.{Leave}
 use Rattle.step_threads.specs.declared.programs.act.Task.{Task}
 use Rattle.step_threads.specs.declared.ending.Ending.{Ending}
 use Rattle.step_threads.specs.declared.said.Said.{Said}
-use Rattle.step_threads.specs.Courses.{Walk, hand}
-use Rattle.step_threads.specs.Doings.{Ahead, AnAct, AnEnd, DoesNext, DoesAhead, Doing, GoesThrough, ahead, ahead_of, lines, onto, put_on, spoken}
+use Rattle.step_threads.specs.Frames.{FrameView, hand}
+use Rattle.step_threads.specs.TraceLabels.{Ahead, AnAct, AnEnd, DoesNext, DoesAhead, TraceLabel, GoesThrough, ahead, ahead_of, lines, onto, put_on, spoken}
 use Rattle.step_threads.specs.Endings.{staged}
-use Rattle.step_threads.specs.Entries.{History, acted}
-use Rattle.step_threads.specs.Scenes.{Scene, next, next_of, nowhere, play, play_from, rest_of, rested_walk, said, said_from, said_of, state_in, walk_of, went}
-use Rattle.step_threads.specs.Scenes.{reply_in}
+use Rattle.step_threads.specs.Entries.{History}
+use Rattle.step_core.proofs.Entries.{acted}
+use Rattle.step_threads.specs.AbstractStates.{AbstractState, next, next_of, nowhere, rest_of, rested_frame, state_in, row_in}
+use Rattle.step_threads.specs.AbstractStates.{frame_of, went}
+use Rattle.step_threads.specs.AbstractStates.{reply_in}
+use Rattle.step_threads.specs.Rows.{said_by_row}
 use Rattle.step_threads.specs.Unwinding.{Stop, Wound, history_clears, unwinds_on, stops, unwound}
 use Rattle.step_threads.specs.Steps.{silent}
 use Rattle.step_core.specs.Following.{no_worth}
 use Rattle.step_core.proofs.following.Replies.{replied}
 use Rattle.script_text.specs.Drafts.{ScriptView}
 use Rattle.script_text.specs.Scripts.{program_in}
-use Rattle.script_text.specs.Beginnings.{script_scene, script_shape, script_sight}
+use Rattle.script_text.specs.Beginnings.{script_abstraction, script_shape, script_world_state}
 use Rattle.script_stepper.specs.Followed.{TurnsFollow, spoken_of}
 use Rattle.script_stepper.specs.Running.{Waits}
 use Rattle.script_text.specs.Traces.{IsTrace, Item, in_order}
-use Rattle.script_stepper.specs.Running.{heard, plays, items_told}
+use Rattle.script_stepper.specs.Running.{heard}
+use Rattle.script_stepper.proofs.Plays.{items_told, play, play_from, plays, said, said_from}
 use Rattle.script_stepper.proofs.LineLemmas.{flat_map-one}
 use Rattle.script_stepper.proofs.OneTurn.{play_waits}
 use Rattle.script_stepper.proofs.StepLemmas.{first_rests}
@@ -48,42 +52,42 @@ use Rattle.script_stepper.proofs.Takings.{turns_are}
 use Rattle.script_stepper.proofs.Unwinding.{still}
 
 -- how far threads have come from where they were: the history, where each is, and what they said
-pub record Far (z : Opening) (b : Scene) (h : History) (ws : List Walk) (out : List (ℕ × Said)) : Type 0 where
-  pub doings : List (Doing Nothing)
-  pub history : h ≡ onto b.history doings
-  pub each : (d : ℕ) → GoesThrough no_worth z b.history d (walk_of b d) doings (get_or ws d nowhere)
-  pub says : lines doings ≡ out
+pub record Far (z : Opening) (b : AbstractState) (h : History) (ws : List FrameView) (out : List (ℕ × Said)) : Type 0 where
+  pub trace_labels : List (TraceLabel Nothing)
+  pub history : h ≡ onto b.history trace_labels
+  pub each : (d : ℕ) → GoesThrough no_worth z b.history d (frame_of b d) trace_labels (get_or ws d nowhere)
+  pub says : lines trace_labels ≡ out
 
-abbrev done_by : ℕ → Option (Event Nothing) → Said → Doing Nothing
+abbrev done_by : ℕ → Option (Event Nothing) → Said → TraceLabel Nothing
 done_by d e x = record { desk = d; event = e; said = x }
 
-module _ (z : Opening) (b : Scene) (d : ℕ) (ws : List Walk) (lt : d < length ws) where
+module _ (z : Opening) (b : AbstractState) (d : ℕ) (ws : List FrameView) (lt : d < length ws) where
   -- thread d is here, and the others where they were
-  abbrev At : History → Walk → List (ℕ × Said) → Type 0
+  abbrev At : History → FrameView → List (ℕ × Said) → Type 0
   At h u out = Far z b h (set ws d u) out
 
   -- one more doing
-  more : (h : History) (u u' : Walk) (out : List (ℕ × Said)) (e : Option (Event Nothing)) (x : Said) → At h u out
+  more : (h : History) (u u' : FrameView) (out : List (ℕ × Said)) (e : Option (Event Nothing)) (x : Said) → At h u out
       → DoesNext no_worth (leads z h) u (done_by d e x) u' → At (put_on d e h) u' (out ++ spoken d x)
   more h u u' out e x f does =
       let y = done_by d e x in
       let was = get_or-set_same ws d u nowhere lt in
       let is = get_or-set_same ws d u' nowhere lt in
-      let own : DoesNext no_worth (leads z (onto b.history f.doings)) (get_or (set ws d u) d nowhere) y (get_or (set ws d u') d nowhere) =
+      let own : DoesNext no_worth (leads z (onto b.history f.trace_labels)) (get_or (set ws d u) d nowhere) y (get_or (set ws d u') d nowhere) =
       subst (λ (q : History). DoesNext no_worth (leads z q) (get_or (set ws d u) d nowhere) y (get_or (set ws d u') d nowhere)) f.history
-      (subst (λ (w : Walk). DoesNext no_worth (leads z h) w y (get_or (set ws d u') d nowhere)) (sym was)
-      (subst (λ (w : Walk). DoesNext no_worth (leads z h) u y w) (sym is) does)) in
-      let mine : GoesThrough no_worth z b.history d (walk_of b d) (y ∷ f.doings) (get_or (set ws d u') d nowhere) =
+      (subst (λ (w : FrameView). DoesNext no_worth (leads z h) w y (get_or (set ws d u') d nowhere)) (sym was)
+      (subst (λ (w : FrameView). DoesNext no_worth (leads z h) u y w) (sym is) does)) in
+      let mine : GoesThrough no_worth z b.history d (frame_of b d) (y ∷ f.trace_labels) (get_or (set ws d u') d nowhere) =
       inr (refl, (get_or (set ws d u) d nowhere, f.each d, own)) in
       record {
-        doings = y ∷ f.doings;
+        trace_labels = y ∷ f.trace_labels;
         history = ap (put_on d e) f.history;
         each = λ k. elim (cases_eq k d) [
-          | inl same ↦ subst (λ (i : ℕ). GoesThrough no_worth z b.history i (walk_of b i) (y ∷ f.doings) (get_or (set ws d u') i nowhere))
+          | inl same ↦ subst (λ (i : ℕ). GoesThrough no_worth z b.history i (frame_of b i) (y ∷ f.trace_labels) (get_or (set ws d u') i nowhere))
               (sym same) mine
           | inr ne ↦ inl (
             λ q. ne (sym q),
-            subst (λ (w : Walk). GoesThrough no_worth z b.history k (walk_of b k) f.doings w)
+            subst (λ (w : FrameView). GoesThrough no_worth z b.history k (frame_of b k) f.trace_labels w)
                 (get_or-set_other ws d k u nowhere ne ∙ sym (get_or-set_other ws d k u' nowhere ne)) (f.each k),
           )
         ];
@@ -91,14 +95,14 @@ module _ (z : Opening) (b : Scene) (d : ℕ) (ws : List Walk) (lt : d < length w
       }
 
   -- one that says nothing
-  quietly : (h : History) (u u' : Walk) (out : List (ℕ × Said)) (e : Option (Event Nothing)) (k : ℕ) → At h u out
+  quietly : (h : History) (u u' : FrameView) (out : List (ℕ × Said)) (e : Option (Event Nothing)) (k : ℕ) → At h u out
       → DoesNext no_worth (leads z h) u (done_by d e (silent k)) u' → At (put_on d e h) u' out
   quietly h u u' out e k f does =
       subst (λ (l : List (ℕ × Said)). At (put_on d e h) u' l) (append-nil out) (more h u u' out e (silent k) f does)
 
   module _ (taken : Bool) (todo : List Task) (slots : Slots) (out : List (ℕ × Said))
       (free : is_full (slot_pointer slots (hand slots)) ≡ false) where
-    abbrev here : Slots → List Ending → Walk
+    abbrev here : Slots → List Ending → FrameView
     here l es = record { slots = l; taken = taken; endings = es; todo = todo }
 
     abbrev Wounds : Wound → Type 0
@@ -178,8 +182,8 @@ module _ (z : Opening) (b : Scene) (d : ℕ) (ws : List Walk) (lt : d < length w
     all_ended (e ∷ es) h at = ended es (all_ended es) (3 - e.stage) e h ((leads z h).latest e.block.0) refl refl at
 
   -- the endings go on by themselves
-  wound : (h : History) (w : Walk) (out : List (ℕ × Said)) → At h w out
-      → let x = rested_walk z d h w in At x.history (record { slots = x.slots; taken = w.taken; endings = x.endings; todo = w.todo }) out
+  wound : (h : History) (w : FrameView) (out : List (ℕ × Said)) → At h w out
+      → let x = rested_frame z d h w in At x.history (record { slots = x.slots; taken = w.taken; endings = x.endings; todo = w.todo }) out
   wound h w out at =
       cond_both (is_full (slot_pointer w.slots (hand w.slots))) (still h w) (unwound z d w.slots w.endings h)
       (λ (x : Wound). At x.history (record { slots = x.slots; taken = w.taken; endings = x.endings; todo = w.todo }) out)
@@ -196,104 +200,106 @@ ahead_next l (x ∷ es) ts t (inr full) e =
     ∙ ap (λ (q : Task). AnAct q ts) (same_Some _ _ e)
 
 -- a turn of thread d that has this to do next
-act_on : (b c : Scene) (d : ℕ) (out : List (ℕ × Said)) (t : Task) → d < length c.walks → Waits (walk_of c d) → next (walk_of c d) ≡ Some t
-    → Far (opening c.extent) b c.history c.walks out
-    → let p = play_from exact c d (walk_of c d) (Some t) in
-    Far (opening c.extent) b p.history p.walks (out ++ spoken d (said_of exact (state_in c) d (walk_of c d) t))
+act_on : (b c : AbstractState) (d : ℕ) (out : List (ℕ × Said)) (t : Task) → d < length c.frame_views → Waits (frame_of c d) → next (frame_of c d) ≡ Some t
+    → Far (opening c.extent) b c.history c.frame_views out
+    → let p = play_from c d (frame_of c d) (Some t) in
+    let w = frame_of c d in
+    Far (opening c.extent) b p.history p.frame_views (out ++ spoken d (said_by_row t.statement (row_in exact (state_in c) d w.slots w.taken t.act)))
 act_on b c d out t lt waits is far =
-    let w = walk_of c d in
+    let w = frame_of c d in
     let z = opening c.extent in
     let ts = rest_of w.endings w.todo in
     let q = replied exact z d c.history w t.act in
-    let x = said_of exact (state_in c) d w t in
+    let x = said_by_row t.statement (row_in exact (state_in c) d w.slots w.taken t.act) in
     let u = went (state_in c) d w t.statement ts t.act in
-    let begun : Far z b c.history (set c.walks d w) out =
-    subst (λ (l : List Walk). Far z b c.history l out) (sym (set-get_or c.walks d nowhere)) far in
+    let begun : Far z b c.history (set c.frame_views d w) out =
+    subst (λ (l : List FrameView). Far z b c.history l out) (sym (set-get_or c.frame_views d nowhere)) far in
     let does : DoesNext no_worth (leads z c.history) w (done_by d q.event x) u =
     subst (λ (a : Ahead). DoesAhead no_worth (leads z c.history) w (done_by d q.event x) u a)
     (sym (ahead_next w.slots w.endings w.todo t waits.endings is))
     (record { reply = reply_in exact (state_in c) d w.slots t.act; makes = q.makes; says = refl; goes = refl }) in
     let h = acted exact z d w.slots c.history t.act in
-    let made : Far z b h (set c.walks d u) (out ++ spoken d x) =
-    subst (λ (k : History). Far z b k (set c.walks d u) (out ++ spoken d x)) (sym q.history)
-    (more z b d c.walks lt c.history w u out q.event x begun does) in
-    wound z b d c.walks lt h u (out ++ spoken d x) made
+    let made : Far z b h (set c.frame_views d u) (out ++ spoken d x) =
+    subst (λ (k : History). Far z b k (set c.frame_views d u) (out ++ spoken d x)) (sym q.history)
+    (more z b d c.frame_views lt c.history w u out q.event x begun does) in
+    wound z b d c.frame_views lt h u (out ++ spoken d x) made
 
-abbrev AllWait : Scene → Type 0
-AllWait c = (i : ℕ) → i < length c.walks → Waits (walk_of c i)
+abbrev AllWait : AbstractState → Type 0
+AllWait c = (i : ℕ) → i < length c.frame_views → Waits (frame_of c i)
 
 -- a turn
-turn_on : (b c : Scene) (thread : ℕ) (out : List (ℕ × Said)) → AllWait c → Far (opening c.extent) b c.history c.walks out
+turn_on : (b c : AbstractState) (thread : ℕ) (out : List (ℕ × Said)) → AllWait c → Far (opening c.extent) b c.history c.frame_views out
     → let p = play (thread - 1) c in
-    Far (opening c.extent) b p.history p.walks (out ++ flat_map spoken_of (heard thread (said (thread - 1) c)))
-turn_on b c thread out waits far = go (next (walk_of c (thread - 1))) refl
+    Far (opening c.extent) b p.history p.frame_views (out ++ flat_map spoken_of (heard thread (said (thread - 1) c)))
+turn_on b c thread out waits far = go (next (frame_of c (thread - 1))) refl
   where
-    go : (o : Option Task) → next (walk_of c (thread - 1)) ≡ o
+    go : (o : Option Task) → next (frame_of c (thread - 1)) ≡ o
         → let p = play (thread - 1) c in
-        Far (opening c.extent) b p.history p.walks (out ++ flat_map spoken_of (heard thread (said (thread - 1) c)))
+        Far (opening c.extent) b p.history p.frame_views (out ++ flat_map spoken_of (heard thread (said (thread - 1) c)))
     go None e =
         let d = thread - 1 in
-        subst (λ (s : Option Said). Far (opening c.extent) b (play d c).history (play d c).walks (out ++ flat_map spoken_of (heard thread s)))
+        subst (λ (s : Option Said). Far (opening c.extent) b (play d c).history (play d c).frame_views (out ++ flat_map spoken_of (heard thread s)))
         (sym (said_done d c e))
-        (subst (λ (p : Scene). Far (opening c.extent) b p.history p.walks (out ++ [])) (sym (play_done d c e))
-        (subst (λ (l : List (ℕ × Said)). Far (opening c.extent) b c.history c.walks l) (sym (append-nil out)) far))
+        (subst (λ (p : AbstractState). Far (opening c.extent) b p.history p.frame_views (out ++ [])) (sym (play_done d c e))
+        (subst (λ (l : List (ℕ × Said)). Far (opening c.extent) b c.history c.frame_views l) (sym (append-nil out)) far))
     go (Some t) e =
         let d = thread - 1 in
-        let w = walk_of c d in
+        let w = frame_of c d in
         let lt = there c d t e in
-        let x = said_of exact (state_in c) d w t in
+        let x = said_by_row t.statement (row_in exact (state_in c) d w.slots w.taken t.act) in
         let goes = act_on b c d out t lt (waits d lt) e far in
         let one : spoken d x ≡ flat_map spoken_of (heard thread (said d c)) =
         sym (flat_map-one spoken_of (thread, x))
-        ∙ ap (λ (o : Option Task). flat_map spoken_of (heard thread (said_from exact c d w o))) (sym e) in
-        subst (λ (o : Option Task). let p = play_from exact c d w o in
-        Far (opening c.extent) b p.history p.walks (out ++ flat_map spoken_of (heard thread (said d c)))) (sym e)
-        (let p = play_from exact c d w (Some t) in
-        subst (λ (l : List (ℕ × Said)). Far (opening c.extent) b p.history p.walks (out ++ l)) one goes)
+        ∙ ap (λ (o : Option Task). flat_map spoken_of (heard thread (said_from c d w o))) (sym e) in
+        subst (λ (o : Option Task). let p = play_from c d w o in
+        Far (opening c.extent) b p.history p.frame_views (out ++ flat_map spoken_of (heard thread (said d c)))) (sym e)
+        (let p = play_from c d w (Some t) in
+        subst (λ (l : List (ℕ × Said)). Far (opening c.extent) b p.history p.frame_views (out ++ l)) one goes)
 
-waits_on : (c : Scene) (d : ℕ) → AllWait c → AllWait (play d c)
+waits_on : (c : AbstractState) (d : ℕ) → AllWait c → AllWait (play d c)
 waits_on c d waits = λ i here.
     let n = play_size d c in
-    elim (cases_lt d (length c.walks)) [
+    elim (cases_lt d (length c.frame_views)) [
       | inl lt ↦ play_waits c d i lt (omega (arith, n, here)) waits
-      | inr le ↦ subst (λ (p : Scene). Waits (walk_of p i)) (sym (play_done d c (ap next (get_or_past c.walks d nowhere le))))
+      | inr le ↦ subst (λ (p : AbstractState). Waits (frame_of p i)) (sym (play_done d c (ap next (get_or_past c.frame_views d nowhere le))))
           (waits i (omega (arith, n, here)))
     ]
 
 -- turns, one after another
-turns_on : (b c : Scene) (turns : List ℕ) (out : List (ℕ × Said)) → opening c.extent ≡ opening b.extent → AllWait c
-    → Far (opening b.extent) b c.history c.walks out
-    → let p = plays turns c in Far (opening b.extent) b p.history p.walks (out ++ flat_map spoken_of (items_told turns c))
+turns_on : (b c : AbstractState) (turns : List ℕ) (out : List (ℕ × Said)) → opening c.extent ≡ opening b.extent → AllWait c
+    → Far (opening b.extent) b c.history c.frame_views out
+    → let p = plays turns c in Far (opening b.extent) b p.history p.frame_views (out ++ flat_map spoken_of (items_told turns c))
 turns_on b c [] out same waits far =
-    subst (λ (l : List (ℕ × Said)). Far (opening b.extent) b c.history c.walks l) (sym (append-nil out)) far
+    subst (λ (l : List (ℕ × Said)). Far (opening b.extent) b c.history c.frame_views l) (sym (append-nil out)) far
 turns_on b c (thread ∷ turns) out same waits far =
     let d = thread - 1 in
     let p = play d c in
     let says = heard thread (said d c) in
     let extent = ap opening (plays_extent (thread ∷ []) c) in
-    let now : Far (opening b.extent) b p.history p.walks (out ++ flat_map spoken_of says) =
-    subst (λ (z : Opening). Far z b p.history p.walks (out ++ flat_map spoken_of says)) same
-    (turn_on b c thread out waits (subst (λ (z : Opening). Far z b c.history c.walks out) (sym same) far)) in
+    let now : Far (opening b.extent) b p.history p.frame_views (out ++ flat_map spoken_of says) =
+    subst (λ (z : Opening). Far z b p.history p.frame_views (out ++ flat_map spoken_of says)) same
+    (turn_on b c thread out waits (subst (λ (z : Opening). Far z b c.history c.frame_views out) (sym same) far)) in
     let q = plays turns p in
-    subst (λ (l : List (ℕ × Said)). Far (opening b.extent) b q.history q.walks l)
+    subst (λ (l : List (ℕ × Said)). Far (opening b.extent) b q.history q.frame_views l)
     (append_assoc out (flat_map spoken_of says) (flat_map spoken_of (items_told turns p))
     ∙ ap (λ (l : List (ℕ × Said)). out ++ l) (sym (flat_map-append spoken_of says (items_told turns p))))
     (turns_on b p turns (out ++ flat_map spoken_of says) (extent ∙ same) (waits_on c d waits) now)
 
 -- a whole run of a script
-pub turns_follow : (script : ScriptView) (turns : List ℕ) (items : List Item) (last : Scene) → IsTrace turns (script_scene script) items last
-    → TurnsFollow (script_scene script) items last
+pub turns_follow : (script : ScriptView) (turns : List ℕ) (items : List Item) (last : AbstractState) → IsTrace turns (script_abstraction script) items last
+    → TurnsFollow (script_abstraction script) items last
 turns_follow script turns items last trace =
-    let c = script_scene script in
+    let c = script_abstraction script in
     let all = turns ++ in_order 1 trace.more in
-    let rests = first_rests (script_shape script) (program_in script.threads) (script_sight script) refl in
+    let rests = first_rests (script_shape script) (program_in script.threads) (script_world_state script) refl in
     let are = turns_are all c items last trace.takes in
-    let far = turns_on c c all [] refl rests.walks
-    (record { doings = []; history = refl; each = λ d. refl; says = refl }) in
+    let far = turns_on c c all [] refl rests.frame_views
+    (record { trace_labels = []; history = refl; each = λ d. refl; says = refl }) in
     record {
-      doings = far.doings;
-      history = ap (λ (s : Scene). s.history) are.1 ∙ far.history;
-      each = λ d. subst (λ (s : Scene). GoesThrough no_worth (opening c.extent) c.history d (walk_of c d) far.doings (walk_of s d)) (sym are.1) (far.each d);
-      over = λ d. let w = walk_of last d in over_of w.slots w.endings w.todo (trace.over d);
+      trace_labels = far.trace_labels;
+      history = ap (λ (s : AbstractState). s.history) are.1 ∙ far.history;
+      each = λ d. subst (λ (s : AbstractState). GoesThrough no_worth (opening c.extent) c.history d (frame_of c d) far.trace_labels (frame_of s d)) (sym are.1)
+          (far.each d);
+      over = λ d. let w = frame_of last d in over_of w.slots w.endings w.todo (trace.over d);
       says = far.says ∙ ap (λ (l : List Item). flat_map spoken_of l) (sym are.0);
     }

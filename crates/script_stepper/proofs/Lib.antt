@@ -3,7 +3,7 @@ pub mod Beginning
 pub mod Answering
 pub mod ClosingLemmas
 pub mod EndLemmas
-pub mod Exact
+pub mod Plays
 pub mod FaultLines
 pub mod Following
 pub mod Interleaving

@@ -5,7 +5,7 @@ use Rattle.std.proofs.lemmas.Grind.{flat_map-append}
 use Rattle.std.proofs.lemmas.List.{append-nil, take_more}
 use Rattle.std.proofs.lemmas.List.Concat.{flat_map-cons}
 use Rattle.script_text.specs.Grammar.{ended}
-use Rattle.script_text.proofs.PrintLemmas.{ended-append}
+use Rattle.text_lines.proofs.Ended.{ended-append}
 
 pub flat_map-one : {A B : Type 0} (f : A → List B) (x : A) → flat_map f (x ∷ []) ≡ f x
 flat_map-one f x = flat_map-cons f x [] ∙ append-nil (f x)

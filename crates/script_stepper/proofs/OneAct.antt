@@ -1,6 +1,6 @@
 -- Of two replies of an act that are right and chosen one is as the other, as far as the reply matters.
 use Rattle.step_threads.specs.declared.programs.act.ShelfAct.TheVariants.{Shelve, Unshelve}
-use Rattle.std.proofs.Common.{◌≡◌, ℕ, ◌==◌, ◌&&◌, Bool, true, false, not, cond, [], refl, sym, ap, subst, ◌∙◌}
+use Rattle.std.proofs.Common.{◌≡◌, ℕ, ◌==◌, ◌&&◌, Bool, true, false, not, cond, refl, sym, ap, subst, ◌∙◌}
 use Rattle.std.specs.Prelude.{Option, Some, None, slice_index, slice_set}
 use Rattle.control_word.specs.declared.model.event.Event.{Event}
 use Rattle.control_word.specs.declared.model.event.Event.TheVariants as event
@@ -14,27 +14,27 @@ use Rattle.control_word.specs.Histories.{IsLegal, leads}
 use Rattle.control_word.specs.State.{Opening, State, count, weak}
 use Rattle.step_table.specs.declared.memory.ended.Ended.{Ended}
 use Rattle.step_table.specs.declared.memory.form.Form.{Form}
-use Rattle.step_table.specs.declared.slots.holdings.Pointer.{Pointer}
+use Rattle.step_table.specs.declared.slots.registers.Pointer.{Pointer}
 use Rattle.step_table.specs.declared.slots.slot.Slot.{Slot}
-use Rattle.step_table.specs.CellDeeds.{cell_in, kind_in_state}
+use Rattle.step_table.specs.CellAtomicSteps.{cell_in, kind_in_state}
 use Rattle.step_table.specs.Contents.{slot_of, slots_swapped, named_handle}
-use Rattle.step_table.specs.Deeds.{handle_of, is_enabled, owned}
-use Rattle.step_table.specs.Holdings.{Slots, inside, is_full, place_in, plain, slot_pointer, slot_value, weak_slot}
-use Rattle.step_table.specs.Stories.{Nothing}
+use Rattle.step_table.specs.AtomicSteps.{handle_of, is_enabled, owned}
+use Rattle.step_table.specs.Registers.{Slots, inside, is_full, place_in, plain, slot_pointer, slot_value, weak_slot}
+use Rattle.step_table.specs.GhostStates.{Nothing}
 use Rattle.step_threads.specs.declared.programs.act.Act.{Act}
 use Rattle.step_threads.specs.declared.programs.act.Act.TheVariants.{Make, Share, Downgrade, Lock, Put, Leave, Clear, Count, Expired, Read, FromThis, Alias}
 use Rattle.step_threads.specs.declared.programs.act.Act.TheVariants.{Move, Ask, Offer, Swap, Exchange, Load, Compare, Drop, OnShelf}
 use Rattle.step_threads.specs.declared.programs.call.CellName.{CellName}
 use Rattle.step_threads.specs.declared.said.Answer.{Answer}
 use Rattle.step_threads.specs.declared.said.Answer.TheVariants as answer
-use Rattle.step_threads.specs.Courses.{cell_of_name, hand, is_there, other, placed}
-use Rattle.step_threads.specs.Doings.{IsLeaveEvent, IsLoadEvent, IsMakeEvent, On, IsSwapEvent, IsCompareEvent, Where, copies, leaves_as, put_on}
+use Rattle.step_threads.specs.Frames.{cell_of_name, hand, is_there, other, placed}
+use Rattle.step_threads.specs.TraceLabels.{IsLeaveEvent, IsLoadEvent, IsMakeEvent, On, IsSwapEvent, IsCompareEvent, Where, copies, leaves_as, put_on}
 use Rattle.step_threads.specs.Entries.{History}
 use Rattle.step_threads.specs.Rows.{Reply, Plain, Found, Got, Told, Came, Compared, Left, having, leaving, may_go, row}
 use Rattle.step_threads.specs.Rows.{Hands, full_answer, holding, outside, refusal}
-use Rattle.step_threads.specs.Scenes.{remains_as}
+use Rattle.step_threads.specs.AbstractStates.{remains_as}
 use Rattle.step_core.specs.Following.{no_worth}
-use Rattle.script_text.specs.Traces.{IsChosen}
+use Rattle.step_core.specs.Turns.{Always, IsChosen}
 use Rattle.script_stepper.proofs.LeastBlocks.{least_is_one, least_of_none}
 
 abbrev pub Events : Type 0
@@ -47,7 +47,7 @@ module _ (s : State) (d : ℕ) where
   Comes (Some e) = Asks s d e
 
   abbrev Chosen : Events → Type 0
-  Chosen e = IsChosen s d e
+  Chosen e = IsChosen Always s d e
 
   -- its reply is right
   abbrev pub Right : Events → Type 0
@@ -90,8 +90,7 @@ module _ (s : State) (d : ℕ) where
       → On (λ x. f ≡ Some (event.Count (handle_of s x) m)) ((m ≡ 0) × (f ≡ None)) o → Chosen e → Chosen f → (n ≡ m) × (e ≡ f)
   counts_once None n m e f p q u v = (p.0 ∙ sym q.0, p.1 ∙ sym q.1)
   counts_once (Some x) n m e f p q u v =
-      let a = subst Chosen p u in let b = subst Chosen q v in
-      let same : n ≡ m = a ∙ sym b in
+      let same : n ≡ m = subst Chosen p u tt ∙ sym (subst Chosen q v tt) in
       (same, p ∙ ap (λ (k : ℕ). Some (event.Count (handle_of s x) k)) same ∙ sym q)
 
   locks_once : (o : Option Pointer) (b c : Bool) (e f : Events)

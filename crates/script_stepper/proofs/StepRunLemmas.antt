@@ -2,21 +2,21 @@
 use Rattle.std.proofs.Common.{◌≡◌, ℕ, List, [], ◌++◌, sym, ap, subst, ◌∙◌}
 use Rattle.std.specs.List.{flat_map}
 use Rattle.step_core.specs.declared.trace.TraceStep.{TraceStep}
-use Rattle.step_core.specs.Worlds.{Sight, scene}
+use Rattle.step_core.specs.Worlds.{WorldState, abstraction}
 use Rattle.script_text.specs.Grammar.{ended}
 use Rattle.script_stepper.specs.Lines.{closing_lines}
 use Rattle.script_stepper.specs.StepRuns.{IsStepRun, IsStepText, step_lines}
 use Rattle.script_stepper.proofs.LineLemmas.{lines_then}
 
-pub step_text_is : (turns : List ℕ) (u u' : Sight) (steps told : List TraceStep) (a b c : List ℕ) → IsStepRun turns u steps u'
+pub step_text_is : (turns : List ℕ) (u u' : WorldState) (steps told : List TraceStep) (a b c : List ℕ) → IsStepRun turns u steps u'
     → told ≡ steps → a ≡ []
-    → b ≡ a ++ ended (flat_map step_lines told) → c ≡ b ++ ended (closing_lines (scene u')) → IsStepText turns u c
+    → b ≡ a ++ ended (flat_map step_lines told) → c ≡ b ++ ended (closing_lines (abstraction u')) → IsStepText turns u c
 step_text_is turns u u' steps told a b c run all none p q =
     record {
       steps = told;
       last = u';
       run = subst (λ (xs : List TraceStep). IsStepRun turns u xs u') (sym all) run;
       says =
-          lines_then (flat_map step_lines told) (closing_lines (scene u')) a b c p q
-          ∙ ap (λ (t : List ℕ). t ++ ended (flat_map step_lines told ++ closing_lines (scene u'))) none;
+          lines_then (flat_map step_lines told) (closing_lines (abstraction u')) a b c p q
+          ∙ ap (λ (t : List ℕ). t ++ ended (flat_map step_lines told ++ closing_lines (abstraction u'))) none;
     }

@@ -1,7 +1,7 @@
 -- What an act does to the totals of a history, and to the parts that endings have left.
 use Rattle.step_threads.specs.declared.programs.act.ShelfAct.{ShelfAct}
 use Rattle.step_threads.specs.declared.programs.act.ShelfAct.TheVariants.{Shelve, Unshelve}
-use Rattle.step_threads.specs.Shelving.{shelf_block, shelf_deed}
+use Rattle.step_threads.specs.Shelving.{shelf_block, shelf_step}
 use Rattle.std.proofs.Common.{◌≡◌, ℕ, ◌+◌, ◌*◌, ◌≤◌, Bool, true, false, List, refl, arith}
 use Rattle.std.specs.Prelude.{Option, Some, None, cond, option_map}
 use Rattle.control_word.specs.declared.model.handle.Kind.{Kind}
@@ -14,16 +14,17 @@ use Rattle.step_threads.specs.declared.programs.act.Act.TheVariants.{Read, Ask}
 use Rattle.step_threads.specs.declared.programs.act.Act.TheVariants.{Offer, Swap, Exchange, Load, Compare, Drop, OnShelf}
 use Rattle.step_table.specs.declared.memory.form.Form.{Form}
 use Rattle.step_threads.specs.declared.ending.Ending.{Ending}
-use Rattle.step_table.specs.declared.slots.holdings.Pointer.{Pointer}
-use Rattle.step_table.specs.declared.memory.past.Deed.{Deed}
-use Rattle.step_table.specs.Stories.{event_added, event_of}
-use Rattle.step_threads.specs.Courses.{Going, going, is_there, locked_pointer, offered, on_going, other}
-use Rattle.step_table.specs.Deeds.{alias, aliased, downgrade, exact, give, is_last, leave, leave_as, lock, read_deed, share, share_as, tell_count}
-use Rattle.step_table.specs.Deeds.{tell_expired}
+use Rattle.step_table.specs.declared.slots.registers.Pointer.{Pointer}
+use Rattle.step_table.specs.declared.memory.past.AtomicStep.{AtomicStep}
+use Rattle.step_table.specs.GhostStates.{event_added, event_of}
+use Rattle.step_threads.specs.Frames.{Going, going, is_there, locked_pointer, offered, on_going, other}
+use Rattle.step_table.specs.AtomicSteps.{alias, aliased, downgrade, exact, give, is_last, leave, leave_as, lock, read_atomic_step, share, share_as, tell_count}
+use Rattle.step_table.specs.AtomicSteps.{tell_expired}
 use Rattle.step_threads.specs.Rows.{ending_as, with_end}
 use Rattle.step_core.proofs.telling.Leaves.{begun_by, leaves_by}
-use Rattle.step_table.specs.Holdings.{Slots, inside, owner_slot, place_in, slot_pointer}
-use Rattle.step_threads.specs.Entries.{History, acted, history_compares, does, giving, least, loads, make_deed, history_swaps}
+use Rattle.step_table.specs.Registers.{Slots, inside, owner_slot, place_in, slot_pointer}
+use Rattle.step_threads.specs.Entries.{History, least}
+use Rattle.step_core.proofs.Entries.{acted, history_compares, does, giving, loads, make_step, history_swaps}
 use Rattle.step_core.specs.Totals.{ended_in, made_in}
 use Rattle.script_stepper.specs.Running.{parts_left}
 
@@ -48,15 +49,15 @@ same_if : (b : Bool) (h h' : History) (es : List Ending) → made_in h' ≡ made
 same_if true h h' es m e = same 0 h h' es m e
 same_if false h h' es m e = same 0 h h es refl refl
 
--- a deed on what a slot holds, which neither makes an object nor ends one
-same_by : (z : Opening) (d : ℕ) (h : History) (es : List Ending) (f : Pointer → Deed) (x : Option Pointer)
+-- an atomic step on what a slot holds, which neither makes an object nor ends one
+same_by : (z : Opening) (d : ℕ) (h : History) (es : List Ending) (f : Pointer → AtomicStep) (x : Option Pointer)
     → ((p : Pointer) → made_in (event_added d (event_of (leads z h) (f p)) h) ≡ made_in h)
     → ((p : Pointer) → ended_in (event_added d (event_of (leads z h) (f p)) h) ≡ ended_in h) → Tally 0 h es (does z d h (option_map f x)) es
 same_by z d h es f None m e = same 0 h h es refl refl
 same_by z d h es f (Some p) m e = same 0 h (event_added d (event_of (leads z h) (f p)) h) es (m p) (e p)
 
 make_tally : (z : Opening) (d : ℕ) (form : Form) (h : History) (es : List Ending) (b : Option ℕ)
-    → Tally 1 h es (does z d h (option_map (make_deed form) b)) es
+    → Tally 1 h es (does z d h (option_map (make_step form) b)) es
 make_tally z d form h es None = same 1 h h es refl refl
 make_tally z d form h es (Some b) = record { made = omega arith; last = 0; ended = omega arith; parts = omega arith }
 
@@ -96,11 +97,11 @@ swapped z d slots h es None = same 0 h h es refl refl
 swapped z d slots h es (Some x) = same 0 h (history_swaps z d slots h x.0 x.1) es refl refl
 
 -- a block goes to the shelf or comes from it, if there is one
-moved_tally : (z : Opening) (d : ℕ) (h : History) (es : List Ending) (x : ShelfAct) (b : Option ℕ) → Tally 0 h es (does z d h (shelf_deed x b)) es
+moved_tally : (z : Opening) (d : ℕ) (h : History) (es : List Ending) (x : ShelfAct) (b : Option ℕ) → Tally 0 h es (does z d h (shelf_step x b)) es
 moved_tally z d h es Shelve None = same 0 h h es refl refl
-moved_tally z d h es Shelve (Some b) = same 0 h (does z d h (shelf_deed Shelve (Some b))) es refl refl
+moved_tally z d h es Shelve (Some b) = same 0 h (does z d h (shelf_step Shelve (Some b))) es refl refl
 moved_tally z d h es (Unshelve c) None = same 0 h h es refl refl
-moved_tally z d h es (Unshelve c) (Some b) = same 0 h (does z d h (shelf_deed (Unshelve c) (Some b))) es refl refl
+moved_tally z d h es (Unshelve c) (Some b) = same 0 h (does z d h (shelf_step (Unshelve c) (Some b))) es refl refl
 
 pub tally : (z : Opening) (d k : ℕ) (slots : Slots) (h : History) (es : List Ending) (a : Act)
     → Tally (may_make a) h es (acted exact z d slots h a) (begun_by (leads z h) k es (leaves_by slots a))
@@ -114,7 +115,7 @@ tally z d k slots h es (Count i) = same_by z d h es (tell_count exact (leads z h
 tally z d k slots h es (Downgrade i) = same_by z d h es downgrade (slot_pointer slots i) (λ p. refl) (λ p. refl)
 tally z d k slots h es (Lock i must) = same_by z d h es (lock (leads z h)) (locked_pointer slots (Lock i must)) (λ p. refl) (λ p. refl)
 tally z d k slots h es (Expired i) = same_by z d h es (tell_expired (leads z h)) (slot_pointer slots i) (λ p. refl) (λ p. refl)
-tally z d k slots h es (Read i) = same_by z d h es (read_deed (leads z h)) (inside (slot_pointer slots i)) (λ p. refl) (λ p. refl)
+tally z d k slots h es (Read i) = same_by z d h es (read_atomic_step (leads z h)) (inside (slot_pointer slots i)) (λ p. refl) (λ p. refl)
 tally z d k slots h es (FromThis i kind) =
     same_by z d h es (give kind) (giving (leads z h) (inside (slot_pointer slots i))) (λ p. given_made d h (leads z h) p kind)
     (λ p. given_ended d h (leads z h) p kind)

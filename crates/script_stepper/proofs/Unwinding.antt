@@ -10,11 +10,11 @@ use Rattle.control_word.specs.Histories.{leads}
 use Rattle.control_word.specs.State.{Opening, State}
 use Rattle.step_threads.specs.declared.ending.Ending.{Ending}
 use Rattle.step_table.specs.declared.slots.slot.Slot.{Slot}
-use Rattle.step_threads.specs.Courses.{Walk, hand}
-use Rattle.step_table.specs.Holdings.{Slots, is_full, plain, pointer_of, slot_pointer}
+use Rattle.step_threads.specs.Frames.{FrameView, hand}
+use Rattle.step_table.specs.Registers.{Slots, is_full, plain, pointer_of, slot_pointer}
 use Rattle.step_threads.specs.Entries.{History}
 use Rattle.step_table.specs.Contents.{slot_as, slot_of}
-use Rattle.step_threads.specs.Scenes.{rested_walk}
+use Rattle.step_threads.specs.AbstractStates.{rested_frame}
 use Rattle.step_threads.specs.Unwinding.{Wound, history_clears, unwinds_on, stops, unwound}
 use Rattle.step_core.specs.Totals.{ended_in, made_in}
 use Rattle.script_stepper.specs.Running.{parts_left}
@@ -142,44 +142,44 @@ unwound_waits z d slots (e ∷ es) h some =
 
 -- ---- the endings of a thread
 
-abbrev pub still : History → Walk → Wound
+abbrev pub still : History → FrameView → Wound
 still h w = record { history = h; slots = w.slots; endings = w.endings }
 
-pub rested_totals : (z : Opening) (d : ℕ) (h : History) (w : Walk) → SameTotals h (rested_walk z d h w).history
+pub rested_totals : (z : Opening) (d : ℕ) (h : History) (w : FrameView) → SameTotals h (rested_frame z d h w).history
 rested_totals z d h w =
     cond_both (is_full (slot_pointer w.slots (hand w.slots))) (still h w) (unwound z d w.slots w.endings h) (λ c. SameTotals h c.history)
     (λ _. (refl, refl)) (λ _. unwound_totals z d w.slots w.endings h)
 
-pub rested_size : (z : Opening) (d : ℕ) (h : History) (w : Walk) → length (rested_walk z d h w).slots ≡ length w.slots
+pub rested_size : (z : Opening) (d : ℕ) (h : History) (w : FrameView) → length (rested_frame z d h w).slots ≡ length w.slots
 rested_size z d h w =
     cond_both (is_full (slot_pointer w.slots (hand w.slots))) (still h w) (unwound z d w.slots w.endings h) (λ c. length c.slots ≡ length w.slots)
     (λ _. refl) (λ _. unwound_size z d w.slots w.endings h)
 
-pub rested_parts : (z : Opening) (d : ℕ) (h : History) (w : Walk) → parts_left (rested_walk z d h w).endings ≤ parts_left w.endings
+pub rested_parts : (z : Opening) (d : ℕ) (h : History) (w : FrameView) → parts_left (rested_frame z d h w).endings ≤ parts_left w.endings
 rested_parts z d h w =
     cond_both (is_full (slot_pointer w.slots (hand w.slots))) (still h w) (unwound z d w.slots w.endings h)
     (λ c. parts_left c.endings ≤ parts_left w.endings) (λ _. omega arith) (λ _. unwound_parts z d w.slots w.endings h)
 
 -- with nothing in hand they get one part further or more
-pub rested_less : (z : Opening) (d : ℕ) (h : History) (w : Walk) → IsFree w.slots → 0 < parts_left w.endings
-    → parts_left (rested_walk z d h w).endings < parts_left w.endings
+pub rested_less : (z : Opening) (d : ℕ) (h : History) (w : FrameView) → IsFree w.slots → 0 < parts_left w.endings
+    → parts_left (rested_frame z d h w).endings < parts_left w.endings
 rested_less z d h w free some =
     cond_both (is_full (slot_pointer w.slots (hand w.slots))) (still h w) (unwound z d w.slots w.endings h)
     (λ c. parts_left c.endings < parts_left w.endings)
     (λ full. let none = ap (λ (x : Slot). is_full (pointer_of x)) free in absurd cc) (λ _. unwound_less z d w.slots w.endings h some)
 
-pub rested_waits : (z : Opening) (d : ℕ) (h : History) (w : Walk) → 0 < length w.slots
-    → IsWaiting (rested_walk z d h w).slots (rested_walk z d h w).endings
+pub rested_waits : (z : Opening) (d : ℕ) (h : History) (w : FrameView) → 0 < length w.slots
+    → IsWaiting (rested_frame z d h w).slots (rested_frame z d h w).endings
 rested_waits z d h w some =
     cond_both (is_full (slot_pointer w.slots (hand w.slots))) (still h w) (unwound z d w.slots w.endings h) (λ c. IsWaiting c.slots c.endings)
     (λ full. inr full) (λ _. unwound_waits z d w.slots w.endings h some)
 
 -- endings that wait go on no further
-wound_none : (z : Opening) (d : ℕ) (h : History) (w : Walk) (es : List Ending) → w.endings ≡ es → es ≡ [] → unwound z d w.slots es h ≡ still h w
+wound_none : (z : Opening) (d : ℕ) (h : History) (w : FrameView) (es : List Ending) → w.endings ≡ es → es ≡ [] → unwound z d w.slots es h ≡ still h w
 wound_none z d h w [] e none = ap (λ (l : List Ending). record { history = h; slots = w.slots; endings = l }) (sym e)
 wound_none z d h w (x ∷ es) e none = absurd cc
 
-pub rested_still : (z : Opening) (d : ℕ) (h : History) (w : Walk) → IsWaiting w.slots w.endings → rested_walk z d h w ≡ still h w
+pub rested_still : (z : Opening) (d : ℕ) (h : History) (w : FrameView) → IsWaiting w.slots w.endings → rested_frame z d h w ≡ still h w
 rested_still z d h w (inl none) =
     cond_both (is_full (slot_pointer w.slots (hand w.slots))) (still h w) (unwound z d w.slots w.endings h) (λ c. c ≡ still h w)
     (λ _. refl) (λ _. wound_none z d h w w.endings refl none)

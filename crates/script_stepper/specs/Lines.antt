@@ -13,7 +13,7 @@ use Rattle.step_threads.specs.declared.said.Answer.TheVariants as answer
 use Rattle.step_table.specs.declared.memory.ended.Ended.{Ended}
 use Rattle.step_table.specs.declared.memory.ended.Ended.TheVariants.{Fields, Null}
 use Rattle.step_threads.specs.declared.said.Said.{Said}
-use Rattle.step_threads.specs.Scenes.{Scene, state_in}
+use Rattle.step_threads.specs.AbstractStates.{AbstractState, state_in}
 use Rattle.step_threads.specs.Stocks.{from}
 use Rattle.step_core.specs.Totals.{census_of, ended_in, made_in}
 use Rattle.script_text.specs.Canonical.{number_after}
@@ -87,11 +87,11 @@ abbrev pub totals_text : ℕ → ℕ → List ℕ
 totals_text made over = codes "made " ++ decimal made ++ codes " ended " ++ decimal over ++ codes " left "
     ++ decimal (made - over)
 
--- the census of a scene, and the totals of its history
-abbrev pub closing_lines : Scene → List (List ℕ)
+-- the census of an abstract state, and the totals of its history
+abbrev pub closing_lines : AbstractState → List (List ℕ)
 closing_lines c = census_lines c.extent.shape.blocks (state_in c) ++ totals_text (made_in c.history)
     (ended_in c.history) ∷ []
 
 -- all lines of a run that says this and ends so
-abbrev pub run_lines : List Item → Scene → List (List ℕ)
+abbrev pub run_lines : List Item → AbstractState → List (List ℕ)
 run_lines items last = flat_map item_lines items ++ closing_lines last

@@ -8,14 +8,14 @@ use Rattle.script_text.specs.Drafts.{ScriptView}
 use Rattle.script_text.specs.Grammar.{Faulty, ReadsAs, ended}
 use Rattle.script_stepper.specs.declared.runs.stepping.Pace.{Pace}
 use Rattle.script_stepper.specs.declared.runs.stepping.Pace.TheVariants as pace
-use Rattle.step_core.specs.Worlds.{Sight, scene}
-use Rattle.script_text.specs.Beginnings.{script_scene, script_sight}
+use Rattle.step_core.specs.Worlds.{WorldState, abstraction}
+use Rattle.script_text.specs.Beginnings.{script_abstraction, script_world_state}
 use Rattle.script_stepper.specs.Lines.{run_lines}
 use Rattle.script_stepper.specs.Sinks.{AppendsBeginning}
 use Rattle.script_stepper.specs.StepRuns.{IsStepText}
 use Rattle.script_stepper.specs.TurnLists.{list_at}
 use Rattle.script_text.specs.Traces.{IsTrace, Item}
-use Rattle.step_threads.specs.Scenes.{Scene}
+use Rattle.step_threads.specs.AbstractStates.{AbstractState}
 
 -- whether the output is what failed
 abbrev pub is_output : {A : Type 0} → Result A Fault → Bool
@@ -45,29 +45,29 @@ WritesOne P (Err (BadTurn position)) old new = ⊥
 WritesOne P (Err Output) old new = (text : List ℕ) × P text × AppendsBeginning old new text
 WritesOne P (Err Input) old new = ⊥
 
--- the text of a run from this scene, turn by turn
-pub record IsTurnText (turns : List ℕ) (c : Scene) (text : List ℕ) : Type 0 where
+-- the text of a run from this abstract state, turn by turn
+pub record IsTurnText (turns : List ℕ) (c : AbstractState) (text : List ℕ) : Type 0 where
   pub items : List Item
-  pub last : Scene
+  pub last : AbstractState
   pub trace : IsTrace turns c items last
   pub says : text ≡ ended (run_lines items last)
 
 -- what a script's run with these turns writes
 abbrev pub IsRunText : ScriptView → List ℕ → List ℕ → Type 0
-IsRunText script turns text = IsTurnText turns (script_scene script) text
+IsRunText script turns text = IsTurnText turns (script_abstraction script) text
 
 -- what its run by single steps writes
 abbrev pub IsFineText : ScriptView → List ℕ → List ℕ → Type 0
-IsFineText script turns text = IsStepText turns (script_sight script) text
+IsFineText script turns text = IsStepText turns (script_world_state script) text
 
 -- the text of a run from u, by turns or by single steps
-abbrev pub IsShown : Pace → List ℕ → Sight → List ℕ → Type 0
-IsShown pace.Turns turns u text = IsTurnText turns (scene u) text
+abbrev pub IsShown : Pace → List ℕ → WorldState → List ℕ → Type 0
+IsShown pace.Turns turns u text = IsTurnText turns (abstraction u) text
 IsShown pace.Steps turns u text = IsStepText turns u text
 
 -- the same of a script's run
 abbrev pub IsTextBy : Pace → ScriptView → List ℕ → List ℕ → Type 0
-IsTextBy pace script turns text = IsShown pace turns (script_sight script) text
+IsTextBy pace script turns text = IsShown pace turns (script_world_state script) text
 
 -- the bytes read as a script, the list names turns of it, and this is a text that they have
 pub record IsScriptRun (IsText : ScriptView → List ℕ → List ℕ

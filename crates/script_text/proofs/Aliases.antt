@@ -1,5 +1,6 @@
 -- What was read of an alias is read again from its canonical words.
-use Rattle.std.proofs.Common.{◌≡◌, ℕ, suc, ◌<◌, ◌^◌, Bool, true, false, cond, List, [], ◌∷◌, ◌++◌, length, Some, None, Ok, refl, ap}
+use Rattle.std.proofs.Common.{◌≡◌, ℕ, suc, ◌<◌, ◌^◌, Bool, true, false, cond, List, [], ◌∷◌, ◌++◌}
+use Rattle.std.proofs.Common.{length, Some, None, Ok, refl, ap}
 use Rattle.std.proofs.Common.{subst, lit<}
 use Rattle.std.specs.Prelude.{codes, decimal}
 use Rattle.std.specs.List.{AllByRecursion}
@@ -9,16 +10,18 @@ use Rattle.step_table.specs.declared.memory.field.Field.TheVariants.{Zero, One, 
 use Rattle.control_word.specs.declared.model.handle.Kind.TheVariants.{Owner}
 use Rattle.step_threads.specs.declared.programs.call.Name.{Name}
 use Rattle.step_threads.specs.Programs.{Asked, IsDeclared, owner_asked}
-use Rattle.step_table.specs.Deeds.{field_number}
-use Rattle.script_text.specs.Reading.{◌>>=◌}
+use Rattle.step_table.specs.AtomicSteps.{field_number}
+use Rattle.text_lines.specs.Reading.{◌>>=◌}
 use Rattle.script_text.specs.Words.{field_of_word, numbered_field}
 use Rattle.script_text.specs.Names.{NameList, source_at, target_at, declared, name_text}
 use Rattle.script_text.specs.Shapes.{Aim, aim_of, aim_at, alias_at}
 use Rattle.script_text.specs.Scripts.{kinds_in}
 use Rattle.script_text.proofs.TidyWords.{IsTidy, name_is_tidy}
-use Rattle.script_text.proofs.ReadNames.{both_give, given, same_given, with_names, name_text-Entry, IsDeclared-Entry, source_is, Grows, target_is}
+use Rattle.script_text.proofs.ReadNames.{both_give, given, same_given, with_names, name_text-Entry}
+use Rattle.script_text.proofs.ReadNames.{IsDeclared-Entry, source_is, Grows, target_is}
 use Rattle.script_text.proofs.ReadNumbers.{decimal_reads, decimal_tidy}
-use Rattle.script_text.proofs.Reversible.{Writer, Asker, Sizer, IsReversible, moved, still, grown_entry}
+use Rattle.script_text.proofs.Reversible.{Writer, Asker, Sizer, IsReversible, moved, still}
+use Rattle.script_text.proofs.Reversible.{grown_entry}
 
 -- ---- a field
 
@@ -60,19 +63,22 @@ abbrev IsAim : NameList → Aim → Type 0
 IsAim names None = Unit {0}
 IsAim names (Some aim) = (word : List ℕ) × (source_at names Owner word ≡ Ok aim.0)
 
-of_is : (names : NameList) (name : Name) (word spelled : List ℕ) (aim : Aim) → source_at names Owner spelled ≡ Ok name
+of_is : (names : NameList) (name : Name) (word spelled : List ℕ) (aim : Aim)
+    → source_at names Owner spelled ≡ Ok name
     → aim_of name word ≡ Ok aim → IsAim names aim
 of_is names name word spelled aim s h =
     let b = both_give (field_of_word word) (λ field. given (at_field name field)) aim h in
     subst (IsAim names) (same_given (at_field name b.value) aim b.second) (spelled, s)
 
 null_or : (b : Bool) (names : NameList) (source : Name) (word spelled : List ℕ) (aim : Aim)
-    → source_at names Owner spelled ≡ Ok source → cond b (given at_null) (aim_of source word) ≡ Ok aim → IsAim names aim
+    → source_at names Owner spelled ≡ Ok source
+    → cond b (given at_null) (aim_of source word) ≡ Ok aim → IsAim names aim
 null_or true names source word spelled aim s h = subst (IsAim names) (same_given at_null aim h) tt
 null_or false names source word spelled aim s h = of_is names source word spelled aim s h
 
 aim_is : (names : NameList) (source : Name) (words : List (List ℕ)) (spelled : List ℕ) (aim : Aim)
-    → source_at names Owner spelled ≡ Ok source → aim_at names source words ≡ Ok aim → IsAim names aim
+    → source_at names Owner spelled ≡ Ok source → aim_at names source words ≡ Ok aim
+    → IsAim names aim
 unfolding aim_at
 aim_is names source [] spelled aim s h = absurd cc
 aim_is names source (word ∷ other ∷ third ∷ words) spelled aim s h = absurd cc
@@ -93,18 +99,28 @@ record IsReversibleAim (names new : NameList) (source : Name) (aim : Aim) : Type
 null_tidy : IsTidy (codes "null")
 null_tidy = (lit< tt, refl)
 
-aim_reversible : (names new : NameList) (source : Name) (aim : Aim) → Grows names new → IsAim names aim
+aim_reversible : (names new : NameList) (source : Name) (aim : Aim) → Grows names new
+    → IsAim names aim
     → IsReversibleAim names new source aim
 unfolding aim_at
 aim_reversible names new source None g a =
-    record { tidy = (null_tidy, tt); size_is = refl; again = refl; settled = λ more. refl; named = tt }
+    record {
+      tidy = (null_tidy, tt);
+      size_is = refl;
+      again = refl;
+      settled = λ more. refl;
+      named = tt;
+    }
 aim_reversible names new source (Some aim) g a =
     let word : List ℕ = a.0 in
     let s = source_is names Owner word aim.0 a.1 in
     let later = grown_entry names new aim.0 word Owner g s.entry in
     let text : name_text new aim.0 ≡ word = name_text-Entry new aim.0 word Owner later in
     record {
-      tidy = rw text (name_is_tidy word s.name_ok, (decimal_tidy (field_number aim.1) (field_below aim.1), tt));
+      tidy = rw text (
+        name_is_tidy word s.name_ok,
+        (decimal_tidy (field_number aim.1) (field_below aim.1), tt),
+      );
       size_is = refl;
       again = rw (text, a.1, field_again aim.1) refl;
       settled = λ more. rw (still new more aim.0 word Owner later) refl;
@@ -129,15 +145,18 @@ alias_size p = suc (suc (aim_size p.1))
 abbrev parts : Name → Name → Aim → Parts
 parts target source aim = ((target, source), aim)
 
-alias_from : (names new : NameList) (word other written : List ℕ) (aims : List (List ℕ)) (target source : Name) (aim : Aim)
-    → target_at names Owner word ≡ Ok written → source_at names Owner other ≡ Ok source → aim_at names source aims ≡ Ok aim
+alias_from : (names new : NameList) (word other written : List ℕ) (aims : List (List ℕ))
+    (target source : Name) (aim : Aim)
+    → target_at names Owner word ≡ Ok written → source_at names Owner other ≡ Ok source
+    → aim_at names source aims ≡ Ok aim
     → declared names Owner written ≡ Ok (with_names target new)
     → IsReversible alias_at write_alias asks_alias alias_size names new (parts target source aim)
 unfolding alias_at
 alias_from names new word other written aims target source aim first second third fourth =
     let t = target_is names new Owner word written target first fourth in
     let s = source_is names Owner other source second in
-    let a = aim_reversible names new source aim t.grows (aim_is names source aims other aim second third) in
+    let a = aim_reversible names new source aim t.grows
+    (aim_is names source aims other aim second third) in
     let later = grown_entry names new source other Owner t.grows s.entry in
     let text : name_text new target ≡ word = name_text-Entry new target word Owner t.entry in
     let also : name_text new source ≡ other = name_text-Entry new source other Owner later in
@@ -147,11 +166,19 @@ alias_from names new word other written aims target source aim first second thir
       again = rw (text, also, first, second, a.again, fourth) refl;
       grows = t.grows;
       settled = λ more.
-          rw (still new more target word Owner t.entry, still new more source other Owner later, a.settled more) refl;
-      named = (IsDeclared-Entry new target word Owner t.entry, (IsDeclared-Entry new source other Owner later, a.named));
+          rw (
+            still new more target word Owner t.entry,
+            still new more source other Owner later,
+            a.settled more,
+          ) refl;
+      named = (
+        IsDeclared-Entry new target word Owner t.entry,
+        (IsDeclared-Entry new source other Owner later, a.named),
+      );
     }
 
-pub alias_reversible : (names new : NameList) (words : List (List ℕ)) (p : Parts) → alias_at names words ≡ Ok (with_names p new)
+pub alias_reversible : (names new : NameList) (words : List (List ℕ)) (p : Parts)
+    → alias_at names words ≡ Ok (with_names p new)
     → IsReversible alias_at write_alias asks_alias alias_size names new p
 unfolding alias_at
 alias_reversible names new [] p h = absurd cc
@@ -159,7 +186,8 @@ alias_reversible names new (word ∷ []) p h = absurd cc
 alias_reversible names new (word ∷ other ∷ aims) p h =
     let a =
     both_give (target_at names Owner word)
-    (λ written. source_at names Owner other >>= λ source. aim_at names source aims >>= λ aim. declared names Owner written
+    (λ written. source_at names Owner other >>= λ source. aim_at names source aims
+    >>= λ aim. declared names Owner written
     >>= λ d. given (with_names (parts d.0 source aim) d.1))
     (with_names p new) h in
     let b =
@@ -172,7 +200,10 @@ alias_reversible names new (word ∷ other ∷ aims) p h =
     (λ aim. declared names Owner a.value >>= λ d. given (with_names (parts d.0 b.value aim) d.1))
     (with_names p new) b.second in
     let e =
-    both_give (declared names Owner a.value) (λ d. given (with_names (parts d.0 b.value c.value) d.1))
+    both_give (declared names Owner a.value)
+    (λ d. given (with_names (parts d.0 b.value c.value) d.1))
     (with_names p new) c.second in
-    moved alias_at write_alias asks_alias alias_size names e.value.1 new (parts e.value.0 b.value c.value) p e.second
-    (alias_from names e.value.1 word other a.value aims e.value.0 b.value c.value a.first b.first c.first e.first)
+    moved alias_at write_alias asks_alias alias_size names e.value.1 new
+    (parts e.value.0 b.value c.value) p e.second
+    (alias_from names e.value.1 word other a.value aims e.value.0 b.value c.value a.first b.first
+    c.first e.first)

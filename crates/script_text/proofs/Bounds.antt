@@ -1,5 +1,7 @@
--- A script that was read is within the limits, its calls are well named, and their cells are among those that texts name.
-use Rattle.std.proofs.Common.{◌≡◌, ℕ, zero, suc, Option, None, Some, ◌+◌, ◌<◌, ◌≤◌, List, [], ◌∷◌, ◌++◌, length, refl, ap}
+-- A script that was read is within the limits, its calls are well named, and their cells are among
+-- those that texts name.
+use Rattle.std.proofs.Common.{◌≡◌, ℕ, zero, suc, Option, None, Some, ◌+◌, ◌<◌, ◌≤◌, List, [], ◌∷◌}
+use Rattle.std.proofs.Common.{◌++◌, length, refl, ap}
 use Rattle.std.proofs.Common.{subst, ◌∙◌, arith, length-append}
 use Rattle.std.specs.Prelude.{slice_get, sum_by}
 use Rattle.std.specs.List.{AllByRecursion}
@@ -10,18 +12,22 @@ use Rattle.step_threads.specs.declared.programs.call.Call.{Call}
 use Rattle.control_word.specs.declared.model.handle.Kind.{Kind}
 use Rattle.control_word.specs.declared.shape.Shape.{Shape}
 use Rattle.step_threads.specs.declared.programs.call.CellName.{CellName}
-use Rattle.step_threads.specs.Programs.{AllHaveCells, Asked, HasCells, IsApartFromCell, IsNameFound, IsIn, Part, names_of, IsDeclared, IsWellNamed, IsPart}
+use Rattle.step_threads.specs.Programs.{AllHaveCells, Asked, HasCells, IsApartFromCell, IsNameFound}
+use Rattle.step_threads.specs.Programs.{IsIn, Part, names_of, IsDeclared, IsWellNamed, IsPart}
 use Rattle.step_threads.specs.Programs.{cells_of}
 use Rattle.script_text.specs.Names.{NameList}
-use Rattle.script_text.specs.Drafts.{Section, ScriptView, Draft, draft_in, new_draft, sections, script_of, no_section, with_call}
+use Rattle.script_text.specs.Drafts.{Section, ScriptView, Draft, draft_in, new_draft, sections}
+use Rattle.script_text.specs.Drafts.{script_of, no_section, with_call}
 use Rattle.script_text.specs.Grammar.{Leads, BeginsWithDraft}
-use Rattle.script_text.specs.Scripts.{HasTextCells, converted, kinds_in, part_in, program_in, statement_count, IsScript}
+use Rattle.script_text.specs.Scripts.{HasTextCells, converted, kinds_in, part_in, program_in}
+use Rattle.script_text.specs.Scripts.{statement_count, IsScript}
 use Rattle.script_text.proofs.ReadNames.{slice_get-more, Grows}
 use Rattle.script_text.specs.declared.parts.version.Version.{Version}
 use Rattle.script_text.specs.declared.parts.version.Version.TheVariants.{One, Two}
 use Rattle.script_text.specs.Versions.{blocks_in, most_threads}
 use Rattle.script_text.proofs.Headers.{IsHeader, most_allow}
-use Rattle.script_text.proofs.Changes.{with_thread, IsAdded, Change, skipped, headed, began, added, line_change}
+use Rattle.script_text.proofs.Changes.{with_thread, IsAdded, Change, skipped, headed, began, added}
+use Rattle.script_text.proofs.Changes.{line_change}
 use Rattle.script_text.proofs.Cells.{IsTextCell, text_cell_in}
 use Rattle.script_text.proofs.CellShapes.{Fits}
 use Rattle.script_text.proofs.RoundTrip.{round_trip}
@@ -47,7 +53,8 @@ record IsSection (s : Section) : Type 0 where
   part : IsPart (part_in s)
   fits : AllByRecursion Fits s.calls
 
-section_is : (s : Section) → length s.names ≤ 32 → AllByRecursion (AreDeclared (kinds_in s.names)) s.calls
+section_is : (s : Section) → length s.names ≤ 32
+    → AllByRecursion (AreDeclared (kinds_in s.names)) s.calls
     → AllByRecursion Fits s.calls → IsSection s
 section_is s few named fits = record {
   part = record {
@@ -65,7 +72,8 @@ all-last : {A : Type 0} (P : A → Type 0) (xs : List A) (x : A) → AllByRecurs
 all-last P [] x h k = (k, tt)
 all-last P (y ∷ xs) x h k = (h.0, all-last P xs x h.1 k)
 
-all_parts : (ss : List Section) → AllByRecursion IsSection ss → AllByRecursion IsPart (program_in ss)
+all_parts : (ss : List Section) → AllByRecursion IsSection ss
+    → AllByRecursion IsPart (program_in ss)
 all_parts [] h = tt
 all_parts (s ∷ ss) h = (h.0.part, all_parts ss h.1)
 
@@ -75,12 +83,14 @@ count-last ss s =
     let size : Part → ℕ = λ part. length part.calls in
     let one : sum_by size (part_in s ∷ []) ≡ length s.calls =
     omega (arith, sum_by-cons size (part_in s) []) in
-    ap (sum_by size) (map-append part_in ss (s ∷ [])) ∙ sum_by-append size (program_in ss) (part_in s ∷ [])
+    ap (sum_by size) (map-append part_in ss (s ∷ []))
+    ∙ sum_by-append size (program_in ss) (part_in s ∷ [])
     ∙ ap (λ n. statement_count ss + n) one
 
 -- ---- more names
 
-found_more : (kinds more : List Kind) (n : ℕ) (kind : Option Kind) → IsNameFound kind (slice_get kinds n)
+found_more : (kinds more : List Kind) (n : ℕ) (kind : Option Kind)
+    → IsNameFound kind (slice_get kinds n)
     → IsNameFound kind (slice_get (kinds ++ more) n)
 found_more [] more n None h = absurd cc
 found_more (k ∷ kinds) more zero None h = h
@@ -122,9 +132,11 @@ record IsBounded (d : Draft) : Type 0 where
   fits : AllByRecursion Fits d.current.calls
 
 all_sections : (d : Draft) → IsBounded d → AllByRecursion IsSection (sections d)
-all_sections d b = all-last IsSection d.done d.current b.parts (section_is d.current b.few b.named b.fits)
+all_sections d b =
+    all-last IsSection d.done d.current b.parts (section_is d.current b.few b.named b.fits)
 
-begun_bounded : (d : Draft) → length d.done + 1 < most_threads d.version → IsBounded d → IsBounded (with_thread d)
+begun_bounded : (d : Draft) → length d.done + 1 < most_threads d.version → IsBounded d
+    → IsBounded (with_thread d)
 begun_bounded d room b = record {
   count = omega (arith, b.count, count-last (d.done ++ d.current ∷ []) no_section);
   calls = b.calls;
@@ -137,7 +149,8 @@ begun_bounded d room b = record {
   fits = tt;
 }
 
-added_bounded : (d e : Draft) (a : IsAdded d e) → IsBounded d → IsBounded (with_call d (a.call, a.names))
+added_bounded : (d e : Draft) (a : IsAdded d e) → IsBounded d
+    → IsBounded (with_call d (a.call, a.names))
 added_bounded d e a b = record {
   count =
       omega (
@@ -155,12 +168,14 @@ added_bounded d e a b = record {
   few = a.rewrites.grows.few b.few;
   named =
       all-last (AreDeclared (kinds_in a.names)) d.current.calls a.call
-      (named_grown d.current.names a.names d.current.calls a.rewrites.grows b.named) a.rewrites.named;
+      (named_grown d.current.names a.names d.current.calls a.rewrites.grows b.named)
+      a.rewrites.named;
   fits = all-last Fits d.current.calls a.call b.fits a.rewrites.fits;
 }
 
 -- before the first line of the threads
-first_bounded : (version : Version) → 1 ≤ most_threads version → 64 ≤ blocks_in version → blocks_in version ≤ 65535
+first_bounded : (version : Version) → 1 ≤ most_threads version → 64 ≤ blocks_in version
+    → blocks_in version ≤ 65535
     → IsBounded (draft_in version)
 first_bounded version threads least most = record {
   count = refl;
@@ -176,7 +191,8 @@ first_bounded version threads least most = record {
 
 headed_bounded : (version : Version) → IsHeader version → IsBounded (draft_in version)
 headed_bounded version h =
-    subst (λ (v : Version). IsBounded (draft_in v)) h.is (first_bounded (Two h.blocks) (omega arith) h.least h.most)
+    subst (λ (v : Version). IsBounded (draft_in v)) h.is
+    (first_bounded (Two h.blocks) (omega arith) h.least h.most)
 
 change_bounded : (d e : Draft) → Change d e → IsBounded d → IsBounded e
 change_bounded d e (skipped same) b = subst IsBounded same b
@@ -194,7 +210,8 @@ start = first_bounded One (omega arith) (omega arith) (omega arith)
 
 -- ---- a shape has the cells
 
-cells_in : (shape : Shape) → HasTextCells shape → (cells : List CellName) → AllByRecursion IsTextCell cells
+cells_in : (shape : Shape) → HasTextCells shape → (cells : List CellName)
+    → AllByRecursion IsTextCell cells
     → AllByRecursion (IsIn shape) cells
 cells_in shape has [] h = tt
 cells_in shape has (c ∷ cells) h = (text_cell_in shape has c h.0, cells_in shape has cells h.1)
@@ -202,14 +219,20 @@ cells_in shape has (c ∷ cells) h = (text_cell_in shape has c h.0, cells_in sha
 calls_in : (shape : Shape) → HasTextCells shape → (calls : List Call) → AllByRecursion Fits calls
     → AllByRecursion (HasCells shape) calls
 calls_in shape has [] h = tt
-calls_in shape has (c ∷ calls) h =
-    (All-from_recursion (IsIn shape) (cells_of c) (cells_in shape has (cells_of c) h.0.0), calls_in shape has calls h.1)
+calls_in shape has (c ∷ calls) h = (
+  All-from_recursion (IsIn shape) (cells_of c) (cells_in shape has (cells_of c) h.0.0),
+  calls_in
+      shape has calls h.1,
+)
 
 parts_in : (shape : Shape) → HasTextCells shape → (ss : List Section) → AllByRecursion IsSection ss
     → AllByRecursion (AllHaveCells shape) (program_in ss)
 parts_in shape has [] h = tt
-parts_in shape has (s ∷ ss) h =
-    (All-from_recursion (HasCells shape) s.calls (calls_in shape has s.calls h.0.fits), parts_in shape has ss h.1)
+parts_in shape has (s ∷ ss) h = (
+  All-from_recursion (HasCells shape) s.calls (calls_in shape has s.calls h.0.fits),
+  parts_in
+      shape has ss h.1,
+)
 
 pub script_is : (bytes : List ℕ) (d : Draft) (number : ℕ) → BeginsWithDraft bytes d number []
     → IsScript (script_of d) d.count
@@ -217,7 +240,8 @@ script_is bytes d number h =
     let b = lines_bounded h.lines new_draft d h.leads start in
     let again = round_trip bytes d number h in
     let threads : length (sections d) ≡ length d.done + 1 = length-append d.done (d.current ∷ []) in
-    let parts : length (program_in (sections d)) ≡ length (sections d) = length-map (sections d) part_in in
+    let parts : length (program_in (sections d)) ≡ length (sections d) =
+    length-map (sections d) part_in in
     let few : length (sections d) ≤ 64 = omega (arith, threads, b.threads, most_allow d.version) in
     record {
       reads = again.same;
@@ -232,7 +256,8 @@ script_is bytes d number h =
         actors = omega (arith, parts, few);
         calls = omega (arith, b.count, b.calls);
         each =
-            All-from_recursion IsPart (program_in (sections d)) (all_parts (sections d) (all_sections d b));
+            All-from_recursion IsPart (program_in (sections d))
+            (all_parts (sections d) (all_sections d b));
       };
       cells = λ shape has.
           All-from_recursion (AllHaveCells shape) (program_in (sections d))
@@ -240,7 +265,8 @@ script_is bytes d number h =
     }
 
 -- in version 2 it is a script too
-pub converted_is : (script : ScriptView) (count : ℕ) → IsScript script count → IsScript (converted script) count
+pub converted_is : (script : ScriptView) (count : ℕ) → IsScript script count
+    → IsScript (converted script) count
 converted_is script count s = record {
   reads = s.converts;
   converts = s.converts;

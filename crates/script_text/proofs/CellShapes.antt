@@ -1,20 +1,24 @@
 -- What was read of a statement on a cell, by its shape, is read again from its canonical words.
-use Rattle.std.proofs.Common.{◌≡◌, ℕ, Bool, true, false, cond, List, [], ◌∷◌, Ok, Err, refl, sym, subst}
+use Rattle.std.proofs.Common.{◌≡◌, ℕ, Bool, true, false, cond, List, [], ◌∷◌, Ok, Err, refl, sym}
+use Rattle.std.proofs.Common.{subst}
 use Rattle.std.specs.List.{AllByRecursion}
 use Rattle.step_threads.specs.declared.programs.call.Call.{Call}
 use Rattle.step_threads.specs.declared.programs.call.Call.TheVariants as call
 use Rattle.step_threads.specs.declared.programs.call.CellName.{CellName}
 use Rattle.step_threads.specs.declared.programs.call.Name.{Name}
-use Rattle.step_threads.specs.Programs.{IsApartFromCell, as_in, kind_at, cells_of, is_member_of, through}
+use Rattle.step_threads.specs.Programs.{IsApartFromCell, as_in, kind_at, cells_of, is_member_of}
+use Rattle.step_threads.specs.Programs.{through}
 use Rattle.script_text.specs.declared.fault.Cause.{Cause}
 use Rattle.script_text.specs.declared.fault.Cause.TheVariants.{NameUsedTwice}
-use Rattle.script_text.specs.Reading.{◌>>=◌}
+use Rattle.text_lines.specs.Reading.{◌>>=◌}
 use Rattle.script_text.specs.Names.{NameList, declared, name_text, source_at, target_at}
 use Rattle.script_text.specs.Cells.{apart, cell_of_word, cell_text}
 use Rattle.script_text.specs.Shapes.{cell_and_other, cell_and_source, target_and_cell}
-use Rattle.script_text.proofs.Cells.{IsTextCell, as_kind, cell_again, cell_entry, cell_grown, cell_is, cell_still, cell_tidy, through_named}
+use Rattle.script_text.proofs.Cells.{IsTextCell, as_kind, cell_again, cell_entry, cell_grown}
+use Rattle.script_text.proofs.Cells.{cell_is, cell_still, cell_tidy, through_named}
 use Rattle.script_text.proofs.TidyWords.{name_is_tidy}
-use Rattle.script_text.proofs.ReadNames.{both_give, given, grows_by_none, name_text-Entry, same_given, source_is, target_is, with_names}
+use Rattle.script_text.proofs.ReadNames.{both_give, given, grows_by_none, name_text-Entry}
+use Rattle.script_text.proofs.ReadNames.{same_given, source_is, target_is, with_names}
 use Rattle.script_text.proofs.Reversible.{Asker, IsReversible, Writer, always, still}
 
 -- the cells of a call are among those that texts name, and an exchange is of another name's member
@@ -39,34 +43,44 @@ record IsPair (names new : NameList) (word other : List ℕ) (p : CellName × Na
   none : names ≡ new
 
 pair_read : (names new : NameList) (word other : List ℕ) (p : CellName × Name)
-    → cell_and_source names (word ∷ other ∷ []) ≡ Ok (with_names p new) → IsPair names new word other p
+    → cell_and_source names (word ∷ other ∷ []) ≡ Ok (with_names p new)
+    → IsPair names new word other p
 unfolding cell_and_source
 pair_read names new word other p h =
     let a =
     both_give (cell_of_word names word)
-    (λ c. source_at names (kind_at c) other >>= λ source. given (with_names (cell_pair c source) names))
+    (λ c. source_at names (kind_at c) other
+    >>= λ source. given (with_names (cell_pair c source) names))
     (with_names p new) h in
     let b =
-    both_give (source_at names (kind_at a.value) other) (λ source. given (with_names (cell_pair a.value source) names))
+    both_give (source_at names (kind_at a.value) other)
+    (λ source. given (with_names (cell_pair a.value source) names))
     (with_names p new) a.second in
-    let same = same_given (with_names (cell_pair a.value b.value) names) (with_names p new) b.second in
+    let same = same_given (with_names (cell_pair a.value b.value) names) (with_names p new)
+    b.second in
     subst (λ (q : (CellName × Name) × NameList). IsPair names q.1 word other q.0) same
     (record { cell = a.first; source = b.first; none = refl })
 
-pair_from : (names : NameList) (word other : List ℕ) (p : CellName × Name) → IsPair names names word other p
+pair_from : (names : NameList) (word other : List ℕ) (p : CellName × Name)
+    → IsPair names names word other p
     → IsReversible cell_and_source write_cell asks_cell (always 2) names names p
 unfolding cell_and_source
 pair_from names word other p l =
     let is = cell_is names word p.0 l.cell in
     let here = cell_entry names names p.0 (grows_by_none names) is in
     let s = source_is names (kind_at p.0) other p.1 l.source in
-    let text : name_text names p.1 ≡ other = name_text-Entry names p.1 other (kind_at p.0) s.entry in
+    let text : name_text names p.1 ≡ other =
+    name_text-Entry names p.1 other (kind_at p.0) s.entry in
     record {
       tidy = rw text (cell_tidy names p.0 is, (name_is_tidy other s.name_ok, tt));
       size_is = refl;
       again = rw (cell_again names p.0 is, text, l.source) refl;
       grows = grows_by_none names;
-      settled = λ more. rw (cell_still names more p.0 here, still names more p.1 other (kind_at p.0) s.entry) refl;
+      settled = λ more. rw (
+        cell_still names more p.0 here,
+        still names more p.1 other (kind_at p.0)
+            s.entry,
+      ) refl;
       named = (as_kind names p.0 p.1 other s.entry, through_named names p.0 here);
     }
 
@@ -79,8 +93,10 @@ cell_reversible names new (word ∷ []) p h = absurd cc
 cell_reversible names new (word ∷ other ∷ third ∷ words) p h = absurd cc
 cell_reversible names new (word ∷ other ∷ []) p h =
     let l = pair_read names new word other p h in
-    subst (λ (ns : NameList). IsReversible cell_and_source write_cell asks_cell (always 2) names ns p) l.none
-    (pair_from names word other p (subst (λ (ns : NameList). IsPair names ns word other p) (sym l.none) l))
+    subst (λ (ns : NameList). IsReversible cell_and_source write_cell asks_cell (always 2) names ns
+    p) l.none
+    (pair_from names word other p (subst (λ (ns : NameList). IsPair names ns word other p)
+    (sym l.none) l))
 
 pair_cell : (names new : NameList) (words : List (List ℕ)) (p : CellName × Name)
     → cell_and_source names words ≡ Ok (with_names p new) → IsTextCell p.0
@@ -88,7 +104,8 @@ unfolding cell_and_source
 pair_cell names new [] p h = absurd cc
 pair_cell names new (word ∷ []) p h = absurd cc
 pair_cell names new (word ∷ other ∷ third ∷ words) p h = absurd cc
-pair_cell names new (word ∷ other ∷ []) p h = (cell_is names word p.0 (pair_read names new word other p h).cell).text
+pair_cell names new (word ∷ other ∷ []) p h =
+    (cell_is names word p.0 (pair_read names new word other p h).cell).text
 
 pub store_fits : (names new : NameList) (words : List (List ℕ)) (p : CellName × Name)
     → cell_and_source names words ≡ Ok (with_names p new) → Fits (call.Store p.0 p.1)
@@ -96,7 +113,8 @@ store_fits names new words p h = ((pair_cell names new words p h, tt), tt)
 
 -- ---- a cell and a name that it is no member of
 
-refused_or : {A : Type 0} (b : Bool) (d : Cause) (x y : A) → cond b (Err d) (given x) ≡ given y → (b ≡ false) × (x ≡ y)
+refused_or : {A : Type 0} (b : Bool) (d : Cause) (x y : A) → cond b (Err d) (given x) ≡ given y
+    → (b ≡ false) × (x ≡ y)
 refused_or true d x y e = absurd cc
 refused_or false d x y e = (refl, same_given x y e)
 
@@ -110,8 +128,10 @@ other_read : (names new : NameList) (words : List (List ℕ)) (p : CellName × N
 unfolding cell_and_other
 other_read names new words p h =
     let b = both_give (cell_and_source names words) (λ r. apart r) (with_names p new) h in
-    let g = refused_or (is_member_of b.value.0.0 b.value.0.1) NameUsedTwice b.value (with_names p new) b.second in
-    subst (λ (q : (CellName × Name) × NameList). IsOther names q.1 words q.0) g.1 (record { read = b.first; other = g.0 })
+    let g = refused_or (is_member_of b.value.0.0 b.value.0.1) NameUsedTwice b.value
+    (with_names p new) b.second in
+    subst (λ (q : (CellName × Name) × NameList). IsOther names q.1 words q.0) g.1
+    (record { read = b.first; other = g.0 })
 
 pub other_reversible : (names new : NameList) (words : List (List ℕ)) (p : CellName × Name)
     → cell_and_other names words ≡ Ok (with_names p new)
@@ -154,7 +174,8 @@ record IsLoad (names new : NameList) (word other : List ℕ) (p : Name × CellNa
   made : declared names (kind_at p.1) written ≡ Ok (with_names p.0 new)
 
 load_is : (names new : NameList) (word other : List ℕ) (p : Name × CellName)
-    → target_and_cell names (word ∷ other ∷ []) ≡ Ok (with_names p new) → IsLoad names new word other p
+    → target_and_cell names (word ∷ other ∷ []) ≡ Ok (with_names p new)
+    → IsLoad names new word other p
 unfolding target_and_cell
 load_is names new word other p h =
     let a =
@@ -164,12 +185,15 @@ load_is names new word other p h =
     (with_names p new) h in
     let b =
     both_give (target_at names (kind_at a.value) word)
-    (λ written. declared names (kind_at a.value) written >>= λ d. given (with_names (name_cell d.0 a.value) d.1))
+    (λ written. declared names (kind_at a.value) written
+    >>= λ d. given (with_names (name_cell d.0 a.value) d.1))
     (with_names p new) a.second in
     let c =
-    both_give (declared names (kind_at a.value) b.value) (λ d. given (with_names (name_cell d.0 a.value) d.1))
+    both_give (declared names (kind_at a.value) b.value)
+    (λ d. given (with_names (name_cell d.0 a.value) d.1))
     (with_names p new) b.second in
-    let same = same_given (with_names (name_cell c.value.0 a.value) c.value.1) (with_names p new) c.second in
+    let same = same_given (with_names (name_cell c.value.0 a.value) c.value.1) (with_names p new)
+    c.second in
     subst (λ (q : (Name × CellName) × NameList). IsLoad names q.1 word other q.0) same
     (record { written = b.value; cell = a.first; target = b.first; made = c.first })
 
@@ -192,7 +216,11 @@ load_reversible names new (word ∷ other ∷ []) p h =
       size_is = refl;
       again = rw (text, same, cell_again names p.1 is, l.target, l.made) refl;
       grows = t.grows;
-      settled = λ more. rw (still new more p.0 word (kind_at p.1) t.entry, cell_still new more p.1 here) refl;
+      settled = λ more. rw (
+        still new more p.0 word (kind_at p.1) t.entry,
+        cell_still new more p.1
+            here,
+      ) refl;
       named = (as_kind new p.1 p.0 word t.entry, through_named new p.1 here);
     }
 

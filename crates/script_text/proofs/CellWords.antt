@@ -1,6 +1,8 @@
 -- A word, cut at its first dot, and members spelled and read again.
-use Rattle.std.proofs.Common.{◌≡◌, ℕ, zero, suc, ◌+◌, ◌-◌, ◌<◌, ◌≤◌, Bool, true, false, not, cond, ltb, List}
-use Rattle.std.proofs.Common.{[], ◌∷◌, ◌++◌, length, take, drop, Some, None, Ok, Err, refl, arith, ◌∙◌}
+use Rattle.std.proofs.Common.{◌≡◌, ℕ, zero, suc, ◌+◌, ◌-◌, ◌<◌, ◌≤◌, Bool, true, false, not, cond}
+use Rattle.std.proofs.Common.{ltb, List}
+use Rattle.std.proofs.Common.{[], ◌∷◌, ◌++◌, length, take, drop, Some, None, Ok, Err, refl, arith}
+use Rattle.std.proofs.Common.{◌∙◌}
 use Rattle.std.specs.List.{list_all, position, position_or_len}
 use Rattle.std.specs.Prelude.{codes, ◌&&◌}
 use Rattle.std.specs.Str.{bytes_eq}
@@ -11,17 +13,19 @@ use Rattle.std.proofs.lemmas.List.Folds.{list_all-append}
 use Rattle.script_text.specs.declared.fault.Cause.TheVariants.{BadCell}
 use Rattle.script_text.specs.Words.{is_digit, is_lower, is_name, is_name_byte}
 use Rattle.script_text.specs.Cells.{is_dot, member_number_at, member_text, split_dot}
-use Rattle.script_text.proofs.LineLemmas.{none_by, some_by}
+use Rattle.text_lines.proofs.LineLemmas.{none_by, some_by}
 use Rattle.script_text.proofs.ReadNames.{same_given}
 use Rattle.script_text.proofs.TidyWords.{IsTidy, both_true, is_tidy_byte, name_is_tidy}
-use Rattle.script_text.proofs.WordLemmas.{and_both}
+use Rattle.text_lines.proofs.ByteTests.{and_both}
 
 -- ---- where the first dot is
 
-none_past : (b : Bool) (x : ℕ) (xs : List ℕ) (m : ℕ) → is_dot x ≡ b → suc (length xs) ≤ cond (not b) (1 + m) 0
+none_past : (b : Bool) (x : ℕ) (xs : List ℕ) (m : ℕ) → is_dot x ≡ b
+    → suc (length xs) ≤ cond (not b) (1 + m) 0
     → (length xs ≤ m → split_dot xs ≡ None) → split_dot (x ∷ xs) ≡ None
 none_past true x xs m is far rest = absurd (omega arith)
-none_past false x xs m is far rest = let e : split_dot xs ≡ None = rest (omega arith) in rw (is, e) refl
+none_past false x xs m is far rest =
+    let e : split_dot xs ≡ None = rest (omega arith) in rw (is, e) refl
 
 none_far : (xs : List ℕ) → length xs ≤ position_or_len is_dot xs → split_dot xs ≡ None
 none_far [] far = refl
@@ -36,7 +40,11 @@ no_dot word h =
 cut_by : (b : Bool) (x : ℕ) (xs : List ℕ) (m : ℕ) → is_dot x ≡ b
     → (m < length xs → split_dot xs ≡ Some (take m xs, drop (m + 1) xs))
     → cond (not b) (1 + m) 0 < suc (length xs)
-    → split_dot (x ∷ xs) ≡ Some (take (cond (not b) (1 + m) 0) (x ∷ xs), drop (cond (not b) (1 + m) 0 + 1) (x ∷ xs))
+    → split_dot (x ∷ xs) ≡ Some (
+      take (cond (not b) (1 + m) 0) (x ∷ xs),
+      drop
+          (cond (not b) (1 + m) 0 + 1) (x ∷ xs),
+    )
 cut_by true x xs m is rest near = rw is refl
 cut_by false x xs m is rest near =
     let e : split_dot xs ≡ Some (take m xs, drop (m + 1) xs) = rest (omega arith) in
@@ -45,7 +53,11 @@ cut_by false x xs m is rest near =
     rw (one, two, is, e) refl
 
 cut_at : (xs : List ℕ) → position_or_len is_dot xs < length xs
-    → split_dot xs ≡ Some (take (position_or_len is_dot xs) xs, drop (position_or_len is_dot xs + 1) xs)
+    → split_dot xs ≡ Some (
+      take (position_or_len is_dot xs) xs,
+      drop (position_or_len is_dot xs + 1)
+          xs,
+    )
 cut_at [] near = absurd (omega arith)
 cut_at (x ∷ xs) near = cut_by (is_dot x) x xs (position_or_len is_dot xs) refl (cut_at xs) near
 
@@ -53,7 +65,8 @@ cut_at (x ∷ xs) near = cut_by (is_dot x) x xs (position_or_len is_dot xs) refl
 pub dot_cut : (word : List ℕ) (i : ℕ) → position is_dot word ≡ Some i
     → split_dot word ≡ Some (take i word, take (length word - (i + 1)) (drop (i + 1) word))
 dot_cut word i h =
-    let at = some_by (ltb (position_or_len is_dot word) (length word)) (position_or_len is_dot word) i h in
+    let at = some_by (ltb (position_or_len is_dot word) (length word)) (position_or_len is_dot word)
+    i h in
     let cut = cut_at word (ltb-true _ _ at.0) in
     rw (← at.1, take_rest word (position_or_len is_dot word + 1)) cut
 
@@ -69,7 +82,8 @@ pub digit_dot : (b : ℕ) → is_digit b ≡ true → is_dot b ≡ false
 digit_dot b h = grind (arith, nat_tests)
 
 -- bytes that pass a test that no dot passes aren't cut
-pub uncut : (p : ℕ → Bool) → ((b : ℕ) → p b ≡ true → is_dot b ≡ false) → (bs : List ℕ) → list_all p bs ≡ true
+pub uncut : (p : ℕ → Bool) → ((b : ℕ) → p b ≡ true → is_dot b ≡ false) → (bs : List ℕ)
+    → list_all p bs ≡ true
     → split_dot bs ≡ None
 uncut p h [] k = refl
 uncut p h (b ∷ bs) k =
@@ -79,7 +93,8 @@ uncut p h (b ∷ bs) k =
     rw (dot, rest) refl
 
 -- and after them comes the first dot
-cut_after : (p : ℕ → Bool) → ((b : ℕ) → p b ≡ true → is_dot b ≡ false) → (bs rest : List ℕ) → list_all p bs ≡ true
+cut_after : (p : ℕ → Bool) → ((b : ℕ) → p b ≡ true → is_dot b ≡ false) → (bs rest : List ℕ)
+    → list_all p bs ≡ true
     → split_dot (bs ++ 46 ∷ rest) ≡ Some (bs, rest)
 cut_after p h [] rest k = refl
 cut_after p h (b ∷ bs) rest k =
@@ -101,7 +116,8 @@ name_cut w rest h = cut_after is_name_byte name_dot w rest (name_bytes w h)
 
 -- ---- members
 
-three_by : (a b c : Bool) (m : ℕ) → cond a (Ok 0) (cond b (Ok 1) (cond c (Ok 2) (Err BadCell))) ≡ Ok m → m < 3
+three_by : (a b c : Bool) (m : ℕ)
+    → cond a (Ok 0) (cond b (Ok 1) (cond c (Ok 2) (Err BadCell))) ≡ Ok m → m < 3
 three_by true b c m h = let e : 0 ≡ m = same_given 0 m h in omega (arith, e)
 three_by false true c m h = let e : 1 ≡ m = same_given 1 m h in omega (arith, e)
 three_by false false true m h = let e : 2 ≡ m = same_given 2 m h in omega (arith, e)
@@ -110,7 +126,8 @@ three_by false false false m h = absurd cc
 pub member_below : (word : List ℕ) (m : ℕ) → member_number_at word ≡ Ok m → m < 3
 unfolding member_number_at
 member_below word m h =
-    three_by (bytes_eq word (codes "first")) (bytes_eq word (codes "next")) (bytes_eq word (codes "up")) m h
+    three_by (bytes_eq word (codes "first")) (bytes_eq word (codes "next"))
+    (bytes_eq word (codes "up")) m h
 
 pub member_again : (m : ℕ) → m < 3 → member_number_at (member_text m) ≡ Ok m
 unfolding member_number_at
@@ -133,5 +150,6 @@ dotted_tidy (b ∷ bs) m name below =
     let tidy = name_is_tidy w name in (
       omega arith,
       list_all-append is_tidy_byte w (46 ∷ member_text m)
-          ∙ both_true (list_all is_tidy_byte w) (list_all is_tidy_byte (46 ∷ member_text m)) tidy.1 (member_tidy m below),
+          ∙ both_true (list_all is_tidy_byte w) (list_all is_tidy_byte (46 ∷ member_text m)) tidy.1
+          (member_tidy m below),
     )

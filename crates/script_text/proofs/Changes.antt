@@ -1,5 +1,7 @@
--- What a good line changes: nothing, or the version by a header, or a thread begins, or a statement is added.
-use Rattle.std.proofs.Common.{◌≡◌, ℕ, ◌+◌, ◌<◌, Bool, true, false, cond, ltb, eqb, List, [], ◌∷◌, ◌++◌, length, Option, Some, None}
+-- What a good line changes: nothing, or the version by a header, or a thread begins, or a statement
+-- is added.
+use Rattle.std.proofs.Common.{◌≡◌, ℕ, ◌+◌, ◌<◌, Bool, true, false, cond, ltb, eqb, List, [], ◌∷◌}
+use Rattle.std.proofs.Common.{◌++◌, length, Option, Some, None}
 use Rattle.std.proofs.Common.{Ok, Err, find, refl, subst}
 use Rattle.std.specs.Prelude.{codes, nat_eq, ◌&&◌}
 use Rattle.std.specs.List.{list_all, starts_with, AllByRecursion}
@@ -7,15 +9,19 @@ use Rattle.std.specs.Str.{bytes_eq}
 use Rattle.std.proofs.lemmas.Bool.{ltb-true}
 use Rattle.std.proofs.lemmas.Slice.Eq.{bytes_eq-Decides}
 use Rattle.step_threads.specs.declared.programs.call.Call.{Call}
-use Rattle.script_text.specs.declared.fault.Cause.TheVariants.{BadByte, UnknownStatement, WrongNumberOfWords, TooManyThreads, TooManyStatements}
+use Rattle.script_text.specs.declared.fault.Cause.TheVariants.{BadByte, UnknownStatement}
+use Rattle.script_text.specs.declared.fault.Cause.TheVariants.{WrongNumberOfWords, TooManyThreads}
+use Rattle.script_text.specs.declared.fault.Cause.TheVariants.{TooManyStatements}
 use Rattle.script_text.specs.declared.words.keyword.Keyword.{Keyword}
-use Rattle.script_text.specs.Reading.{◌>>=◌}
+use Rattle.text_lines.specs.Reading.{◌>>=◌}
 use Rattle.script_text.specs.Words.{is_clean_byte, line_content, words_of}
 use Rattle.script_text.specs.Names.{NameList}
-use Rattle.script_text.specs.Keywords.{spelling_of, keywords, find_keyword, known_keyword, keyword_at, takes_words}
+use Rattle.script_text.specs.Keywords.{spelling_of, keywords, find_keyword, known_keyword}
+use Rattle.script_text.specs.Keywords.{keyword_at, takes_words}
 use Rattle.script_text.specs.Calls.{call_at}
 use Rattle.script_text.specs.Versions.{most_threads}
-use Rattle.script_text.specs.Drafts.{Draft, no_section, next_thread, with_call, next_call, is_new, header_line, thread_line, statement_line, other_line}
+use Rattle.script_text.specs.Drafts.{Draft, no_section, next_thread, with_call, next_call, is_new}
+use Rattle.script_text.specs.Drafts.{header_line, thread_line, statement_line, other_line}
 use Rattle.script_text.specs.Drafts.{after_words, after_line}
 use Rattle.script_text.proofs.TidyWords.{IsTidy, words_tidy}
 use Rattle.script_text.proofs.ReadNames.{both_give, given, same_given, if_given}
@@ -33,7 +39,12 @@ pub record IsFirstWord (first : List ℕ) (k : Keyword) : Type 0 where
 
 -- the draft in which the next thread has begun
 abbrev pub with_thread : Draft → Draft
-with_thread d = record { version = d.version; done = d.done ++ d.current ∷ []; current = no_section; count = d.count }
+with_thread d = record {
+  version = d.version;
+  done = d.done ++ d.current ∷ [];
+  current = no_section;
+  count = d.count;
+}
 
 -- a statement that was added
 pub record IsAdded (d e : Draft) : Type 0 where
@@ -67,7 +78,8 @@ found_word : (word : List ℕ) (ks : List Keyword) (k : Keyword)
     → find (λ j. bytes_eq word (spelling_of j).word) ks ≡ Some k → word ≡ (spelling_of k).word
 found_word word [] k h = absurd cc
 found_word word (j ∷ ks) k h =
-    found_by (bytes_eq word (spelling_of j).word) k j (find (λ i. bytes_eq word (spelling_of i).word) ks)
+    found_by (bytes_eq word (spelling_of j).word) k j
+    (find (λ i. bytes_eq word (spelling_of i).word) ks)
     word refl (found_word word ks k) h
 
 known_is : (r : Option Keyword) (k : Keyword) → known_keyword r ≡ Ok k → r ≡ Some k
@@ -79,11 +91,13 @@ unfolding keyword_at
 word_is word k h = found_word word keywords k (known_is (find_keyword word) k h)
 
 -- `version` begins no statement
-version_by : (b : Bool) (first : List ℕ) (k : Keyword) → bytes_eq first (codes "version") ≡ b → keyword_at first ≡ Ok k → b ≡ false
+version_by : (b : Bool) (first : List ℕ) (k : Keyword) → bytes_eq first (codes "version") ≡ b
+    → keyword_at first ≡ Ok k → b ≡ false
 unfolding keyword_at
 version_by true first k is reads =
     let bad : Err UnknownStatement ≡ Ok k =
-    subst (λ (w : List ℕ). keyword_at w ≡ Ok k) ((bytes_eq-Decides first (codes "version")).0 is) reads in
+    subst (λ (w : List ℕ). keyword_at w ≡ Ok k) ((bytes_eq-Decides first (codes "version")).0 is)
+    reads in
     absurd cc
 version_by false first k is reads = refl
 
@@ -92,10 +106,13 @@ and_false true b h = h
 and_false false b h = refl
 
 -- a line that is no comment and no header
-pub other_words : (d : Draft) (first : List ℕ) (words : List (List ℕ)) → starts_with nat_eq first (codes "#") ≡ false
-    → bytes_eq first (codes "version") ≡ false → after_words d (first ∷ words) ≡ other_line d first words
+pub other_words : (d : Draft) (first : List ℕ) (words : List (List ℕ))
+    → starts_with nat_eq first (codes "#") ≡ false
+    → bytes_eq first (codes "version") ≡ false
+    → after_words d (first ∷ words) ≡ other_line d first words
 other_words d first words comment version =
-    let none : (is_new d && bytes_eq first (codes "version")) ≡ false = and_false (is_new d) (bytes_eq first (codes "version")) version in
+    let none : (is_new d && bytes_eq first (codes "version")) ≡ false =
+    and_false (is_new d) (bytes_eq first (codes "version")) version in
     rw (comment, none) refl
 
 -- ---- any line
@@ -103,7 +120,8 @@ other_words d first words comment version =
 thread_change : (d e : Draft) (words : List (List ℕ)) → thread_line d words ≡ Ok e → Change d e
 thread_change d e words h =
     let alone = guarded (eqb (length words) 0) (next_thread d) e WrongNumberOfWords h in
-    let room = if_given (ltb (length d.done + 1) (most_threads d.version)) TooManyThreads (with_thread d) e alone.1 in
+    let room = if_given (ltb (length d.done + 1) (most_threads d.version)) TooManyThreads
+    (with_thread d) e alone.1 in
     began (ltb-true _ _ room.0) room.1
 
 statement_change : (d e : Draft) (first : List ℕ) (words : List (List ℕ)) → IsTidy first
@@ -113,14 +131,17 @@ statement_change d e first words tidy comment thread h =
     let k =
     both_give (keyword_at first)
     (λ keyword.
-    cond (takes_words keyword (length words)) (next_call d keyword words) (Err WrongNumberOfWords)) e h in
+    cond (takes_words keyword (length words)) (next_call d keyword words) (Err WrongNumberOfWords))
+    e h in
     let right =
     guarded (takes_words k.value (length words)) (next_call d k.value words) e WrongNumberOfWords
     k.second in
     let room =
-    guarded (ltb d.count 65536) (call_at d.current.names k.value words >>= λ r. Ok (with_call d r)) e
+    guarded (ltb d.count 65536) (call_at d.current.names k.value words >>= λ r. Ok (with_call d r))
+    e
     TooManyStatements right.1 in
-    let c = both_give (call_at d.current.names k.value words) (λ r. given (with_call d r)) e room.1 in
+    let c = both_give (call_at d.current.names k.value words) (λ r. given (with_call d r)) e
+    room.1 in
     added (record {
       keyword = k.value;
       first = first;
@@ -144,10 +165,12 @@ thread_or : (b : Bool) (d e : Draft) (first : List ℕ) (words : List (List ℕ)
     → starts_with nat_eq first (codes "#") ≡ false → bytes_eq first (codes "thread") ≡ b
     → cond b (thread_line d words) (statement_line d first words) ≡ Ok e → Change d e
 thread_or true d e first words tidy comment is h = thread_change d e words h
-thread_or false d e first words tidy comment is h = statement_change d e first words tidy comment is h
+thread_or false d e first words tidy comment is h =
+    statement_change d e first words tidy comment is h
 
 header_or : (b : Bool) (d e : Draft) (first : List ℕ) (words : List (List ℕ)) → IsTidy first
-    → starts_with nat_eq first (codes "#") ≡ false → cond b (header_line words) (other_line d first words) ≡ Ok e → Change d e
+    → starts_with nat_eq first (codes "#") ≡ false
+    → cond b (header_line words) (other_line d first words) ≡ Ok e → Change d e
 header_or true d e first words tidy comment h = headed (line_headed words e h)
 header_or false d e first words tidy comment h =
     thread_or (bytes_eq first (codes "thread")) d e first words tidy comment refl h
@@ -155,7 +178,8 @@ header_or false d e first words tidy comment h =
 comment_or : (b : Bool) (d e : Draft) (first : List ℕ) (words : List (List ℕ)) → IsTidy first
     → starts_with nat_eq first (codes "#") ≡ b
     → cond b (Ok d)
-    (cond (is_new d && bytes_eq first (codes "version")) (header_line words) (other_line d first words)) ≡ Ok e
+    (cond (is_new d && bytes_eq first (codes "version")) (header_line words)
+    (other_line d first words)) ≡ Ok e
     → Change d e
 comment_or true d e first words tidy is h = skipped (same_given d e h)
 comment_or false d e first words tidy is h =
@@ -170,6 +194,7 @@ words_change d e (first ∷ words) tidy h =
 pub line_change : (d e : Draft) (line : List ℕ) → after_line d line ≡ Ok e → Change d e
 line_change d e line h =
     let clean =
-    guarded (list_all is_clean_byte (line_content line)) (after_words d (words_of (line_content line))) e
+    guarded (list_all is_clean_byte (line_content line))
+    (after_words d (words_of (line_content line))) e
     BadByte h in
     words_change d e (words_of (line_content line)) (words_tidy (line_content line) clean.0) clean.1

@@ -1,5 +1,6 @@
 -- What was read of a header is read again from its canonical words.
-use Rattle.std.proofs.Common.{◌≡◌, ℕ, ◌^◌, ◌<◌, ◌≤◌, Bool, true, false, cond, ltb, [], ◌∷◌, List, Result, Ok, Err, refl, ap}
+use Rattle.std.proofs.Common.{◌≡◌, ℕ, ◌^◌, ◌<◌, ◌≤◌, Bool, true, false, cond, ltb, [], ◌∷◌, List}
+use Rattle.std.proofs.Common.{Result, Ok, Err, refl, ap}
 use Rattle.std.proofs.Common.{◌∙◌, arith, lit<}
 use Rattle.std.specs.Prelude.{codes, decimal}
 use Rattle.std.specs.List.{AllByRecursion}
@@ -9,9 +10,10 @@ use Rattle.script_text.specs.declared.fault.Cause.{Cause}
 use Rattle.script_text.specs.declared.fault.Cause.TheVariants.{BadNumber, BadVersion}
 use Rattle.script_text.specs.declared.parts.version.Version.{Version}
 use Rattle.script_text.specs.declared.parts.version.Version.TheVariants.{One, Two}
-use Rattle.script_text.specs.Reading.{◌>>=◌}
+use Rattle.text_lines.specs.Reading.{◌>>=◌}
 use Rattle.script_text.specs.Words.{number_at}
-use Rattle.script_text.specs.Versions.{most_threads, header_number, blocks_at, version_named, version_at}
+use Rattle.script_text.specs.Versions.{most_threads, header_number, blocks_at, version_named}
+use Rattle.script_text.specs.Versions.{version_at}
 use Rattle.script_text.specs.Drafts.{Draft, draft_in, new_draft, header_line, after_line}
 use Rattle.script_text.specs.Canonical.{header_words, spaced}
 use Rattle.script_text.proofs.TidyWords.{IsTidy, after_tidy_line}
@@ -27,12 +29,14 @@ pub record IsHeader (version : Version) : Type 0 where
 
 -- ---- a header that was read
 
-pub guarded : {A : Type 0} (b : Bool) (r : Result A Cause) (x : A) (cause : Cause) → cond b r (Err cause) ≡ Ok x
+pub guarded : {A : Type 0} (b : Bool) (r : Result A Cause) (x : A) (cause : Cause)
+    → cond b r (Err cause) ≡ Ok x
     → (b ≡ true) × (r ≡ Ok x)
 guarded true r x cause h = (refl, h)
 guarded false r x cause h = absurd cc
 
-let_through : {A : Type 0} (b : Bool) (r : Result A Cause) (x : A) (cause : Cause) → cond b (Err cause) r ≡ Ok x
+let_through : {A : Type 0} (b : Bool) (r : Result A Cause) (x : A) (cause : Cause)
+    → cond b (Err cause) r ≡ Ok x
     → (b ≡ false) × (r ≡ Ok x)
 let_through true r x cause h = absurd cc
 let_through false r x cause h = (refl, h)
@@ -54,23 +58,32 @@ in_header m n h =
       same = same;
     }
 
-blocks_header : (word : List ℕ) (version : Version) → (blocks_at word >>= λ n. Ok (Two n)) ≡ Ok version → IsHeader version
+blocks_header : (word : List ℕ) (version : Version)
+    → (blocks_at word >>= λ n. Ok (Two n)) ≡ Ok version → IsHeader version
 unfolding blocks_at
 blocks_header word version h =
     let n = both_give (blocks_at word) (λ n. given (Two n)) version h in
     let m = both_give (number_at word) header_number n.value n.first in
     let is = in_header m.value n.value m.second in
-    record { blocks = n.value; least = is.least; most = is.most; is = same_given (Two n.value) version n.second }
+    record {
+      blocks = n.value;
+      least = is.least;
+      most = is.most;
+      is = same_given (Two n.value) version n.second;
+    }
 
-named_header : (number unit blocks : List ℕ) (version : Version) → version_named number unit blocks ≡ Ok version → IsHeader version
+named_header : (number unit blocks : List ℕ) (version : Version)
+    → version_named number unit blocks ≡ Ok version → IsHeader version
 unfolding version_named
 named_header number unit blocks version h =
     let counted : Result Version Cause = blocks_at blocks >>= λ n. Ok (Two n) in
-    let one = guarded (bytes_eq number (codes "2")) (cond (bytes_eq unit (codes "blocks")) counted (Err BadVersion)) version BadVersion h in
+    let one = guarded (bytes_eq number (codes "2"))
+    (cond (bytes_eq unit (codes "blocks")) counted (Err BadVersion)) version BadVersion h in
     let two = guarded (bytes_eq unit (codes "blocks")) counted version BadVersion one.1 in
     blocks_header blocks version two.1
 
-version_header : (words : List (List ℕ)) (version : Version) → version_at words ≡ Ok version → IsHeader version
+version_header : (words : List (List ℕ)) (version : Version) → version_at words ≡ Ok version
+    → IsHeader version
 version_header [] version h = absurd cc
 version_header (a ∷ []) version h = absurd cc
 version_header (a ∷ b ∷ []) version h = absurd cc
@@ -86,7 +99,11 @@ pub record IsHeaded (e : Draft) : Type 0 where
 pub line_headed : (words : List (List ℕ)) (e : Draft) → header_line words ≡ Ok e → IsHeaded e
 line_headed words e h =
     let v = both_give (version_at words) (λ version. given (draft_in version)) e h in
-    record { version = v.value; header = version_header words v.value v.first; now = same_given (draft_in v.value) e v.second }
+    record {
+      version = v.value;
+      header = version_header words v.value v.first;
+      now = same_given (draft_in v.value) e v.second;
+    }
 
 -- ---- the canonical header
 
@@ -99,19 +116,25 @@ number_again n least most = rw (le-ltb n 64 least, le-ltb 65535 n most) refl
 blocks_again : (n : ℕ) → 64 ≤ n → n ≤ 65535 → blocks_at (decimal n) ≡ Ok n
 unfolding blocks_at
 blocks_again n least most =
-    ap (λ (r : Result ℕ Cause). r >>= header_number) (decimal_reads n (small n most)) ∙ number_again n least most
+    ap (λ (r : Result ℕ Cause). r >>= header_number) (decimal_reads n (small n most))
+    ∙ number_again n least most
 
-named_again : (n : ℕ) → 64 ≤ n → n ≤ 65535 → version_named (codes "2") (codes "blocks") (decimal n) ≡ Ok (Two n)
+named_again : (n : ℕ) → 64 ≤ n → n ≤ 65535
+    → version_named (codes "2") (codes "blocks") (decimal n) ≡ Ok (Two n)
 unfolding version_named
-named_again n least most = ap (λ (r : Result ℕ Cause). r >>= λ m. Ok (Two m)) (blocks_again n least most)
+named_again n least most =
+    ap (λ (r : Result ℕ Cause). r >>= λ m. Ok (Two m)) (blocks_again n least most)
 
 pub header_tidy : (n : ℕ) → n ≤ 65535 → AllByRecursion IsTidy (header_words n)
-header_tidy n most = ((lit< tt, refl), ((lit< tt, refl), ((lit< tt, refl), (decimal_tidy n (small n most), tt))))
+header_tidy n most =
+    ((lit< tt, refl), ((lit< tt, refl), ((lit< tt, refl), (decimal_tidy n (small n most), tt))))
 
-pub header_again : (n : ℕ) → 64 ≤ n → n ≤ 65535 → after_line new_draft (spaced (header_words n)) ≡ Ok (draft_in (Two n))
+pub header_again : (n : ℕ) → 64 ≤ n → n ≤ 65535
+    → after_line new_draft (spaced (header_words n)) ≡ Ok (draft_in (Two n))
 header_again n least most =
     after_tidy_line new_draft (header_words n) (header_tidy n most)
-    ∙ ap (λ (r : Result Version Cause). r >>= λ version. Ok (draft_in version)) (named_again n least most)
+    ∙ ap (λ (r : Result Version Cause). r >>= λ version. Ok (draft_in version))
+    (named_again n least most)
 
 pub most_allow : (version : Version) → most_threads version ≤ 64
 most_allow One = omega arith

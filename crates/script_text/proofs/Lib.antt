@@ -1,9 +1,8 @@
 pub mod WordLemmas
 pub mod NameLemmas
 pub mod ShapeLemmas
-pub mod LineLemmas
-pub mod GrammarLemmas
 pub mod OneReading
+pub mod Reaching
 pub mod TidyWords
 pub mod ReadNames
 pub mod ReadNumbers

@@ -1,5 +1,6 @@
 -- Looking a name up in a table, and adding one.
-use Rattle.std.proofs.Common.{◌≡◌, ℕ, suc, ◌+◌, ◌<◌, Bool, true, false, not, cond, ltb, List, [], ◌∷◌, ◌++◌, length, map, Option}
+use Rattle.std.proofs.Common.{◌≡◌, ℕ, suc, ◌+◌, ◌<◌, Bool, true, false, not, cond, ltb, List, []}
+use Rattle.std.proofs.Common.{◌∷◌, ◌++◌, length, map, Option}
 use Rattle.std.proofs.Common.{Some, None, Ok, refl, sym, ap, ◌∙◌, arith, rules}
 use Rattle.std.specs.Prelude.{String}
 use Rattle.std.specs.Option.{option_map}
@@ -23,7 +24,8 @@ there found = option_map (λ p. (p.0 + 1, p.1)) found
 
 -- ---- the number is the place that the table gives
 
-next_place : (b : Bool) (m : ℕ) → option_map (λ i. i + 1) (cond b (Some m) None) ≡ cond b (Some (suc m)) None
+next_place : (b : Bool) (m : ℕ) → option_map (λ i. i + 1) (cond b (Some m) None)
+    ≡ cond b (Some (suc m)) None
 next_place true m = ap (λ (i : ℕ). Some i) (omega arith)
 next_place false m = refl
 
@@ -37,7 +39,8 @@ ltb_suc m n = grind (arith, nat_tests)
 
 number_by : (b : Bool) (kind : Kind) (r : Option (ℕ × Kind)) (m n : ℕ)
     → option_map (λ p. p.0) r ≡ cond (ltb m n) (Some m) None
-    → option_map (λ p. p.0) (cond b (here kind) (there r)) ≡ cond (ltb (cond (not b) (1 + m) 0) (suc n))
+    → option_map (λ p. p.0) (cond b (here kind) (there r))
+    ≡ cond (ltb (cond (not b) (1 + m) 0) (suc n))
     (Some (cond (not b) (1 + m) 0)) None
 number_by true kind r m n h =
     let first : ltb 0 (suc n) ≡ true = lt-ltb 0 (suc n) (omega arith) in
@@ -49,7 +52,8 @@ number_by false kind r m n h =
     ∙ ap (λ i. cond (ltb i (suc n)) (Some i) None) (sym one)
 
 pub number-find_name : {A : Type 0} (name : List ℕ) (es : List (String A × Kind))
-    → option_map (λ p. p.0) (find_name name (names_in es)) ≡ position (λ k. bytes_eq name (string_bytes k))
+    → option_map (λ p. p.0) (find_name name (names_in es))
+    ≡ position (λ k. bytes_eq name (string_bytes k))
     (keys_of es)
 number-find_name name [] = refl
 number-find_name name (e ∷ es) =
@@ -63,13 +67,15 @@ kind-there : (r : Option (ℕ × Kind)) → option_map (λ p. p.1) (there r) ≡
 kind-there None = refl
 kind-there (Some p) = refl
 
-kind_by : (b : Bool) (kind : Kind) (r : Option (ℕ × Kind)) (o : Option Kind) → option_map (λ p. p.1) r ≡ o
+kind_by : (b : Bool) (kind : Kind) (r : Option (ℕ × Kind)) (o : Option Kind)
+    → option_map (λ p. p.1) r ≡ o
     → option_map (λ p. p.1) (cond b (here kind) (there r)) ≡ cond b (Some kind) o
 kind_by true kind r o h = refl
 kind_by false kind r o h = kind-there r ∙ h
 
 pub kind-find_name : {A : Type 0} (name : List ℕ) (es : List (String A × Kind))
-    → option_map (λ p. p.1) (find_name name (names_in es)) ≡ lookup (λ k. bytes_eq name (string_bytes k)) es
+    → option_map (λ p. p.1) (find_name name (names_in es))
+    ≡ lookup (λ k. bytes_eq name (string_bytes k)) es
 kind-find_name name [] = refl
 kind-find_name name (e ∷ es) =
     kind_by (bytes_eq name (string_bytes e.0)) e.1 (find_name name (names_in es))
@@ -97,14 +103,16 @@ missed true kind r h = absurd cc
 missed false kind None h = (refl, refl)
 missed false kind (Some p) h = absurd cc
 
-names_in-insert : {A : Type 0} (es : List (String A × Kind)) (key : String A) (kind : Kind) (name : List ℕ)
+names_in-insert : {A : Type 0} (es : List (String A × Kind)) (key : String A) (kind : Kind)
+    (name : List ℕ)
     → string_bytes key ≡ name → find_name name (names_in es) ≡ None
     → names_in (insert_entry string_eq es key kind) ≡ names_in es ++ (name, kind) ∷ []
 names_in-insert [] key kind name same none = ap (λ (n : List ℕ). (n, kind) ∷ []) same
 names_in-insert (e ∷ es) key kind name same none =
     let m = missed (bytes_eq name (string_bytes e.0)) e.1 (find_name name (names_in es)) none in
     let test : string_eq key e.0 ≡ false = rw (← same) at m.0 in
-    rw test (ap (λ (ns : NameList). (string_bytes e.0, e.1) ∷ ns) (names_in-insert es key kind name same m.1))
+    rw test (ap (λ (ns : NameList). (string_bytes e.0, e.1) ∷ ns)
+    (names_in-insert es key kind name same m.1))
 
 pub declared_new : {A : Type 0} (es fs : List (String A × Kind)) (key : String A) (kind : Kind)
     (name : List ℕ) (n : ℕ)
@@ -130,15 +138,18 @@ values_of-names_in (e ∷ es) = ap (λ (kinds : List Kind). e.1 ∷ kinds) (valu
 abbrev entry : List ℕ → Kind → List ℕ × Kind
 entry word kind = (word, kind)
 
-same_entry : (name word : List ℕ) (kind other : Kind) → word ≡ name → other ≡ kind → entry word other ≡ entry name kind
+same_entry : (name word : List ℕ) (kind other : Kind) → word ≡ name → other ≡ kind
+    → entry word other ≡ entry name kind
 same_entry name word kind other h k = rw (h, k) refl
 
 -- a table whose names and kinds are copies has the same names
 pub names_copied : {A : Type 0} (xs ys : List (String A × Kind))
-    → AllZip (λ p q. (string_bytes q.0 ≡ string_bytes p.0) × (q.1 ≡ p.1)) xs ys → names_in ys ≡ names_in xs
+    → AllZip (λ p q. (string_bytes q.0 ≡ string_bytes p.0) × (q.1 ≡ p.1)) xs ys
+    → names_in ys ≡ names_in xs
 names_copied [] [] h = refl
 names_copied [] (y ∷ ys) h = absurd h
 names_copied (x ∷ xs) [] h = absurd h
 names_copied (x ∷ xs) (y ∷ ys) h =
     ap (λ (ns : NameList). entry (string_bytes y.0) y.1 ∷ ns) (names_copied xs ys h.1)
-    ∙ ap (λ (n : List ℕ × Kind). n ∷ names_in xs) (same_entry (string_bytes x.0) (string_bytes y.0) x.1 y.1 h.0.0 h.0.1)
+    ∙ ap (λ (n : List ℕ × Kind). n ∷ names_in xs)
+    (same_entry (string_bytes x.0) (string_bytes y.0) x.1 y.1 h.0.0 h.0.1)

@@ -1,6 +1,8 @@
 -- What was read of names: the word is the name with that number, and stays so as names are added.
-use Rattle.std.proofs.Common.{◌≡◌, ℕ, zero, suc, ◌+◌, ◌≤◌, Bool, true, false, cond, ltb, List, [], ◌∷◌, ◌++◌, length}
-use Rattle.std.proofs.Common.{map, Option, Some, None, Result, Ok, Err, refl, sym, ap, subst, ◌∙◌, arith}
+use Rattle.std.proofs.Common.{◌≡◌, ℕ, zero, suc, ◌+◌, ◌≤◌, Bool, true, false, cond, ltb, List, []}
+use Rattle.std.proofs.Common.{◌∷◌, ◌++◌, length}
+use Rattle.std.proofs.Common.{map, Option, Some, None, Result, Ok, Err, refl, sym, ap, subst, ◌∙◌}
+use Rattle.std.proofs.Common.{arith}
 use Rattle.std.proofs.Common.{length-append}
 use Rattle.std.specs.Option.{option_map}
 use Rattle.std.specs.Prelude.{slice_get}
@@ -13,10 +15,12 @@ use Rattle.control_word.specs.declared.model.handle.Kind.TheVariants.{Owner, Wea
 use Rattle.step_threads.specs.declared.programs.call.Name.{Name}
 use Rattle.step_threads.specs.Programs.{IsDeclared, IsNameFound}
 use Rattle.script_text.specs.declared.fault.Cause.{Cause}
-use Rattle.script_text.specs.declared.fault.Cause.TheVariants.{BadName, TooManyNames, WrongKindOfName}
-use Rattle.script_text.specs.Reading.{◌>>=◌}
+use Rattle.script_text.specs.declared.fault.Cause.TheVariants.{BadName, TooManyNames}
+use Rattle.script_text.specs.declared.fault.Cause.TheVariants.{WrongKindOfName}
+use Rattle.text_lines.specs.Reading.{◌>>=◌}
 use Rattle.script_text.specs.Words.{is_name, name_at}
-use Rattle.script_text.specs.Names.{NameList, numbered, find_name, found_source, found_target, found_any, source_at, any_source_at, asked_source_at}
+use Rattle.script_text.specs.Names.{NameList, numbered, find_name, found_source, found_target}
+use Rattle.script_text.specs.Names.{found_any, source_at, any_source_at, asked_source_at}
 use Rattle.control_word.specs.Handles.{same_kind}
 use Rattle.script_text.specs.Names.{target_at, declared_at, declared, name_text, text_of_entry}
 use Rattle.script_text.specs.Scripts.{kinds_in}
@@ -24,12 +28,14 @@ use Rattle.script_text.specs.Scripts.{kinds_in}
 -- ---- readings in a row
 
 -- two readings in a row that give a value
-pub record BothGive {A B : Type 0} (r : Result A Cause) (f : A → Result B Cause) (y : B) : Type 0 where
+pub record BothGive {A B : Type 0} (r : Result A Cause) (f : A → Result B Cause)
+    (y : B) : Type 0 where
   pub value : A
   pub first : r ≡ Ok value
   pub second : f value ≡ Ok y
 
-pub both_give : {A B : Type 0} (r : Result A Cause) (f : A → Result B Cause) (y : B) → (r >>= f) ≡ Ok y
+pub both_give : {A B : Type 0} (r : Result A Cause) (f : A → Result B Cause) (y : B)
+    → (r >>= f) ≡ Ok y
     → BothGive r f y
 both_give (Ok x) f y e = record { value = x; first = refl; second = e }
 both_give (Err d) f y e = absurd cc
@@ -65,7 +71,8 @@ slice_get-more (y ∷ xs) ys (suc n) x h = slice_get-more xs ys n x h
 
 pub Entry-more : (names more : NameList) (name : Name) (word : List ℕ) (kind : Kind)
     → Entry names name word kind → Entry (names ++ more) name word kind
-Entry-more names more name word kind e = record { at = slice_get-more names more name.0 (word, kind) e.at }
+Entry-more names more name word kind e =
+    record { at = slice_get-more names more name.0 (word, kind) e.at }
 
 slice_get-last : {A : Type 0} (xs : List A) (x : A) → slice_get (xs ++ x ∷ []) (length xs) ≡ Some x
 slice_get-last [] x = refl
@@ -85,7 +92,8 @@ IsDeclared-Entry names name word kind e =
 pub IsDeclared-any : (names : NameList) (name : Name) (word : List ℕ) (kind : Kind)
     → Entry names name word kind → IsDeclared (kinds_in names) (name, None)
 IsDeclared-any names name word kind e =
-    subst (λ (k : Option Kind). IsNameFound None k) (sym (IsDeclared-Entry names name word kind e)) refl
+    subst (λ (k : Option Kind). IsNameFound None k) (sym (IsDeclared-Entry names name word kind e))
+    refl
 
 -- ---- what is found
 
@@ -102,7 +110,8 @@ found_there n names word (Some p) h = let one : p.0 + 1 ≡ suc p.0 = omega arit
 found_by : (b : Bool) (n : List ℕ × Kind) (names : NameList) (word : List ℕ) (r : Option (ℕ × Kind))
     → bytes_eq word n.0 ≡ b → Found names word r
     → Found (n ∷ names) word (cond b (Some (0, n.1)) (option_map (λ p. (p.0 + 1, p.1)) r))
-found_by true n names word r h k = ap (λ (u : List ℕ). Some (u, n.1)) (sym ((bytes_eq-Decides word n.0).0 h))
+found_by true n names word r h k =
+    ap (λ (u : List ℕ). Some (u, n.1)) (sym ((bytes_eq-Decides word n.0).0 h))
 found_by false n names word r h k = found_there n names word r k
 
 find_found : (names : NameList) (word : List ℕ) → Found names word (find_name word names)
@@ -126,7 +135,8 @@ pub record IsSource (names : NameList) (name : Name) (word : List ℕ) (kind : K
   pub entry : Entry names name word kind
   pub name_ok : is_name word ≡ true
 
-source_found : (kind : Kind) (names : NameList) (word : List ℕ) (r : Option (ℕ × Kind)) (name : Name)
+source_found : (kind : Kind) (names : NameList) (word : List ℕ) (r : Option (ℕ × Kind))
+    (name : Name)
     → Found names word r → found_source kind r ≡ Ok name → Entry names name word kind
 source_found kind names word None name f h = absurd cc
 source_found kind names word (Some p) name f h =
@@ -142,12 +152,14 @@ source_is names kind word name h =
     let found : found_source kind (find_name word names) ≡ Ok name =
     subst (λ (u : List ℕ). found_source kind (find_name u names) ≡ Ok name) (sym n.1) b.second in
     record {
-      entry = source_found kind names word (find_name word names) name (find_found names word) found;
+      entry =
+          source_found kind names word (find_name word names) name (find_found names word) found;
       name_ok = n.0;
     }
 
 -- a source of the kind that was asked for, or of either where none was
-pub record IsAsked (names : NameList) (name : Name) (word : List ℕ) (asked : Option Kind) : Type 0 where
+pub record IsAsked (names : NameList) (name : Name) (word : List ℕ)
+    (asked : Option Kind) : Type 0 where
   pub kind : Kind
   pub entry : Entry names name word kind
   pub name_ok : is_name word ≡ true
@@ -200,7 +212,8 @@ pub grows_by_none : (names : NameList) → Grows names names
 grows_by_none names = record { more = []; grown = sym (append-nil names); few = λ h. h }
 
 -- a target that was read and declared
-pub record IsTarget (names new : NameList) (name : Name) (word : List ℕ) (kind : Kind) : Type 0 where
+pub record IsTarget (names new : NameList) (name : Name) (word : List ℕ)
+    (kind : Kind) : Type 0 where
   pub entry : Entry new name word kind
   pub name_ok : is_name word ≡ true
   pub grows : Grows names new
@@ -226,7 +239,8 @@ made_by names new kind word (Some p) name f t h =
     let e =
     pair_is (numbered p.0) name names new
     (same_given (with_names (numbered p.0) names) (with_names name new) h) in
-    let here : Entry names (numbered p.0) word kind = record { at = rw (← kind_by p.1 kind g.0) f } in
+    let here : Entry names (numbered p.0) word kind =
+    record { at = rw (← kind_by p.1 kind g.0) f } in
     rw (← e.0, ← e.1) (record { entry = here; grows = grows_by_none names })
 made_by names new kind word None name f t h =
     let g =
@@ -238,10 +252,18 @@ made_by names new kind word None name f t h =
     let room : length (names ++ (word, kind) ∷ []) ≤ 32 =
     omega (arith, ltb-true _ _ g.0, length-append names ((word, kind) ∷ [])) in
     rw (← e.0, ← e.1)
-    (record { entry = last; grows = record { more = (word, kind) ∷ []; grown = refl; few = λ _. room } })
+    (record {
+      entry = last;
+      grows = record {
+        more = (word, kind) ∷ [];
+        grown = refl;
+        few = λ _. room;
+      };
+    })
 
 made : (names new : NameList) (kind : Kind) (word : List ℕ) (name : Name)
-    → found_target kind word (find_name word names) ≡ Ok word → declared names kind word ≡ Ok (name, new)
+    → found_target kind word (find_name word names) ≡ Ok word
+    → declared names kind word ≡ Ok (name, new)
     → IsMade names new name word kind
 unfolding declared
 made names new kind word name t h =
@@ -250,7 +272,8 @@ made names new kind word name t h =
 target_same : (kind : Kind) (name word : List ℕ) (r : Option (ℕ × Kind))
     → found_target kind name r ≡ Ok word → name ≡ word
 target_same kind name word None h = same_given name word h
-target_same kind name word (Some p) h = (if_given (same_kind p.1 kind) WrongKindOfName name word h).1
+target_same kind name word (Some p) h =
+    (if_given (same_kind p.1 kind) WrongKindOfName name word h).1
 
 pub target_is : (names new : NameList) (kind : Kind) (word written : List ℕ) (name : Name)
     → target_at names kind word ≡ Ok written → declared names kind written ≡ Ok (name, new)
@@ -259,7 +282,8 @@ unfolding target_at
 target_is names new kind word written name t h =
     let b = both_give (name_at word) (λ n. found_target kind n (find_name n names)) written t in
     let n = name_is word b.value b.first in
-    let same : word ≡ written = n.1 ∙ target_same kind b.value written (find_name b.value names) b.second in
+    let same : word ≡ written = n.1 ∙ target_same kind b.value written (find_name b.value names)
+    b.second in
     let found : found_target kind word (find_name word names) ≡ Ok word =
     rw (n.1) (b.second ∙ ap given (sym same ∙ n.1)) in
     let m =

@@ -1,5 +1,6 @@
 -- What was read of numbers is read again from its decimal text.
-use Rattle.std.proofs.Common.{◌≡◌, ℕ, ◌^◌, ◌<◌, true, ltb, List, [], ◌∷◌, length, map, Option, Some, None, Result, Ok, refl, sym, subst}
+use Rattle.std.proofs.Common.{◌≡◌, ℕ, ◌^◌, ◌<◌, true, ltb, List, [], ◌∷◌, length, map, Option, Some}
+use Rattle.std.proofs.Common.{None, Result, Ok, refl, sym, subst}
 use Rattle.std.proofs.Common.{lit<}
 use Rattle.std.specs.Prelude.{decimal, slice_get, ◌&&◌}
 use Rattle.std.specs.List.{AllByRecursion, list_all}
@@ -8,10 +9,11 @@ use Rattle.std.proofs.lemmas.Bool.{lt-ltb, ltb-true}
 use Rattle.std.proofs.lemmas.Fmt.{digits_decimal, digits_value-decimal, decimal_nonempty}
 use Rattle.script_text.specs.declared.fault.Cause.{Cause}
 use Rattle.script_text.specs.declared.fault.Cause.TheVariants.{BadNumber}
-use Rattle.script_text.specs.Reading.{◌>>=◌}
+use Rattle.text_lines.specs.Reading.{◌>>=◌}
 use Rattle.script_text.specs.Words.{is_number, is_digit, number_at}
 use Rattle.script_text.specs.Shapes.{number_if, number_or_zero, fields_at}
-use Rattle.script_text.proofs.WordLemmas.{and_both, numerals}
+use Rattle.text_lines.proofs.ByteTests.{and_both}
+use Rattle.text_lines.proofs.NumberLemmas.{numerals}
 use Rattle.script_text.proofs.TidyWords.{IsTidy, is_tidy_byte, digit_tidy, both_true, list_weaker}
 use Rattle.script_text.proofs.ReadNames.{both_give, same_given, if_given}
 
@@ -21,7 +23,8 @@ number_bound : (word : List ℕ) (n : ℕ) → number_at word ≡ Ok n → n < 2
 number_bound word n h =
     let g = if_given (is_number word) BadNumber (digits_value 10 word) n h in
     let p =
-    and_both (list_all is_digit word && ltb 0 (length word)) (ltb (digits_value 10 word) (2 ^ 64)) g.0 in
+    and_both (list_all is_digit word && ltb 0 (length word)) (ltb (digits_value 10 word) (2 ^ 64))
+    g.0 in
     rw (← g.1) (ltb-true _ _ p.1)
 
 if_bound : (o : Option (List ℕ)) (n : ℕ) → number_if o ≡ Ok n → n < 2 ^ 64
@@ -31,13 +34,15 @@ if_bound (Some word) n h = number_bound word n h
 pub decimal_reads : (n : ℕ) → n < 2 ^ 64 → number_at (decimal n) ≡ Ok n
 decimal_reads n fits =
     let digits : list_all is_digit (decimal n) ≡ true = digits_decimal numerals n fits in
-    let some : ltb 0 (length (decimal n)) ≡ true = lt-ltb 0 (length (decimal n)) (decimal_nonempty n fits) in
+    let some : ltb 0 (length (decimal n)) ≡ true =
+    lt-ltb 0 (length (decimal n)) (decimal_nonempty n fits) in
     let value : digits_value 10 (decimal n) ≡ n = digits_value-decimal numerals n fits in
     let below : ltb n (2 ^ 64) ≡ true = lt-ltb n (2 ^ 64) fits in
     let number : is_number (decimal n) ≡ true =
     both_true (list_all is_digit (decimal n) && ltb 0 (length (decimal n)))
     (ltb (digits_value 10 (decimal n)) (2 ^ 64))
-    (both_true (list_all is_digit (decimal n)) (ltb 0 (length (decimal n))) digits some) (rw value below) in
+    (both_true (list_all is_digit (decimal n)) (ltb 0 (length (decimal n))) digits some)
+    (rw value below) in
     rw (number, value) refl
 
 pub decimal_tidy : (n : ℕ) → n < 2 ^ 64 → IsTidy (decimal n)
@@ -73,14 +78,18 @@ after_second words a b = number_or_zero words 2 >>= λ c. after_third words a b 
 abbrev after_first : List (List ℕ) → ℕ → Result (List ℕ) Cause
 after_first words a = number_or_zero words 1 >>= λ b. after_second words a b
 
-pub are_fields : (words : List (List ℕ)) (fields : List ℕ) → fields_at words ≡ Ok fields → AreFields fields
+pub are_fields : (words : List (List ℕ)) (fields : List ℕ) → fields_at words ≡ Ok fields
+    → AreFields fields
 unfolding fields_at
 are_fields words fields h =
     let p = both_give (number_or_zero words 0) (λ a. after_first words a) fields h in
-    let q = both_give (number_or_zero words 1) (λ b. after_second words p.value b) fields p.second in
-    let r = both_give (number_or_zero words 2) (λ c. after_third words p.value q.value c) fields q.second in
+    let q = both_give (number_or_zero words 1) (λ b. after_second words p.value b) fields
+    p.second in
+    let r = both_give (number_or_zero words 2) (λ c. after_third words p.value q.value c) fields
+    q.second in
     let s =
-    both_give (number_or_zero words 3) (λ d. Ok (list_of p.value q.value r.value d)) fields r.second in
+    both_give (number_or_zero words 3) (λ d. Ok (list_of p.value q.value r.value d)) fields
+    r.second in
     record {
       a = p.value;
       b = q.value;

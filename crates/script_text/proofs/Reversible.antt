@@ -1,6 +1,7 @@
 -- What was read of the words after the first is read again from its canonical words:
 -- a lemma for each shape of statement.
-use Rattle.std.proofs.Common.{◌≡◌, ℕ, List, [], ◌∷◌, ◌++◌, length, map, Option, Some, Result, Ok, refl, sym, ap, subst, ◌∙◌}
+use Rattle.std.proofs.Common.{◌≡◌, ℕ, List, [], ◌∷◌, ◌++◌, length, map, Option, Some, Result, Ok, refl, sym, ap}
+use Rattle.std.proofs.Common.{subst, ◌∙◌}
 use Rattle.std.specs.Prelude.{decimal}
 use Rattle.std.specs.List.{AllByRecursion}
 use Rattle.control_word.specs.declared.model.handle.Kind.{Kind}
@@ -8,12 +9,14 @@ use Rattle.control_word.specs.declared.model.handle.Kind.TheVariants.{Owner}
 use Rattle.step_threads.specs.declared.programs.call.Name.{Name}
 use Rattle.step_threads.specs.Programs.{Asked, IsDeclared}
 use Rattle.script_text.specs.declared.fault.Cause.{Cause}
-use Rattle.script_text.specs.Reading.{◌>>=◌}
+use Rattle.text_lines.specs.Reading.{◌>>=◌}
 use Rattle.script_text.specs.Names.{NameList, asked_source_at, source_at, target_at, declared, name_text}
-use Rattle.script_text.specs.Shapes.{one_target, one_source, target_and_source, two_sources, fields_at, target_and_fields}
+use Rattle.script_text.specs.Shapes.{one_target, one_source, target_and_source, two_sources, fields_at}
+use Rattle.script_text.specs.Shapes.{target_and_fields}
 use Rattle.script_text.specs.Scripts.{kinds_in}
 use Rattle.script_text.proofs.TidyWords.{IsTidy, name_is_tidy}
-use Rattle.script_text.proofs.ReadNames.{both_give, given, same_given, with_names, Entry, name_text-Entry, Entry-more, IsDeclared-Entry, source_is, asked_is}
+use Rattle.script_text.proofs.ReadNames.{both_give, given, same_given, with_names, Entry, name_text-Entry}
+use Rattle.script_text.proofs.ReadNames.{Entry-more, IsDeclared-Entry, source_is, asked_is}
 use Rattle.script_text.proofs.ReadNames.{Grows, grows_by_none, target_is}
 use Rattle.script_text.proofs.ReadNumbers.{are_fields, fields_again, fields_tidy, fields_size}
 
@@ -118,7 +121,8 @@ source_reversible kind names new (word ∷ []) name h =
     let b =
     both_give (source_at names kind word) (λ source. given (with_names source names)) (with_names name new)
     h in
-    moved (λ ns ws. one_source ns kind ws) write_one (asks_one kind) (always 1) names names new b.value name b.second
+    moved (λ ns ws. one_source ns kind ws) write_one (asks_one kind) (always 1) names names new b.value name
+    b.second
     (source_from kind names word b.value b.first)
 
 -- ---- two names
@@ -164,7 +168,8 @@ target_and_source_from to from names new word other written target source first 
 pub target_and_source_reversible : (to from : Kind) (names new : NameList) (words : List (List ℕ))
     (p : Name × Name)
     → target_and_source names to from words ≡ Ok (with_names p new)
-    → IsReversible (λ ns ws. target_and_source ns to from ws) write_two (asks_two to from) (always 2) names new p
+    → IsReversible (λ ns ws. target_and_source ns to from ws) write_two (asks_two to from) (always 2) names new
+    p
 unfolding target_and_source
 target_and_source_reversible to from names new [] p h = absurd cc
 target_and_source_reversible to from names new (word ∷ []) p h = absurd cc
@@ -207,7 +212,8 @@ two_sources_from asked names word other first second one two =
       again = rw (text, also, one, two) refl;
       grows = grows_by_none names;
       settled =
-          λ more. rw (still names more first word s.kind s.entry, still names more second other t.kind t.entry) refl;
+          λ more. rw (still names more first word s.kind s.entry, still names more second other t.kind t.entry)
+          refl;
       named = (s.named, (t.named, tt));
     }
 
@@ -246,7 +252,8 @@ target_and_fields_from : (names new : NameList) (word written : List ℕ) (words
     (target : Name) (fields : List ℕ)
     → target_at names Owner word ≡ Ok written → fields_at words ≡ Ok fields → declared names Owner written
     ≡ Ok (with_names target new)
-    → IsReversible target_and_fields write_fields (asks_first Owner) (always 5) names new (with_fields target fields)
+    → IsReversible target_and_fields write_fields (asks_first Owner) (always 5) names new
+    (with_fields target fields)
 unfolding target_and_fields
 target_and_fields_from names new word written words target fields first second third =
     let t = target_is names new Owner word written target first third in

@@ -1,5 +1,6 @@
 -- The canonical text of a script that was read is read as the same script.
-use Rattle.std.proofs.Common.{◌≡◌, ℕ, ◌+◌, ◌<◌, ◌≤◌, true, List, [], ◌∷◌, ◌++◌, length, map, Ok, refl, sym, ap, subst}
+use Rattle.std.proofs.Common.{◌≡◌, ℕ, ◌+◌, ◌<◌, ◌≤◌, true, List, [], ◌∷◌, ◌++◌, length, map, Ok}
+use Rattle.std.proofs.Common.{refl, sym, ap, subst}
 use Rattle.std.proofs.Common.{◌∙◌, lit<, lt-ltb, append_assoc, arith}
 use Rattle.std.specs.Prelude.{codes, ltb}
 use Rattle.std.specs.List.{flat_map, AllByRecursion}
@@ -10,19 +11,22 @@ use Rattle.script_text.specs.declared.words.keyword.Keyword.{Keyword}
 use Rattle.script_text.specs.Names.{NameList}
 use Rattle.script_text.specs.Keywords.{takes_words}
 use Rattle.script_text.specs.Calls.{call_at}
-use Rattle.script_text.specs.Drafts.{Section, ScriptView, Draft, draft_in, new_draft, sections, script_of, no_section, with_call, next_call, after_line}
+use Rattle.script_text.specs.Drafts.{Section, ScriptView, Draft, draft_in, new_draft, sections}
+use Rattle.script_text.specs.Drafts.{script_of, no_section, with_call, next_call, after_line}
 use Rattle.script_text.specs.Grammar.{HasNoFeed, ended, Leads, BeginsWithDraft, ReadsAs}
-use Rattle.script_text.specs.Canonical.{call_words, spaced, call_line, section_lines, begun_lines, thread_lines, header_words, header_lines, script_lines}
+use Rattle.script_text.specs.Canonical.{call_words, spaced, call_line, section_lines, begun_lines}
+use Rattle.script_text.specs.Canonical.{thread_lines, header_words, header_lines, script_lines}
 use Rattle.script_text.specs.Canonical.{canonical}
 use Rattle.script_text.proofs.TidyWords.{IsTidy, after_tidy_line, no_feed_in}
-use Rattle.script_text.proofs.GrammarLemmas.{clean-last, Leads-last}
+use Rattle.text_lines.proofs.GrammarLemmas.{clean-last, Leads-last}
 use Rattle.script_text.proofs.Rewrites.{IsSettled, Rewrites}
 use Rattle.script_text.specs.declared.parts.version.Version.{Version}
 use Rattle.script_text.specs.declared.parts.version.Version.TheVariants.{One, Two}
 use Rattle.script_text.specs.Versions.{as_two, most_threads}
 use Rattle.script_text.specs.Scripts.{converted}
 use Rattle.script_text.proofs.Headers.{IsHeader, header_again, header_tidy}
-use Rattle.script_text.proofs.Changes.{IsFirstWord, with_thread, Change, skipped, headed, began, added, line_change, other_words}
+use Rattle.script_text.proofs.Changes.{IsFirstWord, with_thread, Change, skipped, headed, began}
+use Rattle.script_text.proofs.Changes.{added, line_change, other_words}
 
 -- ---- the lines of a script
 
@@ -71,7 +75,8 @@ one_more d e line c reads clean version more settled =
     ∙ sym (append_assoc (header_lines d.version) (thread_lines (sections d)) (line ∷ [])) in
     record {
       clean = rw all (clean-last (script_lines (script_of d)) line c.clean clean);
-      leads = rw all (Leads-last (script_lines (script_of d)) line new_draft d e c.leads reads);
+      leads = rw all (Leads-last after_line (script_lines (script_of d)) line new_draft d e c.leads
+          reads);
       settled = settled;
     }
 
@@ -80,16 +85,21 @@ one_more d e line c reads clean version more settled =
 thread_word : IsTidy (codes "thread")
 thread_word = (lit< tt, refl)
 
-begun_kept : (d : Draft) → length d.done + 1 < most_threads d.version → IsCanonical d → IsCanonical (with_thread d)
+begun_kept : (d : Draft) → length d.done + 1 < most_threads d.version → IsCanonical d
+    → IsCanonical (with_thread d)
 begun_kept d room c =
     let e : Draft = with_thread d in
-    let free : ltb (length d.done + 1) (most_threads d.version) ≡ true = lt-ltb (length d.done + 1) (most_threads d.version) room in
+    let free : ltb (length d.done + 1) (most_threads d.version) ≡ true =
+    lt-ltb (length d.done + 1) (most_threads d.version) room in
     let reads : after_line d (codes "thread") ≡ Ok e =
-    after_tidy_line d (codes "thread" ∷ []) (thread_word, tt) ∙ other_words d (codes "thread") [] refl refl ∙ rw free refl in
+    after_tidy_line d (codes "thread" ∷ []) (thread_word, tt)
+    ∙ other_words d (codes "thread") [] refl refl ∙ rw free refl in
     let lines : thread_lines (sections e) ≡ thread_lines (sections d) ++ codes "thread" ∷ [] =
-    lines-last (d.done ++ d.current ∷ []) no_section ∙ append-nil (lines_before (d.done ++ d.current ∷ []))
+    lines-last (d.done ++ d.current ∷ []) no_section
+    ∙ append-nil (lines_before (d.done ++ d.current ∷ []))
     ∙ before-last d.done d.current in
-    one_more d e (codes "thread") c reads (no_feed_in (codes "thread" ∷ []) (thread_word, tt)) refl lines tt
+    one_more d e (codes "thread") c reads (no_feed_in (codes "thread" ∷ []) (thread_word, tt)) refl
+    lines tt
 
 -- ---- a statement is added
 
@@ -98,7 +108,8 @@ settled_more : (names more : NameList) (calls : List Call) → AllByRecursion (I
 settled_more names more [] h = tt
 settled_more names more (c ∷ calls) h =
     let first : IsSettled (names ++ more) c =
-    λ later. ap (λ (ns : NameList). call_words ns c) (append_assoc names more later) ∙ h.0 (more ++ later)
+    λ later. ap (λ (ns : NameList). call_words ns c) (append_assoc names more later)
+    ∙ h.0 (more ++ later)
     ∙ sym (h.0 more) in
     (first, settled_more names more calls h.1)
 
@@ -114,7 +125,8 @@ map-last : (f : Call → List ℕ) (calls : List Call) (c : Call)
 map-last f [] c = refl
 map-last f (x ∷ calls) c = ap (λ (ls : List (List ℕ)). f x ∷ ls) (map-last f calls c)
 
-settled-last : (names : NameList) (calls : List Call) (c : Call) → AllByRecursion (IsSettled names) calls
+settled-last : (names : NameList) (calls : List Call) (c : Call)
+    → AllByRecursion (IsSettled names) calls
     → IsSettled names c → AllByRecursion (IsSettled names) (calls ++ c ∷ [])
 settled-last names [] c h k = (k, tt)
 settled-last names (x ∷ calls) c h k = (h.0, settled-last names calls c h.1 k)
@@ -127,12 +139,15 @@ said d e first k words w tidy takes says =
     after_tidy_line d (first ∷ words) (w.tidy, tidy) ∙ other_words d first words w.comment w.version
     ∙ rw (w.thread, w.reads, takes) says
 
-called : (d : Draft) (k : Keyword) (words : List (List ℕ)) (c : Call) (new : NameList) → d.count < 65536
-    → call_at d.current.names k words ≡ Ok (c, new) → next_call d k words ≡ Ok (with_call d (c, new))
+called : (d : Draft) (k : Keyword) (words : List (List ℕ)) (c : Call) (new : NameList)
+    → d.count < 65536
+    → call_at d.current.names k words ≡ Ok (c, new)
+    → next_call d k words ≡ Ok (with_call d (c, new))
 called d k words c new room again =
     let free : ltb d.count 65536 ≡ true = lt-ltb d.count 65536 room in rw (free, again) refl
 
-added_kept : (d : Draft) (first : List ℕ) (k : Keyword) (c : Call) (new : NameList) → IsFirstWord first k
+added_kept : (d : Draft) (first : List ℕ) (k : Keyword) (c : Call) (new : NameList)
+    → IsFirstWord first k
     → d.count < 65536 → Rewrites d.current.names k c new → IsCanonical d
     → IsCanonical (with_call d (c, new))
 added_kept d first k c new w room r canon =
@@ -147,12 +162,14 @@ added_kept d first k c new w room r canon =
     let same : map (call_line new) calls ≡ section_lines d.current =
     rw r.grows.grown (lines_more old r.grows.more calls canon.settled) in
     let now : section_lines e.current ≡ section_lines d.current ++ call_line new c ∷ [] =
-    map-last (call_line new) calls c ∙ ap (λ (ls : List (List ℕ)). ls ++ call_line new c ∷ []) same in
+    map-last (call_line new) calls c
+    ∙ ap (λ (ls : List (List ℕ)). ls ++ call_line new c ∷ []) same in
     let lines : thread_lines (sections e) ≡ thread_lines (sections d) ++ call_line new c ∷ [] =
     lines-last d.done e.current ∙ ap (λ (ls : List (List ℕ)). lines_before d.done ++ ls) now
     ∙ sym (append_assoc (lines_before d.done) (section_lines d.current) (call_line new c ∷ []))
     ∙ ap (λ (ls : List (List ℕ)). ls ++ call_line new c ∷ []) (sym (lines-last d.done d.current)) in
-    one_more d e (call_line new c) canon (subst (λ (l : List ℕ). after_line d l ≡ Ok e) line_is reads)
+    one_more d e (call_line new c) canon
+    (subst (λ (l : List ℕ). after_line d l ≡ Ok e) line_is reads)
     (subst HasNoFeed line_is (no_feed_in (first ∷ r.words) (w.tidy, r.tidy))) refl lines
     (settled-last new calls c kept r.settled)
 
@@ -169,14 +186,16 @@ headed_kept blocks least most = record {
 
 -- the same draft in version 2
 in_two : Draft → Draft
-in_two d = record { version = as_two d.version; done = d.done; current = d.current; count = d.count }
+in_two d =
+    record { version = as_two d.version; done = d.done; current = d.current; count = d.count }
 
 -- what stays true, of the draft and of the same in version 2
 record IsKept (d : Draft) : Type 0 where
   same : IsCanonical d
   two : IsCanonical (in_two d)
 
-room_in_two : (version : Version) (n : ℕ) → n < most_threads version → n < most_threads (as_two version)
+room_in_two : (version : Version) (n : ℕ) → n < most_threads version
+    → n < most_threads (as_two version)
 room_in_two One n h = omega (arith, h)
 room_in_two (Two blocks) n h = h
 

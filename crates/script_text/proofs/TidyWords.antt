@@ -1,5 +1,6 @@
 -- Words of visible characters, joined by single spaces, are read as they are.
-use Rattle.std.proofs.Common.{◌≡◌, ℕ, ◌-◌, ◌<◌, Bool, true, false, cond, ltb, eqb, List, [], ◌∷◌, ◌++◌, length, get_or, filter, refl}
+use Rattle.std.proofs.Common.{◌≡◌, ℕ, ◌-◌, ◌<◌, Bool, true, false, cond, ltb, eqb, List, [], ◌∷◌}
+use Rattle.std.proofs.Common.{◌++◌, length, get_or, filter, refl}
 use Rattle.std.proofs.Common.{ap, subst, ◌∙◌, arith}
 use Rattle.std.specs.Prelude.{◌&&◌, nat_le, nat_lt}
 use Rattle.std.specs.List.{list_all, slice_split, onto_first, join_with_byte, AllByRecursion}
@@ -9,10 +10,11 @@ use Rattle.std.proofs.lemmas.List.Elements.{All-from_recursion}
 use Rattle.std.proofs.lemmas.List.Folds.{list_all-append}
 use Rattle.std.proofs.lemmas.List.Sums.{AllPass-from_list_all}
 use Rattle.std.proofs.lemmas.List.Splits.{slice_split_at, slice_split_none}
-use Rattle.script_text.specs.Words.{is_space, is_clean_byte, is_name_byte, is_lower, is_digit, is_name, words_of, line_content}
+use Rattle.script_text.specs.Words.{is_space, is_clean_byte, is_name_byte, is_lower, is_digit}
+use Rattle.script_text.specs.Words.{is_name, words_of, line_content}
 use Rattle.script_text.specs.Drafts.{Draft, after_line, after_words}
 use Rattle.script_text.specs.Grammar.{is_feed, HasNoFeed}
-use Rattle.script_text.proofs.WordLemmas.{and_both}
+use Rattle.text_lines.proofs.ByteTests.{and_both}
 
 -- a character that can be seen
 abbrev pub is_tidy_byte : ℕ → Bool
@@ -51,7 +53,8 @@ list_weaker p q h (b ∷ bs) k =
     let s = and_both (p b) (list_all p bs) k in
     both_true (q b) (list_all q bs) (h b s.0) (list_weaker p q h bs s.1)
 
-none_of : (p q : ℕ → Bool) → ((b : ℕ) → p b ≡ true → q b ≡ false) → (bs : List ℕ) → list_all p bs ≡ true
+none_of : (p q : ℕ → Bool) → ((b : ℕ) → p b ≡ true → q b ≡ false) → (bs : List ℕ)
+    → list_all p bs ≡ true
     → AllByRecursion (λ b. q b ≡ false) bs
 none_of p q h [] k = tt
 none_of p q h (b ∷ bs) k =
@@ -79,18 +82,22 @@ words-joined [] h = refl
 words-joined (w ∷ []) h =
     let one : slice_split is_space w ≡ w ∷ [] =
     slice_split_none is_space w
-    (All-from_recursion (λ b. is_space b ≡ false) w (none_of is_tidy_byte is_space tidy_space w h.0.1)) in
+    (All-from_recursion (λ b. is_space b ≡ false) w
+    (none_of is_tidy_byte is_space tidy_space w h.0.1)) in
     ap (filter (λ u. nat_lt 0 (length u))) one ∙ kept w [] h.0.0
 words-joined (w ∷ x ∷ xs) h =
     let cut : slice_split is_space (w ++ 32 ∷ joined (x ∷ xs)) ≡ w ∷ slice_split is_space
     (joined (x ∷ xs)) =
     slice_split_at is_space w 32 (joined (x ∷ xs))
-    (All-from_recursion (λ b. is_space b ≡ false) w (none_of is_tidy_byte is_space tidy_space w h.0.1))
+    (All-from_recursion (λ b. is_space b ≡ false) w
+    (none_of is_tidy_byte is_space tidy_space w h.0.1))
     refl in
-    ap (filter (λ u. nat_lt 0 (length u))) cut ∙ kept w (slice_split is_space (joined (x ∷ xs))) h.0.0
+    ap (filter (λ u. nat_lt 0 (length u))) cut
+    ∙ kept w (slice_split is_space (joined (x ∷ xs))) h.0.0
     ∙ ap (λ (us : List (List ℕ)). w ∷ us) (words-joined (x ∷ xs) h.1)
 
-pub joined_clean : (ws : List (List ℕ)) → AllByRecursion IsTidy ws → list_all is_clean_byte (joined ws) ≡ true
+pub joined_clean : (ws : List (List ℕ)) → AllByRecursion IsTidy ws
+    → list_all is_clean_byte (joined ws) ≡ true
 joined_clean [] h = refl
 joined_clean (w ∷ []) h = list_weaker is_tidy_byte is_clean_byte tidy_clean w h.0.1
 joined_clean (w ∷ x ∷ xs) h =
@@ -132,7 +139,8 @@ clean_tidy b h k = grind (arith, nat_tests)
 onto_clear : (b : ℕ) (parts : List (List ℕ)) → is_tidy_byte b ≡ true → AllByRecursion IsClear parts
     → AllByRecursion IsClear (onto_first b parts)
 onto_clear b [] h each = (both_true (is_tidy_byte b) true h refl, tt)
-onto_clear b (p ∷ ps) h each = (both_true (is_tidy_byte b) (list_all is_tidy_byte p) h each.0, each.1)
+onto_clear b (p ∷ ps) h each =
+    (both_true (is_tidy_byte b) (list_all is_tidy_byte p) h each.0, each.1)
 
 clear_by : (s : Bool) (b : ℕ) (parts : List (List ℕ)) → is_space b ≡ s → is_clean_byte b ≡ true
     → AllByRecursion IsClear parts
@@ -156,7 +164,9 @@ filter_tidy : (ws : List (List ℕ)) → AllByRecursion IsClear ws
     → AllByRecursion IsTidy (filter (λ w. nat_lt 0 (length w)) ws)
 filter_tidy [] h = tt
 filter_tidy (w ∷ ws) h =
-    tidy_by (nat_lt 0 (length w)) w (filter (λ u. nat_lt 0 (length u)) ws) refl h.0 (filter_tidy ws h.1)
+    tidy_by (nat_lt 0 (length w)) w (filter (λ u. nat_lt 0 (length u)) ws) refl h.0
+    (filter_tidy ws h.1)
 
-pub words_tidy : (line : List ℕ) → list_all is_clean_byte line ≡ true → AllByRecursion IsTidy (words_of line)
+pub words_tidy : (line : List ℕ) → list_all is_clean_byte line ≡ true
+    → AllByRecursion IsTidy (words_of line)
 words_tidy line h = filter_tidy (slice_split is_space line) (parts_clear line h)

@@ -1,5 +1,6 @@
 -- The cells that words are: free ones, and members of what a name owns.
-use Rattle.std.specs.Prelude.{ℕ, ◌==◌, ◌++◌, Bool, List, [], ◌∷◌, Option, Some, None, Result, Ok, Err}
+use Rattle.std.specs.Prelude.{ℕ, ◌==◌, ◌++◌, Bool, List, [], ◌∷◌, Option, Some, None, Result, Ok}
+use Rattle.std.specs.Prelude.{Err}
 use Rattle.std.specs.Prelude.{codes, cond, decimal, if◌then◌else◌}
 use Rattle.std.specs.Option.{option_map}
 use Rattle.std.specs.Str.{bytes_eq}
@@ -10,7 +11,7 @@ use Rattle.step_threads.specs.declared.programs.call.Name.{Name}
 use Rattle.script_text.specs.declared.fault.Cause.{Cause}
 use Rattle.script_text.specs.declared.fault.Cause.TheVariants.{BadCell, NameUsedTwice}
 use Rattle.step_threads.specs.Programs.{is_member_of}
-use Rattle.script_text.specs.Reading.{◌>>=◌}
+use Rattle.text_lines.specs.Reading.{◌>>=◌}
 use Rattle.script_text.specs.Words.{free_cell_at, is_name}
 use Rattle.script_text.specs.Names.{NameList, name_text, source_at}
 
@@ -21,13 +22,15 @@ is_dot b = b == 46
 -- what stands before the first dot and what after it, where there is one
 abbrev pub split_dot : List ℕ → Option (List ℕ × List ℕ)
 split_dot [] = None
-split_dot (b ∷ bs) = if is_dot b then Some ([], bs) else option_map (λ p. (b ∷ p.0, p.1)) (split_dot bs)
+split_dot (b ∷ bs) =
+    if is_dot b then Some ([], bs) else option_map (λ p. (b ∷ p.0, p.1)) (split_dot bs)
 
 -- the number of a member by its name
 unfoldable pub member_number_at : List ℕ → Result ℕ Cause
 member_number_at word =
     if bytes_eq word (codes "first") then Ok 0
-    else (if bytes_eq word (codes "next") then Ok 1 else (if bytes_eq word (codes "up") then Ok 2 else Err BadCell))
+    else (if bytes_eq word (codes "next") then Ok 1
+    else (if bytes_eq word (codes "up") then Ok 2 else Err BadCell))
 
 -- a member of what an owner name owns: both are well formed before the name is looked up
 unfoldable pub member_at : NameList → List ℕ → List ℕ → Result CellName Cause

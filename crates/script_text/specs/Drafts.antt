@@ -6,13 +6,14 @@ use Rattle.std.specs.Str.{bytes_eq}
 use Rattle.step_threads.specs.declared.programs.call.Call.{Call}
 use Rattle.script_text.specs.declared.parts.draft.Draft as rust
 use Rattle.script_text.specs.declared.fault.Cause.{Cause}
-use Rattle.script_text.specs.declared.fault.Cause.TheVariants.{BadByte, WrongNumberOfWords, TooManyThreads}
+use Rattle.script_text.specs.declared.fault.Cause.TheVariants.{BadByte, WrongNumberOfWords}
+use Rattle.script_text.specs.declared.fault.Cause.TheVariants.{TooManyThreads}
 use Rattle.script_text.specs.declared.fault.Cause.TheVariants.{TooManyStatements}
 use Rattle.script_text.specs.declared.words.keyword.Keyword.{Keyword}
 use Rattle.script_text.specs.declared.parts.thread.Thread.{Thread}
 use Rattle.script_text.specs.declared.parts.version.Version.{Version}
 use Rattle.script_text.specs.declared.parts.version.Version.TheVariants.{One, Two}
-use Rattle.script_text.specs.Reading.{◌>>=◌}
+use Rattle.text_lines.specs.Reading.{◌>>=◌}
 use Rattle.script_text.specs.Words.{is_clean_byte, line_content, words_of}
 use Rattle.script_text.specs.Names.{NameList}
 use Rattle.script_text.specs.Keywords.{keyword_at, takes_words}
@@ -37,7 +38,8 @@ pub record ScriptView : Type 0 where
   pub version : Version
   pub threads : List Section
 
--- a script so far: its version, the threads before the current one, that one, and how many statements all have
+-- a script so far: its version, the threads before the current one, that one, and how many
+-- statements all have
 pub record Draft : Type 0 where
   pub version : Version
   pub done : List Section
@@ -47,7 +49,12 @@ pub record Draft : Type 0 where
 -- what a clause sees of a draft
 abbrev pub draft_of : rust.Draft → Draft
 draft_of d =
-    record { version = d.version; done = map section_of d.done.items; current = section_of d.current; count = d.count }
+    record {
+      version = d.version;
+      done = map section_of d.done.items;
+      current = section_of d.current;
+      count = d.count;
+    }
 
 -- the draft of a version before the first line of its threads
 abbrev pub draft_in : Version → Draft
@@ -69,7 +76,12 @@ script_of d = record { version = d.version; threads = sections d }
 abbrev pub next_thread : Draft → Result Draft Cause
 next_thread d =
     if nat_lt (length d.done + 1) (most_threads d.version)
-    then Ok (record { version = d.version; done = d.done ++ d.current ∷ []; current = no_section; count = d.count })
+    then Ok (record {
+      version = d.version;
+      done = d.done ++ d.current ∷ [];
+      current = no_section;
+      count = d.count;
+    })
     else Err TooManyThreads
 
 -- a call goes last in the current thread
@@ -113,12 +125,14 @@ header_line words = version_at words >>= λ version. Ok (draft_in version)
 
 -- any other line
 abbrev pub other_line : Draft → List ℕ → List (List ℕ) → Result Draft Cause
-other_line d first words = if bytes_eq first (codes "thread") then thread_line d words else statement_line d first words
+other_line d first words =
+    if bytes_eq first (codes "thread") then thread_line d words else statement_line d first words
 
 -- a line that isn't skipped
 abbrev pub told_line : Draft → List ℕ → List (List ℕ) → Result Draft Cause
 told_line d first words =
-    if is_new d && bytes_eq first (codes "version") then header_line words else other_line d first words
+    if is_new d && bytes_eq first (codes "version") then header_line words
+    else other_line d first words
 
 -- a line without words, or whose first word begins with `#`, is skipped
 abbrev pub after_words : Draft → List (List ℕ) → Result Draft Cause

@@ -1,9 +1,17 @@
--- The lines that programs say refusals with. All of it is own.
+-- Refusals, and the lines that programs say them with. All of it is own.
 use Rattle.std.specs.Prelude.{ℕ, List, ◌++◌, codes, decimal}
 use Rattle.script_text.specs.declared.fault.Cause.{Cause}
 use Rattle.script_text.specs.declared.fault.Cause.TheVariants as cause
 use Rattle.script_text.specs.declared.fault.Fault.{Fault}
-use Rattle.script_text.specs.declared.fault.Fault.TheVariants.{Memory, Syntax, BadTurn, Output, Input}
+use Rattle.script_text.specs.declared.fault.Fault.TheVariants.{Memory, Syntax, BadTurn, Output}
+use Rattle.script_text.specs.declared.fault.Fault.TheVariants.{Input}
+use Rattle.text_lines.specs.declared.fault.LineFault.{LineFault}
+use Rattle.text_lines.specs.declared.fault.LineFault.TheVariants as lines
+
+-- the refusal of a text, by that of its lines
+abbrev pub fault_of : LineFault Cause → Fault
+fault_of lines.Memory = Memory
+fault_of (lines.Syntax line cause) = Syntax line cause
 
 abbrev pub cause_words : Cause → List ℕ
 cause_words cause.UnfinishedLine = codes "unfinished line"

@@ -1,11 +1,13 @@
 -- The first words of statements, and how many words may follow each.
-use Rattle.std.specs.Prelude.{ℕ, ◌&&◌, Bool, List, [], ◌∷◌, Option, Some, None, Result, Ok, Err, find}
+use Rattle.std.specs.Prelude.{ℕ, ◌&&◌, Bool, List, [], ◌∷◌, Option, Some, None, Result, Ok, Err}
+use Rattle.std.specs.Prelude.{find}
 use Rattle.std.specs.Prelude.{codes, nat_le}
 use Rattle.std.specs.Str.{bytes_eq}
 use Rattle.script_text.specs.declared.fault.Cause.{Cause}
 use Rattle.script_text.specs.declared.fault.Cause.TheVariants.{UnknownStatement}
 use Rattle.script_text.specs.declared.words.keyword.Keyword.{Keyword}
-use Rattle.script_text.specs.declared.words.keyword.Keyword.TheVariants.{Make, MakeThis, Null, Empty, Reset, Copy}
+use Rattle.script_text.specs.declared.words.keyword.Keyword.TheVariants.{Make, MakeThis, Null}
+use Rattle.script_text.specs.declared.words.keyword.Keyword.TheVariants.{Empty, Reset, Copy}
 use Rattle.script_text.specs.declared.words.keyword.Keyword.TheVariants.{Count}
 use Rattle.script_text.specs.declared.words.keyword.Keyword.TheVariants.{Place, Cell, Weak}
 use Rattle.script_text.specs.declared.words.keyword.PlaceKeyword.TheVariants as place
@@ -59,7 +61,8 @@ keywords =
     Make ∷ MakeThis ∷ Null ∷ Empty ∷ Reset ∷ Copy ∷ Count
     ∷ Place place.Move ∷ Place place.Alias ∷ Place place.This ∷ Place place.WeakThis
     ∷ Place place.Read ∷ Place place.Place ∷ Place place.Same ∷ Place place.Before
-    ∷ Cell cell.Load ∷ Cell cell.Store ∷ Cell cell.Exchange ∷ Cell cell.Compare ∷ Cell cell.CompareWeak
+    ∷ Cell cell.Load ∷ Cell cell.Store ∷ Cell cell.Exchange ∷ Cell cell.Compare
+    ∷ Cell cell.CompareWeak
     ∷ Weak weak.Weak ∷ Weak weak.Copy ∷ Weak weak.Empty ∷ Weak weak.Reset
     ∷ Weak weak.Lock ∷ Weak weak.Upgrade ∷ Weak weak.Count ∷ Weak weak.Expired ∷ []
 

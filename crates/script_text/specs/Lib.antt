@@ -1,5 +1,4 @@
 pub mod Faults
-pub mod Reading
 pub mod Words
 pub mod Names
 pub mod Cells

@@ -1,15 +1,15 @@
 -- The names of a thread, and what a word stands for.
-use Rattle.std.specs.Prelude.{ℕ, ◌+◌, ◌++◌, String, Bool, true, false, List, [], ◌∷◌, length, map}
+use Rattle.std.specs.Prelude.{ℕ, ◌+◌, ◌++◌, String, List, [], ◌∷◌, length, map}
 use Rattle.std.specs.Prelude.{Option, Some, None, Result, Ok, Err, nat_lt, if◌then◌else◌, slice_get}
 use Rattle.std.specs.Option.{option_map}
 use Rattle.std.specs.Str.{bytes_eq}
 use Rattle.std.specs.String.{string_bytes}
 use Rattle.control_word.specs.declared.model.handle.Kind.{Kind}
-use Rattle.control_word.specs.declared.model.handle.Kind.TheVariants.{Owner, Weak}
 use Rattle.step_threads.specs.declared.programs.call.Name.{Name}
 use Rattle.script_text.specs.declared.fault.Cause.{Cause}
-use Rattle.script_text.specs.declared.fault.Cause.TheVariants.{UnknownName, WrongKindOfName, TooManyNames}
-use Rattle.script_text.specs.Reading.{◌>>=◌}
+use Rattle.script_text.specs.declared.fault.Cause.TheVariants.{UnknownName, WrongKindOfName}
+use Rattle.script_text.specs.declared.fault.Cause.TheVariants.{TooManyNames}
+use Rattle.text_lines.specs.Reading.{◌>>=◌}
 use Rattle.script_text.specs.Words.{name_at}
 use Rattle.control_word.specs.Handles.{same_kind}
 
@@ -29,12 +29,14 @@ numbered number = record { 0 = number }
 abbrev pub find_name : List ℕ → NameList → Option (ℕ × Kind)
 find_name name [] = None
 find_name name (n ∷ ns) =
-    if bytes_eq name n.0 then Some (0, n.1) else option_map (λ p. (p.0 + 1, p.1)) (find_name name ns)
+    if bytes_eq name n.0 then Some (0, n.1)
+    else option_map (λ p. (p.0 + 1, p.1)) (find_name name ns)
 
 -- a source is declared, and of this kind
 abbrev pub found_source : Kind → Option (ℕ × Kind) → Result Name Cause
 found_source kind None = Err UnknownName
-found_source kind (Some found) = if same_kind found.1 kind then Ok (numbered found.0) else Err WrongKindOfName
+found_source kind (Some found) =
+    if same_kind found.1 kind then Ok (numbered found.0) else Err WrongKindOfName
 
 -- the source that a word names
 unfoldable pub source_at : NameList → Kind → List ℕ → Result Name Cause
@@ -61,7 +63,8 @@ asked_source_at names (Some kind) word = source_at names kind word
 -- a target is a new name, or one of this kind
 abbrev pub found_target : Kind → List ℕ → Option (ℕ × Kind) → Result (List ℕ) Cause
 found_target kind name None = Ok name
-found_target kind name (Some found) = if same_kind found.1 kind then Ok name else Err WrongKindOfName
+found_target kind name (Some found) =
+    if same_kind found.1 kind then Ok name else Err WrongKindOfName
 
 -- the target that a word names
 unfoldable pub target_at : NameList → Kind → List ℕ → Result (List ℕ) Cause
@@ -70,7 +73,8 @@ target_at names kind word = do
   found_target kind name (find_name name names)
 
 -- a target, and the names with it: a new name goes last, as one of at most 32
-abbrev pub declared_at : NameList → Kind → List ℕ → Option (ℕ × Kind) → Result (Name × NameList) Cause
+abbrev pub declared_at : NameList → Kind → List ℕ → Option (ℕ × Kind)
+    → Result (Name × NameList) Cause
 declared_at names kind name (Some found) = Ok (numbered found.0, names)
 declared_at names kind name None =
     if nat_lt (length names) 32 then Ok (numbered (length names), names ++ (name, kind) ∷ [])

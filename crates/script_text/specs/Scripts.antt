@@ -43,4 +43,5 @@ pub record IsScript (script : ScriptView) (count : ℕ) : Type 0 where
   pub some_block : 64 ≤ blocks_in script.version
   pub blocks : blocks_in script.version ≤ 65535
   pub program : IsProgram (program_in script.threads)
-  pub cells : (shape : Shape) → HasTextCells shape → All (AllHaveCells shape) (program_in script.threads)
+  pub cells : (shape : Shape) → HasTextCells shape
+      → All (AllHaveCells shape) (program_in script.threads)

@@ -1,7 +1,7 @@
--- The words after the first one: a definition for each shape of statement.
--- `T` is a target, `O` a source, `Y` a source of either kind, `n` a number, `F` a field, `C` a cell and `X` a source of
--- its kind. Words are looked at from left to right, but a cell that gives its kind to a target before it comes first,
--- and a target is declared after all other checks.
+-- The words after the first one: a definition for each shape of statement. `T` is a target, `O` a
+-- source, `Y` a source of either kind, `n` a number, `F` a field, `C` a cell and `X` a source of
+-- its kind. Words are looked at from left to right, but a cell that gives its kind to a target
+-- before it comes first, and a target is declared after all other checks.
 use Rattle.std.specs.Prelude.{ℕ, List, [], ◌∷◌, map, Option, Some, None, Result, Ok, Err, codes}
 use Rattle.std.specs.Prelude.{if◌then◌else◌, slice_get}
 use Rattle.std.specs.Str.{bytes_eq}
@@ -13,7 +13,7 @@ use Rattle.control_word.specs.declared.model.handle.Kind.TheVariants.{Owner}
 use Rattle.step_threads.specs.declared.programs.call.Name.{Name}
 use Rattle.script_text.specs.declared.fault.Cause.{Cause}
 use Rattle.script_text.specs.declared.fault.Cause.TheVariants.{WrongNumberOfWords}
-use Rattle.script_text.specs.Reading.{◌>>=◌}
+use Rattle.text_lines.specs.Reading.{◌>>=◌}
 use Rattle.script_text.specs.Words.{number_at, field_of_word}
 use Rattle.script_text.specs.Names.{NameList, asked_source_at, source_at, target_at, declared}
 use Rattle.step_threads.specs.Programs.{kind_at}
@@ -48,7 +48,8 @@ target_and_source names to from (target ∷ other ∷ []) = do
 target_and_source names to from _ = Err WrongNumberOfWords
 
 -- `Y Y`, each of the kind that is asked for, if one is
-unfoldable pub two_sources : NameList → Option Kind → List (List ℕ) → Result ((Name × Name) × NameList) Cause
+unfoldable pub two_sources : NameList → Option Kind → List (List ℕ)
+    → Result ((Name × Name) × NameList) Cause
 two_sources names asked (one ∷ other ∷ []) = do
   first ← asked_source_at names asked one
   second ← asked_source_at names asked other
@@ -56,7 +57,8 @@ two_sources names asked (one ∷ other ∷ []) = do
 two_sources names asked _ = Err WrongNumberOfWords
 
 -- `C X`
-unfoldable pub cell_and_source : NameList → List (List ℕ) → Result ((CellName × Name) × NameList) Cause
+unfoldable pub cell_and_source : NameList → List (List ℕ)
+    → Result ((CellName × Name) × NameList) Cause
 cell_and_source names (one ∷ other ∷ []) = do
   cell ← cell_of_word names one
   source ← source_at names (kind_at cell) other
@@ -64,11 +66,13 @@ cell_and_source names (one ∷ other ∷ []) = do
 cell_and_source names _ = Err WrongNumberOfWords
 
 -- `C X`, where the cell is no member of what X owns
-unfoldable pub cell_and_other : NameList → List (List ℕ) → Result ((CellName × Name) × NameList) Cause
+unfoldable pub cell_and_other : NameList → List (List ℕ)
+    → Result ((CellName × Name) × NameList) Cause
 cell_and_other names words = cell_and_source names words >>= apart
 
 -- `T C`: the target has the cell's kind
-unfoldable pub target_and_cell : NameList → List (List ℕ) → Result ((Name × CellName) × NameList) Cause
+unfoldable pub target_and_cell : NameList → List (List ℕ)
+    → Result ((Name × CellName) × NameList) Cause
 target_and_cell names (target ∷ one ∷ []) = do
   cell ← cell_of_word names one
   name ← target_at names (kind_at cell) target
@@ -77,7 +81,8 @@ target_and_cell names (target ∷ one ∷ []) = do
 target_and_cell names _ = Err WrongNumberOfWords
 
 -- `C X X`
-unfoldable pub cell_and_sources : NameList → List (List ℕ) → Result ((CellName × Name × Name) × NameList) Cause
+unfoldable pub cell_and_sources : NameList → List (List ℕ)
+    → Result ((CellName × Name × Name) × NameList) Cause
 cell_and_sources names (one ∷ other ∷ last ∷ []) = do
   cell ← cell_of_word names one
   expected ← source_at names (kind_at cell) other
@@ -103,7 +108,8 @@ aim_at_other names other word = do
 
 -- `null`, `F` of the source, or `O F`
 unfoldable pub aim_at : NameList → Name → List (List ℕ) → Result Aim Cause
-aim_at names source (last ∷ []) = if bytes_eq last (codes "null") then Ok None else aim_of source last
+aim_at names source (last ∷ []) =
+    if bytes_eq last (codes "null") then Ok None else aim_of source last
 aim_at names source (other ∷ last ∷ []) = do
   of ← source_at names Owner other
   aim_of of last
@@ -138,7 +144,8 @@ fields_at words = do
   Ok (first ∷ second ∷ third ∷ fourth ∷ [])
 
 -- `T [n [n [n [n]]]]`
-unfoldable pub target_and_fields : NameList → List (List ℕ) → Result ((Name × List ℕ) × NameList) Cause
+unfoldable pub target_and_fields : NameList → List (List ℕ)
+    → Result ((Name × List ℕ) × NameList) Cause
 target_and_fields names [] = Err WrongNumberOfWords
 target_and_fields names (target ∷ numbers) = do
   name ← target_at names Owner target

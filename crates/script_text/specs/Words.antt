@@ -1,41 +1,23 @@
--- The bytes and words of a line, names and numbers.
-use Rattle.std.specs.Prelude.{ℕ, ◌-◌, ◌^◌, ◌==◌, ◌&&◌, ◌||◌, Bool, false, List, [], ◌∷◌}
-use Rattle.std.specs.Prelude.{length, take, filter, Result, Ok, Err, nat_lt, nat_le, if◌then◌else◌, slice_index}
-use Rattle.std.specs.List.{slice_split, list_all}
+-- Names, numbers, fields and cells, as words.
+use Rattle.std.specs.Prelude.{ℕ, ◌==◌, ◌&&◌, ◌||◌, Bool, false, List, [], ◌∷◌}
+use Rattle.std.specs.Prelude.{length, Result, Ok, Err, nat_lt, nat_le, if◌then◌else◌}
+use Rattle.std.specs.List.{list_all}
 use Rattle.std.specs.Str.Parse.{digits_value}
 use Rattle.script_text.specs.declared.fault.Cause.{Cause}
-use Rattle.script_text.specs.Reading.{◌>>=◌}
-use Rattle.script_text.specs.declared.fault.Cause.TheVariants.{BadCell, BadField, BadName, BadNumber}
+use Rattle.text_lines.specs.Reading.{◌>>=◌}
+use Rattle.script_text.specs.declared.fault.Cause.TheVariants.{BadCell, BadField, BadName}
+use Rattle.script_text.specs.declared.fault.Cause.TheVariants.{BadNumber}
+pub use Rattle.text_lines.specs.Lines.{is_clean_byte, line_content}
+pub use Rattle.text_lines.specs.Numbers.{is_digit, is_number}
+pub use Rattle.text_lines.specs.Words.{is_space, words_of}
 use Rattle.step_threads.specs.declared.programs.call.CellName.{CellName}
 use Rattle.step_threads.specs.declared.programs.call.CellName.TheVariants as free
 use Rattle.step_table.specs.declared.memory.field.Field.{Field}
 use Rattle.step_table.specs.declared.memory.field.Field.TheVariants.{Zero, One, Two, Three}
 
--- a space or a tab
-abbrev pub is_space : ℕ → Bool
-is_space b = b == 32 || b == 9
-
--- a byte that may stand in a line: a space, a tab, or a character that can be seen
-abbrev pub is_clean_byte : ℕ → Bool
-is_clean_byte b = (nat_le 32 b && nat_le b 126) || b == 9
-
--- a line without the carriage return at its end
-abbrev pub line_content : List ℕ → List ℕ
-line_content line =
-    if nat_lt 0 (length line) && slice_index line (length line - 1) == 13 then take (length line - 1) line
-    else line
-
--- the words, parted by one or more spaces
-abbrev pub words_of : List ℕ → List (List ℕ)
-words_of line = filter (λ w. nat_lt 0 (length w)) (slice_split is_space line)
-
 -- a letter from `a` to `z`
 abbrev pub is_lower : ℕ → Bool
 is_lower b = nat_le 97 b && nat_le b 122
-
--- a decimal digit
-abbrev pub is_digit : ℕ → Bool
-is_digit b = nat_le 48 b && nat_le b 57
 
 -- a letter, a digit or `_`
 abbrev pub is_name_byte : ℕ → Bool
@@ -50,10 +32,6 @@ is_name (b ∷ bs) = is_lower b && nat_lt (length bs) 16 && list_all is_name_byt
 abbrev pub name_at : List ℕ → Result (List ℕ) Cause
 name_at word = if is_name word then Ok word else Err BadName
 
--- one or more digits, of a number below 2 ^ 64
-abbrev pub is_number : List ℕ → Bool
-is_number word = list_all is_digit word && nat_lt 0 (length word) && nat_lt (digits_value 10 word) (2 ^ 64)
-
 -- the number that a word is
 abbrev pub number_at : List ℕ → Result ℕ Cause
 number_at word = if is_number word then Ok (digits_value 10 word) else Err BadNumber
@@ -62,7 +40,8 @@ number_at word = if is_number word then Ok (digits_value 10 word) else Err BadNu
 abbrev pub field_numbered : ℕ → Result Field Cause
 field_numbered n =
     if n == 0 then Ok Zero
-    else (if n == 1 then Ok One else (if n == 2 then Ok Two else (if n == 3 then Ok Three else Err BadField)))
+    else (if n == 1 then Ok One else (if n == 2 then Ok Two
+    else (if n == 3 then Ok Three else Err BadField)))
 
 -- a field's number, and no other word
 abbrev pub numbered_field : Result ℕ Cause → Result Field Cause

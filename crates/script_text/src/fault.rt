@@ -1,10 +1,9 @@
 //! Why a text is no script, or a run has no text.
 
 ghost use Rattle.std.specs.Prelude.{◌≡◌};
-ghost use Rattle.script_text.specs.declared.fault.Stop.TheVariants.{Memory};
 ghost use Rattle.script_text.specs.Faults.{cause_words};
 
-use std::alloc::{AllocError, AllocFailed};
+use text_lines::LineFault;
 
 /// What is wrong with a line, in the order in which causes are looked for on one line (own).
 #[derive(Clone, Copy, Debug, PartialEq, Eq)]
@@ -82,24 +81,18 @@ pub enum Fault {
 }
 
 /// Why a line was not read.
-#[derive(Debug, Drop)]
-pub(crate) enum Stop {
-    Memory,
-    Cause(Cause),
-}
+pub(crate) type Stop = text_lines::Stop<Cause>;
 
-impl From<AllocError> for Stop {
-    ghost from_gives = { λ _ e. e ≡ Memory };
+impl From<LineFault<Cause>> for Fault {
+    ghost use Rattle.std.specs.Prelude.{◌≡◌};
+    ghost use Rattle.script_text.specs.Faults.{fault_of};
 
-    fn from(_e: AllocError) -> Stop {
-        Stop::Memory
-    }
-}
+    ghost from_gives = { λ f e. e ≡ fault_of f };
 
-impl<T: Drop> From<AllocFailed<T>> for Stop {
-    ghost from_gives = { λ _ e. e ≡ Memory };
-
-    fn from(_e: AllocFailed<T>) -> Stop {
-        Stop::Memory
+    fn from(fault: LineFault<Cause>) -> Fault {
+        match fault {
+            LineFault::Memory => Fault::Memory,
+            LineFault::Syntax { line, cause } => Fault::Syntax { line, cause },
+        }
     }
 }

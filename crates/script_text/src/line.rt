@@ -4,7 +4,8 @@ ghost use Rattle.std.specs.Prelude.{◌≡◌, ◌∷◌, [], ◌++◌, OnOk, co
 ghost use Rattle.std.specs.List.{flat_map};
 ghost use Rattle.script_text.specs.Names.{NameList};
 ghost use Rattle.script_text.specs.Cells.{cell_text, member_text};
-ghost use Rattle.script_text.specs.Canonical.{AddsLines, spaced, number_after, call_words, line_words, call_line};
+ghost use Rattle.script_text.specs.Canonical.{AddsLines, spaced, number_after, call_words};
+ghost use Rattle.script_text.specs.Canonical.{line_words, call_line};
 ghost use Rattle.script_text.specs.Canonical.{word_after, word_texts};
 
 use crate::parts::names::Names;
@@ -134,7 +135,8 @@ pub fn member_text(member: u8) -> &'static str
 /// Adds a space and a member of what a name owns.
 fn put_member(text: &mut String, of: &str, member: &str) -> Result<(), AllocError>
     ensures { OnOk result
-        (string_bytes text.new ≡ string_bytes text.old ++ codes " " ++ of.now ++ (codes "." ++ member.now)) }
+        (string_bytes text.new ≡ string_bytes text.old ++ codes " " ++ of.now
+        ++ (codes "." ++ member.now)) }
 {
     write!(text, " {of}.{member}")?;
     Ok(())
@@ -156,7 +158,8 @@ fn put_cell(text: &mut String, names: &Names, cell: CellName) -> Result<(), Allo
 
 /// Adds what a line has after its first word, and a space before it.
 fn put_word(text: &mut String, names: &Names, word: Word) -> Result<(), AllocError>
-    ensures { OnOk result (string_bytes text.new ≡ string_bytes text.old ++ word_after names.now word) }
+    ensures { OnOk result (string_bytes text.new ≡ string_bytes text.old
+        ++ word_after names.now word) }
 {
     match word {
         Word::Of(name) => put_text(text, names.text(name)),
@@ -171,7 +174,8 @@ fn put_word(text: &mut String, names: &Names, word: Word) -> Result<(), AllocErr
 /// Adds all that a line has after its first word.
 fn put_words(text: &mut String, names: &Names, words: &[Word]) -> Result<(), AllocError>
     ensures { OnOk result
-        (string_bytes text.new ≡ string_bytes text.old ++ flat_map (word_after names.now) words.now) }
+        (string_bytes text.new ≡ string_bytes text.old
+        ++ flat_map (word_after names.now) words.now) }
 {
     for word in words {
         put_word(text, names, *word)?;

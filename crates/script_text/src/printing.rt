@@ -5,7 +5,8 @@ ghost use Rattle.std.specs.List.{flat_map};
 ghost use Rattle.control_word.specs.declared.refusal.Refusal.TheVariants.{Memory};
 ghost use Rattle.script_text.specs.Drafts.{section_of};
 ghost use Rattle.script_text.specs.Grammar.{ReadsAs};
-ghost use Rattle.script_text.specs.Canonical.{AddsLines, section_lines, begun_lines, thread_lines, header_lines};
+ghost use Rattle.script_text.specs.Canonical.{AddsLines, section_lines, begun_lines, thread_lines};
+ghost use Rattle.script_text.specs.Canonical.{header_lines};
 ghost use Rattle.script_text.specs.Canonical.{canonical};
 
 use crate::line::put_call;
@@ -47,7 +48,8 @@ fn put_others(text: &mut String, threads: &[Thread]) -> Result<(), AllocError>
 
 /// Adds the lines of all threads.
 fn put_threads(text: &mut String, threads: &[Thread]) -> Result<(), AllocError>
-    ensures { OnOk result (AddsLines text.old text.new (thread_lines (map section_of threads.now))) }
+    ensures { OnOk result (AddsLines text.old text.new
+        (thread_lines (map section_of threads.now))) }
 {
     let [first, others @ ..] = threads else {
         return Ok(());
@@ -69,7 +71,8 @@ fn put_header(text: &mut String, version: Version) -> Result<(), AllocError>
 
 fn script_text(alloc: Global, version: Version, threads: &[Thread]) -> Result<String, AllocError>
     ensures { IfOk result (λ text.
-        string_bytes text ≡ canonical (record { version = version; threads = map section_of threads.now })) }
+        string_bytes text ≡ canonical (record
+        { version = version; threads = map section_of threads.now })) }
 {
     let mut text = String::new(alloc);
     put_header(&mut text, version)?;
@@ -77,8 +80,8 @@ fn script_text(alloc: Global, version: Version, threads: &[Thread]) -> Result<St
     Ok(text)
 }
 
-/// The canonical text of a script (own): the header of version 2, no line that is skipped, single spaces, numbers
-/// without leading zeros, four fields after each `make`. It spells the same script.
+/// The canonical text of a script (own): the header of version 2, no line that is skipped, single
+/// spaces, numbers without leading zeros, four fields after each `make`. It spells the same script.
 ///
 /// Refused by 1 alone, where a growth is refused.
 pub fn print(alloc: Global, script: &Script) -> Result<String, Refusal>

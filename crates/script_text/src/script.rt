@@ -8,8 +8,8 @@ use std::alloc::Global;
 use std::marker::Model;
 use step_core::Program;
 
-/// A script that some text spells. A clause sees its version, and its threads in order, each with its names and its
-/// calls.
+/// A script that some text spells. A clause sees its version, and its threads in order, each with
+/// its names and its calls.
 #[derive(Drop)]
 pub struct Script {
     pub(crate) version: Version,
@@ -40,7 +40,8 @@ impl Script {
     ghost use Rattle.script_text.specs.Scripts.{HasTextCells, program_in, statement_count};
     ghost use Rattle.script_text.specs.Versions.{blocks_in, most_threads};
 
-    /// How many blocks the threads share (own): 4,095 in version 1, and in version 2 as many as the header says.
+    /// How many blocks the threads share (own): 4,095 in version 1, and in version 2 as many as the
+    /// header says.
     pub fn blocks(&self) -> u32
         ensures number { result ≡ blocks_in self.now.version }
         ensures some { 64 ≤ result }
@@ -67,10 +68,10 @@ impl Script {
         self.statements
     }
 
-    /// The program of the script (own): for each thread, in order, an actor with the kinds of its names
-    /// and its calls in order. It is within the limits of a program, its calls are well named and exchange no name with
-    /// a member of its own object, and a shape with 128 cells of each kind has their cells. The script's canonical text
-    /// spells it.
+    /// The program of the script (own): for each thread, in order, an actor with the kinds of its
+    /// names and its calls in order. It is within the limits of a program, its calls are well named
+    /// and exchange no name with a member of its own object, and a shape with 128 cells of each
+    /// kind has their cells. The script's canonical text spells it.
     ///
     /// Refused by 1 alone, where a growth is refused; the script is as it was.
     pub fn program(&self, alloc: Global) -> Result<Program, Refusal>

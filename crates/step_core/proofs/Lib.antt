@@ -1,4 +1,5 @@
 pub mod Worlds
+pub mod Entries
 pub mod following
 pub mod Openings
 pub mod Programs

@@ -5,13 +5,13 @@ use Rattle.std.specs.Prelude.{Some, slice_get}
 use Rattle.std.proofs.lemmas.List.{length_push, map_push, take_more}
 use Rattle.std.proofs.lemmas.Option.{same_Some}
 use Rattle.step_threads.specs.declared.programs.call.Actor.{Actor}
-use Rattle.step_threads.specs.declared.half.Half.{Half}
-use Rattle.step_threads.specs.declared.half.Half.TheVariants.{Rest}
+use Rattle.step_threads.specs.declared.pending_call.PendingCall.{PendingCall}
+use Rattle.step_threads.specs.declared.pending_call.PendingCall.TheVariants.{Rest}
 use Rattle.step_threads.specs.declared.thread.Thread.{Thread}
-use Rattle.step_threads.specs.Courses.{walk}
+use Rattle.step_threads.specs.Frames.{frame_view}
 use Rattle.step_threads.specs.Programs.{Part, part_of}
-use Rattle.step_core.specs.Starts.{first_walk}
-use Rattle.step_table.specs.Stories.{Story}
+use Rattle.step_core.specs.Starts.{first_frame}
+use Rattle.step_table.specs.GhostStates.{GhostState}
 use Rattle.step_threads.specs.Threads.{FitsThread}
 use Rattle.step_core.specs.Worlds.{AllFit}
 
@@ -22,7 +22,7 @@ at_pushed [] y a (suc i) e = cc
 at_pushed (x ∷ xs) y a zero e = inl e
 at_pushed (x ∷ xs) y a (suc i) e = ⊎_elim (λ r. inl r) (λ r. inr (ap suc r.0, r.1)) (at_pushed xs y a i e)
 
-push_fit : (v : Story) (threads : List Thread) (t : Thread) (n : ℕ) → length threads ≡ n → AllFit v threads → FitsThread n t v → AllFit v
+push_fit : (v : GhostState) (threads : List Thread) (t : Thread) (n : ℕ) → length threads ≡ n → AllFit v threads → FitsThread n t v → AllFit v
     (threads ++ t ∷ [])
 push_fit v threads t n size all fits =
     record {
@@ -43,21 +43,21 @@ push_mapped f g threads t actors i a lt is same one =
     ∙ sym q ∙ sym p ∙ sym k
 
 -- the threads of the first n actors
-pub record AreStarted (v : Story) (threads : List Thread) (actors : List Actor) (n : ℕ) : Type 0 where
+pub record AreStarted (v : GhostState) (threads : List Thread) (actors : List Actor) (n : ℕ) : Type 0 where
   pub count : length threads ≡ n
-  pub walks : map (λ t. walk t.course) threads ≡ map first_walk (map part_of (take n actors))
-  pub halves : map (λ t. t.half) threads ≡ map {B = Half} (λ (part : Part). Rest) (map part_of (take n actors))
+  pub frame_views : map (λ t. frame_view t.frame) threads ≡ map first_frame (map part_of (take n actors))
+  pub pending_calls : map (λ t. t.pending_call) threads ≡ map {B = PendingCall} (λ (part : Part). Rest) (map part_of (take n actors))
   pub fit : AllFit v threads
 
-pub push_started : (v : Story) (threads new : List Thread) (t : Thread) (actors : List Actor) (n : ℕ) (a : Actor) → n < length actors
+pub push_started : (v : GhostState) (threads new : List Thread) (t : Thread) (actors : List Actor) (n : ℕ) (a : Actor) → n < length actors
     → a ≡ get_or actors n a → AreStarted v threads actors n → new ≡ threads ++ t ∷ []
-    → walk t.course ≡ first_walk (part_of a) → t.half ≡ Rest
+    → frame_view t.frame ≡ first_frame (part_of a) → t.pending_call ≡ Rest
     → FitsThread n t v → AreStarted v new actors (n + 1)
 push_started v threads new t actors n a lt is started more w h fits =
     subst (λ (l : List Thread). AreStarted v l actors (n + 1)) (sym more)
     (record {
       count = length_push threads t ∙ ap (λ (k : ℕ). k + 1) started.count;
-      walks = push_mapped (λ x. walk x.course) first_walk threads t actors n a lt is started.walks w;
-      halves = push_mapped (λ x. x.half) (λ part. Rest) threads t actors n a lt is started.halves h;
+      frame_views = push_mapped (λ x. frame_view x.frame) first_frame threads t actors n a lt is started.frame_views w;
+      pending_calls = push_mapped (λ x. x.pending_call) (λ part. Rest) threads t actors n a lt is started.pending_calls h;
       fit = push_fit v threads t n started.count started.fit fits;
     })

@@ -12,10 +12,10 @@ use Rattle.std.specs.List.Sorted.{IsPermutation}
 use Rattle.control_word.proofs.lists.Tallies.{num, num_cons}
 use Rattle.control_word.specs.State.{Stored, all_stored, same_stored, stored}
 use Rattle.step_table.specs.declared.memory.extent.Extent.{Extent}
-use Rattle.step_threads.specs.declared.half.Half.TheVariants.{Rest}
+use Rattle.step_threads.specs.declared.pending_call.PendingCall.TheVariants.{Rest}
 use Rattle.step_threads.specs.Actors.{Stocks, in_list}
 use Rattle.step_table.specs.Openings.{each_stock}
-use Rattle.step_core.specs.Starts.{first_story}
+use Rattle.step_core.specs.Starts.{first_ghost}
 use Rattle.step_threads.specs.Stocks.{StoreView as Blocks, from}
 
 -- numbers from f on
@@ -189,7 +189,7 @@ once n a d count b lt share =
     (cases_lt b (q + 1))
 
 pub stocks_start : (x : Extent) (d count room : ℕ) (blocks : List ℕ) → d < x.actors → IsShare x.shape.blocks x.actors d count
-    → IsPermutation (from (each_stock x * d + 1) count) blocks → x.shape.blocks ≤ room → Stocks d blocks room Rest (first_story x)
+    → IsPermutation (from (each_stock x * d + 1) count) blocks → x.shape.blocks ≤ room → Stocks d blocks room Rest (first_ghost x)
 stocks_start x d count room blocks lt share p le =
     record {
       stocked = λ b.
@@ -200,6 +200,6 @@ stocks_start x d count room blocks lt share p le =
 
 pub stocks_if : {E : Type 0} (x : Extent) (d count : ℕ) (r : Result Blocks E) → d < x.actors → IsShare x.shape.blocks x.actors d count
     → IfOk r (λ s. IsPermutation (from (each_stock x * d + 1) count) s.blocks) → IfOk r (λ s. x.shape.blocks ≤ s.room)
-    → IfOk r (λ s. Stocks d s.blocks s.room Rest (first_story x))
+    → IfOk r (λ s. Stocks d s.blocks s.room Rest (first_ghost x))
 stocks_if x d count (Ok s) lt share p le = stocks_start x d count s.room s.blocks lt share p le
 stocks_if x d count (Err e) lt share p le = tt

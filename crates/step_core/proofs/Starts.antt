@@ -21,12 +21,12 @@ use Rattle.step_threads.specs.declared.ending.Ending.{Ending}
 use Rattle.step_table.specs.declared.memory.extent.Extent.{Extent}
 use Rattle.step_table.specs.declared.slots.slot.Slot.{Slot}
 use Rattle.step_threads.specs.Acts.{acts, clearing, numbered_tasks, tasks_from}
-use Rattle.step_threads.specs.Courses.{HasCell, IsNamed, IsReady, TasksMayCome, hand, other}
-use Rattle.step_table.specs.Holdings.{HoldsBag, IsSlot, Slots, full, owns, plain, slot_value}
+use Rattle.step_threads.specs.Frames.{HasCell, IsNamed, IsReady, TasksMayCome, hand, other}
+use Rattle.step_table.specs.Registers.{HoldsBag, IsSlot, Slots, full, owns, plain, slot_value}
 use Rattle.step_threads.specs.Programs.{Asked, HasCells, IsDeclared, IsNameFound, IsIn, IsPart, IsWellNamed, Part, as_in, either, names_of, owner_asked}
 use Rattle.step_threads.specs.Programs.{through, weak_asked}
-use Rattle.step_core.specs.Starts.{HasFields, first_story}
-use Rattle.step_table.specs.Stories.{Nothing, Story, pending}
+use Rattle.step_core.specs.Starts.{HasFields, first_ghost}
+use Rattle.step_table.specs.GhostStates.{Nothing, GhostState, pending}
 use Rattle.step_table.proofs.tables.Start.{fresh_at}
 
 -- empty slots
@@ -35,7 +35,7 @@ slot_none zero i = refl
 slot_none (suc n) zero = refl
 slot_none (suc n) (suc i) = slot_none n i
 
-none_owned : (v : Story) (h : Handle) (n : ℕ) → owns v (replicate n plain) h ≡ 0
+none_owned : (v : GhostState) (h : Handle) (n : ℕ) → owns v (replicate n plain) h ≡ 0
 none_owned v h zero = refl
 none_owned v h (suc n) = none_owned v h n
 
@@ -43,15 +43,15 @@ none_full : (n : ℕ) → full (replicate n plain) ≡ 0
 none_full zero = refl
 none_full (suc n) = none_full n
 
-pub holds_start : (d n : ℕ) (x : Extent) → HoldsBag d (replicate n plain) (first_story x)
+pub holds_start : (d n : ℕ) (x : Extent) → HoldsBag d (replicate n plain) (first_ghost x)
 holds_start d n x =
     record {
-      owned = λ h. sym (none_owned (first_story x) h n);
+      owned = λ h. sym (none_owned (first_ghost x) h n);
       size = sym (none_full n);
       formed = λ i. subst IsSlot (sym (slot_none n i)) tt;
     }
 
-pub idle_start : (d : ℕ) (x : Extent) → d < x.actors → pending (first_story x) d ≡ Idle
+pub idle_start : (d : ℕ) (x : Extent) → d < x.actors → pending (first_ghost x) d ≡ Idle
 idle_start d x lt = ap (λ (v : View Nothing). v.pending) (fresh_at 0 x.actors d lt)
 
 -- a call's names are below the number of names

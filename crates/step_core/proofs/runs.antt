@@ -3,7 +3,7 @@ pub mod Calls
 pub mod Calming
 pub mod Chains
 pub mod Clearing
-pub mod Doings
+pub mod TraceLabels
 pub mod Ends
 pub mod Extents
 pub mod Hands

@@ -4,7 +4,7 @@ pub mod Tidying
 pub mod Names
 pub mod Firsts
 pub mod Order
-pub mod Deeds
+pub mod AtomicSteps
 pub mod Making
 pub mod Counting
 pub mod Still

@@ -8,6 +8,7 @@ pub mod Resting
 pub mod Giving
 pub mod Locking
 pub mod Making
+pub mod Choosing
 pub mod Saying
 pub mod Looking
 pub mod Firsts

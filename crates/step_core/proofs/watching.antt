@@ -2,5 +2,5 @@ pub mod Words
 pub mod Blocks
 pub mod Cells
 pub mod Steps
-pub mod Halves
+pub mod PendingCalls
 pub mod Worlds

@@ -2,14 +2,14 @@
 use Rattle.std.specs.Prelude.{◌≡◌, ◌⊎◌, ℕ, ◌-◌, ◌++◌, List, [], ◌∷◌, Option, Some, None}
 use Rattle.step_table.specs.declared.memory.form.Form.{Form}
 use Rattle.step_table.specs.Openings.{opening}
-use Rattle.step_table.specs.Stories.{Nothing, story_state}
+use Rattle.step_table.specs.GhostStates.{Nothing, model_state}
 use Rattle.step_threads.specs.declared.said.Said.{Said}
 use Rattle.step_threads.specs.declared.said.Stepped.{Stepped}
 use Rattle.step_threads.specs.declared.said.Stepped.TheVariants.{Event, Quiet, Waited, Done}
-use Rattle.step_threads.specs.Doings.{DoesNext, Doing, GoesThrough, lines, onto, put_on, spoken}
-use Rattle.step_threads.specs.Scenes.{walk_of}
+use Rattle.step_threads.specs.TraceLabels.{DoesNext, TraceLabel, GoesThrough, lines, onto, put_on, spoken}
+use Rattle.step_threads.specs.AbstractStates.{frame_of}
 use Rattle.step_core.specs.declared.trace.TraceStep.{TraceStep}
-use Rattle.step_core.specs.Sights.{IsAsLarge, Sight, scene}
+use Rattle.step_core.specs.WorldStates.{IsAsLarge, WorldState, abstraction}
 
 -- objects of the machine have no value of their own
 abbrev pub no_worth : Form → Nothing
@@ -27,20 +27,21 @@ spoken_by d None = []
 spoken_by d (Some x) = spoken d x
 
 -- thread d is over, or on the way of its next act: it says nothing, and no thread and no event is further
-pub record PassesQuietly (d : ℕ) (u : Sight) (r : Stepped) (u' : Sight) : Type 0 where
+pub record PassesQuietly (d : ℕ) (u : WorldState) (r : Stepped) (u' : WorldState) : Type 0 where
   pub silent : spoken_by d (said_by r) ≡ []
-  pub stays : scene u' ≡ scene u
+  pub stays : abstraction u' ≡ abstraction u
 
 -- thread d made its next act
-pub record ActsNext (d : ℕ) (u : Sight) (r : Stepped) (u' : Sight) : Type 0 where
-  pub doing : Doing Nothing
-  pub desk : doing.desk ≡ d
-  pub does : DoesNext no_worth (story_state u.story) (walk_of (scene u) d) doing (walk_of (scene u') d)
-  pub history : u'.story.history ≡ put_on d doing.event u.story.history
-  pub says : said_by r ≡ Some doing.said
+pub record ActsNext (d : ℕ) (u : WorldState) (r : Stepped) (u' : WorldState) : Type 0 where
+  pub trace_label : TraceLabel Nothing
+  pub desk : trace_label.desk ≡ d
+  pub does : DoesNext no_worth (model_state u.ghost_state) (frame_of (abstraction u) d) trace_label
+      (frame_of (abstraction u') d)
+  pub history : u'.ghost_state.history ≡ put_on d trace_label.event u.ghost_state.history
+  pub says : said_by r ≡ Some trace_label.said
 
 -- a step of thread d, with this answer
-abbrev pub Performs : ℕ → Sight → Stepped → Sight → Type 0
+abbrev pub Performs : ℕ → WorldState → Stepped → WorldState → Type 0
 Performs d u r u' = PassesQuietly d u r u' ⊎ ActsNext d u r u'
 
 -- the lines of steps, the oldest first, each with its thread
@@ -50,11 +51,12 @@ lines_of (x ∷ xs) = spoken_by (x.actor - 1) (said_by x.stepped) ++ lines_of xs
 
 -- These steps lead from u to u', and make some acts: their events come on top of u's history; each thread's are what
 -- its statements and its end ask for, act by act, from where it was to where it is; and the steps say what the acts say
-pub record Follows (u : Sight) (xs : List TraceStep) (u' : Sight) : Type 0 where
-  pub doings : List (Doing Nothing)
-  pub history : u'.story.history ≡ onto u.story.history doings
+pub record Follows (u : WorldState) (xs : List TraceStep) (u' : WorldState) : Type 0 where
+  pub trace_labels : List (TraceLabel Nothing)
+  pub history : u'.ghost_state.history ≡ onto u.ghost_state.history trace_labels
   pub each : (d : ℕ)
-      → GoesThrough no_worth (opening u.story.extent) u.story.history d (walk_of (scene u) d) doings
-      (walk_of (scene u') d)
-  pub says : lines doings ≡ lines_of xs
+      → GoesThrough no_worth (opening u.ghost_state.extent) u.ghost_state.history d (frame_of (abstraction u) d)
+      trace_labels
+      (frame_of (abstraction u') d)
+  pub says : lines trace_labels ≡ lines_of xs
   pub extent : IsAsLarge u u'

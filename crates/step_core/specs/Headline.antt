@@ -19,12 +19,12 @@ use Rattle.step_core.specs.declared.trace.TraceStep.{TraceStep}
 use Rattle.step_table.specs.Openings.{opening}
 use Rattle.step_threads.specs.declared.programs.act.Act.TheVariants as act
 use Rattle.step_threads.specs.declared.programs.act.Task.{Task}
-use Rattle.step_threads.specs.Scenes.{walk_of}
+use Rattle.step_threads.specs.AbstractStates.{frame_of}
 use Rattle.step_threads.specs.Rows.{lock_answer}
-use Rattle.step_table.specs.Deeds.{remains}
-use Rattle.step_table.specs.Holdings.{Slots, slot_pointer, weak_slot}
-use Rattle.step_table.specs.Stories.{Nothing, Seats, story_state}
-use Rattle.step_core.specs.Sights.{AllHold, AllRestIdle, Sight, scene}
+use Rattle.step_table.specs.AtomicSteps.{remains}
+use Rattle.step_table.specs.Registers.{Slots, slot_pointer, weak_slot}
+use Rattle.step_table.specs.GhostStates.{Nothing, Seats, model_state}
+use Rattle.step_core.specs.WorldStates.{AllHold, AllRestIdle, WorldState, abstraction}
 
 -- the numbers in a block's words are those of the handles on it, in bags and cells together; the weak word has one
 -- more while there are owners ([util.smartptr.shared.obs], and own)
@@ -33,46 +33,46 @@ pub record TellsHandles (words : List ℕ) (s : State) (b : ℕ) : Type 0 where
   pub weaks : number_of (slice_index words (spot b 1)) ≡ weak s (s.latest b) + common (s.object (s.latest b)).phase
 
 -- at each block at rest the counts are exactly the handles
-abbrev pub CountsAtRest : Sight → Type 0
+abbrev pub CountsAtRest : WorldState → Type 0
 CountsAtRest u =
-    (b : ℕ) → InShape (opening u.story.extent) b → IsAtRest (story_state u.story) u.story.views b
-    → TellsHandles u.story.words (story_state u.story) b
+    (b : ℕ) → InShape (opening u.ghost_state.extent) b → IsAtRest (model_state u.ghost_state) u.ghost_state.views b
+    → TellsHandles u.ghost_state.words (model_state u.ghost_state) b
 
 -- the step was this event
-abbrev pub Was : Event Nothing → Sight → TraceStep → Sight → Type 0
-Was e u x u' = u'.story.history ≡ entry (x.actor - 1) e ∷ u.story.history
+abbrev pub Was : Event Nothing → WorldState → TraceStep → WorldState → Type 0
+Was e u x u' = u'.ghost_state.history ≡ entry (x.actor - 1) e ∷ u.ghost_state.history
 
 -- a lock gave an owner exactly where one remained at its step ([util.smartptr.weak.obs])
-abbrev pub LocksWhereOwned : Sight → TraceStep → Sight → Type 0
+abbrev pub LocksWhereOwned : WorldState → TraceStep → WorldState → Type 0
 LocksWhereOwned u x u' =
     (w : Handle) (gave : Bool) → Was (Lock w gave) u x u'
-    → (gave ≡ true) ↔ (0 < count (story_state u.story) (object_of w))
+    → (gave ≡ true) ↔ (0 < count (model_state u.ghost_state) (object_of w))
 
 -- each object's value came out at most once, and exactly when the object is no longer live
 -- ([util.smartptr.shared.dest])
-abbrev pub ValuesOnce : Sight → Type 0
+abbrev pub ValuesOnce : WorldState → Type 0
 ValuesOnce u =
-    (o : ℕ) → 1 ≤ o → o ≤ (story_state u.story).made
-    → (given o u.story.history ≤ 1)
-    × (given o u.story.history ≡ 1 ↔ ((story_state u.story).object o).phase ≢ live)
+    (o : ℕ) → 1 ≤ o → o ≤ (model_state u.ghost_state).made
+    → (given o u.ghost_state.history ≤ 1)
+    × (given o u.ghost_state.history ≡ 1 ↔ ((model_state u.ghost_state).object o).phase ≢ live)
 
 -- the step was the leave of the last owner of o
-pub record LastLeft (o : ℕ) (u : Sight) (x : TraceStep) (u' : Sight) : Type 0 where
+pub record LastLeft (o : ℕ) (u : WorldState) (x : TraceStep) (u' : WorldState) : Type 0 where
   pub owner : Handle
   pub left : Was (Leave owner true) u x u'
   pub object : object_of owner ≡ o
-  pub last : count (story_state u.story) o ≡ 1
+  pub last : count (model_state u.ghost_state) o ≡ 1
 
 -- the value of o had not come out before the step, and has after it
-pub record ValueCameOut (o : ℕ) (u u' : Sight) : Type 0 where
-  pub before : given o u.story.history ≡ 0
-  pub after : given o u'.story.history ≡ 1
+pub record ValueCameOut (o : ℕ) (u u' : WorldState) : Type 0 where
+  pub before : given o u.ghost_state.history ≡ 0
+  pub after : given o u'.ghost_state.history ≡ 1
 
 -- a value comes out just at the leave of the object's last owner
-abbrev pub ValuesAtLastLeave : Sight → TraceStep → Sight → Type 0
+abbrev pub ValuesAtLastLeave : WorldState → TraceStep → WorldState → Type 0
 ValuesAtLastLeave u x u' =
     (o : ℕ) → (LastLeft o u x u' × ValueCameOut o u u')
-    ⊎ ((LastLeft o u x u' → ⊥) × (given o u'.story.history ≡ given o u.story.history))
+    ⊎ ((LastLeft o u x u' → ⊥) × (given o u'.ghost_state.history ≡ given o u.ghost_state.history))
 
 -- what a step tells of an object whose last owner left
 abbrev pub step_ended : Stepped → Option Ended
@@ -82,10 +82,10 @@ step_ended Waited = None
 step_ended Done = None
 
 -- a step tells what an object leaves just where its last owner left: the object's fields, or that it was null
-abbrev pub TellsWhatIsLeft : Sight → TraceStep → Sight → Type 0
+abbrev pub TellsWhatIsLeft : WorldState → TraceStep → WorldState → Type 0
 TellsWhatIsLeft u x u' =
     MatchOption (step_ended x.stepped) ((o : ℕ) → LastLeft o u x u' → ⊥)
-    (λ e. (o : ℕ) × LastLeft o u x u' × (e ≡ remains ((story_state u.story).object o)))
+    (λ e. (o : ℕ) × LastLeft o u x u' × (e ≡ remains ((model_state u.ghost_state).object o)))
 
 -- what a step answers
 abbrev pub answer_by : Stepped → Option Answer
@@ -114,30 +114,31 @@ LocksNone must slots (t ∷ ts) =
 -- A lock says whether it gave an owner, by an answer of its statement; one that must give an owner is refused where
 -- it did not. Nothing else answers so, but a lock of a name without a weak pointer to an object, which gives no owner
 -- ([util.smartptr.weak.obs], [util.smartptr.shared.const])
-pub record TellsLocks (u : Sight) (x : TraceStep) (u' : Sight) : Type 0 where
+pub record TellsLocks (u : WorldState) (x : TraceStep) (u' : WorldState) : Type 0 where
   pub answers : (w : Handle) (gave : Bool) → Was (Lock w gave) u x u'
-      → (k : ℕ) × (must : Bool) × LocksNext k must (walk_of (scene u) (x.actor - 1)).todo
+      → (k : ℕ) × (must : Bool) × LocksNext k must (frame_of (abstraction u) (x.actor - 1)).todo
       × (statement_by x.stepped ≡ Some k) × (answer_by x.stepped ≡ Some (lock_answer must gave))
   pub events : (must gave : Bool) → answer_by x.stepped ≡ Some (lock_answer must gave)
-      → let w = walk_of (scene u) (x.actor - 1) in
+      → let w = frame_of (abstraction u) (x.actor - 1) in
       ((h : Handle) × Was (Lock h gave) u x u') ⊎ ((gave ≡ false) × LocksNone must w.slots w.todo)
 
 -- no block is in the midst of anything
-abbrev pub AllAtRest : Sight → Type 0
-AllAtRest u = (b : ℕ) → InShape (opening u.story.extent) b → IsAtRest (story_state u.story) u.story.views b
+abbrev pub AllAtRest : WorldState → Type 0
+AllAtRest u = (b : ℕ) → InShape (opening u.ghost_state.extent) b → IsAtRest (model_state u.ghost_state)
+    u.ghost_state.views b
 
 -- What holds before the first step of a run, and after each. Each thread's desk has one view, without a half-done call
 -- while the thread has begun nothing: so a block is kept from rest only by an object that ends, or by what a thread has
 -- begun
-pub record AfterEach (u : Sight) : Type 0 where
+pub record AfterEach (u : WorldState) : Type 0 where
   pub counts : CountsAtRest u
   pub once : ValuesOnce u
   pub hands : AllHold u
-  pub views : Seats u.story.views (length u.walks)
+  pub views : Seats u.ghost_state.views (length u.frame_views)
   pub idle : AllRestIdle u
 
 -- what holds of each step
-pub record OfEach (u : Sight) (x : TraceStep) (u' : Sight) : Type 0 where
+pub record OfEach (u : WorldState) (x : TraceStep) (u' : WorldState) : Type 0 where
   pub locks : LocksWhereOwned u x u'
   pub answers : TellsLocks u x u'
   pub values : ValuesAtLastLeave u x u'

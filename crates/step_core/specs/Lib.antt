@@ -4,10 +4,11 @@ pub mod Following
 pub mod Headline
 pub mod Runs
 pub mod Showing
-pub mod Sights
+pub mod WorldStates
 pub mod Starts
 pub mod Told
 pub mod Totals
 pub mod Turning
+pub mod Turns
 pub mod Watching
 pub mod Worlds

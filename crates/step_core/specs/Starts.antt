@@ -1,5 +1,5 @@
 -- How a world begins. All of it is own.
-pub use Rattle.step_threads.specs.Interleavings.{first_walk, no_slots}
+pub use Rattle.step_threads.specs.Interleavings.{first_frame, no_slots}
 use Rattle.std.specs.Prelude.{◌≡◌, ◌*◌, ◌<◌, ◌≤◌, List, [], All, length, map, replicate}
 use Rattle.control_word.specs.declared.shape.Shape.{Shape}
 use Rattle.control_word.specs.Layout.{IsWithinLimits, table_size}
@@ -7,11 +7,11 @@ use Rattle.control_word.specs.Views.{fresh}
 use Rattle.step_threads.specs.declared.programs.call.Call.{Call}
 use Rattle.step_threads.specs.declared.programs.call.Call.TheVariants.{Make, MakeThis, Shelve}
 use Rattle.step_table.specs.declared.memory.extent.Extent.{Extent}
-use Rattle.step_threads.specs.declared.half.Half.{Half}
-use Rattle.step_threads.specs.declared.half.Half.TheVariants.{Rest}
+use Rattle.step_threads.specs.declared.pending_call.PendingCall.{PendingCall}
+use Rattle.step_threads.specs.declared.pending_call.PendingCall.TheVariants.{Rest}
 use Rattle.step_threads.specs.Programs.{AllHaveCells, IsProgram, Part}
-use Rattle.step_core.specs.Worlds.{Sight}
-use Rattle.step_table.specs.Stories.{Story}
+use Rattle.step_core.specs.Worlds.{WorldState}
+use Rattle.step_table.specs.GhostStates.{GhostState}
 
 -- a world of this shape may run the program: both are within the limits, with 40 handles or more for each actor, and
 -- the shape has the cells of all calls
@@ -25,16 +25,16 @@ abbrev pub extent_of : Shape → List Part → Extent
 extent_of shape parts = record { shape = shape; actors = length parts }
 
 -- all words are 0, and nothing has happened
-abbrev pub first_story : Extent → Story
-first_story x = record { extent = x; words = replicate (table_size x.shape) 0; views = fresh 0 x.actors; history = [] }
+abbrev pub first_ghost : Extent → GhostState
+first_ghost x = record { extent = x; words = replicate (table_size x.shape) 0; views = fresh 0 x.actors; history = [] }
 
 -- nothing has happened and nothing has begun
-abbrev pub first_sight : Shape → List Part → Sight
-first_sight shape parts =
+abbrev pub first_world_state : Shape → List Part → WorldState
+first_world_state shape parts =
     record {
-      story = first_story (extent_of shape parts);
-      walks = map first_walk parts;
-      halves = map {B = Half} (λ (part : Part). Rest) parts;
+      ghost_state = first_ghost (extent_of shape parts);
+      frame_views = map first_frame parts;
+      pending_calls = map {B = PendingCall} (λ (part : Part). Rest) parts;
     }
 
 -- an object has four fields; a shelve is of so many blocks as a table may have

@@ -7,11 +7,11 @@ use Rattle.control_word.specs.declared.model.event.Entry.{Entry}
 use Rattle.control_word.specs.declared.model.event.Event.{Event}
 use Rattle.control_word.specs.declared.model.event.Event.TheVariants.{Make, Leave}
 use Rattle.control_word.specs.State.{State, count, weak, weak_number}
-use Rattle.step_threads.specs.declared.half.Half.{Half}
-use Rattle.step_threads.specs.declared.half.Half.TheVariants.{Rest}
-use Rattle.step_threads.specs.Courses.{Walk}
-use Rattle.step_table.specs.Stories.{Nothing}
-use Rattle.step_core.specs.Worlds.{Sight}
+use Rattle.step_threads.specs.declared.pending_call.PendingCall.{PendingCall}
+use Rattle.step_threads.specs.declared.pending_call.PendingCall.TheVariants.{Rest}
+use Rattle.step_threads.specs.Frames.{FrameView}
+use Rattle.step_table.specs.GhostStates.{Nothing}
+use Rattle.step_core.specs.Worlds.{WorldState}
 
 abbrev pub is_make : Event Nothing → Bool
 is_make (Make b enabled null fields v) = true
@@ -43,7 +43,7 @@ counts_in owners number =
     cond (number == 0) None (Some (record { owners = owners; weaks = number - cond (owners == 0) 0 1 }))
 
 -- each thread has made its last act and ended its last object
-pub record IsAtEnd (u : Sight) : Type 0 where
-  pub walks : All (λ (w : Walk). w.todo ≡ []) u.walks
-  pub endings : All (λ (w : Walk). w.endings ≡ []) u.walks
-  pub halves : All (λ (h : Half). h ≡ Rest) u.halves
+pub record IsAtEnd (u : WorldState) : Type 0 where
+  pub frame_views : All (λ (w : FrameView). w.todo ≡ []) u.frame_views
+  pub endings : All (λ (w : FrameView). w.endings ≡ []) u.frame_views
+  pub pending_calls : All (λ (h : PendingCall). h ≡ Rest) u.pending_calls

@@ -4,14 +4,14 @@ use Rattle.std.specs.Prelude.{length}
 use Rattle.std.specs.List.{filter}
 use Rattle.control_word.specs.Packing.{cell_bits}
 use Rattle.control_word.specs.declared.shape.Shape.{Shape}
-use Rattle.step_table.specs.declared.cell_steps.cell_deed.Cell.{Cell}
-use Rattle.step_table.specs.declared.cell_steps.cell_deed.Cell.TheVariants.{Free, Member}
-use Rattle.step_threads.specs.declared.half.Half.{Half}
-use Rattle.step_threads.specs.declared.half.Half.TheVariants.{Refill}
-use Rattle.step_table.specs.CellDeeds.{word_of}
+use Rattle.step_table.specs.declared.cell_steps.cell_step.Cell.{Cell}
+use Rattle.step_table.specs.declared.cell_steps.cell_step.Cell.TheVariants.{Free, Member}
+use Rattle.step_threads.specs.declared.pending_call.PendingCall.{PendingCall}
+use Rattle.step_threads.specs.declared.pending_call.PendingCall.TheVariants.{Refill}
+use Rattle.step_table.specs.CellAtomicSteps.{word_of}
 use Rattle.step_table.specs.Cells.{word_of_cell}
 use Rattle.step_table.specs.Refills.{is_low}
-use Rattle.step_table.specs.Stories.{Story}
+use Rattle.step_table.specs.GhostStates.{GhostState}
 
 -- the value of a cell's word, without how many of its funds were taken
 abbrev pub content : ℕ → ℕ
@@ -19,13 +19,13 @@ content word = word % 17179869184
 
 -- the thread has many funds to put back into the cell whose word lies there, and the word tells the value that they are
 -- of
-abbrev pub is_watching : ℕ → ℕ → ℕ → Half → Bool
+abbrev pub is_watching : ℕ → ℕ → ℕ → PendingCall → Bool
 is_watching blocks place word (Refill stage c x k) = word_of blocks c == place && is_low x
     && content (cell_bits x) == content word
 is_watching blocks place word _ = false
 
-abbrev pub watchers : ℕ → ℕ → ℕ → List Half → ℕ
-watchers blocks place word halves = length (filter (is_watching blocks place word) halves)
+abbrev pub watchers : ℕ → ℕ → ℕ → List PendingCall → ℕ
+watchers blocks place word pending_calls = length (filter (is_watching blocks place word) pending_calls)
 
 -- a free cell of the shape, or a member of a block: no other words of a table are cells
 abbrev pub IsCellOfShape : Shape → Cell → Type 0
@@ -33,8 +33,8 @@ IsCellOfShape z (Free n) = n < z.shared_cells + z.weak_cells
 IsCellOfShape z (Member b m) = (0 < b.0) × (b.0 ≤ z.blocks) × (m < 3)
 
 -- of no cell of the shape more funds are taken than 127, and one for each thread that has them to put back
-abbrev pub IsWatched : Story → List Half → Type 0
-IsWatched v halves =
+abbrev pub IsWatched : GhostState → List PendingCall → Type 0
+IsWatched v pending_calls =
     let z = v.extent.shape in
     (c : Cell) → IsCellOfShape z c → word_of_cell v c / 17179869184 ≤ 127 + watchers z.blocks
-    (word_of z.blocks c) (word_of_cell v c) halves
+    (word_of z.blocks c) (word_of_cell v c) pending_calls

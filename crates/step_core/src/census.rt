@@ -3,14 +3,14 @@ ghost use Rattle.std.specs.Prelude.{◌≡◌, ◌↔◌, ◌<◌, ◌≤◌, []
 ghost use Rattle.control_word.specs.Packing.{number_of};
 ghost use Rattle.control_word.specs.State.{IsVacant};
 ghost use Rattle.step_table.specs.Cells.{IsCellInUse, target_of};
-ghost use Rattle.step_table.specs.Stories.{Kept, story_state};
+ghost use Rattle.step_table.specs.GhostStates.{Kept, model_state};
 ghost use Rattle.step_core.specs.Totals.{IsAtEnd, census_of, counts_in, ended_in, fields_of, made_in};
 
 use crate::world::World;
 use control_word::packed::counts::unpack_count;
 use control_word::packed::layout::{FIELDS, OWNERS, WEAKS};
 use control_word::{Block, Counts};
-use step_table::cell_steps::cell_deed::Cell;
+use step_table::cell_steps::cell_step::Cell;
 
 impl World {
     /// How many owners and weak handles the object in a block has ([util.smartptr.shared.obs], and own); none where the
@@ -19,9 +19,9 @@ impl World {
     pub fn census(&self, block: Block) -> Option<Counts>
         requires end { IsAtEnd self.now }
         requires some { 0 < block.0 }
-        requires within { block.0 ≤ self.now.story.extent.shape.blocks }
-        ensures counts { result ≡ census_of (story_state self.now.story) block.0 }
-        ensures vacant { result ≡ None ↔ IsVacant (story_state self.now.story) block.0 }
+        requires within { block.0 ≤ self.now.ghost_state.extent.shape.blocks }
+        ensures counts { result ≡ census_of (model_state self.now.ghost_state) block.0 }
+        ensures vacant { result ≡ None ↔ IsVacant (model_state self.now.ghost_state) block.0 }
     {
         self.table.known();
         counted(
@@ -35,8 +35,8 @@ impl World {
     pub fn fields(&self, block: Block) -> Option<[u64; 4]>
         requires end { IsAtEnd self.now }
         requires some { 0 < block.0 }
-        requires within { block.0 ≤ self.now.story.extent.shape.blocks }
-        ensures { result ≡ fields_of (story_state self.now.story) block.0 }
+        requires within { block.0 ≤ self.now.ghost_state.extent.shape.blocks }
+        ensures { result ≡ fields_of (model_state self.now.ghost_state) block.0 }
     {
         self.table.known();
         if self.census(block).is_none() {
@@ -54,8 +54,8 @@ impl World {
     /// that each handle is in a cell.
     pub fn known_at_end(&self)
         requires { IsAtEnd self.now }
-        ensures kept { Kept self.now.story }
-        ensures hands { (story_state self.now.story).hands ≡ [] }
+        ensures kept { Kept self.now.ghost_state }
+        ensures hands { (model_state self.now.ghost_state).hands ≡ [] }
     {
         self.table.known();
     }
@@ -63,9 +63,9 @@ impl World {
     /// The block of the object that the handle in a cell is on; none where it is on none (own). Condition: the cell is
     /// free, or a member of what is in a block that isn't vacant.
     pub fn target(&self, cell: Cell) -> Option<Block>
-        requires { IsCellInUse self.now.story cell }
-        ensures target { result ≡ target_of (story_state self.now.story) cell }
-        ensures within { IfSome result (λ b. (0 < b.0) × (b.0 ≤ self.now.story.extent.shape.blocks)) }
+        requires { IsCellInUse self.now.ghost_state cell }
+        ensures target { result ≡ target_of (model_state self.now.ghost_state) cell }
+        ensures within { IfSome result (λ b. (0 < b.0) × (b.0 ≤ self.now.ghost_state.extent.shape.blocks)) }
     {
         self.table.known();
         self.table.target(cell)
@@ -73,14 +73,14 @@ impl World {
 
     /// How many objects were made (own).
     pub fn made(&self) -> u32
-        ensures { result ≡ made_in self.now.story.history }
+        ensures { result ≡ made_in self.now.ghost_state.history }
     {
         self.made
     }
 
     /// Of how many objects the last owner left (own).
     pub fn ended(&self) -> u32
-        ensures { result ≡ ended_in self.now.story.history }
+        ensures { result ≡ ended_in self.now.ghost_state.history }
     {
         self.ended
     }

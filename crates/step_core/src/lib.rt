@@ -10,12 +10,12 @@ mod told;
 mod trace;
 mod world;
 
-pub use step_table::cell_steps::cell_deed::Cell;
+pub use step_table::cell_steps::cell_step::Cell;
 pub use step_table::cell_steps::refill::Stage;
 pub use step_table::memory::ended::Ended;
 pub use step_table::memory::field::Field;
-pub use step_table::slots::holdings::Pointer;
-pub use step_threads::half::Half;
+pub use step_table::slots::registers::Pointer;
+pub use step_threads::pending_call::PendingCall;
 pub use step_threads::programs::act::Act;
 pub use step_threads::programs::call::{Actor, Call, CellName, Kind, Name, Program};
 pub use step_threads::said::{Answer, Said, Stepped, Turned};

@@ -1,11 +1,11 @@
 //! How a world begins.
 ghost use Rattle.std.specs.Prelude.{◌≡◌, ◌↔◌, ◌⊎◌, ◌<◌, ◌^◌, All, length, map, IfErr, IfOk};
 ghost use Rattle.step_threads.specs.Actors.{Stocks};
-ghost use Rattle.step_threads.specs.Courses.{walk};
+ghost use Rattle.step_threads.specs.Frames.{frame_view};
 ghost use Rattle.step_table.specs.Openings.{IsExtent};
 ghost use Rattle.step_threads.specs.Programs.{AllHaveCells, IsPart, IsProgram, part_of, parts_of};
-ghost use Rattle.step_core.specs.Starts.{AllHaveFields, CanBegin, HasFields, first_sight, first_story, first_walk};
-ghost use Rattle.step_table.specs.Stories.{Kept};
+ghost use Rattle.step_core.specs.Starts.{AllHaveFields, CanBegin, HasFields, first_world_state, first_ghost, first_frame};
+ghost use Rattle.step_table.specs.GhostStates.{Kept};
 ghost use Rattle.step_threads.specs.Threads.{FitsThread};
 ghost use Rattle.step_core.specs.Worlds.{AllFit};
 
@@ -15,10 +15,10 @@ use control_word::{Refusal, Refused, Shape};
 use std::alloc::{AllocError, Global};
 use step_table::memory::extent::Extent;
 use step_table::memory::table::Table;
-use step_table::slots::holdings::Holdings;
-use step_threads::course::Course;
+use step_table::slots::registers::Registers;
 use step_threads::ending::Endings;
-use step_threads::half::Half;
+use step_threads::frame::Frame;
+use step_threads::pending_call::PendingCall;
 use step_threads::programs::call::{Actor, Program};
 use step_threads::programs::statement::tasks;
 use step_threads::stock::Stock;
@@ -28,7 +28,7 @@ use step_threads::thread::Thread;
 fn stock_of(alloc: Global, extent: &Extent, desk: u32) -> Result<Stock, AllocError>
     requires proper { IsExtent extent.now }
     requires desk { desk < extent.now.actors }
-    ensures { IfOk result (λ s. Stocks desk s.blocks s.room Half.Rest (first_story extent.now)) }
+    ensures { IfOk result (λ s. Stocks desk s.blocks s.room PendingCall.Rest (first_ghost extent.now)) }
 {
     let blocks = extent.shape.blocks;
     let each = blocks / extent.actors;
@@ -49,27 +49,27 @@ fn thread_of(alloc: Global, extent: &Extent, desk: u32, actor: &Actor) -> Result
     requires calls { length actor.now.calls.items < 2 ^ 31 }
     requires fields { All HasFields actor.now.calls.items }
     requires cells { AllHaveCells extent.now.shape (part_of actor.now) }
-    ensures walk { IfOk result (λ t. walk t.course ≡ first_walk (part_of actor.now)) }
-    ensures half { IfOk result (λ t. t.half ≡ Half.Rest) }
-    ensures fits { IfOk result (λ t. FitsThread desk t (first_story extent.now)) }
+    ensures frame_view { IfOk result (λ t. frame_view t.frame ≡ first_frame (part_of actor.now)) }
+    ensures pending_call { IfOk result (λ t. t.pending_call ≡ PendingCall.Rest) }
+    ensures fits { IfOk result (λ t. FitsThread desk t (first_ghost extent.now)) }
 {
     let names = actor.kinds.len() as u8;
     let tasks = tasks(alloc, actor.calls.as_slice(), names)?;
-    let holdings = Holdings::new(alloc, names)?;
+    let registers = Registers::new(alloc, names)?;
     let stock = stock_of(alloc, extent, desk)?;
     let endings = Endings::new(alloc, extent.shape.blocks as usize)?;
-    let mut course = Course {
+    let mut frame = Frame {
         tasks,
         at: 0,
-        holdings,
+        registers,
         taken: false,
         endings,
     };
-    course.settle();
+    frame.settle();
     Ok(Thread {
-        course,
+        frame,
         stock,
-        half: Half::Rest,
+        pending_call: PendingCall::Rest,
     })
 }
 
@@ -80,10 +80,10 @@ fn threads_of(alloc: Global, extent: &Extent, actors: &[Actor]) -> Result<Vec<Th
     requires program { IsProgram (map part_of actors.now) }
     requires fields { AllHaveFields (map part_of actors.now) }
     requires cells { All (AllHaveCells extent.now.shape) (map part_of actors.now) }
-    ensures walks { IfOk result (λ v. map (λ t. walk t.course) v.items ≡ map first_walk (map part_of actors.now)) }
-    ensures halves { IfOk result
-        (λ v. map (λ t. t.half) v.items ≡ map (λ part. Half.Rest) (map part_of actors.now)) }
-    ensures fit { IfOk result (λ v. AllFit (first_story extent.now) v.items) }
+    ensures frame_views { IfOk result (λ v. map (λ t. frame_view t.frame) v.items ≡ map first_frame (map part_of actors.now)) }
+    ensures pending_calls { IfOk result
+        (λ v. map (λ t. t.pending_call) v.items ≡ map (λ part. PendingCall.Rest) (map part_of actors.now)) }
+    ensures fit { IfOk result (λ v. AllFit (first_ghost extent.now) v.items) }
 {
     let mut threads = Vec::with_capacity(alloc, actors.len())?;
     for (desk, actor) in actors.iter().enumerate() {
@@ -97,7 +97,7 @@ fn threads_of(alloc: Global, extent: &Extent, actors: &[Actor]) -> Result<Vec<Th
 fn world_of(alloc: Global, shape: Shape, actors: &[Actor]) -> Result<World, AllocError>
     requires begin { CanBegin shape (map part_of actors.now) }
     requires fields { AllHaveFields (map part_of actors.now) }
-    ensures start { IfOk result (λ w. w ≡ first_sight shape (map part_of actors.now)) }
+    ensures start { IfOk result (λ w. w ≡ first_world_state shape (map part_of actors.now)) }
 {
     let extent = Extent {
         shape,
@@ -123,8 +123,8 @@ impl World {
     /// shape hasn't, or a fourth member; or the allowance is below 40 for each actor. Refused `Memory` where a growth
     /// was really refused. The program comes back as it was (own).
     pub fn new(alloc: Global, shape: Shape, program: Program) -> Result<World, Refused<Program>>
-        ensures start { IfOk result (λ w. w ≡ first_sight shape (parts_of program)) }
-        ensures kept { IfOk result (λ w. Kept w.story) }
+        ensures start { IfOk result (λ w. w ≡ first_world_state shape (parts_of program)) }
+        ensures kept { IfOk result (λ w. Kept w.ghost_state) }
         ensures begin { IfOk result (λ w. CanBegin shape (parts_of program)) }
         ensures refused { IfErr result (λ r. (r.why ≡ Refusal.Memory) ⊎ (r.why ≡ Refusal.Shape)) }
         ensures shape { IfErr result (λ r. r.why ≡ Refusal.Shape ↔ (CanBegin shape (parts_of program) → ⊥)) }

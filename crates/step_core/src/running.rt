@@ -11,17 +11,17 @@ ghost use Rattle.step_core.specs.Runs.{AddsRun, FinishesCall, IsFirstBad, IsRefu
 ghost use Rattle.step_core.specs.Runs.{NamesActor};
 ghost use Rattle.step_core.specs.Runs.{RunInOrder, RunsToEnd, SettleInOrder, Settles, call_under_way, is_calling};
 ghost use Rattle.step_core.specs.Runs.{is_out, is_owing, next_statement};
-ghost use Rattle.step_table.specs.Stories.{Kept};
+ghost use Rattle.step_table.specs.GhostStates.{Kept};
 ghost use Rattle.step_core.specs.Totals.{IsAtEnd};
-ghost use Rattle.step_core.specs.Sights.{IsAsLarge, half_of};
+ghost use Rattle.step_core.specs.WorldStates.{IsAsLarge, pending_call_of};
 ghost use Rattle.step_core.specs.Worlds.{Advances};
-ghost use Rattle.step_threads.specs.Courses.{todo};
+ghost use Rattle.step_threads.specs.Frames.{todo};
 
 use crate::trace::{RunRefusal, Trace, TraceStep};
 use crate::world::World;
 use std::alloc::Global;
 use step_table::cell_steps::refill::Stage;
-use step_threads::half::Half;
+use step_threads::pending_call::PendingCall;
 use step_threads::programs::act::{Act, Task};
 use step_threads::said::Stepped;
 use step_threads::thread::Thread;
@@ -36,8 +36,8 @@ impl World {
     /// Refused `BadTurn` just where some number names no actor, with the position of the first one, from 1. Refused
     /// `Memory` where a growth was really refused. The world is then as it was (own).
     pub fn run(&mut self, alloc: Global, turns: &[u8]) -> Result<Trace, RunRefusal>
-        ensures named { IfOk result (λ t. All (NamesActor (length self.old.walks)) turns.now) }
-        ensures refused { IfErr result (λ why. IsRefusedFor (length self.old.walks) turns.now why) }
+        ensures named { IfOk result (λ t. All (NamesActor (length self.old.frame_views)) turns.now) }
+        ensures refused { IfErr result (λ why. IsRefusedFor (length self.old.frame_views) turns.now why) }
         ensures unchanged { IfErr result (λ why. self.new ≡ self.old) }
         ensures run { IfOk result (λ t. IsRun self.old t.steps.items self.new) }
         ensures scheduled { IfOk result (λ t. IsScheduled turns.now self.old t.steps.items self.new) }
@@ -47,8 +47,8 @@ impl World {
         ensures follows { IfOk result (λ t. Follows self.old t.steps.items self.new) }
         ensures end { IfOk result (λ t. IsAtEnd self.new) }
         ensures rest { IfOk result (λ t. AllAtRest self.new) }
-        ensures kept { Kept self.new.story }
-        ensures actors { length self.new.walks ≡ length self.old.walks }
+        ensures kept { Kept self.new.ghost_state }
+        ensures actors { length self.new.frame_views ≡ length self.old.frame_views }
         ensures extent { IsAsLarge self.old self.new }
     {
         self.table.known();
@@ -67,7 +67,7 @@ impl World {
 
     /// More steps than the world has left.
     fn most_steps(&self) -> usize
-        ensures enough { most_steps self.now + 6 * length self.now.walks ≤ result }
+        ensures enough { most_steps self.now + 6 * length self.now.frame_views ≤ result }
         ensures few { result ≤ 8590000000 }
     {
         self.table.known();
@@ -77,15 +77,15 @@ impl World {
 
     /// One step for each number.
     fn follow(&mut self, turns: &[u8], steps: &mut Vec<TraceStep>)
-        requires named { All (NamesActor (length self.old.walks)) turns.now }
+        requires named { All (NamesActor (length self.old.frame_views)) turns.now }
         requires empty { steps.old.items ≡ [] }
         requires none { vec_len steps.old ≡ 0 }
-        requires room { length turns.now + most_steps self.old + 6 * length self.old.walks ≤ vec_capacity steps.old }
+        requires room { length turns.now + most_steps self.old + 6 * length self.old.frame_views ≤ vec_capacity steps.old }
         ensures run { IsRun self.old steps.new.items self.new }
         ensures numbers { map (λ x. x.actor) steps.new.items ≡ turns.now }
         ensures moves { All MovesOn steps.new.items }
-        ensures room { vec_len steps.new + most_steps self.new + 6 * length self.new.walks ≤ vec_capacity steps.new }
-        ensures actors { length self.new.walks ≡ length self.old.walks }
+        ensures room { vec_len steps.new + most_steps self.new + 6 * length self.new.frame_views ≤ vec_capacity steps.new }
+        ensures actors { length self.new.frame_views ≡ length self.old.frame_views }
     {
         for turn in turns {
             let stepped = self.advance(usize::from(*turn) - 1);
@@ -96,11 +96,11 @@ impl World {
     /// Each actor that has a load under way, or funds that it brought or is to give back, finishes that call, in number
     /// order.
     fn settle(&mut self, steps: &mut Vec<TraceStep>)
-        requires room { vec_len steps.old + most_steps self.old + 6 * length self.old.walks ≤ vec_capacity steps.old }
-        ensures adds { AddsRun (SettleInOrder (length self.old.walks)) self.old steps.old.items self.new
+        requires room { vec_len steps.old + most_steps self.old + 6 * length self.old.frame_views ≤ vec_capacity steps.old }
+        ensures adds { AddsRun (SettleInOrder (length self.old.frame_views)) self.old steps.old.items self.new
             steps.new.items }
-        ensures room { vec_len steps.new + most_steps self.new + 3 * length self.new.walks ≤ vec_capacity steps.new }
-        ensures actors { length self.new.walks ≡ length self.old.walks }
+        ensures room { vec_len steps.new + most_steps self.new + 3 * length self.new.frame_views ≤ vec_capacity steps.new }
+        ensures actors { length self.new.frame_views ≡ length self.old.frame_views }
     {
         let actors = self.threads.len();
         for number in 0..actors {
@@ -110,12 +110,12 @@ impl World {
 
     /// An actor that has a load under way, or funds that it brought or is to give back, finishes that call.
     fn settle_one(&mut self, number: usize, steps: &mut Vec<TraceStep>)
-        requires within { number < length self.old.walks }
+        requires within { number < length self.old.frame_views }
         requires room { vec_len steps.old + most_steps self.old + 3 ≤ vec_capacity steps.old }
         ensures adds { AddsRun (Settles number) self.old steps.old.items self.new steps.new.items }
         ensures room { vec_len steps.new + most_steps self.new ≤ vec_len steps.old + most_steps self.old + 3 }
         ensures capacity { vec_capacity steps.old ≤ vec_capacity steps.new }
-        ensures actors { length self.new.walks ≡ length self.old.walks }
+        ensures actors { length self.new.frame_views ≡ length self.old.frame_views }
     {
         if self.is_owing(number) {
             self.finish_call(number, steps);
@@ -124,12 +124,12 @@ impl World {
 
     /// An actor finishes its call.
     fn finish_call(&mut self, number: usize, steps: &mut Vec<TraceStep>)
-        requires within { number < length self.old.walks }
+        requires within { number < length self.old.frame_views }
         requires room { vec_len steps.old + most_steps self.old + 3 ≤ vec_capacity steps.old }
         ensures adds { AddsRun (FinishesCall number) self.old steps.old.items self.new steps.new.items }
         ensures room { vec_len steps.new + most_steps self.new ≤ vec_len steps.old + most_steps self.old + 3 }
         ensures capacity { vec_capacity steps.old ≤ vec_capacity steps.new }
-        ensures actors { length self.new.walks ≡ length self.old.walks }
+        ensures actors { length self.new.frame_views ≡ length self.old.frame_views }
     {
         self.table.known();
         let call = self.call_under_way(number);
@@ -141,24 +141,26 @@ impl World {
 
     /// The statement whose call an actor has under way.
     fn call_under_way(&self, number: usize) -> u32
-        requires { number < length self.now.walks }
+        requires { number < length self.now.frame_views }
         ensures { result ≡ call_under_way number self.now }
     {
         let thread = &self.threads[number];
-        match thread.half {
-            Half::Refill { statement, .. } | Half::Returning { statement, .. } => statement,
+        match thread.pending_call {
+            PendingCall::Refill { statement, .. } | PendingCall::Returning { statement, .. } =>
+                statement,
             _ => next_statement(thread),
         }
     }
 
     /// Whether an actor has a load under way, or funds that it brought or is to give back.
     fn is_owing(&self, number: usize) -> bool
-        requires { number < length self.now.walks }
-        ensures { result ≡ is_owing (half_of self.now number) }
+        requires { number < length self.now.frame_views }
+        ensures { result ≡ is_owing (pending_call_of self.now number) }
     {
-        match self.threads[number].half {
-            Half::Brought | Half::Matched { .. } | Half::Returning { .. } => true,
-            Half::Refill { stage, .. } => is_out(stage),
+        match self.threads[number].pending_call {
+            PendingCall::Brought | PendingCall::Matched { .. } | PendingCall::Returning { .. } =>
+                true,
+            PendingCall::Refill { stage, .. } => is_out(stage),
             _ => false,
         }
     }
@@ -166,13 +168,13 @@ impl World {
     /// Whether an actor's call isn't done, which owed funds: it has begun something, an object ends in its hands, or
     /// its next task is of that statement. At its end each leave is a call.
     fn is_calling(&self, number: usize, call: u32) -> bool
-        requires { number < length self.now.walks }
+        requires { number < length self.now.frame_views }
         ensures { result ≡ is_calling call self.now number }
     {
         let thread = &self.threads[number];
-        match thread.half {
-            Half::Rest => {
-                thread.course.endings.first().is_some()
+        match thread.pending_call {
+            PendingCall::Rest => {
+                thread.frame.endings.first().is_some()
                     || (call != 0 && next_statement(thread) == call)
             }
             _ => true,
@@ -181,9 +183,9 @@ impl World {
 
     /// Each actor runs alone to its end, in number order.
     fn finish(&mut self, steps: &mut Vec<TraceStep>)
-        requires room { vec_len steps.old + most_steps self.old + 3 * length self.old.walks ≤ vec_capacity steps.old }
-        ensures adds { AddsRun (RunInOrder (length self.old.walks)) self.old steps.old.items self.new steps.new.items }
-        ensures actors { length self.new.walks ≡ length self.old.walks }
+        requires room { vec_len steps.old + most_steps self.old + 3 * length self.old.frame_views ≤ vec_capacity steps.old }
+        ensures adds { AddsRun (RunInOrder (length self.old.frame_views)) self.old steps.old.items self.new steps.new.items }
+        ensures actors { length self.new.frame_views ≡ length self.old.frame_views }
     {
         for number in 0..self.threads.len() {
             self.finish_one(number, steps);
@@ -192,12 +194,12 @@ impl World {
 
     /// An actor runs alone to its end.
     fn finish_one(&mut self, number: usize, steps: &mut Vec<TraceStep>)
-        requires within { number < length self.old.walks }
+        requires within { number < length self.old.frame_views }
         requires room { vec_len steps.old + most_steps self.old + 3 ≤ vec_capacity steps.old }
         ensures adds { AddsRun (RunsToEnd number) self.old steps.old.items self.new steps.new.items }
         ensures room { vec_len steps.new + most_steps self.new ≤ vec_len steps.old + most_steps self.old + 3 }
         ensures capacity { vec_capacity steps.old ≤ vec_capacity steps.new }
-        ensures actors { length self.new.walks ≡ length self.old.walks }
+        ensures actors { length self.new.frame_views ≡ length self.old.frame_views }
     {
         self.table.known();
         loop {
@@ -221,10 +223,10 @@ fn is_out(stage: Stage) -> bool
 
 /// The statement of a thread's next task; 0 at its end.
 fn next_statement(thread: &Thread) -> u32
-    requires { thread.now.course.at ≤ length thread.now.course.tasks.items }
-    ensures { result ≡ next_statement (todo thread.now.course) }
+    requires { thread.now.frame.at ≤ length thread.now.frame.tasks.items }
+    ensures { result ≡ next_statement (todo thread.now.frame) }
 {
-    let tasks = &thread.course.tasks[thread.course.at..];
+    let tasks = &thread.frame.tasks[thread.frame.at..];
     match tasks.first() {
         Some(task) => task.statement,
         None => 0,
@@ -234,14 +236,14 @@ fn next_statement(thread: &Thread) -> u32
 /// The steps that threads' tasks and endings have left.
 fn steps_left(threads: &[Thread]) -> usize
     requires within { (d : ℕ) (t : Thread) → slice_get threads.now d ≡ Some t
-        → t.course.at ≤ length t.course.tasks.items }
+        → t.frame.at ≤ length t.frame.tasks.items }
     requires few { sum_by steps_of threads.now ≤ 8590000000 }
     ensures { result ≡ sum_by steps_of threads.now }
 {
     let mut left = 0;
     for thread in threads {
-        let tasks = &thread.course.tasks[thread.course.at..];
-        left += task_steps(tasks) + thread.course.endings.steps_left();
+        let tasks = &thread.frame.tasks[thread.frame.at..];
+        left += task_steps(tasks) + thread.frame.endings.steps_left();
     }
     left
 }

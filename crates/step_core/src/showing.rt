@@ -3,13 +3,13 @@ ghost use Rattle.std.specs.Prelude.{◌≡◌, ◌≤◌, ◌<◌, ◌-◌, fals
 ghost use Rattle.std.specs.List.{list_any};
 ghost use Rattle.control_word.specs.Layout.{spot};
 ghost use Rattle.control_word.specs.Packing.{number_of};
-ghost use Rattle.step_table.specs.Holdings.{slot_pointer};
-ghost use Rattle.step_table.specs.Stories.{story_state};
-ghost use Rattle.step_threads.specs.declared.half.Half.TheVariants.{Rest};
-ghost use Rattle.step_threads.specs.Courses.{hand, todo};
+ghost use Rattle.step_table.specs.Registers.{slot_pointer};
+ghost use Rattle.step_table.specs.GhostStates.{model_state};
+ghost use Rattle.step_threads.specs.declared.pending_call.PendingCall.TheVariants.{Rest};
+ghost use Rattle.step_threads.specs.Frames.{hand, todo};
 ghost use Rattle.step_threads.specs.Endings.{first_of};
-ghost use Rattle.step_threads.specs.Scenes.{walk_of};
-ghost use Rattle.step_core.specs.Sights.{half_of, scene};
+ghost use Rattle.step_threads.specs.AbstractStates.{frame_of};
+ghost use Rattle.step_core.specs.WorldStates.{pending_call_of, abstraction};
 ghost use Rattle.step_core.specs.Showing.{HasNoneBegun, counts_by, ends_in, first_act, is_ending_in};
 ghost use Rattle.step_core.specs.Totals.{census_of};
 
@@ -18,9 +18,9 @@ use control_word::packed::counts::unpack_count;
 use control_word::packed::layout::{OWNERS, WEAKS};
 use control_word::{Block, Counts};
 use step_table::cell_steps::refill::Stage;
-use step_table::slots::holdings::Pointer;
-use step_threads::course::Course;
-use step_threads::half::Half;
+use step_table::slots::registers::Pointer;
+use step_threads::frame::Frame;
+use step_threads::pending_call::PendingCall;
 use step_threads::programs::act::Act;
 use step_threads::programs::call::{Kind, Name};
 use step_threads::thread::Thread;
@@ -31,8 +31,8 @@ impl World {
     /// under way took is counted. Condition: the block is one of the shape's, from 1.
     pub fn counts(&self, block: Block) -> Option<Counts>
         requires some { 0 < block.0 }
-        requires within { block.0 ≤ self.now.story.extent.shape.blocks }
-        ensures { HasNoneBegun self.now → result ≡ census_of (story_state self.now.story) block.0 }
+        requires within { block.0 ≤ self.now.ghost_state.extent.shape.blocks }
+        ensures { HasNoneBegun self.now → result ≡ census_of (model_state self.now.ghost_state) block.0 }
     {
         self.table.known();
         let number = self.number(block, WEAKS);
@@ -47,9 +47,9 @@ impl World {
     /// The number in a count's word.
     fn number(&self, block: Block, word: usize) -> u32
         requires some { 0 < block.0 }
-        requires within { block.0 ≤ self.now.story.extent.shape.blocks }
+        requires within { block.0 ≤ self.now.ghost_state.extent.shape.blocks }
         requires inside { word < 10 }
-        ensures { result ≡ number_of (slice_index self.now.story.words (spot block.0 word)) }
+        ensures { result ≡ number_of (slice_index self.now.ghost_state.words (spot block.0 word)) }
     {
         unpack_count(self.table.word(block, word)).number
     }
@@ -60,7 +60,7 @@ impl World {
     {
         let mut loads = 0u32;
         for thread in &self.threads {
-            if self.is_load(thread.half, block, kind) {
+            if self.is_load(thread.pending_call, block, kind) {
                 loads = loads.saturating_add(1);
             }
         }
@@ -68,11 +68,11 @@ impl World {
     }
 
     /// Whether what a thread has begun is a load of a handle of this kind on a block.
-    fn is_load(&self, half: Half, block: Block, kind: Kind) -> bool
-        ensures { half ≡ Rest → result ≡ false }
+    fn is_load(&self, pending_call: PendingCall, block: Block, kind: Kind) -> bool
+        ensures { pending_call ≡ Rest → result ≡ false }
     {
-        match half {
-            Half::Refill {
+        match pending_call {
+            PendingCall::Refill {
                 stage: Stage::Turning,
                 cell,
                 found,
@@ -87,7 +87,7 @@ impl World {
         ensures { HasNoneBegun self.now → result ≡ false }
     {
         for thread in &self.threads {
-            if is_make(thread.half, block) {
+            if is_make(thread.pending_call, block) {
                 return true;
             }
         }
@@ -96,102 +96,101 @@ impl World {
 
     /// Whether an object in a block ends in some thread's hands.
     fn ends(&self, block: Block) -> bool
-        ensures { result ≡ ends_in block.0 self.now.walks }
+        ensures { result ≡ ends_in block.0 self.now.frame_views }
     {
         end_in(self.threads.as_slice(), block)
     }
 
-    /// The act of the next task of an actor (own): none behind its last. Where an object ends in its hands, that goes on
-    /// first. Condition: the actor is one of the world's, from 1.
+    /// The act of the next task of an actor (own): none behind its last. Where an object ends in its hands, that goes
+    /// on first. Condition: the actor is one of the world's, from 1.
     pub fn next_act(&self, actor: u8) -> Option<Act>
         requires some { 0 < actor }
-        requires within { actor ≤ length self.now.walks }
-        ensures { result ≡ first_act (walk_of (scene self.now) (actor - 1)).todo }
+        requires within { actor ≤ length self.now.frame_views }
+        ensures { result ≡ first_act (frame_of (abstraction self.now) (actor - 1)).todo }
     {
-        act_of(&self.threads[usize::from(actor) - 1].course)
+        act_of(&self.threads[usize::from(actor) - 1].frame)
     }
 
     /// Whether an object ends in an actor's hands (own). Condition: the actor is one of the world's, from 1.
     pub fn has_ending(&self, actor: u8) -> bool
         requires some { 0 < actor }
-        requires within { actor ≤ length self.now.walks }
-        ensures { result ≡ is_some (first_of (walk_of (scene self.now) (actor - 1)).endings) }
+        requires within { actor ≤ length self.now.frame_views }
+        ensures { result ≡ is_some (first_of (frame_of (abstraction self.now) (actor - 1)).endings) }
     {
-        let course = &self.threads[usize::from(actor) - 1].course;
-        course.endings.first().is_some()
+        let frame = &self.threads[usize::from(actor) - 1].frame;
+        frame.endings.first().is_some()
     }
 
     /// What an actor has begun and not ended (own). Condition: the actor is one of the world's, from 1.
-    pub fn half(&self, actor: u8) -> Half
+    pub fn pending_call(&self, actor: u8) -> PendingCall
         requires some { 0 < actor }
-        requires within { actor ≤ length self.now.walks }
-        ensures { result ≡ half_of self.now (actor - 1) }
+        requires within { actor ≤ length self.now.frame_views }
+        ensures { result ≡ pending_call_of self.now (actor - 1) }
     {
-        self.threads[usize::from(actor) - 1].half
+        self.threads[usize::from(actor) - 1].pending_call
     }
 
-    /// What a name of an actor holds, where it is on an object (own). Condition: the actor is one of the world's, from 1.
+    /// What a name of an actor holds, where it is on an object (own). Condition: the actor is one of the world's, from
+    /// 1.
     pub fn held(&self, actor: u8, name: Name) -> Option<Pointer>
         requires some { 0 < actor }
-        requires within { actor ≤ length self.now.walks }
-        ensures { result ≡ slot_pointer (walk_of (scene self.now) (actor - 1)).slots name.0 }
+        requires within { actor ≤ length self.now.frame_views }
+        ensures { result ≡ slot_pointer (frame_of (abstraction self.now) (actor - 1)).slots name.0 }
     {
-        held_at(&self.threads[usize::from(actor) - 1].course, name)
+        held_at(&self.threads[usize::from(actor) - 1].frame, name)
     }
 
     /// What an actor has in hand between two acts, where it is on an object (own). Condition: the actor is one of the
     /// world's, from 1.
     pub fn in_hand(&self, actor: u8) -> Option<Pointer>
         requires some { 0 < actor }
-        requires within { actor ≤ length self.now.walks }
-        ensures { result ≡ slot_pointer (walk_of (scene self.now) (actor - 1)).slots
-            (hand (walk_of (scene self.now) (actor - 1)).slots) }
+        requires within { actor ≤ length self.now.frame_views }
+        ensures { result ≡ slot_pointer (frame_of (abstraction self.now) (actor - 1)).slots
+            (hand (frame_of (abstraction self.now) (actor - 1)).slots) }
     {
-        let holdings = &self.threads[usize::from(actor) - 1].course.holdings;
-        holdings.get(holdings.hand())
+        let registers = &self.threads[usize::from(actor) - 1].frame.registers;
+        registers.get(registers.hand())
     }
 }
 
 /// Whether an object in a block ends in the hands of one of these threads.
 fn end_in(threads: &[Thread], block: Block) -> bool
-    ensures { result ≡ list_any (λ t. is_ending_in block.0 t.course.endings.list) threads.now }
+    ensures { result ≡ list_any (λ t. is_ending_in block.0 t.frame.endings.list) threads.now }
 {
-    threads
-        .iter()
-        .any(|thread| thread.course.endings.has(block))
+    threads.iter().any(|thread| thread.frame.endings.has(block))
 }
 
 /// Whether what a thread has begun is a make in a block.
-fn is_make(half: Half, block: Block) -> bool
-    ensures { half ≡ Rest → result ≡ false }
+fn is_make(pending_call: PendingCall, block: Block) -> bool
+    ensures { pending_call ≡ Rest → result ≡ false }
 {
-    match half {
-        Half::Making { block: made, .. } => made == block,
+    match pending_call {
+        PendingCall::Making { block: made, .. } => made == block,
         _ => false,
     }
 }
 
 /// The act of the next task.
-fn act_of(course: &Course) -> Option<Act>
-    ensures { result ≡ first_act (todo course.now) }
+fn act_of(frame: &Frame) -> Option<Act>
+    ensures { result ≡ first_act (todo frame.now) }
 {
-    if course.at < course.tasks.len() {
-        Some(course.tasks[course.at].act)
+    if frame.at < frame.tasks.len() {
+        Some(frame.tasks[frame.at].act)
     } else {
         None
     }
 }
 
 /// What a name holds.
-fn held_at(course: &Course, name: Name) -> Option<Pointer>
-    requires { 0 < length course.now.holdings.slots.items }
-    ensures { result ≡ slot_pointer course.now.holdings.slots.items name.0 }
+fn held_at(frame: &Frame, name: Name) -> Option<Pointer>
+    requires { 0 < length frame.now.registers.slots.items }
+    ensures { result ≡ slot_pointer frame.now.registers.slots.items name.0 }
 {
     let slot = usize::from(name.0);
-    if slot > course.holdings.hand() {
+    if slot > frame.registers.hand() {
         return None;
     }
-    course.holdings.get(slot)
+    frame.registers.get(slot)
 }
 
 /// A number with the loads that aren't in it yet.

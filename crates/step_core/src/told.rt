@@ -2,15 +2,15 @@
 ghost use Rattle.std.specs.Prelude.{◌≡◌};
 ghost use Rattle.step_core.specs.Told.{step_ends, step_makes};
 
-use step_threads::half::Half;
+use step_threads::pending_call::PendingCall;
 use step_threads::said::Stepped;
 
 /// How many objects a step made, of a thread that had begun this.
-pub(crate) fn makes(half: Half, stepped: Stepped) -> u32
-    ensures { result ≡ step_makes half stepped }
+pub(crate) fn makes(pending_call: PendingCall, stepped: Stepped) -> u32
+    ensures { result ≡ step_makes pending_call stepped }
 {
-    match (stepped, half) {
-        (Stepped::Event(_), Half::Making { index: 5, .. }) => 1,
+    match (stepped, pending_call) {
+        (Stepped::Event(_), PendingCall::Making { index: 5, .. }) => 1,
         _ => 0,
     }
 }

@@ -1,8 +1,8 @@
 //! The machine: a table and the threads over it.
 ghost use Rattle.std.specs.Prelude.{◌≡◌, ◌≢◌, ◌<◌, ◌≤◌, ◌-◌, length, true, false};
-ghost use Rattle.step_core.specs.Sights.{AllHold, IsAsLarge, TakesStep, half_of, is_event};
+ghost use Rattle.step_core.specs.WorldStates.{AllHold, IsAsLarge, TakesStep, pending_call_of, is_event};
 ghost use Rattle.step_core.specs.Following.{Performs};
-ghost use Rattle.step_table.specs.Stories.{Kept};
+ghost use Rattle.step_table.specs.GhostStates.{Kept};
 ghost use Rattle.step_core.specs.Turning.{HasBegun, Plays, HasRested, has_rest, is_acting, is_clearing, is_ending};
 ghost use Rattle.step_core.specs.Turning.{is_refilling, is_returning, turned_by};
 ghost use Rattle.step_core.specs.Worlds.{Advances, GoesTo, Steps, TakesWholeTurn};
@@ -10,7 +10,7 @@ ghost use Rattle.step_core.specs.Worlds.{Advances, GoesTo, Steps, TakesWholeTurn
 use crate::told::{ends, makes};
 use std::marker::Model;
 use step_table::memory::table::Table;
-use step_threads::half::Half;
+use step_threads::pending_call::PendingCall;
 use step_threads::said::{Stepped, Turned};
 use step_threads::thread::Thread;
 
@@ -27,20 +27,20 @@ pub struct World {
 
 impl Model for World {
     ghost use Rattle.std.specs.Prelude.{map};
-    ghost use Rattle.step_core.specs.Told.{TotalsAreTold, sight};
-    ghost use Rattle.step_core.specs.Sights.{Sight};
-    ghost use Rattle.step_core.specs.Worlds.{AllFit, thread_half, thread_walk};
+    ghost use Rattle.step_core.specs.Told.{TotalsAreTold, world_state};
+    ghost use Rattle.step_core.specs.WorldStates.{WorldState};
+    ghost use Rattle.step_core.specs.Worlds.{AllFit, thread_pending, thread_frame};
 
-    ghost Value = { Sight };
+    ghost Value = { WorldState };
 
     ghost view = { λ w. record {
-      story = w.table;
-      walks = map thread_walk w.threads.items;
-      halves = map thread_half w.threads.items;
+      ghost_state = w.table;
+      frame_views = map thread_frame w.threads.items;
+      pending_calls = map thread_pending w.threads.items;
     } };
 
     ghost invariant = { λ w. AllFit w.table w.threads.items
-        × TotalsAreTold (sight w.table w.threads.items) w.made w.ended };
+        × TotalsAreTold (world_state w.table w.threads.items) w.made w.ended };
 }
 
 impl World {
@@ -53,13 +53,13 @@ impl World {
     /// Condition: the actor is one of the world's, from 1 (own).
     pub fn step(&mut self, actor: u8) -> Stepped
         requires some { 0 < actor }
-        requires within { actor ≤ length self.old.walks }
+        requires within { actor ≤ length self.old.frame_views }
         ensures steps { Steps (actor - 1) self.old result self.new }
         ensures takes { TakesStep (actor - 1) self.old result self.new }
         ensures performs { Performs (actor - 1) self.old result self.new }
         ensures never { result ≢ Stepped.Waited }
-        ensures kept { Kept self.new.story }
-        ensures actors { length self.new.walks ≡ length self.old.walks }
+        ensures kept { Kept self.new.ghost_state }
+        ensures actors { length self.new.frame_views ≡ length self.old.frame_views }
         ensures extent { IsAsLarge self.old self.new }
     {
         self.advance(usize::from(actor) - 1)
@@ -72,12 +72,12 @@ impl World {
     /// the loads that other actors have under way. Condition: the actor is one of the world's, from 1 (own).
     pub fn turn(&mut self, actor: u8) -> Turned
         requires some { 0 < actor }
-        requires within { actor ≤ length self.old.walks }
+        requires within { actor ≤ length self.old.frame_views }
         ensures turns { TakesWholeTurn (actor - 1) self.old result self.new }
         ensures steps { GoesTo (actor - 1) self.old self.new }
-        ensures kept { Kept self.new.story }
+        ensures kept { Kept self.new.ghost_state }
         ensures hands { AllHold self.new }
-        ensures actors { length self.new.walks ≡ length self.old.walks }
+        ensures actors { length self.new.frame_views ≡ length self.old.frame_views }
         ensures extent { IsAsLarge self.old self.new }
     {
         let number = usize::from(actor) - 1;
@@ -90,10 +90,10 @@ impl World {
 
     /// The rest of an act, where it is under way: funds are turned, put back and given back, and objects end.
     fn rest(&mut self, number: usize)
-        requires { number < length self.old.walks }
+        requires { number < length self.old.frame_views }
         ensures rests { HasRested number self.old self.new }
         ensures goes { GoesTo number self.old self.new }
-        ensures actors { length self.new.walks ≡ length self.old.walks }
+        ensures actors { length self.new.frame_views ≡ length self.old.frame_views }
     {
         while self.has_rest(number) {
             self.advance(number);
@@ -102,11 +102,11 @@ impl World {
 
     /// The steps through the next act: one, and the rest of it where that only begins it.
     fn act(&mut self, number: usize) -> Turned
-        requires within { number < length self.old.walks }
+        requires within { number < length self.old.frame_views }
         requires rested { has_rest self.old number ≡ false }
         ensures plays { Plays number self.old result self.new }
         ensures goes { GoesTo number self.old self.new }
-        ensures actors { length self.new.walks ≡ length self.old.walks }
+        ensures actors { length self.new.frame_views ≡ length self.old.frame_views }
     {
         if self.is_acting(number) {
             return self.go_on(number);
@@ -121,11 +121,11 @@ impl World {
     /// The rest of an act that is under way, through its event. Nobody steps between, so what is looked at again is as
     /// it was left, and the act is made.
     fn go_on(&mut self, number: usize) -> Turned
-        requires within { number < length self.old.walks }
-        requires acting { is_acting (half_of self.old number) ≡ true }
+        requires within { number < length self.old.frame_views }
+        requires acting { is_acting (pending_call_of self.old number) ≡ true }
         ensures plays { Plays number self.old result self.new }
         ensures goes { GoesTo number self.old self.new }
-        ensures actors { length self.new.walks ≡ length self.old.walks }
+        ensures actors { length self.new.frame_views ≡ length self.old.frame_views }
     {
         loop {
             let stepped = self.advance(number);
@@ -137,7 +137,7 @@ impl World {
 
     /// Whether a thread has a rest of an act that goes on by itself.
     fn has_rest(&self, number: usize) -> bool
-        requires { number < length self.now.walks }
+        requires { number < length self.now.frame_views }
         ensures { result ≡ has_rest self.now number }
     {
         self.is_returning(number)
@@ -148,69 +148,78 @@ impl World {
 
     /// Whether a thread ends an object, and nothing came out of a member that is in hand.
     fn is_ending(&self, number: usize) -> bool
-        requires { number < length self.now.walks }
+        requires { number < length self.now.frame_views }
         ensures { result ≡ is_ending self.now number }
     {
-        let course = &self.threads[number].course;
-        course.endings.first().is_some() && !course.holdings.is_full(course.holdings.hand())
+        let frame = &self.threads[number].frame;
+        frame.endings.first().is_some() && !frame.registers.is_full(frame.registers.hand())
     }
 
     /// Whether a thread has an act under way.
     fn is_acting(&self, number: usize) -> bool
-        requires { number < length self.now.walks }
-        ensures { result ≡ is_acting (half_of self.now number) }
+        requires { number < length self.now.frame_views }
+        ensures { result ≡ is_acting (pending_call_of self.now number) }
     {
-        match self.threads[number].half {
-            Half::Rest | Half::Refill { .. } | Half::Returning { .. } | Half::Clearing => false,
-            Half::Making { .. }
-            | Half::Locking { .. }
-            | Half::Giving { .. }
-            | Half::Brought
-            | Half::Saw { .. }
-            | Half::Matched { .. } => true,
+        match self.threads[number].pending_call {
+            PendingCall::Rest
+            | PendingCall::Refill { .. }
+            | PendingCall::Returning { .. }
+            | PendingCall::Clearing => false,
+            PendingCall::Making { .. }
+            | PendingCall::Locking { .. }
+            | PendingCall::Giving { .. }
+            | PendingCall::Brought
+            | PendingCall::Saw { .. }
+            | PendingCall::Matched { .. } => true,
         }
     }
 
     /// Whether a thread has a fund of a cell to turn, or funds to put back.
     fn is_refilling(&self, number: usize) -> bool
-        requires { number < length self.now.walks }
-        ensures { result ≡ is_refilling (half_of self.now number) }
+        requires { number < length self.now.frame_views }
+        ensures { result ≡ is_refilling (pending_call_of self.now number) }
     {
-        matches!(self.threads[number].half, Half::Refill { .. })
+        matches!(
+            self.threads[number].pending_call,
+            PendingCall::Refill { .. }
+        )
     }
 
     /// Whether a thread has funds to give back.
     fn is_returning(&self, number: usize) -> bool
-        requires { number < length self.now.walks }
-        ensures { result ≡ is_returning (half_of self.now number) }
+        requires { number < length self.now.frame_views }
+        ensures { result ≡ is_returning (pending_call_of self.now number) }
     {
-        matches!(self.threads[number].half, Half::Returning { .. })
+        matches!(
+            self.threads[number].pending_call,
+            PendingCall::Returning { .. }
+        )
     }
 
     /// Whether a thread is to take out what a member of an ending object holds.
     fn is_clearing(&self, number: usize) -> bool
-        requires { number < length self.now.walks }
-        ensures { result ≡ is_clearing (half_of self.now number) }
+        requires { number < length self.now.frame_views }
+        ensures { result ≡ is_clearing (pending_call_of self.now number) }
     {
-        matches!(self.threads[number].half, Half::Clearing)
+        matches!(self.threads[number].pending_call, PendingCall::Clearing)
     }
 
     /// The next step of a thread.
     pub(crate) fn advance(&mut self, number: usize) -> Stepped
-        requires { number < length self.old.walks }
+        requires { number < length self.old.frame_views }
         ensures was { HasBegun number self.old }
         ensures advances { Advances number self.old result self.new }
         ensures steps { Steps number self.old result self.new }
         ensures never { result ≢ Stepped.Waited }
-        ensures kept { Kept self.new.story }
-        ensures actors { length self.new.walks ≡ length self.old.walks }
+        ensures kept { Kept self.new.ghost_state }
+        ensures actors { length self.new.frame_views ≡ length self.old.frame_views }
     {
         let thread = &mut self.threads[number];
-        let half = thread.half;
+        let pending_call = thread.pending_call;
         self.table.known();
         let stepped = thread.step(number, &mut self.table);
         self.table.known();
-        self.made += makes(half, stepped);
+        self.made += makes(pending_call, stepped);
         self.ended += ends(stepped);
         stepped
     }

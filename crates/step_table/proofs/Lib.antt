@@ -1,5 +1,4 @@
 pub mod tables
-pub mod Pages
-pub mod Walks
+pub mod FrameViews
 pub mod contained
 pub mod holding

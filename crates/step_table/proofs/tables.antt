@@ -1,4 +1,4 @@
-pub mod CellDeeds
+pub mod CellAtomicSteps
 pub mod Cells
 pub mod Doors
 pub mod Endings
@@ -12,7 +12,7 @@ pub mod Reading
 pub mod Shown
 pub mod Targets
 pub mod Shelf
-pub mod ShelfDeeds
+pub mod ShelfAtomicSteps
 pub mod Standing
 pub mod Start
 pub mod Swaps

@@ -15,16 +15,16 @@ use Rattle.control_word.specs.Events.{cell_of}
 use Rattle.control_word.specs.Handles.{equivalent, handle, same_kind, same_place}
 use Rattle.control_word.specs.State.{State}
 use Rattle.control_word.specs.Words.{blocks_of, shown}
-use Rattle.step_table.specs.declared.cell_steps.cell_deed.Cell.{Cell}
-use Rattle.step_table.specs.declared.cell_steps.cell_deed.Compared.{Compared}
+use Rattle.step_table.specs.declared.cell_steps.cell_step.Cell.{Cell}
+use Rattle.step_table.specs.declared.cell_steps.cell_step.Compared.{Compared}
 use Rattle.step_table.specs.declared.cell_steps.comparing.Comparing.{Comparing}
 use Rattle.step_table.specs.declared.slots.slot.Slot.{Slot}
 use Rattle.step_table.specs.declared.slots.slot.Slot.TheVariants.{Empty, Full}
-use Rattle.step_table.specs.CellDeeds.{cell_in, kind_in_state, owing_funds}
+use Rattle.step_table.specs.CellAtomicSteps.{cell_in, kind_in_state, owing_funds}
 use Rattle.step_table.specs.Cells.{word_of_cell}
-use Rattle.step_table.specs.Deeds.{owned}
-use Rattle.step_table.specs.Holdings.{Slots, place_of, plain, slot_pointer, slot_value}
-use Rattle.step_table.specs.Stories.{Nothing, Story, story_state}
+use Rattle.step_table.specs.AtomicSteps.{owned}
+use Rattle.step_table.specs.Registers.{Slots, place_of, plain, slot_pointer, slot_value}
+use Rattle.step_table.specs.GhostStates.{Nothing, GhostState, model_state}
 
 -- the handle in a cell
 abbrev pub held_in : State → Cell → Handle
@@ -63,8 +63,8 @@ is_of Weak (Empty p) = is_null p
 is_of k (Full x) = same_kind x.kind k
 
 -- what a cell holds, and how many of its funds were taken
-abbrev pub seen : Story → Cell → CellWord
-seen v c = shown (blocks_of (story_state v)) (held_in (story_state v) c) (word_of_cell v c / 17179869184)
+abbrev pub seen : GhostState → Cell → CellWord
+seen v c = shown (blocks_of (model_state v)) (held_in (model_state v) c) (word_of_cell v c / 17179869184)
 
 -- the block of what a slot's value owns or shares
 abbrev pub block_of_value : Slot → Option Block

@@ -1,10 +1,9 @@
-pub mod CellDeeds
-pub mod ShelfDeeds
+pub mod CellAtomicSteps
+pub mod ShelfAtomicSteps
 pub mod Cells
 pub mod Contents
-pub mod Deeds
-pub mod Holdings
+pub mod AtomicSteps
+pub mod Registers
 pub mod Openings
-pub mod Pages
 pub mod Refills
-pub mod Stories
+pub mod GhostStates

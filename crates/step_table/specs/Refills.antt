@@ -6,14 +6,14 @@ use Rattle.control_word.specs.declared.place.Block.{Block}
 use Rattle.control_word.specs.declared.model.view.Pending.TheVariants.{Idle}
 use Rattle.control_word.specs.Packing.{IsCellWord}
 use Rattle.control_word.specs.State.{Has, held}
-use Rattle.step_table.specs.declared.cell_steps.cell_deed.Cell.{Cell}
+use Rattle.step_table.specs.declared.cell_steps.cell_step.Cell.{Cell}
 use Rattle.step_table.specs.declared.cell_steps.refill.Stage.{Stage}
 use Rattle.step_table.specs.declared.cell_steps.refill.Stage.TheVariants.{Turning, Checking, Lacking, Refilling}
 use Rattle.step_table.specs.declared.cell_steps.refill.Stage.TheVariants.{Failing}
-use Rattle.step_table.specs.CellDeeds.{kind_in_state, owing_funds}
+use Rattle.step_table.specs.CellAtomicSteps.{kind_in_state, owing_funds}
 use Rattle.step_table.specs.Cells.{IsOpenTo}
 use Rattle.step_table.specs.Contents.{same_value}
-use Rattle.step_table.specs.Stories.{Story, handle_in_block, pending, story_state}
+use Rattle.step_table.specs.GhostStates.{GhostState, handle_in_block, pending, model_state}
 
 -- one fund more is taken
 abbrev pub more_taken : CellWord → CellWord
@@ -28,18 +28,18 @@ abbrev pub is_drained : CellWord → CellWord → Bool
 is_drained x found = same_value x found && is_low found
 
 -- the funds that are out: the one that was taken, or those that were brought in place of all that were
-abbrev pub StageFits : ℕ → Stage → Kind → Block → CellWord → Story → Type 0
-StageFits d Turning k b x v = pending v d ≡ owing_funds (story_state v) k (Some b) x.place 1 1
+abbrev pub StageFits : ℕ → Stage → Kind → Block → CellWord → GhostState → Type 0
+StageFits d Turning k b x v = pending v d ≡ owing_funds (model_state v) k (Some b) x.place 1 1
 StageFits d Checking k b x v = pending v d ≡ Idle
 StageFits d Lacking k b x v = pending v d ≡ Idle
-StageFits d Refilling k b x v = pending v d ≡ owing_funds (story_state v) k (Some b) x.place x.taken 0
-StageFits d Failing k b x v = pending v d ≡ owing_funds (story_state v) k (Some b) x.place x.taken 0
+StageFits d Refilling k b x v = pending v d ≡ owing_funds (model_state v) k (Some b) x.place x.taken 0
+StageFits d Failing k b x v = pending v d ≡ owing_funds (model_state v) k (Some b) x.place x.taken 0
 
 -- the value has an object, the cell is open, and the desk has what it loaded
-pub record RefillFits (d : ℕ) (stage : Stage) (c : Cell) (x : CellWord) (v : Story) : Type 0 where
+pub record RefillFits (d : ℕ) (stage : Stage) (c : Cell) (x : CellWord) (v : GhostState) : Type 0 where
   pub valid : IsCellWord x
   pub block : Block
   pub owned : x.owned ≡ Some block
   pub opens : IsOpenTo v d c
-  pub has : Has (held d (handle_in_block v (kind_in_state (story_state v) c) block x.place)) (story_state v).hands
-  pub pays : StageFits d stage (kind_in_state (story_state v) c) block x v
+  pub has : Has (held d (handle_in_block v (kind_in_state (model_state v) c) block x.place)) (model_state v).hands
+  pub pays : StageFits d stage (kind_in_state (model_state v) c) block x v

@@ -1,5 +1,5 @@
 //! Steps on cells, and on the funds that come with them.
-pub mod cell_deed;
+pub mod cell_step;
 pub mod cells;
 pub mod clearing;
 pub mod comparing;

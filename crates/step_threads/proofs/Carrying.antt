@@ -14,18 +14,18 @@ use Rattle.control_word.specs.declared.place.Block.{Block}
 use Rattle.control_word.specs.Events.{moved_to}
 use Rattle.control_word.specs.Handles.{empty}
 use Rattle.control_word.specs.State.{Object, ending, kind_of_member, live}
-use Rattle.step_threads.specs.declared.course.Course.{Course}
+use Rattle.step_threads.specs.declared.frame.Frame.{Frame}
 use Rattle.step_threads.specs.declared.ending.Ending.{Ending}
-use Rattle.step_threads.specs.declared.half.Half.{Half}
-use Rattle.step_threads.specs.declared.half.Half.TheVariants.{Rest}
-use Rattle.step_table.specs.declared.slots.holdings.Holdings.{Holdings}
-use Rattle.step_table.specs.declared.slots.holdings.Pointer.{Pointer}
+use Rattle.step_threads.specs.declared.pending_call.PendingCall.{PendingCall}
+use Rattle.step_threads.specs.declared.pending_call.PendingCall.TheVariants.{Rest}
+use Rattle.step_table.specs.declared.slots.registers.Registers.{Registers}
+use Rattle.step_table.specs.declared.slots.registers.Pointer.{Pointer}
 use Rattle.step_threads.specs.declared.thread.Thread.{Thread}
-use Rattle.step_table.specs.Deeds.{is_last, leave, leave_as}
-use Rattle.step_table.specs.Holdings.{HoldsBag, Slots, plain}
+use Rattle.step_table.specs.AtomicSteps.{is_last, leave, leave_as}
+use Rattle.step_table.specs.Registers.{HoldsBag, Slots, plain}
 use Rattle.step_table.specs.Openings.{opening}
-use Rattle.step_table.specs.Stories.{Kept, Story, story_after_deed, object_of_block, story_state}
-use Rattle.step_threads.specs.Courses.{IsReady, hand, todo}
+use Rattle.step_table.specs.GhostStates.{Kept, GhostState, ghost_after_step, object_of_block, model_state}
+use Rattle.step_threads.specs.Frames.{IsReady, hand, todo}
 use Rattle.step_threads.specs.Rows.{ending_as, with_end}
 use Rattle.step_threads.specs.Endings.{EndsAll, IsEndingAtStage, Stack, endings_in_block}
 use Rattle.step_threads.specs.Stocks.{StoreView}
@@ -36,32 +36,32 @@ use Rattle.step_threads.proofs.holding.Ends.{each_end, one_more}
 use Rattle.step_threads.proofs.holding.Few.{ends_few}
 
 -- while an object ends nothing was taken
-pub none_taken : (d : ℕ) (c : Course) (v : Story) (e : Ending) (es : List Ending) → EndsFit d c v → c.endings.list ≡ e ∷ es → c.taken ≡ false
+pub none_taken : (d : ℕ) (c : Frame) (v : GhostState) (e : Ending) (es : List Ending) → EndsFit d c v → c.endings.list ≡ e ∷ es → c.taken ≡ false
 none_taken d c v e es fit is = ⊎_elim (λ (n : c.endings.list ≡ []). absurd cc) (λ (n : c.taken ≡ false). n) fit.empty
 
 -- a pointer's leave leaves the endings
-left_each : (d : ℕ) (v : Story) (x : Pointer) (k : Kind) (b : Bool) (y : Ending) → IsEndingAtStage d y v
-    → IsEndingAtStage d y (story_after_deed v d (leave_as k x b))
+left_each : (d : ℕ) (v : GhostState) (x : Pointer) (k : Kind) (b : Bool) (y : Ending) → IsEndingAtStage d y v
+    → IsEndingAtStage d y (ghost_after_step v d (leave_as k x b))
 left_each d v x Weak b y is = record { ending = is.ending; within = is.within; cleared = is.cleared }
 left_each d v x Owner b y is =
     let o = object_of_block v x.block in
-    let z = (story_state v).object o in
+    let z = (model_state v).object o in
     record {
       ending =
-          put_cases (λ j (u : Object). u.phase ≡ ending d) (story_state v).object o (cond b (moved_to (ending d) z) z) (object_of_block v y.block)
+          put_cases (λ j (u : Object). u.phase ≡ ending d) (model_state v).object o (cond b (moved_to (ending d) z) z) (object_of_block v y.block)
           (λ q. cond_both b (moved_to (ending d) z) z (λ (u : Object). u.phase ≡ ending d) (λ t. refl)
-          (λ t. ap (λ (j : ℕ). ((story_state v).object j).phase) (sym q) ∙ is.ending)) (λ q. is.ending);
+          (λ t. ap (λ (j : ℕ). ((model_state v).object j).phase) (sym q) ∙ is.ending)) (λ q. is.ending);
       within = is.within;
       cleared = λ m lt.
-          put_cases (λ j (u : Object). u.member m ≡ empty (kind_of_member m)) (story_state v).object o (cond b (moved_to (ending d) z) z)
+          put_cases (λ j (u : Object). u.member m ≡ empty (kind_of_member m)) (model_state v).object o (cond b (moved_to (ending d) z) z)
           (object_of_block v y.block)
           (λ q. cond_both b (moved_to (ending d) z) z (λ (u : Object). u.member m ≡ empty (kind_of_member m))
-          (λ t. ap (λ (j : ℕ). ((story_state v).object j).member m) (sym q) ∙ is.cleared m lt)
-          (λ t. ap (λ (j : ℕ). ((story_state v).object j).member m) (sym q) ∙ is.cleared m lt)) (λ q. is.cleared m lt);
+          (λ t. ap (λ (j : ℕ). ((model_state v).object j).member m) (sym q) ∙ is.cleared m lt)
+          (λ t. ap (λ (j : ℕ). ((model_state v).object j).member m) (sym q) ∙ is.cleared m lt)) (λ q. is.cleared m lt);
     }
 
 -- an object that is live is in no ending
-live_apart : (d : ℕ) (v : Story) (b : Block) (es : List Ending) → ((story_state v).object (object_of_block v b)).phase ≡ live
+live_apart : (d : ℕ) (v : GhostState) (b : Block) (es : List Ending) → ((model_state v).object (object_of_block v b)).phase ≡ live
     → All (λ (e : Ending). IsEndingAtStage d e v) es
     → endings_in_block b.0 es ≡ 0
 live_apart d v b [] alive all = refl
@@ -70,23 +70,23 @@ live_apart d v b (y ∷ ys) alive all =
     let is = All-head (λ (e : Ending). IsEndingAtStage d e v) y ys all in
     let o = one_more b.0 y ys in
     let z = cond-false {A = ℕ} (y.block.0 == b.0) 1 0 (ne_eqb y.block.0 b.0 (λ q.
-    let k : ending d ≡ live = sym is.ending ∙ ap (λ (n : ℕ). ((story_state v).object ((story_state v).latest n)).phase) q ∙ alive in cc)) in
+    let k : ending d ≡ live = sym is.ending ∙ ap (λ (n : ℕ). ((model_state v).object ((model_state v).latest n)).phase) q ∙ alive in cc)) in
     omega (arith, i, o, z)
 
 -- what leaves has a live object, if it is an owner
-owner_live : (d : ℕ) (v : Story) (x : Pointer) (b : Bool) → Kept v → Kept (story_after_deed v d (leave_as Owner x b))
-    → ((story_state v).object (object_of_block v x.block)).phase ≡ live
+owner_live : (d : ℕ) (v : GhostState) (x : Pointer) (b : Bool) → Kept v → Kept (ghost_after_step v d (leave_as Owner x b))
+    → ((model_state v).object (object_of_block v x.block)).phase ≡ live
 owner_live d v x b kept kept' =
     let fine = sound (opening v.extent) v.history kept.stands.legal in
-    counted_live (opening v.extent) (story_state v) (object_of_block v x.block) fine
-    (owner_counted (story_state v) d (object_of_block v x.block) x.place kept'.stands.legal.1.asks.0.0)
+    counted_live (opening v.extent) (model_state v) (object_of_block v x.block) fine
+    (owner_counted (model_state v) d (object_of_block v x.block) x.place kept'.stands.legal.1.asks.0.0)
 
 -- the endings after it: the last owner's object is in one more
-pub ends_leaving : (d : ℕ) (v : Story) (x : Pointer) (k : Kind) (b : Bool) (n : ℕ) (es : List Ending) → Kept v
-    → Kept (story_after_deed v d (leave_as k x b)) → EndsAll d es v
-    → EndsAll d (with_end n (cond b (ending_as k x) None) es) (story_after_deed v d (leave_as k x b))
+pub ends_leaving : (d : ℕ) (v : GhostState) (x : Pointer) (k : Kind) (b : Bool) (n : ℕ) (es : List Ending) → Kept v
+    → Kept (ghost_after_step v d (leave_as k x b)) → EndsAll d es v
+    → EndsAll d (with_end n (cond b (ending_as k x) None) es) (ghost_after_step v d (leave_as k x b))
 ends_leaving d v x Owner true n es kept kept' ends =
-    let w = story_after_deed v d (leave_as Owner x true) in
+    let w = ghost_after_step v d (leave_as Owner x true) in
     let e : Ending = record { block = x.block; stage = 0; statement = n } in
     let none = live_apart d v x.block es (owner_live d v x true kept kept') ends.each in
     record {
@@ -102,48 +102,48 @@ ends_leaving d v x Owner true n es kept kept' ends =
           (cases_eq x.block.0 c);
     }
 ends_leaving d v x Owner false n es kept kept' ends =
-    record { each = each_end d v (story_after_deed v d (leave_as Owner x false)) es (λ y is. left_each d v x Owner false y is) ends.each; once = ends.once }
+    record { each = each_end d v (ghost_after_step v d (leave_as Owner x false)) es (λ y is. left_each d v x Owner false y is) ends.each; once = ends.once }
 ends_leaving d v x Weak true n es kept kept' ends =
-    record { each = each_end d v (story_after_deed v d (leave_as Weak x true)) es (λ y is. left_each d v x Weak true y is) ends.each; once = ends.once }
+    record { each = each_end d v (ghost_after_step v d (leave_as Weak x true)) es (λ y is. left_each d v x Weak true y is) ends.each; once = ends.once }
 ends_leaving d v x Weak false n es kept kept' ends =
-    record { each = each_end d v (story_after_deed v d (leave_as Weak x false)) es (λ y is. left_each d v x Weak false y is) ends.each; once = ends.once }
+    record { each = each_end d v (ghost_after_step v d (leave_as Weak x false)) es (λ y is. left_each d v x Weak false y is) ends.each; once = ends.once }
 
 -- there is room for one more
-pub carried_room : (d : ℕ) (c : Course) (v w : Story) (x : Pointer) (last : Bool) → Kept v → Kept w → EndsFit d c v
-    → w ≡ story_after_deed v d (leave (story_state v) x)
-    → last ≡ is_last (story_state v) x → x.kind ≡ Owner → last ≡ true → length c.endings.list < c.endings.room
+pub carried_room : (d : ℕ) (c : Frame) (v w : GhostState) (x : Pointer) (last : Bool) → Kept v → Kept w → EndsFit d c v
+    → w ≡ ghost_after_step v d (leave (model_state v) x)
+    → last ≡ is_last (model_state v) x → x.kind ≡ Owner → last ≡ true → length c.endings.list < c.endings.room
 carried_room d c v w x last kept kept' fit is said at ended =
-    go x.kind at (is_last (story_state v) x) (sym said ∙ ended) (subst Kept is kept')
+    go x.kind at (is_last (model_state v) x) (sym said ∙ ended) (subst Kept is kept')
   where
-    go : (k : Kind) → k ≡ Owner → (b : Bool) → b ≡ true → Kept (story_after_deed v d (leave_as k x b)) → length c.endings.list < c.endings.room
+    go : (k : Kind) → k ≡ Owner → (b : Bool) → b ≡ true → Kept (ghost_after_step v d (leave_as k x b)) → length c.endings.list < c.endings.room
     go Weak e b q kept' = cc
     go Owner e false q kept' = cc
     go Owner e true q kept' =
         let f : suc (length c.endings.list) ≤ v.extent.shape.blocks =
-        ends_few d (story_after_deed v d (leave_as Owner x true)) (with_end 0 (ending_as Owner x) c.endings.list) kept'
+        ends_few d (ghost_after_step v d (leave_as Owner x true)) (with_end 0 (ending_as Owner x) c.endings.list) kept'
         (ends_leaving d v x Owner true 0 c.endings.list kept kept' fit.all) in
         let r = fit.roomy in omega (arith, f, r)
 
-carried_on : (d : ℕ) (t : Thread) (v : Story) (h : Holdings) (r : Stack) (s : StoreView) (n : ℕ) (x : Pointer) (k : Kind) (b : Bool)
+carried_on : (d : ℕ) (t : Thread) (v : GhostState) (h : Registers) (r : Stack) (s : StoreView) (n : ℕ) (x : Pointer) (k : Kind) (b : Bool)
     (e : Ending) (es : List Ending)
-    → Kept v → FitsThread d t v → t.half ≡ Rest → t.course.endings.list ≡ e ∷ es → Kept (story_after_deed v d (leave_as k x b))
-    → HoldsBag d h.slots.items (story_after_deed v d (leave_as k x b))
-    → h.slots.items ≡ set t.course.holdings.slots.items (hand t.course.holdings.slots.items) plain
-    → r.list ≡ with_end n (cond b (ending_as k x) None) t.course.endings.list → t.course.endings.room ≤ r.room
+    → Kept v → FitsThread d t v → t.pending_call ≡ Rest → t.frame.endings.list ≡ e ∷ es → Kept (ghost_after_step v d (leave_as k x b))
+    → HoldsBag d h.slots.items (ghost_after_step v d (leave_as k x b))
+    → h.slots.items ≡ set t.frame.registers.slots.items (hand t.frame.registers.slots.items) plain
+    → r.list ≡ with_end n (cond b (ending_as k x) None) t.frame.endings.list → t.frame.endings.room ≤ r.room
     → IsStocked k x.block.0 b t.stock s
-    → FitsThread d (record { course = record t.course { holdings = h; endings = r }; stock = s; half = Rest }) (story_after_deed v d (leave_as k x b))
+    → FitsThread d (record { frame = record t.frame { registers = h; endings = r }; stock = s; pending_call = Rest }) (ghost_after_step v d (leave_as k x b))
 carried_on d t v h r s n x k b e es kept fits rests is kept' holds slots list room stock =
-    let w = story_after_deed v d (leave_as k x b) in
-    let c = t.course in
+    let w = ghost_after_step v d (leave_as k x b) in
+    let c = t.frame in
     let none = none_taken d c v e es fits.endings is in
     record {
       seat = fits.seat;
       holds = holds;
       within = fits.within;
       ready = subst (λ (z : Slots). IsReady z c.taken r.list (todo c)) (sym slots)
-          (hand_ready c.holdings.slots.items plain c.taken c.endings.list r.list (todo c) fits.ready (λ q. inl refl));
-      still = still_hand c (record c { holdings = h; endings = r }) plain fits.ready fits.still none slots refl refl refl;
-      half = idle_left d t v x k b kept fits;
+          (hand_ready c.registers.slots.items plain c.taken c.endings.list r.list (todo c) fits.ready (λ q. inl refl));
+      still = still_hand c (record c { registers = h; endings = r }) plain fits.ready fits.still none slots refl refl refl;
+      pending_call = idle_left d t v x k b kept fits;
       next = tt;
       stocks = stocks_left d t v x s k b kept fits rests kept' stock;
       endings =
@@ -156,22 +156,23 @@ carried_on d t v h r s n x k b e es kept fits rests is kept' holds slots list ro
     }
 
 -- a thread after what it had in hand left
-pub fits_carried : (d : ℕ) (t t' : Thread) (v w : Story) (h : Holdings) (n : ℕ) (x : Pointer) (last : Bool) (e : Ending) (es : List Ending)
-    → Kept v → Kept w → FitsThread d t v → t.half ≡ Rest → t.course.endings.list ≡ e ∷ es
-    → w ≡ story_after_deed v d (leave (story_state v) x)
-    → last ≡ is_last (story_state v) x
-    → HoldsBag d h.slots.items w → h.slots.items ≡ set t.course.holdings.slots.items (hand t.course.holdings.slots.items) plain
-    → t'.course ≡ record t.course { holdings = h; endings = t'.course.endings }
-    → t'.course.endings.list ≡ with_end n (cond last (ending_as x.kind x) None) t.course.endings.list
-    → t.course.endings.room ≤ t'.course.endings.room → t'.half ≡ t.half → IsStockedBy (Some x) last t.stock t'.stock → FitsThread d t' w
-fits_carried d t t' v w h n x last e es kept kept' fits rests is story said holds slots same list room half stock =
-    let r = t'.course.endings in
-    let b = is_last (story_state v) x in
-    subst (λ (k : Course). FitsThread d (record { course = k; stock = t'.stock; half = t'.half }) w) (sym same)
-    (subst (λ (q : Half). FitsThread d (record { course = record t.course { holdings = h; endings = r }; stock = t'.stock; half = q }) w)
-    (sym (half ∙ rests))
-    (subst (λ (u : Story). FitsThread d (record { course = record t.course { holdings = h; endings = r }; stock = t'.stock; half = Rest }) u) (sym story)
-    (carried_on d t v h r t'.stock n x x.kind b e es kept fits rests is (subst Kept story kept')
-    (subst (λ (u : Story). HoldsBag d h.slots.items u) story holds) slots
-    (list ∙ ap (λ (q : Bool). with_end n (cond q (ending_as x.kind x) None) t.course.endings.list) said) room
+pub fits_carried : (d : ℕ) (t t' : Thread) (v w : GhostState) (h : Registers) (n : ℕ) (x : Pointer) (last : Bool) (e : Ending) (es : List Ending)
+    → Kept v → Kept w → FitsThread d t v → t.pending_call ≡ Rest → t.frame.endings.list ≡ e ∷ es
+    → w ≡ ghost_after_step v d (leave (model_state v) x)
+    → last ≡ is_last (model_state v) x
+    → HoldsBag d h.slots.items w → h.slots.items ≡ set t.frame.registers.slots.items (hand t.frame.registers.slots.items) plain
+    → t'.frame ≡ record t.frame { registers = h; endings = t'.frame.endings }
+    → t'.frame.endings.list ≡ with_end n (cond last (ending_as x.kind x) None) t.frame.endings.list
+    → t.frame.endings.room ≤ t'.frame.endings.room → t'.pending_call ≡ t.pending_call → IsStockedBy (Some x) last t.stock t'.stock → FitsThread d t' w
+fits_carried d t t' v w h n x last e es kept kept' fits rests is ghost_state said holds slots same list room pending_call stock =
+    let r = t'.frame.endings in
+    let b = is_last (model_state v) x in
+    subst (λ (k : Frame). FitsThread d (record { frame = k; stock = t'.stock; pending_call = t'.pending_call }) w) (sym same)
+    (subst (λ (q : PendingCall). FitsThread d (record { frame = record t.frame { registers = h; endings = r }; stock = t'.stock; pending_call = q }) w)
+    (sym (pending_call ∙ rests))
+    (subst (λ (u : GhostState). FitsThread d (record { frame = record t.frame { registers = h; endings = r }; stock = t'.stock; pending_call = Rest }) u)
+    (sym ghost_state)
+    (carried_on d t v h r t'.stock n x x.kind b e es kept fits rests is (subst Kept ghost_state kept')
+    (subst (λ (u : GhostState). HoldsBag d h.slots.items u) ghost_state holds) slots
+    (list ∙ ap (λ (q : Bool). with_end n (cond q (ending_as x.kind x) None) t.frame.endings.list) said) room
     (subst (λ (q : Bool). IsStocked x.kind x.block.0 q t.stock t'.stock) said stock))))

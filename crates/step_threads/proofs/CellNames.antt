@@ -7,28 +7,28 @@ use Rattle.control_word.specs.declared.model.handle.Kind.{Kind}
 use Rattle.control_word.specs.declared.model.handle.Kind.TheVariants.{Owner, Weak}
 use Rattle.control_word.specs.declared.place.Block.{Block}
 use Rattle.control_word.specs.State.{Has, held}
-use Rattle.step_table.specs.declared.slots.holdings.Pointer.{Pointer}
+use Rattle.step_table.specs.declared.slots.registers.Pointer.{Pointer}
 use Rattle.step_table.specs.declared.slots.slot.Slot.{Slot}
-use Rattle.step_table.specs.CellDeeds.{kind_in_state}
+use Rattle.step_table.specs.CellAtomicSteps.{kind_in_state}
 use Rattle.step_table.specs.Cells.{IsOpenTo}
 use Rattle.step_table.specs.Contents.{is_of}
-use Rattle.step_table.specs.Deeds.{on}
-use Rattle.step_table.specs.Holdings.{HoldsBag, Slots, inside, is_full, slot_pointer}
+use Rattle.step_table.specs.AtomicSteps.{on}
+use Rattle.step_table.specs.Registers.{HoldsBag, Slots, inside, is_full, slot_pointer}
 use Rattle.step_table.specs.Openings.{opening}
-use Rattle.step_table.specs.Stories.{Story, handle_in_block, owner_in, story_state}
+use Rattle.step_table.specs.GhostStates.{GhostState, handle_in_block, owner_in, model_state}
 use Rattle.step_table.proofs.contained.Told.{shared_is}
 use Rattle.step_table.proofs.holding.Inside.{inside_held, inside_is}
 use Rattle.step_threads.specs.declared.programs.call.CellName.{CellName}
 use Rattle.step_threads.specs.declared.programs.call.CellName.TheVariants as cell
 use Rattle.step_threads.specs.declared.programs.call.Name.{Name}
-use Rattle.step_threads.specs.Courses.{IsNamed, block_at, cell_of_name, is_there, other}
+use Rattle.step_threads.specs.Frames.{IsNamed, block_at, cell_of_name, is_there, other}
 use Rattle.step_threads.specs.Programs.{IsIn, kind_at}
 
-pub cell_kind : (v : Story) (slots : Slots) (c : CellName) → IsIn v.extent.shape c
-    → kind_in_state (story_state v) (cell_of_name (story_state v) slots c) ≡ kind_at c
+pub cell_kind : (v : GhostState) (slots : Slots) (c : CellName) → IsIn v.extent.shape c
+    → kind_in_state (model_state v) (cell_of_name (model_state v) slots c) ≡ kind_at c
 cell_kind v slots (cell.Shared n) lt =
-    cond-true (nat_lt n (story_state v).shared) Owner Weak (lt-ltb _ _ (let e = shared_is v in omega (arith, e, lt)))
-cell_kind v slots (cell.Weak n) lt = cond-false (nat_lt ((story_state v).shared + n) (story_state v).shared) Owner Weak (le-ltb _ _ (omega arith))
+    cond-true (nat_lt n (model_state v).shared) Owner Weak (lt-ltb _ _ (let e = shared_is v in omega (arith, e, lt)))
+cell_kind v slots (cell.Weak n) lt = cond-false (nat_lt ((model_state v).shared + n) (model_state v).shared) Owner Weak (le-ltb _ _ (omega arith))
 cell_kind v slots (cell.Member k m) lt = refl
 
 -- a name that owns an object and points into it
@@ -41,20 +41,20 @@ there_inside slots k m is = go (inside (slot_pointer slots k.0)) refl is
     go None e t = cc
     go (Some p) e t = (p, e, ap (λ (o : Option Pointer). on (λ (x : Pointer). x.block) (record { 0 = 0 }) o) e)
 
-module _ (v : Story) (d : ℕ) (slots : Slots) (k : Name) (m : ℕ) (holds : HoldsBag d slots v) (is : is_there slots (cell.Member k m) ≡ true) where
+module _ (v : GhostState) (d : ℕ) (slots : Slots) (k : Name) (m : ℕ) (holds : HoldsBag d slots v) (is : is_there slots (cell.Member k m) ≡ true) where
   -- has an owner of the object in that block
-  there_owned : (p : Pointer) × Has (held d (owner_in v (block_at slots k.0) p.place)) (story_state v).hands
+  there_owned : (p : Pointer) × Has (held d (owner_in v (block_at slots k.0) p.place)) (model_state v).hands
   there_owned =
       let t = there_inside slots k m is in
       let p = t.0 in
       let kind = (inside_is (slot_pointer slots k.0) p t.1).1.kind in (
         p,
-        subst (λ (b : Block). Has (held d (owner_in v b p.place)) (story_state v).hands) (sym t.2)
-            (subst (λ (q : Kind). Has (held d (handle_in_block v q p.block p.place)) (story_state v).hands) kind (inside_held d slots v k.0 p holds t.1)),
+        subst (λ (b : Block). Has (held d (owner_in v b p.place)) (model_state v).hands) (sym t.2)
+            (subst (λ (q : Kind). Has (held d (handle_in_block v q p.block p.place)) (model_state v).hands) kind (inside_held d slots v k.0 p holds t.1)),
       )
 
-pub cell_open : (v : Story) (d : ℕ) (slots : Slots) (c : CellName) → IsIn v.extent.shape c → HoldsBag d slots v → is_there slots c ≡ true
-    → IsOpenTo v d (cell_of_name (story_state v) slots c)
+pub cell_open : (v : GhostState) (d : ℕ) (slots : Slots) (c : CellName) → IsIn v.extent.shape c → HoldsBag d slots v → is_there slots c ≡ true
+    → IsOpenTo v d (cell_of_name (model_state v) slots c)
 cell_open v d slots (cell.Shared n) lt holds is = let e = cells_led (opening v.extent) v.history in omega (arith, e, lt)
 cell_open v d slots (cell.Weak n) lt holds is =
     let e = cells_led (opening v.extent) v.history in let s = shared_is v in omega (arith, e, s, lt)
@@ -62,8 +62,8 @@ cell_open v d slots (cell.Member k m) lt holds is =
     let o = there_owned v d slots k m holds is in (lt, (owner_in v (block_at slots k.0) o.0.place, (o.1, refl, refl), refl))
 
 -- what may go into the cell of a name may go into the cell
-pub goes_in : (v : Story) (slots : Slots) (c : CellName) (x : Slot) → IsIn v.extent.shape c → is_of (kind_at c) x ≡ true
-    → is_of (kind_in_state (story_state v) (cell_of_name (story_state v) slots c)) x ≡ true
+pub goes_in : (v : GhostState) (slots : Slots) (c : CellName) (x : Slot) → IsIn v.extent.shape c → is_of (kind_at c) x ≡ true
+    → is_of (kind_in_state (model_state v) (cell_of_name (model_state v) slots c)) x ≡ true
 goes_in v slots c x lt e = subst (λ (k : Kind). is_of k x ≡ true) (sym (cell_kind v slots c lt)) e
 
 -- a cell of fewer names is one of more

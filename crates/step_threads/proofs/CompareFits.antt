@@ -7,23 +7,23 @@ use Rattle.step_threads.specs.declared.programs.act.Act.{Act}
 use Rattle.step_threads.specs.declared.programs.act.Act.TheVariants.{Compare}
 use Rattle.step_threads.specs.declared.programs.call.CellName.{CellName}
 use Rattle.step_threads.specs.declared.programs.call.CellName.TheVariants as name
-use Rattle.step_table.specs.declared.cell_steps.cell_deed.CellDeed.TheVariants.{Bring, CompareSwap, Take}
-use Rattle.step_table.specs.declared.cell_steps.cell_deed.Compared.{Compared}
-use Rattle.step_threads.specs.declared.course.Course.{Course}
-use Rattle.step_threads.specs.declared.half.Half.{Half}
-use Rattle.step_threads.specs.declared.half.Half.TheVariants.{Rest, Saw, Matched, Refill}
-use Rattle.step_table.specs.declared.slots.holdings.Pointer.{Pointer}
-use Rattle.step_table.specs.declared.memory.past.Deed.TheVariants.{OnCell}
+use Rattle.step_table.specs.declared.cell_steps.cell_step.CellStep.TheVariants.{Bring, CompareSwap, Take}
+use Rattle.step_table.specs.declared.cell_steps.cell_step.Compared.{Compared}
+use Rattle.step_threads.specs.declared.frame.Frame.{Frame}
+use Rattle.step_threads.specs.declared.pending_call.PendingCall.{PendingCall}
+use Rattle.step_threads.specs.declared.pending_call.PendingCall.TheVariants.{Rest, Saw, Matched, Refill}
+use Rattle.step_table.specs.declared.slots.registers.Pointer.{Pointer}
+use Rattle.step_table.specs.declared.memory.past.AtomicStep.TheVariants.{OnCell}
 use Rattle.step_table.specs.declared.cell_steps.refill.Stage.TheVariants.{Turning}
 use Rattle.step_table.specs.declared.slots.slot.Slot.{Slot}
 use Rattle.step_table.specs.declared.slots.slot.Slot.TheVariants.{Empty, Full}
 use Rattle.step_threads.specs.declared.thread.Thread.{Thread}
-use Rattle.step_table.specs.CellDeeds.{kind_in_state, owing_funds}
+use Rattle.step_table.specs.CellAtomicSteps.{kind_in_state, owing_funds}
 use Rattle.step_table.specs.Contents.{as_word, owing_for, same_value}
-use Rattle.step_table.specs.Holdings.{pointer_of, slot_pointer, slot_value}
+use Rattle.step_table.specs.Registers.{pointer_of, slot_pointer, slot_value}
 use Rattle.step_table.specs.Refills.{more_taken}
-use Rattle.step_table.specs.Stories.{Kept, Story, story_after_deed, pending, story_state}
-use Rattle.step_threads.specs.Courses.{HasCell, cell_of_name, hand, new_of, task_at}
+use Rattle.step_table.specs.GhostStates.{Kept, GhostState, ghost_after_step, pending, model_state}
+use Rattle.step_threads.specs.Frames.{HasCell, cell_of_name, hand, new_of, task_at}
 use Rattle.step_threads.specs.Passing.{HasGoneOn}
 use Rattle.step_threads.specs.Programs.{IsIn}
 use Rattle.step_threads.specs.Steps.{gives_back, missed}
@@ -31,107 +31,107 @@ use Rattle.step_threads.specs.Threads.{FitsThread, IsLoaded, IsMatchedBy, IsSeen
 use Rattle.step_threads.proofs.CellNames.{cell_open}
 use Rattle.step_threads.proofs.Compares.{may_compare}
 use Rattle.step_threads.proofs.LoadFits.{owned_some, saw_next}
-use Rattle.step_threads.proofs.LookFits.{ClaimsNone, fits_gone, fits_half, fits_quiet}
+use Rattle.step_threads.proofs.LookFits.{ClaimsNone, fits_gone, fits_pending_call, fits_quiet}
 use Rattle.step_threads.proofs.RefillFits.{At}
-use Rattle.step_threads.proofs.StoreFits.{claims_none, half_back, half_here, next_back}
+use Rattle.step_threads.proofs.StoreFits.{claims_none, pending_call_back, pending_call_here, next_back}
 use Rattle.step_threads.proofs.Threads.{cell_here}
 use Rattle.step_table.proofs.contained.Refilling.{begins_refill, owes_after}
 use Rattle.step_table.proofs.contained.Told.{kind_stays}
 
 -- what was brought for a value is to be given back
-fits_missed : (d : ℕ) (t : Thread) (v : Story) (h : Half) (n : ℕ) (x : Slot) → FitsThread d t v → t.half ≡ h → ClaimsNone h
-    → pending v d ≡ owing_for (story_state v) x 256 → FitsThread d (At t (missed n (pointer_of x))) v
-fits_missed d t v h n (Empty p) fits e claims owes = fits_half d t v h Rest fits e claims (λ b. refl) owes tt
+fits_missed : (d : ℕ) (t : Thread) (v : GhostState) (h : PendingCall) (n : ℕ) (x : Slot) → FitsThread d t v → t.pending_call ≡ h → ClaimsNone h
+    → pending v d ≡ owing_for (model_state v) x 256 → FitsThread d (At t (missed n (pointer_of x))) v
+fits_missed d t v h n (Empty p) fits e claims owes = fits_pending_call d t v h Rest fits e claims (λ b. refl) owes tt
 fits_missed d t v h n (Full x) fits e claims owes =
-    fits_half d t v h (missed n (Some x)) fits e claims (λ b. refl) (x.place, owes) tt
+    fits_pending_call d t v h (missed n (Some x)) fits e claims (λ b. refl) (x.place, owes) tt
 
 -- a thread that has seen a cell, or has brought funds besides, claims no block
-pub looking_claims : (t : Thread) (x : CellWord) → (t.half ≡ Saw x) ⊎ (t.half ≡ Matched x) → ClaimsNone t.half
+pub looking_claims : (t : Thread) (x : CellWord) → (t.pending_call ≡ Saw x) ⊎ (t.pending_call ≡ Matched x) → ClaimsNone t.pending_call
 looking_claims t x e =
-    ⊎_elim (λ (q : t.half ≡ Saw x). subst ClaimsNone (sym q) (λ b. refl)) (λ (q : t.half ≡ Matched x). subst ClaimsNone (sym q) (λ b. refl)) e
+    ⊎_elim (λ (q : t.pending_call ≡ Saw x). subst ClaimsNone (sym q) (λ b. refl)) (λ (q : t.pending_call ≡ Matched x). subst ClaimsNone (sym q) (λ b. refl)) e
 
-module _ (d : ℕ) (t : Thread) (v : Story) (k : ℕ) (c : CellName) (weak : Bool) (x : CellWord) (fits : FitsThread d t v)
-    (act : (task_at t.course).act ≡ Compare k c weak) where
+module _ (d : ℕ) (t : Thread) (v : GhostState) (k : ℕ) (c : CellName) (weak : Bool) (x : CellWord) (fits : FitsThread d t v)
+    (act : (task_at t.frame).act ≡ Compare k c weak) where
   -- the shape has its cell
-  pub cell_of_compare : t.course.at < length t.course.tasks.items → IsIn v.extent.shape c
-  cell_of_compare lt = subst (λ (a : Act). HasCell v.extent.shape a) act (cell_here t.course v lt fits.cells)
+  pub cell_of_compare : t.frame.at < length t.frame.tasks.items → IsIn v.extent.shape c
+  cell_of_compare lt = subst (λ (a : Act). HasCell v.extent.shape a) act (cell_here t.frame v lt fits.cells)
 
   -- what it has seen
-  pub saw_compares : t.half ≡ Saw x → (same_value x (as_word (slot_value t.course.holdings.slots.items k)) ≡ true) ⊎ IsLoaded x
-  saw_compares e = subst (λ (a : Act). IsSeenBy t.course.holdings.slots.items x a) act (saw_next d t v x fits e).1
+  pub saw_compares : t.pending_call ≡ Saw x → (same_value x (as_word (slot_value t.frame.registers.slots.items k)) ≡ true) ⊎ IsLoaded x
+  saw_compares e = subst (λ (a : Act). IsSeenBy t.frame.registers.slots.items x a) act (saw_next d t v x fits e).1
 
   -- where that isn't what is expected, it can be loaded
-  pub saw_other : t.half ≡ Saw x → same_value x (as_word (slot_value t.course.holdings.slots.items k)) ≡ false → IsLoaded x
+  pub saw_other : t.pending_call ≡ Saw x → same_value x (as_word (slot_value t.frame.registers.slots.items k)) ≡ false → IsLoaded x
   saw_other e differs =
-      ⊎_elim (λ (q : same_value x (as_word (slot_value t.course.holdings.slots.items k)) ≡ true). absurd cc) (λ (q : IsLoaded x). q) (saw_compares e)
+      ⊎_elim (λ (q : same_value x (as_word (slot_value t.frame.registers.slots.items k)) ≡ true). absurd cc) (λ (q : IsLoaded x). q) (saw_compares e)
 
-  module _ (c' : Course) (y : Compared) (kept : Kept v) where
+  module _ (c' : Frame) (y : Compared) (kept : Kept v) where
     -- one with an object was, and a fund of it is taken
-    pub compare_taken : (n : ℕ) → t.half ≡ Saw x → IsLoaded x
-        → HasGoneOn d t.course c' (story_after_deed v d (OnCell (Take (cell_of_name (story_state v) t.course.holdings.slots.items c) x (Some y))))
+    pub compare_taken : (n : ℕ) → t.pending_call ≡ Saw x → IsLoaded x
+        → HasGoneOn d t.frame c' (ghost_after_step v d (OnCell (Take (cell_of_name (model_state v) t.frame.registers.slots.items c) x (Some y))))
         → FitsThread d (record {
-          course = c';
+          frame = c';
           stock = t.stock;
-          half =
-              Refill Turning (cell_of_name (story_state v) t.course.holdings.slots.items c) (more_taken x) n;
+          pending_call =
+              Refill Turning (cell_of_name (model_state v) t.frame.registers.slots.items c) (more_taken x) n;
         })
-        (story_after_deed v d (OnCell (Take (cell_of_name (story_state v) t.course.holdings.slots.items c) x (Some y))))
+        (ghost_after_step v d (OnCell (Take (cell_of_name (model_state v) t.frame.registers.slots.items c) x (Some y))))
     compare_taken n e loaded on =
-        let at = cell_of_name (story_state v) t.course.holdings.slots.items c in
+        let at = cell_of_name (model_state v) t.frame.registers.slots.items c in
         let next = saw_next d t v x fits e in
         let b = owned_some x.owned loaded.0 in
-        let valid = (half_here d t v (Saw x) fits e).1 in
+        let valid = (pending_call_here d t v (Saw x) fits e).1 in
         fits_gone d t v (Saw x) (Refill Turning at (more_taken x) n) fits e (λ b. refl) (λ b. refl) (OnCell (Take at x (Some y))) c' next.2 refl on
-        (begins_refill d v kept fits.seat at x (Some y) b.0 (cell_open v d t.course.holdings.slots.items c (cell_of_compare next.0) fits.holds
-        (may_compare t.course k c weak next.0 fits.ready act fits.still).0) valid b.1 loaded.1) tt
+        (begins_refill d v kept fits.seat at x (Some y) b.0 (cell_open v d t.frame.registers.slots.items c (cell_of_compare next.0) fits.holds
+        (may_compare t.frame k c weak next.0 fits.ready act fits.still).0) valid b.1 loaded.1) tt
 
     -- the cell is swapped
-    pub compare_swapped : (n : ℕ) → ClaimsNone t.half → t.course.endings.list ≡ []
-        → HasGoneOn d t.course c' (story_after_deed v d (OnCell (CompareSwap (cell_of_name (story_state v) t.course.holdings.slots.items c) x y)))
+    pub compare_swapped : (n : ℕ) → ClaimsNone t.pending_call → t.frame.endings.list ≡ []
+        → HasGoneOn d t.frame c' (ghost_after_step v d (OnCell (CompareSwap (cell_of_name (model_state v) t.frame.registers.slots.items c) x y)))
         → FitsThread d
         (record {
-          course = c';
+          frame = c';
           stock = t.stock;
-          half =
-              gives_back (kind_in_state (story_state v) (cell_of_name (story_state v) t.course.holdings.slots.items c)) n x x.owned;
+          pending_call =
+              gives_back (kind_in_state (model_state v) (cell_of_name (model_state v) t.frame.registers.slots.items c)) n x x.owned;
         })
-        (story_after_deed v d (OnCell (CompareSwap (cell_of_name (story_state v) t.course.holdings.slots.items c) x y)))
+        (ghost_after_step v d (OnCell (CompareSwap (cell_of_name (model_state v) t.frame.registers.slots.items c) x y)))
     compare_swapped n claims none on =
-        let at = cell_of_name (story_state v) t.course.holdings.slots.items c in
+        let at = cell_of_name (model_state v) t.frame.registers.slots.items c in
         let z = OnCell (CompareSwap at x y) in
-        let w = story_after_deed v d z in
-        let kind = kind_in_state (story_state v) at in
-        let owes : pending w d ≡ owing_funds (story_state w) kind x.owned x.place (256 - x.taken) 0 =
-        owes_after v d (CompareSwap at x y) kept fits.seat ∙ ap (λ (q : Kind). owing_funds (story_state w) q x.owned x.place (256 - x.taken) 0)
+        let w = ghost_after_step v d z in
+        let kind = kind_in_state (model_state v) at in
+        let owes : pending w d ≡ owing_funds (model_state w) kind x.owned x.place (256 - x.taken) 0 =
+        owes_after v d (CompareSwap at x y) kept fits.seat ∙ ap (λ (q : Kind). owing_funds (model_state w) q x.owned x.place (256 - x.taken) 0)
         (kind_stays v w at refl) in
-        fits_gone d t v t.half (gives_back kind n x x.owned) fits refl claims (claims_none kind n x x.owned) z c' none (same_stores c) on
-        (half_back d c'.holdings.slots.items (task_at c').act w kind n x x.owned refl owes) (next_back kind n x x.owned c')
+        fits_gone d t v t.pending_call (gives_back kind n x x.owned) fits refl claims (claims_none kind n x x.owned) z c' none (same_stores c) on
+        (pending_call_back d c'.registers.slots.items (task_at c').act w kind n x x.owned refl owes) (next_back kind n x x.owned c')
       where
         same_stores : (c : CellName)
-            → (story_state (story_after_deed v d (OnCell (CompareSwap (cell_of_name (story_state v) t.course.holdings.slots.items c) x y)))).stores
-            ≡ (story_state v).stores
+            → (model_state (ghost_after_step v d (OnCell (CompareSwap (cell_of_name (model_state v) t.frame.registers.slots.items c) x y)))).stores
+            ≡ (model_state v).stores
         same_stores (name.Shared m) = refl
         same_stores (name.Weak m) = refl
         same_stores (name.Member i m) = refl
 
   -- the funds are brought
-  pub compare_brought : (p : Pointer) → t.half ≡ Saw x → same_value x (as_word (slot_value t.course.holdings.slots.items k)) ≡ true
-      → let w = story_after_deed v d (OnCell (Bring p.kind p.block p.place 256)) in
-      pending w d ≡ owing_for (story_state w) (slot_value t.course.holdings.slots.items (hand t.course.holdings.slots.items)) 256
+  pub compare_brought : (p : Pointer) → t.pending_call ≡ Saw x → same_value x (as_word (slot_value t.frame.registers.slots.items k)) ≡ true
+      → let w = ghost_after_step v d (OnCell (Bring p.kind p.block p.place 256)) in
+      pending w d ≡ owing_for (model_state w) (slot_value t.frame.registers.slots.items (hand t.frame.registers.slots.items)) 256
       → FitsThread d (At t (Matched x)) w
   compare_brought p e same owes =
       let z = OnCell (Bring p.kind p.block p.place 256) in
-      let w = story_after_deed v d z in
-      let slots = t.course.holdings.slots.items in
+      let w = ghost_after_step v d z in
+      let slots = t.frame.registers.slots.items in
       let next = saw_next d t v x fits e in
-      let valid = (half_here d t v (Saw x) fits e).1 in
-      let matched : IsMatchedBy slots x (task_at t.course).act = subst (λ (a : Act). IsMatchedBy slots x a) (sym act) same in
+      let valid = (pending_call_here d t v (Saw x) fits e).1 in
+      let matched : IsMatchedBy slots x (task_at t.frame).act = subst (λ (a : Act). IsMatchedBy slots x a) (sym act) same in
       fits_quiet d t v (Saw x) (Matched x) fits e (λ b. refl) (λ b. refl) z refl
-      (owes ∙ ap (λ (a : Act). owing_for (story_state w) (new_of slots a) 256) (sym act), valid) (next.0, matched, next.2)
+      (owes ∙ ap (λ (a : Act). owing_for (model_state w) (new_of slots a) 256) (sym act), valid) (next.0, matched, next.2)
 
   -- the cell shows something else by then
-  pub compare_missed : (n : ℕ) → ClaimsNone t.half
-      → pending v d ≡ owing_for (story_state v) (slot_value t.course.holdings.slots.items (hand t.course.holdings.slots.items)) 256
-      → FitsThread d (At t (missed n (slot_pointer t.course.holdings.slots.items (hand t.course.holdings.slots.items)))) v
+  pub compare_missed : (n : ℕ) → ClaimsNone t.pending_call
+      → pending v d ≡ owing_for (model_state v) (slot_value t.frame.registers.slots.items (hand t.frame.registers.slots.items)) 256
+      → FitsThread d (At t (missed n (slot_pointer t.frame.registers.slots.items (hand t.frame.registers.slots.items)))) v
   compare_missed n claims owes =
-      let slots = t.course.holdings.slots.items in fits_missed d t v t.half n (slot_value slots (hand slots)) fits refl claims owes
+      let slots = t.frame.registers.slots.items in fits_missed d t v t.pending_call n (slot_value slots (hand slots)) fits refl claims owes

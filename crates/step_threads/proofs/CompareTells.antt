@@ -8,16 +8,16 @@ use Rattle.control_word.specs.declared.model.view.Pending.TheVariants.{Idle}
 use Rattle.control_word.specs.Packing.{IsCellWord, cell_bits}
 use Rattle.step_threads.specs.declared.programs.act.Act.TheVariants.{Compare}
 use Rattle.step_threads.specs.declared.programs.call.CellName.{CellName}
-use Rattle.step_threads.specs.declared.half.Half.{Half}
-use Rattle.step_threads.specs.declared.half.Half.TheVariants.{Saw, Matched}
+use Rattle.step_threads.specs.declared.pending_call.PendingCall.{PendingCall}
+use Rattle.step_threads.specs.declared.pending_call.PendingCall.TheVariants.{Saw, Matched}
 use Rattle.step_table.specs.declared.slots.slot.Slot.{Slot}
 use Rattle.step_table.specs.declared.slots.slot.Slot.TheVariants.{Empty, Full}
 use Rattle.step_threads.specs.declared.thread.Thread.{Thread}
 use Rattle.step_table.specs.Cells.{word_of_cell}
 use Rattle.step_table.specs.Contents.{as_word, compared_in, owing_for, same_value}
-use Rattle.step_table.specs.Holdings.{pointer_of, slot_value}
-use Rattle.step_table.specs.Stories.{Kept, Nothing, Story, pending, story_state}
-use Rattle.step_threads.specs.Courses.{cell_of_name, comparing, hand, rest, task_at, walk}
+use Rattle.step_table.specs.Registers.{pointer_of, slot_value}
+use Rattle.step_table.specs.GhostStates.{Kept, Nothing, GhostState, pending, model_state}
+use Rattle.step_threads.specs.Frames.{cell_of_name, comparing, hand, rest, task_at, frame_view}
 use Rattle.step_threads.specs.Entries.{is_expected}
 use Rattle.step_threads.specs.NextSteps.{step_at, waits}
 use Rattle.step_threads.specs.Steps.{matches}
@@ -26,57 +26,59 @@ use Rattle.step_threads.proofs.CompareFits.{cell_of_compare}
 use Rattle.step_threads.proofs.CompareSteps.{expected_told, fetches_none, matched_at, shown_still}
 use Rattle.step_threads.proofs.Compares.{may_compare}
 use Rattle.step_threads.proofs.LoadFits.{saw_next}
-use Rattle.step_threads.proofs.StoreFits.{half_here}
+use Rattle.step_threads.proofs.StoreFits.{pending_call_here}
 
-module _ (d : ℕ) (t : Thread) (v : Story) (k : ℕ) (c : CellName) (weak : Bool) (x : CellWord) (fits : FitsThread d t v)
-    (act : (task_at t.course).act ≡ Compare k c weak) where
+module _ (d : ℕ) (t : Thread) (v : GhostState) (k : ℕ) (c : CellName) (weak : Bool) (x : CellWord) (fits : FitsThread d t v)
+    (act : (task_at t.frame).act ≡ Compare k c weak) where
   -- where a cell shows still what was seen, that tells whether it holds what is expected
-  pub tells_still : (b : Bool) → Kept v → t.course.at < length t.course.tasks.items → IsCellWord x
-      → (word_of_cell v (cell_of_name (story_state v) t.course.holdings.slots.items c) == cell_bits x) ≡ true
-      → same_value x (as_word (slot_value t.course.holdings.slots.items k)) ≡ b → is_expected (story_state v) t.course.holdings.slots.items k c ≡ b
+  pub tells_still : (b : Bool) → Kept v → t.frame.at < length t.frame.tasks.items → IsCellWord x
+      → (word_of_cell v (cell_of_name (model_state v) t.frame.registers.slots.items c) == cell_bits x) ≡ true
+      → same_value x (as_word (slot_value t.frame.registers.slots.items k)) ≡ b → is_expected (model_state v) t.frame.registers.slots.items k c ≡ b
   tells_still b kept lt valid same is =
-      let slots = t.course.holdings.slots.items in
+      let slots = t.frame.registers.slots.items in
       let inside = cell_of_compare d t v k c weak x fits act lt in
-      let may = may_compare t.course k c weak lt fits.ready act fits.still in
+      let may = may_compare t.frame k c weak lt fits.ready act fits.still in
       let seen = shown_still d slots v c x kept fits.seat fits.holds inside may.0 valid (eqb-true _ _ same) in
       sym (expected_told d slots v k c kept fits.seat fits.holds inside may.0 may.2)
       ∙ ap (λ (y : CellWord). same_value y (as_word (slot_value slots k))) (sym seen) ∙ is
 
-  module _ (half : (t.half ≡ Saw x) ⊎ (t.half ≡ Matched x)) where
+  module _ (pending_call : (t.pending_call ≡ Saw x) ⊎ (t.pending_call ≡ Matched x)) where
     -- it is at its act, no object ends, and what was seen is the word of a cell
-    pub match_within : t.course.at < length t.course.tasks.items
+    pub match_within : t.frame.at < length t.frame.tasks.items
     match_within =
-        ⊎_elim (λ (q : t.half ≡ Saw x). (saw_next d t v x fits q).0)
-        (λ (q : t.half ≡ Matched x). let n : IsNext (Matched x) t.course = subst (λ (h : Half). IsNext h t.course) q fits.next in n.0) half
+        ⊎_elim (λ (q : t.pending_call ≡ Saw x). (saw_next d t v x fits q).0)
+        (λ (q : t.pending_call ≡ Matched x). let n : IsNext (Matched x) t.frame = subst (λ (h : PendingCall). IsNext h t.frame) q fits.next in n.0) pending_call
 
-    pub match_none : t.course.endings.list ≡ []
+    pub match_none : t.frame.endings.list ≡ []
     match_none =
-        ⊎_elim (λ (q : t.half ≡ Saw x). (saw_next d t v x fits q).2)
-        (λ (q : t.half ≡ Matched x). let n : IsNext (Matched x) t.course = subst (λ (h : Half). IsNext h t.course) q fits.next in n.2) half
+        ⊎_elim (λ (q : t.pending_call ≡ Saw x). (saw_next d t v x fits q).2)
+        (λ (q : t.pending_call ≡ Matched x). let n : IsNext (Matched x) t.frame = subst (λ (h : PendingCall). IsNext h t.frame) q fits.next in n.2) pending_call
 
     pub match_valid : IsCellWord x
     match_valid =
-        ⊎_elim (λ (q : t.half ≡ Saw x). (half_here d t v (Saw x) fits q).1) (λ (q : t.half ≡ Matched x). (half_here d t v (Matched x) fits q).1) half
+        ⊎_elim (λ (q : t.pending_call ≡ Saw x). (pending_call_here d t v (Saw x) fits q).1)
+        (λ (q : t.pending_call ≡ Matched x). (pending_call_here d t v (Matched x) fits q).1) pending_call
 
-    pub match_goes : waits v t.half (walk t.course) ≡ false
+    pub match_goes : waits v t.pending_call (frame_view t.frame) ≡ false
     match_goes =
-        let w = walk t.course in
-        ⊎_elim (λ (q : t.half ≡ Saw x). ap (λ (h : Half). waits v h w) q) (λ (q : t.half ≡ Matched x). ap (λ (h : Half). waits v h w) q) half
+        let w = frame_view t.frame in
+        ⊎_elim (λ (q : t.pending_call ≡ Saw x). ap (λ (h : PendingCall). waits v h w) q)
+        (λ (q : t.pending_call ≡ Matched x). ap (λ (h : PendingCall). waits v h w) q) pending_call
 
     -- its next step is the swap: there is nothing to bring, or it is brought
-    pub match_at : same_value x (as_word (slot_value t.course.holdings.slots.items k)) ≡ true
-        → pending v d ≡ owing_for (story_state v) (slot_value t.course.holdings.slots.items (hand t.course.holdings.slots.items)) 256
-        → step_at v d t.half (walk t.course)
+    pub match_at : same_value x (as_word (slot_value t.frame.registers.slots.items k)) ≡ true
+        → pending v d ≡ owing_for (model_state v) (slot_value t.frame.registers.slots.items (hand t.frame.registers.slots.items)) 256
+        → step_at v d t.pending_call (frame_view t.frame)
         ≡ Some
-        (matches v d (walk t.course) (task_at t.course).statement (rest t.course) (Compare k c weak)
-        (cell_of_name (story_state v) t.course.holdings.slots.items c)
-        (compared_in t.course.holdings.slots.items (comparing t.course.holdings.slots.items k weak)) x)
+        (matches v d (frame_view t.frame) (task_at t.frame).statement (rest t.frame) (Compare k c weak)
+        (cell_of_name (model_state v) t.frame.registers.slots.items c)
+        (compared_in t.frame.registers.slots.items (comparing t.frame.registers.slots.items k weak)) x)
     match_at same owes =
-        let slots = t.course.holdings.slots.items in
-        ⊎_elim (λ (q : t.half ≡ Saw x). fetches_none d t v k c weak x match_within act q same
-        (bare (slot_value slots (hand slots)) (sym (half_here d t v (Saw x) fits q).0 ∙ owes)))
-        (λ (q : t.half ≡ Matched x). matched_at d t v k c weak x match_within act q) half
+        let slots = t.frame.registers.slots.items in
+        ⊎_elim (λ (q : t.pending_call ≡ Saw x). fetches_none d t v k c weak x match_within act q same
+        (bare (slot_value slots (hand slots)) (sym (pending_call_here d t v (Saw x) fits q).0 ∙ owes)))
+        (λ (q : t.pending_call ≡ Matched x). matched_at d t v k c weak x match_within act q) pending_call
       where
-        bare : (a : Slot) → ◌≡◌ {A = Pending Nothing} Idle (owing_for (story_state v) a 256) → pointer_of a ≡ None
+        bare : (a : Slot) → ◌≡◌ {A = Pending Nothing} Idle (owing_for (model_state v) a 256) → pointer_of a ≡ None
         bare (Empty p) e = refl
         bare (Full y) e = cc

@@ -6,18 +6,18 @@ use Rattle.step_threads.specs.declared.programs.act.Act.{Act}
 use Rattle.step_threads.specs.declared.programs.act.Act.TheVariants.{Compare}
 use Rattle.step_threads.specs.declared.programs.act.Task.{Task}
 use Rattle.step_threads.specs.declared.programs.call.CellName.{CellName}
-use Rattle.step_threads.specs.declared.course.Course.{Course}
+use Rattle.step_threads.specs.declared.frame.Frame.{Frame}
 use Rattle.step_table.specs.declared.slots.slot.Slot.{Slot}
-use Rattle.step_table.specs.CellDeeds.{kind_in_state}
+use Rattle.step_table.specs.CellAtomicSteps.{kind_in_state}
 use Rattle.step_table.specs.Contents.{CanCompare, is_of, slots_swapped}
-use Rattle.step_table.specs.Holdings.{plain, pointer_of, slot_value}
-use Rattle.step_table.specs.Stories.{Story, story_state}
-use Rattle.step_threads.specs.Courses.{MayComeNext, CourseReady, CourseStill, DropsInTime, MayFollow, HasCell, IsReady, TasksMayCome, cell_of_name, comparing}
-use Rattle.step_threads.specs.Courses.{dropping, hand, idle}
-use Rattle.step_threads.specs.Courses.{is_there, other, rest, taken_after, task_at}
+use Rattle.step_table.specs.Registers.{plain, pointer_of, slot_value}
+use Rattle.step_table.specs.GhostStates.{GhostState, model_state}
+use Rattle.step_threads.specs.Frames.{MayComeNext, FrameReady, FrameStill, DropsInTime, MayFollow, HasCell, IsReady, TasksMayCome, cell_of_name, comparing}
+use Rattle.step_threads.specs.Frames.{dropping, hand, idle}
+use Rattle.step_threads.specs.Frames.{is_there, other, rest, taken_after, task_at}
 use Rattle.step_threads.specs.Programs.{IsIn, kind_at}
 use Rattle.step_threads.proofs.CellNames.{goes_in}
-use Rattle.step_threads.proofs.Courses.{ready_any, ready_head, todo_at}
+use Rattle.step_threads.proofs.Frames.{ready_any, ready_head, todo_at}
 
 four : (a b c d : Bool) → not (a && b && c && d) ≡ false → (b ≡ true) × (c ≡ true) × (d ≡ true)
 four true true true true e = (refl, refl, refl)
@@ -26,12 +26,12 @@ four true true false d e = cc
 four true false c d e = cc
 four false b c d e = cc
 
-module _ (c : Course) (k : ℕ) (x : CellName) (weak : Bool) (lt : c.at < length c.tasks.items) (ready : CourseReady c)
+module _ (c : Frame) (k : ℕ) (x : CellName) (weak : Bool) (lt : c.at < length c.tasks.items) (ready : FrameReady c)
     (act : (task_at c).act ≡ Compare k x weak) where
   -- what is expected is a name's
-  pub expects_name : k < other c.holdings.slots.items
+  pub expects_name : k < other c.registers.slots.items
   expects_name =
-      let n = other c.holdings.slots.items in
+      let n = other c.registers.slots.items in
       let b : MayComeNext n c.taken (Compare k x weak) = subst (MayComeNext n c.taken) act (ready_head c lt ready).0 in b.0
 
   -- what comes out is dropped
@@ -39,9 +39,9 @@ module _ (c : Course) (k : ℕ) (x : CellName) (weak : Bool) (lt : c.at < length
   drops_after = let f : MayFollow (Compare k x weak) (rest c) = subst (λ (a : Act). MayFollow a (rest c)) act (ready_head c lt ready).1 in f
 
   -- nothing is to be dropped yet
-  pub nothing_owed : slot_value c.holdings.slots.items (other c.holdings.slots.items) ≡ plain
+  pub nothing_owed : slot_value c.registers.slots.items (other c.registers.slots.items) ≡ plain
   nothing_owed =
-      let slots = c.holdings.slots.items in
+      let slots = c.registers.slots.items in
       let P = λ (ts : List Task). (slot_value slots (other slots) ≡ plain) ⊎ DropsInTime ts in
       ⊎_elim (λ (e : slot_value slots (other slots) ≡ plain). e)
       (λ (q : dropping (DropsInTime (rest c)) (task_at c).act). let z : dropping (DropsInTime (rest c)) (Compare k x weak) = subst
@@ -49,16 +49,16 @@ module _ (c : Course) (k : ℕ) (x : CellName) (weak : Bool) (lt : c.at < length
       (subst P (todo_at c lt) ready.owes)
 
   -- the cell is there, and what goes in, and what is expected, may be in it
-  pub may_compare : CourseStill c
-      → (is_there c.holdings.slots.items x ≡ true) × (is_of (kind_at x) (slot_value c.holdings.slots.items (hand c.holdings.slots.items)) ≡ true)
-      × (is_of (kind_at x) (slot_value c.holdings.slots.items k) ≡ true)
-  may_compare still = four c.taken _ _ _ (subst (λ (a : Act). idle a c.holdings.slots.items c.taken ≡ false) act (still lt))
+  pub may_compare : FrameStill c
+      → (is_there c.registers.slots.items x ≡ true) × (is_of (kind_at x) (slot_value c.registers.slots.items (hand c.registers.slots.items)) ≡ true)
+      × (is_of (kind_at x) (slot_value c.registers.slots.items k) ≡ true)
+  may_compare still = four c.taken _ _ _ (subst (λ (a : Act). idle a c.registers.slots.items c.taken ≡ false) act (still lt))
 
-  pub can_compare : (v : Story) → CourseStill c → HasCell v.extent.shape (task_at c).act
-      → CanCompare (kind_in_state (story_state v) (cell_of_name (story_state v) c.holdings.slots.items x)) c.holdings.slots.items
-      (comparing c.holdings.slots.items k weak)
+  pub can_compare : (v : GhostState) → FrameStill c → HasCell v.extent.shape (task_at c).act
+      → CanCompare (kind_in_state (model_state v) (cell_of_name (model_state v) c.registers.slots.items x)) c.registers.slots.items
+      (comparing c.registers.slots.items k weak)
   can_compare v still cell =
-      let slots = c.holdings.slots.items in
+      let slots = c.registers.slots.items in
       let inside : IsIn v.extent.shape x = subst (HasCell v.extent.shape) act cell in
       let some = ready.some in
       let name = expects_name in
@@ -74,9 +74,9 @@ module _ (c : Course) (k : ℕ) (x : CellName) (weak : Bool) (lt : c.at < length
 
   -- the cell is swapped: what comes out is to be dropped
   pub swapped_ready : (y : Slot)
-      → IsReady (slots_swapped (hand c.holdings.slots.items) (other c.holdings.slots.items) c.holdings.slots.items y) false c.endings.list (rest c)
+      → IsReady (slots_swapped (hand c.registers.slots.items) (other c.registers.slots.items) c.registers.slots.items y) false c.endings.list (rest c)
   swapped_ready y =
-      let slots = c.holdings.slots.items in
+      let slots = c.registers.slots.items in
       let n = other slots in
       let l = slots_swapped (hand slots) n slots y in
       let e : length l ≡ length slots = length-set (set slots n y) (hand slots) plain ∙ length-set slots n y in

@@ -8,24 +8,24 @@ use Rattle.control_word.specs.declared.place.Block.{Block}
 use Rattle.control_word.specs.declared.model.view.Pending.TheVariants.{Idle}
 use Rattle.control_word.specs.State.{State, kind_of_member}
 use Rattle.control_word.specs.Words.{block_of, blocks_of}
-use Rattle.step_threads.specs.declared.course.Course.{Course}
+use Rattle.step_threads.specs.declared.frame.Frame.{Frame}
 use Rattle.step_threads.specs.declared.ending.Ending.{Ending}
-use Rattle.step_threads.specs.declared.half.Half.{Half}
-use Rattle.step_threads.specs.declared.half.Half.TheVariants.{Clearing}
-use Rattle.step_table.specs.declared.cell_steps.cell_deed.Cell.TheVariants.{Member}
-use Rattle.step_table.specs.declared.cell_steps.cell_deed.CellDeed.TheVariants.{TakeOut}
-use Rattle.step_table.specs.declared.slots.holdings.Holdings.{Holdings}
-use Rattle.step_table.specs.declared.slots.holdings.Pointer.{Pointer}
-use Rattle.step_table.specs.declared.memory.past.Deed.TheVariants.{OnCell}
+use Rattle.step_threads.specs.declared.pending_call.PendingCall.{PendingCall}
+use Rattle.step_threads.specs.declared.pending_call.PendingCall.TheVariants.{Clearing}
+use Rattle.step_table.specs.declared.cell_steps.cell_step.Cell.TheVariants.{Member}
+use Rattle.step_table.specs.declared.cell_steps.cell_step.CellStep.TheVariants.{TakeOut}
+use Rattle.step_table.specs.declared.slots.registers.Registers.{Registers}
+use Rattle.step_table.specs.declared.slots.registers.Pointer.{Pointer}
+use Rattle.step_table.specs.declared.memory.past.AtomicStep.TheVariants.{OnCell}
 use Rattle.step_table.specs.declared.slots.slot.Slot.{Slot}
 use Rattle.step_threads.specs.declared.said.Stepped.TheVariants.{Event}
 use Rattle.step_threads.specs.declared.thread.Thread.{Thread}
-use Rattle.step_table.specs.CellDeeds.{handle_as}
+use Rattle.step_table.specs.CellAtomicSteps.{handle_as}
 use Rattle.step_table.specs.Contents.{held_in, seen, slot_as, slot_of}
-use Rattle.step_table.specs.Holdings.{HoldsBag, Slots, is_full, pointer_of, slot_pointer}
-use Rattle.step_table.specs.Stories.{Kept, Story, story_after_deed, pending, story_state}
-use Rattle.step_threads.specs.Actors.{HalfFits, Stocks}
-use Rattle.step_threads.specs.Courses.{CourseReady, CourseStill, IsCarried, IsReady, hand, idle, task_at, todo, walk}
+use Rattle.step_table.specs.Registers.{HoldsBag, Slots, is_full, pointer_of, slot_pointer}
+use Rattle.step_table.specs.GhostStates.{Kept, GhostState, ghost_after_step, pending, model_state}
+use Rattle.step_threads.specs.Actors.{PendingCallFits, Stocks}
+use Rattle.step_threads.specs.Frames.{FrameReady, FrameStill, IsCarried, IsReady, hand, idle, task_at, todo, frame_view}
 use Rattle.step_threads.specs.Endings.{EndsAll, IsEndingAtStage, Stack, first_of, staged, staged_first}
 use Rattle.step_threads.specs.Steps.{empties, gives_back, silent}
 use Rattle.step_threads.specs.Threads.{FitsThread, HasStepped, IsClearingMember, IsNext}
@@ -33,7 +33,7 @@ use Rattle.step_threads.proofs.Carrying.{none_taken}
 use Rattle.step_threads.proofs.EndSteps.{cleared_ends, ready_bare}
 use Rattle.step_threads.proofs.Hands.{hand_ready, held_hand, still_hand}
 use Rattle.step_threads.proofs.Steps.{at_clearing, stepped_as, waits_clearing}
-use Rattle.step_threads.proofs.StoreFits.{claims_none, half_back, next_back}
+use Rattle.step_threads.proofs.StoreFits.{claims_none, pending_call_back, next_back}
 use Rattle.step_table.proofs.contained.Refilling.{owes_after}
 
 pub none_full : (o : Option Pointer) → is_full o ≡ false → o ≡ None
@@ -46,12 +46,13 @@ clearing_here slots [] e clear is = absurd clear
 clearing_here slots (x ∷ xs) e clear is =
     subst (λ (y : Ending). (y.stage < 3) × (is_full (slot_pointer slots (hand slots)) ≡ false)) (same_Some x e is) clear
 
-pub is_clearing : (d : ℕ) (t : Thread) (v : Story) → FitsThread d t v → t.half ≡ Clearing
-    → IsClearingMember t.course.holdings.slots.items t.course.endings.list
-is_clearing d t v fits half = subst (λ (h : Half). IsNext h t.course) half fits.next
+pub is_clearing : (d : ℕ) (t : Thread) (v : GhostState) → FitsThread d t v → t.pending_call ≡ Clearing
+    → IsClearingMember t.frame.registers.slots.items t.frame.endings.list
+is_clearing d t v fits pending_call = subst (λ (h : PendingCall). IsNext h t.frame) pending_call fits.next
 
-pub idle_clearing : (d : ℕ) (t : Thread) (v : Story) → FitsThread d t v → t.half ≡ Clearing → pending v d ≡ Idle
-idle_clearing d t v fits half = subst (λ (h : Half). HalfFits d h t.course.holdings.slots.items (task_at t.course).act v) half fits.half
+pub idle_clearing : (d : ℕ) (t : Thread) (v : GhostState) → FitsThread d t v → t.pending_call ≡ Clearing → pending v d ≡ Idle
+idle_clearing d t v fits pending_call = subst (λ (h : PendingCall). PendingCallFits d h t.frame.registers.slots.items (task_at t.frame).act v) pending_call
+    fits.pending_call
 
 -- what has an object fills a slot
 full_as : (s : State) (block : ℕ → ℕ) (h : Handle) (o : Option ℕ) → is_some (block_of block o) ≡ true
@@ -60,61 +61,62 @@ full_as s block h None e = cc
 full_as s block h (Some o) e = refl
 
 -- where it has an object it is carried, and else nothing is in hand as before
-module _ (c : Course) (h : Holdings) (y : Slot) (e : Ending) (es l : List Ending) (ready : CourseReady c)
-    (bare : is_full (slot_pointer c.holdings.slots.items (hand c.holdings.slots.items)) ≡ false) (is : l ≡ e ∷ es) where
+module _ (c : Frame) (h : Registers) (y : Slot) (e : Ending) (es l : List Ending) (ready : FrameReady c)
+    (bare : is_full (slot_pointer c.registers.slots.items (hand c.registers.slots.items)) ≡ false) (is : l ≡ e ∷ es) where
   emptied_ready : (o : Option Block) → (is_some o ≡ true → is_full (pointer_of y) ≡ true)
-      → h.slots.items ≡ cond (is_some o) (set c.holdings.slots.items (hand c.holdings.slots.items) y) c.holdings.slots.items
+      → h.slots.items ≡ cond (is_some o) (set c.registers.slots.items (hand c.registers.slots.items) y) c.registers.slots.items
       → IsReady h.slots.items c.taken l (todo c)
   emptied_ready None full slots = subst (λ (z : Slots). IsReady z c.taken l (todo c)) (sym slots) (ready_bare c l ready bare)
   emptied_ready (Some b) full slots =
-      let new = set c.holdings.slots.items (hand c.holdings.slots.items) y in
+      let new = set c.registers.slots.items (hand c.registers.slots.items) y in
       let carried : is_full (slot_pointer new (hand new)) ≡ true =
-      ap (λ (z : Slot). is_full (pointer_of z)) (held_hand c.holdings.slots.items y ready.some) ∙ full refl in
+      ap (λ (z : Slot). is_full (pointer_of z)) (held_hand c.registers.slots.items y ready.some) ∙ full refl in
       subst (λ (z : Slots). IsReady z c.taken l (todo c)) (sym slots)
-      (hand_ready c.holdings.slots.items y c.taken c.endings.list l (todo c) ready
+      (hand_ready c.registers.slots.items y c.taken c.endings.list l (todo c) ready
       (λ q. inr (subst (λ (r : List Ending). IsCarried new r) (sym is) carried)))
 
-  emptied_still : (r : Stack) (o : Option Block) → CourseStill c → c.taken ≡ false
-      → h.slots.items ≡ cond (is_some o) (set c.holdings.slots.items (hand c.holdings.slots.items) y) c.holdings.slots.items
-      → CourseStill (record c { holdings = h; endings = r })
+  emptied_still : (r : Stack) (o : Option Block) → FrameStill c → c.taken ≡ false
+      → h.slots.items ≡ cond (is_some o) (set c.registers.slots.items (hand c.registers.slots.items) y) c.registers.slots.items
+      → FrameStill (record c { registers = h; endings = r })
   emptied_still r None still none slots = λ lt. ap (λ (z : Slots). idle (task_at c).act z c.taken) slots ∙ still lt
-  emptied_still r (Some b) still none slots = still_hand c (record c { holdings = h; endings = r }) y ready still none slots refl refl refl
+  emptied_still r (Some b) still none slots = still_hand c (record c { registers = h; endings = r }) y ready still none slots refl refl refl
 
-pub fits_emptied : (d : ℕ) (t : Thread) (v : Story) (e : Ending) (es : List Ending) (h : Holdings) (r : Stack) (q : Half) (n : ℕ) (x : CellWord) → Kept v
-    → FitsThread d t v → t.half ≡ Clearing → t.course.endings.list ≡ e ∷ es → IsEndingAtStage d e v → x ≡ seen v (Member e.block e.stage)
+pub fits_emptied : (d : ℕ) (t : Thread) (v : GhostState) (e : Ending) (es : List Ending) (h : Registers) (r : Stack) (q : PendingCall) (n : ℕ) (x : CellWord) →
+    Kept v
+    → FitsThread d t v → t.pending_call ≡ Clearing → t.frame.endings.list ≡ e ∷ es → IsEndingAtStage d e v → x ≡ seen v (Member e.block e.stage)
     → h.slots.items
     ≡ cond (is_some x.owned)
-    (set t.course.holdings.slots.items (hand t.course.holdings.slots.items) (slot_of (story_state v) (held_in (story_state v) (Member e.block e.stage))))
-    t.course.holdings.slots.items
-    → HoldsBag d h.slots.items (story_after_deed v d (OnCell (TakeOut e.block e.stage x))) → r.list ≡ staged_first t.course.endings.list
-    → t.course.endings.room ≤ r.room → q ≡ gives_back (kind_of_member e.stage) n x x.owned
+    (set t.frame.registers.slots.items (hand t.frame.registers.slots.items) (slot_of (model_state v) (held_in (model_state v) (Member e.block e.stage))))
+    t.frame.registers.slots.items
+    → HoldsBag d h.slots.items (ghost_after_step v d (OnCell (TakeOut e.block e.stage x))) → r.list ≡ staged_first t.frame.endings.list
+    → t.frame.endings.room ≤ r.room → q ≡ gives_back (kind_of_member e.stage) n x x.owned
     → FitsThread d (record {
-      course = record t.course { holdings = h; endings = r };
+      frame = record t.frame { registers = h; endings = r };
       stock = t.stock;
-      half =
+      pending_call =
           q;
-    }) (story_after_deed v d (OnCell (TakeOut e.block e.stage x)))
+    }) (ghost_after_step v d (OnCell (TakeOut e.block e.stage x)))
 fits_emptied d t v e es h r q n x kept fits was list is found slots holds new room back =
-    let w = story_after_deed v d (OnCell (TakeOut e.block e.stage x)) in
-    let c = t.course in
+    let w = ghost_after_step v d (OnCell (TakeOut e.block e.stage x)) in
+    let c = t.frame in
     let k = kind_of_member e.stage in
-    let y = slot_of (story_state v) (held_in (story_state v) (Member e.block e.stage)) in
-    let handle = held_in (story_state v) (Member e.block e.stage) in
-    let clear = subst (λ (l : List Ending). IsClearingMember c.holdings.slots.items l) list (is_clearing d t v fits was) in
+    let y = slot_of (model_state v) (held_in (model_state v) (Member e.block e.stage)) in
+    let handle = held_in (model_state v) (Member e.block e.stage) in
+    let clear = subst (λ (l : List Ending). IsClearingMember c.registers.slots.items l) list (is_clearing d t v fits was) in
     let staged_list : r.list ≡ staged e ∷ es = new ∙ ap staged_first list in
     let none = none_taken d c v e es fits.endings list in
     let full : is_some x.owned ≡ true → is_full (pointer_of y) ≡ true =
-    (λ some. full_as (story_state v) (blocks_of (story_state v)) handle handle.object (ap (λ (z : CellWord). is_some z.owned) (sym found) ∙ some)) in
-    let s : Stocks d t.stock.blocks t.stock.room Clearing v = subst (λ (z : Half). Stocks d t.stock.blocks t.stock.room z v) was fits.stocks in
-    subst (λ (z : Half). FitsThread d (record { course = record c { holdings = h; endings = r }; stock = t.stock; half = z }) w) (sym back)
+    (λ some. full_as (model_state v) (blocks_of (model_state v)) handle handle.object (ap (λ (z : CellWord). is_some z.owned) (sym found) ∙ some)) in
+    let s : Stocks d t.stock.blocks t.stock.room Clearing v = subst (λ (z : PendingCall). Stocks d t.stock.blocks t.stock.room z v) was fits.stocks in
+    subst (λ (z : PendingCall). FitsThread d (record { frame = record c { registers = h; endings = r }; stock = t.stock; pending_call = z }) w) (sym back)
     (record {
       seat = fits.seat;
       holds = holds;
       within = fits.within;
       ready = emptied_ready c h y (staged e) es r.list fits.ready clear.1 staged_list x.owned full slots;
       still = emptied_still c h y (staged e) es r.list fits.ready clear.1 staged_list r x.owned fits.still none slots;
-      half = half_back d h.slots.items (task_at c).act w k n x x.owned refl (owes_after v d (TakeOut e.block e.stage x) kept fits.seat);
-      next = next_back k n x x.owned (record c { holdings = h; endings = r });
+      pending_call = pending_call_back d h.slots.items (task_at c).act w k n x x.owned refl (owes_after v d (TakeOut e.block e.stage x) kept fits.seat);
+      next = next_back k n x x.owned (record c { registers = h; endings = r });
       stocks =
           record {
             stocked = λ b. let a = s.stocked b in let behind = claims_none k n x x.owned b in omega (arith, a, behind);
@@ -123,7 +125,7 @@ fits_emptied d t v e es h r q n x kept fits was list is found slots holds new ro
       endings =
           record {
             all = subst (λ (l : List Ending). EndsAll d l w) (sym staged_list)
-                (cleared_ends d v e es (handle_as (story_state v) k x) w.words w.views
+                (cleared_ends d v e es (handle_as (model_state v) k x) w.words w.views
                 (subst (λ (l : List Ending). EndsAll d l v) list fits.endings.all) is clear.0);
             roomy = (let q = fits.endings.roomy in omega (arith, q, room));
             empty = inr none;
@@ -132,22 +134,22 @@ fits_emptied d t v e es h r q n x kept fits was list is found slots holds new ro
     })
 
 -- what the step was
-pub stepped_emptied : (d : ℕ) (t : Thread) (v w : Story) (e : Ending) (es : List Ending) (h : Holdings) (r : Stack) (q : Half) (x : CellWord)
-    → t.half ≡ Clearing → t.course.endings.list ≡ e ∷ es → x ≡ seen v (Member e.block e.stage)
+pub stepped_emptied : (d : ℕ) (t : Thread) (v w : GhostState) (e : Ending) (es : List Ending) (h : Registers) (r : Stack) (q : PendingCall) (x : CellWord)
+    → t.pending_call ≡ Clearing → t.frame.endings.list ≡ e ∷ es → x ≡ seen v (Member e.block e.stage)
     → h.slots.items
     ≡ cond (is_some x.owned)
-    (set t.course.holdings.slots.items (hand t.course.holdings.slots.items) (slot_of (story_state v) (held_in (story_state v) (Member e.block e.stage))))
-    t.course.holdings.slots.items
-    → w ≡ story_after_deed v d (OnCell (TakeOut e.block e.stage x)) → r.list ≡ staged_first t.course.endings.list
+    (set t.frame.registers.slots.items (hand t.frame.registers.slots.items) (slot_of (model_state v) (held_in (model_state v) (Member e.block e.stage))))
+    t.frame.registers.slots.items
+    → w ≡ ghost_after_step v d (OnCell (TakeOut e.block e.stage x)) → r.list ≡ staged_first t.frame.endings.list
     → q ≡ gives_back (kind_of_member e.stage) e.statement x x.owned
-    → HasStepped d t v (Event (silent e.statement)) (record { course = record t.course { holdings = h; endings = r }; stock = t.stock; half = q }) w
-stepped_emptied d t v w e es h r q x was list found slots story new back =
-    let c = t.course in
-    let old = c.holdings.slots.items in
-    let full = set old (hand old) (slot_of (story_state v) (held_in (story_state v) (Member e.block e.stage))) in
-    stepped_as d t v (empties v (walk c) e es) (Event (silent e.statement))
-    (record { course = record c { holdings = h; endings = r }; stock = t.stock; half = q }) w (waits_clearing d t v e es list was)
-    (at_clearing d t v e es list was) refl (story ∙ ap (λ (z : CellWord). story_after_deed v d (OnCell (TakeOut e.block e.stage z))) found)
+    → HasStepped d t v (Event (silent e.statement)) (record { frame = record t.frame { registers = h; endings = r }; stock = t.stock; pending_call = q }) w
+stepped_emptied d t v w e es h r q x was list found slots ghost_state new back =
+    let c = t.frame in
+    let old = c.registers.slots.items in
+    let full = set old (hand old) (slot_of (model_state v) (held_in (model_state v) (Member e.block e.stage))) in
+    stepped_as d t v (empties v (frame_view c) e es) (Event (silent e.statement))
+    (record { frame = record c { registers = h; endings = r }; stock = t.stock; pending_call = q }) w (waits_clearing d t v e es list was)
+    (at_clearing d t v e es list was) refl (ghost_state ∙ ap (λ (z : CellWord). ghost_after_step v d (OnCell (TakeOut e.block e.stage z))) found)
     (ap (λ (z : Slots). record { slots = z; taken = c.taken; endings = r.list; todo = todo c })
     (slots ∙ ap (λ (z : CellWord). cond (is_some z.owned) full old) found)
     ∙ ap

@@ -1,8 +1,8 @@
--- What the course of a thread relies on after an act, by what the act did to its slots.
+-- What the frame of a thread relies on after an act, by what the act did to its slots.
 use Rattle.std.proofs.Common.{◌≡◌, ◌≢◌, ℕ, ◌-◌, ◌<◌, ◌⊎◌, Bool, true, false, cond, [], length, set, refl, sym, ap, subst, ◌∙◌}
 use Rattle.std.proofs.Common.{⊎_elim, inl, inr, arith, get_or-set_same, get_or-set_other, length-set}
 use Rattle.std.specs.Prelude.{None, Option, Some, option_map, ◌||◌}
-use Rattle.step_table.specs.Deeds.{aliased, as_weak}
+use Rattle.step_table.specs.AtomicSteps.{aliased, as_weak}
 use Rattle.step_table.specs.Contents.{differed, is_of, slots_swapped}
 use Rattle.step_table.specs.declared.memory.field.Field.{Field}
 use Rattle.control_word.specs.declared.model.handle.Kind.{Kind}
@@ -12,17 +12,17 @@ use Rattle.std.proofs.lemmas.Bool.{cond_both, cond-true, cond-false, false≢tru
 use Rattle.std.proofs.lemmas.List.{set-get_or}
 use Rattle.step_threads.specs.declared.programs.act.Act.{Act}
 use Rattle.step_threads.specs.declared.programs.act.Act.TheVariants.{Put, Leave, Clear, Drop, Swap, Compare}
-use Rattle.step_threads.specs.declared.course.Course.{Course}
+use Rattle.step_threads.specs.declared.frame.Frame.{Frame}
 use Rattle.step_table.specs.declared.slots.slot.Slot.{Slot}
 use Rattle.step_table.specs.declared.slots.slot.Slot.TheVariants.{Empty, Full}
 use Rattle.control_word.specs.declared.place.Place.{Place}
-use Rattle.step_table.specs.declared.slots.holdings.Pointer.{Pointer}
-use Rattle.step_table.specs.Holdings.{Slots, filled, inside, owner_slot, place_in, place_of, plain, pointer_of, slot_pointer, slot_value, weak_slot}
+use Rattle.step_table.specs.declared.slots.registers.Pointer.{Pointer}
+use Rattle.step_table.specs.Registers.{Slots, filled, inside, owner_slot, place_in, place_of, plain, pointer_of, slot_pointer, slot_value, weak_slot}
 use Rattle.step_table.proofs.holding.Slots.{full_is}
-use Rattle.step_threads.specs.Courses.{CourseReady, DropsInTime, IsReady, MayComeNext, MayFollow, TasksMayCome, dropping, fitting}
-use Rattle.step_threads.specs.Courses.{hand, is_there, offered, other, placed, rest, taken_after}
-use Rattle.step_threads.specs.Courses.{task_at}
-use Rattle.step_threads.proofs.Courses.{drop_ready, free_same, hand_plain, owed_by, owes_head, put_ready, ready_head, ready_same}
+use Rattle.step_threads.specs.Frames.{FrameReady, DropsInTime, IsReady, MayComeNext, MayFollow, TasksMayCome, dropping, fitting}
+use Rattle.step_threads.specs.Frames.{hand, is_there, offered, other, placed, rest, taken_after}
+use Rattle.step_threads.specs.Frames.{task_at}
+use Rattle.step_threads.proofs.Frames.{drop_ready, free_same, hand_plain, owed_by, owes_head, put_ready, ready_head, ready_same}
 use Rattle.step_threads.proofs.Hands.{hand_ready}
 
 module _ (slots : Slots) (k : ℕ) (x : Slot) (some : 1 < length slots) (below : k < other slots) where
@@ -137,53 +137,53 @@ placed_as slots k n h l m left made is held =
     ∙ ap (λ (i : ℕ). set (set y i (slot_value y h)) h plain) is ∙ ap (λ (i : ℕ). set (set y k (slot_value y i)) i plain) at
 
 -- the hand is a slot
-pub hand_in : (c : Course) → CourseReady c → (h : ℕ) → h ≡ hand c.holdings.slots.items → h < length c.holdings.slots.items
+pub hand_in : (c : Frame) → FrameReady c → (h : ℕ) → h ≡ hand c.registers.slots.items → h < length c.registers.slots.items
 hand_in c ready h is = let some = ready.some in omega (arith, some, is)
 
-module _ (c : Course) (a : Act) (lt : c.at < length c.tasks.items) (ready : CourseReady c) (act : (task_at c).act ≡ a) where
+module _ (c : Frame) (a : Act) (lt : c.at < length c.tasks.items) (ready : FrameReady c) (act : (task_at c).act ≡ a) where
   -- the act may come here
-  pub comes : MayComeNext (other c.holdings.slots.items) c.taken a
-  comes = subst (MayComeNext (other c.holdings.slots.items) c.taken) act (ready_head c lt ready).0
+  pub comes : MayComeNext (other c.registers.slots.items) c.taken a
+  comes = subst (MayComeNext (other c.registers.slots.items) c.taken) act (ready_head c lt ready).0
 
   -- and so may the tasks after it
-  pub follows : TasksMayCome (other c.holdings.slots.items) (taken_after a c.taken) (rest c)
-  follows = subst (λ (b : Act). TasksMayCome (other c.holdings.slots.items) (taken_after b c.taken) (rest c)) act (ready_head c lt ready).2
+  pub follows : TasksMayCome (other c.registers.slots.items) (taken_after a c.taken) (rest c)
+  follows = subst (λ (b : Act). TasksMayCome (other c.registers.slots.items) (taken_after b c.taken) (rest c)) act (ready_head c lt ready).2
 
   module _ (never : dropping (DropsInTime (rest c)) a → ⊥) where
-    owed : slot_value c.holdings.slots.items (other c.holdings.slots.items) ≡ plain
+    owed : slot_value c.registers.slots.items (other c.registers.slots.items) ≡ plain
     owed = owed_by c a lt ready act never
 
     -- it leaves the slots as they are
-    pub stays_ready : taken_after a c.taken ≡ c.taken → IsReady c.holdings.slots.items c.taken c.endings.list (rest c)
+    pub stays_ready : taken_after a c.taken ≡ c.taken → IsReady c.registers.slots.items c.taken c.endings.list (rest c)
     stays_ready same =
         record {
           some = ready.some;
           free = ready.free;
           owes = inl owed;
-          ready = subst (λ (t : Bool). TasksMayCome (other c.holdings.slots.items) t (rest c)) same follows;
+          ready = subst (λ (t : Bool). TasksMayCome (other c.registers.slots.items) t (rest c)) same follows;
         }
 
     -- it takes a value, which is plain
-    pub plain_ready : taken_after a c.taken ≡ true → IsReady c.holdings.slots.items true c.endings.list (rest c)
+    pub plain_ready : taken_after a c.taken ≡ true → IsReady c.registers.slots.items true c.endings.list (rest c)
     plain_ready takes =
         record {
           some = ready.some;
           free = λ t. absurd (false≢true (sym t));
           owes = inl owed;
-          ready = subst (λ (t : Bool). TasksMayCome (other c.holdings.slots.items) t (rest c)) takes follows;
+          ready = subst (λ (t : Bool). TasksMayCome (other c.registers.slots.items) t (rest c)) takes follows;
         }
 
     -- it takes a value into the hand
     pub takes_ready : (x : Slot) → taken_after a c.taken ≡ true
-        → IsReady (set c.holdings.slots.items (hand c.holdings.slots.items) x) true c.endings.list (rest c)
+        → IsReady (set c.registers.slots.items (hand c.registers.slots.items) x) true c.endings.list (rest c)
     takes_ready x takes =
-        hand_ready c.holdings.slots.items x true c.endings.list c.endings.list (rest c) (plain_ready takes) (λ t. absurd (false≢true (sym t)))
+        hand_ready c.registers.slots.items x true c.endings.list c.endings.list (rest c) (plain_ready takes) (λ t. absurd (false≢true (sym t)))
 
     -- it gives a name another value
-    pub sets_ready : (k : ℕ) (x : Slot) → k < other c.holdings.slots.items → taken_after a c.taken ≡ c.taken
-        → IsReady (set c.holdings.slots.items k x) c.taken c.endings.list (rest c)
+    pub sets_ready : (k : ℕ) (x : Slot) → k < other c.registers.slots.items → taken_after a c.taken ≡ c.taken
+        → IsReady (set c.registers.slots.items k x) c.taken c.endings.list (rest c)
     sets_ready k x below same =
-        let slots = c.holdings.slots.items in
+        let slots = c.registers.slots.items in
         let some = ready.some in
         let n = length-set slots k x in
         let s = stays_ready same in
@@ -195,23 +195,23 @@ module _ (c : Course) (a : Act) (lt : c.at < length c.tasks.items) (ready : Cour
         }
 
 -- a name is left
-pub leaves_ready : (c : Course) (k : ℕ) → c.at < length c.tasks.items → CourseReady c → ((task_at c).act ≡ Leave k) ⊎ ((task_at c).act ≡ Clear k)
-    → IsReady (set c.holdings.slots.items k plain) c.taken c.endings.list (rest c)
+pub leaves_ready : (c : Frame) (k : ℕ) → c.at < length c.tasks.items → FrameReady c → ((task_at c).act ≡ Leave k) ⊎ ((task_at c).act ≡ Clear k)
+    → IsReady (set c.registers.slots.items k plain) c.taken c.endings.list (rest c)
 leaves_ready c k lt ready act =
     ⊎_elim (λ e. sets_ready c (Leave k) lt ready e (λ q. q) k plain (comes c (Leave k) lt ready e).0 refl)
     (λ e. sets_ready c (Clear k) lt ready e (λ q. q) k plain (comes c (Clear k) lt ready e).0 refl) act
 
 -- a name that is left or cleared is a slot
-pub left_name : (c : Course) (k : ℕ) → c.at < length c.tasks.items → CourseReady c → ((task_at c).act ≡ Leave k) ⊎ ((task_at c).act ≡ Clear k)
-    → k < other c.holdings.slots.items
+pub left_name : (c : Frame) (k : ℕ) → c.at < length c.tasks.items → FrameReady c → ((task_at c).act ≡ Leave k) ⊎ ((task_at c).act ≡ Clear k)
+    → k < other c.registers.slots.items
 left_name c k lt ready act =
     ⊎_elim (λ e. (comes c (Leave k) lt ready e).0) (λ e. (comes c (Clear k) lt ready e).0) act
 
 -- a name is left, and gets what is in hand
-pub puts_ready : (c : Course) (k : ℕ) → c.at < length c.tasks.items → CourseReady c → (task_at c).act ≡ Put k
-    → IsReady (placed k (set c.holdings.slots.items k plain)) false c.endings.list (rest c)
+pub puts_ready : (c : Frame) (k : ℕ) → c.at < length c.tasks.items → FrameReady c → (task_at c).act ≡ Put k
+    → IsReady (placed k (set c.registers.slots.items k plain)) false c.endings.list (rest c)
 puts_ready c k lt ready act =
-    let slots = c.holdings.slots.items in
+    let slots = c.registers.slots.items in
     let l = set slots k plain in
     let n = length-set slots k plain in
     let some = ready.some in
@@ -223,22 +223,22 @@ puts_ready c k lt ready act =
     (ready_same slots l false (rest c) n (follows c (Put k) lt ready act))
 
 -- the slot behind the names is one, is not the hand, and is empty before an act that drops nothing
-pub other_in : (c : Course) → CourseReady c → (o : ℕ) → o ≡ other c.holdings.slots.items → o < length c.holdings.slots.items
+pub other_in : (c : Frame) → FrameReady c → (o : ℕ) → o ≡ other c.registers.slots.items → o < length c.registers.slots.items
 other_in c ready o is = let some = ready.some in omega (arith, some, is)
 
-pub apart_other : (c : Course) → CourseReady c → (h o : ℕ) → h ≡ hand c.holdings.slots.items → o ≡ other c.holdings.slots.items → h ≢ o
+pub apart_other : (c : Frame) → FrameReady c → (h o : ℕ) → h ≡ hand c.registers.slots.items → o ≡ other c.registers.slots.items → h ≢ o
 apart_other c ready h o held is e = let some = ready.some in absurd (omega (arith, some, held, is, e))
 
-pub other_bare : (c : Course) (a : Act) → c.at < length c.tasks.items → CourseReady c → (task_at c).act ≡ a
+pub other_bare : (c : Frame) (a : Act) → c.at < length c.tasks.items → FrameReady c → (task_at c).act ≡ a
     → (dropping (DropsInTime (rest c)) a → ⊥)
-    → (o : ℕ) → o ≡ other c.holdings.slots.items → slot_pointer c.holdings.slots.items o ≡ None
-other_bare c a lt ready act never o is = ap (slot_pointer c.holdings.slots.items) is ∙ ap pointer_of (owed_by c a lt ready act never)
+    → (o : ℕ) → o ≡ other c.registers.slots.items → slot_pointer c.registers.slots.items o ≡ None
+other_bare c a lt ready act never o is = ap (slot_pointer c.registers.slots.items) is ∙ ap pointer_of (owed_by c a lt ready act never)
 
 -- what comes out of a cell is to be dropped
-pub swaps_ready : (c : Course) (x : CellName) (y : Slot) → c.at < length c.tasks.items → CourseReady c → (task_at c).act ≡ Swap x
-    → IsReady (slots_swapped (hand c.holdings.slots.items) (other c.holdings.slots.items) c.holdings.slots.items y) false c.endings.list (rest c)
+pub swaps_ready : (c : Frame) (x : CellName) (y : Slot) → c.at < length c.tasks.items → FrameReady c → (task_at c).act ≡ Swap x
+    → IsReady (slots_swapped (hand c.registers.slots.items) (other c.registers.slots.items) c.registers.slots.items y) false c.endings.list (rest c)
 swaps_ready c x y lt ready act =
-    let slots = c.holdings.slots.items in
+    let slots = c.registers.slots.items in
     let n = other slots in
     let l = slots_swapped (hand slots) n slots y in
     let m = length-set slots n y in
@@ -252,11 +252,11 @@ swaps_ready c x y lt ready act =
     }
 
 -- what is in hand is to be dropped, and another value in its place
-pub differs_ready : (c : Course) (k : ℕ) (x : CellName) (weak : Bool) (y : Slot) → c.at < length c.tasks.items → CourseReady c
+pub differs_ready : (c : Frame) (k : ℕ) (x : CellName) (weak : Bool) (y : Slot) → c.at < length c.tasks.items → FrameReady c
     → (task_at c).act ≡ Compare k x weak
-    → IsReady (differed (hand c.holdings.slots.items) (other c.holdings.slots.items) c.holdings.slots.items y) true c.endings.list (rest c)
+    → IsReady (differed (hand c.registers.slots.items) (other c.registers.slots.items) c.registers.slots.items y) true c.endings.list (rest c)
 differs_ready c k x weak y lt ready act =
-    let slots = c.holdings.slots.items in
+    let slots = c.registers.slots.items in
     let z = slot_value slots (hand slots) in
     let l = differed (hand slots) (other slots) slots y in
     let e : length l ≡ length slots = length-set (set slots (other slots) z) (hand slots) y ∙ length-set slots (other slots) z in
@@ -269,18 +269,18 @@ differs_ready c k x weak y lt ready act =
     }
 
 -- what is to be dropped leaves
-pub drops_ready : (c : Course) → c.at < length c.tasks.items → CourseReady c → (task_at c).act ≡ Drop
-    → IsReady (set c.holdings.slots.items (other c.holdings.slots.items) plain) c.taken c.endings.list (rest c)
-drops_ready c lt ready act = drop_ready c.holdings.slots.items c.taken c.endings.list (rest c) ready.some ready.free (follows c Drop lt ready act)
+pub drops_ready : (c : Frame) → c.at < length c.tasks.items → FrameReady c → (task_at c).act ≡ Drop
+    → IsReady (set c.registers.slots.items (other c.registers.slots.items) plain) c.taken c.endings.list (rest c)
+drops_ready c lt ready act = drop_ready c.registers.slots.items c.taken c.endings.list (rest c) ready.some ready.free (follows c Drop lt ready act)
 
 -- the hand is empty where nothing was taken
-pub hand_bare : (c : Course) → CourseReady c → c.endings.list ≡ [] → c.taken ≡ false
-    → slot_pointer c.holdings.slots.items (hand c.holdings.slots.items) ≡ None
+pub hand_bare : (c : Frame) → FrameReady c → c.endings.list ≡ [] → c.taken ≡ false
+    → slot_pointer c.registers.slots.items (hand c.registers.slots.items) ≡ None
 hand_bare c ready none e = ap pointer_of (hand_plain c ready none e)
 
 -- and stays as it is
-pub hand_stays : (c : Course) → CourseReady c → c.endings.list ≡ [] → c.taken ≡ false
-    → set c.holdings.slots.items (hand c.holdings.slots.items) plain ≡ c.holdings.slots.items
+pub hand_stays : (c : Frame) → FrameReady c → c.endings.list ≡ [] → c.taken ≡ false
+    → set c.registers.slots.items (hand c.registers.slots.items) plain ≡ c.registers.slots.items
 hand_stays c ready none e =
-    let slots = c.holdings.slots.items in
+    let slots = c.registers.slots.items in
     ap (set slots (hand slots)) (sym (hand_plain c ready none e)) ∙ set-get_or slots (hand slots) plain

@@ -10,26 +10,26 @@ use Rattle.step_threads.specs.declared.programs.act.Act.TheVariants.{Make, Share
 use Rattle.step_threads.specs.declared.programs.act.Act.TheVariants.{Move, Ask}
 use Rattle.step_threads.specs.declared.programs.act.Act.TheVariants.{Offer, Swap, Exchange, Load, Compare, Drop, OnShelf}
 use Rattle.step_threads.specs.declared.programs.act.Task.{Task}
-use Rattle.step_threads.specs.declared.course.Course.{Course}
+use Rattle.step_threads.specs.declared.frame.Frame.{Frame}
 use Rattle.step_threads.specs.declared.ending.Ending.{Ending}
 use Rattle.step_table.specs.declared.slots.slot.Slot.{Slot}
-use Rattle.step_table.specs.Holdings.{Slots, is_full, plain, pointer_of, slot_pointer, slot_value}
-use Rattle.step_threads.specs.Courses.{MayComeNext, CourseReady, CourseStill, IsCarried, IsReady, TasksMayCome, hand, idle, other, rest, walk_settled}
-use Rattle.step_threads.specs.Courses.{taken_after, task_at}
-use Rattle.step_threads.specs.Courses.{todo}
+use Rattle.step_table.specs.Registers.{Slots, is_full, plain, pointer_of, slot_pointer, slot_value}
+use Rattle.step_threads.specs.Frames.{MayComeNext, FrameReady, FrameStill, IsCarried, IsReady, TasksMayCome, hand, idle, other, rest, frame_settled}
+use Rattle.step_threads.specs.Frames.{taken_after, task_at}
+use Rattle.step_threads.specs.Frames.{todo}
 use Rattle.std.proofs.lemmas.Bool.{false≢true}
-use Rattle.step_threads.proofs.Courses.{owed_by, ready_head, settled_still, todo_at}
+use Rattle.step_threads.proofs.Frames.{owed_by, ready_head, settled_still, todo_at}
 
--- a course that is at an act with these slots, or at its end, stays there
-settled_at : (c : Course) (slots : Slots) (es : List Ending) → (c.at < length c.tasks.items → idle (task_at c).act slots c.taken ≡ false)
-    → walk_settled slots c.taken es (todo c) ≡ record { slots = slots; taken = c.taken; endings = es; todo = todo c }
+-- a frame that is at an act with these slots, or at its end, stays there
+settled_at : (c : Frame) (slots : Slots) (es : List Ending) → (c.at < length c.tasks.items → idle (task_at c).act slots c.taken ≡ false)
+    → frame_settled slots c.taken es (todo c) ≡ record { slots = slots; taken = c.taken; endings = es; todo = todo c }
 settled_at c slots es still =
     ⊎_elim (λ (lt : c.at < length c.tasks.items). subst Same (sym (todo_at c lt))
     (settled_still slots c.taken es (task_at c) (drop (c.at + 1) c.tasks.items) (still lt)))
     (λ (le : length c.tasks.items ≤ c.at). subst Same (sym (drop_all c.at c.tasks.items le)) refl) (cases_lt c.at (length c.tasks.items))
   where
     Same : List Task → Type 0
-    Same ts = walk_settled slots c.taken es ts ≡ record { slots = slots; taken = c.taken; endings = es; todo = ts }
+    Same ts = frame_settled slots c.taken es ts ≡ record { slots = slots; taken = c.taken; endings = es; todo = ts }
 
 module _ (slots : Slots) (x : Slot) where
   pub held_length : length (set slots (hand slots) x) ≡ length slots
@@ -87,11 +87,11 @@ module _ (slots : Slots) (x : Slot) where
       }
 
 -- a lock takes an owner
-pub locked_ready : (c : Course) (k : ℕ) (must : Bool) (x : Slot) → c.at < length c.tasks.items → CourseReady c → (task_at c).act ≡ Lock k must
-    → IsReady (set c.holdings.slots.items (hand c.holdings.slots.items) x) true c.endings.list (rest c)
+pub locked_ready : (c : Frame) (k : ℕ) (must : Bool) (x : Slot) → c.at < length c.tasks.items → FrameReady c → (task_at c).act ≡ Lock k must
+    → IsReady (set c.registers.slots.items (hand c.registers.slots.items) x) true c.endings.list (rest c)
 locked_ready c k must x lt ready act =
-    let n = other c.holdings.slots.items in
-    hand_ready c.holdings.slots.items x true c.endings.list c.endings.list (rest c)
+    let n = other c.registers.slots.items in
+    hand_ready c.registers.slots.items x true c.endings.list c.endings.list (rest c)
     (record {
       some = ready.some;
       free = λ t. absurd (false≢true (sym t));
@@ -101,26 +101,26 @@ locked_ready c k must x lt ready act =
     (λ t. absurd (false≢true (sym t)))
 
 -- it is the same act, where nothing was taken
-act_still : (c : Course) (x : Slot) → CourseReady c → CourseStill c → c.taken ≡ false → c.at < length c.tasks.items
-    → idle (task_at c).act (set c.holdings.slots.items (hand c.holdings.slots.items) x) c.taken ≡ false
+act_still : (c : Frame) (x : Slot) → FrameReady c → FrameStill c → c.taken ≡ false → c.at < length c.tasks.items
+    → idle (task_at c).act (set c.registers.slots.items (hand c.registers.slots.items) x) c.taken ≡ false
 act_still c x ready still e lt =
-    let slots = c.holdings.slots.items in
+    let slots = c.registers.slots.items in
     let a = (task_at c).act in
     let b : MayComeNext (other slots) false a = subst (λ (t : Bool). MayComeNext (other slots) t a) e (ready_head c lt ready).0 in
     ap (idle a (set slots (hand slots) x)) e ∙ idle_hand slots x a ready.some b ∙ ap (idle a slots) (sym e) ∙ still lt
 
-pub settled_hand : (c : Course) (x : Slot) (es : List Ending) → c.at ≤ length c.tasks.items → CourseReady c → CourseStill c → c.taken ≡ false
-    → walk_settled (set c.holdings.slots.items (hand c.holdings.slots.items) x) c.taken es (todo c)
-    ≡ record { slots = set c.holdings.slots.items (hand c.holdings.slots.items) x; taken = c.taken; endings = es; todo = todo c }
-settled_hand c x es within ready still e = settled_at c (set c.holdings.slots.items (hand c.holdings.slots.items) x) es (act_still c x ready still e)
+pub settled_hand : (c : Frame) (x : Slot) (es : List Ending) → c.at ≤ length c.tasks.items → FrameReady c → FrameStill c → c.taken ≡ false
+    → frame_settled (set c.registers.slots.items (hand c.registers.slots.items) x) c.taken es (todo c)
+    ≡ record { slots = set c.registers.slots.items (hand c.registers.slots.items) x; taken = c.taken; endings = es; todo = todo c }
+settled_hand c x es within ready still e = settled_at c (set c.registers.slots.items (hand c.registers.slots.items) x) es (act_still c x ready still e)
 
-pub still_hand : (c c' : Course) (x : Slot) → CourseReady c → CourseStill c → c.taken ≡ false
-    → c'.holdings.slots.items ≡ set c.holdings.slots.items (hand c.holdings.slots.items) x → c'.taken ≡ c.taken → c'.at ≡ c.at
-    → c'.tasks ≡ c.tasks → CourseStill c'
+pub still_hand : (c c' : Frame) (x : Slot) → FrameReady c → FrameStill c → c.taken ≡ false
+    → c'.registers.slots.items ≡ set c.registers.slots.items (hand c.registers.slots.items) x → c'.taken ≡ c.taken → c'.at ≡ c.at
+    → c'.tasks ≡ c.tasks → FrameStill c'
 still_hand c c' x ready still e slots taken at tasks lt =
     let same : ◌≡◌ {A = Task} (task_at c') (task_at c) = cc in
     let n : ◌≡◌ {A = ℕ} (length c'.tasks.items) (length c.tasks.items) = cc in
     let l : c.at < length c.tasks.items = omega (arith, lt, at, n) in
-    ap (λ (t : Task). idle t.act c'.holdings.slots.items c'.taken) same
+    ap (λ (t : Task). idle t.act c'.registers.slots.items c'.taken) same
     ∙ ap (λ (y : Slots). idle (task_at c).act y c'.taken) slots
-    ∙ ap (idle (task_at c).act (set c.holdings.slots.items (hand c.holdings.slots.items) x)) taken ∙ act_still c x ready still e l
+    ∙ ap (idle (task_at c).act (set c.registers.slots.items (hand c.registers.slots.items) x)) taken ∙ act_still c x ready still e l

@@ -1,5 +1,5 @@
 pub mod Stocks
-pub mod Courses
+pub mod Frames
 pub mod Hands
 pub mod Going
 pub mod CellNames

@@ -6,21 +6,21 @@ use Rattle.control_word.specs.declared.place.Block.{Block}
 use Rattle.step_threads.specs.declared.programs.act.Act.{Act}
 use Rattle.step_threads.specs.declared.programs.act.Act.TheVariants.{Load}
 use Rattle.step_threads.specs.declared.programs.call.CellName.{CellName}
-use Rattle.step_table.specs.declared.cell_steps.cell_deed.CellDeed.TheVariants.{Take}
-use Rattle.step_threads.specs.declared.course.Course.{Course}
-use Rattle.step_threads.specs.declared.half.Half.TheVariants.{Saw, Refill}
-use Rattle.step_table.specs.declared.memory.past.Deed.TheVariants.{OnCell}
+use Rattle.step_table.specs.declared.cell_steps.cell_step.CellStep.TheVariants.{Take}
+use Rattle.step_threads.specs.declared.frame.Frame.{Frame}
+use Rattle.step_threads.specs.declared.pending_call.PendingCall.TheVariants.{Saw, Refill}
+use Rattle.step_table.specs.declared.memory.past.AtomicStep.TheVariants.{OnCell}
 use Rattle.step_table.specs.declared.cell_steps.refill.Stage.TheVariants.{Turning}
 use Rattle.step_threads.specs.declared.thread.Thread.{Thread}
 use Rattle.step_table.specs.Refills.{more_taken}
-use Rattle.step_threads.specs.Courses.{HasCell, cell_of_name, is_there, task_at}
+use Rattle.step_threads.specs.Frames.{HasCell, cell_of_name, is_there, task_at}
 use Rattle.step_threads.specs.Passing.{HasGoneOn}
 use Rattle.step_threads.specs.Programs.{IsIn}
-use Rattle.step_table.specs.Stories.{Kept, Story, story_after_deed, story_state}
+use Rattle.step_table.specs.GhostStates.{Kept, GhostState, ghost_after_step, model_state}
 use Rattle.step_threads.specs.Threads.{FitsThread, IsLoaded, IsNext, IsSeenBy}
 use Rattle.step_threads.proofs.CellNames.{cell_open}
 use Rattle.step_threads.proofs.LookFits.{fits_gone}
-use Rattle.step_threads.proofs.StoreFits.{half_here}
+use Rattle.step_threads.proofs.StoreFits.{pending_call_here}
 use Rattle.step_threads.proofs.Threads.{cell_here}
 use Rattle.step_table.proofs.contained.Refilling.{begins_refill}
 
@@ -29,41 +29,41 @@ pub owned_some : (o : Option Block) → o ≢ None → (b : Block) × (o ≡ Som
 owned_some None n = absurd (n refl)
 owned_some (Some b) n = (b, refl)
 
-pub cell_of_load : (d : ℕ) (t : Thread) (v : Story) (c : CellName) → FitsThread d t v → t.course.at < length t.course.tasks.items
-    → (task_at t.course).act ≡ Load c
+pub cell_of_load : (d : ℕ) (t : Thread) (v : GhostState) (c : CellName) → FitsThread d t v → t.frame.at < length t.frame.tasks.items
+    → (task_at t.frame).act ≡ Load c
     → IsIn v.extent.shape c
-cell_of_load d t v c fits lt act = subst (λ (a : Act). HasCell v.extent.shape a) act (cell_here t.course v lt fits.cells)
+cell_of_load d t v c fits lt act = subst (λ (a : Act). HasCell v.extent.shape a) act (cell_here t.frame v lt fits.cells)
 
 -- what a thread is at that has seen a cell
-pub saw_next : (d : ℕ) (t : Thread) (v : Story) (x : CellWord) → FitsThread d t v → t.half ≡ Saw x → IsNext (Saw x) t.course
-saw_next d t v x fits e = subst (λ h. IsNext h t.course) e fits.next
+pub saw_next : (d : ℕ) (t : Thread) (v : GhostState) (x : CellWord) → FitsThread d t v → t.pending_call ≡ Saw x → IsNext (Saw x) t.frame
+saw_next d t v x fits e = subst (λ h. IsNext h t.frame) e fits.next
 
-pub saw_load : (d : ℕ) (t : Thread) (v : Story) (c : CellName) (x : CellWord) → FitsThread d t v → t.half ≡ Saw x → (task_at t.course).act ≡ Load c
-    → IsSeenBy t.course.holdings.slots.items x (Load c)
-saw_load d t v c x fits e act = subst (λ (a : Act). IsSeenBy t.course.holdings.slots.items x a) act (saw_next d t v x fits e).1
+pub saw_load : (d : ℕ) (t : Thread) (v : GhostState) (c : CellName) (x : CellWord) → FitsThread d t v → t.pending_call ≡ Saw x → (task_at t.frame).act ≡ Load c
+    → IsSeenBy t.frame.registers.slots.items x (Load c)
+saw_load d t v c x fits e act = subst (λ (a : Act). IsSeenBy t.frame.registers.slots.items x a) act (saw_next d t v x fits e).1
 
-pub saw_there : (d : ℕ) (t : Thread) (v : Story) (c : CellName) (x : CellWord) → FitsThread d t v → t.half ≡ Saw x → (task_at t.course).act ≡ Load c
-    → is_there t.course.holdings.slots.items c ≡ true
+pub saw_there : (d : ℕ) (t : Thread) (v : GhostState) (c : CellName) (x : CellWord) → FitsThread d t v → t.pending_call ≡ Saw x → (task_at t.frame).act ≡ Load c
+    → is_there t.frame.registers.slots.items c ≡ true
 saw_there d t v c x fits e act = (saw_load d t v c x fits e act).0
 
-module _ (d : ℕ) (t : Thread) (v : Story) (c : CellName) (x : CellWord) (fits : FitsThread d t v) where
+module _ (d : ℕ) (t : Thread) (v : GhostState) (c : CellName) (x : CellWord) (fits : FitsThread d t v) where
   -- a fund is taken
-  pub fits_taken : (c' : Course) (k : ℕ) → Kept v → t.half ≡ Saw x → (task_at t.course).act ≡ Load c
-      → HasGoneOn d t.course c' (story_after_deed v d (OnCell (Take (cell_of_name (story_state v) t.course.holdings.slots.items c) x None)))
+  pub fits_taken : (c' : Frame) (k : ℕ) → Kept v → t.pending_call ≡ Saw x → (task_at t.frame).act ≡ Load c
+      → HasGoneOn d t.frame c' (ghost_after_step v d (OnCell (Take (cell_of_name (model_state v) t.frame.registers.slots.items c) x None)))
       → FitsThread d (record {
-        course = c';
+        frame = c';
         stock = t.stock;
-        half =
-            Refill Turning (cell_of_name (story_state v) t.course.holdings.slots.items c) (more_taken x) k;
+        pending_call =
+            Refill Turning (cell_of_name (model_state v) t.frame.registers.slots.items c) (more_taken x) k;
       })
-      (story_after_deed v d (OnCell (Take (cell_of_name (story_state v) t.course.holdings.slots.items c) x None)))
+      (ghost_after_step v d (OnCell (Take (cell_of_name (model_state v) t.frame.registers.slots.items c) x None)))
   fits_taken c' k kept e act on =
-      let at = cell_of_name (story_state v) t.course.holdings.slots.items c in
+      let at = cell_of_name (model_state v) t.frame.registers.slots.items c in
       let next = saw_next d t v x fits e in
       let saw = saw_load d t v c x fits e act in
       let loaded : IsLoaded x = saw.1 in
       let b = owned_some x.owned loaded.0 in
-      let valid = (half_here d t v (Saw x) fits e).1 in
+      let valid = (pending_call_here d t v (Saw x) fits e).1 in
       fits_gone d t v (Saw x) (Refill Turning at (more_taken x) k) fits e (λ b. refl) (λ b. refl) (OnCell (Take at x None)) c' next.2 refl on
       (begins_refill d v kept fits.seat at x None b.0
-      (cell_open v d t.course.holdings.slots.items c (cell_of_load d t v c fits next.0 act) fits.holds saw.0) valid b.1 loaded.1) tt
+      (cell_open v d t.frame.registers.slots.items c (cell_of_load d t v c fits next.0 act) fits.holds saw.0) valid b.1 loaded.1) tt

@@ -6,48 +6,49 @@ use Rattle.control_word.specs.declared.model.event.Event.{Event}
 use Rattle.control_word.specs.Histories.{leads}
 use Rattle.control_word.specs.Handles.{empty}
 use Rattle.control_word.specs.State.{State, ending, kind_of_member, same_stored, stored}
-use Rattle.step_threads.specs.declared.course.Course.{Course}
-use Rattle.step_threads.specs.declared.half.Half.{Half}
-use Rattle.step_table.specs.declared.memory.past.Deed.{Deed}
+use Rattle.step_threads.specs.declared.frame.Frame.{Frame}
+use Rattle.step_threads.specs.declared.pending_call.PendingCall.{PendingCall}
+use Rattle.step_table.specs.declared.memory.past.AtomicStep.{AtomicStep}
 use Rattle.step_threads.specs.declared.thread.Thread.{Thread}
-use Rattle.step_threads.specs.Actors.{HalfFits, Stocks, claimed}
-use Rattle.step_threads.specs.Courses.{task_at}
+use Rattle.step_threads.specs.Actors.{PendingCallFits, Stocks, claimed}
+use Rattle.step_threads.specs.Frames.{task_at}
 use Rattle.step_threads.specs.Passing.{HasGoneOn}
 use Rattle.step_table.specs.Openings.{opening}
-use Rattle.step_table.specs.Stories.{Nothing, Story, event_added, story_after_deed, event_of, story_state}
+use Rattle.step_table.specs.GhostStates.{Nothing, GhostState, event_added, ghost_after_step, event_of, model_state}
 use Rattle.step_threads.specs.Threads.{FitsThread, IsNext}
 use Rattle.step_threads.proofs.Threads.{cells_on}
 use Rattle.step_table.proofs.contained.Others.{holds_quiet}
 use Rattle.step_threads.proofs.holding.Ends.{each_end, ends_gone}
 
 -- what is half done claims no block
-abbrev pub ClaimsNone : Half → Type 0
+abbrev pub ClaimsNone : PendingCall → Type 0
 ClaimsNone h = (b : ℕ) → claimed h b ≡ 0
 
-module _ (d : ℕ) (t : Thread) (v : Story) (h h' : Half) (fits : FitsThread d t v) (was : t.half ≡ h) (none : ClaimsNone h) (none' : ClaimsNone h') where
+module _ (d : ℕ) (t : Thread) (v : GhostState) (h h' : PendingCall) (fits : FitsThread d t v) (was : t.pending_call ≡ h) (none : ClaimsNone h)
+    (none' : ClaimsNone h') where
   -- the stock is that of the same store
-  pub stocks_as : (w : Story) → (story_state w).stores ≡ (story_state v).stores → w.extent ≡ v.extent → Stocks d t.stock.blocks t.stock.room h' w
+  pub stocks_as : (w : GhostState) → (model_state w).stores ≡ (model_state v).stores → w.extent ≡ v.extent → Stocks d t.stock.blocks t.stock.room h' w
   stocks_as w same e =
       let s = fits.stocks in
       record {
         stocked = λ b.
             let a = s.stocked b in
             let o = ap (λ l. length (filter (same_stored (stored d b)) l)) same in
-            let p = ap (λ (q : Half). claimed q b) was ∙ none b in let q = none' b in omega (arith, a, o, p, q);
+            let p = ap (λ (q : PendingCall). claimed q b) was ∙ none b in let q = none' b in omega (arith, a, o, p, q);
         roomy = let r = s.roomy in let x = ap (λ z. z.shape.blocks) e in omega (arith, r, x);
       }
 
   -- nothing was done to the table, and the thread is at the same act
-  pub fits_half : HalfFits d h' t.course.holdings.slots.items (task_at t.course).act v → IsNext h' t.course
-      → FitsThread d (record { course = t.course; stock = t.stock; half = h' }) v
-  fits_half half next =
+  pub fits_pending_call : PendingCallFits d h' t.frame.registers.slots.items (task_at t.frame).act v → IsNext h' t.frame
+      → FitsThread d (record { frame = t.frame; stock = t.stock; pending_call = h' }) v
+  fits_pending_call pending_call next =
       record {
         seat = fits.seat;
         holds = fits.holds;
         within = fits.within;
         ready = fits.ready;
         still = fits.still;
-        half = half;
+        pending_call = pending_call;
         next = next;
         stocks = stocks_as v refl refl;
         endings = fits.endings;
@@ -55,26 +56,26 @@ module _ (d : ℕ) (t : Thread) (v : Story) (h h' : Half) (fits : FitsThread d t
       }
 
   -- a step that is no event was made, and the thread is at the same act
-  pub fits_quiet : (x : Deed) → event_of (story_state v) x ≡ None
-      → HalfFits d h' t.course.holdings.slots.items (task_at t.course).act (story_after_deed v d x) → IsNext h' t.course
-      → FitsThread d (record { course = t.course; stock = t.stock; half = h' }) (story_after_deed v d x)
-  fits_quiet x quiet half next =
-      let w = story_after_deed v d x in
-      let same : story_state w ≡ story_state v = ap (λ (o : Option (Event Nothing)). leads (opening v.extent) (event_added d o v.history)) quiet in
+  pub fits_quiet : (x : AtomicStep) → event_of (model_state v) x ≡ None
+      → PendingCallFits d h' t.frame.registers.slots.items (task_at t.frame).act (ghost_after_step v d x) → IsNext h' t.frame
+      → FitsThread d (record { frame = t.frame; stock = t.stock; pending_call = h' }) (ghost_after_step v d x)
+  fits_quiet x quiet pending_call next =
+      let w = ghost_after_step v d x in
+      let same : model_state w ≡ model_state v = ap (λ (o : Option (Event Nothing)). leads (opening v.extent) (event_added d o v.history)) quiet in
       record {
         seat = fits.seat;
-        holds = holds_quiet d d t.course.holdings.slots.items v x quiet fits.holds;
+        holds = holds_quiet d d t.frame.registers.slots.items v x quiet fits.holds;
         within = fits.within;
         ready = fits.ready;
         still = fits.still;
-        half = half;
+        pending_call = pending_call;
         next = next;
         stocks = stocks_as w (ap (λ (s : State). s.stores) same) refl;
         endings =
             record {
               all =
                   record {
-                    each = each_end d v w t.course.endings.list (λ e is. record {
+                    each = each_end d v w t.frame.endings.list (λ e is. record {
                       ending = subst (λ (s : State). (s.object (s.latest e.block.0)).phase ≡ ending d) (sym same) is.ending;
                       within = is.within;
                       cleared = λ m l. subst (λ (s : State). (s.object (s.latest e.block.0)).member m ≡ empty (kind_of_member m))
@@ -89,20 +90,20 @@ module _ (d : ℕ) (t : Thread) (v : Story) (h h' : Half) (fits : FitsThread d t
       }
 
   -- a step was made that moves no block, and the thread went on
-  pub fits_gone : (x : Deed) (c : Course) → t.course.endings.list ≡ [] → (story_state (story_after_deed v d x)).stores ≡ (story_state v).stores
-      → HasGoneOn d t.course c (story_after_deed v d x) → HalfFits d h' c.holdings.slots.items (task_at c).act (story_after_deed v d x) → IsNext h' c
-      → FitsThread d (record { course = c; stock = t.stock; half = h' }) (story_after_deed v d x)
-  fits_gone x c empty stores on half next =
-      let w = story_after_deed v d x in
+  pub fits_gone : (x : AtomicStep) (c : Frame) → t.frame.endings.list ≡ [] → (model_state (ghost_after_step v d x)).stores ≡ (model_state v).stores
+      → HasGoneOn d t.frame c (ghost_after_step v d x) → PendingCallFits d h' c.registers.slots.items (task_at c).act (ghost_after_step v d x) → IsNext h' c
+      → FitsThread d (record { frame = c; stock = t.stock; pending_call = h' }) (ghost_after_step v d x)
+  fits_gone x c empty stores on pending_call next =
+      let w = ghost_after_step v d x in
       record {
         seat = fits.seat;
         holds = on.holds;
         within = on.within;
         ready = on.ready;
         still = on.still;
-        half = half;
+        pending_call = pending_call;
         next = next;
         stocks = stocks_as w stores refl;
-        endings = ends_gone d t.course c v w fits.endings empty on.endings refl;
-        cells = cells_on d t.course c w on fits.cells;
+        endings = ends_gone d t.frame c v w fits.endings empty on.endings refl;
+        cells = cells_on d t.frame c w on fits.cells;
       }

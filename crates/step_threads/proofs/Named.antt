@@ -7,31 +7,31 @@ use Rattle.step_threads.specs.declared.programs.act.Act.TheVariants.{Compare, Lo
 use Rattle.step_threads.specs.declared.programs.act.Task.{Task}
 use Rattle.step_threads.specs.declared.programs.call.CellName.{CellName}
 use Rattle.step_threads.specs.declared.programs.call.CellName.TheVariants.{Shared, Weak, Member}
-use Rattle.step_threads.specs.declared.course.Course.{Course}
+use Rattle.step_threads.specs.declared.frame.Frame.{Frame}
 use Rattle.step_threads.specs.declared.said.Answer.{Answer}
 use Rattle.step_threads.specs.declared.said.Said.{Said}
-use Rattle.step_table.specs.Holdings.{Slots, place_in}
-use Rattle.step_threads.specs.Courses.{MayComeNext, CourseReady, IsNamed, Walk, is_there, other, walk_settled, task_at}
+use Rattle.step_table.specs.Registers.{Slots, place_in}
+use Rattle.step_threads.specs.Frames.{MayComeNext, FrameReady, IsNamed, FrameView, is_there, other, frame_settled, task_at}
 use Rattle.step_threads.specs.Rows.{Hands, outside, refusal}
 use Rattle.step_threads.proofs.CellNames.{cell_named}
-use Rattle.step_threads.proofs.Courses.{ready_head}
+use Rattle.step_threads.proofs.Frames.{ready_head}
 
-module _ (c : Course) (x : CellName) (lt : c.at < length c.tasks.items) (ready : CourseReady c) where
-  begins : (a : Act) → (task_at c).act ≡ a → MayComeNext (other c.holdings.slots.items) c.taken a
-  begins a act = subst (MayComeNext (other c.holdings.slots.items) c.taken) act (ready_head c lt ready).0
+module _ (c : Frame) (x : CellName) (lt : c.at < length c.tasks.items) (ready : FrameReady c) where
+  begins : (a : Act) → (task_at c).act ≡ a → MayComeNext (other c.registers.slots.items) c.taken a
+  begins a act = subst (MayComeNext (other c.registers.slots.items) c.taken) act (ready_head c lt ready).0
 
-  pub named_load : (task_at c).act ≡ Load x → IsNamed (length c.holdings.slots.items) x
-  named_load act = cell_named c.holdings.slots.items x (begins (Load x) act).0
+  pub named_load : (task_at c).act ≡ Load x → IsNamed (length c.registers.slots.items) x
+  named_load act = cell_named c.registers.slots.items x (begins (Load x) act).0
 
-  pub named_compare : (k : ℕ) (weak : Bool) → (task_at c).act ≡ Compare k x weak → IsNamed (length c.holdings.slots.items) x
-  named_compare k weak act = cell_named c.holdings.slots.items x (begins (Compare k x weak) act).1
+  pub named_compare : (k : ℕ) (weak : Bool) → (task_at c).act ≡ Compare k x weak → IsNamed (length c.registers.slots.items) x
+  named_compare k weak act = cell_named c.registers.slots.items x (begins (Compare k x weak) act).1
 
 abbrev pub told_as : ℕ → Option Answer → Said
 told_as n a = record { statement = n; answer = a; ended = None }
 
 -- where a thread is that has this in its slots
-abbrev pub walked_by : Walk → List Task → Hands → Walk
-walked_by w ts y = walk_settled y.0 y.1 w.endings ts
+abbrev pub walked_by : FrameView → List Task → Hands → FrameView
+walked_by w ts y = frame_settled y.0 y.1 w.endings ts
 
 pub refusal_none : (slots : Slots) (c : CellName) → is_there slots c ≡ true → refusal slots c ≡ None
 refusal_none slots (Shared n) there = refl

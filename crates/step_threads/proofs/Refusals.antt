@@ -3,21 +3,21 @@ use Rattle.std.proofs.Common.{◌≡◌, ◌⊎◌, ◌<◌, ℕ, Bool, true, fa
 use Rattle.step_threads.specs.declared.programs.act.Act.{Act}
 use Rattle.step_threads.specs.declared.programs.act.Act.TheVariants.{Offer, Exchange, Load}
 use Rattle.step_threads.specs.declared.programs.call.CellName.{CellName}
-use Rattle.step_threads.specs.declared.course.Course.{Course}
-use Rattle.step_threads.specs.Courses.{MayComeNext, CourseReady, DropsInTime, IsReady, TasksMayCome, dropping, other, rest, taken_after, task_at}
-use Rattle.step_threads.proofs.Courses.{owed_by, ready_any, ready_head}
+use Rattle.step_threads.specs.declared.frame.Frame.{Frame}
+use Rattle.step_threads.specs.Frames.{MayComeNext, FrameReady, DropsInTime, IsReady, TasksMayCome, dropping, other, rest, taken_after, task_at}
+use Rattle.step_threads.proofs.Frames.{owed_by, ready_any, ready_head}
 
 -- the first act of a statement on a cell
 abbrev pub IsOn : Act → CellName → Type 0
 IsOn a c = (a ≡ Load c) ⊎ ((k : ℕ) × ((a ≡ Offer k c) ⊎ (a ≡ Exchange k c)))
 
-module _ (c : Course) (x : CellName) (lt : c.at < length c.tasks.items) (ready : CourseReady c) where
+module _ (c : Frame) (x : CellName) (lt : c.at < length c.tasks.items) (ready : FrameReady c) where
   -- nothing is to be dropped at it, and the rest is ready for what was taken
   on_ready : (a : Act) → IsOn a x → (dropping (DropsInTime (rest c)) a → ⊥)
-      × (MayComeNext (other c.holdings.slots.items) c.taken a → TasksMayCome (other c.holdings.slots.items) (taken_after a c.taken) (rest c)
-      → TasksMayCome (other c.holdings.slots.items) c.taken (rest c))
+      × (MayComeNext (other c.registers.slots.items) c.taken a → TasksMayCome (other c.registers.slots.items) (taken_after a c.taken) (rest c)
+      → TasksMayCome (other c.registers.slots.items) c.taken (rest c))
   on_ready a on =
-      let n = other c.holdings.slots.items in
+      let n = other c.registers.slots.items in
       let P : Act → Type 0 = λ (b : Act). (dropping (DropsInTime (rest c)) b → ⊥)
       × (MayComeNext n c.taken b → TasksMayCome n (taken_after b c.taken) (rest c) → TasksMayCome n c.taken (rest c)) in
       let none : c.taken ≡ false → TasksMayCome n true (rest c) → TasksMayCome n c.taken (rest c) =
@@ -28,7 +28,7 @@ module _ (c : Course) (x : CellName) (lt : c.at < length c.tasks.items) (ready :
       (λ (e : a ≡ Exchange q.0 x). subst P (sym e) ((λ z. z), (λ b r. r))) q.1) on
 
   -- an act that is refused takes nothing
-  pub passed_over : IsOn (task_at c).act x → IsReady c.holdings.slots.items c.taken c.endings.list (rest c)
+  pub passed_over : IsOn (task_at c).act x → IsReady c.registers.slots.items c.taken c.endings.list (rest c)
   passed_over on =
       let h = ready_head c lt ready in
       let o = on_ready (task_at c).act on in

@@ -6,22 +6,22 @@ use Rattle.control_word.specs.declared.model.handle.Kind.{Kind}
 use Rattle.control_word.specs.declared.model.handle.Kind.TheVariants.{Owner, Weak}
 use Rattle.control_word.specs.declared.model.view.Pending.TheVariants.{Idle}
 use Rattle.control_word.specs.declared.refusal.Refusal.TheVariants as refused
-use Rattle.step_table.specs.declared.slots.holdings.Pointer.{Pointer}
-use Rattle.step_table.specs.Deeds.{by_word, give, is_enabled, on, this_as}
-use Rattle.step_table.specs.Holdings.{inside, is_full, place_in, slot_pointer}
-use Rattle.step_table.specs.Stories.{Story, event_of, pending_after, story_after_deed, story_state}
+use Rattle.step_table.specs.declared.slots.registers.Pointer.{Pointer}
+use Rattle.step_table.specs.AtomicSteps.{by_word, give, is_enabled, on, this_as}
+use Rattle.step_table.specs.Registers.{inside, is_full, place_in, slot_pointer}
+use Rattle.step_table.specs.GhostStates.{GhostState, event_of, pending_after, ghost_after_step, model_state}
 use Rattle.step_threads.specs.declared.programs.act.Act.TheVariants.{FromThis}
 use Rattle.step_threads.specs.declared.programs.act.Task.{Task}
-use Rattle.step_threads.specs.declared.half.Half.TheVariants.{Rest, Giving}
+use Rattle.step_threads.specs.declared.pending_call.PendingCall.TheVariants.{Rest, Giving}
 use Rattle.step_threads.specs.declared.said.Answer.TheVariants as answer
 use Rattle.step_threads.specs.declared.said.Said.{Said}
-use Rattle.step_threads.specs.Courses.{Walk, walk_settled}
+use Rattle.step_threads.specs.Frames.{FrameView, frame_settled}
 use Rattle.step_threads.specs.NextSteps.{first}
 use Rattle.step_threads.specs.Rows.{outside, said_by_row, taking}
-use Rattle.step_threads.specs.Scenes.{row_in, went}
+use Rattle.step_threads.specs.AbstractStates.{row_in, went}
 use Rattle.step_threads.specs.Steps.{Step, asks, silent, step_of_act}
 
-module _ (v : Story) (d : ℕ) (w : Walk) (n : ℕ) (ts : List Task) (k : ℕ) (kind : Kind) where
+module _ (v : GhostState) (d : ℕ) (w : FrameView) (n : ℕ) (ts : List Task) (k : ℕ) (kind : Kind) where
   -- what is said, and where the thread is, by what the name has inside its object, and whether that gave a pointer
   abbrev pub this_said : Option Pointer → Bool → Said
   this_said o got =
@@ -31,19 +31,19 @@ module _ (v : Story) (d : ℕ) (w : Walk) (n : ℕ) (ts : List Task) (k : ℕ) (
         ended = None;
       }
 
-  abbrev pub this_walk : Option Pointer → Bool → Walk
-  this_walk o got =
-      let y = taking w.slots true (option_map (this_as kind) (cond got o None)) in walk_settled y.0 y.1 w.endings ts
+  abbrev pub this_frame : Option Pointer → Bool → FrameView
+  this_frame o got =
+      let y = taking w.slots true (option_map (this_as kind) (cond got o None)) in frame_settled y.0 y.1 w.endings ts
 
-  module _ (o : Option Pointer) (got : Bool) (at : inside (slot_pointer w.slots k) ≡ o) (gives : on (is_enabled (story_state v)) false o ≡ got) where
-    given : on (is_enabled (story_state v)) false (inside (slot_pointer w.slots k)) ≡ got
-    given = ap (on (is_enabled (story_state v)) false) at ∙ gives
+  module _ (o : Option Pointer) (got : Bool) (at : inside (slot_pointer w.slots k) ≡ o) (gives : on (is_enabled (model_state v)) false o ≡ got) where
+    given : on (is_enabled (model_state v)) false (inside (slot_pointer w.slots k)) ≡ got
+    given = ap (on (is_enabled (model_state v)) false) at ∙ gives
 
-    pub this_says : this_said o got ≡ said_by_row n (row_in (by_word v) (story_state v) d w.slots w.taken (FromThis k kind))
+    pub this_says : this_said o got ≡ said_by_row n (row_in (by_word v) (model_state v) d w.slots w.taken (FromThis k kind))
     this_says = ap (λ (q : Option Pointer). this_said q got) (sym at) ∙ ap (this_said (inside (slot_pointer w.slots k))) (sym given)
 
-    pub this_went : this_walk o got ≡ went (story_state v) d w n ts (FromThis k kind)
-    this_went = ap (λ (q : Option Pointer). this_walk q got) (sym at) ∙ ap (this_walk (inside (slot_pointer w.slots k))) (sym given)
+    pub this_went : this_frame o got ≡ went (model_state v) d w n ts (FromThis k kind)
+    this_went = ap (λ (q : Option Pointer). this_frame q got) (sym at) ∙ ap (this_frame (inside (slot_pointer w.slots k))) (sym given)
 
   -- the first step: the name has nothing to ask
   pub this_none : inside (slot_pointer w.slots k) ≡ None → first v d w n ts (FromThis k kind) ≡ step_of_act v d w n ts (FromThis k kind) None Rest
@@ -51,26 +51,26 @@ module _ (v : Story) (d : ℕ) (w : Walk) (n : ℕ) (ts : List Task) (k : ℕ) (
 
   module _ (p : Pointer) (at : inside (slot_pointer w.slots k) ≡ Some p) where
     abbrev pub giving : Step
-    giving = record { deed = None; half = Giving k kind p; walk = w; said = silent n }
+    giving = record { atomic_step = None; pending_call = Giving k kind p; frame_view = w; said = silent n }
 
     asking : first v d w n ts (FromThis k kind) ≡ asks v d w n ts k kind p
     asking = ap (on (asks v d w n ts k kind) (step_of_act v d w n ts (FromThis k kind) None Rest)) at
 
     -- the object gives none
-    pub this_not : is_enabled (story_state v) p ≡ false → first v d w n ts (FromThis k kind) ≡ step_of_act v d w n ts (FromThis k kind) None Rest
-    this_not bare = asking ∙ cond-false (is_enabled (story_state v) p) giving (step_of_act v d w n ts (FromThis k kind) None Rest) bare
+    pub this_not : is_enabled (model_state v) p ≡ false → first v d w n ts (FromThis k kind) ≡ step_of_act v d w n ts (FromThis k kind) None Rest
+    this_not bare = asking ∙ cond-false (is_enabled (model_state v) p) giving (step_of_act v d w n ts (FromThis k kind) None Rest) bare
 
     -- or it is taken next
-    pub this_gives : is_enabled (story_state v) p ≡ true → first v d w n ts (FromThis k kind) ≡ giving
-    this_gives enabled = asking ∙ cond-true (is_enabled (story_state v) p) giving (step_of_act v d w n ts (FromThis k kind) None Rest) enabled
+    pub this_gives : is_enabled (model_state v) p ≡ true → first v d w n ts (FromThis k kind) ≡ giving
+    this_gives enabled = asking ∙ cond-true (is_enabled (model_state v) p) giving (step_of_act v d w n ts (FromThis k kind) None Rest) enabled
 
 -- the pointer is an event, which moves no block and leaves nothing half done
-module _ (v : Story) (d : ℕ) (x : Pointer) where
-  pub give_event : (k : Kind) → is_some (event_of (story_state v) (give k x)) ≡ true
+module _ (v : GhostState) (d : ℕ) (x : Pointer) where
+  pub give_event : (k : Kind) → is_some (event_of (model_state v) (give k x)) ≡ true
   give_event Owner = refl
   give_event Weak = refl
 
-  pub give_stores : (k : Kind) → (story_state (story_after_deed v d (give k x))).stores ≡ (story_state v).stores
+  pub give_stores : (k : Kind) → (model_state (ghost_after_step v d (give k x))).stores ≡ (model_state v).stores
   give_stores Owner = refl
   give_stores Weak = refl
 

@@ -1,6 +1,6 @@
 pub mod Ends
 pub mod Few
-pub mod Halves
+pub mod PendingCalls
 pub mod Least
 pub mod Members
 pub mod Others

@@ -4,7 +4,7 @@ use Rattle.std.specs.Prelude.{Option, Some, None, sum_by, ◌*◌, ◌-◌}
 use Rattle.control_word.specs.Handles.{empty}
 use Rattle.control_word.specs.State.{ending, kind_of_member}
 use Rattle.step_threads.specs.declared.ending.Ending.{Ending}
-use Rattle.step_table.specs.Stories.{Story, object_of_block, story_state}
+use Rattle.step_table.specs.GhostStates.{GhostState, object_of_block, model_state}
 
 -- the endings that are under way, the one begun last first, and how many there may be
 pub record Stack : Type 0 where
@@ -28,14 +28,14 @@ abbrev pub endings_in_block : ℕ → List Ending → ℕ
 endings_in_block b es = sum_by (λ (e : Ending). cond (e.block.0 == b) 1 0) es
 
 -- the object ends in the desk's hands, and its members before the stage are cleared
-pub record IsEndingAtStage (d : ℕ) (e : Ending) (v : Story) : Type 0 where
-  pub ending : ((story_state v).object (object_of_block v e.block)).phase ≡ ending d
+pub record IsEndingAtStage (d : ℕ) (e : Ending) (v : GhostState) : Type 0 where
+  pub ending : ((model_state v).object (object_of_block v e.block)).phase ≡ ending d
   pub within : e.stage ≤ 3
-  pub cleared : (m : ℕ) → m < e.stage → ((story_state v).object (object_of_block v e.block)).member m
+  pub cleared : (m : ℕ) → m < e.stage → ((model_state v).object (object_of_block v e.block)).member m
       ≡ empty (kind_of_member m)
 
 -- each object is in one ending at most
-pub record EndsAll (d : ℕ) (es : List Ending) (v : Story) : Type 0 where
+pub record EndsAll (d : ℕ) (es : List Ending) (v : GhostState) : Type 0 where
   pub each : All (λ (e : Ending). IsEndingAtStage d e v) es
   pub once : (b : ℕ) → endings_in_block b es ≤ 1
 

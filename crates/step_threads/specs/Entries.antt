@@ -1,92 +1,21 @@
--- What the acts of threads add to the history. All of it is own but the events, which name their sections.
+-- Histories of threads' desks, and what a compare of a thread is answered. All of it is own.
 pub use Rattle.step_threads.specs.Shelving.{least, lesser}
-use Rattle.std.specs.Prelude.{ℕ, Bool, cond, List, ◌∷◌, Option, Some, None, option_map}
+use Rattle.std.specs.Prelude.{ℕ, Bool, List}
 use Rattle.control_word.specs.declared.model.event.Entry.{Entry}
 use Rattle.control_word.specs.Handles.{equivalent}
-use Rattle.control_word.specs.Histories.{entry, leads}
-use Rattle.control_word.specs.State.{Opening, State}
-use Rattle.step_threads.specs.declared.programs.act.Act.{Act}
-use Rattle.step_threads.specs.declared.programs.act.Act.TheVariants.{Make, Share, Downgrade, Lock, Put, Leave, Clear}
-use Rattle.step_threads.specs.declared.programs.act.Act.TheVariants.{Count}
-use Rattle.step_threads.specs.declared.programs.act.Act.TheVariants.{Expired, Read, FromThis, Alias, Move, Ask, Offer}
-use Rattle.step_threads.specs.declared.programs.act.Act.TheVariants.{Swap}
-use Rattle.step_threads.specs.declared.programs.act.Act.TheVariants.{Exchange, Load, Compare, Drop, OnShelf}
-use Rattle.step_table.specs.declared.memory.form.Form.{Form}
+use Rattle.control_word.specs.State.{State}
 use Rattle.step_threads.specs.declared.programs.call.CellName.{CellName}
-use Rattle.step_table.specs.declared.slots.holdings.Pointer.{Pointer}
-use Rattle.step_table.specs.declared.memory.past.Deed.{Deed}
-use Rattle.step_table.specs.declared.memory.past.Deed.TheVariants as deed
-use Rattle.step_table.specs.CellDeeds.{kind_in_state}
-use Rattle.step_table.specs.Contents.{compare_of, held_in, load_of, swap_of, named_handle}
-use Rattle.step_table.specs.Deeds.{Telling, alias, aliased, downgrade, give, is_enabled, leave, lock, read_deed, share}
-use Rattle.step_table.specs.Deeds.{tell_count, tell_expired}
-use Rattle.step_table.specs.Holdings.{Slots, inside, owner_slot, place_in, slot_pointer, slot_value}
-use Rattle.step_table.specs.Stories.{Nothing, event_added, event_of}
-use Rattle.step_threads.specs.Shelving.{shelf_block, shelf_deed}
-use Rattle.step_threads.specs.Courses.{cell_of_name, going, hand, is_there, locked_pointer, offered, on_going, other}
+use Rattle.step_table.specs.CellAtomicSteps.{kind_in_state}
+use Rattle.step_table.specs.Contents.{held_in, named_handle}
+use Rattle.step_table.specs.Registers.{Slots, slot_value}
+use Rattle.step_table.specs.GhostStates.{Nothing}
+use Rattle.step_threads.specs.Frames.{cell_of_name}
 
 abbrev pub History : Type 0
 History = List (Entry Nothing)
-
--- the history after a deed of desk d, if any
-abbrev pub does : Opening → ℕ → History → Option Deed → History
-does z d h None = h
-does z d h (Some x) = event_added d (event_of (leads z h) x) h
-
--- an object of this form is made in a block
-abbrev pub make_deed : Form → ℕ → Deed
-make_deed form b = deed.Claim (record { 0 = b }) form.enabled form.null form.fields
-
--- the pointer whose object gives pointers to itself
-abbrev pub giving : State → Option Pointer → Option Pointer
-giving s None = None
-giving s (Some x) = cond (is_enabled s x) (Some x) None
-
--- a slot's value goes into a cell, and what that held comes out ([util.smartptr.atomic.shared],
--- [util.smartptr.atomic.weak], `exchange`)
-abbrev pub history_swaps : Opening → ℕ → Slots → History → CellName → ℕ → History
-history_swaps z d slots h c k = let s = leads z h in
-    entry d (swap_of s (cell_of_name s slots c) (slot_value slots k)) ∷ h
-
--- what a cell holds is loaded ([util.smartptr.atomic.shared], [util.smartptr.atomic.weak], `load`)
-abbrev pub loads : Opening → ℕ → Slots → History → CellName → History
-loads z d slots h c = let s = leads z h in entry d (load_of s (cell_of_name s slots c)) ∷ h
 
 -- equivalent: both store the same place, and own or share the same object or none ([util.smartptr.atomic.shared],
 -- [util.smartptr.atomic.weak], `compare_exchange_strong`)
 abbrev pub is_expected : State → Slots → ℕ → CellName → Bool
 is_expected s slots k c = let x = cell_of_name s slots c in
     equivalent (held_in s x) (named_handle s (kind_in_state s x) (slot_value slots k))
-
--- a cell is compared with slot k, and what is in hand goes in where it is equivalent ([util.smartptr.atomic.shared],
--- [util.smartptr.atomic.weak], `compare_exchange_strong`, `compare_exchange_weak`)
-abbrev pub history_compares : Opening → ℕ → Slots → History → ℕ → CellName → Bool → History
-history_compares z d slots h k c weak =
-    let s = leads z h in entry d
-    (compare_of s (cell_of_name s slots c) (slot_value slots k) (slot_value slots (hand slots)) weak) ∷ h
-
--- the history after an act of a desk whose thread has this in its slots, where counts are told so
-abbrev pub acted : Telling → Opening → ℕ → Slots → History → Act → History
-acted tell z d slots h (Make form) = does z d h (option_map (make_deed form) (least d (leads z h).stores))
-acted tell z d slots h (Share k) = does z d h (option_map share (slot_pointer slots k))
-acted tell z d slots h (Put k) = does z d h (option_map (leave (leads z h)) (slot_pointer slots k))
-acted tell z d slots h (Leave k) = does z d h (option_map (leave (leads z h)) (slot_pointer slots k))
-acted tell z d slots h (Clear k) = does z d h (option_map (leave (leads z h)) (slot_pointer slots k))
-acted tell z d slots h (Count k) = does z d h (option_map (tell_count tell (leads z h)) (slot_pointer slots k))
-acted tell z d slots h (Downgrade k) = does z d h (option_map downgrade (slot_pointer slots k))
-acted tell z d slots h (Lock k must) = does z d h (option_map (lock (leads z h)) (locked_pointer slots (Lock k must)))
-acted tell z d slots h (Expired k) = does z d h (option_map (tell_expired (leads z h)) (slot_pointer slots k))
-acted tell z d slots h (Read k) = does z d h (option_map (read_deed (leads z h)) (inside (slot_pointer slots k)))
-acted tell z d slots h (FromThis k kind) =
-    does z d h (option_map (give kind) (giving (leads z h) (inside (slot_pointer slots k))))
-acted tell z d slots h (Alias k j field) =
-    does z d h (option_map (alias (aliased field (place_in slots j))) (owner_slot (slot_pointer slots k)))
-acted tell z d slots h (Move k) = h
-acted tell z d slots h (Ask q) = h
-acted tell z d slots h (Offer k c) = does z d h (option_map share (offered slots k c))
-acted tell z d slots h (Swap c) = on_going (history_swaps z d slots h) h (going slots (Swap c))
-acted tell z d slots h (Exchange k c) = on_going (history_swaps z d slots h) h (going slots (Exchange k c))
-acted tell z d slots h (Load c) = cond (is_there slots c) (loads z d slots h c) h
-acted tell z d slots h (Compare k c weak) = history_compares z d slots h k c weak
-acted tell z d slots h Drop = does z d h (option_map (leave (leads z h)) (slot_pointer slots (other slots)))
-acted tell z d slots h (OnShelf x) = does z d h (shelf_deed x (shelf_block (leads z h) d x))

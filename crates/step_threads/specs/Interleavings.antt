@@ -7,11 +7,11 @@ use Rattle.control_word.specs.declared.model.event.Event.TheVariants.{Split, Joi
 use Rattle.control_word.specs.Histories.{IsLegal}
 use Rattle.control_word.specs.State.{Opening}
 use Rattle.step_table.specs.declared.memory.form.Form.{Form}
-use Rattle.step_table.specs.Holdings.{Slots, plain}
+use Rattle.step_table.specs.Registers.{Slots, plain}
 use Rattle.step_threads.specs.declared.said.Said.{Said}
 use Rattle.step_threads.specs.Acts.{tasks_from}
-use Rattle.step_threads.specs.Courses.{Walk, walk_settled}
-use Rattle.step_threads.specs.Doings.{Doing, GoesThrough, Over, ahead, lines, onto}
+use Rattle.step_threads.specs.Frames.{FrameView, frame_settled}
+use Rattle.step_threads.specs.TraceLabels.{TraceLabel, GoesThrough, Over, ahead, lines, onto}
 use Rattle.step_threads.specs.Programs.{Part}
 
 -- n names, what is to be dropped and the hand, all empty
@@ -19,8 +19,8 @@ abbrev pub no_slots : ℕ → Slots
 no_slots n = replicate (n + 2) plain
 
 -- a thread that holds nothing, at the first act of its calls
-abbrev pub first_walk : Part → Walk
-first_walk part = walk_settled (no_slots (length part.kinds)) false [] (tasks_from 1 part.calls (length part.kinds))
+abbrev pub first_frame : Part → FrameView
+first_frame part = frame_settled (no_slots (length part.kinds)) false [] (tasks_from 1 part.calls (length part.kinds))
 
 -- what this desk said
 abbrev pub said_on : ℕ → List (ℕ × Said) → List Said
@@ -32,12 +32,12 @@ module _ {V : Type 0} where
   -- act to its end, and what it says
   pub record Marked (worth : Form → V) (z : Opening) (h : List (Entry V)) (d : ℕ) (part : Part)
       (said : List Said) : Type 0 where
-    pub doings : List (Doing V)
-    pub events : onto [] doings ≡ h
-    pub last : Walk
-    pub goes : GoesThrough worth z [] d (first_walk part) doings last
+    pub trace_labels : List (TraceLabel V)
+    pub events : onto [] trace_labels ≡ h
+    pub last : FrameView
+    pub goes : GoesThrough worth z [] d (first_frame part) trace_labels last
     pub over : ahead last ≡ Over
-    pub says : said_on d (lines doings) ≡ said
+    pub says : said_on d (lines trace_labels) ≡ said
 
   -- splits and joins are no thread's
   abbrev pub IsSplitOrJoin : Event V → Type 0

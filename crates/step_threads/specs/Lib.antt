@@ -1,7 +1,7 @@
 pub mod Actors
 pub mod Acts
-pub mod Courses
-pub mod Doings
+pub mod Frames
+pub mod TraceLabels
 pub mod Endings
 pub mod Entries
 pub mod Interleavings
@@ -9,7 +9,7 @@ pub mod NextSteps
 pub mod Passing
 pub mod Programs
 pub mod Rows
-pub mod Scenes
+pub mod AbstractStates
 pub mod Shelving
 pub mod Steps
 pub mod Stocks

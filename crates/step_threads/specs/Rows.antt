@@ -10,13 +10,13 @@ use Rattle.control_word.specs.Events.{origin}
 use Rattle.control_word.specs.Handles.{same_place}
 use Rattle.step_table.specs.declared.memory.field.Field.{Field}
 use Rattle.step_table.specs.declared.memory.ended.Ended.{Ended}
-use Rattle.step_table.specs.declared.slots.holdings.Pointer.{Pointer}
+use Rattle.step_table.specs.declared.slots.registers.Pointer.{Pointer}
 use Rattle.step_table.specs.declared.slots.slot.Slot.{Slot}
 use Rattle.step_table.specs.declared.slots.slot.Slot.TheVariants.{Full, Empty}
 use Rattle.step_table.specs.Contents.{differed, is_of, slots_swapped}
-use Rattle.step_table.specs.Deeds.{aliased, as_owner, as_weak, at_place, this_as}
-use Rattle.step_table.specs.Holdings.{Slots, filled, inside, is_full, place_in, plain, slot_pointer, slot_value}
-use Rattle.step_table.specs.Holdings.{owner_slot, weak_slot}
+use Rattle.step_table.specs.AtomicSteps.{aliased, as_owner, as_weak, at_place, this_as}
+use Rattle.step_table.specs.Registers.{Slots, filled, inside, is_full, place_in, plain, slot_pointer, slot_value}
+use Rattle.step_table.specs.Registers.{owner_slot, weak_slot}
 use Rattle.step_threads.specs.declared.programs.act.Act.{Act}
 use Rattle.step_threads.specs.declared.programs.act.Act.TheVariants.{Make, Share, Downgrade, Lock, Put, Leave, Clear}
 use Rattle.step_threads.specs.declared.programs.act.Act.TheVariants.{Count}
@@ -32,7 +32,7 @@ use Rattle.step_threads.specs.declared.ending.Ending.{Ending}
 use Rattle.step_threads.specs.declared.said.Answer.{Answer}
 use Rattle.step_threads.specs.declared.said.Answer.TheVariants as answer
 use Rattle.step_threads.specs.declared.said.Said.{Said}
-use Rattle.step_threads.specs.Courses.{Walk, fitting, hand, is_there, other, slot_passed, placed, walk_settled}
+use Rattle.step_threads.specs.Frames.{FrameView, fitting, hand, is_there, other, slot_passed, placed, frame_settled}
 use Rattle.step_threads.specs.Programs.{kind_at}
 
 -- What an act is replied: nothing; the block of a make, if there was one; whether it is so; a number; what came out of
@@ -176,8 +176,8 @@ with_end k None es = es
 with_end k (Some b) es = record { block = b; stage = 0; statement = k } ∷ es
 
 -- where a thread is after an act of statement k, with these tasks after it, and what the act says
-abbrev pub walk_after_act : Walk → ℕ → List Task → Row → Walk
-walk_after_act w k ts y = walk_settled y.slots y.taken (with_end k y.ending w.endings) ts
+abbrev pub frame_after_act : FrameView → ℕ → List Task → Row → FrameView
+frame_after_act w k ts y = frame_settled y.slots y.taken (with_end k y.ending w.endings) ts
 
 abbrev pub said_by_row : ℕ → Row → Said
 said_by_row k y = record { statement = k; answer = y.answer; ended = y.ended }

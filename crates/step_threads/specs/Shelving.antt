@@ -2,9 +2,9 @@
 use Rattle.std.specs.Prelude.{ℕ, ◌==◌, cond, min, List, [], ◌∷◌}
 use Rattle.std.specs.Prelude.{Option, Some, None}
 use Rattle.control_word.specs.State.{State, Stored}
-use Rattle.step_table.specs.declared.memory.past.Deed.{Deed}
-use Rattle.step_table.specs.declared.memory.past.Deed.TheVariants.{OnShelf}
-use Rattle.step_table.specs.declared.memory.shelf.ShelfDeed.TheVariants as shelf
+use Rattle.step_table.specs.declared.memory.past.AtomicStep.{AtomicStep}
+use Rattle.step_table.specs.declared.memory.past.AtomicStep.TheVariants.{OnShelf}
+use Rattle.step_table.specs.declared.memory.shelf.ShelfStep.TheVariants as shelf
 use Rattle.step_threads.specs.declared.programs.act.ShelfAct.{ShelfAct}
 use Rattle.step_threads.specs.declared.programs.act.ShelfAct.TheVariants.{Shelve, Unshelve}
 
@@ -23,8 +23,8 @@ shelf_block s d Shelve = least d s.stores
 shelf_block s d (Unshelve b) = cond (s.shelved b.0) (Some b.0) None
 
 -- what is done on the shelf, by that; a bit that was clear is cleared too
-abbrev pub shelf_deed : ShelfAct → Option ℕ → Option Deed
-shelf_deed Shelve None = None
-shelf_deed Shelve (Some b) = Some (OnShelf (record { 0 = b }) shelf.Shelve)
-shelf_deed (Unshelve b) None = Some (OnShelf b shelf.Miss)
-shelf_deed (Unshelve b) (Some c) = Some (OnShelf b shelf.Unshelve)
+abbrev pub shelf_step : ShelfAct → Option ℕ → Option AtomicStep
+shelf_step Shelve None = None
+shelf_step Shelve (Some b) = Some (OnShelf (record { 0 = b }) shelf.Shelve)
+shelf_step (Unshelve b) None = Some (OnShelf b shelf.Miss)
+shelf_step (Unshelve b) (Some c) = Some (OnShelf b shelf.Unshelve)

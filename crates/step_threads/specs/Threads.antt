@@ -9,27 +9,28 @@ use Rattle.step_threads.specs.declared.programs.act.Act.{Act}
 use Rattle.step_table.specs.declared.memory.form.Form.{Form}
 use Rattle.step_threads.specs.declared.programs.act.Act.TheVariants.{Make, FromThis, Load, Compare}
 use Rattle.step_threads.specs.declared.programs.act.Task.{Task}
-use Rattle.step_threads.specs.declared.course.Course.{Course}
-use Rattle.step_threads.specs.declared.half.Half.{Half}
-use Rattle.step_threads.specs.declared.half.Half.TheVariants.{Rest, Making, Locking, Giving, Brought, Saw, Matched}
-use Rattle.step_threads.specs.declared.half.Half.TheVariants.{Refill, Returning, Clearing}
+use Rattle.step_threads.specs.declared.frame.Frame.{Frame}
+use Rattle.step_threads.specs.declared.pending_call.PendingCall.{PendingCall}
+use Rattle.step_threads.specs.declared.pending_call.PendingCall.TheVariants.{Rest, Making, Locking, Giving, Brought}
+use Rattle.step_threads.specs.declared.pending_call.PendingCall.TheVariants.{Saw, Matched}
+use Rattle.step_threads.specs.declared.pending_call.PendingCall.TheVariants.{Refill, Returning, Clearing}
 use Rattle.step_threads.specs.declared.said.Stepped.{Stepped}
 use Rattle.step_threads.specs.declared.thread.Thread.{Thread}
-use Rattle.step_threads.specs.Actors.{HalfFits, Stocks}
-use Rattle.step_threads.specs.Courses.{CourseReady, CourseStill, HasCell, form_of, going, hand, is_there}
-use Rattle.step_threads.specs.Courses.{locked_pointer}
-use Rattle.step_threads.specs.Courses.{task_at, walk}
-use Rattle.step_table.specs.declared.slots.holdings.Pointer.{Pointer}
+use Rattle.step_threads.specs.Actors.{PendingCallFits, Stocks}
+use Rattle.step_threads.specs.Frames.{FrameReady, FrameStill, HasCell, form_of, going, hand, is_there}
+use Rattle.step_threads.specs.Frames.{locked_pointer}
+use Rattle.step_threads.specs.Frames.{task_at, frame_view}
+use Rattle.step_table.specs.declared.slots.registers.Pointer.{Pointer}
 use Rattle.step_threads.specs.declared.ending.Ending.{Ending}
 use Rattle.step_threads.specs.Endings.{EndsAll}
 use Rattle.step_table.specs.Contents.{as_word, same_value}
-use Rattle.step_table.specs.Holdings.{HoldsBag, Slots, inside, is_full, slot_pointer, slot_value}
+use Rattle.step_table.specs.Registers.{HoldsBag, Slots, inside, is_full, slot_pointer, slot_value}
 use Rattle.step_threads.specs.Stocks.{StoreView}
-use Rattle.step_threads.specs.NextSteps.{answered, half_by, step_at, story_by, walk_by}
-use Rattle.step_table.specs.Stories.{Story}
+use Rattle.step_threads.specs.NextSteps.{answered, pending_call_by, step_at, ghost_by, frame_by}
+use Rattle.step_table.specs.GhostStates.{GhostState}
 
 -- what the next act makes, where it makes an object
-abbrev pub form_at : Course → Form
+abbrev pub form_at : Frame → Form
 form_at c = form_of (task_at c).act
 
 -- what was seen can be loaded: it has an object, and not all of its funds were taken
@@ -53,51 +54,58 @@ IsClearingMember slots [] = ⊥
 IsClearingMember slots (e ∷ es) = (e.stage < 3) × (is_full (slot_pointer slots (hand slots)) ≡ false)
 
 -- a make, a lock, a pointer from this or an act on a cell that is under way is the next act, and no object ends
-abbrev pub IsNext : Half → Course → Type 0
+abbrev pub IsNext : PendingCall → Frame → Type 0
 IsNext Rest c = Unit {0}
 IsNext (Making b i differs) c = (c.at < length c.tasks.items) × ((task_at c).act ≡ Make (form_at c))
     × (c.endings.list ≡ [])
 IsNext (Locking word) c = (c.at < length c.tasks.items)
-    × (is_full (locked_pointer c.holdings.slots.items (task_at c).act) ≡ true) × (c.endings.list ≡ [])
+    × (is_full (locked_pointer c.registers.slots.items (task_at c).act) ≡ true) × (c.endings.list ≡ [])
 IsNext (Giving i kind x) c =
     (c.at < length c.tasks.items) × ((task_at c).act ≡ FromThis i kind)
-    × (inside (slot_pointer c.holdings.slots.items i) ≡ Some x) × (c.endings.list ≡ [])
-IsNext Brought c = (c.at < length c.tasks.items) × (is_some (going c.holdings.slots.items (task_at c).act) ≡ true)
+    × (inside (slot_pointer c.registers.slots.items i) ≡ Some x) × (c.endings.list ≡ [])
+IsNext Brought c = (c.at < length c.tasks.items) × (is_some (going c.registers.slots.items (task_at c).act) ≡ true)
     × (c.endings.list ≡ [])
-IsNext (Saw x) c = (c.at < length c.tasks.items) × IsSeenBy c.holdings.slots.items x (task_at c).act
+IsNext (Saw x) c = (c.at < length c.tasks.items) × IsSeenBy c.registers.slots.items x (task_at c).act
     × (c.endings.list ≡ [])
-IsNext (Matched x) c = (c.at < length c.tasks.items) × IsMatchedBy c.holdings.slots.items x (task_at c).act
+IsNext (Matched x) c = (c.at < length c.tasks.items) × IsMatchedBy c.registers.slots.items x (task_at c).act
     × (c.endings.list ≡ [])
 IsNext (Refill stage cell x k) c = Unit {0}
 IsNext (Returning kind b funds k) c = Unit {0}
-IsNext Clearing c = IsClearingMember c.holdings.slots.items c.endings.list
+IsNext Clearing c = IsClearingMember c.registers.slots.items c.endings.list
 
 -- the objects that end in a thread's hands are those of its endings; there is room for more, and nothing was taken
 -- meanwhile
-pub record EndsFit (d : ℕ) (c : Course) (v : Story) : Type 0 where
+pub record EndsFit (d : ℕ) (c : Frame) (v : GhostState) : Type 0 where
   pub all : EndsAll d c.endings.list v
   pub roomy : v.extent.shape.blocks ≤ c.endings.room
   pub empty : (c.endings.list ≡ []) ⊎ (c.taken ≡ false)
 
 -- between two steps the thread has what its desk has, and its half-done act is as its desk's view says
-pub record FitsThread (d : ℕ) (t : Thread) (v : Story) : Type 0 where
+pub record FitsThread (d : ℕ) (t : Thread) (v : GhostState) : Type 0 where
   pub seat : d < v.extent.actors
-  pub holds : HoldsBag d t.course.holdings.slots.items v
-  pub within : t.course.at ≤ length t.course.tasks.items
-  pub ready : CourseReady t.course
-  pub still : CourseStill t.course
-  pub half : HalfFits d t.half t.course.holdings.slots.items (task_at t.course).act v
-  pub next : IsNext t.half t.course
-  pub stocks : Stocks d t.stock.blocks t.stock.room t.half v
-  pub endings : EndsFit d t.course v
-  pub cells : All (λ (x : Task). HasCell v.extent.shape x.act) t.course.tasks.items
+  pub holds : HoldsBag d t.frame.registers.slots.items v
+  pub within : t.frame.at ≤ length t.frame.tasks.items
+  pub ready : FrameReady t.frame
+  pub still : FrameStill t.frame
+  pub pending_call : PendingCallFits d t.pending_call t.frame.registers.slots.items (task_at t.frame).act v
+  pub next : IsNext t.pending_call t.frame
+  pub stocks : Stocks d t.stock.blocks t.stock.room t.pending_call v
+  pub endings : EndsFit d t.frame v
+  pub cells : All (λ (x : Task). HasCell v.extent.shape x.act) t.frame.tasks.items
+
+-- the thread has begun nothing, no object ends in its hands, and its next act is there
+pub record BeginsAct (d : ℕ) (t : Thread) (v : GhostState) : Type 0 where
+  pub fits : FitsThread d t v
+  pub rest : t.pending_call ≡ Rest
+  pub none : t.frame.endings.list ≡ []
+  pub within : t.frame.at < length t.frame.tasks.items
 
 -- the thread made its step, and the table is as that left it
-pub record HasStepped (d : ℕ) (t : Thread) (v : Story) (r : Stepped) (t' : Thread) (v' : Story) : Type 0 where
-  pub answer : r ≡ answered v d t.half (walk t.course)
-  pub story : v' ≡ story_by v d (step_at v d t.half (walk t.course))
-  pub place : walk t'.course ≡ walk_by (walk t.course) (step_at v d t.half (walk t.course))
-  pub half : t'.half ≡ half_by t.half (step_at v d t.half (walk t.course))
+pub record HasStepped (d : ℕ) (t : Thread) (v : GhostState) (r : Stepped) (t' : Thread) (v' : GhostState) : Type 0 where
+  pub answer : r ≡ answered v d t.pending_call (frame_view t.frame)
+  pub ghost_state : v' ≡ ghost_by v d (step_at v d t.pending_call (frame_view t.frame))
+  pub place : frame_view t'.frame ≡ frame_by (frame_view t.frame) (step_at v d t.pending_call (frame_view t.frame))
+  pub pending_call : t'.pending_call ≡ pending_call_by t.pending_call (step_at v d t.pending_call (frame_view t.frame))
 
 -- the stock after a pointer left: a block that is vacant by it comes in
 abbrev pub IsStocked : Kind → ℕ → Bool → StoreView → StoreView → Type 0

@@ -7,8 +7,8 @@ use Rattle.control_word.specs.Histories.{entry, leads}
 use Rattle.control_word.specs.State.{Opening, weak}
 use Rattle.step_table.specs.Contents.{slot_of}
 use Rattle.step_threads.specs.declared.ending.Ending.{Ending}
-use Rattle.step_threads.specs.Courses.{hand}
-use Rattle.step_table.specs.Holdings.{Slots}
+use Rattle.step_threads.specs.Frames.{hand}
+use Rattle.step_table.specs.Registers.{Slots}
 use Rattle.step_table.specs.declared.slots.slot.Slot.{Slot}
 use Rattle.step_threads.specs.Entries.{History}
 

@@ -3,9 +3,9 @@
 
 pub mod act_steps;
 pub mod acts;
-pub mod course;
 pub mod ending;
-pub mod half;
+pub mod frame;
+pub mod pending_call;
 pub mod programs;
 pub mod said;
 pub mod stock;

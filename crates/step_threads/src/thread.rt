@@ -1,9 +1,9 @@
-//! A thread of the machine: its course, its store, and the act that it has begun.
-ghost use Rattle.std.specs.Prelude.{◌≡◌, ◌<◌, [], length, cond};
+//! A thread of the machine: its frame, its store, and the act that it has begun.
+ghost use Rattle.std.specs.Prelude.{◌≡◌, [], cond};
 ghost use Rattle.step_threads.specs.Steps.{silent};
 
-use crate::course::Course;
-use crate::half::Half;
+use crate::frame::Frame;
+use crate::pending_call::PendingCall;
 use crate::programs::act::Act;
 use crate::said::{Answer, Said, Stepped};
 use crate::stock::Stock;
@@ -12,14 +12,14 @@ use step_table::memory::table::Table;
 /// A thread. What it holds is its desk's bag, and its store has its desk's vacant blocks.
 #[derive(Drop)]
 pub struct Thread {
-    pub course: Course,
+    pub frame: Frame,
     pub stock: Stock,
-    pub half: Half,
+    pub pending_call: PendingCall,
 }
 
 impl Thread {
-    ghost use Rattle.step_threads.specs.Courses.{task_at};
-    ghost use Rattle.step_threads.specs.Threads.{FitsThread, HasStepped};
+    ghost use Rattle.step_threads.specs.Frames.{task_at};
+    ghost use Rattle.step_threads.specs.Threads.{BeginsAct, FitsThread, HasStepped};
 
     /// The next atomic step, or the next act that touches no word.
     pub fn step(&mut self, desk: usize, table: &mut Table) -> Stepped
@@ -27,47 +27,47 @@ impl Thread {
         ensures stepped { HasStepped desk self.old table.old result self.new table.new }
         ensures fits { FitsThread desk self.new table.new }
     {
-        match self.half {
-            Half::Rest => self.go(desk, table),
-            Half::Making {
+        match self.pending_call {
+            PendingCall::Rest => self.go(desk, table),
+            PendingCall::Making {
                 block,
                 index,
                 differs,
             } => self.make_on(desk, table, block, index, differs),
-            Half::Locking { word } => self.lock_on(desk, table, word),
-            Half::Giving {
+            PendingCall::Locking { word } => self.lock_on(desk, table, word),
+            PendingCall::Giving {
                 name,
                 kind,
                 pointer,
             } => self.give(desk, table, name, kind, pointer),
-            Half::Brought => self.put_in(desk, table),
-            Half::Saw { found } => self.look_on(desk, table, found),
-            Half::Matched { found } => self.match_on(desk, table, found),
-            Half::Refill {
+            PendingCall::Brought => self.put_in(desk, table),
+            PendingCall::Saw { found } => self.look_on(desk, table, found),
+            PendingCall::Matched { found } => self.match_on(desk, table, found),
+            PendingCall::Refill {
                 stage,
                 cell,
                 found,
                 statement,
             } => self.refill_on(desk, table, stage, cell, found, statement),
-            Half::Returning {
+            PendingCall::Returning {
                 kind,
                 block,
                 funds,
                 statement,
             } => self.give_back(desk, table, kind, block, funds, statement),
-            Half::Clearing => self.empty_on(desk, table),
+            PendingCall::Clearing => self.empty_on(desk, table),
         }
     }
 
     /// Within no act: what came out of a member leaves, or the ending begun last goes on, or else the next act comes.
     fn go(&mut self, desk: usize, table: &mut Table) -> Stepped
         requires fits { FitsThread desk self.old table.old }
-        requires rest { self.old.half ≡ Half.Rest }
+        requires rest { self.old.pending_call ≡ PendingCall.Rest }
         ensures stepped { HasStepped desk self.old table.old result self.new table.new }
         ensures fits { FitsThread desk self.new table.new }
     {
-        match self.course.endings.first() {
-            Some(ending) if self.course.holdings.is_full(self.course.holdings.hand()) => {
+        match self.frame.endings.first() {
+            Some(ending) if self.frame.registers.is_full(self.frame.registers.hand()) => {
                 self.leave_carried(desk, table, ending)
             }
             Some(ending) => self.end_on(desk, table, ending),
@@ -78,12 +78,12 @@ impl Thread {
     /// The next act, or the first step of it.
     fn act(&mut self, desk: usize, table: &mut Table) -> Stepped
         requires fits { FitsThread desk self.old table.old }
-        requires rest { self.old.half ≡ Half.Rest }
-        requires none { self.old.course.endings.list ≡ [] }
+        requires rest { self.old.pending_call ≡ PendingCall.Rest }
+        requires none { self.old.frame.endings.list ≡ [] }
         ensures stepped { HasStepped desk self.old table.old result self.new table.new }
         ensures fits { FitsThread desk self.new table.new }
     {
-        if self.course.at == self.course.tasks.len() {
+        if self.frame.at == self.frame.tasks.len() {
             return Stepped::Done;
         }
         self.begin_act(desk, table)
@@ -92,14 +92,11 @@ impl Thread {
     /// The next act, or the first step of it, where there is one.
     #[inline(always)]
     fn begin_act(&mut self, desk: usize, table: &mut Table) -> Stepped
-        requires fits { FitsThread desk self.old table.old }
-        requires rest { self.old.half ≡ Half.Rest }
-        requires none { self.old.course.endings.list ≡ [] }
-        requires within { self.old.course.at < length self.old.course.tasks.items }
+        requires { BeginsAct desk self.old table.old }
         ensures stepped { HasStepped desk self.old table.old result self.new table.new }
         ensures fits { FitsThread desk self.new table.new }
     {
-        match self.course.tasks[self.course.at].act {
+        match self.frame.tasks[self.frame.at].act {
             Act::Make { form } => self.begin(desk, table, form),
             Act::Share { name } => self.share(desk, table, name),
             Act::Put { name } => self.put(desk, table, name),
@@ -125,50 +122,41 @@ impl Thread {
 
     /// Takes a copy of what a name holds.
     fn share(&mut self, desk: usize, table: &mut Table, name: u8) -> Stepped
-        requires fits { FitsThread desk self.old table.old }
-        requires rest { self.old.half ≡ Half.Rest }
-        requires none { self.old.course.endings.list ≡ [] }
-        requires within { self.old.course.at < length self.old.course.tasks.items }
-        requires act { (task_at self.old.course).act ≡ Act.Share name }
+        requires begins { BeginsAct desk self.old table.old }
+        requires act { (task_at self.old.frame).act ≡ Act.Share name }
         ensures stepped { HasStepped desk self.old table.old result self.new table.new }
         ensures fits { FitsThread desk self.new table.new }
     {
         table.known();
-        let statement = self.course.statement();
-        let event = self.course.share(desk, table, name);
+        let statement = self.frame.statement();
+        let event = self.frame.share(desk, table, name);
         says(event, silent(statement))
     }
 
     /// Takes a weak pointer to the object of what a name holds.
     fn downgrade(&mut self, desk: usize, table: &mut Table, name: u8) -> Stepped
-        requires fits { FitsThread desk self.old table.old }
-        requires rest { self.old.half ≡ Half.Rest }
-        requires none { self.old.course.endings.list ≡ [] }
-        requires within { self.old.course.at < length self.old.course.tasks.items }
-        requires act { (task_at self.old.course).act ≡ Act.Downgrade name }
+        requires begins { BeginsAct desk self.old table.old }
+        requires act { (task_at self.old.frame).act ≡ Act.Downgrade name }
         ensures stepped { HasStepped desk self.old table.old result self.new table.new }
         ensures fits { FitsThread desk self.new table.new }
     {
         table.known();
-        let statement = self.course.statement();
-        let event = self.course.downgrade(desk, table, name);
+        let statement = self.frame.statement();
+        let event = self.frame.downgrade(desk, table, name);
         says(event, silent(statement))
     }
 
     /// Tells whether no owner is left of the object of what a name holds; also where it is empty.
     fn expired(&mut self, desk: usize, table: &mut Table, name: u8) -> Stepped
-        requires fits { FitsThread desk self.old table.old }
-        requires rest { self.old.half ≡ Half.Rest }
-        requires none { self.old.course.endings.list ≡ [] }
-        requires within { self.old.course.at < length self.old.course.tasks.items }
-        requires act { (task_at self.old.course).act ≡ Act.Expired name }
+        requires begins { BeginsAct desk self.old table.old }
+        requires act { (task_at self.old.frame).act ≡ Act.Expired name }
         ensures stepped { HasStepped desk self.old table.old result self.new table.new }
         ensures fits { FitsThread desk self.new table.new }
     {
         table.known();
-        let statement = self.course.statement();
-        let event = self.course.holdings.is_full(usize::from(name));
-        let expired = self.course.is_expired(desk, table, name);
+        let statement = self.frame.statement();
+        let event = self.frame.registers.is_full(usize::from(name));
+        let expired = self.frame.is_expired(desk, table, name);
         let answer = Some(Answer::Expired(expired));
         says(
             event,
@@ -182,18 +170,15 @@ impl Thread {
 
     /// Tells how many owners the object has that a name holds, as its word tells; 0 where it is empty.
     fn count(&mut self, desk: usize, table: &mut Table, name: u8) -> Stepped
-        requires fits { FitsThread desk self.old table.old }
-        requires rest { self.old.half ≡ Half.Rest }
-        requires none { self.old.course.endings.list ≡ [] }
-        requires within { self.old.course.at < length self.old.course.tasks.items }
-        requires act { (task_at self.old.course).act ≡ Act.Count name }
+        requires begins { BeginsAct desk self.old table.old }
+        requires act { (task_at self.old.frame).act ≡ Act.Count name }
         ensures stepped { HasStepped desk self.old table.old result self.new table.new }
         ensures fits { FitsThread desk self.new table.new }
     {
         table.known();
-        let statement = self.course.statement();
-        let event = self.course.holdings.is_full(usize::from(name));
-        let owners = self.course.count(desk, table, name);
+        let statement = self.frame.statement();
+        let event = self.frame.registers.is_full(usize::from(name));
+        let owners = self.frame.count(desk, table, name);
         let answer = Some(Answer::Count(owners));
         says(
             event,

@@ -8,7 +8,7 @@ ghost use Rattle.control_word.specs.declared.refusal.Refusal.TheVariants.{Limit}
 ghost use Rattle.handle_table.specs.Calls.{IsBelow};
 ghost use Rattle.handle_table.specs.declared.fault.Fault.TheVariants as fault;
 ghost use Rattle.step_threads.specs.declared.programs.act.Act.TheVariants as act;
-ghost use Rattle.step_table.specs.Deeds.{aliased as alias_place};
+ghost use Rattle.step_table.specs.AtomicSteps.{aliased as alias_place};
 ghost use Rattle.script_runner.specs.Deals.{IsActed, NotGiven};
 ghost use Rattle.script_runner.specs.Kinds.{HasKind, TakesKind};
 ghost use Rattle.script_runner.specs.Seats.{IsHand};

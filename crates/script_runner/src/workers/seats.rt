@@ -6,7 +6,7 @@ ghost use Rattle.control_word.specs.declared.model.handle.Kind.{Kind};
 ghost use Rattle.handle_table.specs.Calls.{IsBelow};
 ghost use Rattle.handle_table.specs.Parts.{block_of_held};
 ghost use Rattle.step_table.specs.declared.memory.ended.Ended.TheVariants as ended;
-ghost use Rattle.step_table.specs.Holdings.{is_full as has, slot_pointer};
+ghost use Rattle.step_table.specs.Registers.{is_full as has, slot_pointer};
 ghost use Rattle.script_runner.specs.Deals.{IsEmptied, IsRoundTold, IsHandOfTable, IsTop};
 ghost use Rattle.script_runner.specs.Kinds.{SetsKind};
 ghost use Rattle.script_runner.specs.Seats.{IsSeated, shown_slots};

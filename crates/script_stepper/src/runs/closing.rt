@@ -1,7 +1,7 @@
 //! How a run's text ends: the census of a world, and its totals (own).
 ghost use Rattle.std.specs.Prelude.{◌≡◌, ◌≤◌, OnOk};
-ghost use Rattle.step_core.specs.Worlds.{scene};
-ghost use Rattle.step_threads.specs.Scenes.{state_in};
+ghost use Rattle.step_core.specs.Worlds.{abstraction};
+ghost use Rattle.step_threads.specs.AbstractStates.{state_in};
 ghost use Rattle.step_core.specs.Totals.{IsAtEnd};
 ghost use Rattle.script_text.specs.Canonical.{AddsLines};
 ghost use Rattle.script_stepper.specs.Lines.{block_lines, census_lines, closing_lines};
@@ -14,8 +14,8 @@ use step_core::World;
 /// Adds the line of a block, where it isn't vacant.
 fn put_counts(world: &World, number: u16, text: &mut String) -> Result<(), AllocError>
     requires end { IsAtEnd world.now }
-    requires block { (1 ≤ number) × (number ≤ world.now.story.extent.shape.blocks) }
-    ensures { OnOk result (AddsLines text.old text.new (block_lines (state_in (scene world.now)) number)) }
+    requires block { (1 ≤ number) × (number ≤ world.now.ghost_state.extent.shape.blocks) }
+    ensures { OnOk result (AddsLines text.old text.new (block_lines (state_in (abstraction world.now)) number)) }
 {
     if let Some(counts) = world.census(Block(number)) {
         put_block(text, number, counts)?;
@@ -26,8 +26,8 @@ fn put_counts(world: &World, number: u16, text: &mut String) -> Result<(), Alloc
 /// Adds a line for each block that isn't vacant, in block order.
 fn put_census(world: &World, blocks: u16, text: &mut String) -> Result<(), AllocError>
     requires end { IsAtEnd world.now }
-    requires all { blocks ≡ world.now.story.extent.shape.blocks }
-    ensures { OnOk result (AddsLines text.old text.new (census_lines blocks (state_in (scene world.now)))) }
+    requires all { blocks ≡ world.now.ghost_state.extent.shape.blocks }
+    ensures { OnOk result (AddsLines text.old text.new (census_lines blocks (state_in (abstraction world.now)))) }
 {
     for before in 0..blocks {
         put_counts(world, before + 1, text)?;
@@ -38,8 +38,8 @@ fn put_census(world: &World, blocks: u16, text: &mut String) -> Result<(), Alloc
 /// Adds the census and the last line.
 pub(crate) fn put_closing(world: &World, blocks: u16, text: &mut String) -> Result<(), AllocError>
     requires end { IsAtEnd world.now }
-    requires all { blocks ≡ world.now.story.extent.shape.blocks }
-    ensures { OnOk result (AddsLines text.old text.new (closing_lines (scene world.now))) }
+    requires all { blocks ≡ world.now.ghost_state.extent.shape.blocks }
+    ensures { OnOk result (AddsLines text.old text.new (closing_lines (abstraction world.now))) }
 {
     put_census(world, blocks, text)?;
     put_totals(text, u64::from(world.made()), u64::from(world.ended()))?;

@@ -2,8 +2,8 @@
 ghost use Rattle.std.specs.Prelude.{◌≡◌, ℕ, ◌-◌, ◌<◌, ◌≤◌, ◌∷◌, [], true, None, All, IfOk};
 ghost use Rattle.std.specs.Prelude.{OnOk};
 ghost use Rattle.std.specs.Prelude.{is_some, length, replicate, string_bytes};
-ghost use Rattle.step_threads.specs.Scenes.{next, said, walk_of};
-ghost use Rattle.step_core.specs.Worlds.{scene};
+ghost use Rattle.step_threads.specs.AbstractStates.{next, frame_of};
+ghost use Rattle.step_core.specs.Worlds.{abstraction};
 ghost use Rattle.script_stepper.specs.Running.{AllOver, AllRest, HasRun, IsThread, RunsAlone, RunsOut, turns_left};
 
 use crate::lines::put_said;
@@ -16,9 +16,9 @@ fn take_turn(world: &mut World, thread: u8, text: &mut String) -> Result<bool, A
     requires thread { IsThread world.old thread }
     ensures run { OnOk result
         (HasRun (thread ∷ []) world.old world.new (string_bytes text.old) (string_bytes text.new)) }
-    ensures acted { IfOk result (λ acted. acted ≡ is_some (said (thread - 1) (scene world.old))) }
+    ensures acted { IfOk result (λ acted. acted ≡ is_some (next (frame_of (abstraction world.old) (thread - 1)))) }
     ensures less { IfOk result (λ acted. acted ≡ true
-        → turns_left (thread - 1) (scene world.new) < turns_left (thread - 1) (scene world.old)) }
+        → turns_left (thread - 1) (abstraction world.new) < turns_left (thread - 1) (abstraction world.old)) }
 {
     match world.turn(thread) {
         Turned::Acted(said) => {
@@ -49,7 +49,7 @@ fn finish(world: &mut World, thread: u8, text: &mut String) -> Result<(), AllocE
     requires thread { IsThread world.old thread }
     ensures run { OnOk result
         (RunsAlone thread world.old world.new (string_bytes text.old) (string_bytes text.new)) }
-    ensures over { OnOk result (next (walk_of (scene world.new) (thread - 1)) ≡ None) }
+    ensures over { OnOk result (next (frame_of (abstraction world.new) (thread - 1)) ≡ None) }
 {
     while take_turn(world, thread, text)? {}
     Ok(())
@@ -63,7 +63,7 @@ pub(crate) fn run_turns(
     text: &mut String,
 ) -> Result<(), AllocError>
     requires rests { AllRest world.old }
-    requires all { threads ≡ length world.old.walks }
+    requires all { threads ≡ length world.old.frame_views }
     requires threads { All (IsThread world.old) turns.now }
     ensures run { OnOk result
         (RunsOut turns.now world.old world.new (string_bytes text.old) (string_bytes text.new)) }

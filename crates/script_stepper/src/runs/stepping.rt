@@ -6,10 +6,10 @@ ghost use Rattle.control_word.specs.Layout.{IsWithinLimits};
 ghost use Rattle.script_text.specs.Drafts.{ScriptView};
 ghost use Rattle.script_text.specs.Grammar.{Faulty, IsUnlessMemory, ReadsAs, ended};
 ghost use Rattle.script_text.specs.Scripts.{program_in};
-ghost use Rattle.step_core.specs.Worlds.{scene};
-ghost use Rattle.step_table.specs.Stories.{Kept};
-ghost use Rattle.step_core.specs.Starts.{first_sight};
-ghost use Rattle.script_text.specs.Beginnings.{script_scene, script_shape, script_sight, shape_for};
+ghost use Rattle.step_core.specs.Worlds.{abstraction};
+ghost use Rattle.step_table.specs.GhostStates.{Kept};
+ghost use Rattle.step_core.specs.Starts.{first_world_state};
+ghost use Rattle.script_text.specs.Beginnings.{script_abstraction, script_shape, script_world_state, shape_for};
 ghost use Rattle.script_stepper.specs.Followed.{TurnsFollow};
 ghost use Rattle.script_stepper.specs.Running.{AllRest, IsThread};
 ghost use Rattle.script_stepper.specs.Runs.{Delivers, IsFineText, IsRunText, IsShown, IsTextBy, IsTurnText, TellsRun};
@@ -59,8 +59,8 @@ fn shape_of(blocks: u32, threads: u32) -> Shape
 fn world_of(alloc: Global, script: &Script, shape: Shape) -> Result<World, Fault>
     requires shape { shape ≡ script_shape script.now }
     requires within { IsWithinLimits shape }
-    ensures ok { IfOk result (λ w. w ≡ first_sight shape (program_in script.now.threads)) }
-    ensures kept { IfOk result (λ w. Kept w.story) }
+    ensures ok { IfOk result (λ w. w ≡ first_world_state shape (program_in script.now.threads)) }
+    ensures kept { IfOk result (λ w. Kept w.ghost_state) }
     ensures memory { IfErr result (λ fault. fault ≡ Memory) }
 {
     let Ok(program) = script.program(alloc) else {
@@ -85,12 +85,12 @@ pub struct Start {
 
 /// How a script's run begins (own). Refused by 1 alone, where a growth was refused.
 pub fn start_of(alloc: Global, script: &Script) -> Result<Start, Fault>
-    ensures sight { IfOk result (λ s. s.world ≡ script_sight script.now) }
-    ensures kept { IfOk result (λ s. Kept s.world.story) }
+    ensures world_state { IfOk result (λ s. s.world ≡ script_world_state script.now) }
+    ensures kept { IfOk result (λ s. Kept s.world.ghost_state) }
     ensures rests { IfOk result (λ s. AllRest s.world) }
-    ensures all { IfOk result (λ s. s.threads ≡ length s.world.walks) }
-    ensures threads { IfOk result (λ s. length s.world.walks ≡ length script.now.threads) }
-    ensures blocks { IfOk result (λ s. s.blocks ≡ s.world.story.extent.shape.blocks) }
+    ensures all { IfOk result (λ s. s.threads ≡ length s.world.frame_views) }
+    ensures threads { IfOk result (λ s. length s.world.frame_views ≡ length script.now.threads) }
+    ensures blocks { IfOk result (λ s. s.blocks ≡ s.world.ghost_state.extent.shape.blocks) }
     ensures memory { IfErr result (λ fault. fault ≡ Memory) }
 {
     let threads = script.threads();
@@ -114,11 +114,10 @@ fn turns_text(
     turns: &[u8],
 ) -> Result<String, AllocError>
     requires rests { AllRest world.old }
-    requires kept { Kept world.old.story }
-    requires all { threads ≡ length world.old.walks }
-    requires blocks { blocks ≡ world.old.story.extent.shape.blocks }
+    requires all { threads ≡ length world.old.frame_views }
+    requires blocks { blocks ≡ world.old.ghost_state.extent.shape.blocks }
     requires threads { All (IsThread world.old) turns.now }
-    ensures { IfOk result (λ text. IsTurnText turns.now (scene world.old) (string_bytes text)) }
+    ensures { IfOk result (λ text. IsTurnText turns.now (abstraction world.old) (string_bytes text)) }
 {
     let mut text = String::new(alloc);
     run_turns(world, threads, turns, &mut text)?;
@@ -136,9 +135,8 @@ fn text_of(
     pace: Pace,
 ) -> Result<String, AllocError>
     requires rests { AllRest world.old }
-    requires kept { Kept world.old.story }
-    requires all { threads ≡ length world.old.walks }
-    requires blocks { blocks ≡ world.old.story.extent.shape.blocks }
+    requires all { threads ≡ length world.old.frame_views }
+    requires blocks { blocks ≡ world.old.ghost_state.extent.shape.blocks }
     requires threads { All (IsThread world.old) turns.now }
     ensures { IfOk result (λ text. IsShown pace turns.now world.old (string_bytes text)) }
 {
@@ -230,7 +228,7 @@ pub fn step_text<S: Sink>(
 
     // What it tells is what the threads' statements and their ends ask for, act by act.
     ensures acts { (read : ScriptView) (listed text : List ℕ) (told : IsRunText read listed text)
-        → TurnsFollow (script_scene read) told.items told.last }
+        → TurnsFollow (script_abstraction read) told.items told.last }
 {
     deliver(alloc, script, turns, Pace::Turns, writer)
 }

@@ -51,7 +51,7 @@ pub(crate) fn steps_text(
     blocks: u16,
     turns: &[u8],
 ) -> Result<String, AllocError>
-    requires blocks { blocks ≡ world.old.story.extent.shape.blocks }
+    requires blocks { blocks ≡ world.old.ghost_state.extent.shape.blocks }
     requires threads { All (IsThread world.old) turns.now }
     ensures { IfOk result (λ text. IsStepText turns.now world.old (string_bytes text)) }
 {

@@ -45,8 +45,8 @@ fn are(rt: &impl Abort, marks: Option<Vec<bool>>, wanted: [bool; 6]) {
     }
 }
 
-/// The circle is leaked with what it owns, and what is owned from outside is kept. The circle's two keep each other, and
-/// the third, which owns nothing, is a knot of its own.
+/// The circle is leaked with what it owns, and what is owned from outside is kept. The circle's two keep each other,
+/// and the third, which owns nothing, is a knot of its own.
 #[test]
 fn a_circle_is_leaked_with_what_it_owns(rt: HostRuntime) {
     let kept = kept_of(rt.alloc(), 5);

@@ -65,7 +65,7 @@ fn actor(alloc: Global, calls: Vec<Call>) -> Result<Actor, AllocError> {
 #[derive(Drop)]
 struct Pair {
     world: World,
-    ghost two_actors: { 1 < length world.walks },
+    ghost two_actors: { 1 < length world.frame_views },
 }
 
 impl Pair {

@@ -10,7 +10,7 @@ use step_core::{Actor, Call, Kind, Program, RunRefusal, Stepped, Turned, World};
 #[derive(Drop)]
 pub(crate) struct TestWorld {
     world: World,
-    ghost some_actor: { 0 < length world.walks },
+    ghost some_actor: { 0 < length world.frame_views },
 }
 
 impl TestWorld {

@@ -1,10 +1,13 @@
-//! Calls by the shape of their statements: the words are read, and what they name is put into the call.
+//! Calls by the shape of their statements: the words are read, and what they name is put into the
+//! call.
 
 ghost use Rattle.std.specs.Prelude.{◌≡◌};
-ghost use Rattle.script_text.specs.Reading.{Gives};
-ghost use Rattle.script_text.specs.Shapes.{one_source, one_target, target_and_fields, target_and_source, texts};
+ghost use Rattle.text_lines.specs.Reading.{Gives};
+ghost use Rattle.script_text.specs.Shapes.{one_source, one_target, target_and_fields};
+ghost use Rattle.script_text.specs.Shapes.{target_and_source, texts};
 ghost use Rattle.script_text.specs.Shapes.{two_sources};
-ghost use Rattle.script_text.specs.Calls.{as_call, fields_call, pair_call, source_call, sources_call, target_call};
+ghost use Rattle.script_text.specs.Calls.{as_call, fields_call, pair_call, source_call};
+ghost use Rattle.script_text.specs.Calls.{sources_call, target_call};
 
 use crate::fault::Stop;
 use crate::parts::names::Names;

@@ -2,20 +2,22 @@
 
 ghost use Rattle.std.specs.Prelude.{◌≡◌, ◌&&◌, codes};
 ghost use Rattle.std.specs.Str.{bytes_eq};
-ghost use Rattle.script_text.specs.Reading.{Gives};
+ghost use Rattle.text_lines.specs.Reading.{Gives};
 ghost use Rattle.script_text.specs.Shapes.{texts};
-ghost use Rattle.script_text.specs.Drafts.{draft_of, draft_in, is_new, next_thread, next_call, header_line};
-ghost use Rattle.script_text.specs.Drafts.{thread_line, statement_line, after_words, after_line, other_line, told_line};
+ghost use Rattle.script_text.specs.Drafts.{draft_of, draft_in, is_new, next_thread, next_call};
+ghost use Rattle.script_text.specs.Drafts.{header_line};
+ghost use Rattle.script_text.specs.Drafts.{thread_line, statement_line, after_words, other_line};
+ghost use Rattle.script_text.specs.Drafts.{told_line};
 
 use crate::fault::{Cause, Stop};
 use crate::parts::statement::call_of;
 use crate::parts::thread::{Thread, empty_thread};
 use crate::parts::version::{Version, version_of};
 use crate::words::keyword::{Keyword, keyword_of, takes};
-use crate::words::word::{content, is_clean, words_in};
 use control_word::limits::SCRIPT_STATEMENTS;
 use std::alloc::Global;
 use std::mem;
+use text_lines::{LineReader, is_clean, line_content, words_in};
 
 /// The version, the threads before the current one, that one, and how many statements all have.
 #[derive(Drop)]
@@ -155,15 +157,23 @@ fn add_words(alloc: Global, draft: &mut Draft, words: &[&[u8]]) -> Result<(), St
     add_told_line(alloc, draft, first, rest)
 }
 
-/// Adds a line, given without its line feed.
-pub(crate) fn add_line(alloc: Global, draft: &mut Draft, line: &[u8]) -> Result<(), Stop>
-    ensures { Gives (λ _. draft_of draft.new) result
-        (after_line (draft_of draft.old) line.now) }
-{
-    let line = content(line);
-    if !is_clean(line) {
-        return Err(Stop::Cause(Cause::BadByte));
+impl LineReader for Draft {
+    ghost use Rattle.script_text.specs.Drafts.{Draft as DraftView, after_line, draft_of};
+
+    type Cause = Cause;
+
+    ghost State = { DraftView };
+
+    ghost seen = { draft_of };
+
+    ghost after = { after_line };
+
+    fn add_line(&mut self, alloc: Global, line: &[u8]) -> Result<(), Stop> {
+        let line = line_content(line);
+        if !is_clean(line) {
+            return Err(Stop::Cause(Cause::BadByte));
+        }
+        let words = words_in(alloc, line)?;
+        add_words(alloc, self, words.as_slice())
     }
-    let words = words_in(alloc, line)?;
-    add_words(alloc, draft, words.as_slice())
 }

@@ -31,7 +31,7 @@ impl Model for Names {
 
 impl Names {
     ghost use Rattle.std.specs.Prelude.{◌≡◌, [], IfOk, map};
-    ghost use Rattle.script_text.specs.Reading.{Gives};
+    ghost use Rattle.text_lines.specs.Reading.{Gives};
     ghost use Rattle.script_text.specs.Names.{find_name, source_at, any_source_at, asked_source_at};
     ghost use Rattle.script_text.specs.Names.{target_at, declared, name_text};
 

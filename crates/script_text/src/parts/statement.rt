@@ -1,9 +1,10 @@
 //! Statements, as calls over the numbers of names.
 
-ghost use Rattle.script_text.specs.Reading.{Gives};
+ghost use Rattle.text_lines.specs.Reading.{Gives};
 ghost use Rattle.step_threads.specs.declared.programs.call.Call.TheVariants.{Compare};
 ghost use Rattle.script_text.specs.Shapes.{cell_and_sources, texts};
-ghost use Rattle.script_text.specs.Calls.{as_call, call_at, cell_call_at, place_call_at, weak_call_at};
+ghost use Rattle.script_text.specs.Calls.{as_call, call_at, cell_call_at, place_call_at};
+ghost use Rattle.script_text.specs.Calls.{weak_call_at};
 
 use crate::fault::Stop;
 use crate::parts::calls::{

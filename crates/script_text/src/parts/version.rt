@@ -1,9 +1,10 @@
 //! Versions of the language, which decide numbers alone.
 
 ghost use Rattle.std.specs.Prelude.{◌≡◌};
-ghost use Rattle.script_text.specs.Reading.{Gives};
+ghost use Rattle.text_lines.specs.Reading.{Gives};
 ghost use Rattle.script_text.specs.Shapes.{texts};
-ghost use Rattle.script_text.specs.Versions.{blocks_in, most_threads, blocks_at, version_named, version_at};
+ghost use Rattle.script_text.specs.Versions.{blocks_in, most_threads, blocks_at, version_named};
+ghost use Rattle.script_text.specs.Versions.{version_at};
 
 use crate::fault::{Cause, Stop};
 use crate::words::word::number_of;

@@ -1,7 +1,7 @@
 //! The words of an alias.
 
-ghost use Rattle.std.specs.Prelude.{◌≡◌, ◌∷◌};
-ghost use Rattle.script_text.specs.Reading.{Gives};
+ghost use Rattle.std.specs.Prelude.{◌∷◌};
+ghost use Rattle.text_lines.specs.Reading.{Gives};
 ghost use Rattle.script_text.specs.Calls.{alias_call, as_call};
 ghost use Rattle.script_text.specs.Shapes.{texts, aim_of, aim_at, aim_at_other, alias_at};
 
@@ -30,7 +30,8 @@ fn aim_at_other(names: &Names, other: &[u8], word: &[u8]) -> Result<Aim, Stop>
     aim_of(of, word)
 }
 
-/// Where an alias points whose last words these are. A single word is the field of what the source points into.
+/// Where an alias points whose last words these are. A single word is the field of what the source
+/// points into.
 #[tactic(auto, unfolding(crate::specs::Shapes::aim_at))]
 fn aim(names: &Names, source: Name, words: &[&[u8]]) -> Result<Aim, Stop>
     ensures { Gives (λ a. a) result (aim_at names.now source (texts words.now)) }

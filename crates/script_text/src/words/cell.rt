@@ -1,9 +1,11 @@
 //! The words of a statement on a cell.
 
 ghost use Rattle.std.specs.Prelude.{◌≡◌, ◌∷◌, [], MatchOption, None, Some, position};
-ghost use Rattle.script_text.specs.Reading.{Gives};
-ghost use Rattle.script_text.specs.Cells.{cell_of_word, is_dot, member_at, member_number_at, split_dot};
-ghost use Rattle.script_text.specs.Shapes.{target_and_cell, cell_and_source, cell_and_other, cell_and_sources, texts};
+ghost use Rattle.text_lines.specs.Reading.{Gives};
+ghost use Rattle.script_text.specs.Cells.{cell_of_word, is_dot, member_at, member_number_at};
+ghost use Rattle.script_text.specs.Cells.{split_dot};
+ghost use Rattle.script_text.specs.Shapes.{target_and_cell, cell_and_source, cell_and_other};
+ghost use Rattle.script_text.specs.Shapes.{cell_and_sources, texts};
 
 use crate::fault::{Cause, Stop};
 use crate::parts::names::Names;

@@ -2,7 +2,7 @@
 
 ghost use Rattle.std.specs.Prelude.{◌≡◌, find};
 ghost use Rattle.std.specs.Str.{bytes_eq};
-ghost use Rattle.script_text.specs.Reading.{Gives};
+ghost use Rattle.text_lines.specs.Reading.{Gives};
 ghost use Rattle.script_text.specs.Keywords.{spelling_of, keyword_at, takes_words};
 
 use crate::fault::{Cause, Stop};

@@ -1,8 +1,9 @@
 //! The words after the first one: a function for each shape of statement.
 
-ghost use Rattle.std.specs.Prelude.{◌≡◌, ◌∷◌, []};
-ghost use Rattle.script_text.specs.Reading.{Gives};
-ghost use Rattle.script_text.specs.Shapes.{texts, number_or_zero, fields_at, one_target, one_source, target_and_source};
+ghost use Rattle.std.specs.Prelude.{◌∷◌, []};
+ghost use Rattle.text_lines.specs.Reading.{Gives};
+ghost use Rattle.script_text.specs.Shapes.{texts, number_or_zero, fields_at, one_target};
+ghost use Rattle.script_text.specs.Shapes.{one_source, target_and_source};
 ghost use Rattle.script_text.specs.Shapes.{two_sources, target_and_fields};
 
 use crate::fault::{Cause, Stop};

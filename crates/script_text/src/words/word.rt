@@ -1,59 +1,21 @@
-//! The words of a line, names and numbers.
+//! Names, numbers, fields and cells, as words.
 
-ghost use Rattle.std.specs.Prelude.{◌≡◌, ◌||◌, map, IfOk};
+ghost use Rattle.std.specs.Prelude.{◌≡◌};
 ghost use Rattle.std.specs.List.{list_all};
-ghost use Rattle.script_text.specs.Reading.{Gives};
-ghost use Rattle.script_text.specs.Words.{is_space, is_clean_byte, is_name_byte, is_digit, words_of, line_content};
-ghost use Rattle.script_text.specs.Words.{is_name, name_at, number_at, cell_number_at, free_cell_at, field_of_word};
+ghost use Rattle.text_lines.specs.Reading.{Gives};
+ghost use Rattle.script_text.specs.Words.{cell_number_at, field_of_word, free_cell_at, is_name};
+ghost use Rattle.script_text.specs.Words.{is_name_byte, name_at};
+ghost use Rattle.script_text.specs.Words.{number_at};
 
 use crate::fault::{Cause, Stop};
 use control_word::limits::{NAME_BYTES, SCRIPT_SHARED_CELLS};
-use std::alloc::{AllocError, Global};
 use std::str;
 use step_core::{CellName, Field};
-
-fn is_space_code(b: u8) -> bool
-    ensures { result ≡ is_space b }
-{
-    b == b' ' || b == b'\t'
-}
-
-fn is_clean_code(b: u8) -> bool
-    ensures { result ≡ is_clean_byte b }
-{
-    matches!(b, b' '..=b'~' | b'\t')
-}
 
 fn is_name_code(b: u8) -> bool
     ensures { result ≡ is_name_byte b }
 {
     matches!(b, b'a'..=b'z' | b'0'..=b'9' | b'_')
-}
-
-/// A line without the carriage return at its end.
-pub(crate) fn content(line: &[u8]) -> &[u8]
-    ensures { result.now ≡ line_content line.now }
-{
-    match line {
-        [front @ .., b'\r'] => front,
-        _ => line,
-    }
-}
-
-/// Whether each byte may stand in a line.
-pub(crate) fn is_clean(line: &[u8]) -> bool
-    ensures { result ≡ list_all is_clean_byte line.now }
-{
-    line.iter().all(|b| is_clean_code(*b))
-}
-
-/// The words of a line.
-pub(crate) fn words_in(alloc: Global, line: &[u8]) -> Result<Vec<&[u8]>, AllocError>
-    ensures { IfOk result (λ v. map (λ w. w.now) v.items ≡ words_of line.now) }
-{
-    line.split(|b| is_space_code(*b))
-        .filter(|w| !w.is_empty())
-        .collect(alloc)
 }
 
 fn is_name_tail(bytes: &[u8]) -> bool
@@ -86,25 +48,13 @@ pub(crate) fn name_of(word: &[u8]) -> Result<&str, Stop>
     }
 }
 
-fn is_all_digits(word: &[u8]) -> bool
-    ensures { result ≡ list_all is_digit word.now }
-{
-    word.iter().all(|b| matches!(*b, b'0'..=b'9'))
-}
-
-/// The number that a word is. Rust's `parse` would take a plus sign, so digits are asked for first.
+/// The number that a word is.
 pub(crate) fn number_of(word: &[u8]) -> Result<u64, Stop>
     ensures { Gives (λ n. n) result (number_at word.now) }
 {
-    if !is_all_digits(word) {
-        return Err(Stop::Cause(Cause::BadNumber));
-    }
-    let Ok(text) = str::from_utf8(word) else {
-        return Err(Stop::Cause(Cause::BadNumber));
-    };
-    match text.parse::<u64>() {
-        Ok(n) => Ok(n),
-        Err(_) => Err(Stop::Cause(Cause::BadNumber)),
+    match text_lines::number_of(word) {
+        Some(number) => Ok(number),
+        None => Err(Stop::Cause(Cause::BadNumber)),
     }
 }
 

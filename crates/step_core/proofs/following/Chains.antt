@@ -8,14 +8,14 @@ use Rattle.control_word.specs.Histories.{leads}
 use Rattle.step_table.specs.declared.memory.extent.Extent.{Extent}
 use Rattle.step_table.specs.Openings.{opening}
 use Rattle.step_threads.specs.declared.said.Said.{Said}
-use Rattle.step_threads.specs.Courses.{Walk}
-use Rattle.step_threads.specs.Doings.{DoesNext, GoesThrough, onto, put_on, spoken}
+use Rattle.step_threads.specs.Frames.{FrameView}
+use Rattle.step_threads.specs.TraceLabels.{DoesNext, GoesThrough, onto, put_on, spoken}
 use Rattle.step_threads.specs.Entries.{History}
-use Rattle.step_threads.specs.Scenes.{Scene, walk_of}
+use Rattle.step_threads.specs.AbstractStates.{AbstractState, frame_of}
 use Rattle.step_core.specs.declared.trace.TraceStep.{TraceStep}
 use Rattle.step_core.specs.Following.{ActsNext, Follows, PassesQuietly, lines_of, no_worth, said_by, spoken_by}
 use Rattle.step_core.specs.Runs.{IsRun}
-use Rattle.step_core.specs.Sights.{Sight, scene}
+use Rattle.step_core.specs.WorldStates.{WorldState, abstraction}
 use Rattle.step_core.specs.Worlds.{Advances}
 
 -- the lines of one step more
@@ -26,15 +26,16 @@ lines_more (y ∷ xs) x =
     ap (λ (l : List (ℕ × Said)). a ++ l) (lines_more xs x)
     ∙ sym (append_assoc a (lines_of xs) (spoken_by (x.actor - 1) (said_by x.stepped)))
 
-module _ (u m m' : Sight) (xs : List TraceStep) (x : TraceStep) (f : Follows u xs m) (a : Advances (x.actor - 1) m x.stepped m') where
+module _ (u m m' : WorldState) (xs : List TraceStep) (x : TraceStep) (f : Follows u xs m) (a : Advances (x.actor - 1) m x.stepped m') where
   -- a step that is no act
   pass : PassesQuietly (x.actor - 1) m x.stepped m' → Follows u (xs ++ x ∷ []) m'
   pass p =
       record {
-        doings = f.doings;
-        history = ap (λ (c : Scene). c.history) p.stays ∙ f.history;
-        each = λ e. subst (λ (w : Walk). GoesThrough no_worth (opening u.story.extent) u.story.history e (walk_of (scene u) e) f.doings w)
-            (sym (ap (λ (c : Scene). walk_of c e) p.stays)) (f.each e);
+        trace_labels = f.trace_labels;
+        history = ap (λ (c : AbstractState). c.history) p.stays ∙ f.history;
+        each = λ e. subst (λ (w : FrameView). GoesThrough no_worth (opening u.ghost_state.extent) u.ghost_state.history e (frame_of (abstraction u) e)
+            f.trace_labels w)
+            (sym (ap (λ (c : AbstractState). frame_of c e) p.stays)) (f.each e);
         says = f.says ∙ sym (lines_more xs x ∙ ap (λ (l : List (ℕ × Said)). lines_of xs ++ l) p.silent ∙ append-nil (lines_of xs));
         extent = a.takes.extent ∙ f.extent;
       }
@@ -43,28 +44,29 @@ module _ (u m m' : Sight) (xs : List TraceStep) (x : TraceStep) (f : Follows u x
   act : ActsNext (x.actor - 1) m x.stepped m' → Follows u (xs ++ x ∷ []) m'
   act p =
       let d = x.actor - 1 in
-      let z = opening u.story.extent in
-      let h = u.story.history in
-      let y = p.doing in
-      let does : DoesNext no_worth (leads z (onto h f.doings)) (walk_of (scene m) d) y (walk_of (scene m') d) =
-      subst (λ (q : History). DoesNext no_worth (leads z q) (walk_of (scene m) d) y (walk_of (scene m') d)) f.history
-      (subst (λ (k : Extent). DoesNext no_worth (leads (opening k) m.story.history) (walk_of (scene m) d) y (walk_of (scene m') d)) f.extent
+      let z = opening u.ghost_state.extent in
+      let h = u.ghost_state.history in
+      let y = p.trace_label in
+      let does : DoesNext no_worth (leads z (onto h f.trace_labels)) (frame_of (abstraction m) d) y (frame_of (abstraction m') d) =
+      subst (λ (q : History). DoesNext no_worth (leads z q) (frame_of (abstraction m) d) y (frame_of (abstraction m') d)) f.history
+      (subst (λ (k : Extent). DoesNext no_worth (leads (opening k) m.ghost_state.history) (frame_of (abstraction m) d) y (frame_of (abstraction m') d)) f.extent
       p.does) in
       record {
-        doings = y ∷ f.doings;
-        history = p.history ∙ ap (λ (n : ℕ). put_on n y.event m.story.history) (sym p.desk) ∙ ap (put_on y.desk y.event) f.history;
+        trace_labels = y ∷ f.trace_labels;
+        history = p.history ∙ ap (λ (n : ℕ). put_on n y.event m.ghost_state.history) (sym p.desk) ∙ ap (put_on y.desk y.event) f.history;
         each = λ e. ⊎_elim
             (λ (q : d ≡ e). inr (
               p.desk ∙ q,
               (
-                walk_of (scene m) e,
+                frame_of (abstraction m) e,
                 f.each e,
-                subst (λ (k : ℕ). DoesNext no_worth (leads z (onto h f.doings)) (walk_of (scene m) k) y (walk_of (scene m') k)) q does,
+                subst (λ (k : ℕ). DoesNext no_worth (leads z (onto h f.trace_labels)) (frame_of (abstraction m) k) y (frame_of (abstraction m') k)) q does,
               ),
             ))
             (λ (n : d ≢ e). inl (
               λ q. n (sym p.desk ∙ q),
-              subst (λ (w : Walk). GoesThrough no_worth z h e (walk_of (scene u) e) f.doings w) (sym (a.takes.walks e (λ q. n (sym q)))) (f.each e),
+              subst (λ (w : FrameView). GoesThrough no_worth z h e (frame_of (abstraction u) e) f.trace_labels w) (sym (a.takes.frame_views e (λ q. n (sym q))))
+                  (f.each e),
             ))
             (cases_eq d e);
         says = ap (λ (l : List (ℕ × Said)). l ++ spoken y.desk y.said) f.says
@@ -73,20 +75,20 @@ module _ (u m m' : Sight) (xs : List TraceStep) (x : TraceStep) (f : Follows u x
         extent = a.takes.extent ∙ f.extent;
       }
 
-follow_step : (u m m' : Sight) (xs : List TraceStep) (x : TraceStep) → Follows u xs m → Advances (x.actor - 1) m x.stepped m'
+follow_step : (u m m' : WorldState) (xs : List TraceStep) (x : TraceStep) → Follows u xs m → Advances (x.actor - 1) m x.stepped m'
     → Follows u (xs ++ x ∷ []) m'
 follow_step u m m' xs x f a =
     ⊎_elim (λ (p : PassesQuietly (x.actor - 1) m x.stepped m'). pass u m m' xs x f a p)
     (λ (p : ActsNext (x.actor - 1) m x.stepped m'). act u m m' xs x f a p) a.performs
 
-follow_on : (u m u' : Sight) (xs ys : List TraceStep) → Follows u xs m → IsRun m ys u' → Follows u (xs ++ ys) u'
+follow_on : (u m u' : WorldState) (xs ys : List TraceStep) → Follows u xs m → IsRun m ys u' → Follows u (xs ++ ys) u'
 follow_on u m u' xs [] f run =
-    subst (λ (w : Sight). Follows u (xs ++ []) w) (sym run) (subst (λ (l : List TraceStep). Follows u l m) (sym (append-nil xs)) f)
+    subst (λ (w : WorldState). Follows u (xs ++ []) w) (sym run) (subst (λ (l : List TraceStep). Follows u l m) (sym (append-nil xs)) f)
 follow_on u m u' xs (y ∷ ys) f run =
     subst (λ (l : List TraceStep). Follows u l u') (append_assoc xs (y ∷ []) ys)
     (follow_on u run.0 u' (xs ++ y ∷ []) ys (follow_step u m run.0 xs y f run.1) run.2)
 
 -- the steps of a run
-pub follows : (u u' : Sight) (xs : List TraceStep) → IsRun u xs u' → Follows u xs u'
+pub follows : (u u' : WorldState) (xs : List TraceStep) → IsRun u xs u' → Follows u xs u'
 follows u u' xs run =
-    follow_on u u u' [] xs (record { doings = []; history = refl; each = λ d. refl; says = refl; extent = refl }) run
+    follow_on u u u' [] xs (record { trace_labels = []; history = refl; each = λ d. refl; says = refl; extent = refl }) run

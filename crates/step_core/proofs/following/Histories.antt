@@ -1,6 +1,6 @@
 -- What acts on cells and on the shelf do to the history is what their replies say.
 use Rattle.step_threads.specs.declared.programs.act.ShelfAct.TheVariants.{Shelve, Unshelve}
-use Rattle.step_threads.specs.Shelving.{shelf_deed}
+use Rattle.step_threads.specs.Shelving.{shelf_step}
 use Rattle.std.proofs.Common.{◌≡◌, ℕ, Bool, true, false, cond, refl}
 use Rattle.std.specs.Prelude.{Option, Some, None, option_map}
 use Rattle.control_word.specs.declared.model.event.Event.{Event}
@@ -9,13 +9,14 @@ use Rattle.control_word.specs.declared.place.Block.{Block}
 use Rattle.control_word.specs.Histories.{leads}
 use Rattle.control_word.specs.State.{Opening, State}
 use Rattle.step_table.specs.Contents.{held_in, load_of, swap_of}
-use Rattle.step_table.specs.Holdings.{Slots, slot_value}
-use Rattle.step_table.specs.Stories.{Nothing}
+use Rattle.step_table.specs.Registers.{Slots, slot_value}
+use Rattle.step_table.specs.GhostStates.{Nothing}
 use Rattle.step_threads.specs.declared.programs.call.CellName.{CellName}
-use Rattle.step_threads.specs.Courses.{cell_of_name, on_going}
-use Rattle.step_threads.specs.Doings.{IsLoadEvent, IsSwapEvent, Where, put_on}
-use Rattle.step_threads.specs.Entries.{History, does, loads, history_swaps}
-use Rattle.step_threads.specs.Scenes.{came}
+use Rattle.step_threads.specs.Frames.{cell_of_name, on_going}
+use Rattle.step_threads.specs.TraceLabels.{IsLoadEvent, IsSwapEvent, Where, put_on}
+use Rattle.step_threads.specs.Entries.{History}
+use Rattle.step_core.proofs.Entries.{does, loads, history_swaps}
+use Rattle.step_threads.specs.AbstractStates.{came}
 
 module _ (z : Opening) (d : ℕ) (h : History) (l : Slots) where
   abbrev now : State
@@ -47,11 +48,11 @@ module _ (z : Opening) (d : ℕ) (h : History) (l : Slots) where
   abbrev pub shelving : ℕ → Event Nothing
   shelving b = event.Shelve (record { 0 = b })
 
-  pub shelve_history : (o : Option ℕ) → does z d h (shelf_deed Shelve o) ≡ put_on d (option_map shelving o) h
+  pub shelve_history : (o : Option ℕ) → does z d h (shelf_step Shelve o) ≡ put_on d (option_map shelving o) h
   shelve_history None = refl
   shelve_history (Some b) = refl
 
   pub unshelve_history : (b : Block) (got : Bool)
-      → does z d h (shelf_deed (Unshelve b) (cond got (Some b.0) None)) ≡ put_on d (cond got (Some (event.Unshelve b)) None) h
+      → does z d h (shelf_step (Unshelve b) (cond got (Some b.0) None)) ≡ put_on d (cond got (Some (event.Unshelve b)) None) h
   unshelve_history b true = refl
   unshelve_history b false = refl

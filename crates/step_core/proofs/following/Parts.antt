@@ -9,12 +9,13 @@ use Rattle.control_word.specs.declared.model.handle.Kind.TheVariants.{Owner, Wea
 use Rattle.control_word.specs.Events.{place_at}
 use Rattle.control_word.specs.Handles.{owner, weak_of}
 use Rattle.control_word.specs.State.{State, Stored}
-use Rattle.step_table.specs.declared.slots.holdings.Pointer.{Pointer}
-use Rattle.step_table.specs.Deeds.{field_of, give, handle_of, is_enabled, is_last, leave_as, on, owned, share_as}
-use Rattle.step_table.specs.Stories.{Nothing, event_of}
-use Rattle.step_threads.specs.Doings.{IsLeaveEvent, On, copies, leaves_as}
-use Rattle.step_threads.specs.Entries.{giving, least, lesser}
-use Rattle.step_threads.specs.Scenes.{ended_by}
+use Rattle.step_table.specs.declared.slots.registers.Pointer.{Pointer}
+use Rattle.step_table.specs.AtomicSteps.{field_of, give, handle_of, is_enabled, is_last, leave_as, on, owned, share_as}
+use Rattle.step_table.specs.GhostStates.{Nothing, event_of}
+use Rattle.step_threads.specs.TraceLabels.{IsLeaveEvent, On, copies, leaves_as}
+use Rattle.step_threads.specs.Entries.{least, lesser}
+use Rattle.step_core.proofs.Entries.{giving}
+use Rattle.step_threads.specs.AbstractStates.{ended_by}
 
 abbrev pub Events : Type 0
 Events = Option (Event Nothing)

@@ -9,22 +9,24 @@ use Rattle.control_word.specs.Events.{place_at}
 use Rattle.control_word.specs.Histories.{leads}
 use Rattle.control_word.specs.State.{Opening, State}
 use Rattle.step_table.specs.declared.memory.form.Form.{Form}
-use Rattle.step_table.specs.declared.slots.holdings.Pointer.{Pointer}
-use Rattle.step_table.specs.declared.memory.past.Deed.{Deed}
+use Rattle.step_table.specs.declared.slots.registers.Pointer.{Pointer}
+use Rattle.step_table.specs.declared.memory.past.AtomicStep.{AtomicStep}
 use Rattle.step_table.specs.Contents.{compare_of, held_in, load_of}
-use Rattle.step_table.specs.Deeds.{Telling, alias, aliased, downgrade, field_of, give, is_expired, is_last, leave, lock, read_deed, share, tell_count}
-use Rattle.step_table.specs.Deeds.{tell_expired}
-use Rattle.step_table.specs.Holdings.{inside, owner_slot, place_in, slot_pointer, slot_value, weak_slot}
-use Rattle.step_table.specs.Stories.{Nothing, event_added, event_of}
+use Rattle.step_table.specs.AtomicSteps.{Telling, alias, aliased, downgrade, field_of, give, is_expired, is_last, leave, lock, read_atomic_step, share}
+use Rattle.step_table.specs.AtomicSteps.{tell_count}
+use Rattle.step_table.specs.AtomicSteps.{tell_expired}
+use Rattle.step_table.specs.Registers.{inside, owner_slot, place_in, slot_pointer, slot_value, weak_slot}
+use Rattle.step_table.specs.GhostStates.{Nothing, event_added, event_of}
 use Rattle.step_threads.specs.declared.programs.act.Act.{Act}
 use Rattle.step_threads.specs.declared.programs.act.Act.TheVariants.{Make, Share, Downgrade, Lock, Put, Leave, Clear, Count, Expired, Read, FromThis, Alias}
 use Rattle.step_threads.specs.declared.programs.act.Act.TheVariants.{Move, Ask, Offer, Swap, Exchange, Load, Compare, Drop, OnShelf}
 use Rattle.step_threads.specs.declared.programs.act.Task.{Task}
-use Rattle.step_threads.specs.Courses.{Walk, cell_of_name, hand, is_there, offered, other}
-use Rattle.step_threads.specs.Doings.{IsMakeEvent, copies, copy, put_on}
-use Rattle.step_threads.specs.Entries.{History, acted, does, giving, least, make_deed}
-use Rattle.step_threads.specs.Rows.{Found, walk_after_act, may_go}
-use Rattle.step_threads.specs.Scenes.{reply_in, row_in, went}
+use Rattle.step_threads.specs.Frames.{FrameView, cell_of_name, hand, is_there, offered, other}
+use Rattle.step_threads.specs.TraceLabels.{IsMakeEvent, copies, copy, put_on}
+use Rattle.step_threads.specs.Entries.{History, least}
+use Rattle.step_core.proofs.Entries.{acted, does, giving, make_step}
+use Rattle.step_threads.specs.Rows.{Found, frame_after_act, may_go}
+use Rattle.step_threads.specs.AbstractStates.{reply_in, row_in, went}
 use Rattle.step_core.specs.Following.{no_worth}
 use Rattle.step_core.proofs.following.Parts.{counting, expiring, gives, leave_makes, leaving_event, left}
 use Rattle.step_core.proofs.following.Parts.{locking, none_stored, on_pointer, read_makes, reading, shared, this_makes}
@@ -32,34 +34,34 @@ use Rattle.step_core.proofs.following.Histories.{load_history, load_makes, shelv
 use Rattle.step_core.proofs.following.Histories.{unshelve_history}
 
 -- where a thread goes doesn't depend on the number that a count is told
-pub goes_told : (tell : Telling) (s : State) (d n : ℕ) (w : Walk) (ts : List Task) (a : Act)
-    → went s d w n ts a ≡ walk_after_act w n ts (row_in tell s d w.slots w.taken a)
+pub goes_told : (tell : Telling) (s : State) (d n : ℕ) (w : FrameView) (ts : List Task) (a : Act)
+    → went s d w n ts a ≡ frame_after_act w n ts (row_in tell s d w.slots w.taken a)
 goes_told tell s d n w ts (Count i) = refl
 goes_told tell s d n w ts _ = refl
 
 -- what an act makes by its reply
-pub record Replied (tell : Telling) (z : Opening) (d : ℕ) (h : History) (w : Walk) (a : Act) : Type 0 where
+pub record Replied (tell : Telling) (z : Opening) (d : ℕ) (h : History) (w : FrameView) (a : Act) : Type 0 where
   pub event : Option (Event Nothing)
   pub makes : IsMakeEvent no_worth (leads z h) d w.slots a (reply_in tell (leads z h) d w.slots a) event
   pub history : acted tell z d w.slots h a ≡ put_on d event h
 
-module _ (tell : Telling) (z : Opening) (d : ℕ) (h : History) (w : Walk) where
+module _ (tell : Telling) (z : Opening) (d : ℕ) (h : History) (w : FrameView) where
   abbrev now : State
   now = leads z h
 
-  pub doing : (f : Pointer → Deed) (g : Pointer → Event Nothing) → ((x : Pointer) → event_of now (f x) ≡ Some (g x)) → (o : Option Pointer)
+  pub trace_label : (f : Pointer → AtomicStep) (g : Pointer → Event Nothing) → ((x : Pointer) → event_of now (f x) ≡ Some (g x)) → (o : Option Pointer)
       → does z d h (option_map f o) ≡ put_on d (option_map g o) h
-  doing f g same None = refl
-  doing f g same (Some x) = ap (λ (e : Option (Event Nothing)). event_added d e h) (same x)
+  trace_label f g same None = refl
+  trace_label f g same (Some x) = ap (λ (e : Option (Event Nothing)). event_added d e h) (same x)
 
   -- a pointer leaves
   pub left_at : (o : Option Pointer) → does z d h (option_map (leave now) o) ≡ put_on d (option_map (leaving_event now) o) h
-  left_at o = doing (leave now) (leaving_event now) (λ x. left now x.kind (is_last now x) x) o
+  left_at o = trace_label (leave now) (leaving_event now) (λ x. left now x.kind (is_last now x) x) o
 
   abbrev made_of : Form → ℕ → Event Nothing
   made_of form b = event.Make (record { 0 = b }) form.enabled form.null form.fields tt
 
-  pub make_history : (form : Form) (o : Option ℕ) → does z d h (option_map (make_deed form) o) ≡ put_on d (option_map (made_of form) o) h
+  pub make_history : (form : Form) (o : Option ℕ) → does z d h (option_map (make_step form) o) ≡ put_on d (option_map (made_of form) o) h
   make_history form None = refl
   make_history form (Some b) = refl
 
@@ -86,7 +88,7 @@ module _ (tell : Telling) (z : Opening) (d : ℕ) (h : History) (w : Walk) where
       record {
         event = option_map (copy now) (slot_pointer w.slots i);
         makes = refl;
-        history = doing share (copy now) (λ x. shared now x.kind x) (slot_pointer w.slots i);
+        history = trace_label share (copy now) (λ x. shared now x.kind x) (slot_pointer w.slots i);
       }
   replied (Put i) =
       let o = slot_pointer w.slots i in
@@ -136,7 +138,7 @@ module _ (tell : Telling) (z : Opening) (d : ℕ) (h : History) (w : Walk) where
       record {
         event = option_map (λ (x : Pointer). counting now x (tell now x)) o;
         makes = on_pointer now (tell now) 0 (counting now) o;
-        history = doing (tell_count tell now) (λ x. counting now x (tell now x)) (λ x. refl) o;
+        history = trace_label (tell_count tell now) (λ x. counting now x (tell now x)) (λ x. refl) o;
       }
   replied (Downgrade i) =
       let o = slot_pointer w.slots i in
@@ -144,7 +146,7 @@ module _ (tell : Telling) (z : Opening) (d : ℕ) (h : History) (w : Walk) where
       record {
         event = option_map g o;
         makes = refl;
-        history = doing downgrade g (λ x. refl) o;
+        history = trace_label downgrade g (λ x. refl) o;
       }
   replied (Lock i must) =
       let o = weak_slot (slot_pointer w.slots i) in
@@ -152,14 +154,14 @@ module _ (tell : Telling) (z : Opening) (d : ℕ) (h : History) (w : Walk) where
       record {
         event = option_map (λ (x : Pointer). locking now x (got x)) o;
         makes = on_pointer now got false (locking now) o;
-        history = doing (lock now) (λ x. locking now x (got x)) (λ x. refl) o;
+        history = trace_label (lock now) (λ x. locking now x (got x)) (λ x. refl) o;
       }
   replied (Expired i) =
       let o = slot_pointer w.slots i in
       record {
         event = option_map (λ (x : Pointer). expiring now x (is_expired now x)) o;
         makes = on_pointer now (is_expired now) true (expiring now) o;
-        history = doing (tell_expired now) (λ x. expiring now x (is_expired now x)) (λ x. refl) o;
+        history = trace_label (tell_expired now) (λ x. expiring now x (is_expired now x)) (λ x. refl) o;
       }
   replied (Read i) =
       let o = inside (slot_pointer w.slots i) in
@@ -167,7 +169,7 @@ module _ (tell : Telling) (z : Opening) (d : ℕ) (h : History) (w : Walk) where
       record {
         event = option_map g o;
         makes = read_makes now o;
-        history = doing (read_deed now) g (λ x. refl) o;
+        history = trace_label (read_atomic_step now) g (λ x. refl) o;
       }
   replied (FromThis i q) =
       let o = inside (slot_pointer w.slots i) in
@@ -175,7 +177,7 @@ module _ (tell : Telling) (z : Opening) (d : ℕ) (h : History) (w : Walk) where
       record {
         event = option_map g (giving now o);
         makes = this_makes now q o;
-        history = doing (give q) g (λ x. gives now q x) (giving now o);
+        history = trace_label (give q) g (λ x. gives now q x) (giving now o);
       }
   replied (Alias i j field) =
       let o = owner_slot (slot_pointer w.slots i) in
@@ -183,7 +185,7 @@ module _ (tell : Telling) (z : Opening) (d : ℕ) (h : History) (w : Walk) where
       record {
         event = option_map (copies now Owner p) o;
         makes = refl;
-        history = doing (alias p) (copies now Owner p) (λ x. refl) o;
+        history = trace_label (alias p) (copies now Owner p) (λ x. refl) o;
       }
   replied (Move i) = record { event = None; makes = refl; history = refl }
   replied (Ask q) =
@@ -197,7 +199,7 @@ module _ (tell : Telling) (z : Opening) (d : ℕ) (h : History) (w : Walk) where
       record {
         event = option_map (copy now) o;
         makes = refl;
-        history = doing share (copy now) (λ x. shared now x.kind x) o;
+        history = trace_label share (copy now) (λ x. shared now x.kind x) o;
       }
   replied (Swap c) =
       let i = hand w.slots in

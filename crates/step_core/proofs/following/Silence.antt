@@ -6,26 +6,26 @@ use Rattle.control_word.specs.declared.packed.cell.CellWord.{CellWord}
 use Rattle.control_word.specs.declared.model.handle.Kind.{Kind}
 use Rattle.control_word.specs.declared.place.Block.{Block}
 use Rattle.control_word.specs.Packing.{cell_bits}
-use Rattle.step_table.specs.declared.cell_steps.cell_deed.Cell.{Cell}
-use Rattle.step_table.specs.declared.cell_steps.cell_deed.CellDeed.TheVariants as cell_deed
-use Rattle.step_table.specs.declared.cell_steps.cell_deed.Compared.{Compared}
-use Rattle.step_table.specs.declared.slots.holdings.Pointer.{Pointer}
-use Rattle.step_table.specs.declared.memory.past.Deed.TheVariants as deed
+use Rattle.step_table.specs.declared.cell_steps.cell_step.Cell.{Cell}
+use Rattle.step_table.specs.declared.cell_steps.cell_step.CellStep.TheVariants as cell_step
+use Rattle.step_table.specs.declared.cell_steps.cell_step.Compared.{Compared}
+use Rattle.step_table.specs.declared.slots.registers.Pointer.{Pointer}
+use Rattle.step_table.specs.declared.memory.past.AtomicStep.TheVariants as atomic_step
 use Rattle.step_table.specs.declared.cell_steps.refill.Stage.{Stage}
 use Rattle.step_table.specs.declared.cell_steps.refill.Stage.TheVariants.{Turning, Checking, Lacking, Refilling, Failing}
 use Rattle.step_table.specs.Cells.{word_of_cell}
 use Rattle.step_table.specs.Contents.{compared_in, is_spent, same_value, seen}
-use Rattle.step_table.specs.Deeds.{is_enabled, lock, on, owner_word}
-use Rattle.step_table.specs.Holdings.{inside, slot_pointer}
-use Rattle.step_table.specs.Stories.{Story, story_state}
+use Rattle.step_table.specs.AtomicSteps.{is_enabled, lock, on, owner_word}
+use Rattle.step_table.specs.Registers.{inside, slot_pointer}
+use Rattle.step_table.specs.GhostStates.{GhostState, model_state}
 use Rattle.step_threads.specs.declared.programs.act.Act.{Act}
 use Rattle.step_threads.specs.declared.programs.act.Act.TheVariants.{Make, Share, Downgrade, Lock, Put, Leave, Clear, Count, Expired, Read, FromThis, Alias}
 use Rattle.step_threads.specs.declared.programs.act.Act.TheVariants.{Move, Ask}
 use Rattle.step_threads.specs.declared.programs.act.Act.TheVariants.{Offer, Swap, Exchange, Load, Compare, Drop, OnShelf}
 use Rattle.step_threads.specs.declared.programs.act.Task.{Task}
 use Rattle.step_threads.specs.declared.programs.call.CellName.{CellName}
-use Rattle.step_threads.specs.declared.half.Half.TheVariants.{Rest, Giving, Refill, Saw}
-use Rattle.step_threads.specs.Courses.{Going, Walk, cell_of_name, comparing, going, is_there, locked_pointer, on_going}
+use Rattle.step_threads.specs.declared.pending_call.PendingCall.TheVariants.{Rest, Giving, Refill, Saw}
+use Rattle.step_threads.specs.Frames.{Going, FrameView, cell_of_name, comparing, going, is_there, locked_pointer, on_going}
 use Rattle.step_threads.specs.Entries.{least}
 use Rattle.step_threads.specs.Programs.{kind_at}
 use Rattle.step_threads.specs.NextSteps.{first}
@@ -33,9 +33,9 @@ use Rattle.step_threads.specs.Steps.{Step, step_of_act, asks, begins, brings, lo
 use Rattle.step_core.specs.Turning.{is_acting}
 use Rattle.step_core.proofs.turning.Swapping.{no_more}
 
-module _ (v : Story) (d : ℕ) (w : Walk) (k : ℕ) (ts : List Task) where
+module _ (v : GhostState) (d : ℕ) (w : FrameView) (k : ℕ) (ts : List Task) where
   abbrev IsSilent : Step → Type 0
-  IsSilent x = is_acting x.half ≡ true → x.said ≡ silent k
+  IsSilent x = is_acting x.pending_call ≡ true → x.said ≡ silent k
 
   begins_said : (o : Option ℕ) → IsSilent (begins w k ts o)
   begins_said None = λ t. absurd (false≢true t)
@@ -44,20 +44,20 @@ module _ (v : Story) (d : ℕ) (w : Walk) (k : ℕ) (ts : List Task) where
   looks_said : (a : Act) (o : Option Pointer) → IsSilent (on (looks v d w k ts a) (step_of_act v d w k ts a None Rest) o)
   looks_said a None = λ t. absurd (false≢true t)
   looks_said a (Some y) =
-      cond_both (owner_word v y == 0) (step_of_act v d w k ts a (Some (lock (story_state v) y)) Rest) (trying w k (owner_word v y)) IsSilent
+      cond_both (owner_word v y == 0) (step_of_act v d w k ts a (Some (lock (model_state v) y)) Rest) (trying w k (owner_word v y)) IsSilent
       (λ e t. absurd (false≢true t)) (λ e t. refl)
 
   asks_said : (i : ℕ) (q : Kind) (o : Option Pointer)
       → IsSilent (on (asks v d w k ts i q) (step_of_act v d w k ts (FromThis i q) None Rest) o)
   asks_said i q None = λ t. absurd (false≢true t)
   asks_said i q (Some y) =
-      cond_both (is_enabled (story_state v) y) (record { deed = None; half = Giving i q y; walk = w; said = silent k })
+      cond_both (is_enabled (model_state v) y) (record { atomic_step = None; pending_call = Giving i q y; frame_view = w; said = silent k })
       (step_of_act v d w k ts (FromThis i q) None Rest) IsSilent (λ e t. refl) (λ e t. absurd (false≢true t))
 
   sends_said : (a : Act) (c : CellName) (i : ℕ) (o : Option Pointer)
       → IsSilent (on (brings w k) (step_of_swap v d w k ts a c i) o)
   sends_said a c i None =
-      λ t. let found = seen v (cell_of_name (story_state v) w.slots c) in
+      λ t. let found = seen v (cell_of_name (model_state v) w.slots c) in
       absurd (false≢true (sym (no_more (kind_at c) k found found.owned) ∙ t))
   sends_said a c i (Some p) = λ t. refl
 
@@ -68,23 +68,23 @@ module _ (v : Story) (d : ℕ) (w : Walk) (k : ℕ) (ts : List Task) where
 
   sees_said : (a : Act) (c : Cell) (y : Option Compared) (x : CellWord) → IsSilent (step_of_look v d w k ts a c y x)
   sees_said a c y x =
-      let look = step_of_act v d w k ts a (Some (deed.OnCell (cell_deed.Look c x y))) Rest in
+      let look = step_of_act v d w k ts a (Some (atomic_step.OnCell (cell_step.Look c x y))) Rest in
       cond_both (is_spent x) (within w k None Rest) (cond (is_some x.owned) (within w k None (Saw x)) look) IsSilent (λ e t. refl)
       (λ e. cond_both (is_some x.owned) (within w k None (Saw x)) look IsSilent (λ q t. refl) (λ q t. absurd (false≢true t)))
 
   -- an act that has just begun
   pub first_said : (a : Act) → IsSilent (first v d w k ts a)
-  first_said (Make form) = begins_said (least d (story_state v).stores)
+  first_said (Make form) = begins_said (least d (model_state v).stores)
   first_said (Lock i must) = looks_said (Lock i must) (locked_pointer w.slots (Lock i must))
   first_said (FromThis i kind) = asks_said i kind (inside (slot_pointer w.slots i))
   first_said (Swap c) = goes_said (Swap c) (going w.slots (Swap c))
   first_said (Exchange i c) = goes_said (Exchange i c) (going w.slots (Exchange i c))
   first_said (Load c) =
-      let x = cell_of_name (story_state v) w.slots c in
+      let x = cell_of_name (model_state v) w.slots c in
       cond_both (is_there w.slots c) (step_of_look v d w k ts (Load c) x None (seen v x)) (step_of_act v d w k ts (Load c) None Rest) IsSilent
       (λ e. sees_said (Load c) x None (seen v x)) (λ e t. absurd (false≢true t))
   first_said (Compare i c weak) =
-      let x = cell_of_name (story_state v) w.slots c in
+      let x = cell_of_name (model_state v) w.slots c in
       let a = Compare i c weak in
       let y = compared_in w.slots (comparing w.slots i weak) in
       cond_both (same_value (seen v x) y.expected) (within w k None (Saw (seen v x))) (step_of_look v d w k ts a x (Some y) (seen v x)) IsSilent
@@ -105,12 +105,12 @@ module _ (v : Story) (d : ℕ) (w : Walk) (k : ℕ) (ts : List Task) where
   first_said (OnShelf x) = λ t. absurd (false≢true t)
 
 -- nor does one that turns a fund or puts funds back
-pub refills_said : (v : Story) (w : Walk) (stage : Stage) (c : Cell) (x : CellWord) (k : ℕ) (b : Block)
+pub refills_said : (v : GhostState) (w : FrameView) (stage : Stage) (c : Cell) (x : CellWord) (k : ℕ) (b : Block)
     → (refills_on v w stage c x k b).said ≡ silent k
 refills_said v w Turning c x k b = refl
 refills_said v w Checking c x k b = refl
 refills_said v w Lacking c x k b = refl
 refills_said v w Refilling c x k b =
-    cond_both (word_of_cell v c == cell_bits x) (within w k (Some (deed.OnCell (cell_deed.Refill c x.taken))) Rest)
+    cond_both (word_of_cell v c == cell_bits x) (within w k (Some (atomic_step.OnCell (cell_step.Refill c x.taken))) Rest)
     (within w k None (Refill Failing c x k)) (λ (y : Step). y.said ≡ silent k) (λ e. refl) (λ e. refl)
 refills_said v w Failing c x k b = refl

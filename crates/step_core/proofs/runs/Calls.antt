@@ -8,24 +8,24 @@ use Rattle.std.proofs.lemmas.List.{append-nil}
 use Rattle.std.proofs.lemmas.List.Elements.{All-nil}
 use Rattle.step_threads.specs.declared.programs.act.Task.{Task}
 use Rattle.step_threads.specs.declared.ending.Ending.{Ending}
-use Rattle.step_threads.specs.declared.half.Half.{Half}
-use Rattle.step_threads.specs.declared.half.Half.TheVariants.{Rest, Making, Locking, Giving, Brought, Saw, Matched, Refill, Returning, Clearing}
+use Rattle.step_threads.specs.declared.pending_call.PendingCall.{PendingCall}
+use Rattle.step_threads.specs.declared.pending_call.PendingCall.TheVariants.{Rest, Making, Locking, Giving, Brought, Saw, Matched, Refill, Returning, Clearing}
 use Rattle.step_threads.specs.declared.said.Stepped.{Stepped}
 use Rattle.step_threads.specs.declared.said.Stepped.TheVariants.{Waited, Done}
 use Rattle.step_core.specs.declared.trace.TraceStep.{TraceStep}
-use Rattle.step_threads.specs.Courses.{Walk}
+use Rattle.step_threads.specs.Frames.{FrameView}
 use Rattle.step_threads.specs.Endings.{first_of}
-use Rattle.step_threads.specs.Scenes.{walk_of}
+use Rattle.step_threads.specs.AbstractStates.{frame_of}
 use Rattle.step_core.specs.Runs.{AddsRun, CallsOn, FinishesCall, IsRun, MovesOn, Settles, call_goes_on, call_under_way, is_calling, is_owing, next_statement}
 use Rattle.step_core.specs.Turning.{HasBegun}
-use Rattle.step_core.specs.Worlds.{Advances, Sight, Steps, half_of, scene}
+use Rattle.step_core.specs.Worlds.{Advances, WorldState, Steps, pending_call_of, abstraction}
 use Rattle.step_core.proofs.runs.Chains.{moves_more}
 use Rattle.step_core.proofs.runs.Measures.{at_end}
 
 same_number : (d n : ℕ) → n ≡ d + 1 → n - 1 ≡ d
 same_number d n e = omega (arith, e)
 
-calls_run : (k d : ℕ) (u u' : Sight) (xs : List TraceStep) → CallsOn k d u xs u' → IsRun u xs u'
+calls_run : (k d : ℕ) (u u' : WorldState) (xs : List TraceStep) → CallsOn k d u xs u' → IsRun u xs u'
 calls_run k d u u' [] on = on
 calls_run k d u u' (x ∷ xs) on = (
   on.2,
@@ -35,30 +35,30 @@ calls_run k d u u' (x ∷ xs) on = (
 )
 
 -- what a thread did to finish its call is a run
-pub settled_run : (d : ℕ) (u u' : Sight) (xs : List TraceStep) → Settles d u xs u' → IsRun u xs u'
-settled_run d u u' xs settles = go (is_owing (half_of u d)) refl
+pub settled_run : (d : ℕ) (u u' : WorldState) (xs : List TraceStep) → Settles d u xs u' → IsRun u xs u'
+settled_run d u u' xs settles = go (is_owing (pending_call_of u d)) refl
   where
-    go : (b : Bool) → is_owing (half_of u d) ≡ b → IsRun u xs u'
+    go : (b : Bool) → is_owing (pending_call_of u d) ≡ b → IsRun u xs u'
     go true is = calls_run (call_under_way d u) d u u' xs (settles.owing is).calls
     go false is = let n = settles.none is in subst (λ (l : List TraceStep). IsRun u l u') (sym n.0) n.1
 
-calls_more : (k d : ℕ) (u m w : Sight) (xs : List TraceStep) (r : Stepped) → CallsOn k d u xs m → is_calling k m d ≡ true
+calls_more : (k d : ℕ) (u m w : WorldState) (xs : List TraceStep) (r : Stepped) → CallsOn k d u xs m → is_calling k m d ≡ true
     → Advances d m r w → CallsOn k d u (xs ++ record { actor = d + 1; stepped = r } ∷ []) w
 calls_more k d u m w [] r on goes advances =
-    subst (λ (z : Sight). CallsOn k d z (record { actor = d + 1; stepped = r } ∷ []) w) on (goes, refl, w, advances, refl)
+    subst (λ (z : WorldState). CallsOn k d z (record { actor = d + 1; stepped = r } ∷ []) w) on (goes, refl, w, advances, refl)
 calls_more k d u m w (x ∷ xs) r on goes advances = (on.0, on.1, on.2, on.3, calls_more k d on.2 m w xs r on.4 goes advances)
 
 -- how far thread d has gone on with its call of statement k
-pub record IsGoing (k d : ℕ) (u : Sight) (xs : List TraceStep) (m : Sight) (ys : List TraceStep) : Type 0 where
+pub record IsGoing (k d : ℕ) (u : WorldState) (xs : List TraceStep) (m : WorldState) (ys : List TraceStep) : Type 0 where
   pub added : List TraceStep
   pub items : ys ≡ xs ++ added
   pub calls : CallsOn k d u added m
   pub moves : All MovesOn added
-  pub actors : length m.walks ≡ length u.walks
+  pub actors : length m.frame_views ≡ length u.frame_views
 
-pub going_more : (k d : ℕ) (u m w : Sight) (xs ys zs : List TraceStep) (r : Stepped) → IsGoing k d u xs m ys
+pub going_more : (k d : ℕ) (u m w : WorldState) (xs ys zs : List TraceStep) (r : Stepped) → IsGoing k d u xs m ys
     → is_calling k m d ≡ true → Advances d m r w
-    → length w.walks ≡ length m.walks → r ≢ Waited → zs ≡ ys ++ record { actor = d + 1; stepped = r } ∷ []
+    → length w.frame_views ≡ length m.frame_views → r ≢ Waited → zs ≡ ys ++ record { actor = d + 1; stepped = r } ∷ []
     → IsGoing k d u xs w zs
 going_more k d u m w xs ys zs r on goes advances actors never is =
     let x : TraceStep = record { actor = d + 1; stepped = r } in
@@ -71,14 +71,14 @@ going_more k d u m w xs ys zs r on goes advances actors never is =
     }
 
 -- a call that goes on isn't at the thread's end
-pub calling_on : (k d : ℕ) (u u' : Sight) (r : Stepped) → HasBegun d u → Steps d u r u' → is_calling k u d ≡ true → r ≢ Done
+pub calling_on : (k d : ℕ) (u u' : WorldState) (r : Stepped) → HasBegun d u → Steps d u r u' → is_calling k u d ≡ true → r ≢ Done
 calling_on k d u u' r begun steps goes done =
     let over = (at_end d u u' begun (subst (λ (s : Stepped). Steps d u s u') done steps)).1 in
-    let w = walk_of (scene u) d in
-    false≢true (sym (ended (half_of u d) over.half ∙ done_by w.endings w.todo over.endings over.walk) ∙ goes)
+    let w = frame_of (abstraction u) d in
+    false≢true (sym (ended (pending_call_of u d) over.pending_call ∙ done_by w.endings w.todo over.endings over.frame_view) ∙ goes)
   where
-    ended : (h : Half) → h ≡ Rest → call_goes_on k h (walk_of (scene u) d) ≡ call_goes_on k Rest (walk_of (scene u) d)
-    ended h rests = ap (λ (x : Half). call_goes_on k x (walk_of (scene u) d)) rests
+    ended : (h : PendingCall) → h ≡ Rest → call_goes_on k h (frame_of (abstraction u) d) ≡ call_goes_on k Rest (frame_of (abstraction u) d)
+    ended h rests = ap (λ (x : PendingCall). call_goes_on k x (frame_of (abstraction u) d)) rests
 
     by_number : (b : Bool) → (k == 0) ≡ b → (not b && 0 == k) ≡ false
     by_number true e = refl
@@ -91,7 +91,7 @@ calling_on k d u u' r begun steps goes done =
         ∙ ap (λ (l : List Task). not (k == 0) && next_statement l == k) over ∙ by_number (k == 0) refl
 
 -- a thread whose call is done rests
-pub rests : (k : ℕ) (h : Half) (w : Walk) → call_goes_on k h w ≡ false → h ≡ Rest
+pub rests : (k : ℕ) (h : PendingCall) (w : FrameView) → call_goes_on k h w ≡ false → h ≡ Rest
 rests k Rest w e = refl
 rests k (Making b i f) w e = absurd (false≢true (sym e))
 rests k (Locking word) w e = absurd (false≢true (sym e))
@@ -104,7 +104,7 @@ rests k (Returning kind b funds j) w e = absurd (false≢true (sym e))
 rests k Clearing w e = absurd (false≢true (sym e))
 
 -- one thread more, which had a call to finish or none
-pub settled_one : (d : ℕ) (u u' : Sight) (xs ys : List TraceStep) → is_owing (half_of u d) ≡ true
+pub settled_one : (d : ℕ) (u u' : WorldState) (xs ys : List TraceStep) → is_owing (pending_call_of u d) ≡ true
     → AddsRun (FinishesCall d) u xs u' ys
     → AddsRun (Settles d) u xs u' ys
 settled_one d u u' xs ys is adds =
@@ -115,7 +115,7 @@ settled_one d u u' xs ys is adds =
       moves = adds.moves;
     }
 
-pub settled_none : (d : ℕ) (u : Sight) (xs : List TraceStep) → is_owing (half_of u d) ≡ false
+pub settled_none : (d : ℕ) (u : WorldState) (xs : List TraceStep) → is_owing (pending_call_of u d) ≡ false
     → AddsRun (Settles d) u xs u xs
 settled_none d u xs is =
     record {

@@ -3,16 +3,16 @@ use Rattle.std.proofs.Common.{◌≡◌, ℕ, ◌≤◌, ◌==◌, cond, List, [
 use Rattle.std.specs.Prelude.{Some, None}
 use Rattle.std.proofs.lemmas.Bool.{cond_both, eqb-false}
 use Rattle.control_word.specs.State.{kind_of_member, weak}
-use Rattle.step_table.specs.declared.cell_steps.cell_deed.Cell.TheVariants.{Member}
-use Rattle.step_table.specs.declared.memory.past.Deed.TheVariants as deed
+use Rattle.step_table.specs.declared.cell_steps.cell_step.Cell.TheVariants.{Member}
+use Rattle.step_table.specs.declared.memory.past.AtomicStep.TheVariants as atomic_step
 use Rattle.step_table.specs.Cells.{word_of_cell}
 use Rattle.step_table.specs.Contents.{seen}
-use Rattle.step_table.specs.Stories.{Story, object_of_block, story_state}
+use Rattle.step_table.specs.GhostStates.{GhostState, object_of_block, model_state}
 use Rattle.step_threads.specs.declared.ending.Ending.{Ending}
-use Rattle.step_threads.specs.declared.half.Half.TheVariants.{Rest, Clearing}
-use Rattle.step_threads.specs.Courses.{Walk}
+use Rattle.step_threads.specs.declared.pending_call.PendingCall.TheVariants.{Rest, Clearing}
+use Rattle.step_threads.specs.Frames.{FrameView}
 use Rattle.step_threads.specs.Endings.{staged}
-use Rattle.step_threads.specs.NextSteps.{emptied, story_after}
+use Rattle.step_threads.specs.NextSteps.{emptied, ghost_after}
 use Rattle.step_threads.specs.Steps.{Step, empties, ends_on, silent, with_endings, within}
 use Rattle.step_threads.specs.Threads.{IsClearingMember}
 use Rattle.step_core.proofs.runs.Alone.{IsLess}
@@ -20,16 +20,16 @@ use Rattle.step_core.proofs.runs.Trying.{alone_back}
 use Rattle.step_core.proofs.telling.Walking.{IsFree, carried_most, over_less, staged_less, taken_out}
 
 -- the ending begun last goes on
-pub end_less : (v : Story) (d : ℕ) (w : Walk) (e : Ending) (es : List Ending) → w.endings ≡ e ∷ es → IsFree w.slots → e.stage ≤ 3
+pub end_less : (v : GhostState) (d : ℕ) (w : FrameView) (e : Ending) (es : List Ending) → w.endings ≡ e ∷ es → IsFree w.slots → e.stage ≤ 3
     → IsLess v d Rest w (Some (ends_on v w e es))
 end_less v d w e es is free le =
     let finished : Step = record {
-      deed = Some (deed.Finish e.block (weak (story_state v) (object_of_block v e.block) == 0));
-      half = Rest;
-      walk = with_endings w es;
+      atomic_step = Some (atomic_step.Finish e.block (weak (model_state v) (object_of_block v e.block) == 0));
+      pending_call = Rest;
+      frame_view = with_endings w es;
       said = silent e.statement;
     } in
-    let cleared = within (with_endings w (staged e ∷ es)) e.statement (Some (deed.Clear e.block e.stage)) Rest in
+    let cleared = within (with_endings w (staged e ∷ es)) e.statement (Some (atomic_step.Clear e.block e.stage)) Rest in
     let looked = within w e.statement None Clearing in
     cond_both (e.stage == 3) finished (cond (word_of_cell v (Member e.block e.stage) == 0) cleared looked) (λ (x : Step). IsLess v d Rest w (Some x))
     (λ _. let a = over_less w e es is free in record { own = omega (arith, a); most = omega (arith, a) })
@@ -41,15 +41,15 @@ end_less v d w e es is free le =
     (λ _. record { own = omega arith; most = omega arith }))
 
 -- what a member holds comes out: it has to leave, and what of its funds wasn't taken is given back
-pub out_less : (v : Story) (d : ℕ) (w : Walk) (es : List Ending) → w.endings ≡ es → IsClearingMember w.slots es
+pub out_less : (v : GhostState) (d : ℕ) (w : FrameView) (es : List Ending) → w.endings ≡ es → IsClearingMember w.slots es
     → IsLess v d Clearing w (emptied v w es)
 out_less v d w [] is held = absurd held
 out_less v d w (e ∷ es) is held =
     let y = empties v w e es in
     let x = seen v (Member e.block e.stage) in
-    let a = taken_out w y.walk.slots e es is held.0 in
-    let b = carried_most (staged e ∷ es) y.walk.slots in
-    let r = alone_back (story_after v d y.deed) y.walk (kind_of_member e.stage) e.statement x x.owned in
+    let a = taken_out w y.frame_view.slots e es is held.0 in
+    let b = carried_most (staged e ∷ es) y.frame_view.slots in
+    let r = alone_back (ghost_after v d y.atomic_step) y.frame_view (kind_of_member e.stage) e.statement x x.owned in
     let l = r.0 in
     let s = r.1 in
     record { own = omega (arith, a, b, l); most = omega (arith, a, b, s) }

@@ -10,18 +10,18 @@ use Rattle.control_word.proofs.lists.Tallies.{num, num_has}
 use Rattle.control_word.specs.State.{Held, bag_size}
 use Rattle.step_table.specs.declared.slots.slot.Slot.{Slot}
 use Rattle.step_table.specs.declared.slots.slot.Slot.TheVariants.{Empty, Full}
-use Rattle.step_table.specs.Holdings.{Slots, full, slot_has_object, plain, pointer_of, slot_pointer, slot_value}
+use Rattle.step_table.specs.Registers.{Slots, full, slot_has_object, plain, pointer_of, slot_pointer, slot_value}
 use Rattle.step_table.specs.Openings.{opening, share_of}
-use Rattle.step_table.specs.Stories.{Kept, Story, story_state}
+use Rattle.step_table.specs.GhostStates.{Kept, GhostState, model_state}
 use Rattle.step_threads.specs.declared.programs.act.Task.{Task}
 use Rattle.step_threads.specs.declared.ending.Ending.{Ending}
 use Rattle.step_threads.specs.declared.thread.Thread.{Thread}
-use Rattle.step_threads.specs.Courses.{DropsInTime, IsReady, TasksMayCome, Walk, hand, other}
-use Rattle.step_threads.specs.Scenes.{nowhere}
-use Rattle.step_threads.proofs.Courses.{free_plain}
-use Rattle.step_core.specs.Told.{TotalsAreTold, sight}
+use Rattle.step_threads.specs.Frames.{DropsInTime, IsReady, TasksMayCome, FrameView, hand, other}
+use Rattle.step_threads.specs.AbstractStates.{nowhere}
+use Rattle.step_threads.proofs.Frames.{free_plain}
+use Rattle.step_core.specs.Told.{TotalsAreTold, world_state}
 use Rattle.step_core.specs.Totals.{IsAtEnd}
-use Rattle.step_core.specs.Worlds.{AllFit, Sight, thread_walk}
+use Rattle.step_core.specs.Worlds.{AllFit, WorldState, thread_frame}
 use Rattle.step_core.proofs.runs.Measures.{empty_names}
 
 not_full : (x : Slot) → pointer_of x ≡ None → slot_has_object x ≡ false
@@ -51,31 +51,32 @@ empty_slots slots taken es ts ready none over names i lt =
     (cases_eq i (hand slots))
 
 at_thread : (threads : List Thread) (d : ℕ) → d < length threads
-    → (t : Thread) × (slice_get threads d ≡ Some t) × (get_or (map thread_walk threads) d nowhere ≡ thread_walk t)
+    → (t : Thread) × (slice_get threads d ≡ Some t) × (get_or (map thread_frame threads) d nowhere ≡ thread_frame t)
 at_thread [] d lt = absurd (omega (arith, lt))
 at_thread (t ∷ ts) zero lt = (t, refl, refl)
 at_thread (t ∷ ts) (suc d) lt = at_thread ts d (omega (arith, lt))
 
 -- a thread at its end has nothing
-empty_bag : (v : Story) (threads : List Thread) (m e d : ℕ) → AllFit v threads → TotalsAreTold (sight v threads) m e → IsAtEnd (sight v threads)
-    → d < length threads → bag_size (story_state v) d ≡ 0
+empty_bag : (v : GhostState) (threads : List Thread) (m e d : ℕ) → AllFit v threads → TotalsAreTold (world_state v threads) m e → IsAtEnd
+    (world_state v threads)
+    → d < length threads → bag_size (model_state v) d ≡ 0
 empty_bag v threads m e d fit told end lt =
     let r = at_thread threads d lt in
     let t = r.0 in
     let f = fit.each d t r.1 in
-    let l = length-map threads thread_walk in
-    let ws = map thread_walk threads in
+    let l = length-map threads thread_frame in
+    let ws = map thread_frame threads in
     let within : d < length ws = omega (arith, lt, l) in
-    let todo : (thread_walk t).todo ≡ [] = sym (ap (λ (w : Walk). w.todo) r.2) ∙ end.walks d nowhere within in
-    let over : (thread_walk t).endings ≡ [] = sym (ap (λ (w : Walk). w.endings) r.2) ∙ end.endings d nowhere within in
-    let names = subst (λ (w : Walk). (i : ℕ) → i < other w.slots → slot_pointer w.slots i ≡ None) r.2
-    (empty_names (get_or ws d nowhere) (told.tidy d) (end.walks d nowhere within)) in
+    let todo : (thread_frame t).todo ≡ [] = sym (ap (λ (w : FrameView). w.todo) r.2) ∙ end.frame_views d nowhere within in
+    let over : (thread_frame t).endings ≡ [] = sym (ap (λ (w : FrameView). w.endings) r.2) ∙ end.endings d nowhere within in
+    let names = subst (λ (w : FrameView). (i : ℕ) → i < other w.slots → slot_pointer w.slots i ≡ None) r.2
+    (empty_names (get_or ws d nowhere) (told.tidy d) (end.frame_views d nowhere within)) in
     f.holds.size
-    ∙ none_full (thread_walk t).slots (empty_slots (thread_walk t).slots (thread_walk t).taken (thread_walk t).endings (thread_walk t).todo
+    ∙ none_full (thread_frame t).slots (empty_slots (thread_frame t).slots (thread_frame t).taken (thread_frame t).endings (thread_frame t).todo
     f.ready todo over names)
 
 -- a desk that isn't a thread's has no allowance
-no_bag : (v : Story) (d : ℕ) → Kept v → v.extent.actors ≤ d → bag_size (story_state v) d ≡ 0
+no_bag : (v : GhostState) (d : ℕ) → Kept v → v.extent.actors ≤ d → bag_size (model_state v) d ≡ 0
 no_bag v d kept le =
     let r = (allowed (opening v.extent) v.history kept.stands.legal).rooms d in
     let a = ap (λ (f : ℕ → ℕ). f d) kept.allowed in
@@ -88,17 +89,17 @@ no_hands (x ∷ xs) f =
     let some = num_has (λ (y : Held). y.desk == x.desk) x (x ∷ xs) (inl refl) (eq-eqb x.desk x.desk refl) in
     let none = f x.desk in absurd (omega (arith, some, none))
 
-all_empty : (v : Story) (threads : List Thread) (m e : ℕ) → AllFit v threads → TotalsAreTold (sight v threads) m e → Kept v
-    → IsAtEnd (sight v threads)
-    → (story_state v).hands ≡ []
+all_empty : (v : GhostState) (threads : List Thread) (m e : ℕ) → AllFit v threads → TotalsAreTold (world_state v threads) m e → Kept v
+    → IsAtEnd (world_state v threads)
+    → (model_state v).hands ≡ []
 all_empty v threads m e fit told kept end =
-    let l = length-map threads thread_walk in
+    let l = length-map threads thread_frame in
     let n = told.threads in
-    no_hands (story_state v).hands
+    no_hands (model_state v).hands
     (λ d. ⊎_elim (λ (lt : d < length threads). empty_bag v threads m e d fit told end lt)
     (λ (ge : length threads ≤ d). no_bag v d kept (omega (arith, l, n, ge))) (cases_lt d (length threads)))
 
-pub hands_now : (u : Sight) (v : Story) (threads : List Thread) (m e : ℕ) → sight v threads ≡ u → AllFit v threads
-    → TotalsAreTold (sight v threads) m e → Kept v → IsAtEnd u → (story_state u.story).hands ≡ []
+pub hands_now : (u : WorldState) (v : GhostState) (threads : List Thread) (m e : ℕ) → world_state v threads ≡ u → AllFit v threads
+    → TotalsAreTold (world_state v threads) m e → Kept v → IsAtEnd u → (model_state u.ghost_state).hands ≡ []
 hands_now u v threads m e is fit told kept =
-    subst (λ (x : Sight). IsAtEnd x → (story_state x.story).hands ≡ []) is (all_empty v threads m e fit told kept)
+    subst (λ (x : WorldState). IsAtEnd x → (model_state x.ghost_state).hands ≡ []) is (all_empty v threads m e fit told kept)

@@ -18,31 +18,32 @@ use Rattle.step_table.specs.declared.memory.extent.Extent.{Extent}
 use Rattle.step_core.specs.declared.trace.TraceStep.{TraceStep}
 use Rattle.step_core.specs.Headline.{ValueCameOut, CountsAtRest, LastLeft, LocksWhereOwned, ValuesAtLastLeave, ValuesOnce, Was}
 use Rattle.step_table.specs.Openings.{opening}
-use Rattle.step_table.specs.Stories.{Kept, Nothing, story_state}
+use Rattle.step_table.specs.GhostStates.{Kept, Nothing, model_state}
 use Rattle.step_core.specs.Totals.{is_last_leave}
-use Rattle.step_core.specs.Sights.{Sight, TakesStep, is_event}
+use Rattle.step_core.specs.WorldStates.{WorldState, TakesStep, is_event}
 
 -- a step of the run, with what was before it and what is after it
-pub record IsStep (u : Sight) (x : TraceStep) (u' : Sight) : Type 0 where
+pub record IsStep (u : WorldState) (x : TraceStep) (u' : WorldState) : Type 0 where
   pub takes : TakesStep (x.actor - 1) u x.stepped u'
-  pub before : Kept u.story
-  pub after : Kept u'.story
+  pub before : Kept u.ghost_state
+  pub after : Kept u'.ghost_state
 
-pub counts : (u : Sight) → Kept u.story → CountsAtRest u
+pub counts : (u : WorldState) → Kept u.ghost_state → CountsAtRest u
 counts u kept = λ b inside rest.
-    let r = rests_exactly (opening u.story.extent) u.story.words u.story.views u.story.history kept.stands b inside rest in
+    let r = rests_exactly (opening u.ghost_state.extent) u.ghost_state.words u.ghost_state.views u.ghost_state.history kept.stands b inside rest in
     record { owners = r.0; weaks = r.1 }
 
-pub values : (u : Sight) → Kept u.story → ValuesOnce u
-values u kept = gives_once (opening u.story.extent) u.story.history kept.stands.legal
+pub values : (u : WorldState) → Kept u.ghost_state → ValuesOnce u
+values u kept = gives_once (opening u.ghost_state.extent) u.ghost_state.history kept.stands.legal
 
 -- the event of a step could come there
-pub asked : (u : Sight) (x : TraceStep) (u' : Sight) (e : Event Nothing) → IsStep u x u' → Was e u x u' → Asks (story_state u.story) (x.actor - 1) e
+pub asked : (u : WorldState) (x : TraceStep) (u' : WorldState) (e : Event Nothing) → IsStep u x u' → Was e u x u' → Asks (model_state u.ghost_state)
+    (x.actor - 1) e
 asked u x u' e step was =
     let d = x.actor - 1 in
-    let legal = subst (λ (h : List (Entry Nothing)). IsLegal (opening u'.story.extent) h) was step.after.stands.legal in
-    let here : IsLegal (opening u.story.extent) (entry d e ∷ u.story.history) = subst
-    (λ (z : Extent). IsLegal (opening z) (entry d e ∷ u.story.history)) step.takes.extent legal in
+    let legal = subst (λ (h : List (Entry Nothing)). IsLegal (opening u'.ghost_state.extent) h) was step.after.stands.legal in
+    let here : IsLegal (opening u.ghost_state.extent) (entry d e ∷ u.ghost_state.history) = subst
+    (λ (z : Extent). IsLegal (opening z) (entry d e ∷ u.ghost_state.history)) step.takes.extent legal in
     here.1.asks
 
 gave_where : (gave : Bool) (n : ℕ) → gave ≡ not (n == 0) → (gave ≡ true) ↔ (0 < n)
@@ -52,9 +53,9 @@ gave_where gave n e = go (n == 0) refl e
     go true none is = (λ t. absurd (false≢true (sym is ∙ t)), λ more. absurd (let z = eqb-true n 0 none in omega (arith, z, more)))
     go false some is = (λ t. let ne = eqb-false n 0 some in omega (arith, ne), λ more. is)
 
-pub locks : (u : Sight) (x : TraceStep) (u' : Sight) → IsStep u x u' → LocksWhereOwned u x u'
+pub locks : (u : WorldState) (x : TraceStep) (u' : WorldState) → IsStep u x u' → LocksWhereOwned u x u'
 locks u x u' step = λ w gave was.
-    let a = asked u x u' (Lock w gave) step was in gave_where gave (count (story_state u.story) (object_of w)) a.1
+    let a = asked u x u' (Lock w gave) step was in gave_where gave (count (model_state u.ghost_state) (object_of w)) a.1
 
 -- what the newest event is
 abbrev pub newest_is_last : List (Entry Nothing) → Bool
@@ -75,30 +76,31 @@ ends_none o (Leave h false) none = refl
 ends_none o _ none = refl
 
 -- the value comes out at the step, or nothing of it changes
-abbrev pub AtLastLeave : ℕ → Sight → TraceStep → Sight → Type 0
+abbrev pub AtLastLeave : ℕ → WorldState → TraceStep → WorldState → Type 0
 AtLastLeave o u x u' =
-    (LastLeft o u x u' × ValueCameOut o u u') ⊎ ((LastLeft o u x u' → ⊥) × (given o u'.story.history ≡ given o u.story.history))
+    (LastLeft o u x u' × ValueCameOut o u u') ⊎ ((LastLeft o u x u' → ⊥) × (given o u'.ghost_state.history ≡ given o u.ghost_state.history))
 
-no_event : (o : ℕ) (u : Sight) (x : TraceStep) (u' : Sight) → u'.story.history ≡ u.story.history → AtLastLeave o u x u'
+no_event : (o : ℕ) (u : WorldState) (x : TraceStep) (u' : WorldState) → u'.ghost_state.history ≡ u.ghost_state.history → AtLastLeave o u x u'
 no_event o u x u' same =
     inr (λ l. let n = ap (λ (h : List (Entry Nothing)). length h) (sym same ∙ l.left) in omega (arith, n), ap (given o) same)
 
-other_event : (o : ℕ) (u : Sight) (x : TraceStep) (u' : Sight) (e : Event Nothing) → Was e u x u' → is_last_leave e ≡ false → AtLastLeave o u x u'
+other_event : (o : ℕ) (u : WorldState) (x : TraceStep) (u' : WorldState) (e : Event Nothing) → Was e u x u' → is_last_leave e ≡ false → AtLastLeave o u x u'
 other_event o u x u' e was none =
     let g = ap (given o) was in
     let z = ends_none o e none in
     inr (λ l. false≢true (sym none ∙ ap newest_is_last (sym was ∙ l.left)), omega (arith, g, z))
 
-last_event : (o : ℕ) (u : Sight) (x : TraceStep) (u' : Sight) (h : Handle) → IsStep u x u' → Was (Leave h true) u x u' → AtLastLeave o u x u'
+last_event : (o : ℕ) (u : WorldState) (x : TraceStep) (u' : WorldState) (h : Handle) → IsStep u x u' → Was (Leave h true) u x u' → AtLastLeave o u x u'
 last_event o u x u' h step was = go (object_of h == o) refl
   where
     go : (b : Bool) → (object_of h == o) ≡ b → AtLastLeave o u x u'
     go true e =
         let same = eqb-true (object_of h) o e in
         let asks = asked u x u' (Leave h true) step was in
-        let one : count (story_state u.story) o ≡ 1 = ap (count (story_state u.story)) (sym same) ∙ eqb-true _ 1 (sym asks.1) in
-        let lives = (live_while_owned (opening u.story.extent) u.story.history step.before.stands.legal o).1 (omega (arith, one)) in
-        let none : given o u.story.history ≡ 0 = given_over (opening u.story.extent) u.story.history step.before.stands.legal o ∙ ap over lives in
+        let one : count (model_state u.ghost_state) o ≡ 1 = ap (count (model_state u.ghost_state)) (sym same) ∙ eqb-true _ 1 (sym asks.1) in
+        let lives = (live_while_owned (opening u.ghost_state.extent) u.ghost_state.history step.before.stands.legal o).1 (omega (arith, one)) in
+        let none : given o u.ghost_state.history ≡ 0 = given_over (opening u.ghost_state.extent) u.ghost_state.history step.before.stands.legal o ∙ ap over
+        lives in
         let g = ap (given o) was in
         let c = ap {B = ℕ} (λ (b : Bool). cond (true && b) 1 0) e in
         inl (record { owner = h; left = was; object = same; last = one }, record { before = none; after = omega (arith, g, none, c) })
@@ -107,12 +109,12 @@ last_event o u x u' h step was = go (object_of h == o) refl
         let c = ap {B = ℕ} (λ (b : Bool). cond (true && b) 1 0) e in
         inr (λ l. eqb-false (object_of h) o e (ap newest_object (sym was ∙ l.left) ∙ l.object), omega (arith, g, c))
 
-any_event : (o : ℕ) (u : Sight) (x : TraceStep) (u' : Sight) (e : Event Nothing) → IsStep u x u' → Was e u x u' → AtLastLeave o u x u'
+any_event : (o : ℕ) (u : WorldState) (x : TraceStep) (u' : WorldState) (e : Event Nothing) → IsStep u x u' → Was e u x u' → AtLastLeave o u x u'
 any_event o u x u' (Leave h true) step was = last_event o u x u' h step was
 any_event o u x u' (Leave h false) step was = other_event o u x u' (Leave h false) was refl
 any_event o u x u' _ step was = other_event o u x u' _ was refl
 
-pub last_leaves : (u : Sight) (x : TraceStep) (u' : Sight) → IsStep u x u' → ValuesAtLastLeave u x u'
+pub last_leaves : (u : WorldState) (x : TraceStep) (u' : WorldState) → IsStep u x u' → ValuesAtLastLeave u x u'
 last_leaves u x u' step = λ o. go o (is_event x.stepped) refl
   where
     go : (o : ℕ) (b : Bool) → is_event x.stepped ≡ b → AtLastLeave o u x u'

@@ -1,5 +1,5 @@
 -- How many steps a thread has left, step by step.
-use Rattle.step_threads.specs.Shelving.{shelf_block, shelf_deed}
+use Rattle.step_threads.specs.Shelving.{shelf_block, shelf_step}
 use Rattle.std.proofs.Common.{◌≡◌, ℕ, ◌+◌, ◌<◌, ◌≤◌, ◌==◌, Bool, true, false, cond, List, [], ◌∷◌, get_or, refl, sym, ap}
 use Rattle.std.proofs.Common.{◌∙◌, arith}
 use Rattle.std.specs.Prelude.{Option, Some, None, is_some, option_map}
@@ -14,113 +14,114 @@ use Rattle.step_threads.specs.declared.programs.act.Act.TheVariants.{Move, Ask}
 use Rattle.step_threads.specs.declared.programs.act.Act.TheVariants.{Offer, Swap, Exchange, Load, Compare, Drop, OnShelf}
 use Rattle.step_threads.specs.declared.programs.act.Task.{Task}
 use Rattle.step_threads.specs.declared.ending.Ending.{Ending}
-use Rattle.step_threads.specs.declared.half.Half.{Half}
-use Rattle.step_threads.specs.declared.half.Half.TheVariants.{Rest, Making, Locking, Giving, Brought, Saw, Matched, Refill, Returning, Clearing}
-use Rattle.step_table.specs.declared.slots.holdings.Pointer.{Pointer}
+use Rattle.step_threads.specs.declared.pending_call.PendingCall.{PendingCall}
+use Rattle.step_threads.specs.declared.pending_call.PendingCall.TheVariants.{Rest, Making, Locking, Giving, Brought, Saw, Matched, Refill, Returning, Clearing}
+use Rattle.step_table.specs.declared.slots.registers.Pointer.{Pointer}
 use Rattle.step_threads.specs.Actors.{wanted}
-use Rattle.step_core.specs.Bounds.{alone, lock_word, spare, walk_steps, weight}
+use Rattle.step_core.specs.Bounds.{alone, lock_word, spare, frame_steps, weight}
 use Rattle.step_table.specs.Contents.{seen}
 use Rattle.step_threads.specs.Programs.{kind_at}
-use Rattle.step_threads.specs.Courses.{Going, HasCell, Walk, cell_of_name, form_of, going, hand, idle, locked_pointer, offered, on_going, other, walk_settled}
-use Rattle.step_table.specs.Deeds.{alias, aliased, downgrade, give, is_enabled, lock, owner_word, read_deed, share, tell, tell_expired, on}
+use Rattle.step_threads.specs.Frames.{Going, HasCell, FrameView, cell_of_name, form_of, going, hand, idle, locked_pointer, offered, on_going, other}
+use Rattle.step_threads.specs.Frames.{frame_settled}
+use Rattle.step_table.specs.AtomicSteps.{alias, aliased, downgrade, give, is_enabled, lock, owner_word, read_atomic_step, share, tell, tell_expired, on}
 use Rattle.step_threads.specs.Endings.{EndsAll, IsEndingAtStage}
-use Rattle.step_table.specs.Holdings.{HoldsBag, inside, is_full, owner_slot, place_in, slot_pointer}
+use Rattle.step_table.specs.Registers.{HoldsBag, inside, is_full, owner_slot, place_in, slot_pointer}
 use Rattle.step_threads.specs.Entries.{least}
-use Rattle.step_threads.specs.Scenes.{went}
+use Rattle.step_threads.specs.AbstractStates.{went}
 use Rattle.step_threads.specs.Rows.{holding}
 use Rattle.step_threads.specs.NextSteps.{at_rest, begun, first, given_step, made_on}
 use Rattle.step_threads.specs.Steps.{Step, step_of_act, asks, begins, brings, claims, ends_on, looks, prepares}
-use Rattle.step_threads.specs.NextSteps.{sent, step_at, stepped as stepped_by, story_after, tried, waits, waits_at, waits_on}
+use Rattle.step_threads.specs.NextSteps.{sent, step_at, stepped as stepped_by, ghost_after, tried, waits, waits_at, waits_on}
 use Rattle.step_threads.specs.Steps.{sends, silent, step_of_swap, tries, trying}
-use Rattle.step_table.specs.Stories.{Kept, Story, known_words, pending, story_state}
+use Rattle.step_table.specs.GhostStates.{Kept, GhostState, known_words, pending, model_state}
 use Rattle.step_core.specs.Told.{is_prepared}
 use Rattle.step_core.specs.Turning.{IsAlone, IsInShape, NextActLocks, FundsAreHeld, IsStill, IsSwap, IsTried, IsUnderWay}
 use Rattle.step_core.proofs.runs.Clearing.{end_less, out_less}
 use Rattle.step_core.proofs.runs.Trying.{alone_back}
 use Rattle.step_core.proofs.telling.Leaves.{leaves_by}
-use Rattle.step_core.proofs.telling.Walking.{carried_leaves, settled_alone, walk_alone, weight_two, went_less}
+use Rattle.step_core.proofs.telling.Walking.{carried_leaves, settled_alone, frame_alone, weight_two, went_less}
 use Rattle.step_core.proofs.telling.Swapping.{went_swap}
 use Rattle.step_core.proofs.runs.Alone.{IsLess, Lessens, alone_of_lock, alone_other, alone_same, left_less, none_made, one_made, plain_less}
 use Rattle.step_core.proofs.runs.Looking.{compare_less, load_less, refill_less, seen_less, swapping_less}
 
-begun_less : (v : Story) (d k : ℕ) (w : Walk) (t : Task) (ts : List Task) (o : Option ℕ) → w.endings ≡ [] → w.todo ≡ t ∷ ts
+begun_less : (v : GhostState) (d k : ℕ) (w : FrameView) (t : Task) (ts : List Task) (o : Option ℕ) → w.endings ≡ [] → w.todo ≡ t ∷ ts
     → IsLess v d Rest w (Some (begins w k ts o))
 begun_less v d k w t ts None none is =
     let l = settled_alone w.slots false ts in
-    let n = ap (λ (es : List Ending). walk_steps (walk_settled w.slots false es ts)) none in
-    let a = walk_alone w t ts none is in
+    let n = ap (λ (es : List Ending). frame_steps (frame_settled w.slots false es ts)) none in
+    let a = frame_alone w t ts none is in
     let b = weight_two t.act in
     record { own = omega (arith, l, n, a, b); most = omega (arith, l, n, a, b) }
 begun_less v d k w t ts (Some b) none is = record { own = omega arith; most = omega arith }
 
 -- a lock that isn't done leaves all tasks: it is tried again with the word that it found, or begins again
-trying_less : (v : Story) (d k : ℕ) (h : Half) (w : Walk) (word : ℕ) → lock_word v w.slots w.todo ≡ word → 15 ≤ spare h
+trying_less : (v : GhostState) (d k : ℕ) (h : PendingCall) (w : FrameView) (word : ℕ) → lock_word v w.slots w.todo ≡ word → 15 ≤ spare h
     → ((word == 0) ≡ true → 15 < alone v w h) → 14 < alone v w h → IsLess v d h w (Some (trying w k word))
 trying_less v d k h w word is most none more =
-    cond_both (word == 0) Rest (Locking word) (λ (x : Half). Lessens v v h x w w 0 0)
+    cond_both (word == 0) Rest (Locking word) (λ (x : PendingCall). Lessens v v h x w w 0 0)
     (λ e. let z = none e in record { own = omega (arith, z); most = omega (arith, most) })
     (λ e. let a = alone_same v w word is in record { own = omega (arith, more, a); most = omega (arith, most) })
 
-word_is : (v : Story) (w : Walk) (t : Task) (ts : List Task) (x : Pointer) → w.todo ≡ t ∷ ts → locked_pointer w.slots t.act ≡ Some x
+word_is : (v : GhostState) (w : FrameView) (t : Task) (ts : List Task) (x : Pointer) → w.todo ≡ t ∷ ts → locked_pointer w.slots t.act ≡ Some x
     → lock_word v w.slots w.todo ≡ owner_word v x
 word_is v w t ts x is e = ap (lock_word v w.slots) is ∙ ap (on (owner_word v) 0) e
 
-looked_less : (v : Story) (d k : ℕ) (w : Walk) (t : Task) (ts : List Task) (i : ℕ) (must : Bool) (o : Option Pointer) → w.endings ≡ []
+looked_less : (v : GhostState) (d k : ℕ) (w : FrameView) (t : Task) (ts : List Task) (i : ℕ) (must : Bool) (o : Option Pointer) → w.endings ≡ []
     → w.todo ≡ t ∷ ts → t.act ≡ Lock i must → locked_pointer w.slots (Lock i must) ≡ o
     → IsLess v d Rest w (Some (on (looks v d w k ts (Lock i must)) (step_of_act v d w k ts (Lock i must) None Rest) o))
 looked_less v d k w t ts i must None none is a e = plain_less v d k Rest w t ts (Lock i must) None refl refl none is (omega arith) (omega arith)
 looked_less v d k w t ts i must (Some x) none is a e =
-    cond_both (owner_word v x == 0) (step_of_act v d w k ts (Lock i must) (Some (lock (story_state v) x)) Rest) (trying w k (owner_word v x))
+    cond_both (owner_word v x == 0) (step_of_act v d w k ts (Lock i must) (Some (lock (model_state v) x)) Rest) (trying w k (owner_word v x))
     (λ (y : Step). IsLess v d Rest w (Some y))
-    (λ _. plain_less v d k Rest w t ts (Lock i must) (Some (lock (story_state v) x)) refl refl none is (omega arith) (omega arith))
+    (λ _. plain_less v d k Rest w t ts (Lock i must) (Some (lock (model_state v) x)) refl refl none is (omega arith) (omega arith))
     (λ ne. trying_less v d k Rest w (owner_word v x) (word_is v w t ts x is (ap (locked_pointer w.slots) a ∙ e)) (omega arith)
     (λ z. absurd (false≢true (sym ne ∙ z))) (omega arith))
 
 -- an object that is asked has one step more: it gives a pointer then
-asked_less : (v : Story) (d k : ℕ) (w : Walk) (t : Task) (ts : List Task) (i : ℕ) (q : Kind) (o : Option Pointer)
+asked_less : (v : GhostState) (d k : ℕ) (w : FrameView) (t : Task) (ts : List Task) (i : ℕ) (q : Kind) (o : Option Pointer)
     → w.endings ≡ [] → w.todo ≡ t ∷ ts
     → IsLess v d Rest w (Some (on (asks v d w k ts i q) (step_of_act v d w k ts (FromThis i q) None Rest) o))
 asked_less v d k w t ts i q None none is = plain_less v d k Rest w t ts (FromThis i q) None refl refl none is (omega arith) (omega arith)
 asked_less v d k w t ts i q (Some x) none is =
-    cond_both (is_enabled (story_state v) x) (record { deed = None; half = Giving i q x; walk = w; said = silent k })
+    cond_both (is_enabled (model_state v) x) (record { atomic_step = None; pending_call = Giving i q x; frame_view = w; said = silent k })
     (step_of_act v d w k ts (FromThis i q) None Rest) (λ (y : Step). IsLess v d Rest w (Some y))
     (λ b. record { own = omega arith; most = omega arith })
     (λ b. plain_less v d k Rest w t ts (FromThis i q) None refl refl none is (omega arith) (omega arith))
 
-give_less : (v : Story) (d i : ℕ) (q : Kind) (x : Pointer) (w : Walk) (ts : List Task) → w.endings ≡ [] → w.todo ≡ ts
+give_less : (v : GhostState) (d i : ℕ) (q : Kind) (x : Pointer) (w : FrameView) (ts : List Task) → w.endings ≡ [] → w.todo ≡ ts
     → IsUnderWay d v (Giving i q x) ts → IsLess v d (Giving i q x) w (given_step v d w i q x ts)
 give_less v d i q x w [] none is way = absurd way
 give_less v d i q x w (t ∷ ts) none is way =
     plain_less v d t.statement (Giving i q x) w t ts (FromThis i q) (Some (give q x)) refl refl none is (omega arith) (omega arith)
 
 -- a value goes into a cell
-swapped_less : (v : Story) (d k : ℕ) (h : Half) (w : Walk) (t : Task) (ts : List Task) (a : Act) (x : Going) → is_prepared h ≡ false
+swapped_less : (v : GhostState) (d k : ℕ) (h : PendingCall) (w : FrameView) (t : Task) (ts : List Task) (a : Act) (x : Going) → is_prepared h ≡ false
     → w.endings ≡ [] → w.todo ≡ t ∷ ts → t.act ≡ a → going w.slots a ≡ Some x → 14 ≤ alone v w h → 15 ≤ spare h
     → IsLess v d h w (Some (step_of_swap v d w k ts a x.0 x.1))
 swapped_less v d k h w t ts a x unmade none is same goes own most =
     let y = step_of_swap v d w k ts a x.0 x.1 in
-    let found = seen v (cell_of_name (story_state v) w.slots x.0) in
-    let l = went_swap (story_state v) d k w t ts a x none is same goes in
+    let found = seen v (cell_of_name (model_state v) w.slots x.0) in
+    let l = went_swap (model_state v) d k w t ts a x none is same goes in
     let m = none_made h (stepped_by v (Some y)) unmade in
-    let r = alone_back (story_after v d y.deed) y.walk (kind_at x.0) k found found.owned in
+    let r = alone_back (ghost_after v d y.atomic_step) y.frame_view (kind_at x.0) k found found.owned in
     let b = r.0 in
     let s = r.1 in
     record { own = omega (arith, l, m, own, b); most = omega (arith, l, m, most, s) }
 
 -- its funds are brought first, where it has an object
-brought_less : (v : Story) (d k : ℕ) (w : Walk) (t : Task) (ts : List Task) (a : Act) (x : Going) → w.endings ≡ [] → w.todo ≡ t ∷ ts
+brought_less : (v : GhostState) (d k : ℕ) (w : FrameView) (t : Task) (ts : List Task) (a : Act) (x : Going) → w.endings ≡ [] → w.todo ≡ t ∷ ts
     → t.act ≡ a → going w.slots a ≡ Some x → (o : Option Pointer)
     → IsLess v d Rest w (Some (on (brings w k) (step_of_swap v d w k ts a x.0 x.1) o))
 brought_less v d k w t ts a x none is same goes None = swapped_less v d k Rest w t ts a x refl none is same goes (omega arith) (omega arith)
 brought_less v d k w t ts a x none is same goes (Some y) = record { own = omega arith; most = omega arith }
 
-going_less : (v : Story) (d k : ℕ) (w : Walk) (t : Task) (ts : List Task) (a : Act) (o : Option Going) → w.endings ≡ [] → w.todo ≡ t ∷ ts
+going_less : (v : GhostState) (d k : ℕ) (w : FrameView) (t : Task) (ts : List Task) (a : Act) (o : Option Going) → w.endings ≡ [] → w.todo ≡ t ∷ ts
     → t.act ≡ a → going w.slots a ≡ o → leaves_by w.slots a ≡ None
     → IsLess v d Rest w (Some (on_going (sends v d w k ts a) (step_of_act v d w k ts a None Rest) o))
 going_less v d k w t ts a None none is same goes stays = plain_less v d k Rest w t ts a None refl stays none is (omega arith) (omega arith)
 going_less v d k w t ts a (Some x) none is same goes stays = brought_less v d k w t ts a x none is same goes (slot_pointer w.slots x.1)
 
-sent_less : (v : Story) (d : ℕ) (w : Walk) (ts : List Task) → w.endings ≡ [] → w.todo ≡ ts → IsSwap w.slots ts
+sent_less : (v : GhostState) (d : ℕ) (w : FrameView) (ts : List Task) → w.endings ≡ [] → w.todo ≡ ts → IsSwap w.slots ts
     → IsLess v d Brought w (sent v d w ts)
 sent_less v d w [] none is held = absurd held
 sent_less v d w (t ∷ ts) none is held = go (going w.slots t.act) refl held
@@ -130,16 +131,16 @@ sent_less v d w (t ∷ ts) none is held = go (going w.slots t.act) refl held
     go None goes some = absurd (false≢true some)
     go (Some x) goes some = swapped_less v d t.statement Brought w t ts t.act x refl none is refl goes (omega arith) (omega arith)
 
-first_less : (v : Story) (d k : ℕ) (w : Walk) (t : Task) (ts : List Task) (a : Act) → Kept v → d < v.extent.actors → HoldsBag d w.slots v
+first_less : (v : GhostState) (d k : ℕ) (w : FrameView) (t : Task) (ts : List Task) (a : Act) → Kept v → d < v.extent.actors → HoldsBag d w.slots v
     → w.endings ≡ [] → w.todo ≡ t ∷ ts → t.act ≡ a → HasCell v.extent.shape a → idle a w.slots w.taken ≡ false → waits_on v w a ≡ false
     → IsLess v d Rest w (Some (first v d w k ts a))
-first_less v d k w t ts (Make form) kept seat holds none is same has still calm = begun_less v d k w t ts (least d (story_state v).stores) none is
+first_less v d k w t ts (Make form) kept seat holds none is same has still calm = begun_less v d k w t ts (least d (model_state v).stores) none is
 first_less v d k w t ts (Put i) kept seat holds none is same has still calm =
-    left_less v d k w (went (story_state v) d w k ts (Put i)) (slot_pointer w.slots i) (went_less (story_state v) d k w t ts (Put i) none is)
+    left_less v d k w (went (model_state v) d w k ts (Put i)) (slot_pointer w.slots i) (went_less (model_state v) d k w t ts (Put i) none is)
 first_less v d k w t ts (Leave i) kept seat holds none is same has still calm =
-    left_less v d k w (went (story_state v) d w k ts (Leave i)) (slot_pointer w.slots i) (went_less (story_state v) d k w t ts (Leave i) none is)
+    left_less v d k w (went (model_state v) d w k ts (Leave i)) (slot_pointer w.slots i) (went_less (model_state v) d k w t ts (Leave i) none is)
 first_less v d k w t ts (Clear i) kept seat holds none is same has still calm =
-    left_less v d k w (went (story_state v) d w k ts (Clear i)) (slot_pointer w.slots i) (went_less (story_state v) d k w t ts (Clear i) none is)
+    left_less v d k w (went (model_state v) d w k ts (Clear i)) (slot_pointer w.slots i) (went_less (model_state v) d k w t ts (Clear i) none is)
 first_less v d k w t ts (Lock i must) kept seat holds none is same has still calm =
     looked_less v d k w t ts i must (locked_pointer w.slots (Lock i must)) none is same refl
 first_less v d k w t ts (FromThis i kind) kept seat holds none is same has still calm = asked_less v d k w t ts i kind (inside (slot_pointer w.slots i)) none is
@@ -150,9 +151,9 @@ first_less v d k w t ts (Downgrade i) kept seat holds none is same has still cal
 first_less v d k w t ts (Count i) kept seat holds none is same has still calm =
     plain_less v d k Rest w t ts (Count i) (option_map (tell v) (slot_pointer w.slots i)) refl refl none is (omega arith) (omega arith)
 first_less v d k w t ts (Expired i) kept seat holds none is same has still calm =
-    plain_less v d k Rest w t ts (Expired i) (option_map (tell_expired (story_state v)) (slot_pointer w.slots i)) refl refl none is (omega arith) (omega arith)
+    plain_less v d k Rest w t ts (Expired i) (option_map (tell_expired (model_state v)) (slot_pointer w.slots i)) refl refl none is (omega arith) (omega arith)
 first_less v d k w t ts (Read i) kept seat holds none is same has still calm =
-    plain_less v d k Rest w t ts (Read i) (option_map (read_deed (story_state v)) (inside (slot_pointer w.slots i))) refl refl none is
+    plain_less v d k Rest w t ts (Read i) (option_map (read_atomic_step (model_state v)) (inside (slot_pointer w.slots i))) refl refl none is
     (omega arith) (omega arith)
 first_less v d k w t ts (Alias i j field) kept seat holds none is same has still calm =
     plain_less v d k Rest w t ts (Alias i j field) (option_map (alias (aliased field (place_in w.slots j))) (owner_slot (slot_pointer w.slots i)))
@@ -171,31 +172,31 @@ first_less v d k w t ts (Load c) kept seat holds none is same has still calm = l
 first_less v d k w t ts (Compare i c weak) kept seat holds none is same has still calm =
     compare_less v d w kept seat holds k t ts i c weak none is same has still calm
 first_less v d k w t ts Drop kept seat holds none is same has still calm =
-    left_less v d k w (went (story_state v) d w k ts Drop) (slot_pointer w.slots (other w.slots)) (went_less (story_state v) d k w t ts Drop none is)
+    left_less v d k w (went (model_state v) d w k ts Drop) (slot_pointer w.slots (other w.slots)) (went_less (model_state v) d k w t ts Drop none is)
 first_less v d k w t ts (OnShelf x) kept seat holds none is same has still calm =
-    plain_less v d k Rest w t ts (OnShelf x) (shelf_deed x (shelf_block (story_state v) d x)) refl refl none is (omega arith) (omega arith)
+    plain_less v d k Rest w t ts (OnShelf x) (shelf_step x (shelf_block (model_state v) d x)) refl refl none is (omega arith) (omega arith)
 
-task_less : (v : Story) (d : ℕ) (w : Walk) (ts : List Task) → Kept v → d < v.extent.actors → HoldsBag d w.slots v → w.endings ≡ [] → w.todo ≡ ts
+task_less : (v : GhostState) (d : ℕ) (w : FrameView) (ts : List Task) → Kept v → d < v.extent.actors → HoldsBag d w.slots v → w.endings ≡ [] → w.todo ≡ ts
     → IsInShape v.extent.shape ts → IsStill w ts → waits_at v w [] ts ≡ false → IsLess v d Rest w (begun v d w ts)
 task_less v d w [] kept seat holds none is has still calm = (is, none, refl)
 task_less v d w (t ∷ ts) kept seat holds none is has still calm =
     first_less v d t.statement w t ts t.act kept seat holds none is refl has still calm
 
-rest_less : (v : Story) (d : ℕ) (w : Walk) (es : List Ending) → Kept v → d < v.extent.actors → HoldsBag d w.slots v → w.endings ≡ es
+rest_less : (v : GhostState) (d : ℕ) (w : FrameView) (es : List Ending) → Kept v → d < v.extent.actors → HoldsBag d w.slots v → w.endings ≡ es
     → EndsAll d es v → IsInShape v.extent.shape w.todo → IsStill w w.todo → waits_at v w es w.todo ≡ false → IsLess v d Rest w (at_rest v d w es)
 rest_less v d w [] kept seat holds is ends has still calm = task_less v d w w.todo kept seat holds is refl has still calm
 rest_less v d w (e ∷ es) kept seat holds is ends has still calm =
     cond_both (is_full (slot_pointer w.slots (hand w.slots))) (first v d w e.statement w.todo (Leave (hand w.slots))) (ends_on v w e es)
     (λ (x : Step). IsLess v d Rest w (Some x))
-    (λ full. left_less v d e.statement w (went (story_state v) d w e.statement w.todo (Leave (hand w.slots))) (slot_pointer w.slots (hand w.slots))
-    (carried_leaves (story_state v) d e.statement w e es is full))
+    (λ full. left_less v d e.statement w (went (model_state v) d w e.statement w.todo (Leave (hand w.slots))) (slot_pointer w.slots (hand w.slots))
+    (carried_leaves (model_state v) d e.statement w e es is full))
     (λ free. end_less v d w e es is free (All-head (λ (x : Ending). IsEndingAtStage d x v) e es ends.each).within)
 
-prepared_less : (v : Story) (d found want k i : ℕ) (w : Walk) (b : Block) (f : Bool) → i ≤ 5 → (i ≡ 5 → ⊥)
+prepared_less : (v : GhostState) (d found want k i : ℕ) (w : FrameView) (b : Block) (f : Bool) → i ≤ 5 → (i ≡ 5 → ⊥)
     → IsLess v d (Making b i f) w (Some (prepares found want w k b i f))
 prepared_less v d found want k i w b true le ne = record { own = omega (arith, le, ne); most = omega (arith, le, ne) }
 prepared_less v d found want k i w b false le ne =
-    cond_both (found == want) (Making b (i + 1) false) (Making b i true) (λ (h : Half). Lessens v v (Making b i false) h w w 0 0)
+    cond_both (found == want) (Making b (i + 1) false) (Making b i true) (λ (h : PendingCall). Lessens v v (Making b i false) h w w 0 0)
     (λ e. record { own = omega (arith, le, ne); most = omega (arith, le, ne) })
     (λ e. record { own = omega (arith, le, ne); most = omega (arith, le, ne) })
 
@@ -203,19 +204,19 @@ flag_one : (f : Bool) → 1 ≤ cond f 1 2
 flag_one true = omega arith
 flag_one false = omega arith
 
-claimed_less : (v : Story) (d k i : ℕ) (w : Walk) (t : Task) (ts : List Task) (b : Block) (f : Bool) (form : Form) → t.act ≡ Make form
+claimed_less : (v : GhostState) (d k i : ℕ) (w : FrameView) (t : Task) (ts : List Task) (b : Block) (f : Bool) (form : Form) → t.act ≡ Make form
     → w.endings ≡ [] → w.todo ≡ t ∷ ts → IsLess v d (Making b i f) w (Some (claims w k ts b form))
 claimed_less v d k i w t ts b f form same none is =
     let x = holding w.slots form.null (Some b.0) in
     let l = settled_alone x.0 x.1 ts in
-    let n = ap (λ (es : List Ending). walk_steps (walk_settled x.0 x.1 es ts)) none in
-    let a = walk_alone w t ts none is in
+    let n = ap (λ (es : List Ending). frame_steps (frame_settled x.0 x.1 es ts)) none in
+    let a = frame_alone w t ts none is in
     let g : weight t.act ≡ 28 = ap weight same in
     let m = one_made (Making b i f) (stepped_by v (Some (claims w k ts b form))) in
     let p = flag_one f in
     record { own = omega (arith, l, n, a, g, m, p); most = omega (arith, l, n, a, g, m, p) }
 
-make_less : (v : Story) (d i : ℕ) (w : Walk) (b : Block) (f : Bool) (ts : List Task) → w.endings ≡ [] → w.todo ≡ ts
+make_less : (v : GhostState) (d i : ℕ) (w : FrameView) (b : Block) (f : Bool) (ts : List Task) → w.endings ≡ [] → w.todo ≡ ts
     → IsUnderWay d v (Making b i f) ts → IsLess v d (Making b i f) w (made_on v d w b i f ts)
 make_less v d i w b f [] none is way = absurd way
 make_less v d i w b f (t ∷ ts) none is way =
@@ -225,16 +226,16 @@ make_less v d i w b f (t ∷ ts) none is way =
     (λ (x : Step). IsLess v d (Making b i f) w (Some x)) (λ e. claimed_less v d t.statement i w t ts b f (form_of t.act) way.2 none is)
     (λ e. prepared_less v d found want t.statement i w b f way.0 (eqb-false i 5 e))
 
-tried_less : (v : Story) (d word : ℕ) (w : Walk) (t : Task) (ts : List Task) (a : Act) (o : Option Pointer) → w.endings ≡ [] → w.todo ≡ t ∷ ts
+tried_less : (v : GhostState) (d word : ℕ) (w : FrameView) (t : Task) (ts : List Task) (a : Act) (o : Option Pointer) → w.endings ≡ [] → w.todo ≡ t ∷ ts
     → t.act ≡ a → locked_pointer w.slots a ≡ o → is_full o ≡ true → IsLess v d (Locking word) w (option_map (tries v d w t.statement ts a word) o)
 tried_less v d word w t ts a None none is same e full = absurd (false≢true full)
 tried_less v d word w t ts (Lock i must) (Some x) none is same e full =
     let k = t.statement in
     let found_word = word_is v w t ts x is (ap (locked_pointer w.slots) same ∙ e) in
     let low = (alone_of_lock v w word).0 in
-    cond_both (owner_word v x == word) (step_of_act v d w k ts (Lock i must) (Some (lock (story_state v) x)) Rest) (trying w k (owner_word v x))
+    cond_both (owner_word v x == word) (step_of_act v d w k ts (Lock i must) (Some (lock (model_state v) x)) Rest) (trying w k (owner_word v x))
     (λ (y : Step). IsLess v d (Locking word) w (Some y))
-    (λ _. plain_less v d k (Locking word) w t ts (Lock i must) (Some (lock (story_state v) x)) refl refl none is low (omega arith))
+    (λ _. plain_less v d k (Locking word) w t ts (Lock i must) (Some (lock (model_state v) x)) refl refl none is low (omega arith))
     (λ ne. let other = alone_other v w word (ap (λ (z : ℕ). z == word) found_word ∙ ne) in
     trying_less v d k (Locking word) w (owner_word v x) found_word (omega arith) (λ _. omega (arith, other)) (omega (arith, other)))
 tried_less v d word w t ts (Make form) (Some x) none is same e full = cc
@@ -258,14 +259,14 @@ tried_less v d word w t ts (Compare i c weak) (Some x) none is same e full = cc
 tried_less v d word w t ts Drop (Some x) none is same e full = cc
 tried_less v d word w t ts (OnShelf y) (Some x) none is same e full = cc
 
-lock_less : (v : Story) (d word : ℕ) (w : Walk) (ts : List Task) → w.endings ≡ [] → w.todo ≡ ts → NextActLocks w.slots ts
+lock_less : (v : GhostState) (d word : ℕ) (w : FrameView) (ts : List Task) → w.endings ≡ [] → w.todo ≡ ts → NextActLocks w.slots ts
     → IsLess v d (Locking word) w (tried v d w word ts)
 lock_less v d word w [] none is full = absurd full
 lock_less v d word w (t ∷ ts) none is full = tried_less v d word w t ts t.act (locked_pointer w.slots t.act) none is refl refl full
 
 -- each step that isn't the last is one less, where the thread hasn't to wait
-module _ (v : Story) (d : ℕ) (w : Walk) (kept : Kept v) (seat : d < v.extent.actors) (holds : HoldsBag d w.slots v) where
-  pub less : (h : Half) → IsUnderWay d v h w.todo → IsTried h w → IsAlone h w.endings → EndsAll d w.endings v
+module _ (v : GhostState) (d : ℕ) (w : FrameView) (kept : Kept v) (seat : d < v.extent.actors) (holds : HoldsBag d w.slots v) where
+  pub less : (h : PendingCall) → IsUnderWay d v h w.todo → IsTried h w → IsAlone h w.endings → EndsAll d w.endings v
       → IsInShape v.extent.shape w.todo → IsStill w w.todo → FundsAreHeld d v h → waits v h w ≡ false → IsLess v d h w (step_at v d h w)
   less Rest way held none ends has still out calm = rest_less v d w w.endings kept seat holds refl ends has still calm
   less (Making b i f) way held none ends has still out calm = make_less v d i w b f w.todo none refl way

@@ -10,24 +10,25 @@ use Rattle.control_word.specs.declared.model.handle.Kind.TheVariants.{Owner, Wea
 use Rattle.control_word.specs.Handles.{weak_of}
 use Rattle.control_word.specs.State.{State}
 use Rattle.step_table.specs.declared.memory.ended.Ended.{Ended}
-use Rattle.step_table.specs.declared.slots.holdings.Pointer.{Pointer}
-use Rattle.step_table.specs.Deeds.{owned}
-use Rattle.step_table.specs.Holdings.{slot_pointer, weak_slot}
-use Rattle.step_table.specs.Stories.{Nothing, story_state}
+use Rattle.step_table.specs.declared.slots.registers.Pointer.{Pointer}
+use Rattle.step_table.specs.AtomicSteps.{owned}
+use Rattle.step_table.specs.Registers.{slot_pointer, weak_slot}
+use Rattle.step_table.specs.GhostStates.{Nothing, model_state}
 use Rattle.step_threads.specs.declared.programs.act.Act.{Act}
 use Rattle.step_threads.specs.declared.programs.act.Act.TheVariants.{Lock, Leave}
 use Rattle.step_threads.specs.declared.programs.act.Task.{Task}
 use Rattle.step_threads.specs.declared.said.Answer.{Answer}
 use Rattle.step_threads.specs.declared.said.Said.{Said}
-use Rattle.step_threads.specs.Courses.{Walk, hand}
-use Rattle.step_threads.specs.Doings.{Ahead, Over, AnAct, AnEnd, DoesAhead, Doing, IsLeaveEvent, IsMakeEvent, MakesAct, On, ahead, leaves_as, put_on}
+use Rattle.step_threads.specs.Frames.{FrameView, hand}
+use Rattle.step_threads.specs.TraceLabels.{Ahead, Over, AnAct, AnEnd, DoesAhead, TraceLabel, IsLeaveEvent, IsMakeEvent, MakesAct, On, ahead, leaves_as, put_on}
 use Rattle.step_threads.specs.Rows.{Reply, Got, lock_answer, row}
-use Rattle.step_threads.specs.Scenes.{Scene, walk_of}
+use Rattle.step_threads.specs.AbstractStates.{AbstractState, frame_of}
 use Rattle.step_core.specs.declared.trace.TraceStep.{TraceStep}
 use Rattle.step_core.specs.Following.{ActsNext, PassesQuietly, Performs, no_worth}
 use Rattle.step_core.specs.Headline.{LocksNext, LocksNone, TellsLocks, Was, answer_by, statement_by}
-use Rattle.step_core.specs.Sights.{Sight, scene}
-use Rattle.step_core.proofs.runs.Doings.{Events, IsDone, Locks, Leaves, Other, IsOther, ahead_task, each, is_of_lock, is_said, no_more, put, says_none, sort_of}
+use Rattle.step_core.specs.WorldStates.{WorldState, abstraction}
+use Rattle.step_core.proofs.runs.TraceLabels.{Events, IsDone, Locks, Leaves, Other, IsOther, ahead_task, each, is_of_lock, is_said, no_more, put, says_none}
+use Rattle.step_core.proofs.runs.TraceLabels.{sort_of}
 
 -- what an event gave that is a lock
 abbrev gave_by : Events → Option Bool
@@ -84,15 +85,15 @@ module _ (s : State) where
   locked None got e is = inr (is.0, refl)
   locked (Some x) got e is = inl (weak_of (owned s x) x.place, is)
 
-module _ (u : Sight) (x : TraceStep) (u' : Sight) where
+module _ (u : WorldState) (x : TraceStep) (u' : WorldState) where
   abbrev d : ℕ
   d = x.actor - 1
 
-  abbrev w : Walk
-  w = walk_of (scene u) d
+  abbrev w : FrameView
+  w = frame_of (abstraction u) d
 
   abbrev s : State
-  s = story_state u.story
+  s = model_state u.ghost_state
 
   -- the next task is this lock
   lock_ahead : (t : Task) (ts : List Task) (i : ℕ) (must : Bool) → ahead w ≡ AnAct t ts → t.act ≡ Lock i must → w.todo ≡ t ∷ ts
@@ -111,8 +112,8 @@ module _ (u : Sight) (x : TraceStep) (u' : Sight) where
   quietly_happens must g p told = absurd (none_some (lock_answer must g) (sym (says_none d x.stepped p.silent).0 ∙ told))
 
   module _ (p : ActsNext d u x.stepped u') where
-    abbrev y : Doing Nothing
-    y = p.doing
+    abbrev y : TraceLabel Nothing
+    y = p.trace_label
 
     -- a lock that is made, with its reply
     lock_row : (a : Act) (r : Reply) (i : ℕ) (must got : Bool) → a ≡ Lock i must → r ≡ Got got
@@ -127,7 +128,7 @@ module _ (u : Sight) (x : TraceStep) (u' : Sight) where
         (subst (λ (b : Act). IsMakeEvent no_worth s y.desk w.slots b r y.event) e m)
 
     abbrev Made : Task → List Task → Type 0
-    Made t ts = MakesAct no_worth s w t ts y (walk_of (scene u') d)
+    Made t ts = MakesAct no_worth s w t ts y (frame_of (abstraction u') d)
 
     act_answers : (t : Task) (ts : List Task) (m : Made t ts) → answer_by x.stepped ≡ (row t.act w.slots w.taken m.reply).answer
     act_answers t ts m = (is_said x.stepped y.said p.says).answer ∙ ap (λ (a : Said). a.answer) m.says
@@ -158,20 +159,20 @@ module _ (u : Sight) (x : TraceStep) (u' : Sight) where
         let so = same_lock n got must g (same_Some _ _ (sym (lock_row t.act m.reply i n got e f) ∙ sym (act_answers t ts m) ∙ told)) in
         ⊎_elim
         (λ (r : (h : Handle) × (y.event ≡ Some (event.Lock h got))).
-        inl (r.0, p.history ∙ ap (λ (q : Events). put_on d q u.story.history) (r.1 ∙ ap (λ (b : Bool). Some (event.Lock r.0 b)) so.1)))
+        inl (r.0, p.history ∙ ap (λ (q : Events). put_on d q u.ghost_state.history) (r.1 ∙ ap (λ (b : Bool). Some (event.Lock r.0 b)) so.1)))
         (λ (r : (got ≡ false) × (weak_slot (slot_pointer w.slots i) ≡ None)).
         inr (sym so.1 ∙ r.0, subst (LocksNone must w.slots) (sym (lock_ahead t ts i n is e)) (i, e ∙ ap (Lock i) so.0, r.1)))
         (locked s (weak_slot (slot_pointer w.slots i)) got y.event (lock_made t.act m.reply i n got e f m.makes))
 
     answers_by : (h : Handle) (g : Bool) → y.event ≡ Some (event.Lock h g) → (a : Ahead) → ahead w ≡ a
-        → DoesAhead no_worth s w y (walk_of (scene u') d) a → Answers g
+        → DoesAhead no_worth s w y (frame_of (abstraction u') d) a → Answers g
     answers_by h g was Over is does = absurd does
     answers_by h g was (AnEnd e es) is (inl clears) = absurd (none_some g (ap gave_by (sym clears.makes ∙ was)))
     answers_by h g was (AnEnd e es) is (inr ends) = absurd (none_some g (ap gave_by (sym ends.makes ∙ was)))
     answers_by h g was (AnAct t ts) is m = made_answers h g t ts m was is (each s y.desk w.slots w.taken t.act m.reply y.event m.makes)
 
     happens_by : (must g : Bool) → answer_by x.stepped ≡ Some (lock_answer must g) → (a : Ahead) → ahead w ≡ a
-        → DoesAhead no_worth s w y (walk_of (scene u') d) a → Happens must g
+        → DoesAhead no_worth s w y (frame_of (abstraction u') d) a → Happens must g
     happens_by must g told Over is does = absurd does
     happens_by must g told (AnEnd e es) is (inl clears) =
         absurd (none_some (lock_answer must g) (sym ((is_said x.stepped y.said p.says).answer ∙ ap (λ (a : Said). a.answer) clears.says) ∙ told))
@@ -184,9 +185,9 @@ module _ (u : Sight) (x : TraceStep) (u' : Sight) where
       record {
         answers = λ h g was. ⊎_elim
             (λ (p : PassesQuietly d u x.stepped u').
-            absurd (no_more d (event.Lock h g) u.story.history (sym (ap (λ (c : Scene). c.history) p.stays) ∙ was)))
+            absurd (no_more d (event.Lock h g) u.ghost_state.history (sym (ap (λ (c : AbstractState). c.history) p.stays) ∙ was)))
             (λ (p : ActsNext d u x.stepped u').
-            answers_by p h g (put d p.doing.event (event.Lock h g) u.story.history (sym p.history ∙ was)) (ahead w) refl p.does) performs;
+            answers_by p h g (put d p.trace_label.event (event.Lock h g) u.ghost_state.history (sym p.history ∙ was)) (ahead w) refl p.does) performs;
         events = λ must g told. ⊎_elim (λ (p : PassesQuietly d u x.stepped u'). quietly_happens must g p told)
             (λ (p : ActsNext d u x.stepped u'). happens_by p must g told (ahead w) refl p.does) performs;
       }

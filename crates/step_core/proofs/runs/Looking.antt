@@ -13,21 +13,21 @@ use Rattle.step_threads.specs.declared.programs.act.Act.TheVariants.{Move, Ask}
 use Rattle.step_threads.specs.declared.programs.act.Act.TheVariants.{Offer, Swap, Exchange, Load, Compare, Drop, OnShelf}
 use Rattle.step_threads.specs.declared.programs.act.Task.{Task}
 use Rattle.step_threads.specs.declared.programs.call.CellName.{CellName}
-use Rattle.step_threads.specs.declared.half.Half.TheVariants.{Rest, Saw, Matched, Refill}
-use Rattle.step_table.specs.declared.cell_steps.cell_deed.Cell.{Cell}
-use Rattle.step_table.specs.declared.cell_steps.cell_deed.CellDeed.TheVariants as cell_deed
-use Rattle.step_table.specs.declared.slots.holdings.Pointer.{Pointer}
-use Rattle.step_table.specs.declared.memory.past.Deed.TheVariants as deed
+use Rattle.step_threads.specs.declared.pending_call.PendingCall.TheVariants.{Rest, Saw, Matched, Refill}
+use Rattle.step_table.specs.declared.cell_steps.cell_step.Cell.{Cell}
+use Rattle.step_table.specs.declared.cell_steps.cell_step.CellStep.TheVariants as cell_step
+use Rattle.step_table.specs.declared.slots.registers.Pointer.{Pointer}
+use Rattle.step_table.specs.declared.memory.past.AtomicStep.TheVariants as atomic_step
 use Rattle.step_table.specs.declared.cell_steps.refill.Stage.{Stage}
-use Rattle.step_table.specs.CellDeeds.{kind_in_state}
+use Rattle.step_table.specs.CellAtomicSteps.{kind_in_state}
 use Rattle.step_table.specs.Cells.{IsOpenTo, word_of_cell}
 use Rattle.step_table.specs.Contents.{compared_in, is_of, is_spent, seen}
-use Rattle.step_table.specs.Holdings.{HoldsBag, slot_pointer, slot_value}
+use Rattle.step_table.specs.Registers.{HoldsBag, slot_pointer, slot_value}
 use Rattle.step_table.specs.Refills.{RefillFits}
-use Rattle.step_table.specs.Stories.{Kept, Story, story_state}
-use Rattle.step_threads.specs.Courses.{HasCell, Walk, cell_of_name, comparing, hand, idle, is_there}
+use Rattle.step_table.specs.GhostStates.{Kept, GhostState, model_state}
+use Rattle.step_threads.specs.Frames.{HasCell, FrameView, cell_of_name, comparing, hand, idle, is_there}
 use Rattle.step_threads.specs.Programs.{IsIn, kind_at}
-use Rattle.step_threads.specs.NextSteps.{first, matched, matched_on, saw, saw_on, story_after, waits_on}
+use Rattle.step_threads.specs.NextSteps.{first, matched, matched_on, saw, saw_on, ghost_after, waits_on}
 use Rattle.step_threads.specs.Steps.{Step, step_of_act, fetches, refills_on, step_of_look}
 use Rattle.step_threads.proofs.CellNames.{cell_open}
 use Rattle.step_table.proofs.tables.Shown.{kept_cell, somewhere}
@@ -40,8 +40,8 @@ use Rattle.step_core.proofs.watching.Blocks.{IsThere, bring_off, slot_there}
 use Rattle.step_core.proofs.watching.Cells.{block_there}
 
 -- funds that are brought leave the cell's word
-brought_cell : (v : Story) (d : ℕ) (k : Kind) (b : Block) (p : Option Place) (f : ℕ) (c : Cell) → Kept v → IsOpenTo v d c → IsThere v b
-    → word_of_cell (story_after v d (Some (deed.OnCell (cell_deed.Bring k b p f)))) c ≡ word_of_cell v c
+brought_cell : (v : GhostState) (d : ℕ) (k : Kind) (b : Block) (p : Option Place) (f : ℕ) (c : Cell) → Kept v → IsOpenTo v d c → IsThere v b
+    → word_of_cell (ghost_after v d (Some (atomic_step.OnCell (cell_step.Bring k b p f)))) c ≡ word_of_cell v c
 brought_cell v d k b p f c kept way is = bring_off v d k b p f is c (somewhere v c kept (kept_cell v d c kept way))
 
 -- a cell that is there has a fund left, where nobody waits
@@ -55,12 +55,12 @@ compared_there true true fits same e = refl
 compared_there true false fits same e = absurd (false≢true (sym e))
 compared_there false there fits same e = absurd (false≢true (sym e))
 
-module _ (v : Story) (d : ℕ) (w : Walk) (kept : Kept v) (seat : d < v.extent.actors) (holds : HoldsBag d w.slots v) where
+module _ (v : GhostState) (d : ℕ) (w : FrameView) (kept : Kept v) (seat : d < v.extent.actors) (holds : HoldsBag d w.slots v) where
   -- the next act looks at its cell
   pub load_less : (k : ℕ) (t : Task) (ts : List Task) (c : CellName) → w.endings ≡ [] → w.todo ≡ t ∷ ts → t.act ≡ Load c
       → IsIn v.extent.shape c → waits_on v w (Load c) ≡ false → IsLess v d Rest w (Some (first v d w k ts (Load c)))
   load_less k t ts c none is same has left =
-      let x = cell_of_name (story_state v) w.slots c in
+      let x = cell_of_name (model_state v) w.slots c in
       cond_both (is_there w.slots c) (step_of_look v d w k ts (Load c) x None (seen v x)) (step_of_act v d w k ts (Load c) None Rest)
       (λ (s : Step). IsLess v d Rest w (Some s))
       (λ there. sees_less v d k w t ts (Load c) none is same refl refl x None (seen v x) (unspent (is_there w.slots c) (is_spent (seen v x)) there left) refl
@@ -77,7 +77,7 @@ module _ (v : Story) (d : ℕ) (w : Walk) (kept : Kept v) (seat : d < v.extent.a
       → waits_on v w (Compare i c weak) ≡ false
       → IsLess v d Rest w (Some (first v d w k ts (Compare i c weak)))
   compare_less k t ts i c weak none is same has still left =
-      let x = cell_of_name (story_state v) w.slots c in
+      let x = cell_of_name (model_state v) w.slots c in
       compares_less v d k w t ts (Compare i c weak) none is same refl refl x (compared_in w.slots (comparing w.slots i weak)) (seen v x) left refl
       (shows_seen v d x kept seat (cell_open v d w.slots c has holds (there_still i c weak still)))
 
@@ -85,10 +85,10 @@ module _ (v : Story) (d : ℕ) (w : Walk) (kept : Kept v) (seat : d < v.extent.a
   shows_still : (k : ℕ) (t : Task) (ts : List Task) (i : ℕ) (c : CellName) (weak : Bool) (x : CellWord) → w.todo ≡ t ∷ ts
       → t.act ≡ Compare i c weak
       → IsIn v.extent.shape c → is_there w.slots c ≡ true → (p : Pointer) → slot_pointer w.slots (hand w.slots) ≡ Some p
-      → shows_next (story_after v d (fetches w k x p).deed) w.slots x w.todo ≡ shows_next v w.slots x w.todo
+      → shows_next (ghost_after v d (fetches w k x p).atomic_step) w.slots x w.todo ≡ shows_next v w.slots x w.todo
   shows_still k t ts i c weak x is same has there p e =
-      let next = story_after v d (fetches w k x p).deed in
-      let b = brought_cell v d p.kind p.block p.place 256 (cell_of_name (story_state v) w.slots c) kept (cell_open v d w.slots c has holds there)
+      let next = ghost_after v d (fetches w k x p).atomic_step in
+      let b = brought_cell v d p.kind p.block p.place 256 (cell_of_name (model_state v) w.slots c) kept (cell_open v d w.slots c has holds there)
       (slot_there v d w.slots kept holds (hand w.slots) p e) in
       ap (shows_next next w.slots x) is ∙ ap (shows_on next w.slots x) same ∙ ap (λ (n : ℕ). n == cell_bits x) b
       ∙ sym (ap (shows_on v w.slots x) same) ∙ sym (ap (shows_next v w.slots x) is)
@@ -97,9 +97,9 @@ module _ (v : Story) (d : ℕ) (w : Walk) (kept : Kept v) (seat : d < v.extent.a
   saw_less : (t : Task) (ts : List Task) (x : CellWord) (a : Act) → w.endings ≡ [] → w.todo ≡ t ∷ ts → t.act ≡ a → HasCell v.extent.shape a
       → idle a w.slots w.taken ≡ false → IsSeen w.slots x (t ∷ ts) → IsLess v d (Saw x) w (saw_on v d w t.statement ts x a)
   saw_less t ts x (Load c) none is same has still held =
-      takes_less v d t.statement w t ts (Load c) none is same refl refl (cell_of_name (story_state v) w.slots c) None x refl
+      takes_less v d t.statement w t ts (Load c) none is same refl refl (cell_of_name (model_state v) w.slots c) None x refl
   saw_less t ts x (Compare i c weak) none is same has still held =
-      settles_less v d t.statement w t ts (Compare i c weak) none is same refl refl (cell_of_name (story_state v) w.slots c)
+      settles_less v d t.statement w t ts (Compare i c weak) none is same refl refl (cell_of_name (model_state v) w.slots c)
       (compared_in w.slots (comparing w.slots i weak)) x refl (shows_still t.statement t ts i c weak x is same has (there_still i c weak still))
   saw_less t ts x (Make form) none is same has still held = absurd (subst (λ (b : Act). IsSeenBy w.slots x b) same held)
   saw_less t ts x (Share i) none is same has still held = absurd (subst (λ (b : Act). IsSeenBy w.slots x b) same held)
@@ -132,7 +132,7 @@ module _ (v : Story) (d : ℕ) (w : Walk) (kept : Kept v) (seat : d < v.extent.a
       → IsMatched w.slots x (t ∷ ts)
       → IsLess v d (Matched x) w (matched_on v d w t.statement ts x a)
   swap_less t ts x (Compare i c weak) none is same held =
-      matched_less v d t.statement w t ts (Compare i c weak) none is same refl refl (cell_of_name (story_state v) w.slots c)
+      matched_less v d t.statement w t ts (Compare i c weak) none is same refl refl (cell_of_name (model_state v) w.slots c)
       (compared_in w.slots (comparing w.slots i weak)) x refl
   swap_less t ts x (Make form) none is same held = absurd (subst (λ (b : Act). IsMatchedBy w.slots x b) same held)
   swap_less t ts x (Share i) none is same held = absurd (subst (λ (b : Act). IsMatchedBy w.slots x b) same held)
@@ -169,4 +169,4 @@ module _ (v : Story) (d : ℕ) (w : Walk) (kept : Kept v) (seat : d < v.extent.a
       some_none q = cc
   refill_less s c x k (Some b) e fits =
       refills_less v d w c x k b s (shows_seen v d c kept seat fits.opens)
-      (brought_cell v d (kind_in_state (story_state v) c) b x.place x.taken c kept fits.opens (block_there v d s c x kept fits b e))
+      (brought_cell v d (kind_in_state (model_state v) c) b x.place x.taken c kept fits.opens (block_there v d s c x kept fits b e))

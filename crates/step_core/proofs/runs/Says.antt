@@ -8,44 +8,44 @@ use Rattle.control_word.specs.declared.model.handle.Kind.TheVariants.{Owner, Wea
 use Rattle.control_word.specs.Handles.{owner}
 use Rattle.control_word.specs.State.{State}
 use Rattle.step_table.specs.declared.memory.ended.Ended.{Ended}
-use Rattle.step_table.specs.declared.slots.holdings.Pointer.{Pointer}
-use Rattle.step_table.specs.Deeds.{owned, remains}
-use Rattle.step_table.specs.Stories.{Nothing, story_state}
+use Rattle.step_table.specs.declared.slots.registers.Pointer.{Pointer}
+use Rattle.step_table.specs.AtomicSteps.{owned, remains}
+use Rattle.step_table.specs.GhostStates.{Nothing, model_state}
 use Rattle.step_threads.specs.declared.programs.act.Task.{Task}
 use Rattle.step_threads.specs.declared.said.Said.{Said}
-use Rattle.step_threads.specs.Courses.{Walk}
-use Rattle.step_threads.specs.Doings.{Ahead, Over, AnAct, AnEnd, DoesAhead, Doing, IsLeaveEvent, ahead, leaves_as, put_on}
+use Rattle.step_threads.specs.Frames.{FrameView}
+use Rattle.step_threads.specs.TraceLabels.{Ahead, Over, AnAct, AnEnd, DoesAhead, TraceLabel, IsLeaveEvent, ahead, leaves_as, put_on}
 use Rattle.step_threads.specs.Rows.{Reply, row}
-use Rattle.step_threads.specs.Scenes.{Scene, remains_as, walk_of}
+use Rattle.step_threads.specs.AbstractStates.{AbstractState, remains_as, frame_of}
 use Rattle.step_core.specs.declared.trace.TraceStep.{TraceStep}
 use Rattle.step_core.specs.Following.{ActsNext, PassesQuietly, Performs, no_worth}
 use Rattle.step_core.specs.Headline.{LastLeft, TellsWhatIsLeft, step_ended}
-use Rattle.step_core.specs.Sights.{Sight, scene}
-use Rattle.step_core.proofs.runs.Doings.{Events, Another, IsDone, Locks, Leaves, Other, each, is_last_in, is_said, put, says_none, sort_of}
+use Rattle.step_core.specs.WorldStates.{WorldState, abstraction}
+use Rattle.step_core.proofs.runs.TraceLabels.{Events, Another, IsDone, Locks, Leaves, Other, each, is_last_in, is_said, put, says_none, sort_of}
 use Rattle.step_core.proofs.runs.Headline.{IsStep, asked}
 
-module _ (u : Sight) (x : TraceStep) (u' : Sight) (step : IsStep u x u') where
+module _ (u : WorldState) (x : TraceStep) (u' : WorldState) (step : IsStep u x u') where
   abbrev d : ℕ
   d = x.actor - 1
 
   abbrev s : State
-  s = story_state u.story
+  s = model_state u.ghost_state
 
-  abbrev w : Walk
-  w = walk_of (scene u) d
+  abbrev w : FrameView
+  w = frame_of (abstraction u) d
 
   abbrev Tells : Option Ended → Type 0
   Tells r = MatchOption r ((o : ℕ) → LastLeft o u x u' → ⊥) (λ y. (o : ℕ) × LastLeft o u x u' × (y ≡ remains (s.object o)))
 
   -- nobody's last owner left
-  none_left : (e : Events) → is_last_in e ≡ false → u'.story.history ≡ put_on d e u.story.history → step_ended x.stepped ≡ None
+  none_left : (e : Events) → is_last_in e ≡ false → u'.ghost_state.history ≡ put_on d e u.ghost_state.history → step_ended x.stepped ≡ None
       → TellsWhatIsLeft u x u'
   none_left e other now says =
       subst Tells (sym says)
-      (λ o l. false≢true (sym other ∙ ap is_last_in (put d e (event.Leave l.owner true) u.story.history (sym now ∙ l.left))))
+      (λ o l. false≢true (sym other ∙ ap is_last_in (put d e (event.Leave l.owner true) u.ghost_state.history (sym now ∙ l.left))))
 
   -- an owner left
-  one_left : (p : Pointer) (last : Bool) → u'.story.history ≡ put_on d (Some (leaves_as s Owner last p)) u.story.history
+  one_left : (p : Pointer) (last : Bool) → u'.ghost_state.history ≡ put_on d (Some (leaves_as s Owner last p)) u.ghost_state.history
       → step_ended x.stepped ≡ cond last (remains_as Owner (s.object (owned s p))) None → TellsWhatIsLeft u x u'
   one_left p false now says = none_left (Some (leaves_as s Owner false p)) refl now says
   one_left p true now says =
@@ -59,17 +59,17 @@ module _ (u : Sight) (x : TraceStep) (u' : Sight) (step : IsStep u x u') where
       subst Tells (sym says) (owned s p, l, refl)
 
   -- a weak pointer left
-  weak_left : (p : Pointer) (last : Bool) → u'.story.history ≡ put_on d (Some (leaves_as s Weak last p)) u.story.history
+  weak_left : (p : Pointer) (last : Bool) → u'.ghost_state.history ≡ put_on d (Some (leaves_as s Weak last p)) u.ghost_state.history
       → step_ended x.stepped ≡ cond last (remains_as Weak (s.object (owned s p))) None → TellsWhatIsLeft u x u'
   weak_left p true now says = none_left (Some (leaves_as s Weak true p)) refl now says
   weak_left p false now says = none_left (Some (leaves_as s Weak false p)) refl now says
 
   any_left : (o : Option Pointer) (last : Bool) (r : Option Ended) (e : Events) → IsLeaveEvent s o last r e
-      → u'.story.history ≡ put_on d e u.story.history → step_ended x.stepped ≡ r → TellsWhatIsLeft u x u'
+      → u'.ghost_state.history ≡ put_on d e u.ghost_state.history → step_ended x.stepped ≡ r → TellsWhatIsLeft u x u'
   any_left None last r e is now says = none_left e (ap is_last_in is.2) now (says ∙ is.1)
-  any_left (Some p) last r e is now says = go p.kind (now ∙ ap (λ (q : Events). put_on d q u.story.history) is.0) (says ∙ is.1)
+  any_left (Some p) last r e is now says = go p.kind (now ∙ ap (λ (q : Events). put_on d q u.ghost_state.history) is.0) (says ∙ is.1)
     where
-      go : (k : Kind) → u'.story.history ≡ put_on d (Some (leaves_as s k last p)) u.story.history
+      go : (k : Kind) → u'.ghost_state.history ≡ put_on d (Some (leaves_as s k last p)) u.ghost_state.history
           → step_ended x.stepped ≡ cond last (remains_as k (s.object (owned s p))) None → TellsWhatIsLeft u x u'
       go Owner n t = one_left p last n t
       go Weak n t = weak_left p last n t
@@ -81,8 +81,8 @@ module _ (u : Sight) (x : TraceStep) (u' : Sight) (step : IsStep u x u') where
   no_leave (Some _) is = refl
 
   module _ (p : ActsNext d u x.stepped u') where
-    abbrev y : Doing Nothing
-    y = p.doing
+    abbrev y : TraceLabel Nothing
+    y = p.trace_label
 
     says : step_ended x.stepped ≡ y.said.ended
     says = (is_said x.stepped y.said p.says).ended
@@ -93,7 +93,7 @@ module _ (u : Sight) (x : TraceStep) (u' : Sight) (step : IsStep u x u') where
     by_act t r tells (Leaves o last l is silent ended) = any_left o last l y.event is p.history (says ∙ tells ∙ ended)
     by_act t r tells (Locks i must got e f leaves ended) = none_left y.event leaves p.history (says ∙ tells ∙ ended)
 
-    by_ahead : (a : Ahead) → DoesAhead no_worth s w y (walk_of (scene u') d) a → TellsWhatIsLeft u x u'
+    by_ahead : (a : Ahead) → DoesAhead no_worth s w y (frame_of (abstraction u') d) a → TellsWhatIsLeft u x u'
     by_ahead Over does = absurd does
     by_ahead (AnEnd e es) (inl clears) =
         none_left y.event (ap is_last_in clears.makes) p.history (says ∙ ap (λ (a : Said). a.ended) clears.says)
@@ -105,5 +105,5 @@ module _ (u : Sight) (x : TraceStep) (u' : Sight) (step : IsStep u x u') where
   tells performs =
       ⊎_elim
       (λ (p : PassesQuietly d u x.stepped u').
-      none_left None refl (ap (λ (c : Scene). c.history) p.stays) (says_none d x.stepped p.silent).1)
+      none_left None refl (ap (λ (c : AbstractState). c.history) p.stays) (says_none d x.stepped p.silent).1)
       (λ (p : ActsNext d u x.stepped u'). by_ahead p (ahead w) p.does) performs

@@ -11,26 +11,27 @@ use Rattle.control_word.specs.declared.model.event.Event.{Event}
 use Rattle.control_word.specs.declared.model.view.View.{View}
 use Rattle.control_word.specs.Histories.{entry}
 use Rattle.control_word.specs.Views.{used_up}
-use Rattle.step_table.specs.declared.memory.past.Deed.{Deed}
-use Rattle.step_table.specs.Holdings.{HoldsBag}
-use Rattle.step_table.specs.Stories.{Kept, Nothing, Story, event_added, event_of, story_state}
+use Rattle.step_table.specs.declared.memory.past.AtomicStep.{AtomicStep}
+use Rattle.step_table.specs.Registers.{HoldsBag}
+use Rattle.step_table.specs.GhostStates.{Kept, Nothing, GhostState, event_added, event_of, model_state}
 use Rattle.step_threads.specs.declared.ending.Ending.{Ending}
 use Rattle.step_threads.specs.declared.programs.act.Task.{Task}
-use Rattle.step_threads.specs.declared.half.Half.{Half}
-use Rattle.step_threads.specs.declared.half.Half.TheVariants.{Rest}
+use Rattle.step_threads.specs.declared.pending_call.PendingCall.{PendingCall}
+use Rattle.step_threads.specs.declared.pending_call.PendingCall.TheVariants.{Rest}
 use Rattle.step_threads.specs.declared.said.Said.{Said}
 use Rattle.step_threads.specs.declared.said.Stepped.{Stepped}
 use Rattle.step_threads.specs.declared.said.Stepped.TheVariants.{Event as Happened, Quiet, Waited, Done}
 use Rattle.step_threads.specs.declared.thread.Thread.{Thread}
-use Rattle.step_threads.specs.Actors.{HalfFits}
-use Rattle.step_threads.specs.Courses.{Walk, task_at, walk}
-use Rattle.step_threads.specs.Scenes.{nowhere, walk_of}
-use Rattle.step_threads.specs.NextSteps.{answered, at_rest, begun, half_by, deed_is_event as is_done, stepped, story_after, story_by, waits_at, walk_by}
+use Rattle.step_threads.specs.Actors.{PendingCallFits}
+use Rattle.step_threads.specs.Frames.{FrameView, task_at, frame_view}
+use Rattle.step_threads.specs.AbstractStates.{nowhere, frame_of}
+use Rattle.step_threads.specs.NextSteps.{answered, at_rest, begun, pending_call_by, atomic_step_is_event as is_done, stepped, ghost_after, ghost_by, waits_at}
+use Rattle.step_threads.specs.NextSteps.{frame_by}
 use Rattle.step_threads.specs.Steps.{Step}
-use Rattle.step_core.specs.Sights.{AllHold, AllRestIdle, Sight, TakesStep, half_of, is_event, scene}
+use Rattle.step_core.specs.WorldStates.{AllHold, AllRestIdle, WorldState, TakesStep, pending_call_of, is_event, abstraction}
 use Rattle.step_core.specs.Turning.{HasBegun}
-use Rattle.step_core.specs.Worlds.{Advances, AllFit, Steps, step_of, thread_half, thread_walk}
-use Rattle.step_core.proofs.Worlds.{sight}
+use Rattle.step_core.specs.Worlds.{Advances, AllFit, Steps, step_of, thread_pending, thread_frame}
+use Rattle.step_core.proofs.Worlds.{world_state}
 use Rattle.step_core.proofs.following.Steps.{performs}
 use Rattle.step_core.proofs.runs.Extents.{extent_step}
 use Rattle.step_core.proofs.runs.Measures.{at_end}
@@ -50,69 +51,69 @@ by_event : (d : ℕ) (h : History) (y : Option (Event Nothing)) → OneMore d h 
 by_event d h None = same_history d h
 by_event d h (Some e) = (λ t. (e, refl), λ f. absurd (false≢true (sym f)))
 
-by_deed : (d : ℕ) (v : Story) (z : Option Deed) → OneMore d v.history (is_done v z) (story_after v d z).history
-by_deed d v None = same_history d v.history
-by_deed d v (Some x) = by_event d v.history (event_of (story_state v) x)
+by_atomic_step : (d : ℕ) (v : GhostState) (z : Option AtomicStep) → OneMore d v.history (is_done v z) (ghost_after v d z).history
+by_atomic_step d v None = same_history d v.history
+by_atomic_step d v (Some x) = by_event d v.history (event_of (model_state v) x)
 
 event_on : (b : Bool) (x : Said) → is_event (cond b (Happened x) (Quiet x)) ≡ b
 event_on true x = refl
 event_on false x = refl
 
-by_step : (d : ℕ) (v : Story) (o : Option Step) → OneMore d v.history (is_event (stepped v o)) (story_by v d o).history
+by_step : (d : ℕ) (v : GhostState) (o : Option Step) → OneMore d v.history (is_event (stepped v o)) (ghost_by v d o).history
 by_step d v None = same_history d v.history
 by_step d v (Some x) =
-    subst (λ (b : Bool). OneMore d v.history b (story_after v d x.deed).history)
-    (sym (event_on (is_done v x.deed) x.said)) (by_deed d v x.deed)
+    subst (λ (b : Bool). OneMore d v.history b (ghost_after v d x.atomic_step).history)
+    (sym (event_on (is_done v x.atomic_step) x.said)) (by_atomic_step d v x.atomic_step)
 
-by_answer : (d : ℕ) (u : Sight) (r : Stepped) (u' : Sight) → IsTold d u r u'
-    → OneMore d u.story.history (is_event r) u'.story.history
+by_answer : (d : ℕ) (u : WorldState) (r : Stepped) (u' : WorldState) → IsTold d u r u'
+    → OneMore d u.ghost_state.history (is_event r) u'.ghost_state.history
 by_answer d u r u' (inl still) =
-    subst (λ (h : History). OneMore d u.story.history (is_event r) h) (sym still.1)
-    (subst (λ (s : Stepped). OneMore d u.story.history (is_event s) u.story.history) (sym still.0)
-    (same_history d u.story.history))
+    subst (λ (h : History). OneMore d u.ghost_state.history (is_event r) h) (sym still.1)
+    (subst (λ (s : Stepped). OneMore d u.ghost_state.history (is_event s) u.ghost_state.history) (sym still.0)
+    (same_history d u.ghost_state.history))
 by_answer d u r u' (inr said) =
-    subst (λ (h : History). OneMore d u.story.history (is_event r) h) (sym said.1)
-    (subst (λ (s : Stepped). OneMore d u.story.history (is_event s) (story_by u.story d (step_of d u)).history)
+    subst (λ (h : History). OneMore d u.ghost_state.history (is_event r) h) (sym said.1)
+    (subst (λ (s : Stepped). OneMore d u.ghost_state.history (is_event s) (ghost_by u.ghost_state d (step_of d u)).history)
     (sym said.0)
-    (by_step d u.story (step_of d u)))
+    (by_step d u.ghost_state (step_of d u)))
 
 -- a thread at its end answers so
-over_answer : (v : Story) (d : ℕ) (h : Half) (w : Walk) → h ≡ Rest → w.endings ≡ [] → w.todo ≡ []
+over_answer : (v : GhostState) (d : ℕ) (h : PendingCall) (w : FrameView) → h ≡ Rest → w.endings ≡ [] → w.todo ≡ []
     → answered v d h w ≡ Done
 over_answer v d h w rests none done =
-    ap (λ (k : Half). answered v d k w) rests
+    ap (λ (k : PendingCall). answered v d k w) rests
     ∙ ap (λ (es : List Ending). cond (waits_at v w es w.todo) Waited (stepped v (at_rest v d w es))) none
     ∙ ap (λ (ts : List Task). cond (waits_at v w [] ts) Waited (stepped v (begun v d w ts))) done
 
 -- the slots of threads that have what their desks have
-pub all_hold : (v : Story) (threads : List Thread) → AllFit v threads → AllHold (sight v threads)
+pub all_hold : (v : GhostState) (threads : List Thread) → AllFit v threads → AllHold (world_state v threads)
 all_hold v threads all d lt =
     ⊎_elim
     (λ (p : (t : Thread) × (d < length threads) × (slice_get threads d ≡ Some t) × (get_or threads d t ≡ t)).
-    let w : get_or (map thread_walk threads) d nowhere ≡ walk p.0.course = get_or-map thread_walk threads d p.0
-    nowhere p.1 ∙ ap thread_walk p.3 in
-    subst (λ (k : Walk). HoldsBag d k.slots v) (sym w) (all.each d p.0 p.2).holds)
+    let w : get_or (map thread_frame threads) d nowhere ≡ frame_view p.0.frame = get_or-map thread_frame threads d p.0
+    nowhere p.1 ∙ ap thread_frame p.3 in
+    subst (λ (k : FrameView). HoldsBag d k.slots v) (sym w) (all.each d p.0 p.2).holds)
     (λ (q : (length threads ≤ d) × (slice_get threads d ≡ None)). absurd
-    (let le = q.0 in let m = length-map threads thread_walk in omega (arith, le, m, lt)))
+    (let le = q.0 in let m = length-map threads thread_frame in omega (arith, le, m, lt)))
     (slice_get_cases threads d).1
 
 -- threads that have begun nothing have no call half done, and beyond the threads nobody has one
-pub all_idle : (v : Story) (threads : List Thread) → AllFit v threads → length (map thread_walk threads) ≡ v.extent.actors → Kept v
-    → AllRestIdle (sight v threads)
+pub all_idle : (v : GhostState) (threads : List Thread) → AllFit v threads → length (map thread_frame threads) ≡ v.extent.actors → Kept v
+    → AllRestIdle (world_state v threads)
 all_idle v threads all many kept d rests =
     ⊎_elim
     (λ (p : (t : Thread) × (d < length threads) × (slice_get threads d ≡ Some t) × (get_or threads d t ≡ t)).
     let t = p.0 in
-    let h : get_or (map thread_half threads) d Rest ≡ t.half = get_or-map thread_half threads d t Rest p.1 ∙ ap thread_half p.3 in
-    subst (λ (k : Half). HalfFits d k t.course.holdings.slots.items (task_at t.course).act v) (sym h ∙ rests) (all.each d t p.2).half)
+    let h : get_or (map thread_pending threads) d Rest ≡ t.pending_call = get_or-map thread_pending threads d t Rest p.1 ∙ ap thread_pending p.3 in
+    subst (λ (k : PendingCall). PendingCallFits d k t.frame.registers.slots.items (task_at t.frame).act v) (sym h ∙ rests) (all.each d t p.2).pending_call)
     (λ (q : (length threads ≤ d) × (slice_get threads d ≡ None)).
     let le = q.0 in
     ap (λ (w : View Nothing). w.pending)
-    (get_or_past v.views d used_up (let s = kept.seats.size in let m = length-map threads thread_walk in omega (arith, s, le, many, m))))
+    (get_or_past v.views d used_up (let s = kept.seats.size in let m = length-map threads thread_frame in omega (arith, s, le, many, m))))
     (slice_get_cases threads d).1
 
-pub advances : (d : ℕ) (u u' : Sight) (r : Stepped) → HasBegun d u → Steps d u r u' → r ≢ Waited → length u'.walks ≡ length u.walks
-    → Kept u'.story → AllHold u' → AllRestIdle u'
+pub advances : (d : ℕ) (u u' : WorldState) (r : Stepped) → HasBegun d u → Steps d u r u' → r ≢ Waited → length u'.frame_views ≡ length u.frame_views
+    → Kept u'.ghost_state → AllHold u' → AllRestIdle u'
     → Advances d u r u'
 advances d u u' r begun steps never actors kept hands idle =
     let x = step_of d u in
@@ -122,13 +123,13 @@ advances d u u' r begun steps never actors kept hands idle =
       quiet = one.1;
       over = (
         λ e. (at_end d u u' begun (subst (λ (s : Stepped). Steps d u s u') e steps)).1,
-        λ over. steps.0 ∙ over_answer u.story d (half_of u d) (walk_of (scene u) d) over.half over.endings over.walk,
+        λ over. steps.0 ∙ over_answer u.ghost_state d (pending_call_of u d) (frame_of (abstraction u) d) over.pending_call over.endings over.frame_view,
       );
       stays = λ e. (at_end d u u' begun (subst (λ (s : Stepped). Steps d u s u') e steps)).0;
-      walks = λ e ne. ap (λ (w : Sight). walk_of (scene w) e) steps.1
-          ∙ get_or-set_other u.walks d e (walk_by (walk_of (scene u) d) x) nowhere ne;
-      halves =
-          λ e ne. ap (λ (w : Sight). half_of w e) steps.1 ∙ get_or-set_other u.halves d e (half_by (half_of u d) x)
+      frame_views = λ e ne. ap (λ (w : WorldState). frame_of (abstraction w) e) steps.1
+          ∙ get_or-set_other u.frame_views d e (frame_by (frame_of (abstraction u) d) x) nowhere ne;
+      pending_calls =
+          λ e ne. ap (λ (w : WorldState). pending_call_of w e) steps.1 ∙ get_or-set_other u.pending_calls d e (pending_call_by (pending_call_of u d) x)
           Rest ne;
       actors = actors;
       extent = extent_step d u u' r steps;

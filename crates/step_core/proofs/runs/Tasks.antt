@@ -3,28 +3,28 @@ use Rattle.std.proofs.Common.{◌≡◌, ℕ, ◌+◌, ◌-◌, ◌*◌, ◌≤�
 use Rattle.std.specs.Prelude.{Some, slice_get, sum_by}
 use Rattle.std.proofs.lemmas.List.{length-map}
 use Rattle.std.proofs.lemmas.List.Sums.{sum_by-cons}
-use Rattle.step_threads.specs.declared.half.Half.{Half}
-use Rattle.step_threads.specs.declared.half.Half.TheVariants.{Rest, Making, Locking, Giving, Brought, Saw, Matched, Refill, Returning, Clearing}
+use Rattle.step_threads.specs.declared.pending_call.PendingCall.{PendingCall}
+use Rattle.step_threads.specs.declared.pending_call.PendingCall.TheVariants.{Rest, Making, Locking, Giving, Brought, Saw, Matched, Refill, Returning, Clearing}
 use Rattle.step_threads.specs.declared.thread.Thread.{Thread}
-use Rattle.step_core.specs.Bounds.{left_to_do, living, most_steps, spare, steps_of, walk_steps}
-use Rattle.step_table.specs.Stories.{Kept, Story}
-use Rattle.step_core.specs.Told.{TotalsAreTold, sight}
-use Rattle.step_core.specs.Worlds.{AllFit, thread_half, thread_walk}
+use Rattle.step_core.specs.Bounds.{left_to_do, living, most_steps, spare, steps_of, frame_steps}
+use Rattle.step_table.specs.GhostStates.{Kept, GhostState}
+use Rattle.step_core.specs.Told.{TotalsAreTold, world_state}
+use Rattle.step_core.specs.Worlds.{AllFit, thread_pending, thread_frame}
 use Rattle.step_core.proofs.telling.Walking.{carried_most}
 
 pub all_steps : (threads : List Thread)
-    → (left_to_do (map thread_walk threads) ≤ sum_by steps_of threads + length threads)
-    × (sum_by steps_of threads ≤ left_to_do (map thread_walk threads))
+    → (left_to_do (map thread_frame threads) ≤ sum_by steps_of threads + length threads)
+    × (sum_by steps_of threads ≤ left_to_do (map thread_frame threads))
 all_steps [] = (omega arith, omega arith)
 all_steps (t ∷ ts) =
-    let a = sum_by-cons walk_steps (thread_walk t) (map thread_walk ts) in
+    let a = sum_by-cons frame_steps (thread_frame t) (map thread_frame ts) in
     let b = sum_by-cons steps_of t ts in
-    let c = carried_most t.course.endings.list t.course.holdings.slots.items in
+    let c = carried_most t.frame.endings.list t.frame.registers.slots.items in
     let i = (all_steps ts).0 in
     let j = (all_steps ts).1 in
     (omega (arith, a, b, c, i), omega (arith, a, b, c, j))
 
-spare_most : (h : Half) → spare h ≤ 22
+spare_most : (h : PendingCall) → spare h ≤ 22
 spare_most Rest = omega arith
 spare_most (Making b i differs) = flag differs i
   where
@@ -40,22 +40,23 @@ spare_most (Refill stage c x k) = omega arith
 spare_most (Returning kind b funds k) = omega arith
 spare_most Clearing = omega arith
 
-spares : (halves : List Half) → sum_by spare halves ≤ 22 * length halves
+spares : (pending_calls : List PendingCall) → sum_by spare pending_calls ≤ 22 * length pending_calls
 spares [] = omega arith
 spares (h ∷ hs) = let a = sum_by-cons spare h hs in let m = spare_most h in let i = spares hs in omega (arith, a, m, i)
 
-pub enough : (v : Story) (threads : List Thread)
-    → most_steps (sight v threads) + 6 * length (map thread_walk threads) ≤ sum_by steps_of threads + 29 * length threads + 13 * living (sight v threads)
+pub enough : (v : GhostState) (threads : List Thread)
+    → most_steps (world_state v threads) + 6 * length (map thread_frame threads) ≤ sum_by steps_of threads + 29 * length threads + 13 * living
+    (world_state v threads)
 enough v threads =
     let a = (all_steps threads).0 in
-    let b = spares (map thread_half threads) in
-    let l = length-map threads thread_half in
-    let m = length-map threads thread_walk in
+    let b = spares (map thread_pending threads) in
+    let l = length-map threads thread_pending in
+    let m = length-map threads thread_frame in
     omega (arith, a, b, l, m)
 
 -- what the totals say of it
-pub few_steps : (v : Story) (threads : List Thread) (m e : ℕ) → TotalsAreTold (sight v threads) m e
-    → (sum_by steps_of threads + 13 * (m - e) ≤ 8589807616) × (living (sight v threads) ≡ m - e)
+pub few_steps : (v : GhostState) (threads : List Thread) (m e : ℕ) → TotalsAreTold (world_state v threads) m e
+    → (sum_by steps_of threads + 13 * (m - e) ≤ 8589807616) × (living (world_state v threads) ≡ m - e)
 few_steps v threads m e told =
     let a = (all_steps threads).1 in
     let f = told.few in
@@ -64,10 +65,10 @@ few_steps v threads m e told =
     let q = told.ended in
     (omega (arith, a, f, o), omega (arith, p, q))
 
-pub within : (v : Story) (threads : List Thread) → AllFit v threads → (d : ℕ) (t : Thread) → slice_get threads d ≡ Some t
-    → t.course.at ≤ length t.course.tasks.items
+pub within : (v : GhostState) (threads : List Thread) → AllFit v threads → (d : ℕ) (t : Thread) → slice_get threads d ≡ Some t
+    → t.frame.at ≤ length t.frame.tasks.items
 within v threads all d t at = (all.each d t at).within
 
-pub few_threads : (v : Story) (threads : List Thread) (m e : ℕ) → Kept v → TotalsAreTold (sight v threads) m e → length threads ≤ 64
+pub few_threads : (v : GhostState) (threads : List Thread) (m e : ℕ) → Kept v → TotalsAreTold (world_state v threads) m e → length threads ≤ 64
 few_threads v threads m e kept told =
-    let l = length-map threads thread_walk in let t = told.threads in let f = kept.proper.few in omega (arith, l, t, f)
+    let l = length-map threads thread_frame in let t = told.threads in let f = kept.proper.few in omega (arith, l, t, f)

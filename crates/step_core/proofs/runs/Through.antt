@@ -1,36 +1,36 @@
 -- What holds all through a run.
 use Rattle.std.proofs.Common.{◌≡◌, ℕ, ◌-◌, List, [], ◌∷◌, length, sym, ap, subst, ◌∙◌}
 use Rattle.step_table.specs.declared.memory.extent.Extent.{Extent}
-use Rattle.step_table.specs.Stories.{Kept, Seats}
+use Rattle.step_table.specs.GhostStates.{Kept, Seats}
 use Rattle.step_core.specs.declared.trace.TraceStep.{TraceStep}
 use Rattle.step_core.specs.Chains.{Through}
 use Rattle.step_core.specs.Headline.{AfterEach, OfEach}
 use Rattle.step_core.specs.Runs.{IsRun}
 use Rattle.step_core.specs.Following.{Performs}
-use Rattle.step_core.specs.Sights.{AllHold, AllRestIdle, Sight}
+use Rattle.step_core.specs.WorldStates.{AllHold, AllRestIdle, WorldState}
 use Rattle.step_core.specs.Worlds.{Advances}
 use Rattle.step_core.proofs.runs.Locks.{tells_locks}
 use Rattle.step_core.proofs.runs.Headline.{IsStep, counts, last_leaves, locks, values}
 use Rattle.step_core.proofs.runs.Says.{tells}
 
 -- what steps keep
-pub record Goes (u : Sight) : Type 0 where
-  pub kept : Kept u.story
-  pub actors : length u.walks ≡ u.story.extent.actors
+pub record Goes (u : WorldState) : Type 0 where
+  pub kept : Kept u.ghost_state
+  pub actors : length u.frame_views ≡ u.ghost_state.extent.actors
   pub hands : AllHold u
   pub idle : AllRestIdle u
 
-after_each : (u : Sight) → Goes u → AfterEach u
+after_each : (u : WorldState) → Goes u → AfterEach u
 after_each u goes =
     record {
       counts = counts u goes.kept;
       once = values u goes.kept;
       hands = goes.hands;
-      views = subst (λ (n : ℕ). Seats u.story.views n) (sym goes.actors) goes.kept.seats;
+      views = subst (λ (n : ℕ). Seats u.ghost_state.views n) (sym goes.actors) goes.kept.seats;
       idle = goes.idle;
     }
 
-of_each : (u : Sight) (x : TraceStep) (m : Sight) → IsStep u x m → Performs (x.actor - 1) u x.stepped m → OfEach u x m
+of_each : (u : WorldState) (x : TraceStep) (m : WorldState) → IsStep u x m → Performs (x.actor - 1) u x.stepped m → OfEach u x m
 of_each u x m step performs =
     record {
       locks = locks u x m step;
@@ -39,7 +39,7 @@ of_each u x m step performs =
       told = tells u x m step performs;
     }
 
-goes_on : (u : Sight) (x : TraceStep) (m : Sight) → Goes u → Advances (x.actor - 1) u x.stepped m → Goes m
+goes_on : (u : WorldState) (x : TraceStep) (m : WorldState) → Goes u → Advances (x.actor - 1) u x.stepped m → Goes m
 goes_on u x m goes a =
     record {
       kept = a.kept;
@@ -48,7 +48,7 @@ goes_on u x m goes a =
       idle = a.takes.idle;
     }
 
-pub through : (u u' : Sight) (xs : List TraceStep) → IsRun u xs u' → Goes u
+pub through : (u u' : WorldState) (xs : List TraceStep) → IsRun u xs u' → Goes u
     → Through AfterEach (λ m x w. OfEach m x w × Advances (x.actor - 1) m x.stepped w) u xs u'
 through u u' [] run goes = (after_each u goes, run)
 through u u' (x ∷ xs) run goes =

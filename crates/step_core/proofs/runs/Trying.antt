@@ -9,53 +9,53 @@ use Rattle.control_word.specs.declared.place.Block.{Block}
 use Rattle.control_word.specs.Packing.{cell_bits}
 use Rattle.step_threads.specs.declared.programs.act.Act.{Act}
 use Rattle.step_threads.specs.declared.programs.act.Task.{Task}
-use Rattle.step_threads.specs.declared.half.Half.{Half}
-use Rattle.step_threads.specs.declared.half.Half.TheVariants.{Rest, Saw, Matched, Refill}
-use Rattle.step_table.specs.declared.cell_steps.cell_deed.Cell.{Cell}
-use Rattle.step_table.specs.declared.cell_steps.cell_deed.CellDeed.TheVariants as cell_deed
-use Rattle.step_table.specs.declared.cell_steps.cell_deed.Compared.{Compared}
-use Rattle.step_table.specs.declared.slots.holdings.Pointer.{Pointer}
-use Rattle.step_table.specs.declared.memory.past.Deed.TheVariants as deed
+use Rattle.step_threads.specs.declared.pending_call.PendingCall.{PendingCall}
+use Rattle.step_threads.specs.declared.pending_call.PendingCall.TheVariants.{Rest, Saw, Matched, Refill}
+use Rattle.step_table.specs.declared.cell_steps.cell_step.Cell.{Cell}
+use Rattle.step_table.specs.declared.cell_steps.cell_step.CellStep.TheVariants as cell_step
+use Rattle.step_table.specs.declared.cell_steps.cell_step.Compared.{Compared}
+use Rattle.step_table.specs.declared.slots.registers.Pointer.{Pointer}
+use Rattle.step_table.specs.declared.memory.past.AtomicStep.TheVariants as atomic_step
 use Rattle.step_table.specs.declared.cell_steps.refill.Stage.{Stage}
 use Rattle.step_table.specs.declared.cell_steps.refill.Stage.TheVariants.{Turning, Checking, Lacking, Refilling, Failing}
-use Rattle.step_table.specs.CellDeeds.{kind_in_state}
+use Rattle.step_table.specs.CellAtomicSteps.{kind_in_state}
 use Rattle.control_word.specs.declared.model.handle.Kind.{Kind}
 use Rattle.step_table.specs.Cells.{IsOpenTo, word_of_cell}
 use Rattle.step_table.specs.Contents.{is_spent, same_value, seen}
-use Rattle.step_table.specs.Deeds.{on}
-use Rattle.step_table.specs.Holdings.{slot_pointer}
+use Rattle.step_table.specs.AtomicSteps.{on}
+use Rattle.step_table.specs.Registers.{slot_pointer}
 use Rattle.step_table.specs.Refills.{is_drained, is_low, more_taken}
-use Rattle.step_table.specs.Stories.{Kept, Story, story_state}
-use Rattle.step_threads.specs.Courses.{Walk, hand}
-use Rattle.step_threads.specs.Scenes.{went}
-use Rattle.step_threads.specs.NextSteps.{stepped as stepped_by, story_after}
+use Rattle.step_table.specs.GhostStates.{Kept, GhostState, model_state}
+use Rattle.step_threads.specs.Frames.{FrameView, hand}
+use Rattle.step_threads.specs.AbstractStates.{went}
+use Rattle.step_threads.specs.NextSteps.{stepped as stepped_by, ghost_after}
 use Rattle.step_threads.specs.Steps.{Step, step_of_act, step_of_compare, fetches, gives_back, matches, missed, refills_on, step_of_look, settles, takes, within}
 use Rattle.step_table.proofs.contained.Coming.{seen_found}
-use Rattle.step_core.specs.Bounds.{alone, refill_steps, shows_next, shows_on, spare, walk_steps, weight}
+use Rattle.step_core.specs.Bounds.{alone, refill_steps, shows_next, shows_on, spare, frame_steps, weight}
 use Rattle.step_core.proofs.runs.Alone.{IsLess, Lessens, alone_matched, alone_saw, none_made, plain_less}
 use Rattle.step_core.specs.Told.{is_prepared}
 use Rattle.step_core.proofs.telling.Leaves.{leaves_by}
 use Rattle.step_core.proofs.telling.Walking.{went_still}
 
 -- what a cell shows is what was seen of it
-pub shows_seen : (v : Story) (d : ℕ) (c : Cell) → Kept v → d < v.extent.actors → IsOpenTo v d c → (word_of_cell v c == cell_bits (seen v c)) ≡ true
+pub shows_seen : (v : GhostState) (d : ℕ) (c : Cell) → Kept v → d < v.extent.actors → IsOpenTo v d c → (word_of_cell v c == cell_bits (seen v c)) ≡ true
 shows_seen v d c kept seat way = eq-eqb _ _ (seen_found v d c kept seat way).shows.bits
 
-alone_missed : (v : Story) (w : Walk) (k : ℕ) (o : Option Pointer) → (alone v w (missed k o) ≤ 16) × (spare (missed k o) ≤ 15)
+alone_missed : (v : GhostState) (w : FrameView) (k : ℕ) (o : Option Pointer) → (alone v w (missed k o) ≤ 16) × (spare (missed k o) ≤ 15)
 alone_missed v w k None = (omega arith, omega arith)
 alone_missed v w k (Some x) = (omega arith, omega arith)
 
-pub alone_back : (v : Story) (w : Walk) (q : Kind) (k : ℕ) (x : CellWord) (o : Option Block) → (alone v w (gives_back q k x o) ≤ 16)
+pub alone_back : (v : GhostState) (w : FrameView) (q : Kind) (k : ℕ) (x : CellWord) (o : Option Block) → (alone v w (gives_back q k x o) ≤ 16)
     × (spare (gives_back q k x o) ≤ 15)
 alone_back v w q k x None = (omega arith, omega arith)
 alone_back v w q k x (Some b) = (omega arith, omega arith)
 
-module _ (v : Story) (d k : ℕ) (w : Walk) (t : Task) (ts : List Task) (a : Act) (none : w.endings ≡ []) (is : w.todo ≡ t ∷ ts) (same : t.act ≡ a)
+module _ (v : GhostState) (d k : ℕ) (w : FrameView) (t : Task) (ts : List Task) (a : Act) (none : w.endings ≡ []) (is : w.todo ≡ t ∷ ts) (same : t.act ≡ a)
     (heavy : weight a ≡ 7) (stays : leaves_by w.slots a ≡ None) where
   -- the act has the steps of its fund, and of those that are put back
-  went_cell : walk_steps (went (story_state v) d w k ts a) + 7 ≤ walk_steps w
+  went_cell : frame_steps (went (model_state v) d w k ts a) + 7 ≤ frame_steps w
   went_cell =
-      let l = went_still (story_state v) d k w t ts a none is stays in
+      let l = went_still (model_state v) d k w t ts a none is stays in
       let j : weight t.act ≡ 7 = ap weight same ∙ heavy in
       omega (arith, l, j)
 
@@ -73,11 +73,11 @@ module _ (v : Story) (d k : ℕ) (w : Walk) (t : Task) (ts : List Task) (a : Act
       → (word_of_cell v c == cell_bits x) ≡ true → IsLess v d Rest w (Some (step_of_look v d w k ts a c y x))
   sees_less c y x left on_act shows =
       cond_both (is_spent x) (within w k None Rest)
-      (cond (is_some x.owned) (within w k None (Saw x)) (step_of_act v d w k ts a (Some (deed.OnCell (cell_deed.Look c x y))) Rest))
+      (cond (is_some x.owned) (within w k None (Saw x)) (step_of_act v d w k ts a (Some (atomic_step.OnCell (cell_step.Look c x y))) Rest))
       (λ (s : Step). IsLess v d Rest w (Some s)) (λ spent. absurd (false≢true (sym left ∙ spent)))
-      (λ f. cond_both (is_some x.owned) (within w k None (Saw x)) (step_of_act v d w k ts a (Some (deed.OnCell (cell_deed.Look c x y))) Rest)
+      (λ f. cond_both (is_some x.owned) (within w k None (Saw x)) (step_of_act v d w k ts a (Some (atomic_step.OnCell (cell_step.Look c x y))) Rest)
       (λ (s : Step). IsLess v d Rest w (Some s)) (λ e. tries_next c x on_act shows)
-      (λ e. plain_less v d k Rest w t ts a (Some (deed.OnCell (cell_deed.Look c x y))) refl stays none is (omega arith) (omega arith)))
+      (λ e. plain_less v d k Rest w t ts a (Some (atomic_step.OnCell (cell_step.Look c x y))) refl stays none is (omega arith) (omega arith)))
 
   pub compares_less : (c : Cell) (y : Compared) (x : CellWord) → (not (same_value x y.expected) && is_spent x) ≡ false
       → shows_on v w.slots x a ≡ (word_of_cell v c == cell_bits x) → (word_of_cell v c == cell_bits x) ≡ true
@@ -91,7 +91,7 @@ module _ (v : Story) (d k : ℕ) (w : Walk) (t : Task) (ts : List Task) (a : Act
   pub takes_less : (c : Cell) (y : Option Compared) (x : CellWord) → shows_on v w.slots x a ≡ (word_of_cell v c == cell_bits x)
       → IsLess v d (Saw x) w (Some (takes v d w k ts a c y x))
   takes_less c y x on_act =
-      let done = step_of_act v d w k ts a (Some (deed.OnCell (cell_deed.Take c x y))) (Refill Turning c (more_taken x) k) in
+      let done = step_of_act v d w k ts a (Some (atomic_step.OnCell (cell_step.Take c x y))) (Refill Turning c (more_taken x) k) in
       cond_both (word_of_cell v c == cell_bits x) done (within w k None Rest) (λ (s : Step). IsLess v d (Saw x) w (Some s))
       (λ e.
       let s = alone_saw v w x true (shown x c on_act ∙ e) in
@@ -101,15 +101,16 @@ module _ (v : Story) (d k : ℕ) (w : Walk) (t : Task) (ts : List Task) (a : Act
       (λ e. let s = alone_saw v w x false (shown x c on_act ∙ e) in record { own = omega (arith, s); most = omega arith })
 
   -- the cell is swapped, where it shows the same still
-  matches_less : (h : Half) (c : Cell) (y : Compared) (x : CellWord) → is_prepared h ≡ false → spare h ≡ 15
+  matches_less : (h : PendingCall) (c : Cell) (y : Compared) (x : CellWord) → is_prepared h ≡ false → spare h ≡ 15
       → ((word_of_cell v c == cell_bits x) ≡ true → 10 ≤ alone v w h) → ((word_of_cell v c == cell_bits x) ≡ false → 17 ≤ alone v w h)
       → IsLess v d h w (Some (matches v d w k ts a c y x))
   matches_less h c y x unmade keeps hits misses =
-      let done = step_of_act v d w k ts a (Some (deed.OnCell (cell_deed.CompareSwap c x y))) (gives_back (kind_in_state (story_state v) c) k x x.owned) in
+      let done = step_of_act v d w k ts a (Some (atomic_step.OnCell (cell_step.CompareSwap c x y))) (gives_back (kind_in_state (model_state v) c) k x x.owned)
+      in
       let out = slot_pointer w.slots (hand w.slots) in
       cond_both (word_of_cell v c == cell_bits x) done (within w k None (missed k out)) (λ (s : Step). IsLess v d h w (Some s))
       (λ e.
-      let r = alone_back (story_after v d done.deed) done.walk (kind_in_state (story_state v) c) k x x.owned in
+      let r = alone_back (ghost_after v d done.atomic_step) done.frame_view (kind_in_state (model_state v) c) k x x.owned in
       let l = went_cell in
       let m = none_made h (stepped_by v (Some done)) unmade in
       let low = hits e in
@@ -126,7 +127,7 @@ module _ (v : Story) (d k : ℕ) (w : Walk) (t : Task) (ts : List Task) (a : Act
   -- what is to go in has its funds brought first, and what the cell showed is shown still
   fetches_less : (c : Cell) (y : Compared) (x : CellWord) → shows_on v w.slots x a ≡ (word_of_cell v c == cell_bits x)
       → ((p : Pointer) → slot_pointer w.slots (hand w.slots) ≡ Some p
-      → shows_next (story_after v d (fetches w k x p).deed) w.slots x w.todo ≡ shows_next v w.slots x w.todo)
+      → shows_next (ghost_after v d (fetches w k x p).atomic_step) w.slots x w.todo ≡ shows_next v w.slots x w.todo)
       → (o : Option Pointer) → slot_pointer w.slots (hand w.slots) ≡ o → IsLess v d (Saw x) w (Some (on (fetches w k x) (matches v d w k ts a c y x) o))
   fetches_less c y x on_act keeps None e =
       matches_less (Saw x) c y x refl refl
@@ -134,8 +135,8 @@ module _ (v : Story) (d k : ℕ) (w : Walk) (t : Task) (ts : List Task) (a : Act
       (λ s. let z = alone_saw v w x false (shown x c on_act ∙ s) in omega (arith, z))
   fetches_less c y x on_act keeps (Some p) e = go (shows_next v w.slots x w.todo) refl
     where
-      next : Story
-      next = story_after v d (fetches w k x p).deed
+      next : GhostState
+      next = ghost_after v d (fetches w k x p).atomic_step
 
       go : (b : Bool) → shows_next v w.slots x w.todo ≡ b → IsLess v d (Saw x) w (Some (fetches w k x p))
       go true shows =
@@ -147,7 +148,7 @@ module _ (v : Story) (d k : ℕ) (w : Walk) (t : Task) (ts : List Task) (a : Act
 
   pub settles_less : (c : Cell) (y : Compared) (x : CellWord) → shows_on v w.slots x a ≡ (word_of_cell v c == cell_bits x)
       → ((p : Pointer) → slot_pointer w.slots (hand w.slots) ≡ Some p
-      → shows_next (story_after v d (fetches w k x p).deed) w.slots x w.todo ≡ shows_next v w.slots x w.todo)
+      → shows_next (ghost_after v d (fetches w k x p).atomic_step) w.slots x w.todo ≡ shows_next v w.slots x w.todo)
       → IsLess v d (Saw x) w (Some (settles v d w k ts a c y x))
   settles_less c y x on_act keeps =
       cond_both (same_value x y.expected) (on (fetches w k x) (matches v d w k ts a c y x) (slot_pointer w.slots (hand w.slots)))
@@ -162,25 +163,25 @@ module _ (v : Story) (d k : ℕ) (w : Walk) (t : Task) (ts : List Task) (a : Act
       (λ s. let z = alone_matched v w x false (shown x c on_act ∙ s) in omega (arith, z))
 
 -- a refill goes on
-module _ (v : Story) (d : ℕ) (w : Walk) (c : Cell) (x : CellWord) (k : ℕ) (b : Block) where
+module _ (v : GhostState) (d : ℕ) (w : FrameView) (c : Cell) (x : CellWord) (k : ℕ) (b : Block) where
   pub refills_less : (s : Stage)
       → (word_of_cell v c == cell_bits (seen v c)) ≡ true
-      → (word_of_cell (story_after v d (refills_on v w Lacking c x k b).deed) c ≡ word_of_cell v c)
+      → (word_of_cell (ghost_after v d (refills_on v w Lacking c x k b).atomic_step) c ≡ word_of_cell v c)
       → IsLess v d (Refill s c x k) w (Some (refills_on v w s c x k b))
   refills_less Turning shows keeps =
-      let done = Some (deed.OnCell (cell_deed.Turn (kind_in_state (story_state v) c) b)) in
+      let done = Some (atomic_step.OnCell (cell_step.Turn (kind_in_state (model_state v) c) b)) in
       cond_both (is_low x) (Refill Checking c x k) Rest
-      (λ (g : Half). Lessens v (story_after v d done) (Refill Turning c x k) g w w 0 0) (λ e. record { own = omega arith; most = omega arith })
+      (λ (g : PendingCall). Lessens v (ghost_after v d done) (Refill Turning c x k) g w w 0 0) (λ e. record { own = omega arith; most = omega arith })
       (λ e. record { own = omega arith; most = omega arith })
   refills_less Checking shows keeps =
       let y = seen v c in
-      cond_both (is_drained x y) (Refill Lacking c y k) Rest (λ (g : Half). Lessens v v (Refill Checking c x k) g w w 0 0)
+      cond_both (is_drained x y) (Refill Lacking c y k) Rest (λ (g : PendingCall). Lessens v v (Refill Checking c x k) g w w 0 0)
       (λ e.
       let r : refill_steps (word_of_cell v c == cell_bits y) Lacking ≡ 17 = ap (λ (q : Bool). refill_steps q Lacking) shows in
       record { own = omega (arith, r); most = omega arith })
       (λ e. record { own = omega arith; most = omega arith })
   refills_less Lacking shows keeps =
-      let next = story_after v d (refills_on v w Lacking c x k b).deed in
+      let next = ghost_after v d (refills_on v w Lacking c x k b).atomic_step in
       let r : refill_steps (word_of_cell next c == cell_bits x) Refilling ≡ refill_steps (word_of_cell v c == cell_bits x) Refilling =
       ap (λ (n : ℕ). refill_steps (n == cell_bits x) Refilling) keeps in
       let l = one_less (word_of_cell v c == cell_bits x) in record { own = omega (arith, r, l); most = omega arith }
@@ -189,7 +190,7 @@ module _ (v : Story) (d : ℕ) (w : Walk) (c : Cell) (x : CellWord) (k : ℕ) (b
       one_less true = omega arith
       one_less false = omega arith
   refills_less Refilling shows keeps =
-      let hit = within w k (Some (deed.OnCell (cell_deed.Refill c x.taken))) Rest in
+      let hit = within w k (Some (atomic_step.OnCell (cell_step.Refill c x.taken))) Rest in
       cond_both (word_of_cell v c == cell_bits x) hit (within w k None (Refill Failing c x k))
       (λ (y : Step). IsLess v d (Refill Refilling c x k) w (Some y))
       (λ e.

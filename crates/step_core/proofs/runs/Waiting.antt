@@ -8,50 +8,52 @@ use Rattle.step_threads.specs.declared.programs.act.Act.TheVariants.{Move, Ask}
 use Rattle.step_threads.specs.declared.programs.act.Act.TheVariants.{Offer, Swap, Exchange, Load, Compare, Drop, OnShelf}
 use Rattle.step_threads.specs.declared.programs.act.Task.{Task}
 use Rattle.step_threads.specs.declared.ending.Ending.{Ending}
-use Rattle.step_threads.specs.declared.half.Half.{Half}
-use Rattle.step_threads.specs.declared.half.Half.TheVariants.{Rest, Making, Locking, Giving, Brought, Saw, Matched, Refill, Returning, Clearing}
+use Rattle.step_threads.specs.declared.pending_call.PendingCall.{PendingCall}
+use Rattle.step_threads.specs.declared.pending_call.PendingCall.TheVariants.{Rest, Making, Locking, Giving, Brought, Saw, Matched, Refill, Returning, Clearing}
 use Rattle.step_threads.specs.declared.said.Stepped.{Stepped}
 use Rattle.step_threads.specs.declared.said.Stepped.TheVariants.{Waited}
-use Rattle.step_table.specs.declared.cell_steps.cell_deed.CellDeed.TheVariants as cell_deed
-use Rattle.step_table.specs.declared.memory.past.Deed.TheVariants as deed
+use Rattle.step_table.specs.declared.cell_steps.cell_step.CellStep.TheVariants as cell_step
+use Rattle.step_table.specs.declared.memory.past.AtomicStep.TheVariants as atomic_step
 use Rattle.step_table.specs.Contents.{as_word, compared_in, is_spent, same_value, seen}
-use Rattle.step_table.specs.Holdings.{slot_value}
-use Rattle.step_table.specs.Stories.{Story, story_state}
-use Rattle.step_threads.specs.Courses.{Walk, cell_of_name, comparing, is_there}
-use Rattle.step_threads.specs.Scenes.{walk_of}
-use Rattle.step_threads.specs.NextSteps.{at_rest, begun, first, step_at, stepped, story_after, story_by, waits, waits_at, waits_on}
+use Rattle.step_table.specs.Registers.{slot_value}
+use Rattle.step_table.specs.GhostStates.{GhostState, model_state}
+use Rattle.step_threads.specs.Frames.{FrameView, cell_of_name, comparing, is_there}
+use Rattle.step_threads.specs.AbstractStates.{frame_of}
+use Rattle.step_threads.specs.NextSteps.{at_rest, begun, first, step_at, stepped, ghost_after, ghost_by, waits, waits_at, waits_on}
 use Rattle.step_threads.specs.Steps.{Step, step_of_act, within}
-use Rattle.step_core.specs.Worlds.{Sight, Steps, half_of, scene, step_of}
+use Rattle.step_core.specs.Worlds.{WorldState, Steps, pending_call_of, abstraction, step_of}
 
 -- a thread that waits does nothing
-abbrev Quiet : Story → ℕ → Bool → Story → Type 0
+abbrev Quiet : GhostState → ℕ → Bool → GhostState → Type 0
 Quiet v d waited v' = waited ≡ true → v' ≡ v
 
-spent : (v : Story) (d k : ℕ) (w : Walk) (x : Step) (b : Bool) → Quiet v d b (story_after v d (cond b (within w k None Rest) x).deed)
+spent : (v : GhostState) (d k : ℕ) (w : FrameView) (x : Step) (b : Bool) → Quiet v d b (ghost_after v d (cond b (within w k None Rest) x).atomic_step)
 spent v d k w x true e = refl
 spent v d k w x false e = absurd (false≢true e)
 
-guarded : (v : Story) (d k : ℕ) (w : Walk) (x y : Step) (there b : Bool)
-    → Quiet v d (there && b) (story_after v d (cond there (cond b (within w k None Rest) x) y).deed)
+guarded : (v : GhostState) (d k : ℕ) (w : FrameView) (x y : Step) (there b : Bool)
+    → Quiet v d (there && b) (ghost_after v d (cond there (cond b (within w k None Rest) x) y).atomic_step)
 guarded v d k w x y true b e = spent v d k w x b e
 guarded v d k w x y false b e = absurd (false≢true e)
 
-differs : (v : Story) (d k : ℕ) (w : Walk) (x y : Step) (same b : Bool)
-    → Quiet v d (not same && b) (story_after v d (cond same y (cond b (within w k None Rest) x)).deed)
+differs : (v : GhostState) (d k : ℕ) (w : FrameView) (x y : Step) (same b : Bool)
+    → Quiet v d (not same && b) (ghost_after v d (cond same y (cond b (within w k None Rest) x)).atomic_step)
 differs v d k w x y true b e = absurd (false≢true e)
 differs v d k w x y false b e = spent v d k w x b e
 
-act_quiet : (v : Story) (d k : ℕ) (w : Walk) (ts : List Task) (a : Act) → Quiet v d (waits_on v w a) (story_after v d (first v d w k ts a).deed)
+act_quiet : (v : GhostState) (d k : ℕ) (w : FrameView) (ts : List Task) (a : Act) → Quiet v d (waits_on v w a)
+    (ghost_after v d (first v d w k ts a).atomic_step)
 act_quiet v d k w ts (Load c) e =
-    let z = cell_of_name (story_state v) w.slots c in
+    let z = cell_of_name (model_state v) w.slots c in
     let x = seen v z in
-    guarded v d k w (cond (is_some x.owned) (within w k None (Saw x)) (step_of_act v d w k ts (Load c) (Some (deed.OnCell (cell_deed.Look z x None))) Rest))
+    guarded v d k w (cond (is_some x.owned) (within w k None (Saw x))
+    (step_of_act v d w k ts (Load c) (Some (atomic_step.OnCell (cell_step.Look z x None))) Rest))
     (step_of_act v d w k ts (Load c) None Rest) (is_there w.slots c) (is_spent x) e
 act_quiet v d k w ts (Compare i c weak) e =
-    let z = cell_of_name (story_state v) w.slots c in
+    let z = cell_of_name (model_state v) w.slots c in
     let x = seen v z in
     let y = compared_in w.slots (comparing w.slots i weak) in
-    let look = step_of_act v d w k ts (Compare i c weak) (Some (deed.OnCell (cell_deed.Look z x (Some y)))) Rest in
+    let look = step_of_act v d w k ts (Compare i c weak) (Some (atomic_step.OnCell (cell_step.Look z x (Some y)))) Rest in
     differs v d k w (cond (is_some x.owned) (within w k None (Saw x)) look) (within w k None (Saw x)) (same_value x (as_word (slot_value w.slots i)))
     (is_spent x) e
 act_quiet v d k w ts (Make form) e = absurd (false≢true e)
@@ -74,14 +76,14 @@ act_quiet v d k w ts (Exchange i c) e = absurd (false≢true e)
 act_quiet v d k w ts Drop e = absurd (false≢true e)
 act_quiet v d k w ts (OnShelf x) e = absurd (false≢true e)
 
-rest_quiet : (v : Story) (d : ℕ) (w : Walk) (es : List Ending) (ts : List Task) → w.todo ≡ ts
-    → Quiet v d (waits_at v w es ts) (story_by v d (at_rest v d w es))
+rest_quiet : (v : GhostState) (d : ℕ) (w : FrameView) (es : List Ending) (ts : List Task) → w.todo ≡ ts
+    → Quiet v d (waits_at v w es ts) (ghost_by v d (at_rest v d w es))
 rest_quiet v d w [] [] is e = absurd (false≢true e)
 rest_quiet v d w [] (t ∷ ts) is e =
-    subst (λ (l : List Task). story_by v d (begun v d w l) ≡ v) (sym is) (act_quiet v d t.statement w ts t.act e)
+    subst (λ (l : List Task). ghost_by v d (begun v d w l) ≡ v) (sym is) (act_quiet v d t.statement w ts t.act e)
 rest_quiet v d w (x ∷ es) ts is e = absurd (false≢true e)
 
-quiet : (v : Story) (d : ℕ) (h : Half) (w : Walk) → Quiet v d (waits v h w) (story_by v d (step_at v d h w))
+quiet : (v : GhostState) (d : ℕ) (h : PendingCall) (w : FrameView) → Quiet v d (waits v h w) (ghost_by v d (step_at v d h w))
 quiet v d Rest w e = rest_quiet v d w w.endings w.todo refl e
 quiet v d (Making b i differs) w e = absurd (false≢true e)
 quiet v d (Locking word) w e = absurd (false≢true e)
@@ -94,17 +96,18 @@ quiet v d (Returning kind b funds k) w e = absurd (false≢true e)
 quiet v d Clearing w e = absurd (false≢true e)
 
 -- a step waited and did nothing, or answered as it is
-abbrev pub IsTold : ℕ → Sight → Stepped → Sight → Type 0
+abbrev pub IsTold : ℕ → WorldState → Stepped → WorldState → Type 0
 IsTold d u r u' =
-    ((r ≡ Waited) × (u'.story.history ≡ u.story.history))
-    ⊎ ((r ≡ stepped u.story (step_of d u)) × (u'.story.history ≡ (story_by u.story d (step_of d u)).history))
+    ((r ≡ Waited) × (u'.ghost_state.history ≡ u.ghost_state.history))
+    ⊎ ((r ≡ stepped u.ghost_state (step_of d u)) × (u'.ghost_state.history ≡ (ghost_by u.ghost_state d (step_of d u)).history))
 
-pub told_at : (d : ℕ) (u : Sight) (r : Stepped) (u' : Sight) → Steps d u r u' → IsTold d u r u'
-told_at d u r u' steps = go (waits u.story (half_of u d) (walk_of (scene u) d)) refl steps.0
+pub told_at : (d : ℕ) (u : WorldState) (r : Stepped) (u' : WorldState) → Steps d u r u' → IsTold d u r u'
+told_at d u r u' steps = go (waits u.ghost_state (pending_call_of u d) (frame_of (abstraction u) d)) refl steps.0
   where
-    moved : u'.story.history ≡ (story_by u.story d (step_of d u)).history
-    moved = ap (λ (m : Sight). m.story.history) steps.1
+    moved : u'.ghost_state.history ≡ (ghost_by u.ghost_state d (step_of d u)).history
+    moved = ap (λ (m : WorldState). m.ghost_state.history) steps.1
 
-    go : (b : Bool) → waits u.story (half_of u d) (walk_of (scene u) d) ≡ b → r ≡ cond b Waited (stepped u.story (step_of d u)) → IsTold d u r u'
-    go true is e = inl (e, moved ∙ ap (λ (v : Story). v.history) (quiet u.story d (half_of u d) (walk_of (scene u) d) is))
+    go : (b : Bool) → waits u.ghost_state (pending_call_of u d) (frame_of (abstraction u) d) ≡ b → r ≡ cond b Waited (stepped u.ghost_state (step_of d u)) →
+        IsTold d u r u'
+    go true is e = inl (e, moved ∙ ap (λ (v : GhostState). v.history) (quiet u.ghost_state d (pending_call_of u d) (frame_of (abstraction u) d) is))
     go false is e = inr (e, moved)

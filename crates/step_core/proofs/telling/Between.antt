@@ -1,5 +1,5 @@
--- Where no thread is within an act, the counts of a block are exactly the handles on what is in it, also while an object
--- ends.
+-- Where no thread is within an act, the counts of a block are exactly the handles on what is in it, also while an
+-- object ends.
 use Rattle.std.proofs.Common.{◌≡◌, ◌≢◌, ℕ, zero, suc, ◌+◌, ◌-◌, ◌*◌, ◌<◌, ◌≤◌, ◌==◌, ◌||◌, Bool, true, false, cond, List, [], ◌∷◌, length, map}
 use Rattle.std.proofs.Common.{get_or, refl, sym, ap, subst, ◌∙◌, inl, inr}
 use Rattle.std.proofs.Common.{◌⊎◌, ⊎_elim, arith, eq-eqb, ne_eqb}
@@ -28,22 +28,22 @@ use Rattle.control_word.specs.declared.model.view.Pending.TheVariants.{Idle}
 use Rattle.control_word.specs.declared.model.view.View.{View}
 use Rattle.control_word.specs.declared.packed.counts.Counts.{Counts}
 use Rattle.step_table.specs.Openings.{opening}
-use Rattle.step_table.specs.Stories.{Kept, Nothing, Story, pending, story_state}
+use Rattle.step_table.specs.GhostStates.{Kept, Nothing, GhostState, pending, model_state}
 use Rattle.step_threads.specs.declared.ending.Ending.{Ending}
-use Rattle.step_threads.specs.declared.half.Half.{Half}
-use Rattle.step_threads.specs.declared.half.Half.TheVariants.{Rest}
+use Rattle.step_threads.specs.declared.pending_call.PendingCall.{PendingCall}
+use Rattle.step_threads.specs.declared.pending_call.PendingCall.TheVariants.{Rest}
 use Rattle.step_threads.specs.declared.thread.Thread.{Thread}
-use Rattle.step_threads.specs.Actors.{HalfFits}
-use Rattle.step_threads.specs.Courses.{Walk, task_at}
+use Rattle.step_threads.specs.Actors.{PendingCallFits}
+use Rattle.step_threads.specs.Frames.{FrameView, task_at}
 use Rattle.step_threads.specs.Endings.{IsEndingAtStage, endings_in_block}
-use Rattle.step_threads.specs.Scenes.{nowhere}
+use Rattle.step_threads.specs.AbstractStates.{nowhere}
 use Rattle.step_threads.proofs.holding.Ends.{one_more}
 use Rattle.step_core.specs.Showing.{HasNoneBegun, counts_by, ends_in, is_ending_in}
-use Rattle.step_core.specs.Told.{TotalsAreTold, sight}
+use Rattle.step_core.specs.Told.{TotalsAreTold, world_state}
 use Rattle.step_core.specs.Totals.{census_of}
-use Rattle.step_core.specs.Worlds.{AllFit, Sight, half_of, thread_walk}
+use Rattle.step_core.specs.Worlds.{AllFit, WorldState, pending_call_of, thread_frame}
 use Rattle.step_core.proofs.Worlds.{thread_at}
-use Rattle.step_core.proofs.telling.Census.{at_thread, at_view, half_at}
+use Rattle.step_core.proofs.telling.Census.{at_thread, at_view, pending_call_at}
 
 -- ---- words where no call is half done
 
@@ -80,35 +80,38 @@ module _ (z : Opening) (words : List ℕ) (views : List (View Nothing)) (h : Lis
 -- ---- threads that have begun nothing
 
 -- such a thread's desk has no call half done
-pub rest_at : (u : Sight) (v : Story) (threads : List Thread) (i : ℕ) (t : Thread) → sight v threads ≡ u → slice_get threads i ≡ Some t → HasNoneBegun u
-    → t.half ≡ Rest
+pub rest_at : (u : WorldState) (v : GhostState) (threads : List Thread) (i : ℕ) (t : Thread) → world_state v threads ≡ u → slice_get threads i ≡ Some t →
+    HasNoneBegun u
+    → t.pending_call ≡ Rest
 rest_at u v threads i t is at none =
-    sym (half_at threads i t at) ∙ ap (λ (x : Sight). half_of x i) is ∙ none i
+    sym (pending_call_at threads i t at) ∙ ap (λ (x : WorldState). pending_call_of x i) is ∙ none i
 
 -- the same of a thread that was read in order
-pub rest_read : (u : Sight) (v : Story) (threads items : List Thread) (i : ℕ) (t : Thread) → sight v threads ≡ u → items ≡ threads → i < length items
-    → t ≡ get_or items i t → HasNoneBegun u → t.half ≡ Rest
+pub rest_read : (u : WorldState) (v : GhostState) (threads items : List Thread) (i : ℕ) (t : Thread) → world_state v threads ≡ u → items ≡ threads → i < length
+    items
+    → t ≡ get_or items i t → HasNoneBegun u → t.pending_call ≡ Rest
 rest_read u v threads items i t is all lt read none =
     rest_at u v threads i t is
     (subst (λ (l : List Thread). slice_get l i ≡ Some t) all (thread_at items i t lt read)) none
 
 -- a load or a make is none of it
-pub none_of : (h : Half) (found : Bool) → (h ≡ Rest → found ≡ false) → h ≡ Rest → found ≡ true → ⊥
+pub none_of : (h : PendingCall) (found : Bool) → (h ≡ Rest → found ≡ false) → h ≡ Rest → found ≡ true → ⊥
 none_of h found none is e = true≢false (sym e ∙ none is)
 
-idle_at : (u : Sight) (v : Story) (threads : List Thread) (d : ℕ) → sight v threads ≡ u → AllFit v threads → HasNoneBegun u → d < length threads
+idle_at : (u : WorldState) (v : GhostState) (threads : List Thread) (d : ℕ) → world_state v threads ≡ u → AllFit v threads → HasNoneBegun u → d < length threads
     → pending v d ≡ Idle
 idle_at u v threads d is fit none lt =
     let t = at_thread threads d lt in
-    subst (λ (x : Half). HalfFits d x t.0.course.holdings.slots.items (task_at t.0.course).act v) (rest_at u v threads d t.0 is t.1 none)
-    (fit.each d t.0 t.1).half
+    subst (λ (x : PendingCall). PendingCallFits d x t.0.frame.registers.slots.items (task_at t.0.frame).act v) (rest_at u v threads d t.0 is t.1 none)
+    (fit.each d t.0 t.1).pending_call
 
-all_idle : (u : Sight) (v : Story) (threads : List Thread) (m e : ℕ) → sight v threads ≡ u → AllFit v threads → TotalsAreTold (sight v threads) m e
+all_idle : (u : WorldState) (v : GhostState) (threads : List Thread) (m e : ℕ) → world_state v threads ≡ u → AllFit v threads → TotalsAreTold
+    (world_state v threads) m e
     → Kept v → HasNoneBegun u → (i : ℕ) (w : View Nothing) → get_elem? v.views i ≡ some w → w.pending ≡ Idle
 all_idle u v threads m e is fit told kept none i w at =
     let r = at_view v.views i w at in
     let lt : i < length threads =
-    (let l = r.0 in let size = kept.seats.size in let n = told.threads in let k = length-map threads thread_walk in omega (arith, l, size, n, k)) in
+    (let l = r.0 in let size = kept.seats.size in let n = told.threads in let k = length-map threads thread_frame in omega (arith, l, size, n, k)) in
     ap (λ (z : View Nothing). z.pending) (sym r.1) ∙ idle_at u v threads i is fit none lt
 
 -- ---- objects that end
@@ -135,32 +138,32 @@ some_in b (x ∷ es) h =
     apart : (k : ℕ) → k ≢ b → ◌≡◌ {A = ℕ} (cond (k == b) 1 0) 0
     apart k n = cond-false (k == b) 1 0 (ne_eqb k b n)
 
-some_ends : (b : ℕ) (ws : List Walk) (d : ℕ) → 0 < endings_in_block b (get_or ws d nowhere).endings → ends_in b ws ≡ true
+some_ends : (b : ℕ) (ws : List FrameView) (d : ℕ) → 0 < endings_in_block b (get_or ws d nowhere).endings → ends_in b ws ≡ true
 some_ends b [] d h = absurd (omega (arith, h))
 some_ends b (w ∷ ws) zero h = left_is (is_ending_in b w.endings) (ends_in b ws) (some_in b w.endings h)
 some_ends b (w ∷ ws) (suc d) h = right_is (is_ending_in b w.endings) (ends_in b ws) (some_ends b ws d h)
 
 -- the threads whose endings are some of a block's
-ends_at : (b : ℕ) (threads : List Thread) → ends_in b (map thread_walk threads) ≡ true
-    → (d : ℕ) × (t : Thread) × (slice_get threads d ≡ Some t) × (is_ending_in b t.course.endings.list ≡ true)
+ends_at : (b : ℕ) (threads : List Thread) → ends_in b (map thread_frame threads) ≡ true
+    → (d : ℕ) × (t : Thread) × (slice_get threads d ≡ Some t) × (is_ending_in b t.frame.endings.list ≡ true)
 ends_at b [] e = cc
 ends_at b (t ∷ ts) e =
-    ⊎_elim (λ (here : is_ending_in b t.course.endings.list ≡ true). (0, t, refl, here))
-    (λ (there : ends_in b (map thread_walk ts) ≡ true). let r = ends_at b ts there in (suc r.0, r.1, r.2, r.3))
-    (either (is_ending_in b t.course.endings.list) (ends_in b (map thread_walk ts)) e)
+    ⊎_elim (λ (here : is_ending_in b t.frame.endings.list ≡ true). (0, t, refl, here))
+    (λ (there : ends_in b (map thread_frame ts) ≡ true). let r = ends_at b ts there in (suc r.0, r.1, r.2, r.3))
+    (either (is_ending_in b t.frame.endings.list) (ends_in b (map thread_frame ts)) e)
 
--- endings of threads are those of their walks
-pub ends_map : (b : ℕ) (threads : List Thread) → list_any (λ (t : Thread). is_ending_in b t.course.endings.list) threads ≡ ends_in b (map thread_walk threads)
+-- endings of threads are those of their frames
+pub ends_map : (b : ℕ) (threads : List Thread) → list_any (λ (t : Thread). is_ending_in b t.frame.endings.list) threads ≡ ends_in b (map thread_frame threads)
 ends_map b [] = refl
-ends_map b (t ∷ ts) = ap (λ (x : Bool). is_ending_in b t.course.endings.list || x) (ends_map b ts)
+ends_map b (t ∷ ts) = ap (λ (x : Bool). is_ending_in b t.frame.endings.list || x) (ends_map b ts)
 
-phase_at : (d : ℕ) (v : Story) (b : ℕ) (es : List Ending) → All (λ (e : Ending). IsEndingAtStage d e v) es → is_ending_in b es ≡ true
-    → ((story_state v).object ((story_state v).latest b)).phase ≡ ending d
+phase_at : (d : ℕ) (v : GhostState) (b : ℕ) (es : List Ending) → All (λ (e : Ending). IsEndingAtStage d e v) es → is_ending_in b es ≡ true
+    → ((model_state v).object ((model_state v).latest b)).phase ≡ ending d
 phase_at d v b [] all e = cc
 phase_at d v b (x ∷ es) all e =
     ⊎_elim
     (λ (here : (x.block.0 == b) ≡ true).
-    subst (λ (k : ℕ). ((story_state v).object ((story_state v).latest k)).phase ≡ ending d) (eqb-true x.block.0 b here)
+    subst (λ (k : ℕ). ((model_state v).object ((model_state v).latest k)).phase ≡ ending d) (eqb-true x.block.0 b here)
     (All-head (λ (e : Ending). IsEndingAtStage d e v) x es all).ending)
     (λ (there : is_ending_in b es ≡ true). phase_at d v b es (All-tail (λ (e : Ending). IsEndingAtStage d e v) x es all) there)
     (either (x.block.0 == b) (is_ending_in b es) e)
@@ -198,40 +201,40 @@ shared (ending d) n ends fit all some' = cond-true (nat_lt 0 n || ends) 1 0 (rig
 abbrev told_as : ℕ → ℕ → Option Counts
 told_as owners weaks = Some (record { owners = owners; weaks = weaks })
 
-module _ (v : Story) (threads : List Thread) (m e b : ℕ) (fit : AllFit v threads) (told : TotalsAreTold (sight v threads) m e)
-    (kept : Kept v) (none : HasNoneBegun (sight v threads)) (inside : InShape (opening v.extent) b) where
-  fine : Sound (opening v.extent) (story_state v)
+module _ (v : GhostState) (threads : List Thread) (m e b : ℕ) (fit : AllFit v threads) (told : TotalsAreTold (world_state v threads) m e)
+    (kept : Kept v) (none : HasNoneBegun (world_state v threads)) (inside : InShape (opening v.extent) b) where
+  fine : Sound (opening v.extent) (model_state v)
   fine = sound (opening v.extent) v.history kept.stands.legal
 
-  exact : (number_of (slice_index v.words (spot b 0)) ≡ count (story_state v) ((story_state v).latest b))
-      × (number_of (slice_index v.words (spot b 1)) ≡ weak_number (story_state v) ((story_state v).latest b))
+  exact : (number_of (slice_index v.words (spot b 0)) ≡ count (model_state v) ((model_state v).latest b))
+      × (number_of (slice_index v.words (spot b 1)) ≡ weak_number (model_state v) ((model_state v).latest b))
   exact =
       idle_exact (opening v.extent) v.words v.views v.history kept.stands
-      (all_idle (sight v threads) v threads m e refl fit told kept none) b inside
+      (all_idle (world_state v threads) v threads m e refl fit told kept none) b inside
 
-  ends_told : (d : ℕ) → ((story_state v).object ((story_state v).latest b)).phase ≡ ending d → ends_in b (map thread_walk threads) ≡ true
+  ends_told : (d : ℕ) → ((model_state v).object ((model_state v).latest b)).phase ≡ ending d → ends_in b (map thread_frame threads) ≡ true
   ends_told d p =
-      some_ends b (map thread_walk threads) d
-      (subst (λ (k : ℕ). 0 < endings_in_block k (get_or (map thread_walk threads) d nowhere).endings) (in_block (opening v.extent) (story_state v) b d fine p)
-      (told.endings ((story_state v).latest b) d p))
+      some_ends b (map thread_frame threads) d
+      (subst (λ (k : ℕ). 0 < endings_in_block k (get_or (map thread_frame threads) d nowhere).endings) (in_block (opening v.extent) (model_state v) b d fine p)
+      (told.endings ((model_state v).latest b) d p))
 
-  told_ends : ends_in b (map thread_walk threads) ≡ true → (d : ℕ) × (((story_state v).object ((story_state v).latest b)).phase ≡ ending d)
+  told_ends : ends_in b (map thread_frame threads) ≡ true → (d : ℕ) × (((model_state v).object ((model_state v).latest b)).phase ≡ ending d)
   told_ends h =
       let r = ends_at b threads h in
-      (r.0, phase_at r.0 v b r.1.course.endings.list (fit.each r.0 r.1 r.2).endings.all.each r.3)
+      (r.0, phase_at r.0 v b r.1.frame.endings.list (fit.each r.0 r.1 r.2).endings.all.each r.3)
 
-  common_is : ◌≡◌ {A = ℕ} (cond (nat_lt 0 (count (story_state v) ((story_state v).latest b)) || ends_in b (map thread_walk threads)) 1 0)
-      (common ((story_state v).object ((story_state v).latest b)).phase)
+  common_is : ◌≡◌ {A = ℕ} (cond (nat_lt 0 (count (model_state v) ((model_state v).latest b)) || ends_in b (map thread_frame threads)) 1 0)
+      (common ((model_state v).object ((model_state v).latest b)).phase)
   common_is =
-      let s = story_state v in
+      let s = model_state v in
       let o = s.latest b in
-      shared (s.object o).phase (count s o) (ends_in b (map thread_walk threads)) (fine.owners o) ends_told told_ends
+      shared (s.object o).phase (count s o) (ends_in b (map thread_frame threads)) (fine.owners o) ends_told told_ends
 
   counts_are : (owners number : ℕ) (ends : Bool) → owners ≡ number_of (slice_index v.words (spot b 0))
-      → number ≡ number_of (slice_index v.words (spot b 1)) → ends ≡ ends_in b (map thread_walk threads)
-      → counts_by owners number ends ≡ census_of (story_state v) b
+      → number ≡ number_of (slice_index v.words (spot b 1)) → ends ≡ ends_in b (map thread_frame threads)
+      → counts_by owners number ends ≡ census_of (model_state v) b
   counts_are owners number ends read read' is =
-      let s = story_state v in
+      let s = model_state v in
       let o = s.latest b in
       let p : owners ≡ count s o = read ∙ exact.0 in
       let q : number ≡ weak s o + common (s.object o).phase = read' ∙ exact.1 in
@@ -242,39 +245,39 @@ module _ (v : Story) (threads : List Thread) (m e b : ℕ) (fit : AllFit v threa
       ap (λ (n : ℕ). cond (n == 0) None (told_as owners (number - cond (nat_lt 0 owners || ends) 1 0))) q
       ∙ ap (λ (n : ℕ). cond (weak_number s o == 0) None (told_as owners n)) w ∙ ap (λ (n : ℕ). cond (weak_number s o == 0) None (told_as n (weak s o))) p
 
-  none_there : number_of (slice_index v.words (spot b 1)) ≡ 0 → ◌≡◌ {A = Option Counts} None (census_of (story_state v) b)
+  none_there : number_of (slice_index v.words (spot b 1)) ≡ 0 → ◌≡◌ {A = Option Counts} None (census_of (model_state v) b)
   none_there z =
-      sym (cond-true (weak_number (story_state v) ((story_state v).latest b) == 0) None
-      (told_as (count (story_state v) ((story_state v).latest b)) (weak (story_state v) ((story_state v).latest b)))
-      (eq-eqb (weak_number (story_state v) ((story_state v).latest b)) 0 (sym exact.1 ∙ z)))
+      sym (cond-true (weak_number (model_state v) ((model_state v).latest b) == 0) None
+      (told_as (count (model_state v) ((model_state v).latest b)) (weak (model_state v) ((model_state v).latest b)))
+      (eq-eqb (weak_number (model_state v) ((model_state v).latest b)) 0 (sym exact.1 ∙ z)))
 
 -- the same of what is seen of a world
-pub record Shown (u : Sight) (v : Story) (threads : List Thread) (m e b : ℕ) : Type 0 where
-  pub is : sight v threads ≡ u
+pub record Shown (u : WorldState) (v : GhostState) (threads : List Thread) (m e b : ℕ) : Type 0 where
+  pub is : world_state v threads ≡ u
   pub fit : AllFit v threads
-  pub told : TotalsAreTold (sight v threads) m e
+  pub told : TotalsAreTold (world_state v threads) m e
   pub kept : Kept v
   pub some : 0 < b
-  pub within : b ≤ u.story.extent.shape.blocks
+  pub within : b ≤ u.ghost_state.extent.shape.blocks
 
-pub counts_now : (u : Sight) (v : Story) (threads : List Thread) (m e b owners number : ℕ) (ends : Bool) (r : Option Counts)
-    → Shown u v threads m e b → HasNoneBegun u → owners ≡ number_of (slice_index u.story.words (spot b 0))
-    → number ≡ number_of (slice_index u.story.words (spot b 1)) → ends ≡ ends_in b u.walks → r ≡ counts_by owners number ends
-    → r ≡ census_of (story_state u.story) b
+pub counts_now : (u : WorldState) (v : GhostState) (threads : List Thread) (m e b owners number : ℕ) (ends : Bool) (r : Option Counts)
+    → Shown u v threads m e b → HasNoneBegun u → owners ≡ number_of (slice_index u.ghost_state.words (spot b 0))
+    → number ≡ number_of (slice_index u.ghost_state.words (spot b 1)) → ends ≡ ends_in b u.frame_views → r ≡ counts_by owners number ends
+    → r ≡ census_of (model_state u.ghost_state) b
 counts_now u v threads m e b owners number ends r shown none read read' is answer =
-    let back : u ≡ sight v threads = sym shown.is in
+    let back : u ≡ world_state v threads = sym shown.is in
     answer
     ∙ counts_are v threads m e b shown.fit shown.told shown.kept (subst HasNoneBegun back none)
-    (shown.some, subst (λ (x : Sight). b ≤ x.story.extent.shape.blocks) back shown.within) owners number ends
-    (read ∙ ap (λ (x : Sight). number_of (slice_index x.story.words (spot b 0))) back)
-    (read' ∙ ap (λ (x : Sight). number_of (slice_index x.story.words (spot b 1))) back) (is ∙ ap (λ (x : Sight). ends_in b x.walks) back)
-    ∙ ap (λ (x : Sight). census_of (story_state x.story) b) shown.is
+    (shown.some, subst (λ (x : WorldState). b ≤ x.ghost_state.extent.shape.blocks) back shown.within) owners number ends
+    (read ∙ ap (λ (x : WorldState). number_of (slice_index x.ghost_state.words (spot b 0))) back)
+    (read' ∙ ap (λ (x : WorldState). number_of (slice_index x.ghost_state.words (spot b 1))) back) (is ∙ ap (λ (x : WorldState). ends_in b x.frame_views) back)
+    ∙ ap (λ (x : WorldState). census_of (model_state x.ghost_state) b) shown.is
 
-pub none_now : (u : Sight) (v : Story) (threads : List Thread) (m e b number : ℕ) → Shown u v threads m e b → HasNoneBegun u
-    → number ≡ number_of (slice_index u.story.words (spot b 1)) → number ≡ 0 → ◌≡◌ {A = Option Counts} None (census_of (story_state u.story) b)
+pub none_now : (u : WorldState) (v : GhostState) (threads : List Thread) (m e b number : ℕ) → Shown u v threads m e b → HasNoneBegun u
+    → number ≡ number_of (slice_index u.ghost_state.words (spot b 1)) → number ≡ 0 → ◌≡◌ {A = Option Counts} None (census_of (model_state u.ghost_state) b)
 none_now u v threads m e b number shown none read z =
-    let back : u ≡ sight v threads = sym shown.is in
+    let back : u ≡ world_state v threads = sym shown.is in
     none_there v threads m e b shown.fit shown.told shown.kept (subst HasNoneBegun back none)
-    (shown.some, subst (λ (x : Sight). b ≤ x.story.extent.shape.blocks) back shown.within)
-    (sym (read ∙ ap (λ (x : Sight). number_of (slice_index x.story.words (spot b 1))) back) ∙ z)
-    ∙ ap (λ (x : Sight). census_of (story_state x.story) b) shown.is
+    (shown.some, subst (λ (x : WorldState). b ≤ x.ghost_state.extent.shape.blocks) back shown.within)
+    (sym (read ∙ ap (λ (x : WorldState). number_of (slice_index x.ghost_state.words (spot b 1))) back) ∙ z)
+    ∙ ap (λ (x : WorldState). census_of (model_state x.ghost_state) b) shown.is

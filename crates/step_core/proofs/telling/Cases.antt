@@ -7,11 +7,11 @@ use Rattle.control_word.specs.declared.model.handle.Kind.{Kind}
 use Rattle.control_word.specs.declared.place.Block.{Block}
 use Rattle.control_word.specs.declared.place.Place.{Place}
 use Rattle.control_word.specs.Packing.{cell_bits}
-use Rattle.step_table.specs.declared.cell_steps.cell_deed.Cell.{Cell}
-use Rattle.step_table.specs.declared.cell_steps.cell_deed.CellDeed.TheVariants as cell_deed
-use Rattle.step_table.specs.declared.cell_steps.cell_deed.Compared.{Compared}
-use Rattle.step_table.specs.declared.slots.holdings.Pointer.{Pointer}
-use Rattle.step_table.specs.declared.memory.past.Deed.TheVariants as deed
+use Rattle.step_table.specs.declared.cell_steps.cell_step.Cell.{Cell}
+use Rattle.step_table.specs.declared.cell_steps.cell_step.CellStep.TheVariants as cell_step
+use Rattle.step_table.specs.declared.cell_steps.cell_step.Compared.{Compared}
+use Rattle.step_table.specs.declared.slots.registers.Pointer.{Pointer}
+use Rattle.step_table.specs.declared.memory.past.AtomicStep.TheVariants as atomic_step
 use Rattle.step_table.specs.declared.cell_steps.refill.Stage.{Stage}
 use Rattle.step_table.specs.declared.cell_steps.refill.Stage.TheVariants.{Turning, Checking, Lacking, Refilling, Failing}
 use Rattle.step_threads.specs.declared.programs.act.Act.{Act}
@@ -20,66 +20,66 @@ use Rattle.step_threads.specs.declared.programs.act.Act.TheVariants.{Move, Ask}
 use Rattle.step_threads.specs.declared.programs.act.Act.TheVariants.{Offer, Swap, Exchange, Load, Compare, Drop, OnShelf}
 use Rattle.step_threads.specs.declared.programs.act.Task.{Task}
 use Rattle.step_threads.specs.declared.programs.call.CellName.{CellName}
-use Rattle.step_threads.specs.declared.half.Half.{Half}
-use Rattle.step_threads.specs.declared.half.Half.TheVariants.{Rest, Saw, Refill}
-use Rattle.step_table.specs.CellDeeds.{kind_in_state}
+use Rattle.step_threads.specs.declared.pending_call.PendingCall.{PendingCall}
+use Rattle.step_threads.specs.declared.pending_call.PendingCall.TheVariants.{Rest, Saw, Refill}
+use Rattle.step_table.specs.CellAtomicSteps.{kind_in_state}
 use Rattle.step_table.specs.Cells.{word_of_cell}
 use Rattle.step_table.specs.Contents.{compared_in, is_spent, same_value, seen}
-use Rattle.step_table.specs.Deeds.{on}
-use Rattle.step_table.specs.Holdings.{slot_pointer}
+use Rattle.step_table.specs.AtomicSteps.{on}
+use Rattle.step_table.specs.Registers.{slot_pointer}
 use Rattle.step_table.specs.Refills.{is_drained, is_low, more_taken}
-use Rattle.step_table.specs.Stories.{Story, story_state}
-use Rattle.step_threads.specs.Courses.{Walk, cell_of_name, comparing, hand, is_there}
+use Rattle.step_table.specs.GhostStates.{GhostState, model_state}
+use Rattle.step_threads.specs.Frames.{FrameView, cell_of_name, comparing, hand, is_there}
 use Rattle.step_threads.specs.NextSteps.{first, matched, matched_on, saw, saw_on}
 use Rattle.step_threads.specs.Steps.{Step, step_of_act, step_of_compare, fetches, gives_back, matches, missed, refills_on, step_of_look, settles, takes, within}
 
--- steps of a thread that rests or is within an act, so that nothing is done; that look at a cell, take a fund of it, or swap it; and
--- those on funds
-pub record IsEach (v : Story) (d : ℕ) (w : Walk) (k : ℕ) (ts : List Task) (a : Act) (c : Cell) (P : Step → Type 0) : Type 0 where
-  pub quiet : (h : Half) → P (within w k None h)
-  pub look : (x : CellWord) (y : Option Compared) → P (step_of_act v d w k ts a (Some (deed.OnCell (cell_deed.Look c x y))) Rest)
-  pub take : (x : CellWord) (y : Option Compared) (h : Half) → P (step_of_act v d w k ts a (Some (deed.OnCell (cell_deed.Take c x y))) h)
-  pub swap : (x : CellWord) (y : Compared) (h : Half) → P (step_of_act v d w k ts a (Some (deed.OnCell (cell_deed.CompareSwap c x y))) h)
+-- steps of a thread that rests or is within an act, so that nothing is done; that look at a cell, take a fund of it, or
+-- swap it; and those on funds
+pub record IsEach (v : GhostState) (d : ℕ) (w : FrameView) (k : ℕ) (ts : List Task) (a : Act) (c : Cell) (P : Step → Type 0) : Type 0 where
+  pub quiet : (h : PendingCall) → P (within w k None h)
+  pub look : (x : CellWord) (y : Option Compared) → P (step_of_act v d w k ts a (Some (atomic_step.OnCell (cell_step.Look c x y))) Rest)
+  pub take : (x : CellWord) (y : Option Compared) (h : PendingCall) → P (step_of_act v d w k ts a (Some (atomic_step.OnCell (cell_step.Take c x y))) h)
+  pub swap : (x : CellWord) (y : Compared) (h : PendingCall) → P (step_of_act v d w k ts a (Some (atomic_step.OnCell (cell_step.CompareSwap c x y))) h)
   pub bring : (x : CellWord) (p : Pointer) → P (fetches w k x p)
 
-pub each_sees : (v : Story) (d : ℕ) (w : Walk) (k : ℕ) (ts : List Task) (a : Act) (c : Cell) (P : Step → Type 0) → IsEach v d w k ts a c P
+pub each_sees : (v : GhostState) (d : ℕ) (w : FrameView) (k : ℕ) (ts : List Task) (a : Act) (c : Cell) (P : Step → Type 0) → IsEach v d w k ts a c P
     → (y : Option Compared) (x : CellWord) → P (step_of_look v d w k ts a c y x)
 each_sees v d w k ts a c P each y x =
-    let look = step_of_act v d w k ts a (Some (deed.OnCell (cell_deed.Look c x y))) Rest in
+    let look = step_of_act v d w k ts a (Some (atomic_step.OnCell (cell_step.Look c x y))) Rest in
     cond_both (is_spent x) (within w k None Rest) (cond (is_some x.owned) (within w k None (Saw x)) look) P (λ e. each.quiet Rest)
     (λ e. cond_both (is_some x.owned) (within w k None (Saw x)) look P (λ f. each.quiet (Saw x)) (λ f. each.look x y))
 
-pub each_compares : (v : Story) (d : ℕ) (w : Walk) (k : ℕ) (ts : List Task) (a : Act) (c : Cell) (P : Step → Type 0) → IsEach v d w k ts a c P
+pub each_compares : (v : GhostState) (d : ℕ) (w : FrameView) (k : ℕ) (ts : List Task) (a : Act) (c : Cell) (P : Step → Type 0) → IsEach v d w k ts a c P
     → (y : Compared) (x : CellWord) → P (step_of_compare v d w k ts a c y x)
 each_compares v d w k ts a c P each y x =
     cond_both (same_value x y.expected) (within w k None (Saw x)) (step_of_look v d w k ts a c (Some y) x) P (λ e. each.quiet (Saw x))
     (λ e. each_sees v d w k ts a c P each (Some y) x)
 
 -- a load, which is refused where its cell isn't there
-pub each_load : (v : Story) (d : ℕ) (w : Walk) (k : ℕ) (ts : List Task) (c : CellName) (P : Step → Type 0)
-    → IsEach v d w k ts (Load c) (cell_of_name (story_state v) w.slots c) P → P (step_of_act v d w k ts (Load c) None Rest)
+pub each_load : (v : GhostState) (d : ℕ) (w : FrameView) (k : ℕ) (ts : List Task) (c : CellName) (P : Step → Type 0)
+    → IsEach v d w k ts (Load c) (cell_of_name (model_state v) w.slots c) P → P (step_of_act v d w k ts (Load c) None Rest)
     → P (first v d w k ts (Load c))
 each_load v d w k ts c P each refused =
-    let x = cell_of_name (story_state v) w.slots c in
+    let x = cell_of_name (model_state v) w.slots c in
     cond_both (is_there w.slots c) (step_of_look v d w k ts (Load c) x None (seen v x)) (step_of_act v d w k ts (Load c) None Rest) P
     (λ e. each_sees v d w k ts (Load c) x P each None (seen v x)) (λ e. refused)
 
-each_takes : (v : Story) (d : ℕ) (w : Walk) (k : ℕ) (ts : List Task) (a : Act) (c : Cell) (P : Step → Type 0) → IsEach v d w k ts a c P
+each_takes : (v : GhostState) (d : ℕ) (w : FrameView) (k : ℕ) (ts : List Task) (a : Act) (c : Cell) (P : Step → Type 0) → IsEach v d w k ts a c P
     → (y : Option Compared) (x : CellWord) → P (takes v d w k ts a c y x)
 each_takes v d w k ts a c P each y x =
     cond_both (word_of_cell v c == cell_bits x)
-    (step_of_act v d w k ts a (Some (deed.OnCell (cell_deed.Take c x y))) (Refill Turning c (more_taken x) k)) (within w k None Rest) P
+    (step_of_act v d w k ts a (Some (atomic_step.OnCell (cell_step.Take c x y))) (Refill Turning c (more_taken x) k)) (within w k None Rest) P
     (λ e. each.take x y (Refill Turning c (more_taken x) k)) (λ e. each.quiet Rest)
 
-each_matches : (v : Story) (d : ℕ) (w : Walk) (k : ℕ) (ts : List Task) (a : Act) (c : Cell) (P : Step → Type 0) → IsEach v d w k ts a c P
+each_matches : (v : GhostState) (d : ℕ) (w : FrameView) (k : ℕ) (ts : List Task) (a : Act) (c : Cell) (P : Step → Type 0) → IsEach v d w k ts a c P
     → (y : Compared) (x : CellWord) → P (matches v d w k ts a c y x)
 each_matches v d w k ts a c P each y x =
-    let h = gives_back (kind_in_state (story_state v) c) k x x.owned in
+    let h = gives_back (kind_in_state (model_state v) c) k x x.owned in
     let m = missed k (slot_pointer w.slots (hand w.slots)) in
-    cond_both (word_of_cell v c == cell_bits x) (step_of_act v d w k ts a (Some (deed.OnCell (cell_deed.CompareSwap c x y))) h) (within w k None m) P
+    cond_both (word_of_cell v c == cell_bits x) (step_of_act v d w k ts a (Some (atomic_step.OnCell (cell_step.CompareSwap c x y))) h) (within w k None m) P
     (λ e. each.swap x y h) (λ e. each.quiet m)
 
-each_settles : (v : Story) (d : ℕ) (w : Walk) (k : ℕ) (ts : List Task) (a : Act) (c : Cell) (P : Step → Type 0) → IsEach v d w k ts a c P
+each_settles : (v : GhostState) (d : ℕ) (w : FrameView) (k : ℕ) (ts : List Task) (a : Act) (c : Cell) (P : Step → Type 0) → IsEach v d w k ts a c P
     → (y : Compared) (x : CellWord) → P (settles v d w k ts a c y x)
 each_settles v d w k ts a c P each y x =
     cond_both (same_value x y.expected) (on (fetches w k x) (matches v d w k ts a c y x) (slot_pointer w.slots (hand w.slots)))
@@ -90,17 +90,17 @@ each_settles v d w k ts a c P each y x =
     go (Some p) = each.bring x p
 
 -- each act that may be half done
-pub record IsEachAct (v : Story) (d : ℕ) (w : Walk) (k : ℕ) (ts : List Task) (P : Option Step → Type 0) : Type 0 where
+pub record IsEachAct (v : GhostState) (d : ℕ) (w : FrameView) (k : ℕ) (ts : List Task) (P : Option Step → Type 0) : Type 0 where
   pub none : P None
-  pub load : (c : CellName) → IsEach v d w k ts (Load c) (cell_of_name (story_state v) w.slots c) (λ (x : Step). P (Some x))
+  pub load : (c : CellName) → IsEach v d w k ts (Load c) (cell_of_name (model_state v) w.slots c) (λ (x : Step). P (Some x))
   pub compare : (i : ℕ) (c : CellName) (weak : Bool)
-      → IsEach v d w k ts (Compare i c weak) (cell_of_name (story_state v) w.slots c) (λ (x : Step). P (Some x))
+      → IsEach v d w k ts (Compare i c weak) (cell_of_name (model_state v) w.slots c) (λ (x : Step). P (Some x))
 
-saw_act : (v : Story) (d : ℕ) (w : Walk) (k : ℕ) (ts : List Task) (P : Option Step → Type 0) → IsEachAct v d w k ts P → (x : CellWord) (a : Act)
+saw_act : (v : GhostState) (d : ℕ) (w : FrameView) (k : ℕ) (ts : List Task) (P : Option Step → Type 0) → IsEachAct v d w k ts P → (x : CellWord) (a : Act)
     → P (saw_on v d w k ts x a)
-saw_act v d w k ts P each x (Load c) = each_takes v d w k ts (Load c) (cell_of_name (story_state v) w.slots c) (λ (s : Step). P (Some s)) (each.load c) None x
+saw_act v d w k ts P each x (Load c) = each_takes v d w k ts (Load c) (cell_of_name (model_state v) w.slots c) (λ (s : Step). P (Some s)) (each.load c) None x
 saw_act v d w k ts P each x (Compare i c weak) =
-    each_settles v d w k ts (Compare i c weak) (cell_of_name (story_state v) w.slots c) (λ (s : Step). P (Some s)) (each.compare i c weak)
+    each_settles v d w k ts (Compare i c weak) (cell_of_name (model_state v) w.slots c) (λ (s : Step). P (Some s)) (each.compare i c weak)
     (compared_in w.slots (comparing w.slots i weak)) x
 saw_act v d w k ts P each x (Make form) = each.none
 saw_act v d w k ts P each x (Share i) = each.none
@@ -122,10 +122,10 @@ saw_act v d w k ts P each x (Exchange i c) = each.none
 saw_act v d w k ts P each x Drop = each.none
 saw_act v d w k ts P each x (OnShelf y) = each.none
 
-matched_act : (v : Story) (d : ℕ) (w : Walk) (k : ℕ) (ts : List Task) (P : Option Step → Type 0) → IsEachAct v d w k ts P → (x : CellWord) (a : Act)
+matched_act : (v : GhostState) (d : ℕ) (w : FrameView) (k : ℕ) (ts : List Task) (P : Option Step → Type 0) → IsEachAct v d w k ts P → (x : CellWord) (a : Act)
     → P (matched_on v d w k ts x a)
 matched_act v d w k ts P each x (Compare i c weak) =
-    each_matches v d w k ts (Compare i c weak) (cell_of_name (story_state v) w.slots c) (λ (s : Step). P (Some s)) (each.compare i c weak)
+    each_matches v d w k ts (Compare i c weak) (cell_of_name (model_state v) w.slots c) (λ (s : Step). P (Some s)) (each.compare i c weak)
     (compared_in w.slots (comparing w.slots i weak)) x
 matched_act v d w k ts P each x (Load c) = each.none
 matched_act v d w k ts P each x (Make form) = each.none
@@ -148,35 +148,35 @@ matched_act v d w k ts P each x (Exchange i c) = each.none
 matched_act v d w k ts P each x Drop = each.none
 matched_act v d w k ts P each x (OnShelf y) = each.none
 
-pub each_saw : (v : Story) (d : ℕ) (w : Walk) (P : Option Step → Type 0) (x : CellWord) (ts : List Task) → P None
+pub each_saw : (v : GhostState) (d : ℕ) (w : FrameView) (P : Option Step → Type 0) (x : CellWord) (ts : List Task) → P None
     → ((t : Task) (us : List Task) → ts ≡ t ∷ us → IsEachAct v d w t.statement us P) → P (saw v d w x ts)
 each_saw v d w P x [] none each = none
 each_saw v d w P x (t ∷ us) none each = saw_act v d w t.statement us P (each t us refl) x t.act
 
-pub each_matched : (v : Story) (d : ℕ) (w : Walk) (P : Option Step → Type 0) (x : CellWord) (ts : List Task) → P None
+pub each_matched : (v : GhostState) (d : ℕ) (w : FrameView) (P : Option Step → Type 0) (x : CellWord) (ts : List Task) → P None
     → ((t : Task) (us : List Task) → ts ≡ t ∷ us → IsEachAct v d w t.statement us P) → P (matched v d w x ts)
 each_matched v d w P x [] none each = none
 each_matched v d w P x (t ∷ us) none each = matched_act v d w t.statement us P (each t us refl) x t.act
 
 -- of a refill: nothing is done, or a step on funds
-pub record IsEachRefill (v : Story) (w : Walk) (k : ℕ) (P : Step → Type 0) : Type 0 where
-  pub quiet : (h : Half) → P (within w k None h)
-  pub turn : (kind : Kind) (b : Block) (h : Half) → P (within w k (Some (deed.OnCell (cell_deed.Turn kind b))) h)
-  pub bring : (kind : Kind) (b : Block) (p : Option Place) (n : ℕ) (h : Half) → P (within w k (Some (deed.OnCell (cell_deed.Bring kind b p n))) h)
-  pub back : (kind : Kind) (b : Block) (n : ℕ) (h : Half) → P (within w k (Some (deed.OnCell (cell_deed.GiveBack kind b n))) h)
-  pub refill : (c : Cell) (n : ℕ) (h : Half) → P (within w k (Some (deed.OnCell (cell_deed.Refill c n))) h)
+pub record IsEachRefill (v : GhostState) (w : FrameView) (k : ℕ) (P : Step → Type 0) : Type 0 where
+  pub quiet : (h : PendingCall) → P (within w k None h)
+  pub turn : (kind : Kind) (b : Block) (h : PendingCall) → P (within w k (Some (atomic_step.OnCell (cell_step.Turn kind b))) h)
+  pub bring : (kind : Kind) (b : Block) (p : Option Place) (n : ℕ) (h : PendingCall) → P (within w k (Some (atomic_step.OnCell (cell_step.Bring kind b p n))) h)
+  pub back : (kind : Kind) (b : Block) (n : ℕ) (h : PendingCall) → P (within w k (Some (atomic_step.OnCell (cell_step.GiveBack kind b n))) h)
+  pub refill : (c : Cell) (n : ℕ) (h : PendingCall) → P (within w k (Some (atomic_step.OnCell (cell_step.Refill c n))) h)
 
-refill_stage : (v : Story) (w : Walk) (k : ℕ) (P : Step → Type 0) → IsEachRefill v w k P → (c : Cell) (x : CellWord) (b : Block) (stage : Stage)
+refill_stage : (v : GhostState) (w : FrameView) (k : ℕ) (P : Step → Type 0) → IsEachRefill v w k P → (c : Cell) (x : CellWord) (b : Block) (stage : Stage)
     → P (refills_on v w stage c x k b)
-refill_stage v w k P each c x b Turning = each.turn (kind_in_state (story_state v) c) b (cond (is_low x) (Refill Checking c x k) Rest)
+refill_stage v w k P each c x b Turning = each.turn (kind_in_state (model_state v) c) b (cond (is_low x) (Refill Checking c x k) Rest)
 refill_stage v w k P each c x b Checking = each.quiet (cond (is_drained x (seen v c)) (Refill Lacking c (seen v c) k) Rest)
-refill_stage v w k P each c x b Lacking = each.bring (kind_in_state (story_state v) c) b x.place x.taken (Refill Refilling c x k)
+refill_stage v w k P each c x b Lacking = each.bring (kind_in_state (model_state v) c) b x.place x.taken (Refill Refilling c x k)
 refill_stage v w k P each c x b Refilling =
-    cond_both (word_of_cell v c == cell_bits x) (within w k (Some (deed.OnCell (cell_deed.Refill c x.taken))) Rest)
+    cond_both (word_of_cell v c == cell_bits x) (within w k (Some (atomic_step.OnCell (cell_step.Refill c x.taken))) Rest)
     (within w k None (Refill Failing c x k)) P (λ e. each.refill c x.taken Rest) (λ e. each.quiet (Refill Failing c x k))
-refill_stage v w k P each c x b Failing = each.back (kind_in_state (story_state v) c) b x.taken (Refill Checking c x k)
+refill_stage v w k P each c x b Failing = each.back (kind_in_state (model_state v) c) b x.taken (Refill Checking c x k)
 
-pub each_refill : (v : Story) (w : Walk) (k : ℕ) (P : Option Step → Type 0) → P None → IsEachRefill v w k (λ (x : Step). P (Some x))
+pub each_refill : (v : GhostState) (w : FrameView) (k : ℕ) (P : Option Step → Type 0) → P None → IsEachRefill v w k (λ (x : Step). P (Some x))
     → (stage : Stage) (c : Cell) (x : CellWord) (o : Option Block) → P (option_map (refills_on v w stage c x k) o)
 each_refill v w k P none each stage c x None = none
 each_refill v w k P none each stage c x (Some b) = refill_stage v w k (λ (s : Step). P (Some s)) each c x b stage

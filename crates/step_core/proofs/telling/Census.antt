@@ -20,18 +20,18 @@ use Rattle.control_word.specs.Layout.{spot}
 use Rattle.control_word.specs.Packing.{number_of}
 use Rattle.control_word.specs.State.{InShape, IsVacant, Opening, Phase, State, common, count, ending, gone, live, unmade, weak, weak_number}
 use Rattle.control_word.specs.Views.{IsAtRest, NamesBlock, used_up}
-use Rattle.step_threads.specs.declared.half.Half.{Half}
-use Rattle.step_threads.specs.declared.half.Half.TheVariants.{Rest}
+use Rattle.step_threads.specs.declared.pending_call.PendingCall.{PendingCall}
+use Rattle.step_threads.specs.declared.pending_call.PendingCall.TheVariants.{Rest}
 use Rattle.step_threads.specs.declared.thread.Thread.{Thread}
-use Rattle.step_threads.specs.Actors.{HalfFits}
-use Rattle.step_threads.specs.Courses.{Walk, task_at}
+use Rattle.step_threads.specs.Actors.{PendingCallFits}
+use Rattle.step_threads.specs.Frames.{FrameView, task_at}
 use Rattle.step_table.specs.Openings.{opening}
-use Rattle.step_threads.specs.Scenes.{nowhere}
-use Rattle.step_table.specs.Stories.{Kept, Nothing, Story, pending, story_state}
+use Rattle.step_threads.specs.AbstractStates.{nowhere}
+use Rattle.step_table.specs.GhostStates.{Kept, Nothing, GhostState, pending, model_state}
 use Rattle.step_threads.specs.Endings.{endings_in_block}
-use Rattle.step_core.specs.Told.{TotalsAreTold, sight}
+use Rattle.step_core.specs.Told.{TotalsAreTold, world_state}
 use Rattle.step_core.specs.Totals.{IsAtEnd, census_of, counts_in}
-use Rattle.step_core.specs.Worlds.{AllFit, Sight, thread_half, thread_walk}
+use Rattle.step_core.specs.Worlds.{AllFit, WorldState, thread_pending, thread_frame}
 
 pub at_view : (l : List (View Nothing)) (i : ℕ) (w : View Nothing) → get_elem? l i ≡ some w → (i < length l) × (get_or l i used_up ≡ w)
 at_view [] i w e = absurd (some-ne-none w (sym e))
@@ -39,11 +39,11 @@ at_view (x ∷ xs) zero w e = (omega arith, some-injective x w e)
 at_view (x ∷ xs) (suc i) w e = let r = at_view xs i w e in (let l = r.0 in omega arith, r.1)
 
 -- nobody has begun anything, and no object is ending
-pub record IsStill (v : Story) : Type 0 where
+pub record IsStill (v : GhostState) : Type 0 where
   pub idle : (d : ℕ) → d < v.extent.actors → pending v d ≡ Idle
-  pub none : (o e : ℕ) → ((story_state v).object o).phase ≡ ending e → ⊥
+  pub none : (o e : ℕ) → ((model_state v).object o).phase ≡ ending e → ⊥
 
-pub at_rest : (v : Story) (b : ℕ) → Kept v → IsStill v → IsAtRest (story_state v) v.views b
+pub at_rest : (v : GhostState) (b : ℕ) → Kept v → IsStill v → IsAtRest (model_state v) v.views b
 at_rest v b kept still = record {
   still = λ o e here p. still.none o e p;
   unnamed = λ i w at names.
@@ -51,12 +51,12 @@ at_rest v b kept still = record {
       let size = kept.seats.size in
       let lt : i < v.extent.actors = (let l = r.0 in omega (arith, l, size)) in
       let p : w.pending ≡ Idle = ap (λ (z : View Nothing). z.pending) (sym r.1) ∙ still.idle i lt in
-      subst (λ (q : Pending Nothing). NamesBlock (story_state v) q b) p names;
+      subst (λ (q : Pending Nothing). NamesBlock (model_state v) q b) p names;
 }
 
-pub exact : (v : Story) (b : ℕ) → Kept v → IsStill v → InShape (opening v.extent) b
-    → (number_of (slice_index v.words (spot b 0)) ≡ count (story_state v) ((story_state v).latest b))
-    × (number_of (slice_index v.words (spot b 1)) ≡ weak_number (story_state v) ((story_state v).latest b))
+pub exact : (v : GhostState) (b : ℕ) → Kept v → IsStill v → InShape (opening v.extent) b
+    → (number_of (slice_index v.words (spot b 0)) ≡ count (model_state v) ((model_state v).latest b))
+    × (number_of (slice_index v.words (spot b 1)) ≡ weak_number (model_state v) ((model_state v).latest b))
 exact v b kept still inside = rests_exactly (opening v.extent) v.words v.views v.history kept.stands b inside (at_rest v b kept still)
 
 -- a block is vacant just where its latest object has no weak number
@@ -84,11 +84,11 @@ abbrev counted : ℕ → ℕ → Option Counts
 counted owners weaks = Some (record { owners = owners; weaks = weaks })
 
 -- the numbers that were read say what the state says
-pub census_is : (v : Story) (b owners number : ℕ) → Kept v → IsStill v → InShape (opening v.extent) b
+pub census_is : (v : GhostState) (b owners number : ℕ) → Kept v → IsStill v → InShape (opening v.extent) b
     → owners ≡ number_of (slice_index v.words (spot b 0)) → number ≡ number_of (slice_index v.words (spot b 1))
-    → counts_in owners number ≡ census_of (story_state v) b
+    → counts_in owners number ≡ census_of (model_state v) b
 census_is v b owners number kept still inside read read' =
-    let s = story_state v in
+    let s = model_state v in
     let o = s.latest b in
     let e = exact v b kept still inside in
     let fine = sound (opening v.extent) v.history kept.stands.legal in
@@ -105,11 +105,11 @@ not_none : (c : Counts) → ◌≡◌ {A = Option Counts} (Some c) None → ⊥
 not_none c e = cc
 
 -- none is told just where the block is vacant
-pub none_vacant : (v : Story) (b : ℕ) → Kept v → (census_of (story_state v) b ≡ None → IsVacant (story_state v) b)
-    × (IsVacant (story_state v) b → census_of
-    (story_state v) b ≡ None)
+pub none_vacant : (v : GhostState) (b : ℕ) → Kept v → (census_of (model_state v) b ≡ None → IsVacant (model_state v) b)
+    × (IsVacant (model_state v) b → census_of
+    (model_state v) b ≡ None)
 none_vacant v b kept =
-    let s = story_state v in
+    let s = model_state v in
     let n = weak_number s (s.latest b) in
     let fine = sound (opening v.extent) v.history kept.stands.legal in (
       λ e. ⊎_elim (λ (z : n ≡ 0). vacant_by (opening v.extent) s b fine z)
@@ -124,53 +124,53 @@ at_thread [] d lt = absurd (omega arith)
 at_thread (t ∷ ts) zero lt = (t, refl)
 at_thread (t ∷ ts) (suc d) lt = at_thread ts d (omega arith)
 
-pub half_at : (threads : List Thread) (d : ℕ) (t : Thread) → slice_get threads d ≡ Some t → get_or (map thread_half threads) d Rest ≡ t.half
-half_at [] d t e = cc
-half_at (x ∷ xs) zero t e = ap thread_half (same_Some x t e)
-half_at (x ∷ xs) (suc d) t e = half_at xs d t e
+pub pending_call_at : (threads : List Thread) (d : ℕ) (t : Thread) → slice_get threads d ≡ Some t → get_or (map thread_pending threads) d Rest ≡ t.pending_call
+pending_call_at [] d t e = cc
+pending_call_at (x ∷ xs) zero t e = ap thread_pending (same_Some x t e)
+pending_call_at (x ∷ xs) (suc d) t e = pending_call_at xs d t e
 
-all_rest : (hs : List Half) (j : ℕ) → All (λ (h : Half). h ≡ Rest) hs → get_or hs j Rest ≡ Rest
+all_rest : (hs : List PendingCall) (j : ℕ) → All (λ (h : PendingCall). h ≡ Rest) hs → get_or hs j Rest ≡ Rest
 all_rest [] j all = refl
 all_rest (h ∷ hs) zero all = all 0 Rest (omega arith)
-all_rest (h ∷ hs) (suc j) all = all_rest hs j (All-tail (λ (x : Half). x ≡ Rest) h hs all)
+all_rest (h ∷ hs) (suc j) all = all_rest hs j (All-tail (λ (x : PendingCall). x ≡ Rest) h hs all)
 
-all_over : (ws : List Walk) (j : ℕ) → All (λ (w : Walk). w.endings ≡ []) ws → (get_or ws j nowhere).endings ≡ []
+all_over : (ws : List FrameView) (j : ℕ) → All (λ (w : FrameView). w.endings ≡ []) ws → (get_or ws j nowhere).endings ≡ []
 all_over [] j all = refl
 all_over (w ∷ ws) zero all = all 0 nowhere (omega arith)
-all_over (w ∷ ws) (suc j) all = all_over ws j (All-tail (λ (x : Walk). x.endings ≡ []) w ws all)
+all_over (w ∷ ws) (suc j) all = all_over ws j (All-tail (λ (x : FrameView). x.endings ≡ []) w ws all)
 
-idle_end : (v : Story) (threads : List Thread) → AllFit v threads → All (λ (h : Half). h ≡ Rest) (map thread_half threads) → (d : ℕ)
+idle_end : (v : GhostState) (threads : List Thread) → AllFit v threads → All (λ (h : PendingCall). h ≡ Rest) (map thread_pending threads) → (d : ℕ)
     → d < length threads → pending v d ≡ Idle
 idle_end v threads fit all d lt =
     let t = at_thread threads d lt in
-    let h : t.0.half ≡ Rest = sym (half_at threads d t.0 t.1) ∙ all_rest (map thread_half threads) d all in
-    subst (λ (x : Half). HalfFits d x t.0.course.holdings.slots.items (task_at t.0.course).act v) h (fit.each d t.0 t.1).half
+    let h : t.0.pending_call ≡ Rest = sym (pending_call_at threads d t.0 t.1) ∙ all_rest (map thread_pending threads) d all in
+    subst (λ (x : PendingCall). PendingCallFits d x t.0.frame.registers.slots.items (task_at t.0.frame).act v) h (fit.each d t.0 t.1).pending_call
 
 -- a world whose threads are at their end
-still_end : (v : Story) (threads : List Thread) (m e : ℕ) → AllFit v threads → TotalsAreTold (sight v threads) m e
-    → IsAtEnd (sight v threads) → IsStill v
+still_end : (v : GhostState) (threads : List Thread) (m e : ℕ) → AllFit v threads → TotalsAreTold (world_state v threads) m e
+    → IsAtEnd (world_state v threads) → IsStill v
 still_end v threads m e fit told end =
-    let l = length-map threads thread_walk in
+    let l = length-map threads thread_frame in
     let n = told.threads in
     record {
-      idle = λ d lt. idle_end v threads fit end.halves d (omega (arith, l, n, lt));
+      idle = λ d lt. idle_end v threads fit end.pending_calls d (omega (arith, l, n, lt));
       none = λ o i p.
-          let none = ap (endings_in_block ((story_state v).object o).block) (all_over (map thread_walk threads) i end.endings) in
+          let none = ap (endings_in_block ((model_state v).object o).block) (all_over (map thread_frame threads) i end.endings) in
           let some = told.endings o i p in
           absurd (omega (arith, none, some));
     }
 
-pub still_now : (u : Sight) (v : Story) (threads : List Thread) (m e : ℕ) → sight v threads ≡ u → AllFit v threads
-    → TotalsAreTold (sight v threads) m e
-    → IsAtEnd u → IsStill u.story
-still_now u v threads m e is fit told = subst (λ (x : Sight). IsAtEnd x → IsStill x.story) is (still_end v threads m e fit told)
+pub still_now : (u : WorldState) (v : GhostState) (threads : List Thread) (m e : ℕ) → world_state v threads ≡ u → AllFit v threads
+    → TotalsAreTold (world_state v threads) m e
+    → IsAtEnd u → IsStill u.ghost_state
+still_now u v threads m e is fit told = subst (λ (x : WorldState). IsAtEnd x → IsStill x.ghost_state) is (still_end v threads m e fit told)
 
-pub census_now : (u : Sight) (v : Story) (threads : List Thread) (m e b x y : ℕ) (r : Option Counts) → sight v threads ≡ u → AllFit v threads
-    → TotalsAreTold (sight v threads) m e → Kept v → IsAtEnd u → 0 < b → b ≤ u.story.extent.shape.blocks → x ≡ slice_index v.words (spot b 0)
-    → y ≡ slice_index v.words (spot b 1) → r ≡ counts_in (number_of x) (number_of y) → r ≡ census_of (story_state u.story) b
+pub census_now : (u : WorldState) (v : GhostState) (threads : List Thread) (m e b x y : ℕ) (r : Option Counts) → world_state v threads ≡ u → AllFit v threads
+    → TotalsAreTold (world_state v threads) m e → Kept v → IsAtEnd u → 0 < b → b ≤ u.ghost_state.extent.shape.blocks → x ≡ slice_index v.words (spot b 0)
+    → y ≡ slice_index v.words (spot b 1) → r ≡ counts_in (number_of x) (number_of y) → r ≡ census_of (model_state u.ghost_state) b
 census_now u v threads m e b x y r is fit told kept end from within read read' answer =
     answer
-    ∙ census_is u.story b (number_of x) (number_of y) (subst (λ (z : Sight). Kept z.story) is kept)
+    ∙ census_is u.ghost_state b (number_of x) (number_of y) (subst (λ (z : WorldState). Kept z.ghost_state) is kept)
     (still_now u v threads m e is fit told end) (from, within)
-    (ap number_of read ∙ ap (λ (z : Sight). number_of (slice_index z.story.words (spot b 0))) is)
-    (ap number_of read' ∙ ap (λ (z : Sight). number_of (slice_index z.story.words (spot b 1))) is)
+    (ap number_of read ∙ ap (λ (z : WorldState). number_of (slice_index z.ghost_state.words (spot b 0))) is)
+    (ap number_of read' ∙ ap (λ (z : WorldState). number_of (slice_index z.ghost_state.words (spot b 1))) is)

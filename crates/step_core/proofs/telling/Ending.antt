@@ -20,28 +20,28 @@ use Rattle.step_threads.specs.declared.programs.act.Act.TheVariants.{Move, Ask}
 use Rattle.step_threads.specs.declared.programs.act.Act.TheVariants.{Offer, Swap, Exchange, Load, Compare, Drop, OnShelf}
 use Rattle.step_threads.specs.declared.programs.act.Task.{Task}
 use Rattle.step_threads.specs.declared.ending.Ending.{Ending}
-use Rattle.step_threads.specs.declared.half.Half.{Half}
-use Rattle.step_threads.specs.declared.half.Half.TheVariants.{Rest, Making, Locking, Giving, Brought, Saw, Matched, Refill, Returning, Clearing}
-use Rattle.step_table.specs.declared.slots.holdings.Pointer.{Pointer}
-use Rattle.step_table.specs.declared.cell_steps.cell_deed.Cell.TheVariants.{Member}
-use Rattle.step_table.specs.declared.memory.past.Deed.{Deed}
-use Rattle.step_table.specs.declared.memory.past.Deed.TheVariants as deed
+use Rattle.step_threads.specs.declared.pending_call.PendingCall.{PendingCall}
+use Rattle.step_threads.specs.declared.pending_call.PendingCall.TheVariants.{Rest, Making, Locking, Giving, Brought, Saw, Matched, Refill, Returning, Clearing}
+use Rattle.step_table.specs.declared.slots.registers.Pointer.{Pointer}
+use Rattle.step_table.specs.declared.cell_steps.cell_step.Cell.TheVariants.{Member}
+use Rattle.step_table.specs.declared.memory.past.AtomicStep.{AtomicStep}
+use Rattle.step_table.specs.declared.memory.past.AtomicStep.TheVariants as atomic_step
 use Rattle.step_threads.specs.declared.said.Said.{Said}
 use Rattle.step_threads.specs.Actors.{wanted}
-use Rattle.step_table.specs.declared.cell_steps.cell_deed.CellDeed.TheVariants as cell_deed
+use Rattle.step_table.specs.declared.cell_steps.cell_step.CellStep.TheVariants as cell_step
 use Rattle.step_table.specs.Cells.{word_of_cell}
 use Rattle.step_table.specs.Contents.{compared_in, seen}
-use Rattle.step_threads.specs.Courses.{Walk, cell_of_name, comparing, form_of, going, hand, locked_pointer, offered, other}
-use Rattle.step_table.specs.Deeds.{alias, aliased, downgrade, is_last, leave, leave_as, read_deed, share, tell, tell_expired}
+use Rattle.step_threads.specs.Frames.{FrameView, cell_of_name, comparing, form_of, going, hand, locked_pointer, offered, other}
+use Rattle.step_table.specs.AtomicSteps.{alias, aliased, downgrade, is_last, leave, leave_as, read_atomic_step, share, tell, tell_expired}
 use Rattle.step_threads.specs.Endings.{endings_in_block, staged}
-use Rattle.step_table.specs.Holdings.{inside, is_full, owner_slot, place_in, slot_pointer}
+use Rattle.step_table.specs.Registers.{inside, is_full, owner_slot, place_in, slot_pointer}
 use Rattle.step_table.specs.Openings.{opening}
 use Rattle.step_threads.specs.Entries.{least}
-use Rattle.step_threads.specs.Scenes.{went}
+use Rattle.step_threads.specs.AbstractStates.{went}
 use Rattle.step_threads.specs.Rows.{ending_as, holding, with_end}
-use Rattle.step_threads.specs.NextSteps.{at_rest, begun, emptied, first, made_on, step_at, story_by}
+use Rattle.step_threads.specs.NextSteps.{at_rest, begun, emptied, first, made_on, step_at, ghost_by}
 use Rattle.step_threads.specs.Steps.{Step, begins, claims, empties, ends_on, prepares, silent, with_endings, within}
-use Rattle.step_table.specs.Stories.{Kept, Story, story_after_deed, known_words, object_of_block, pending, story_state}
+use Rattle.step_table.specs.GhostStates.{Kept, GhostState, ghost_after_step, known_words, object_of_block, pending, model_state}
 use Rattle.step_core.specs.Told.{AllEndInThreads}
 use Rattle.step_table.proofs.tables.Places.{owner_busy, there}
 use Rattle.step_core.proofs.telling.Trying.{compares_on, load_on, matched_on, refill_on, saw_on}
@@ -51,13 +51,13 @@ use Rattle.step_core.proofs.telling.Still.{sent_on, shared, tried_on}
 use Rattle.step_core.proofs.telling.Still.{within as on_the_way}
 
 -- an owner leaves
-left_by : (v : Story) (d k : ℕ) (w x : Walk) (a : Said) (f : Lists) → f d ≡ w.endings → AllEndInThreads (story_state v) f → Kept v
+left_by : (v : GhostState) (d k : ℕ) (w x : FrameView) (a : Said) (f : Lists) → f d ≡ w.endings → AllEndInThreads (model_state v) f → Kept v
     → (y : Pointer) (last : Bool)
     → x.endings ≡ with_end k (cond last (ending_as Owner y) None) w.endings
-    → Right v d w f (Some (record { deed = Some (deed.Leave y.block y.place last); half = Rest; walk = x; said = a }))
+    → Right v d w f (Some (record { atomic_step = Some (atomic_step.Leave y.block y.place last); pending_call = Rest; frame_view = x; said = a }))
 left_by v d k w x a f at all kept y true is = record {
   right = λ g after now else.
-      let s = story_state v in
+      let s = model_state v in
       let o = object_of_block v y.block in
       let has = after.stands.legal.1.asks.0.0 in
       let here = (there v y.block kept (owner_busy v d y.block y.place kept has)).0 in
@@ -66,7 +66,8 @@ left_by v d k w x a f at all kept y true is = record {
       λ b. sum_by-cons (λ (e : Ending). cond (e.block.0 == b) 1 0) new w.endings in
       let one : ◌≡◌ {A = ℕ} (cond (y.block.0 == (s.object o).block) 1 0) 1 =
       ap (λ (b : Bool). cond b 1 0) (eq-eqb y.block.0 (s.object o).block (sym here)) in
-      end_put s (story_state (story_by v d (Some (record { deed = Some (deed.Leave y.block y.place true); half = Rest; walk = x; said = a })))) g o
+      end_put s (model_state
+      (ghost_by v d (Some (record { atomic_step = Some (atomic_step.Leave y.block y.place true); pending_call = Rest; frame_view = x; said = a })))) g o
       (record (s.object o) { phase = ending d }) refl
       (λ e p. let q : d ≡ e = cc in
       subst (λ (j : ℕ). 0 < endings_in_block (s.object o).block (g j)) q
@@ -76,53 +77,54 @@ left_by v d k w x a f at all kept y true is = record {
 }
 left_by v d k w x a f at all kept y false is = record {
   right = λ g after now else.
-      let s = story_state v in
+      let s = model_state v in
       let o = object_of_block v y.block in
       let keep = passes d f g w.endings w.endings at (now ∙ is) else (λ b t. t) in
-      end_put s (story_state (story_by v d (Some (record { deed = Some (deed.Leave y.block y.place false); half = Rest; walk = x; said = a })))) g o
+      end_put s (model_state
+      (ghost_by v d (Some (record { atomic_step = Some (atomic_step.Leave y.block y.place false); pending_call = Rest; frame_view = x; said = a })))) g o
       (s.object o) refl (λ e p. keep (s.object o).block e (all o e p)) (λ r e n p. keep (s.object r).block e (all r e p));
 }
 
-left_as : (v : Story) (d k : ℕ) (w x : Walk) (a : Said) (f : Lists) → f d ≡ w.endings → AllEndInThreads (story_state v) f → Kept v
+left_as : (v : GhostState) (d k : ℕ) (w x : FrameView) (a : Said) (f : Lists) → f d ≡ w.endings → AllEndInThreads (model_state v) f → Kept v
     → (y : Pointer) (q : Kind) (last : Bool)
     → x.endings ≡ with_end k (cond last (ending_as q y) None) w.endings
-    → Right v d w f (Some (record { deed = Some (leave_as q y last); half = Rest; walk = x; said = a }))
+    → Right v d w f (Some (record { atomic_step = Some (leave_as q y last); pending_call = Rest; frame_view = x; said = a }))
 left_as v d k w x a f at all kept y Owner last is = left_by v d k w x a f at all kept y last is
 left_as v d k w x a f at all kept y Weak true is = same v d w f _ refl is at all
 left_as v d k w x a f at all kept y Weak false is = same v d w f _ refl is at all
 
-left : (v : Story) (d k : ℕ) (w x : Walk) (a : Said) (f : Lists) → f d ≡ w.endings → AllEndInThreads (story_state v) f → Kept v
+left : (v : GhostState) (d k : ℕ) (w x : FrameView) (a : Said) (f : Lists) → f d ≡ w.endings → AllEndInThreads (model_state v) f → Kept v
     → (y : Option Pointer)
-    → x.endings ≡ begun_by (story_state v) k w.endings y
-    → Right v d w f (Some (record { deed = option_map (leave (story_state v)) y; half = Rest; walk = x; said = a }))
+    → x.endings ≡ begun_by (model_state v) k w.endings y
+    → Right v d w f (Some (record { atomic_step = option_map (leave (model_state v)) y; pending_call = Rest; frame_view = x; said = a }))
 left v d k w x a f at all kept None is = same v d w f _ refl is at all
-left v d k w x a f at all kept (Some y) is = left_as v d k w x a f at all kept y y.kind (is_last (story_state v) y) is
+left v d k w x a f at all kept (Some y) is = left_as v d k w x a f at all kept y y.kind (is_last (model_state v) y) is
 
-begun_in : (v : Story) (d k : ℕ) (w : Walk) (ts : List Task) (f : Lists) → f d ≡ w.endings → AllEndInThreads (story_state v) f → (o : Option ℕ)
+begun_in : (v : GhostState) (d k : ℕ) (w : FrameView) (ts : List Task) (f : Lists) → f d ≡ w.endings → AllEndInThreads (model_state v) f → (o : Option ℕ)
     → Right v d w f (Some (begins w k ts o))
 begun_in v d k w ts f at all None = same v d w f _ refl (settled_endings w.slots false w.endings ts) at all
 begun_in v d k w ts f at all (Some b) = same v d w f _ refl refl at all
 
-acted : (v : Story) (d k : ℕ) (w : Walk) (ts : List Task) (f : Lists) → f d ≡ w.endings → AllEndInThreads (story_state v) f → Kept v → (a : Act)
+acted : (v : GhostState) (d k : ℕ) (w : FrameView) (ts : List Task) (f : Lists) → f d ≡ w.endings → AllEndInThreads (model_state v) f → Kept v → (a : Act)
     → Right v d w f (Some (first v d w k ts a))
-acted v d k w ts f at all kept (Make form) = begun_in v d k w ts f at all (least d (story_state v).stores)
+acted v d k w ts f at all kept (Make form) = begun_in v d k w ts f at all (least d (model_state v).stores)
 acted v d k w ts f at all kept (Share i) =
     plain v d k w ts (Share i) _ Rest f refl (done_on v d share (slot_pointer w.slots i) (λ x. shared v d x.kind x)) at all
 acted v d k w ts f at all kept (Put i) =
-    left v d k w (went (story_state v) d w k ts (Put i)) _ f at all kept (slot_pointer w.slots i) (act_endings (story_state v) d k w ts (Put i))
+    left v d k w (went (model_state v) d w k ts (Put i)) _ f at all kept (slot_pointer w.slots i) (act_endings (model_state v) d k w ts (Put i))
 acted v d k w ts f at all kept (Leave i) =
-    left v d k w (went (story_state v) d w k ts (Leave i)) _ f at all kept (slot_pointer w.slots i) (act_endings (story_state v) d k w ts (Leave i))
+    left v d k w (went (model_state v) d w k ts (Leave i)) _ f at all kept (slot_pointer w.slots i) (act_endings (model_state v) d k w ts (Leave i))
 acted v d k w ts f at all kept (Clear i) =
-    left v d k w (went (story_state v) d w k ts (Clear i)) _ f at all kept (slot_pointer w.slots i) (act_endings (story_state v) d k w ts (Clear i))
+    left v d k w (went (model_state v) d w k ts (Clear i)) _ f at all kept (slot_pointer w.slots i) (act_endings (model_state v) d k w ts (Clear i))
 acted v d k w ts f at all kept (Count i) =
     plain v d k w ts (Count i) _ Rest f refl (done_on v d (tell v) (slot_pointer w.slots i) (λ x. refl)) at all
 acted v d k w ts f at all kept (Downgrade i) =
     plain v d k w ts (Downgrade i) _ Rest f refl (done_on v d downgrade (slot_pointer w.slots i) (λ x. refl)) at all
 acted v d k w ts f at all kept (Lock i must) = looked v d k w ts i must f at all (locked_pointer w.slots (Lock i must))
 acted v d k w ts f at all kept (Expired i) =
-    plain v d k w ts (Expired i) _ Rest f refl (done_on v d (tell_expired (story_state v)) (slot_pointer w.slots i) (λ x. refl)) at all
+    plain v d k w ts (Expired i) _ Rest f refl (done_on v d (tell_expired (model_state v)) (slot_pointer w.slots i) (λ x. refl)) at all
 acted v d k w ts f at all kept (Read i) =
-    plain v d k w ts (Read i) _ Rest f refl (done_on v d (read_deed (story_state v)) (inside (slot_pointer w.slots i)) (λ x. refl)) at all
+    plain v d k w ts (Read i) _ Rest f refl (done_on v d (read_atomic_step (model_state v)) (inside (slot_pointer w.slots i)) (λ x. refl)) at all
 acted v d k w ts f at all kept (FromThis i kind) = asked v d k w ts i kind f at all (inside (slot_pointer w.slots i))
 acted v d k w ts f at all kept (Alias i j field) =
     plain v d k w ts (Alias i j field) _ Rest f refl
@@ -135,25 +137,26 @@ acted v d k w ts f at all kept (Swap c) = going_in v d k w ts (Swap c) (going w.
 acted v d k w ts f at all kept (Exchange i c) = going_in v d k w ts (Exchange i c) (going w.slots (Exchange i c)) f at all refl refl
 acted v d k w ts f at all kept (Load c) = load_on v d k w ts c f at all
 acted v d k w ts f at all kept (Compare i c weak) =
-    compares_on v d k w ts (Compare i c weak) c (compared_in w.slots (comparing w.slots i weak)) (seen v (cell_of_name (story_state v) w.slots c)) f refl at all
+    compares_on v d k w ts (Compare i c weak) c (compared_in w.slots (comparing w.slots i weak)) (seen v (cell_of_name (model_state v) w.slots c)) f refl at all
 acted v d k w ts f at all kept Drop =
-    left v d k w (went (story_state v) d w k ts Drop) _ f at all kept (slot_pointer w.slots (other w.slots)) (act_endings (story_state v) d k w ts Drop)
+    left v d k w (went (model_state v) d w k ts Drop) _ f at all kept (slot_pointer w.slots (other w.slots)) (act_endings (model_state v) d k w ts Drop)
 acted v d k w ts f at all kept (OnShelf x) =
-    plain v d k w ts (OnShelf x) _ Rest f refl (done_shelf v d x (shelf_block (story_state v) d x)) at all
+    plain v d k w ts (OnShelf x) _ Rest f refl (done_shelf v d x (shelf_block (model_state v) d x)) at all
 
-begun_task : (v : Story) (d : ℕ) (w : Walk) (f : Lists) → f d ≡ w.endings → AllEndInThreads (story_state v) f → Kept v → (ts : List Task)
+begun_task : (v : GhostState) (d : ℕ) (w : FrameView) (f : Lists) → f d ≡ w.endings → AllEndInThreads (model_state v) f → Kept v → (ts : List Task)
     → Right v d w f (begun v d w ts)
 begun_task v d w f at all kept [] = same v d w f None refl refl at all
 begun_task v d w f at all kept (t ∷ ts) = acted v d t.statement w ts f at all kept t.act
 
 -- a member is cleared, or what it held is out
-staged_right : (v : Story) (d m : ℕ) (w x : Walk) (e : Ending) (es : List Ending) (a : Deed) (h : Half) (c : Handle) (f : Lists) → w.endings ≡ e ∷ es
-    → x.endings ≡ staged e ∷ es → (let o = (story_state v).object in let p = object_of_block v e.block in
-    (story_state (story_after_deed v d a)).object ≡ put o p (record (o p) { member = put (o p).member m c })) → f d ≡ w.endings
-    → AllEndInThreads (story_state v) f
+staged_right : (v : GhostState) (d m : ℕ) (w x : FrameView) (e : Ending) (es : List Ending) (a : AtomicStep) (h : PendingCall) (c : Handle) (f : Lists) →
+    w.endings ≡ e ∷ es
+    → x.endings ≡ staged e ∷ es → (let o = (model_state v).object in let p = object_of_block v e.block in
+    (model_state (ghost_after_step v d a)).object ≡ put o p (record (o p) { member = put (o p).member m c })) → f d ≡ w.endings
+    → AllEndInThreads (model_state v) f
     → Right v d w f (Some (within x e.statement (Some a) h))
 staged_right v d m w x e es a h c f was becomes is at all =
-    let o = (story_state v).object in
+    let o = (model_state v).object in
     let p = object_of_block v e.block in
     alike v d w f (Some (within x e.statement (Some a) h))
     (subst (λ (g : ℕ → Object). IsAlike o g) (sym is) (put_alike o p m c))
@@ -165,18 +168,19 @@ staged_right v d m w x e es a h c f was becomes is at all =
     omega (arith, n, q, old, new, has)) at all
 
 -- the object is gone: no other ends in its block
-finished : (v : Story) (d : ℕ) (w : Walk) (e : Ending) (es : List Ending) (vacant : Bool) (f : Lists) → f d ≡ e ∷ es
-    → AllEndInThreads (story_state v) f → Kept v
-    → Right v d w f (Some (record { deed = Some (deed.Finish e.block vacant); half = Rest; walk = with_endings w es; said = silent e.statement }))
+finished : (v : GhostState) (d : ℕ) (w : FrameView) (e : Ending) (es : List Ending) (vacant : Bool) (f : Lists) → f d ≡ e ∷ es
+    → AllEndInThreads (model_state v) f → Kept v
+    → Right v d w f (Some
+    (record { atomic_step = Some (atomic_step.Finish e.block vacant); pending_call = Rest; frame_view = with_endings w es; said = silent e.statement }))
 finished v d w e es vacant f at all kept = record {
   right = λ g after now else.
-      let s = story_state v in
+      let s = model_state v in
       let o = object_of_block v e.block in
       end_put s
-      (story_state (story_by v d (Some (record {
-        deed = Some (deed.Finish e.block vacant);
-        half = Rest;
-        walk = with_endings w es;
+      (model_state (ghost_by v d (Some (record {
+        atomic_step = Some (atomic_step.Finish e.block vacant);
+        pending_call = Rest;
+        frame_view = with_endings w es;
         said =
             silent e.statement;
       })))) g o
@@ -199,33 +203,35 @@ finished v d w e es vacant f at all kept = record {
     gone_ends : (i : ℕ) → gone ≡ ending i → ⊥
     gone_ends i p = cc
 
-ended : (v : Story) (d : ℕ) (w : Walk) (e : Ending) (es : List Ending) (f : Lists) → f d ≡ w.endings → w.endings ≡ e ∷ es
-    → AllEndInThreads (story_state v) f
+ended : (v : GhostState) (d : ℕ) (w : FrameView) (e : Ending) (es : List Ending) (f : Lists) → f d ≡ w.endings → w.endings ≡ e ∷ es
+    → AllEndInThreads (model_state v) f
     → Kept v → Right v d w f (Some (ends_on v w e es))
 ended v d w e es f at was all kept =
-    let vacant = weak (story_state v) (object_of_block v e.block) == 0 in
-    let done : Step = record { deed = Some (deed.Finish e.block vacant); half = Rest; walk = with_endings w es; said = silent e.statement } in
-    let cleared = within (with_endings w (staged e ∷ es)) e.statement (Some (deed.Clear e.block e.stage)) Rest in
+    let vacant = weak (model_state v) (object_of_block v e.block) == 0 in
+    let done : Step = record
+    { atomic_step = Some (atomic_step.Finish e.block vacant); pending_call = Rest; frame_view = with_endings w es; said = silent e.statement } in
+    let cleared = within (with_endings w (staged e ∷ es)) e.statement (Some (atomic_step.Clear e.block e.stage)) Rest in
     let looked = within w e.statement None Clearing in
     let P : Step → Type 0 = λ x. Right v d w f (Some x) in
     cond_both (e.stage == 3) done (cond (word_of_cell v (Member e.block e.stage) == 0) cleared looked) P
     (λ c. finished v d w e es vacant f (at ∙ was) all kept)
     (λ c. cond_both (word_of_cell v (Member e.block e.stage) == 0) cleared looked P
-    (λ z. staged_right v d e.stage w (with_endings w (staged e ∷ es)) e es (deed.Clear e.block e.stage) Rest
+    (λ z. staged_right v d e.stage w (with_endings w (staged e ∷ es)) e es (atomic_step.Clear e.block e.stage) Rest
     (empty (kind_of_member e.stage)) f was refl refl at
     all)
     (λ z. on_the_way v d e.statement w None Clearing f refl at all))
 
-emptying : (v : Story) (d : ℕ) (w : Walk) (f : Lists) → f d ≡ w.endings → AllEndInThreads (story_state v) f → (es : List Ending) → w.endings ≡ es
+emptying : (v : GhostState) (d : ℕ) (w : FrameView) (f : Lists) → f d ≡ w.endings → AllEndInThreads (model_state v) f → (es : List Ending) → w.endings ≡ es
     → Right v d w f (emptied v w es)
 emptying v d w f at all [] was = same v d w f None refl refl at all
 emptying v d w f at all (e ∷ es) was =
     let x = empties v w e es in
     let found = seen v (Member e.block e.stage) in
-    staged_right v d e.stage w x.walk e es (deed.OnCell (cell_deed.TakeOut e.block e.stage found)) x.half (empty (kind_of_member e.stage)) f was refl refl
+    staged_right v d e.stage w x.frame_view e es (atomic_step.OnCell (cell_step.TakeOut e.block e.stage found)) x.pending_call (empty (kind_of_member e.stage))
+    f was refl refl
     at all
 
-rested : (v : Story) (d : ℕ) (w : Walk) (f : Lists) → f d ≡ w.endings → AllEndInThreads (story_state v) f → Kept v → (es : List Ending)
+rested : (v : GhostState) (d : ℕ) (w : FrameView) (f : Lists) → f d ≡ w.endings → AllEndInThreads (model_state v) f → Kept v → (es : List Ending)
     → w.endings ≡ es
     → Right v d w f (at_rest v d w es)
 rested v d w f at all kept [] is = begun_task v d w f at all kept w.todo
@@ -235,26 +241,27 @@ rested v d w f at all kept (e ∷ es) is =
     (λ c. ended v d w e es f at is all kept)
 
 -- an object is made
-claimed : (v : Story) (d k : ℕ) (w : Walk) (ts : List Task) (b : Block) (form : Form) (f : Lists) → f d ≡ w.endings → AllEndInThreads (story_state v) f
+claimed : (v : GhostState) (d k : ℕ) (w : FrameView) (ts : List Task) (b : Block) (form : Form) (f : Lists) → f d ≡ w.endings → AllEndInThreads (model_state v)
+    f
     → Right v d w f (Some (claims w k ts b form))
 claimed v d k w ts b form f at all = record {
   right = λ g after now else.
-      let s = story_state v in
+      let s = model_state v in
       let x = holding w.slots form.null (Some b.0) in
       let keep = passes d f g w.endings w.endings at (now ∙ settled_endings x.0 x.1 w.endings ts) else (λ j t. t) in
-      end_put s (story_state (story_by v d (Some (claims w k ts b form)))) g (suc s.made) _ refl (λ e p. absurd (live_ends e p))
+      end_put s (model_state (ghost_by v d (Some (claims w k ts b form)))) g (suc s.made) _ refl (λ e p. absurd (live_ends e p))
       (λ r e n p. keep (s.object r).block e (all r e p));
 }
   where
     live_ends : (e : ℕ) → live ≡ ending e → ⊥
     live_ends e p = cc
 
-prepared : (v : Story) (d k found want i : ℕ) (w : Walk) (b : Block) (c : Bool) (f : Lists) → f d ≡ w.endings → AllEndInThreads (story_state v) f
+prepared : (v : GhostState) (d k found want i : ℕ) (w : FrameView) (b : Block) (c : Bool) (f : Lists) → f d ≡ w.endings → AllEndInThreads (model_state v) f
     → Right v d w f (Some (prepares found want w k b i c))
 prepared v d k found want i w b true f at all = same v d w f _ refl refl at all
 prepared v d k found want i w b false f at all = same v d w f _ refl refl at all
 
-making : (v : Story) (d i : ℕ) (w : Walk) (b : Block) (c : Bool) (f : Lists) → f d ≡ w.endings → AllEndInThreads (story_state v) f → (ts : List Task)
+making : (v : GhostState) (d i : ℕ) (w : FrameView) (b : Block) (c : Bool) (f : Lists) → f d ≡ w.endings → AllEndInThreads (model_state v) f → (ts : List Task)
     → Right v d w f (made_on v d w b i c ts)
 making v d i w b c f at all [] = same v d w f None refl refl at all
 making v d i w b c f at all (t ∷ ts) =
@@ -265,7 +272,7 @@ making v d i w b c f at all (t ∷ ts) =
     (λ e. claimed v d t.statement w ts b (form_of t.act) f at all) (λ e. prepared v d t.statement found want i w b c f at all)
 
 -- after each step
-pub ends_right : (v : Story) (d : ℕ) (h : Half) (w : Walk) (f : Lists) → f d ≡ w.endings → AllEndInThreads (story_state v) f → Kept v
+pub ends_right : (v : GhostState) (d : ℕ) (h : PendingCall) (w : FrameView) (f : Lists) → f d ≡ w.endings → AllEndInThreads (model_state v) f → Kept v
     → Right v d w f (step_at v d h w)
 ends_right v d Rest w f at all kept = rested v d w f at all kept w.endings refl
 ends_right v d (Making b i c) w f at all kept = making v d i w b c f at all w.todo
@@ -276,5 +283,5 @@ ends_right v d (Saw x) w f at all kept = saw_on v d x w f at all w.todo
 ends_right v d (Matched x) w f at all kept = matched_on v d x w f at all w.todo
 ends_right v d (Refill stage c x k) w f at all kept = refill_on v d stage c x k w f at all
 ends_right v d (Returning kind b funds k) w f at all kept =
-    on_the_way v d k w (Some (deed.OnCell (cell_deed.GiveBack kind b funds))) Rest f refl at all
+    on_the_way v d k w (Some (atomic_step.OnCell (cell_step.GiveBack kind b funds))) Rest f refl at all
 ends_right v d Clearing w f at all kept = emptying v d w f at all w.endings refl

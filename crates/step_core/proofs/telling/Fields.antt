@@ -12,37 +12,37 @@ use Rattle.control_word.specs.declared.place.Block.{Block}
 use Rattle.control_word.specs.Layout.{spot}
 use Rattle.control_word.specs.State.{count, weak, weak_number}
 use Rattle.step_table.specs.Openings.{opening}
-use Rattle.step_table.specs.Stories.{Kept, Story, object_of_block, story_state}
+use Rattle.step_table.specs.GhostStates.{Kept, GhostState, object_of_block, model_state}
 use Rattle.step_table.proofs.tables.Reading.{field_read, four_of}
 use Rattle.step_core.specs.Totals.{census_of, fields_of}
-use Rattle.step_core.specs.Worlds.{Sight}
+use Rattle.step_core.specs.Worlds.{WorldState}
 
 -- the object has four fields
-whole : (v : Story) (b : Block) → Kept v → IsBusy (story_state v) (object_of_block v b)
-    → length ((story_state v).object (object_of_block v b)).fields ≡ 4
+whole : (v : GhostState) (b : Block) → Kept v → IsBusy (model_state v) (object_of_block v b)
+    → length ((model_state v).object (object_of_block v b)).fields ≡ 4
 whole v b kept busy =
     let fine = sound (opening v.extent) v.history kept.stands.legal in
     let z = fine.unmade_free 0 fine.none in
-    let some : object_of_block v b ≢ 0 = λ e. let t = ap (weak_number (story_state v)) e in omega (arith, busy, z, t) in
+    let some : object_of_block v b ≢ 0 = λ e. let t = ap (weak_number (model_state v)) e in omega (arith, busy, z, t) in
     kept.whole (object_of_block v b) (omega (arith, some)) (fine.latest_made b.0)
 
-four_read : (v : Story) (b : Block) (w x y z : ℕ) → Kept v → IsBusy (story_state v) (object_of_block v b) → w ≡ get_or v.words (spot b.0 3) 0
+four_read : (v : GhostState) (b : Block) (w x y z : ℕ) → Kept v → IsBusy (model_state v) (object_of_block v b) → w ≡ get_or v.words (spot b.0 3) 0
     → x ≡ get_or v.words (spot b.0 4) 0 → y ≡ get_or v.words (spot b.0 5) 0 → z ≡ get_or v.words (spot b.0 6) 0
-    → w ∷ x ∷ y ∷ z ∷ [] ≡ ((story_state v).object (object_of_block v b)).fields
+    → w ∷ x ∷ y ∷ z ∷ [] ≡ ((model_state v).object (object_of_block v b)).fields
 four_read v b w x y z kept busy p q r s =
     let n = whole v b kept busy in
-    ext_get_or 0 (w ∷ x ∷ y ∷ z ∷ []) ((story_state v).object (object_of_block v b)).fields (sym n)
+    ext_get_or 0 (w ∷ x ∷ y ∷ z ∷ []) ((model_state v).object (object_of_block v b)).fields (sym n)
     (λ j lt. four_of v.words b.0 w x y z p q r s j lt ∙ field_read v b j kept busy lt)
 
-abbrev counts_at : Story → ℕ → Counts
-counts_at v b = record { owners = count (story_state v) ((story_state v).latest b); weaks = weak (story_state v) ((story_state v).latest b) }
+abbrev counts_at : GhostState → ℕ → Counts
+counts_at v b = record { owners = count (model_state v) ((model_state v).latest b); weaks = weak (model_state v) ((model_state v).latest b) }
 
 -- the census tells just whether the block is vacant
-vacant_by : (v : Story) (b : ℕ) (t : Bool) → is_some (census_of (story_state v) b) ≡ t
-    → (t ≡ false → weak_number (story_state v) ((story_state v).latest b) ≡ 0)
-    × (t ≡ true → weak_number (story_state v) ((story_state v).latest b) ≢ 0)
+vacant_by : (v : GhostState) (b : ℕ) (t : Bool) → is_some (census_of (model_state v) b) ≡ t
+    → (t ≡ false → weak_number (model_state v) ((model_state v).latest b) ≡ 0)
+    × (t ≡ true → weak_number (model_state v) ((model_state v).latest b) ≢ 0)
 vacant_by v b t is =
-    let n = weak_number (story_state v) ((story_state v).latest b) in
+    let n = weak_number (model_state v) ((model_state v).latest b) in
     let c = counts_at v b in (
       λ none. ⊎_elim (λ (e : n ≡ 0). e)
           (λ (ne : n ≢ 0). absurd (false≢true (sym none ∙ sym is ∙ ap is_some (cond-false (n == 0) None (Some c) (ne_eqb n 0 ne))))) (cases_eq n 0),
@@ -50,27 +50,27 @@ vacant_by v b t is =
     )
 
 -- a vacant block has none
-pub no_fields : (v : Story) (b : ℕ) (r : Option Counts) (t : Bool) → r ≡ census_of (story_state v) b → is_some r ≡ not t → t ≡ true
-    → None ≡ fields_of (story_state v) b
+pub no_fields : (v : GhostState) (b : ℕ) (r : Option Counts) (t : Bool) → r ≡ census_of (model_state v) b → is_some r ≡ not t → t ≡ true
+    → None ≡ fields_of (model_state v) b
 no_fields v b r t is some none =
-    let n = weak_number (story_state v) ((story_state v).latest b) in
+    let n = weak_number (model_state v) ((model_state v).latest b) in
     let e = (vacant_by v b (not t) (ap is_some (sym is) ∙ some)).0 (ap not none) in
-    sym (cond-true (n == 0) None (Some ((story_state v).object ((story_state v).latest b)).fields) (eq-eqb n 0 e))
+    sym (cond-true (n == 0) None (Some ((model_state v).object ((model_state v).latest b)).fields) (eq-eqb n 0 e))
 
-fields_in : (v : Story) (b : Block) (w x y z : ℕ) (r : Option Counts) (t : Bool) → Kept v → r ≡ census_of (story_state v) b.0
+fields_in : (v : GhostState) (b : Block) (w x y z : ℕ) (r : Option Counts) (t : Bool) → Kept v → r ≡ census_of (model_state v) b.0
     → is_some r ≡ not t → t ≡ false → w ≡ get_or v.words (spot b.0 3) 0 → x ≡ get_or v.words (spot b.0 4) 0
-    → y ≡ get_or v.words (spot b.0 5) 0 → z ≡ get_or v.words (spot b.0 6) 0 → Some (w ∷ x ∷ y ∷ z ∷ []) ≡ fields_of (story_state v) b.0
+    → y ≡ get_or v.words (spot b.0 5) 0 → z ≡ get_or v.words (spot b.0 6) 0 → Some (w ∷ x ∷ y ∷ z ∷ []) ≡ fields_of (model_state v) b.0
 fields_in v b w x y z r t kept is some there p q u s =
-    let n = weak_number (story_state v) ((story_state v).latest b.0) in
+    let n = weak_number (model_state v) ((model_state v).latest b.0) in
     let ne = (vacant_by v b.0 (not t) (ap is_some (sym is) ∙ some)).1 (ap not there) in
     ap Some (four_read v b w x y z kept (omega (arith, ne)) p q u s)
-    ∙ sym (cond-false (n == 0) None (Some ((story_state v).object ((story_state v).latest b.0)).fields) (ne_eqb n 0 ne))
+    ∙ sym (cond-false (n == 0) None (Some ((model_state v).object ((model_state v).latest b.0)).fields) (ne_eqb n 0 ne))
 
 -- any other has those that were read
-pub fields_now : (u : Sight) (v : Story) (b : Block) (w x y z : ℕ) (r : Option Counts) (t : Bool) → v ≡ u.story → Kept v
-    → r ≡ census_of (story_state u.story) b.0 → is_some r ≡ not t → t ≡ false → w ≡ get_or v.words (spot b.0 3) 0
+pub fields_now : (u : WorldState) (v : GhostState) (b : Block) (w x y z : ℕ) (r : Option Counts) (t : Bool) → v ≡ u.ghost_state → Kept v
+    → r ≡ census_of (model_state u.ghost_state) b.0 → is_some r ≡ not t → t ≡ false → w ≡ get_or v.words (spot b.0 3) 0
     → x ≡ get_or v.words (spot b.0 4) 0 → y ≡ get_or v.words (spot b.0 5) 0 → z ≡ get_or v.words (spot b.0 6) 0
-    → Some (w ∷ x ∷ y ∷ z ∷ []) ≡ fields_of (story_state u.story) b.0
+    → Some (w ∷ x ∷ y ∷ z ∷ []) ≡ fields_of (model_state u.ghost_state) b.0
 fields_now u v b w x y z r t same kept is some there p q k s =
-    subst (λ (l : Story). Some (w ∷ x ∷ y ∷ z ∷ []) ≡ fields_of (story_state l) b.0) same
-    (fields_in v b w x y z r t kept (is ∙ ap (λ (l : Story). census_of (story_state l) b.0) (sym same)) some there p q k s)
+    subst (λ (l : GhostState). Some (w ∷ x ∷ y ∷ z ∷ []) ≡ fields_of (model_state l) b.0) same
+    (fields_in v b w x y z r t kept (is ∙ ap (λ (l : GhostState). census_of (model_state l) b.0) (sym same)) some there p q k s)

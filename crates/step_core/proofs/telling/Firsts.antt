@@ -6,11 +6,11 @@ use Rattle.step_threads.specs.declared.programs.act.Act.{Act}
 use Rattle.step_threads.specs.declared.programs.act.Act.TheVariants.{Clear}
 use Rattle.step_threads.specs.declared.programs.act.Task.{Task}
 use Rattle.step_threads.specs.declared.programs.call.Call.{Call}
-use Rattle.step_table.specs.Holdings.{plain, pointer_of}
+use Rattle.step_table.specs.Registers.{plain, pointer_of}
 use Rattle.step_threads.specs.Acts.{acts as acts_of, clearing, numbered_tasks, tasks_from}
 use Rattle.step_threads.specs.Programs.{Part}
-use Rattle.step_threads.specs.Scenes.{nowhere}
-use Rattle.step_core.specs.Starts.{first_walk, no_slots}
+use Rattle.step_threads.specs.AbstractStates.{nowhere}
+use Rattle.step_core.specs.Starts.{first_frame, no_slots}
 use Rattle.step_core.specs.Told.{IsTidy, LeavesName, LeavesAll}
 use Rattle.step_core.proofs.telling.Tidying.{fresh_tidy}
 
@@ -54,7 +54,7 @@ plain_size : (m : ℕ) → length (replicate m plain) ≡ m
 plain_size zero = refl
 plain_size (suc m) = let i = plain_size m in omega (arith, i)
 
-first_tidy : (part : Part) → IsTidy (first_walk part)
+first_tidy : (part : Part) → IsTidy (first_frame part)
 first_tidy part =
     let n = length part.kinds in
     let size = plain_size (n + 2) in
@@ -62,7 +62,7 @@ first_tidy part =
     (subst (λ (m : ℕ). LeavesAll m (tasks_from 1 part.calls n)) (omega (arith, size)) (tasks_all 1 part.calls n))
 
 -- each thread of a program
-pub tidy_first : (parts : List Part) (d : ℕ) → IsTidy (get_or (map first_walk parts) d nowhere)
+pub tidy_first : (parts : List Part) (d : ℕ) → IsTidy (get_or (map first_frame parts) d nowhere)
 tidy_first [] d = record { names = λ i lt full. absurd (omega (arith, lt)); all = tt }
 tidy_first (p ∷ ps) zero = first_tidy p
 tidy_first (p ∷ ps) (suc d) = tidy_first ps d

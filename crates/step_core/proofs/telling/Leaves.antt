@@ -5,26 +5,26 @@ use Rattle.std.specs.Prelude.{Option, None}
 use Rattle.std.proofs.lemmas.Bool.{cond_both}
 use Rattle.control_word.specs.declared.place.Block.{Block}
 use Rattle.control_word.specs.State.{State}
-use Rattle.step_table.specs.Stories.{Story, story_state}
+use Rattle.step_table.specs.GhostStates.{GhostState, model_state}
 use Rattle.step_threads.specs.declared.programs.act.Act.{Act}
 use Rattle.step_threads.specs.declared.programs.act.Act.TheVariants.{Put, Leave, Clear}
 use Rattle.step_threads.specs.declared.programs.act.Act.TheVariants.{Drop}
 use Rattle.step_threads.specs.declared.programs.act.Task.{Task}
 use Rattle.step_threads.specs.declared.ending.Ending.{Ending}
-use Rattle.step_table.specs.declared.slots.holdings.Pointer.{Pointer}
-use Rattle.step_threads.specs.Courses.{Walk, idle, other, walk_settled, slots_idle, taken_idle}
+use Rattle.step_table.specs.declared.slots.registers.Pointer.{Pointer}
+use Rattle.step_threads.specs.Frames.{FrameView, idle, other, frame_settled, slots_idle, taken_idle}
 use Rattle.step_table.specs.declared.memory.ended.Ended.{Ended}
-use Rattle.step_table.specs.Deeds.{Telling, by_word, exact, is_last, on}
-use Rattle.step_table.specs.Holdings.{Slots, slot_pointer}
+use Rattle.step_table.specs.AtomicSteps.{Telling, by_word, exact, is_last, on}
+use Rattle.step_table.specs.Registers.{Slots, slot_pointer}
 use Rattle.step_threads.specs.Rows.{ending_by, with_end}
-use Rattle.step_threads.specs.Scenes.{ended_by, row_in, went}
+use Rattle.step_threads.specs.AbstractStates.{ended_by, row_in, went}
 
-pub settled_endings : (slots : Slots) (taken : Bool) (es : List Ending) (ts : List Task) → (walk_settled slots taken es ts).endings ≡ es
+pub settled_endings : (slots : Slots) (taken : Bool) (es : List Ending) (ts : List Task) → (frame_settled slots taken es ts).endings ≡ es
 settled_endings slots taken es [] = refl
 settled_endings slots taken es (t ∷ ts) =
     let r = settled_endings (slots_idle t.act slots taken) (taken_idle t.act taken) es ts in
-    cond_both (idle t.act slots taken) (walk_settled (slots_idle t.act slots taken) (taken_idle t.act taken) es ts)
-    (record { slots = slots; taken = taken; endings = es; todo = t ∷ ts }) (λ (w : Walk). w.endings ≡ es) (λ e. r) (λ e. refl)
+    cond_both (idle t.act slots taken) (frame_settled (slots_idle t.act slots taken) (taken_idle t.act taken) es ts)
+    (record { slots = slots; taken = taken; endings = es; todo = t ∷ ts }) (λ (w : FrameView). w.endings ≡ es) (λ e. r) (λ e. refl)
 
 -- the pointer that leaves by an act
 abbrev pub leaves_by : Slots → Act → Option Pointer
@@ -39,8 +39,8 @@ abbrev pub begun_by : State → ℕ → List Ending → Option Pointer → List 
 begun_by s k es o = with_end k (ending_by (on (is_last s) false o) o) es
 
 -- what the step of an act tells of an object that ends
-abbrev pub ends_by : Story → ℕ → Walk → Act → Option Ended
-ends_by v d w a = (row_in (by_word v) (story_state v) d w.slots w.taken a).ended
+abbrev pub ends_by : GhostState → ℕ → FrameView → Act → Option Ended
+ends_by v d w a = (row_in (by_word v) (model_state v) d w.slots w.taken a).ended
 
 leaves_so : (tell : Telling) (s : State) (d : ℕ) (slots : Slots) (taken : Bool) (a : Act)
     → let y = row_in tell s d slots taken a in
@@ -49,11 +49,11 @@ leaves_so : (tell : Telling) (s : State) (d : ℕ) (slots : Slots) (taken : Bool
 leaves_so tell s d slots taken (Put k) = (refl, refl)
 leaves_so tell s d slots taken _ = (refl, refl)
 
-pub none_ends : (v : Story) (d : ℕ) (w : Walk) (a : Act) → leaves_by w.slots a ≡ None → ends_by v d w a ≡ None
-none_ends v d w a stays = (leaves_so (by_word v) (story_state v) d w.slots w.taken a).1 ∙ ap (ended_by (story_state v)) stays
+pub none_ends : (v : GhostState) (d : ℕ) (w : FrameView) (a : Act) → leaves_by w.slots a ≡ None → ends_by v d w a ≡ None
+none_ends v d w a stays = (leaves_so (by_word v) (model_state v) d w.slots w.taken a).1 ∙ ap (ended_by (model_state v)) stays
 
 -- where the thread's endings are after an act
-pub act_endings : (s : State) (d k : ℕ) (w : Walk) (ts : List Task) (a : Act)
+pub act_endings : (s : State) (d k : ℕ) (w : FrameView) (ts : List Task) (a : Act)
     → (went s d w k ts a).endings ≡ begun_by s k w.endings (leaves_by w.slots a)
 act_endings s d k w ts a =
     let y = row_in exact s d w.slots w.taken a in

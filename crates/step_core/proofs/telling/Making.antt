@@ -6,39 +6,39 @@ use Rattle.control_word.specs.declared.place.Block.{Block}
 use Rattle.step_table.specs.declared.memory.form.Form.{Form}
 use Rattle.step_threads.specs.declared.programs.act.Act.TheVariants.{Make}
 use Rattle.step_threads.specs.declared.programs.act.Task.{Task}
-use Rattle.step_threads.specs.declared.half.Half.TheVariants.{Making}
+use Rattle.step_threads.specs.declared.pending_call.PendingCall.TheVariants.{Making}
 use Rattle.step_threads.specs.Actors.{wanted}
 use Rattle.step_threads.specs.declared.ending.Ending.{Ending}
-use Rattle.step_core.specs.Bounds.{walk_steps, weight}
-use Rattle.step_threads.specs.Courses.{Walk, form_of, walk_settled}
+use Rattle.step_core.specs.Bounds.{frame_steps, weight}
+use Rattle.step_threads.specs.Frames.{FrameView, form_of, frame_settled}
 use Rattle.step_threads.specs.Rows.{holding}
 use Rattle.step_threads.specs.NextSteps.{made_on}
 use Rattle.step_threads.specs.Steps.{Step, claims, prepares}
-use Rattle.step_table.specs.Stories.{Story, known_words, pending}
+use Rattle.step_table.specs.GhostStates.{GhostState, known_words, pending}
 use Rattle.step_core.specs.Totals.{made_in}
 use Rattle.step_core.specs.Turning.{IsUnderWay}
-use Rattle.step_core.proofs.telling.Walking.{settled_alone, walk_alone}
-use Rattle.step_core.proofs.telling.Deeds.{IsCounted, plus_none}
+use Rattle.step_core.proofs.telling.Walking.{settled_alone, frame_alone}
+use Rattle.step_core.proofs.telling.AtomicSteps.{IsCounted, plus_none}
 
-made_one : (v : Story) (d i k : ℕ) (w : Walk) (t : Task) (ts : List Task) (b : Block) (f : Bool) (form : Form) → (i == 5) ≡ true
+made_one : (v : GhostState) (d i k : ℕ) (w : FrameView) (t : Task) (ts : List Task) (b : Block) (f : Bool) (form : Form) → (i == 5) ≡ true
     → t.act ≡ Make form → w.endings ≡ [] → w.todo ≡ t ∷ ts → IsCounted v d (Making b i f) w (Some (claims w k ts b form))
 made_one v d i k w t ts b f form e same none is =
     let c : ◌≡◌ {A = ℕ} (cond (i == 5) 1 0) 1 = ap (λ (z : Bool). cond z 1 0) e in
     let m : suc (made_in v.history) ≡ made_in v.history + cond (i == 5) 1 0 = omega (arith, c) in
     let x = holding w.slots form.null (Some b.0) in
     let l = settled_alone x.0 x.1 ts in
-    let n : walk_steps (walk_settled x.0 x.1 w.endings ts) ≡ walk_steps (walk_settled x.0 x.1 [] ts) =
-    ap (λ (es : List Ending). walk_steps (walk_settled x.0 x.1 es ts)) none in
-    let a = walk_alone w t ts none is in
+    let n : frame_steps (frame_settled x.0 x.1 w.endings ts) ≡ frame_steps (frame_settled x.0 x.1 [] ts) =
+    ap (λ (es : List Ending). frame_steps (frame_settled x.0 x.1 es ts)) none in
+    let a = frame_alone w t ts none is in
     let g : weight t.act ≡ 28 = ap weight same in
     record { made = m; ended = plus_none _; few = omega (arith, c, l, n, a, g) }
 
-prepared_one : (v : Story) (d k found want i : ℕ) (w : Walk) (b : Block) (f : Bool)
+prepared_one : (v : GhostState) (d k found want i : ℕ) (w : FrameView) (b : Block) (f : Bool)
     → IsCounted v d (Making b i f) w (Some (prepares found want w k b i f))
 prepared_one v d k found want i w b true = record { made = plus_none _; ended = plus_none _; few = omega arith }
 prepared_one v d k found want i w b false = record { made = plus_none _; ended = plus_none _; few = omega arith }
 
-pub counted_make : (v : Story) (d i : ℕ) (w : Walk) (b : Block) (f : Bool) (ts : List Task) → w.todo ≡ ts → w.endings ≡ []
+pub counted_make : (v : GhostState) (d i : ℕ) (w : FrameView) (b : Block) (f : Bool) (ts : List Task) → w.todo ≡ ts → w.endings ≡ []
     → IsUnderWay d v (Making b i f) ts → IsCounted v d (Making b i f) w (made_on v d w b i f ts)
 counted_make v d i w b f [] is none way = absurd way
 counted_make v d i w b f (t ∷ ts) is none way =

@@ -10,39 +10,39 @@ use Rattle.step_threads.specs.declared.programs.act.Act.{Act}
 use Rattle.step_threads.specs.declared.programs.act.Act.TheVariants.{Make, Lock, Clear, FromThis, Swap, Exchange, Load, Compare, Leave}
 use Rattle.step_threads.specs.declared.programs.act.Task.{Task}
 use Rattle.step_threads.specs.declared.ending.Ending.{Ending}
-use Rattle.step_threads.specs.declared.half.Half.{Half}
-use Rattle.step_threads.specs.declared.half.Half.TheVariants.{Rest, Making, Locking, Giving, Brought, Saw, Matched, Refill, Returning, Clearing}
+use Rattle.step_threads.specs.declared.pending_call.PendingCall.{PendingCall}
+use Rattle.step_threads.specs.declared.pending_call.PendingCall.TheVariants.{Rest, Making, Locking, Giving, Brought, Saw, Matched, Refill, Returning, Clearing}
 use Rattle.control_word.specs.declared.packed.cell.CellWord.{CellWord}
-use Rattle.step_table.specs.declared.cell_steps.cell_deed.Cell.{Cell}
-use Rattle.step_table.specs.declared.cell_steps.cell_deed.Cell.TheVariants.{Member}
+use Rattle.step_table.specs.declared.cell_steps.cell_step.Cell.{Cell}
+use Rattle.step_table.specs.declared.cell_steps.cell_step.Cell.TheVariants.{Member}
 use Rattle.step_table.specs.declared.memory.form.Form.{Form}
-use Rattle.step_table.specs.declared.slots.holdings.Pointer.{Pointer}
-use Rattle.step_table.specs.declared.memory.past.Deed.TheVariants as deed
+use Rattle.step_table.specs.declared.slots.registers.Pointer.{Pointer}
+use Rattle.step_table.specs.declared.memory.past.AtomicStep.TheVariants as atomic_step
 use Rattle.step_table.specs.Cells.{word_of_cell}
 use Rattle.step_table.specs.Contents.{compared_in, held_in, seen, slot_of}
-use Rattle.step_table.specs.Deeds.{is_enabled, lock, on, owner_word}
-use Rattle.step_table.specs.Holdings.{Slots, inside, is_full, slot_pointer}
-use Rattle.step_table.specs.Stories.{Story, known_words, object_of_block, pending, story_state}
+use Rattle.step_table.specs.AtomicSteps.{is_enabled, lock, on, owner_word}
+use Rattle.step_table.specs.Registers.{Slots, inside, is_full, slot_pointer}
+use Rattle.step_table.specs.GhostStates.{GhostState, known_words, object_of_block, pending, model_state}
 use Rattle.control_word.specs.State.{weak}
 use Rattle.step_threads.specs.Actors.{wanted}
-use Rattle.step_threads.specs.Courses.{Going, Walk, cell_of_name, comparing, form_of, going, hand, locked_pointer, on_going, other, walk_settled}
+use Rattle.step_threads.specs.Frames.{Going, FrameView, cell_of_name, comparing, form_of, going, hand, locked_pointer, on_going, other, frame_settled}
 use Rattle.step_threads.specs.Endings.{staged}
 use Rattle.step_threads.specs.Entries.{least}
-use Rattle.step_threads.specs.Scenes.{nowhere, walk_of, went}
+use Rattle.step_threads.specs.AbstractStates.{nowhere, frame_of, went}
 use Rattle.step_threads.specs.Rows.{holding}
-use Rattle.step_threads.specs.NextSteps.{at_rest, begun, emptied, first, given_step, made_on, matched, matched_on, saw, saw_on, sent, step_at, tried, walk_by}
+use Rattle.step_threads.specs.NextSteps.{at_rest, begun, emptied, first, given_step, made_on, matched, matched_on, saw, saw_on, sent, step_at, tried, frame_by}
 use Rattle.step_threads.specs.Steps.{Step, step_of_act, asks, begins, brings, claims, ends_on, looks, prepares, sends, silent, step_of_swap, tries, trying}
 use Rattle.step_threads.specs.Steps.{with_endings}
 use Rattle.step_threads.specs.Steps.{within}
 use Rattle.step_core.specs.Told.{IsTidy, LeavesName, LeavesAll}
 use Rattle.step_core.specs.Turning.{IsUnderWay}
-use Rattle.step_core.specs.Worlds.{Sight, half_of, scene, sight_by, step_of}
+use Rattle.step_core.specs.Worlds.{WorldState, pending_call_of, abstraction, world_state_by, step_of}
 use Rattle.step_core.proofs.telling.Cases.{IsEach, IsEachAct, each_compares, each_load, each_matched, each_refill, each_saw}
 use Rattle.step_core.proofs.telling.Tidying.{any_tidy, hand_tidy, left_tidy, make_tidy, went_tidy}
 
--- the first step of an act leaves the walk as it is, is the act, or is refused
-module _ (v : Story) (d k : ℕ) (w : Walk) (ts : List Task) (P : Walk → Type 0) (same : P w) where
-  each_cell : (a : Act) (c : Cell) → P (went (story_state v) d w k ts a) → IsEach v d w k ts a c (λ (x : Step). P x.walk)
+-- the first step of an act leaves the frame as it is, is the act, or is refused
+module _ (v : GhostState) (d k : ℕ) (w : FrameView) (ts : List Task) (P : FrameView → Type 0) (same : P w) where
+  each_cell : (a : Act) (c : Cell) → P (went (model_state v) d w k ts a) → IsEach v d w k ts a c (λ (x : Step). P x.frame_view)
   each_cell a c done =
       record {
         quiet = λ h. same;
@@ -53,77 +53,77 @@ module _ (v : Story) (d k : ℕ) (w : Walk) (ts : List Task) (P : Walk → Type 
             same;
       }
 
-  going_by : (a : Act) (o : Option Going) → P (went (story_state v) d w k ts a)
-      → P (on_going (sends v d w k ts a) (step_of_act v d w k ts a None Rest) o).walk
+  going_by : (a : Act) (o : Option Going) → P (went (model_state v) d w k ts a)
+      → P (on_going (sends v d w k ts a) (step_of_act v d w k ts a None Rest) o).frame_view
   going_by a None done = done
   going_by a (Some g) done = go (slot_pointer w.slots g.1)
     where
-      go : (o : Option Pointer) → P (on (brings w k) (step_of_swap v d w k ts a g.0 g.1) o).walk
+      go : (o : Option Pointer) → P (on (brings w k) (step_of_swap v d w k ts a g.0 g.1) o).frame_view
       go None = done
       go (Some p) = same
 
-  looks_by : (a : Act) (o : Option Pointer) → P (went (story_state v) d w k ts a)
-      → P (on (looks v d w k ts a) (step_of_act v d w k ts a None Rest) o).walk
+  looks_by : (a : Act) (o : Option Pointer) → P (went (model_state v) d w k ts a)
+      → P (on (looks v d w k ts a) (step_of_act v d w k ts a None Rest) o).frame_view
   looks_by a None done = done
   looks_by a (Some x) done =
-      cond_both (owner_word v x == 0) (step_of_act v d w k ts a (Some (lock (story_state v) x)) Rest) (trying w k (owner_word v x))
-      (λ (s : Step). P s.walk)
+      cond_both (owner_word v x == 0) (step_of_act v d w k ts a (Some (lock (model_state v) x)) Rest) (trying w k (owner_word v x))
+      (λ (s : Step). P s.frame_view)
       (λ e. done) (λ e. same)
 
-  begins_by : (o : Option ℕ) → P (walk_settled w.slots false w.endings ts) → P (begins w k ts o).walk
+  begins_by : (o : Option ℕ) → P (frame_settled w.slots false w.endings ts) → P (begins w k ts o).frame_view
   begins_by None made = made
   begins_by (Some b) made = same
 
-  first_by : (a : Act) → P (went (story_state v) d w k ts a)
-      → ((form : Form) → a ≡ Make form → P (walk_settled w.slots false w.endings ts))
-      → P (first v d w k ts a).walk
-  first_by (Make form) done made = begins_by (least d (story_state v).stores) (made form refl)
+  first_by : (a : Act) → P (went (model_state v) d w k ts a)
+      → ((form : Form) → a ≡ Make form → P (frame_settled w.slots false w.endings ts))
+      → P (first v d w k ts a).frame_view
+  first_by (Make form) done made = begins_by (least d (model_state v).stores) (made form refl)
   first_by (Lock i must) done made = looks_by (Lock i must) (locked_pointer w.slots (Lock i must)) done
   first_by (FromThis i kind) done made = go (inside (slot_pointer w.slots i))
     where
-      go : (o : Option Pointer) → P (on (asks v d w k ts i kind) (step_of_act v d w k ts (FromThis i kind) None Rest) o).walk
+      go : (o : Option Pointer) → P (on (asks v d w k ts i kind) (step_of_act v d w k ts (FromThis i kind) None Rest) o).frame_view
       go None = done
       go (Some x) =
-          cond_both (is_enabled (story_state v) x) (record { deed = None; half = Giving i kind x; walk = w; said = silent k })
-          (step_of_act v d w k ts (FromThis i kind) None Rest) (λ (s : Step). P s.walk) (λ e. same) (λ e. done)
+          cond_both (is_enabled (model_state v) x) (record { atomic_step = None; pending_call = Giving i kind x; frame_view = w; said = silent k })
+          (step_of_act v d w k ts (FromThis i kind) None Rest) (λ (s : Step). P s.frame_view) (λ e. same) (λ e. done)
   first_by (Swap c) done made = going_by (Swap c) (going w.slots (Swap c)) done
   first_by (Exchange i c) done made = going_by (Exchange i c) (going w.slots (Exchange i c)) done
   first_by (Load c) done made =
-      each_load v d w k ts c (λ (x : Step). P x.walk) (each_cell (Load c) (cell_of_name (story_state v) w.slots c) done) done
+      each_load v d w k ts c (λ (x : Step). P x.frame_view) (each_cell (Load c) (cell_of_name (model_state v) w.slots c) done) done
   first_by (Compare i c weak) done made =
-      each_compares v d w k ts (Compare i c weak) (cell_of_name (story_state v) w.slots c) (λ (x : Step). P x.walk)
-      (each_cell (Compare i c weak) (cell_of_name (story_state v) w.slots c) done)
-      (compared_in w.slots (comparing w.slots i weak)) (seen v (cell_of_name (story_state v) w.slots c))
+      each_compares v d w k ts (Compare i c weak) (cell_of_name (model_state v) w.slots c) (λ (x : Step). P x.frame_view)
+      (each_cell (Compare i c weak) (cell_of_name (model_state v) w.slots c) done)
+      (compared_in w.slots (comparing w.slots i weak)) (seen v (cell_of_name (model_state v) w.slots c))
   first_by _ done made = done
 
 -- the thread is tidy after its step
-module _ (v : Story) (d : ℕ) (w : Walk) (tidy : IsTidy w) where
+module _ (v : GhostState) (d : ℕ) (w : FrameView) (tidy : IsTidy w) where
   abbrev Tidy : Option Step → Type 0
-  Tidy o = IsTidy (walk_by w o)
+  Tidy o = IsTidy (frame_by w o)
 
   task_tidy : (ts : List Task) → w.todo ≡ ts → Tidy (begun v d w ts)
   task_tidy [] is = tidy
   task_tidy (t ∷ ts) is =
-      first_by v d t.statement w ts IsTidy tidy t.act (went_tidy (story_state v) d t.statement w t ts is tidy)
+      first_by v d t.statement w ts IsTidy tidy t.act (went_tidy (model_state v) d t.statement w t ts is tidy)
       (λ form e. make_tidy w t ts form w.slots false is e refl tidy)
 
   with_tidy : (es : List Ending) → IsTidy (with_endings w es)
   with_tidy es = record { names = tidy.names; all = tidy.all }
 
-  end_tidy : (e : Ending) (es : List Ending) → IsTidy (ends_on v w e es).walk
+  end_tidy : (e : Ending) (es : List Ending) → IsTidy (ends_on v w e es).frame_view
   end_tidy e es =
       let finished : Step = record {
-        deed = Some (deed.Finish e.block (weak (story_state v) (object_of_block v e.block) == 0));
-        half = Rest;
-        walk = with_endings w es;
+        atomic_step = Some (atomic_step.Finish e.block (weak (model_state v) (object_of_block v e.block) == 0));
+        pending_call = Rest;
+        frame_view = with_endings w es;
         said = silent e.statement;
       } in
-      let cleared = within (with_endings w (staged e ∷ es)) e.statement (Some (deed.Clear e.block e.stage)) Rest in
+      let cleared = within (with_endings w (staged e ∷ es)) e.statement (Some (atomic_step.Clear e.block e.stage)) Rest in
       let looked = within w e.statement None Clearing in
       cond_both (e.stage == 3) finished (cond (word_of_cell v (Member e.block e.stage) == 0) cleared looked)
-      (λ (x : Step). IsTidy x.walk)
+      (λ (x : Step). IsTidy x.frame_view)
       (λ c. with_tidy es)
-      (λ c. cond_both (word_of_cell v (Member e.block e.stage) == 0) cleared looked (λ (x : Step). IsTidy x.walk)
+      (λ c. cond_both (word_of_cell v (Member e.block e.stage) == 0) cleared looked (λ (x : Step). IsTidy x.frame_view)
       (λ b. with_tidy (staged e ∷ es)) (λ b. tidy))
 
   rest_tidy : (es : List Ending) → Tidy (at_rest v d w es)
@@ -131,9 +131,9 @@ module _ (v : Story) (d : ℕ) (w : Walk) (tidy : IsTidy w) where
   rest_tidy (e ∷ es) =
       cond_both (is_full (slot_pointer w.slots (hand w.slots))) (first v d w e.statement w.todo (Leave (hand w.slots)))
       (ends_on v w e es)
-      (λ (x : Step). IsTidy x.walk) (λ c. left_tidy (story_state v) d e.statement w tidy) (λ c. end_tidy e es)
+      (λ (x : Step). IsTidy x.frame_view) (λ c. left_tidy (model_state v) d e.statement w tidy) (λ c. end_tidy e es)
 
-  prepared_tidy : (found want k i : ℕ) (b : Block) (f : Bool) → IsTidy (prepares found want w k b i f).walk
+  prepared_tidy : (found want k i : ℕ) (b : Block) (f : Bool) → IsTidy (prepares found want w k b i f).frame_view
   prepared_tidy found want k i b true = tidy
   prepared_tidy found want k i b false = tidy
 
@@ -145,7 +145,7 @@ module _ (v : Story) (d : ℕ) (w : Walk) (tidy : IsTidy w) where
       let want = get_or (wanted (form_of t.act)) i 0 in
       let x = holding w.slots (form_of t.act).null (Some b.0) in
       cond_both (i == 5) (claims w t.statement ts b (form_of t.act)) (prepares found want w t.statement b i f)
-      (λ (s : Step). IsTidy s.walk)
+      (λ (s : Step). IsTidy s.frame_view)
       (λ e. make_tidy w t ts (form_of t.act) x.0 x.1 is way.2 (length-set w.slots (hand w.slots) _) tidy)
       (λ e. prepared_tidy found want t.statement i b f)
 
@@ -156,16 +156,16 @@ module _ (v : Story) (d : ℕ) (w : Walk) (tidy : IsTidy w) where
       go : (o : Option Pointer) → Tidy (option_map (tries v d w t.statement ts t.act word) o)
       go None = tidy
       go (Some x) =
-          cond_both (owner_word v x == word) (step_of_act v d w t.statement ts t.act (Some (lock (story_state v) x)) Rest)
+          cond_both (owner_word v x == word) (step_of_act v d w t.statement ts t.act (Some (lock (model_state v) x)) Rest)
           (trying w t.statement (owner_word v x))
-          (λ (s : Step). IsTidy s.walk) (λ e. went_tidy (story_state v) d t.statement w t ts is tidy) (λ e. tidy)
+          (λ (s : Step). IsTidy s.frame_view) (λ e. went_tidy (model_state v) d t.statement w t ts is tidy) (λ e. tidy)
 
   giving_tidy : (i : ℕ) (kind : Kind) (x : Pointer) (ts : List Task) → w.todo ≡ ts → IsUnderWay d v (Giving i kind x) ts
       → Tidy (given_step v d w i kind x ts)
   giving_tidy i kind x [] is way = tidy
   giving_tidy i kind x (t ∷ ts) is way =
-      subst (λ (a : Act). IsTidy (went (story_state v) d w t.statement ts a)) way.0
-      (went_tidy (story_state v) d t.statement w t ts is tidy)
+      subst (λ (a : Act). IsTidy (went (model_state v) d w t.statement ts a)) way.0
+      (went_tidy (model_state v) d t.statement w t ts is tidy)
 
   brought_tidy : (ts : List Task) → w.todo ≡ ts → Tidy (sent v d w ts)
   brought_tidy [] is = tidy
@@ -173,7 +173,7 @@ module _ (v : Story) (d : ℕ) (w : Walk) (tidy : IsTidy w) where
     where
       go : (o : Option Going) → Tidy (option_map (λ (x : Going). step_of_swap v d w t.statement ts t.act x.0 x.1) o)
       go None = tidy
-      go (Some x) = went_tidy (story_state v) d t.statement w t ts is tidy
+      go (Some x) = went_tidy (model_state v) d t.statement w t ts is tidy
 
   -- all names are left behind the first task
   abbrev AllLeft : List Task → Type 0
@@ -184,11 +184,11 @@ module _ (v : Story) (d : ℕ) (w : Walk) (tidy : IsTidy w) where
   each_tidy t ts left =
       record {
         none = tidy;
-        load = λ c. each_cell v d t.statement w ts IsTidy tidy (Load c) (cell_of_name (story_state v) w.slots c)
-            (any_tidy (story_state v) d t.statement w ts (Load c) left.0 left.1);
+        load = λ c. each_cell v d t.statement w ts IsTidy tidy (Load c) (cell_of_name (model_state v) w.slots c)
+            (any_tidy (model_state v) d t.statement w ts (Load c) left.0 left.1);
         compare =
-            λ i c weak. each_cell v d t.statement w ts IsTidy tidy (Compare i c weak) (cell_of_name (story_state v) w.slots c)
-            (any_tidy (story_state v) d t.statement w ts (Compare i c weak) left.0 left.1);
+            λ i c weak. each_cell v d t.statement w ts IsTidy tidy (Compare i c weak) (cell_of_name (model_state v) w.slots c)
+            (any_tidy (model_state v) d t.statement w ts (Compare i c weak) left.0 left.1);
       }
 
   -- the tasks of a thread that leaves a name, or leaves all behind its next
@@ -221,11 +221,11 @@ module _ (v : Story) (d : ℕ) (w : Walk) (tidy : IsTidy w) where
   out_tidy (e ∷ es) =
       let c = Member e.block e.stage in
       let x = seen v c in
-      cond_both (is_some x.owned) (slice_set w.slots (hand w.slots) (slot_of (story_state v) (held_in (story_state v) c))) w.slots
+      cond_both (is_some x.owned) (slice_set w.slots (hand w.slots) (slot_of (model_state v) (held_in (model_state v) c))) w.slots
       (λ (l : Slots). IsTidy (record { slots = l; taken = w.taken; endings = staged e ∷ es; todo = w.todo }))
-      (λ _. hand_tidy w (slot_of (story_state v) (held_in (story_state v) c)) (staged e ∷ es) tidy) (λ _. with_tidy (staged e ∷ es))
+      (λ _. hand_tidy w (slot_of (model_state v) (held_in (model_state v) c)) (staged e ∷ es) tidy) (λ _. with_tidy (staged e ∷ es))
 
-  pub step_tidy : (h : Half) → IsUnderWay d v h w.todo → Tidy (step_at v d h w)
+  pub step_tidy : (h : PendingCall) → IsUnderWay d v h w.todo → Tidy (step_at v d h w)
   step_tidy Rest way = rest_tidy w.endings
   step_tidy (Making b i f) way = making_tidy b i f w.todo refl way
   step_tidy (Locking word) way = locking_tidy word w.todo refl
@@ -248,14 +248,14 @@ module _ (v : Story) (d : ℕ) (w : Walk) (tidy : IsTidy w) where
   step_tidy Clearing way = out_tidy w.endings
 
 -- all threads are, after a step of one
-pub tidy_after : (d : ℕ) (u : Sight) → IsUnderWay d u.story (half_of u d) (walk_of (scene u) d).todo
-    → d < length u.walks
-    → ((e : ℕ) → IsTidy (walk_of (scene u) e)) → (e : ℕ) → IsTidy (walk_of (scene (sight_by d u (step_of d u))) e)
+pub tidy_after : (d : ℕ) (u : WorldState) → IsUnderWay d u.ghost_state (pending_call_of u d) (frame_of (abstraction u) d).todo
+    → d < length u.frame_views
+    → ((e : ℕ) → IsTidy (frame_of (abstraction u) e)) → (e : ℕ) → IsTidy (frame_of (abstraction (world_state_by d u (step_of d u))) e)
 tidy_after d u way lt all e =
-    let w = walk_by (walk_of (scene u) d) (step_of d u) in
+    let w = frame_by (frame_of (abstraction u) d) (step_of d u) in
     ⊎_elim
-    (λ (same : e ≡ d). subst (λ (n : ℕ). IsTidy (walk_of (scene (sight_by d u (step_of d u))) n)) (sym same)
-    (subst IsTidy (sym (get_or-set_same u.walks d w nowhere lt))
-    (step_tidy u.story d (walk_of (scene u) d) (all d) (half_of u d) way)))
-    (λ (ne : e ≢ d). subst IsTidy (sym (get_or-set_other u.walks d e w nowhere ne)) (all e))
+    (λ (same : e ≡ d). subst (λ (n : ℕ). IsTidy (frame_of (abstraction (world_state_by d u (step_of d u))) n)) (sym same)
+    (subst IsTidy (sym (get_or-set_same u.frame_views d w nowhere lt))
+    (step_tidy u.ghost_state d (frame_of (abstraction u) d) (all d) (pending_call_of u d) way)))
+    (λ (ne : e ≢ d). subst IsTidy (sym (get_or-set_other u.frame_views d e w nowhere ne)) (all e))
     (cases_eq e d)

@@ -15,7 +15,7 @@ use Rattle.control_word.specs.Events.{after}
 use Rattle.control_word.specs.Handles.{object_of}
 use Rattle.control_word.specs.Histories.{IsLegal, ends_by, given, leads}
 use Rattle.control_word.specs.State.{Opening, Phase, State, ending, gone, live, unmade}
-use Rattle.step_table.specs.Stories.{Nothing}
+use Rattle.step_table.specs.GhostStates.{Nothing}
 use Rattle.step_core.specs.Totals.{ended_in, is_last_leave, is_make, made_in}
 
 made_after : (s : State) (d : ℕ) (a : Event Nothing) → (after s d a).made ≡ s.made + cond (is_make a) 1 0

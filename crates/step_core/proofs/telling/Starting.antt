@@ -16,13 +16,13 @@ use Rattle.step_threads.specs.declared.programs.call.Call.TheVariants as call
 use Rattle.step_table.specs.declared.memory.extent.Extent.{Extent}
 use Rattle.step_threads.specs.declared.thread.Thread.{Thread}
 use Rattle.step_threads.specs.Acts.{acts, clearing, numbered_tasks, tasks_from}
-use Rattle.step_core.specs.Bounds.{left_to_do, task_steps, walk_steps, weight}
-use Rattle.step_threads.specs.Courses.{Walk}
-use Rattle.step_threads.specs.Scenes.{nowhere}
+use Rattle.step_core.specs.Bounds.{left_to_do, task_steps, frame_steps, weight}
+use Rattle.step_threads.specs.Frames.{FrameView}
+use Rattle.step_threads.specs.AbstractStates.{nowhere}
 use Rattle.step_threads.specs.Programs.{IsPart, IsProgram, Part, call_count}
-use Rattle.step_core.specs.Starts.{AllHaveFields, HasFields, first_story, first_walk, no_slots}
-use Rattle.step_core.specs.Told.{IsTidy, TotalsAreTold, sight}
-use Rattle.step_core.specs.Worlds.{thread_half, thread_walk}
+use Rattle.step_core.specs.Starts.{AllHaveFields, HasFields, first_ghost, first_frame, no_slots}
+use Rattle.step_core.specs.Told.{IsTidy, TotalsAreTold, world_state}
+use Rattle.step_core.specs.Worlds.{thread_pending, thread_frame}
 use Rattle.step_core.proofs.watching.Worlds.{watched_start}
 use Rattle.step_core.proofs.telling.Firsts.{tidy_first}
 use Rattle.step_core.proofs.telling.Walking.{settled_alone}
@@ -90,7 +90,7 @@ all_steps k (c ∷ cs) n all =
     let b = call_steps c (All-head HasFields c cs all) in
     omega (arith, i, a, b)
 
-first_left : (part : Part) → IsPart part → All HasFields part.calls → walk_steps (first_walk part) ≤ 131070 * length part.calls + 64
+first_left : (part : Part) → IsPart part → All HasFields part.calls → frame_steps (first_frame part) ≤ 131070 * length part.calls + 64
 first_left part fine fields =
     let s = settled_alone (no_slots (length part.kinds)) false (tasks_from 1 part.calls (length part.kinds)) in
     let t = all_steps 1 part.calls (length part.kinds) fields in
@@ -98,12 +98,12 @@ first_left part fine fields =
     omega (arith, s, t, f)
 
 all_left : (parts : List Part) → All IsPart parts → AllHaveFields parts
-    → left_to_do (map first_walk parts) ≤ 131070 * call_count parts + 64 * length parts
+    → left_to_do (map first_frame parts) ≤ 131070 * call_count parts + 64 * length parts
 all_left [] all fields = omega arith
 all_left (p ∷ ps) all fields =
     let f = first_left p (All-head IsPart p ps all) (All-head (λ (part : Part). All HasFields part.calls) p ps fields) in
     let i = all_left ps (All-tail IsPart p ps all) (All-tail (λ (part : Part). All HasFields part.calls) p ps fields) in
-    let a = sum_by-cons walk_steps (first_walk p) (map first_walk ps) in
+    let a = sum_by-cons frame_steps (first_frame p) (map first_frame ps) in
     let b = sum_by-cons (λ (q : Part). length q.calls) p ps in
     omega (arith, f, i, a, b)
 
@@ -117,23 +117,23 @@ zero_at (suc n) zero = refl
 zero_at (suc n) (suc i) = zero_at n i
 
 pub told_start : (x : Extent) (parts : List Part) (threads : List Thread) → x.actors ≡ length parts → IsProgram parts → AllHaveFields parts
-    → map thread_walk threads ≡ map first_walk parts → TotalsAreTold (sight (first_story x) threads) 0 0
-told_start x parts threads size fine fields walks =
-    let l = length-map threads thread_walk in
-    let k = length-map threads thread_half in
-    let n : length (map thread_walk threads) ≡ length parts = ap (λ (ws : List Walk). length ws) walks ∙ length-map parts first_walk in
+    → map thread_frame threads ≡ map first_frame parts → TotalsAreTold (world_state (first_ghost x) threads) 0 0
+told_start x parts threads size fine fields frame_views =
+    let l = length-map threads thread_frame in
+    let k = length-map threads thread_pending in
+    let n : length (map thread_frame threads) ≡ length parts = ap (λ (ws : List FrameView). length ws) frame_views ∙ length-map parts first_frame in
     let a = all_left parts fine.each fields in
     let calls = fine.calls in
     let actors = fine.actors in
-    let same : left_to_do (map thread_walk threads) ≡ left_to_do (map first_walk parts) = ap left_to_do walks in
+    let same : left_to_do (map thread_frame threads) ≡ left_to_do (map first_frame parts) = ap left_to_do frame_views in
     record {
       threads = n ∙ sym size;
-      halves = k ∙ sym l;
+      pending_calls = k ∙ sym l;
       made = refl;
       ended = refl;
       order = omega arith;
       few = omega (arith, same, a, calls, actors);
       endings = λ o e p. absurd (not_ending e p);
-      watched = watched_start (first_story x) (map thread_half threads) (zero_at (table_size x.shape));
-      tidy = λ d. subst (λ (ws : List Walk). IsTidy (get_or ws d nowhere)) (sym walks) (tidy_first parts d);
+      watched = watched_start (first_ghost x) (map thread_pending threads) (zero_at (table_size x.shape));
+      tidy = λ d. subst (λ (ws : List FrameView). IsTidy (get_or ws d nowhere)) (sym frame_views) (tidy_first parts d);
     }

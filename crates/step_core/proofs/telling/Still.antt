@@ -1,7 +1,7 @@
 -- Steps by which no object begins to end, or comes to its end.
 use Rattle.step_threads.specs.declared.programs.act.ShelfAct.{ShelfAct}
 use Rattle.step_threads.specs.declared.programs.act.ShelfAct.TheVariants.{Shelve, Unshelve}
-use Rattle.step_threads.specs.Shelving.{shelf_deed}
+use Rattle.step_threads.specs.Shelving.{shelf_step}
 use Rattle.std.proofs.Common.{◌≡◌, ◌≢◌, ℕ, ◌<◌, ◌==◌, Bool, true, false, cond, List, [], ◌∷◌, refl, sym, ap, subst, ◌∙◌}
 use Rattle.std.proofs.Common.{⊎_elim}
 use Rattle.std.specs.Prelude.{Option, Some, None, option_map}
@@ -14,29 +14,29 @@ use Rattle.control_word.specs.declared.model.handle.Kind.{Kind}
 use Rattle.control_word.specs.declared.model.handle.Kind.TheVariants.{Owner, Weak}
 use Rattle.control_word.specs.Events.{swaps as event_swaps}
 use Rattle.control_word.specs.State.{Object, State, ending, put}
-use Rattle.step_table.specs.CellDeeds.{cell_in, handle_told}
+use Rattle.step_table.specs.CellAtomicSteps.{cell_in, handle_told}
 use Rattle.step_threads.specs.declared.programs.act.Act.{Act}
 use Rattle.step_threads.specs.declared.programs.act.Act.TheVariants.{Make, Share, Downgrade, Lock, Put, Leave, Clear, Count, Expired, Read, FromThis, Alias}
 use Rattle.step_threads.specs.declared.programs.act.Act.TheVariants.{Move, Ask}
 use Rattle.step_threads.specs.declared.programs.act.Act.TheVariants.{Offer, Swap, Exchange, Load, Compare, Drop, OnShelf}
 use Rattle.step_threads.specs.declared.programs.act.Task.{Task}
 use Rattle.step_threads.specs.declared.ending.Ending.{Ending}
-use Rattle.step_threads.specs.declared.half.Half.{Half}
-use Rattle.step_threads.specs.declared.half.Half.TheVariants.{Rest, Locking, Giving, Brought}
-use Rattle.step_table.specs.declared.slots.holdings.Pointer.{Pointer}
-use Rattle.step_table.specs.declared.memory.past.Deed.{Deed}
-use Rattle.step_table.specs.declared.memory.past.Deed.TheVariants as deed
-use Rattle.step_table.specs.declared.cell_steps.cell_deed.CellDeed.TheVariants as cell_deed
+use Rattle.step_threads.specs.declared.pending_call.PendingCall.{PendingCall}
+use Rattle.step_threads.specs.declared.pending_call.PendingCall.TheVariants.{Rest, Locking, Giving, Brought}
+use Rattle.step_table.specs.declared.slots.registers.Pointer.{Pointer}
+use Rattle.step_table.specs.declared.memory.past.AtomicStep.{AtomicStep}
+use Rattle.step_table.specs.declared.memory.past.AtomicStep.TheVariants as atomic_step
+use Rattle.step_table.specs.declared.cell_steps.cell_step.CellStep.TheVariants as cell_step
 use Rattle.step_table.specs.Contents.{as_word, seen}
 use Rattle.step_threads.specs.Programs.{kind_at}
-use Rattle.step_threads.specs.Courses.{Going, Walk, cell_of_name, going, locked_pointer, on_going}
-use Rattle.step_table.specs.Deeds.{give, is_enabled, lock, owner_word, share_as, on}
+use Rattle.step_threads.specs.Frames.{Going, FrameView, cell_of_name, going, locked_pointer, on_going}
+use Rattle.step_table.specs.AtomicSteps.{give, is_enabled, lock, owner_word, share_as, on}
 use Rattle.step_threads.specs.Endings.{endings_in_block}
-use Rattle.step_table.specs.Holdings.{slot_pointer, slot_value}
-use Rattle.step_threads.specs.Scenes.{went}
-use Rattle.step_threads.specs.NextSteps.{given_step, sent, story_after, story_by, tried, walk_by}
+use Rattle.step_table.specs.Registers.{slot_pointer, slot_value}
+use Rattle.step_threads.specs.AbstractStates.{went}
+use Rattle.step_threads.specs.NextSteps.{given_step, sent, ghost_after, ghost_by, tried, frame_by}
 use Rattle.step_threads.specs.Steps.{Step, step_of_act, asks, brings, gives_back, looks, sends, silent, step_of_swap, tries, trying}
-use Rattle.step_table.specs.Stories.{Kept, Story, story_state}
+use Rattle.step_table.specs.GhostStates.{Kept, GhostState, model_state}
 use Rattle.step_core.specs.Told.{AllEndInThreads}
 use Rattle.step_core.proofs.telling.Leaves.{act_endings, begun_by, leaves_by}
 use Rattle.step_core.proofs.telling.Swapping.{swapping}
@@ -73,8 +73,8 @@ end_put s t g o x is here else p e =
     subst P (sym (ap (λ (k : ℕ → Object). k p) is)) (put_cases (λ k y. P y) s.object o x p (λ q. here e) (λ n. else p e n))
 
 -- after the step all is as it should be
-pub record Right (v : Story) (d : ℕ) (w : Walk) (f : Lists) (x : Option Step) : Type 0 where
-  pub right : (g : Lists) → Kept (story_by v d x) → g d ≡ (walk_by w x).endings → IsElse d f g → AllEndInThreads (story_state (story_by v d x)) g
+pub record Right (v : GhostState) (d : ℕ) (w : FrameView) (f : Lists) (x : Option Step) : Type 0 where
+  pub right : (g : Lists) → Kept (ghost_by v d x) → g d ≡ (frame_by w x).endings → IsElse d f g → AllEndInThreads (model_state (ghost_by v d x)) g
 
 -- each object is in the block that it was in, and ends in whose hands it did
 abbrev pub IsAlike : (ℕ → Object) → (ℕ → Object) → Type 0
@@ -92,97 +92,100 @@ fills_alike s d (Free n) new old o = (refl, refl)
 fills_alike s d (Member p m) new old o = put_alike s.object p m new o
 
 -- where no object begins to end or comes to its end
-pub alike : (v : Story) (d : ℕ) (w : Walk) (f : Lists) (x : Option Step) → IsAlike (story_state v).object (story_state (story_by v d x)).object
-    → Follows w.endings (walk_by w x).endings → f d ≡ w.endings → AllEndInThreads (story_state v) f → Right v d w f x
+pub alike : (v : GhostState) (d : ℕ) (w : FrameView) (f : Lists) (x : Option Step) → IsAlike (model_state v).object (model_state (ghost_by v d x)).object
+    → Follows w.endings (frame_by w x).endings → f d ≡ w.endings → AllEndInThreads (model_state v) f → Right v d w f x
 alike v d w f x is own at all = record {
   right = λ g kept now else o e p.
       let i = is o in
       subst (λ (b : ℕ). 0 < endings_in_block b (g e)) (sym i.1)
-      (passes d f g w.endings (walk_by w x).endings at now else own ((story_state v).object o).block e (all o e (sym i.0 ∙ p)));
+      (passes d f g w.endings (frame_by w x).endings at now else own ((model_state v).object o).block e (all o e (sym i.0 ∙ p)));
 }
 
 -- where no object changes
 same_alike : (f g : ℕ → Object) → g ≡ f → IsAlike f g
 same_alike f g is o = (ap (λ (k : ℕ → Object). (k o).phase) is, ap (λ (k : ℕ → Object). (k o).block) is)
 
-pub same : (v : Story) (d : ℕ) (w : Walk) (f : Lists) (x : Option Step) → (story_state (story_by v d x)).object ≡ (story_state v).object
-    → (walk_by w x).endings ≡ w.endings → f d ≡ w.endings → AllEndInThreads (story_state v) f → Right v d w f x
+pub same : (v : GhostState) (d : ℕ) (w : FrameView) (f : Lists) (x : Option Step) → (model_state (ghost_by v d x)).object ≡ (model_state v).object
+    → (frame_by w x).endings ≡ w.endings → f d ≡ w.endings → AllEndInThreads (model_state v) f → Right v d w f x
 same v d w f x is own at all =
-    alike v d w f x (same_alike (story_state v).object (story_state (story_by v d x)).object is) (follows_same w.endings (walk_by w x).endings own) at all
+    alike v d w f x (same_alike (model_state v).object (model_state (ghost_by v d x)).object is) (follows_same w.endings (frame_by w x).endings own) at all
 
 -- an act on what a slot holds
-pub done_on : (v : Story) (d : ℕ) (f : Pointer → Deed) (o : Option Pointer)
-    → ((x : Pointer) → (story_state (story_after v d (Some (f x)))).object ≡ (story_state v).object)
-    → (story_state (story_after v d (option_map f o))).object ≡ (story_state v).object
+pub done_on : (v : GhostState) (d : ℕ) (f : Pointer → AtomicStep) (o : Option Pointer)
+    → ((x : Pointer) → (model_state (ghost_after v d (Some (f x)))).object ≡ (model_state v).object)
+    → (model_state (ghost_after v d (option_map f o))).object ≡ (model_state v).object
 done_on v d f None still = refl
 done_on v d f (Some x) still = still x
 
 -- a block goes to the shelf or comes from it, if there is one
-pub done_shelf : (v : Story) (d : ℕ) (x : ShelfAct) (o : Option ℕ)
-    → (story_state (story_after v d (shelf_deed x o))).object ≡ (story_state v).object
+pub done_shelf : (v : GhostState) (d : ℕ) (x : ShelfAct) (o : Option ℕ)
+    → (model_state (ghost_after v d (shelf_step x o))).object ≡ (model_state v).object
 done_shelf v d Shelve None = refl
 done_shelf v d Shelve (Some b) = refl
 done_shelf v d (Unshelve c) None = refl
 done_shelf v d (Unshelve c) (Some b) = refl
 
-pub shared : (v : Story) (d : ℕ) (q : Kind) (x : Pointer) → (story_state (story_after v d (Some (share_as q x)))).object ≡ (story_state v).object
+pub shared : (v : GhostState) (d : ℕ) (q : Kind) (x : Pointer) → (model_state (ghost_after v d (Some (share_as q x)))).object ≡ (model_state v).object
 shared v d Owner x = refl
 shared v d Weak x = refl
 
-gave : (v : Story) (d : ℕ) (q : Kind) (x : Pointer) → (story_state (story_after v d (Some (give q x)))).object ≡ (story_state v).object
+gave : (v : GhostState) (d : ℕ) (q : Kind) (x : Pointer) → (model_state (ghost_after v d (Some (give q x)))).object ≡ (model_state v).object
 gave v d Owner x = refl
 gave v d Weak x = refl
 
 -- an act by which nothing leaves
-pub plain_alike : (v : Story) (d k : ℕ) (w : Walk) (ts : List Task) (a : Act) (x : Option Deed) (h : Half) (f : Lists) → leaves_by w.slots a ≡ None
-    → IsAlike (story_state v).object (story_state (story_after v d x)).object → f d ≡ w.endings → AllEndInThreads (story_state v) f
+pub plain_alike : (v : GhostState) (d k : ℕ) (w : FrameView) (ts : List Task) (a : Act) (x : Option AtomicStep) (h : PendingCall) (f : Lists) → leaves_by
+    w.slots a ≡ None
+    → IsAlike (model_state v).object (model_state (ghost_after v d x)).object → f d ≡ w.endings → AllEndInThreads (model_state v) f
     → Right v d w f (Some (step_of_act v d w k ts a x h))
 plain_alike v d k w ts a x h f stays is at all =
-    let e = act_endings (story_state v) d k w ts a ∙ ap (begun_by (story_state v) k w.endings) stays in
-    alike v d w f (Some (step_of_act v d w k ts a x h)) is (follows_same w.endings (went (story_state v) d w k ts a).endings e) at all
+    let e = act_endings (model_state v) d k w ts a ∙ ap (begun_by (model_state v) k w.endings) stays in
+    alike v d w f (Some (step_of_act v d w k ts a x h)) is (follows_same w.endings (went (model_state v) d w k ts a).endings e) at all
 
-pub plain : (v : Story) (d k : ℕ) (w : Walk) (ts : List Task) (a : Act) (x : Option Deed) (h : Half) (f : Lists) → leaves_by w.slots a ≡ None
-    → (story_state (story_after v d x)).object ≡ (story_state v).object → f d ≡ w.endings → AllEndInThreads (story_state v) f
+pub plain : (v : GhostState) (d k : ℕ) (w : FrameView) (ts : List Task) (a : Act) (x : Option AtomicStep) (h : PendingCall) (f : Lists) → leaves_by w.slots a ≡
+    None
+    → (model_state (ghost_after v d x)).object ≡ (model_state v).object → f d ≡ w.endings → AllEndInThreads (model_state v) f
     → Right v d w f (Some (step_of_act v d w k ts a x h))
 plain v d k w ts a x h f stays is at all =
-    plain_alike v d k w ts a x h f stays (same_alike (story_state v).object (story_state (story_after v d x)).object is) at all
+    plain_alike v d k w ts a x h f stays (same_alike (model_state v).object (model_state (ghost_after v d x)).object is) at all
 
 -- a step within an act
-pub within : (v : Story) (d k : ℕ) (w : Walk) (x : Option Deed) (h : Half) (f : Lists) → (story_state (story_after v d x)).object ≡ (story_state v).object
-    → f d ≡ w.endings → AllEndInThreads (story_state v) f → Right v d w f (Some (record { deed = x; half = h; walk = w; said = silent k }))
+pub within : (v : GhostState) (d k : ℕ) (w : FrameView) (x : Option AtomicStep) (h : PendingCall) (f : Lists) → (model_state (ghost_after v d x)).object ≡
+    (model_state v).object
+    → f d ≡ w.endings → AllEndInThreads (model_state v) f → Right v d w f (Some (record { atomic_step = x; pending_call = h; frame_view = w; said = silent k }))
 within v d k w x h f is at all = same v d w f _ is refl at all
 
 -- an object is asked for a pointer, or gives one
-pub asked : (v : Story) (d k : ℕ) (w : Walk) (ts : List Task) (i : ℕ) (q : Kind) (f : Lists) → f d ≡ w.endings → AllEndInThreads (story_state v) f
+pub asked : (v : GhostState) (d k : ℕ) (w : FrameView) (ts : List Task) (i : ℕ) (q : Kind) (f : Lists) → f d ≡ w.endings → AllEndInThreads (model_state v) f
     → (o : Option Pointer)
     → Right v d w f (Some (on (asks v d w k ts i q) (step_of_act v d w k ts (FromThis i q) None Rest) o))
 asked v d k w ts i q f at all None = plain v d k w ts (FromThis i q) None Rest f refl refl at all
 asked v d k w ts i q f at all (Some y) =
-    cond_both (is_enabled (story_state v) y) (record { deed = None; half = Giving i q y; walk = w; said = silent k })
+    cond_both (is_enabled (model_state v) y) (record { atomic_step = None; pending_call = Giving i q y; frame_view = w; said = silent k })
     (step_of_act v d w k ts (FromThis i q) None Rest) (λ (x : Step). Right v d w f (Some x))
     (λ e. within v d k w None (Giving i q y) f refl at all) (λ e. plain v d k w ts (FromThis i q) None Rest f refl refl at all)
 
-pub given_on : (v : Story) (d i : ℕ) (q : Kind) (y : Pointer) (w : Walk) (f : Lists) → f d ≡ w.endings → AllEndInThreads (story_state v) f
+pub given_on : (v : GhostState) (d i : ℕ) (q : Kind) (y : Pointer) (w : FrameView) (f : Lists) → f d ≡ w.endings → AllEndInThreads (model_state v) f
     → (ts : List Task)
     → Right v d w f (given_step v d w i q y ts)
 given_on v d i q y w f at all [] = same v d w f None refl refl at all
 given_on v d i q y w f at all (t ∷ ts) = plain v d t.statement w ts (FromThis i q) (Some (give q y)) Rest f refl (gave v d q y) at all
 
 -- a lock is tried, or done
-tried_or : (v : Story) (d k word : ℕ) (w : Walk) (ts : List Task) (i : ℕ) (must : Bool) (f : Lists) → f d ≡ w.endings
-    → AllEndInThreads (story_state v) f
+tried_or : (v : GhostState) (d k word : ℕ) (w : FrameView) (ts : List Task) (i : ℕ) (must : Bool) (f : Lists) → f d ≡ w.endings
+    → AllEndInThreads (model_state v) f
     → (y : Pointer) (c : Bool)
-    → Right v d w f (Some (cond c (step_of_act v d w k ts (Lock i must) (Some (lock (story_state v) y)) Rest) (trying w k word)))
-tried_or v d k word w ts i must f at all y true = plain v d k w ts (Lock i must) (Some (lock (story_state v) y)) Rest f refl refl at all
+    → Right v d w f (Some (cond c (step_of_act v d w k ts (Lock i must) (Some (lock (model_state v) y)) Rest) (trying w k word)))
+tried_or v d k word w ts i must f at all y true = plain v d k w ts (Lock i must) (Some (lock (model_state v) y)) Rest f refl refl at all
 tried_or v d k word w ts i must f at all y false = within v d k w None (cond (word == 0) Rest (Locking word)) f refl at all
 
-pub looked : (v : Story) (d k : ℕ) (w : Walk) (ts : List Task) (i : ℕ) (must : Bool) (f : Lists) → f d ≡ w.endings → AllEndInThreads (story_state v) f
+pub looked : (v : GhostState) (d k : ℕ) (w : FrameView) (ts : List Task) (i : ℕ) (must : Bool) (f : Lists) → f d ≡ w.endings → AllEndInThreads (model_state v) f
     → (o : Option Pointer)
     → Right v d w f (Some (on (looks v d w k ts (Lock i must)) (step_of_act v d w k ts (Lock i must) None Rest) o))
 looked v d k w ts i must f at all None = plain v d k w ts (Lock i must) None Rest f refl refl at all
 looked v d k w ts i must f at all (Some y) = tried_or v d k (owner_word v y) w ts i must f at all y (owner_word v y == 0)
 
-tried_by : (v : Story) (d word k : ℕ) (w : Walk) (ts : List Task) (a : Act) (f : Lists) → f d ≡ w.endings → AllEndInThreads (story_state v) f
+tried_by : (v : GhostState) (d word k : ℕ) (w : FrameView) (ts : List Task) (a : Act) (f : Lists) → f d ≡ w.endings → AllEndInThreads (model_state v) f
     → (o : Option Pointer) → locked_pointer w.slots a ≡ o → Right v d w f (option_map (tries v d w k ts a word) o)
 tried_by v d word k w ts a f at all None e = same v d w f None refl refl at all
 tried_by v d word k w ts (Lock i must) f at all (Some y) e = tried_or v d k (owner_word v y) w ts i must f at all y (owner_word v y == word)
@@ -207,37 +210,37 @@ tried_by v d word k w ts (Compare i c weak) f at all (Some y) e = cc
 tried_by v d word k w ts Drop f at all (Some y) e = cc
 tried_by v d word k w ts (OnShelf x) f at all (Some y) e = cc
 
-pub tried_on : (v : Story) (d word : ℕ) (w : Walk) (f : Lists) → f d ≡ w.endings → AllEndInThreads (story_state v) f → (ts : List Task)
+pub tried_on : (v : GhostState) (d word : ℕ) (w : FrameView) (f : Lists) → f d ≡ w.endings → AllEndInThreads (model_state v) f → (ts : List Task)
     → Right v d w f (tried v d w word ts)
 tried_on v d word w f at all [] = same v d w f None refl refl at all
 tried_on v d word w f at all (t ∷ ts) = tried_by v d word t.statement w ts t.act f at all (locked_pointer w.slots t.act) refl
 
 -- a value goes into a cell
-swapped : (v : Story) (d k : ℕ) (w : Walk) (ts : List Task) (a : Act) (x : Going) (f : Lists) → f d ≡ w.endings → AllEndInThreads (story_state v) f
+swapped : (v : GhostState) (d k : ℕ) (w : FrameView) (ts : List Task) (a : Act) (x : Going) (f : Lists) → f d ≡ w.endings → AllEndInThreads (model_state v) f
     → going w.slots a ≡ Some x → Right v d w f (Some (step_of_swap v d w k ts a x.0 x.1))
 swapped v d k w ts a x f at all goes =
-    let c = cell_of_name (story_state v) w.slots x.0 in
+    let c = cell_of_name (model_state v) w.slots x.0 in
     let found = seen v c in
     let new = as_word (slot_value w.slots x.1) in
-    plain_alike v d k w ts a (Some (deed.OnCell (cell_deed.Swap c new found))) (gives_back (kind_at x.0) k found found.owned) f
+    plain_alike v d k w ts a (Some (atomic_step.OnCell (cell_step.Swap c new found))) (gives_back (kind_at x.0) k found found.owned) f
     (swapping w.slots a x goes).stays
-    (fills_alike (story_state v) d (cell_in (story_state v) c) (handle_told (story_state v) c new) (handle_told (story_state v) c found)) at all
+    (fills_alike (model_state v) d (cell_in (model_state v) c) (handle_told (model_state v) c new) (handle_told (model_state v) c found)) at all
 
 -- its funds are brought first, where it has an object
-brought : (v : Story) (d k : ℕ) (w : Walk) (ts : List Task) (a : Act) (x : Going) (f : Lists) → f d ≡ w.endings → AllEndInThreads (story_state v) f
+brought : (v : GhostState) (d k : ℕ) (w : FrameView) (ts : List Task) (a : Act) (x : Going) (f : Lists) → f d ≡ w.endings → AllEndInThreads (model_state v) f
     → going w.slots a ≡ Some x → (o : Option Pointer) → Right v d w f (Some (on (brings w k) (step_of_swap v d w k ts a x.0 x.1) o))
 brought v d k w ts a x f at all goes None = swapped v d k w ts a x f at all goes
 brought v d k w ts a x f at all goes (Some y) =
-    within v d k w (Some (deed.OnCell (cell_deed.Bring y.kind y.block y.place 256))) Brought f refl at all
+    within v d k w (Some (atomic_step.OnCell (cell_step.Bring y.kind y.block y.place 256))) Brought f refl at all
 
-pub going_in : (v : Story) (d k : ℕ) (w : Walk) (ts : List Task) (a : Act) (o : Option Going) (f : Lists) → f d ≡ w.endings
-    → AllEndInThreads (story_state v) f
+pub going_in : (v : GhostState) (d k : ℕ) (w : FrameView) (ts : List Task) (a : Act) (o : Option Going) (f : Lists) → f d ≡ w.endings
+    → AllEndInThreads (model_state v) f
     → going w.slots a ≡ o → leaves_by w.slots a ≡ None
     → Right v d w f (Some (on_going (sends v d w k ts a) (step_of_act v d w k ts a None Rest) o))
 going_in v d k w ts a None f at all goes stays = plain v d k w ts a None Rest f stays refl at all
 going_in v d k w ts a (Some x) f at all goes stays = brought v d k w ts a x f at all goes (slot_pointer w.slots x.1)
 
-pub sent_on : (v : Story) (d : ℕ) (w : Walk) (f : Lists) → f d ≡ w.endings → AllEndInThreads (story_state v) f → (ts : List Task)
+pub sent_on : (v : GhostState) (d : ℕ) (w : FrameView) (f : Lists) → f d ≡ w.endings → AllEndInThreads (model_state v) f → (ts : List Task)
     → Right v d w f (sent v d w ts)
 sent_on v d w f at all [] = same v d w f None refl refl at all
 sent_on v d w f at all (t ∷ ts) = go (going w.slots t.act) refl

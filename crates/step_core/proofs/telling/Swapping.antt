@@ -7,10 +7,10 @@ use Rattle.step_threads.specs.declared.programs.act.Act.TheVariants.{Make, Share
 use Rattle.step_threads.specs.declared.programs.act.Act.TheVariants.{Move, Ask}
 use Rattle.step_threads.specs.declared.programs.act.Act.TheVariants.{Offer, Swap, Exchange, Load, Compare, Drop, OnShelf}
 use Rattle.step_threads.specs.declared.programs.act.Task.{Task}
-use Rattle.step_core.specs.Bounds.{walk_steps, weight}
-use Rattle.step_threads.specs.Courses.{Going, Walk, going}
-use Rattle.step_table.specs.Holdings.{Slots}
-use Rattle.step_threads.specs.Scenes.{went}
+use Rattle.step_core.specs.Bounds.{frame_steps, weight}
+use Rattle.step_threads.specs.Frames.{Going, FrameView, going}
+use Rattle.step_table.specs.Registers.{Slots}
+use Rattle.step_threads.specs.AbstractStates.{went}
 use Rattle.step_core.proofs.telling.Leaves.{leaves_by}
 use Rattle.step_core.proofs.telling.Walking.{went_still}
 
@@ -42,8 +42,8 @@ swapping slots (Compare k c weak) x e = cc
 swapping slots Drop x e = cc
 swapping slots (OnShelf y) x e = cc
 
-pub went_swap : (s : State) (d k : ℕ) (w : Walk) (t : Task) (ts : List Task) (a : Act) (x : Going) → w.endings ≡ [] → w.todo ≡ t ∷ ts
-    → t.act ≡ a → going w.slots a ≡ Some x → walk_steps (went s d w k ts a) + 3 ≤ walk_steps w
+pub went_swap : (s : State) (d k : ℕ) (w : FrameView) (t : Task) (ts : List Task) (a : Act) (x : Going) → w.endings ≡ [] → w.todo ≡ t ∷ ts
+    → t.act ≡ a → going w.slots a ≡ Some x → frame_steps (went s d w k ts a) + 3 ≤ frame_steps w
 went_swap s d k w t ts a x none is same goes =
     let y = swapping w.slots a x goes in
     let l = went_still s d k w t ts a none is y.stays in

@@ -12,14 +12,14 @@ use Rattle.step_threads.specs.declared.programs.act.Act.TheVariants.{Compare, Dr
 use Rattle.step_threads.specs.declared.programs.act.Task.{Task}
 use Rattle.step_threads.specs.declared.ending.Ending.{Ending}
 use Rattle.step_table.specs.declared.memory.form.Form.{Form}
-use Rattle.step_table.specs.declared.slots.holdings.Pointer.{Pointer}
+use Rattle.step_table.specs.declared.slots.registers.Pointer.{Pointer}
 use Rattle.step_table.specs.declared.slots.slot.Slot.{Slot}
 use Rattle.step_table.specs.Contents.{slots_swapped}
-use Rattle.step_table.specs.Deeds.{exact}
-use Rattle.step_table.specs.Holdings.{Slots, is_full, plain, pointer_of, slot_pointer, slot_value}
-use Rattle.step_threads.specs.Courses.{Walk, hand, idle, is_there, other, placed, walk_settled, slots_idle, taken_idle}
+use Rattle.step_table.specs.AtomicSteps.{exact}
+use Rattle.step_table.specs.Registers.{Slots, is_full, plain, pointer_of, slot_pointer, slot_value}
+use Rattle.step_threads.specs.Frames.{FrameView, hand, idle, is_there, other, placed, frame_settled, slots_idle, taken_idle}
 use Rattle.step_threads.specs.Entries.{is_expected, least}
-use Rattle.step_threads.specs.Scenes.{came, row_in, went}
+use Rattle.step_threads.specs.AbstractStates.{came, row_in, went}
 use Rattle.step_threads.specs.Rows.{Hands, compared, holding, may_go, taking, with_end}
 use Rattle.step_core.specs.Told.{IsTidy, LeavesName, LeavesAll}
 
@@ -122,12 +122,12 @@ idle_names n slots taken t ts e names (inl p) = λ i lt full.
 
 settled_tidy : (n : ℕ) (slots : Slots) (taken : Bool) (es : List Ending) (ts : List Task) → length slots - 2 ≡ n
     → Named n slots ts → LeavesAll n ts
-    → IsTidy (walk_settled slots taken es ts)
+    → IsTidy (frame_settled slots taken es ts)
 settled_tidy n slots taken es [] size names all =
     record { names = λ i lt full. names i (omega (arith, lt, size)) full; all = tt }
 settled_tidy n slots taken es (t ∷ ts) size names all =
     let l = idle_size t.act slots taken in
-    cond_both (idle t.act slots taken) (walk_settled (slots_idle t.act slots taken) (taken_idle t.act taken) es ts)
+    cond_both (idle t.act slots taken) (frame_settled (slots_idle t.act slots taken) (taken_idle t.act taken) es ts)
     (record { slots = slots; taken = taken; endings = es; todo = t ∷ ts }) IsTidy
     (λ e. settled_tidy n (slots_idle t.act slots taken) (taken_idle t.act taken) es ts (omega (arith, l, size))
     (idle_names n slots taken t ts e names all.0) all.1)
@@ -138,7 +138,7 @@ settled_tidy n slots taken es (t ∷ ts) size names all =
     })
 
 -- where all names are left behind it, any act may come
-pub any_tidy : (s : State) (d k : ℕ) (w : Walk) (ts : List Task) (a : Act)
+pub any_tidy : (s : State) (d k : ℕ) (w : FrameView) (ts : List Task) (a : Act)
     → ((i : ℕ) → i < other w.slots → LeavesName i ts) → LeavesAll (other w.slots) ts
     → IsTidy (went s d w k ts a)
 any_tidy s d k w ts a left all =
@@ -152,7 +152,7 @@ emptied : (slots : Slots) (j : ℕ) → j < length slots → is_full (slot_point
 emptied slots j lt = ap (λ (y : Slot). is_full (pointer_of y)) (get_or-set_same slots j plain plain lt)
 
 -- the next act is made
-pub went_tidy : (s : State) (d k : ℕ) (w : Walk) (t : Task) (ts : List Task) → w.todo ≡ t ∷ ts → IsTidy w
+pub went_tidy : (s : State) (d k : ℕ) (w : FrameView) (t : Task) (ts : List Task) → w.todo ≡ t ∷ ts → IsTidy w
     → IsTidy (went s d w k ts t.act)
 went_tidy s d k w t ts is tidy = go all.0
   where
@@ -178,9 +178,9 @@ went_tidy s d k w t ts is tidy = go all.0
         (cleared p.0 p.1) all.1)
 
 -- a make comes into the hand, or is refused
-pub make_tidy : (w : Walk) (t : Task) (ts : List Task) (form : Form) (slots : Slots) (taken : Bool) → w.todo ≡ t ∷ ts
+pub make_tidy : (w : FrameView) (t : Task) (ts : List Task) (form : Form) (slots : Slots) (taken : Bool) → w.todo ≡ t ∷ ts
     → t.act ≡ Make form
-    → length slots ≡ length w.slots → IsTidy w → IsTidy (walk_settled slots taken w.endings ts)
+    → length slots ≡ length w.slots → IsTidy w → IsTidy (frame_settled slots taken w.endings ts)
 make_tidy w t ts form slots taken is make size tidy =
     let all : LeavesAll (other w.slots) (t ∷ ts) = subst (LeavesAll (other w.slots)) is tidy.all in
     settled_tidy (other w.slots) slots taken w.endings ts (omega (arith, size)) (λ i lt full. left all.0 i lt) all.1
@@ -190,12 +190,12 @@ make_tidy w t ts form slots taken is make size tidy =
     left (inr f) = f
 
 -- the slots of names are as they were
-held_names : (w : Walk) (x : Slot) → IsTidy w → Named (other w.slots) (slice_set w.slots (hand w.slots) x) w.todo
+held_names : (w : FrameView) (x : Slot) → IsTidy w → Named (other w.slots) (slice_set w.slots (hand w.slots) x) w.todo
 held_names w x tidy = λ i lt full.
     tidy.names i lt (sym (slot_kept w.slots i (hand w.slots) x (λ e. let z = e in omega (arith, lt, z))) ∙ full)
 
 -- something comes into the hand
-pub hand_tidy : (w : Walk) (x : Slot) (es : List Ending) → IsTidy w
+pub hand_tidy : (w : FrameView) (x : Slot) (es : List Ending) → IsTidy w
     → IsTidy (record { slots = slice_set w.slots (hand w.slots) x; taken = w.taken; endings = es; todo = w.todo })
 hand_tidy w x es tidy =
     let l = length-set w.slots (hand w.slots) x in
@@ -205,7 +205,7 @@ hand_tidy w x es tidy =
     }
 
 -- what is in hand leaves
-pub left_tidy : (s : State) (d k : ℕ) (w : Walk) → IsTidy w → IsTidy (went s d w k w.todo (Leave (hand w.slots)))
+pub left_tidy : (s : State) (d k : ℕ) (w : FrameView) → IsTidy w → IsTidy (went s d w k w.todo (Leave (hand w.slots)))
 left_tidy s d k w tidy =
     let l = length-set w.slots (hand w.slots) plain in
     settled_tidy (other w.slots) (slice_set w.slots (hand w.slots) plain) w.taken
@@ -214,7 +214,7 @@ left_tidy s d k w tidy =
 
 -- a thread begins so, with all names empty
 pub fresh_tidy : (slots : Slots) (ts : List Task) → ((i : ℕ) → slot_pointer slots i ≡ None) → LeavesAll (other slots) ts
-    → IsTidy (walk_settled slots false [] ts)
+    → IsTidy (frame_settled slots false [] ts)
 fresh_tidy slots ts none all =
     settled_tidy (other slots) slots false [] ts refl
     (λ i lt full. absurd (false≢true (sym (ap is_full (none i)) ∙ full))) all

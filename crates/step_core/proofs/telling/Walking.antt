@@ -13,26 +13,26 @@ use Rattle.step_threads.specs.declared.programs.act.Act.TheVariants.{Move, Ask}
 use Rattle.step_threads.specs.declared.programs.act.Act.TheVariants.{Offer, Swap, Exchange, Load, Compare, Drop, OnShelf}
 use Rattle.step_threads.specs.declared.programs.act.Task.{Task}
 use Rattle.step_threads.specs.declared.ending.Ending.{Ending}
-use Rattle.step_table.specs.declared.slots.holdings.Pointer.{Pointer}
-use Rattle.step_core.specs.Bounds.{carried, task_steps, walk_steps, weight}
+use Rattle.step_table.specs.declared.slots.registers.Pointer.{Pointer}
+use Rattle.step_core.specs.Bounds.{carried, task_steps, frame_steps, weight}
 use Rattle.step_threads.specs.Endings.{ending_steps, staged}
-use Rattle.step_threads.specs.Courses.{Walk, hand, idle, other, placed, walk_settled, slots_idle, taken_idle}
-use Rattle.step_table.specs.Deeds.{exact, is_last, owned}
+use Rattle.step_threads.specs.Frames.{FrameView, hand, idle, other, placed, frame_settled, slots_idle, taken_idle}
+use Rattle.step_table.specs.AtomicSteps.{exact, is_last, owned}
 use Rattle.step_table.specs.declared.slots.slot.Slot.{Slot}
 use Rattle.step_threads.specs.Steps.{with_endings}
-use Rattle.step_table.specs.Holdings.{Slots, is_full, plain, pointer_of, slot_pointer, slot_value}
+use Rattle.step_table.specs.Registers.{Slots, is_full, plain, pointer_of, slot_pointer, slot_value}
 use Rattle.step_threads.specs.Rows.{ending_as, with_end}
-use Rattle.step_threads.specs.Scenes.{ended_by, remains_as, row_in, went}
+use Rattle.step_threads.specs.AbstractStates.{ended_by, remains_as, row_in, went}
 use Rattle.step_core.proofs.telling.Leaves.{act_endings, begun_by, leaves_by, settled_endings}
 
 -- what settling passes over has no steps left
-pub settled_steps : (slots : Slots) (taken : Bool) (es : List Ending) (ts : List Task) → task_steps (walk_settled slots taken es ts).todo ≤ task_steps ts
+pub settled_steps : (slots : Slots) (taken : Bool) (es : List Ending) (ts : List Task) → task_steps (frame_settled slots taken es ts).todo ≤ task_steps ts
 settled_steps slots taken es [] = omega arith
 settled_steps slots taken es (t ∷ ts) =
     let r = settled_steps (slots_idle t.act slots taken) (taken_idle t.act taken) es ts in
     let s = sum_by-cons (λ (x : Task). weight x.act) t ts in
-    cond_both (idle t.act slots taken) (walk_settled (slots_idle t.act slots taken) (taken_idle t.act taken) es ts)
-    (record { slots = slots; taken = taken; endings = es; todo = t ∷ ts }) (λ (w : Walk). task_steps w.todo ≤ task_steps (t ∷ ts))
+    cond_both (idle t.act slots taken) (frame_settled (slots_idle t.act slots taken) (taken_idle t.act taken) es ts)
+    (record { slots = slots; taken = taken; endings = es; todo = t ∷ ts }) (λ (w : FrameView). task_steps w.todo ≤ task_steps (t ∷ ts))
     (λ e. omega (arith, r, s)) (λ e. omega arith)
 
 -- nothing is in hand
@@ -94,12 +94,12 @@ idle_free (Compare k c weak) slots false free = free
 idle_free Drop slots taken free = dropped_free slots free
 idle_free (OnShelf x) slots taken free = free
 
-settled_free : (slots : Slots) (taken : Bool) (es : List Ending) (ts : List Task) → IsFree slots → IsFree (walk_settled slots taken es ts).slots
+settled_free : (slots : Slots) (taken : Bool) (es : List Ending) (ts : List Task) → IsFree slots → IsFree (frame_settled slots taken es ts).slots
 settled_free slots taken es [] free = free
 settled_free slots taken es (t ∷ ts) free =
     let r = settled_free (slots_idle t.act slots taken) (taken_idle t.act taken) es ts (idle_free t.act slots taken free) in
-    cond_both (idle t.act slots taken) (walk_settled (slots_idle t.act slots taken) (taken_idle t.act taken) es ts)
-    (record { slots = slots; taken = taken; endings = es; todo = t ∷ ts }) (λ (w : Walk). IsFree w.slots) (λ e. r) (λ e. free)
+    cond_both (idle t.act slots taken) (frame_settled (slots_idle t.act slots taken) (taken_idle t.act taken) es ts)
+    (record { slots = slots; taken = taken; endings = es; todo = t ∷ ts }) (λ (w : FrameView). IsFree w.slots) (λ e. r) (λ e. free)
 
 carried_free : (es : List Ending) (slots : Slots) → IsFree slots → carried es slots ≡ 0
 carried_free [] slots free = refl
@@ -160,17 +160,17 @@ weight_two Drop = omega arith
 weight_two (OnShelf x) = omega arith
 
 -- settled without an ending, a thread has the steps of its tasks alone
-pub settled_alone : (slots : Slots) (taken : Bool) (ts : List Task) → walk_steps (walk_settled slots taken [] ts) ≤ task_steps ts
+pub settled_alone : (slots : Slots) (taken : Bool) (ts : List Task) → frame_steps (frame_settled slots taken [] ts) ≤ task_steps ts
 settled_alone slots taken ts =
     let s = settled_steps slots taken [] ts in
     let e = settled_endings slots taken [] ts in
     let a = ap (λ (l : List Ending). sum_by ending_steps l) e in
-    let b = ap (λ (l : List Ending). carried l (walk_settled slots taken [] ts).slots) e in
+    let b = ap (λ (l : List Ending). carried l (frame_settled slots taken [] ts).slots) e in
     omega (arith, s, a, b)
 
 -- a thread whose endings are over, at its next task
-pub walk_alone : (w : Walk) (t : Task) (ts : List Task) → w.endings ≡ [] → w.todo ≡ t ∷ ts → walk_steps w ≡ weight t.act + task_steps ts
-walk_alone w t ts none is =
+pub frame_alone : (w : FrameView) (t : Task) (ts : List Task) → w.endings ≡ [] → w.todo ≡ t ∷ ts → frame_steps w ≡ weight t.act + task_steps ts
+frame_alone w t ts none is =
     let a = ap (λ (l : List Ending). sum_by ending_steps l) none in
     let b = ap (λ (l : List Ending). carried l w.slots) none in
     let c = ap task_steps is in
@@ -178,8 +178,8 @@ walk_alone w t ts none is =
     omega (arith, a, b, c, d)
 
 -- an act of a statement takes its steps, and brings those of the object that it ends
-pub went_steps : (s : State) (d k : ℕ) (w : Walk) (t : Task) (ts : List Task) (a : Act) → w.endings ≡ [] → w.todo ≡ t ∷ ts
-    → walk_steps (went s d w k ts a) + weight t.act ≤ walk_steps w + 14 * ends_at s (leaves_by w.slots a)
+pub went_steps : (s : State) (d k : ℕ) (w : FrameView) (t : Task) (ts : List Task) (a : Act) → w.endings ≡ [] → w.todo ≡ t ∷ ts
+    → frame_steps (went s d w k ts a) + weight t.act ≤ frame_steps w + 14 * ends_at s (leaves_by w.slots a)
 went_steps s d k w t ts a none is =
     let x = row_in exact s d w.slots w.taken a in
     let r = settled_steps x.slots x.taken (with_end k x.ending w.endings) ts in
@@ -188,13 +188,13 @@ went_steps s d k w t ts a none is =
     let c = begun_steps s k [] (leaves_by w.slots a) in
     let g = ap (λ (l : List Ending). carried l (went s d w k ts a).slots) f in
     let h = begun_carried s k (went s d w k ts a).slots (leaves_by w.slots a) in
-    let i = walk_alone w t ts none is in
+    let i = frame_alone w t ts none is in
     omega (arith, r, b, c, g, h, i)
 
 -- what came out of a member leaves
-pub carried_leaves : (s : State) (d k : ℕ) (w : Walk) (e : Ending) (es : List Ending) → w.endings ≡ e ∷ es
+pub carried_leaves : (s : State) (d k : ℕ) (w : FrameView) (e : Ending) (es : List Ending) → w.endings ≡ e ∷ es
     → is_full (slot_pointer w.slots (hand w.slots)) ≡ true
-    → walk_steps (went s d w k w.todo (Leave (hand w.slots))) + 1 ≤ walk_steps w + 13 * ends_at s (slot_pointer w.slots (hand w.slots))
+    → frame_steps (went s d w k w.todo (Leave (hand w.slots))) + 1 ≤ frame_steps w + 13 * ends_at s (slot_pointer w.slots (hand w.slots))
 carried_leaves s d k w e es is full =
     let slots = slice_set w.slots (hand w.slots) plain in
     let new = begun_by s k w.endings (slot_pointer w.slots (hand w.slots)) in
@@ -202,28 +202,28 @@ carried_leaves s d k w e es is full =
     let f = settled_endings slots w.taken new w.todo in
     let b = ap (λ (l : List Ending). sum_by ending_steps l) f in
     let c = begun_steps s k w.endings (slot_pointer w.slots (hand w.slots)) in
-    let g = carried_free (walk_settled slots w.taken new w.todo).endings (walk_settled slots w.taken new w.todo).slots
+    let g = carried_free (frame_settled slots w.taken new w.todo).endings (frame_settled slots w.taken new w.todo).slots
     (settled_free slots w.taken new w.todo (emptied w.slots (hand w.slots) refl)) in
     let h = ap (λ (l : List Ending). carried l w.slots) is in
     let i : carried (e ∷ es) w.slots ≡ 1 = ap (λ (q : Bool). cond q 1 0) full in
     omega (arith, r, b, c, g, h, i)
 
 -- an act of a statement that nothing leaves by
-pub went_still : (s : State) (d k : ℕ) (w : Walk) (t : Task) (ts : List Task) (a : Act) → w.endings ≡ [] → w.todo ≡ t ∷ ts
-    → leaves_by w.slots a ≡ None → walk_steps (went s d w k ts a) + weight t.act ≤ walk_steps w
+pub went_still : (s : State) (d k : ℕ) (w : FrameView) (t : Task) (ts : List Task) (a : Act) → w.endings ≡ [] → w.todo ≡ t ∷ ts
+    → leaves_by w.slots a ≡ None → frame_steps (went s d w k ts a) + weight t.act ≤ frame_steps w
 went_still s d k w t ts a none is stays =
     let l = went_steps s d k w t ts a none is in
     let z : ends_at s (leaves_by w.slots a) ≡ 0 = ap (ends_at s) stays in
     omega (arith, l, z)
 
-pub went_plain : (s : State) (d k : ℕ) (w : Walk) (t : Task) (ts : List Task) (a : Act) → w.endings ≡ [] → w.todo ≡ t ∷ ts
-    → leaves_by w.slots a ≡ None → walk_steps (went s d w k ts a) + 2 ≤ walk_steps w
+pub went_plain : (s : State) (d k : ℕ) (w : FrameView) (t : Task) (ts : List Task) (a : Act) → w.endings ≡ [] → w.todo ≡ t ∷ ts
+    → leaves_by w.slots a ≡ None → frame_steps (went s d w k ts a) + 2 ≤ frame_steps w
 went_plain s d k w t ts a none is stays =
     let l = went_still s d k w t ts a none is stays in let j = weight_two t.act in omega (arith, l, j)
 
 -- any act of a statement
-pub went_less : (s : State) (d k : ℕ) (w : Walk) (t : Task) (ts : List Task) (a : Act) → w.endings ≡ [] → w.todo ≡ t ∷ ts
-    → walk_steps (went s d w k ts a) + 1 ≤ walk_steps w + 13 * ends_at s (leaves_by w.slots a)
+pub went_less : (s : State) (d k : ℕ) (w : FrameView) (t : Task) (ts : List Task) (a : Act) → w.endings ≡ [] → w.todo ≡ t ∷ ts
+    → frame_steps (went s d w k ts a) + 1 ≤ frame_steps w + 13 * ends_at s (leaves_by w.slots a)
 went_less s d k w t ts a none is =
     let l = went_steps s d k w t ts a none is in
     let z = carried_one (is_some (ended_by s (leaves_by w.slots a))) in
@@ -231,8 +231,8 @@ went_less s d k w t ts a none is =
     omega (arith, l, z, j)
 
 -- the ending begun last is over
-pub over_less : (w : Walk) (e : Ending) (es : List Ending) → w.endings ≡ e ∷ es → IsFree w.slots
-    → walk_steps (with_endings w es) + 1 ≤ walk_steps w
+pub over_less : (w : FrameView) (e : Ending) (es : List Ending) → w.endings ≡ e ∷ es → IsFree w.slots
+    → frame_steps (with_endings w es) + 1 ≤ frame_steps w
 over_less w e es is free =
     let a = ap (λ (l : List Ending). sum_by ending_steps l) is in
     let b = sum_by-cons ending_steps e es in
@@ -240,8 +240,8 @@ over_less w e es is free =
     omega (arith, a, b, c)
 
 -- a member of its object is cleared
-pub staged_most : (w : Walk) (e : Ending) (es : List Ending) → w.endings ≡ e ∷ es → IsFree w.slots
-    → walk_steps (with_endings w (staged e ∷ es)) ≤ walk_steps w
+pub staged_most : (w : FrameView) (e : Ending) (es : List Ending) → w.endings ≡ e ∷ es → IsFree w.slots
+    → frame_steps (with_endings w (staged e ∷ es)) ≤ frame_steps w
 staged_most w e es is free =
     let a = ap (λ (l : List Ending). sum_by ending_steps l) is in
     let b = sum_by-cons ending_steps e es in
@@ -249,8 +249,8 @@ staged_most w e es is free =
     let f = carried_free (staged e ∷ es) w.slots free in
     omega (arith, a, b, c, f)
 
-pub staged_less : (w : Walk) (e : Ending) (es : List Ending) → w.endings ≡ e ∷ es → IsFree w.slots → e.stage < 3
-    → walk_steps (with_endings w (staged e ∷ es)) + 4 ≤ walk_steps w
+pub staged_less : (w : FrameView) (e : Ending) (es : List Ending) → w.endings ≡ e ∷ es → IsFree w.slots → e.stage < 3
+    → frame_steps (with_endings w (staged e ∷ es)) + 4 ≤ frame_steps w
 staged_less w e es is free lt =
     let a = ap (λ (l : List Ending). sum_by ending_steps l) is in
     let b = sum_by-cons ending_steps e es in
@@ -264,8 +264,8 @@ carried_most [] slots = omega arith
 carried_most (e ∷ es) slots = carried_one (is_full (slot_pointer slots (hand slots)))
 
 -- what a member held is out
-pub taken_out : (w : Walk) (slots : Slots) (e : Ending) (es : List Ending) → w.endings ≡ e ∷ es → e.stage < 3
-    → walk_steps (record { slots = slots; taken = w.taken; endings = staged e ∷ es; todo = w.todo }) + 4 ≤ walk_steps w + carried (staged e ∷ es) slots
+pub taken_out : (w : FrameView) (slots : Slots) (e : Ending) (es : List Ending) → w.endings ≡ e ∷ es → e.stage < 3
+    → frame_steps (record { slots = slots; taken = w.taken; endings = staged e ∷ es; todo = w.todo }) + 4 ≤ frame_steps w + carried (staged e ∷ es) slots
 taken_out w slots e es is lt =
     let a = ap (λ (l : List Ending). sum_by ending_steps l) is in
     let b = sum_by-cons ending_steps e es in

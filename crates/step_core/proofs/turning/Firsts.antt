@@ -7,100 +7,102 @@ use Rattle.step_threads.specs.declared.programs.act.Act.TheVariants.{Make, Share
 use Rattle.step_threads.specs.declared.programs.act.Act.TheVariants.{Move, Ask}
 use Rattle.step_threads.specs.declared.programs.act.Act.TheVariants.{Offer, Swap, Exchange, Load, Compare, Drop, OnShelf}
 use Rattle.step_threads.specs.declared.programs.act.Task.{Task}
-use Rattle.step_threads.specs.declared.half.Half.TheVariants.{Rest, Giving}
-use Rattle.step_table.specs.declared.slots.holdings.Pointer.{Pointer}
+use Rattle.step_threads.specs.declared.pending_call.PendingCall.TheVariants.{Rest, Giving}
+use Rattle.step_table.specs.declared.slots.registers.Pointer.{Pointer}
 use Rattle.control_word.specs.declared.model.handle.Kind.{Kind}
-use Rattle.step_threads.specs.Courses.{going, locked_pointer}
-use Rattle.step_table.specs.Deeds.{is_enabled, lock, owner_word, on}
-use Rattle.step_table.specs.Holdings.{inside, slot_pointer}
+use Rattle.step_threads.specs.Frames.{going, locked_pointer}
+use Rattle.step_table.specs.AtomicSteps.{is_enabled, lock, owner_word, on}
+use Rattle.step_table.specs.Registers.{inside, slot_pointer}
 use Rattle.step_threads.specs.Entries.{least}
-use Rattle.step_threads.specs.Scenes.{walk_of}
+use Rattle.step_threads.specs.AbstractStates.{frame_of}
 use Rattle.step_threads.specs.NextSteps.{first, waits_on}
 use Rattle.step_threads.specs.Steps.{Step, step_of_act, asks, begins, looks, silent, trying}
-use Rattle.step_table.specs.Stories.{story_state}
+use Rattle.step_table.specs.GhostStates.{model_state}
 use Rattle.step_core.specs.Turning.{is_acting}
-use Rattle.step_core.specs.Worlds.{Sight, scene, sight_by}
-use Rattle.step_core.proofs.turning.Ending.{same_walks, scene_as}
+use Rattle.step_core.specs.Worlds.{WorldState, abstraction, world_state_by}
+use Rattle.step_core.proofs.turning.Ending.{same_frames, abstraction_as}
 use Rattle.step_core.proofs.turning.Saying.{Acts, asks_so, begins_so, does_so, looks_so}
 use Rattle.step_core.proofs.turning.Swapping.{goes_same, goes_so}
 use Rattle.step_core.proofs.turning.Looking.{CanLook, compare_first, compare_same, load_first, load_same}
 
 -- each act
-pub acts_so : (d : ℕ) (u : Sight) (k : ℕ) (ts : List Task) (a : Act) → CanLook d u a → waits_on u.story (walk_of (scene u) d) a ≡ false
-    → let x = first u.story d (walk_of (scene u) d) k ts a in is_acting x.half ≡ false → Acts d u k ts a x
-acts_so d u k ts (Make form) can none is = begins_so d u k ts form (least d (story_state u.story).stores) refl is
-acts_so d u k ts (Share i) can none is = (refl, does_so d u.story _ _)
-acts_so d u k ts (Put i) can none is = (refl, does_so d u.story _ _)
-acts_so d u k ts (Leave i) can none is = (refl, does_so d u.story _ _)
-acts_so d u k ts (Clear i) can none is = (refl, does_so d u.story _ _)
-acts_so d u k ts (Count i) can none is = (refl, does_so d u.story _ _)
-acts_so d u k ts (Downgrade i) can none is = (refl, does_so d u.story _ _)
-acts_so d u k ts (Lock i must) can none is = looks_so d u k ts i must (locked_pointer (walk_of (scene u) d).slots (Lock i must)) refl is
-acts_so d u k ts (Expired i) can none is = (refl, does_so d u.story _ _)
-acts_so d u k ts (Read i) can none is = (refl, does_so d u.story _ _)
-acts_so d u k ts (FromThis i kind) can none is = asks_so d u k ts i kind (inside (slot_pointer (walk_of (scene u) d).slots i)) refl is
-acts_so d u k ts (Alias i j field) can none is = (refl, does_so d u.story _ _)
+pub acts_so : (d : ℕ) (u : WorldState) (k : ℕ) (ts : List Task) (a : Act) → CanLook d u a → waits_on u.ghost_state (frame_of (abstraction u) d) a ≡ false
+    → let x = first u.ghost_state d (frame_of (abstraction u) d) k ts a in is_acting x.pending_call ≡ false → Acts d u k ts a x
+acts_so d u k ts (Make form) can none is = begins_so d u k ts form (least d (model_state u.ghost_state).stores) refl is
+acts_so d u k ts (Share i) can none is = (refl, does_so d u.ghost_state _ _)
+acts_so d u k ts (Put i) can none is = (refl, does_so d u.ghost_state _ _)
+acts_so d u k ts (Leave i) can none is = (refl, does_so d u.ghost_state _ _)
+acts_so d u k ts (Clear i) can none is = (refl, does_so d u.ghost_state _ _)
+acts_so d u k ts (Count i) can none is = (refl, does_so d u.ghost_state _ _)
+acts_so d u k ts (Downgrade i) can none is = (refl, does_so d u.ghost_state _ _)
+acts_so d u k ts (Lock i must) can none is = looks_so d u k ts i must (locked_pointer (frame_of (abstraction u) d).slots (Lock i must)) refl is
+acts_so d u k ts (Expired i) can none is = (refl, does_so d u.ghost_state _ _)
+acts_so d u k ts (Read i) can none is = (refl, does_so d u.ghost_state _ _)
+acts_so d u k ts (FromThis i kind) can none is = asks_so d u k ts i kind (inside (slot_pointer (frame_of (abstraction u) d).slots i)) refl is
+acts_so d u k ts (Alias i j field) can none is = (refl, does_so d u.ghost_state _ _)
 acts_so d u k ts (Move i) can none is = (refl, refl)
 acts_so d u k ts (Ask q) can none is = (refl, refl)
-acts_so d u k ts (Offer i c) can none is = (refl, does_so d u.story _ _)
-acts_so d u k ts (Swap c) can none is = goes_so d u k ts (Swap c) (going (walk_of (scene u) d).slots (Swap c))
+acts_so d u k ts (Offer i c) can none is = (refl, does_so d u.ghost_state _ _)
+acts_so d u k ts (Swap c) can none is = goes_so d u k ts (Swap c) (going (frame_of (abstraction u) d).slots (Swap c))
     (can.seat, can.kept, can.cell, can.holds) refl refl is
-acts_so d u k ts (Exchange i c) can none is = goes_so d u k ts (Exchange i c) (going (walk_of (scene u) d).slots (Exchange i c))
+acts_so d u k ts (Exchange i c) can none is = goes_so d u k ts (Exchange i c) (going (frame_of (abstraction u) d).slots (Exchange i c))
     (can.seat, can.kept, can.cell, can.holds) refl refl is
 acts_so d u k ts (Load c) can none is = load_first d u k ts c can none is
 acts_so d u k ts (Compare i c weak) can none is = compare_first d u k ts i c weak can none is
-acts_so d u k ts Drop can none is = (refl, does_so d u.story _ _)
-acts_so d u k ts (OnShelf x) can none is = (refl, does_so d u.story _ _)
+acts_so d u k ts Drop can none is = (refl, does_so d u.ghost_state _ _)
+acts_so d u k ts (OnShelf x) can none is = (refl, does_so d u.ghost_state _ _)
 
-begins_same : (d : ℕ) (u : Sight) (k : ℕ) (ts : List Task) (o : Option ℕ) → is_acting (begins (walk_of (scene u) d) k ts o).half ≡ true
-    → scene (sight_by d u (Some (begins (walk_of (scene u) d) k ts o))) ≡ scene u
+begins_same : (d : ℕ) (u : WorldState) (k : ℕ) (ts : List Task) (o : Option ℕ) → is_acting (begins (frame_of (abstraction u) d) k ts o).pending_call ≡ true
+    → abstraction (world_state_by d u (Some (begins (frame_of (abstraction u) d) k ts o))) ≡ abstraction u
 begins_same d u k ts None is = absurd (false≢true is)
-begins_same d u k ts (Some b) is = scene_as u _ _ _ _ refl (same_walks d u)
+begins_same d u k ts (Some b) is = abstraction_as u _ _ _ _ refl (same_frames d u)
 
 -- a lock that has just begun
-looks_same : (d : ℕ) (u : Sight) (k : ℕ) (ts : List Task) (a : Act) (o : Option Pointer)
-    → let w = walk_of (scene u) d in
-    let x = on (looks u.story d w k ts a) (step_of_act u.story d w k ts a None Rest) o in is_acting x.half ≡ true
-    → scene (sight_by d u (Some x)) ≡ scene u
+looks_same : (d : ℕ) (u : WorldState) (k : ℕ) (ts : List Task) (a : Act) (o : Option Pointer)
+    → let w = frame_of (abstraction u) d in
+    let x = on (looks u.ghost_state d w k ts a) (step_of_act u.ghost_state d w k ts a None Rest) o in is_acting x.pending_call ≡ true
+    → abstraction (world_state_by d u (Some x)) ≡ abstraction u
 looks_same d u k ts a None is = absurd (false≢true is)
 looks_same d u k ts a (Some y) is =
-    let w = walk_of (scene u) d in
-    let n = owner_word u.story y in
-    cond_both (n == 0) (step_of_act u.story d w k ts a (Some (lock (story_state u.story) y)) Rest) (trying w k n)
-    (λ (x : Step). is_acting x.half ≡ true → scene (sight_by d u (Some x)) ≡ scene u) (λ t q. absurd (false≢true q))
-    (λ t q. scene_as u _ _ _ _ refl (same_walks d u)) is
+    let w = frame_of (abstraction u) d in
+    let n = owner_word u.ghost_state y in
+    cond_both (n == 0) (step_of_act u.ghost_state d w k ts a (Some (lock (model_state u.ghost_state) y)) Rest) (trying w k n)
+    (λ (x : Step). is_acting x.pending_call ≡ true → abstraction (world_state_by d u (Some x)) ≡ abstraction u) (λ t q. absurd (false≢true q))
+    (λ t q. abstraction_as u _ _ _ _ refl (same_frames d u)) is
 
 -- an object that was just asked
-asks_same : (d : ℕ) (u : Sight) (k : ℕ) (ts : List Task) (i : ℕ) (q : Kind) (o : Option Pointer)
-    → let w = walk_of (scene u) d in
-    let x = on (asks u.story d w k ts i q) (step_of_act u.story d w k ts (FromThis i q) None Rest) o in
-    is_acting x.half ≡ true → scene (sight_by d u (Some x)) ≡ scene u
+asks_same : (d : ℕ) (u : WorldState) (k : ℕ) (ts : List Task) (i : ℕ) (q : Kind) (o : Option Pointer)
+    → let w = frame_of (abstraction u) d in
+    let x = on (asks u.ghost_state d w k ts i q) (step_of_act u.ghost_state d w k ts (FromThis i q) None Rest) o in
+    is_acting x.pending_call ≡ true → abstraction (world_state_by d u (Some x)) ≡ abstraction u
 asks_same d u k ts i q None is = absurd (false≢true is)
 asks_same d u k ts i q (Some y) is =
-    let w = walk_of (scene u) d in
-    cond_both (is_enabled (story_state u.story) y) (record { deed = None; half = Giving i q y; walk = w; said = silent k })
-    (step_of_act u.story d w k ts (FromThis i q) None Rest) (λ (x : Step). is_acting x.half ≡ true → scene (sight_by d u (Some x)) ≡ scene u)
-    (λ t z. scene_as u _ _ _ _ refl (same_walks d u)) (λ t z. absurd (false≢true z)) is
+    let w = frame_of (abstraction u) d in
+    cond_both (is_enabled (model_state u.ghost_state) y) (record { atomic_step = None; pending_call = Giving i q y; frame_view = w; said = silent k })
+    (step_of_act u.ghost_state d w k ts (FromThis i q) None Rest)
+    (λ (x : Step). is_acting x.pending_call ≡ true → abstraction (world_state_by d u (Some x)) ≡ abstraction u)
+    (λ t z. abstraction_as u _ _ _ _ refl (same_frames d u)) (λ t z. absurd (false≢true z)) is
 
-pub first_same : (d : ℕ) (u : Sight) (k : ℕ) (ts : List Task) (a : Act)
-    → let x = first u.story d (walk_of (scene u) d) k ts a in is_acting x.half ≡ true → scene (sight_by d u (Some x)) ≡ scene u
-first_same d u k ts (Make form) is = begins_same d u k ts (least d (story_state u.story).stores) is
+pub first_same : (d : ℕ) (u : WorldState) (k : ℕ) (ts : List Task) (a : Act)
+    → let x = first u.ghost_state d (frame_of (abstraction u) d) k ts a in is_acting x.pending_call ≡ true → abstraction (world_state_by d u (Some x)) ≡
+    abstraction u
+first_same d u k ts (Make form) is = begins_same d u k ts (least d (model_state u.ghost_state).stores) is
 first_same d u k ts (Share i) is = absurd (false≢true is)
 first_same d u k ts (Put i) is = absurd (false≢true is)
 first_same d u k ts (Leave i) is = absurd (false≢true is)
 first_same d u k ts (Clear i) is = absurd (false≢true is)
 first_same d u k ts (Count i) is = absurd (false≢true is)
 first_same d u k ts (Downgrade i) is = absurd (false≢true is)
-first_same d u k ts (Lock i must) is = looks_same d u k ts (Lock i must) (locked_pointer (walk_of (scene u) d).slots (Lock i must)) is
+first_same d u k ts (Lock i must) is = looks_same d u k ts (Lock i must) (locked_pointer (frame_of (abstraction u) d).slots (Lock i must)) is
 first_same d u k ts (Expired i) is = absurd (false≢true is)
 first_same d u k ts (Read i) is = absurd (false≢true is)
-first_same d u k ts (FromThis i kind) is = asks_same d u k ts i kind (inside (slot_pointer (walk_of (scene u) d).slots i)) is
+first_same d u k ts (FromThis i kind) is = asks_same d u k ts i kind (inside (slot_pointer (frame_of (abstraction u) d).slots i)) is
 first_same d u k ts (Alias i j field) is = absurd (false≢true is)
 first_same d u k ts (Move i) is = absurd (false≢true is)
 first_same d u k ts (Ask q) is = absurd (false≢true is)
 first_same d u k ts (Offer i c) is = absurd (false≢true is)
-first_same d u k ts (Swap c) is = goes_same d u k ts (Swap c) (going (walk_of (scene u) d).slots (Swap c)) is
-first_same d u k ts (Exchange i c) is = goes_same d u k ts (Exchange i c) (going (walk_of (scene u) d).slots (Exchange i c)) is
+first_same d u k ts (Swap c) is = goes_same d u k ts (Swap c) (going (frame_of (abstraction u) d).slots (Swap c)) is
+first_same d u k ts (Exchange i c) is = goes_same d u k ts (Exchange i c) (going (frame_of (abstraction u) d).slots (Exchange i c)) is
 first_same d u k ts (Load c) is = load_same d u k ts c is
 first_same d u k ts (Compare i c weak) is = compare_same d u k ts i c weak is
 first_same d u k ts Drop is = absurd (false≢true is)

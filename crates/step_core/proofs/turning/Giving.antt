@@ -7,50 +7,50 @@ use Rattle.control_word.specs.declared.model.handle.Kind.TheVariants.{Owner, Wea
 use Rattle.step_threads.specs.declared.programs.act.Act.{Act}
 use Rattle.step_threads.specs.declared.programs.act.Act.TheVariants.{FromThis}
 use Rattle.step_threads.specs.declared.programs.act.Task.{Task}
-use Rattle.step_threads.specs.declared.half.Half.TheVariants.{Rest, Giving}
-use Rattle.step_table.specs.declared.slots.holdings.Pointer.{Pointer}
-use Rattle.step_table.specs.Deeds.{give, is_enabled}
-use Rattle.step_table.specs.Holdings.{inside, slot_pointer}
+use Rattle.step_threads.specs.declared.pending_call.PendingCall.TheVariants.{Rest, Giving}
+use Rattle.step_table.specs.declared.slots.registers.Pointer.{Pointer}
+use Rattle.step_table.specs.AtomicSteps.{give, is_enabled}
+use Rattle.step_table.specs.Registers.{inside, slot_pointer}
 use Rattle.step_table.specs.Openings.{opening}
-use Rattle.step_threads.specs.Entries.{does, giving}
-use Rattle.step_threads.specs.Scenes.{walk_of, went}
-use Rattle.step_threads.specs.NextSteps.{given_step, deed_is_event as is_done}
+use Rattle.step_core.proofs.Entries.{does, giving}
+use Rattle.step_threads.specs.AbstractStates.{frame_of, went}
+use Rattle.step_threads.specs.NextSteps.{given_step, atomic_step_is_event as is_done}
 use Rattle.step_threads.specs.Steps.{step_of_act}
-use Rattle.step_table.specs.Stories.{story_state}
+use Rattle.step_table.specs.GhostStates.{model_state}
 use Rattle.step_core.specs.Turning.{IsUnderWay}
-use Rattle.step_core.specs.Worlds.{Sight, scene}
+use Rattle.step_core.specs.Worlds.{WorldState, abstraction}
 use Rattle.step_core.proofs.turning.Saying.{Acts}
 use Rattle.step_core.proofs.turning.Trials.{Next, Outcome}
 
-give_so : (d : ℕ) (u : Sight) (k : ℕ) (ts : List Task) (i : ℕ) (q : Kind) (x : Pointer)
-    → inside (slot_pointer (walk_of (scene u) d).slots i) ≡ Some x
-    → is_enabled (story_state u.story) x ≡ true
-    → Acts d u k ts (FromThis i q) (step_of_act u.story d (walk_of (scene u) d) k ts (FromThis i q) (Some (give q x)) Rest)
+give_so : (d : ℕ) (u : WorldState) (k : ℕ) (ts : List Task) (i : ℕ) (q : Kind) (x : Pointer)
+    → inside (slot_pointer (frame_of (abstraction u) d).slots i) ≡ Some x
+    → is_enabled (model_state u.ghost_state) x ≡ true
+    → Acts d u k ts (FromThis i q) (step_of_act u.ghost_state d (frame_of (abstraction u) d) k ts (FromThis i q) (Some (give q x)) Rest)
 give_so d u k ts i q x e is =
-    let w = walk_of (scene u) d in
-    let g : giving (story_state u.story) (inside (slot_pointer w.slots i)) ≡ Some x = ap (giving (story_state u.story)) e ∙ cond-true
-    (is_enabled (story_state u.story) x) (Some x) None is in (
+    let w = frame_of (abstraction u) d in
+    let g : giving (model_state u.ghost_state) (inside (slot_pointer w.slots i)) ≡ Some x = ap (giving (model_state u.ghost_state)) e ∙ cond-true
+    (is_enabled (model_state u.ghost_state) x) (Some x) None is in (
       refl,
       ap (λ (o : Option Pointer). record {
-        extent = u.story.extent;
-        history = does (opening u.story.extent) d u.story.history (option_map (give q) o);
-        walks = set u.walks d (went (story_state u.story) d w k ts (FromThis i q));
+        extent = u.ghost_state.extent;
+        history = does (opening u.ghost_state.extent) d u.ghost_state.history (option_map (give q) o);
+        frame_views = set u.frame_views d (went (model_state u.ghost_state) d w k ts (FromThis i q));
       }) (sym g),
     )
 
-pub giving_out : (d : ℕ) (u : Sight) (i : ℕ) (q : Kind) (x : Pointer) (t : Task) (ts : List Task)
-    → IsUnderWay d u.story (Giving i q x) (t ∷ ts)
-    → inside (slot_pointer (walk_of (scene u) d).slots i) ≡ Some x
-    → Next d u t.statement ts t.act (Giving i q x) (given_step u.story d (walk_of (scene u) d) i q x (t ∷ ts))
+pub giving_out : (d : ℕ) (u : WorldState) (i : ℕ) (q : Kind) (x : Pointer) (t : Task) (ts : List Task)
+    → IsUnderWay d u.ghost_state (Giving i q x) (t ∷ ts)
+    → inside (slot_pointer (frame_of (abstraction u) d).slots i) ≡ Some x
+    → Next d u t.statement ts t.act (given_step u.ghost_state d (frame_of (abstraction u) d) i q x (t ∷ ts))
 giving_out d u i q x t ts way at =
-    let y = step_of_act u.story d (walk_of (scene u) d) t.statement ts (FromThis i q) (Some (give q x)) Rest in (
+    let y = step_of_act u.ghost_state d (frame_of (abstraction u) d) t.statement ts (FromThis i q) (Some (give q x)) Rest in (
       y,
       refl,
-      subst (λ (a : Act). Outcome d u t.statement ts a (Giving i q x) y) (sym way.0)
+      subst (λ (a : Act). Outcome d u t.statement ts a y) (sym way.0)
           (inl (record { event = is_given q; so = give_so d u t.statement ts i q x at way.1; over = refl })),
       λ j e. (let is = way.0 in cc),
     )
   where
-    is_given : (p : Kind) → is_done u.story (Some (give p x)) ≡ true
+    is_given : (p : Kind) → is_done u.ghost_state (Some (give p x)) ≡ true
     is_given Owner = refl
     is_given Weak = refl

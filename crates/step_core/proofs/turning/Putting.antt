@@ -2,23 +2,22 @@
 use Rattle.std.proofs.Common.{◌≡◌, ℕ, List, ◌∷◌, true, inl, refl, ap}
 use Rattle.std.specs.Prelude.{is_some, option_map}
 use Rattle.step_threads.specs.declared.programs.act.Task.{Task}
-use Rattle.step_threads.specs.declared.half.Half.TheVariants.{Brought}
-use Rattle.step_threads.specs.Courses.{Going, going}
-use Rattle.step_threads.specs.Scenes.{walk_of}
+use Rattle.step_threads.specs.Frames.{Going, going}
+use Rattle.step_threads.specs.AbstractStates.{frame_of}
 use Rattle.step_threads.specs.NextSteps.{sent}
 use Rattle.step_threads.specs.Steps.{step_of_swap}
-use Rattle.step_core.specs.Worlds.{Sight, scene}
+use Rattle.step_core.specs.Worlds.{WorldState, abstraction}
 use Rattle.step_core.proofs.turning.Swapping.{CanPut, some_of, swap_over, swaps_so}
 use Rattle.step_core.proofs.turning.Trials.{Next}
 
-pub putting_out : (d : ℕ) (u : Sight) (t : Task) (ts : List Task) → CanPut d u t.act
-    → is_some (going (walk_of (scene u) d).slots t.act) ≡ true
-    → Next d u t.statement ts t.act Brought (sent u.story d (walk_of (scene u) d) (t ∷ ts))
+pub putting_out : (d : ℕ) (u : WorldState) (t : Task) (ts : List Task) → CanPut d u t.act
+    → is_some (going (frame_of (abstraction u) d).slots t.act) ≡ true
+    → Next d u t.statement ts t.act (sent u.ghost_state d (frame_of (abstraction u) d) (t ∷ ts))
 putting_out d u t ts can is =
-    let w = walk_of (scene u) d in
+    let w = frame_of (abstraction u) d in
     let g = some_of (going w.slots t.act) is in (
-      step_of_swap u.story d w t.statement ts t.act g.0.0 g.0.1,
-      ap (option_map (λ (x : Going). step_of_swap u.story d w t.statement ts t.act x.0 x.1)) g.1,
+      step_of_swap u.ghost_state d w t.statement ts t.act g.0.0 g.0.1,
+      ap (option_map (λ (x : Going). step_of_swap u.ghost_state d w t.statement ts t.act x.0 x.1)) g.1,
       inl (record {
         event = refl;
         so = swaps_so d u t.statement ts t.act g.0.0 g.0.1 can g.1;

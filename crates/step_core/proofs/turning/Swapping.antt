@@ -15,27 +15,28 @@ use Rattle.step_threads.specs.declared.programs.act.Act.TheVariants.{Move, Ask}
 use Rattle.step_threads.specs.declared.programs.act.Act.TheVariants.{Offer, Swap, Exchange, Load, Compare, Drop, OnShelf}
 use Rattle.step_threads.specs.declared.programs.act.Task.{Task}
 use Rattle.step_threads.specs.declared.programs.call.CellName.{CellName}
-use Rattle.step_table.specs.declared.cell_steps.cell_deed.CellDeed.TheVariants as cell_deed
-use Rattle.step_threads.specs.declared.half.Half.TheVariants.{Rest}
-use Rattle.step_table.specs.declared.slots.holdings.Pointer.{Pointer}
-use Rattle.step_table.specs.declared.memory.past.Deed.TheVariants as deed
+use Rattle.step_table.specs.declared.cell_steps.cell_step.CellStep.TheVariants as cell_step
+use Rattle.step_threads.specs.declared.pending_call.PendingCall.TheVariants.{Rest}
+use Rattle.step_table.specs.declared.slots.registers.Pointer.{Pointer}
+use Rattle.step_table.specs.declared.memory.past.AtomicStep.TheVariants as atomic_step
 use Rattle.step_table.specs.Contents.{as_word, is_of, seen}
-use Rattle.step_threads.specs.Courses.{Going, HasCell, cell_of_name, going, going_from, hand, is_there, on_going}
-use Rattle.step_threads.specs.Entries.{History, acted, history_swaps as swaps_in}
-use Rattle.step_table.specs.Deeds.{Telling, on}
-use Rattle.step_table.specs.Holdings.{HoldsBag, Slots, slot_pointer, slot_value}
+use Rattle.step_threads.specs.Frames.{Going, HasCell, cell_of_name, going, going_from, hand, is_there, on_going}
+use Rattle.step_threads.specs.Entries.{History}
+use Rattle.step_core.proofs.Entries.{acted, history_swaps as swaps_in}
+use Rattle.step_table.specs.AtomicSteps.{Telling, on}
+use Rattle.step_table.specs.Registers.{HoldsBag, Slots, slot_pointer, slot_value}
 use Rattle.step_table.specs.Openings.{opening}
 use Rattle.step_threads.specs.Programs.{IsIn, kind_at}
 use Rattle.step_threads.specs.Rows.{Reply, row, said_by_row}
-use Rattle.step_threads.specs.Scenes.{walk_of, went}
+use Rattle.step_threads.specs.AbstractStates.{frame_of, went}
 use Rattle.step_threads.specs.Steps.{step_of_act, brings, gives_back, sends, step_of_swap}
-use Rattle.step_table.specs.Stories.{Kept, Nothing, Story, event_added, history_after, story_state}
+use Rattle.step_table.specs.GhostStates.{Kept, Nothing, GhostState, event_added, history_after, model_state}
 use Rattle.step_core.specs.Turning.{is_acting}
-use Rattle.step_core.specs.Worlds.{Sight, scene, sight_by}
+use Rattle.step_core.specs.Worlds.{WorldState, abstraction, world_state_by}
 use Rattle.step_threads.proofs.CellNames.{cell_open, goes_in}
 use Rattle.step_table.proofs.contained.Coming.{seen_found}
 use Rattle.step_table.proofs.contained.Telling.{swap_tells}
-use Rattle.step_core.proofs.turning.Ending.{same_walks, scene_as}
+use Rattle.step_core.proofs.turning.Ending.{same_frames, abstraction_as}
 use Rattle.step_core.proofs.turning.Saying.{Acts}
 use Rattle.step_core.proofs.turning.Telling.{tell_of, told_reply}
 
@@ -44,12 +45,12 @@ abbrev Goes : Shape → Slots → CellName → ℕ → Type 0
 Goes z slots c i = IsIn z c × (is_there slots c ≡ true) × (is_of (kind_at c) (slot_value slots i) ≡ true)
 
 -- the event of a swap tells what goes in and what comes out
-swap_told : (v : Story) (d : ℕ) (slots : Slots) (c : CellName) (i : ℕ) → Kept v → d < v.extent.actors → HoldsBag d slots v
+swap_told : (v : GhostState) (d : ℕ) (slots : Slots) (c : CellName) (i : ℕ) → Kept v → d < v.extent.actors → HoldsBag d slots v
     → Goes v.extent.shape slots c i
-    → let x = cell_of_name (story_state v) slots c in
-    history_after v d (deed.OnCell (cell_deed.Swap x (as_word (slot_value slots i)) (seen v x))) ≡ swaps_in (opening v.extent) d slots v.history c i
+    → let x = cell_of_name (model_state v) slots c in
+    history_after v d (atomic_step.OnCell (cell_step.Swap x (as_word (slot_value slots i)) (seen v x))) ≡ swaps_in (opening v.extent) d slots v.history c i
 swap_told v d slots c i kept lt holds goes =
-    let s = story_state v in
+    let s = model_state v in
     let x = cell_of_name s slots c in
     let found = seen_found v d x kept lt (cell_open v d slots c goes.0 holds goes.1) in
     ap (λ (o : Option (Event Nothing)). event_added d o v.history)
@@ -104,61 +105,64 @@ pub no_more : (q : Kind) (k : ℕ) (x : CellWord) (o : Option Block) → is_acti
 no_more q k x None = refl
 no_more q k x (Some b) = refl
 
-pub swap_over : (d : ℕ) (u : Sight) (k : ℕ) (ts : List Task) (a : Act) (c : CellName) (i : ℕ)
-    → is_acting (step_of_swap u.story d (walk_of (scene u) d) k ts a c i).half ≡ false
-swap_over d u k ts a c i = let found = seen u.story (cell_of_name (story_state u.story) (walk_of (scene u) d).slots c) in
+pub swap_over : (d : ℕ) (u : WorldState) (k : ℕ) (ts : List Task) (a : Act) (c : CellName) (i : ℕ)
+    → is_acting (step_of_swap u.ghost_state d (frame_of (abstraction u) d) k ts a c i).pending_call ≡ false
+swap_over d u k ts a c i = let found = seen u.ghost_state (cell_of_name (model_state u.ghost_state) (frame_of (abstraction u) d).slots c) in
     no_more (kind_at c) k found found.owned
 
 -- the thread's desk is there and has what its slots tell, and the shape has the cell of its act
-abbrev pub CanPut : ℕ → Sight → Act → Type 0
-CanPut d u a = (d < u.story.extent.actors) × Kept u.story × HasCell u.story.extent.shape a × HoldsBag d (walk_of (scene u) d).slots u.story
+abbrev pub CanPut : ℕ → WorldState → Act → Type 0
+CanPut d u a = (d < u.ghost_state.extent.actors) × Kept u.ghost_state × HasCell u.ghost_state.extent.shape a × HoldsBag d (frame_of (abstraction u) d).slots
+    u.ghost_state
 
-pub swaps_so : (d : ℕ) (u : Sight) (k : ℕ) (ts : List Task) (a : Act) (c : CellName) (i : ℕ) → CanPut d u a
-    → going (walk_of (scene u) d).slots a ≡ Some (c, i) → Acts d u k ts a (step_of_swap u.story d (walk_of (scene u) d) k ts a c i)
+pub swaps_so : (d : ℕ) (u : WorldState) (k : ℕ) (ts : List Task) (a : Act) (c : CellName) (i : ℕ) → CanPut d u a
+    → going (frame_of (abstraction u) d).slots a ≡ Some (c, i) → Acts d u k ts a (step_of_swap u.ghost_state d (frame_of (abstraction u) d) k ts a c i)
 swaps_so d u k ts a c i can e =
-    let w = walk_of (scene u) d in
-    let v = u.story in
+    let w = frame_of (abstraction u) d in
+    let v = u.ghost_state in
     let p = puts_as (tell_of v a) (opening v.extent) d w.slots v.history v.extent.shape a c i e can.2 in (
-      ap (λ (r : Reply). said_by_row k (row a w.slots w.taken r)) (told_reply v (story_state v) d w.slots a),
-      ap (λ (h : History). record { extent = v.extent; history = h; walks = set u.walks d (went (story_state v) d w k ts a) })
+      ap (λ (r : Reply). said_by_row k (row a w.slots w.taken r)) (told_reply v (model_state v) d w.slots a),
+      ap (λ (h : History). record { extent = v.extent; history = h; frame_views = set u.frame_views d (went (model_state v) d w k ts a) })
           (swap_told v d w.slots c i can.1 can.0 can.3 p.1 ∙ sym p.0),
     )
 
 -- the funds are brought first, where the value has an object
-sends_so : (d : ℕ) (u : Sight) (k : ℕ) (ts : List Task) (a : Act) (c : CellName) (i : ℕ) (o : Option Pointer) → CanPut d u a
-    → going (walk_of (scene u) d).slots a ≡ Some (c, i)
-    → let w = walk_of (scene u) d in
-    let x = on (brings w k) (step_of_swap u.story d w k ts a c i) o in is_acting x.half ≡ false → Acts d u k ts a x
+sends_so : (d : ℕ) (u : WorldState) (k : ℕ) (ts : List Task) (a : Act) (c : CellName) (i : ℕ) (o : Option Pointer) → CanPut d u a
+    → going (frame_of (abstraction u) d).slots a ≡ Some (c, i)
+    → let w = frame_of (abstraction u) d in
+    let x = on (brings w k) (step_of_swap u.ghost_state d w k ts a c i) o in is_acting x.pending_call ≡ false → Acts d u k ts a x
 sends_so d u k ts a c i None can e is = swaps_so d u k ts a c i can e
 sends_so d u k ts a c i (Some p) can e is = absurd (false≢true (sym is))
 
-pub goes_so : (d : ℕ) (u : Sight) (k : ℕ) (ts : List Task) (a : Act) (g : Option Going) → CanPut d u a → going (walk_of (scene u) d).slots a ≡ g
-    → acted (tell_of u.story a) (opening u.story.extent) d (walk_of (scene u) d).slots u.story.history a
-    ≡ on_going (swaps_in (opening u.story.extent) d (walk_of (scene u) d).slots u.story.history) u.story.history (going (walk_of (scene u) d).slots a)
-    → let w = walk_of (scene u) d in
-    let x = on_going (sends u.story d w k ts a) (step_of_act u.story d w k ts a None Rest) g in is_acting x.half ≡ false → Acts d u k ts a x
+pub goes_so : (d : ℕ) (u : WorldState) (k : ℕ) (ts : List Task) (a : Act) (g : Option Going) → CanPut d u a → going (frame_of (abstraction u) d).slots a ≡ g
+    → acted (tell_of u.ghost_state a) (opening u.ghost_state.extent) d (frame_of (abstraction u) d).slots u.ghost_state.history a
+    ≡ on_going (swaps_in (opening u.ghost_state.extent) d (frame_of (abstraction u) d).slots u.ghost_state.history) u.ghost_state.history
+    (going (frame_of (abstraction u) d).slots a)
+    → let w = frame_of (abstraction u) d in
+    let x = on_going (sends u.ghost_state d w k ts a) (step_of_act u.ghost_state d w k ts a None Rest) g in is_acting x.pending_call ≡ false → Acts d u k ts a x
 goes_so d u k ts a None can e by is =
-    let w = walk_of (scene u) d in
-    let v = u.story in (
-      ap (λ (r : Reply). said_by_row k (row a w.slots w.taken r)) (told_reply v (story_state v) d w.slots a),
-      ap (λ (h : History). record { extent = v.extent; history = h; walks = set u.walks d (went (story_state v) d w k ts a) })
+    let w = frame_of (abstraction u) d in
+    let v = u.ghost_state in (
+      ap (λ (r : Reply). said_by_row k (row a w.slots w.taken r)) (told_reply v (model_state v) d w.slots a),
+      ap (λ (h : History). record { extent = v.extent; history = h; frame_views = set u.frame_views d (went (model_state v) d w k ts a) })
           (sym (by ∙ ap (on_going (swaps_in (opening v.extent) d w.slots v.history) v.history) e)),
     )
-goes_so d u k ts a (Some g) can e by is = sends_so d u k ts a g.0 g.1 (slot_pointer (walk_of (scene u) d).slots g.1) can e is
+goes_so d u k ts a (Some g) can e by is = sends_so d u k ts a g.0 g.1 (slot_pointer (frame_of (abstraction u) d).slots g.1) can e is
 
 -- funds that were just brought
-sends_same : (d : ℕ) (u : Sight) (k : ℕ) (ts : List Task) (a : Act) (c : CellName) (i : ℕ) (o : Option Pointer)
-    → let w = walk_of (scene u) d in
-    let x = on (brings w k) (step_of_swap u.story d w k ts a c i) o in is_acting x.half ≡ true → scene (sight_by d u (Some x)) ≡ scene u
+sends_same : (d : ℕ) (u : WorldState) (k : ℕ) (ts : List Task) (a : Act) (c : CellName) (i : ℕ) (o : Option Pointer)
+    → let w = frame_of (abstraction u) d in
+    let x = on (brings w k) (step_of_swap u.ghost_state d w k ts a c i) o in is_acting x.pending_call ≡ true → abstraction (world_state_by d u (Some x)) ≡
+    abstraction u
 sends_same d u k ts a c i None is = absurd (false≢true (sym (swap_over d u k ts a c i) ∙ is))
-sends_same d u k ts a c i (Some p) is = scene_as u _ _ _ _ refl (same_walks d u)
+sends_same d u k ts a c i (Some p) is = abstraction_as u _ _ _ _ refl (same_frames d u)
 
-pub goes_same : (d : ℕ) (u : Sight) (k : ℕ) (ts : List Task) (a : Act) (g : Option Going)
-    → let w = walk_of (scene u) d in
-    let x = on_going (sends u.story d w k ts a) (step_of_act u.story d w k ts a None Rest) g in
-    is_acting x.half ≡ true → scene (sight_by d u (Some x)) ≡ scene u
+pub goes_same : (d : ℕ) (u : WorldState) (k : ℕ) (ts : List Task) (a : Act) (g : Option Going)
+    → let w = frame_of (abstraction u) d in
+    let x = on_going (sends u.ghost_state d w k ts a) (step_of_act u.ghost_state d w k ts a None Rest) g in
+    is_acting x.pending_call ≡ true → abstraction (world_state_by d u (Some x)) ≡ abstraction u
 goes_same d u k ts a None is = absurd (false≢true is)
-goes_same d u k ts a (Some g) is = sends_same d u k ts a g.0 g.1 (slot_pointer (walk_of (scene u) d).slots g.1) is
+goes_same d u k ts a (Some g) is = sends_same d u k ts a g.0 g.1 (slot_pointer (frame_of (abstraction u) d).slots g.1) is
 
 pub some_of : (o : Option Going) → is_some o ≡ true → (g : Going) × (o ≡ Some g)
 some_of None e = absurd (false≢true e)

@@ -1,59 +1,78 @@
 -- Whole turns.
-use Rattle.std.proofs.Common.{◌≡◌, ℕ, List, set, refl, sym, ap, subst, ◌∙◌}
+use Rattle.std.proofs.Common.{◌≡◌, ℕ, List, set, sym, ap, subst, ◌∙◌}
 use Rattle.std.specs.Prelude.{Option, Some, None}
 use Rattle.std.proofs.lemmas.List.{set-set}
+use Rattle.control_word.specs.declared.model.event.Event.{Event}
+use Rattle.control_word.specs.declared.model.event.Event.TheVariants as event
+use Rattle.control_word.specs.declared.model.handle.Handle.{Handle}
+use Rattle.control_word.specs.State.{State}
+use Rattle.step_table.specs.GhostStates.{Nothing}
 use Rattle.step_threads.specs.declared.programs.act.Task.{Task}
-use Rattle.step_threads.specs.declared.half.Half.{Half}
-use Rattle.step_threads.specs.declared.half.Half.TheVariants.{Rest}
+use Rattle.step_threads.specs.declared.pending_call.PendingCall.{PendingCall}
+use Rattle.step_threads.specs.declared.pending_call.PendingCall.TheVariants.{Rest}
 use Rattle.step_threads.specs.declared.said.Said.{Said}
 use Rattle.step_threads.specs.declared.said.Turned.{Turned}
-use Rattle.step_threads.specs.Scenes.{Scene, next, play_from, play_with, rested, said_from, said_with, walk_of}
-use Rattle.step_table.specs.Deeds.{Telling}
-use Rattle.step_core.specs.Turning.{Plays, HasRested, returned, turned}
-use Rattle.step_core.specs.Worlds.{GoesTo, Sight, TellsAllCounts, TakesWholeTurn, half_of, scene}
+use Rattle.step_threads.specs.declared.said.Turned.TheVariants.{Acted, Waited, Done}
+use Rattle.step_threads.specs.AbstractStates.{AbstractState, rested, state_in}
+use Rattle.step_core.specs.Turning.{Plays, HasRested, returned}
+use Rattle.step_core.specs.Turns.{ActsNow, IsChosen, TurnIs}
+use Rattle.step_core.specs.Worlds.{CountsAll, GoesTo, WorldState, TakesWholeTurn, pending_call_of, abstraction}
 use Rattle.step_core.proofs.turning.Playing.{over_returned}
-use Rattle.step_core.proofs.turning.Telling.{tells_back}
+use Rattle.step_core.proofs.turning.Telling.{counts_on}
 
--- what is done from the same scene, after steps of the thread's own
-pub plays_on : (d : ℕ) (u v w : Sight) (r : Turned) → GoesTo d u v → scene v ≡ scene u
-    → v.halves ≡ set u.halves d (half_of v d) → Plays d v r w
+-- where fewer counts are to be exact
+module _ (Exact Fewer : Handle → Type 0) (all : (h : Handle) → Fewer h → Exact h) (d : ℕ) where
+  chosen_less : (s : State) (e : Option (Event Nothing)) → IsChosen Exact s d e → IsChosen Fewer s d e
+  chosen_less s None p = p
+  chosen_less s (Some (event.Count h n)) p = λ q. p (all h q)
+  chosen_less s (Some _) p = p
+
+  acts_less : (c c' : AbstractState) (t : Task) (x : Said) → ActsNow Exact d c t x c' → ActsNow Fewer d c t x c'
+  acts_less c c' t x a =
+      record {
+        reply = a.reply;
+        event = a.event;
+        makes = a.makes;
+        legal = a.legal;
+        chosen = chosen_less (state_in c) a.event a.chosen;
+        says = a.says;
+        goes = a.goes;
+      }
+
+  pub turn_less : (c c' : AbstractState) (r : Turned) → TurnIs Exact d c r c' → TurnIs Fewer d c r c'
+  turn_less c c' (Acted x) a = (a.0, a.1, acts_less c c' a.0 x a.2)
+  turn_less c c' Waited a = a
+  turn_less c c' Done a = a
+
+-- what is done after steps of the thread's own that lead here
+module _ (d : ℕ) (u v w : WorldState) (r : Turned) (h : PendingCall) (goes : GoesTo d u v) (pending_calls : v.pending_calls ≡ set u.pending_calls d h)
+    (c : AbstractState) (is : abstraction v ≡ c) where
+  plays_from : Plays d v r w → TurnIs (CountsAll d u (state_in c)) d c r (rested d (abstraction w))
+  plays_from plays =
+      subst (λ (b : AbstractState). TurnIs (CountsAll d u (state_in b)) d b r (rested d (abstraction w))) is
+      (let s = state_in (abstraction v) in
+      turn_less (CountsAll d v s) (CountsAll d u s) (counts_on d u v h goes pending_calls s) d (abstraction v) (rested d (abstraction w)) r plays.turn)
+
+-- what is done from the same abstract state, after steps of the thread's own
+pub plays_on : (d : ℕ) (u v w : WorldState) (r : Turned) → GoesTo d u v → abstraction v ≡ abstraction u
+    → v.pending_calls ≡ set u.pending_calls d (pending_call_of v d) → Plays d v r w
     → Plays d u r w
-plays_on d u v w r goes same halves plays =
+plays_on d u v w r goes same pending_calls plays =
     record {
-      tell = plays.tell;
-      tells = tells_back d u v plays.tell (half_of v d) (scene u) goes halves same plays.tells;
-      answer = plays.answer ∙ ap (λ (c : Scene). turned (said_with plays.tell d c)) same;
-      scene = plays.scene ∙ ap (play_with plays.tell d) same;
+      turn = plays_from d u v w r (pending_call_of v d) goes pending_calls (abstraction u) same plays;
       done = plays.done;
-      halves = plays.halves ∙ ap (λ (l : List Half). set l d (half_of w d)) halves ∙ set-set u.halves d (half_of v d) _;
+      pending_calls = plays.pending_calls ∙ ap (λ (l : List PendingCall). set l d (pending_call_of w d)) pending_calls ∙ set-set u.pending_calls d
+          (pending_call_of v d) _;
     }
 
-no_next : (tell : Telling) (c : Scene) (d : ℕ) (o : Option Task) → said_from tell c d (walk_of c d) o ≡ None
-    → o ≡ None
-no_next tell c d None e = refl
-no_next tell c d (Some t) e = cc
-
-turns_by : (d : ℕ) (u u' : Sight) (r : Turned) (tell : Telling) (o : Option Said)
-    → let c = rested d (scene u) in TellsAllCounts d u c tell
-    → said_with tell d c ≡ o → r ≡ turned o → scene u' ≡ play_with tell d c → u'.halves ≡ set u.halves d Rest
-    → TakesWholeTurn d u r u'
-turns_by d u u' r tell (Some x) tells is answer played halves =
-    subst (λ (t : Turned). TakesWholeTurn d u t u') (sym answer) (tell, tells, sym is, played, halves)
-turns_by d u u' r tell None tells is answer played halves =
-    let c = rested d (scene u) in
-    let t = no_next tell c d (next (walk_of c d)) is in
-    subst (λ (t : Turned). TakesWholeTurn d u t u') (sym answer) (t, played ∙ ap (play_from tell c d (walk_of c d)) t, halves)
-
 -- the rest that was under way, the act, and the rest that goes on after it
-pub turns : (d : ℕ) (u v w u' : Sight) (r : Turned) → GoesTo d u v → HasRested d u v → Plays d v r w → HasRested d w u'
+pub turns : (d : ℕ) (u v w u' : WorldState) (r : Turned) → GoesTo d u v → HasRested d u v → Plays d v r w → HasRested d w u'
     → TakesWholeTurn d u r u'
 turns d u v w u' r goes before plays behind =
-    let tell = plays.tell in
-    let c = rested d (scene u) in
-    turns_by d u u' r tell (said_with tell d c)
-    (tells_back d u v tell (returned (half_of u d)) c goes before.halves before.scene plays.tells)
-    refl (plays.answer ∙ ap (λ (c : Scene). turned (said_with tell d c)) before.scene)
-    (behind.scene ∙ plays.scene ∙ ap (play_with tell d) before.scene)
-    (behind.halves ∙ ap (set w.halves d) (over_returned (half_of w d) plays.done)
-    ∙ ap (λ (l : List Half). set l d Rest) (plays.halves ∙ ap (λ (l : List Half). set l d (half_of w d)) before.halves
-    ∙ set-set u.halves d (returned (half_of u d)) (half_of w d)) ∙ set-set u.halves d (half_of w d) Rest)
+    let c = rested d (abstraction u) in (
+      subst (TurnIs (CountsAll d u (state_in c)) d c r) (sym behind.abstraction)
+          (plays_from d u v w r (returned (pending_call_of u d)) goes before.pending_calls c before.abstraction plays),
+      behind.pending_calls ∙ ap (set w.pending_calls d) (over_returned (pending_call_of w d) plays.done)
+          ∙ ap (λ (l : List PendingCall). set l d Rest) (plays.pending_calls ∙ ap (λ (l : List PendingCall). set l d (pending_call_of w d)) before.pending_calls
+          ∙ set-set u.pending_calls d (returned (pending_call_of u d)) (pending_call_of w d)) ∙ set-set u.pending_calls d (pending_call_of w d) Rest,
+    )

@@ -12,10 +12,10 @@ use Rattle.control_word.specs.Histories.{entry, leads}
 use Rattle.control_word.specs.State.{Opening, State, weak}
 use Rattle.step_threads.specs.declared.ending.Ending.{Ending}
 use Rattle.step_table.specs.declared.slots.slot.Slot.{Slot}
-use Rattle.step_threads.specs.Courses.{hand}
+use Rattle.step_threads.specs.Frames.{hand}
 use Rattle.step_threads.specs.Endings.{staged}
 use Rattle.step_table.specs.Contents.{slot_as, slot_of}
-use Rattle.step_table.specs.Holdings.{Slots, is_full, plain, pointer_of, slot_pointer}
+use Rattle.step_table.specs.Registers.{Slots, is_full, plain, pointer_of, slot_pointer}
 use Rattle.step_threads.specs.Entries.{History}
 use Rattle.step_threads.specs.Unwinding.{Stop, Wound, history_clears, unwinds_on, stops, unwound}
 

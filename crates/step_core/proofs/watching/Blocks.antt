@@ -12,37 +12,37 @@ use Rattle.control_word.specs.declared.place.Place.{Place}
 use Rattle.control_word.specs.Layout.{spot}
 use Rattle.control_word.specs.State.{Has, InShape, Stored, stored}
 use Rattle.control_word.specs.Words.{slot as slot_of_kind}
-use Rattle.step_table.specs.declared.cell_steps.cell_deed.Cell.{Cell}
-use Rattle.step_table.specs.declared.cell_steps.cell_deed.CellDeed.TheVariants as cell_deed
-use Rattle.step_table.specs.declared.slots.holdings.Pointer.{Pointer}
-use Rattle.step_table.specs.declared.memory.past.Deed.{Deed}
-use Rattle.step_table.specs.declared.memory.past.Deed.TheVariants as deed
-use Rattle.step_table.specs.CellDeeds.{word_of}
+use Rattle.step_table.specs.declared.cell_steps.cell_step.Cell.{Cell}
+use Rattle.step_table.specs.declared.cell_steps.cell_step.CellStep.TheVariants as cell_step
+use Rattle.step_table.specs.declared.slots.registers.Pointer.{Pointer}
+use Rattle.step_table.specs.declared.memory.past.AtomicStep.{AtomicStep}
+use Rattle.step_table.specs.declared.memory.past.AtomicStep.TheVariants as atomic_step
+use Rattle.step_table.specs.CellAtomicSteps.{word_of}
 use Rattle.step_table.specs.Cells.{IsSomewhere, word_of_cell}
 use Rattle.step_table.specs.Contents.{is_of}
-use Rattle.step_table.specs.Deeds.{alias, downgrade, give, is_expired, leave_as, lock, share_as}
-use Rattle.step_table.specs.Holdings.{HoldsBag, Slots, inside, owner_as, owner_slot, plain, pointer_of, slot_pointer, slot_value, weak_as, weak_slot}
+use Rattle.step_table.specs.AtomicSteps.{alias, downgrade, give, is_expired, leave_as, lock, share_as}
+use Rattle.step_table.specs.Registers.{HoldsBag, Slots, inside, owner_as, owner_slot, plain, pointer_of, slot_pointer, slot_value, weak_as, weak_slot}
 use Rattle.step_table.specs.Openings.{opening}
-use Rattle.step_table.specs.Stories.{Kept, Story, story_state}
+use Rattle.step_table.specs.GhostStates.{Kept, GhostState, model_state}
 use Rattle.step_table.proofs.holding.Inside.{inside_is}
 use Rattle.step_table.proofs.holding.Owning.{slot_held}
 use Rattle.step_table.proofs.tables.Places.{handle_busy, there, vacant_place}
 use Rattle.step_threads.specs.declared.programs.call.CellName.{CellName}
 use Rattle.step_threads.specs.Programs.{kind_at}
-use Rattle.step_threads.specs.Courses.{is_there, offered}
+use Rattle.step_threads.specs.Frames.{is_there, offered}
 use Rattle.step_threads.specs.Entries.{least, lesser}
-use Rattle.step_threads.specs.NextSteps.{story_after}
+use Rattle.step_threads.specs.NextSteps.{ghost_after}
 use Rattle.step_core.proofs.watching.Words.{block_off}
 
--- the deed leaves the words of cells
-abbrev pub StaysOff : Story → ℕ → Option Deed → Type 0
-StaysOff v d x = (c : Cell) → IsSomewhere c → slice_index (story_after v d x).words (word_of v.extent.shape.blocks c) ≡ word_of_cell v c
+-- the atomic step leaves the words of cells
+abbrev pub StaysOff : GhostState → ℕ → Option AtomicStep → Type 0
+StaysOff v d x = (c : Cell) → IsSomewhere c → slice_index (ghost_after v d x).words (word_of v.extent.shape.blocks c) ≡ word_of_cell v c
 
-abbrev pub IsThere : Story → Block → Type 0
+abbrev pub IsThere : GhostState → Block → Type 0
 IsThere v b = InShape (opening v.extent) b.0
 
 -- the block of a pointer in a slot is one of the table
-module _ (v : Story) (d : ℕ) (slots : Slots) (kept : Kept v) (holds : HoldsBag d slots v) (i : ℕ) (x : Pointer) where
+module _ (v : GhostState) (d : ℕ) (slots : Slots) (kept : Kept v) (holds : HoldsBag d slots v) (i : ℕ) (x : Pointer) where
   pub slot_there : slot_pointer slots i ≡ Some x → IsThere v x.block
   slot_there e = (there v x.block kept (handle_busy v d x.kind x.block x.place kept (slot_held d slots v i x holds e))).1
 
@@ -80,7 +80,7 @@ module _ (v : Story) (d : ℕ) (slots : Slots) (kept : Kept v) (holds : HoldsBag
       offered_is false t e = cc
 
 -- the least block of a store is one of the table
-least_shape : (v : Story) (d b : ℕ) (l : List Stored) → ((e c : ℕ) → Has (stored e c) l → InShape (opening v.extent) c) → least d l ≡ Some b
+least_shape : (v : GhostState) (d b : ℕ) (l : List Stored) → ((e c : ℕ) → Has (stored e c) l → InShape (opening v.extent) c) → least d l ≡ Some b
     → InShape (opening v.extent) b
 least_shape v d b [] all e = cc
 least_shape v d b (x ∷ xs) all e =
@@ -99,30 +99,30 @@ least_shape v d b (x ∷ xs) all e =
         lower (inl lt) = subst (λ (n : ℕ). InShape (opening v.extent) n) (sym (min-eq_left {n = x.block} {m = c} (omega arith))) here
         lower (inr le) = subst (λ (n : ℕ). InShape (opening v.extent) n) (sym (min-eq_right {n = c} {m = x.block} (omega arith))) (later c refl)
 
-pub least_there : (v : Story) (d : ℕ) (b : Block) → Kept v → least d (story_state v).stores ≡ Some b.0 → IsThere v b
-least_there v d b kept e = least_shape v d b.0 (story_state v).stores (λ f c h. vacant_place v f (record { 0 = c }) kept h) e
+pub least_there : (v : GhostState) (d : ℕ) (b : Block) → Kept v → least d (model_state v).stores ≡ Some b.0 → IsThere v b
+least_there v d b kept e = least_shape v d b.0 (model_state v).stores (λ f c h. vacant_place v f (record { 0 = c }) kept h) e
 
 slot_few : (k : Kind) → slot_of_kind k < 7
 slot_few Owner = omega arith
 slot_few Weak = omega arith
 
-module _ (v : Story) (d : ℕ) where
-  pub prepare_off : (b : Block) → IsThere v b → StaysOff v d (Some (deed.Prepare b))
+module _ (v : GhostState) (d : ℕ) where
+  pub prepare_off : (b : Block) → IsThere v b → StaysOff v d (Some (atomic_step.Prepare b))
   prepare_off b is = block_off v b.0 1 1 is (omega arith)
 
-  pub write_off : (b : Block) (j word : ℕ) → j < 5 → IsThere v b → StaysOff v d (Some (deed.Write b j word))
+  pub write_off : (b : Block) (j word : ℕ) → j < 5 → IsThere v b → StaysOff v d (Some (atomic_step.Write b j word))
   write_off b j word lt is = block_off v b.0 (2 + j) word is (omega (arith, lt))
 
-  pub claim_off : (b : Block) (enabled null : Bool) (fields : List ℕ) → IsThere v b → StaysOff v d (Some (deed.Claim b enabled null fields))
+  pub claim_off : (b : Block) (enabled null : Bool) (fields : List ℕ) → IsThere v b → StaysOff v d (Some (atomic_step.Claim b enabled null fields))
   claim_off b enabled null fields is = block_off v b.0 0 1 is (omega arith)
 
-  pub finish_off : (b : Block) (vacant : Bool) → IsThere v b → StaysOff v d (Some (deed.Finish b vacant))
+  pub finish_off : (b : Block) (vacant : Bool) → IsThere v b → StaysOff v d (Some (atomic_step.Finish b vacant))
   finish_off b vacant is = block_off v b.0 1 (slice_index v.words (spot b.0 1) - 1) is (omega arith)
 
-  strong_off : (b : Block) (p q : Option Place) → IsThere v b → StaysOff v d (Some (deed.Share b p q))
+  strong_off : (b : Block) (p q : Option Place) → IsThere v b → StaysOff v d (Some (atomic_step.Share b p q))
   strong_off b p q is = block_off v b.0 0 (suc (slice_index v.words (spot b.0 0))) is (omega arith)
 
-  weak_off : (b : Block) (p : Option Place) → IsThere v b → StaysOff v d (Some (deed.WeakShare b p))
+  weak_off : (b : Block) (p : Option Place) → IsThere v b → StaysOff v d (Some (atomic_step.WeakShare b p))
   weak_off b p is = block_off v b.0 1 (suc (slice_index v.words (spot b.0 1))) is (omega arith)
 
   pub share_off : (q : Kind) (x : Pointer) → IsThere v x.block → StaysOff v d (Some (share_as q x))
@@ -143,28 +143,28 @@ module _ (v : Story) (d : ℕ) where
   leave_off Owner x last is = block_off v x.block.0 0 (slice_index v.words (spot x.block.0 0) - 1) is (omega arith)
   leave_off Weak x last is = block_off v x.block.0 1 (slice_index v.words (spot x.block.0 1) - 1) is (omega arith)
 
-  pub lock_off : (x : Pointer) → IsThere v x.block → StaysOff v d (Some (lock (story_state v) x))
-  lock_off x is c valid = go (not (is_expired (story_state v) x))
+  pub lock_off : (x : Pointer) → IsThere v x.block → StaysOff v d (Some (lock (model_state v) x))
+  lock_off x is c valid = go (not (is_expired (model_state v) x))
     where
       go : (b : Bool) → slice_index (cond b (slice_set v.words (spot x.block.0 0) (suc (slice_index v.words (spot x.block.0 0)))) v.words)
           (word_of v.extent.shape.blocks c) ≡ word_of_cell v c
       go true = block_off v x.block.0 0 (suc (slice_index v.words (spot x.block.0 0))) is (omega arith) c valid
       go false = refl
 
-  pub bring_off : (k : Kind) (b : Block) (p : Option Place) (f : ℕ) → IsThere v b → StaysOff v d (Some (deed.OnCell (cell_deed.Bring k b p f)))
+  pub bring_off : (k : Kind) (b : Block) (p : Option Place) (f : ℕ) → IsThere v b → StaysOff v d (Some (atomic_step.OnCell (cell_step.Bring k b p f)))
   bring_off k b p f is =
       block_off v b.0 (slot_of_kind k) (slice_index v.words (spot b.0 (slot_of_kind k)) + 4294967296 * f) is (slot_few k)
 
-  pub give_back_off : (k : Kind) (b : Block) (f : ℕ) → IsThere v b → StaysOff v d (Some (deed.OnCell (cell_deed.GiveBack k b f)))
+  pub give_back_off : (k : Kind) (b : Block) (f : ℕ) → IsThere v b → StaysOff v d (Some (atomic_step.OnCell (cell_step.GiveBack k b f)))
   give_back_off k b f is =
       block_off v b.0 (slot_of_kind k) (slice_index v.words (spot b.0 (slot_of_kind k)) - 4294967296 * f) is (slot_few k)
 
-  pub turn_off : (k : Kind) (b : Block) → IsThere v b → StaysOff v d (Some (deed.OnCell (cell_deed.Turn k b)))
+  pub turn_off : (k : Kind) (b : Block) → IsThere v b → StaysOff v d (Some (atomic_step.OnCell (cell_step.Turn k b)))
   turn_off k b is =
       block_off v b.0 (slot_of_kind k) (slice_index v.words (spot b.0 (slot_of_kind k)) - 4294967295) is (slot_few k)
 
   -- a step on what a slot holds
-  pub each_off : (f : Pointer → Deed) (o : Option Pointer) → ((x : Pointer) → o ≡ Some x → StaysOff v d (Some (f x)))
+  pub each_off : (f : Pointer → AtomicStep) (o : Option Pointer) → ((x : Pointer) → o ≡ Some x → StaysOff v d (Some (f x)))
       → StaysOff v d (option_map f o)
   each_off f None off = λ c valid. refl
   each_off f (Some x) off = off x refl

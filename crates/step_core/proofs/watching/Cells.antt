@@ -1,5 +1,5 @@
 -- Steps on cells: where half of a cell's funds or more are taken, threads count that put them back.
-use Rattle.step_table.specs.declared.memory.shelf.ShelfDeed.{ShelfDeed}
+use Rattle.step_table.specs.declared.memory.shelf.ShelfStep.{ShelfStep}
 use Rattle.control_word.specs.Words.{shelf_spot}
 use Rattle.step_table.specs.Openings.{opening}
 use Rattle.std.proofs.Common.{◌≡◌, ◌≢◌, ℕ, suc, ◌+◌, ◌-◌, ◌*◌, ◌<◌, ◌≤◌, ◌==◌, Bool, true, false, cond, List, length}
@@ -12,24 +12,24 @@ use Rattle.control_word.specs.declared.packed.cell.CellWord.{CellWord}
 use Rattle.control_word.specs.declared.place.Block.{Block}
 use Rattle.control_word.specs.declared.shape.Shape.{Shape}
 use Rattle.control_word.specs.Packing.{IsCellWord, cell_bits}
-use Rattle.step_threads.specs.declared.half.Half.{Half}
-use Rattle.step_threads.specs.declared.half.Half.TheVariants.{Rest, Saw, Refill}
-use Rattle.step_table.specs.declared.cell_steps.cell_deed.Cell.{Cell}
-use Rattle.step_table.specs.declared.cell_steps.cell_deed.Cell.TheVariants.{Free, Member}
-use Rattle.step_table.specs.declared.cell_steps.cell_deed.CellDeed.TheVariants as cell_deed
-use Rattle.step_table.specs.declared.memory.past.Deed.{Deed}
-use Rattle.step_table.specs.declared.memory.past.Deed.TheVariants as deed
+use Rattle.step_threads.specs.declared.pending_call.PendingCall.{PendingCall}
+use Rattle.step_threads.specs.declared.pending_call.PendingCall.TheVariants.{Rest, Saw, Refill}
+use Rattle.step_table.specs.declared.cell_steps.cell_step.Cell.{Cell}
+use Rattle.step_table.specs.declared.cell_steps.cell_step.Cell.TheVariants.{Free, Member}
+use Rattle.step_table.specs.declared.cell_steps.cell_step.CellStep.TheVariants as cell_step
+use Rattle.step_table.specs.declared.memory.past.AtomicStep.{AtomicStep}
+use Rattle.step_table.specs.declared.memory.past.AtomicStep.TheVariants as atomic_step
 use Rattle.step_table.specs.declared.cell_steps.refill.Stage.{Stage}
 use Rattle.step_table.specs.declared.cell_steps.refill.Stage.TheVariants.{Turning, Checking, Lacking, Refilling, Failing}
-use Rattle.step_table.specs.CellDeeds.{kind_in_state, word_of}
+use Rattle.step_table.specs.CellAtomicSteps.{kind_in_state, word_of}
 use Rattle.step_table.specs.Cells.{IsSomewhere, word_of_cell}
 use Rattle.step_table.specs.Contents.{same_value, seen}
 use Rattle.step_table.specs.Refills.{RefillFits, is_drained, is_low, more_taken}
-use Rattle.step_table.specs.Stories.{Kept, Story, story_state}
+use Rattle.step_table.specs.GhostStates.{Kept, GhostState, model_state}
 use Rattle.step_table.proofs.contained.Coming.{seen_found}
 use Rattle.step_table.proofs.tables.Places.{handle_busy, there}
-use Rattle.step_threads.specs.Courses.{Walk}
-use Rattle.step_threads.specs.NextSteps.{story_after}
+use Rattle.step_threads.specs.Frames.{FrameView}
+use Rattle.step_threads.specs.NextSteps.{ghost_after}
 use Rattle.step_threads.specs.Steps.{Step, refills_on, within}
 use Rattle.step_core.specs.Watching.{IsCellOfShape, content, is_watching}
 use Rattle.step_core.proofs.watching.Blocks.{IsThere, StaysOff, bring_off, give_back_off, turn_off}
@@ -40,7 +40,7 @@ pub somewhere : (z : Shape) (c : Cell) → IsCellOfShape z c → IsSomewhere c
 somewhere z (Free n) is = tt
 somewhere z (Member b m) is = (is.0, is.2)
 
-in_words : (v : Story) (c : Cell) → Kept v → IsCellOfShape v.extent.shape c → word_of v.extent.shape.blocks c < length v.words
+in_words : (v : GhostState) (c : Cell) → Kept v → IsCellOfShape v.extent.shape c → word_of v.extent.shape.blocks c < length v.words
 in_words v (Free n) kept lt = let s = kept.stands.shows.sized in omega (arith, s, lt)
 in_words v (Member b m) kept is =
     let s = kept.stands.shows.sized in
@@ -50,7 +50,7 @@ in_words v (Member b m) kept is =
     omega (arith, s, from, high, few)
 
 -- a word of the shelf is none of a cell
-shelf_apart : (v : Story) (c : Cell) (b : ℕ) → IsCellOfShape v.extent.shape c → word_of v.extent.shape.blocks c ≢ shelf_spot (opening v.extent) b
+shelf_apart : (v : GhostState) (c : Cell) (b : ℕ) → IsCellOfShape v.extent.shape c → word_of v.extent.shape.blocks c ≢ shelf_spot (opening v.extent) b
 shelf_apart v (Free n) b is e = omega (arith, is, e)
 shelf_apart v (Member a m) b is e =
     let from = is.0 in
@@ -58,40 +58,40 @@ shelf_apart v (Member a m) b is e =
     let few = is.2 in
     omega (arith, from, high, few, e)
 
-pub shelf_off : (v : Story) (d : ℕ) (x : ShelfDeed) (b : Block) (c : Cell) → IsCellOfShape v.extent.shape c
-    → slice_index (story_after v d (Some (deed.OnShelf b x))).words (word_of v.extent.shape.blocks c) ≡ word_of_cell v c
+pub shelf_off : (v : GhostState) (d : ℕ) (x : ShelfStep) (b : Block) (c : Cell) → IsCellOfShape v.extent.shape c
+    → slice_index (ghost_after v d (Some (atomic_step.OnShelf b x))).words (word_of v.extent.shape.blocks c) ≡ word_of_cell v c
 shelf_off v d x b c is =
     get_or-set_other v.words (shelf_spot (opening v.extent) b.0) (word_of v.extent.shape.blocks c) _ 0 (shelf_apart v c b.0 is)
 
 -- one word is another, or none is: so it is for each cell of the shape
-abbrev pub WatchesWord : Story → Half → List ℕ → Half → Type 0
+abbrev pub WatchesWord : GhostState → PendingCall → List ℕ → PendingCall → Type 0
 WatchesWord v h words g =
     let z = v.extent.shape in
     (c : Cell) → IsCellOfShape z c → Watch z.blocks (word_of z.blocks c) (word_of_cell v c) (slice_index words (word_of z.blocks c)) h g
 
-abbrev pub Watches : Story → ℕ → Half → Option Deed → Half → Type 0
-Watches v d h x g = WatchesWord v h (story_after v d x).words g
+abbrev pub Watches : GhostState → ℕ → PendingCall → Option AtomicStep → PendingCall → Type 0
+Watches v d h x g = WatchesWord v h (ghost_after v d x).words g
 
--- the half has no funds of a cell
-abbrev pub IsQuiet : Story → Half → Type 0
+-- the pending call has no funds of a cell
+abbrev pub IsQuiet : GhostState → PendingCall → Type 0
 IsQuiet v h = (p a : ℕ) → bit v.extent.shape.blocks p a h ≡ 0
 
-pub still : (v : Story) (d : ℕ) (h : Half) (x : Option Deed) (g : Half) → IsQuiet v h → StaysOff v d x → Watches v d h x g
+pub still : (v : GhostState) (d : ℕ) (h : PendingCall) (x : Option AtomicStep) (g : PendingCall) → IsQuiet v h → StaysOff v d x → Watches v d h x g
 still v d h x g quiet off c is =
     inl (off c (somewhere v.extent.shape c is), (let q = quiet (word_of v.extent.shape.blocks c) (word_of_cell v c) in omega (arith, q)))
 
 -- the thread has the same funds to put back
-pub going_on : (v : Story) (d : ℕ) (s r : Stage) (c : Cell) (y : CellWord) (k : ℕ) (x : Option Deed) → StaysOff v d x
+pub going_on : (v : GhostState) (d : ℕ) (s r : Stage) (c : Cell) (y : CellWord) (k : ℕ) (x : Option AtomicStep) → StaysOff v d x
     → Watches v d (Refill s c y k) x (Refill r c y k)
 going_on v d s r c y k x off e is = inl (off e (somewhere v.extent.shape e is), omega arith)
 
-elsewhere : (v : Story) (s : Stage) (c : Cell) (x : CellWord) (k p a : ℕ) → p ≢ word_of v.extent.shape.blocks c
+elsewhere : (v : GhostState) (s : Stage) (c : Cell) (x : CellWord) (k p a : ℕ) → p ≢ word_of v.extent.shape.blocks c
     → bit v.extent.shape.blocks p a (Refill s c x k) ≡ 0
 elsewhere v s c x k p a ne =
     ap (λ (t : Bool). cond (t && is_low x && content (cell_bits x) == content a) 1 0) (ne_eqb (word_of v.extent.shape.blocks c) p (λ e. ne (sym e)))
 
 -- one cell's word is another
-module _ (v : Story) (c : Cell) (word : ℕ) (h g : Half) (kept : Kept v)
+module _ (v : GhostState) (c : Cell) (word : ℕ) (h g : PendingCall) (kept : Kept v)
     (here : Watch v.extent.shape.blocks (word_of v.extent.shape.blocks c) (word_of_cell v c) word h g)
     (else : (p a : ℕ) → p ≢ word_of v.extent.shape.blocks c → bit v.extent.shape.blocks p a h ≡ 0) where
   pub changed : WatchesWord v h (slice_set v.words (word_of v.extent.shape.blocks c) word) g
@@ -110,13 +110,13 @@ module _ (v : Story) (c : Cell) (word : ℕ) (h g : Half) (kept : Kept v)
       inl (get_or-set_other v.words q p word 0 ne, (let o = else p (word_of_cell v e) ne in omega (arith, o)))) (cases_eq p q)
 
 -- a value goes into the cell, of which no fund was taken
-pub put_in : (v : Story) (d : ℕ) (c : Cell) (x : CellWord) (h g : Half) → Kept v → IsQuiet v h → IsCellWord x → x.taken ≡ 0
+pub put_in : (v : GhostState) (d : ℕ) (c : Cell) (x : CellWord) (h g : PendingCall) → Kept v → IsQuiet v h → IsCellWord x → x.taken ≡ 0
     → WatchesWord v h (slice_set v.words (word_of v.extent.shape.blocks c) (cell_bits x)) g
 put_in v d c x h g kept quiet valid none =
     changed v c (cell_bits x) h g kept (inr (inl (let t = taken_told x valid in omega (arith, t, none)))) (λ p a ne. quiet p a)
 
 -- a fund is taken
-pub taken : (v : Story) (c : Cell) (x : CellWord) (k : ℕ) → Kept v → IsCellWord x → word_of_cell v c ≡ cell_bits x
+pub taken : (v : GhostState) (c : Cell) (x : CellWord) (k : ℕ) → Kept v → IsCellWord x → word_of_cell v c ≡ cell_bits x
     → WatchesWord v (Saw x) (slice_set v.words (word_of v.extent.shape.blocks c) (word_of_cell v c + 17179869184)) (Refill Turning c (more_taken x) k)
 taken v c x k kept valid shows =
     changed v c (word_of_cell v c + 17179869184) (Saw x) (Refill Turning c (more_taken x) k) kept (go (is_low (more_taken x)) refl) (λ p a ne. refl)
@@ -149,19 +149,19 @@ last_false true = refl
 last_false false = refl
 
 -- few funds are none to put back
-few_quiet : (v : Story) (s : Stage) (c : Cell) (x : CellWord) (k : ℕ) → is_low x ≡ false → IsQuiet v (Refill s c x k)
+few_quiet : (v : GhostState) (s : Stage) (c : Cell) (x : CellWord) (k : ℕ) → is_low x ≡ false → IsQuiet v (Refill s c x k)
 few_quiet v s c x k few p a =
     ap (λ (t : Bool). cond (word_of v.extent.shape.blocks c == p && t && content (cell_bits x) == content a) 1 0) few
     ∙ ap (λ (t : Bool). cond t 1 0) (middle_false (word_of v.extent.shape.blocks c == p) (content (cell_bits x) == content a))
 
 -- the block of what is put back is one of the table
-pub block_there : (v : Story) (d : ℕ) (s : Stage) (c : Cell) (x : CellWord) → Kept v → RefillFits d s c x v → (b : Block)
+pub block_there : (v : GhostState) (d : ℕ) (s : Stage) (c : Cell) (x : CellWord) → Kept v → RefillFits d s c x v → (b : Block)
     → x.owned ≡ Some b → IsThere v b
 block_there v d s c x kept fits b own =
     subst (IsThere v) (same_Some _ _ (sym fits.owned ∙ own))
-    (there v fits.block kept (handle_busy v d (kind_in_state (story_state v) c) fits.block x.place kept fits.has)).1
+    (there v fits.block kept (handle_busy v d (kind_in_state (model_state v) c) fits.block x.place kept fits.has)).1
 
-module _ (v : Story) (d : ℕ) (c : Cell) (x : CellWord) (k : ℕ) (w : Walk) (kept : Kept v) (seat : d < v.extent.actors) where
+module _ (v : GhostState) (d : ℕ) (c : Cell) (x : CellWord) (k : ℕ) (w : FrameView) (kept : Kept v) (seat : d < v.extent.actors) where
   -- the cell is looked at
   checked : RefillFits d Checking c x v → Watches v d (Refill Checking c x k) None (cond (is_drained x (seen v c)) (Refill Lacking c (seen v c) k) Rest)
   checked fits other is = ⊎_elim (λ (e : p ≡ q). at_cell e (is_drained x y) refl) away (cases_eq p q)
@@ -219,24 +219,25 @@ module _ (v : Story) (d : ℕ) (c : Cell) (x : CellWord) (k : ℕ) (w : Walk) (k
 
   -- the thread's refill goes on
   pub refilled : (s : Stage) → RefillFits d s c x v → (b : Block) → x.owned ≡ Some b
-      → Watches v d (Refill s c x k) (refills_on v w s c x k b).deed (refills_on v w s c x k b).half
+      → Watches v d (Refill s c x k) (refills_on v w s c x k b).atomic_step (refills_on v w s c x k b).pending_call
   refilled Turning fits b own =
-      let t = turn_off v d (kind_in_state (story_state v) c) b (block_there v d Turning c x kept fits b own) in
+      let t = turn_off v d (kind_in_state (model_state v) c) b (block_there v d Turning c x kept fits b own) in
       cond_both (is_low x) (Refill Checking c x k) Rest
-      (λ (g : Half). Watches v d (Refill Turning c x k) (Some (deed.OnCell (cell_deed.Turn (kind_in_state (story_state v) c) b))) g)
-      (λ low. going_on v d Turning Checking c x k (Some (deed.OnCell (cell_deed.Turn (kind_in_state (story_state v) c) b))) t)
-      (λ few. still v d (Refill Turning c x k) (Some (deed.OnCell (cell_deed.Turn (kind_in_state (story_state v) c) b))) Rest
+      (λ (g : PendingCall). Watches v d (Refill Turning c x k) (Some (atomic_step.OnCell (cell_step.Turn (kind_in_state (model_state v) c) b))) g)
+      (λ low. going_on v d Turning Checking c x k (Some (atomic_step.OnCell (cell_step.Turn (kind_in_state (model_state v) c) b))) t)
+      (λ few. still v d (Refill Turning c x k) (Some (atomic_step.OnCell (cell_step.Turn (kind_in_state (model_state v) c) b))) Rest
       (few_quiet v Turning c x k few) t)
   refilled Checking fits b own = checked fits
   refilled Lacking fits b own =
-      going_on v d Lacking Refilling c x k (Some (deed.OnCell (cell_deed.Bring (kind_in_state (story_state v) c) b x.place x.taken)))
-      (bring_off v d (kind_in_state (story_state v) c) b x.place x.taken (block_there v d Lacking c x kept fits b own))
+      going_on v d Lacking Refilling c x k (Some (atomic_step.OnCell (cell_step.Bring (kind_in_state (model_state v) c) b x.place x.taken)))
+      (bring_off v d (kind_in_state (model_state v) c) b x.place x.taken (block_there v d Lacking c x kept fits b own))
   refilled Refilling fits b own =
-      cond_both (word_of_cell v c == cell_bits x) (within w k (Some (deed.OnCell (cell_deed.Refill c x.taken))) Rest) (within w k None (Refill Failing c x k))
-      (λ (y : Step). Watches v d (Refill Refilling c x k) y.deed y.half)
+      cond_both (word_of_cell v c == cell_bits x) (within w k (Some (atomic_step.OnCell (cell_step.Refill c x.taken))) Rest)
+      (within w k None (Refill Failing c x k))
+      (λ (y : Step). Watches v d (Refill Refilling c x k) y.atomic_step y.pending_call)
       (λ e. changed v c (word_of_cell v c - 17179869184 * x.taken) (Refill Refilling c x k) Rest kept
       (inr (inl (let s = eqb-true _ _ e in let t = taken_told x fits.valid in omega (arith, s, t)))) (λ p a ne. elsewhere v Refilling c x k p a ne))
       (λ e. going_on v d Refilling Failing c x k None (λ n valid. refl))
   refilled Failing fits b own =
-      going_on v d Failing Checking c x k (Some (deed.OnCell (cell_deed.GiveBack (kind_in_state (story_state v) c) b x.taken)))
-      (give_back_off v d (kind_in_state (story_state v) c) b x.taken (block_there v d Failing c x kept fits b own))
+      going_on v d Failing Checking c x k (Some (atomic_step.OnCell (cell_step.GiveBack (kind_in_state (model_state v) c) b x.taken)))
+      (give_back_off v d (kind_in_state (model_state v) c) b x.taken (block_there v d Failing c x kept fits b own))

@@ -1,8 +1,8 @@
 -- What each step does to the funds that are taken of cells.
 use Rattle.step_threads.specs.declared.programs.act.ShelfAct.{ShelfAct}
 use Rattle.step_threads.specs.declared.programs.act.ShelfAct.TheVariants.{Shelve, Unshelve}
-use Rattle.step_table.specs.declared.memory.shelf.ShelfDeed.TheVariants as shelf
-use Rattle.step_threads.specs.Shelving.{shelf_block, shelf_deed}
+use Rattle.step_table.specs.declared.memory.shelf.ShelfStep.TheVariants as shelf
+use Rattle.step_threads.specs.Shelving.{shelf_block, shelf_step}
 use Rattle.step_core.proofs.watching.Cells.{shelf_off}
 use Rattle.std.proofs.Common.{◌≡◌, ℕ, ◌<◌, ◌==◌, Bool, false, cond, List, refl}
 use Rattle.std.proofs.Common.{eqb-true, inl, arith}
@@ -19,40 +19,41 @@ use Rattle.step_threads.specs.declared.programs.act.Act.TheVariants.{Move, Ask}
 use Rattle.step_threads.specs.declared.programs.act.Act.TheVariants.{Offer, Swap, Exchange, Load, Compare, Drop, OnShelf}
 use Rattle.step_threads.specs.declared.programs.act.Task.{Task}
 use Rattle.step_threads.specs.declared.programs.call.CellName.{CellName}
-use Rattle.step_threads.specs.declared.half.Half.{Half}
-use Rattle.step_threads.specs.declared.half.Half.TheVariants.{Rest, Making, Locking, Giving, Brought, Saw, Matched, Refill}
-use Rattle.step_table.specs.declared.cell_steps.cell_deed.Cell.{Cell}
-use Rattle.step_table.specs.declared.cell_steps.cell_deed.CellDeed.TheVariants as cell_deed
-use Rattle.step_table.specs.declared.cell_steps.cell_deed.Compared.{Compared}
-use Rattle.step_table.specs.declared.slots.holdings.Pointer.{Pointer}
-use Rattle.step_table.specs.declared.memory.past.Deed.TheVariants as deed
+use Rattle.step_threads.specs.declared.pending_call.PendingCall.{PendingCall}
+use Rattle.step_threads.specs.declared.pending_call.PendingCall.TheVariants.{Rest, Making, Locking, Giving, Brought, Saw, Matched, Refill}
+use Rattle.step_table.specs.declared.cell_steps.cell_step.Cell.{Cell}
+use Rattle.step_table.specs.declared.cell_steps.cell_step.CellStep.TheVariants as cell_step
+use Rattle.step_table.specs.declared.cell_steps.cell_step.Compared.{Compared}
+use Rattle.step_table.specs.declared.slots.registers.Pointer.{Pointer}
+use Rattle.step_table.specs.declared.memory.past.AtomicStep.TheVariants as atomic_step
 use Rattle.step_table.specs.declared.cell_steps.refill.Stage.TheVariants.{Turning}
-use Rattle.step_table.specs.CellDeeds.{kind_in_state}
+use Rattle.step_table.specs.CellAtomicSteps.{kind_in_state}
 use Rattle.step_table.specs.Cells.{word_of_cell}
 use Rattle.step_table.specs.Contents.{as_word, compared_in, is_spent, same_value, seen}
 use Rattle.step_table.specs.Refills.{more_taken}
 use Rattle.step_threads.specs.Programs.{kind_at}
-use Rattle.step_threads.specs.Courses.{Going, Walk, cell_of_name, comparing, going, hand, is_there, locked_pointer, offered, on_going, other}
-use Rattle.step_table.specs.Deeds.{alias, aliased, downgrade, is_enabled, is_last, leave, lock, owner_word, read_deed, share, tell, tell_expired, on}
+use Rattle.step_threads.specs.Frames.{Going, FrameView, cell_of_name, comparing, going, hand, is_there, locked_pointer, offered, on_going, other}
+use Rattle.step_table.specs.AtomicSteps.{alias, aliased, downgrade, is_enabled, is_last, leave, lock, owner_word, read_atomic_step, share, tell, tell_expired}
+use Rattle.step_table.specs.AtomicSteps.{on}
 use Rattle.step_threads.specs.Entries.{least}
-use Rattle.step_table.specs.Holdings.{HoldsBag, inside, owner_slot, place_in, slot_pointer, slot_value, weak_slot}
+use Rattle.step_table.specs.Registers.{HoldsBag, inside, owner_slot, place_in, slot_pointer, slot_value, weak_slot}
 use Rattle.step_threads.specs.NextSteps.{first}
 use Rattle.step_threads.specs.Steps.{Step, step_of_act, asks, begins, brings, step_of_compare, fetches, gives_back, looks, matches, missed, step_of_look, sends}
 use Rattle.step_threads.specs.Steps.{settles, silent}
 use Rattle.step_threads.specs.Steps.{step_of_swap, takes, tries, trying, within}
-use Rattle.step_table.specs.Stories.{Kept, Story, story_state}
+use Rattle.step_table.specs.GhostStates.{Kept, GhostState, model_state}
 use Rattle.step_table.proofs.contained.Told.{word_valid}
 use Rattle.step_core.proofs.watching.Blocks.{IsThere, alias_off, bring_off, downgrade_off, each_off, leave_off, least_there, lock_off, offered_there}
 use Rattle.step_core.proofs.watching.Blocks.{owner_there, prepare_off, share_off, slot_there, weak_there}
 use Rattle.step_core.proofs.watching.Cells.{IsQuiet, Watches, put_in, still, taken}
 
 -- so it is with a thread that has begun h
-abbrev pub IsWatch : Story → ℕ → Half → Option Step → Type 0
+abbrev pub IsWatch : GhostState → ℕ → PendingCall → Option Step → Type 0
 IsWatch v d h None = Unit {0}
-IsWatch v d h (Some x) = Watches v d h x.deed x.half
+IsWatch v d h (Some x) = Watches v d h x.atomic_step x.pending_call
 
 -- the weak pointer that an act locks is in a slot
-locked_is : (w : Walk) (a : Act) (x : Pointer) → locked_pointer w.slots a ≡ Some x → (i : ℕ) × (weak_slot (slot_pointer w.slots i) ≡ Some x)
+locked_is : (w : FrameView) (a : Act) (x : Pointer) → locked_pointer w.slots a ≡ Some x → (i : ℕ) × (weak_slot (slot_pointer w.slots i) ≡ Some x)
 locked_is w (Lock i must) x e = (i, e)
 locked_is w (Make form) x e = cc
 locked_is w (Share i) x e = cc
@@ -75,35 +76,35 @@ locked_is w (Compare i c weak) x e = cc
 locked_is w Drop x e = cc
 locked_is w (OnShelf y) x e = cc
 
-module _ (v : Story) (d : ℕ) (w : Walk) (kept : Kept v) (seat : d < v.extent.actors) (holds : HoldsBag d w.slots v) where
+module _ (v : GhostState) (d : ℕ) (w : FrameView) (kept : Kept v) (seat : d < v.extent.actors) (holds : HoldsBag d w.slots v) where
   in_slot : (i : ℕ) (x : Pointer) → slot_pointer w.slots i ≡ Some x → IsThere v x.block
   in_slot i x e = slot_there v d w.slots kept holds i x e
 
-  leaves : (i : ℕ) → Watches v d Rest (option_map (leave (story_state v)) (slot_pointer w.slots i)) Rest
+  leaves : (i : ℕ) → Watches v d Rest (option_map (leave (model_state v)) (slot_pointer w.slots i)) Rest
   leaves i =
-      still v d Rest (option_map (leave (story_state v)) (slot_pointer w.slots i)) Rest (λ p a. refl)
-      (each_off v d (leave (story_state v)) (slot_pointer w.slots i) (λ x e. leave_off v d x.kind x (is_last (story_state v) x) (in_slot i x e)))
+      still v d Rest (option_map (leave (model_state v)) (slot_pointer w.slots i)) Rest (λ p a. refl)
+      (each_off v d (leave (model_state v)) (slot_pointer w.slots i) (λ x e. leave_off v d x.kind x (is_last (model_state v) x) (in_slot i x e)))
 
-  begins_watch : (k : ℕ) (ts : List Task) (o : Option ℕ) → least d (story_state v).stores ≡ o
-      → Watches v d Rest (begins w k ts o).deed (begins w k ts o).half
+  begins_watch : (k : ℕ) (ts : List Task) (o : Option ℕ) → least d (model_state v).stores ≡ o
+      → Watches v d Rest (begins w k ts o).atomic_step (begins w k ts o).pending_call
   begins_watch k ts None e = still v d Rest None Rest (λ p a. refl) (λ n valid. refl)
   begins_watch k ts (Some b) e =
       let block : Block = record { 0 = b } in
-      still v d Rest (Some (deed.Prepare block)) (Making block 0 false) (λ p a. refl) (prepare_off v d block (least_there v d block kept e))
+      still v d Rest (Some (atomic_step.Prepare block)) (Making block 0 false) (λ p a. refl) (prepare_off v d block (least_there v d block kept e))
 
-  trying_watch : (h : Half) (k word : ℕ) → IsQuiet v h → Watches v d h None (trying w k word).half
-  trying_watch h k word quiet = still v d h None (trying w k word).half quiet (λ n valid. refl)
+  trying_watch : (h : PendingCall) (k word : ℕ) → IsQuiet v h → Watches v d h None (trying w k word).pending_call
+  trying_watch h k word quiet = still v d h None (trying w k word).pending_call quiet (λ n valid. refl)
 
-  locks_watch : (h : Half) (a : Act) (x : Pointer) → IsQuiet v h → locked_pointer w.slots a ≡ Some x
-      → Watches v d h (Some (lock (story_state v) x)) Rest
+  locks_watch : (h : PendingCall) (a : Act) (x : Pointer) → IsQuiet v h → locked_pointer w.slots a ≡ Some x
+      → Watches v d h (Some (lock (model_state v) x)) Rest
   locks_watch h a x quiet e =
-      let l = locked_is w a x e in still v d h (Some (lock (story_state v) x)) Rest quiet (lock_off v d x (weak_there v d w.slots kept holds l.0 x l.1))
+      let l = locked_is w a x e in still v d h (Some (lock (model_state v) x)) Rest quiet (lock_off v d x (weak_there v d w.slots kept holds l.0 x l.1))
 
   looks_watch : (k : ℕ) (ts : List Task) (a : Act) (o : Option Pointer) → locked_pointer w.slots a ≡ o
       → IsWatch v d Rest (Some (on (looks v d w k ts a) (step_of_act v d w k ts a None Rest) o))
   looks_watch k ts a None e = still v d Rest None Rest (λ p a. refl) (λ n valid. refl)
   looks_watch k ts a (Some x) e =
-      cond_both (owner_word v x == 0) (step_of_act v d w k ts a (Some (lock (story_state v) x)) Rest) (trying w k (owner_word v x))
+      cond_both (owner_word v x == 0) (step_of_act v d w k ts a (Some (lock (model_state v) x)) Rest) (trying w k (owner_word v x))
       (λ (y : Step). IsWatch v d Rest (Some y)) (λ t. locks_watch Rest a x (λ p q. refl) e)
       (λ t. trying_watch Rest k (owner_word v x) (λ p q. refl))
 
@@ -111,7 +112,7 @@ module _ (v : Story) (d : ℕ) (w : Walk) (kept : Kept v) (seat : d < v.extent.a
       → IsWatch v d (Locking word) (option_map (tries v d w k ts a word) o)
   tries_watch k word ts a None e = tt
   tries_watch k word ts a (Some x) e =
-      cond_both (owner_word v x == word) (step_of_act v d w k ts a (Some (lock (story_state v) x)) Rest) (trying w k (owner_word v x))
+      cond_both (owner_word v x == word) (step_of_act v d w k ts a (Some (lock (model_state v) x)) Rest) (trying w k (owner_word v x))
       (λ (y : Step). IsWatch v d (Locking word) (Some y)) (λ t. locks_watch (Locking word) a x (λ p q. refl) e)
       (λ t. trying_watch (Locking word) k (owner_word v x) (λ p q. refl))
 
@@ -119,30 +120,30 @@ module _ (v : Story) (d : ℕ) (w : Walk) (kept : Kept v) (seat : d < v.extent.a
       → IsWatch v d Rest (Some (on (asks v d w k ts i q) (step_of_act v d w k ts (FromThis i q) None Rest) o))
   asks_watch k ts i q None = still v d Rest None Rest (λ p a. refl) (λ n valid. refl)
   asks_watch k ts i q (Some x) =
-      cond_both (is_enabled (story_state v) x) (record { deed = None; half = Giving i q x; walk = w; said = silent k })
+      cond_both (is_enabled (model_state v) x) (record { atomic_step = None; pending_call = Giving i q x; frame_view = w; said = silent k })
       (step_of_act v d w k ts (FromThis i q) None Rest) (λ (y : Step). IsWatch v d Rest (Some y))
       (λ t. still v d Rest None (Giving i q x) (λ p a. refl) (λ n valid. refl)) (λ t. still v d Rest None Rest (λ p a. refl) (λ n valid. refl))
 
   -- a block goes to the shelf or comes from it, if there is one
-  shelf_watch : (x : ShelfAct) (o : Option ℕ) → Watches v d Rest (shelf_deed x o) Rest
+  shelf_watch : (x : ShelfAct) (o : Option ℕ) → Watches v d Rest (shelf_step x o) Rest
   shelf_watch Shelve None = still v d Rest None Rest (λ p a. refl) (λ n valid. refl)
   shelf_watch Shelve (Some b) = λ c is. inl (shelf_off v d shelf.Shelve (record { 0 = b }) c is, omega arith)
   shelf_watch (Unshelve b) None = λ c is. inl (shelf_off v d shelf.Miss b c is, omega arith)
   shelf_watch (Unshelve b) (Some n) = λ c is. inl (shelf_off v d shelf.Unshelve b c is, omega arith)
 
   -- a value goes into a cell
-  swaps_watch : (h : Half) (k : ℕ) (ts : List Task) (a : Act) (c : CellName) (i : ℕ) → IsQuiet v h
+  swaps_watch : (h : PendingCall) (k : ℕ) (ts : List Task) (a : Act) (c : CellName) (i : ℕ) → IsQuiet v h
       → IsWatch v d h (Some (step_of_swap v d w k ts a c i))
   swaps_watch h k ts a c i quiet =
-      let found = seen v (cell_of_name (story_state v) w.slots c) in
-      put_in v d (cell_of_name (story_state v) w.slots c) (as_word (slot_value w.slots i)) h (gives_back (kind_at c) k found found.owned) kept quiet
+      let found = seen v (cell_of_name (model_state v) w.slots c) in
+      put_in v d (cell_of_name (model_state v) w.slots c) (as_word (slot_value w.slots i)) h (gives_back (kind_at c) k found found.owned) kept quiet
       (word_valid d w.slots v i kept holds) refl
 
   sends_watch : (k : ℕ) (ts : List Task) (a : Act) (c : CellName) (i : ℕ) (o : Option Pointer) → slot_pointer w.slots i ≡ o
       → IsWatch v d Rest (Some (on (brings w k) (step_of_swap v d w k ts a c i) o))
   sends_watch k ts a c i None e = swaps_watch Rest k ts a c i (λ p q. refl)
   sends_watch k ts a c i (Some x) e =
-      still v d Rest (Some (deed.OnCell (cell_deed.Bring x.kind x.block x.place 256))) Brought (λ p q. refl)
+      still v d Rest (Some (atomic_step.OnCell (cell_step.Bring x.kind x.block x.place 256))) Brought (λ p q. refl)
       (bring_off v d x.kind x.block x.place 256 (in_slot i x e))
 
   going_watch : (k : ℕ) (ts : List Task) (a : Act) (o : Option Going)
@@ -161,11 +162,11 @@ module _ (v : Story) (d : ℕ) (w : Walk) (kept : Kept v) (seat : d < v.extent.a
   sees_watch k ts a c y x =
       let quiet : IsQuiet v Rest = λ p q. refl in
       cond_both (is_spent x) (within w k None Rest)
-      (cond (is_some x.owned) (within w k None (Saw x)) (step_of_act v d w k ts a (Some (deed.OnCell (cell_deed.Look c x y))) Rest))
+      (cond (is_some x.owned) (within w k None (Saw x)) (step_of_act v d w k ts a (Some (atomic_step.OnCell (cell_step.Look c x y))) Rest))
       (λ (s : Step). IsWatch v d Rest (Some s)) (λ t. still v d Rest None Rest quiet (λ n valid. refl))
-      (λ t. cond_both (is_some x.owned) (within w k None (Saw x)) (step_of_act v d w k ts a (Some (deed.OnCell (cell_deed.Look c x y))) Rest)
+      (λ t. cond_both (is_some x.owned) (within w k None (Saw x)) (step_of_act v d w k ts a (Some (atomic_step.OnCell (cell_step.Look c x y))) Rest)
       (λ (s : Step). IsWatch v d Rest (Some s)) (λ t. still v d Rest None (Saw x) quiet (λ n valid. refl))
-      (λ t. still v d Rest (Some (deed.OnCell (cell_deed.Look c x y))) Rest quiet (λ n valid. refl)))
+      (λ t. still v d Rest (Some (atomic_step.OnCell (cell_step.Look c x y))) Rest quiet (λ n valid. refl)))
 
   compares_watch : (k : ℕ) (ts : List Task) (a : Act) (c : Cell) (y : Compared) (x : CellWord)
       → IsWatch v d Rest (Some (step_of_compare v d w k ts a c y x))
@@ -177,18 +178,18 @@ module _ (v : Story) (d : ℕ) (w : Walk) (kept : Kept v) (seat : d < v.extent.a
       → IsWatch v d (Saw x) (Some (takes v d w k ts a c y x))
   takes_watch k ts a c y x valid =
       cond_both (word_of_cell v c == cell_bits x)
-      (step_of_act v d w k ts a (Some (deed.OnCell (cell_deed.Take c x y))) (Refill Turning c (more_taken x) k)) (within w k None Rest)
+      (step_of_act v d w k ts a (Some (atomic_step.OnCell (cell_step.Take c x y))) (Refill Turning c (more_taken x) k)) (within w k None Rest)
       (λ (s : Step). IsWatch v d (Saw x) (Some s)) (λ t. taken v c x k kept valid (eqb-true _ _ t))
       (λ t. still v d (Saw x) None Rest (λ p q. refl) (λ n valid. refl))
 
-  pub matches_watch : (h : Half) (k : ℕ) (ts : List Task) (a : Act) (c : Cell) (i : ℕ) (weak : Bool) (x : CellWord) → IsQuiet v h
+  pub matches_watch : (h : PendingCall) (k : ℕ) (ts : List Task) (a : Act) (c : Cell) (i : ℕ) (weak : Bool) (x : CellWord) → IsQuiet v h
       → IsWatch v d h (Some (matches v d w k ts a c (compared_in w.slots (comparing w.slots i weak)) x))
   matches_watch h k ts a c i weak x quiet =
       let y = compared_in w.slots (comparing w.slots i weak) in
       cond_both (word_of_cell v c == cell_bits x)
-      (step_of_act v d w k ts a (Some (deed.OnCell (cell_deed.CompareSwap c x y))) (gives_back (kind_in_state (story_state v) c) k x x.owned))
+      (step_of_act v d w k ts a (Some (atomic_step.OnCell (cell_step.CompareSwap c x y))) (gives_back (kind_in_state (model_state v) c) k x x.owned))
       (within w k None (missed k (slot_pointer w.slots (hand w.slots)))) (λ (s : Step). IsWatch v d h (Some s))
-      (λ t. put_in v d c (as_word (slot_value w.slots (hand w.slots))) h (gives_back (kind_in_state (story_state v) c) k x x.owned) kept quiet
+      (λ t. put_in v d c (as_word (slot_value w.slots (hand w.slots))) h (gives_back (kind_in_state (model_state v) c) k x x.owned) kept quiet
       (word_valid d w.slots v (hand w.slots) kept holds) refl)
       (λ t. still v d h None (missed k (slot_pointer w.slots (hand w.slots))) quiet (λ n valid. refl))
 
@@ -197,7 +198,7 @@ module _ (v : Story) (d : ℕ) (w : Walk) (kept : Kept v) (seat : d < v.extent.a
       → IsWatch v d (Saw x) (Some (on (fetches w k x) (matches v d w k ts a c (compared_in w.slots (comparing w.slots i weak)) x) o))
   fetched_watch k ts a c i weak x None e = matches_watch (Saw x) k ts a c i weak x (λ p q. refl)
   fetched_watch k ts a c i weak x (Some y) e =
-      still v d (Saw x) (Some (deed.OnCell (cell_deed.Bring y.kind y.block y.place 256))) (Matched x) (λ p q. refl)
+      still v d (Saw x) (Some (atomic_step.OnCell (cell_step.Bring y.kind y.block y.place 256))) (Matched x) (λ p q. refl)
       (bring_off v d y.kind y.block y.place 256 (in_slot (hand w.slots) y e))
 
   pub settles_watch : (k : ℕ) (ts : List Task) (a : Act) (c : Cell) (i : ℕ) (weak : Bool) (x : CellWord) → IsCellWord x
@@ -209,7 +210,7 @@ module _ (v : Story) (d : ℕ) (w : Walk) (kept : Kept v) (seat : d < v.extent.a
       (λ t. fetched_watch k ts a c i weak x (slot_pointer w.slots (hand w.slots)) refl) (λ t. takes_watch k ts a c (Some y) x valid)
 
   pub first_watch : (k : ℕ) (ts : List Task) (a : Act) → IsWatch v d Rest (Some (first v d w k ts a))
-  first_watch k ts (Make form) = begins_watch k ts (least d (story_state v).stores) refl
+  first_watch k ts (Make form) = begins_watch k ts (least d (model_state v).stores) refl
   first_watch k ts (Share i) =
       still v d Rest (option_map share (slot_pointer w.slots i)) Rest (λ p q. refl)
       (each_off v d share (slot_pointer w.slots i) (λ x e. share_off v d x.kind x (in_slot i x e)))
@@ -223,11 +224,11 @@ module _ (v : Story) (d : ℕ) (w : Walk) (kept : Kept v) (seat : d < v.extent.a
       (each_off v d downgrade (slot_pointer w.slots i) (λ x e. downgrade_off v d x (in_slot i x e)))
   first_watch k ts (Lock i must) = looks_watch k ts (Lock i must) (locked_pointer w.slots (Lock i must)) refl
   first_watch k ts (Expired i) =
-      still v d Rest (option_map (tell_expired (story_state v)) (slot_pointer w.slots i)) Rest (λ p q. refl)
-      (each_off v d (tell_expired (story_state v)) (slot_pointer w.slots i) (λ x e n valid. refl))
+      still v d Rest (option_map (tell_expired (model_state v)) (slot_pointer w.slots i)) Rest (λ p q. refl)
+      (each_off v d (tell_expired (model_state v)) (slot_pointer w.slots i) (λ x e n valid. refl))
   first_watch k ts (Read i) =
-      still v d Rest (option_map (read_deed (story_state v)) (inside (slot_pointer w.slots i))) Rest (λ p q. refl)
-      (each_off v d (read_deed (story_state v)) (inside (slot_pointer w.slots i)) (λ x e n valid. refl))
+      still v d Rest (option_map (read_atomic_step (model_state v)) (inside (slot_pointer w.slots i))) Rest (λ p q. refl)
+      (each_off v d (read_atomic_step (model_state v)) (inside (slot_pointer w.slots i)) (λ x e n valid. refl))
   first_watch k ts (FromThis i q) = asks_watch k ts i q (inside (slot_pointer w.slots i))
   first_watch k ts (Alias i j field) =
       let f = alias (aliased field (place_in w.slots j)) in
@@ -242,12 +243,12 @@ module _ (v : Story) (d : ℕ) (w : Walk) (kept : Kept v) (seat : d < v.extent.a
   first_watch k ts (Swap c) = going_watch k ts (Swap c) (going w.slots (Swap c))
   first_watch k ts (Exchange i c) = going_watch k ts (Exchange i c) (going w.slots (Exchange i c))
   first_watch k ts (Load c) =
-      let x = cell_of_name (story_state v) w.slots c in
+      let x = cell_of_name (model_state v) w.slots c in
       cond_both (is_there w.slots c) (step_of_look v d w k ts (Load c) x None (seen v x)) (step_of_act v d w k ts (Load c) None Rest)
       (λ (s : Step). IsWatch v d Rest (Some s)) (λ t. sees_watch k ts (Load c) x None (seen v x))
       (λ t. still v d Rest None Rest (λ p q. refl) (λ n valid. refl))
   first_watch k ts (Compare i c weak) =
-      compares_watch k ts (Compare i c weak) (cell_of_name (story_state v) w.slots c) (compared_in w.slots (comparing w.slots i weak))
-      (seen v (cell_of_name (story_state v) w.slots c))
+      compares_watch k ts (Compare i c weak) (cell_of_name (model_state v) w.slots c) (compared_in w.slots (comparing w.slots i weak))
+      (seen v (cell_of_name (model_state v) w.slots c))
   first_watch k ts Drop = leaves (other w.slots)
-  first_watch k ts (OnShelf x) = shelf_watch x (shelf_block (story_state v) d x)
+  first_watch k ts (OnShelf x) = shelf_watch x (shelf_block (model_state v) d x)

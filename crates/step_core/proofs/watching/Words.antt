@@ -16,35 +16,35 @@ use Rattle.control_word.specs.Handles.{same_place}
 use Rattle.control_word.specs.Layout.{spot}
 use Rattle.control_word.specs.Packing.{IsCellWord, block_number, cell_bits, place_block, place_field}
 use Rattle.control_word.specs.State.{InShape}
-use Rattle.step_threads.specs.declared.half.Half.{Half}
-use Rattle.step_threads.specs.declared.half.Half.TheVariants.{Rest, Making, Locking, Giving, Brought, Saw, Matched, Refill, Returning, Clearing}
-use Rattle.step_table.specs.declared.cell_steps.cell_deed.Cell.{Cell}
-use Rattle.step_table.specs.declared.cell_steps.cell_deed.Cell.TheVariants.{Free, Member}
-use Rattle.step_table.specs.CellDeeds.{word_of}
+use Rattle.step_threads.specs.declared.pending_call.PendingCall.{PendingCall}
+use Rattle.step_threads.specs.declared.pending_call.PendingCall.TheVariants.{Rest, Making, Locking, Giving, Brought, Saw, Matched, Refill, Returning, Clearing}
+use Rattle.step_table.specs.declared.cell_steps.cell_step.Cell.{Cell}
+use Rattle.step_table.specs.declared.cell_steps.cell_step.Cell.TheVariants.{Free, Member}
+use Rattle.step_table.specs.CellAtomicSteps.{word_of}
 use Rattle.step_table.specs.Cells.{IsSomewhere, word_of_cell}
 use Rattle.step_table.specs.Contents.{same_block, same_value}
 use Rattle.step_table.specs.Openings.{opening}
 use Rattle.step_table.specs.Refills.{is_low, more_taken}
-use Rattle.step_table.specs.Stories.{Story}
+use Rattle.step_table.specs.GhostStates.{GhostState}
 use Rattle.step_core.specs.Watching.{content, is_watching, watchers}
 
 -- a thread counts once, where it has funds of the cell to put back
-abbrev pub bit : ℕ → ℕ → ℕ → Half → ℕ
+abbrev pub bit : ℕ → ℕ → ℕ → PendingCall → ℕ
 bit blocks place word h = cond (is_watching blocks place word h) 1 0
 
 pub flag : (b : Bool) → cond b 1 0 ≤ 1
 flag true = omega arith
 flag false = omega arith
 
-one_of : (p : Half → Bool) (h : Half) → num p (h ∷ []) ≡ cond (p h) 1 0
+one_of : (p : PendingCall → Bool) (h : PendingCall) → num p (h ∷ []) ≡ cond (p h) 1 0
 one_of p h = go (p h)
   where
     go : (b : Bool) → length (cond b (h ∷ []) []) ≡ cond b 1 0
     go true = refl
     go false = refl
 
--- one thread has another half
-num_set : (p : Half → Bool) (l : List Half) (d : ℕ) (h : Half) → d < length l
+-- one thread has another pending call
+num_set : (p : PendingCall → Bool) (l : List PendingCall) (d : ℕ) (h : PendingCall) → d < length l
     → num p (set l d h) + num p (get_or l d Rest ∷ []) ≡ num p l + num p (h ∷ [])
 num_set p [] d h lt = absurd (omega arith)
 num_set p (x ∷ xs) zero h lt = let a = num_cons p h xs in let b = num_cons p x xs in omega (arith, a, b)
@@ -53,7 +53,7 @@ num_set p (x ∷ xs) (suc d) h lt =
     let a = num_cons p x (set xs d h) in let b = num_cons p x xs in omega (arith, t, a, b)
 
 -- only the value that a word tells says who has funds of it
-watching_same : (blocks place a b : ℕ) → content a ≡ content b → (h : Half) → is_watching blocks place a h ≡ is_watching blocks place b h
+watching_same : (blocks place a b : ℕ) → content a ≡ content b → (h : PendingCall) → is_watching blocks place a h ≡ is_watching blocks place b h
 watching_same blocks place a b e Rest = refl
 watching_same blocks place a b e (Making c i differs) = refl
 watching_same blocks place a b e (Locking word) = refl
@@ -65,17 +65,17 @@ watching_same blocks place a b e (Refill stage c x k) = ap (λ (n : ℕ). word_o
 watching_same blocks place a b e (Returning kind c funds k) = refl
 watching_same blocks place a b e Clearing = refl
 
-watchers_same : (blocks place a b : ℕ) (l : List Half) → content a ≡ content b → watchers blocks place a l ≡ watchers blocks place b l
-watchers_same blocks place a b l e = λ i. length (filter (λ (h : Half). watching_same blocks place a b e h i) l)
+watchers_same : (blocks place a b : ℕ) (l : List PendingCall) → content a ≡ content b → watchers blocks place a l ≡ watchers blocks place b l
+watchers_same blocks place a b l e = λ i. length (filter (λ (h : PendingCall). watching_same blocks place a b e h i) l)
 
--- a step of a thread leaves the cell's word, and the thread counts as it did, or does now; or few of the cell's funds are taken; or
--- one more is, and the thread counts now, and didn't
-abbrev pub Watch : ℕ → ℕ → ℕ → ℕ → Half → Half → Type 0
+-- a step of a thread leaves the cell's word, and the thread counts as it did, or does now; or few of the cell's funds
+-- are taken; or one more is, and the thread counts now, and didn't
+abbrev pub Watch : ℕ → ℕ → ℕ → ℕ → PendingCall → PendingCall → Type 0
 Watch blocks place a b h g =
     ((b ≡ a) × (bit blocks place a h ≤ bit blocks place a g))
     ⊎ ((b / 17179869184 ≤ 127) ⊎ ((b ≡ a + 17179869184) × (bit blocks place a h ≡ 0) × (bit blocks place b g ≡ 1)))
 
-pub watch : (blocks place a b d : ℕ) (h g : Half) (l : List Half) → d < length l → get_or l d Rest ≡ h → Watch blocks place a b h g
+pub watch : (blocks place a b d : ℕ) (h g : PendingCall) (l : List PendingCall) → d < length l → get_or l d Rest ≡ h → Watch blocks place a b h g
     → a / 17179869184 ≤ 127 + watchers blocks place a l → b / 17179869184 ≤ 127 + watchers blocks place b (set l d g)
 watch blocks place a b d h g l lt at w was = ⊎_elim same (λ r. ⊎_elim (λ few. omega (arith, few)) more r) w
   where
@@ -105,12 +105,12 @@ watch blocks place a b d h g l lt at w was = ⊎_elim same (λ r. ⊎_elim (λ f
         omega (arith, was, e, c, o, z, m, n)
 
 -- the first seven words of a block are none of a cell: its members are behind them
-pub spot_off : (v : Story) (b j : ℕ) (c : Cell) → InShape (opening v.extent) b → j < 7 → IsSomewhere c → word_of v.extent.shape.blocks c ≢ spot b j
+pub spot_off : (v : GhostState) (b j : ℕ) (c : Cell) → InShape (opening v.extent) b → j < 7 → IsSomewhere c → word_of v.extent.shape.blocks c ≢ spot b j
 spot_off v b j (Free n) is lt there e = let low = is.0 in let high = is.1 in omega (arith, low, high, lt, e)
 spot_off v b j (Member a m) is lt there e =
     let low = is.0 in let from = there.0 in let few = there.1 in omega (arith, low, lt, from, few, e)
 
-pub block_off : (v : Story) (b j word : ℕ) → InShape (opening v.extent) b → j < 7 → (c : Cell) → IsSomewhere c
+pub block_off : (v : GhostState) (b j word : ℕ) → InShape (opening v.extent) b → j < 7 → (c : Cell) → IsSomewhere c
     → slice_index (slice_set v.words (spot b j) word) (word_of v.extent.shape.blocks c) ≡ word_of_cell v c
 block_off v b j word is lt c there = get_or-set_other v.words (spot b j) (word_of v.extent.shape.blocks c) word 0 (spot_off v b j c is lt there)
 

@@ -5,15 +5,15 @@ use Rattle.std.specs.Prelude.{◌||◌, is_some}
 use Rattle.std.proofs.lemmas.List.{set-set}
 use Rattle.control_word.specs.declared.packed.cell.CellWord.{CellWord}
 use Rattle.control_word.specs.Handles.{equivalent}
-use Rattle.step_table.specs.declared.cell_steps.cell_deed.Cell.{Cell}
-use Rattle.step_table.specs.declared.cell_steps.cell_deed.CellDeed.TheVariants.{Look, Take}
-use Rattle.step_table.specs.declared.cell_steps.cell_deed.Compared.{Compared}
+use Rattle.step_table.specs.declared.cell_steps.cell_step.Cell.{Cell}
+use Rattle.step_table.specs.declared.cell_steps.cell_step.CellStep.TheVariants.{Look, Take}
+use Rattle.step_table.specs.declared.cell_steps.cell_step.Compared.{Compared}
 use Rattle.step_table.specs.declared.cell_steps.comparing.Comparing.{Comparing}
-use Rattle.step_table.specs.declared.memory.past.Deed.TheVariants.{OnCell}
-use Rattle.step_table.specs.CellDeeds.{handle_told}
+use Rattle.step_table.specs.declared.memory.past.AtomicStep.TheVariants.{OnCell}
+use Rattle.step_table.specs.CellAtomicSteps.{handle_told}
 use Rattle.step_table.specs.Contents.{as_word, compared_in, differed, held_in, same_value, slot_of}
-use Rattle.step_table.specs.Holdings.{HoldsBag, Slots, plain, pointer_of, slot_pointer, slot_value}
-use Rattle.step_table.specs.Stories.{Kept, Story, story_after_deed, story_state}
+use Rattle.step_table.specs.Registers.{HoldsBag, Slots, plain, pointer_of, slot_pointer, slot_value}
+use Rattle.step_table.specs.GhostStates.{Kept, GhostState, ghost_after_step, model_state}
 use Rattle.step_table.proofs.contained.Coming.{holds_seen, holds_taken}
 use Rattle.step_table.proofs.contained.Told.{alike, slot_busy}
 use Rattle.step_table.proofs.holding.Owning.{holds_move}
@@ -34,25 +34,25 @@ done_if true b x y e f = cc
 done_if false true x y e f = cc
 done_if false false x y e f = refl
 
-module _ (d : ℕ) (slots : Slots) (v : Story) (c : Cell) (x : CellWord) (y : Comparing) (q : Compared) (kept : Kept v) (holds : HoldsBag d slots v)
+module _ (d : ℕ) (slots : Slots) (v : GhostState) (c : Cell) (x : CellWord) (y : Comparing) (q : Compared) (kept : Kept v) (holds : HoldsBag d slots v)
     (is : q ≡ compared_in slots y) where
   -- the word that was found tells what is expected, or not
-  pub alike_in : equivalent (handle_told (story_state v) c x) (handle_told (story_state v) c q.expected) ≡ same_value x
+  pub alike_in : equivalent (handle_told (model_state v) c x) (handle_told (model_state v) c q.expected) ≡ same_value x
       (as_word (slot_value slots y.expected))
   alike_in =
-      ap (λ (p : Compared). equivalent (handle_told (story_state v) c x) (handle_told (story_state v) c p.expected)) is
+      ap (λ (p : Compared). equivalent (handle_told (model_state v) c x) (handle_told (model_state v) c p.expected)) is
       ∙ alike v c x (as_word (slot_value slots y.expected)) kept (slot_busy d slots v y.expected kept holds)
 
-  pub looked_in : cond (is_some x.owned || equivalent (handle_told (story_state v) c x) (handle_told (story_state v) c q.expected)) v
-      (story_after_deed v d (OnCell (Look c x (Some q))))
+  pub looked_in : cond (is_some x.owned || equivalent (handle_told (model_state v) c x) (handle_told (model_state v) c q.expected)) v
+      (ghost_after_step v d (OnCell (Look c x (Some q))))
       ≡ cond (is_some x.owned || same_value x (as_word (slot_value slots y.expected))) v
-      (story_after_deed v d (OnCell (Look c x (Some (compared_in slots y)))))
+      (ghost_after_step v d (OnCell (Look c x (Some (compared_in slots y)))))
   looked_in =
-      ap (λ (b : Bool). cond (is_some x.owned || b) v (story_after_deed v d (OnCell (Look c x (Some q))))) alike_in
+      ap (λ (b : Bool). cond (is_some x.owned || b) v (ghost_after_step v d (OnCell (Look c x (Some q))))) alike_in
       ∙ ap (λ (p : Compared). cond (is_some x.owned || same_value x (as_word (slot_value slots y.expected))) v
-      (story_after_deed v d (OnCell (Look c x (Some p))))) is
+      (ghost_after_step v d (OnCell (Look c x (Some p))))) is
 
-module _ (d : ℕ) (slots : Slots) (v : Story) (i j : ℕ) (c : Cell) (x : CellWord) (y : Compared) (holds : HoldsBag d slots v) (found : Found v c x)
+module _ (d : ℕ) (slots : Slots) (v : GhostState) (i j : ℕ) (c : Cell) (x : CellWord) (y : Compared) (holds : HoldsBag d slots v) (found : Found v c x)
     (li : i < length slots) (lj : j < length slots) (apart : i ≢ j) (e : slot_pointer slots j ≡ None) where
   -- the new value is aside, and its slot is empty
   abbrev aside : Slots
@@ -68,14 +68,14 @@ module _ (d : ℕ) (slots : Slots) (v : Story) (i j : ℕ) (c : Cell) (x : CellW
   bare = ap pointer_of (get_or-set_same (set slots j (slot_value slots i)) i plain plain (let b = length-set slots j (slot_value slots i) in
       omega (arith, b, li)))
 
-  pub holds_differed : HoldsBag d (differed i j slots (slot_of (story_state v) (held_in (story_state v) c))) (story_after_deed v d (OnCell (Take c x (Some y))))
+  pub holds_differed : HoldsBag d (differed i j slots (slot_of (model_state v) (held_in (model_state v) c))) (ghost_after_step v d (OnCell (Take c x (Some y))))
   holds_differed =
-      let w = story_after_deed v d (OnCell (Take c x (Some y))) in
-      subst (λ (l : Slots). HoldsBag d l w) (set-set (set slots j (slot_value slots i)) i plain (slot_of (story_state v) (held_in (story_state v) c)))
+      let w = ghost_after_step v d (OnCell (Take c x (Some y))) in
+      subst (λ (l : Slots). HoldsBag d l w) (set-set (set slots j (slot_value slots i)) i plain (slot_of (model_state v) (held_in (model_state v) c)))
       (holds_taken d aside v i c x holds_aside found inside bare (Some y))
 
-  pub holds_unlike : HoldsBag d (differed i j slots (slot_of (story_state v) (held_in (story_state v) c))) (story_after_deed v d (OnCell (Look c x (Some y))))
+  pub holds_unlike : HoldsBag d (differed i j slots (slot_of (model_state v) (held_in (model_state v) c))) (ghost_after_step v d (OnCell (Look c x (Some y))))
   holds_unlike =
-      let w = story_after_deed v d (OnCell (Look c x (Some y))) in
-      subst (λ (l : Slots). HoldsBag d l w) (set-set (set slots j (slot_value slots i)) i plain (slot_of (story_state v) (held_in (story_state v) c)))
+      let w = ghost_after_step v d (OnCell (Look c x (Some y))) in
+      subst (λ (l : Slots). HoldsBag d l w) (set-set (set slots j (slot_value slots i)) i plain (slot_of (model_state v) (held_in (model_state v) c)))
       (holds_seen d aside v i c x holds_aside found inside bare (Some y))

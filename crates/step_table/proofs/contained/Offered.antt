@@ -4,14 +4,14 @@ use Rattle.control_word.specs.declared.packed.cell.CellWord.{CellWord}
 use Rattle.control_word.specs.declared.model.handle.Kind.{Kind}
 use Rattle.control_word.specs.Packing.{IsCellWord}
 use Rattle.control_word.specs.State.{State, bag_size}
-use Rattle.step_table.specs.declared.cell_steps.cell_deed.Cell.{Cell}
+use Rattle.step_table.specs.declared.cell_steps.cell_step.Cell.{Cell}
 use Rattle.step_table.specs.declared.slots.slot.Slot.{Slot}
 use Rattle.step_table.specs.declared.slots.slot.Slot.TheVariants.{Empty, Full}
-use Rattle.step_table.specs.CellDeeds.{kind_in_state, owing_funds}
+use Rattle.step_table.specs.CellAtomicSteps.{kind_in_state, owing_funds}
 use Rattle.step_table.specs.Cells.{HasInHand}
 use Rattle.step_table.specs.Contents.{as_word, is_of, owing_for, block_of_value}
-use Rattle.step_table.specs.Holdings.{HoldsBag, Slots, place_of, pointer_of, slot_value}
-use Rattle.step_table.specs.Stories.{Kept, Story, pending, story_state}
+use Rattle.step_table.specs.Registers.{HoldsBag, Slots, place_of, pointer_of, slot_value}
+use Rattle.step_table.specs.GhostStates.{Kept, GhostState, pending, model_state}
 use Rattle.step_table.proofs.contained.Told.{in_hand, kind_is, word_valid}
 use Rattle.step_table.proofs.holding.Owning.{has_room}
 
@@ -19,23 +19,23 @@ owing_word : (s : State) (k : Kind) (a : Slot) (n : ℕ) → is_of k a ≡ true 
 owing_word s k (Empty p) n is = refl
 owing_word s k (Full x) n is = ap (λ (q : Kind). owing_funds s q (Some x.block) x.place n 0) (kind_is k x is)
 
-module _ (d : ℕ) (slots : Slots) (v : Story) (i : ℕ) (c : Cell) (w : CellWord) (kept : Kept v) (holds : HoldsBag d slots v)
-    (is : is_of (kind_in_state (story_state v) c) (slot_value slots i) ≡ true) (e : w ≡ as_word (slot_value slots i)) where
+module _ (d : ℕ) (slots : Slots) (v : GhostState) (i : ℕ) (c : Cell) (w : CellWord) (kept : Kept v) (holds : HoldsBag d slots v)
+    (is : is_of (kind_in_state (model_state v) c) (slot_value slots i) ≡ true) (e : w ≡ as_word (slot_value slots i)) where
   pub goes_valid : IsCellWord w × (w.taken ≡ 0)
   goes_valid = (subst IsCellWord (sym e) (word_valid d slots v i kept holds), ap (λ (x : CellWord). x.taken) e)
 
   pub goes_in_hand : HasInHand v d c w
   goes_in_hand = subst (HasInHand v d c) (sym e) (in_hand d slots v i kept holds c is)
 
-  pub goes_paid : pending v d ≡ owing_for (story_state v) (slot_value slots i) 256
-      → pending v d ≡ owing_funds (story_state v) (kind_in_state (story_state v) c) w.owned w.place 256 0
+  pub goes_paid : pending v d ≡ owing_for (model_state v) (slot_value slots i) 256
+      → pending v d ≡ owing_funds (model_state v) (kind_in_state (model_state v) c) w.owned w.place 256 0
   goes_paid owes =
-      owes ∙ owing_word (story_state v) (kind_in_state (story_state v) c) (slot_value slots i) 256 is
-      ∙ ap (λ (x : CellWord). owing_funds (story_state v) (kind_in_state (story_state v) c) x.owned x.place 256 0) (sym e)
+      owes ∙ owing_word (model_state v) (kind_in_state (model_state v) c) (slot_value slots i) 256 is
+      ∙ ap (λ (x : CellWord). owing_funds (model_state v) (kind_in_state (model_state v) c) x.owned x.place 256 0) (sym e)
 
   -- what has no object leaves room in the bag
   pub goes_roomy : d < v.extent.actors → length slots < 35 → i < length slots → w.owned ≡ None
-      → bag_size (story_state v) d < (story_state v).allowance d
+      → bag_size (model_state v) d < (model_state v).allowance d
   goes_roomy lt few inside none = has_room d slots v i kept lt holds few inside (bare (slot_value slots i) (ap (λ (x : CellWord). x.owned) (sym e) ∙ none))
     where
       bare : (a : Slot) → block_of_value a ≡ None → pointer_of a ≡ None

@@ -18,22 +18,22 @@ use Rattle.control_word.specs.Packing.{IsCellWord}
 use Rattle.control_word.specs.State.{Has, Held, State, held, kind_of_member}
 use Rattle.control_word.specs.Views.{used_up}
 use Rattle.control_word.specs.Words.{slot}
-use Rattle.step_table.specs.declared.cell_steps.cell_deed.Cell.{Cell}
-use Rattle.step_table.specs.declared.cell_steps.cell_deed.Cell.TheVariants.{Free, Member}
-use Rattle.step_table.specs.declared.cell_steps.cell_deed.CellDeed.{CellDeed}
-use Rattle.step_table.specs.declared.cell_steps.cell_deed.CellDeed.TheVariants.{Look, Bring, GiveBack, Take, Turn, Refill, Swap, CompareSwap, TakeOut}
-use Rattle.step_table.specs.declared.cell_steps.cell_deed.Compared.{Compared}
-use Rattle.step_table.specs.declared.memory.past.Deed.TheVariants.{OnCell}
+use Rattle.step_table.specs.declared.cell_steps.cell_step.Cell.{Cell}
+use Rattle.step_table.specs.declared.cell_steps.cell_step.Cell.TheVariants.{Free, Member}
+use Rattle.step_table.specs.declared.cell_steps.cell_step.CellStep.{CellStep}
+use Rattle.step_table.specs.declared.cell_steps.cell_step.CellStep.TheVariants.{Look, Bring, GiveBack, Take, Turn, Refill, Swap, CompareSwap, TakeOut}
+use Rattle.step_table.specs.declared.cell_steps.cell_step.Compared.{Compared}
+use Rattle.step_table.specs.declared.memory.past.AtomicStep.TheVariants.{OnCell}
 use Rattle.step_table.specs.declared.cell_steps.refill.Stage.TheVariants.{Turning, Checking, Lacking, Refilling, Failing}
-use Rattle.step_table.specs.CellDeeds.{cell_in, cell_pending, handle_told, kind_in_state, object_at, owing_funds}
+use Rattle.step_table.specs.CellAtomicSteps.{cell_in, cell_pending, handle_told, kind_in_state, object_at, owing_funds}
 use Rattle.step_table.specs.Cells.{IsOpenTo}
 use Rattle.step_table.specs.Refills.{RefillFits, more_taken}
-use Rattle.step_table.specs.Stories.{Kept, Nothing, Story, story_after_deed, handle_in_block, pending, story_state}
+use Rattle.step_table.specs.GhostStates.{Kept, Nothing, GhostState, ghost_after_step, handle_in_block, pending, model_state}
 use Rattle.step_table.proofs.contained.Going.{swap_latest}
 use Rattle.step_table.proofs.contained.Told.{kind_stays}
 
 -- no object comes into a block
-cell_latest : (v : Story) (d : ℕ) (x : CellDeed) → (story_state (story_after_deed v d (OnCell x))).latest ≡ (story_state v).latest
+cell_latest : (v : GhostState) (d : ℕ) (x : CellStep) → (model_state (ghost_after_step v d (OnCell x))).latest ≡ (model_state v).latest
 cell_latest v d (Look c x None) = refl
 cell_latest v d (Look c x (Some y)) = refl
 cell_latest v d (Bring k b p f) = refl
@@ -42,9 +42,9 @@ cell_latest v d (Take c x None) = refl
 cell_latest v d (Take c x (Some y)) = refl
 cell_latest v d (Turn k b) = refl
 cell_latest v d (Refill c t) = refl
-cell_latest v d (Swap c new x) = swap_latest d (cell_in (story_state v) c) (handle_told (story_state v) c new) (handle_told (story_state v) c x) (story_state v)
+cell_latest v d (Swap c new x) = swap_latest d (cell_in (model_state v) c) (handle_told (model_state v) c new) (handle_told (model_state v) c x) (model_state v)
 cell_latest v d (CompareSwap c x y) =
-    swap_latest d (cell_in (story_state v) c) (handle_told (story_state v) c y.new) (handle_told (story_state v) c x) (story_state v)
+    swap_latest d (cell_in (model_state v) c) (handle_told (model_state v) c y.new) (handle_told (model_state v) c x) (model_state v)
 cell_latest v d (TakeOut b m x) = refl
 
 same_owing : (s t : State) (k : Kind) (o : Option Block) (p : Option Place) (f l : ℕ) → t.latest ≡ s.latest
@@ -52,32 +52,32 @@ same_owing : (s t : State) (k : Kind) (o : Option Block) (p : Option Place) (f l
 same_owing s t k None p f l latest = refl
 same_owing s t k (Some b) p f l latest = ap (λ (g : ℕ → ℕ). Paying k (g b.0) p (spot b.0 (slot k)) f l) (sym latest)
 
-owing_at : (v w : Story) (c : Cell) (o : Option Block) (p : Option Place) (f l : ℕ) → w.extent ≡ v.extent
-    → (story_state w).latest ≡ (story_state v).latest
-    → ◌≡◌ {A = Pending Nothing} (owing_funds (story_state v) (kind_in_state (story_state v) c) o p f l)
-    (owing_funds (story_state w) (kind_in_state (story_state w) c) o p f l)
+owing_at : (v w : GhostState) (c : Cell) (o : Option Block) (p : Option Place) (f l : ℕ) → w.extent ≡ v.extent
+    → (model_state w).latest ≡ (model_state v).latest
+    → ◌≡◌ {A = Pending Nothing} (owing_funds (model_state v) (kind_in_state (model_state v) c) o p f l)
+    (owing_funds (model_state w) (kind_in_state (model_state w) c) o p f l)
 owing_at v w c o p f l same latest =
-    same_owing (story_state v) (story_state w) (kind_in_state (story_state v) c) o p f l latest ∙ ap (λ (k : Kind). owing_funds (story_state w) k o p f l)
+    same_owing (model_state v) (model_state w) (kind_in_state (model_state v) c) o p f l latest ∙ ap (λ (k : Kind). owing_funds (model_state w) k o p f l)
     (sym (kind_stays v w c same))
 
 -- what is out after a step of its own, as the state tells it that the step leaves
-pub owes_after : (v : Story) (d : ℕ) (x : CellDeed) → Kept v → d < v.extent.actors
-    → pending (story_after_deed v d (OnCell x)) d ≡ cell_pending (story_state (story_after_deed v d (OnCell x))) x
+pub owes_after : (v : GhostState) (d : ℕ) (x : CellStep) → Kept v → d < v.extent.actors
+    → pending (ghost_after_step v d (OnCell x)) d ≡ cell_pending (model_state (ghost_after_step v d (OnCell x))) x
 owes_after v d x kept lt =
     ap (λ (w : View Nothing). w.pending) (get_or-set_same v.views d _ used_up (let s = kept.seats.size in omega (arith, s, lt))) ∙ go x
   where
-    go : (x : CellDeed) → ◌≡◌ {A = Pending Nothing} (cell_pending (story_state v) x) (cell_pending (story_state (story_after_deed v d (OnCell x))) x)
+    go : (x : CellStep) → ◌≡◌ {A = Pending Nothing} (cell_pending (model_state v) x) (cell_pending (model_state (ghost_after_step v d (OnCell x))) x)
     go (Look c x y) = refl
     go (Bring k b p f) = refl
     go (GiveBack k b f) = refl
-    go (Take c x y) = let w = story_after_deed v d (OnCell (Take c x y)) in owing_at v w c x.owned x.place 1 1 refl (cell_latest v d (Take c x y))
+    go (Take c x y) = let w = ghost_after_step v d (OnCell (Take c x y)) in owing_at v w c x.owned x.place 1 1 refl (cell_latest v d (Take c x y))
     go (Turn k b) = refl
     go (Refill c t) = refl
-    go (Swap c new x) = let w = story_after_deed v d (OnCell (Swap c new x)) in
+    go (Swap c new x) = let w = ghost_after_step v d (OnCell (Swap c new x)) in
         owing_at v w c x.owned x.place (256 - x.taken) 0 refl (cell_latest v d (Swap c new x))
     go (CompareSwap c x y) =
-        let w = story_after_deed v d (OnCell (CompareSwap c x y)) in owing_at v w c x.owned x.place (256 - x.taken) 0 refl (cell_latest v d (CompareSwap c x y))
-    go (TakeOut b m x) = same_owing (story_state v) (story_state (story_after_deed v d (OnCell (TakeOut b m x)))) (kind_of_member m) x.owned x.place
+        let w = ghost_after_step v d (OnCell (CompareSwap c x y)) in owing_at v w c x.owned x.place (256 - x.taken) 0 refl (cell_latest v d (CompareSwap c x y))
+    go (TakeOut b m x) = same_owing (model_state v) (model_state (ghost_after_step v d (OnCell (TakeOut b m x)))) (kind_of_member m) x.owned x.place
         (256 - x.taken) 0 refl
 
 kind_got : (s : State) (d : ℕ) (h : Handle) (c : Cell) → kind_in_state (gets d h s) c ≡ kind_in_state s c
@@ -107,16 +107,16 @@ open_got s d h (Member b m) way =
       ),
     )
 
-module _ (d : ℕ) (v : Story) (kept : Kept v) (lt : d < v.extent.actors) where
+module _ (d : ℕ) (v : GhostState) (kept : Kept v) (lt : d < v.extent.actors) where
   -- a fund is taken
   pub begins_refill : (c : Cell) (x : CellWord) (y : Option Compared) (b : Block) → IsOpenTo v d c → IsCellWord x → x.owned ≡ Some b → x.taken < 256
-      → RefillFits d Turning c (more_taken x) (story_after_deed v d (OnCell (Take c x y)))
+      → RefillFits d Turning c (more_taken x) (ghost_after_step v d (OnCell (Take c x y)))
   begins_refill c x y b way valid some few = go y
     where
-      got : (w : Story) → story_state w ≡ gets d (handle_told (story_state v) c x) (story_state v) → w.extent ≡ v.extent
-          → pending w d ≡ owing_funds (story_state w) (kind_in_state (story_state w) c) x.owned x.place 1 1 → RefillFits d Turning c (more_taken x) w
+      got : (w : GhostState) → model_state w ≡ gets d (handle_told (model_state v) c x) (model_state v) → w.extent ≡ v.extent
+          → pending w d ≡ owing_funds (model_state w) (kind_in_state (model_state w) c) x.owned x.place 1 1 → RefillFits d Turning c (more_taken x) w
       got w is same owes =
-          let s = story_state v in
+          let s = model_state v in
           let t = gets d (handle_told s c x) s in
           record {
             valid = record { owned = valid.owned; place = valid.place; taken = omega (arith, few) };
@@ -126,16 +126,16 @@ module _ (d : ℕ) (v : Story) (kept : Kept v) (lt : d < v.extent.actors) where
             has = subst (λ (u : State). Has (held d (handle (kind_in_state u c) (Some (u.latest b.0)) x.place)) u.hands) (sym is)
                 (subst (λ (k : Kind). Has (held d (handle k (Some (s.latest b.0)) x.place)) t.hands) (sym (kind_got s d (handle_told s c x) c))
                 (has_got s d (kind_in_state s c) x.owned x.place b some));
-            pays = owes ∙ ap (λ (o : Option Block). owing_funds (story_state w) (kind_in_state (story_state w) c) o x.place 1 1) some;
+            pays = owes ∙ ap (λ (o : Option Block). owing_funds (model_state w) (kind_in_state (model_state w) c) o x.place 1 1) some;
           }
 
-      go : (y : Option Compared) → RefillFits d Turning c (more_taken x) (story_after_deed v d (OnCell (Take c x y)))
-      go None = got (story_after_deed v d (OnCell (Take c x None))) refl refl (owes_after v d (Take c x None) kept lt)
-      go (Some q) = got (story_after_deed v d (OnCell (Take c x (Some q)))) refl refl (owes_after v d (Take c x (Some q)) kept lt)
+      go : (y : Option Compared) → RefillFits d Turning c (more_taken x) (ghost_after_step v d (OnCell (Take c x y)))
+      go None = got (ghost_after_step v d (OnCell (Take c x None))) refl refl (owes_after v d (Take c x None) kept lt)
+      go (Some q) = got (ghost_after_step v d (OnCell (Take c x (Some q)))) refl refl (owes_after v d (Take c x (Some q)) kept lt)
 
   -- the fund is turned
   pub turns_fund : (c : Cell) (x : CellWord) (b : Block) → RefillFits d Turning c x v
-      → RefillFits d Checking c x (story_after_deed v d (OnCell (Turn (kind_in_state (story_state v) c) b)))
+      → RefillFits d Checking c x (ghost_after_step v d (OnCell (Turn (kind_in_state (model_state v) c) b)))
   turns_fund c x b fits =
       record {
         valid = fits.valid;
@@ -143,26 +143,26 @@ module _ (d : ℕ) (v : Story) (kept : Kept v) (lt : d < v.extent.actors) where
         owned = fits.owned;
         opens = fits.opens;
         has = fits.has;
-        pays = owes_after v d (Turn (kind_in_state (story_state v) c) b) kept lt;
+        pays = owes_after v d (Turn (kind_in_state (model_state v) c) b) kept lt;
       }
 
   -- as many funds are brought as were taken
   pub brings_funds : (c : Cell) (x : CellWord) (b : Block) → RefillFits d Lacking c x v → x.owned ≡ Some b
-      → RefillFits d Refilling c x (story_after_deed v d (OnCell (Bring (kind_in_state (story_state v) c) b x.place x.taken)))
+      → RefillFits d Refilling c x (ghost_after_step v d (OnCell (Bring (kind_in_state (model_state v) c) b x.place x.taken)))
   brings_funds c x b fits some =
       record {
         valid = fits.valid;
         block = b;
         owned = some;
         opens = fits.opens;
-        has = subst (λ (q : Block). Has (held d (handle_in_block v (kind_in_state (story_state v) c) q x.place)) (story_state v).hands)
+        has = subst (λ (q : Block). Has (held d (handle_in_block v (kind_in_state (model_state v) c) q x.place)) (model_state v).hands)
             (same_Some _ _ (sym fits.owned ∙ some)) fits.has;
-        pays = owes_after v d (Bring (kind_in_state (story_state v) c) b x.place x.taken) kept lt;
+        pays = owes_after v d (Bring (kind_in_state (model_state v) c) b x.place x.taken) kept lt;
       }
 
   -- the funds are given back
   pub gives_back : (c : Cell) (x : CellWord) (b : Block) → RefillFits d Failing c x v
-      → RefillFits d Checking c x (story_after_deed v d (OnCell (GiveBack (kind_in_state (story_state v) c) b x.taken)))
+      → RefillFits d Checking c x (ghost_after_step v d (OnCell (GiveBack (kind_in_state (model_state v) c) b x.taken)))
   gives_back c x b fits =
       record {
         valid = fits.valid;
@@ -170,10 +170,10 @@ module _ (d : ℕ) (v : Story) (kept : Kept v) (lt : d < v.extent.actors) where
         owned = fits.owned;
         opens = fits.opens;
         has = fits.has;
-        pays = owes_after v d (GiveBack (kind_in_state (story_state v) c) b x.taken) kept lt;
+        pays = owes_after v d (GiveBack (kind_in_state (model_state v) c) b x.taken) kept lt;
       }
 
-module _ (d : ℕ) (v : Story) where
+module _ (d : ℕ) (v : GhostState) where
   -- the cell shows something else
   pub misses_cell : (c : Cell) (x : CellWord) → RefillFits d Refilling c x v → RefillFits d Failing c x v
   misses_cell c x fits = record { valid = fits.valid; block = fits.block; owned = fits.owned; opens = fits.opens; has = fits.has; pays = fits.pays }

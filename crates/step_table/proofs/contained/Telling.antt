@@ -5,44 +5,44 @@ use Rattle.control_word.specs.declared.model.event.Event.{Event}
 use Rattle.control_word.specs.declared.model.event.Event.TheVariants as event
 use Rattle.control_word.specs.declared.model.handle.Handle.{Handle}
 use Rattle.control_word.specs.Handles.{equivalent}
-use Rattle.step_table.specs.declared.cell_steps.cell_deed.Cell.{Cell}
-use Rattle.step_table.specs.declared.cell_steps.cell_deed.CellDeed.TheVariants.{CompareSwap, Look, Swap, Take}
+use Rattle.step_table.specs.declared.cell_steps.cell_step.Cell.{Cell}
+use Rattle.step_table.specs.declared.cell_steps.cell_step.CellStep.TheVariants.{CompareSwap, Look, Swap, Take}
 use Rattle.step_table.specs.declared.cell_steps.comparing.Comparing.{Comparing}
-use Rattle.step_table.specs.declared.memory.past.Deed.TheVariants.{OnCell}
+use Rattle.step_table.specs.declared.memory.past.AtomicStep.TheVariants.{OnCell}
 use Rattle.step_table.specs.declared.slots.slot.Slot.{Slot}
-use Rattle.step_table.specs.CellDeeds.{cell_in, handle_told, kind_in_state}
+use Rattle.step_table.specs.CellAtomicSteps.{cell_in, handle_told, kind_in_state}
 use Rattle.step_table.specs.Contents.{as_word, compare_of, compared_in, held_in, is_of, load_of, same_value, swap_of, named_handle}
-use Rattle.step_table.specs.Holdings.{HoldsBag, Slots, slot_value}
-use Rattle.step_table.specs.Stories.{Kept, Nothing, Story, event_of, story_state}
+use Rattle.step_table.specs.Registers.{HoldsBag, Slots, slot_value}
+use Rattle.step_table.specs.GhostStates.{Kept, Nothing, GhostState, event_of, model_state}
 use Rattle.step_table.proofs.contained.Told.{alike_told, word_told}
 use Rattle.step_table.proofs.tables.Shown.{Found}
 
-module _ (v : Story) (c : Cell) (x : CellWord) (found : Found v c x) where
-  pub take_tells : ◌≡◌ {A = Option (Event Nothing)} (event_of (story_state v) (OnCell (Take c x None))) (Some (load_of (story_state v) c))
-  take_tells = ap (λ (h : Handle). Some (event.Load (cell_in (story_state v) c) h)) found.shows.holds
+module _ (v : GhostState) (c : Cell) (x : CellWord) (found : Found v c x) where
+  pub take_tells : ◌≡◌ {A = Option (Event Nothing)} (event_of (model_state v) (OnCell (Take c x None))) (Some (load_of (model_state v) c))
+  take_tells = ap (λ (h : Handle). Some (event.Load (cell_in (model_state v) c) h)) found.shows.holds
 
-  pub look_tells : ◌≡◌ {A = Option (Event Nothing)} (event_of (story_state v) (OnCell (Look c x None))) (Some (load_of (story_state v) c))
-  look_tells = ap (λ (h : Handle). Some (event.Load (cell_in (story_state v) c) h)) found.shows.holds
+  pub look_tells : ◌≡◌ {A = Option (Event Nothing)} (event_of (model_state v) (OnCell (Look c x None))) (Some (load_of (model_state v) c))
+  look_tells = ap (λ (h : Handle). Some (event.Load (cell_in (model_state v) c) h)) found.shows.holds
 
-  pub swap_tells : (a : Slot) → is_of (kind_in_state (story_state v) c) a ≡ true
-      → ◌≡◌ {A = Option (Event Nothing)} (event_of (story_state v) (OnCell (Swap c (as_word a) x))) (Some (swap_of (story_state v) c a))
+  pub swap_tells : (a : Slot) → is_of (kind_in_state (model_state v) c) a ≡ true
+      → ◌≡◌ {A = Option (Event Nothing)} (event_of (model_state v) (OnCell (Swap c (as_word a) x))) (Some (swap_of (model_state v) c a))
   swap_tells a is =
-      let s = story_state v in
+      let s = model_state v in
       ap (λ (h : Handle). Some (event.Swap (cell_in s c) (handle_told s c (as_word a)) h)) found.shows.holds
       ∙ ap (λ (h : Handle). Some (event.Swap (cell_in s c) h (held_in s c))) (word_told s (kind_in_state s c) a is)
 
   module _ (d : ℕ) (slots : Slots) (y : Comparing) (kept : Kept v) (holds : HoldsBag d slots v)
-      (expected : is_of (kind_in_state (story_state v) c) (slot_value slots y.expected) ≡ true)
-      (new : is_of (kind_in_state (story_state v) c) (slot_value slots y.new) ≡ true) where
+      (expected : is_of (kind_in_state (model_state v) c) (slot_value slots y.expected) ≡ true)
+      (new : is_of (kind_in_state (model_state v) c) (slot_value slots y.new) ≡ true) where
     -- a compare, with what it finds
     compared : (b : Bool) → same_value x (as_word (slot_value slots y.expected)) ≡ b
         → ◌≡◌ {A = Option (Event Nothing)}
         (let q = compared_in slots y in
-        Some (event.Compare (cell_in (story_state v) c) (handle_told (story_state v) c q.expected) (handle_told (story_state v) c q.new)
-        (handle_told (story_state v) c x) b y.weak))
-        (Some (compare_of (story_state v) c (slot_value slots y.expected) (slot_value slots y.new) y.weak))
+        Some (event.Compare (cell_in (model_state v) c) (handle_told (model_state v) c q.expected) (handle_told (model_state v) c q.new)
+        (handle_told (model_state v) c x) b y.weak))
+        (Some (compare_of (model_state v) c (slot_value slots y.expected) (slot_value slots y.new) y.weak))
     compared b same =
-        let s = story_state v in
+        let s = model_state v in
         let n = cell_in s c in
         let k = kind_in_state s c in
         let e = named_handle s k (slot_value slots y.expected) in
@@ -57,16 +57,16 @@ module _ (v : Story) (c : Cell) (x : CellWord) (found : Found v c x) where
         ∙ ap (λ (r : Bool). Some (event.Compare n e w (held_in s c) r y.weak)) t
 
     pub compare_swap_tells : same_value x (as_word (slot_value slots y.expected)) ≡ true
-        → ◌≡◌ {A = Option (Event Nothing)} (event_of (story_state v) (OnCell (CompareSwap c x (compared_in slots y))))
-        (Some (compare_of (story_state v) c (slot_value slots y.expected) (slot_value slots y.new) y.weak))
+        → ◌≡◌ {A = Option (Event Nothing)} (event_of (model_state v) (OnCell (CompareSwap c x (compared_in slots y))))
+        (Some (compare_of (model_state v) c (slot_value slots y.expected) (slot_value slots y.new) y.weak))
     compare_swap_tells same = compared true same
 
     pub differing_tells : same_value x (as_word (slot_value slots y.expected)) ≡ false
-        → ◌≡◌ {A = Option (Event Nothing)} (event_of (story_state v) (OnCell (Take c x (Some (compared_in slots y)))))
-        (Some (compare_of (story_state v) c (slot_value slots y.expected) (slot_value slots y.new) y.weak))
+        → ◌≡◌ {A = Option (Event Nothing)} (event_of (model_state v) (OnCell (Take c x (Some (compared_in slots y)))))
+        (Some (compare_of (model_state v) c (slot_value slots y.expected) (slot_value slots y.new) y.weak))
     differing_tells same = compared false same
 
     pub unlike_tells : same_value x (as_word (slot_value slots y.expected)) ≡ false
-        → ◌≡◌ {A = Option (Event Nothing)} (event_of (story_state v) (OnCell (Look c x (Some (compared_in slots y)))))
-        (Some (compare_of (story_state v) c (slot_value slots y.expected) (slot_value slots y.new) y.weak))
+        → ◌≡◌ {A = Option (Event Nothing)} (event_of (model_state v) (OnCell (Look c x (Some (compared_in slots y)))))
+        (Some (compare_of (model_state v) c (slot_value slots y.expected) (slot_value slots y.new) y.weak))
     unlike_tells same = compared false same

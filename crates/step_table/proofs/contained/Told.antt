@@ -25,18 +25,18 @@ use Rattle.control_word.specs.Histories.{leads}
 use Rattle.control_word.specs.Packing.{IsBlock, IsCellWord, IsPlace, block_number, cell_bits, place_block, place_field}
 use Rattle.control_word.specs.State.{Has, Opening, State, held, kind_of_free}
 use Rattle.control_word.specs.Words.{block_of, blocks_of}
-use Rattle.step_table.specs.declared.cell_steps.cell_deed.Cell.{Cell}
-use Rattle.step_table.specs.declared.cell_steps.cell_deed.Cell.TheVariants as at
+use Rattle.step_table.specs.declared.cell_steps.cell_step.Cell.{Cell}
+use Rattle.step_table.specs.declared.cell_steps.cell_step.Cell.TheVariants as at
 use Rattle.step_table.specs.declared.memory.extent.Extent.{Extent}
-use Rattle.step_table.specs.declared.slots.holdings.Pointer.{Pointer}
+use Rattle.step_table.specs.declared.slots.registers.Pointer.{Pointer}
 use Rattle.step_table.specs.declared.slots.slot.Slot.{Slot}
 use Rattle.step_table.specs.declared.slots.slot.Slot.TheVariants.{Empty, Full}
-use Rattle.step_table.specs.CellDeeds.{handle_as, handle_told, kind_in_state, object_at}
+use Rattle.step_table.specs.CellAtomicSteps.{handle_as, handle_told, kind_in_state, object_at}
 use Rattle.step_table.specs.Cells.{HasInHand, word_of_cell}
 use Rattle.step_table.specs.Contents.{as_word, held_in, is_of, block_of_value, same_block, same_value, seen, slot_by, slot_in, slot_of, named_handle}
-use Rattle.step_table.specs.Holdings.{HoldsBag, IsSlot, Slots, place_of, pointer_of, slot_value}
+use Rattle.step_table.specs.Registers.{HoldsBag, IsSlot, Slots, place_of, pointer_of, slot_value}
 use Rattle.step_table.specs.Openings.{opening}
-use Rattle.step_table.specs.Stories.{Kept, Nothing, Story, handle_in_block, object_of_block, story_state}
+use Rattle.step_table.specs.GhostStates.{Kept, Nothing, GhostState, handle_in_block, object_of_block, model_state}
 use Rattle.step_table.proofs.holding.Owning.{slot_held}
 use Rattle.step_table.proofs.tables.Places.{handle_busy, there}
 use Rattle.step_table.proofs.tables.Shown.{Found}
@@ -70,11 +70,11 @@ slot_told : (s : State) (k : Kind) (o : Option Block) (p : Option Place) → ((b
 slot_told s k None p is = refl
 slot_told s k (Some b) p is = ap (λ (n : ℕ). Full (record { kind = k; block = record { 0 = n }; place = p })) (is b refl)
 
-module _ (v : Story) (d : ℕ) (c : Cell) (x : CellWord) (found : Found v c x) where
+module _ (v : GhostState) (d : ℕ) (c : Cell) (x : CellWord) (found : Found v c x) where
   -- what a cell shows is what was seen
   pub shows_seen : x ≡ seen v c
   shows_seen =
-      let s = story_state v in
+      let s = model_state v in
       let h = held_in s c in
       let shows = found.shows in
       let o : x.owned ≡ block_of (blocks_of s) h.object =
@@ -84,9 +84,9 @@ module _ (v : Story) (d : ℕ) (c : Cell) (x : CellWord) (found : Found v c x) w
       λ j. record { owned = o j; place = p j; taken = t j }
 
   -- and comes into a slot so
-  pub shows_slot : slot_in (kind_in_state (story_state v) c) x ≡ slot_of (story_state v) (held_in (story_state v) c)
+  pub shows_slot : slot_in (kind_in_state (model_state v) c) x ≡ slot_of (model_state v) (held_in (model_state v) c)
   shows_slot =
-      let s = story_state v in
+      let s = model_state v in
       sym (slot_told s (kind_in_state s c) x.owned x.place found.there) ∙ ap (slot_of s) found.shows.holds
 
 -- a slot's pointer that may go into a cell is of its kind
@@ -104,38 +104,38 @@ pub word_told : (s : State) (k : Kind) (a : Slot) → is_of k a ≡ true → han
 word_told s k (Empty p) is = refl
 word_told s k (Full x) is = ap (λ (q : Kind). handle q (object_at s (Some x.block)) x.place) (sym (kind_is k x is))
 
-busy_some : (v : Story) (b : Block) → Kept v → IsBusy (story_state v) (object_of_block v b) → object_of_block v b ≢ 0
+busy_some : (v : GhostState) (b : Block) → Kept v → IsBusy (model_state v) (object_of_block v b) → object_of_block v b ≢ 0
 busy_some v b kept busy e =
     let fine = sound (opening v.extent) v.history kept.stands.legal in
     let z = fine.unmade_free 0 fine.none in
-    let t : 0 < 0 = subst (λ n. 0 < n) z (subst (IsBusy (story_state v)) e busy) in omega arith
+    let t : 0 < 0 = subst (λ n. 0 < n) z (subst (IsBusy (model_state v)) e busy) in omega arith
 
 -- blocks are the same where their objects are, if one of these is there
-same_object : (v : Story) (o q : Option Block) → Kept v → ((b : Block) → q ≡ Some b → IsBusy (story_state v) (object_of_block v b))
-    → same_number (object_at (story_state v) o) (object_at (story_state v) q) ≡ same_block o q
+same_object : (v : GhostState) (o q : Option Block) → Kept v → ((b : Block) → q ≡ Some b → IsBusy (model_state v) (object_of_block v b))
+    → same_number (object_at (model_state v) o) (object_at (model_state v) q) ≡ same_block o q
 same_object v None None kept busy = refl
 same_object v None (Some b) kept busy = refl
 same_object v (Some a) None kept busy = refl
 same_object v (Some a) (Some b) kept busy =
     let fine = sound (opening v.extent) v.history kept.stands.legal in
-    ⊎_elim (λ (e : a.0 ≡ b.0). eq-eqb _ _ (ap (story_state v).latest e) ∙ sym (eq-eqb a.0 b.0 e))
+    ⊎_elim (λ (e : a.0 ≡ b.0). eq-eqb _ _ (ap (model_state v).latest e) ∙ sym (eq-eqb a.0 b.0 e))
     (λ (n : a.0 ≢ b.0). ne_eqb _ _ (λ e. n (sym (fine.latest_in a.0 (λ z. busy_some v b kept (busy b refl) (sym e ∙ z)))
-    ∙ ap (blocks_of (story_state v)) e ∙ (there v b kept (busy b refl)).0)) ∙ sym (ne_eqb a.0 b.0 n)) (cases_eq a.0 b.0)
+    ∙ ap (blocks_of (model_state v)) e ∙ (there v b kept (busy b refl)).0)) ∙ sym (ne_eqb a.0 b.0 n)) (cases_eq a.0 b.0)
 
 -- values are equivalent where they are the same, if the object of one of them is there
-pub alike : (v : Story) (c : Cell) (x y : CellWord) → Kept v → ((b : Block) → y.owned ≡ Some b → IsBusy (story_state v) (object_of_block v b))
-    → equivalent (handle_told (story_state v) c x) (handle_told (story_state v) c y) ≡ same_value x y
+pub alike : (v : GhostState) (c : Cell) (x y : CellWord) → Kept v → ((b : Block) → y.owned ≡ Some b → IsBusy (model_state v) (object_of_block v b))
+    → equivalent (handle_told (model_state v) c x) (handle_told (model_state v) c y) ≡ same_value x y
 alike v c x y kept busy = ap (λ (t : Bool). t && same_place x.place y.place) (same_object v x.owned y.owned kept busy)
 
-module _ (d : ℕ) (slots : Slots) (v : Story) (i : ℕ) (kept : Kept v) (holds : HoldsBag d slots v) where
+module _ (d : ℕ) (slots : Slots) (v : GhostState) (i : ℕ) (kept : Kept v) (holds : HoldsBag d slots v) where
   -- the object of a slot's pointer is there
-  pub slot_busy : (b : Block) → block_of_value (slot_value slots i) ≡ Some b → IsBusy (story_state v) (object_of_block v b)
+  pub slot_busy : (b : Block) → block_of_value (slot_value slots i) ≡ Some b → IsBusy (model_state v) (object_of_block v b)
   slot_busy b e = go (slot_value slots i) refl e
     where
-      go : (a : Slot) → slot_value slots i ≡ a → block_of_value a ≡ Some b → IsBusy (story_state v) (object_of_block v b)
+      go : (a : Slot) → slot_value slots i ≡ a → block_of_value a ≡ Some b → IsBusy (model_state v) (object_of_block v b)
       go (Empty p) at e = cc
       go (Full x) at e =
-          subst (λ (y : Block). IsBusy (story_state v) (object_of_block v y)) (same_Some _ _ e)
+          subst (λ (y : Block). IsBusy (model_state v) (object_of_block v y)) (same_Some _ _ e)
           (handle_busy v d x.kind x.block x.place kept (slot_held d slots v i x holds (ap pointer_of at)))
 
   -- its word is well formed
@@ -147,7 +147,7 @@ module _ (d : ℕ) (slots : Slots) (v : Story) (i : ℕ) (kept : Kept v) (holds 
         taken = omega arith;
       }
     where
-      go : (o : Option Block) → ((b : Block) → o ≡ Some b → IsBusy (story_state v) (object_of_block v b)) → IfSome o IsBlock
+      go : (o : Option Block) → ((b : Block) → o ≡ Some b → IsBusy (model_state v) (object_of_block v b)) → IfSome o IsBlock
       go None busy = tt
       go (Some b) busy =
           let t = (there v b kept (busy b refl)).1 in let few = kept.proper.blocks in
@@ -158,8 +158,8 @@ module _ (d : ℕ) (slots : Slots) (v : Story) (i : ℕ) (kept : Kept v) (holds 
       at_place (Some p) is = let a = is.0 in let b = is.1 in let f = is.2 in ((omega (arith, a), b), omega (arith, f))
 
   -- the desk has it in hand
-  pub in_hand : (c : Cell) → is_of (kind_in_state (story_state v) c) (slot_value slots i) ≡ true → HasInHand v d c (as_word (slot_value slots i))
-  in_hand c is = go (kind_in_state (story_state v) c) (slot_value slots i) refl (holds.formed i) is
+  pub in_hand : (c : Cell) → is_of (kind_in_state (model_state v) c) (slot_value slots i) ≡ true → HasInHand v d c (as_word (slot_value slots i))
+  in_hand c is = go (kind_in_state (model_state v) c) (slot_value slots i) refl (holds.formed i) is
     where
       bare : (k : Kind) (p : Option Place) → IsPointer p → is_of k (Empty p) ≡ true → IsFormed (handle k None p)
       bare Owner p formed is = (formed, tt)
@@ -167,12 +167,12 @@ module _ (d : ℕ) (slots : Slots) (v : Story) (i : ℕ) (kept : Kept v) (holds 
       bare Weak (Some p) formed is = cc
 
       go : (k : Kind) (a : Slot) → slot_value slots i ≡ a → IsSlot a → is_of k a ≡ true
-          → InHand (story_state v) d k (handle_as (story_state v) k (as_word a))
+          → InHand (model_state v) d k (handle_as (model_state v) k (as_word a))
       go k (Empty p) at formed is = (refl, inl (refl, bare k p formed is))
       go k (Full x) at formed is = (
         refl,
         inr (
-          subst (λ (q : Kind). Has (held d (handle_in_block v q x.block x.place)) (story_state v).hands) (kind_is k x is)
+          subst (λ (q : Kind). Has (held d (handle_in_block v q x.block x.place)) (model_state v).hands) (kind_is k x is)
               (slot_held d slots v i x holds (ap pointer_of at)),
           refl,
           refl,
@@ -180,19 +180,19 @@ module _ (d : ℕ) (slots : Slots) (v : Story) (i : ℕ) (kept : Kept v) (holds 
       )
 
   -- what is compared is told by words
-  pub alike_told : (c : Cell) (x : CellWord) → is_of (kind_in_state (story_state v) c) (slot_value slots i) ≡ true
-      → same_value x (as_word (slot_value slots i)) ≡ equivalent (handle_told (story_state v) c x)
-      (named_handle (story_state v) (kind_in_state (story_state v) c) (slot_value slots i))
+  pub alike_told : (c : Cell) (x : CellWord) → is_of (kind_in_state (model_state v) c) (slot_value slots i) ≡ true
+      → same_value x (as_word (slot_value slots i)) ≡ equivalent (handle_told (model_state v) c x)
+      (named_handle (model_state v) (kind_in_state (model_state v) c) (slot_value slots i))
   alike_told c x is =
       sym (alike v c x (as_word (slot_value slots i)) kept slot_busy)
-      ∙ ap (equivalent (handle_told (story_state v) c x)) (word_told (story_state v) (kind_in_state (story_state v) c) (slot_value slots i) is)
+      ∙ ap (equivalent (handle_told (model_state v) c x)) (word_told (model_state v) (kind_in_state (model_state v) c) (slot_value slots i) is)
 
-  pub alike_seen : (c : Cell) (x : CellWord) → Found v c x → is_of (kind_in_state (story_state v) c) (slot_value slots i) ≡ true
-      → same_value (seen v c) (as_word (slot_value slots i)) ≡ equivalent (held_in (story_state v) c)
-      (named_handle (story_state v) (kind_in_state (story_state v) c) (slot_value slots i))
+  pub alike_seen : (c : Cell) (x : CellWord) → Found v c x → is_of (kind_in_state (model_state v) c) (slot_value slots i) ≡ true
+      → same_value (seen v c) (as_word (slot_value slots i)) ≡ equivalent (held_in (model_state v) c)
+      (named_handle (model_state v) (kind_in_state (model_state v) c) (slot_value slots i))
   alike_seen c x found is =
       ap (λ (y : CellWord). same_value y (as_word (slot_value slots i))) (sym (shows_seen v d c x found)) ∙ alike_told c x is
-      ∙ ap (λ (h : Handle). equivalent h (named_handle (story_state v) (kind_in_state (story_state v) c) (slot_value slots i))) found.shows.holds
+      ∙ ap (λ (h : Handle). equivalent h (named_handle (model_state v) (kind_in_state (model_state v) c) (slot_value slots i))) found.shows.holds
 
 -- the number of shared cells never changes
 shared_led : (z : Opening) (h : List (Entry Nothing)) → (leads z h).shared ≡ z.shared_cells
@@ -223,11 +223,11 @@ shared_led z (e ∷ h) = shared_after (leads z h) e.desk e.event ∙ shared_led 
     shared_after s d (Shelve b) = refl
     shared_after s d (Unshelve b) = refl
 
-pub shared_is : (v : Story) → (story_state v).shared ≡ v.extent.shape.shared_cells
+pub shared_is : (v : GhostState) → (model_state v).shared ≡ v.extent.shape.shared_cells
 shared_is v = shared_led (opening v.extent) v.history
 
--- so a cell is of the same kind after any deed
-pub kind_stays : (v w : Story) (c : Cell) → w.extent ≡ v.extent → kind_in_state (story_state w) c ≡ kind_in_state (story_state v) c
+-- so a cell is of the same kind after any atomic step
+pub kind_stays : (v w : GhostState) (c : Cell) → w.extent ≡ v.extent → kind_in_state (model_state w) c ≡ kind_in_state (model_state v) c
 kind_stays v w (at.Free n) same =
     ap (λ (i : ℕ). kind_of_free i n) (shared_is w ∙ ap (λ (x : Extent). x.shape.shared_cells) same ∙ sym (shared_is v))
 kind_stays v w (at.Member b m) same = refl

@@ -7,11 +7,11 @@ use Rattle.control_word.specs.declared.model.handle.Kind.TheVariants.{Owner, Wea
 use Rattle.control_word.specs.declared.place.Place.{Place}
 use Rattle.control_word.specs.Handles.{IsPointer}
 use Rattle.control_word.specs.State.{Has, held}
-use Rattle.step_table.specs.declared.slots.holdings.Pointer.{Pointer}
+use Rattle.step_table.specs.declared.slots.registers.Pointer.{Pointer}
 use Rattle.step_table.specs.declared.slots.slot.Slot.TheVariants.{Full}
-use Rattle.step_table.specs.Deeds.{give, this_as}
-use Rattle.step_table.specs.Holdings.{HoldsBag, Slots, inside, inside_as, into, slot_pointer}
-use Rattle.step_table.specs.Stories.{Kept, Story, story_after_deed, handle_in_block, owner_in, story_state}
+use Rattle.step_table.specs.AtomicSteps.{give, this_as}
+use Rattle.step_table.specs.Registers.{HoldsBag, Slots, inside, inside_as, into, slot_pointer}
+use Rattle.step_table.specs.GhostStates.{Kept, GhostState, ghost_after_step, handle_in_block, owner_in, model_state}
 use Rattle.step_table.proofs.holding.Owning.{holds_more, slot_held}
 use Rattle.step_table.proofs.tables.Places.{handle_busy, there}
 
@@ -38,20 +38,20 @@ inside_is (Some y) x e = go y.kind refl e
     go Owner is e = let t = into_is y x y.place is refl e in (ap (λ (z : Pointer). Some z) t.0, subst Points t.0 t.1)
     go Weak is e = cc
 
-module _ (d : ℕ) (slots : Slots) (v : Story) (i : ℕ) (x : Pointer) (holds : HoldsBag d slots v) (e : inside (slot_pointer slots i) ≡ Some x) where
-  pub inside_held : Has (held d (handle_in_block v x.kind x.block x.place)) (story_state v).hands
+module _ (d : ℕ) (slots : Slots) (v : GhostState) (i : ℕ) (x : Pointer) (holds : HoldsBag d slots v) (e : inside (slot_pointer slots i) ≡ Some x) where
+  pub inside_held : Has (held d (handle_in_block v x.kind x.block x.place)) (model_state v).hands
   inside_held = slot_held d slots v i x holds (inside_is (slot_pointer slots i) x e).0
 
-  pub inside_owned : (p : Place) → x.place ≡ Some p → Has (held d (owner_in v x.block (Some p))) (story_state v).hands
+  pub inside_owned : (p : Place) → x.place ≡ Some p → Has (held d (owner_in v x.block (Some p))) (model_state v).hands
   inside_owned p at =
       let t = (inside_is (slot_pointer slots i) x e).1 in
-      subst (λ (q : Option Place). Has (held d (owner_in v x.block q)) (story_state v).hands) at
-      (subst (λ (k : Kind). Has (held d (handle_in_block v k x.block x.place)) (story_state v).hands) t.kind inside_held)
+      subst (λ (q : Option Place). Has (held d (owner_in v x.block q)) (model_state v).hands) at
+      (subst (λ (k : Kind). Has (held d (handle_in_block v k x.block x.place)) (model_state v).hands) t.kind inside_held)
 
 -- a pointer that an object gives
-pub holds_give : (d : ℕ) (slots : Slots) (v : Story) (i : ℕ) (k : Kind) (x : Pointer) → Kept v → HoldsBag d slots v
-    → Has (held d (handle_in_block v x.kind x.block x.place)) (story_state v).hands → i < length slots → slot_pointer slots i ≡ None
-    → HoldsBag d (set slots i (Full (this_as k x))) (story_after_deed v d (give k x))
+pub holds_give : (d : ℕ) (slots : Slots) (v : GhostState) (i : ℕ) (k : Kind) (x : Pointer) → Kept v → HoldsBag d slots v
+    → Has (held d (handle_in_block v x.kind x.block x.place)) (model_state v).hands → i < length slots → slot_pointer slots i ≡ None
+    → HoldsBag d (set slots i (Full (this_as k x))) (ghost_after_step v d (give k x))
 holds_give d slots v i k x kept holds has lt e = go k
   where
     fine : IsPointer (this_as k x).place
@@ -59,6 +59,6 @@ holds_give d slots v i k x kept holds has lt e = go k
         let t = (there v x.block kept (handle_busy v d x.kind x.block x.place kept has)).1 in
         let few = kept.proper.blocks in let low = t.0 in let high = t.1 in (low, omega (arith, high, few), omega arith)
 
-    go : (q : Kind) → HoldsBag d (set slots i (Full (this_as q x))) (story_after_deed v d (give q x))
-    go Owner = holds_more d slots v (story_after_deed v d (give Owner x)) i (this_as Owner x) holds refl refl fine lt e
-    go Weak = holds_more d slots v (story_after_deed v d (give Weak x)) i (this_as Weak x) holds refl refl fine lt e
+    go : (q : Kind) → HoldsBag d (set slots i (Full (this_as q x))) (ghost_after_step v d (give q x))
+    go Owner = holds_more d slots v (ghost_after_step v d (give Owner x)) i (this_as Owner x) holds refl refl fine lt e
+    go Weak = holds_more d slots v (ghost_after_step v d (give Weak x)) i (this_as Weak x) holds refl refl fine lt e

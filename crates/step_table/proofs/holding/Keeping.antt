@@ -15,17 +15,18 @@ use Rattle.control_word.specs.Handles.{empty}
 use Rattle.control_word.specs.State.{Has, Held, Object, State, bag, ending, held, kind_of_member, same_held}
 use Rattle.control_word.specs.State.{weak_number}
 use Rattle.control_word.specs.Views.{used_up}
-use Rattle.step_table.specs.declared.memory.shelf.ShelfDeed.TheVariants.{Shelve, Unshelve, Miss}
-use Rattle.step_table.proofs.tables.ShelfDeeds.{shelf_framed}
-use Rattle.step_table.specs.declared.slots.holdings.Pointer.{Pointer}
-use Rattle.step_table.specs.declared.memory.past.Deed.{Deed}
-use Rattle.step_table.specs.declared.memory.past.Deed.TheVariants.{Prepare, Write, Claim, Share, WeakShare, Leave, WeakLeave, Lock, Count, Expired, Read, Clear}
-use Rattle.step_table.specs.declared.memory.past.Deed.TheVariants.{Finish, OnCell, OnShelf}
-use Rattle.step_table.specs.Holdings.{HoldsBag, Slots, slot_pointer, times_held}
+use Rattle.step_table.specs.declared.memory.shelf.ShelfStep.TheVariants.{Shelve, Unshelve, Miss}
+use Rattle.step_table.proofs.tables.ShelfAtomicSteps.{shelf_framed}
+use Rattle.step_table.specs.declared.slots.registers.Pointer.{Pointer}
+use Rattle.step_table.specs.declared.memory.past.AtomicStep.{AtomicStep}
+use Rattle.step_table.specs.declared.memory.past.AtomicStep.TheVariants.{Prepare, Write, Claim, Share, WeakShare, Leave, WeakLeave, Lock, Count, Expired, Read}
+use Rattle.step_table.specs.declared.memory.past.AtomicStep.TheVariants.{Clear}
+use Rattle.step_table.specs.declared.memory.past.AtomicStep.TheVariants.{Finish, OnCell, OnShelf}
+use Rattle.step_table.specs.Registers.{HoldsBag, Slots, slot_pointer, times_held}
 use Rattle.step_table.specs.Openings.{opening}
-use Rattle.step_table.specs.Stories.{Kept, Nothing, Story, story_after_deed, handle_in_block, object_of_block, owner_in, pending, story_state, weak_in}
+use Rattle.step_table.specs.GhostStates.{Kept, Nothing, GhostState, ghost_after_step, handle_in_block, object_of_block, owner_in, pending, model_state, weak_in}
 use Rattle.step_table.proofs.holding.Owning.{same_owns, slot_held}
-use Rattle.step_table.proofs.tables.CellDeeds.{framed, same_cell}
+use Rattle.step_table.proofs.tables.CellAtomicSteps.{framed, same_cell}
 use Rattle.step_table.proofs.tables.Places.{handle_busy, there}
 
 -- what is counted of a desk's part
@@ -43,58 +44,59 @@ num_part who d p (x ∷ xs) mine =
 times_bag : (s : State) (d : ℕ) (h : Handle) → times_held s d h ≡ num (same_held (held d h)) (bag s d)
 times_bag s d h = num_part (λ (x : Held). x.desk) d (same_held (held d h)) s.hands (λ x t. sym (eqb-true _ _ (and_parts _ _ t).0))
 
-pub same_deed : (v : Story) (e d : ℕ) (x : Deed) → e ≢ d → Same (story_state v) (story_state (story_after_deed v e x)) d
-same_deed v e d (Prepare b) n = still (story_state v) d
-same_deed v e d (Write b j m) n = still (story_state v) d
-same_deed v e d (Claim b enabled null fields) n = same_after {V = Nothing} (story_state v) d e (event.Make b enabled null fields tt) n (λ z. z)
-same_deed v e d (Share b p q) n = same_after {V = Nothing} (story_state v) d e (event.Share (owner_in v b p) q) n (λ z. z)
-same_deed v e d (Leave b p last) n = same_after {V = Nothing} (story_state v) d e (event.Leave (owner_in v b p) last) n (λ z. z)
-same_deed v e d (WeakShare b p) n = same_after {V = Nothing} (story_state v) d e (event.WeakShare (object_of_block v b) p) n (λ z. z)
-same_deed v e d (WeakLeave b p vacant) n = same_after {V = Nothing} (story_state v) d e (event.WeakLeave (weak_in v b p) vacant) n (λ z. z)
-same_deed v e d (Lock b p got) n = same_after {V = Nothing} (story_state v) d e (event.Lock (weak_in v b p) got) n (λ z. z)
-same_deed v e d (Count k b p m) n = still (story_state v) d
-same_deed v e d (Expired k b p x) n = still (story_state v) d
-same_deed v e d (Read b p m) n = still (story_state v) d
-same_deed v e d (Clear b m) n = same_after {V = Nothing} (story_state v) d e (event.ClearMember (object_of_block v b) m (empty (kind_of_member m))) n (λ z. z)
-same_deed v e d (Finish b vacant) n = same_after {V = Nothing} (story_state v) d e (event.Finish (object_of_block v b) vacant tt) n (λ z. z)
-same_deed v e d (OnShelf b Shelve) n = same_after {V = Nothing} (story_state v) d e (event.Shelve b) n (λ z. z)
-same_deed v e d (OnShelf b Unshelve) n = same_after {V = Nothing} (story_state v) d e (event.Unshelve b) n (λ z. z)
-same_deed v e d (OnShelf b Miss) n = still (story_state v) d
-same_deed v e d (OnCell x) n = same_cell v e d x n
+pub same_atomic_step : (v : GhostState) (e d : ℕ) (x : AtomicStep) → e ≢ d → Same (model_state v) (model_state (ghost_after_step v e x)) d
+same_atomic_step v e d (Prepare b) n = still (model_state v) d
+same_atomic_step v e d (Write b j m) n = still (model_state v) d
+same_atomic_step v e d (Claim b enabled null fields) n = same_after {V = Nothing} (model_state v) d e (event.Make b enabled null fields tt) n (λ z. z)
+same_atomic_step v e d (Share b p q) n = same_after {V = Nothing} (model_state v) d e (event.Share (owner_in v b p) q) n (λ z. z)
+same_atomic_step v e d (Leave b p last) n = same_after {V = Nothing} (model_state v) d e (event.Leave (owner_in v b p) last) n (λ z. z)
+same_atomic_step v e d (WeakShare b p) n = same_after {V = Nothing} (model_state v) d e (event.WeakShare (object_of_block v b) p) n (λ z. z)
+same_atomic_step v e d (WeakLeave b p vacant) n = same_after {V = Nothing} (model_state v) d e (event.WeakLeave (weak_in v b p) vacant) n (λ z. z)
+same_atomic_step v e d (Lock b p got) n = same_after {V = Nothing} (model_state v) d e (event.Lock (weak_in v b p) got) n (λ z. z)
+same_atomic_step v e d (Count k b p m) n = still (model_state v) d
+same_atomic_step v e d (Expired k b p x) n = still (model_state v) d
+same_atomic_step v e d (Read b p m) n = still (model_state v) d
+same_atomic_step v e d (Clear b m) n = same_after {V = Nothing} (model_state v) d e (event.ClearMember (object_of_block v b) m (empty (kind_of_member m))) n
+    (λ z. z)
+same_atomic_step v e d (Finish b vacant) n = same_after {V = Nothing} (model_state v) d e (event.Finish (object_of_block v b) vacant tt) n (λ z. z)
+same_atomic_step v e d (OnShelf b Shelve) n = same_after {V = Nothing} (model_state v) d e (event.Shelve b) n (λ z. z)
+same_atomic_step v e d (OnShelf b Unshelve) n = same_after {V = Nothing} (model_state v) d e (event.Unshelve b) n (λ z. z)
+same_atomic_step v e d (OnShelf b Miss) n = still (model_state v) d
+same_atomic_step v e d (OnCell x) n = same_cell v e d x n
 
--- the block of an object that was made stays, whatever a deed does
-block_stays : (v : Story) (e o : ℕ) (x : Deed) → o ≤ (story_state v).made
-    → ((story_state (story_after_deed v e x)).object o).block ≡ ((story_state v).object o).block
+-- the block of an object that was made stays, whatever an atomic step does
+block_stays : (v : GhostState) (e o : ℕ) (x : AtomicStep) → o ≤ (model_state v).made
+    → ((model_state (ghost_after_step v e x)).object o).block ≡ ((model_state v).object o).block
 block_stays v e o (Prepare b) le = refl
 block_stays v e o (Write b j m) le = refl
-block_stays v e o (Claim b enabled null fields) le = (block_after {V = Nothing} (story_state v) e o (event.Make b enabled null fields tt) le).0
+block_stays v e o (Claim b enabled null fields) le = (block_after {V = Nothing} (model_state v) e o (event.Make b enabled null fields tt) le).0
 block_stays v e o (Share b p q) le = refl
-block_stays v e o (Leave b p last) le = (block_after {V = Nothing} (story_state v) e o (event.Leave (owner_in v b p) last) le).0
+block_stays v e o (Leave b p last) le = (block_after {V = Nothing} (model_state v) e o (event.Leave (owner_in v b p) last) le).0
 block_stays v e o (WeakShare b p) le = refl
 block_stays v e o (WeakLeave b p vacant) le = refl
 block_stays v e o (Lock b p got) le = refl
 block_stays v e o (Count k b p m) le = refl
 block_stays v e o (Expired k b p x) le = refl
 block_stays v e o (Read b p m) le = refl
-block_stays v e o (Clear b m) le = (block_after {V = Nothing} (story_state v) e o (event.ClearMember (object_of_block v b) m (empty (kind_of_member m))) le).0
-block_stays v e o (Finish b vacant) le = (block_after {V = Nothing} (story_state v) e o (event.Finish (object_of_block v b) vacant tt) le).0
+block_stays v e o (Clear b m) le = (block_after {V = Nothing} (model_state v) e o (event.ClearMember (object_of_block v b) m (empty (kind_of_member m))) le).0
+block_stays v e o (Finish b vacant) le = (block_after {V = Nothing} (model_state v) e o (event.Finish (object_of_block v b) vacant tt) le).0
 block_stays v e o (OnShelf b x) le = ap (λ (s : State). (s.object o).block) (shelf_framed v e b x).2
 block_stays v e o (OnCell x) le = (framed v e x).block o
 
 -- so does whether it gives pointers to itself
-pub enabled_stays : (v : Story) (e o : ℕ) (x : Deed) → o ≤ (story_state v).made
-    → ((story_state (story_after_deed v e x)).object o).enabled ≡ ((story_state v).object o).enabled
+pub enabled_stays : (v : GhostState) (e o : ℕ) (x : AtomicStep) → o ≤ (model_state v).made
+    → ((model_state (ghost_after_step v e x)).object o).enabled ≡ ((model_state v).object o).enabled
 enabled_stays v e o (Prepare b) le = refl
 enabled_stays v e o (Write b j m) le = refl
 enabled_stays v e o (Claim b enabled null fields) le =
-    ap (λ (y : Object). y.enabled) (put_other (story_state v).object (suc (story_state v).made) (new_object b.0 enabled null fields) o (λ q. omega arith))
+    ap (λ (y : Object). y.enabled) (put_other (model_state v).object (suc (model_state v).made) (new_object b.0 enabled null fields) o (λ q. omega arith))
 enabled_stays v e o (Share b p q) le = refl
 enabled_stays v e o (Leave b p last) le =
     let i = object_of_block v b in
-    let y = (story_state v).object i in
-    put_cases (λ j (z : Object). z.enabled ≡ ((story_state v).object j).enabled) (story_state v).object i (cond last (moved_to (ending e) y) y) o
-    (λ q. cond_both last (moved_to (ending e) y) y (λ (z : Object). z.enabled ≡ ((story_state v).object o).enabled)
-    (λ t. ap (λ (k : ℕ). ((story_state v).object k).enabled) (sym q)) (λ t. ap (λ (k : ℕ). ((story_state v).object k).enabled) (sym q))) (λ q. refl)
+    let y = (model_state v).object i in
+    put_cases (λ j (z : Object). z.enabled ≡ ((model_state v).object j).enabled) (model_state v).object i (cond last (moved_to (ending e) y) y) o
+    (λ q. cond_both last (moved_to (ending e) y) y (λ (z : Object). z.enabled ≡ ((model_state v).object o).enabled)
+    (λ t. ap (λ (k : ℕ). ((model_state v).object k).enabled) (sym q)) (λ t. ap (λ (k : ℕ). ((model_state v).object k).enabled) (sym q))) (λ q. refl)
 enabled_stays v e o (WeakShare b p) le = refl
 enabled_stays v e o (WeakLeave b p vacant) le = refl
 enabled_stays v e o (Lock b p got) le = refl
@@ -102,54 +104,54 @@ enabled_stays v e o (Count k b p m) le = refl
 enabled_stays v e o (Expired k b p x) le = refl
 enabled_stays v e o (Read b p m) le = refl
 enabled_stays v e o (Clear b m) le =
-    put_cases (λ j (z : Object). z.enabled ≡ ((story_state v).object j).enabled) (story_state v).object (object_of_block v b) _ o
-    (λ q. ap (λ (k : ℕ). ((story_state v).object k).enabled) (sym q)) (λ q. refl)
+    put_cases (λ j (z : Object). z.enabled ≡ ((model_state v).object j).enabled) (model_state v).object (object_of_block v b) _ o
+    (λ q. ap (λ (k : ℕ). ((model_state v).object k).enabled) (sym q)) (λ q. refl)
 enabled_stays v e o (Finish b vacant) le =
-    put_cases (λ j (z : Object). z.enabled ≡ ((story_state v).object j).enabled) (story_state v).object (object_of_block v b) _ o
-    (λ q. ap (λ (k : ℕ). ((story_state v).object k).enabled) (sym q)) (λ q. refl)
+    put_cases (λ j (z : Object). z.enabled ≡ ((model_state v).object j).enabled) (model_state v).object (object_of_block v b) _ o
+    (λ q. ap (λ (k : ℕ). ((model_state v).object k).enabled) (sym q)) (λ q. refl)
 enabled_stays v e o (OnShelf b x) le = ap (λ (s : State). (s.object o).enabled) (shelf_framed v e b x).2
 enabled_stays v e o (OnCell x) le = (framed v e x).enabled o
 
 -- the object in a block that a desk keeps is the same
-pub kept_object : (v : Story) (e : ℕ) (b : Block) (x : Deed) → Kept v → Kept (story_after_deed v e x)
-    → 0 < weak_number (story_state v) (object_of_block v b)
-    → 0 < weak_number (story_state (story_after_deed v e x)) (object_of_block v b) → object_of_block (story_after_deed v e x) b ≡ object_of_block v b
+pub kept_object : (v : GhostState) (e : ℕ) (b : Block) (x : AtomicStep) → Kept v → Kept (ghost_after_step v e x)
+    → 0 < weak_number (model_state v) (object_of_block v b)
+    → 0 < weak_number (model_state (ghost_after_step v e x)) (object_of_block v b) → object_of_block (ghost_after_step v e x) b ≡ object_of_block v b
 kept_object v e b x kept kept' busy busy' =
     let o = object_of_block v b in
     let fine = sound (opening v.extent) v.history kept.stands.legal in
-    let fine' = sound (opening v.extent) (story_after_deed v e x).history kept'.stands.legal in
+    let fine' = sound (opening v.extent) (ghost_after_step v e x).history kept'.stands.legal in
     let p = (fine'.placed o busy').0 in
     let c = block_stays v e o x (fine.latest_made b.0) ∙ (there v b kept busy).0 in
-    subst (λ (k : ℕ). (story_state (story_after_deed v e x)).latest k ≡ o) c p
+    subst (λ (k : ℕ). (model_state (ghost_after_step v e x)).latest k ≡ o) c p
 
-still_held : (d : ℕ) (slots : Slots) (v : Story) (e : ℕ) (x : Deed) (i : ℕ) (y : Pointer) → e ≢ d → HoldsBag d slots v
+still_held : (d : ℕ) (slots : Slots) (v : GhostState) (e : ℕ) (x : AtomicStep) (i : ℕ) (y : Pointer) → e ≢ d → HoldsBag d slots v
     → slot_pointer slots i ≡ Some y
-    → Has (held d (handle_in_block v y.kind y.block y.place)) (story_state (story_after_deed v e x)).hands
+    → Has (held d (handle_in_block v y.kind y.block y.place)) (model_state (ghost_after_step v e x)).hands
 still_held d slots v e x i y n holds at =
-    has_same (story_state v) (story_state (story_after_deed v e x)) d _ (same_deed v e d x n) (slot_held d slots v i y holds at)
+    has_same (model_state v) (model_state (ghost_after_step v e x)) d _ (same_atomic_step v e d x n) (slot_held d slots v i y holds at)
 
-slot_object : (d : ℕ) (slots : Slots) (v : Story) (e : ℕ) (x : Deed) (i : ℕ) (y : Pointer) → e ≢ d → Kept v
-    → Kept (story_after_deed v e x) → HoldsBag d slots v
-    → slot_pointer slots i ≡ Some y → object_of_block (story_after_deed v e x) y.block ≡ object_of_block v y.block
+slot_object : (d : ℕ) (slots : Slots) (v : GhostState) (e : ℕ) (x : AtomicStep) (i : ℕ) (y : Pointer) → e ≢ d → Kept v
+    → Kept (ghost_after_step v e x) → HoldsBag d slots v
+    → slot_pointer slots i ≡ Some y → object_of_block (ghost_after_step v e x) y.block ≡ object_of_block v y.block
 slot_object d slots v e x i y n kept kept' holds at =
     kept_object v e y.block x kept kept' (handle_busy v d y.kind y.block y.place kept (slot_held d slots v i y holds at))
-    (held_busy (opening v.extent) (story_state (story_after_deed v e x)) d (object_of_block v y.block) y.kind y.place
-    (sound (opening v.extent) (story_after_deed v e x).history kept'.stands.legal) (still_held d slots v e x i y n holds at))
+    (held_busy (opening v.extent) (model_state (ghost_after_step v e x)) d (object_of_block v y.block) y.kind y.place
+    (sound (opening v.extent) (ghost_after_step v e x).history kept'.stands.legal) (still_held d slots v e x i y n holds at))
 
--- another desk's deed leaves what a desk holds
-pub holds_others : (d : ℕ) (slots : Slots) (v : Story) (e : ℕ) (x : Deed) → e ≢ d → Kept v → Kept (story_after_deed v e x) → HoldsBag d slots v
-    → HoldsBag d slots (story_after_deed v e x)
+-- another desk's atomic step leaves what a desk holds
+pub holds_others : (d : ℕ) (slots : Slots) (v : GhostState) (e : ℕ) (x : AtomicStep) → e ≢ d → Kept v → Kept (ghost_after_step v e x) → HoldsBag d slots v
+    → HoldsBag d slots (ghost_after_step v e x)
 holds_others d slots v e x n kept kept' holds =
-    let same = same_deed v e d x n in
-    let w = story_after_deed v e x in
+    let same = same_atomic_step v e d x n in
+    let w = ghost_after_step v e x in
     record {
       owned = λ h.
-          times_bag (story_state w) d h ∙ ap (λ (l : List Held). num (same_held (held d h)) l) same.in_bag ∙ sym (times_bag (story_state v) d h)
+          times_bag (model_state w) d h ∙ ap (λ (l : List Held). num (same_held (held d h)) l) same.in_bag ∙ sym (times_bag (model_state v) d h)
           ∙ holds.owned h
           ∙ sym (same_owns v w h slots (λ i p at. slot_object d slots v e x i p n kept kept' holds at));
       size = ap (λ (l : List Held). length l) same.in_bag ∙ holds.size;
       formed = holds.formed;
     }
 
-pub same_pending : (v : Story) (e d : ℕ) (x : Deed) → e ≢ d → pending (story_after_deed v e x) d ≡ pending v d
+pub same_pending : (v : GhostState) (e d : ℕ) (x : AtomicStep) → e ≢ d → pending (ghost_after_step v e x) d ≡ pending v d
 same_pending v e d x n = ap (λ (w : View Nothing). w.pending) (get_or-set_other v.views e d _ used_up (λ (q : d ≡ e). n (sym q)))

@@ -17,33 +17,33 @@ use Rattle.control_word.specs.declared.model.handle.Kind.TheVariants.{Owner, Wea
 use Rattle.control_word.specs.Handles.{IsPointer, handle, owner, same_handle}
 use Rattle.control_word.specs.State.{Has, Held, InShape, Opening, bag_size, held, same_held, stored, without}
 use Rattle.step_table.specs.declared.memory.form.Form.{Form}
-use Rattle.step_table.specs.declared.slots.holdings.Pointer.{Pointer}
+use Rattle.step_table.specs.declared.slots.registers.Pointer.{Pointer}
 use Rattle.step_table.specs.declared.slots.slot.Slot.{Slot}
 use Rattle.step_table.specs.declared.slots.slot.Slot.TheVariants.{Empty, Full}
-use Rattle.step_table.specs.declared.memory.past.Deed.TheVariants.{Claim}
-use Rattle.step_table.specs.Deeds.{leave_as, share, share_as}
-use Rattle.step_table.specs.Holdings.{HoldsBag, IsSlot, Slots, slot_has_object, is_it, owns, plain, pointer_of, slot_pointer, times_held, slot_value, weak_as}
-use Rattle.step_table.specs.Holdings.{weak_slot}
+use Rattle.step_table.specs.declared.memory.past.AtomicStep.TheVariants.{Claim}
+use Rattle.step_table.specs.AtomicSteps.{leave_as, share, share_as}
+use Rattle.step_table.specs.Registers.{HoldsBag, IsSlot, Slots, slot_has_object, is_it, owns, plain, pointer_of, slot_pointer, times_held, slot_value, weak_as}
+use Rattle.step_table.specs.Registers.{weak_slot}
 use Rattle.step_table.specs.Openings.{opening}
-use Rattle.step_table.specs.Stories.{Story, Kept, story_after_deed, handle_in_block, object_of_block, story_state, weak_in}
+use Rattle.step_table.specs.GhostStates.{GhostState, Kept, ghost_after_step, handle_in_block, object_of_block, model_state, weak_in}
 use Rattle.step_table.proofs.tables.Places.{handle_busy, there}
 use Rattle.step_table.proofs.holding.Slots.{counted_has, full_is, full_less, has_slot, num_none, num_set, num_some, one_held, one_slot, slot_inside}
 use Rattle.step_table.proofs.tables.Start.{forty}
 
 -- a pointer in a slot is a handle in the bag
-pub slot_held : (d : ℕ) (slots : Slots) (v : Story) (i : ℕ) (x : Pointer) → HoldsBag d slots v → slot_pointer slots i ≡ Some x
-    → Has (held d (handle_in_block v x.kind x.block x.place)) (story_state v).hands
+pub slot_held : (d : ℕ) (slots : Slots) (v : GhostState) (i : ℕ) (x : Pointer) → HoldsBag d slots v → slot_pointer slots i ≡ Some x
+    → Has (held d (handle_in_block v x.kind x.block x.place)) (model_state v).hands
 slot_held d slots v i x holds e =
     let h = handle_in_block v x.kind x.block x.place in
     let n = num_has (is_it v h) (Full x) slots (has_slot slots i x e) (handle_self h) in
-    counted_has (held d h) (story_state v).hands (let o = holds.owned h in omega (arith, n, o))
+    counted_has (held d h) (model_state v).hands (let o = holds.owned h in omega (arith, n, o))
 
-pub slot_formed : (d : ℕ) (slots : Slots) (v : Story) (i : ℕ) (x : Pointer) → HoldsBag d slots v → slot_pointer slots i ≡ Some x → IsPointer x.place
+pub slot_formed : (d : ℕ) (slots : Slots) (v : GhostState) (i : ℕ) (x : Pointer) → HoldsBag d slots v → slot_pointer slots i ≡ Some x → IsPointer x.place
 slot_formed d slots v i x holds e = subst IsSlot (full_is (slot_value slots i) x e) (holds.formed i)
 
 -- where a slot is empty the desk may have one more handle
-pub has_room : (d : ℕ) (slots : Slots) (v : Story) (i : ℕ) → Kept v → d < v.extent.actors → HoldsBag d slots v → length slots < 35
-    → i < length slots → slot_pointer slots i ≡ None → bag_size (story_state v) d < (story_state v).allowance d
+pub has_room : (d : ℕ) (slots : Slots) (v : GhostState) (i : ℕ) → Kept v → d < v.extent.actors → HoldsBag d slots v → length slots < 35
+    → i < length slots → slot_pointer slots i ≡ None → bag_size (model_state v) d < (model_state v).allowance d
 has_room d slots v i kept lt holds few inside e =
     let a = full_less slots i inside e in
     let b = forty v.extent kept.proper d lt in
@@ -57,12 +57,12 @@ formed_set slots i x all lt fine j =
     (subst IsSlot (sym (get_or-set_same slots i x plain lt)) fine))
     (λ (n : j ≢ i). subst IsSlot (sym (get_or-set_other slots i j x plain n)) (all j)) (cases_eq j i)
 
-same_is : (v w : Story) (h : Handle) (y : Slot) → ((p : Pointer) → pointer_of y ≡ Some p → object_of_block w p.block ≡ object_of_block v p.block)
+same_is : (v w : GhostState) (h : Handle) (y : Slot) → ((p : Pointer) → pointer_of y ≡ Some p → object_of_block w p.block ≡ object_of_block v p.block)
     → is_it w h y ≡ is_it v h y
 same_is v w h (Empty q) f = refl
 same_is v w h (Full p) f = ap (λ (o : ℕ). same_handle h (handle p.kind (Some o) p.place)) (f p refl)
 
-pub same_owns : (v w : Story) (h : Handle) (slots : Slots)
+pub same_owns : (v w : GhostState) (h : Handle) (slots : Slots)
     → ((i : ℕ) (p : Pointer) → slot_pointer slots i ≡ Some p → object_of_block w p.block ≡ object_of_block v p.block)
     → owns w slots h ≡ owns v slots h
 same_owns v w h [] f = refl
@@ -75,66 +75,66 @@ same_owns v w h (y ∷ ys) f =
     omega (arith, i, a, b, c)
 
 -- a handle more, in a slot that was empty
-pub holds_more : (d : ℕ) (slots : Slots) (v w : Story) (i : ℕ) (x : Pointer) → HoldsBag d slots v
-    → (story_state w).hands ≡ held d (handle_in_block v x.kind x.block x.place) ∷ (story_state v).hands
-    → (story_state w).latest ≡ (story_state v).latest → IsPointer x.place
+pub holds_more : (d : ℕ) (slots : Slots) (v w : GhostState) (i : ℕ) (x : Pointer) → HoldsBag d slots v
+    → (model_state w).hands ≡ held d (handle_in_block v x.kind x.block x.place) ∷ (model_state v).hands
+    → (model_state w).latest ≡ (model_state v).latest → IsPointer x.place
     → i < length slots → slot_pointer slots i ≡ None → HoldsBag d (set slots i (Full x)) w
 holds_more d slots v w i x holds hands latest fine lt e =
     let y = handle_in_block v x.kind x.block x.place in
     let new = set slots i (Full x) in
     record {
       owned = λ h.
-          let a = num_cons (same_held (held d h)) (held d y) (story_state v).hands in
+          let a = num_cons (same_held (held d h)) (held d y) (model_state v).hands in
           let b = one_held d h y in
           let s = num_set (is_it v h) slots i (Full x) lt in
           let z = num_none (is_it v h) (slot_value slots i) (λ q. refl) e in
           let t = one_slot (is_it v h) (Full x) in
           let o = holds.owned h in
-          let m : times_held (story_state w) d h ≡ num (same_held (held d h)) (held d y ∷ (story_state v).hands) =
+          let m : times_held (model_state w) d h ≡ num (same_held (held d h)) (held d y ∷ (model_state v).hands) =
           ap (λ (l : List Held). num (same_held (held d h)) l) hands in
           let k = same_owns v w h new (λ j p q. ap (λ (f : ℕ → ℕ). f p.block.0) latest) in omega (arith, a, b, s, z, t, o, m, k);
       size =
-          (let a = bag_one d y (story_state v).hands in
+          (let a = bag_one d y (model_state v).hands in
           let s = num_set slot_has_object slots i (Full x) lt in
           let z = num_none slot_has_object (slot_value slots i) (λ q. refl) e in
-          let m : bag_size (story_state w) d ≡ num (λ (q : Held). q.desk == d) (held d y ∷ (story_state v).hands) =
+          let m : bag_size (model_state w) d ≡ num (λ (q : Held). q.desk == d) (held d y ∷ (model_state v).hands) =
           ap (λ (l : List Held). num (λ (q : Held). q.desk == d) l) hands in
           let o = holds.size in omega (arith, a, s, z, o, m));
       formed = formed_set slots i (Full x) holds.formed lt fine;
     }
 
 -- a handle less, of a slot
-pub holds_less : (d : ℕ) (slots : Slots) (v w : Story) (i : ℕ) (x : Pointer) → HoldsBag d slots v → slot_pointer slots i ≡ Some x
-    → (story_state w).hands ≡ without same_held (held d (handle_in_block v x.kind x.block x.place)) (story_state v).hands
-    → (story_state w).latest ≡ (story_state v).latest → HoldsBag d (set slots i plain) w
+pub holds_less : (d : ℕ) (slots : Slots) (v w : GhostState) (i : ℕ) (x : Pointer) → HoldsBag d slots v → slot_pointer slots i ≡ Some x
+    → (model_state w).hands ≡ without same_held (held d (handle_in_block v x.kind x.block x.place)) (model_state v).hands
+    → (model_state w).latest ≡ (model_state v).latest → HoldsBag d (set slots i plain) w
 holds_less d slots v w i x holds e hands latest =
     let y = handle_in_block v x.kind x.block x.place in
     let has = slot_held d slots v i x holds e in
     let lt = slot_inside slots i x e in
-    let less = without same_held (held d y) (story_state v).hands in
+    let less = without same_held (held d y) (model_state v).hands in
     record {
       owned = λ h.
-          let a = num_without same_held held_true held_self (same_held (held d h)) (held d y) (story_state v).hands has in
+          let a = num_without same_held held_true held_self (same_held (held d h)) (held d y) (model_state v).hands has in
           let b = one_held d h y in
           let s = num_set (is_it v h) slots i plain lt in
           let z = num_some (is_it v h) (slot_value slots i) x e in
           let t = one_slot (is_it v h) (Full x) in
           let o = holds.owned h in
-          let m : times_held (story_state w) d h ≡ num (same_held (held d h)) less = ap (λ (l : List Held). num (same_held (held d h)) l) hands in
+          let m : times_held (model_state w) d h ≡ num (same_held (held d h)) less = ap (λ (l : List Held). num (same_held (held d h)) l) hands in
           let k = same_owns v w h (set slots i plain) (λ j p q. ap (λ (f : ℕ → ℕ). f p.block.0) latest) in omega (arith, a, b, s, z, t, o, m, k);
       size =
-          (let a = num_without same_held held_true held_self (λ (w : Held). w.desk == d) (held d y) (story_state v).hands has in
+          (let a = num_without same_held held_true held_self (λ (w : Held). w.desk == d) (held d y) (model_state v).hands has in
           let b = bag_one d y [] in
           let s = num_set slot_has_object slots i plain lt in
           let z = num_some slot_has_object (slot_value slots i) x e in
-          let m : bag_size (story_state w) d ≡ num (λ (q : Held). q.desk == d) less = ap (λ (l : List Held). num (λ (q : Held). q.desk == d) l) hands in
+          let m : bag_size (model_state w) d ≡ num (λ (q : Held). q.desk == d) less = ap (λ (l : List Held). num (λ (q : Held). q.desk == d) l) hands in
           let o = holds.size in omega (arith, a, b, s, z, o, m));
       formed = formed_set slots i plain holds.formed lt tt;
     }
 
 -- no handle comes or goes
-pub holds_look : (d : ℕ) (slots : Slots) (v w : Story) → (story_state w).hands ≡ (story_state v).hands
-    → (story_state w).latest ≡ (story_state v).latest → HoldsBag d slots v
+pub holds_look : (d : ℕ) (slots : Slots) (v w : GhostState) → (model_state w).hands ≡ (model_state v).hands
+    → (model_state w).latest ≡ (model_state v).latest → HoldsBag d slots v
     → HoldsBag d slots w
 holds_look d slots v w hands latest holds =
     record {
@@ -146,11 +146,11 @@ holds_look d slots v w hands latest holds =
     }
 
 -- a weak pointer in a slot
-pub weak_held : (d : ℕ) (slots : Slots) (v : Story) (i : ℕ) (x : Pointer) → HoldsBag d slots v → weak_slot (slot_pointer slots i) ≡ Some x
-    → Has (held d (weak_in v x.block x.place)) (story_state v).hands
+pub weak_held : (d : ℕ) (slots : Slots) (v : GhostState) (i : ℕ) (x : Pointer) → HoldsBag d slots v → weak_slot (slot_pointer slots i) ≡ Some x
+    → Has (held d (weak_in v x.block x.place)) (model_state v).hands
 weak_held d slots v i x holds e =
     let w = weak_is (slot_pointer slots i) x e in
-    subst (λ (k : Kind). Has (held d (handle_in_block v k x.block x.place)) (story_state v).hands) w.1 (slot_held d slots v i x holds w.0)
+    subst (λ (k : Kind). Has (held d (handle_in_block v k x.block x.place)) (model_state v).hands) w.1 (slot_held d slots v i x holds w.0)
   where
     weak_is : (o : Option Pointer) (x : Pointer) → weak_slot o ≡ Some x → (o ≡ Some x) × (x.kind ≡ Weak)
     weak_is None x e = cc
@@ -161,7 +161,7 @@ weak_held d slots v i x holds e =
         go Weak is e = (e, ap (λ (p : Pointer). p.kind) (sym (same_Some y x e)) ∙ is)
 
 -- the place of a weak pointer in a slot is well formed
-pub weak_formed : (d : ℕ) (slots : Slots) (v : Story) (i : ℕ) (x : Pointer) → HoldsBag d slots v
+pub weak_formed : (d : ℕ) (slots : Slots) (v : GhostState) (i : ℕ) (x : Pointer) → HoldsBag d slots v
     → weak_slot (slot_pointer slots i) ≡ Some x → IsPointer x.place
 weak_formed d slots v i x holds e = go (slot_value slots i) (holds.formed i) e
   where
@@ -174,29 +174,29 @@ weak_formed d slots v i x holds e = go (slot_value slots i) (holds.formed i) e
         kinds Weak e = subst (λ (p : Pointer). IsPointer p.place) (same_Some y x e) f
 
 -- a copy of a pointer
-pub holds_share : (d : ℕ) (slots : Slots) (v : Story) (i : ℕ) (x : Pointer) → HoldsBag d slots v → IsPointer x.place → i < length slots
-    → slot_pointer slots i ≡ None → HoldsBag d (set slots i (Full x)) (story_after_deed v d (share x))
+pub holds_share : (d : ℕ) (slots : Slots) (v : GhostState) (i : ℕ) (x : Pointer) → HoldsBag d slots v → IsPointer x.place → i < length slots
+    → slot_pointer slots i ≡ None → HoldsBag d (set slots i (Full x)) (ghost_after_step v d (share x))
 holds_share d slots v i x holds fine lt e = go x.kind refl
   where
-    go : (k : Kind) → x.kind ≡ k → HoldsBag d (set slots i (Full x)) (story_after_deed v d (share_as k x))
-    go Owner is = holds_more d slots v (story_after_deed v d (share_as Owner x)) i x holds
-        (ap (λ (k : Kind). held d (handle_in_block v k x.block x.place) ∷ (story_state v).hands) (sym is)) refl fine lt e
-    go Weak is = holds_more d slots v (story_after_deed v d (share_as Weak x)) i x holds
-        (ap (λ (k : Kind). held d (handle_in_block v k x.block x.place) ∷ (story_state v).hands) (sym is)) refl fine lt e
+    go : (k : Kind) → x.kind ≡ k → HoldsBag d (set slots i (Full x)) (ghost_after_step v d (share_as k x))
+    go Owner is = holds_more d slots v (ghost_after_step v d (share_as Owner x)) i x holds
+        (ap (λ (k : Kind). held d (handle_in_block v k x.block x.place) ∷ (model_state v).hands) (sym is)) refl fine lt e
+    go Weak is = holds_more d slots v (ghost_after_step v d (share_as Weak x)) i x holds
+        (ap (λ (k : Kind). held d (handle_in_block v k x.block x.place) ∷ (model_state v).hands) (sym is)) refl fine lt e
 
 -- a pointer leaves
-pub holds_leave : (d : ℕ) (slots : Slots) (v : Story) (i : ℕ) (x : Pointer) (last : Bool) → HoldsBag d slots v → slot_pointer slots i ≡ Some x
-    → HoldsBag d (set slots i plain) (story_after_deed v d (leave_as x.kind x last))
+pub holds_leave : (d : ℕ) (slots : Slots) (v : GhostState) (i : ℕ) (x : Pointer) (last : Bool) → HoldsBag d slots v → slot_pointer slots i ≡ Some x
+    → HoldsBag d (set slots i plain) (ghost_after_step v d (leave_as x.kind x last))
 holds_leave d slots v i x last holds e = go x.kind refl
   where
-    go : (k : Kind) → x.kind ≡ k → HoldsBag d (set slots i plain) (story_after_deed v d (leave_as k x last))
-    go Owner is = holds_less d slots v (story_after_deed v d (leave_as Owner x last)) i x holds e
-        (ap (λ (k : Kind). without same_held (held d (handle_in_block v k x.block x.place)) (story_state v).hands) (sym is)) refl
-    go Weak is = holds_less d slots v (story_after_deed v d (leave_as Weak x last)) i x holds e
-        (ap (λ (k : Kind). without same_held (held d (handle_in_block v k x.block x.place)) (story_state v).hands) (sym is)) refl
+    go : (k : Kind) → x.kind ≡ k → HoldsBag d (set slots i plain) (ghost_after_step v d (leave_as k x last))
+    go Owner is = holds_less d slots v (ghost_after_step v d (leave_as Owner x last)) i x holds e
+        (ap (λ (k : Kind). without same_held (held d (handle_in_block v k x.block x.place)) (model_state v).hands) (sym is)) refl
+    go Weak is = holds_less d slots v (ghost_after_step v d (leave_as Weak x last)) i x holds e
+        (ap (λ (k : Kind). without same_held (held d (handle_in_block v k x.block x.place)) (model_state v).hands) (sym is)) refl
 
 -- a slot without an object gets a place
-pub holds_empty : (d : ℕ) (slots : Slots) (v : Story) (i : ℕ) (p : Option Place) → HoldsBag d slots v → i < length slots
+pub holds_empty : (d : ℕ) (slots : Slots) (v : GhostState) (i : ℕ) (p : Option Place) → HoldsBag d slots v → i < length slots
     → slot_pointer slots i ≡ None → IsPointer p
     → HoldsBag d (set slots i (Empty p)) v
 holds_empty d slots v i p holds lt e fine =
@@ -213,7 +213,7 @@ holds_empty d slots v i p holds lt e fine =
     }
 
 -- a value goes from one slot to another
-pub holds_move : (d : ℕ) (slots : Slots) (v : Story) (i j : ℕ) → HoldsBag d slots v → i < length slots → j < length slots → i ≢ j
+pub holds_move : (d : ℕ) (slots : Slots) (v : GhostState) (i j : ℕ) → HoldsBag d slots v → i < length slots → j < length slots → i ≢ j
     → slot_pointer slots j ≡ None
     → HoldsBag d (set (set slots j (slot_value slots i)) i plain) v
 holds_move d slots v i j holds li lj n e =
@@ -235,8 +235,8 @@ holds_move d slots v i j holds li lj n e =
     }
 
 -- a block in a store is no block of a pointer
-apart : (d : ℕ) (slots : Slots) (v : Story) (b : Block) (i : ℕ) (x : Pointer) → Kept v → HoldsBag d slots v
-    → Has (stored d b.0) (story_state v).stores
+apart : (d : ℕ) (slots : Slots) (v : GhostState) (b : Block) (i : ℕ) (x : Pointer) → Kept v → HoldsBag d slots v
+    → Has (stored d b.0) (model_state v).stores
     → slot_pointer slots i ≡ Some x
     → x.block.0 ≢ b.0
 apart d slots v b i x kept holds has e same =
@@ -245,19 +245,19 @@ apart d slots v b i x kept holds has e same =
     let vacant = ((sound (opening v.extent) v.history kept.stands.legal).stores d b.0 has).0 in
     let z = vacant (object_of_block v x.block) (t.0 ∙ same) in omega (arith, busy, z)
 
-claimed_is : (v : Story) (d : ℕ) (b : Block) (enabled null : Bool) (fields : List ℕ) (h : Handle) (y : Slot) → ((p : Pointer)
+claimed_is : (v : GhostState) (d : ℕ) (b : Block) (enabled null : Bool) (fields : List ℕ) (h : Handle) (y : Slot) → ((p : Pointer)
     → pointer_of y ≡ Some p → p.block.0 ≢ b.0)
-    → is_it (story_after_deed v d (Claim b enabled null fields)) h y ≡ is_it v h y
+    → is_it (ghost_after_step v d (Claim b enabled null fields)) h y ≡ is_it v h y
 claimed_is v d b enabled null fields h (Empty q) f = refl
 claimed_is v d b enabled null fields h (Full p) f =
-    ap (λ (o : ℕ). same_handle h (handle p.kind (Some o) p.place)) (put_other (story_state v).latest b.0 (suc (story_state v).made) p.block.0 (f p refl))
+    ap (λ (o : ℕ). same_handle h (handle p.kind (Some o) p.place)) (put_other (model_state v).latest b.0 (suc (model_state v).made) p.block.0 (f p refl))
 
-claimed_owns : (v : Story) (d : ℕ) (b : Block) (enabled null : Bool) (fields : List ℕ) (h : Handle) (slots : Slots)
+claimed_owns : (v : GhostState) (d : ℕ) (b : Block) (enabled null : Bool) (fields : List ℕ) (h : Handle) (slots : Slots)
     → ((i : ℕ) (p : Pointer) → slot_pointer slots i ≡ Some p → p.block.0 ≢ b.0)
-    → owns (story_after_deed v d (Claim b enabled null fields)) slots h ≡ owns v slots h
+    → owns (ghost_after_step v d (Claim b enabled null fields)) slots h ≡ owns v slots h
 claimed_owns v d b enabled null fields h [] f = refl
 claimed_owns v d b enabled null fields h (y ∷ ys) f =
-    let w = story_after_deed v d (Claim b enabled null fields) in
+    let w = ghost_after_step v d (Claim b enabled null fields) in
     let i = claimed_owns v d b enabled null fields h ys (λ j p e. f (suc j) p e) in
     let m = num_cons (is_it w h) y ys in
     let n = num_cons (is_it v h) y ys in
@@ -270,29 +270,29 @@ origin_formed : (z : Opening) (b : ℕ) (null : Bool) → InShape z b → z.bloc
 origin_formed z b true shape few = tt
 origin_formed z b false shape few = let low = shape.0 in let high = shape.1 in (low, omega (arith, high, few), omega arith)
 
-pub holds_claim : (d : ℕ) (slots : Slots) (v : Story) (i : ℕ) (b : Block) (form : Form) → Kept v → HoldsBag d slots v
-    → Has (stored d b.0) (story_state v).stores
+pub holds_claim : (d : ℕ) (slots : Slots) (v : GhostState) (i : ℕ) (b : Block) (form : Form) → Kept v → HoldsBag d slots v
+    → Has (stored d b.0) (model_state v).stores
     → InShape (opening v.extent) b.0 → v.extent.shape.blocks ≤ 65535 → i < length slots → slot_pointer slots i ≡ None
     → HoldsBag d (set slots i (Full (record { kind = Owner; block = b; place = origin b.0 form.null })))
-    (story_after_deed v d (Claim b form.enabled form.null form.fields))
+    (ghost_after_step v d (Claim b form.enabled form.null form.fields))
 holds_claim d slots v i b form kept holds has shape few lt e =
     let x : Pointer = record { kind = Owner; block = b; place = origin b.0 form.null } in
-    let w = story_after_deed v d (Claim b form.enabled form.null form.fields) in
-    let y = owner (suc (story_state v).made) (origin b.0 form.null) in
+    let w = ghost_after_step v d (Claim b form.enabled form.null form.fields) in
+    let y = owner (suc (model_state v).made) (origin b.0 form.null) in
     record {
       owned = λ h.
-          let a = num_cons (same_held (held d h)) (held d y) (story_state v).hands in
+          let a = num_cons (same_held (held d h)) (held d y) (model_state v).hands in
           let m = one_held d h y in
           let s = num_set (is_it w h) slots i (Full x) lt in
           let z = num_none (is_it w h) (slot_value slots i) (λ q. refl) e in
           let t = one_slot (is_it w h) (Full x) in
           let u : is_it w h (Full x) ≡ same_handle h y = ap
-          (λ (o : ℕ). same_handle h (owner o (origin b.0 form.null))) (put_same (story_state v).latest b.0 (suc (story_state v).made) b.0 refl) in
+          (λ (o : ℕ). same_handle h (owner o (origin b.0 form.null))) (put_same (model_state v).latest b.0 (suc (model_state v).made) b.0 refl) in
           let k : ◌≡◌ {A = ℕ} (cond (is_it w h (Full x)) 1 0) (cond (same_handle h y) 1 0) = ap (λ (q : Bool). cond q 1 0) u in
           let c = claimed_owns v d b form.enabled form.null form.fields h slots (λ j p q. apart d slots v b j p kept holds has q) in
           let o = holds.owned h in omega (arith, a, m, s, z, t, k, c, o);
       size =
-          (let a = bag_one d y (story_state v).hands in
+          (let a = bag_one d y (model_state v).hands in
           let s = num_set slot_has_object slots i (Full x) lt in
           let z = num_none slot_has_object (slot_value slots i) (λ q. refl) e in
           let o = holds.size in omega (arith, a, s, z, o));

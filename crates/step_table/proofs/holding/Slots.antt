@@ -10,10 +10,10 @@ use Rattle.control_word.specs.declared.model.handle.Handle.{Handle}
 use Rattle.control_word.specs.declared.place.Place.{Place}
 use Rattle.control_word.specs.Handles.{same_handle}
 use Rattle.control_word.specs.State.{Has, Held, held, same_held}
-use Rattle.step_table.specs.declared.slots.holdings.Pointer.{Pointer}
+use Rattle.step_table.specs.declared.slots.registers.Pointer.{Pointer}
 use Rattle.step_table.specs.declared.slots.slot.Slot.{Slot}
 use Rattle.step_table.specs.declared.slots.slot.Slot.TheVariants.{Empty, Full}
-use Rattle.step_table.specs.Holdings.{Slots, full, slot_has_object, pointer_of, slot_pointer, slot_value}
+use Rattle.step_table.specs.Registers.{Slots, full, slot_has_object, pointer_of, slot_pointer, slot_value}
 
 -- one slot gets another value
 pub num_set : (p : Slot → Bool) (l : Slots) (i : ℕ) (x : Slot) → i < length l

@@ -16,32 +16,32 @@ use Rattle.control_word.specs.Handles.{empty, handle}
 use Rattle.control_word.specs.Packing.{IsCellWord, cell_bits}
 use Rattle.control_word.specs.Words.{blocks_of, cell_at, shown}
 use Rattle.step_table.specs.Openings.{opening}
-use Rattle.step_table.specs.Stories.{Kept, Story, pending, story_state, view_in}
+use Rattle.step_table.specs.GhostStates.{Kept, GhostState, pending, model_state, view_in}
 use Rattle.step_table.proofs.tables.Standing.{ready}
 
-abbrev pub at_cell : Story → Cell → ℕ
-at_cell v c = cell_at (opening v.extent) (story_state v) c
+abbrev pub at_cell : GhostState → Cell → ℕ
+at_cell v c = cell_at (opening v.extent) (model_state v) c
 
 -- the word is the packing of what the cell holds, and of how many funds were taken
-pub record Decoded (v : Story) (c : Cell) : Type 0 where
+pub record Decoded (v : GhostState) (c : Cell) : Type 0 where
   pub taken : ℕ
-  pub bits : get_or v.words (at_cell v c) 0 ≡ cell_bits (shown (blocks_of (story_state v)) (cell_of (story_state v) c) taken)
-  pub valid : IsCellWord (shown (blocks_of (story_state v)) (cell_of (story_state v) c) taken)
-  pub bare : (cell_of (story_state v) c).object ≡ None → taken ≡ 0
-  pub kind : (cell_of (story_state v) c).kind ≡ kind_of (story_state v) c
+  pub bits : get_or v.words (at_cell v c) 0 ≡ cell_bits (shown (blocks_of (model_state v)) (cell_of (model_state v) c) taken)
+  pub valid : IsCellWord (shown (blocks_of (model_state v)) (cell_of (model_state v) c) taken)
+  pub bare : (cell_of (model_state v) c).object ≡ None → taken ≡ 0
+  pub kind : (cell_of (model_state v) c).kind ≡ kind_of (model_state v) c
 
-none_taken : (v : Story) (c : Cell) (kept : Kept v) → IsKept (story_state v) c → (cell_of (story_state v) c).object ≡ None
+none_taken : (v : GhostState) (c : Cell) (kept : Kept v) → IsKept (model_state v) c → (cell_of (model_state v) c).object ≡ None
     → kept.stands.taken (at_cell v c) ≡ 0
 none_taken v (Free c) kept is e = kept.stands.bare.frees c (let t = cells_led (opening v.extent) v.history in omega arith) e
 none_taken v (Member o m) kept is e =
     let place = (sound (opening v.extent) v.history kept.stands.legal).placed o is.1 in
-    kept.stands.bare.members ((story_state v).object o).block m place.1 is.0 (ap (λ (n : ℕ). (((story_state v).object n).member m).object) place.0 ∙ e)
+    kept.stands.bare.members ((model_state v).object o).block m place.1 is.0 (ap (λ (n : ℕ). (((model_state v).object n).member m).object) place.0 ∙ e)
 
-of_kind : (v : Story) (c : Cell) → Kept v → IsKept (story_state v) c → (cell_of (story_state v) c).kind ≡ kind_of (story_state v) c
+of_kind : (v : GhostState) (c : Cell) → Kept v → IsKept (model_state v) c → (cell_of (model_state v) c).kind ≡ kind_of (model_state v) c
 of_kind v (Free c) kept is = ((formed (opening v.extent) v.history kept.stands.legal).frees c is).1
 of_kind v (Member o m) kept is = ((formed (opening v.extent) v.history kept.stands.legal).members o m is.0).1
 
-pub decoded : (v : Story) (d : ℕ) (c : Cell) → Kept v → d < v.extent.actors → IsKept (story_state v) c → Decoded v c
+pub decoded : (v : GhostState) (d : ℕ) (c : Cell) → Kept v → d < v.extent.actors → IsKept (model_state v) c → Decoded v c
 decoded v d c kept lt is =
     let r = ready v d (pending v d) kept lt refl in
     let t = cell_decodes (opening v.extent) v.words v.views v.history kept.stands d (view_in v.views d) r.seated r.awake c is in
@@ -57,11 +57,11 @@ empty_zero : (block : ℕ → ℕ) (k : Kind) (h : Handle) → h ≡ empty k →
 empty_zero block k h e = ap (λ (x : Handle). cell_bits (shown block x 0)) e
 
 -- a word that is 0 is that of an empty cell
-pub zero_shows : (v : Story) (c : Cell) → Decoded v c
-    → (get_or v.words (at_cell v c) 0 ≡ 0) ↔ (cell_of (story_state v) c ≡ empty (kind_of (story_state v) c))
+pub zero_shows : (v : GhostState) (c : Cell) → Decoded v c
+    → (get_or v.words (at_cell v c) 0 ≡ 0) ↔ (cell_of (model_state v) c ≡ empty (kind_of (model_state v) c))
 zero_shows v c code =
-    let h = cell_of (story_state v) c in (
-      λ e. zero_empty (blocks_of (story_state v)) h.kind h.object h.place code.taken code.valid (sym code.bits ∙ e) ∙ ap empty code.kind,
-      λ e. code.bits ∙ ap (λ (t : ℕ). cell_bits (shown (blocks_of (story_state v)) h t)) (code.bare (ap (λ (x : Handle). x.object) e))
-          ∙ empty_zero (blocks_of (story_state v)) (kind_of (story_state v) c) h e,
+    let h = cell_of (model_state v) c in (
+      λ e. zero_empty (blocks_of (model_state v)) h.kind h.object h.place code.taken code.valid (sym code.bits ∙ e) ∙ ap empty code.kind,
+      λ e. code.bits ∙ ap (λ (t : ℕ). cell_bits (shown (blocks_of (model_state v)) h t)) (code.bare (ap (λ (x : Handle). x.object) e))
+          ∙ empty_zero (blocks_of (model_state v)) (kind_of (model_state v) c) h e,
     )

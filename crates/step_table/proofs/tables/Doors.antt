@@ -12,16 +12,18 @@ use Rattle.control_word.specs.Histories.{IsLegal}
 use Rattle.control_word.specs.Layout.{spot}
 use Rattle.control_word.specs.State.{Object, ending}
 use Rattle.control_word.specs.Views.{added, adds, total, used_up}
-use Rattle.step_table.specs.declared.memory.past.Deed.{Deed}
-use Rattle.step_table.specs.declared.memory.past.Deed.TheVariants.{Prepare, Write, Claim, Share, WeakShare, Leave, WeakLeave, Lock, Count, Expired, Read, Clear}
-use Rattle.step_table.specs.declared.memory.past.Deed.TheVariants.{Finish, OnCell, OnShelf}
-use Rattle.step_table.proofs.tables.CellDeeds.{shuts_cell, whole_framed}
-use Rattle.step_table.proofs.tables.ShelfDeeds.{shelf_framed}
+use Rattle.step_table.specs.declared.memory.past.AtomicStep.{AtomicStep}
+use Rattle.step_table.specs.declared.memory.past.AtomicStep.TheVariants.{Prepare, Write, Claim, Share, WeakShare, Leave, WeakLeave, Lock, Count, Expired, Read}
+use Rattle.step_table.specs.declared.memory.past.AtomicStep.TheVariants.{Clear}
+use Rattle.step_table.specs.declared.memory.past.AtomicStep.TheVariants.{Finish, OnCell, OnShelf}
+use Rattle.step_table.proofs.tables.CellAtomicSteps.{shuts_cell, whole_framed}
+use Rattle.step_table.proofs.tables.ShelfAtomicSteps.{shelf_framed}
 use Rattle.step_table.specs.Openings.{opening}
-use Rattle.step_table.specs.Stories.{AllWhole, ShutsNoDoor, Kept, Nothing, Story, story_after_deed, history_after, object_of_block, pending, pending_after}
-use Rattle.step_table.specs.Stories.{story_state, view_in}
+use Rattle.step_table.specs.GhostStates.{AllWhole, ShutsNoDoor, Kept, Nothing, GhostState, ghost_after_step, history_after, object_of_block, pending}
+use Rattle.step_table.specs.GhostStates.{pending_after}
+use Rattle.step_table.specs.GhostStates.{model_state, view_in}
 
-shuts_none : (v : Story) (d : ℕ) (x : Deed) → ShutsNoDoor (pending_after v d x)
+shuts_none : (v : GhostState) (d : ℕ) (x : AtomicStep) → ShutsNoDoor (pending_after v d x)
 shuts_none v d (Prepare b) = tt
 shuts_none v d (Write b j n) = tt
 shuts_none v d (Claim b enabled null fields) = tt
@@ -36,39 +38,39 @@ shuts_none v d (Read b p n) = tt
 shuts_none v d (Clear b m) = tt
 shuts_none v d (Finish b vacant) = tt
 shuts_none v d (OnShelf b x) = tt
-shuts_none v d (OnCell x) = shuts_cell (story_state v) x
+shuts_none v d (OnCell x) = shuts_cell (model_state v) x
 
--- what is so of each half-done call, and of the desk's after its deed
-pub pending_all : (P : Pending Nothing → Type 0) (v : Story) (d : ℕ) (x : Deed) → d < length v.views → P (pending_after v d x)
-    → ((e : ℕ) → P (pending v e)) → (e : ℕ) → P (pending (story_after_deed v d x) e)
+-- what is so of each half-done call, and of the desk's after its atomic step
+pub pending_all : (P : Pending Nothing → Type 0) (v : GhostState) (d : ℕ) (x : AtomicStep) → d < length v.views → P (pending_after v d x)
+    → ((e : ℕ) → P (pending v e)) → (e : ℕ) → P (pending (ghost_after_step v d x) e)
 pending_all P v d x lt new all e =
-    ⊎_elim (λ (is : e ≡ d). subst (λ (q : ℕ). P (pending (story_after_deed v d x) q)) (sym is)
+    ⊎_elim (λ (is : e ≡ d). subst (λ (q : ℕ). P (pending (ghost_after_step v d x) q)) (sym is)
     (subst P (ap (λ (w : View Nothing). w.pending) (sym (get_or-set_same v.views d _ used_up lt))) new))
     (λ (ne : e ≢ d). subst P (ap (λ (w : View Nothing). w.pending) (sym (get_or-set_other v.views d e _ used_up ne))) (all e)) (cases_eq e d)
 
-pub doors_after : (v : Story) (d : ℕ) (x : Deed) → d < length v.views → ((e : ℕ) → ShutsNoDoor (pending v e))
-    → (e : ℕ) → ShutsNoDoor (pending (story_after_deed v d x) e)
+pub doors_after : (v : GhostState) (d : ℕ) (x : AtomicStep) → d < length v.views → ((e : ℕ) → ShutsNoDoor (pending v e))
+    → (e : ℕ) → ShutsNoDoor (pending (ghost_after_step v d x) e)
 doors_after v d x lt none e = pending_all (λ p. ShutsNoDoor p) v d x lt (shuts_none v d x) none e
 
 -- an object goes to another phase
-moved_whole : (v : Story) (i : ℕ) (y : Object) (o : ℕ) → AllWhole (story_state v) → y.fields ≡ ((story_state v).object i).fields → 0 < o
-    → o ≤ (story_state v).made
+moved_whole : (v : GhostState) (i : ℕ) (y : Object) (o : ℕ) → AllWhole (model_state v) → y.fields ≡ ((model_state v).object i).fields → 0 < o
+    → o ≤ (model_state v).made
     → (o ≡ i) → length y.fields ≡ 4
 moved_whole v i y o whole same some le is =
-    subst (λ (l : List ℕ). length l ≡ 4) (sym same) (subst (λ (j : ℕ). length ((story_state v).object j).fields ≡ 4) is (whole o some le))
+    subst (λ (l : List ℕ). length l ≡ 4) (sym same) (subst (λ (j : ℕ). length ((model_state v).object j).fields ≡ 4) is (whole o some le))
 
-pub whole_after : (v : Story) (d : ℕ) (x : Deed) → AllWhole (story_state v) → IsLegal (opening v.extent) (history_after v d x)
-    → AllWhole (story_state (story_after_deed v d x))
+pub whole_after : (v : GhostState) (d : ℕ) (x : AtomicStep) → AllWhole (model_state v) → IsLegal (opening v.extent) (history_after v d x)
+    → AllWhole (model_state (ghost_after_step v d x))
 whole_after v d (Prepare b) whole legal = whole
 whole_after v d (Write b j n) whole legal = whole
 whole_after v d (Claim b enabled null fields) whole legal = λ o some le.
-    put_cases (λ j (y : Object). o ≡ j → length y.fields ≡ 4) (story_state v).object (suc (story_state v).made) _ o (λ e t. legal.1.asks.1)
+    put_cases (λ j (y : Object). o ≡ j → length y.fields ≡ 4) (model_state v).object (suc (model_state v).made) _ o (λ e t. legal.1.asks.1)
     (λ ne t. whole o some (omega arith)) refl
 whole_after v d (Share b p q) whole legal = whole
 whole_after v d (Leave b p last) whole legal = λ o some le.
     let i = object_of_block v b in
-    let y = (story_state v).object i in
-    put_cases (λ j (z : Object). o ≡ j → length z.fields ≡ 4) (story_state v).object i _ o
+    let y = (model_state v).object i in
+    put_cases (λ j (z : Object). o ≡ j → length z.fields ≡ 4) (model_state v).object i _ o
     (λ e t. moved_whole v i (cond last (moved_to (ending d) y) y) o whole
     (cond_both last (moved_to (ending d) y) y (λ (z : Object). z.fields ≡ y.fields) (λ s. refl) (λ s. refl)) some le e) (λ ne t. whole o some le) refl
 whole_after v d (WeakShare b p) whole legal = whole
@@ -78,11 +80,11 @@ whole_after v d (Count k b p n) whole legal = whole
 whole_after v d (Expired k b p e) whole legal = whole
 whole_after v d (Read b p n) whole legal = whole
 whole_after v d (Clear b m) whole legal = λ o some le.
-    put_cases (λ j (z : Object). o ≡ j → length z.fields ≡ 4) (story_state v).object (object_of_block v b) _ o
-    (λ e t. moved_whole v (object_of_block v b) ((story_state v).object (object_of_block v b)) o whole refl some le e) (λ ne t. whole o some le) refl
+    put_cases (λ j (z : Object). o ≡ j → length z.fields ≡ 4) (model_state v).object (object_of_block v b) _ o
+    (λ e t. moved_whole v (object_of_block v b) ((model_state v).object (object_of_block v b)) o whole refl some le e) (λ ne t. whole o some le) refl
 whole_after v d (Finish b vacant) whole legal = λ o some le.
-    put_cases (λ j (z : Object). o ≡ j → length z.fields ≡ 4) (story_state v).object (object_of_block v b) _ o
-    (λ e t. moved_whole v (object_of_block v b) ((story_state v).object (object_of_block v b)) o whole refl some le e) (λ ne t. whole o some le) refl
+    put_cases (λ j (z : Object). o ≡ j → length z.fields ≡ 4) (model_state v).object (object_of_block v b) _ o
+    (λ e t. moved_whole v (object_of_block v b) ((model_state v).object (object_of_block v b)) o whole refl some le e) (λ ne t. whole o some le) refl
 whole_after v d (OnShelf b x) whole legal = subst AllWhole (sym (shelf_framed v d b x).2) whole
 whole_after v d (OnCell x) whole legal = whole_framed v d x whole
 
@@ -100,5 +102,5 @@ adds_none (Parting to) b none = absurd none
 adds_none (Merging other x y) b none = absurd none
 
 -- no door is shut
-pub no_door : (v : Story) (b : ℕ) → Kept v → added v.views (spot b 2) ≡ 0
+pub no_door : (v : GhostState) (b : ℕ) → Kept v → added v.views (spot b 2) ≡ 0
 no_door v b kept = none_in (λ p. adds p (spot b 2)) v.views (λ d. adds_none (pending v d) b (kept.doors d))

@@ -19,9 +19,9 @@ use Rattle.control_word.specs.State.{HasRoom, ending, kind_of_member, weak}
 use Rattle.control_word.specs.Steps.{me, purse}
 use Rattle.control_word.specs.Views.{Stands, sees_as}
 use Rattle.control_word.specs.Words.{blocks_of, packed}
-use Rattle.step_table.specs.declared.memory.past.Deed.TheVariants.{Clear, Finish}
+use Rattle.step_table.specs.declared.memory.past.AtomicStep.TheVariants.{Clear, Finish}
 use Rattle.step_table.specs.Openings.{opening}
-use Rattle.step_table.specs.Stories.{Nothing, Story, Kept, story_after_deed, object_of_block, pending, story_state, view_in}
+use Rattle.step_table.specs.GhostStates.{Nothing, GhostState, Kept, ghost_after_step, object_of_block, pending, model_state, view_in}
 use Rattle.step_table.proofs.tables.Cells.{decoded, zero_shows}
 use Rattle.step_table.proofs.tables.Standing.{point, ready, kept_after}
 use Rattle.step_table.proofs.tables.Places.{event_by, named, ending_busy, there}
@@ -31,24 +31,24 @@ packed_empty : (block : ℕ → ℕ) (m : ℕ) → packed block (empty (kind_of_
 unfolding packed
 packed_empty block m = refl
 
-ends : (v : Story) (d : ℕ) (b : Block) → Kept v → d < v.extent.actors → ((story_state v).object (object_of_block v b)).phase ≡ ending d
-    → ((story_state v).object (object_of_block v b)).phase ≡ ending (me (point v d))
+ends : (v : GhostState) (d : ℕ) (b : Block) → Kept v → d < v.extent.actors → ((model_state v).object (object_of_block v b)).phase ≡ ending d
+    → ((model_state v).object (object_of_block v b)).phase ≡ ending (me (point v d))
 ends v d b kept lt e = e ∙ ap ending (sym (named v d kept lt))
 
 -- a member of an ending object is empty just where its word is 0
-pub member_shows : (v : Story) (d : ℕ) (b : Block) (m : ℕ) → Kept v → d < v.extent.actors
-    → ((story_state v).object (object_of_block v b)).phase ≡ ending d → m < 3
-    → (get_or v.words (spot b.0 (7 + m)) 0 ≡ 0) ↔ (((story_state v).object (object_of_block v b)).member m ≡ empty (kind_of_member m))
+pub member_shows : (v : GhostState) (d : ℕ) (b : Block) (m : ℕ) → Kept v → d < v.extent.actors
+    → ((model_state v).object (object_of_block v b)).phase ≡ ending d → m < 3
+    → (get_or v.words (spot b.0 (7 + m)) 0 ≡ 0) ↔ (((model_state v).object (object_of_block v b)).member m ≡ empty (kind_of_member m))
 member_shows v d b m kept lt end few =
     let busy = ending_busy v d b end in
     let c = Member (object_of_block v b) m in
-    subst (λ (i : ℕ). (get_or v.words (spot i (7 + m)) 0 ≡ 0) ↔ (((story_state v).object (object_of_block v b)).member m ≡ empty (kind_of_member m)))
+    subst (λ (i : ℕ). (get_or v.words (spot i (7 + m)) 0 ≡ 0) ↔ (((model_state v).object (object_of_block v b)).member m ≡ empty (kind_of_member m)))
     (there v b kept busy).0 (zero_shows v c (decoded v d c kept lt (few, busy)))
 
 -- a member of an ending object is found empty
-pub member_zero : (v : Story) (d : ℕ) (b : Block) (m : ℕ) → Kept v → d < v.extent.actors → pending v d ≡ Idle
-    → ((story_state v).object (object_of_block v b)).phase ≡ ending d → m < 3
-    → ((story_state v).object (object_of_block v b)).member m ≡ empty (kind_of_member m)
+pub member_zero : (v : GhostState) (d : ℕ) (b : Block) (m : ℕ) → Kept v → d < v.extent.actors → pending v d ≡ Idle
+    → ((model_state v).object (object_of_block v b)).phase ≡ ending d → m < 3
+    → ((model_state v).object (object_of_block v b)).member m ≡ empty (kind_of_member m)
     → get_or v.words (spot b.0 (7 + m)) 0 ≡ 0
 member_zero v d b m kept lt idle end few bare =
     let o = object_of_block v b in
@@ -57,19 +57,19 @@ member_zero v d b m kept lt idle end few bare =
     let r = ready v d Idle kept lt idle in
     let read = cell_read (opening v.extent) v.words v.views v.history kept.stands d (view_in v.views d) r.seated r.awake (Member o m) (few, busy) in
     let none = kept.stands.bare.members b.0 m h.1 few (ap (λ (x : Handle). x.object) bare) in
-    let zero = ap (packed (blocks_of (story_state v))) bare ∙ packed_empty (blocks_of (story_state v)) m in
+    let zero = ap (packed (blocks_of (model_state v))) bare ∙ packed_empty (blocks_of (model_state v)) m in
     subst (λ (c : ℕ). get_or v.words (spot c (7 + m)) 0 ≡ 0) h.0
-    (let taken : kept.stands.taken (spot ((story_state v).object o).block (7 + m))
+    (let taken : kept.stands.taken (spot ((model_state v).object o).block (7 + m))
     ≡ 0 = subst (λ (c : ℕ). kept.stands.taken (spot c (7 + m)) ≡ 0) (sym h.0) none in
     omega arith)
 
-pub kept_clear : (v : Story) (d : ℕ) (b : Block) (m : ℕ) → Kept v → d < v.extent.actors → pending v d ≡ Idle
-    → ((story_state v).object (object_of_block v b)).phase ≡ ending d → m < 3
-    → ((story_state v).object (object_of_block v b)).member m ≡ empty (kind_of_member m)
-    → Kept (story_after_deed v d (Clear b m))
+pub kept_clear : (v : GhostState) (d : ℕ) (b : Block) (m : ℕ) → Kept v → d < v.extent.actors → pending v d ≡ Idle
+    → ((model_state v).object (object_of_block v b)).phase ≡ ending d → m < 3
+    → ((model_state v).object (object_of_block v b)).member m ≡ empty (kind_of_member m)
+    → Kept (ghost_after_step v d (Clear b m))
 kept_clear v d b m kept lt idle end few bare =
     let o = object_of_block v b in
-    let x = (story_state v).object o in
+    let x = (model_state v).object o in
     let h = there v b kept (ending_busy v d b end) in
     let zero = member_zero v d b m kept lt idle end few bare in
     let here = ap (λ (c : ℕ). spot c (7 + m)) h.0 in
@@ -82,20 +82,20 @@ kept_clear v d b m kept lt idle end few bare =
     (set v.views d (sees_as (view_in v.views d) Idle (entry (me (point v d)) (event.ClearMember o m (empty (kind_of_member m))) ∷ v.history)))
     (entry (me (point v d)) (event.ClearMember o m (empty (kind_of_member m))) ∷ v.history) =
     subst (λ (k : Handle). Stands (opening v.extent) (set v.words (spot x.block (7 + m)) 0)
-    (set v.views d (sees_as (view_in v.views d) (purse (blocks_of (story_state v)) k 256) (entry (me (point v d)) (event.ClearMember o m k) ∷ v.history)))
+    (set v.views d (sees_as (view_in v.views d) (purse (blocks_of (model_state v)) k 256) (entry (me (point v d)) (event.ClearMember o m k) ∷ v.history)))
     (entry (me (point v d)) (event.ClearMember o m k) ∷ v.history)) bare
     (clears' (point v d) o m r (ends v d b kept lt end) few
-    (subst (λ (k : Handle). HasRoom (cleared {V = Nothing} (story_state v) (me (point v d)) (event.ClearMember o m k)) (me (point v d))) (sym bare) room) 0
-    (let t = ap (packed (blocks_of (story_state v))) bare ∙ packed_empty (blocks_of (story_state v)) m in omega arith)) in
+    (subst (λ (k : Handle). HasRoom (cleared {V = Nothing} (model_state v) (me (point v d)) (event.ClearMember o m k)) (me (point v d))) (sym bare) room) 0
+    (let t = ap (packed (blocks_of (model_state v))) bare ∙ packed_empty (blocks_of (model_state v)) m in omega arith)) in
     kept_after v d (Clear b m) kept lt
     (event_by v d v.words Idle (event.ClearMember o m (empty (kind_of_member m))) kept lt
     (subst (λ (w : List ℕ). Stands (opening v.extent) w
     (set v.views d (sees_as (view_in v.views d) Idle (entry (me (point v d)) (event.ClearMember o m (empty (kind_of_member m))) ∷ v.history)))
     (entry (me (point v d)) (event.ClearMember o m (empty (kind_of_member m))) ∷ v.history)) same law))
 
-finishing : (v : Story) (d : ℕ) (b : Block) → Kept v → d < v.extent.actors → pending v d ≡ Idle
-    → ((story_state v).object (object_of_block v b)).phase ≡ ending d
-    → ((m : ℕ) → m < 3 → ((story_state v).object (object_of_block v b)).member m ≡ empty (kind_of_member m))
+finishing : (v : GhostState) (d : ℕ) (b : Block) → Kept v → d < v.extent.actors → pending v d ≡ Idle
+    → ((model_state v).object (object_of_block v b)).phase ≡ ending d
+    → ((m : ℕ) → m < 3 → ((model_state v).object (object_of_block v b)).member m ≡ empty (kind_of_member m))
     → (0 < get_or v.words (spot b.0 1) 0)
     × (let e = event.Finish (object_of_block v b) (get_or v.words (spot b.0 1) 0 == 1) tt in
     Stands (opening v.extent) (set v.words (spot b.0 1) (get_or v.words (spot b.0 1) 0 - 1))
@@ -110,15 +110,15 @@ finishing v d b kept lt idle end bare =
     (object_of_block v b) d end)
     (ends v d b kept lt end) bare)
 
-pub some_weak : (v : Story) (d : ℕ) (b : Block) → Kept v → d < v.extent.actors → pending v d ≡ Idle
-    → ((story_state v).object (object_of_block v b)).phase ≡ ending d
-    → ((m : ℕ) → m < 3 → ((story_state v).object (object_of_block v b)).member m ≡ empty (kind_of_member m)) → 0 < get_or v.words (spot b.0 1) 0
+pub some_weak : (v : GhostState) (d : ℕ) (b : Block) → Kept v → d < v.extent.actors → pending v d ≡ Idle
+    → ((model_state v).object (object_of_block v b)).phase ≡ ending d
+    → ((m : ℕ) → m < 3 → ((model_state v).object (object_of_block v b)).member m ≡ empty (kind_of_member m)) → 0 < get_or v.words (spot b.0 1) 0
 some_weak v d b kept lt idle end bare = (finishing v d b kept lt idle end bare).0
 
-pub kept_finish : (v : Story) (d : ℕ) (b : Block) (vacant : Bool) → Kept v → d < v.extent.actors → pending v d ≡ Idle
-    → ((story_state v).object (object_of_block v b)).phase ≡ ending d
-    → ((m : ℕ) → m < 3 → ((story_state v).object (object_of_block v b)).member m ≡ empty (kind_of_member m))
-    → vacant ≡ (get_or v.words (spot b.0 1) 0 == 1) → Kept (story_after_deed v d (Finish b vacant))
+pub kept_finish : (v : GhostState) (d : ℕ) (b : Block) (vacant : Bool) → Kept v → d < v.extent.actors → pending v d ≡ Idle
+    → ((model_state v).object (object_of_block v b)).phase ≡ ending d
+    → ((m : ℕ) → m < 3 → ((model_state v).object (object_of_block v b)).member m ≡ empty (kind_of_member m))
+    → vacant ≡ (get_or v.words (spot b.0 1) 0 == 1) → Kept (ghost_after_step v d (Finish b vacant))
 kept_finish v d b vacant kept lt idle end bare is =
     let o = object_of_block v b in
     kept_after v d (Finish b vacant) kept lt
@@ -129,6 +129,6 @@ kept_finish v d b vacant kept lt idle end bare is =
     (finishing v d b kept lt idle end bare).1))
 
 -- the event of a finish says whether the block is vacant
-pub finished_vacant : (v : Story) (d : ℕ) (b : Block) (vacant : Bool) → Kept (story_after_deed v d (Finish b vacant))
-    → vacant ≡ (weak (story_state v) (object_of_block v b) == 0)
+pub finished_vacant : (v : GhostState) (d : ℕ) (b : Block) (vacant : Bool) → Kept (ghost_after_step v d (Finish b vacant))
+    → vacant ≡ (weak (model_state v) (object_of_block v b) == 0)
 finished_vacant v d b vacant kept = kept.stands.legal.1.asks.2

@@ -18,35 +18,36 @@ use Rattle.control_word.specs.Layout.{spot}
 use Rattle.control_word.specs.Packing.{IsCellWord, cell_bits}
 use Rattle.control_word.specs.Views.{Stands, sees_as}
 use Rattle.control_word.specs.Words.{blocks_of, counts_at, packed, slot}
-use Rattle.step_table.specs.declared.cell_steps.cell_deed.Cell.{Cell}
-use Rattle.step_table.specs.declared.cell_steps.cell_deed.CellDeed.TheVariants.{Look, Refill}
-use Rattle.step_table.specs.declared.cell_steps.cell_deed.Compared.{Compared}
+use Rattle.step_table.specs.declared.cell_steps.cell_step.Cell.{Cell}
+use Rattle.step_table.specs.declared.cell_steps.cell_step.CellStep.TheVariants.{Look, Refill}
+use Rattle.step_table.specs.declared.cell_steps.cell_step.Compared.{Compared}
 use Rattle.control_word.specs.declared.model.event.Entry.{Entry}
 use Rattle.control_word.specs.declared.model.view.View.{View}
 use Rattle.step_table.specs.declared.memory.extent.Extent.{Extent}
-use Rattle.step_table.specs.declared.memory.past.Deed.{Deed}
-use Rattle.step_table.specs.declared.memory.past.Deed.TheVariants.{OnCell}
-use Rattle.step_table.specs.CellDeeds.{cell_in, handle_told, kind_in_state, object_at, owing_funds}
+use Rattle.step_table.specs.declared.memory.past.AtomicStep.{AtomicStep}
+use Rattle.step_table.specs.declared.memory.past.AtomicStep.TheVariants.{OnCell}
+use Rattle.step_table.specs.CellAtomicSteps.{cell_in, handle_told, kind_in_state, object_at, owing_funds}
 use Rattle.step_table.specs.Cells.{HasInHand, IsOpenTo, ShowsCell, word_of_cell}
 use Rattle.step_table.specs.Openings.{opening}
-use Rattle.step_table.specs.Stories.{Kept, Nothing, Story, story_after_deed, history_after, object_of_block, pending, story_state, view_in, views_after}
-use Rattle.step_table.specs.Stories.{words_after}
+use Rattle.step_table.specs.GhostStates.{Kept, Nothing, GhostState, ghost_after_step, history_after, object_of_block, pending, model_state, view_in}
+use Rattle.step_table.specs.GhostStates.{views_after}
+use Rattle.step_table.specs.GhostStates.{words_after}
 use Rattle.step_table.proofs.tables.Places.{event_by, named as own}
 use Rattle.step_table.proofs.tables.Shown.{cell_there, found_in, kept_cell}
-use Rattle.step_table.proofs.tables.Standing.{kept_after, point, ready, story_as}
+use Rattle.step_table.proofs.tables.Standing.{kept_after, point, ready, ghost_as}
 
-pub kept_look : (v : Story) (d : ℕ) (c : Cell) (x : CellWord) → Kept v → d < v.extent.actors → pending v d ≡ Idle → IsOpenTo v d c
+pub kept_look : (v : GhostState) (d : ℕ) (c : Cell) (x : CellWord) → Kept v → d < v.extent.actors → pending v d ≡ Idle → IsOpenTo v d c
     → ShowsCell v c x
-    → is_some x.owned ≡ false → Kept (story_after_deed v d (OnCell (Look c x None)))
+    → is_some x.owned ≡ false → Kept (ghost_after_step v d (OnCell (Look c x None)))
 kept_look v d c x kept lt idle way shows none = go x.owned refl
   where
-    go : (o : Option Block) → x.owned ≡ o → Kept (story_after_deed v d (OnCell (Look c x None)))
+    go : (o : Option Block) → x.owned ≡ o → Kept (ghost_after_step v d (OnCell (Look c x None)))
     go (Some b) e = absurd (clash (sym (ap is_some e) ∙ none))
       where
         clash : true ≡ false → ⊥
         clash q = cc
     go None e =
-        let s = story_state v in
+        let s = model_state v in
         let n = cell_in s c in
         let k = kind_in_state s c in
         let m = own v d kept lt in
@@ -58,16 +59,16 @@ kept_look v d c x kept lt idle way shows none = go x.owned refl
         (entry d (event.Load n y) ∷ v.history)) (sym told)
         (event_by v d v.words Idle (event.Load n (handle k None x.place)) kept lt law))
 
-pub kept_refill : (v : Story) (d : ℕ) (c : Cell) (x : CellWord) (p : Option Place) → Kept v → d < v.extent.actors → IsOpenTo v d c
+pub kept_refill : (v : GhostState) (d : ℕ) (c : Cell) (x : CellWord) (p : Option Place) → Kept v → d < v.extent.actors → IsOpenTo v d c
     → x.owned ≢ None → IsCellWord x → word_of_cell v c ≡ cell_bits x
-    → pending v d ≡ owing_funds (story_state v) (kind_in_state (story_state v) c) x.owned p x.taken 0
-    → Kept (story_after_deed v d (OnCell (Refill c x.taken)))
+    → pending v d ≡ owing_funds (model_state v) (kind_in_state (model_state v) c) x.owned p x.taken 0
+    → Kept (ghost_after_step v d (OnCell (Refill c x.taken)))
 kept_refill v d c x p kept lt way some valid bits owes = go x.owned refl
   where
-    go : (o : Option Block) → x.owned ≡ o → Kept (story_after_deed v d (OnCell (Refill c x.taken)))
+    go : (o : Option Block) → x.owned ≡ o → Kept (ghost_after_step v d (OnCell (Refill c x.taken)))
     go None e = absurd (some e)
     go (Some b) e =
-        let s = story_state v in
+        let s = model_state v in
         let n = cell_in s c in
         let k = kind_in_state s c in
         let o = object_of_block v b in
@@ -91,13 +92,13 @@ kept_refill v d c x p kept lt way some valid bits owes = go x.owned refl
 pub refilled : (x : CellWord) (n w : ℕ) → n ≡ cell_bits (record x { taken = 0 }) → w ≡ cell_bits x → n ≡ w - 17179869184 * x.taken
 refilled x n w e f = omega (arith, e, f)
 
-pub kept_look_differing : (v : Story) (d : ℕ) (c : Cell) (x : CellWord) (y : Compared) → Kept v → d < v.extent.actors
+pub kept_look_differing : (v : GhostState) (d : ℕ) (c : Cell) (x : CellWord) (y : Compared) → Kept v → d < v.extent.actors
     → pending v d ≡ Idle → IsOpenTo v d c
     → HasInHand v d c y.expected → HasInHand v d c y.new → ShowsCell v c x → x.owned ≡ None
-    → equivalent (handle_told (story_state v) c x) (handle_told (story_state v) c y.expected) ≡ false
-    → Kept (story_after_deed v d (OnCell (Look c x (Some y))))
+    → equivalent (handle_told (model_state v) c x) (handle_told (model_state v) c y.expected) ≡ false
+    → Kept (ghost_after_step v d (OnCell (Look c x (Some y))))
 kept_look_differing v d c x y kept lt idle way wanted hand shows e other =
-    let s = story_state v in
+    let s = model_state v in
     let n = cell_in s c in
     let k = kind_in_state s c in
     let m = own v d kept lt in
@@ -137,8 +138,8 @@ pub is_bare : (x : CellWord) → is_some x.owned ≡ false → x.owned ≡ None
 is_bare x e = no_owned x.owned e
 
 -- the table as the code leaves it, whole
-pub story_here : (v : Story) (d : ℕ) (x : Deed) (extent : Extent) (words : List ℕ) (history : List (Entry Nothing)) (views : List (View Nothing))
+pub ghost_here : (v : GhostState) (d : ℕ) (x : AtomicStep) (extent : Extent) (words : List ℕ) (history : List (Entry Nothing)) (views : List (View Nothing))
     → extent ≡ v.extent → words ≡ words_after v x → (history ≡ history_after v d x) × (views ≡ views_after v d x)
-    → ◌≡◌ {A = Story} (record { extent = extent; words = words; views = views; history = history }) (story_after_deed v d x)
-story_here v d x extent words history views at same past =
-    ap (λ (e : Extent). record { extent = e; words = words; views = views; history = history }) at ∙ story_as v d x words history views same past
+    → ◌≡◌ {A = GhostState} (record { extent = extent; words = words; views = views; history = history }) (ghost_after_step v d x)
+ghost_here v d x extent words history views at same past =
+    ap (λ (e : Extent). record { extent = e; words = words; views = views; history = history }) at ∙ ghost_as v d x words history views same past

@@ -10,28 +10,28 @@ use Rattle.control_word.specs.Layout.{spot}
 use Rattle.control_word.specs.State.{Has, bag_size, stored}
 use Rattle.control_word.specs.Views.{Stands, sees_as}
 use Rattle.control_word.specs.Words.{flags_of}
-use Rattle.step_table.specs.declared.memory.past.Deed.TheVariants.{Prepare, Write, Claim}
+use Rattle.step_table.specs.declared.memory.past.AtomicStep.TheVariants.{Prepare, Write, Claim}
 use Rattle.step_table.specs.Openings.{opening}
-use Rattle.step_table.specs.Stories.{Nothing, Story, Kept, IsMaking, story_after_deed, known_words, pending, story_state, view_in}
+use Rattle.step_table.specs.GhostStates.{Nothing, GhostState, Kept, IsMaking, ghost_after_step, known_words, pending, model_state, view_in}
 use Rattle.step_table.proofs.tables.Standing.{point, ready, kept_after}
 use Rattle.step_table.proofs.tables.Places.{event_by, named}
 
-pub kept_prepare : (v : Story) (d : ℕ) (b : Block) → Kept v → d < v.extent.actors → pending v d ≡ Idle → Has (stored d b.0) (story_state v).stores
-    → Kept (story_after_deed v d (Prepare b))
+pub kept_prepare : (v : GhostState) (d : ℕ) (b : Block) → Kept v → d < v.extent.actors → pending v d ≡ Idle → Has (stored d b.0) (model_state v).stores
+    → Kept (ghost_after_step v d (Prepare b))
 kept_prepare v d b kept lt idle has =
     kept_after v d (Prepare b) kept lt
-    (writes_weak_word (point v d) (ready v d Idle kept lt idle) b (subst (λ (n : ℕ). Has (stored n b.0) (story_state v).stores)
+    (writes_weak_word (point v d) (ready v d Idle kept lt idle) b (subst (λ (n : ℕ). Has (stored n b.0) (model_state v).stores)
     (sym (named v d kept lt)) has))
 
 -- what a make knows of a word is so
-pub known_word : (v : Story) (d : ℕ) (b : Block) (j : ℕ) → Kept v → d < v.extent.actors → IsMaking v d b → j < 5
+pub known_word : (v : GhostState) (d : ℕ) (b : Block) (j : ℕ) → Kept v → d < v.extent.actors → IsMaking v d b → j < 5
     → get_or v.words (spot b.0 (2 + j)) 0 ≡ get_or (known_words (pending v d)) j 0
 known_word v d b j kept lt making few =
     subst (λ (p : Pending Nothing). get_or v.words (spot b.0 (2 + j)) 0 ≡ get_or (known_words p) j 0) (sym making.making)
     (writes_word (point v d) b making.words (ready v d _ kept lt making.making) making.size j 0 few).0
 
-pub kept_write : (v : Story) (d : ℕ) (b : Block) (j n : ℕ) → Kept v → d < v.extent.actors → IsMaking v d b → j < 5
-    → Kept (story_after_deed v d (Write b j n))
+pub kept_write : (v : GhostState) (d : ℕ) (b : Block) (j n : ℕ) → Kept v → d < v.extent.actors → IsMaking v d b → j < 5
+    → Kept (ghost_after_step v d (Write b j n))
 kept_write v d b j n kept lt making few =
     kept_after v d (Write b j n) kept lt
     (subst (λ (p : Pending Nothing). Stands (opening v.extent) (set v.words (spot b.0 (2 + j)) n)
@@ -39,17 +39,17 @@ kept_write v d b j n kept lt making few =
     (writes_word (point v d) b making.words (ready v d _ kept lt making.making) making.size j n few).1)
 
 -- what the desk knows of the block that it prepared
-known_now : (v : Story) (d : ℕ) (b : Block) (flags : ℕ) (fields : List ℕ) (making : IsMaking v d b) → known_words (pending v d) ≡ flags ∷ fields
+known_now : (v : GhostState) (d : ℕ) (b : Block) (flags : ℕ) (fields : List ℕ) (making : IsMaking v d b) → known_words (pending v d) ≡ flags ∷ fields
     → making.words ≡ flags ∷ fields
 known_now v d b flags fields making is = sym (ap known_words making.making) ∙ is
 
-pub kept_claim : (v : Story) (d : ℕ) (b : Block) (enabled null : Bool) (fields : List ℕ) → Kept v → d < v.extent.actors → IsMaking v d b
-    → known_words (pending v d) ≡ flags_of enabled null ∷ fields → bag_size (story_state v) d < (story_state v).allowance d
-    → Kept (story_after_deed v d (Claim b enabled null fields))
+pub kept_claim : (v : GhostState) (d : ℕ) (b : Block) (enabled null : Bool) (fields : List ℕ) → Kept v → d < v.extent.actors → IsMaking v d b
+    → known_words (pending v d) ≡ flags_of enabled null ∷ fields → bag_size (model_state v) d < (model_state v).allowance d
+    → Kept (ghost_after_step v d (Claim b enabled null fields))
 kept_claim v d b enabled null fields kept lt making is room =
     let words = known_now v d b (flags_of enabled null) fields making is in
     kept_after v d (Claim b enabled null fields) kept lt
     (event_by v d (set v.words (spot b.0 0) 1) Idle (event.Make b enabled null fields tt) kept lt
     (claims (point v d) b enabled null fields tt (ready v d _ kept lt (making.making ∙ ap (Making b) words))
     (let e = sym (ap (length {A = ℕ}) words) ∙ making.size in omega arith)
-    (subst (λ (n : ℕ). bag_size (story_state v) n < (story_state v).allowance n) (sym (named v d kept lt)) room)))
+    (subst (λ (n : ℕ). bag_size (model_state v) n < (model_state v).allowance n) (sym (named v d kept lt)) room)))

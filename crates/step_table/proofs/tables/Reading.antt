@@ -14,37 +14,37 @@ use Rattle.control_word.specs.Layout.{spot}
 use Rattle.control_word.specs.State.{Has, Object, held}
 use Rattle.control_word.specs.Words.{blocks_of, flags_of, object_words}
 use Rattle.step_table.specs.declared.memory.ended.Ended.TheVariants.{Fields, Null}
-use Rattle.step_table.specs.declared.memory.past.Deed.TheVariants.{Read}
+use Rattle.step_table.specs.declared.memory.past.AtomicStep.TheVariants.{Read}
 use Rattle.step_table.specs.Openings.{opening}
-use Rattle.step_table.specs.Deeds.{remains}
-use Rattle.step_table.specs.Stories.{Kept, Story, story_after_deed, object_of_block, owner_in, pending, story_state, view_in}
+use Rattle.step_table.specs.AtomicSteps.{remains}
+use Rattle.step_table.specs.GhostStates.{Kept, GhostState, ghost_after_step, object_of_block, owner_in, pending, model_state, view_in}
 use Rattle.step_table.proofs.tables.Doors.{no_door}
 use Rattle.step_table.proofs.tables.Owners.{mine}
 use Rattle.step_table.proofs.tables.Places.{event_by, owner_busy, there}
 use Rattle.step_table.proofs.tables.Standing.{ready, kept_after}
 
-pub flags_read : (v : Story) (b : Block) → Kept v → IsBusy (story_state v) (object_of_block v b)
-    → get_or v.words (spot b.0 2) 0 ≡ flags_of ((story_state v).object (object_of_block v b)).enabled ((story_state v).object (object_of_block v b)).null
+pub flags_read : (v : GhostState) (b : Block) → Kept v → IsBusy (model_state v) (object_of_block v b)
+    → get_or v.words (spot b.0 2) 0 ≡ flags_of ((model_state v).object (object_of_block v b)).enabled ((model_state v).object (object_of_block v b)).null
 flags_read v b kept busy =
-    let x = (story_state v).object (object_of_block v b) in
+    let x = (model_state v).object (object_of_block v b) in
     let h = there v b kept busy in
     let r = body_read (opening v.extent) v.words v.views v.history kept.stands (object_of_block v b) 2 busy (omega arith) (omega arith) in
-    let f = words_flags (blocks_of (story_state v)) x in
+    let f = words_flags (blocks_of (model_state v)) x in
     let n = no_door v x.block kept in
     subst (λ (c : ℕ). get_or v.words (spot c 2) 0 ≡ flags_of x.enabled x.null) h.0 (omega (arith, r, f, n))
 
-pub field_read : (v : Story) (b : Block) (j : ℕ) → Kept v → IsBusy (story_state v) (object_of_block v b) → j < 4
-    → get_or v.words (spot b.0 (3 + j)) 0 ≡ get_or ((story_state v).object (object_of_block v b)).fields j 0
+pub field_read : (v : GhostState) (b : Block) (j : ℕ) → Kept v → IsBusy (model_state v) (object_of_block v b) → j < 4
+    → get_or v.words (spot b.0 (3 + j)) 0 ≡ get_or ((model_state v).object (object_of_block v b)).fields j 0
 field_read v b j kept busy lt =
-    let x = (story_state v).object (object_of_block v b) in
+    let x = (model_state v).object (object_of_block v b) in
     let h = there v b kept busy in
     let place = ((sound (opening v.extent) v.history kept.stands.legal).placed (object_of_block v b) busy).1 in
     let r = body_read (opening v.extent) v.words v.views v.history kept.stands (object_of_block v b) (3 + j) busy (omega arith) (omega arith) in
     let n = (body_more (opening v.extent) v.words v.views v.history kept.stands x.block (3 + j) place (omega arith) (omega arith)).2 (omega arith) in
-    let f = words_field (blocks_of (story_state v)) x j lt in
+    let f = words_field (blocks_of (model_state v)) x j lt in
     let k : 3 + j - 2 ≡ 1 + j = omega arith in
     subst (λ (c : ℕ). get_or v.words (spot c (3 + j)) 0 ≡ get_or x.fields j 0) h.0
-    (let e = ap (λ (i : ℕ). get_or (object_words (blocks_of (story_state v)) x) i 0) k in omega (arith, r, e, f, n))
+    (let e = ap (λ (i : ℕ). get_or (object_words (blocks_of (model_state v)) x) i 0) k in omega (arith, r, e, f, n))
 
 alike : {a b c d a' b' c' d' : ℕ} → a ≡ a' → b ≡ b' → c ≡ c' → d ≡ d' → a ∷ b ∷ c ∷ d ∷ [] ≡ a' ∷ b' ∷ c' ∷ d' ∷ []
 alike p q r s = cc
@@ -67,19 +67,19 @@ four_of words b w x y z p q r s (suc (suc (suc zero))) lt = s
 four_of words b w x y z p q r s (suc (suc (suc (suc j)))) lt = absurd (omega arith)
 
 -- the object has four fields
-whole_here : (v : Story) (b : Block) → Kept v → IsBusy (story_state v) (object_of_block v b)
-    → length ((story_state v).object (object_of_block v b)).fields ≡ 4
+whole_here : (v : GhostState) (b : Block) → Kept v → IsBusy (model_state v) (object_of_block v b)
+    → length ((model_state v).object (object_of_block v b)).fields ≡ 4
 whole_here v b kept busy =
     let fine = sound (opening v.extent) v.history kept.stands.legal in
     let some : object_of_block v b ≢ 0 = λ e. let z = fine.unmade_free 0 fine.none in
-    let t : 0 < 0 = subst (λ n. 0 < n) z (subst (IsBusy (story_state v)) e busy) in omega arith in
+    let t : 0 < 0 = subst (λ n. 0 < n) z (subst (IsBusy (model_state v)) e busy) in omega arith in
     kept.whole (object_of_block v b) (omega arith) (fine.latest_made b.0)
 
 -- a field of an object that a desk owns
-pub kept_read : (v : Story) (d : ℕ) (b : Block) (p : Place) (n : ℕ) → Kept v → d < v.extent.actors → pending v d ≡ Idle
-    → Has (held d (owner_in v b (Some p))) (story_state v).hands → p.block.0 ≡ b.0
-    → n ≡ get_or ((story_state v).object (object_of_block v b)).fields p.field 0
-    → Kept (story_after_deed v d (Read b (Some p) n))
+pub kept_read : (v : GhostState) (d : ℕ) (b : Block) (p : Place) (n : ℕ) → Kept v → d < v.extent.actors → pending v d ≡ Idle
+    → Has (held d (owner_in v b (Some p))) (model_state v).hands → p.block.0 ≡ b.0
+    → n ≡ get_or ((model_state v).object (object_of_block v b)).fields p.field 0
+    → Kept (ghost_after_step v d (Read b (Some p) n))
 kept_read v d b p n kept lt idle has here is =
     let r = ready v d Idle kept lt idle in
     let h = there v b kept (owner_busy v d b (Some p) kept has) in
@@ -92,12 +92,12 @@ kept_read v d b p n kept lt idle has here is =
 pub remains_null : (x : Object) → x.null ≡ true → remains x ≡ Null
 remains_null x is = cond-true x.null Null (Fields x.fields) is
 
-pub remains_fields : (v : Story) (b : Block) (l : List ℕ) → Kept v → IsBusy (story_state v) (object_of_block v b)
-    → ((story_state v).object (object_of_block v b)).null ≡ false
+pub remains_fields : (v : GhostState) (b : Block) (l : List ℕ) → Kept v → IsBusy (model_state v) (object_of_block v b)
+    → ((model_state v).object (object_of_block v b)).null ≡ false
     → length l ≡ 4 → ((j : ℕ) → j < 4 → get_or l j 0 ≡ get_or v.words (spot b.0 (3 + j)) 0)
-    → remains ((story_state v).object (object_of_block v b)) ≡ Fields l
+    → remains ((model_state v).object (object_of_block v b)) ≡ Fields l
 remains_fields v b l kept busy null size same =
-    let x = (story_state v).object (object_of_block v b) in
+    let x = (model_state v).object (object_of_block v b) in
     let at : (j : ℕ) → j < 4 → get_or x.fields j 0 ≡ get_or l j 0 = λ j lt. sym (field_read v b j kept busy lt) ∙ sym (same j lt) in
     let p = at 0 (omega arith) in let q = at 1 (omega arith) in let r = at 2 (omega arith) in let s = at 3 (omega arith) in
     let m = four x.fields (whole_here v b kept busy) in

@@ -10,28 +10,28 @@ use Rattle.control_word.specs.declared.model.view.Pending.TheVariants.{Idle}
 use Rattle.control_word.specs.Layout.{bit_of}
 use Rattle.control_word.specs.State.{Has, Opening, on_shelf, stored}
 use Rattle.control_word.specs.Words.{shelf_spot}
-use Rattle.step_table.specs.declared.memory.past.Deed.TheVariants.{OnShelf}
-use Rattle.step_table.specs.declared.memory.shelf.ShelfDeed.TheVariants.{Shelve, Unshelve, Miss}
+use Rattle.step_table.specs.declared.memory.past.AtomicStep.TheVariants.{OnShelf}
+use Rattle.step_table.specs.declared.memory.shelf.ShelfStep.TheVariants.{Shelve, Unshelve, Miss}
 use Rattle.step_table.specs.Openings.{opening}
-use Rattle.step_table.specs.ShelfDeeds.{shelf_words}
-use Rattle.step_table.specs.Stories.{Story, Kept, story_after_deed, pending, story_state}
+use Rattle.step_table.specs.ShelfAtomicSteps.{shelf_words}
+use Rattle.step_table.specs.GhostStates.{GhostState, Kept, ghost_after_step, pending, model_state}
 use Rattle.step_table.proofs.tables.Standing.{kept_after, point, ready}
 use Rattle.step_table.proofs.tables.Places.{event_by, named}
 
-pub kept_shelve : (v : Story) (d : ℕ) (b : Block) → Kept v → d < v.extent.actors → pending v d ≡ Idle
-    → Has (stored d b.0) (story_state v).stores → Kept (story_after_deed v d (OnShelf b Shelve))
+pub kept_shelve : (v : GhostState) (d : ℕ) (b : Block) → Kept v → d < v.extent.actors → pending v d ≡ Idle
+    → Has (stored d b.0) (model_state v).stores → Kept (ghost_after_step v d (OnShelf b Shelve))
 kept_shelve v d b kept lt idle has =
     kept_after v d (OnShelf b Shelve) kept lt
     (event_by v d (shelf_words (opening v.extent) v.words b Shelve) Idle (event.Shelve b) kept lt
     (shelves' (point v d) b (ready v d Idle kept lt idle)
-    (subst (λ (n : ℕ). Has (stored n b.0) (story_state v).stores) (sym (named v d kept lt)) has)))
+    (subst (λ (n : ℕ). Has (stored n b.0) (model_state v).stores) (sym (named v d kept lt)) has)))
 
 -- the word that has the block's bit
-abbrev pub found_on : Story → Block → ℕ
+abbrev pub found_on : GhostState → Block → ℕ
 found_on v b = get_or v.words (shelf_spot (opening v.extent) b.0) 0
 
-pub shown_bit : (v : Story) (b : ℕ) → Kept v → b < 65536
-    → bit_at (get_or v.words (shelf_spot (opening v.extent) b) 0) (b % 64) ≡ on_shelf (story_state v) b
+pub shown_bit : (v : GhostState) (b : ℕ) → Kept v → b < 65536
+    → bit_at (get_or v.words (shelf_spot (opening v.extent) b) 0) (b % 64) ≡ on_shelf (model_state v) b
 shown_bit v b kept low = kept.stands.shows.shelf b low
 
 -- the words after a bit is cleared
@@ -41,8 +41,8 @@ pub cleared_words : (z : Opening) (words : List ℕ) (b : Block) (x : Bool)
 cleared_words z words b true = refl
 cleared_words z words b false = refl
 
-pub kept_unshelve : (v : Story) (d : ℕ) (b : Block) (x : Bool) → Kept v → d < v.extent.actors → pending v d ≡ Idle
-    → b.0 < 65536 → x ≡ (story_state v).shelved b.0 → Kept (story_after_deed v d (OnShelf b (cond x Unshelve Miss)))
+pub kept_unshelve : (v : GhostState) (d : ℕ) (b : Block) (x : Bool) → Kept v → d < v.extent.actors → pending v d ≡ Idle
+    → b.0 < 65536 → x ≡ (model_state v).shelved b.0 → Kept (ghost_after_step v d (OnShelf b (cond x Unshelve Miss)))
 kept_unshelve v d b true kept lt idle low is =
     kept_after v d (OnShelf b Unshelve) kept lt
     (event_by v d (shelf_words (opening v.extent) v.words b Unshelve) Idle (event.Unshelve b) kept lt

@@ -1,4 +1,4 @@
--- Each deed keeps the table.
+-- Each atomic step keeps the table.
 use Rattle.std.proofs.Common.{◌≡◌, ◌≢◌, ℕ, zero, suc, ◌<◌, false, List, [], ◌∷◌, length, set, get_or, refl, sym, ap, subst, ◌∙◌}
 use Rattle.std.proofs.Common.{⊎_elim, arith}
 use Rattle.std.proofs.Common.{length-set, get_or-set_same, get_or-set_other}
@@ -11,15 +11,17 @@ use Rattle.control_word.specs.declared.model.view.View.{View}
 use Rattle.control_word.specs.Steps.{Point, Ready}
 use Rattle.control_word.specs.Views.{Stands, sees_as, used_up}
 use Rattle.step_table.specs.declared.memory.extent.Extent.{Extent}
-use Rattle.step_table.specs.declared.memory.past.Deed.{Deed}
-use Rattle.step_table.specs.declared.memory.past.Deed.TheVariants.{Prepare, Write, Claim, Share, WeakShare, Leave, WeakLeave, Lock, Count, Expired, Read, Clear}
-use Rattle.step_table.specs.declared.memory.past.Deed.TheVariants.{Finish, OnCell, OnShelf}
+use Rattle.step_table.specs.declared.memory.past.AtomicStep.{AtomicStep}
+use Rattle.step_table.specs.declared.memory.past.AtomicStep.TheVariants.{Prepare, Write, Claim, Share, WeakShare, Leave, WeakLeave, Lock, Count, Expired, Read}
+use Rattle.step_table.specs.declared.memory.past.AtomicStep.TheVariants.{Clear}
+use Rattle.step_table.specs.declared.memory.past.AtomicStep.TheVariants.{Finish, OnCell, OnShelf}
 use Rattle.step_table.specs.Openings.{opening}
-use Rattle.step_table.specs.Stories.{Nothing, Story, Seats, Kept, story_after_deed, history_after, pending, pending_after, story_state, view_in, views_after}
-use Rattle.step_table.specs.Stories.{words_after}
+use Rattle.step_table.specs.GhostStates.{Nothing, GhostState, Seats, Kept, ghost_after_step, history_after, pending, pending_after, model_state, view_in}
+use Rattle.step_table.specs.GhostStates.{views_after}
+use Rattle.step_table.specs.GhostStates.{words_after}
 use Rattle.control_word.specs.State.{State}
-use Rattle.step_table.proofs.tables.CellDeeds.{framed}
-use Rattle.step_table.proofs.tables.ShelfDeeds.{shelf_framed}
+use Rattle.step_table.proofs.tables.CellAtomicSteps.{framed}
+use Rattle.step_table.proofs.tables.ShelfAtomicSteps.{shelf_framed}
 use Rattle.step_table.proofs.tables.Doors.{doors_after, whole_after}
 
 at_get : {A : Type 0} (l : List A) (i : ℕ) (d : A) → i < length l → get_elem? l i ≡ some (get_or l i d)
@@ -28,10 +30,10 @@ at_get (x ∷ xs) zero d lt = refl
 at_get (x ∷ xs) (suc i) d lt = at_get xs i d (omega arith)
 
 -- the table as desk d finds it
-abbrev pub point : Story → ℕ → Point Nothing
+abbrev pub point : GhostState → ℕ → Point Nothing
 point v d = record { opening = opening v.extent; words = v.words; views = v.views; history = v.history; seat = d; view = view_in v.views d }
 
-pub ready : (v : Story) (d : ℕ) (p : Pending Nothing) → Kept v → d < v.extent.actors → pending v d ≡ p → Ready (point v d) p
+pub ready : (v : GhostState) (d : ℕ) (p : Pending Nothing) → Kept v → d < v.extent.actors → pending v d ≡ p → Ready (point v d) p
 ready v d p kept lt is =
     record {
       stands = kept.stands;
@@ -57,8 +59,8 @@ seats_set views n d w seats lt name awake =
           (λ (ne : e ≢ d). ap (λ (x : View Nothing). x.spent) (get_or-set_other views d e w used_up ne) ∙ seats.awake e le) (cases_eq e d);
     }
 
--- no deed changes an allowance
-same_allowance : (v : Story) (d : ℕ) (x : Deed) → (story_state (story_after_deed v d x)).allowance ≡ (story_state v).allowance
+-- no atomic step changes an allowance
+same_allowance : (v : GhostState) (d : ℕ) (x : AtomicStep) → (model_state (ghost_after_step v d x)).allowance ≡ (model_state v).allowance
 same_allowance v d (Prepare b) = refl
 same_allowance v d (Write b j n) = refl
 same_allowance v d (Claim b enabled null fields) = refl
@@ -75,9 +77,9 @@ same_allowance v d (Finish b vacant) = refl
 same_allowance v d (OnShelf b x) = ap (λ (s : State). s.allowance) (shelf_framed v d b x).2
 same_allowance v d (OnCell x) = (framed v d x).allowance
 
--- what a deed leaves
-pub kept_after : (v : Story) (d : ℕ) (x : Deed) → Kept v → d < v.extent.actors
-    → Stands (opening v.extent) (words_after v x) (views_after v d x) (history_after v d x) → Kept (story_after_deed v d x)
+-- what an atomic step leaves
+pub kept_after : (v : GhostState) (d : ℕ) (x : AtomicStep) → Kept v → d < v.extent.actors
+    → Stands (opening v.extent) (words_after v x) (views_after v d x) (history_after v d x) → Kept (ghost_after_step v d x)
 kept_after v d x kept lt stands =
     record {
       stands = stands;
@@ -91,28 +93,28 @@ kept_after v d x kept lt stands =
     }
 
 -- the table as the code leaves it
-pub story_as : (v : Story) (d : ℕ) (x : Deed) (words : List ℕ) (history : List (Entry Nothing)) (views : List (View Nothing))
+pub ghost_as : (v : GhostState) (d : ℕ) (x : AtomicStep) (words : List ℕ) (history : List (Entry Nothing)) (views : List (View Nothing))
     → words ≡ words_after v x → (history ≡ history_after v d x) × (views ≡ views_after v d x)
-    → ◌≡◌ {A = Story} (record { extent = v.extent; words = words; views = views; history = history }) (story_after_deed v d x)
-story_as v d x words history views same past =
+    → ◌≡◌ {A = GhostState} (record { extent = v.extent; words = words; views = views; history = history }) (ghost_after_step v d x)
+ghost_as v d x words history views same past =
     ap (λ (w : List ℕ). record { extent = v.extent; words = w; views = views; history = history }) same
     ∙ ap (λ (h : List (Entry Nothing)). record { extent = v.extent; words = words_after v x; views = views; history = h }) past.0
     ∙ ap (λ (u : List (View Nothing)). record { extent = v.extent; words = words_after v x; views = u; history = history_after v d x }) past.1
 
 -- what the code leaves stands for the history
-pub kept_as : (v : Story) (d : ℕ) (x : Deed) (extent : Extent) (words : List ℕ) (history : List (Entry Nothing)) (views : List (View Nothing))
-    → Kept (story_after_deed v d x) → extent ≡ v.extent → words ≡ words_after v x → (history ≡ history_after v d x)
+pub kept_as : (v : GhostState) (d : ℕ) (x : AtomicStep) (extent : Extent) (words : List ℕ) (history : List (Entry Nothing)) (views : List (View Nothing))
+    → Kept (ghost_after_step v d x) → extent ≡ v.extent → words ≡ words_after v x → (history ≡ history_after v d x)
     × (views ≡ views_after v d x)
     → Kept (record { extent = extent; words = words; views = views; history = history })
 kept_as v d x extent words history views kept at same past =
     subst (λ (e : Extent). Kept (record { extent = e; words = words; views = views; history = history })) (sym at)
-    (subst (λ (w : Story). Kept w) (sym (story_as v d x words history views same past)) kept)
+    (subst (λ (w : GhostState). Kept w) (sym (ghost_as v d x words history views same past)) kept)
 
 -- the table that a function is given, as its clauses see it
-pub kept_now : (extent : Extent) (words : List ℕ) (history : List (Entry Nothing)) (views : List (View Nothing)) (v : Story)
+pub kept_now : (extent : Extent) (words : List ℕ) (history : List (Entry Nothing)) (views : List (View Nothing)) (v : GhostState)
     → Kept (record { extent = extent; words = words; views = views; history = history })
-    → ◌≡◌ {A = Story} (record { extent = extent; words = words; views = views; history = history }) v → Kept v
-kept_now extent words history views v kept is = subst (λ (w : Story). Kept w) is kept
+    → ◌≡◌ {A = GhostState} (record { extent = extent; words = words; views = views; history = history }) v → Kept v
+kept_now extent words history views v kept is = subst (λ (w : GhostState). Kept w) is kept
 
 -- a word that the code reads
 pub found : (items words : List ℕ) (i j x : ℕ) → items ≡ words → i ≡ j → x ≡ get_or items i 0 → x ≡ get_or words j 0

@@ -14,7 +14,7 @@ use Rattle.control_word.specs.State.{IsOpening, sum_below}
 use Rattle.control_word.specs.Views.{Stands, fresh, used_up}
 use Rattle.step_table.specs.declared.memory.extent.Extent.{Extent}
 use Rattle.step_table.specs.Openings.{IsExtent, each_stock, holder_of, opening, share_of}
-use Rattle.step_table.specs.Stories.{Kept, Nothing, ShutsNoDoor}
+use Rattle.step_table.specs.GhostStates.{Kept, Nothing, ShutsNoDoor}
 
 -- of so many actors each has its share, and the first has the rest too
 sums : (q r a n : ℕ) → 1 ≤ n → n ≤ a → sum_below n (λ d. cond (nat_lt d a) (q + cond (d == 0) r 0) 0) ≡ n * q + r

@@ -30,15 +30,15 @@ use Rattle.control_word.specs.Packing.{IsCellWord, cell_bits}
 use Rattle.control_word.specs.State.{Has, HasRoom, Held, State, bag_size, ending, held, kind_of_member, put, same_held}
 use Rattle.control_word.specs.Steps.{purse}
 use Rattle.control_word.specs.Words.{blocks_of, counts_at, packed, slot}
-use Rattle.step_table.specs.declared.cell_steps.cell_deed.Cell.{Cell}
-use Rattle.step_table.specs.declared.cell_steps.cell_deed.Cell.TheVariants.{Member}
-use Rattle.step_table.specs.declared.cell_steps.cell_deed.CellDeed.TheVariants.{CompareSwap, Swap, Take, TakeOut}
-use Rattle.step_table.specs.declared.cell_steps.cell_deed.Compared.{Compared}
-use Rattle.step_table.specs.declared.memory.past.Deed.TheVariants.{OnCell}
-use Rattle.step_table.specs.CellDeeds.{cell_in, handle_told, kind_in_state, object_at, owing_funds, word_of}
+use Rattle.step_table.specs.declared.cell_steps.cell_step.Cell.{Cell}
+use Rattle.step_table.specs.declared.cell_steps.cell_step.Cell.TheVariants.{Member}
+use Rattle.step_table.specs.declared.cell_steps.cell_step.CellStep.TheVariants.{CompareSwap, Swap, Take, TakeOut}
+use Rattle.step_table.specs.declared.cell_steps.cell_step.Compared.{Compared}
+use Rattle.step_table.specs.declared.memory.past.AtomicStep.TheVariants.{OnCell}
+use Rattle.step_table.specs.CellAtomicSteps.{cell_in, handle_told, kind_in_state, object_at, owing_funds, word_of}
 use Rattle.step_table.specs.Cells.{HasInHand, IsOpenTo, ShowsCell, word_of_cell}
 use Rattle.step_table.specs.Openings.{opening}
-use Rattle.step_table.specs.Stories.{Kept, Nothing, Story, story_after_deed, object_of_block, pending, story_state}
+use Rattle.step_table.specs.GhostStates.{Kept, Nothing, GhostState, ghost_after_step, object_of_block, pending, model_state}
 use Rattle.step_table.proofs.tables.Places.{ending_busy, handle_busy, named as own, there}
 use Rattle.step_table.proofs.tables.Shown.{Found, adds_by, cell_there, found_in, kept_cell}
 use Rattle.step_table.proofs.tables.Standing.{kept_after, point, ready}
@@ -47,27 +47,27 @@ some_none : {x : ℕ} → Some x ≡ None → ⊥
 some_none e = cc
 
 -- a value in hand with an object is a handle of the bag
-hand_has : (v : Story) (d : ℕ) (k : Kind) (b : Block) (p : Option Place) → InHand (story_state v) d k (handle k (object_at (story_state v) (Some b)) p)
-    → Has (held d (handle k (Some (object_of_block v b)) p)) (story_state v).hands
+hand_has : (v : GhostState) (d : ℕ) (k : Kind) (b : Block) (p : Option Place) → InHand (model_state v) d k (handle k (object_at (model_state v) (Some b)) p)
+    → Has (held d (handle k (Some (object_of_block v b)) p)) (model_state v).hands
 hand_has v d k b p hand = ⊎_elim (λ n. absurd (some_none n.0)) (λ t. t.0) hand.1
 
-hand_there : (v : Story) (d : ℕ) (k : Kind) (b : Block) (p : Option Place) → Kept v
-    → InHand (story_state v) d k (handle k (object_at (story_state v) (Some b)) p)
-    → ((story_state v).object (object_of_block v b)).block ≡ b.0
+hand_there : (v : GhostState) (d : ℕ) (k : Kind) (b : Block) (p : Option Place) → Kept v
+    → InHand (model_state v) d k (handle k (object_at (model_state v) (Some b)) p)
+    → ((model_state v).object (object_of_block v b)).block ≡ b.0
 hand_there v d k b p kept hand = (there v b kept (handle_busy v d k b p kept (hand_has v d k b p hand))).0
 
-hand_packed : (v : Story) (d : ℕ) (k : Kind) (o : Option Block) (p : Option Place) → Kept v
-    → InHand (story_state v) d k (handle k (object_at (story_state v) o) p)
-    → packed (blocks_of (story_state v)) (handle k (object_at (story_state v) o) p) ≡ cell_bits (record { owned = o; place = p; taken = 0 })
-hand_packed v d k None p kept hand = let e = cell_shown (blocks_of (story_state v)) (handle k None p) 0 in omega (arith, e)
+hand_packed : (v : GhostState) (d : ℕ) (k : Kind) (o : Option Block) (p : Option Place) → Kept v
+    → InHand (model_state v) d k (handle k (object_at (model_state v) o) p)
+    → packed (blocks_of (model_state v)) (handle k (object_at (model_state v) o) p) ≡ cell_bits (record { owned = o; place = p; taken = 0 })
+hand_packed v d k None p kept hand = let e = cell_shown (blocks_of (model_state v)) (handle k None p) 0 in omega (arith, e)
 hand_packed v d k (Some b) p kept hand =
-    let e = cell_shown (blocks_of (story_state v)) (handle k (Some (object_of_block v b)) p) 0 in
+    let e = cell_shown (blocks_of (model_state v)) (handle k (Some (object_of_block v b)) p) 0 in
     let t = ap (λ (i : ℕ). cell_bits (record { owned = Some (record { 0 = i }); place = p; taken = 0 })) (hand_there v d k b p kept hand) in
     omega (arith, e, t)
 
-hand_purse : (v : Story) (d : ℕ) (k : Kind) (o : Option Block) (p : Option Place) (f : ℕ) → Kept v
-    → InHand (story_state v) d k (handle k (object_at (story_state v) o) p)
-    → ◌≡◌ {A = Pending Nothing} (owing_funds (story_state v) k o p f 0) (purse (blocks_of (story_state v)) (handle k (object_at (story_state v) o) p) f)
+hand_purse : (v : GhostState) (d : ℕ) (k : Kind) (o : Option Block) (p : Option Place) (f : ℕ) → Kept v
+    → InHand (model_state v) d k (handle k (object_at (model_state v) o) p)
+    → ◌≡◌ {A = Pending Nothing} (owing_funds (model_state v) k o p f 0) (purse (blocks_of (model_state v)) (handle k (object_at (model_state v) o) p) f)
 hand_purse v d k None p f kept hand = refl
 hand_purse v d k (Some b) p f kept hand =
     ap (λ (i : ℕ). Paying k (object_of_block v b) p (spot i (slot k)) f 0) (sym (hand_there v d k b p kept hand))
@@ -79,34 +79,34 @@ gets_most s d h =
     (λ e. let a = bag_one d h s.hands in omega (arith, a)) (λ e. omega arith)
 
 -- a swap keeps to the allowance
-swap_room : (v : Story) (d : ℕ) (c : Named) (k : Kind) (o : Option Block) (p : Option Place) (old : Handle) → Kept v
-    → InHand (story_state v) d k (handle k (object_at (story_state v) o) p) → (o ≡ None → bag_size (story_state v) d < (story_state v).allowance d)
-    → HasRoom (swaps d c (handle k (object_at (story_state v) o) p) old (story_state v)) d
+swap_room : (v : GhostState) (d : ℕ) (c : Named) (k : Kind) (o : Option Block) (p : Option Place) (old : Handle) → Kept v
+    → InHand (model_state v) d k (handle k (object_at (model_state v) o) p) → (o ≡ None → bag_size (model_state v) d < (model_state v).allowance d)
+    → HasRoom (swaps d c (handle k (object_at (model_state v) o) p) old (model_state v)) d
 swap_room v d c k o p old kept hand more = go c
   where
-    less : (q : Option Block) → InHand (story_state v) d k (handle k (object_at (story_state v) q) p)
-        → (q ≡ None → bag_size (story_state v) d < (story_state v).allowance d)
-        → bag_size (loses d (handle k (object_at (story_state v) q) p) (story_state v)) d < (story_state v).allowance d
+    less : (q : Option Block) → InHand (model_state v) d k (handle k (object_at (model_state v) q) p)
+        → (q ≡ None → bag_size (model_state v) d < (model_state v).allowance d)
+        → bag_size (loses d (handle k (object_at (model_state v) q) p) (model_state v)) d < (model_state v).allowance d
     less None h m = m refl
     less (Some b) h m =
-        let s = story_state v in
+        let s = model_state v in
         let x = held d (handle k (Some (object_of_block v b)) p) in
         let room = (allowed (opening v.extent) v.history kept.stands.legal).rooms d in
         let w = num_without same_held held_true held_self (λ (y : Held). y.desk == d) x s.hands (hand_has v d k b p h) in
         let u = bag_one d x.handle [] in omega (arith, room, w, u)
 
-    go : (e : Named) → HasRoom (swaps d e (handle k (object_at (story_state v) o) p) old (story_state v)) d
+    go : (e : Named) → HasRoom (swaps d e (handle k (object_at (model_state v) o) p) old (model_state v)) d
     go (named.Free n) =
-        let l = less o hand more in let g = gets_most (loses d (handle k (object_at (story_state v) o) p) (story_state v)) d old in omega (arith, l, g)
+        let l = less o hand more in let g = gets_most (loses d (handle k (object_at (model_state v) o) p) (model_state v)) d old in omega (arith, l, g)
     go (named.Member i m) =
-        let l = less o hand more in let g = gets_most (loses d (handle k (object_at (story_state v) o) p) (story_state v)) d old in omega (arith, l, g)
+        let l = less o hand more in let g = gets_most (loses d (handle k (object_at (model_state v) o) p) (model_state v)) d old in omega (arith, l, g)
 
-pub kept_swap : (v : Story) (d : ℕ) (c : Cell) (new x : CellWord) → Kept v → d < v.extent.actors → IsOpenTo v d c → new.taken ≡ 0
-    → HasInHand v d c new → pending v d ≡ owing_funds (story_state v) (kind_in_state (story_state v) c) new.owned new.place 256 0
-    → (new.owned ≡ None → bag_size (story_state v) d < (story_state v).allowance d) → ShowsCell v c x
-    → Kept (story_after_deed v d (OnCell (Swap c new x)))
+pub kept_swap : (v : GhostState) (d : ℕ) (c : Cell) (new x : CellWord) → Kept v → d < v.extent.actors → IsOpenTo v d c → new.taken ≡ 0
+    → HasInHand v d c new → pending v d ≡ owing_funds (model_state v) (kind_in_state (model_state v) c) new.owned new.place 256 0
+    → (new.owned ≡ None → bag_size (model_state v) d < (model_state v).allowance d) → ShowsCell v c x
+    → Kept (ghost_after_step v d (OnCell (Swap c new x)))
 kept_swap v d c new x kept lt way full hand owes more shows =
-    let s = story_state v in
+    let s = model_state v in
     let e = cell_in s c in
     let k = kind_in_state s c in
     let h = handle_told s c new in
@@ -131,26 +131,26 @@ left_over x valid few =
     let o = owned_fits x.owned valid.owned in let b = block_fits x.place valid.place in let f = field_fits x.place valid.place in omega (arith, o, b, f, few)
 
 -- a load under way, of a cell that told this value
-load_owing : (v : Story) (c : Cell) (x : CellWord) (b : Block) (f : Found v c x) → x.owned ≡ Some b
+load_owing : (v : GhostState) (c : Cell) (x : CellWord) (b : Block) (f : Found v c x) → x.owned ≡ Some b
     → ◌≡◌ {A = Pending Nothing}
-    (Paying (kind_in_state (story_state v) c) (object_of_block v b) x.place (counts_at (blocks_of (story_state v)) (kind_in_state (story_state v) c)
+    (Paying (kind_in_state (model_state v) c) (object_of_block v b) x.place (counts_at (blocks_of (model_state v)) (kind_in_state (model_state v) c)
     (object_of_block v b)) 1 1)
-    (owing_funds (story_state v) (kind_in_state (story_state v) c) x.owned x.place 1 1)
+    (owing_funds (model_state v) (kind_in_state (model_state v) c) x.owned x.place 1 1)
 load_owing v c x b f e =
-    let k = kind_in_state (story_state v) c in
+    let k = kind_in_state (model_state v) c in
     let t = f.there b e in
     ap (λ (i : ℕ). Paying k (object_of_block v b) x.place (spot i (slot k)) 1 1) t ∙ ap
-    (λ (q : Option Block). owing_funds (story_state v) k q x.place 1 1) (sym e)
+    (λ (q : Option Block). owing_funds (model_state v) k q x.place 1 1) (sym e)
 
-pub kept_take : (v : Story) (d : ℕ) (c : Cell) (x : CellWord) → Kept v → d < v.extent.actors → pending v d ≡ Idle → IsOpenTo v d c
-    → x.owned ≢ None → x.taken < 256 → bag_size (story_state v) d < (story_state v).allowance d → IsCellWord x → word_of_cell v c ≡ cell_bits x
-    → Kept (story_after_deed v d (OnCell (Take c x None)))
+pub kept_take : (v : GhostState) (d : ℕ) (c : Cell) (x : CellWord) → Kept v → d < v.extent.actors → pending v d ≡ Idle → IsOpenTo v d c
+    → x.owned ≢ None → x.taken < 256 → bag_size (model_state v) d < (model_state v).allowance d → IsCellWord x → word_of_cell v c ≡ cell_bits x
+    → Kept (ghost_after_step v d (OnCell (Take c x None)))
 kept_take v d c x kept lt idle way some few room valid bits = go x.owned refl
   where
-    go : (o : Option Block) → x.owned ≡ o → Kept (story_after_deed v d (OnCell (Take c x None)))
+    go : (o : Option Block) → x.owned ≡ o → Kept (ghost_after_step v d (OnCell (Take c x None)))
     go None e = absurd (some e)
     go (Some b) e =
-        let s = story_state v in
+        let s = model_state v in
         let n = cell_in s c in
         let k = kind_in_state s c in
         let o = object_of_block v b in
@@ -170,13 +170,13 @@ kept_take v d c x kept lt idle way some few room valid bits = go x.owned refl
         (adds_by v d _ (word_of v.extent.shape.blocks c) _ (word_of_cell v c + 17179869184) _ _ _ _ kept lt there
         (ap (λ (i : ℕ). get_or v.words i 0 + 17179869184) there) (ap (event.Load n) (sym told)) owed law)
 
-pub kept_compare : (v : Story) (d : ℕ) (c : Cell) (x : CellWord) (y : Compared) → Kept v → d < v.extent.actors → IsOpenTo v d c → y.new.taken ≡ 0
-    → equivalent (handle_told (story_state v) c x) (handle_told (story_state v) c y.expected) ≡ true → HasInHand v d c y.expected
-    → HasInHand v d c y.new → pending v d ≡ owing_funds (story_state v) (kind_in_state (story_state v) c) y.new.owned y.new.place 256 0
-    → (y.new.owned ≡ None → bag_size (story_state v) d < (story_state v).allowance d) → IsCellWord x → word_of_cell v c ≡ cell_bits x
-    → Kept (story_after_deed v d (OnCell (CompareSwap c x y)))
+pub kept_compare : (v : GhostState) (d : ℕ) (c : Cell) (x : CellWord) (y : Compared) → Kept v → d < v.extent.actors → IsOpenTo v d c → y.new.taken ≡ 0
+    → equivalent (handle_told (model_state v) c x) (handle_told (model_state v) c y.expected) ≡ true → HasInHand v d c y.expected
+    → HasInHand v d c y.new → pending v d ≡ owing_funds (model_state v) (kind_in_state (model_state v) c) y.new.owned y.new.place 256 0
+    → (y.new.owned ≡ None → bag_size (model_state v) d < (model_state v).allowance d) → IsCellWord x → word_of_cell v c ≡ cell_bits x
+    → Kept (ghost_after_step v d (OnCell (CompareSwap c x y)))
 kept_compare v d c x y kept lt way full alike wanted hand owes more valid bits =
-    let s = story_state v in
+    let s = model_state v in
     let e = cell_in s c in
     let k = kind_in_state s c in
     let h = handle_told s c y.new in
@@ -202,16 +202,16 @@ kept_compare v d c x y kept lt way full alike wanted hand owes more valid bits =
     (ap (λ (q : Handle). event.Compare e w h q true y.weak) (sym f.shows.holds)) (f.owed (256 - x.taken)) law)
 
 -- an ending object's member is one that words are kept for
-pub ending_cell : (v : Story) (d : ℕ) (b : Block) (m : ℕ) → ((story_state v).object (object_of_block v b)).phase ≡ ending d → m < 3
-    → IsKept (story_state v) (cell_in (story_state v) (Member b m))
+pub ending_cell : (v : GhostState) (d : ℕ) (b : Block) (m : ℕ) → ((model_state v).object (object_of_block v b)).phase ≡ ending d → m < 3
+    → IsKept (model_state v) (cell_in (model_state v) (Member b m))
 ending_cell v d b m end few = (few, ending_busy v d b end)
 
-pub kept_take_out : (v : Story) (d : ℕ) (b : Block) (m : ℕ) (x : CellWord) → Kept v → d < v.extent.actors → pending v d ≡ Idle
-    → ((story_state v).object (object_of_block v b)).phase ≡ ending d → m < 3 → bag_size (story_state v) d < (story_state v).allowance d
+pub kept_take_out : (v : GhostState) (d : ℕ) (b : Block) (m : ℕ) (x : CellWord) → Kept v → d < v.extent.actors → pending v d ≡ Idle
+    → ((model_state v).object (object_of_block v b)).phase ≡ ending d → m < 3 → bag_size (model_state v) d < (model_state v).allowance d
     → ShowsCell v (Member b m) x
-    → Kept (story_after_deed v d (OnCell (TakeOut b m x)))
+    → Kept (ghost_after_step v d (OnCell (TakeOut b m x)))
 kept_take_out v d b m x kept lt idle end few room shows =
-    let s = story_state v in
+    let s = model_state v in
     let c = Member b m in
     let o = object_of_block v b in
     let old = (s.object o).member m in
@@ -226,18 +226,18 @@ kept_take_out v d b m x kept lt idle end few room shows =
     (adds_by v d _ (spot b.0 (7 + m)) _ 0 _ _ _ _ kept lt (cell_there v c kept is) refl (ap (event.ClearMember o m) (sym shows.holds))
     (f.owed (256 - x.taken)) law)
 
-pub kept_take_differing : (v : Story) (d : ℕ) (c : Cell) (x : CellWord) (y : Compared) → Kept v → d < v.extent.actors → pending v d ≡ Idle
+pub kept_take_differing : (v : GhostState) (d : ℕ) (c : Cell) (x : CellWord) (y : Compared) → Kept v → d < v.extent.actors → pending v d ≡ Idle
     → IsOpenTo v d c → x.owned ≢ None → x.taken < 256
-    → equivalent (handle_told (story_state v) c x) (handle_told (story_state v) c y.expected) ≡ false
-    → HasInHand v d c y.expected → HasInHand v d c y.new → bag_size (story_state v) d < (story_state v).allowance d → IsCellWord x
+    → equivalent (handle_told (model_state v) c x) (handle_told (model_state v) c y.expected) ≡ false
+    → HasInHand v d c y.expected → HasInHand v d c y.new → bag_size (model_state v) d < (model_state v).allowance d → IsCellWord x
     → word_of_cell v c ≡ cell_bits x
-    → Kept (story_after_deed v d (OnCell (Take c x (Some y))))
+    → Kept (ghost_after_step v d (OnCell (Take c x (Some y))))
 kept_take_differing v d c x y kept lt idle way some few other wanted hand room valid bits = go x.owned refl
   where
-    go : (o : Option Block) → x.owned ≡ o → Kept (story_after_deed v d (OnCell (Take c x (Some y))))
+    go : (o : Option Block) → x.owned ≡ o → Kept (ghost_after_step v d (OnCell (Take c x (Some y))))
     go None e = absurd (some e)
     go (Some b) e =
-        let s = story_state v in
+        let s = model_state v in
         let n = cell_in s c in
         let k = kind_in_state s c in
         let o = object_of_block v b in

@@ -16,7 +16,7 @@ use Rattle.control_word.specs.Events.{after, fills, loses}
 use Rattle.control_word.specs.Handles.{object_of}
 use Rattle.control_word.specs.Histories.{IsLegal, leads, value, valued}
 use Rattle.control_word.specs.State.{Opening, State, ending, unmade, Phase}
-use Rattle.step_table.specs.Stories.{Nothing}
+use Rattle.step_table.specs.GhostStates.{Nothing}
 
 abbrev HasValue : (ℕ → Option Nothing) → ℕ → Type 0
 HasValue values o = values o ≡ Some tt

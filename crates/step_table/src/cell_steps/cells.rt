@@ -7,14 +7,14 @@ ghost use Rattle.control_word.specs.declared.model.view.Pending.TheVariants.{Idl
 ghost use Rattle.control_word.specs.Handles.{equivalent, same_place};
 ghost use Rattle.control_word.specs.Packing.{IsCellWord, cell_bits};
 ghost use Rattle.control_word.specs.State.{State, bag_size};
-ghost use Rattle.step_table.specs.CellDeeds.{handle_told, kind_in_state, owing_funds, word_of};
-ghost use Rattle.step_table.specs.declared.cell_steps.cell_deed.Cell.{Cell as At};
+ghost use Rattle.step_table.specs.CellAtomicSteps.{handle_told, kind_in_state, owing_funds, word_of};
+ghost use Rattle.step_table.specs.declared.cell_steps.cell_step.Cell.{Cell as At};
 ghost use Rattle.step_table.specs.Cells.{HasInHand, IsOpenTo, IsSomewhere, IsCellInUse, ShowsCell, target_of};
 ghost use Rattle.step_table.specs.Cells.{word_of_cell};
-ghost use Rattle.step_table.specs.Stories.{story_after_deed, pending, story_state};
+ghost use Rattle.step_table.specs.GhostStates.{ghost_after_step, pending, model_state};
 
-use crate::cell_steps::cell_deed::{Cell, CellDeed, Compared};
-use crate::memory::past::Deed;
+use crate::cell_steps::cell_step::{Cell, CellStep, Compared};
+use crate::memory::past::AtomicStep;
 use crate::memory::table::Table;
 use control_word::CellWord;
 use control_word::packed::cell::{ONE_TAKEN, pack, unpack};
@@ -56,7 +56,7 @@ impl Table {
     /// free, or a member of what is in a block that isn't vacant.
     pub fn target(&self, cell: Cell) -> Option<Block>
         requires { IsCellInUse self.now cell }
-        ensures { result ≡ target_of (story_state self.now) cell }
+        ensures { result ≡ target_of (model_state self.now) cell }
     {
         unpack(self.words.get(place_of(cell, self.extent.shape.blocks))).owned
     }
@@ -87,16 +87,16 @@ impl Table {
         requires open { IsOpenTo self.old desk cell }
         requires new { IsCellWord new × (new.taken ≡ 0) }
         requires hand { HasInHand self.old desk cell new }
-        requires owes { pending self.old desk ≡ owing_funds (story_state self.old)
-            (kind_in_state (story_state self.old) cell) new.owned new.place 256 0 }
+        requires owes { pending self.old desk ≡ owing_funds (model_state self.old)
+            (kind_in_state (model_state self.old) cell) new.owned new.place 256 0 }
         requires room { new.owned ≡ None
-            → bag_size (story_state self.old) desk < (story_state self.old).allowance desk }
+            → bag_size (model_state self.old) desk < (model_state self.old).allowance desk }
         ensures found { ShowsCell self.old cell result }
-        ensures after { self.new ≡ story_after_deed self.old desk (Deed.OnCell (CellDeed.Swap cell new result)) }
+        ensures after { self.new ≡ ghost_after_step self.old desk (AtomicStep.OnCell (CellStep.Swap cell new result)) }
     {
         let found = self.shown(desk, cell);
-        let deed = CellDeed::Swap { cell, new, found };
-        let past = self.then(desk, Deed::OnCell { deed });
+        let atomic_step = CellStep::Swap { cell, new, found };
+        let past = self.then(desk, AtomicStep::OnCell { atomic_step });
         self.words
             .set(place_of(cell, self.extent.shape.blocks), pack(new));
         self.past = past;
@@ -110,20 +110,20 @@ impl Table {
         requires idle { pending self.old desk ≡ Idle }
         requires open { IsOpenTo self.old desk cell }
         requires seen { IsCellWord seen × (seen.owned ≢ None) × (seen.taken < 256) }
-        requires room { bag_size (story_state self.old) desk < (story_state self.old).allowance desk }
+        requires room { bag_size (model_state self.old) desk < (model_state self.old).allowance desk }
         ensures same { result ≡ (word_of_cell self.old cell == cell_bits seen) }
         ensures after { self.new ≡ cond result
-            (story_after_deed self.old desk (Deed.OnCell (CellDeed.Take cell seen None))) self.old }
+            (ghost_after_step self.old desk (AtomicStep.OnCell (CellStep.Take cell seen None))) self.old }
     {
         if !self.shows(desk, cell, seen) {
             return false;
         }
-        let deed = CellDeed::Take {
+        let atomic_step = CellStep::Take {
             cell,
             found: seen,
             compared: None,
         };
-        let past = self.then(desk, Deed::OnCell { deed });
+        let past = self.then(desk, AtomicStep::OnCell { atomic_step });
         self.words.set(
             place_of(cell, self.extent.shape.blocks),
             pack(seen) + ONE_TAKEN,
@@ -140,18 +140,18 @@ impl Table {
         requires open { IsOpenTo self.old desk cell }
         ensures found { ShowsCell self.old cell result }
         ensures after { self.new ≡ cond (is_some result.owned) self.old
-            (story_after_deed self.old desk (Deed.OnCell (CellDeed.Look cell result None))) }
+            (ghost_after_step self.old desk (AtomicStep.OnCell (CellStep.Look cell result None))) }
     {
         let found = self.shown(desk, cell);
         if found.owned.is_some() {
             return found;
         }
-        let deed = CellDeed::Look {
+        let atomic_step = CellStep::Look {
             cell,
             found,
             compared: None,
         };
-        self.past = self.then(desk, Deed::OnCell { deed });
+        self.past = self.then(desk, AtomicStep::OnCell { atomic_step });
         found
     }
 
@@ -162,20 +162,20 @@ impl Table {
         requires seat { desk < self.old.extent.actors }
         requires open { IsOpenTo self.old desk cell }
         requires seen { IsCellWord seen × (seen.owned ≢ None) }
-        requires owes { (p : Option Place) × (pending self.old desk ≡ owing_funds (story_state self.old)
-            (kind_in_state (story_state self.old) cell) seen.owned p seen.taken 0) }
+        requires owes { (p : Option Place) × (pending self.old desk ≡ owing_funds (model_state self.old)
+            (kind_in_state (model_state self.old) cell) seen.owned p seen.taken 0) }
         ensures same { result ≡ (word_of_cell self.old cell == cell_bits seen) }
         ensures after { self.new ≡ cond result
-            (story_after_deed self.old desk (Deed.OnCell (CellDeed.Refill cell seen.taken))) self.old }
+            (ghost_after_step self.old desk (AtomicStep.OnCell (CellStep.Refill cell seen.taken))) self.old }
     {
         if !self.shows(desk, cell, seen) {
             return false;
         }
-        let deed = CellDeed::Refill {
+        let atomic_step = CellStep::Refill {
             cell,
             taken: seen.taken,
         };
-        let past = self.then(desk, Deed::OnCell { deed });
+        let past = self.then(desk, AtomicStep::OnCell { atomic_step });
         self.words.set(
             place_of(cell, self.extent.shape.blocks),
             pack(CellWord { taken: 0, ..seen }),
@@ -196,28 +196,28 @@ impl Table {
         requires seat { desk < self.old.extent.actors }
         requires open { IsOpenTo self.old desk cell }
         requires seen { IsCellWord seen }
-        requires alike { equivalent (handle_told (story_state self.old) cell seen)
-            (handle_told (story_state self.old) cell compared.expected) ≡ true }
+        requires alike { equivalent (handle_told (model_state self.old) cell seen)
+            (handle_told (model_state self.old) cell compared.expected) ≡ true }
         requires expected { HasInHand self.old desk cell compared.expected }
         requires new { IsCellWord compared.new × (compared.new.taken ≡ 0) }
         requires hand { HasInHand self.old desk cell compared.new }
-        requires owes { pending self.old desk ≡ owing_funds (story_state self.old)
-            (kind_in_state (story_state self.old) cell) compared.new.owned compared.new.place 256 0 }
+        requires owes { pending self.old desk ≡ owing_funds (model_state self.old)
+            (kind_in_state (model_state self.old) cell) compared.new.owned compared.new.place 256 0 }
         requires room { compared.new.owned ≡ None
-            → bag_size (story_state self.old) desk < (story_state self.old).allowance desk }
+            → bag_size (model_state self.old) desk < (model_state self.old).allowance desk }
         ensures same { result ≡ (word_of_cell self.old cell == cell_bits seen) }
         ensures after { self.new ≡ cond result
-            (story_after_deed self.old desk (Deed.OnCell (CellDeed.CompareSwap cell seen compared))) self.old }
+            (ghost_after_step self.old desk (AtomicStep.OnCell (CellStep.CompareSwap cell seen compared))) self.old }
     {
         if !self.shows(desk, cell, seen) {
             return false;
         }
-        let deed = CellDeed::CompareSwap {
+        let atomic_step = CellStep::CompareSwap {
             cell,
             found: seen,
             compared,
         };
-        let past = self.then(desk, Deed::OnCell { deed });
+        let past = self.then(desk, AtomicStep::OnCell { atomic_step });
         self.words.set(place_of(cell, self.extent.shape.blocks), pack(compared.new));
         self.past = past;
         true
@@ -233,9 +233,9 @@ impl Table {
         requires hand { HasInHand self.old desk cell compared.new }
         ensures found { ShowsCell self.old cell result }
         ensures after { self.new
-            ≡ cond (is_some result.owned || equivalent (handle_told (story_state self.old) cell result)
-            (handle_told (story_state self.old) cell compared.expected)) self.old
-            (story_after_deed self.old desk (Deed.OnCell (CellDeed.Look cell result (Some compared)))) }
+            ≡ cond (is_some result.owned || equivalent (handle_told (model_state self.old) cell result)
+            (handle_told (model_state self.old) cell compared.expected)) self.old
+            (ghost_after_step self.old desk (AtomicStep.OnCell (CellStep.Look cell result (Some compared)))) }
     {
         let found = self.shown(desk, cell);
         if found.owned.is_some() {
@@ -244,12 +244,12 @@ impl Table {
         if is_same_empty(found, compared.expected) {
             return found;
         }
-        let deed = CellDeed::Look {
+        let atomic_step = CellStep::Look {
             cell,
             found,
             compared: Some(compared),
         };
-        self.past = self.then(desk, Deed::OnCell { deed });
+        self.past = self.then(desk, AtomicStep::OnCell { atomic_step });
         found
     }
 
@@ -265,24 +265,24 @@ impl Table {
         requires idle { pending self.old desk ≡ Idle }
         requires open { IsOpenTo self.old desk cell }
         requires seen { IsCellWord seen × (seen.owned ≢ None) × (seen.taken < 256) }
-        requires differs { equivalent (handle_told (story_state self.old) cell seen)
-            (handle_told (story_state self.old) cell compared.expected) ≡ false }
+        requires differs { equivalent (handle_told (model_state self.old) cell seen)
+            (handle_told (model_state self.old) cell compared.expected) ≡ false }
         requires expected { HasInHand self.old desk cell compared.expected }
         requires hand { HasInHand self.old desk cell compared.new }
-        requires room { bag_size (story_state self.old) desk < (story_state self.old).allowance desk }
+        requires room { bag_size (model_state self.old) desk < (model_state self.old).allowance desk }
         ensures same { result ≡ (word_of_cell self.old cell == cell_bits seen) }
         ensures after { self.new ≡ cond result
-            (story_after_deed self.old desk (Deed.OnCell (CellDeed.Take cell seen (Some compared)))) self.old }
+            (ghost_after_step self.old desk (AtomicStep.OnCell (CellStep.Take cell seen (Some compared)))) self.old }
     {
         if !self.shows(desk, cell, seen) {
             return false;
         }
-        let deed = CellDeed::Take {
+        let atomic_step = CellStep::Take {
             cell,
             found: seen,
             compared: Some(compared),
         };
-        let past = self.then(desk, Deed::OnCell { deed });
+        let past = self.then(desk, AtomicStep::OnCell { atomic_step });
         self.words.set(
             place_of(cell, self.extent.shape.blocks),
             pack(seen) + ONE_TAKEN,

@@ -5,10 +5,10 @@ ghost use Rattle.control_word.specs.Handles.{empty};
 ghost use Rattle.control_word.specs.Layout.{spot};
 ghost use Rattle.control_word.specs.State.{bag_size, ending, kind_of_member};
 ghost use Rattle.step_table.specs.Cells.{ShowsCell};
-ghost use Rattle.step_table.specs.Stories.{story_after_deed, object_of_block, pending, story_state};
+ghost use Rattle.step_table.specs.GhostStates.{ghost_after_step, object_of_block, pending, model_state};
 
-use crate::cell_steps::cell_deed::{Cell, CellDeed};
-use crate::memory::past::Deed;
+use crate::cell_steps::cell_step::{Cell, CellStep};
+use crate::memory::past::AtomicStep;
 use crate::memory::table::Table;
 use control_word::CellWord;
 use control_word::packed::cell::unpack;
@@ -21,14 +21,14 @@ impl Table {
     pub fn look_member(&mut self, desk: usize, block: Block, member: u8) -> u64
         requires seat { desk < self.old.extent.actors }
         requires idle { pending self.old desk ≡ Idle }
-        requires ending { ((story_state self.old).object (object_of_block self.old block)).phase ≡ ending desk }
+        requires ending { ((model_state self.old).object (object_of_block self.old block)).phase ≡ ending desk }
         requires inside { member < 3 }
         ensures found { result ≡ slice_index self.old.words (spot block.0 (7 + member)) }
         ensures empty { (result ≡ 0)
-            ↔ (((story_state self.old).object (object_of_block self.old block)).member member ≡ empty
+            ↔ (((model_state self.old).object (object_of_block self.old block)).member member ≡ empty
             (kind_of_member member)) }
         ensures after { self.new ≡ cond (result == 0)
-            (story_after_deed self.old desk (Deed.Clear block member)) self.old }
+            (ghost_after_step self.old desk (AtomicStep.Clear block member)) self.old }
     {
         let found = self
             .words
@@ -36,14 +36,14 @@ impl Table {
         if found > 0 {
             return found;
         }
-        self.past = self.then(desk, Deed::Clear { block, member });
+        self.past = self.then(desk, AtomicStep::Clear { block, member });
         found
     }
 
     /// What a member of an ending object holds, and how many of its funds were taken.
     fn shown_member(&self, desk: usize, block: Block, member: u8) -> CellWord
         requires seat { desk < self.now.extent.actors }
-        requires ending { ((story_state self.now).object (object_of_block self.now block)).phase ≡ ending desk }
+        requires ending { ((model_state self.now).object (object_of_block self.now block)).phase ≡ ending desk }
         requires inside { member < 3 }
         ensures { ShowsCell self.now (Cell.Member block member) result }
     {
@@ -58,20 +58,20 @@ impl Table {
     pub fn take_out(&mut self, desk: usize, block: Block, member: u8) -> CellWord
         requires seat { desk < self.old.extent.actors }
         requires idle { pending self.old desk ≡ Idle }
-        requires ending { ((story_state self.old).object (object_of_block self.old block)).phase ≡ ending desk }
+        requires ending { ((model_state self.old).object (object_of_block self.old block)).phase ≡ ending desk }
         requires inside { member < 3 }
-        requires room { bag_size (story_state self.old) desk < (story_state self.old).allowance desk }
+        requires room { bag_size (model_state self.old) desk < (model_state self.old).allowance desk }
         ensures found { ShowsCell self.old (Cell.Member block member) result }
-        ensures after { self.new ≡ story_after_deed self.old desk
-            (Deed.OnCell (CellDeed.TakeOut block member result)) }
+        ensures after { self.new ≡ ghost_after_step self.old desk
+            (AtomicStep.OnCell (CellStep.TakeOut block member result)) }
     {
         let found = self.shown_member(desk, block, member);
-        let deed = CellDeed::TakeOut {
+        let atomic_step = CellStep::TakeOut {
             block,
             member,
             found,
         };
-        let past = self.then(desk, Deed::OnCell { deed });
+        let past = self.then(desk, AtomicStep::OnCell { atomic_step });
         self.words
             .set(block_word(block, MEMBERS + usize::from(member)), 0);
         self.past = past;

@@ -4,19 +4,19 @@ ghost use Rattle.std.specs.Prelude.{◌≡◌, ◌≢◌, ◌<◌, ◌==◌, ◌
 ghost use Rattle.std.specs.Prelude.{length, None};
 ghost use Rattle.control_word.specs.declared.model.view.Pending.TheVariants.{Idle};
 ghost use Rattle.control_word.specs.Packing.{IsCellWord, cell_bits};
-ghost use Rattle.step_table.specs.CellDeeds.{kind_in_state};
+ghost use Rattle.step_table.specs.CellAtomicSteps.{kind_in_state};
 ghost use Rattle.step_table.specs.Cells.{IsOpenTo, word_of_cell};
 ghost use Rattle.step_table.specs.Contents.{CanCompare, as_word, compared_in, differed, held_in, owing_for, same_block};
 ghost use Rattle.step_table.specs.Contents.{same_value, seen, slot_of, slots_swapped};
-ghost use Rattle.step_table.specs.Holdings.{HoldsBag, Slots, slot_value};
-ghost use Rattle.step_table.specs.Stories.{story_after_deed, pending, story_state};
+ghost use Rattle.step_table.specs.Registers.{HoldsBag, Slots, slot_value};
+ghost use Rattle.step_table.specs.GhostStates.{ghost_after_step, pending, model_state};
 
-use crate::cell_steps::cell_deed::{Cell, CellDeed, Compared};
+use crate::cell_steps::cell_step::{Cell, CellStep, Compared};
 use crate::cell_steps::cells::is_same_place;
 use crate::memory::contents::slot_in;
-use crate::memory::past::Deed;
+use crate::memory::past::AtomicStep;
 use crate::memory::table::Table;
-use crate::slots::holdings::Holdings;
+use crate::slots::registers::Registers;
 use crate::slots::slot::Slot;
 use control_word::CellWord;
 
@@ -31,7 +31,7 @@ pub struct Comparing {
     pub weak: bool,
 }
 
-impl Holdings {
+impl Registers {
     /// A slot's value as it goes into a cell.
     pub fn word(&self, at: usize) -> CellWord
         requires { at < length self.now.slots.items }
@@ -76,19 +76,19 @@ impl Holdings {
         requires idle { pending table.old desk ≡ Idle }
         requires holds { HoldsBag desk self.old.slots.items table.old }
         requires open { IsOpenTo table.old desk cell }
-        requires compare { CanCompare (kind_in_state (story_state table.old) cell) self.old.slots.items comparing }
+        requires compare { CanCompare (kind_in_state (model_state table.old) cell) self.old.slots.items comparing }
         ensures valid { IsCellWord result }
         ensures found { result ≡ seen table.old cell }
         ensures slots { self.new.slots.items
             ≡ cond (is_some result.owned
             || same_value result (as_word (slot_value self.old.slots.items comparing.expected))) self.old.slots.items
             (differed comparing.new comparing.other self.old.slots.items
-            (slot_of (story_state table.old) (held_in (story_state table.old) cell))) }
+            (slot_of (model_state table.old) (held_in (model_state table.old) cell))) }
         ensures table { table.new
             ≡ cond (is_some result.owned
             || same_value result (as_word (slot_value self.old.slots.items comparing.expected))) table.old
-            (story_after_deed table.old desk
-            (Deed.OnCell (CellDeed.Look cell result (Some (compared_in self.old.slots.items comparing))))) }
+            (ghost_after_step table.old desk
+            (AtomicStep.OnCell (CellStep.Look cell result (Some (compared_in self.old.slots.items comparing))))) }
         ensures stays { (is_some result.owned || same_value result
             (as_word (slot_value self.old.slots.items comparing.expected))) ≡ true → self.new ≡ self.old }
         ensures holds { HoldsBag desk self.new.slots.items table.new }
@@ -122,16 +122,16 @@ impl Holdings {
         requires holds { HoldsBag desk self.old.slots.items table.old }
         requires open { IsOpenTo table.old desk cell }
         requires seen { IsCellWord seen × (seen.owned ≢ None) × (seen.taken < 256) }
-        requires compare { CanCompare (kind_in_state (story_state table.old) cell) self.old.slots.items comparing }
+        requires compare { CanCompare (kind_in_state (model_state table.old) cell) self.old.slots.items comparing }
         requires differs { same_value seen (as_word (slot_value self.old.slots.items comparing.expected)) ≡ false }
         ensures same { result ≡ (word_of_cell table.old cell == cell_bits seen) }
         ensures slots { self.new.slots.items
             ≡ cond result (differed comparing.new comparing.other self.old.slots.items
-            (slot_of (story_state table.old) (held_in (story_state table.old) cell)))
+            (slot_of (model_state table.old) (held_in (model_state table.old) cell)))
             self.old.slots.items }
         ensures table { table.new
-            ≡ cond result (story_after_deed table.old desk
-            (Deed.OnCell (CellDeed.Take cell seen (Some (compared_in self.old.slots.items comparing))))) table.old }
+            ≡ cond result (ghost_after_step table.old desk
+            (AtomicStep.OnCell (CellStep.Take cell seen (Some (compared_in self.old.slots.items comparing))))) table.old }
         ensures stays { result ≡ false → self.new ≡ self.old }
         ensures holds { HoldsBag desk self.new.slots.items table.new }
     {
@@ -159,18 +159,18 @@ impl Holdings {
         requires holds { HoldsBag desk self.old.slots.items table.old }
         requires open { IsOpenTo table.old desk cell }
         requires seen { IsCellWord seen }
-        requires compare { CanCompare (kind_in_state (story_state table.old) cell) self.old.slots.items comparing }
+        requires compare { CanCompare (kind_in_state (model_state table.old) cell) self.old.slots.items comparing }
         requires alike { same_value seen (as_word (slot_value self.old.slots.items comparing.expected)) ≡ true }
-        requires owes { pending table.old desk ≡ owing_for (story_state table.old)
+        requires owes { pending table.old desk ≡ owing_for (model_state table.old)
             (slot_value self.old.slots.items comparing.new) 256 }
         ensures same { result ≡ (word_of_cell table.old cell == cell_bits seen) }
         ensures slots { self.new.slots.items
             ≡ cond result (slots_swapped comparing.new comparing.other self.old.slots.items
-            (slot_of (story_state table.old) (held_in (story_state table.old) cell)))
+            (slot_of (model_state table.old) (held_in (model_state table.old) cell)))
             self.old.slots.items }
         ensures table { table.new
-            ≡ cond result (story_after_deed table.old desk
-            (Deed.OnCell (CellDeed.CompareSwap cell seen (compared_in self.old.slots.items comparing)))) table.old }
+            ≡ cond result (ghost_after_step table.old desk
+            (AtomicStep.OnCell (CellStep.CompareSwap cell seen (compared_in self.old.slots.items comparing)))) table.old }
         ensures stays { result ≡ false → self.new ≡ self.old }
         ensures holds { HoldsBag desk self.new.slots.items table.new }
     {

@@ -6,13 +6,13 @@ ghost use Rattle.control_word.specs.declared.model.view.Pending.TheVariants.{Idl
 ghost use Rattle.control_word.specs.Layout.{spot};
 ghost use Rattle.control_word.specs.State.{Has, held};
 ghost use Rattle.control_word.specs.Words.{slot};
-ghost use Rattle.step_table.specs.CellDeeds.{owing_funds};
-ghost use Rattle.step_table.specs.Stories.{story_after_deed, handle_in_block, pending, story_state};
+ghost use Rattle.step_table.specs.CellAtomicSteps.{owing_funds};
+ghost use Rattle.step_table.specs.GhostStates.{ghost_after_step, handle_in_block, pending, model_state};
 
-use crate::cell_steps::cell_deed::CellDeed;
-use crate::memory::past::Deed;
+use crate::cell_steps::cell_step::CellStep;
+use crate::memory::past::AtomicStep;
 use crate::memory::table::Table;
-use crate::slots::holdings::Pointer;
+use crate::slots::registers::Pointer;
 use control_word::model::handle::Kind;
 use control_word::packed::counts::{with_fund_turned, with_funds, without_funds};
 use control_word::packed::layout::{OWNERS, WEAKS, block_word};
@@ -36,20 +36,20 @@ impl Table {
         requires seat { desk < self.old.extent.actors }
         requires idle { pending self.old desk ≡ Idle }
         requires held { Has (held desk (handle_in_block self.old pointer.kind pointer.block pointer.place))
-            (story_state self.old).hands }
+            (model_state self.old).hands }
         requires few { funds ≤ 256 }
-        ensures { self.new ≡ story_after_deed self.old desk
-            (Deed.OnCell (CellDeed.Bring pointer.kind pointer.block pointer.place funds)) }
+        ensures { self.new ≡ ghost_after_step self.old desk
+            (AtomicStep.OnCell (CellStep.Bring pointer.kind pointer.block pointer.place funds)) }
     {
         let Pointer { kind, block, place } = pointer;
         let found = self.words.get(count_word(block, kind));
-        let deed = CellDeed::Bring {
+        let atomic_step = CellStep::Bring {
             kind,
             block,
             place,
             funds,
         };
-        let past = self.then(desk, Deed::OnCell { deed });
+        let past = self.then(desk, AtomicStep::OnCell { atomic_step });
         self.words
             .set(count_word(block, kind), with_funds(found, funds));
         self.past = past;
@@ -59,12 +59,12 @@ impl Table {
     pub fn give_back(&mut self, desk: usize, kind: Kind, block: Block, funds: u32)
         requires seat { desk < self.old.extent.actors }
         requires owes { (p : Option Place)
-            × (pending self.old desk ≡ owing_funds (story_state self.old) kind (Some block) p funds 0) }
-        ensures { self.new ≡ story_after_deed self.old desk (Deed.OnCell (CellDeed.GiveBack kind block funds)) }
+            × (pending self.old desk ≡ owing_funds (model_state self.old) kind (Some block) p funds 0) }
+        ensures { self.new ≡ ghost_after_step self.old desk (AtomicStep.OnCell (CellStep.GiveBack kind block funds)) }
     {
         let found = self.words.get(count_word(block, kind));
-        let deed = CellDeed::GiveBack { kind, block, funds };
-        let past = self.then(desk, Deed::OnCell { deed });
+        let atomic_step = CellStep::GiveBack { kind, block, funds };
+        let past = self.then(desk, AtomicStep::OnCell { atomic_step });
         self.words
             .set(count_word(block, kind), without_funds(found, funds));
         self.past = past;
@@ -74,12 +74,12 @@ impl Table {
     pub fn turn_fund(&mut self, desk: usize, kind: Kind, block: Block)
         requires seat { desk < self.old.extent.actors }
         requires owes { (p : Option Place)
-            × (pending self.old desk ≡ owing_funds (story_state self.old) kind (Some block) p 1 1) }
-        ensures { self.new ≡ story_after_deed self.old desk (Deed.OnCell (CellDeed.Turn kind block)) }
+            × (pending self.old desk ≡ owing_funds (model_state self.old) kind (Some block) p 1 1) }
+        ensures { self.new ≡ ghost_after_step self.old desk (AtomicStep.OnCell (CellStep.Turn kind block)) }
     {
         let found = self.words.get(count_word(block, kind));
-        let deed = CellDeed::Turn { kind, block };
-        let past = self.then(desk, Deed::OnCell { deed });
+        let atomic_step = CellStep::Turn { kind, block };
+        let past = self.then(desk, AtomicStep::OnCell { atomic_step });
         self.words
             .set(count_word(block, kind), with_fund_turned(found));
         self.past = past;

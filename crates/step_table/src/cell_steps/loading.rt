@@ -6,18 +6,18 @@ ghost use Rattle.control_word.specs.Packing.{IsCellWord, cell_bits};
 ghost use Rattle.control_word.specs.State.{ending};
 ghost use Rattle.step_table.specs.Cells.{IsOpenTo, word_of_cell};
 ghost use Rattle.step_table.specs.Contents.{held_in, seen, slot_of};
-ghost use Rattle.step_table.specs.Holdings.{HoldsBag, slot_pointer};
-ghost use Rattle.step_table.specs.Stories.{story_after_deed, object_of_block, pending, story_state};
+ghost use Rattle.step_table.specs.Registers.{HoldsBag, slot_pointer};
+ghost use Rattle.step_table.specs.GhostStates.{ghost_after_step, object_of_block, pending, model_state};
 
-use crate::cell_steps::cell_deed::{Cell, CellDeed};
+use crate::cell_steps::cell_step::{Cell, CellStep};
 use crate::memory::contents::slot_in;
-use crate::memory::past::Deed;
+use crate::memory::past::AtomicStep;
 use crate::memory::table::Table;
-use crate::slots::holdings::Holdings;
+use crate::slots::registers::Registers;
 use control_word::CellWord;
 use control_word::place::Block;
 
-impl Holdings {
+impl Registers {
     /// Takes a fund of a cell, as `Table::take_fund` says: the value comes into a slot that has no object.
     pub fn take_fund(
         &mut self,
@@ -37,9 +37,9 @@ impl Holdings {
         ensures same { result ≡ (word_of_cell table.old cell == cell_bits seen) }
         ensures slots { self.new.slots.items
             ≡ cond result (slice_set self.old.slots.items to
-            (slot_of (story_state table.old) (held_in (story_state table.old) cell))) self.old.slots.items }
+            (slot_of (model_state table.old) (held_in (model_state table.old) cell))) self.old.slots.items }
         ensures table { table.new ≡ cond result
-            (story_after_deed table.old desk (Deed.OnCell (CellDeed.Take cell seen None))) table.old }
+            (ghost_after_step table.old desk (AtomicStep.OnCell (CellStep.Take cell seen None))) table.old }
         ensures stays { result ≡ false → self.new ≡ self.old }
         ensures holds { HoldsBag desk self.new.slots.items table.new }
     {
@@ -72,9 +72,9 @@ impl Holdings {
         ensures slots { self.new.slots.items
             ≡ cond (is_some result.owned) self.old.slots.items
             (slice_set self.old.slots.items to
-            (slot_of (story_state table.old) (held_in (story_state table.old) cell))) }
+            (slot_of (model_state table.old) (held_in (model_state table.old) cell))) }
         ensures table { table.new ≡ cond (is_some result.owned) table.old
-            (story_after_deed table.old desk (Deed.OnCell (CellDeed.Look cell result None))) }
+            (ghost_after_step table.old desk (AtomicStep.OnCell (CellStep.Look cell result None))) }
         ensures stays { is_some result.owned ≡ true → self.new ≡ self.old }
         ensures holds { HoldsBag desk self.new.slots.items table.new }
     {
@@ -101,7 +101,7 @@ impl Holdings {
         requires seat { desk < table.old.extent.actors }
         requires idle { pending table.old desk ≡ Idle }
         requires holds { HoldsBag desk self.old.slots.items table.old }
-        requires ending { ((story_state table.old).object (object_of_block table.old block)).phase ≡ ending desk }
+        requires ending { ((model_state table.old).object (object_of_block table.old block)).phase ≡ ending desk }
         requires member { member < 3 }
         requires inside { to < length self.old.slots.items }
         requires empty { slot_pointer self.old.slots.items to ≡ None }
@@ -110,10 +110,10 @@ impl Holdings {
         ensures slots { self.new.slots.items
             ≡ cond (is_some result.owned)
             (slice_set self.old.slots.items to
-            (slot_of (story_state table.old) (held_in (story_state table.old) (Cell.Member block member))))
+            (slot_of (model_state table.old) (held_in (model_state table.old) (Cell.Member block member))))
             self.old.slots.items }
-        ensures table { table.new ≡ story_after_deed table.old desk
-            (Deed.OnCell (CellDeed.TakeOut block member result)) }
+        ensures table { table.new ≡ ghost_after_step table.old desk
+            (AtomicStep.OnCell (CellStep.TakeOut block member result)) }
         ensures holds { HoldsBag desk self.new.slots.items table.new }
     {
         table.known();

@@ -1,32 +1,32 @@
 //! How the values of an actor's slots go into cells. Each function is one atomic step.
 ghost use Rattle.std.specs.Prelude.{◌≡◌, ◌≢◌, ◌<◌, ◌≤◌, true, length, slice_set, Some, None};
 ghost use Rattle.control_word.specs.declared.model.view.Pending.TheVariants.{Idle};
-ghost use Rattle.step_table.specs.CellDeeds.{kind_in_state};
+ghost use Rattle.step_table.specs.CellAtomicSteps.{kind_in_state};
 ghost use Rattle.step_table.specs.Cells.{IsOpenTo};
 ghost use Rattle.step_table.specs.Contents.{as_word, held_in, is_of, owing_for, seen, slot_of, slots_swapped};
-ghost use Rattle.step_table.specs.Holdings.{HoldsBag, slot_pointer, slot_value};
-ghost use Rattle.step_table.specs.Stories.{story_after_deed, pending, story_state};
+ghost use Rattle.step_table.specs.Registers.{HoldsBag, slot_pointer, slot_value};
+ghost use Rattle.step_table.specs.GhostStates.{ghost_after_step, pending, model_state};
 
-use crate::cell_steps::cell_deed::{Cell, CellDeed};
+use crate::cell_steps::cell_step::{Cell, CellStep};
 use crate::memory::contents::slot_in;
-use crate::memory::past::Deed;
+use crate::memory::past::AtomicStep;
 use crate::memory::table::Table;
-use crate::slots::holdings::{Holdings, Pointer};
+use crate::slots::registers::{Pointer, Registers};
 use crate::slots::slot::Slot;
 use control_word::CellWord;
 use control_word::shape::CELL_FUNDS;
 
-impl Holdings {
+impl Registers {
     /// Brings the funds of a slot's pointer, which is to go into a cell.
     pub fn bring(&self, desk: usize, table: &mut Table, from: usize, pointer: Pointer)
         requires seat { desk < table.old.extent.actors }
         requires idle { pending table.old desk ≡ Idle }
         requires holds { HoldsBag desk self.now.slots.items table.old }
         requires from { slot_pointer self.now.slots.items from ≡ Some pointer }
-        ensures owes { pending table.new desk ≡ owing_for (story_state table.new)
+        ensures owes { pending table.new desk ≡ owing_for (model_state table.new)
             (slot_value self.now.slots.items from) 256 }
-        ensures table { table.new ≡ story_after_deed table.old desk
-            (Deed.OnCell (CellDeed.Bring pointer.kind pointer.block pointer.place 256)) }
+        ensures table { table.new ≡ ghost_after_step table.old desk
+            (AtomicStep.OnCell (CellStep.Bring pointer.kind pointer.block pointer.place 256)) }
         ensures holds { HoldsBag desk self.now.slots.items table.new }
     {
         table.known();
@@ -39,16 +39,16 @@ impl Holdings {
         requires holds { HoldsBag desk self.old.slots.items table.old }
         requires open { IsOpenTo table.old desk cell }
         requires inside { at < length self.old.slots.items }
-        requires kind { is_of (kind_in_state (story_state table.old) cell)
+        requires kind { is_of (kind_in_state (model_state table.old) cell)
             (slot_value self.old.slots.items at) ≡ true }
-        requires owes { pending table.old desk ≡ owing_for (story_state table.old)
+        requires owes { pending table.old desk ≡ owing_for (model_state table.old)
             (slot_value self.old.slots.items at) 256 }
         ensures found { result ≡ seen table.old cell }
         ensures few { result.taken ≤ 256 }
         ensures slots { self.new.slots.items ≡ slice_set self.old.slots.items at
-            (slot_of (story_state table.old) (held_in (story_state table.old) cell)) }
-        ensures table { table.new ≡ story_after_deed table.old desk
-            (Deed.OnCell (CellDeed.Swap cell (as_word (slot_value self.old.slots.items at)) result)) }
+            (slot_of (model_state table.old) (held_in (model_state table.old) cell)) }
+        ensures table { table.new ≡ ghost_after_step table.old desk
+            (AtomicStep.OnCell (CellStep.Swap cell (as_word (slot_value self.old.slots.items at)) result)) }
         ensures holds { HoldsBag desk self.new.slots.items table.new }
     {
         table.known();
@@ -75,16 +75,16 @@ impl Holdings {
         requires inside { to < length self.old.slots.items }
         requires apart { from ≢ to }
         requires empty { slot_pointer self.old.slots.items to ≡ None }
-        requires kind { is_of (kind_in_state (story_state table.old) cell)
+        requires kind { is_of (kind_in_state (model_state table.old) cell)
             (slot_value self.old.slots.items from) ≡ true }
-        requires owes { pending table.old desk ≡ owing_for (story_state table.old)
+        requires owes { pending table.old desk ≡ owing_for (model_state table.old)
             (slot_value self.old.slots.items from) 256 }
         ensures found { result ≡ seen table.old cell }
         ensures few { result.taken ≤ 256 }
         ensures slots { self.new.slots.items ≡ slots_swapped from to self.old.slots.items
-            (slot_of (story_state table.old) (held_in (story_state table.old) cell)) }
-        ensures table { table.new ≡ story_after_deed table.old desk
-            (Deed.OnCell (CellDeed.Swap cell (as_word (slot_value self.old.slots.items from)) result)) }
+            (slot_of (model_state table.old) (held_in (model_state table.old) cell)) }
+        ensures table { table.new ≡ ghost_after_step table.old desk
+            (AtomicStep.OnCell (CellStep.Swap cell (as_word (slot_value self.old.slots.items from)) result)) }
         ensures holds { HoldsBag desk self.new.slots.items table.new }
     {
         table.known();

@@ -1,13 +1,13 @@
 //! What cells hold, between their words and the slots of an actor.
 ghost use Rattle.std.specs.Prelude.{◌≡◌};
 ghost use Rattle.control_word.specs.State.{kind_of_member};
-ghost use Rattle.step_table.specs.CellDeeds.{kind_in_state};
+ghost use Rattle.step_table.specs.CellAtomicSteps.{kind_in_state};
 ghost use Rattle.step_table.specs.Contents.{as_word, slot_in};
-ghost use Rattle.step_table.specs.Stories.{story_state};
+ghost use Rattle.step_table.specs.GhostStates.{model_state};
 
-use crate::cell_steps::cell_deed::Cell;
+use crate::cell_steps::cell_step::Cell;
 use crate::memory::table::Table;
-use crate::slots::holdings::Pointer;
+use crate::slots::registers::Pointer;
 use crate::slots::slot::Slot;
 use control_word::CellWord;
 use control_word::model::handle::Kind;
@@ -15,7 +15,7 @@ use control_word::model::handle::Kind;
 impl Table {
     /// The kind of the handles in a cell.
     pub fn kind_in(&self, cell: Cell) -> Kind
-        ensures { result ≡ kind_in_state (story_state self.now) cell }
+        ensures { result ≡ kind_in_state (model_state self.now) cell }
     {
         match cell {
             Cell::Free { number } => self.kind_of_free(number),
@@ -25,7 +25,7 @@ impl Table {
 
     /// The shared cells come first.
     fn kind_of_free(&self, number: u32) -> Kind
-        ensures { result ≡ kind_in_state (story_state self.now) (Cell.Free number) }
+        ensures { result ≡ kind_in_state (model_state self.now) (Cell.Free number) }
     {
         if number < self.extent.shape.shared_cells {
             Kind::Owner

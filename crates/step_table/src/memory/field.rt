@@ -11,7 +11,7 @@ pub enum Field {
 
 impl Field {
     ghost use Rattle.std.specs.Prelude.{◌≡◌};
-    ghost use Rattle.step_table.specs.Deeds.{field_number};
+    ghost use Rattle.step_table.specs.AtomicSteps.{field_number};
 
     /// The field's number (own), 0 to 3.
     pub fn number(self) -> u8

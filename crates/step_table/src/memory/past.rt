@@ -4,11 +4,11 @@ ghost use base.Fml.{ftrue};
 ghost use Rattle.control_word.specs.declared.model.event.Entry.{Entry};
 ghost use Rattle.control_word.specs.declared.model.view.View.{View};
 ghost use Rattle.control_word.specs.Views.{fresh};
-ghost use Rattle.step_table.specs.Stories.{Nothing, history_after, views_after};
+ghost use Rattle.step_table.specs.GhostStates.{Nothing, history_after, views_after};
 
-use crate::cell_steps::cell_deed::CellDeed;
+use crate::cell_steps::cell_step::CellStep;
 use crate::memory::extent::Extent;
-use crate::memory::shelf::ShelfDeed;
+use crate::memory::shelf::ShelfStep;
 use crate::memory::table::Table;
 use control_word::model::handle::Kind;
 use control_word::place::{Block, Place};
@@ -16,7 +16,7 @@ use std::marker::Model;
 
 /// What one atomic step did to a block, with what it found.
 #[derive(Clone, Copy)]
-pub enum Deed {
+pub enum AtomicStep {
     /// The weak word of a vacant block became 1.
     Prepare {
         block: Block,
@@ -96,19 +96,19 @@ pub enum Deed {
     /// A step on a block's bit in a word of the shelf.
     OnShelf {
         block: Block,
-        deed: ShelfDeed,
+        atomic_step: ShelfStep,
     },
     /// A step on a cell, or on the funds of a count.
     OnCell {
-        deed: CellDeed,
+        atomic_step: CellStep,
     },
 }
 
-/// A deed, and the desk that did it.
+/// An atomic step, and the desk that did it.
 #[derive(Clone, Copy)]
 pub struct Done {
     pub desk: usize,
-    pub deed: Deed,
+    pub atomic_step: AtomicStep,
 }
 
 /// All events so far, newest first, and the view of each desk. It takes no bytes.
@@ -130,10 +130,10 @@ impl Past {
         Past {}
     }
 
-    /// What is known after one more deed.
+    /// What is known after one more atomic step.
     pub(crate) fn next(_table: &Table, _done: &Done) -> Past
-        ensures { (result.history ≡ history_after _table.now _done.now.desk _done.now.deed)
-            × (result.views ≡ views_after _table.now _done.now.desk _done.now.deed) }
+        ensures { (result.history ≡ history_after _table.now _done.now.desk _done.now.atomic_step)
+            × (result.views ≡ views_after _table.now _done.now.desk _done.now.atomic_step) }
     {
         Past {}
     }

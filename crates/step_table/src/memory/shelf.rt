@@ -4,16 +4,16 @@ ghost use Rattle.control_word.specs.declared.model.view.Pending.TheVariants.{Idl
 ghost use Rattle.control_word.specs.State.{Has, stored};
 ghost use Rattle.control_word.specs.Words.{shelf_spot};
 ghost use Rattle.step_table.specs.Openings.{opening};
-ghost use Rattle.step_table.specs.Stories.{story_after_deed, pending, story_state};
+ghost use Rattle.step_table.specs.GhostStates.{ghost_after_step, pending, model_state};
 
-use crate::memory::past::Deed;
+use crate::memory::past::AtomicStep;
 use crate::memory::table::Table;
 use control_word::packed::layout::{shelf_bit, shelf_word};
 use control_word::place::Block;
 
 /// What a step on a shelf word did to a block's bit.
 #[derive(Clone, Copy)]
-pub enum ShelfDeed {
+pub enum ShelfStep {
     /// It was set: the block went from the desk's store to the shelf.
     Shelve,
     /// It was cleared, and had been set: the block went from the shelf to the desk's store.
@@ -40,13 +40,13 @@ impl Table {
     pub fn shelve(&mut self, desk: usize, block: Block)
         requires seat { desk < self.old.extent.actors }
         requires idle { pending self.old desk ≡ Idle }
-        requires stored { Has (stored desk block.0) (story_state self.old).stores }
-        ensures { self.new ≡ story_after_deed self.old desk (Deed.OnShelf block ShelfDeed.Shelve) }
+        requires stored { Has (stored desk block.0) (model_state self.old).stores }
+        ensures { self.new ≡ ghost_after_step self.old desk (AtomicStep.OnShelf block ShelfStep.Shelve) }
     {
         let word = self.place_on_shelf(block);
         let found = self.words.get(word);
-        let deed = ShelfDeed::Shelve;
-        let past = self.then(desk, Deed::OnShelf { block, deed });
+        let atomic_step = ShelfStep::Shelve;
+        let past = self.then(desk, AtomicStep::OnShelf { block, atomic_step });
         self.words.set(word, found | shelf_bit(block));
         self.past = past;
     }
@@ -55,15 +55,15 @@ impl Table {
     pub fn unshelve(&mut self, desk: usize, block: Block) -> bool
         requires seat { desk < self.old.extent.actors }
         requires idle { pending self.old desk ≡ Idle }
-        ensures got { result ≡ (story_state self.old).shelved block.0 }
-        ensures after { self.new ≡ story_after_deed self.old desk
-            (Deed.OnShelf block (cond result ShelfDeed.Unshelve ShelfDeed.Miss)) }
+        ensures got { result ≡ (model_state self.old).shelved block.0 }
+        ensures after { self.new ≡ ghost_after_step self.old desk
+            (AtomicStep.OnShelf block (cond result ShelfStep.Unshelve ShelfStep.Miss)) }
     {
         let word = self.place_on_shelf(block);
         let found = self.words.get(word);
         let got = found & shelf_bit(block) != 0;
-        let deed = cleared(got);
-        let past = self.then(desk, Deed::OnShelf { block, deed });
+        let atomic_step = cleared(got);
+        let past = self.then(desk, AtomicStep::OnShelf { block, atomic_step });
         self.words.set(word, found & !shelf_bit(block));
         self.past = past;
         got
@@ -71,12 +71,12 @@ impl Table {
 }
 
 /// What clearing a bit did, by whether it was set.
-fn cleared(got: bool) -> ShelfDeed
-    ensures { result ≡ cond got ShelfDeed.Unshelve ShelfDeed.Miss }
+fn cleared(got: bool) -> ShelfStep
+    ensures { result ≡ cond got ShelfStep.Unshelve ShelfStep.Miss }
 {
     if got {
-        ShelfDeed::Unshelve
+        ShelfStep::Unshelve
     } else {
-        ShelfDeed::Miss
+        ShelfStep::Miss
     }
 }

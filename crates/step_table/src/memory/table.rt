@@ -6,18 +6,18 @@ ghost use Rattle.control_word.specs.Handles.{IsPointer, empty};
 ghost use Rattle.control_word.specs.Layout.{spot, table_size};
 ghost use Rattle.control_word.specs.State.{Has, held, stored, ending, bag_size, count, kind_of_member, weak};
 ghost use Rattle.control_word.specs.Views.{fresh, owed};
-ghost use Rattle.step_table.specs.Deeds.{told_number, remains};
+ghost use Rattle.step_table.specs.AtomicSteps.{told_number, remains};
 ghost use Rattle.control_word.specs.Words.{flags_of};
 ghost use Rattle.step_table.specs.Openings.{IsExtent};
-ghost use Rattle.step_table.specs.Stories.{IsMaking, Kept, story_after_deed, handle_in_block, history_after};
-ghost use Rattle.step_table.specs.Stories.{known_words, object_of_block, owner_in};
-ghost use Rattle.step_table.specs.Stories.{pending, story_state, views_after};
+ghost use Rattle.step_table.specs.GhostStates.{IsMaking, Kept, ghost_after_step, handle_in_block, history_after};
+ghost use Rattle.step_table.specs.GhostStates.{known_words, object_of_block, owner_in};
+ghost use Rattle.step_table.specs.GhostStates.{pending, model_state, views_after};
 
 use crate::memory::ended::Ended;
 use crate::memory::extent::Extent;
-use crate::memory::past::{Deed, Done, Past};
+use crate::memory::past::{AtomicStep, Done, Past};
 use crate::memory::words::Words;
-use crate::slots::holdings::Pointer;
+use crate::slots::registers::Pointer;
 use control_word::packed::counts::{is_last, told_count};
 use control_word::packed::layout::{FIELDS, FLAGS, NULL, OWNERS, WEAKS, block_word, table_words};
 use control_word::place::{Block, Place};
@@ -33,9 +33,9 @@ pub struct Table {
 }
 
 impl Model for Table {
-    ghost use Rattle.step_table.specs.Stories.{Story, Kept};
+    ghost use Rattle.step_table.specs.GhostStates.{GhostState, Kept};
 
-    ghost Value = { Story };
+    ghost Value = { GhostState };
 
     ghost view = { λ t. record {
       extent = t.extent;
@@ -77,7 +77,7 @@ impl Table {
 
     /// How many cells for shared pointers there are: the weak ones stand behind them.
     pub fn shared_cells(&self) -> u32
-        ensures shared { result ≡ (story_state self.now).shared }
+        ensures shared { result ≡ (model_state self.now).shared }
         ensures few { result ≤ 256 }
     {
         self.known();
@@ -94,22 +94,22 @@ impl Table {
         self.words.get(block_word(block, word))
     }
 
-    /// What the table knows after a deed.
-    pub(crate) fn then(&self, desk: usize, deed: Deed) -> Past
-        ensures { (result.history ≡ history_after self.now desk deed)
-            × (result.views ≡ views_after self.now desk deed) }
+    /// What the table knows after an atomic step.
+    pub(crate) fn then(&self, desk: usize, atomic_step: AtomicStep) -> Past
+        ensures { (result.history ≡ history_after self.now desk atomic_step)
+            × (result.views ≡ views_after self.now desk atomic_step) }
     {
-        Past::next(self, &Done { desk, deed })
+        Past::next(self, &Done { desk, atomic_step })
     }
 
     /// Begins a make: the weak word of an own vacant block becomes 1, before anybody can see the object.
     pub fn prepare(&mut self, desk: usize, block: Block)
         requires seat { desk < self.old.extent.actors }
         requires idle { pending self.old desk ≡ Idle }
-        requires stored { Has (stored desk block.0) (story_state self.old).stores }
-        ensures { self.new ≡ story_after_deed self.old desk (Deed.Prepare block) }
+        requires stored { Has (stored desk block.0) (model_state self.old).stores }
+        ensures { self.new ≡ ghost_after_step self.old desk (AtomicStep.Prepare block) }
     {
-        let past = self.then(desk, Deed::Prepare { block });
+        let past = self.then(desk, AtomicStep::Prepare { block });
         self.words.set(block_word(block, WEAKS), 1);
         self.past = past;
     }
@@ -130,11 +130,11 @@ impl Table {
         requires seat { desk < self.old.extent.actors }
         requires making { IsMaking self.old desk block }
         requires inside { index < 5 }
-        ensures { self.new ≡ story_after_deed self.old desk (Deed.Write block index value) }
+        ensures { self.new ≡ ghost_after_step self.old desk (AtomicStep.Write block index value) }
     {
         let past = self.then(
             desk,
-            Deed::Write {
+            AtomicStep::Write {
                 block,
                 index,
                 value,
@@ -150,12 +150,12 @@ impl Table {
         requires seat { desk < self.old.extent.actors }
         requires making { IsMaking self.old desk block }
         requires known { known_words (pending self.old desk) ≡ flags_of enabled null ∷ fields }
-        requires room { bag_size (story_state self.old) desk < (story_state self.old).allowance desk }
-        ensures { self.new ≡ story_after_deed self.old desk (Deed.Claim block enabled null fields) }
+        requires room { bag_size (model_state self.old) desk < (model_state self.old).allowance desk }
+        ensures { self.new ≡ ghost_after_step self.old desk (AtomicStep.Claim block enabled null fields) }
     {
         let past = self.then(
             desk,
-            Deed::Claim {
+            AtomicStep::Claim {
                 block,
                 enabled,
                 null,
@@ -170,13 +170,13 @@ impl Table {
     pub fn share(&mut self, desk: usize, block: Block, of: Option<Place>, place: Option<Place>)
         requires seat { desk < self.old.extent.actors }
         requires idle { pending self.old desk ≡ Idle }
-        requires held { Has (held desk (owner_in self.old block of)) (story_state self.old).hands }
+        requires held { Has (held desk (owner_in self.old block of)) (model_state self.old).hands }
         requires place { IsPointer place }
-        requires room { bag_size (story_state self.old) desk < (story_state self.old).allowance desk }
-        ensures { self.new ≡ story_after_deed self.old desk (Deed.Share block of place) }
+        requires room { bag_size (model_state self.old) desk < (model_state self.old).allowance desk }
+        ensures { self.new ≡ ghost_after_step self.old desk (AtomicStep.Share block of place) }
     {
         let found = self.words.get(block_word(block, OWNERS));
-        let past = self.then(desk, Deed::Share { block, of, place });
+        let past = self.then(desk, AtomicStep::Share { block, of, place });
         self.words.set(block_word(block, OWNERS), found + 1);
         self.past = past;
     }
@@ -185,13 +185,13 @@ impl Table {
     pub fn leave(&mut self, desk: usize, block: Block, place: Option<Place>) -> bool
         requires seat { desk < self.old.extent.actors }
         requires idle { pending self.old desk ≡ Idle }
-        requires held { Has (held desk (owner_in self.old block place)) (story_state self.old).hands }
-        ensures last { result ≡ (count (story_state self.old) (object_of_block self.old block) == 1) }
-        ensures after { self.new ≡ story_after_deed self.old desk (Deed.Leave block place result) }
+        requires held { Has (held desk (owner_in self.old block place)) (model_state self.old).hands }
+        ensures last { result ≡ (count (model_state self.old) (object_of_block self.old block) == 1) }
+        ensures after { self.new ≡ ghost_after_step self.old desk (AtomicStep.Leave block place result) }
     {
         let found = self.words.get(block_word(block, OWNERS));
         let last = is_last(found);
-        let past = self.then(desk, Deed::Leave { block, place, last });
+        let past = self.then(desk, AtomicStep::Leave { block, place, last });
         self.words.set(block_word(block, OWNERS), found - 1);
         self.past = past;
         last
@@ -203,19 +203,19 @@ impl Table {
         requires seat { desk < self.old.extent.actors }
         requires idle { pending self.old desk ≡ Idle }
         requires held { Has (held desk (handle_in_block self.old pointer.kind pointer.block pointer.place))
-            (story_state self.old).hands }
+            (model_state self.old).hands }
         ensures told { result ≡ told_number (slice_index self.old.words (spot pointer.block.0 0)) }
-        ensures none { (result == 0) ≡ (count (story_state self.old) (object_of_block self.old pointer.block) == 0) }
-        ensures most { result ≤ count (story_state self.old) (object_of_block self.old pointer.block) }
+        ensures none { (result == 0) ≡ (count (model_state self.old) (object_of_block self.old pointer.block) == 0) }
+        ensures most { result ≤ count (model_state self.old) (object_of_block self.old pointer.block) }
         ensures exact { owed self.old.views (spot pointer.block.0 0) ≡ 0
-            → result ≡ count (story_state self.old) (object_of_block self.old pointer.block) }
-        ensures after { self.new ≡ story_after_deed self.old desk
-            (Deed.Count pointer.kind pointer.block pointer.place result) }
+            → result ≡ count (model_state self.old) (object_of_block self.old pointer.block) }
+        ensures after { self.new ≡ ghost_after_step self.old desk
+            (AtomicStep.Count pointer.kind pointer.block pointer.place result) }
     {
         let owners = told_count(self.words.get(block_word(pointer.block, OWNERS)));
         self.past = self.then(
             desk,
-            Deed::Count {
+            AtomicStep::Count {
                 kind: pointer.kind,
                 block: pointer.block,
                 place: pointer.place,
@@ -230,16 +230,16 @@ impl Table {
     pub fn finish(&mut self, desk: usize, block: Block) -> bool
         requires seat { desk < self.old.extent.actors }
         requires idle { pending self.old desk ≡ Idle }
-        requires ending { ((story_state self.old).object (object_of_block self.old block)).phase ≡ ending desk }
+        requires ending { ((model_state self.old).object (object_of_block self.old block)).phase ≡ ending desk }
         requires cleared { (m : ℕ) → m < 3
-            → ((story_state self.old).object (object_of_block self.old block)).member m
+            → ((model_state self.old).object (object_of_block self.old block)).member m
             ≡ empty (kind_of_member m) }
-        ensures vacant { result ≡ (weak (story_state self.old) (object_of_block self.old block) == 0) }
-        ensures after { self.new ≡ story_after_deed self.old desk (Deed.Finish block result) }
+        ensures vacant { result ≡ (weak (model_state self.old) (object_of_block self.old block) == 0) }
+        ensures after { self.new ≡ ghost_after_step self.old desk (AtomicStep.Finish block result) }
     {
         let found = self.words.get(block_word(block, WEAKS));
         let vacant = is_last(found);
-        let past = self.then(desk, Deed::Finish { block, vacant });
+        let past = self.then(desk, AtomicStep::Finish { block, vacant });
         self.words.set(block_word(block, WEAKS), found - 1);
         self.past = past;
         vacant
@@ -247,7 +247,7 @@ impl Table {
 
     /// A word of the flags (2) or fields (3 to 6) of an ending object: none of them changes any more.
     fn body_word(&self, desk: usize, block: Block, word: usize) -> u64
-        requires ending { ((story_state self.now).object (object_of_block self.now block)).phase ≡ ending desk }
+        requires ending { ((model_state self.now).object (object_of_block self.now block)).phase ≡ ending desk }
         requires inside { word < 7 }
         ensures { result ≡ slice_index self.now.words (spot block.0 word) }
     {
@@ -256,8 +256,8 @@ impl Table {
 
     /// What an ending object leaves: its fields, or that it was null.
     pub fn remains(&self, desk: usize, block: Block) -> Ended
-        requires ending { ((story_state self.now).object (object_of_block self.now block)).phase ≡ ending desk }
-        ensures { result ≡ remains ((story_state self.now).object (object_of_block self.now block)) }
+        requires ending { ((model_state self.now).object (object_of_block self.now block)).phase ≡ ending desk }
+        ensures { result ≡ remains ((model_state self.now).object (object_of_block self.now block)) }
     {
         self.known();
         if is_null(self.body_word(desk, block, FLAGS)) {

@@ -4,12 +4,12 @@ ghost use Rattle.control_word.specs.declared.model.view.Pending.TheVariants.{Idl
 ghost use Rattle.control_word.specs.Events.{is_gone, place_at};
 ghost use Rattle.control_word.specs.Layout.{spot};
 ghost use Rattle.control_word.specs.State.{Has, held, bag_size, count, weak};
-ghost use Rattle.step_table.specs.Stories.{story_after_deed, handle_in_block, object_of_block, pending, story_state};
-ghost use Rattle.step_table.specs.Stories.{weak_in};
+ghost use Rattle.step_table.specs.GhostStates.{ghost_after_step, handle_in_block, object_of_block, pending, model_state};
+ghost use Rattle.step_table.specs.GhostStates.{weak_in};
 
-use crate::memory::past::Deed;
+use crate::memory::past::AtomicStep;
 use crate::memory::table::Table;
-use crate::slots::holdings::Pointer;
+use crate::slots::registers::Pointer;
 use control_word::packed::counts::is_last;
 use control_word::packed::layout::{OWNERS, WEAKS, block_word};
 use control_word::place::{Block, Place};
@@ -21,14 +21,14 @@ impl Table {
         requires seat { desk < self.old.extent.actors }
         requires idle { pending self.old desk ≡ Idle }
         requires held { Has (held desk (handle_in_block self.old pointer.kind pointer.block pointer.place))
-            (story_state self.old).hands }
+            (model_state self.old).hands }
         requires place { (place ≡ pointer.place) ⊎ (place ≡ place_at pointer.block.0) }
-        requires room { bag_size (story_state self.old) desk < (story_state self.old).allowance desk }
-        ensures { self.new ≡ story_after_deed self.old desk (Deed.WeakShare pointer.block place) }
+        requires room { bag_size (model_state self.old) desk < (model_state self.old).allowance desk }
+        ensures { self.new ≡ ghost_after_step self.old desk (AtomicStep.WeakShare pointer.block place) }
     {
         let block = pointer.block;
         let found = self.words.get(block_word(block, WEAKS));
-        let past = self.then(desk, Deed::WeakShare { block, place });
+        let past = self.then(desk, AtomicStep::WeakShare { block, place });
         self.words.set(block_word(block, WEAKS), found + 1);
         self.past = past;
     }
@@ -38,16 +38,16 @@ impl Table {
     pub(crate) fn weak_leave(&mut self, desk: usize, block: Block, place: Option<Place>) -> bool
         requires seat { desk < self.old.extent.actors }
         requires idle { pending self.old desk ≡ Idle }
-        requires held { Has (held desk (weak_in self.old block place)) (story_state self.old).hands }
-        ensures vacant { result ≡ (weak (story_state self.old) (object_of_block self.old block) == 1
-            && is_gone ((story_state self.old).object (object_of_block self.old block)).phase) }
-        ensures after { self.new ≡ story_after_deed self.old desk (Deed.WeakLeave block place result) }
+        requires held { Has (held desk (weak_in self.old block place)) (model_state self.old).hands }
+        ensures vacant { result ≡ (weak (model_state self.old) (object_of_block self.old block) == 1
+            && is_gone ((model_state self.old).object (object_of_block self.old block)).phase) }
+        ensures after { self.new ≡ ghost_after_step self.old desk (AtomicStep.WeakLeave block place result) }
     {
         let found = self.words.get(block_word(block, WEAKS));
         let vacant = is_last(found);
         let past = self.then(
             desk,
-            Deed::WeakLeave {
+            AtomicStep::WeakLeave {
                 block,
                 place,
                 vacant,
@@ -63,16 +63,16 @@ impl Table {
         requires seat { desk < self.old.extent.actors }
         requires idle { pending self.old desk ≡ Idle }
         requires held { Has (held desk (handle_in_block self.old pointer.kind pointer.block pointer.place))
-            (story_state self.old).hands }
-        ensures exact { result ≡ (count (story_state self.old) (object_of_block self.old pointer.block) == 0) }
-        ensures after { self.new ≡ story_after_deed self.old desk
-            (Deed.Expired pointer.kind pointer.block pointer.place result) }
+            (model_state self.old).hands }
+        ensures exact { result ≡ (count (model_state self.old) (object_of_block self.old pointer.block) == 0) }
+        ensures after { self.new ≡ ghost_after_step self.old desk
+            (AtomicStep.Expired pointer.kind pointer.block pointer.place result) }
     {
         let Pointer { kind, block, place } = pointer;
         let expired = self.words.get(block_word(block, OWNERS)) == 0;
         self.past = self.then(
             desk,
-            Deed::Expired {
+            AtomicStep::Expired {
                 kind,
                 block,
                 place,
@@ -87,11 +87,11 @@ impl Table {
     pub fn look_lock(&mut self, desk: usize, block: Block, place: Option<Place>) -> u64
         requires seat { desk < self.old.extent.actors }
         requires idle { pending self.old desk ≡ Idle }
-        requires held { Has (held desk (weak_in self.old block place)) (story_state self.old).hands }
+        requires held { Has (held desk (weak_in self.old block place)) (model_state self.old).hands }
         ensures found { result ≡ slice_index self.old.words (spot block.0 0) }
-        ensures left { (result == 0) ≡ (count (story_state self.old) (object_of_block self.old block) == 0) }
+        ensures left { (result == 0) ≡ (count (model_state self.old) (object_of_block self.old block) == 0) }
         ensures after { self.new ≡ cond (result == 0)
-            (story_after_deed self.old desk (Deed.Lock block place false)) self.old }
+            (ghost_after_step self.old desk (AtomicStep.Lock block place false)) self.old }
     {
         let found = self.words.get(block_word(block, OWNERS));
         if found > 0 {
@@ -99,7 +99,7 @@ impl Table {
         }
         self.past = self.then(
             desk,
-            Deed::Lock {
+            AtomicStep::Lock {
                 block,
                 place,
                 got: false,
@@ -113,13 +113,13 @@ impl Table {
     pub fn try_lock(&mut self, desk: usize, block: Block, place: Option<Place>, found: u64) -> u64
         requires seat { desk < self.old.extent.actors }
         requires idle { pending self.old desk ≡ Idle }
-        requires held { Has (held desk (weak_in self.old block place)) (story_state self.old).hands }
-        requires room { bag_size (story_state self.old) desk < (story_state self.old).allowance desk }
+        requires held { Has (held desk (weak_in self.old block place)) (model_state self.old).hands }
+        requires room { bag_size (model_state self.old) desk < (model_state self.old).allowance desk }
         requires some { 0 < found }
         ensures word { result ≡ slice_index self.old.words (spot block.0 0) }
-        ensures left { (result == 0) ≡ (count (story_state self.old) (object_of_block self.old block) == 0) }
+        ensures left { (result == 0) ≡ (count (model_state self.old) (object_of_block self.old block) == 0) }
         ensures after { self.new ≡ cond (result == found)
-            (story_after_deed self.old desk (Deed.Lock block place true)) self.old }
+            (ghost_after_step self.old desk (AtomicStep.Lock block place true)) self.old }
     {
         let now = self.words.get(block_word(block, OWNERS));
         if now != found {
@@ -127,7 +127,7 @@ impl Table {
         }
         let past = self.then(
             desk,
-            Deed::Lock {
+            AtomicStep::Lock {
                 block,
                 place,
                 got: true,

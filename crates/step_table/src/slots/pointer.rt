@@ -3,11 +3,11 @@ ghost use Rattle.std.specs.Prelude.{◌≡◌, ◌<◌};
 ghost use Rattle.control_word.specs.declared.model.view.Pending.TheVariants.{Idle};
 ghost use Rattle.control_word.specs.Handles.{IsPointer};
 ghost use Rattle.control_word.specs.State.{Has, held, bag_size};
-ghost use Rattle.step_table.specs.Deeds.{is_last, leave, share};
-ghost use Rattle.step_table.specs.Stories.{story_after_deed, handle_in_block, pending, story_state};
+ghost use Rattle.step_table.specs.AtomicSteps.{is_last, leave, share};
+ghost use Rattle.step_table.specs.GhostStates.{ghost_after_step, handle_in_block, pending, model_state};
 
 use crate::memory::table::Table;
-use crate::slots::holdings::Pointer;
+use crate::slots::registers::Pointer;
 use control_word::model::handle::Kind;
 
 impl Table {
@@ -16,10 +16,10 @@ impl Table {
         requires seat { desk < self.old.extent.actors }
         requires idle { pending self.old desk ≡ Idle }
         requires held { Has (held desk (handle_in_block self.old pointer.kind pointer.block pointer.place))
-            (story_state self.old).hands }
+            (model_state self.old).hands }
         requires place { IsPointer pointer.place }
-        requires room { bag_size (story_state self.old) desk < (story_state self.old).allowance desk }
-        ensures { self.new ≡ story_after_deed self.old desk (share pointer) }
+        requires room { bag_size (model_state self.old) desk < (model_state self.old).allowance desk }
+        ensures { self.new ≡ ghost_after_step self.old desk (share pointer) }
     {
         match pointer.kind {
             Kind::Owner => self.share(desk, pointer.block, pointer.place, pointer.place),
@@ -33,9 +33,9 @@ impl Table {
         requires seat { desk < self.old.extent.actors }
         requires idle { pending self.old desk ≡ Idle }
         requires held { Has (held desk (handle_in_block self.old pointer.kind pointer.block pointer.place))
-            (story_state self.old).hands }
-        ensures last { result ≡ is_last (story_state self.old) pointer }
-        ensures after { self.new ≡ story_after_deed self.old desk (leave (story_state self.old) pointer) }
+            (model_state self.old).hands }
+        ensures last { result ≡ is_last (model_state self.old) pointer }
+        ensures after { self.new ≡ ghost_after_step self.old desk (leave (model_state self.old) pointer) }
     {
         match pointer.kind {
             Kind::Owner => self.leave(desk, pointer.block, pointer.place),

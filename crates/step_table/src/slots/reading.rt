@@ -2,12 +2,12 @@
 ghost use Rattle.std.specs.Prelude.{◌≡◌, ◌<◌, length, slice_index, Some, None};
 ghost use Rattle.control_word.specs.declared.model.view.Pending.TheVariants.{Idle};
 ghost use Rattle.control_word.specs.State.{Has, held};
-ghost use Rattle.step_table.specs.Holdings.{inside_as, into};
-ghost use Rattle.step_table.specs.Stories.{story_after_deed, object_of_block, owner_in, pending, story_state};
+ghost use Rattle.step_table.specs.Registers.{inside_as, into};
+ghost use Rattle.step_table.specs.GhostStates.{ghost_after_step, object_of_block, owner_in, pending, model_state};
 
-use crate::memory::past::Deed;
+use crate::memory::past::AtomicStep;
 use crate::memory::table::Table;
-use crate::slots::holdings::{Holdings, Pointer};
+use crate::slots::registers::{Pointer, Registers};
 use control_word::model::handle::Kind;
 use control_word::packed::layout::{FIELDS, block_word};
 use control_word::place::{Block, Place};
@@ -17,19 +17,19 @@ impl Table {
     pub fn read(&mut self, desk: usize, block: Block, place: Place) -> u64
         requires seat { desk < self.old.extent.actors }
         requires idle { pending self.old desk ≡ Idle }
-        requires held { Has (held desk (owner_in self.old block (Some place))) (story_state self.old).hands }
+        requires held { Has (held desk (owner_in self.old block (Some place))) (model_state self.old).hands }
         requires inside { place.block.0 ≡ block.0 }
         requires field { place.field < 4 }
         ensures value { result ≡ slice_index
-            ((story_state self.old).object (object_of_block self.old block)).fields place.field }
-        ensures after { self.new ≡ story_after_deed self.old desk (Deed.Read block (Some place) result) }
+            ((model_state self.old).object (object_of_block self.old block)).fields place.field }
+        ensures after { self.new ≡ ghost_after_step self.old desk (AtomicStep.Read block (Some place) result) }
     {
         let value = self
             .words
             .get(block_word(block, FIELDS + usize::from(place.field)));
         self.past = self.then(
             desk,
-            Deed::Read {
+            AtomicStep::Read {
                 block,
                 place: Some(place),
                 value,
@@ -39,9 +39,9 @@ impl Table {
     }
 }
 
-impl Holdings {
-    ghost use Rattle.step_table.specs.Deeds.{field_of, read_deed};
-    ghost use Rattle.step_table.specs.Holdings.{HoldsBag, inside, slot_pointer};
+impl Registers {
+    ghost use Rattle.step_table.specs.AtomicSteps.{field_of, read_atomic_step};
+    ghost use Rattle.step_table.specs.Registers.{HoldsBag, inside, slot_pointer};
 
     /// The owner that a slot holds, where it points into the object that it owns.
     pub fn inside(&self, at: usize) -> Option<Pointer>
@@ -60,8 +60,8 @@ impl Holdings {
         requires idle { pending table.old desk ≡ Idle }
         requires holds { HoldsBag desk self.now.slots.items table.old }
         requires from { inside (slot_pointer self.now.slots.items from) ≡ Some pointer }
-        ensures value { result ≡ field_of (story_state table.old) pointer }
-        ensures table { table.new ≡ story_after_deed table.old desk (read_deed (story_state table.old) pointer) }
+        ensures value { result ≡ field_of (model_state table.old) pointer }
+        ensures table { table.new ≡ ghost_after_step table.old desk (read_atomic_step (model_state table.old) pointer) }
         ensures holds { HoldsBag desk self.now.slots.items table.new }
     {
         table.known();

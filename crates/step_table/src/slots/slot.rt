@@ -1,9 +1,9 @@
 //! What a name holds.
 ghost use Rattle.std.specs.Prelude.{◌≡◌};
 ghost use Rattle.step_table.specs.Contents.{is_of};
-ghost use Rattle.step_table.specs.Holdings.{place_of, pointer_of};
+ghost use Rattle.step_table.specs.Registers.{place_of, pointer_of};
 
-use crate::slots::holdings::Pointer;
+use crate::slots::registers::Pointer;
 use control_word::model::handle::Kind;
 use control_word::place::Place;
 

@@ -5,21 +5,21 @@ ghost use Rattle.control_word.specs.declared.model.handle.Kind.TheVariants.{Owne
 ghost use Rattle.control_word.specs.Events.{origin};
 ghost use Rattle.control_word.specs.Words.{flags_of};
 ghost use Rattle.control_word.specs.declared.model.view.Pending.TheVariants.{Idle};
-ghost use Rattle.step_table.specs.Deeds.{as_owner, as_weak, downgrade, is_expired, lock, owner_word, share};
-ghost use Rattle.step_table.specs.Holdings.{HoldsBag, slot_pointer, weak_slot};
+ghost use Rattle.step_table.specs.AtomicSteps.{as_owner, as_weak, downgrade, is_expired, lock, owner_word, share};
+ghost use Rattle.step_table.specs.Registers.{HoldsBag, slot_pointer, weak_slot};
 ghost use Rattle.step_table.specs.declared.slots.slot.Slot.TheVariants.{Full};
 ghost use Rattle.control_word.specs.Words.{flags_of};
-ghost use Rattle.step_table.specs.Stories.{IsMaking, story_after_deed, known_words, pending, story_state};
+ghost use Rattle.step_table.specs.GhostStates.{IsMaking, ghost_after_step, known_words, pending, model_state};
 
 use crate::memory::form::Form;
-use crate::memory::past::Deed;
+use crate::memory::past::AtomicStep;
 use crate::memory::table::Table;
-use crate::slots::holdings::{Holdings, Pointer};
+use crate::slots::registers::{Pointer, Registers};
 use crate::slots::slot::Slot;
 use control_word::model::handle::Kind;
 use control_word::place::{Block, Place};
 
-impl Holdings {
+impl Registers {
     /// Copies the pointer of one slot into another, which is empty.
     pub fn share(
         &mut self,
@@ -36,7 +36,7 @@ impl Holdings {
         requires inside { to < length self.old.slots.items }
         requires empty { slot_pointer self.old.slots.items to ≡ None }
         ensures slots { self.new.slots.items ≡ slice_set self.old.slots.items to (Full pointer) }
-        ensures table { table.new ≡ story_after_deed table.old desk (share pointer) }
+        ensures table { table.new ≡ ghost_after_step table.old desk (share pointer) }
         ensures holds { HoldsBag desk self.new.slots.items table.new }
     {
         table.known();
@@ -60,7 +60,7 @@ impl Holdings {
         requires inside { to < length self.old.slots.items }
         requires empty { slot_pointer self.old.slots.items to ≡ None }
         ensures slots { self.new.slots.items ≡ slice_set self.old.slots.items to (Full (as_weak pointer)) }
-        ensures table { table.new ≡ story_after_deed table.old desk (downgrade pointer) }
+        ensures table { table.new ≡ ghost_after_step table.old desk (downgrade pointer) }
         ensures holds { HoldsBag desk self.new.slots.items table.new }
     {
         table.known();
@@ -91,11 +91,11 @@ impl Holdings {
         requires empty { slot_pointer self.old.slots.items to ≡ None }
         requires some { 0 < found }
         ensures word { result ≡ owner_word table.old pointer }
-        ensures left { (result == 0) ≡ is_expired (story_state table.old) pointer }
+        ensures left { (result == 0) ≡ is_expired (model_state table.old) pointer }
         ensures slots { self.new.slots.items ≡ cond (result == found)
             (slice_set self.old.slots.items to (Full (as_owner pointer))) self.old.slots.items }
         ensures table { table.new ≡ cond (result == found)
-            (story_after_deed table.old desk (lock (story_state table.old) pointer)) table.old }
+            (ghost_after_step table.old desk (lock (model_state table.old) pointer)) table.old }
         ensures holds { HoldsBag desk self.new.slots.items table.new }
     {
         table.known();
@@ -121,8 +121,8 @@ impl Holdings {
         requires empty { slot_pointer self.old.slots.items to ≡ None }
         ensures slots { self.new.slots.items ≡ slice_set self.old.slots.items to
             (Full (record { kind = Owner; block = block; place = origin block.0 form.null })) }
-        ensures table { table.new ≡ story_after_deed table.old desk
-            (Deed.Claim block form.enabled form.null form.fields) }
+        ensures table { table.new ≡ ghost_after_step table.old desk
+            (AtomicStep.Claim block form.enabled form.null form.fields) }
         ensures holds { HoldsBag desk self.new.slots.items table.new }
     {
         table.known();

@@ -5,12 +5,12 @@ ghost use Rattle.control_word.specs.declared.model.view.Pending.TheVariants.{Idl
 ghost use Rattle.control_word.specs.Events.{place_at};
 ghost use Rattle.control_word.specs.State.{Has, bag_size, held};
 ghost use Rattle.control_word.specs.Words.{flags_of};
-ghost use Rattle.step_table.specs.Deeds.{give, is_enabled, this_as};
+ghost use Rattle.step_table.specs.AtomicSteps.{give, is_enabled, this_as};
 ghost use Rattle.step_table.specs.declared.slots.slot.Slot.TheVariants.{Full};
-ghost use Rattle.step_table.specs.Stories.{story_after_deed, handle_in_block, pending, story_state};
+ghost use Rattle.step_table.specs.GhostStates.{ghost_after_step, handle_in_block, pending, model_state};
 
 use crate::memory::table::Table;
-use crate::slots::holdings::{Holdings, Pointer};
+use crate::slots::registers::{Pointer, Registers};
 use control_word::model::handle::Kind;
 use control_word::packed::layout::{ENABLED, FLAGS};
 use control_word::place::{Block, Place};
@@ -19,8 +19,8 @@ impl Table {
     /// Whether an object gives pointers to itself, by a handle of it: its flag doesn't change.
     pub fn is_enabled(&self, desk: usize, pointer: Pointer) -> bool
         requires { Has (held desk (handle_in_block self.now pointer.kind pointer.block pointer.place))
-            (story_state self.now).hands }
-        ensures { result ≡ is_enabled (story_state self.now) pointer }
+            (model_state self.now).hands }
+        ensures { result ≡ is_enabled (model_state self.now) pointer }
     {
         self.known();
         is_enabled(self.word(pointer.block, FLAGS))
@@ -31,10 +31,10 @@ impl Table {
         requires seat { desk < self.old.extent.actors }
         requires idle { pending self.old desk ≡ Idle }
         requires held { Has (held desk (handle_in_block self.old pointer.kind pointer.block pointer.place))
-            (story_state self.old).hands }
+            (model_state self.old).hands }
         requires owner { pointer.kind ≡ Owner }
-        requires room { bag_size (story_state self.old) desk < (story_state self.old).allowance desk }
-        ensures { self.new ≡ story_after_deed self.old desk (give kind pointer) }
+        requires room { bag_size (model_state self.old) desk < (model_state self.old).allowance desk }
+        ensures { self.new ≡ ghost_after_step self.old desk (give kind pointer) }
     {
         self.known();
         let place = itself(pointer.block);
@@ -45,14 +45,14 @@ impl Table {
     }
 }
 
-impl Holdings {
-    ghost use Rattle.step_table.specs.Holdings.{HoldsBag, inside, slot_pointer};
+impl Registers {
+    ghost use Rattle.step_table.specs.Registers.{HoldsBag, inside, slot_pointer};
 
     /// Whether the object of an owner in a slot gives pointers to itself.
     pub fn is_enabled(&self, desk: usize, table: &Table, from: usize, pointer: Pointer) -> bool
         requires holds { HoldsBag desk self.now.slots.items table.now }
         requires from { inside (slot_pointer self.now.slots.items from) ≡ Some pointer }
-        ensures { result ≡ is_enabled (story_state table.now) pointer }
+        ensures { result ≡ is_enabled (model_state table.now) pointer }
     {
         table.is_enabled(desk, pointer)
     }
@@ -74,7 +74,7 @@ impl Holdings {
         requires inside { to < length self.old.slots.items }
         requires empty { slot_pointer self.old.slots.items to ≡ None }
         ensures slots { self.new.slots.items ≡ slice_set self.old.slots.items to (Full (this_as kind pointer)) }
-        ensures table { table.new ≡ story_after_deed table.old desk (give kind pointer) }
+        ensures table { table.new ≡ ghost_after_step table.old desk (give kind pointer) }
         ensures holds { HoldsBag desk self.new.slots.items table.new }
     {
         table.known();

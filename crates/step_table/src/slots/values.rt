@@ -2,18 +2,18 @@
 ghost use Rattle.std.specs.Prelude.{◌≡◌, ◌<◌, length, slice_set, Some, None};
 ghost use Rattle.control_word.specs.Handles.{IsPointer};
 ghost use Rattle.control_word.specs.declared.model.view.Pending.TheVariants.{Idle};
-ghost use Rattle.step_table.specs.Deeds.{alias, at_place, on, pointer_before};
-ghost use Rattle.step_table.specs.Holdings.{HoldsBag, owner_as, owner_slot, slot_pointer};
-ghost use Rattle.step_table.specs.Stories.{story_after_deed, pending, story_state};
+ghost use Rattle.step_table.specs.AtomicSteps.{alias, at_place, on, pointer_before};
+ghost use Rattle.step_table.specs.Registers.{HoldsBag, owner_as, owner_slot, slot_pointer};
+ghost use Rattle.step_table.specs.GhostStates.{ghost_after_step, pending, model_state};
 ghost use Rattle.step_table.specs.declared.slots.slot.Slot.TheVariants.{Full};
 
 use crate::memory::table::Table;
-use crate::slots::holdings::{Holdings, Pointer};
+use crate::slots::registers::{Pointer, Registers};
 use crate::slots::slot::Slot;
 use control_word::model::handle::Kind;
 use control_word::place::Place;
 
-impl Holdings {
+impl Registers {
     /// The owner that a slot holds, if it holds one.
     pub fn owner(&self, at: usize) -> Option<Pointer>
         requires { at < length self.now.slots.items }
@@ -43,7 +43,7 @@ impl Holdings {
         requires inside { to < length self.old.slots.items }
         requires empty { slot_pointer self.old.slots.items to ≡ None }
         ensures slots { self.new.slots.items ≡ slice_set self.old.slots.items to (Full (at_place place pointer)) }
-        ensures table { table.new ≡ story_after_deed table.old desk (alias place pointer) }
+        ensures table { table.new ≡ ghost_after_step table.old desk (alias place pointer) }
         ensures holds { HoldsBag desk self.new.slots.items table.new }
     {
         table.known();
@@ -60,7 +60,7 @@ impl Holdings {
         requires holds { HoldsBag _desk self.now.slots.items table.now }
         requires first { first < length self.now.slots.items }
         requires second { second < length self.now.slots.items }
-        ensures { result ≡ pointer_before (story_state table.now) (slot_pointer self.now.slots.items first)
+        ensures { result ≡ pointer_before (model_state table.now) (slot_pointer self.now.slots.items first)
             (slot_pointer self.now.slots.items second) }
     {
         table.known();

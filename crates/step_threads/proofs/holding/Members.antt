@@ -6,15 +6,16 @@ use Rattle.control_word.proofs.history.Legal.{sound}
 use Rattle.control_word.proofs.lists.Tallies.{put_cases}
 use Rattle.control_word.specs.Events.{moved_to}
 use Rattle.control_word.specs.State.{Object, Phase, State, ending, live, put, unmade}
-use Rattle.step_table.specs.declared.cell_steps.cell_deed.Cell.TheVariants.{Free, Member}
-use Rattle.step_table.specs.declared.cell_steps.cell_deed.CellDeed.{CellDeed}
-use Rattle.step_table.specs.declared.cell_steps.cell_deed.CellDeed.TheVariants.{Look, Bring, GiveBack, Take, Turn, Refill, Swap, CompareSwap, TakeOut}
-use Rattle.step_table.specs.declared.memory.past.Deed.{Deed}
-use Rattle.step_table.specs.declared.memory.past.Deed.TheVariants.{Prepare, Write, Claim, Share, WeakShare, Leave, WeakLeave, Lock, Count, Expired, Read, Clear}
-use Rattle.step_table.specs.declared.memory.past.Deed.TheVariants.{Finish, OnShelf, OnCell}
+use Rattle.step_table.specs.declared.cell_steps.cell_step.Cell.TheVariants.{Free, Member}
+use Rattle.step_table.specs.declared.cell_steps.cell_step.CellStep.{CellStep}
+use Rattle.step_table.specs.declared.cell_steps.cell_step.CellStep.TheVariants.{Look, Bring, GiveBack, Take, Turn, Refill, Swap, CompareSwap, TakeOut}
+use Rattle.step_table.specs.declared.memory.past.AtomicStep.{AtomicStep}
+use Rattle.step_table.specs.declared.memory.past.AtomicStep.TheVariants.{Prepare, Write, Claim, Share, WeakShare, Leave, WeakLeave, Lock, Count, Expired, Read}
+use Rattle.step_table.specs.declared.memory.past.AtomicStep.TheVariants.{Clear}
+use Rattle.step_table.specs.declared.memory.past.AtomicStep.TheVariants.{Finish, OnShelf, OnCell}
 use Rattle.step_table.specs.Openings.{opening}
-use Rattle.step_table.specs.Stories.{Kept, Story, story_after_deed, object_of_block, story_state}
-use Rattle.step_table.proofs.tables.ShelfDeeds.{shelf_framed}
+use Rattle.step_table.specs.GhostStates.{Kept, GhostState, ghost_after_step, object_of_block, model_state}
+use Rattle.step_table.proofs.tables.ShelfAtomicSteps.{shelf_framed}
 
 pub phase_differs : (d e : ℕ) (p : Phase) → p ≡ ending d → p ≡ ending e → e ≡ d
 phase_differs d e p a b = let k : ending e ≡ ending d = sym b ∙ a in cc
@@ -25,17 +26,17 @@ other_put : (s : State) (i o m : ℕ) (x : Object) → (o ≡ i → x.member m �
 other_put s i o m x here = put_cases (λ j (y : Object). y.member m ≡ (s.object j).member m) s.object i x o here (λ q. refl)
 
 -- the object that another desk has an owner of, or ends, is another one
-owned_else : (v : Story) (d o i : ℕ) → ((story_state v).object o).phase ≡ ending d → ((story_state v).object i).phase ≡ live → o ≡ i → ⊥
-owned_else v d o i end alive q = let k : ending d ≡ live = sym end ∙ ap (λ (j : ℕ). ((story_state v).object j).phase) q ∙ alive in cc
+owned_else : (v : GhostState) (d o i : ℕ) → ((model_state v).object o).phase ≡ ending d → ((model_state v).object i).phase ≡ live → o ≡ i → ⊥
+owned_else v d o i end alive q = let k : ending d ≡ live = sym end ∙ ap (λ (j : ℕ). ((model_state v).object j).phase) q ∙ alive in cc
 
-ended_else : (v : Story) (d e o i : ℕ) → e ≢ d → ((story_state v).object o).phase ≡ ending d
-    → ((story_state v).object i).phase ≡ ending e → o ≡ i → ⊥
+ended_else : (v : GhostState) (d e o i : ℕ) → e ≢ d → ((model_state v).object o).phase ≡ ending d
+    → ((model_state v).object i).phase ≡ ending e → o ≡ i → ⊥
 ended_else v d e o i n end his q =
-    n (phase_differs d e ((story_state v).object o).phase end (ap (λ (j : ℕ). ((story_state v).object j).phase) q ∙ his))
+    n (phase_differs d e ((model_state v).object o).phase end (ap (λ (j : ℕ). ((model_state v).object j).phase) q ∙ his))
 
-cell_member : (v : Story) (e d o m : ℕ) (x : CellDeed) → e ≢ d → Kept v → Kept (story_after_deed v e (OnCell x))
-    → ((story_state v).object o).phase ≡ ending d
-    → ((story_state (story_after_deed v e (OnCell x))).object o).member m ≡ ((story_state v).object o).member m
+cell_member : (v : GhostState) (e d o m : ℕ) (x : CellStep) → e ≢ d → Kept v → Kept (ghost_after_step v e (OnCell x))
+    → ((model_state v).object o).phase ≡ ending d
+    → ((model_state (ghost_after_step v e (OnCell x))).object o).member m ≡ ((model_state v).object o).member m
 cell_member v e d o m (Look c x None) n kept kept' end = refl
 cell_member v e d o m (Look c x (Some y)) n kept kept' end = refl
 cell_member v e d o m (Bring k b p f) n kept kept' end = refl
@@ -46,33 +47,33 @@ cell_member v e d o m (Turn k b) n kept kept' end = refl
 cell_member v e d o m (Refill c t) n kept kept' end = refl
 cell_member v e d o m (Swap (Free c) new x) n kept kept' end = refl
 cell_member v e d o m (Swap (Member b i) new x) n kept kept' end =
-    let alive = open_live (opening v.extent) (story_state v) e (object_of_block v b) i (sound (opening v.extent) v.history kept.stands.legal)
+    let alive = open_live (opening v.extent) (model_state v) e (object_of_block v b) i (sound (opening v.extent) v.history kept.stands.legal)
     kept'.stands.legal.1.asks.0 in
-    other_put (story_state v) (object_of_block v b) o m _ (λ q. absurd (owned_else v d o (object_of_block v b) end alive q))
+    other_put (model_state v) (object_of_block v b) o m _ (λ q. absurd (owned_else v d o (object_of_block v b) end alive q))
 cell_member v e d o m (CompareSwap (Free c) x y) n kept kept' end = refl
 cell_member v e d o m (CompareSwap (Member b i) x y) n kept kept' end =
-    let alive = open_live (opening v.extent) (story_state v) e (object_of_block v b) i (sound (opening v.extent) v.history kept.stands.legal)
+    let alive = open_live (opening v.extent) (model_state v) e (object_of_block v b) i (sound (opening v.extent) v.history kept.stands.legal)
     kept'.stands.legal.1.asks.0 in
-    other_put (story_state v) (object_of_block v b) o m _ (λ q. absurd (owned_else v d o (object_of_block v b) end alive q))
+    other_put (model_state v) (object_of_block v b) o m _ (λ q. absurd (owned_else v d o (object_of_block v b) end alive q))
 cell_member v e d o m (TakeOut b i x) n kept kept' end =
-    other_put (story_state v) (object_of_block v b) o m _ (λ q. absurd (ended_else v d e o (object_of_block v b) n end kept'.stands.legal.1.asks.0 q))
+    other_put (model_state v) (object_of_block v b) o m _ (λ q. absurd (ended_else v d e o (object_of_block v b) n end kept'.stands.legal.1.asks.0 q))
 
-pub member_kept : (v : Story) (e d o m : ℕ) (x : Deed) → e ≢ d → Kept v → Kept (story_after_deed v e x)
-    → ((story_state v).object o).phase ≡ ending d
-    → ((story_state (story_after_deed v e x)).object o).member m ≡ ((story_state v).object o).member m
+pub member_kept : (v : GhostState) (e d o m : ℕ) (x : AtomicStep) → e ≢ d → Kept v → Kept (ghost_after_step v e x)
+    → ((model_state v).object o).phase ≡ ending d
+    → ((model_state (ghost_after_step v e x)).object o).member m ≡ ((model_state v).object o).member m
 member_kept v e d o m (Prepare b) n kept kept' end = refl
 member_kept v e d o m (Write b j i) n kept kept' end = refl
 member_kept v e d o m (Claim b enabled null fields) n kept kept' end =
     let fine = sound (opening v.extent) v.history kept.stands.legal in
-    other_put (story_state v) (suc (story_state v).made) o m _
+    other_put (model_state v) (suc (model_state v).made) o m _
     (λ q. absurd (let f = fine.fresh o (omega arith) in let k : ending d ≡ unmade = sym end ∙ f in cc))
 member_kept v e d o m (Share b p q) n kept kept' end = refl
 member_kept v e d o m (Leave b p last) n kept kept' end =
     let i = object_of_block v b in
-    let y = (story_state v).object i in
-    other_put (story_state v) i o m _
-    (λ q. cond_both last (moved_to (ending e) y) y (λ (z : Object). z.member m ≡ ((story_state v).object o).member m)
-    (λ t. ap (λ (j : ℕ). ((story_state v).object j).member m) (sym q)) (λ t. ap (λ (j : ℕ). ((story_state v).object j).member m) (sym q)))
+    let y = (model_state v).object i in
+    other_put (model_state v) i o m _
+    (λ q. cond_both last (moved_to (ending e) y) y (λ (z : Object). z.member m ≡ ((model_state v).object o).member m)
+    (λ t. ap (λ (j : ℕ). ((model_state v).object j).member m) (sym q)) (λ t. ap (λ (j : ℕ). ((model_state v).object j).member m) (sym q)))
 member_kept v e d o m (WeakShare b p) n kept kept' end = refl
 member_kept v e d o m (WeakLeave b p vacant) n kept kept' end = refl
 member_kept v e d o m (Lock b p got) n kept kept' end = refl
@@ -80,9 +81,9 @@ member_kept v e d o m (Count k b p i) n kept kept' end = refl
 member_kept v e d o m (Expired k b p x) n kept kept' end = refl
 member_kept v e d o m (Read b p i) n kept kept' end = refl
 member_kept v e d o m (Clear b i) n kept kept' end =
-    other_put (story_state v) (object_of_block v b) o m _ (λ q. absurd (ended_else v d e o (object_of_block v b) n end kept'.stands.legal.1.asks.0 q))
+    other_put (model_state v) (object_of_block v b) o m _ (λ q. absurd (ended_else v d e o (object_of_block v b) n end kept'.stands.legal.1.asks.0 q))
 member_kept v e d o m (Finish b vacant) n kept kept' end =
-    other_put (story_state v) (object_of_block v b) o m _ (λ q. ap (λ (j : ℕ). ((story_state v).object j).member m) (sym q))
+    other_put (model_state v) (object_of_block v b) o m _ (λ q. ap (λ (j : ℕ). ((model_state v).object j).member m) (sym q))
 member_kept v e d o m (OnShelf b x) n kept kept' end =
     ap (λ (s : State). (s.object o).member m) (shelf_framed v e b x).2
 member_kept v e d o m (OnCell x) n kept kept' end = cell_member v e d o m x n kept kept' end

@@ -7,55 +7,57 @@ use Rattle.control_word.proofs.lists.Tallies.{num, put_cases}
 use Rattle.control_word.proofs.history.Moving.{counted_live, owner_counted}
 use Rattle.control_word.specs.State.{Object, State, Stored, common, ending, live, same_stored, stock, stored, unmade, weak_number}
 use Rattle.step_threads.specs.declared.ending.Ending.{Ending}
-use Rattle.step_threads.specs.declared.half.Half.{Half}
-use Rattle.step_table.specs.declared.memory.past.Deed.{Deed}
-use Rattle.step_table.specs.declared.memory.past.Deed.TheVariants.{Prepare, Write, Claim, Share, WeakShare, Leave, WeakLeave, Lock, Count, Expired, Read, Clear}
-use Rattle.step_table.specs.declared.memory.past.Deed.TheVariants.{Finish, OnShelf, OnCell}
+use Rattle.step_threads.specs.declared.pending_call.PendingCall.{PendingCall}
+use Rattle.step_table.specs.declared.memory.past.AtomicStep.{AtomicStep}
+use Rattle.step_table.specs.declared.memory.past.AtomicStep.TheVariants.{Prepare, Write, Claim, Share, WeakShare, Leave, WeakLeave, Lock, Count, Expired, Read}
+use Rattle.step_table.specs.declared.memory.past.AtomicStep.TheVariants.{Clear}
+use Rattle.step_table.specs.declared.memory.past.AtomicStep.TheVariants.{Finish, OnShelf, OnCell}
 use Rattle.step_threads.specs.Actors.{Stocks, in_store}
 use Rattle.step_threads.specs.Endings.{EndsAll}
 use Rattle.step_table.specs.Openings.{opening}
 use Rattle.step_threads.specs.Entries.{least}
-use Rattle.step_table.specs.Stories.{Kept, Story, story_after_deed, object_of_block, story_state}
+use Rattle.step_table.specs.GhostStates.{Kept, GhostState, ghost_after_step, object_of_block, model_state}
 use Rattle.step_threads.proofs.holding.Ends.{each_end}
 use Rattle.step_threads.proofs.holding.Least.{least_part}
 use Rattle.step_threads.proofs.holding.Members.{member_kept, phase_differs}
-use Rattle.step_table.proofs.tables.CellDeeds.{framed}
-use Rattle.step_table.proofs.tables.ShelfDeeds.{shelf_framed}
+use Rattle.step_table.proofs.tables.CellAtomicSteps.{framed}
+use Rattle.step_table.proofs.tables.ShelfAtomicSteps.{shelf_framed}
 use Rattle.step_table.proofs.tables.Places.{ending_busy}
-use Rattle.step_table.proofs.holding.Keeping.{num_part, same_deed, kept_object}
+use Rattle.step_table.proofs.holding.Keeping.{num_part, same_atomic_step, kept_object}
 
 stores_stock : (s : State) (d b : ℕ) → in_store s d b ≡ num (same_stored (stored d b)) (stock s d)
 stores_stock s d b = num_part (λ (x : Stored). x.desk) d (same_stored (stored d b)) s.stores (λ x t. sym (eqb-true _ _ (and_parts _ _ t).0))
 
--- another desk's deed leaves a store
-pub stocks_others : (d : ℕ) (blocks : List ℕ) (room : ℕ) (half : Half) (v : Story) (e : ℕ) (x : Deed) → e ≢ d → Stocks d blocks room half v
-    → Stocks d blocks room half (story_after_deed v e x)
-stocks_others d blocks room half v e x n stocks =
-    let same = same_deed v e d x n in
+-- another desk's atomic step leaves a store
+pub stocks_others : (d : ℕ) (blocks : List ℕ) (room : ℕ) (pending_call : PendingCall) (v : GhostState) (e : ℕ) (x : AtomicStep) → e ≢ d → Stocks d blocks room
+    pending_call v
+    → Stocks d blocks room pending_call (ghost_after_step v e x)
+stocks_others d blocks room pending_call v e x n stocks =
+    let same = same_atomic_step v e d x n in
     record {
       stocked = λ b.
-          stores_stock (story_state (story_after_deed v e x)) d b ∙ ap (λ (l : List Stored). num (same_stored (stored d b)) l) same.in_stock
-          ∙ sym (stores_stock (story_state v) d b)
+          stores_stock (model_state (ghost_after_step v e x)) d b ∙ ap (λ (l : List Stored). num (same_stored (stored d b)) l) same.in_stock
+          ∙ sym (stores_stock (model_state v) d b)
           ∙ stocks.stocked b;
       roomy = stocks.roomy;
     }
 
 -- an object that ends in a desk's hands goes on to end there
-ends_on : (v : Story) (e d o : ℕ) (x : Deed) → e ≢ d → Kept v → Kept (story_after_deed v e x) → ((story_state v).object o).phase ≡ ending d
-    → ((story_state (story_after_deed v e x)).object o).phase ≡ ending d
+ends_on : (v : GhostState) (e d o : ℕ) (x : AtomicStep) → e ≢ d → Kept v → Kept (ghost_after_step v e x) → ((model_state v).object o).phase ≡ ending d
+    → ((model_state (ghost_after_step v e x)).object o).phase ≡ ending d
 ends_on v e d o (Prepare b) n kept kept' end = end
 ends_on v e d o (Write b j m) n kept kept' end = end
 ends_on v e d o (Claim b enabled null fields) n kept kept' end =
     let fine = sound (opening v.extent) v.history kept.stands.legal in
-    put_cases (λ i (y : Object). i ≡ o → y.phase ≡ ending d) (story_state v).object (suc (story_state v).made) _ o
+    put_cases (λ i (y : Object). i ≡ o → y.phase ≡ ending d) (model_state v).object (suc (model_state v).made) _ o
     (λ q t. absurd (let f = fine.fresh o (omega arith) in let k : ending d ≡ unmade = sym end ∙ f in cc)) (λ q t. end) refl
 ends_on v e d o (Share b p q) n kept kept' end = end
 ends_on v e d o (Leave b p last) n kept kept' end =
     let fine = sound (opening v.extent) v.history kept.stands.legal in
     let has = kept'.stands.legal.1.asks.0.0 in
-    let alive = counted_live (opening v.extent) (story_state v) (object_of_block v b) fine (owner_counted (story_state v) e (object_of_block v b) p has) in
-    put_cases (λ i (y : Object). i ≡ o → y.phase ≡ ending d) (story_state v).object (object_of_block v b) _ o
-    (λ q t. absurd (let k : ending d ≡ live = sym end ∙ ap (λ (j : ℕ). ((story_state v).object j).phase) q ∙ alive in cc)) (λ q t. end) refl
+    let alive = counted_live (opening v.extent) (model_state v) (object_of_block v b) fine (owner_counted (model_state v) e (object_of_block v b) p has) in
+    put_cases (λ i (y : Object). i ≡ o → y.phase ≡ ending d) (model_state v).object (object_of_block v b) _ o
+    (λ q t. absurd (let k : ending d ≡ live = sym end ∙ ap (λ (j : ℕ). ((model_state v).object j).phase) q ∙ alive in cc)) (λ q t. end) refl
 ends_on v e d o (WeakShare b p) n kept kept' end = end
 ends_on v e d o (WeakLeave b p vacant) n kept kept' end = end
 ends_on v e d o (Lock b p got) n kept kept' end = end
@@ -63,12 +65,12 @@ ends_on v e d o (Count k b p m) n kept kept' end = end
 ends_on v e d o (Expired k b p x) n kept kept' end = end
 ends_on v e d o (Read b p m) n kept kept' end = end
 ends_on v e d o (Clear b m) n kept kept' end =
-    put_cases (λ i (y : Object). i ≡ o → y.phase ≡ ending d) (story_state v).object (object_of_block v b) _ o
-    (λ q t. ap (λ (j : ℕ). ((story_state v).object j).phase) (sym q) ∙ end) (λ q t. end) refl
+    put_cases (λ i (y : Object). i ≡ o → y.phase ≡ ending d) (model_state v).object (object_of_block v b) _ o
+    (λ q t. ap (λ (j : ℕ). ((model_state v).object j).phase) (sym q) ∙ end) (λ q t. end) refl
 ends_on v e d o (Finish b vacant) n kept kept' end =
     let his = kept'.stands.legal.1.asks.0 in
-    put_cases (λ i (y : Object). i ≡ o → y.phase ≡ ending d) (story_state v).object (object_of_block v b) _ o
-    (λ q t. absurd (n (phase_differs d e ((story_state v).object o).phase end (ap (λ (j : ℕ). ((story_state v).object j).phase) q ∙ his))))
+    put_cases (λ i (y : Object). i ≡ o → y.phase ≡ ending d) (model_state v).object (object_of_block v b) _ o
+    (λ q t. absurd (n (phase_differs d e ((model_state v).object o).phase end (ap (λ (j : ℕ). ((model_state v).object j).phase) q ∙ his))))
     (λ q t. end) refl
 ends_on v e d o (OnShelf b x) n kept kept' end =
     ap (λ (s : State). (s.object o).phase) (shelf_framed v e b x).2 ∙ end
@@ -78,23 +80,23 @@ ends_on v e d o (OnCell x) n kept kept' end = (framed v e x).phase o ∙ end
 pub least_others : (d : ℕ) (s t : State) → Same s t d → least d t.stores ≡ least d s.stores
 least_others d s t same = least_part d t.stores ∙ ap (least d) same.in_stock ∙ sym (least_part d s.stores)
 
--- another desk's deed leaves the endings
-pub ends_others : (d : ℕ) (es : List Ending) (v : Story) (e : ℕ) (x : Deed) → e ≢ d → Kept v → Kept (story_after_deed v e x) → EndsAll d es v
-    → EndsAll d es (story_after_deed v e x)
+-- another desk's atomic step leaves the endings
+pub ends_others : (d : ℕ) (es : List Ending) (v : GhostState) (e : ℕ) (x : AtomicStep) → e ≢ d → Kept v → Kept (ghost_after_step v e x) → EndsAll d es v
+    → EndsAll d es (ghost_after_step v e x)
 ends_others d es v e x n kept kept' ends =
     record {
-      each = each_end d v (story_after_deed v e x) es
+      each = each_end d v (ghost_after_step v e x) es
           (λ y is.
           let end = ends_on v e d (object_of_block v y.block) x n kept kept' is.ending in
-          let busy : 0 < weak_number (story_state (story_after_deed v e x)) (object_of_block v y.block) =
-          let c : common ((story_state (story_after_deed v e x)).object
+          let busy : 0 < weak_number (model_state (ghost_after_step v e x)) (object_of_block v y.block) =
+          let c : common ((model_state (ghost_after_step v e x)).object
           (object_of_block v y.block)).phase ≡ 1 = ap common end in omega arith in
           let o = kept_object v e y.block x kept kept' (ending_busy v d y.block is.ending) busy in
           record {
-            ending = subst (λ (k : ℕ). ((story_state (story_after_deed v e x)).object k).phase ≡ ending d) (sym o) end;
+            ending = subst (λ (k : ℕ). ((model_state (ghost_after_step v e x)).object k).phase ≡ ending d) (sym o) end;
             within = is.within;
             cleared = λ m lt.
-                ap (λ (k : ℕ). ((story_state (story_after_deed v e x)).object k).member m) o
+                ap (λ (k : ℕ). ((model_state (ghost_after_step v e x)).object k).member m) o
                 ∙ member_kept v e d (object_of_block v y.block) m x n kept kept' is.ending
                 ∙ is.cleared m lt;
           }) ends.each;

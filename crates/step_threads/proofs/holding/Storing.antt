@@ -1,4 +1,4 @@
--- What a thread's own deeds do to its store.
+-- What a thread's own atomic steps do to its store.
 use Rattle.std.proofs.Common.{◌≡◌, ◌≢◌, ℕ, ◌<◌, ◌==◌, Bool, true, false, cond, List, [], ◌∷◌, length, refl, sym, ap, ◌∙◌, inl}
 use Rattle.std.proofs.Common.{inr, ⊎_elim, arith, eq-eqb, ne_eqb}
 use Rattle.std.proofs.lemmas.Bool.{cases_eq, cond_both, cond-true, cond-false, and_from}
@@ -9,10 +9,10 @@ use Rattle.control_word.proofs.lists.Tallies.{num, num_without, stored_self, sto
 use Rattle.control_word.specs.declared.place.Block.{Block}
 use Rattle.control_word.specs.State.{Has, Stored, same_stored, stored}
 use Rattle.step_table.specs.declared.memory.form.Form.{Form}
-use Rattle.step_threads.specs.declared.half.Half.TheVariants.{Rest, Making}
-use Rattle.step_table.specs.declared.memory.past.Deed.TheVariants.{Claim}
+use Rattle.step_threads.specs.declared.pending_call.PendingCall.TheVariants.{Rest, Making}
+use Rattle.step_table.specs.declared.memory.past.AtomicStep.TheVariants.{Claim}
 use Rattle.step_threads.specs.Actors.{Stocks}
-use Rattle.step_table.specs.Stories.{Story, story_after_deed, story_state}
+use Rattle.step_table.specs.GhostStates.{GhostState, ghost_after_step, model_state}
 
 -- what is counted of a store is there
 pub counted_stored : (x : Stored) (l : List Stored) → 0 < num (same_stored x) l → Has x l
@@ -31,7 +31,7 @@ one_stored d b c =
     ap length (cond-false (same_stored (stored d c) (stored d b)) (stored d b ∷ []) [] k) ∙ sym (cond-false (b == c) 1 0 (ne_eqb b c n))) (cases_eq b c)
 
 -- the least block goes out, for a making
-pub stocks_take : (d : ℕ) (old new : List ℕ) (room i : ℕ) (f : Bool) (v : Story) (b : Block) → Stocks d old room Rest v
+pub stocks_take : (d : ℕ) (old new : List ℕ) (room i : ℕ) (f : Bool) (v : GhostState) (b : Block) → Stocks d old room Rest v
     → IsPermutation old (b.0 ∷ new)
     → Stocks d new room (Making b i f) v
 stocks_take d old new room i f v b stocks p =
@@ -40,21 +40,21 @@ stocks_take d old new room i f v b stocks p =
       roomy = stocks.roomy;
     }
 
-pub taken_stored : (d : ℕ) (old new : List ℕ) (room : ℕ) (v : Story) (b : Block) → Stocks d old room Rest v → IsPermutation old (b.0 ∷ new)
-    → Has (stored d b.0) (story_state v).stores
+pub taken_stored : (d : ℕ) (old new : List ℕ) (room : ℕ) (v : GhostState) (b : Block) → Stocks d old room Rest v → IsPermutation old (b.0 ∷ new)
+    → Has (stored d b.0) (model_state v).stores
 taken_stored d old new room v b stocks p =
     let a = sum_by_popped (λ (x : ℕ). cond (x == b.0) 1 0) b.0 old new p in
     let s = stocks.stocked b.0 in
     let c = cond-true {A = ℕ} (b.0 == b.0) 1 0 (eq-eqb b.0 b.0 refl) in
-    counted_stored (stored d b.0) (story_state v).stores (omega (arith, a, s, c))
+    counted_stored (stored d b.0) (model_state v).stores (omega (arith, a, s, c))
 
 -- the block is made
-pub stocks_claim : (d : ℕ) (blocks : List ℕ) (room i : ℕ) (f : Bool) (v : Story) (b : Block) (form : Form) → Stocks d blocks room (Making b i f) v
-    → Has (stored d b.0) (story_state v).stores → Stocks d blocks room Rest (story_after_deed v d (Claim b form.enabled form.null form.fields))
+pub stocks_claim : (d : ℕ) (blocks : List ℕ) (room i : ℕ) (f : Bool) (v : GhostState) (b : Block) (form : Form) → Stocks d blocks room (Making b i f) v
+    → Has (stored d b.0) (model_state v).stores → Stocks d blocks room Rest (ghost_after_step v d (Claim b form.enabled form.null form.fields))
 stocks_claim d blocks room i f v b form stocks has =
     record {
       stocked = λ c.
-          let a = num_without same_stored stored_true stored_self (same_stored (stored d c)) (stored d b.0) (story_state v).stores has in
+          let a = num_without same_stored stored_true stored_self (same_stored (stored d c)) (stored d b.0) (model_state v).stores has in
           let o = one_stored d b.0 c in
           let s = stocks.stocked c in omega (arith, a, o, s);
       roomy = stocks.roomy;

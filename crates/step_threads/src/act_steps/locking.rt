@@ -1,8 +1,8 @@
 //! How a thread locks a weak pointer, step by step.
-ghost use Rattle.std.specs.Prelude.{◌≡◌, ◌<◌, ◌==◌, cond, length, Some, None, []};
+ghost use Rattle.std.specs.Prelude.{◌≡◌, ◌==◌, cond, Some, None};
 ghost use Rattle.step_threads.specs.Rows.{lock_answer};
 
-use crate::half::Half;
+use crate::pending_call::PendingCall;
 use crate::programs::act::Act;
 use crate::said::{Answer, Said, Stepped};
 use crate::thread::{Thread, silent};
@@ -10,43 +10,40 @@ use control_word::Refusal;
 use step_table::memory::table::Table;
 
 impl Thread {
-    ghost use Rattle.step_threads.specs.Courses.{task_at};
-    ghost use Rattle.step_threads.specs.Threads.{FitsThread, HasStepped};
+    ghost use Rattle.step_threads.specs.Frames.{task_at};
+    ghost use Rattle.step_threads.specs.Threads.{BeginsAct, FitsThread, HasStepped};
 
     /// The first step of a lock: it looks at the word of the owners. Without a weak pointer it touches no word.
     pub fn lock(&mut self, desk: usize, table: &mut Table, name: u8, must: bool) -> Stepped
-        requires fits { FitsThread desk self.old table.old }
-        requires rest { self.old.half ≡ Half.Rest }
-        requires none { self.old.course.endings.list ≡ [] }
-        requires within { self.old.course.at < length self.old.course.tasks.items }
-        requires act { (task_at self.old.course).act ≡ Act.Lock name must }
+        requires begins { BeginsAct desk self.old table.old }
+        requires act { (task_at self.old.frame).act ≡ Act.Lock name must }
         ensures stepped { HasStepped desk self.old table.old result self.new table.new }
         ensures fits { FitsThread desk self.new table.new }
     {
         table.known();
-        let statement = self.course.statement();
+        let statement = self.frame.statement();
         let from = usize::from(name);
-        let Some(pointer) = self.course.holdings.weak(from) else {
-            self.course.take(!must);
+        let Some(pointer) = self.frame.registers.weak(from) else {
+            self.frame.take(!must);
             return Stepped::Quiet(locked(statement, must, false));
         };
-        let word = self.course.holdings.look_lock(desk, table, from, pointer);
+        let word = self.frame.registers.look_lock(desk, table, from, pointer);
         if word == 0 {
-            self.course.take(!must);
+            self.frame.take(!must);
             return Stepped::Event(locked(statement, must, false));
         }
-        self.half = Half::Locking { word };
+        self.pending_call = PendingCall::Locking { word };
         Stepped::Quiet(silent(statement))
     }
 
     /// The next step of a lock that is under way.
     pub(crate) fn lock_on(&mut self, desk: usize, table: &mut Table, word: u64) -> Stepped
         requires fits { FitsThread desk self.old table.old }
-        requires half { self.old.half ≡ Half.Locking word }
+        requires pending_call { self.old.pending_call ≡ PendingCall.Locking word }
         ensures stepped { HasStepped desk self.old table.old result self.new table.new }
         ensures fits { FitsThread desk self.new table.new }
     {
-        let Act::Lock { name, must } = self.course.tasks[self.course.at].act else {
+        let Act::Lock { name, must } = self.frame.tasks[self.frame.at].act else {
             unreachable!()
         };
         self.try_lock(desk, table, name, must, word)
@@ -63,40 +60,40 @@ impl Thread {
         word: u64,
     ) -> Stepped
         requires fits { FitsThread desk self.old table.old }
-        requires half { self.old.half ≡ Half.Locking word }
-        requires act { (task_at self.old.course).act ≡ Act.Lock name must }
+        requires pending_call { self.old.pending_call ≡ PendingCall.Locking word }
+        requires act { (task_at self.old.frame).act ≡ Act.Lock name must }
         ensures stepped { HasStepped desk self.old table.old result self.new table.new }
         ensures fits { FitsThread desk self.new table.new }
     {
         table.known();
-        let statement = self.course.statement();
+        let statement = self.frame.statement();
         let from = usize::from(name);
-        let hand = self.course.holdings.hand();
-        let Some(pointer) = self.course.holdings.weak(from) else {
+        let hand = self.frame.registers.hand();
+        let Some(pointer) = self.frame.registers.weak(from) else {
             unreachable!()
         };
         let now = self
-            .course
-            .holdings
+            .frame
+            .registers
             .try_lock(desk, table, from, hand, pointer, word);
         if now == word {
-            self.course.take(true);
-            self.half = Half::Rest;
+            self.frame.take(true);
+            self.pending_call = PendingCall::Rest;
             return Stepped::Event(locked(statement, must, true));
         }
-        self.half = goes_on(now);
+        self.pending_call = goes_on(now);
         Stepped::Quiet(silent(statement))
     }
 }
 
 /// A lock goes on with a word that it found, and looks anew where that is 0.
-fn goes_on(word: u64) -> Half
-    ensures { result ≡ cond (word == 0) Half.Rest (Half.Locking word) }
+fn goes_on(word: u64) -> PendingCall
+    ensures { result ≡ cond (word == 0) PendingCall.Rest (PendingCall.Locking word) }
 {
     if word == 0 {
-        Half::Rest
+        PendingCall::Rest
     } else {
-        Half::Locking { word }
+        PendingCall::Locking { word }
     }
 }
 

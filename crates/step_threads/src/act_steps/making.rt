@@ -1,9 +1,9 @@
 //! How a thread makes an object, step by step.
-ghost use Rattle.std.specs.Prelude.{◌≡◌, ◌<◌, length, get_or, false, true, []};
+ghost use Rattle.std.specs.Prelude.{◌≡◌, ◌<◌, get_or, false, true};
 ghost use Rattle.control_word.specs.Words.{flags_of};
 ghost use Rattle.step_threads.specs.Actors.{wanted};
 
-use crate::half::Half;
+use crate::pending_call::PendingCall;
 use crate::programs::act::Act;
 use crate::said::{Answer, Said, Stepped};
 use crate::thread::{Thread, silent};
@@ -14,23 +14,20 @@ use step_table::memory::form::Form;
 use step_table::memory::table::Table;
 
 impl Thread {
-    ghost use Rattle.step_threads.specs.Courses.{task_at};
-    ghost use Rattle.step_threads.specs.Threads.{FitsThread, HasStepped};
+    ghost use Rattle.step_threads.specs.Frames.{task_at};
+    ghost use Rattle.step_threads.specs.Threads.{BeginsAct, FitsThread, HasStepped};
 
     /// Begins a make in the least block. Where there is none the statement is refused.
     pub(crate) fn begin(&mut self, desk: usize, table: &mut Table, form: Form) -> Stepped
-        requires fits { FitsThread desk self.old table.old }
-        requires rest { self.old.half ≡ Half.Rest }
-        requires none { self.old.course.endings.list ≡ [] }
-        requires within { self.old.course.at < length self.old.course.tasks.items }
-        requires act { (task_at self.old.course).act ≡ Act.Make form }
+        requires begins { BeginsAct desk self.old table.old }
+        requires act { (task_at self.old.frame).act ≡ Act.Make form }
         ensures stepped { HasStepped desk self.old table.old result self.new table.new }
         ensures fits { FitsThread desk self.new table.new }
     {
-        let statement = self.course.statement();
+        let statement = self.frame.statement();
         match self.stock.take_least() {
             None => {
-                self.course.go_on();
+                self.frame.go_on();
                 let answer = Some(Answer::Refused(Refusal::Full));
                 Stepped::Quiet(Said {
                     statement,
@@ -41,7 +38,7 @@ impl Thread {
             Some(block) => {
                 table.known();
                 table.prepare(desk, block);
-                self.half = Half::Making {
+                self.pending_call = PendingCall::Making {
                     block,
                     index: 0,
                     differs: false,
@@ -61,11 +58,11 @@ impl Thread {
         differs: bool,
     ) -> Stepped
         requires fits { FitsThread desk self.old table.old }
-        requires half { self.old.half ≡ Half.Making block index differs }
+        requires pending_call { self.old.pending_call ≡ PendingCall.Making block index differs }
         ensures stepped { HasStepped desk self.old table.old result self.new table.new }
         ensures fits { FitsThread desk self.new table.new }
     {
-        let Act::Make { form } = self.course.tasks[self.course.at].act else {
+        let Act::Make { form } = self.frame.tasks[self.frame.at].act else {
             unreachable!()
         };
         if index == 5 {
@@ -87,20 +84,20 @@ impl Thread {
         form: Form,
     ) -> Stepped
         requires fits { FitsThread desk self.old table.old }
-        requires half { self.old.half ≡ Half.Making block index false }
+        requires pending_call { self.old.pending_call ≡ PendingCall.Making block index false }
         requires inside { index < 5 }
-        requires act { (task_at self.old.course).act ≡ Act.Make form }
+        requires act { (task_at self.old.frame).act ≡ Act.Make form }
         ensures stepped { HasStepped desk self.old table.old result self.new table.new }
         ensures fits { FitsThread desk self.new table.new }
     {
         let so = table.look(desk, block, index) == wanted_word(index, &form);
         let index = if so { index + 1 } else { index };
-        self.half = Half::Making {
+        self.pending_call = PendingCall::Making {
             block,
             index,
             differs: !so,
         };
-        Stepped::Quiet(silent(self.course.statement()))
+        Stepped::Quiet(silent(self.frame.statement()))
     }
 
     /// Writes the next of the block's loose words.
@@ -113,20 +110,20 @@ impl Thread {
         form: Form,
     ) -> Stepped
         requires fits { FitsThread desk self.old table.old }
-        requires half { self.old.half ≡ Half.Making block index true }
+        requires pending_call { self.old.pending_call ≡ PendingCall.Making block index true }
         requires inside { index < 5 }
-        requires act { (task_at self.old.course).act ≡ Act.Make form }
+        requires act { (task_at self.old.frame).act ≡ Act.Make form }
         ensures stepped { HasStepped desk self.old table.old result self.new table.new }
         ensures fits { FitsThread desk self.new table.new }
     {
         table.known();
         table.write(desk, block, index, wanted_word(index, &form));
-        self.half = Half::Making {
+        self.pending_call = PendingCall::Making {
             block,
             index: index + 1,
             differs: false,
         };
-        Stepped::Quiet(silent(self.course.statement()))
+        Stepped::Quiet(silent(self.frame.statement()))
     }
 
     /// Claims the block: the object is made.
@@ -139,15 +136,15 @@ impl Thread {
         form: Form,
     ) -> Stepped
         requires fits { FitsThread desk self.old table.old }
-        requires half { self.old.half ≡ Half.Making block 5 differs }
-        requires act { (task_at self.old.course).act ≡ Act.Make form }
+        requires pending_call { self.old.pending_call ≡ PendingCall.Making block 5 differs }
+        requires act { (task_at self.old.frame).act ≡ Act.Make form }
         ensures stepped { HasStepped desk self.old table.old result self.new table.new }
         ensures fits { FitsThread desk self.new table.new }
     {
         table.known();
-        let statement = self.course.statement();
-        self.course.claim(desk, table, block, form);
-        self.half = Half::Rest;
+        let statement = self.frame.statement();
+        self.frame.claim(desk, table, block, form);
+        self.pending_call = PendingCall::Rest;
         Stepped::Event(silent(statement))
     }
 }

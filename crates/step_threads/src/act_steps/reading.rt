@@ -1,9 +1,8 @@
 //! How a thread reads the field that an owner points at.
-ghost use Rattle.std.specs.Prelude.{◌≡◌, ◌<◌, length, Some, None, []};
+ghost use Rattle.std.specs.Prelude.{◌≡◌, ◌<◌, Some, None};
 ghost use Rattle.step_threads.specs.Rows.{outside};
 ghost use Rattle.step_threads.specs.declared.programs.act.Act.{Act};
 
-use crate::half::Half;
 use crate::said::{Answer, Said, Stepped};
 use crate::thread::Thread;
 use control_word::Refusal;
@@ -11,29 +10,26 @@ use control_word::place::Place;
 use step_table::memory::table::Table;
 
 impl Thread {
-    ghost use Rattle.step_threads.specs.Courses.{task_at};
-    ghost use Rattle.step_threads.specs.Threads.{FitsThread, HasStepped};
+    ghost use Rattle.step_threads.specs.Frames.{task_at};
+    ghost use Rattle.step_threads.specs.Threads.{BeginsAct, FitsThread, HasStepped};
 
     /// Tells the field that a name points at. It touches no word where that isn't in the object that the name owns.
     pub(crate) fn read(&mut self, desk: usize, table: &mut Table, name: u8) -> Stepped
-        requires fits { FitsThread desk self.old table.old }
-        requires rest { self.old.half ≡ Half.Rest }
-        requires none { self.old.course.endings.list ≡ [] }
-        requires within { self.old.course.at < length self.old.course.tasks.items }
-        requires act { (task_at self.old.course).act ≡ Act.Read name }
+        requires begins { BeginsAct desk self.old table.old }
+        requires act { (task_at self.old.frame).act ≡ Act.Read name }
         ensures stepped { HasStepped desk self.old table.old result self.new table.new }
         ensures fits { FitsThread desk self.new table.new }
     {
         table.known();
-        let statement = self.course.statement();
+        let statement = self.frame.statement();
         let from = usize::from(name);
-        let Some(pointer) = self.course.holdings.inside(from) else {
-            let answer = outside(self.course.holdings.place(from));
-            self.course.go_on();
+        let Some(pointer) = self.frame.registers.inside(from) else {
+            let answer = outside(self.frame.registers.place(from));
+            self.frame.go_on();
             return Stepped::Quiet(tells(statement, answer));
         };
-        let value = self.course.holdings.read(desk, table, from, pointer);
-        self.course.go_on();
+        let value = self.frame.registers.read(desk, table, from, pointer);
+        self.frame.go_on();
         Stepped::Event(tells(statement, Answer::Read(value)))
     }
 }

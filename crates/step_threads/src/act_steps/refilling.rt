@@ -1,19 +1,19 @@
 //! How a thread that took a fund of a cell turns it into a handle and puts back those that were taken, step by step.
 ghost use Rattle.std.specs.Prelude.{◌≡◌, cond, Some};
 ghost use Rattle.step_table.specs.Refills.{is_drained, is_low};
-ghost use Rattle.step_threads.specs.declared.half.Half.{Half};
+ghost use Rattle.step_threads.specs.declared.pending_call.PendingCall.{PendingCall};
 ghost use Rattle.step_table.specs.declared.cell_steps.refill.Stage.{Stage};
 
-use crate::half::Half;
+use crate::pending_call::PendingCall;
 use crate::said::Stepped;
 use crate::thread::{Thread, silent};
 use control_word::CellWord;
 use control_word::place::Block;
-use step_table::cell_steps::cell_deed::Cell;
+use step_table::cell_steps::cell_step::Cell;
 use step_table::cell_steps::comparing::is_same_value;
 use step_table::cell_steps::refill::Stage;
 use step_table::memory::table::Table;
-use step_table::slots::holdings::Pointer;
+use step_table::slots::registers::Pointer;
 
 /// Most funds of a cell's that are taken before they are put back.
 const MOST_TAKEN: u16 = 127;
@@ -32,7 +32,7 @@ impl Thread {
         statement: u32,
     ) -> Stepped
         requires fits { FitsThread desk self.old table.old }
-        requires half { self.old.half ≡ Half.Refill stage cell found statement }
+        requires pending_call { self.old.pending_call ≡ PendingCall.Refill stage cell found statement }
         ensures stepped { HasStepped desk self.old table.old result self.new table.new }
         ensures fits { FitsThread desk self.new table.new }
     {
@@ -59,17 +59,17 @@ impl Thread {
         statement: u32,
     ) -> Stepped
         requires fits { FitsThread desk self.old table.old }
-        requires half { self.old.half ≡ Half.Refill Stage.Turning cell found statement }
+        requires pending_call { self.old.pending_call ≡ PendingCall.Refill Stage.Turning cell found statement }
         requires owned { found.owned ≡ Some block }
         ensures stepped { HasStepped desk self.old table.old result self.new table.new }
         ensures fits { FitsThread desk self.new table.new }
     {
         table.known();
         table.turn_fund(desk, table.kind_in(cell), block);
-        self.half = if is_low(found) {
+        self.pending_call = if is_low(found) {
             at_stage(Stage::Checking, cell, found, statement)
         } else {
-            Half::Rest
+            PendingCall::Rest
         };
         Stepped::Quiet(silent(statement))
     }
@@ -84,16 +84,16 @@ impl Thread {
         statement: u32,
     ) -> Stepped
         requires fits { FitsThread desk self.old table.old }
-        requires half { self.old.half ≡ Half.Refill Stage.Checking cell found statement }
+        requires pending_call { self.old.pending_call ≡ PendingCall.Refill Stage.Checking cell found statement }
         ensures stepped { HasStepped desk self.old table.old result self.new table.new }
         ensures fits { FitsThread desk self.new table.new }
     {
         table.known();
         let now = table.shown(desk, cell);
-        self.half = if is_drained(found, now) {
+        self.pending_call = if is_drained(found, now) {
             at_stage(Stage::Lacking, cell, now, statement)
         } else {
-            Half::Rest
+            PendingCall::Rest
         };
         Stepped::Quiet(silent(statement))
     }
@@ -109,7 +109,7 @@ impl Thread {
         statement: u32,
     ) -> Stepped
         requires fits { FitsThread desk self.old table.old }
-        requires half { self.old.half ≡ Half.Refill Stage.Lacking cell found statement }
+        requires pending_call { self.old.pending_call ≡ PendingCall.Refill Stage.Lacking cell found statement }
         requires owned { found.owned ≡ Some block }
         ensures stepped { HasStepped desk self.old table.old result self.new table.new }
         ensures fits { FitsThread desk self.new table.new }
@@ -121,7 +121,7 @@ impl Thread {
             place: found.place,
         };
         table.bring(desk, pointer, u32::from(found.taken));
-        self.half = at_stage(Stage::Refilling, cell, found, statement);
+        self.pending_call = at_stage(Stage::Refilling, cell, found, statement);
         Stepped::Quiet(silent(statement))
     }
 
@@ -135,13 +135,13 @@ impl Thread {
         statement: u32,
     ) -> Stepped
         requires fits { FitsThread desk self.old table.old }
-        requires half { self.old.half ≡ Half.Refill Stage.Refilling cell found statement }
+        requires pending_call { self.old.pending_call ≡ PendingCall.Refill Stage.Refilling cell found statement }
         ensures stepped { HasStepped desk self.old table.old result self.new table.new }
         ensures fits { FitsThread desk self.new table.new }
     {
         table.known();
-        self.half = if table.refill_cell(desk, cell, found) {
-            Half::Rest
+        self.pending_call = if table.refill_cell(desk, cell, found) {
+            PendingCall::Rest
         } else {
             at_stage(Stage::Failing, cell, found, statement)
         };
@@ -159,7 +159,7 @@ impl Thread {
         statement: u32,
     ) -> Stepped
         requires fits { FitsThread desk self.old table.old }
-        requires half { self.old.half ≡ Half.Refill Stage.Failing cell found statement }
+        requires pending_call { self.old.pending_call ≡ PendingCall.Refill Stage.Failing cell found statement }
         requires owned { found.owned ≡ Some block }
         ensures stepped { HasStepped desk self.old table.old result self.new table.new }
         ensures fits { FitsThread desk self.new table.new }
@@ -167,16 +167,16 @@ impl Thread {
         table.known();
         let kind = table.kind_in(cell);
         table.give_back(desk, kind, block, u32::from(found.taken));
-        self.half = at_stage(Stage::Checking, cell, found, statement);
+        self.pending_call = at_stage(Stage::Checking, cell, found, statement);
         Stepped::Quiet(silent(statement))
     }
 }
 
 /// How far the refill of a cell is.
-fn at_stage(stage: Stage, cell: Cell, found: CellWord, statement: u32) -> Half
-    ensures { result ≡ Half.Refill stage cell found statement }
+fn at_stage(stage: Stage, cell: Cell, found: CellWord, statement: u32) -> PendingCall
+    ensures { result ≡ PendingCall.Refill stage cell found statement }
 {
-    Half::Refill {
+    PendingCall::Refill {
         stage,
         cell,
         found,

@@ -1,16 +1,14 @@
 //! How a thread puts values into cells, step by step.
-ghost use Rattle.std.specs.Prelude.{◌≡◌, ◌⊎◌, ◌<◌, ◌≤◌, length, true, Option, []};
-ghost use Rattle.control_word.specs.declared.place.Place.{Place};
-ghost use Rattle.step_table.specs.CellDeeds.{owing_funds};
+ghost use Rattle.std.specs.Prelude.{◌≡◌, ◌⊎◌, ◌<◌, ◌≤◌, length, true, []};
 ghost use Rattle.step_table.specs.Contents.{is_of, owing_for};
 ghost use Rattle.step_threads.specs.Programs.{kind_at};
-ghost use Rattle.step_threads.specs.Courses.{hand, is_there};
-ghost use Rattle.step_table.specs.Holdings.{slot_value};
+ghost use Rattle.step_threads.specs.Frames.{hand, is_there};
+ghost use Rattle.step_table.specs.Registers.{slot_value};
 ghost use Rattle.step_threads.specs.Steps.{gives_back};
-ghost use Rattle.step_table.specs.Stories.{pending, story_state};
-ghost use Rattle.step_threads.specs.declared.half.Half.{Half};
+ghost use Rattle.step_table.specs.GhostStates.{pending, model_state};
+ghost use Rattle.step_threads.specs.declared.pending_call.PendingCall.{PendingCall};
 
-use crate::half::Half;
+use crate::pending_call::PendingCall;
 use crate::programs::act::Act;
 use crate::programs::call::CellName;
 use crate::said::{Said, Stepped};
@@ -22,8 +20,8 @@ use control_word::shape::CELL_FUNDS;
 use step_table::memory::table::Table;
 
 impl Thread {
-    ghost use Rattle.step_threads.specs.Courses.{task_at};
-    ghost use Rattle.step_threads.specs.Threads.{FitsThread, HasStepped};
+    ghost use Rattle.step_threads.specs.Frames.{task_at};
+    ghost use Rattle.step_threads.specs.Threads.{BeginsAct, FitsThread, HasStepped};
 
     /// Takes a copy of what a name holds, for a cell that is there; else it is refused.
     pub(crate) fn offer(
@@ -33,42 +31,35 @@ impl Thread {
         name: u8,
         cell: CellName,
     ) -> Stepped
-        requires fits { FitsThread desk self.old table.old }
-        requires rest { self.old.half ≡ Half.Rest }
-        requires none { self.old.course.endings.list ≡ [] }
-        requires within { self.old.course.at < length self.old.course.tasks.items }
-        requires act { (task_at self.old.course).act ≡ Act.Offer name cell }
+        requires begins { BeginsAct desk self.old table.old }
+        requires act { (task_at self.old.frame).act ≡ Act.Offer name cell }
         ensures stepped { HasStepped desk self.old table.old result self.new table.new }
         ensures fits { FitsThread desk self.new table.new }
     {
         table.known();
-        if !self.course.is_there(cell) {
+        if !self.frame.is_there(cell) {
             return self.refuse(desk, table, cell);
         }
-        let statement = self.course.statement();
-        let event = self.course.offer(desk, table, name, cell);
+        let statement = self.frame.statement();
+        let event = self.frame.offer(desk, table, name, cell);
         says(event, silent(statement))
     }
 
     /// The first step of a store: the funds of what is in hand are brought. A value without an object goes into the
     /// cell at once.
     pub fn store(&mut self, desk: usize, table: &mut Table, cell: CellName) -> Stepped
-        requires fits { FitsThread desk self.old table.old }
-        requires rest { self.old.half ≡ Half.Rest }
-        requires none { self.old.course.endings.list ≡ [] }
-        requires within { self.old.course.at < length self.old.course.tasks.items }
-        requires act { (task_at self.old.course).act ≡ Act.Swap cell }
+        requires begins { BeginsAct desk self.old table.old }
+        requires act { (task_at self.old.frame).act ≡ Act.Swap cell }
         ensures stepped { HasStepped desk self.old table.old result self.new table.new }
         ensures fits { FitsThread desk self.new table.new }
     {
-        table.known();
-        let statement = self.course.statement();
-        let hand = self.course.holdings.hand();
-        let Some(pointer) = self.course.holdings.get(hand) else {
+        let statement = self.frame.statement();
+        let hand = self.frame.registers.hand();
+        let Some(pointer) = self.frame.registers.get(hand) else {
             return self.swap(desk, table, cell);
         };
-        self.course.holdings.bring(desk, table, hand, pointer);
-        self.half = Half::Brought;
+        self.frame.registers.bring(desk, table, hand, pointer);
+        self.pending_call = PendingCall::Brought;
         Stepped::Quiet(silent(statement))
     }
 
@@ -82,40 +73,36 @@ impl Thread {
         name: u8,
         cell: CellName,
     ) -> Stepped
-        requires fits { FitsThread desk self.old table.old }
-        requires rest { self.old.half ≡ Half.Rest }
-        requires none { self.old.course.endings.list ≡ [] }
-        requires within { self.old.course.at < length self.old.course.tasks.items }
-        requires act { (task_at self.old.course).act ≡ Act.Exchange name cell }
+        requires begins { BeginsAct desk self.old table.old }
+        requires act { (task_at self.old.frame).act ≡ Act.Exchange name cell }
         ensures stepped { HasStepped desk self.old table.old result self.new table.new }
         ensures fits { FitsThread desk self.new table.new }
     {
-        table.known();
-        if !self.course.is_there(cell) {
+        if !self.frame.is_there(cell) {
             return self.refuse(desk, table, cell);
         }
-        let statement = self.course.statement();
+        let statement = self.frame.statement();
         let from = usize::from(name);
-        if !self.course.may_go_in(from, cell) {
-            self.course.go_on();
+        if !self.frame.may_go_in(from, cell) {
+            self.frame.go_on();
             return Stepped::Quiet(silent(statement));
         }
-        let Some(pointer) = self.course.holdings.get(from) else {
+        let Some(pointer) = self.frame.registers.get(from) else {
             return self.exchange(desk, table, name, cell);
         };
-        self.course.holdings.bring(desk, table, from, pointer);
-        self.half = Half::Brought;
+        self.frame.registers.bring(desk, table, from, pointer);
+        self.pending_call = PendingCall::Brought;
         Stepped::Quiet(silent(statement))
     }
 
     /// The funds are brought: the value goes into the cell.
     pub(crate) fn put_in(&mut self, desk: usize, table: &mut Table) -> Stepped
         requires fits { FitsThread desk self.old table.old }
-        requires half { self.old.half ≡ Half.Brought }
+        requires pending_call { self.old.pending_call ≡ PendingCall.Brought }
         ensures stepped { HasStepped desk self.old table.old result self.new table.new }
         ensures fits { FitsThread desk self.new table.new }
     {
-        match self.course.tasks[self.course.at].act {
+        match self.frame.tasks[self.frame.at].act {
             Act::Swap { cell } => self.swap(desk, table, cell),
             Act::Exchange { name, cell } => self.exchange(desk, table, name, cell),
             _ => unreachable!(),
@@ -125,22 +112,22 @@ impl Thread {
     /// What is in hand goes into the cell. What comes out is to be dropped, once its funds are given back.
     fn swap(&mut self, desk: usize, table: &mut Table, cell: CellName) -> Stepped
         requires fits { FitsThread desk self.old table.old }
-        requires half { (self.old.half ≡ Half.Rest) ⊎ (self.old.half ≡ Half.Brought) }
-        requires none { self.old.course.endings.list ≡ [] }
-        requires within { self.old.course.at < length self.old.course.tasks.items }
-        requires act { (task_at self.old.course).act ≡ Act.Swap cell }
-        requires there { is_there self.old.course.holdings.slots.items cell ≡ true }
+        requires pending_call { (self.old.pending_call ≡ PendingCall.Rest) ⊎ (self.old.pending_call ≡ PendingCall.Brought) }
+        requires none { self.old.frame.endings.list ≡ [] }
+        requires within { self.old.frame.at < length self.old.frame.tasks.items }
+        requires act { (task_at self.old.frame).act ≡ Act.Swap cell }
+        requires there { is_there self.old.frame.registers.slots.items cell ≡ true }
         requires kind { is_of (kind_at cell)
-            (slot_value self.old.course.holdings.slots.items (hand self.old.course.holdings.slots.items)) ≡ true }
-        requires owes { pending table.old desk ≡ owing_for (story_state table.old)
-            (slot_value self.old.course.holdings.slots.items (hand self.old.course.holdings.slots.items)) 256 }
+            (slot_value self.old.frame.registers.slots.items (hand self.old.frame.registers.slots.items)) ≡ true }
+        requires owes { pending table.old desk ≡ owing_for (model_state table.old)
+            (slot_value self.old.frame.registers.slots.items (hand self.old.frame.registers.slots.items)) 256 }
         ensures stepped { HasStepped desk self.old table.old result self.new table.new }
         ensures fits { FitsThread desk self.new table.new }
     {
         table.known();
-        let statement = self.course.statement();
-        let found = self.course.swap(desk, table, cell);
-        self.half = returning(cell.kind(), statement, found);
+        let statement = self.frame.statement();
+        let found = self.frame.swap(desk, table, cell);
+        self.pending_call = returning(cell.kind(), statement, found);
         Stepped::Event(silent(statement))
     }
 
@@ -148,21 +135,21 @@ impl Thread {
     #[tactic(auto, using(crate::proofs::Named::refusal_none))]
     fn exchange(&mut self, desk: usize, table: &mut Table, name: u8, cell: CellName) -> Stepped
         requires fits { FitsThread desk self.old table.old }
-        requires half { (self.old.half ≡ Half.Rest) ⊎ (self.old.half ≡ Half.Brought) }
-        requires none { self.old.course.endings.list ≡ [] }
-        requires within { self.old.course.at < length self.old.course.tasks.items }
-        requires act { (task_at self.old.course).act ≡ Act.Exchange name cell }
-        requires there { is_there self.old.course.holdings.slots.items cell ≡ true }
-        requires kind { is_of (kind_at cell) (slot_value self.old.course.holdings.slots.items name) ≡ true }
-        requires owes { pending table.old desk ≡ owing_for (story_state table.old)
-            (slot_value self.old.course.holdings.slots.items name) 256 }
+        requires pending_call { (self.old.pending_call ≡ PendingCall.Rest) ⊎ (self.old.pending_call ≡ PendingCall.Brought) }
+        requires none { self.old.frame.endings.list ≡ [] }
+        requires within { self.old.frame.at < length self.old.frame.tasks.items }
+        requires act { (task_at self.old.frame).act ≡ Act.Exchange name cell }
+        requires there { is_there self.old.frame.registers.slots.items cell ≡ true }
+        requires kind { is_of (kind_at cell) (slot_value self.old.frame.registers.slots.items name) ≡ true }
+        requires owes { pending table.old desk ≡ owing_for (model_state table.old)
+            (slot_value self.old.frame.registers.slots.items name) 256 }
         ensures stepped { HasStepped desk self.old table.old result self.new table.new }
         ensures fits { FitsThread desk self.new table.new }
     {
         table.known();
-        let statement = self.course.statement();
-        let found = self.course.exchange(desk, table, name, cell);
-        self.half = returning(cell.kind(), statement, found);
+        let statement = self.frame.statement();
+        let found = self.frame.exchange(desk, table, name, cell);
+        self.pending_call = returning(cell.kind(), statement, found);
         Stepped::Event(silent(statement))
     }
 
@@ -177,30 +164,27 @@ impl Thread {
         statement: u32,
     ) -> Stepped
         requires fits { FitsThread desk self.old table.old }
-        requires half { self.old.half ≡ Half.Returning kind block funds statement }
+        requires pending_call { self.old.pending_call ≡ PendingCall.Returning kind block funds statement }
         ensures stepped { HasStepped desk self.old table.old result self.new table.new }
         ensures fits { FitsThread desk self.new table.new }
     {
         table.known();
         table.give_back(desk, kind, block, funds);
-        self.half = Half::Rest;
+        self.pending_call = PendingCall::Rest;
         Stepped::Quiet(silent(statement))
     }
 
     /// Leaves what is to be dropped. Where that was the last owner, the end of its object begins.
     pub(crate) fn drop_other(&mut self, desk: usize, table: &mut Table) -> Stepped
-        requires fits { FitsThread desk self.old table.old }
-        requires rest { self.old.half ≡ Half.Rest }
-        requires none { self.old.course.endings.list ≡ [] }
-        requires within { self.old.course.at < length self.old.course.tasks.items }
-        requires act { (task_at self.old.course).act ≡ Act.Drop }
+        requires begins { BeginsAct desk self.old table.old }
+        requires act { (task_at self.old.frame).act ≡ Act.Drop }
         ensures stepped { HasStepped desk self.old table.old result self.new table.new }
         ensures fits { FitsThread desk self.new table.new }
     {
         table.known();
-        let statement = self.course.statement();
-        let held = self.course.holdings.get(self.course.holdings.other());
-        let last = self.course.drop_other(desk, table);
+        let statement = self.frame.statement();
+        let held = self.frame.registers.get(self.frame.registers.other());
+        let last = self.frame.drop_other(desk, table);
         table.known();
         let ended = self.left(desk, table, held, last, statement);
         says(
@@ -215,13 +199,13 @@ impl Thread {
 }
 
 /// The funds of what came out of a cell that were not taken are given back, where it has an object.
-pub(crate) fn returning(kind: Kind, statement: u32, found: CellWord) -> Half
+pub(crate) fn returning(kind: Kind, statement: u32, found: CellWord) -> PendingCall
     requires { found.taken ≤ 256 }
     ensures { result ≡ gives_back kind statement found found.owned }
 {
     match found.owned {
-        None => Half::Rest,
-        Some(block) => Half::Returning {
+        None => PendingCall::Rest,
+        Some(block) => PendingCall::Returning {
             kind,
             block,
             funds: CELL_FUNDS - u32::from(found.taken),

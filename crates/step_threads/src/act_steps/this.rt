@@ -1,45 +1,41 @@
 //! How a thread takes a pointer that an object gives to itself, step by step.
-ghost use Rattle.std.specs.Prelude.{◌≡◌, ◌<◌, length, Some, []};
-ghost use Rattle.step_table.specs.Deeds.{give, is_enabled};
+ghost use Rattle.std.specs.Prelude.{◌≡◌, Some};
+ghost use Rattle.step_table.specs.AtomicSteps.{give, is_enabled};
 ghost use Rattle.step_threads.specs.declared.programs.act.Act.{Act};
 
 use crate::act_steps::reading::{outside, tells};
-use crate::half::Half;
+use crate::pending_call::PendingCall;
 use crate::said::{Answer, Stepped};
 use crate::thread::{Thread, silent};
 use control_word::Refusal;
 use control_word::model::handle::Kind;
 use step_table::memory::table::Table;
-use step_table::slots::holdings::Pointer;
+use step_table::slots::registers::Pointer;
 
 impl Thread {
-    ghost use Rattle.step_threads.specs.Courses.{task_at};
-    ghost use Rattle.step_threads.specs.Threads.{FitsThread, HasStepped};
+    ghost use Rattle.step_threads.specs.Frames.{task_at};
+    ghost use Rattle.step_threads.specs.Threads.{BeginsAct, FitsThread, HasStepped};
 
     /// The first step of a pointer from this: it looks whether the object gives any. It touches no word where the name
     /// doesn't point into the object that it owns.
     pub(crate) fn from_this(&mut self, desk: usize, table: &Table, name: u8, kind: Kind) -> Stepped
-        requires fits { FitsThread desk self.old table.now }
-        requires rest { self.old.half ≡ Half.Rest }
-        requires none { self.old.course.endings.list ≡ [] }
-        requires within { self.old.course.at < length self.old.course.tasks.items }
-        requires act { (task_at self.old.course).act ≡ Act.FromThis name kind }
+        requires begins { BeginsAct desk self.old table.now }
+        requires act { (task_at self.old.frame).act ≡ Act.FromThis name kind }
         ensures stepped { HasStepped desk self.old table.now result self.new table.now }
         ensures fits { FitsThread desk self.new table.now }
     {
-        table.known();
-        let statement = self.course.statement();
+        let statement = self.frame.statement();
         let from = usize::from(name);
-        let Some(pointer) = self.course.holdings.inside(from) else {
-            let answer = outside(self.course.holdings.place(from));
-            self.course.take(false);
+        let Some(pointer) = self.frame.registers.inside(from) else {
+            let answer = outside(self.frame.registers.place(from));
+            self.frame.take(false);
             return Stepped::Quiet(tells(statement, answer));
         };
-        if !self.course.holdings.is_enabled(desk, table, from, pointer) {
-            self.course.take(false);
+        if !self.frame.registers.is_enabled(desk, table, from, pointer) {
+            self.frame.take(false);
             return Stepped::Quiet(tells(statement, Answer::Refused(Refusal::NotEnabled)));
         }
-        self.half = Half::Giving {
+        self.pending_call = PendingCall::Giving {
             name,
             kind,
             pointer,
@@ -58,19 +54,19 @@ impl Thread {
         pointer: Pointer,
     ) -> Stepped
         requires fits { FitsThread desk self.old table.old }
-        requires half { self.old.half ≡ Half.Giving name kind pointer }
+        requires pending_call { self.old.pending_call ≡ PendingCall.Giving name kind pointer }
         ensures stepped { HasStepped desk self.old table.old result self.new table.new }
         ensures fits { FitsThread desk self.new table.new }
     {
         table.known();
-        let statement = self.course.statement();
+        let statement = self.frame.statement();
         let from = usize::from(name);
-        let hand = self.course.holdings.hand();
-        self.course
-            .holdings
+        let hand = self.frame.registers.hand();
+        self.frame
+            .registers
             .give(desk, table, from, hand, kind, pointer);
-        self.course.take(true);
-        self.half = Half::Rest;
+        self.frame.take(true);
+        self.pending_call = PendingCall::Rest;
         Stepped::Event(silent(statement))
     }
 }

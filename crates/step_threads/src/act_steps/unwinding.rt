@@ -1,16 +1,16 @@
 //! How a thread ends objects, step by step.
 ghost use Rattle.std.specs.Prelude.{◌≡◌, ◌<◌, Some, false};
 ghost use Rattle.step_threads.specs.Endings.{first_of};
-ghost use Rattle.step_threads.specs.Courses.{hand};
-ghost use Rattle.step_table.specs.Holdings.{is_full, slot_pointer};
-ghost use Rattle.step_threads.specs.declared.half.Half.{Half};
+ghost use Rattle.step_threads.specs.Frames.{hand};
+ghost use Rattle.step_table.specs.Registers.{is_full, slot_pointer};
+ghost use Rattle.step_threads.specs.declared.pending_call.PendingCall.{PendingCall};
 
 use crate::act_steps::storing::returning;
 use crate::ending::Ending;
-use crate::half::Half;
+use crate::pending_call::PendingCall;
 use crate::said::Stepped;
 use crate::thread::{Thread, silent};
-use step_table::cell_steps::cell_deed::Cell;
+use step_table::cell_steps::cell_step::Cell;
 use step_table::memory::table::Table;
 
 impl Thread {
@@ -19,10 +19,10 @@ impl Thread {
     /// The next step of the ending begun last.
     pub(crate) fn end_on(&mut self, desk: usize, table: &mut Table, ending: Ending) -> Stepped
         requires fits { FitsThread desk self.old table.old }
-        requires rest { self.old.half ≡ Half.Rest }
-        requires first { first_of self.old.course.endings.list ≡ Some ending }
+        requires rest { self.old.pending_call ≡ PendingCall.Rest }
+        requires first { first_of self.old.frame.endings.list ≡ Some ending }
         requires empty { is_full
-            (slot_pointer self.old.course.holdings.slots.items (hand self.old.course.holdings.slots.items))
+            (slot_pointer self.old.frame.registers.slots.items (hand self.old.frame.registers.slots.items))
             ≡ false }
         ensures stepped { HasStepped desk self.old table.old result self.new table.new }
         ensures fits { FitsThread desk self.new table.new }
@@ -38,21 +38,21 @@ impl Thread {
     /// next.
     fn look_at_member(&mut self, desk: usize, table: &mut Table, ending: Ending) -> Stepped
         requires fits { FitsThread desk self.old table.old }
-        requires rest { self.old.half ≡ Half.Rest }
-        requires first { first_of self.old.course.endings.list ≡ Some ending }
+        requires rest { self.old.pending_call ≡ PendingCall.Rest }
+        requires first { first_of self.old.frame.endings.list ≡ Some ending }
         requires inside { ending.stage < 3 }
         requires empty { is_full
-            (slot_pointer self.old.course.holdings.slots.items (hand self.old.course.holdings.slots.items))
+            (slot_pointer self.old.frame.registers.slots.items (hand self.old.frame.registers.slots.items))
             ≡ false }
         ensures stepped { HasStepped desk self.old table.old result self.new table.new }
         ensures fits { FitsThread desk self.new table.new }
     {
         table.known();
         if table.look_member(desk, ending.block, ending.stage) > 0 {
-            self.half = Half::Clearing;
+            self.pending_call = PendingCall::Clearing;
             return Stepped::Quiet(silent(ending.statement));
         }
-        self.course.endings.advance(ending);
+        self.frame.endings.advance(ending);
         Stepped::Event(silent(ending.statement))
     }
 
@@ -60,34 +60,34 @@ impl Thread {
     /// not taken are given back next.
     pub(crate) fn empty_on(&mut self, desk: usize, table: &mut Table) -> Stepped
         requires fits { FitsThread desk self.old table.old }
-        requires half { self.old.half ≡ Half.Clearing }
+        requires pending_call { self.old.pending_call ≡ PendingCall.Clearing }
         ensures stepped { HasStepped desk self.old table.old result self.new table.new }
         ensures fits { FitsThread desk self.new table.new }
     {
         table.known();
-        let Some(ending) = self.course.endings.first() else {
+        let Some(ending) = self.frame.endings.first() else {
             unreachable!()
         };
         let (block, member) = (ending.block, ending.stage);
         let kind = table.kind_in(Cell::Member { block, member });
-        let hand = self.course.holdings.hand();
+        let hand = self.frame.registers.hand();
         let found = self
-            .course
-            .holdings
+            .frame
+            .registers
             .take_out(desk, table, block, member, hand);
-        self.course.endings.advance(ending);
-        self.half = returning(kind, ending.statement, found);
+        self.frame.endings.advance(ending);
+        self.pending_call = returning(kind, ending.statement, found);
         Stepped::Event(silent(ending.statement))
     }
 
     /// Finishes the object that ends. Its block comes into the store, if it is vacant.
     fn finish(&mut self, desk: usize, table: &mut Table, ending: Ending) -> Stepped
         requires fits { FitsThread desk self.old table.old }
-        requires rest { self.old.half ≡ Half.Rest }
-        requires first { first_of self.old.course.endings.list ≡ Some ending }
+        requires rest { self.old.pending_call ≡ PendingCall.Rest }
+        requires first { first_of self.old.frame.endings.list ≡ Some ending }
         requires behind { ending.stage ≡ 3 }
         requires empty { is_full
-            (slot_pointer self.old.course.holdings.slots.items (hand self.old.course.holdings.slots.items))
+            (slot_pointer self.old.frame.registers.slots.items (hand self.old.frame.registers.slots.items))
             ≡ false }
         ensures stepped { HasStepped desk self.old table.old result self.new table.new }
         ensures fits { FitsThread desk self.new table.new }
@@ -95,7 +95,7 @@ impl Thread {
         table.known();
         let vacant = table.finish(desk, ending.block);
         table.known();
-        self.course.endings.finish(ending);
+        self.frame.endings.finish(ending);
         if !vacant {
             return Stepped::Event(silent(ending.statement));
         }

@@ -1,7 +1,6 @@
 //! How a thread moves vacant blocks to the shelf and from it.
-ghost use Rattle.std.specs.Prelude.{◌≡◌, ◌<◌, length, []};
+ghost use Rattle.std.specs.Prelude.{◌≡◌};
 ghost use Rattle.step_threads.specs.declared.programs.act.Act.{Act};
-ghost use Rattle.step_threads.specs.declared.half.Half.{Half};
 
 use crate::programs::act::ShelfAct;
 use crate::said::Stepped;
@@ -10,17 +9,14 @@ use control_word::place::Block;
 use step_table::memory::table::Table;
 
 impl Thread {
-    ghost use Rattle.step_threads.specs.Courses.{task_at};
-    ghost use Rattle.step_threads.specs.Threads.{FitsThread, HasStepped};
+    ghost use Rattle.step_threads.specs.Frames.{task_at};
+    ghost use Rattle.step_threads.specs.Threads.{BeginsAct, FitsThread, HasStepped};
     ghost use Rattle.step_threads.specs.declared.programs.act.ShelfAct.{ShelfAct};
 
     /// Moves a block to the shelf, or from it.
     pub(crate) fn on_shelf(&mut self, desk: usize, table: &mut Table, act: ShelfAct) -> Stepped
-        requires fits { FitsThread desk self.old table.old }
-        requires rest { self.old.half ≡ Half.Rest }
-        requires none { self.old.course.endings.list ≡ [] }
-        requires within { self.old.course.at < length self.old.course.tasks.items }
-        requires act { (task_at self.old.course).act ≡ Act.OnShelf act }
+        requires begins { BeginsAct desk self.old table.old }
+        requires act { (task_at self.old.frame).act ≡ Act.OnShelf act }
         ensures stepped { HasStepped desk self.old table.old result self.new table.new }
         ensures fits { FitsThread desk self.new table.new }
     {
@@ -32,24 +28,21 @@ impl Thread {
 
     /// Puts the least block of the store on the shelf, if there is one.
     fn shelve(&mut self, desk: usize, table: &mut Table) -> Stepped
-        requires fits { FitsThread desk self.old table.old }
-        requires rest { self.old.half ≡ Half.Rest }
-        requires none { self.old.course.endings.list ≡ [] }
-        requires within { self.old.course.at < length self.old.course.tasks.items }
-        requires act { (task_at self.old.course).act ≡ Act.OnShelf ShelfAct.Shelve }
+        requires begins { BeginsAct desk self.old table.old }
+        requires act { (task_at self.old.frame).act ≡ Act.OnShelf ShelfAct.Shelve }
         ensures stepped { HasStepped desk self.old table.old result self.new table.new }
         ensures fits { FitsThread desk self.new table.new }
     {
-        let statement = self.course.statement();
+        let statement = self.frame.statement();
         match self.stock.take_least() {
             None => {
-                self.course.go_on();
+                self.frame.go_on();
                 Stepped::Quiet(silent(statement))
             }
             Some(block) => {
                 table.known();
                 table.shelve(desk, block);
-                self.course.go_on();
+                self.frame.go_on();
                 Stepped::Event(silent(statement))
             }
         }
@@ -57,24 +50,21 @@ impl Thread {
 
     /// Takes this block from the shelf, if it is there.
     fn unshelve(&mut self, desk: usize, table: &mut Table, block: Block) -> Stepped
-        requires fits { FitsThread desk self.old table.old }
-        requires rest { self.old.half ≡ Half.Rest }
-        requires none { self.old.course.endings.list ≡ [] }
-        requires within { self.old.course.at < length self.old.course.tasks.items }
-        requires act { (task_at self.old.course).act ≡ Act.OnShelf (ShelfAct.Unshelve block) }
+        requires begins { BeginsAct desk self.old table.old }
+        requires act { (task_at self.old.frame).act ≡ Act.OnShelf (ShelfAct.Unshelve block) }
         ensures stepped { HasStepped desk self.old table.old result self.new table.new }
         ensures fits { FitsThread desk self.new table.new }
     {
-        let statement = self.course.statement();
+        let statement = self.frame.statement();
         table.known();
         let got = table.unshelve(desk, block);
         table.known();
         if !got {
-            self.course.go_on();
+            self.frame.go_on();
             return Stepped::Quiet(silent(statement));
         }
         self.stock.put(block);
-        self.course.go_on();
+        self.frame.go_on();
         Stepped::Event(silent(statement))
     }
 }

@@ -1,12 +1,12 @@
 use Rattle.std.proofs.Common.{arith, ◌+◌}
-use Rattle.step_table.specs.Stories.{story_state}
-use Rattle.holders.specs.Holdings.{held_by_block}
+use Rattle.step_table.specs.GhostStates.{model_state}
+use Rattle.holders.specs.Registers.{held_by_block}
 use Rattle.holders.proofs.Adding.{one_more}
 use Rattle.holders.proofs.held.add_blocks.Goals as goal
 
 pub loop-before-preserved : goal.loop-before-preserved
 loop-before-preserved c = (
-  one_more (held_by_block (story_state c.args.world.now.story)) 1 c.loop-before.before (c.loop-before.before + 1) c.args.holdings.now.items
+  one_more (held_by_block (model_state c.args.world.now.ghost_state)) 1 c.loop-before.before (c.loop-before.before + 1) c.args.holdings.now.items
       c.loop-before.holdings.items c.add_members.new.holdings.items (omega arith) c.loop-before.invariant.0 c.in_ok-add_members.ensures.held,
   λ all. c.in_ok-add_members.ensures.among (c.loop-before.invariant.1 all),
 )

@@ -1,11 +1,11 @@
 use Rattle.std.proofs.Common.{◌≡◌, ◌++◌}
 use Rattle.std.specs.List.{flat_map}
-use Rattle.step_table.specs.Stories.{story_state}
+use Rattle.step_table.specs.GhostStates.{model_state}
 use Rattle.step_threads.specs.Stocks.{from}
-use Rattle.holders.specs.Holdings.{AddsAmong, held_by_block}
+use Rattle.holders.specs.Registers.{AddsAmong, held_by_block}
 use Rattle.holders.proofs.held.add_blocks.Given as goal
 
 abbrev pub invariant-loop-before : goal.invariant-loop-before
 invariant-loop-before l =
-    (l.holdings.items ≡ l.fn.holdings.items ++ flat_map (held_by_block (story_state l.world.story)) (from 1 l.before))
-    × AddsAmong l.world.story.extent.shape.blocks l.fn.holdings.items l.holdings.items
+    (l.holdings.items ≡ l.fn.holdings.items ++ flat_map (held_by_block (model_state l.world.ghost_state)) (from 1 l.before))
+    × AddsAmong l.world.ghost_state.extent.shape.blocks l.fn.holdings.items l.holdings.items

@@ -1,12 +1,12 @@
 use Rattle.std.proofs.Common.{arith}
-use Rattle.step_table.specs.Stories.{story_state}
-use Rattle.holders.specs.Holdings.{held_by_free}
+use Rattle.step_table.specs.GhostStates.{model_state}
+use Rattle.holders.specs.Registers.{held_by_free}
 use Rattle.holders.proofs.Adding.{one_more}
 use Rattle.holders.proofs.held.add_free.Goals as goal
 
 pub loop-number-preserved : goal.loop-number-preserved
 loop-number-preserved c = (
-  one_more (held_by_free (story_state c.args.world.now.story)) 0 c.loop-number.number c.loop-number.number c.args.holdings.now.items
+  one_more (held_by_free (model_state c.args.world.now.ghost_state)) 0 c.loop-number.number c.loop-number.number c.args.holdings.now.items
       c.loop-number.holdings.items c.add.new.holdings.items (omega arith) c.loop-number.invariant.0 c.in_ok-add.ensures.held,
   λ all. c.in_ok-add.ensures.among (c.loop-number.invariant.1 all),
 )

@@ -2,28 +2,28 @@ use Rattle.std.proofs.Common.{◌≡◌, ◌∙◌, ◌++◌, ℕ, List, ap, sub
 use Rattle.std.specs.List.{flat_map}
 use Rattle.control_word.proofs.history.Kept.{cells_led}
 use Rattle.step_table.specs.Openings.{opening}
-use Rattle.step_table.specs.Stories.{story_state}
+use Rattle.step_table.specs.GhostStates.{model_state}
 use Rattle.step_table.proofs.contained.Told.{shared_is}
 use Rattle.step_threads.specs.Stocks.{from}
 use Rattle.owner_graph.specs.declared.holding.Holding.{Holding}
-use Rattle.holders.specs.Holdings.{AllCounted, all_held, held_by_block, held_by_free}
+use Rattle.holders.specs.Registers.{AllCounted, all_held, held_by_block, held_by_free}
 use Rattle.holders.proofs.Counting.{counted}
 use Rattle.holders.proofs.held.holdings.Goals as goal
 
 pub add_free-requires-clause-shared : goal.add_free-requires-clause-shared
-add_free-requires-clause-shared c = c.requires.shared ∙ sym (shared_is c.args.world.now.story)
+add_free-requires-clause-shared c = c.requires.shared ∙ sym (shared_is c.args.world.now.ghost_state)
 
 pub add_free-requires-clause-cells : goal.add_free-requires-clause-cells
 add_free-requires-clause-cells c =
-    let v = c.args.world.now.story in c.requires.cells ∙ sym (cells_led (opening v.extent) v.history)
+    let v = c.args.world.now.ghost_state in c.requires.cells ∙ sym (cells_led (opening v.extent) v.history)
 
 pub add_blocks-requires-clause-shared : goal.add_blocks-requires-clause-shared
-add_blocks-requires-clause-shared c = c.requires.shared ∙ sym (shared_is c.args.world.now.story)
+add_blocks-requires-clause-shared c = c.requires.shared ∙ sym (shared_is c.args.world.now.ghost_state)
 
 pub returns-clause-held : goal.returns-clause-held
 returns-clause-held c =
-    let v = c.args.world.now.story in
-    let s = story_state v in
+    let v = c.args.world.now.ghost_state in
+    let s = model_state v in
     let cells : c.args.cells ≡ s.cells = c.requires.cells ∙ sym (cells_led (opening v.extent) v.history) in
     c.in_ok-add_blocks.ensures.held
     ∙ ap (λ (l : List Holding). l ++ flat_map (held_by_block s) (from 1 c.args.blocks))
@@ -33,7 +33,7 @@ returns-clause-held c =
 
 pub returns-clause-counted : goal.returns-clause-counted
 returns-clause-counted c =
-    let v = c.args.world.now.story in
-    subst (AllCounted c.args.blocks (story_state v)) (sym (returns-clause-held c))
-    (subst (λ (n : ℕ). AllCounted n (story_state v) (all_held (story_state v) n)) (sym c.requires.blocks)
+    let v = c.args.world.now.ghost_state in
+    subst (AllCounted c.args.blocks (model_state v)) (sym (returns-clause-held c))
+    (subst (λ (n : ℕ). AllCounted n (model_state v) (all_held (model_state v) n)) (sym c.requires.blocks)
     (counted v c.known_at_end.ensures.kept c.known_at_end.ensures.hands))

@@ -1,9 +1,9 @@
 use Rattle.std.specs.Prelude.{string_bytes}
-use Rattle.step_core.specs.Worlds.{scene}
+use Rattle.step_core.specs.Worlds.{abstraction}
 use Rattle.leak_report.proofs.Telling.{left_told}
 use Rattle.leak_report.proofs.answering.left_of.Goals as goal
 
 pub returns-in-Ok-clause-told : goal.returns-in-Ok-clause-told
 returns-in-Ok-clause-told c =
-    left_told c.args.script.now c.args.turns.now (scene c.in_ok-end.end.world) c.args.draws c.in-Ok.left.leaks (string_bytes c.in-Ok.left.text)
+    left_told c.args.script.now c.args.turns.now (abstraction c.in_ok-end.end.world) c.args.draws c.in-Ok.left.leaks (string_bytes c.in-Ok.left.text)
     c.in_ok-end.ensures.end c.in-Ok.ensures

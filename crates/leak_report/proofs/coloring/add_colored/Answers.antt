@@ -1,5 +1,5 @@
-use Rattle.step_core.specs.Worlds.{scene}
-use Rattle.step_threads.specs.Scenes.{state_in}
+use Rattle.step_core.specs.Worlds.{abstraction}
+use Rattle.step_threads.specs.AbstractStates.{state_in}
 use Rattle.leak_report.proofs.ColorLemmas.{colored_none, colored_then}
 use Rattle.leak_report.proofs.coloring.add_colored.Goals as goal
 use Rattle.std.proofs.Common.{refl}
@@ -7,11 +7,11 @@ use Rattle.std.proofs.Common.{refl}
 pub returns-in_ok-push-in-Some : goal.returns-in_ok-push-in-Some
 returns-in_ok-push-in-Some c =
     let found = c.args.found.now in
-    colored_then (state_in (scene c.args.world.now)) found.kept.items found.circles.knots.items found.circles.ties.items c.args.number _ _
+    colored_then (state_in (abstraction c.args.world.now)) found.kept.items found.circles.knots.items found.circles.ties.items c.args.number _ _
     c.args.blocks.now.items c.push.new.self.items c.in-Some.ensures.counts refl c.color_of-color.ensures c.in_ok-push-in-Some.ensures.items
 
 pub returns-in-None : goal.returns-in-None
 returns-in-None c =
     let found = c.args.found.now in
-    colored_none (state_in (scene c.args.world.now)) found.kept.items found.circles.knots.items found.circles.ties.items c.args.number
+    colored_none (state_in (abstraction c.args.world.now)) found.kept.items found.circles.knots.items found.circles.ties.items c.args.number
     c.args.blocks.now.items c.in-None.ensures.counts

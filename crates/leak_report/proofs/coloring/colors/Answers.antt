@@ -1,8 +1,8 @@
 use Rattle.std.proofs.Common.{◌≡◌, ◌∙◌, ℕ, List, ap, arith}
 use Rattle.std.specs.Prelude.{map}
 use Rattle.std.specs.List.{flat_map}
-use Rattle.step_core.specs.Worlds.{scene}
-use Rattle.step_threads.specs.Scenes.{state_in}
+use Rattle.step_core.specs.Worlds.{abstraction}
+use Rattle.step_threads.specs.AbstractStates.{state_in}
 use Rattle.step_threads.specs.Stocks.{from}
 use Rattle.owner_graph.specs.declared.holding.Holding.{Holding}
 use Rattle.leak_report.specs.Coloring.{colored, in_color}
@@ -14,21 +14,22 @@ pub loop-before-preserved : goal.loop-before-preserved
 loop-before-preserved c =
     let found = c.in_ok-found.found in
     colors_then
-    (colored (state_in (scene c.args.end.now.world)) found.kept.items found.circles.knots.items found.circles.ties.items)
+    (colored (state_in (abstraction c.args.end.now.world)) found.kept.items found.circles.knots.items found.circles.ties.items)
     c.loop-before.before (map in_color c.loop-before.blocks.items) (map in_color c.add_colored.new.blocks.items) c.loop-before.invariant
     c.in_ok-add_colored.ensures
 
 pub returns : goal.returns
 returns c =
     let found = c.in_ok-found.found in
-    let u = scene c.args.end.now.world in
+    let u = abstraction c.args.end.now.world in
     let over : c.loop-before.before ≡ c.args.end.now.blocks = omega arith in
     let f = findings found.kept.items found.circles.knots.items found.circles.cuts.items in record {
       findings = f;
       found = c.in_ok-found.ensures.found;
       colors =
           c.loop-before.invariant
-          ∙ ap (λ (n : ℕ). flat_map (colored (state_in u) found.kept.items found.circles.knots.items found.circles.ties.items) (from 1 n)) (over ∙ c.args.end.now.all)
+          ∙ ap (λ (n : ℕ). flat_map (colored (state_in u) found.kept.items found.circles.knots.items found.circles.ties.items) (from 1 n))
+          (over ∙ c.args.end.now.all)
           ∙ ap (λ (ts : List Holding). flat_map (colored (state_in u) found.kept.items found.circles.knots.items ts) (from 1 u.extent.shape.blocks))
           c.in_ok-found.ensures.ties;
     }

@@ -1,7 +1,7 @@
 use Rattle.std.proofs.Common.{◌∙◌, ◌++◌, List, ℕ, ap, sym}
 use Rattle.std.specs.Prelude.{string_bytes}
 use Rattle.script_text.specs.Grammar.{ended}
-use Rattle.step_core.specs.Worlds.{scene}
+use Rattle.step_core.specs.Worlds.{abstraction}
 use Rattle.leak_report.specs.Findings.{findings}
 use Rattle.leak_report.specs.Graph.{head_lines}
 use Rattle.leak_report.proofs.Drawing.{graph_then}
@@ -10,7 +10,7 @@ use Rattle.leak_report.proofs.graph.drawn_at.Goals as goal
 
 pub returns : goal.returns
 returns c =
-    let u = scene c.args.end.now.world in
+    let u = abstraction c.args.end.now.world in
     let found = c.args.found.now in
     let f = findings found.kept.items found.circles.knots.items found.circles.cuts.items in record {
       findings = f;

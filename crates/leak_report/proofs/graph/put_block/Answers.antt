@@ -1,7 +1,7 @@
 use Rattle.std.proofs.Common.{false, refl}
 use Rattle.std.specs.Prelude.{slice_index_or, string_bytes}
-use Rattle.step_core.specs.Worlds.{scene}
-use Rattle.step_threads.specs.Scenes.{state_in}
+use Rattle.step_core.specs.Worlds.{abstraction}
+use Rattle.step_threads.specs.AbstractStates.{state_in}
 use Rattle.owner_graph.specs.Labels.{at}
 use Rattle.owner_graph.specs.Rows.{held_on}
 use Rattle.leak_report.specs.Graph.{is_tied}
@@ -12,6 +12,6 @@ pub returns : goal.returns
 returns c =
     let found = c.args.found.now in
     let row = held_on found.circles.ties.items (at found.circles.knots.items c.args.number) in
-    node_then (state_in (scene c.args.world.now)) found.kept.items found.circles.knots.items found.circles.ties.items row c.args.number
+    node_then (state_in (abstraction c.args.world.now)) found.kept.items found.circles.knots.items found.circles.ties.items row c.args.number
     c.in-Some.fields c.color_of-color.result.now (slice_index_or found.kept.items c.args.number false) (is_tied row) (string_bytes c.args.text.now)
     (string_bytes c.put_node.new.text) c.in-Some.ensures refl refl refl c.color_of-color.ensures c.in_ok-put_node.ensures

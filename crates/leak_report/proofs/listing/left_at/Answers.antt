@@ -2,8 +2,8 @@ use Rattle.std.proofs.Common.{◌∙◌, ◌++◌, ℕ, List, ap, refl, sym}
 use Rattle.std.specs.Prelude.{string_bytes}
 use Rattle.script_text.specs.Grammar.{ended}
 use Rattle.step_core.specs.Totals.{ended_in, made_in}
-use Rattle.step_core.specs.Worlds.{scene}
-use Rattle.step_threads.specs.Scenes.{state_in}
+use Rattle.step_core.specs.Worlds.{abstraction}
+use Rattle.step_threads.specs.AbstractStates.{state_in}
 use Rattle.leak_report.specs.Findings.{findings, held_at}
 use Rattle.leak_report.specs.Lines.{listing}
 use Rattle.leak_report.proofs.Telling.{all_then, counted_at}
@@ -11,7 +11,7 @@ use Rattle.leak_report.proofs.listing.left_at.Goals as goal
 
 pub returns : goal.returns
 returns c =
-    let u = scene c.args.end.now.world in
+    let u = abstraction c.args.end.now.world in
     let found = c.args.found.now in
     let f = findings found.kept.items found.circles.knots.items found.circles.cuts.items in record {
       findings = f;

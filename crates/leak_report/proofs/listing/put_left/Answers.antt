@@ -1,7 +1,7 @@
 use Rattle.std.proofs.Common.{◌<◌, arith, length}
 use Rattle.std.specs.Prelude.{string_bytes}
-use Rattle.step_core.specs.Worlds.{scene}
-use Rattle.step_threads.specs.Scenes.{state_in}
+use Rattle.step_core.specs.Worlds.{abstraction}
+use Rattle.step_threads.specs.AbstractStates.{state_in}
 use Rattle.leak_report.specs.Findings.{held_at}
 use Rattle.leak_report.proofs.Telling.{block_then, mark_is, row_is}
 use Rattle.leak_report.proofs.listing.put_left.Goals as goal
@@ -12,7 +12,8 @@ returns c =
     let kept = c.requires.kept in
     let in_rows : c.args.number < length c.args.found.now.rows.items = omega (arith, rows) in
     let in_kept : c.args.number < length c.args.found.now.kept.items = omega (arith, kept) in
-    block_then c.args.shared (held_at (scene c.args.world.now)) c.as_slice.result.now c.args.found.now.kept.items (state_in (scene c.args.world.now))
+    block_then c.args.shared (held_at (abstraction c.args.world.now)) c.as_slice.result.now c.args.found.now.kept.items
+    (state_in (abstraction c.args.world.now))
     c.args.number c.in-Some.counts c.index.result.now (string_bytes c.args.text.now) (string_bytes c.put_block.new.text)
     (string_bytes c.put_holders.new.text) c.in-Some.ensures.counts
     (mark_is c.args.found.now.kept.items c.from-index.result c.args.number c.index.result.now c.from-index.ensures in_kept c.index.ensures)

@@ -1,6 +1,6 @@
 use Rattle.std.specs.Prelude.{string_bytes}
-use Rattle.step_core.specs.Worlds.{scene}
-use Rattle.step_threads.specs.Scenes.{state_in}
+use Rattle.step_core.specs.Worlds.{abstraction}
+use Rattle.step_threads.specs.AbstractStates.{state_in}
 use Rattle.leak_report.specs.Findings.{held_at}
 use Rattle.leak_report.specs.Lines.{left_lines}
 use Rattle.leak_report.proofs.Telling.{numbers_then}
@@ -8,6 +8,6 @@ use Rattle.leak_report.proofs.listing.put_listing.Goals as goal
 
 pub loop-before-preserved : goal.loop-before-preserved
 loop-before-preserved c =
-    numbers_then (left_lines c.args.shared (held_at (scene c.args.world.now)) c.args.found.now.kept.items (state_in (scene c.args.world.now)))
+    numbers_then (left_lines c.args.shared (held_at (abstraction c.args.world.now)) c.args.found.now.kept.items (state_in (abstraction c.args.world.now)))
     c.loop-before.before (string_bytes c.args.text.now) (string_bytes c.loop-before.text) (string_bytes c.put_left.new.text) c.loop-before.invariant
     c.in_ok-put_left.ensures

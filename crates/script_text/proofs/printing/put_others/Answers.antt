@@ -1,7 +1,7 @@
 use Rattle.std.specs.Prelude.{string_bytes}
 use Rattle.script_text.specs.Drafts.{section_of}
 use Rattle.script_text.specs.Canonical.{begun_lines}
-use Rattle.script_text.proofs.PrintLemmas.{parts_done}
+use Rattle.text_lines.proofs.Ended.{parts_done}
 use Rattle.script_text.proofs.printing.put_others.Goals as goal
 
 pub returns : goal.returns

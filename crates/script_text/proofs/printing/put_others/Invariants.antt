@@ -8,5 +8,6 @@ use Rattle.script_text.proofs.printing.put_others.Given as goal
 
 abbrev pub invariant-loop-thread : goal.invariant-loop-thread
 invariant-loop-thread l =
-    string_bytes l.text ≡ string_bytes l.fn.text ++ flat_map (λ section. ended (begun_lines section))
+    string_bytes l.text ≡ string_bytes l.fn.text
+    ++ flat_map (λ section. ended (begun_lines section))
     (map section_of (take l.thread-index l.threads))

@@ -2,7 +2,7 @@ use Rattle.std.proofs.Common.{◌≡◌, ◌++◌, take}
 use Rattle.std.specs.Prelude.{string_bytes}
 use Rattle.std.specs.List.{flat_map}
 use Rattle.script_text.specs.Canonical.{call_line}
-use Rattle.script_text.proofs.PrintLemmas.{with_feed}
+use Rattle.text_lines.proofs.Ended.{with_feed}
 use Rattle.script_text.proofs.printing.put_thread.Given as goal
 
 abbrev pub invariant-loop-call : goal.invariant-loop-call

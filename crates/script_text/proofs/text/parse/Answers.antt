@@ -23,13 +23,26 @@ returns-in_err-draft-clause-faulty c =
 
 pub returns-in-Ok-clause-reads : goal.returns-in-Ok-clause-reads
 returns-in-Ok-clause-reads c =
-    let holds : ReadsAs c.args.bytes.now (record { version = c.in_ok-draft.draft.version; threads = map section_of c.in-Ok.threads.items }) = search rules in
-    λ script h. reads_answer (Ok (record { version = c.in_ok-draft.draft.version; threads = map section_of c.in-Ok.threads.items }))
+    let holds : ReadsAs c.args.bytes.now
+    (record {
+      version = c.in_ok-draft.draft.version;
+      threads = map section_of c.in-Ok.threads.items;
+    }) = search rules in
+    λ script h. reads_answer (Ok (record
+    { version = c.in_ok-draft.draft.version; threads = map section_of c.in-Ok.threads.items }))
     c.args.bytes.now script holds h
 
 pub returns-in-Ok-clause-faulty : goal.returns-in-Ok-clause-faulty
 returns-in-Ok-clause-faulty c =
-    let holds : ReadsAs c.args.bytes.now (record { version = c.in_ok-draft.draft.version; threads = map section_of c.in-Ok.threads.items }) = search rules in
-    λ line cause h. faulty_answer (Ok (record { version = c.in_ok-draft.draft.version; threads = map section_of c.in-Ok.threads.items }))
+    let holds : ReadsAs c.args.bytes.now
+    (record {
+      version = c.in_ok-draft.draft.version;
+      threads = map section_of c.in-Ok.threads.items;
+    }) = search rules in
+    λ line cause h. faulty_answer (Ok
+    (record {
+      version = c.in_ok-draft.draft.version;
+      threads = map section_of c.in-Ok.threads.items;
+    }))
     c.args.bytes.now line cause
     holds h

@@ -2,7 +2,7 @@ use Rattle.std.proofs.Common.{refl, sym, subst, arith}
 use Rattle.std.specs.Prelude.{All}
 use Rattle.step_threads.specs.declared.programs.call.Actor.{Actor}
 use Rattle.step_threads.specs.Programs.{AllHaveCells, IsPart, Part, part_of}
-use Rattle.step_core.specs.Starts.{HasFields, first_story}
+use Rattle.step_core.specs.Starts.{HasFields, first_ghost}
 use Rattle.step_core.proofs.Openings.{push_started}
 use Rattle.step_core.proofs.Programs.{all_mapped, more_calls}
 use Rattle.step_core.proofs.opening.threads_of.Goals as goal
@@ -31,7 +31,7 @@ thread_of-requires-clause-cells c =
 
 pub loop-desk-preserved : goal.loop-desk-preserved
 loop-desk-preserved c =
-    push_started (first_story c.args.extent.now) c.loop-desk.threads.items c.push.new.self.items c.in_ok-thread.thread c.args.actors.now
+    push_started (first_ghost c.args.extent.now) c.loop-desk.threads.items c.push.new.self.items c.in_ok-thread.thread c.args.actors.now
     c.loop-desk.desk c.index-actors-desk.result c.loop-desk-test.true c.index-actors-desk.is c.loop-desk.invariant c.in_ok-push.ensures.items
-    c.in_ok-thread.ensures.walk
-    c.in_ok-thread.ensures.half c.in_ok-thread.ensures.fits
+    c.in_ok-thread.ensures.frame_view
+    c.in_ok-thread.ensures.pending_call c.in_ok-thread.ensures.fits

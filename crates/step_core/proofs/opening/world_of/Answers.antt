@@ -2,9 +2,9 @@ use Rattle.std.proofs.Common.{◌≡◌, length, sym, subst}
 use Rattle.std.proofs.lemmas.List.{length-map}
 use Rattle.step_table.specs.declared.memory.extent.Extent.{Extent}
 use Rattle.step_threads.specs.Programs.{part_of}
-use Rattle.step_core.specs.Starts.{first_story}
-use Rattle.step_table.specs.Stories.{Story}
-use Rattle.step_core.specs.Told.{TotalsAreTold, sight}
+use Rattle.step_core.specs.Starts.{first_ghost}
+use Rattle.step_table.specs.GhostStates.{GhostState}
+use Rattle.step_core.specs.Told.{TotalsAreTold, world_state}
 use Rattle.step_core.specs.Worlds.{AllFit}
 use Rattle.step_core.proofs.telling.Starting.{told_start}
 use Rattle.step_core.proofs.opening.world_of.Goals as goal
@@ -13,8 +13,8 @@ pub invariant_of-result : goal.invariant_of-result
 invariant_of-result c =
     let x : Extent = record { shape = c.args.shape; actors = length c.args.actors.now } in
     let threads = c.in_ok-threads.threads.items in
-    let e : c.in_ok-table.table ≡ first_story x = c.in_ok-table.ensures in (
-      subst (λ (v : Story). AllFit v threads) (sym e) c.in_ok-threads.ensures.fit,
-      subst (λ (v : Story). TotalsAreTold (sight v threads) 0 0) (sym e)
-          (told_start x _ threads (sym (length-map c.args.actors.now part_of)) c.requires.begin.program c.requires.fields c.in_ok-threads.ensures.walks),
+    let e : c.in_ok-table.table ≡ first_ghost x = c.in_ok-table.ensures in (
+      subst (λ (v : GhostState). AllFit v threads) (sym e) c.in_ok-threads.ensures.fit,
+      subst (λ (v : GhostState). TotalsAreTold (world_state v threads) 0 0) (sym e)
+          (told_start x _ threads (sym (length-map c.args.actors.now part_of)) c.requires.begin.program c.requires.fields c.in_ok-threads.ensures.frame_views),
     )

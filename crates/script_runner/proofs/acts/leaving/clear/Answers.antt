@@ -1,6 +1,6 @@
 use Rattle.std.proofs.Common.{◌≡◌, ◌+◌, true, false, Some, inr, sym, subst, ◌∙◌, arith}
 use Rattle.std.specs.Prelude.{slice_get}
-use Rattle.step_table.specs.Holdings.{is_full, slot_pointer}
+use Rattle.step_table.specs.Registers.{is_full, slot_pointer}
 use Rattle.script_runner.specs.Deals.{IsEmptied, thread_slots}
 use Rattle.script_runner.specs.Kinds.{KeepsKinds, SetsKind}
 use Rattle.script_runner.proofs.Emptying as kinds

@@ -1,6 +1,6 @@
 use Rattle.std.proofs.Common.{◌≡◌, ◌+◌, true, false, None, sym, subst, ◌∙◌, arith}
 use Rattle.handle_table.specs.Calls as calls
-use Rattle.step_table.specs.Holdings.{is_full, slot_pointer}
+use Rattle.step_table.specs.Registers.{is_full, slot_pointer}
 use Rattle.step_threads.specs.declared.programs.act.Act.TheVariants as act
 use Rattle.script_runner.specs.Deals.{IsDealt, thread_slots}
 use Rattle.script_runner.specs.Kinds.{SetsKind}

@@ -6,8 +6,8 @@ use Rattle.script_runner.proofs.Acting as law
 use Rattle.script_runner.proofs.Granting as granting
 use Rattle.script_runner.proofs.Refusals.{no_owner}
 use Rattle.script_runner.specs.Deals.{thread_slots}
-use Rattle.step_table.specs.Deeds.{aliased}
-use Rattle.step_table.specs.Holdings.{place_in}
+use Rattle.step_table.specs.AtomicSteps.{aliased}
+use Rattle.step_table.specs.Registers.{place_in}
 use Rattle.script_runner.proofs.acts.taking.alias.Goals as goal
 
 pub unreachable-requires : goal.unreachable-requires

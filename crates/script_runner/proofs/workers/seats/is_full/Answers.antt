@@ -1,4 +1,4 @@
-use Rattle.script_runner.proofs.Sights.{none_shown}
+use Rattle.script_runner.proofs.WorldStates.{none_shown}
 use Rattle.script_runner.proofs.workers.seats.is_full.Goals as goal
 
 pub returns-in-Err : goal.returns-in-Err

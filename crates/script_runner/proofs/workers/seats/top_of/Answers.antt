@@ -2,7 +2,7 @@ use Rattle.std.proofs.Common.{sym, subst}
 use Rattle.handle_table.specs.declared.ends.Remains.TheVariants as table
 use Rattle.handle_table.specs.Ends.{IsToEnd}
 use Rattle.script_runner.specs.Deals.{IsTop}
-use Rattle.script_runner.proofs.Sights.{top_is}
+use Rattle.script_runner.proofs.WorldStates.{top_is}
 use Rattle.script_runner.proofs.workers.seats.top_of.Goals as goal
 
 pub returns-in-Some-Null-clause-told : goal.returns-in-Some-Null-clause-told

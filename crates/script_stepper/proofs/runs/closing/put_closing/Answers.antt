@@ -1,11 +1,11 @@
 use Rattle.std.proofs.Common.{◌∙◌}
 use Rattle.std.specs.Prelude.{string_bytes}
-use Rattle.step_core.specs.Worlds.{scene}
+use Rattle.step_core.specs.Worlds.{abstraction}
 use Rattle.script_stepper.proofs.ClosingLemmas.{closing_then}
 use Rattle.script_stepper.proofs.runs.closing.put_closing.Goals as goal
 
 pub returns : goal.returns
 returns c =
-    closing_then (scene c.args.world.now) c.args.blocks c.from.result c.from-2.result (string_bytes c.args.text.now)
+    closing_then (abstraction c.args.world.now) c.args.blocks c.from.result c.from-2.result (string_bytes c.args.text.now)
     (string_bytes c.put_census.new.text) (string_bytes c.put_totals.new.text) c.requires.all (c.from.ensures ∙ c.made.ensures)
     (c.from-2.ensures ∙ c.ended.ensures) c.in_ok-put_census.ensures c.in_ok-put_totals.ensures

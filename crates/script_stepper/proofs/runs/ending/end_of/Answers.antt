@@ -1,6 +1,6 @@
 use Rattle.std.proofs.Common.{◌≡◌, ℕ, List, length}
-use Rattle.step_threads.specs.Scenes.{Scene}
-use Rattle.script_text.specs.Beginnings.{script_scene}
+use Rattle.step_threads.specs.AbstractStates.{AbstractState}
+use Rattle.script_text.specs.Beginnings.{script_abstraction}
 use Rattle.script_text.specs.Drafts.{ScriptView}
 use Rattle.script_stepper.specs.Ends.{IsRunOut}
 use Rattle.script_stepper.proofs.OneTrace.{one_trace}
@@ -13,9 +13,9 @@ run_out-requires c =
     c.threads.ensures.number c.as_slice.ensures.value c.in_ok-turns.ensures
 
 -- a script and its turns lead to one end, whatever is answered
-one : (listed : List ℕ) (read : ScriptView) (last other : Scene) → IsRunOut listed (script_scene read) last
-    → IsRunOut listed (script_scene read) other → last ≡ other
-one listed read last other p q = (one_trace listed (script_scene read) p.0 q.0 last other p.1 q.1).1
+one : (listed : List ℕ) (read : ScriptView) (last other : AbstractState) → IsRunOut listed (script_abstraction read) last
+    → IsRunOut listed (script_abstraction read) other → last ≡ other
+one listed read last other p q = (one_trace listed (script_abstraction read) p.0 q.0 last other p.1 q.1).1
 
 pub returns-in_err-script-clause-one : goal.returns-in_err-script-clause-one
 returns-in_err-script-clause-one c = λ read listed last other p q. one listed read last other p q

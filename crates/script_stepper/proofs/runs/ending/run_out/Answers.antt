@@ -1,7 +1,7 @@
 use Rattle.std.proofs.Common.{◌≡◌, ◌∙◌, ◌+◌, ℕ, ap, subst, sym}
 use Rattle.std.specs.Prelude.{◌≤◌, All}
 use Rattle.control_word.specs.declared.shape.Shape.{Shape}
-use Rattle.step_core.specs.Worlds.{Sight, scene}
+use Rattle.step_core.specs.Worlds.{WorldState, abstraction}
 use Rattle.script_text.specs.Beginnings.{script_shape}
 use Rattle.script_stepper.specs.Ends.{IsRunOut}
 use Rattle.script_stepper.proofs.Overs.{at_end}
@@ -17,8 +17,8 @@ invariant_of-result c =
     let u = c.in_ok-world.field-0.world in
     let v = c.run_turns.new.world in
     let run = c.in-Ok.ensures.run.run in
-    let same : v.story.extent.shape ≡ script_shape c.args.script.now =
-    same_shape _ u v _ _ run ∙ ap (λ (x : Sight). x.story.extent.shape) c.in_ok-world.ensures.sight in
+    let same : v.ghost_state.extent.shape ≡ script_shape c.args.script.now =
+    same_shape _ u v _ _ run ∙ ap (λ (x : WorldState). x.ghost_state.extent.shape) c.in_ok-world.ensures.world_state in
     record {
       ended = at_end v run.rests c.in-Ok.ensures.over;
       all = c.in_ok-world.ensures.blocks ∙ sym (same_blocks _ u v _ _ run);
@@ -30,5 +30,5 @@ pub returns-in-Ok-clause-ok : goal.returns-in-Ok-clause-ok
 returns-in-Ok-clause-ok c =
     let u = c.in_ok-world.field-0.world in
     let v = c.run_turns.new.world in
-    subst (λ (w : Sight). IsRunOut c.args.turns.now (scene w) (scene v)) c.in_ok-world.ensures.sight
-    (_, traced c.args.turns.now u v _ _ c.in-Ok.ensures.run c.in-Ok.ensures.over c.in_ok-world.ensures.kept)
+    subst (λ (w : WorldState). IsRunOut c.args.turns.now (abstraction w) (abstraction v)) c.in_ok-world.ensures.world_state
+    (_, traced c.args.turns.now u v _ _ c.in-Ok.ensures.run c.in-Ok.ensures.over)

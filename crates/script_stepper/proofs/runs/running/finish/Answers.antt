@@ -1,6 +1,10 @@
+use Rattle.std.proofs.Common.{◌∙◌, sym}
 use Rattle.std.specs.Prelude.{string_bytes}
-use Rattle.script_stepper.proofs.RunLemmas.{alone_ends, alone_more, run_thread}
+use Rattle.script_stepper.proofs.RunLemmas.{alone_ends, alone_more, alone_none, run_thread, still_over}
 use Rattle.script_stepper.proofs.runs.running.finish.Goals as goal
+
+pub loop-init : goal.loop-init
+loop-init c = alone_none c.args.thread c.args.world.now (string_bytes c.args.text.now) c.requires.rests
 
 pub take_turn-requires-clause-thread : goal.take_turn-requires-clause-thread
 take_turn-requires-clause-thread c =
@@ -20,3 +24,8 @@ returns-clause-run c =
     alone_ends c.args.thread c.args.world.now c.loop.world c.take_turn.new.world (string_bytes c.args.text.now) (string_bytes c.loop.text)
     (string_bytes c.take_turn.new.text)
     c.loop.invariant c.in_ok-take_turn.ensures.run
+
+pub returns-clause-over : goal.returns-clause-over
+returns-clause-over c =
+    still_over c.args.thread c.loop.world c.take_turn.new.world (string_bytes c.loop.text) (string_bytes c.take_turn.new.text)
+    c.in_ok-take_turn.ensures.run (sym c.in_ok-take_turn.ensures.acted ∙ c.if-branch.false)

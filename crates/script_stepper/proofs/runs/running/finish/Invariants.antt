@@ -1,6 +1,6 @@
 use Rattle.std.proofs.Common.{◌-◌}
 use Rattle.std.specs.Prelude.{string_bytes}
-use Rattle.step_core.specs.Worlds.{scene}
+use Rattle.step_core.specs.Worlds.{abstraction}
 use Rattle.script_stepper.specs.Running.{turns_left}
 use Rattle.script_stepper.proofs.RunLemmas.{Alone}
 use Rattle.script_stepper.proofs.runs.running.finish.Given as goal
@@ -9,4 +9,4 @@ abbrev pub invariant-loop : goal.invariant-loop
 invariant-loop l = Alone l.thread l.fn.world l.world (string_bytes l.fn.text) (string_bytes l.text)
 
 abbrev pub decreases-loop : goal.decreases-loop
-decreases-loop l = turns_left (l.thread - 1) (scene l.world)
+decreases-loop l = turns_left (l.thread - 1) (abstraction l.world)

@@ -2,8 +2,11 @@ use Rattle.std.proofs.Common.{arith, get_or, length, ◌<◌}
 use Rattle.std.specs.Prelude.{string_bytes}
 use Rattle.std.proofs.lemmas.List.Elements.{All-get_or}
 use Rattle.script_stepper.specs.Running.{IsThread}
-use Rattle.script_stepper.proofs.RunLemmas.{run_more, run_thread}
+use Rattle.script_stepper.proofs.RunLemmas.{run_more, run_none, run_thread}
 use Rattle.script_stepper.proofs.runs.running.take_turns.Goals as goal
+
+pub loop-thread-init : goal.loop-thread-init
+loop-thread-init c = run_none c.args.world.now (string_bytes c.args.text.now) c.requires.rests
 
 pub take_turn-requires-clause-thread : goal.take_turn-requires-clause-thread
 take_turn-requires-clause-thread c =

@@ -1,4 +1,4 @@
-use Rattle.script_text.specs.Beginnings.{script_sight}
+use Rattle.script_text.specs.Beginnings.{script_world_state}
 use Rattle.script_stepper.specs.Runs.{IsFineText}
 use Rattle.script_stepper.proofs.Answering.{steps_syntax, steps_turns, steps_runs}
 use Rattle.script_stepper.proofs.Interleaving.{interleaves}
@@ -18,7 +18,7 @@ returns-clause-runs g c =
     λ threads listed h l. steps_runs IsFineText c.args.script.now c.args.turns.now c.deliver.result _ _ threads listed c.deliver.ensures.holds h l
 
 pub returns-clause-one : goal.returns-clause-one
-returns-clause-one g c = λ threads listed text other p q. one_text listed (script_sight threads) text other p q
+returns-clause-one g c = λ threads listed text other p q. one_text listed (script_world_state threads) text other p q
 
 pub returns-clause-interleaves : goal.returns-clause-interleaves
 returns-clause-interleaves g c = λ threads listed text told. interleaves threads listed text told

@@ -1,6 +1,6 @@
 use Rattle.std.proofs.Common.{ℕ, subst, sym}
 use Rattle.std.specs.Prelude.{◌≤◌, All, string_bytes}
-use Rattle.step_core.specs.Worlds.{Sight}
+use Rattle.step_core.specs.Worlds.{WorldState}
 use Rattle.script_stepper.specs.Runs.{IsShown}
 use Rattle.script_stepper.proofs.runs.stepping.run.Goals as goal
 
@@ -10,4 +10,4 @@ text_of-requires-clause-threads c =
 
 pub returns-in-Ok-clause-ok : goal.returns-in-Ok-clause-ok
 returns-in-Ok-clause-ok c =
-    subst (λ (u : Sight). IsShown c.args.pace c.args.turns.now u (string_bytes c.in-Ok.text)) c.in_ok-world.ensures.sight c.in-Ok.ensures
+    subst (λ (u : WorldState). IsShown c.args.pace c.args.turns.now u (string_bytes c.in-Ok.text)) c.in_ok-world.ensures.world_state c.in-Ok.ensures

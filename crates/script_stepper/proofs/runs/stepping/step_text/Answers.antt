@@ -1,6 +1,6 @@
 use Rattle.script_stepper.specs.Runs.{IsRunText}
 use Rattle.script_stepper.proofs.Answering.{steps_syntax, steps_turns, steps_runs}
-use Rattle.script_text.specs.Beginnings.{script_scene}
+use Rattle.script_text.specs.Beginnings.{script_abstraction}
 use Rattle.script_stepper.proofs.Following.{turns_follow}
 use Rattle.script_stepper.proofs.OneTrace.{one_turn_text}
 use Rattle.script_stepper.proofs.runs.stepping.step_text.Goals as goal
@@ -18,7 +18,7 @@ returns-clause-runs g c =
     λ threads listed h l. steps_runs IsRunText c.args.script.now c.args.turns.now c.deliver.result _ _ threads listed c.deliver.ensures.holds h l
 
 pub returns-clause-one : goal.returns-clause-one
-returns-clause-one g c = λ threads listed text other p q. one_turn_text listed (script_scene threads) text other p q
+returns-clause-one g c = λ threads listed text other p q. one_turn_text listed (script_abstraction threads) text other p q
 
 pub returns-clause-acts : goal.returns-clause-acts
 returns-clause-acts g c = λ threads listed text told. turns_follow threads listed told.items told.last told.trace

@@ -17,5 +17,5 @@ put_closing-requires-clause-all c =
 pub returns : goal.returns
 returns c =
     shown_text c.args.turns.now c.args.world.now c.run_turns.new.world (string_bytes c.new-text.result) (string_bytes c.run_turns.new.text)
-    (string_bytes c.put_closing.new.text) c.new-text.ensures.bytes c.in_ok-run_turns.ensures.run c.in_ok-run_turns.ensures.over c.requires.kept
+    (string_bytes c.put_closing.new.text) c.new-text.ensures.bytes c.in_ok-run_turns.ensures.run c.in_ok-run_turns.ensures.over
     c.in_ok-put_closing.ensures

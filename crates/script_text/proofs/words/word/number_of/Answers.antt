@@ -1,11 +1,8 @@
-use Rattle.std.proofs.Common.{rules}
-use Rattle.script_text.proofs.WordLemmas.{digits_utf8, no_number}
+use Rattle.text_lines.proofs.NumberLemmas.{none_given, some_given}
 use Rattle.script_text.proofs.words.word.number_of.Goals as goal
 
-pub returns-in_default : goal.returns-in_default
-returns-in_default c = absurd (c.in_default.ensures.cases.0 (digits_utf8 c.args.word.now (search rules)))
+pub returns-in-Some : goal.returns-in-Some
+returns-in-Some c = some_given c.args.word.now c.in-Some.number _ c.in-Some.ensures
 
-pub returns-in-Err : goal.returns-in-Err
-returns-in-Err c =
-    no_number c.args.word.now c.in-Ok.text.now c.in-Ok.ensures.cases.0 (search rules)
-    c.in-Err.ensures.value.0
+pub returns-in-None : goal.returns-in-None
+returns-in-None c = none_given c.args.word.now _ c.in-None.ensures

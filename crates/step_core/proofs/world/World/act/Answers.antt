@@ -29,7 +29,7 @@ returns-clause-plays c =
     subst (λ (t : Turned). Plays c.args.number c.args.self.now t s.new.self) (sym c.turned.ensures)
     (plays c.args.number c.args.self.now s.new.self s.result (sym c.is_acting.ensures ∙ c.if-is_acting.false)
     c.requires.rested s.ensures.was
-    s.ensures.steps s.ensures.never (sym c.is_acting-2.ensures ∙ c.if-is_acting-2.false))
+    s.ensures.steps s.ensures.never s.ensures.kept (sym c.is_acting-2.ensures ∙ c.if-is_acting-2.false))
 
 pub returns-clause-goes : goal.returns-clause-goes
 returns-clause-goes c =

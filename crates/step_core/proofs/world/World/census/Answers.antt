@@ -2,8 +2,8 @@ use Rattle.std.proofs.Common.{◌≡◌, subst, sym}
 use Rattle.std.specs.Prelude.{None, Option}
 use Rattle.control_word.specs.declared.packed.counts.Counts.{Counts}
 use Rattle.control_word.specs.State.{IsVacant}
-use Rattle.step_table.specs.Stories.{Kept, story_state}
-use Rattle.step_core.specs.Worlds.{Sight}
+use Rattle.step_table.specs.GhostStates.{Kept, model_state}
+use Rattle.step_core.specs.Worlds.{WorldState}
 use Rattle.step_core.proofs.telling.Census.{census_now, none_vacant}
 use Rattle.step_core.proofs.world.World.census.Goals as goal
 
@@ -18,7 +18,7 @@ returns-clause-vacant c =
     let e = census_now c.args.self.now c.self.inside.table c.self.inside.threads.items c.self.inside.made c.self.inside.ended c.args.block.0
     c.word.result c.word-2.result c.counted.result c.self.view_is c.self.invariant.0 c.self.invariant.1 c.known.ensures c.requires.end c.requires.some
     c.requires.within c.word.ensures c.word-2.ensures c.counted.ensures in
-    let s = story_state c.args.self.now.story in
+    let s = model_state c.args.self.now.ghost_state in
     let b = c.args.block.0 in
     subst (λ (r : Option Counts). (r ≡ None → IsVacant s b) × (IsVacant s b → r ≡ None)) (sym e)
-    (none_vacant c.args.self.now.story b (subst (λ (u : Sight). Kept u.story) c.self.view_is c.known.ensures))
+    (none_vacant c.args.self.now.ghost_state b (subst (λ (u : WorldState). Kept u.ghost_state) c.self.view_is c.known.ensures))

@@ -2,13 +2,13 @@ use Rattle.std.proofs.Common.{◌∙◌, List, ap}
 use Rattle.std.specs.List.{list_any}
 use Rattle.step_threads.specs.declared.thread.Thread.{Thread}
 use Rattle.step_core.specs.Showing.{ends_in, is_ending_in}
-use Rattle.step_core.specs.Worlds.{Sight}
+use Rattle.step_core.specs.Worlds.{WorldState}
 use Rattle.step_core.proofs.telling.Between.{ends_map}
 use Rattle.step_core.proofs.world.World.ends.Goals as goal
 
 pub returns : goal.returns
 returns c =
     c.end_in.ensures
-    ∙ ap (λ (l : List Thread). list_any (λ (t : Thread). is_ending_in c.args.block.0 t.course.endings.list) l) c.as_slice.ensures.value
+    ∙ ap (λ (l : List Thread). list_any (λ (t : Thread). is_ending_in c.args.block.0 t.frame.endings.list) l) c.as_slice.ensures.value
     ∙ ends_map c.args.block.0 c.self.inside.threads.items
-    ∙ ap (λ (u : Sight). ends_in c.args.block.0 u.walks) c.self.view_is
+    ∙ ap (λ (u : WorldState). ends_in c.args.block.0 u.frame_views) c.self.view_is

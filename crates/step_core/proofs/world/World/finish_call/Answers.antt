@@ -5,7 +5,7 @@ use Rattle.step_core.proofs.runs.Measures.{Falls, before_end}
 use Rattle.step_core.proofs.world.World.finish_call.Goals as goal
 
 module _ (c : goal.After-add) where
-  inside : c.args.number < length c.loop-self.self.walks
+  inside : c.args.number < length c.loop-self.self.frame_views
   inside = let a = c.loop-self.invariant.on.actors in let w = c.requires.within in omega (arith, a, w)
 
   goes : is_calling (call_under_way c.args.number c.args.self.now) c.loop-self.self c.args.number ≡ true

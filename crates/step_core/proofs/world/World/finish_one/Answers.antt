@@ -1,15 +1,15 @@
 use Rattle.std.proofs.Common.{◌<◌, length, ap, arith}
-use Rattle.step_threads.specs.declared.half.Half.{Half}
+use Rattle.step_threads.specs.declared.pending_call.PendingCall.{PendingCall}
 use Rattle.step_core.specs.Bounds.{alone, most_steps, spare}
-use Rattle.step_threads.specs.Scenes.{walk_of}
-use Rattle.step_core.specs.Worlds.{scene}
+use Rattle.step_threads.specs.AbstractStates.{frame_of}
+use Rattle.step_core.specs.Worlds.{abstraction}
 use Rattle.step_core.proofs.runs.Chains.{on_end, on_more}
 use Rattle.step_core.proofs.runs.Measures.{Falls, at_end, before_end}
 use Rattle.step_core.proofs.world.World.finish_one.Goals as goal
 
 module _ (c : goal.After-add) where
   -- the thread is one of the world's all along
-  inside : c.args.number < length c.loop-stepped.self.walks
+  inside : c.args.number < length c.loop-stepped.self.frame_views
   inside = let a = c.loop-stepped.invariant.on.actors in let w = c.requires.within in omega (arith, a, w)
 
   one_less : Falls c.args.number c.loop-stepped.self c.advance.new.self
@@ -61,8 +61,8 @@ pub returns-in-Done-clause-room : goal.returns-in-Done-clause-room
 returns-in-Done-clause-room c =
     let e = at_end c.args.number c.loop-stepped.self c.advance.new.self c.in-Done.ensures.was c.in-Done.ensures.steps in
     let u = c.loop-stepped.self in
-    let a = ap (λ (h : Half). alone u.story (walk_of (scene u) c.args.number) h) e.1.half in
-    let s = ap spare e.1.half in
+    let a = ap (λ (h : PendingCall). alone u.ghost_state (frame_of (abstraction u) c.args.number) h) e.1.pending_call in
+    let s = ap spare e.1.pending_call in
     let m = ap most_steps e.0 in
     let r = c.loop-stepped.invariant.room in
     omega (arith, a, s, m, r)

@@ -15,7 +15,7 @@ loop-turn-preserved c =
     let lt = c.loop-turn-test.true in
     let turn = get_or c.args.turns.now c.loop-turn.turn-index 0 in
     let x : TraceStep = record { actor = turn; stepped = c.advance-stepped.result } in
-    let named = All-get_or (NamesActor (length c.args.self.now.walks)) c.args.turns.now c.loop-turn.turn-index 0 lt c.requires.named in
+    let named = All-get_or (NamesActor (length c.args.self.now.frame_views)) c.args.turns.now c.loop-turn.turn-index 0 lt c.requires.named in
     let advances = subst (λ (n : ℕ). Advances (n - 1) c.loop-turn.self c.advance-stepped.result c.advance-stepped.new.self) c.from.ensures s.advances in
     let low = named.0 in
     let high = named.1 in

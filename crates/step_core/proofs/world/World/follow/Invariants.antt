@@ -11,6 +11,6 @@ invariant-loop-turn l = record {
   numbers : map (λ (x : TraceStep). x.actor) l.steps.items ≡ take l.turn-index l.turns;
   moves : All MovesOn l.steps.items;
   len : vec_len l.steps ≡ l.turn-index;
-  room : length l.turns + most_steps l.self + 6 * length l.self.walks ≤ vec_capacity l.steps;
-  actors : length l.self.walks ≡ length l.initial.self.walks;
+  room : length l.turns + most_steps l.self + 6 * length l.self.frame_views ≤ vec_capacity l.steps;
+  actors : length l.self.frame_views ≡ length l.initial.self.frame_views;
 }

@@ -1,13 +1,13 @@
 use Rattle.std.proofs.Common.{◌-◌, ◌<◌, length, ap, arith}
 use Rattle.std.proofs.lemmas.List.{length-map}
-use Rattle.step_core.specs.Worlds.{Sight, thread_walk}
+use Rattle.step_core.specs.Worlds.{WorldState, thread_frame}
 use Rattle.step_core.proofs.Worlds.{some_slots}
 use Rattle.step_core.proofs.world.World.in_hand.Goals as goal
 
 pub hand-requires : goal.hand-requires
 hand-requires c =
-    let l = ap (λ (u : Sight). length u.walks) c.self.view_is in
-    let m = length-map c.self.inside.threads.items thread_walk in
+    let l = ap (λ (u : WorldState). length u.frame_views) c.self.view_is in
+    let m = length-map c.self.inside.threads.items thread_frame in
     let f = c.from.ensures in
     let lt : c.from.result - 1 < length c.self.inside.threads.items = omega (arith, l, m, f, c.requires.some, c.requires.within) in
     some_slots c.self.inside.table c.self.inside.threads.items (c.from.result - 1) c.index.result.now c.self.invariant.0 lt
@@ -15,8 +15,8 @@ hand-requires c =
 
 pub get-requires : goal.get-requires
 get-requires c =
-    let l = ap (λ (u : Sight). length u.walks) c.self.view_is in
-    let m = length-map c.self.inside.threads.items thread_walk in
+    let l = ap (λ (u : WorldState). length u.frame_views) c.self.view_is in
+    let m = length-map c.self.inside.threads.items thread_frame in
     let f = c.from.ensures in
     let lt : c.from.result - 1 < length c.self.inside.threads.items = omega (arith, l, m, f, c.requires.some, c.requires.within) in
     let some = some_slots c.self.inside.table c.self.inside.threads.items (c.from.result - 1) c.index.result.now c.self.invariant.0 lt

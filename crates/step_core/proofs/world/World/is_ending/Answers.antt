@@ -1,20 +1,20 @@
 use Rattle.std.proofs.Common.{◌<◌, length, ap, arith}
 use Rattle.std.proofs.lemmas.List.{length-map}
-use Rattle.step_core.specs.Worlds.{Sight, thread_walk}
+use Rattle.step_core.specs.Worlds.{WorldState, thread_frame}
 use Rattle.step_core.proofs.Worlds.{some_slots}
 use Rattle.step_core.proofs.world.World.is_ending.Goals as goal
 
 pub hand-requires : goal.hand-requires
 hand-requires c =
-    let l = ap (λ (u : Sight). length u.walks) c.self.view_is in
-    let m = length-map c.self.inside.threads.items thread_walk in
+    let l = ap (λ (u : WorldState). length u.frame_views) c.self.view_is in
+    let m = length-map c.self.inside.threads.items thread_frame in
     let lt : c.args.number < length c.self.inside.threads.items = omega (arith, l, m, c.requires) in
     some_slots c.self.inside.table c.self.inside.threads.items c.args.number c.index.result.now c.self.invariant.0 lt c.index.ensures
 
 pub is_full-requires : goal.is_full-requires
 is_full-requires c =
-    let l = ap (λ (u : Sight). length u.walks) c.self.view_is in
-    let m = length-map c.self.inside.threads.items thread_walk in
+    let l = ap (λ (u : WorldState). length u.frame_views) c.self.view_is in
+    let m = length-map c.self.inside.threads.items thread_frame in
     let lt : c.args.number < length c.self.inside.threads.items = omega (arith, l, m, c.requires) in
     let some = some_slots c.self.inside.table c.self.inside.threads.items c.args.number c.index.result.now c.self.invariant.0 lt c.index.ensures in
     let h = c.hand.ensures in

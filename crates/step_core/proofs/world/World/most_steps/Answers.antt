@@ -2,7 +2,7 @@ use Rattle.std.proofs.Common.{◌+◌, ◌-◌, ◌*◌, ◌≤◌, ◌≡◌, L
 use Rattle.std.specs.Prelude.{Some, slice_get, sum_by}
 use Rattle.step_threads.specs.declared.thread.Thread.{Thread}
 use Rattle.step_core.specs.Bounds.{living, most_steps, steps_of}
-use Rattle.step_core.specs.Worlds.{Sight}
+use Rattle.step_core.specs.Worlds.{WorldState}
 use Rattle.step_core.proofs.runs.Tasks.{enough, few_steps, few_threads, within}
 use Rattle.step_core.proofs.world.World.most_steps.Goals as goal
 
@@ -44,7 +44,7 @@ overflow_add-result-2 c = let f = few c in omega (arith, f)
 pub returns-clause-enough : goal.returns-clause-enough
 returns-clause-enough c =
     let e = enough c.self.inside.table c.self.inside.threads.items in
-    let v = ap (λ (u : Sight). most_steps u + 6 * length u.walks) c.self.view_is in
+    let v = ap (λ (u : WorldState). most_steps u + 6 * length u.frame_views) c.self.view_is in
     let w = ap living c.self.view_is in
     let y = lives c in
     let t = c.steps_left.ensures in

@@ -1,5 +1,6 @@
-use Rattle.step_core.proofs.turning.Resting.{on_less, on_step}
-use Rattle.std.proofs.Common.{sym, ◌∙◌}
+use Rattle.step_core.proofs.turning.Resting.{on_step, rest_first}
+use Rattle.std.proofs.Common.{sym, ◌∙◌, arith}
+use Rattle.step_core.proofs.runs.Measures.{before_end}
 use Rattle.step_core.proofs.world.World.rest.Goals as goal
 
 pub loop-self-preserved : goal.loop-self-preserved
@@ -10,5 +11,8 @@ loop-self-preserved c =
 
 pub loop-self-smaller : goal.loop-self-smaller
 loop-self-smaller c =
-    on_less c.args.number c.loop-self.self c.advance.new.self c.advance.result c.advance.ensures.was (sym c.has_rest.ensures ∙ c.loop-self-test.true)
-    c.advance.ensures.steps
+    let s = c.advance.ensures in
+    let a = c.loop-self.invariant.actors in
+    let w = c.requires in
+    (before_end c.args.number c.loop-self.self c.advance.new.self c.advance.result s.was s.kept (omega (arith, a, w)) s.steps
+    (λ done. rest_first c.args.number c.loop-self.self (sym c.has_rest.ensures ∙ c.loop-self-test.true) (s.advances.takes.over.0 done)) s.never).own

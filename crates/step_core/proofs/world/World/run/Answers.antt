@@ -1,6 +1,6 @@
 use Rattle.std.proofs.Common.{ℕ, List, ◌++◌, length, ap, subst, sym, ◌∙◌, arith}
 use Rattle.step_core.specs.declared.trace.TraceStep.{TraceStep}
-use Rattle.step_core.specs.Sights.{Sight}
+use Rattle.step_core.specs.WorldStates.{WorldState}
 use Rattle.step_core.proofs.following.Chains.{follows}
 use Rattle.step_core.proofs.runs.Calls.{settled_run}
 use Rattle.step_core.proofs.runs.Calming.{AllCalm, all_calm, none_pays}
@@ -8,7 +8,7 @@ use Rattle.step_core.proofs.runs.Chains.{moves_on, whole}
 use Rattle.step_core.proofs.runs.Ends.{at_end}
 use Rattle.step_core.proofs.runs.Extents.{extent_run}
 use Rattle.step_core.specs.Runs.{IsRun, NonePays, RunInOrder, RunsToEnd, SettleInOrder, Settles}
-use Rattle.step_table.specs.Stories.{Kept}
+use Rattle.step_table.specs.GhostStates.{Kept}
 use Rattle.step_core.specs.Totals.{IsAtEnd}
 use Rattle.step_core.proofs.runs.Taking.{all_hold, all_idle}
 use Rattle.step_core.proofs.runs.Through.{Goes, through}
@@ -42,22 +42,22 @@ module _ (c : goal.After-known-3) where
       let threads = c.self-2.inside.threads.items in
       let adds = c.settle.ensures.adds in
       let actors = c.settle.ensures.actors in
-      let each = all_calm (length c.follow.new.self.walks) c.follow.new.self c.settle.new.self adds.added adds.run in
+      let each = all_calm (length c.follow.new.self.frame_views) c.follow.new.self c.settle.new.self adds.added adds.run in
       subst NonePays c.self-2.view_is
       (none_pays c.self-2.inside.table threads c.self-2.invariant.0 c.self-2.invariant.1.threads c.known-2.ensures
-      (subst (λ (u : Sight). AllCalm (length u.walks) u) (sym c.self-2.view_is)
+      (subst (λ (u : WorldState). AllCalm (length u.frame_views) u) (sym c.self-2.view_is)
       (λ e lt. each e (omega (arith, lt, actors)))))
 
   -- each thread is at its end
   ends : IsAtEnd c.finish.new.self
   ends =
       let actors = c.finish.ensures.actors in
-      let told = c.self-3.invariant.1.halves in
-      let walks = ap (λ (u : Sight). length u.walks) c.self-3.view_is in
-      let halves = ap (λ (u : Sight). length u.halves) c.self-3.view_is in
-      at_end (length c.settle.new.self.walks) c.settle.new.self c.finish.new.self c.finish.ensures.adds.added
+      let told = c.self-3.invariant.1.pending_calls in
+      let frame_views = ap (λ (u : WorldState). length u.frame_views) c.self-3.view_is in
+      let pending_calls = ap (λ (u : WorldState). length u.pending_calls) c.self-3.view_is in
+      at_end (length c.settle.new.self.frame_views) c.settle.new.self c.finish.new.self c.finish.ensures.adds.added
       c.finish.ensures.adds.run actors
-      (omega (arith, actors, told, walks, halves))
+      (omega (arith, actors, told, frame_views, pending_calls))
 
 pub returns-clause-extent : goal.returns-clause-extent
 returns-clause-extent c = extent_run c.args.self.now c.finish.new.self c.finish.new.steps.items (all c)
@@ -90,9 +90,9 @@ returns-clause-scheduled c =
 
 pub returns-clause-moves : goal.returns-clause-moves
 returns-clause-moves c =
-    moves_on (RunInOrder (length c.settle.new.self.walks)) c.settle.new.self c.finish.new.self
+    moves_on (RunInOrder (length c.settle.new.self.frame_views)) c.settle.new.self c.finish.new.self
     c.settle.new.steps.items c.finish.new.steps.items
-    (moves_on (SettleInOrder (length c.follow.new.self.walks)) c.follow.new.self c.settle.new.self
+    (moves_on (SettleInOrder (length c.follow.new.self.frame_views)) c.follow.new.self c.settle.new.self
     c.follow.new.steps.items c.settle.new.steps.items
     c.follow.ensures.moves c.settle.ensures.adds) c.finish.ensures.adds
 
@@ -102,7 +102,7 @@ returns-clause-headline c =
 
 pub returns-clause-rest : goal.returns-clause-rest
 returns-clause-rest c = λ b inside.
-    at_rest c.finish.new.self.story b (subst (λ (u : Sight). Kept u.story) c.self-3.view_is c.known-3.ensures)
+    at_rest c.finish.new.self.ghost_state b (subst (λ (u : WorldState). Kept u.ghost_state) c.self-3.view_is c.known-3.ensures)
     (still_now c.finish.new.self c.self-3.inside.table c.self-3.inside.threads.items c.self-3.inside.made
     c.self-3.inside.ended c.self-3.view_is
     c.self-3.invariant.0 c.self-3.invariant.1 (ends c))

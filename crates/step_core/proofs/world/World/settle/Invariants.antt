@@ -6,6 +6,6 @@ use Rattle.step_core.proofs.world.World.settle.Given as goal
 abbrev pub invariant-loop-number : goal.invariant-loop-number
 invariant-loop-number l = record {
   adds : AddsRun (SettleInOrder l.number) l.initial.self l.initial.steps.items l.self l.steps.items;
-  room : vec_len l.steps + most_steps l.self + 6 * length l.initial.self.walks ≤ vec_capacity l.steps + 3 * l.number;
-  actors : length l.self.walks ≡ length l.initial.self.walks;
+  room : vec_len l.steps + most_steps l.self + 6 * length l.initial.self.frame_views ≤ vec_capacity l.steps + 3 * l.number;
+  actors : length l.self.frame_views ≡ length l.initial.self.frame_views;
 }

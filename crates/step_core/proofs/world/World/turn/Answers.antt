@@ -1,5 +1,5 @@
 use Rattle.std.proofs.Common.{◌-◌, ℕ, subst}
-use Rattle.step_core.specs.Sights.{AllHold}
+use Rattle.step_core.specs.WorldStates.{AllHold}
 use Rattle.step_core.specs.Worlds.{GoesTo, TakesWholeTurn}
 use Rattle.step_core.proofs.runs.Extents.{extent_goes}
 use Rattle.step_core.proofs.runs.Taking.{all_hold}

@@ -1,8 +1,8 @@
 use Rattle.std.proofs.Common.{refl, sym, subst, ◌∙◌, ap, cond}
-use Rattle.step_table.specs.Deeds.{alias, aliased}
-use Rattle.step_table.specs.Holdings.{owner_slot, place_in, slot_pointer}
+use Rattle.step_table.specs.AtomicSteps.{alias, aliased}
+use Rattle.step_table.specs.Registers.{owner_slot, place_in, slot_pointer}
 use Rattle.step_threads.specs.Threads.{FitsThread}
-use Rattle.step_threads.specs.declared.half.Half.{Half}
+use Rattle.step_threads.specs.declared.pending_call.PendingCall.{PendingCall}
 use Rattle.step_threads.proofs.StoreFits.{fits_done}
 use Rattle.step_threads.specs.declared.said.Said.{Said}
 use Rattle.step_threads.specs.declared.said.Stepped.TheVariants.{Event, Quiet}
@@ -17,16 +17,17 @@ returns-clause-fits c =
     let d = c.args.desk in
     let t = c.args.self.now in
     let v = c.args.table.now in
-    let slots = t.course.holdings.slots.items in
+    let slots = t.frame.registers.slots.items in
     let on = c.alias-event.ensures in
-    subst (λ (h : Half). FitsThread d (record { course = c.alias-event.new.self; stock = t.stock; half = h }) c.alias-event.new.table) (sym c.requires.rest)
+    subst (λ (h : PendingCall). FitsThread d (record { frame = c.alias-event.new.self; stock = t.stock; pending_call = h }) c.alias-event.new.table)
+    (sym c.requires.begins.rest)
     (fits_done (alias (aliased c.args.field (place_in slots c.args.of))) d t v c.alias-event.new.table
     (owner_slot (slot_pointer slots c.args.name)) c.alias-event.new.self
-    c.known.ensures c.requires.fits c.requires.rest c.requires.none (λ x. refl) (λ x. refl) on.table on.on)
+    c.known.ensures c.requires.begins.fits c.requires.begins.rest c.requires.begins.none (λ x. refl) (λ x. refl) on.table on.on)
 
 pub alias-event-requires-clause-can : goal.alias-event-requires-clause-can
 alias-event-requires-clause-can c =
-    let r = c.requires in can_act c.args.desk c.args.self.now c.args.table.now r.fits r.rest r.none r.within
+    let r = c.requires in can_act c.args.desk c.args.self.now c.args.table.now r.begins
 
 pub returns-clause-stepped : goal.returns-clause-stepped
 returns-clause-stepped c =
@@ -34,10 +35,10 @@ returns-clause-stepped c =
     let t = c.args.self.now in
     let v = c.args.table.now in
     let r = c.requires in
-    let slots = t.course.holdings.slots.items in
+    let slots = t.frame.registers.slots.items in
     let b = c.alias-event.result in
     let on = c.alias-event.ensures in
-    acts_on d t v r.fits r.rest r.none r.within (Alias c.args.name c.args.of c.args.field) r.act (alias (aliased c.args.field (place_in slots
+    acts_on d t v r.begins (Alias c.args.name c.args.of c.args.field) r.act (alias (aliased c.args.field (place_in slots
     c.args.of))) (owner_slot (slot_pointer slots c.args.name)) b _ _ _ _ refl refl (λ p. refl)
     (c.says.ensures ∙ ap (λ (s : Said). cond {A = Stepped} b (Event s) (Quiet s)) (c.silent.ensures ∙ ap silent c.statement-statement.ensures))
-    on.event refl on.table on.walk r.rest
+    on.event refl on.table on.frame_view r.begins.rest

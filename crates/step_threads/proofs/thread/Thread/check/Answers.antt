@@ -1,8 +1,8 @@
 use Rattle.std.proofs.Common.{◌≡◌, cond, refl, sym, ap, ◌∙◌}
 use Rattle.std.proofs.lemmas.Bool.{cond-true, cond-false}
 use Rattle.control_word.specs.declared.packed.cell.CellWord.{CellWord}
-use Rattle.step_threads.specs.declared.half.Half.{Half}
-use Rattle.step_threads.specs.declared.half.Half.TheVariants.{Rest, Refill}
+use Rattle.step_threads.specs.declared.pending_call.PendingCall.{PendingCall}
+use Rattle.step_threads.specs.declared.pending_call.PendingCall.TheVariants.{Rest, Refill}
 use Rattle.step_table.specs.declared.cell_steps.refill.Stage.TheVariants.{Checking, Lacking}
 use Rattle.step_threads.specs.declared.said.Said.{Said}
 use Rattle.step_threads.specs.declared.said.Stepped.TheVariants.{Quiet}
@@ -23,14 +23,14 @@ returns-clause-stepped c =
     let x = c.args.found in
     let y = c.shown-now.result in
     let k = c.args.statement in
-    let r = refill_here d t v Checking cell x k c.requires.fits c.requires.half in
+    let r = refill_here d t v Checking cell x k c.requires.fits c.requires.pending_call in
     let is = shows_seen v d cell y (open_shown v d cell y c.known.ensures c.requires.fits.seat r.opens c.shown-now.ensures) in
     let next = Refill Lacking cell y k in
-    let half : c.if-is_drained.self ≡ cond (is_drained x y) next Rest =
+    let pending_call : c.if-is_drained.self ≡ cond (is_drained x y) next Rest =
     elim c.if-is_drained.branch [
       | then-is_drained w ↦ w.self-is ∙ w.at_stage-self.ensures ∙ sym
           (cond-true (is_drained x y) next Rest (sym c.is_drained.ensures ∙ w.if-is_drained.true))
       | else-is_drained w ↦ w.self-is ∙ sym (cond-false (is_drained x y) next Rest (sym c.is_drained.ensures ∙ w.if-is_drained.false))
     ] in
-    refilled d t v Checking cell x k r.block _ _ _ c.requires.half r.owned (ap (λ (s : Said). Quiet s) c.silent.ensures) refl refl
-    (half ∙ ap (λ (z : CellWord). cond {A = Half} (is_drained x z) (Refill Lacking cell z k) Rest) is)
+    refilled d t v Checking cell x k r.block _ _ _ c.requires.pending_call r.owned (ap (λ (s : Said). Quiet s) c.silent.ensures) refl refl
+    (pending_call ∙ ap (λ (z : CellWord). cond {A = PendingCall} (is_drained x z) (Refill Lacking cell z k) Rest) is)

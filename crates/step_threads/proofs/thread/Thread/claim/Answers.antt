@@ -1,21 +1,21 @@
-use Rattle.step_threads.specs.declared.half.Half.TheVariants.{Making, Rest}
+use Rattle.step_threads.specs.declared.pending_call.PendingCall.TheVariants.{Making, Rest}
 use Rattle.std.proofs.Common.{sym, subst}
 use Rattle.step_threads.specs.Passing.{HasGoneOn}
-use Rattle.step_table.specs.Stories.{Story}
-use Rattle.step_threads.specs.declared.half.Half.{Half}
+use Rattle.step_table.specs.GhostStates.{GhostState}
+use Rattle.step_threads.specs.declared.pending_call.PendingCall.{PendingCall}
 use Rattle.step_threads.specs.Threads.{FitsThread, IsNext}
 use Rattle.step_threads.proofs.Threads.{fits_claim}
 use Rattle.step_threads.proofs.thread.Thread.claim.Goals as goal
 
 pub claim-requires-clause-none : goal.claim-requires-clause-none
 claim-requires-clause-none c =
-    let n : IsNext (Making c.args.block 5 c.args.differs) c.args.self.now.course =
-    subst (λ (h : Half). IsNext h c.args.self.now.course) c.requires.half c.requires.fits.next in n.2
+    let n : IsNext (Making c.args.block 5 c.args.differs) c.args.self.now.frame =
+    subst (λ (h : PendingCall). IsNext h c.args.self.now.frame) c.requires.pending_call c.requires.fits.next in n.2
 
 pub returns-clause-fits : goal.returns-clause-fits
 returns-clause-fits c =
-    subst (λ (v : Story). FitsThread c.args.desk (record { course = c.claim.new.self; stock = c.args.self.now.stock; half = Rest }) v)
+    subst (λ (v : GhostState). FitsThread c.args.desk (record { frame = c.claim.new.self; stock = c.args.self.now.stock; pending_call = Rest }) v)
     (sym c.claim.ensures.table)
     (fits_claim c.args.desk c.args.self.now c.args.table.now c.args.block c.args.differs c.args.form c.claim.new.self c.known.ensures
-    c.requires.fits c.requires.half
-    (subst (λ (v : Story). HasGoneOn c.args.desk c.args.self.now.course c.claim.new.self v) c.claim.ensures.table c.claim.ensures.on))
+    c.requires.fits c.requires.pending_call
+    (subst (λ (v : GhostState). HasGoneOn c.args.desk c.args.self.now.frame c.claim.new.self v) c.claim.ensures.table c.claim.ensures.on))

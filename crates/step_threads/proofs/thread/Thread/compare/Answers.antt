@@ -5,13 +5,13 @@ use Rattle.step_threads.specs.declared.programs.act.Act.{Act}
 use Rattle.step_threads.specs.declared.programs.act.Act.TheVariants.{Compare}
 use Rattle.step_threads.specs.declared.said.Said.{Said}
 use Rattle.step_threads.specs.declared.said.Stepped.TheVariants.{Event, Quiet}
-use Rattle.step_threads.specs.Courses.{cell_of_name, comparing, walk}
+use Rattle.step_threads.specs.Frames.{cell_of_name, comparing, frame_view}
 use Rattle.step_threads.specs.Steps.{silent, within}
-use Rattle.step_threads.specs.declared.half.Half.TheVariants.{Saw}
+use Rattle.step_threads.specs.declared.pending_call.PendingCall.TheVariants.{Saw}
 use Rattle.step_threads.specs.Threads.{IsSeenBy}
 use Rattle.step_table.specs.Contents.{as_word, compared_in, same_value}
-use Rattle.step_table.specs.Holdings.{slot_value}
-use Rattle.step_table.specs.Stories.{story_state}
+use Rattle.step_table.specs.Registers.{slot_value}
+use Rattle.step_table.specs.GhostStates.{model_state}
 use Rattle.step_threads.proofs.Acting.{can_act, differ_looks, differ_says, differ_waits, differ_went, is_loaded, looked_on, looks_bare}
 use Rattle.step_threads.proofs.Acting.{compare_goes, compare_sees, looks_full, looks_spent, sees_cell, stays_here, steps_as}
 use Rattle.step_threads.proofs.CompareSteps.{answers}
@@ -21,7 +21,7 @@ use Rattle.step_threads.proofs.thread.Thread.compare.Goals.{then-not-is_same_val
 
 pub look_to_compare-found-requires-clause-can : goal.look_to_compare-found-requires-clause-can
 look_to_compare-found-requires-clause-can c =
-    let r = c.requires in can_act c.args.desk c.args.self.now c.args.table.now r.fits r.rest r.none r.within
+    let r = c.requires in can_act c.args.desk c.args.self.now c.args.table.now r.begins
 
 pub returns-then-is_none-clause-stepped : goal.returns-then-is_none-clause-stepped
 returns-then-is_none-clause-stepped c =
@@ -31,7 +31,7 @@ returns-then-is_none-clause-stepped c =
     let r = c.requires in
     let k = c.args.name in
     let cell = c.args.cell in
-    let slots = t.course.holdings.slots.items in
+    let slots = t.frame.registers.slots.items in
     let x = c.look_to_compare-found.result in
     let look = c.look_to_compare-found.ensures in
     let bare : is_some x.owned ≡ false = c.if-is_none.ensures in
@@ -39,14 +39,14 @@ returns-then-is_none-clause-stepped c =
     ap (same_value x) (sym c.word-expected.ensures) ∙ sym c.is_same_value.ensures ∙ c.if-not-is_same_value.true in
     let neither : (is_some x.owned || same_value x (as_word (slot_value slots k))) ≡ false =
     ap (λ (b : Bool). b || same_value x (as_word (slot_value slots k))) bare ∙ differs in
-    looks_bare d t v r.fits r.rest r.none r.within (Compare k cell c.args.weak) r.act (cell_of_name (story_state v) slots cell)
+    looks_bare d t v r.begins (Compare k cell c.args.weak) r.act (cell_of_name (model_state v) slots cell)
     (Some (compared_in slots (comparing slots k c.args.weak))) x
-    (differ_looks d t v r.fits r.rest r.none r.within k cell c.args.weak r.act x look.found differs)
-    (differ_waits d t v r.fits r.rest r.none r.within k cell c.args.weak r.act x look.found differs) _ _ _ bare
+    (differ_looks d t v r.begins k cell c.args.weak r.act x look.found differs)
+    (differ_waits d t v r.begins k cell c.args.weak r.act x look.found differs) _ _ _ bare
     (ap (λ (s : Said). Event s) (c.compared.ensures ∙ ap (λ n. answers n false) c.statement-statement.ensures
-    ∙ differ_says d t v r.fits r.rest r.none r.within k cell c.args.weak r.act x look.found differs c.known.ensures))
+    ∙ differ_says d t v r.begins k cell c.args.weak r.act x look.found differs c.known.ensures))
     (look.table ∙ cond-false (is_some x.owned || same_value x (as_word (slot_value slots k))) _ _ neither)
-    (look.walk neither ∙ differ_went d t v r.fits r.rest r.none r.within k cell c.args.weak r.act x look.found differs c.known.ensures) r.rest
+    (look.frame_view neither ∙ differ_went d t v r.begins k cell c.args.weak r.act x look.found differs c.known.ensures) r.begins.rest
 
 pub returns-then-is_none-clause-fits : goal.returns-then-is_none-clause-fits
 returns-then-is_none-clause-fits c =
@@ -54,7 +54,7 @@ returns-then-is_none-clause-fits c =
     let v = c.args.table.now in
     let r = c.requires in
     let k = c.args.name in
-    let slots = t.course.holdings.slots.items in
+    let slots = t.frame.registers.slots.items in
     let x = c.look_to_compare-found.result in
     let look = c.look_to_compare-found.ensures in
     let bare : is_some x.owned ≡ false = c.if-is_none.ensures in
@@ -62,7 +62,7 @@ returns-then-is_none-clause-fits c =
     ap (same_value x) (sym c.word-expected.ensures) ∙ sym c.is_same_value.ensures ∙ c.if-not-is_same_value.true in
     let neither : (is_some x.owned || same_value x (as_word (slot_value slots k))) ≡ false =
     ap (λ (b : Bool). b || same_value x (as_word (slot_value slots k))) bare ∙ differs in
-    looked_on c.args.desk t v r.fits r.rest r.none r.within (cell_of_name (story_state v) slots c.args.cell)
+    looked_on c.args.desk t v r.begins (cell_of_name (model_state v) slots c.args.cell)
     (Some (compared_in slots (comparing slots k c.args.weak))) x c.look_to_compare-found.new.self c.look_to_compare-found.new.table c.known.ensures
     (look.table ∙ cond-false (is_some x.owned || same_value x (as_word (slot_value slots k))) _ _ neither) (look.on neither)
 
@@ -74,7 +74,7 @@ returns-then-from-eq-CELL_FUNDS-clause-stepped c =
     let r = c.requires in
     let k = c.args.name in
     let cell = c.args.cell in
-    let slots = t.course.holdings.slots.items in
+    let slots = t.frame.registers.slots.items in
     let x = c.look_to_compare-found.result in
     let look = c.look_to_compare-found.ensures in
     let full : is_some x.owned ≡ true = c.if-is_none.ensures in
@@ -82,24 +82,24 @@ returns-then-from-eq-CELL_FUNDS-clause-stepped c =
     ap (same_value x) (sym c.word-expected.ensures) ∙ sym c.is_same_value.ensures ∙ c.if-not-is_same_value.true in
     let either : (is_some x.owned || same_value x (as_word (slot_value slots k))) ≡ true =
     ap (λ (b : Bool). b || same_value x (as_word (slot_value slots k))) full in
-    looks_spent d t v r.fits r.rest r.none r.within (Compare k cell c.args.weak) r.act (cell_of_name (story_state v) slots cell)
+    looks_spent d t v r.begins (Compare k cell c.args.weak) r.act (cell_of_name (model_state v) slots cell)
     (Some (compared_in slots (comparing slots k c.args.weak))) x
-    (differ_looks d t v r.fits r.rest r.none r.within k cell c.args.weak r.act x look.found differs)
-    (differ_waits d t v r.fits r.rest r.none r.within k cell c.args.weak r.act x look.found differs) _ _ full
+    (differ_looks d t v r.begins k cell c.args.weak r.act x look.found differs)
+    (differ_waits d t v r.begins k cell c.args.weak r.act x look.found differs) _ _ full
     (eq-eqb x.taken 256 (sym c.from.ensures ∙ c.if-from-eq-CELL_FUNDS.true))
-    (look.table ∙ cond-true (is_some x.owned || same_value x (as_word (slot_value slots k))) _ _ either) (ap walk (look.stays either)) r.rest
+    (look.table ∙ cond-true (is_some x.owned || same_value x (as_word (slot_value slots k))) _ _ either) (ap frame_view (look.stays either)) r.begins.rest
 
 pub returns-then-from-eq-CELL_FUNDS-clause-fits : goal.returns-then-from-eq-CELL_FUNDS-clause-fits
 returns-then-from-eq-CELL_FUNDS-clause-fits c =
     let t = c.args.self.now in
     let r = c.requires in
-    let slots = t.course.holdings.slots.items in
+    let slots = t.frame.registers.slots.items in
     let x = c.look_to_compare-found.result in
     let look = c.look_to_compare-found.ensures in
     let full : is_some x.owned ≡ true = c.if-is_none.ensures in
     let either : (is_some x.owned || same_value x (as_word (slot_value slots c.args.name))) ≡ true =
     ap (λ (b : Bool). b || same_value x (as_word (slot_value slots c.args.name))) full in
-    stays_here c.args.desk t c.args.table.now r.fits r.rest r.none r.within _ _ (look.stays either)
+    stays_here c.args.desk t c.args.table.now r.begins _ _ (look.stays either)
     (look.table ∙ cond-true (is_some x.owned || same_value x (as_word (slot_value slots c.args.name))) _ _ either)
 
 pub returns-clause-stepped : goal.returns-clause-stepped
@@ -110,12 +110,12 @@ returns-clause-stepped c =
     let r = c.requires in
     let k = c.args.name in
     let cell = c.args.cell in
-    let slots = t.course.holdings.slots.items in
+    let slots = t.frame.registers.slots.items in
     let x = c.look_to_compare-found.result in
     let look = c.look_to_compare-found.ensures in
     let same = same_value x (as_word (slot_value slots k)) in
     let says = ap (λ (s : Said). Quiet s) (c.silent.ensures ∙ ap silent c.statement-statement.ensures) in
-    let at = cell_of_name (story_state v) slots cell in
+    let at = cell_of_name (model_state v) slots cell in
     let y = compared_in slots (comparing slots k c.args.weak) in
     elim c.if-not-is_same_value.branch [
       | then-not-is_same_value+else-is_none+else-from-eq-CELL_FUNDS w ↦
@@ -123,19 +123,19 @@ returns-clause-stepped c =
           let differs : same ≡ false =
           ap (same_value x) (sym c.word-expected.ensures) ∙ sym c.is_same_value.ensures ∙ w.if-not-is_same_value.true in
           let either : (is_some x.owned || same) ≡ true = ap (λ (b : Bool). b || same) full in
-          looks_full d t v r.fits r.rest r.none r.within (Compare k cell c.args.weak) r.act at (Some y) x
-          (differ_looks d t v r.fits r.rest r.none r.within k cell c.args.weak r.act x look.found differs)
-          (differ_waits d t v r.fits r.rest r.none r.within k cell c.args.weak r.act x look.found differs) _ _ _ full
+          looks_full d t v r.begins (Compare k cell c.args.weak) r.act at (Some y) x
+          (differ_looks d t v r.begins k cell c.args.weak r.act x look.found differs)
+          (differ_waits d t v r.begins k cell c.args.weak r.act x look.found differs) _ _ _ full
           (ne_eqb x.taken 256 (λ e. w.if-from-eq-CELL_FUNDS.false (w.from.ensures ∙ e))) says
-          (look.table ∙ cond-true (is_some x.owned || same) _ _ either) (ap walk (look.stays either)) refl
+          (look.table ∙ cond-true (is_some x.owned || same) _ _ either) (ap frame_view (look.stays either)) refl
       | else-not-is_same_value w ↦
           let alike : same ≡ true =
           ap (same_value x) (sym c.word-expected.ensures) ∙ sym c.is_same_value.ensures ∙ w.if-not-is_same_value.false in
           let either : (is_some x.owned || same) ≡ true = or_right (is_some x.owned) same alike in
-          steps_as d t v r.fits r.rest r.none r.within (Compare k cell c.args.weak) r.act (within (walk t.course) _ None (Saw x)) _ _ _
-          (compare_sees d t v r.fits r.rest r.none r.within k cell c.args.weak r.act x look.found alike)
-          (compare_goes d t v r.fits r.rest r.none r.within k cell c.args.weak r.act x look.found alike) says
-          (look.table ∙ cond-true (is_some x.owned || same) _ _ either) (ap walk (look.stays either)) refl
+          steps_as d t v r.begins (Compare k cell c.args.weak) r.act (within (frame_view t.frame) _ None (Saw x)) _ _ _
+          (compare_sees d t v r.begins k cell c.args.weak r.act x look.found alike)
+          (compare_goes d t v r.begins k cell c.args.weak r.act x look.found alike) says
+          (look.table ∙ cond-true (is_some x.owned || same) _ _ either) (ap frame_view (look.stays either)) refl
     ]
 
 pub returns-clause-fits : goal.returns-clause-fits
@@ -144,7 +144,7 @@ returns-clause-fits c =
     let v = c.args.table.now in
     let r = c.requires in
     let k = c.args.name in
-    let slots = t.course.holdings.slots.items in
+    let slots = t.frame.registers.slots.items in
     let x = c.look_to_compare-found.result in
     let look = c.look_to_compare-found.ensures in
     let same = same_value x (as_word (slot_value slots k)) in
@@ -153,14 +153,14 @@ returns-clause-fits c =
           let full : is_some x.owned ≡ true = w.if-is_none.ensures in
           let either : (is_some x.owned || same) ≡ true = ap (λ (b : Bool). b || same) full in
           let few = ne_eqb x.taken 256 (λ e. w.if-from-eq-CELL_FUNDS.false (w.from.ensures ∙ e)) in
-          sees_cell c.args.desk t v r.fits r.rest r.none r.within x _ _ (look.stays either)
+          sees_cell c.args.desk t v r.begins x _ _ (look.stays either)
           (look.table ∙ cond-true (is_some x.owned || same) _ _ either) look.valid
           (subst (λ (a : Act). IsSeenBy slots x a) (sym r.act) (inr (is_loaded x look.valid full few)))
       | else-not-is_same_value w ↦
           let alike : same ≡ true =
           ap (same_value x) (sym c.word-expected.ensures) ∙ sym c.is_same_value.ensures ∙ w.if-not-is_same_value.false in
           let either : (is_some x.owned || same) ≡ true = or_right (is_some x.owned) same alike in
-          sees_cell c.args.desk t v r.fits r.rest r.none r.within x _ _ (look.stays either)
+          sees_cell c.args.desk t v r.begins x _ _ (look.stays either)
           (look.table ∙ cond-true (is_some x.owned || same) _ _ either) look.valid
           (subst (λ (a : Act). IsSeenBy slots x a) (sym r.act) (inl alike))
     ]

@@ -1,20 +1,20 @@
 use Rattle.std.proofs.Common.{◌∙◌, refl, sym, ap, subst, ℕ}
-use Rattle.step_table.specs.Holdings.{slot_pointer, is_full}
+use Rattle.step_table.specs.Registers.{slot_pointer, is_full}
 use Rattle.step_threads.specs.declared.said.Said.{Said}
 use Rattle.step_threads.proofs.Acting.{acts_on, can_act}
 use Rattle.step_threads.specs.Threads.{FitsThread}
-use Rattle.step_threads.specs.declared.half.Half.{Half}
+use Rattle.step_threads.specs.declared.pending_call.PendingCall.{PendingCall}
 use Rattle.step_threads.proofs.StoreFits.{fits_done}
 use Rattle.std.specs.Prelude.{None, Some}
 use Rattle.step_threads.specs.declared.said.Answer.TheVariants as answer
-use Rattle.step_threads.specs.Courses.{task_at}
+use Rattle.step_threads.specs.Frames.{task_at}
 use Rattle.step_threads.specs.declared.programs.act.Act.TheVariants.{Count}
-use Rattle.step_table.specs.Deeds.{tell}
+use Rattle.step_table.specs.AtomicSteps.{tell}
 use Rattle.step_threads.proofs.thread.Thread.count.Goals as goal
 
 pub count-owners-requires-clause-can : goal.count-owners-requires-clause-can
 count-owners-requires-clause-can c =
-    let r = c.requires in can_act c.args.desk c.args.self.now c.args.table.now r.fits r.rest r.none r.within
+    let r = c.requires in can_act c.args.desk c.args.self.now c.args.table.now r.begins
 
 pub returns-clause-stepped : goal.returns-clause-stepped
 returns-clause-stepped c =
@@ -22,14 +22,14 @@ returns-clause-stepped c =
     let t = c.args.self.now in
     let v = c.args.table.now in
     let r = c.requires in
-    let slots = t.course.holdings.slots.items in
+    let slots = t.frame.registers.slots.items in
     let said : ℕ → ℕ → Said = λ n m. record { statement = n; answer = Some (answer.Count m); ended = None } in
     let on' = c.count-owners.ensures in
-    acts_on d t v r.fits r.rest r.none r.within (Count c.args.name) r.act (tell v) (slot_pointer slots c.args.name) c.is_full-event.result
+    acts_on d t v r.begins (Count c.args.name) r.act (tell v) (slot_pointer slots c.args.name) c.is_full-event.result
     (said c.statement-statement.result c.count-owners.result) _ _ _ refl refl (λ p. refl) c.says.ensures
     (c.is_full-event.ensures ∙ ap (λ (i : ℕ). is_full (slot_pointer slots i)) c.from.ensures)
-    (ap (λ (n : ℕ). said n c.count-owners.result) c.statement-statement.ensures ∙ ap (said (task_at t.course).statement) on'.told)
-    on'.table on'.walk r.rest
+    (ap (λ (n : ℕ). said n c.count-owners.result) c.statement-statement.ensures ∙ ap (said (task_at t.frame).statement) on'.told)
+    on'.table on'.frame_view r.begins.rest
 
 pub returns-clause-fits : goal.returns-clause-fits
 returns-clause-fits c =
@@ -37,6 +37,7 @@ returns-clause-fits c =
     let t = c.args.self.now in
     let v = c.args.table.now in
     let on = c.count-owners.ensures in
-    subst (λ (h : Half). FitsThread d (record { course = c.count-owners.new.self; stock = t.stock; half = h }) c.count-owners.new.table) (sym c.requires.rest)
-    (fits_done (tell v) d t v c.count-owners.new.table (slot_pointer t.course.holdings.slots.items c.args.name) c.count-owners.new.self
-    c.known.ensures c.requires.fits c.requires.rest c.requires.none (λ x. refl) (λ x. refl) on.table on.on)
+    subst (λ (h : PendingCall). FitsThread d (record { frame = c.count-owners.new.self; stock = t.stock; pending_call = h }) c.count-owners.new.table)
+    (sym c.requires.begins.rest)
+    (fits_done (tell v) d t v c.count-owners.new.table (slot_pointer t.frame.registers.slots.items c.args.name) c.count-owners.new.self
+    c.known.ensures c.requires.begins.fits c.requires.begins.rest c.requires.begins.none (λ x. refl) (λ x. refl) on.table on.on)

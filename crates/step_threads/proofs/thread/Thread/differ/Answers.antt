@@ -2,23 +2,23 @@ use Rattle.std.proofs.lemmas.Grind.{common_steps}
 use Rattle.std.proofs.Common.{arith}
 use Rattle.std.proofs.Common.{ℕ, false, sym, ap, subst, ◌∙◌}
 use Rattle.std.proofs.lemmas.Bool.{cond-true}
-use Rattle.step_table.specs.declared.cell_steps.cell_deed.Cell.{Cell}
+use Rattle.step_table.specs.declared.cell_steps.cell_step.Cell.{Cell}
 use Rattle.step_table.specs.Contents.{compared_in}
 use Rattle.step_table.specs.Refills.{more_taken}
-use Rattle.step_table.specs.Stories.{Story, story_state}
+use Rattle.step_table.specs.GhostStates.{GhostState, model_state}
 use Rattle.step_table.specs.declared.cell_steps.refill.Stage.TheVariants.{Turning}
-use Rattle.step_threads.specs.declared.half.Half.{Half}
-use Rattle.step_threads.specs.declared.half.Half.TheVariants.{Refill}
+use Rattle.step_threads.specs.declared.pending_call.PendingCall.{PendingCall}
+use Rattle.step_threads.specs.declared.pending_call.PendingCall.TheVariants.{Refill}
 use Rattle.step_threads.specs.declared.said.Said.{Said}
 use Rattle.step_threads.specs.declared.said.Stepped.TheVariants.{Event}
-use Rattle.step_threads.specs.Courses.{cell_of_name, comparing, task_at}
+use Rattle.step_threads.specs.Frames.{cell_of_name, comparing, task_at}
 use Rattle.step_threads.specs.Passing.{HasGoneOn}
 use Rattle.step_threads.specs.Threads.{FitsThread}
 use Rattle.step_threads.proofs.CompareFits.{compare_taken, saw_other}
 use Rattle.step_threads.proofs.CompareSteps.{answers, differs_taken}
 use Rattle.step_threads.proofs.CompareTells.{tells_still}
 use Rattle.step_threads.proofs.LoadFits.{saw_next}
-use Rattle.step_threads.proofs.StoreFits.{half_here}
+use Rattle.step_threads.proofs.StoreFits.{pending_call_here}
 use Rattle.step_threads.proofs.thread.Thread.differ.Goals as goal
 use Rattle.step_threads.proofs.Compares.{may_compare}
 use Rattle.step_threads.proofs.Named.{named_compare}
@@ -32,15 +32,16 @@ returns-clause-stepped c =
     let r = c.requires in
     let took = c.take_differing in
     let yes = c.if-not-take_differing.false in
-    let within = (saw_next d t v x r.fits r.half).0 in
+    let within = (saw_next d t v x r.fits r.pending_call).0 in
     let same = sym took.ensures.same ∙ yes in
-    let n = (task_at t.course).statement in
-    differs_taken d t v c.args.name c.args.cell c.args.weak x within r.act r.half r.differs _ _ _ same
-    (tells_still d t v c.args.name c.args.cell c.args.weak x r.fits r.act false c.known.ensures within (half_here d t v _ r.fits r.half).1 same r.differs)
+    let n = (task_at t.frame).statement in
+    differs_taken d t v c.args.name c.args.cell c.args.weak x within r.act r.pending_call r.differs _ _ _ same
+    (tells_still d t v c.args.name c.args.cell c.args.weak x r.fits r.act false c.known.ensures within (pending_call_here d t v _ r.fits r.pending_call).1 same
+    r.differs)
     (ap (λ (s : Said). Event s) (c.compared.ensures ∙ ap (λ (m : ℕ). answers m false) c.statement-statement.ensures))
-    (took.ensures.table ∙ cond-true took.result _ _ yes) (took.ensures.walk yes)
+    (took.ensures.table ∙ cond-true took.result _ _ yes) (took.ensures.frame_view yes)
     (c.turning-self.ensures ∙ ap (λ (y : Cell). Refill Turning y (more_taken x) c.statement-statement.result) c.cell-at.ensures
-    ∙ ap (λ (m : ℕ). Refill Turning (cell_of_name (story_state v) t.course.holdings.slots.items c.args.cell) (more_taken x) m)
+    ∙ ap (λ (m : ℕ). Refill Turning (cell_of_name (model_state v) t.frame.registers.slots.items c.args.cell) (more_taken x) m)
     c.statement-statement.ensures)
 
 pub returns-clause-fits : goal.returns-clause-fits
@@ -49,36 +50,36 @@ returns-clause-fits c =
     let t = c.args.self.now in
     let v = c.args.table.now in
     let x = c.args.found in
-    let slots = t.course.holdings.slots.items in
+    let slots = t.frame.registers.slots.items in
     let r = c.requires in
     let took = c.take_differing in
     let yes = c.if-not-take_differing.false in
     let m = c.statement-statement.result in
     let table = took.ensures.table ∙ cond-true took.result _ _ yes in
-    let half = c.turning-self.ensures ∙ ap (λ (y : Cell). Refill Turning y (more_taken x) m) c.cell-at.ensures in
-    subst (λ (h : Half). FitsThread d (record { course = took.new.self; stock = t.stock; half = h }) took.new.table) (sym half)
-    (subst (λ (u : Story). FitsThread d (record {
-      course = took.new.self;
+    let pending_call = c.turning-self.ensures ∙ ap (λ (y : Cell). Refill Turning y (more_taken x) m) c.cell-at.ensures in
+    subst (λ (h : PendingCall). FitsThread d (record { frame = took.new.self; stock = t.stock; pending_call = h }) took.new.table) (sym pending_call)
+    (subst (λ (u : GhostState). FitsThread d (record {
+      frame = took.new.self;
       stock = t.stock;
-      half = Refill Turning (cell_of_name (story_state v) t.course.holdings.slots.items c.args.cell) (more_taken x) m;
+      pending_call = Refill Turning (cell_of_name (model_state v) t.frame.registers.slots.items c.args.cell) (more_taken x) m;
     }) u) (sym table)
     (compare_taken d t v c.args.name c.args.cell c.args.weak x r.fits r.act took.new.self
-    (compared_in slots (comparing slots c.args.name c.args.weak)) c.known.ensures m r.half
-    (saw_other d t v c.args.name c.args.cell c.args.weak x r.fits r.act r.half r.differs)
-    (subst (λ (u : Story). HasGoneOn d t.course took.new.self u) table (took.ensures.on yes))))
+    (compared_in slots (comparing slots c.args.name c.args.weak)) c.known.ensures m r.pending_call
+    (saw_other d t v c.args.name c.args.cell c.args.weak x r.fits r.act r.pending_call r.differs)
+    (subst (λ (u : GhostState). HasGoneOn d t.frame took.new.self u) table (took.ensures.on yes))))
 
 pub cell-at-requires-clause-named : goal.cell-at-requires-clause-named
 cell-at-requires-clause-named c =
     let t = c.args.self.now in
     let r = c.requires in
-    named_compare t.course c.args.cell (saw_next c.args.desk t c.args.table.now c.args.found r.fits r.half).0 r.fits.ready c.args.name c.args.weak r.act
+    named_compare t.frame c.args.cell (saw_next c.args.desk t c.args.table.now c.args.found r.fits r.pending_call).0 r.fits.ready c.args.name c.args.weak r.act
 
 pub cell-at-requires-clause-there : goal.cell-at-requires-clause-there
 cell-at-requires-clause-there c =
     let t = c.args.self.now in
     let r = c.requires in
-    let within = (saw_next c.args.desk t c.args.table.now c.args.found r.fits r.half).0 in
-    (may_compare t.course c.args.name c.args.cell c.args.weak within r.fits.ready r.act r.fits.still).0
+    let within = (saw_next c.args.desk t c.args.table.now c.args.found r.fits r.pending_call).0 in
+    (may_compare t.frame c.args.name c.args.cell c.args.weak within r.fits.ready r.act r.fits.still).0
 
 pub returns-then-not-take_differing-clause-stepped : goal.returns-then-not-take_differing-clause-stepped
 returns-then-not-take_differing-clause-stepped c = grind (arith, common_steps)

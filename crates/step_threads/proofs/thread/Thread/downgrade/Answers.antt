@@ -1,20 +1,20 @@
 use Rattle.std.proofs.Common.{◌∙◌, refl, sym, ap, subst, cond}
-use Rattle.step_table.specs.Holdings.{slot_pointer}
+use Rattle.step_table.specs.Registers.{slot_pointer}
 use Rattle.step_threads.specs.declared.said.Said.{Said}
 use Rattle.step_threads.specs.declared.said.Stepped.TheVariants.{Event, Quiet}
 use Rattle.step_threads.specs.declared.said.Stepped.{Stepped}
 use Rattle.step_threads.specs.Steps.{silent}
 use Rattle.step_threads.proofs.Acting.{acts_on, can_act}
 use Rattle.step_threads.specs.Threads.{FitsThread}
-use Rattle.step_threads.specs.declared.half.Half.{Half}
+use Rattle.step_threads.specs.declared.pending_call.PendingCall.{PendingCall}
 use Rattle.step_threads.proofs.StoreFits.{fits_done}
 use Rattle.step_threads.specs.declared.programs.act.Act.TheVariants.{Downgrade}
-use Rattle.step_table.specs.Deeds.{downgrade}
+use Rattle.step_table.specs.AtomicSteps.{downgrade}
 use Rattle.step_threads.proofs.thread.Thread.downgrade.Goals as goal
 
 pub downgrade-event-requires-clause-can : goal.downgrade-event-requires-clause-can
 downgrade-event-requires-clause-can c =
-    let r = c.requires in can_act c.args.desk c.args.self.now c.args.table.now r.fits r.rest r.none r.within
+    let r = c.requires in can_act c.args.desk c.args.self.now c.args.table.now r.begins
 
 pub returns-clause-stepped : goal.returns-clause-stepped
 returns-clause-stepped c =
@@ -22,12 +22,12 @@ returns-clause-stepped c =
     let t = c.args.self.now in
     let v = c.args.table.now in
     let r = c.requires in
-    let slots = t.course.holdings.slots.items in
+    let slots = t.frame.registers.slots.items in
     let b = c.downgrade-event.result in
     let on = c.downgrade-event.ensures in
-    acts_on d t v r.fits r.rest r.none r.within (Downgrade c.args.name) r.act downgrade (slot_pointer slots c.args.name) b _ _ _ _ refl refl (λ p. refl)
+    acts_on d t v r.begins (Downgrade c.args.name) r.act downgrade (slot_pointer slots c.args.name) b _ _ _ _ refl refl (λ p. refl)
     (c.says.ensures ∙ ap (λ (s : Said). cond {A = Stepped} b (Event s) (Quiet s)) (c.silent.ensures ∙ ap silent c.statement-statement.ensures))
-    on.event refl on.table on.walk r.rest
+    on.event refl on.table on.frame_view r.begins.rest
 
 pub returns-clause-fits : goal.returns-clause-fits
 returns-clause-fits c =
@@ -35,7 +35,8 @@ returns-clause-fits c =
     let t = c.args.self.now in
     let v = c.args.table.now in
     let on = c.downgrade-event.ensures in
-    subst (λ (h : Half). FitsThread d (record { course = c.downgrade-event.new.self; stock = t.stock; half = h }) c.downgrade-event.new.table) (sym
-    c.requires.rest)
-    (fits_done downgrade d t v c.downgrade-event.new.table (slot_pointer t.course.holdings.slots.items c.args.name) c.downgrade-event.new.self
-    c.known.ensures c.requires.fits c.requires.rest c.requires.none (λ x. refl) (λ x. refl) on.table on.on)
+    subst (λ (h : PendingCall). FitsThread d (record { frame = c.downgrade-event.new.self; stock = t.stock; pending_call = h }) c.downgrade-event.new.table)
+    (sym
+    c.requires.begins.rest)
+    (fits_done downgrade d t v c.downgrade-event.new.table (slot_pointer t.frame.registers.slots.items c.args.name) c.downgrade-event.new.self
+    c.known.ensures c.requires.begins.fits c.requires.begins.rest c.requires.begins.none (λ x. refl) (λ x. refl) on.table on.on)

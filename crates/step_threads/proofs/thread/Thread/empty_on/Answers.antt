@@ -1,10 +1,10 @@
 use Rattle.std.proofs.Common.{◌∙◌, ℕ, arith, drop, set, cond, sym, ap, subst}
 use Rattle.std.specs.Prelude.{is_some}
 use Rattle.control_word.specs.declared.model.handle.Kind.{Kind}
-use Rattle.step_table.specs.declared.cell_steps.cell_deed.Cell.TheVariants.{Member}
+use Rattle.step_table.specs.declared.cell_steps.cell_step.Cell.TheVariants.{Member}
 use Rattle.step_table.specs.Contents.{held_in, slot_of}
-use Rattle.step_table.specs.Holdings.{HoldsBag, slot_pointer}
-use Rattle.step_table.specs.Stories.{Story, story_state}
+use Rattle.step_table.specs.Registers.{HoldsBag, slot_pointer}
+use Rattle.step_table.specs.GhostStates.{GhostState, model_state}
 use Rattle.step_threads.specs.declared.said.Said.{Said}
 use Rattle.step_threads.specs.declared.said.Stepped.TheVariants.{Event}
 use Rattle.step_threads.specs.Steps.{gives_back}
@@ -14,18 +14,18 @@ use Rattle.step_threads.proofs.holding.Ends.{ending_here, first_is}
 use Rattle.step_threads.proofs.thread.Thread.empty_on.Goals as goal
 
 pub take_out-found-requires-clause-idle : goal.take_out-found-requires-clause-idle
-take_out-found-requires-clause-idle c = idle_clearing c.args.desk c.args.self.now c.args.table.now c.requires.fits c.requires.half
+take_out-found-requires-clause-idle c = idle_clearing c.args.desk c.args.self.now c.args.table.now c.requires.fits c.requires.pending_call
 
 pub take_out-found-requires-clause-ending : goal.take_out-found-requires-clause-ending
 take_out-found-requires-clause-ending c =
-    (ending_here c.args.desk c.args.table.now c.args.self.now.course.endings.list c.in-Some.ending c.requires.fits.endings.all
+    (ending_here c.args.desk c.args.table.now c.args.self.now.frame.endings.list c.in-Some.ending c.requires.fits.endings.all
     (sym c.first.ensures ∙ c.in-Some.is)).ending
 
 pub take_out-found-requires-clause-member : goal.take_out-found-requires-clause-member
 take_out-found-requires-clause-member c =
     let t = c.args.self.now in
-    (clearing_here t.course.holdings.slots.items t.course.endings.list c.in-Some.ending
-    (is_clearing c.args.desk t c.args.table.now c.requires.fits c.requires.half) (sym c.first.ensures ∙ c.in-Some.is)).0
+    (clearing_here t.frame.registers.slots.items t.frame.endings.list c.in-Some.ending
+    (is_clearing c.args.desk t c.args.table.now c.requires.fits c.requires.pending_call) (sym c.first.ensures ∙ c.in-Some.is)).0
 
 pub take_out-found-requires-clause-inside : goal.take_out-found-requires-clause-inside
 take_out-found-requires-clause-inside c =
@@ -34,10 +34,10 @@ take_out-found-requires-clause-inside c =
 pub take_out-found-requires-clause-empty : goal.take_out-found-requires-clause-empty
 take_out-found-requires-clause-empty c =
     let t = c.args.self.now in
-    let slots = t.course.holdings.slots.items in
+    let slots = t.frame.registers.slots.items in
     ap (slot_pointer slots) c.hand-hand.ensures
-    ∙ none_full _ (clearing_here slots t.course.endings.list c.in-Some.ending
-    (is_clearing c.args.desk t c.args.table.now c.requires.fits c.requires.half) (sym c.first.ensures ∙ c.in-Some.is)).1
+    ∙ none_full _ (clearing_here slots t.frame.endings.list c.in-Some.ending
+    (is_clearing c.args.desk t c.args.table.now c.requires.fits c.requires.pending_call) (sym c.first.ensures ∙ c.in-Some.is)).1
 
 pub advance-requires-clause-first : goal.advance-requires-clause-first
 advance-requires-clause-first c = sym c.first.ensures ∙ c.in-Some.is
@@ -45,8 +45,8 @@ advance-requires-clause-first c = sym c.first.ensures ∙ c.in-Some.is
 pub advance-requires-clause-inside : goal.advance-requires-clause-inside
 advance-requires-clause-inside c =
     let t = c.args.self.now in
-    (clearing_here t.course.holdings.slots.items t.course.endings.list c.in-Some.ending
-    (is_clearing c.args.desk t c.args.table.now c.requires.fits c.requires.half) (sym c.first.ensures ∙ c.in-Some.is)).0
+    (clearing_here t.frame.registers.slots.items t.frame.endings.list c.in-Some.ending
+    (is_clearing c.args.desk t c.args.table.now c.requires.fits c.requires.pending_call) (sym c.first.ensures ∙ c.in-Some.is)).0
 
 pub returns-clause-fits : goal.returns-clause-fits
 returns-clause-fits c =
@@ -54,21 +54,21 @@ returns-clause-fits c =
     let v = c.args.table.now in
     let d = c.args.desk in
     let e = c.in-Some.ending in
-    let slots = t.course.holdings.slots.items in
+    let slots = t.frame.registers.slots.items in
     let first = sym c.first.ensures ∙ c.in-Some.is in
     let x = c.take_out-found.result in
     let h = c.take_out-found.new.self in
-    subst (λ (u : Story). FitsThread d
-    (record { course = record t.course { holdings = h; endings = c.advance.new.self }; stock = t.stock; half = c.returning-self.result }) u)
+    subst (λ (u : GhostState). FitsThread d
+    (record { frame = record t.frame { registers = h; endings = c.advance.new.self }; stock = t.stock; pending_call = c.returning-self.result }) u)
     (sym c.take_out-found.ensures.table)
-    (fits_emptied d t v e (drop 1 t.course.endings.list) h c.advance.new.self c.returning-self.result e.statement x c.known.ensures
-    c.requires.fits c.requires.half
-    (first_is t.course.endings.list e first) (ending_here d v t.course.endings.list e c.requires.fits.endings.all first)
+    (fits_emptied d t v e (drop 1 t.frame.endings.list) h c.advance.new.self c.returning-self.result e.statement x c.known.ensures
+    c.requires.fits c.requires.pending_call
+    (first_is t.frame.endings.list e first) (ending_here d v t.frame.endings.list e c.requires.fits.endings.all first)
     c.take_out-found.ensures.found
     (c.take_out-found.ensures.slots
-    ∙ ap (λ (i : ℕ). cond (is_some x.owned) (set slots i (slot_of (story_state v) (held_in (story_state v) (Member e.block e.stage)))) slots)
+    ∙ ap (λ (i : ℕ). cond (is_some x.owned) (set slots i (slot_of (model_state v) (held_in (model_state v) (Member e.block e.stage)))) slots)
     c.hand-hand.ensures)
-    (subst (λ (u : Story). HoldsBag d h.slots.items u) c.take_out-found.ensures.table c.take_out-found.ensures.holds)
+    (subst (λ (u : GhostState). HoldsBag d h.slots.items u) c.take_out-found.ensures.table c.take_out-found.ensures.holds)
     c.advance.ensures.list c.advance.ensures.room
     (c.returning-self.ensures ∙ ap (λ (k : Kind). gives_back k e.statement x x.owned) c.kind_in-kind.ensures))
 
@@ -78,17 +78,17 @@ returns-clause-stepped c =
     let v = c.args.table.now in
     let d = c.args.desk in
     let e = c.in-Some.ending in
-    let slots = t.course.holdings.slots.items in
+    let slots = t.frame.registers.slots.items in
     let first = sym c.first.ensures ∙ c.in-Some.is in
     let x = c.take_out-found.result in
     let h = c.take_out-found.new.self in
     subst (λ (y : Said). HasStepped d t v (Event y)
-    (record { course = record t.course { holdings = h; endings = c.advance.new.self }; stock = t.stock; half = c.returning-self.result })
+    (record { frame = record t.frame { registers = h; endings = c.advance.new.self }; stock = t.stock; pending_call = c.returning-self.result })
     c.take_out-found.new.table) (sym c.silent.ensures)
-    (stepped_emptied d t v c.take_out-found.new.table e (drop 1 t.course.endings.list) h c.advance.new.self c.returning-self.result x c.requires.half
-    (first_is t.course.endings.list e first) c.take_out-found.ensures.found
+    (stepped_emptied d t v c.take_out-found.new.table e (drop 1 t.frame.endings.list) h c.advance.new.self c.returning-self.result x c.requires.pending_call
+    (first_is t.frame.endings.list e first) c.take_out-found.ensures.found
     (c.take_out-found.ensures.slots
-    ∙ ap (λ (i : ℕ). cond (is_some x.owned) (set slots i (slot_of (story_state v) (held_in (story_state v) (Member e.block e.stage)))) slots)
+    ∙ ap (λ (i : ℕ). cond (is_some x.owned) (set slots i (slot_of (model_state v) (held_in (model_state v) (Member e.block e.stage)))) slots)
     c.hand-hand.ensures)
     c.take_out-found.ensures.table c.advance.ensures.list
     (c.returning-self.ensures ∙ ap (λ (k : Kind). gives_back k e.statement x x.owned) c.kind_in-kind.ensures))

@@ -1,11 +1,11 @@
 use Rattle.std.proofs.Common.{ℕ, ap, ◌∙◌}
 use Rattle.control_word.specs.declared.model.handle.Kind.{Kind}
-use Rattle.step_table.specs.declared.cell_steps.cell_deed.CellDeed.TheVariants.{GiveBack}
-use Rattle.step_threads.specs.declared.half.Half.TheVariants.{Refill}
-use Rattle.step_table.specs.declared.memory.past.Deed.TheVariants.{OnCell}
+use Rattle.step_table.specs.declared.cell_steps.cell_step.CellStep.TheVariants.{GiveBack}
+use Rattle.step_threads.specs.declared.pending_call.PendingCall.TheVariants.{Refill}
+use Rattle.step_table.specs.declared.memory.past.AtomicStep.TheVariants.{OnCell}
 use Rattle.step_table.specs.declared.cell_steps.refill.Stage.TheVariants.{Checking}
-use Rattle.step_table.specs.CellDeeds.{kind_in_state}
-use Rattle.step_table.specs.Stories.{story_after_deed, story_state}
+use Rattle.step_table.specs.CellAtomicSteps.{kind_in_state}
+use Rattle.step_table.specs.GhostStates.{ghost_after_step, model_state}
 use Rattle.step_threads.proofs.RefillFits.{fits_as, fits_failed}
 use Rattle.step_threads.proofs.thread.Thread.fail.Goals as goal
 
@@ -17,6 +17,6 @@ returns-clause-fits c =
     let x = c.args.found in
     let b = c.args.block in
     fits_as d t (Refill Checking c.args.cell x c.args.statement) c.at_stage-self.result _ c.give_back.new.self c.at_stage-self.ensures
-    (c.give_back.ensures ∙ ap (λ (k : Kind). story_after_deed v d (OnCell (GiveBack k b c.from.result))) c.kind_in-kind.ensures
-    ∙ ap (λ (n : ℕ). story_after_deed v d (OnCell (GiveBack (kind_in_state (story_state v) c.args.cell) b n))) c.from.ensures)
-    (fits_failed d t v c.args.cell x c.args.statement c.requires.fits b c.known.ensures c.requires.half)
+    (c.give_back.ensures ∙ ap (λ (k : Kind). ghost_after_step v d (OnCell (GiveBack k b c.from.result))) c.kind_in-kind.ensures
+    ∙ ap (λ (n : ℕ). ghost_after_step v d (OnCell (GiveBack (kind_in_state (model_state v) c.args.cell) b n))) c.from.ensures)
+    (fits_failed d t v c.args.cell x c.args.statement c.requires.fits b c.known.ensures c.requires.pending_call)

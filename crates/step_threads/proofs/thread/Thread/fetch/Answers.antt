@@ -1,12 +1,12 @@
 use Rattle.std.proofs.Common.{◌≡◌, ℕ, refl, sym, ap, subst, ◌∙◌}
 use Rattle.step_table.specs.Contents.{owing_for}
-use Rattle.step_table.specs.Holdings.{slot_pointer, slot_value}
-use Rattle.step_table.specs.Stories.{Story, pending, story_state}
-use Rattle.step_threads.specs.declared.half.Half.{Half}
-use Rattle.step_threads.specs.declared.half.Half.TheVariants.{Matched}
+use Rattle.step_table.specs.Registers.{slot_pointer, slot_value}
+use Rattle.step_table.specs.GhostStates.{GhostState, pending, model_state}
+use Rattle.step_threads.specs.declared.pending_call.PendingCall.{PendingCall}
+use Rattle.step_threads.specs.declared.pending_call.PendingCall.TheVariants.{Matched}
 use Rattle.step_threads.specs.declared.said.Said.{Said}
 use Rattle.step_threads.specs.declared.said.Stepped.TheVariants.{Quiet}
-use Rattle.step_threads.specs.Courses.{hand, task_at, walk}
+use Rattle.step_threads.specs.Frames.{hand, task_at, frame_view}
 use Rattle.step_threads.specs.NextSteps.{waits}
 use Rattle.step_threads.specs.Steps.{fetches, silent}
 use Rattle.step_threads.specs.Threads.{FitsThread}
@@ -22,14 +22,14 @@ returns-clause-stepped c =
     let d = c.args.desk in
     let t = c.args.self.now in
     let v = c.args.table.now in
-    let w = walk t.course in
-    let n = (task_at t.course).statement in
+    let w = frame_view t.frame in
+    let n = (task_at t.frame).statement in
     let x = c.args.found in
     let p = c.in-Some.pointer in
     let r = c.requires in
-    let at = sym (c.get.ensures ∙ ap (slot_pointer t.course.holdings.slots.items) c.hand-hand.ensures) ∙ c.in-Some.is in
-    stepped_as d t v (fetches w n x p) _ _ _ (ap (λ (h : Half). waits v h w) r.half)
-    (fetches_funds d t v c.args.name c.args.cell c.args.weak x (saw_next d t v x r.fits r.half).0 r.act r.half r.alike p at)
+    let at = sym (c.get.ensures ∙ ap (slot_pointer t.frame.registers.slots.items) c.hand-hand.ensures) ∙ c.in-Some.is in
+    stepped_as d t v (fetches w n x p) _ _ _ (ap (λ (h : PendingCall). waits v h w) r.pending_call)
+    (fetches_funds d t v c.args.name c.args.cell c.args.weak x (saw_next d t v x r.fits r.pending_call).0 r.act r.pending_call r.alike p at)
     (ap (λ (s : Said). Quiet s) (c.silent.ensures ∙ ap silent c.statement-statement.ensures)) c.bring.ensures.table refl refl
 
 pub returns-clause-fits : goal.returns-clause-fits
@@ -38,11 +38,11 @@ returns-clause-fits c =
     let t = c.args.self.now in
     let v = c.args.table.now in
     let p = c.in-Some.pointer in
-    let slots = t.course.holdings.slots.items in
+    let slots = t.frame.registers.slots.items in
     let r = c.requires in
     let owes =
-    subst (λ (i : ℕ). pending c.bring.new.table d ≡ owing_for (story_state c.bring.new.table) (slot_value slots i) 256) c.hand-hand.ensures
+    subst (λ (i : ℕ). pending c.bring.new.table d ≡ owing_for (model_state c.bring.new.table) (slot_value slots i) 256) c.hand-hand.ensures
     c.bring.ensures.owes in
-    subst (λ (u : Story). FitsThread d (At t (Matched c.args.found)) u) (sym c.bring.ensures.table)
-    (compare_brought d t v c.args.name c.args.cell c.args.weak c.args.found r.fits r.act p r.half r.alike
-    (subst (λ (u : Story). pending u d ≡ owing_for (story_state u) (slot_value slots (hand slots)) 256) c.bring.ensures.table owes))
+    subst (λ (u : GhostState). FitsThread d (At t (Matched c.args.found)) u) (sym c.bring.ensures.table)
+    (compare_brought d t v c.args.name c.args.cell c.args.weak c.args.found r.fits r.act p r.pending_call r.alike
+    (subst (λ (u : GhostState). pending u d ≡ owing_for (model_state u) (slot_value slots (hand slots)) 256) c.bring.ensures.table owes))

@@ -1,6 +1,6 @@
 use Rattle.std.proofs.Common.{◌∙◌, ℕ, ◌<◌, Bool, sym, ap, subst}
-use Rattle.step_table.specs.declared.memory.past.Deed.TheVariants as deed
-use Rattle.step_table.specs.Stories.{Kept, Story, story_after_deed}
+use Rattle.step_table.specs.declared.memory.past.AtomicStep.TheVariants as atomic_step
+use Rattle.step_table.specs.GhostStates.{Kept, GhostState, ghost_after_step}
 use Rattle.step_threads.specs.Threads.{FitsThread}
 use Rattle.step_threads.proofs.Endings.{room_left}
 use Rattle.step_threads.proofs.EndSteps.{fits_finish, fits_finish_not, idle_here}
@@ -21,22 +21,24 @@ finish-vacant-requires-clause-cleared c = λ m few.
 pub put-requires : goal.put-requires
 put-requires c =
     let v = c.args.table.now in
-    let e = c.finish-vacant.ensures.after ∙ ap (λ (r : Bool). story_after_deed v c.args.desk (deed.Finish c.args.ending.block r)) c.if-not-vacant.false in
-    let is = ending_here c.args.desk v c.args.self.now.course.endings.list c.args.ending c.requires.fits.endings.all c.requires.first in
+    let e = c.finish-vacant.ensures.after ∙ ap (λ (r : Bool). ghost_after_step v c.args.desk (atomic_step.Finish c.args.ending.block r)) c.if-not-vacant.false
+    in
+    let is = ending_here c.args.desk v c.args.self.now.frame.endings.list c.args.ending c.requires.fits.endings.all c.requires.first in
     room_left c.args.desk c.args.self.now v c.args.ending c.known.ensures
-    (subst (λ (u : Story). Kept u) e c.known-2.ensures) c.requires.fits c.requires.rest is
+    (subst (λ (u : GhostState). Kept u) e c.known-2.ensures) c.requires.fits c.requires.rest is
 
 pub returns-clause-fits : goal.returns-clause-fits
 returns-clause-fits c =
     let t = c.args.self.now in
     let v = c.args.table.now in
-    let e = c.finish-vacant.ensures.after ∙ ap (λ (r : Bool). story_after_deed v c.args.desk (deed.Finish c.args.ending.block r)) c.if-not-vacant.false in
-    let is = ending_here c.args.desk v t.course.endings.list c.args.ending c.requires.fits.endings.all c.requires.first in
-    subst (λ (u : Story). FitsThread c.args.desk (record {
-      course = record t.course { endings = c.finish.new.self };
+    let e = c.finish-vacant.ensures.after ∙ ap (λ (r : Bool). ghost_after_step v c.args.desk (atomic_step.Finish c.args.ending.block r)) c.if-not-vacant.false
+    in
+    let is = ending_here c.args.desk v t.frame.endings.list c.args.ending c.requires.fits.endings.all c.requires.first in
+    subst (λ (u : GhostState). FitsThread c.args.desk (record {
+      frame = record t.frame { endings = c.finish.new.self };
       stock =
           c.put.new.self;
-      half = t.half;
+      pending_call = t.pending_call;
     }) u)
     (sym e)
     (fits_finish c.args.desk t v c.args.ending c.finish.new.self c.put.new.self c.known.ensures c.requires.fits c.requires.rest c.finish.ensures.list
@@ -46,13 +48,13 @@ pub returns-then-not-vacant-clause-fits : goal.returns-then-not-vacant-clause-fi
 returns-then-not-vacant-clause-fits c =
     let t = c.args.self.now in
     let v = c.args.table.now in
-    let e = c.finish-vacant.ensures.after ∙ ap (λ (r : Bool). story_after_deed v c.args.desk (deed.Finish c.args.ending.block r)) c.if-not-vacant.true in
-    let is = ending_here c.args.desk v t.course.endings.list c.args.ending c.requires.fits.endings.all c.requires.first in
-    subst (λ (u : Story). FitsThread c.args.desk (record {
-      course = record t.course { endings = c.finish.new.self };
+    let e = c.finish-vacant.ensures.after ∙ ap (λ (r : Bool). ghost_after_step v c.args.desk (atomic_step.Finish c.args.ending.block r)) c.if-not-vacant.true in
+    let is = ending_here c.args.desk v t.frame.endings.list c.args.ending c.requires.fits.endings.all c.requires.first in
+    subst (λ (u : GhostState). FitsThread c.args.desk (record {
+      frame = record t.frame { endings = c.finish.new.self };
       stock = t.stock;
-      half =
-          t.half;
+      pending_call =
+          t.pending_call;
     }) u) (sym e)
     (fits_finish_not c.args.desk t v c.args.ending c.finish.new.self c.known.ensures c.requires.fits c.requires.rest c.finish.ensures.list
     c.finish.ensures.room is c.requires.empty)

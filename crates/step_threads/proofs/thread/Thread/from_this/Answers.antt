@@ -1,15 +1,15 @@
 use Rattle.std.proofs.Common.{ℕ, ap, sym, ◌∙◌, false, refl}
-use Rattle.step_table.specs.Holdings.{inside, slot_pointer, place_in}
+use Rattle.step_table.specs.Registers.{inside, slot_pointer, place_in}
 use Rattle.step_threads.proofs.Giving.{fits_asked, refused_this}
 use Rattle.std.specs.Prelude.{None, Some}
 use Rattle.control_word.specs.declared.refusal.Refusal.TheVariants as refused
 use Rattle.step_threads.specs.declared.programs.act.Act.TheVariants.{FromThis}
-use Rattle.step_threads.specs.declared.half.Half.TheVariants.{Rest}
+use Rattle.step_threads.specs.declared.pending_call.PendingCall.TheVariants.{Rest}
 use Rattle.step_threads.specs.declared.said.Answer.{Answer}
 use Rattle.step_threads.specs.declared.said.Answer.TheVariants as answer
 use Rattle.step_threads.specs.declared.said.Said.{Said}
 use Rattle.step_threads.specs.declared.said.Stepped.TheVariants.{Quiet}
-use Rattle.step_threads.specs.Courses.{rest, task_at, walk}
+use Rattle.step_threads.specs.Frames.{rest, task_at, frame_view}
 use Rattle.step_threads.specs.Rows.{outside}
 use Rattle.step_threads.specs.Steps.{silent}
 use Rattle.step_threads.proofs.Acting.{acts_as, steps_as, went_quiet}
@@ -18,17 +18,16 @@ use Rattle.step_threads.proofs.ThisSteps.{giving, this_gives, this_none, this_no
 use Rattle.step_threads.proofs.thread.Thread.from_this.Goals as goal
 
 pub take-requires-clause-ready : goal.take-requires-clause-ready
-take-requires-clause-ready c = refused_this c.args.self.now.course c.args.name c.args.kind c.requires.within c.requires.fits.ready c.requires.act
+take-requires-clause-ready c = refused_this c.args.self.now.frame c.args.name c.args.kind c.requires.begins.within c.requires.begins.fits.ready c.requires.act
 
 pub take-requires-then-not-is_enabled-clause-ready : goal.take-requires-then-not-is_enabled-clause-ready
 take-requires-then-not-is_enabled-clause-ready c =
-    refused_this c.args.self.now.course c.args.name c.args.kind c.requires.within c.requires.fits.ready c.requires.act
+    refused_this c.args.self.now.frame c.args.name c.args.kind c.requires.begins.within c.requires.begins.fits.ready c.requires.act
 
 pub returns-clause-fits : goal.returns-clause-fits
 returns-clause-fits c =
-    let slots = c.args.self.now.course.holdings.slots.items in
-    fits_asked c.args.desk c.args.self.now c.args.table.now c.args.name c.args.kind c.in-Some.pointer c.requires.fits c.requires.rest
-    c.requires.none c.requires.within
+    let slots = c.args.self.now.frame.registers.slots.items in
+    fits_asked c.args.desk c.args.self.now c.args.table.now c.args.name c.args.kind c.in-Some.pointer c.requires.begins.fits c.requires.begins.rest c.requires.begins.none c.requires.begins.within
     c.requires.act (sym (c.inside.ensures ∙ ap (λ (k : ℕ). inside (slot_pointer slots k)) c.from-from.ensures) ∙ c.in-Some.is)
     (sym c.is_enabled.ensures ∙ c.if-not-is_enabled.false)
 
@@ -38,17 +37,17 @@ returns-in_default-clause-stepped c =
     let t = c.args.self.now in
     let v = c.args.table.now in
     let r = c.requires in
-    let slots = t.course.holdings.slots.items in
+    let slots = t.frame.registers.slots.items in
     let tell : ℕ → Answer → Said = λ n a. record { statement = n; answer = Some a; ended = None } in
-    acts_as d t v r.fits r.rest r.none r.within (FromThis c.args.name c.args.kind) r.act None Rest _ _ _
-    (this_none v d (walk t.course) (task_at t.course).statement (rest t.course) c.args.name c.args.kind (found_inside slots c.args.name
+    acts_as d t v r.begins (FromThis c.args.name c.args.kind) r.act None Rest _ _ _
+    (this_none v d (frame_view t.frame) (task_at t.frame).statement (rest t.frame) c.args.name c.args.kind (found_inside slots c.args.name
     c.from-from.result c.inside.result (None) c.inside.ensures c.from-from.ensures c.in_default.is)) refl
     (ap (λ (s : Said). Quiet s) (c.tells.ensures ∙ ap (λ (n : ℕ). tell n c.outside-answer.result) c.statement-statement.ensures
-    ∙ ap (tell (task_at t.course).statement) (c.outside-answer.ensures ∙ ap outside (c.place.ensures ∙ ap (place_in slots) c.from-from.ensures))
-    ∙ this_says v d (walk t.course) (task_at t.course).statement (rest t.course) c.args.name c.args.kind None false (found_inside slots c.args.name
+    ∙ ap (tell (task_at t.frame).statement) (c.outside-answer.ensures ∙ ap outside (c.place.ensures ∙ ap (place_in slots) c.from-from.ensures))
+    ∙ this_says v d (frame_view t.frame) (task_at t.frame).statement (rest t.frame) c.args.name c.args.kind None false (found_inside slots c.args.name
     c.from-from.result c.inside.result (None) c.inside.ensures c.from-from.ensures c.in_default.is) refl)) refl
-    (c.take.ensures.walk ∙ this_went v d (walk t.course) (task_at t.course).statement (rest t.course) c.args.name c.args.kind None false
-    (found_inside slots c.args.name c.from-from.result c.inside.result (None) c.inside.ensures c.from-from.ensures c.in_default.is) refl) r.rest
+    (c.take.ensures.frame_view ∙ this_went v d (frame_view t.frame) (task_at t.frame).statement (rest t.frame) c.args.name c.args.kind None false
+    (found_inside slots c.args.name c.from-from.result c.inside.result (None) c.inside.ensures c.from-from.ensures c.in_default.is) refl) r.begins.rest
 
 pub returns-in_default-clause-fits : goal.returns-in_default-clause-fits
 returns-in_default-clause-fits c =
@@ -56,8 +55,8 @@ returns-in_default-clause-fits c =
     let t = c.args.self.now in
     let v = c.args.table.now in
     let r = c.requires in
-    let slots = t.course.holdings.slots.items in
-    went_quiet d t v r.fits r.rest r.none r.within c.take.new.self (c.take.ensures.on d v r.fits.holds)
+    let slots = t.frame.registers.slots.items in
+    went_quiet d t v r.begins c.take.new.self (c.take.ensures.on d v r.begins.fits.holds)
 
 pub returns-then-not-is_enabled-clause-stepped : goal.returns-then-not-is_enabled-clause-stepped
 returns-then-not-is_enabled-clause-stepped c =
@@ -65,19 +64,19 @@ returns-then-not-is_enabled-clause-stepped c =
     let t = c.args.self.now in
     let v = c.args.table.now in
     let r = c.requires in
-    let slots = t.course.holdings.slots.items in
+    let slots = t.frame.registers.slots.items in
     let p = c.in-Some.pointer in
     let bare = sym c.is_enabled.ensures ∙ c.if-not-is_enabled.true in
     let tell : ℕ → Answer → Said = λ n a. record { statement = n; answer = Some a; ended = None } in
-    acts_as d t v r.fits r.rest r.none r.within (FromThis c.args.name c.args.kind) r.act None Rest _ _ _
-    (this_not v d (walk t.course) (task_at t.course).statement (rest t.course) c.args.name c.args.kind p (found_inside slots c.args.name
+    acts_as d t v r.begins (FromThis c.args.name c.args.kind) r.act None Rest _ _ _
+    (this_not v d (frame_view t.frame) (task_at t.frame).statement (rest t.frame) c.args.name c.args.kind p (found_inside slots c.args.name
     c.from-from.result c.inside.result (Some p) c.inside.ensures c.from-from.ensures c.in-Some.is) bare) refl
     (ap (λ (s : Said). Quiet s) (c.tells-then-not-is_enabled.ensures
     ∙ ap (λ (n : ℕ). tell n (answer.Refused refused.NotEnabled)) c.statement-statement.ensures
-    ∙ this_says v d (walk t.course) (task_at t.course).statement (rest t.course) c.args.name c.args.kind (Some p) false (found_inside slots
+    ∙ this_says v d (frame_view t.frame) (task_at t.frame).statement (rest t.frame) c.args.name c.args.kind (Some p) false (found_inside slots
     c.args.name c.from-from.result c.inside.result (Some p) c.inside.ensures c.from-from.ensures c.in-Some.is) bare)) refl
-    (c.take-then-not-is_enabled.ensures.walk ∙ this_went v d (walk t.course) (task_at t.course).statement (rest t.course) c.args.name c.args.kind
-    (Some p) false (found_inside slots c.args.name c.from-from.result c.inside.result (Some p) c.inside.ensures c.from-from.ensures c.in-Some.is) bare) r.rest
+    (c.take-then-not-is_enabled.ensures.frame_view ∙ this_went v d (frame_view t.frame) (task_at t.frame).statement (rest t.frame) c.args.name c.args.kind
+    (Some p) false (found_inside slots c.args.name c.from-from.result c.inside.result (Some p) c.inside.ensures c.from-from.ensures c.in-Some.is) bare) r.begins.rest
 
 pub returns-then-not-is_enabled-clause-fits : goal.returns-then-not-is_enabled-clause-fits
 returns-then-not-is_enabled-clause-fits c =
@@ -85,8 +84,8 @@ returns-then-not-is_enabled-clause-fits c =
     let t = c.args.self.now in
     let v = c.args.table.now in
     let r = c.requires in
-    let slots = t.course.holdings.slots.items in
-    went_quiet d t v r.fits r.rest r.none r.within c.take-then-not-is_enabled.new.self (c.take-then-not-is_enabled.ensures.on d v r.fits.holds)
+    let slots = t.frame.registers.slots.items in
+    went_quiet d t v r.begins c.take-then-not-is_enabled.new.self (c.take-then-not-is_enabled.ensures.on d v r.begins.fits.holds)
 
 pub returns-clause-stepped : goal.returns-clause-stepped
 returns-clause-stepped c =
@@ -94,12 +93,12 @@ returns-clause-stepped c =
     let t = c.args.self.now in
     let v = c.args.table.now in
     let r = c.requires in
-    let slots = t.course.holdings.slots.items in
+    let slots = t.frame.registers.slots.items in
     let p = c.in-Some.pointer in
     let enabled = sym c.is_enabled.ensures ∙ c.if-not-is_enabled.false in
-    steps_as d t v r.fits r.rest r.none r.within (FromThis c.args.name c.args.kind) r.act
-    (giving v d (walk t.course) (task_at t.course).statement (rest t.course) c.args.name c.args.kind p (found_inside slots c.args.name
+    steps_as d t v r.begins (FromThis c.args.name c.args.kind) r.act
+    (giving v d (frame_view t.frame) (task_at t.frame).statement (rest t.frame) c.args.name c.args.kind p (found_inside slots c.args.name
     c.from-from.result c.inside.result (Some p) c.inside.ensures c.from-from.ensures c.in-Some.is)) _ _ _
-    (this_gives v d (walk t.course) (task_at t.course).statement (rest t.course) c.args.name c.args.kind p (found_inside slots c.args.name
+    (this_gives v d (frame_view t.frame) (task_at t.frame).statement (rest t.frame) c.args.name c.args.kind p (found_inside slots c.args.name
     c.from-from.result c.inside.result (Some p) c.inside.ensures c.from-from.ensures c.in-Some.is) enabled) refl
     (ap (λ (s : Said). Quiet s) (c.silent.ensures ∙ ap silent c.statement-statement.ensures)) refl refl refl

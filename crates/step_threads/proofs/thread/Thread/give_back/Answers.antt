@@ -1,6 +1,6 @@
 use Rattle.std.proofs.Common.{sym, subst}
-use Rattle.step_threads.specs.declared.half.Half.TheVariants.{Rest}
-use Rattle.step_table.specs.Stories.{Story}
+use Rattle.step_threads.specs.declared.pending_call.PendingCall.TheVariants.{Rest}
+use Rattle.step_table.specs.GhostStates.{GhostState}
 use Rattle.step_threads.specs.Threads.{FitsThread}
 use Rattle.step_threads.proofs.StoreFits.{fits_returned}
 use Rattle.step_threads.proofs.thread.Thread.give_back.Goals as goal
@@ -8,5 +8,6 @@ use Rattle.step_threads.proofs.thread.Thread.give_back.Goals as goal
 pub returns-clause-fits : goal.returns-clause-fits
 returns-clause-fits c =
     let t = c.args.self.now in
-    subst (λ (v : Story). FitsThread c.args.desk (record { course = t.course; stock = t.stock; half = Rest }) v) (sym c.give_back.ensures)
-    (fits_returned c.args.desk t c.args.table.now c.args.kind c.args.block c.args.funds c.args.statement c.known.ensures c.requires.fits c.requires.half)
+    subst (λ (v : GhostState). FitsThread c.args.desk (record { frame = t.frame; stock = t.stock; pending_call = Rest }) v) (sym c.give_back.ensures)
+    (fits_returned c.args.desk t c.args.table.now c.args.kind c.args.block c.args.funds c.args.statement c.known.ensures c.requires.fits
+    c.requires.pending_call)

@@ -1,10 +1,10 @@
 use Rattle.std.proofs.Common.{◌≡◌, ◌∙◌, ℕ, Some, None, drop, set, refl, sym, ap}
 use Rattle.std.proofs.lemmas.Option.{same_Some}
-use Rattle.step_table.specs.declared.slots.holdings.Pointer.{Pointer}
-use Rattle.step_table.specs.Deeds.{is_last, leave}
-use Rattle.step_table.specs.Holdings.{plain, slot_pointer}
-use Rattle.step_table.specs.Stories.{story_after_deed, story_state}
-use Rattle.step_threads.specs.Courses.{hand}
+use Rattle.step_table.specs.declared.slots.registers.Pointer.{Pointer}
+use Rattle.step_table.specs.AtomicSteps.{is_last, leave}
+use Rattle.step_table.specs.Registers.{plain, slot_pointer}
+use Rattle.step_table.specs.GhostStates.{ghost_after_step, model_state}
+use Rattle.step_threads.specs.Frames.{hand}
 use Rattle.step_threads.specs.declared.said.Stepped.TheVariants.{Event}
 use Rattle.step_threads.proofs.Carrying.{carried_room, fits_carried}
 use Rattle.step_threads.proofs.CarrySteps.{stepped_carried}
@@ -16,9 +16,9 @@ pub left-ended-requires-clause-begins : goal.left-ended-requires-clause-begins
 left-ended-requires-clause-begins c = λ x at.
     let v = c.args.table.now in
     let same = same_Some c.in-Some.pointer x at in
-    carried_room c.args.desk c.args.self.now.course v c.leave-last.new.table x c.leave-last.result c.known.ensures c.known-2.ensures
-    c.requires.fits.endings (c.leave-last.ensures.table ∙ ap (λ (p : Pointer). story_after_deed v c.args.desk (leave (story_state v) p)) same)
-    (c.leave-last.ensures.last ∙ ap (λ (p : Pointer). is_last (story_state v) p) same)
+    carried_room c.args.desk c.args.self.now.frame v c.leave-last.new.table x c.leave-last.result c.known.ensures c.known-2.ensures
+    c.requires.fits.endings (c.leave-last.ensures.table ∙ ap (λ (p : Pointer). ghost_after_step v c.args.desk (leave (model_state v) p)) same)
+    (c.leave-last.ensures.last ∙ ap (λ (p : Pointer). is_last (model_state v) p) same)
 
 pub left-ended-requires-clause-room : goal.left-ended-requires-clause-room
 left-ended-requires-clause-room c = λ x.
@@ -28,22 +28,22 @@ left-ended-requires-clause-room c = λ x.
 pub returns-clause-fits : goal.returns-clause-fits
 returns-clause-fits c =
     let t = c.args.self.now in
-    let slots = t.course.holdings.slots.items in
+    let slots = t.frame.registers.slots.items in
     fits_carried c.args.desk t c.left-ended.new.self c.args.table.now c.leave-last.new.table c.leave-last.new.self c.args.ending.statement
-    c.in-Some.pointer c.leave-last.result c.args.ending (drop 1 t.course.endings.list) c.known.ensures c.known-2.ensures c.requires.fits
-    c.requires.rest (first_is t.course.endings.list c.args.ending c.requires.first) c.leave-last.ensures.table c.leave-last.ensures.last
-    c.leave-last.ensures.holds (c.leave-last.ensures.slots ∙ ap (λ (i : ℕ). set slots i plain) c.hand-hand.ensures) c.left-ended.ensures.course
-    c.left-ended.ensures.endings c.left-ended.ensures.roomy c.left-ended.ensures.half c.left-ended.ensures.stock
+    c.in-Some.pointer c.leave-last.result c.args.ending (drop 1 t.frame.endings.list) c.known.ensures c.known-2.ensures c.requires.fits
+    c.requires.rest (first_is t.frame.endings.list c.args.ending c.requires.first) c.leave-last.ensures.table c.leave-last.ensures.last
+    c.leave-last.ensures.holds (c.leave-last.ensures.slots ∙ ap (λ (i : ℕ). set slots i plain) c.hand-hand.ensures) c.left-ended.ensures.frame
+    c.left-ended.ensures.endings c.left-ended.ensures.roomy c.left-ended.ensures.pending_call c.left-ended.ensures.stock
 
 pub returns-clause-stepped : goal.returns-clause-stepped
 returns-clause-stepped c =
     let t = c.args.self.now in
-    let slots = t.course.holdings.slots.items in
+    let slots = t.frame.registers.slots.items in
     let at : slot_pointer slots (hand slots) ≡ Some c.in-Some.pointer =
     ap (slot_pointer slots) (sym c.hand-hand.ensures) ∙ sym c.get.ensures ∙ c.in-Some.is in
     stepped_carried c.args.desk t c.left-ended.new.self c.args.table.now c.leave-last.new.table c.leave-last.new.self c.in-Some.pointer
-    c.leave-last.result c.args.ending (drop 1 t.course.endings.list) c.requires.fits
-    (first_is t.course.endings.list c.args.ending c.requires.first) at c.leave-last.ensures.last c.left-ended.ensures.course
+    c.leave-last.result c.args.ending (drop 1 t.frame.endings.list) c.requires.fits
+    (first_is t.frame.endings.list c.args.ending c.requires.first) at c.leave-last.ensures.last c.left-ended.ensures.frame
     (c.leave-last.ensures.slots ∙ ap (λ (i : ℕ). set slots i plain) c.hand-hand.ensures) c.left-ended.ensures.endings c.left-ended.result
     (Event (record { statement = c.args.ending.statement; answer = None; ended = c.left-ended.result })) c.requires.rest c.requires.carried
-    c.leave-last.ensures.table c.left-ended.ensures.ended c.left-ended.ensures.half refl
+    c.leave-last.ensures.table c.left-ended.ensures.ended c.left-ended.ensures.pending_call refl

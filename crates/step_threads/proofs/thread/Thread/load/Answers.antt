@@ -5,10 +5,10 @@ use Rattle.step_threads.specs.declared.programs.act.Act.{Act}
 use Rattle.step_threads.specs.declared.programs.act.Act.TheVariants.{Load}
 use Rattle.step_threads.specs.declared.said.Said.{Said}
 use Rattle.step_threads.specs.declared.said.Stepped.TheVariants.{Event, Quiet}
-use Rattle.step_threads.specs.Courses.{cell_of_name, walk}
+use Rattle.step_threads.specs.Frames.{cell_of_name, frame_view}
 use Rattle.step_threads.specs.Steps.{silent}
 use Rattle.step_threads.specs.Threads.{IsSeenBy}
-use Rattle.step_table.specs.Stories.{story_state}
+use Rattle.step_table.specs.GhostStates.{model_state}
 use Rattle.step_threads.proofs.Acting.{can_act, is_loaded, load_looks, load_says, load_waits, load_went, looked_on, looks_bare, looks_full}
 use Rattle.step_threads.proofs.Acting.{looks_spent, sees_cell, stays_here}
 use Rattle.step_threads.proofs.thread.Thread.load.Goals as goal
@@ -24,7 +24,7 @@ returns-then-not-is_there-clause-fits c = c.refuse.ensures.fits
 
 pub look_to_load-found-requires-clause-can : goal.look_to_load-found-requires-clause-can
 look_to_load-found-requires-clause-can c =
-    let r = c.requires in can_act c.args.desk c.args.self.now c.args.table.now r.fits r.rest r.none r.within
+    let r = c.requires in can_act c.args.desk c.args.self.now c.args.table.now r.begins
 
 pub returns-then-is_none-clause-stepped : goal.returns-then-is_none-clause-stepped
 returns-then-is_none-clause-stepped c =
@@ -36,14 +36,14 @@ returns-then-is_none-clause-stepped c =
     let look = c.look_to_load-found.ensures in
     let bare : is_some c.look_to_load-found.result.owned ≡ false = c.if-is_none.ensures in
     let there = sym c.is_there.ensures ∙ c.if-not-is_there.false in
-    looks_bare d t v r.fits r.rest r.none r.within (Load c.args.cell) r.act
-    (cell_of_name (story_state v) t.course.holdings.slots.items c.args.cell) None found
-    (load_looks d t v r.fits r.rest r.none r.within c.args.cell found there look.found)
-    (load_waits d t v r.fits r.rest r.none r.within c.args.cell found there look.found) _ _ _ bare
+    looks_bare d t v r.begins (Load c.args.cell) r.act
+    (cell_of_name (model_state v) t.frame.registers.slots.items c.args.cell) None found
+    (load_looks d t v r.begins c.args.cell found there look.found)
+    (load_waits d t v r.begins c.args.cell found there look.found) _ _ _ bare
     (ap (λ (s : Said). Event s) (c.silent.ensures ∙ ap silent c.statement-statement.ensures
-    ∙ load_says d t v r.fits r.rest r.none r.within c.args.cell there))
+    ∙ load_says d t v r.begins c.args.cell there))
     (look.table ∙ cond-false (is_some c.look_to_load-found.result.owned) _ _ bare)
-    (look.walk bare ∙ load_went d t v r.fits r.rest r.none r.within c.args.cell there) r.rest
+    (look.frame_view bare ∙ load_went d t v r.begins c.args.cell there) r.begins.rest
 
 pub returns-then-is_none-clause-fits : goal.returns-then-is_none-clause-fits
 returns-then-is_none-clause-fits c =
@@ -53,7 +53,7 @@ returns-then-is_none-clause-fits c =
     let r = c.requires in
     let look = c.look_to_load-found.ensures in
     let bare : is_some c.look_to_load-found.result.owned ≡ false = c.if-is_none.ensures in
-    looked_on d t v r.fits r.rest r.none r.within (cell_of_name (story_state v) t.course.holdings.slots.items c.args.cell) None
+    looked_on d t v r.begins (cell_of_name (model_state v) t.frame.registers.slots.items c.args.cell) None
     c.look_to_load-found.result c.look_to_load-found.new.self c.look_to_load-found.new.table c.known.ensures
     (look.table ∙ cond-false (is_some c.look_to_load-found.result.owned) _ _ bare) (look.on bare)
 
@@ -67,19 +67,19 @@ returns-then-from-eq-CELL_FUNDS-clause-stepped c =
     let look = c.look_to_load-found.ensures in
     let full : is_some c.look_to_load-found.result.owned ≡ true = c.if-is_none.ensures in
     let there = sym c.is_there.ensures ∙ c.if-not-is_there.false in
-    looks_spent d t v r.fits r.rest r.none r.within (Load c.args.cell) r.act
-    (cell_of_name (story_state v) t.course.holdings.slots.items c.args.cell) None found
-    (load_looks d t v r.fits r.rest r.none r.within c.args.cell found there look.found)
-    (load_waits d t v r.fits r.rest r.none r.within c.args.cell found there look.found) _ _ full
+    looks_spent d t v r.begins (Load c.args.cell) r.act
+    (cell_of_name (model_state v) t.frame.registers.slots.items c.args.cell) None found
+    (load_looks d t v r.begins c.args.cell found there look.found)
+    (load_waits d t v r.begins c.args.cell found there look.found) _ _ full
     (eq-eqb found.taken 256 (sym c.from.ensures ∙ c.if-from-eq-CELL_FUNDS.true))
-    (look.table ∙ cond-true (is_some c.look_to_load-found.result.owned) _ _ full) (ap walk (look.stays full)) r.rest
+    (look.table ∙ cond-true (is_some c.look_to_load-found.result.owned) _ _ full) (ap frame_view (look.stays full)) r.begins.rest
 
 pub returns-then-from-eq-CELL_FUNDS-clause-fits : goal.returns-then-from-eq-CELL_FUNDS-clause-fits
 returns-then-from-eq-CELL_FUNDS-clause-fits c =
     let r = c.requires in
     let look = c.look_to_load-found.ensures in
     let full : is_some c.look_to_load-found.result.owned ≡ true = c.if-is_none.ensures in
-    stays_here c.args.desk c.args.self.now c.args.table.now r.fits r.rest r.none r.within _ _ (look.stays full)
+    stays_here c.args.desk c.args.self.now c.args.table.now r.begins _ _ (look.stays full)
     (look.table ∙ cond-true (is_some c.look_to_load-found.result.owned) _ _ full)
 
 pub returns-clause-stepped : goal.returns-clause-stepped
@@ -92,13 +92,13 @@ returns-clause-stepped c =
     let look = c.look_to_load-found.ensures in
     let full : is_some c.look_to_load-found.result.owned ≡ true = c.if-is_none.ensures in
     let there = sym c.is_there.ensures ∙ c.if-not-is_there.false in
-    looks_full d t v r.fits r.rest r.none r.within (Load c.args.cell) r.act
-    (cell_of_name (story_state v) t.course.holdings.slots.items c.args.cell) None found
-    (load_looks d t v r.fits r.rest r.none r.within c.args.cell found there look.found)
-    (load_waits d t v r.fits r.rest r.none r.within c.args.cell found there look.found) _ _ _ full
+    looks_full d t v r.begins (Load c.args.cell) r.act
+    (cell_of_name (model_state v) t.frame.registers.slots.items c.args.cell) None found
+    (load_looks d t v r.begins c.args.cell found there look.found)
+    (load_waits d t v r.begins c.args.cell found there look.found) _ _ _ full
     (ne_eqb found.taken 256 (λ e. c.if-from-eq-CELL_FUNDS.false (c.from.ensures ∙ e)))
     (ap (λ (s : Said). Quiet s) (c.silent-2.ensures ∙ ap silent c.statement-statement.ensures))
-    (look.table ∙ cond-true (is_some c.look_to_load-found.result.owned) _ _ full) (ap walk (look.stays full)) refl
+    (look.table ∙ cond-true (is_some c.look_to_load-found.result.owned) _ _ full) (ap frame_view (look.stays full)) refl
 
 pub returns-clause-fits : goal.returns-clause-fits
 returns-clause-fits c =
@@ -109,6 +109,6 @@ returns-clause-fits c =
     let full : is_some c.look_to_load-found.result.owned ≡ true = c.if-is_none.ensures in
     let there = sym c.is_there.ensures ∙ c.if-not-is_there.false in
     let few = ne_eqb found.taken 256 (λ e. c.if-from-eq-CELL_FUNDS.false (c.from.ensures ∙ e)) in
-    sees_cell c.args.desk t c.args.table.now r.fits r.rest r.none r.within found _ _ (look.stays full)
+    sees_cell c.args.desk t c.args.table.now r.begins found _ _ (look.stays full)
     (look.table ∙ cond-true (is_some c.look_to_load-found.result.owned) _ _ full) look.valid
-    (subst (λ (a : Act). IsSeenBy t.course.holdings.slots.items found a) (sym r.act) (there, is_loaded found look.valid full few))
+    (subst (λ (a : Act). IsSeenBy t.frame.registers.slots.items found a) (sym r.act) (there, is_loaded found look.valid full few))

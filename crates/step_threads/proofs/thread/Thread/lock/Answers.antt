@@ -2,30 +2,30 @@ use Rattle.step_threads.proofs.Threads.{lost_ready}
 use Rattle.std.proofs.Common.{◌≡◌, ◌==◌, ◌∙◌, ℕ, true, false, not, refl, sym, ap, subst, eq-eqb, ne_eqb, arith}
 use Rattle.std.proofs.lemmas.Bool.{cond-true, cond-false}
 use Rattle.std.specs.Prelude.{None, Some}
-use Rattle.step_table.specs.Deeds.{lock, owner_word}
-use Rattle.step_table.specs.Holdings.{is_full}
-use Rattle.step_table.specs.Stories.{Story, story_state}
+use Rattle.step_table.specs.AtomicSteps.{lock, owner_word}
+use Rattle.step_table.specs.Registers.{is_full}
+use Rattle.step_table.specs.GhostStates.{GhostState, model_state}
 use Rattle.step_threads.specs.declared.programs.act.Act.{Act}
 use Rattle.step_threads.specs.declared.programs.act.Act.TheVariants.{Lock}
-use Rattle.step_threads.specs.declared.half.Half.{Half}
-use Rattle.step_threads.specs.declared.half.Half.TheVariants.{Rest, Locking}
+use Rattle.step_threads.specs.declared.pending_call.PendingCall.{PendingCall}
+use Rattle.step_threads.specs.declared.pending_call.PendingCall.TheVariants.{Rest, Locking}
 use Rattle.step_threads.specs.declared.said.Said.{Said}
 use Rattle.step_threads.specs.declared.said.Stepped.TheVariants.{Event, Quiet}
-use Rattle.step_threads.specs.Courses.{locked_pointer, rest, task_at, walk}
+use Rattle.step_threads.specs.Frames.{locked_pointer, rest, task_at, frame_view}
 use Rattle.step_threads.specs.Steps.{silent, trying}
 use Rattle.step_threads.specs.Threads.{FitsThread}
 use Rattle.step_threads.proofs.Going.{found_weak}
 use Rattle.step_threads.proofs.LockSteps.{lock_said, lock_says, lock_went, lock_found, lock_late, lock_none}
 use Rattle.step_threads.proofs.Acting.{acts_as, is_idle, steps_as, went_quiet}
-use Rattle.step_threads.proofs.LookFits.{fits_half}
+use Rattle.step_threads.proofs.LookFits.{fits_pending_call}
 use Rattle.step_threads.proofs.StoreFits.{fits_done}
 use Rattle.step_threads.proofs.thread.Thread.lock.Goals as goal
 
 pub take-requires-clause-ready : goal.take-requires-clause-ready
-take-requires-clause-ready c = lost_ready c.args.self.now.course c.args.name c.args.must c.requires.within c.requires.fits.ready c.requires.act
+take-requires-clause-ready c = lost_ready c.args.self.now.frame c.args.name c.args.must c.requires.begins.within c.requires.begins.fits.ready c.requires.act
 
 pub take-requires-then-word-eq0-clause-ready : goal.take-requires-then-word-eq0-clause-ready
-take-requires-then-word-eq0-clause-ready c = lost_ready c.args.self.now.course c.args.name c.args.must c.requires.within c.requires.fits.ready c.requires.act
+take-requires-then-word-eq0-clause-ready c = lost_ready c.args.self.now.frame c.args.name c.args.must c.requires.begins.within c.requires.begins.fits.ready c.requires.act
 
 pub returns-in_default-clause-stepped : goal.returns-in_default-clause-stepped
 returns-in_default-clause-stepped c =
@@ -33,15 +33,15 @@ returns-in_default-clause-stepped c =
     let t = c.args.self.now in
     let v = c.args.table.now in
     let r = c.requires in
-    let slots = t.course.holdings.slots.items in
-    acts_as d t v r.fits r.rest r.none r.within (Lock c.args.name c.args.must) r.act None Rest _ _ _
-    (lock_none v d (walk t.course) (task_at t.course).statement (rest t.course) c.args.name c.args.must (found_weak slots c.args.name
+    let slots = t.frame.registers.slots.items in
+    acts_as d t v r.begins (Lock c.args.name c.args.must) r.act None Rest _ _ _
+    (lock_none v d (frame_view t.frame) (task_at t.frame).statement (rest t.frame) c.args.name c.args.must (found_weak slots c.args.name
     c.from-from.result c.weak.result (None) c.weak.ensures c.from-from.ensures c.in_default.is)) refl
     (ap (λ (s : Said). Quiet s) (c.locked.ensures ∙ ap (λ n. lock_said n c.args.must false) c.statement-statement.ensures
-    ∙ lock_says v d (walk t.course) (task_at t.course).statement (rest t.course) c.args.name c.args.must (None) false (found_weak slots c.args.name
+    ∙ lock_says v d (frame_view t.frame) (task_at t.frame).statement (rest t.frame) c.args.name c.args.must (None) false (found_weak slots c.args.name
     c.from-from.result c.weak.result (None) c.weak.ensures c.from-from.ensures c.in_default.is) refl)) refl
-    (c.take.ensures.walk ∙ lock_went v d (walk t.course) (task_at t.course).statement (rest t.course) c.args.name c.args.must (None) false
-    (found_weak slots c.args.name c.from-from.result c.weak.result (None) c.weak.ensures c.from-from.ensures c.in_default.is) refl) r.rest
+    (c.take.ensures.frame_view ∙ lock_went v d (frame_view t.frame) (task_at t.frame).statement (rest t.frame) c.args.name c.args.must (None) false
+    (found_weak slots c.args.name c.from-from.result c.weak.result (None) c.weak.ensures c.from-from.ensures c.in_default.is) refl) r.begins.rest
 
 pub returns-in_default-clause-fits : goal.returns-in_default-clause-fits
 returns-in_default-clause-fits c =
@@ -49,8 +49,8 @@ returns-in_default-clause-fits c =
     let t = c.args.self.now in
     let v = c.args.table.now in
     let r = c.requires in
-    let slots = t.course.holdings.slots.items in
-    went_quiet d t v r.fits r.rest r.none r.within c.take.new.self (c.take.ensures.on d v r.fits.holds)
+    let slots = t.frame.registers.slots.items in
+    went_quiet d t v r.begins c.take.new.self (c.take.ensures.on d v r.begins.fits.holds)
 
 pub returns-then-word-eq0-clause-stepped : goal.returns-then-word-eq0-clause-stepped
 returns-then-word-eq0-clause-stepped c =
@@ -58,21 +58,21 @@ returns-then-word-eq0-clause-stepped c =
     let t = c.args.self.now in
     let v = c.args.table.now in
     let r = c.requires in
-    let slots = t.course.holdings.slots.items in
+    let slots = t.frame.registers.slots.items in
     let look = c.look_lock-word.ensures in
     let p = c.in-Some.pointer in
     let zero : (c.look_lock-word.result == 0) ≡ true = eq-eqb _ _ c.if-word-eq0.true in
     let gone = ap not (sym look.left ∙ zero) in
-    acts_as d t v r.fits r.rest r.none r.within (Lock c.args.name c.args.must) r.act (Some (lock (story_state v) p)) Rest _ _ _
-    (lock_late v d (walk t.course) (task_at t.course).statement (rest t.course) c.args.name c.args.must p (found_weak slots c.args.name
+    acts_as d t v r.begins (Lock c.args.name c.args.must) r.act (Some (lock (model_state v) p)) Rest _ _ _
+    (lock_late v d (frame_view t.frame) (task_at t.frame).statement (rest t.frame) c.args.name c.args.must p (found_weak slots c.args.name
     c.from-from.result c.weak.result (Some p) c.weak.ensures c.from-from.ensures c.in-Some.is)
     (ap (λ (n : ℕ). n == 0) (sym look.word) ∙ zero)) refl
     (ap (λ (s : Said). Event s) (c.locked-then-word-eq0.ensures ∙ ap (λ n. lock_said n c.args.must false) c.statement-statement.ensures
-    ∙ lock_says v d (walk t.course) (task_at t.course).statement (rest t.course) c.args.name c.args.must (Some p) false (found_weak slots c.args.name
+    ∙ lock_says v d (frame_view t.frame) (task_at t.frame).statement (rest t.frame) c.args.name c.args.must (Some p) false (found_weak slots c.args.name
     c.from-from.result c.weak.result (Some p) c.weak.ensures c.from-from.ensures c.in-Some.is) gone))
     (look.table ∙ cond-true (c.look_lock-word.result == 0) _ _ zero)
-    (c.take-then-word-eq0.ensures.walk ∙ lock_went v d (walk t.course) (task_at t.course).statement (rest t.course) c.args.name c.args.must (Some p)
-    false (found_weak slots c.args.name c.from-from.result c.weak.result (Some p) c.weak.ensures c.from-from.ensures c.in-Some.is) gone) r.rest
+    (c.take-then-word-eq0.ensures.frame_view ∙ lock_went v d (frame_view t.frame) (task_at t.frame).statement (rest t.frame) c.args.name c.args.must (Some p)
+    false (found_weak slots c.args.name c.from-from.result c.weak.result (Some p) c.weak.ensures c.from-from.ensures c.in-Some.is) gone) r.begins.rest
 
 pub returns-then-word-eq0-clause-fits : goal.returns-then-word-eq0-clause-fits
 returns-then-word-eq0-clause-fits c =
@@ -80,15 +80,15 @@ returns-then-word-eq0-clause-fits c =
     let t = c.args.self.now in
     let v = c.args.table.now in
     let r = c.requires in
-    let slots = t.course.holdings.slots.items in
+    let slots = t.frame.registers.slots.items in
     let look = c.look_lock-word.ensures in
     let p = c.in-Some.pointer in
     let zero : (c.look_lock-word.result == 0) ≡ true = eq-eqb _ _ c.if-word-eq0.true in
     let gone = ap not (sym look.left ∙ zero) in
     let after = c.take-then-word-eq0.new.self in
     let w = c.look_lock-word.new.table in
-    subst (λ (h : Half). FitsThread d (record { course = after; stock = t.stock; half = h }) w) (sym r.rest)
-    (fits_done (lock (story_state v)) d t v w (Some p) after c.known.ensures r.fits r.rest r.none (λ x. refl) (λ x. refl)
+    subst (λ (h : PendingCall). FitsThread d (record { frame = after; stock = t.stock; pending_call = h }) w) (sym r.begins.rest)
+    (fits_done (lock (model_state v)) d t v w (Some p) after c.known.ensures r.begins.fits r.begins.rest r.begins.none (λ x. refl) (λ x. refl)
     (look.table ∙ cond-true (c.look_lock-word.result == 0) _ _ zero) (c.take-then-word-eq0.ensures.on d w look.holds))
 
 pub returns-clause-stepped : goal.returns-clause-stepped
@@ -97,13 +97,13 @@ returns-clause-stepped c =
     let t = c.args.self.now in
     let v = c.args.table.now in
     let r = c.requires in
-    let slots = t.course.holdings.slots.items in
+    let slots = t.frame.registers.slots.items in
     let look = c.look_lock-word.ensures in
     let p = c.in-Some.pointer in
     let some : (c.look_lock-word.result == 0) ≡ false = ne_eqb _ _ c.if-word-eq0.false in
     let other = ap (λ (n : ℕ). n == 0) (sym look.word) ∙ some in
-    steps_as d t v r.fits r.rest r.none r.within (Lock c.args.name c.args.must) r.act (trying (walk t.course) (task_at t.course).statement (owner_word v p))
-    _ _ _ (lock_found v d (walk t.course) (task_at t.course).statement (rest t.course) c.args.name c.args.must p (found_weak slots c.args.name
+    steps_as d t v r.begins (Lock c.args.name c.args.must) r.act (trying (frame_view t.frame) (task_at t.frame).statement (owner_word v p))
+    _ _ _ (lock_found v d (frame_view t.frame) (task_at t.frame).statement (rest t.frame) c.args.name c.args.must p (found_weak slots c.args.name
     c.from-from.result c.weak.result (Some p) c.weak.ensures c.from-from.ensures c.in-Some.is) other) refl
     (ap (λ (s : Said). Quiet s) (c.silent.ensures ∙ ap silent c.statement-statement.ensures))
     (look.table ∙ cond-false (c.look_lock-word.result == 0) _ _ some) refl
@@ -115,14 +115,14 @@ returns-clause-fits c =
     let t = c.args.self.now in
     let v = c.args.table.now in
     let r = c.requires in
-    let slots = t.course.holdings.slots.items in
+    let slots = t.frame.registers.slots.items in
     let look = c.look_lock-word.ensures in
     let p = c.in-Some.pointer in
     let some : (c.look_lock-word.result == 0) ≡ false = ne_eqb _ _ c.if-word-eq0.false in
     let word = c.look_lock-word.result in
     let full = ap (λ (a : Act). is_full (locked_pointer slots a)) r.act ∙ ap is_full (found_weak slots c.args.name c.from-from.result c.weak.result
     (Some p) c.weak.ensures c.from-from.ensures c.in-Some.is) in
-    subst (λ (u : Story). FitsThread d (record { course = t.course; stock = t.stock; half = Locking word }) u)
+    subst (λ (u : GhostState). FitsThread d (record { frame = t.frame; stock = t.stock; pending_call = Locking word }) u)
     (sym (look.table ∙ cond-false (word == 0) _ _ some))
-    (fits_half d t v Rest (Locking word) r.fits r.rest (λ b. refl) (λ b. refl)
-    (is_idle d t v r.fits r.rest r.none r.within, (let z = c.if-word-eq0.false in omega (arith, z))) (r.within, full, r.none))
+    (fits_pending_call d t v Rest (Locking word) r.begins.fits r.begins.rest (λ b. refl) (λ b. refl)
+    (is_idle d t v r.begins, (let z = c.if-word-eq0.false in omega (arith, z))) (r.begins.within, full, r.begins.none))

@@ -1,7 +1,7 @@
 use Rattle.std.proofs.Common.{◌≡◌, ◌∙◌, ◌==◌, true, drop, sym, subst, arith, eq-eqb}
 use Rattle.std.proofs.lemmas.Bool.{cond-true}
-use Rattle.step_table.specs.declared.memory.past.Deed.TheVariants as deed
-use Rattle.step_table.specs.Stories.{Story, story_after_deed}
+use Rattle.step_table.specs.declared.memory.past.AtomicStep.TheVariants as atomic_step
+use Rattle.step_table.specs.GhostStates.{GhostState, ghost_after_step}
 use Rattle.step_threads.specs.Threads.{FitsThread}
 use Rattle.step_threads.proofs.EndSteps.{fits_clear, idle_here}
 use Rattle.step_threads.proofs.holding.Ends.{ending_here, first_is}
@@ -19,10 +19,11 @@ returns-clause-fits c =
     let v = c.args.table.now in
     let d = c.args.desk in
     let e = c.args.ending in
-    let is = ending_here d v t.course.endings.list e c.requires.fits.endings.all c.requires.first in
+    let is = ending_here d v t.frame.endings.list e c.requires.fits.endings.all c.requires.first in
     let low = c.if-look_member-gt0.false in
     let zero : (c.look_member.result == 0) ≡ true = eq-eqb c.look_member.result 0 (omega (arith, low)) in
-    subst (λ (u : Story). FitsThread d (record { course = record t.course { endings = c.advance.new.self }; stock = t.stock; half = t.half }) u)
-    (sym (c.look_member.ensures.after ∙ cond-true (c.look_member.result == 0) (story_after_deed v d (deed.Clear e.block e.stage)) v zero))
-    (fits_clear d t v e c.advance.new.self (drop 1 t.course.endings.list) c.known.ensures c.requires.fits c.requires.rest
-    (first_is t.course.endings.list e c.requires.first) c.advance.ensures.list c.advance.ensures.room is c.requires.inside c.requires.empty)
+    subst (λ (u : GhostState). FitsThread d (record { frame = record t.frame { endings = c.advance.new.self }; stock = t.stock; pending_call = t.pending_call })
+    u)
+    (sym (c.look_member.ensures.after ∙ cond-true (c.look_member.result == 0) (ghost_after_step v d (atomic_step.Clear e.block e.stage)) v zero))
+    (fits_clear d t v e c.advance.new.self (drop 1 t.frame.endings.list) c.known.ensures c.requires.fits c.requires.rest
+    (first_is t.frame.endings.list e c.requires.first) c.advance.ensures.list c.advance.ensures.room is c.requires.inside c.requires.empty)

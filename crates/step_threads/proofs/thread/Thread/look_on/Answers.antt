@@ -1,7 +1,7 @@
 use Rattle.std.proofs.Common.{sym, subst}
 use Rattle.step_threads.specs.declared.programs.act.Act.TheVariants.{Compare, Load}
-use Rattle.step_threads.specs.declared.half.Half.{Half}
-use Rattle.step_threads.specs.declared.half.Half.TheVariants.{Saw}
+use Rattle.step_threads.specs.declared.pending_call.PendingCall.{PendingCall}
+use Rattle.step_threads.specs.declared.pending_call.PendingCall.TheVariants.{Saw}
 use Rattle.step_threads.specs.Threads.{IsNext}
 use Rattle.step_threads.proofs.StoreFits.{act_here}
 use Rattle.step_threads.proofs.thread.Thread.look_on.Goals as goal
@@ -9,8 +9,8 @@ use Rattle.step_threads.proofs.thread.Thread.look_on.Goals as goal
 pub take-requires-clause-fits : goal.take-requires-clause-fits
 take-requires-clause-fits c = c.requires.fits
 
-pub take-requires-clause-half : goal.take-requires-clause-half
-take-requires-clause-half c = c.requires.half
+pub take-requires-clause-pending_call : goal.take-requires-clause-pending_call
+take-requires-clause-pending_call c = c.requires.pending_call
 
 pub take-requires-clause-act : goal.take-requires-clause-act
 take-requires-clause-act c =
@@ -18,14 +18,14 @@ take-requires-clause-act c =
     let t = c.args.self.now in
     let v = c.args.table.now in
     let r = c.requires in
-    let next : IsNext (Saw c.args.found) t.course = subst (λ (h : Half). IsNext h t.course) r.half r.fits.next in
-    act_here t.course c.index.result.now (Load c.in-Load.cell) next.0 c.index.ensures c.in-Load.is
+    let next : IsNext (Saw c.args.found) t.frame = subst (λ (h : PendingCall). IsNext h t.frame) r.pending_call r.fits.next in
+    act_here t.frame c.index.result.now (Load c.in-Load.cell) next.0 c.index.ensures c.in-Load.is
 
 pub fetch-requires-clause-fits : goal.fetch-requires-clause-fits
 fetch-requires-clause-fits c = c.requires.fits
 
-pub fetch-requires-clause-half : goal.fetch-requires-clause-half
-fetch-requires-clause-half c = c.requires.half
+pub fetch-requires-clause-pending_call : goal.fetch-requires-clause-pending_call
+fetch-requires-clause-pending_call c = c.requires.pending_call
 
 pub fetch-requires-clause-act : goal.fetch-requires-clause-act
 fetch-requires-clause-act c =
@@ -33,14 +33,14 @@ fetch-requires-clause-act c =
     let t = c.args.self.now in
     let v = c.args.table.now in
     let r = c.requires in
-    let next : IsNext (Saw c.args.found) t.course = subst (λ (h : Half). IsNext h t.course) r.half r.fits.next in
-    act_here t.course c.index.result.now (Compare c.in-Compare.name c.in-Compare.cell c.in-Compare.weak) next.0 c.index.ensures c.in-Compare.is
+    let next : IsNext (Saw c.args.found) t.frame = subst (λ (h : PendingCall). IsNext h t.frame) r.pending_call r.fits.next in
+    act_here t.frame c.index.result.now (Compare c.in-Compare.name c.in-Compare.cell c.in-Compare.weak) next.0 c.index.ensures c.in-Compare.is
 
 pub differ-requires-clause-fits : goal.differ-requires-clause-fits
 differ-requires-clause-fits c = c.requires.fits
 
-pub differ-requires-clause-half : goal.differ-requires-clause-half
-differ-requires-clause-half c = c.requires.half
+pub differ-requires-clause-pending_call : goal.differ-requires-clause-pending_call
+differ-requires-clause-pending_call c = c.requires.pending_call
 
 pub differ-requires-clause-act : goal.differ-requires-clause-act
 differ-requires-clause-act c =
@@ -48,8 +48,8 @@ differ-requires-clause-act c =
     let t = c.args.self.now in
     let v = c.args.table.now in
     let r = c.requires in
-    let next : IsNext (Saw c.args.found) t.course = subst (λ (h : Half). IsNext h t.course) r.half r.fits.next in
-    act_here t.course c.index.result.now (Compare c.in-Compare.name c.in-Compare.cell c.in-Compare.weak) next.0 c.index.ensures c.in-Compare.is
+    let next : IsNext (Saw c.args.found) t.frame = subst (λ (h : PendingCall). IsNext h t.frame) r.pending_call r.fits.next in
+    act_here t.frame c.index.result.now (Compare c.in-Compare.name c.in-Compare.cell c.in-Compare.weak) next.0 c.index.ensures c.in-Compare.is
 
 pub fetch-requires-clause-alike : goal.fetch-requires-clause-alike
 fetch-requires-clause-alike c = sym c.if-is_alike.ensures

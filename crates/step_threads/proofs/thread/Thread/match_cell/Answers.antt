@@ -1,15 +1,15 @@
 use Rattle.std.proofs.Common.{ℕ, true, sym, ap, subst, ◌∙◌}
 use Rattle.std.proofs.lemmas.Bool.{cond-false, cond-true}
 use Rattle.control_word.specs.declared.model.handle.Kind.{Kind}
-use Rattle.step_table.specs.CellDeeds.{kind_in_state}
+use Rattle.step_table.specs.CellAtomicSteps.{kind_in_state}
 use Rattle.step_table.specs.Contents.{compared_in}
-use Rattle.step_table.specs.Holdings.{slot_pointer}
-use Rattle.step_table.specs.Stories.{Story, story_state}
-use Rattle.step_threads.specs.declared.course.Course.{Course}
-use Rattle.step_threads.specs.declared.half.Half.{Half}
+use Rattle.step_table.specs.Registers.{slot_pointer}
+use Rattle.step_table.specs.GhostStates.{GhostState, model_state}
+use Rattle.step_threads.specs.declared.frame.Frame.{Frame}
+use Rattle.step_threads.specs.declared.pending_call.PendingCall.{PendingCall}
 use Rattle.step_threads.specs.declared.said.Said.{Said}
 use Rattle.step_threads.specs.declared.said.Stepped.TheVariants.{Event, Quiet}
-use Rattle.step_threads.specs.Courses.{cell_of_name, comparing, hand, walk}
+use Rattle.step_threads.specs.Frames.{cell_of_name, comparing, hand, frame_view}
 use Rattle.step_threads.specs.Passing.{HasGoneOn}
 use Rattle.step_threads.specs.Steps.{gives_back, missed, silent}
 use Rattle.step_threads.specs.Threads.{FitsThread}
@@ -31,12 +31,12 @@ returns-then-not-compare_and_swap-clause-stepped c =
     let r = c.requires in
     let swap = c.compare_and_swap in
     let miss = c.if-not-compare_and_swap.true in
-    let slots = t.course.holdings.slots.items in
-    swaps_none d t v k n c.args.weak x (match_within d t v k n c.args.weak x r.fits r.act r.half) r.act
-    (match_at d t v k n c.args.weak x r.fits r.act r.half r.alike r.owes) (match_goes d t v k n c.args.weak x r.fits r.act r.half) _ _ _
+    let slots = t.frame.registers.slots.items in
+    swaps_none d t v k n c.args.weak x (match_within d t v k n c.args.weak x r.fits r.act r.pending_call) r.act
+    (match_at d t v k n c.args.weak x r.fits r.act r.pending_call r.alike r.owes) (match_goes d t v k n c.args.weak x r.fits r.act r.pending_call) _ _ _
     (sym swap.ensures.same ∙ miss)
     (ap (λ (s : Said). Quiet s) (c.silent.ensures ∙ ap silent c.statement-statement.ensures)) (swap.ensures.table ∙ cond-false swap.result _ _ miss)
-    (ap walk (swap.ensures.stays miss))
+    (ap frame_view (swap.ensures.stays miss))
     (c.missed-self.ensures ∙ ap (missed c.statement-statement.result) (c.get-brought.ensures ∙ ap (slot_pointer slots) c.hand.ensures)
     ∙ ap (λ (m : ℕ). missed m (slot_pointer slots (hand slots))) c.statement-statement.ensures)
 
@@ -48,15 +48,15 @@ returns-then-not-compare_and_swap-clause-fits c =
     let r = c.requires in
     let swap = c.compare_and_swap in
     let miss = c.if-not-compare_and_swap.true in
-    let slots = t.course.holdings.slots.items in
+    let slots = t.frame.registers.slots.items in
     let m = c.statement-statement.result in
-    let half = c.missed-self.ensures ∙ ap (missed m) (c.get-brought.ensures ∙ ap (slot_pointer slots) c.hand.ensures) in
-    subst (λ (h : Half). FitsThread d (record { course = swap.new.self; stock = t.stock; half = h }) swap.new.table) (sym half)
-    (subst (λ (u : Story). FitsThread d (record { course = swap.new.self; stock = t.stock; half = missed m (slot_pointer slots (hand slots)) }) u)
+    let pending_call = c.missed-self.ensures ∙ ap (missed m) (c.get-brought.ensures ∙ ap (slot_pointer slots) c.hand.ensures) in
+    subst (λ (h : PendingCall). FitsThread d (record { frame = swap.new.self; stock = t.stock; pending_call = h }) swap.new.table) (sym pending_call)
+    (subst (λ (u : GhostState). FitsThread d (record { frame = swap.new.self; stock = t.stock; pending_call = missed m (slot_pointer slots (hand slots)) }) u)
     (sym (swap.ensures.table ∙ cond-false swap.result _ _ miss))
-    (subst (λ (q : Course). FitsThread d (record { course = q; stock = t.stock; half = missed m (slot_pointer slots (hand slots)) }) v)
+    (subst (λ (q : Frame). FitsThread d (record { frame = q; stock = t.stock; pending_call = missed m (slot_pointer slots (hand slots)) }) v)
     (sym (swap.ensures.stays miss))
-    (compare_missed d t v c.args.name c.args.cell c.args.weak c.args.found r.fits r.act m (looking_claims t c.args.found r.half) r.owes)))
+    (compare_missed d t v c.args.name c.args.cell c.args.weak c.args.found r.fits r.act m (looking_claims t c.args.found r.pending_call) r.owes)))
 
 pub returns-clause-stepped : goal.returns-clause-stepped
 returns-clause-stepped c =
@@ -70,15 +70,16 @@ returns-clause-stepped c =
     let swap = c.compare_and_swap in
     let hit = c.if-not-compare_and_swap.false in
     let same = sym swap.ensures.same ∙ hit in
-    let within = match_within d t v k n c.args.weak x r.fits r.act r.half in
-    let kind = c.kind_in-kind.ensures ∙ ap (kind_in_state (story_state v)) c.cell-at.ensures in
-    swaps_it d t v k n c.args.weak x within r.act (match_at d t v k n c.args.weak x r.fits r.act r.half r.alike r.owes)
-    (match_goes d t v k n c.args.weak x r.fits r.act r.half) _ _ _ same
-    (tells_still d t v k n c.args.weak x r.fits r.act true c.known.ensures within (match_valid d t v k n c.args.weak x r.fits r.act r.half) same r.alike)
+    let within = match_within d t v k n c.args.weak x r.fits r.act r.pending_call in
+    let kind = c.kind_in-kind.ensures ∙ ap (kind_in_state (model_state v)) c.cell-at.ensures in
+    swaps_it d t v k n c.args.weak x within r.act (match_at d t v k n c.args.weak x r.fits r.act r.pending_call r.alike r.owes)
+    (match_goes d t v k n c.args.weak x r.fits r.act r.pending_call) _ _ _ same
+    (tells_still d t v k n c.args.weak x r.fits r.act true c.known.ensures within (match_valid d t v k n c.args.weak x r.fits r.act r.pending_call) same
+    r.alike)
     (ap (λ (s : Said). Event s) (c.compared.ensures ∙ ap (λ (m : ℕ). answers m true) c.statement-statement.ensures))
-    (swap.ensures.table ∙ cond-true swap.result _ _ hit) (swap.ensures.walk hit)
+    (swap.ensures.table ∙ cond-true swap.result _ _ hit) (swap.ensures.frame_view hit)
     (c.returning-self.ensures ∙ ap (λ (q : Kind). gives_back q c.statement-statement.result x x.owned) kind
-    ∙ ap (λ (m : ℕ). gives_back (kind_in_state (story_state v) (cell_of_name (story_state v) t.course.holdings.slots.items n)) m x x.owned)
+    ∙ ap (λ (m : ℕ). gives_back (kind_in_state (model_state v) (cell_of_name (model_state v) t.frame.registers.slots.items n)) m x x.owned)
     c.statement-statement.ensures)
 
 pub returns-clause-fits : goal.returns-clause-fits
@@ -92,31 +93,31 @@ returns-clause-fits c =
     let r = c.requires in
     let swap = c.compare_and_swap in
     let hit = c.if-not-compare_and_swap.false in
-    let slots = t.course.holdings.slots.items in
+    let slots = t.frame.registers.slots.items in
     let m = c.statement-statement.result in
     let table = swap.ensures.table ∙ cond-true swap.result _ _ hit in
-    let kind = c.kind_in-kind.ensures ∙ ap (kind_in_state (story_state v)) c.cell-at.ensures in
-    subst (λ (h : Half). FitsThread d (record { course = swap.new.self; stock = t.stock; half = h }) swap.new.table)
+    let kind = c.kind_in-kind.ensures ∙ ap (kind_in_state (model_state v)) c.cell-at.ensures in
+    subst (λ (h : PendingCall). FitsThread d (record { frame = swap.new.self; stock = t.stock; pending_call = h }) swap.new.table)
     (sym (c.returning-self.ensures ∙ ap (λ (q : Kind). gives_back q m x x.owned) kind))
-    (subst (λ (u : Story). FitsThread d (record {
-      course = swap.new.self;
+    (subst (λ (u : GhostState). FitsThread d (record {
+      frame = swap.new.self;
       stock = t.stock;
-      half = gives_back (kind_in_state (story_state v) (cell_of_name (story_state v) t.course.holdings.slots.items n)) m x x.owned;
+      pending_call = gives_back (kind_in_state (model_state v) (cell_of_name (model_state v) t.frame.registers.slots.items n)) m x x.owned;
     }) u) (sym table)
     (compare_swapped d t v k n c.args.weak x r.fits r.act swap.new.self (compared_in slots (comparing slots k c.args.weak)) c.known.ensures m
-    (looking_claims t x r.half) (match_none d t v k n c.args.weak x r.fits r.act r.half)
-    (subst (λ (u : Story). HasGoneOn d t.course swap.new.self u) table (swap.ensures.on hit))))
+    (looking_claims t x r.pending_call) (match_none d t v k n c.args.weak x r.fits r.act r.pending_call)
+    (subst (λ (u : GhostState). HasGoneOn d t.frame swap.new.self u) table (swap.ensures.on hit))))
 
 pub cell-at-requires-clause-named : goal.cell-at-requires-clause-named
 cell-at-requires-clause-named c =
     let t = c.args.self.now in
     let r = c.requires in
-    let within = match_within c.args.desk t c.args.table.now c.args.name c.args.cell c.args.weak c.args.found r.fits r.act r.half in
-    named_compare t.course c.args.cell within r.fits.ready c.args.name c.args.weak r.act
+    let within = match_within c.args.desk t c.args.table.now c.args.name c.args.cell c.args.weak c.args.found r.fits r.act r.pending_call in
+    named_compare t.frame c.args.cell within r.fits.ready c.args.name c.args.weak r.act
 
 pub cell-at-requires-clause-there : goal.cell-at-requires-clause-there
 cell-at-requires-clause-there c =
     let t = c.args.self.now in
     let r = c.requires in
-    let within = match_within c.args.desk t c.args.table.now c.args.name c.args.cell c.args.weak c.args.found r.fits r.act r.half in
-    (may_compare t.course c.args.name c.args.cell c.args.weak within r.fits.ready r.act r.fits.still).0
+    let within = match_within c.args.desk t c.args.table.now c.args.name c.args.cell c.args.weak c.args.found r.fits r.act r.pending_call in
+    (may_compare t.frame c.args.name c.args.cell c.args.weak within r.fits.ready r.act r.fits.still).0

@@ -1,6 +1,6 @@
 use Rattle.std.proofs.Common.{◌∙◌, refl, ap}
 use Rattle.std.specs.Prelude.{None}
-use Rattle.step_threads.specs.declared.half.Half.TheVariants.{Rest}
+use Rattle.step_threads.specs.declared.pending_call.PendingCall.TheVariants.{Rest}
 use Rattle.step_threads.specs.declared.said.Said.{Said}
 use Rattle.step_threads.specs.declared.said.Stepped.TheVariants.{Quiet}
 use Rattle.step_threads.specs.Steps.{silent}
@@ -14,8 +14,8 @@ returns-clause-stepped c =
     let t = c.args.self.now in
     let v = c.args.table.now in
     let r = c.requires in
-    acts_as d t v r.fits r.rest r.none r.within (Move c.args.name) r.act None Rest _ _ _ refl refl
-    (ap (λ (s : Said). Quiet s) (c.silent.ensures ∙ ap silent c.statement-statement.ensures)) refl c.pull.ensures.walk r.rest
+    acts_as d t v r.begins (Move c.args.name) r.act None Rest _ _ _ refl refl
+    (ap (λ (s : Said). Quiet s) (c.silent.ensures ∙ ap silent c.statement-statement.ensures)) refl c.pull.ensures.frame_view r.begins.rest
 
 pub returns-clause-fits : goal.returns-clause-fits
 returns-clause-fits c =
@@ -23,4 +23,4 @@ returns-clause-fits c =
     let t = c.args.self.now in
     let v = c.args.table.now in
     let r = c.requires in
-    went_quiet d t v r.fits r.rest r.none r.within c.pull.new.self (c.pull.ensures.on d v r.fits.holds)
+    went_quiet d t v r.begins c.pull.new.self (c.pull.ensures.on d v r.begins.fits.holds)

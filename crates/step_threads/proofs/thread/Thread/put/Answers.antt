@@ -1,17 +1,17 @@
 use Rattle.std.proofs.Common.{◌≡◌, ◌∙◌, Bool, false, cond, refl, sym, ap}
 use Rattle.std.specs.Prelude.{Option, None, option_map, slice_set}
 use Rattle.step_threads.specs.declared.programs.act.Act.TheVariants as act
-use Rattle.step_table.specs.declared.slots.holdings.Pointer.{Pointer}
-use Rattle.step_threads.specs.Courses.{Walk, done_on, placed, rest, task_at, walk}
-use Rattle.step_threads.specs.declared.half.Half.TheVariants.{Rest}
+use Rattle.step_table.specs.declared.slots.registers.Pointer.{Pointer}
+use Rattle.step_threads.specs.Frames.{FrameView, done_on, placed, rest, task_at, frame_view}
+use Rattle.step_threads.specs.declared.pending_call.PendingCall.TheVariants.{Rest}
 use Rattle.step_threads.specs.Steps.{step_of_act}
 use Rattle.step_threads.specs.declared.said.Stepped.TheVariants.{Event, Quiet}
-use Rattle.step_table.specs.Deeds.{is_last, leave, on}
-use Rattle.step_table.specs.Holdings.{plain, slot_pointer}
+use Rattle.step_table.specs.AtomicSteps.{is_last, leave, on}
+use Rattle.step_table.specs.Registers.{plain, slot_pointer}
 use Rattle.step_threads.specs.Rows.{ending_by}
-use Rattle.step_threads.specs.Scenes.{ended_by}
-use Rattle.step_table.specs.Stories.{story_state}
-use Rattle.step_threads.proofs.Courses.{settled_taken}
+use Rattle.step_threads.specs.AbstractStates.{ended_by}
+use Rattle.step_table.specs.GhostStates.{model_state}
+use Rattle.step_threads.proofs.Frames.{settled_taken}
 use Rattle.step_threads.proofs.Endings.{HasLeft, begins_room, ending_left, fits_left, room_weak}
 use Rattle.step_threads.proofs.LeaveSteps.{stepped_left, went_left}
 use Rattle.step_threads.proofs.thread.Thread.put.Goals as goal
@@ -19,90 +19,90 @@ use Rattle.step_threads.proofs.thread.Thread.put.Goals as goal
 pub left-ended-requires-clause-ending : goal.left-ended-requires-clause-ending
 left-ended-requires-clause-ending c = λ x.
     let v = c.args.table.now in
-    let slots = c.args.self.now.course.holdings.slots.items in
+    let slots = c.args.self.now.frame.registers.slots.items in
     let h : c.get-held.result ≡ slot_pointer slots c.args.name = c.get-held.ensures ∙ ap (slot_pointer slots) c.from.ensures in
-    let is : c.put-last.new.table ≡ done_on (leave (story_state v)) v c.args.desk c.get-held.result =
-    c.put-last.ensures.table ∙ ap (done_on (leave (story_state v)) v c.args.desk) (sym h) in
-    let said : c.put-last.result ≡ on (is_last (story_state v)) false c.get-held.result =
-    c.put-last.ensures.last ∙ ap (on (is_last (story_state v)) false) (sym h) in
+    let is : c.put-last.new.table ≡ done_on (leave (model_state v)) v c.args.desk c.get-held.result =
+    c.put-last.ensures.table ∙ ap (done_on (leave (model_state v)) v c.args.desk) (sym h) in
+    let said : c.put-last.result ≡ on (is_last (model_state v)) false c.get-held.result =
+    c.put-last.ensures.last ∙ ap (on (is_last (model_state v)) false) (sym h) in
     ending_left v c.put-last.new.table c.args.desk c.get-held.result c.put-last.result x is said
 
 pub left-ended-requires-clause-begins : goal.left-ended-requires-clause-begins
 left-ended-requires-clause-begins c = λ x.
     let v = c.args.table.now in
-    let slots = c.args.self.now.course.holdings.slots.items in
+    let slots = c.args.self.now.frame.registers.slots.items in
     let h : c.get-held.result ≡ slot_pointer slots c.args.name = c.get-held.ensures ∙ ap (slot_pointer slots) c.from.ensures in
-    let is : c.put-last.new.table ≡ done_on (leave (story_state v)) v c.args.desk c.get-held.result =
-    c.put-last.ensures.table ∙ ap (done_on (leave (story_state v)) v c.args.desk) (sym h) in
-    let said : c.put-last.result ≡ on (is_last (story_state v)) false c.get-held.result =
-    c.put-last.ensures.last ∙ ap (on (is_last (story_state v)) false) (sym h) in
+    let is : c.put-last.new.table ≡ done_on (leave (model_state v)) v c.args.desk c.get-held.result =
+    c.put-last.ensures.table ∙ ap (done_on (leave (model_state v)) v c.args.desk) (sym h) in
+    let said : c.put-last.result ≡ on (is_last (model_state v)) false c.get-held.result =
+    c.put-last.ensures.last ∙ ap (on (is_last (model_state v)) false) (sym h) in
     begins_room v c.put-last.new.table c.args.desk c.args.self.now c.put-last.new.self
-    c.get-held.result c.put-last.result x c.known-2.ensures c.requires.fits c.requires.none c.put-last.ensures.on.endings is said
+    c.get-held.result c.put-last.result x c.known-2.ensures c.requires.begins.fits c.requires.begins.none c.put-last.ensures.on.endings is said
 
 pub left-ended-requires-clause-room : goal.left-ended-requires-clause-room
 left-ended-requires-clause-room c = λ x.
     let v = c.args.table.now in
-    let slots = c.args.self.now.course.holdings.slots.items in
+    let slots = c.args.self.now.frame.registers.slots.items in
     let h : c.get-held.result ≡ slot_pointer slots c.args.name = c.get-held.ensures ∙ ap (slot_pointer slots) c.from.ensures in
-    let is : c.put-last.new.table ≡ done_on (leave (story_state v)) v c.args.desk c.get-held.result =
-    c.put-last.ensures.table ∙ ap (done_on (leave (story_state v)) v c.args.desk) (sym h) in
-    let said : c.put-last.result ≡ on (is_last (story_state v)) false c.get-held.result =
-    c.put-last.ensures.last ∙ ap (on (is_last (story_state v)) false) (sym h) in
+    let is : c.put-last.new.table ≡ done_on (leave (model_state v)) v c.args.desk c.get-held.result =
+    c.put-last.ensures.table ∙ ap (done_on (leave (model_state v)) v c.args.desk) (sym h) in
+    let said : c.put-last.result ≡ on (is_last (model_state v)) false c.get-held.result =
+    c.put-last.ensures.last ∙ ap (on (is_last (model_state v)) false) (sym h) in
     room_weak v c.put-last.new.table c.args.desk c.args.self.now c.get-held.result c.put-last.result x c.known.ensures c.known-2.ensures
-    c.requires.fits c.requires.rest is said
+    c.requires.begins.fits c.requires.begins.rest is said
 
 pub returns-clause-fits : goal.returns-clause-fits
 returns-clause-fits c =
     let v = c.args.table.now in
-    let slots = c.args.self.now.course.holdings.slots.items in
+    let slots = c.args.self.now.frame.registers.slots.items in
     let h : c.get-held.result ≡ slot_pointer slots c.args.name = c.get-held.ensures ∙ ap (slot_pointer slots) c.from.ensures in
-    let is : c.put-last.new.table ≡ done_on (leave (story_state v)) v c.args.desk c.get-held.result =
-    c.put-last.ensures.table ∙ ap (done_on (leave (story_state v)) v c.args.desk) (sym h) in
-    let said : c.put-last.result ≡ on (is_last (story_state v)) false c.get-held.result =
-    c.put-last.ensures.last ∙ ap (on (is_last (story_state v)) false) (sym h) in
-    let has : HasLeft c.args.desk c.args.self.now.course c.put-last.new.self c.left-ended.new.self.course c.put-last.new.table c.statement-statement.result
+    let is : c.put-last.new.table ≡ done_on (leave (model_state v)) v c.args.desk c.get-held.result =
+    c.put-last.ensures.table ∙ ap (done_on (leave (model_state v)) v c.args.desk) (sym h) in
+    let said : c.put-last.result ≡ on (is_last (model_state v)) false c.get-held.result =
+    c.put-last.ensures.last ∙ ap (on (is_last (model_state v)) false) (sym h) in
+    let has : HasLeft c.args.desk c.args.self.now.frame c.put-last.new.self c.left-ended.new.self.frame c.put-last.new.table c.statement-statement.result
     c.get-held.result c.put-last.result =
     record {
       gone = c.put-last.ensures.on;
-      empty = ap (λ (w : Walk). w.taken) c.put-last.ensures.walk
-          ∙ settled_taken (placed c.args.name (slice_set slots c.args.name plain)) c.args.self.now.course.endings.list (rest c.args.self.now.course);
-      same = c.left-ended.ensures.course;
+      empty = ap (λ (w : FrameView). w.taken) c.put-last.ensures.frame_view
+          ∙ settled_taken (placed c.args.name (slice_set slots c.args.name plain)) c.args.self.now.frame.endings.list (rest c.args.self.now.frame);
+      same = c.left-ended.ensures.frame;
       list = c.left-ended.ensures.endings;
       roomy = c.left-ended.ensures.roomy;
     } in
     fits_left c.args.desk c.args.self.now c.left-ended.new.self v c.put-last.new.table c.put-last.new.self
     c.statement-statement.result c.get-held.result c.put-last.result c.known.ensures c.known-2.ensures
-    c.requires.fits c.requires.rest c.requires.none is said has c.left-ended.ensures.half c.left-ended.ensures.stock
+    c.requires.begins.fits c.requires.begins.rest c.requires.begins.none is said has c.left-ended.ensures.pending_call c.left-ended.ensures.stock
 
 pub returns-clause-stepped : goal.returns-clause-stepped
 returns-clause-stepped c =
     let v = c.args.table.now in
-    let slots = c.args.self.now.course.holdings.slots.items in
+    let slots = c.args.self.now.frame.registers.slots.items in
     let h : c.get-held.result ≡ slot_pointer slots c.args.name = c.get-held.ensures ∙ ap (slot_pointer slots) c.from.ensures in
-    let is : c.put-last.new.table ≡ done_on (leave (story_state v)) v c.args.desk c.get-held.result =
-    c.put-last.ensures.table ∙ ap (done_on (leave (story_state v)) v c.args.desk) (sym h) in
-    let said : c.put-last.result ≡ on (is_last (story_state v)) false c.get-held.result =
-    c.put-last.ensures.last ∙ ap (on (is_last (story_state v)) false) (sym h) in
-    let has : HasLeft c.args.desk c.args.self.now.course c.put-last.new.self c.left-ended.new.self.course c.put-last.new.table c.statement-statement.result
+    let is : c.put-last.new.table ≡ done_on (leave (model_state v)) v c.args.desk c.get-held.result =
+    c.put-last.ensures.table ∙ ap (done_on (leave (model_state v)) v c.args.desk) (sym h) in
+    let said : c.put-last.result ≡ on (is_last (model_state v)) false c.get-held.result =
+    c.put-last.ensures.last ∙ ap (on (is_last (model_state v)) false) (sym h) in
+    let has : HasLeft c.args.desk c.args.self.now.frame c.put-last.new.self c.left-ended.new.self.frame c.put-last.new.table c.statement-statement.result
     c.get-held.result c.put-last.result =
     record {
       gone = c.put-last.ensures.on;
-      empty = ap (λ (w : Walk). w.taken) c.put-last.ensures.walk
-          ∙ settled_taken (placed c.args.name (slice_set slots c.args.name plain)) c.args.self.now.course.endings.list (rest c.args.self.now.course);
-      same = c.left-ended.ensures.course;
+      empty = ap (λ (w : FrameView). w.taken) c.put-last.ensures.frame_view
+          ∙ settled_taken (placed c.args.name (slice_set slots c.args.name plain)) c.args.self.now.frame.endings.list (rest c.args.self.now.frame);
+      same = c.left-ended.ensures.frame;
       list = c.left-ended.ensures.endings;
       roomy = c.left-ended.ensures.roomy;
     } in
     stepped_left c.args.desk c.args.self.now c.left-ended.new.self v c.put-last.new.table c.says.result
     (act.Put c.args.name) c.get-held.result c.put-last.result
-    c.left-ended.result c.statement-statement.result c.statement-statement.ensures c.requires.rest c.requires.none c.requires.within c.requires.act refl
-    (ap (λ (o : Option Pointer). step_of_act v c.args.desk (walk c.args.self.now.course) (task_at c.args.self.now.course).statement
-    (rest c.args.self.now.course)
-    (act.Put c.args.name) (option_map (leave (story_state v)) o) Rest) (sym h))
-    refl (ap (λ (o : Option Pointer). ended_by (story_state v) o) (sym h)) is said
-    c.left-ended.ensures.ended c.left-ended.ensures.half
-    (went_left c.args.desk c.args.self.now.course c.put-last.new.self c.left-ended.new.self.course v c.put-last.new.table
+    c.left-ended.result c.statement-statement.result c.statement-statement.ensures c.requires.begins.rest c.requires.begins.none c.requires.begins.within c.requires.act refl
+    (ap (λ (o : Option Pointer). step_of_act v c.args.desk (frame_view c.args.self.now.frame) (task_at c.args.self.now.frame).statement
+    (rest c.args.self.now.frame)
+    (act.Put c.args.name) (option_map (leave (model_state v)) o) Rest) (sym h))
+    refl (ap (λ (o : Option Pointer). ended_by (model_state v) o) (sym h)) is said
+    c.left-ended.ensures.ended c.left-ended.ensures.pending_call
+    (went_left c.args.desk c.args.self.now.frame c.put-last.new.self c.left-ended.new.self.frame v c.put-last.new.table
     (act.Put c.args.name) c.get-held.result c.put-last.result c.statement-statement.result has
-    (ap (λ (o : Option Pointer). ending_by (on (is_last (story_state v)) false o) o) (sym h)) said c.put-last.ensures.walk)
+    (ap (λ (o : Option Pointer). ending_by (on (is_last (model_state v)) false o) o) (sym h)) said c.put-last.ensures.frame_view)
     (c.says.ensures ∙ ap (λ (b : Bool). cond b (Event (record { statement = c.statement-statement.result; answer = None; ended = c.left-ended.result }))
     (Quiet (record { statement = c.statement-statement.result; answer = None; ended = c.left-ended.result }))) c.is_some.ensures)

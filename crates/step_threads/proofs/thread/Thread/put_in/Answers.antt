@@ -1,21 +1,21 @@
 use Rattle.std.proofs.Common.{◌≡◌, true, inr, subst}
 use Rattle.std.specs.Prelude.{is_some}
 use Rattle.step_table.specs.Contents.{owing_for}
-use Rattle.step_table.specs.Stories.{pending, story_state}
+use Rattle.step_table.specs.GhostStates.{pending, model_state}
 use Rattle.step_threads.specs.declared.programs.act.Act.{Act}
 use Rattle.step_threads.specs.declared.programs.act.Act.TheVariants.{Swap, Exchange}
-use Rattle.step_threads.specs.declared.half.Half.{Half}
-use Rattle.step_threads.specs.declared.half.Half.TheVariants.{Brought}
-use Rattle.step_threads.specs.Courses.{going, hand, new_of}
+use Rattle.step_threads.specs.declared.pending_call.PendingCall.{PendingCall}
+use Rattle.step_threads.specs.declared.pending_call.PendingCall.TheVariants.{Brought}
+use Rattle.step_threads.specs.Frames.{going, hand, new_of}
 use Rattle.step_threads.specs.Threads.{IsNext}
-use Rattle.step_threads.proofs.StoreFits.{act_here, going_parts, half_here}
+use Rattle.step_threads.proofs.StoreFits.{act_here, going_parts, pending_call_here}
 use Rattle.step_threads.proofs.thread.Thread.put_in.Goals as goal
 
 pub swap-requires-clause-fits : goal.swap-requires-clause-fits
 swap-requires-clause-fits c = c.requires.fits
 
-pub swap-requires-clause-half : goal.swap-requires-clause-half
-swap-requires-clause-half c = inr c.requires.half
+pub swap-requires-clause-pending_call : goal.swap-requires-clause-pending_call
+swap-requires-clause-pending_call c = inr c.requires.pending_call
 
 pub swap-requires-clause-none : goal.swap-requires-clause-none
 swap-requires-clause-none c =
@@ -23,8 +23,8 @@ swap-requires-clause-none c =
     let t = c.args.self.now in
     let v = c.args.table.now in
     let r = c.requires in
-    let slots = t.course.holdings.slots.items in
-    let next : IsNext Brought t.course = subst (λ (h : Half). IsNext h t.course) r.half r.fits.next in
+    let slots = t.frame.registers.slots.items in
+    let next : IsNext Brought t.frame = subst (λ (h : PendingCall). IsNext h t.frame) r.pending_call r.fits.next in
     next.2
 
 pub swap-requires-clause-within : goal.swap-requires-clause-within
@@ -33,8 +33,8 @@ swap-requires-clause-within c =
     let t = c.args.self.now in
     let v = c.args.table.now in
     let r = c.requires in
-    let slots = t.course.holdings.slots.items in
-    let next : IsNext Brought t.course = subst (λ (h : Half). IsNext h t.course) r.half r.fits.next in
+    let slots = t.frame.registers.slots.items in
+    let next : IsNext Brought t.frame = subst (λ (h : PendingCall). IsNext h t.frame) r.pending_call r.fits.next in
     next.0
 
 pub swap-requires-clause-act : goal.swap-requires-clause-act
@@ -43,9 +43,9 @@ swap-requires-clause-act c =
     let t = c.args.self.now in
     let v = c.args.table.now in
     let r = c.requires in
-    let slots = t.course.holdings.slots.items in
-    let next : IsNext Brought t.course = subst (λ (h : Half). IsNext h t.course) r.half r.fits.next in
-    act_here t.course c.index.result.now (Swap c.in-Swap.cell) next.0 c.index.ensures c.in-Swap.is
+    let slots = t.frame.registers.slots.items in
+    let next : IsNext Brought t.frame = subst (λ (h : PendingCall). IsNext h t.frame) r.pending_call r.fits.next in
+    act_here t.frame c.index.result.now (Swap c.in-Swap.cell) next.0 c.index.ensures c.in-Swap.is
 
 pub swap-requires-clause-there : goal.swap-requires-clause-there
 swap-requires-clause-there c =
@@ -53,9 +53,9 @@ swap-requires-clause-there c =
     let t = c.args.self.now in
     let v = c.args.table.now in
     let r = c.requires in
-    let slots = t.course.holdings.slots.items in
-    let next : IsNext Brought t.course = subst (λ (h : Half). IsNext h t.course) r.half r.fits.next in
-    let is = act_here t.course c.index.result.now (Swap c.in-Swap.cell) next.0 c.index.ensures c.in-Swap.is in
+    let slots = t.frame.registers.slots.items in
+    let next : IsNext Brought t.frame = subst (λ (h : PendingCall). IsNext h t.frame) r.pending_call r.fits.next in
+    let is = act_here t.frame c.index.result.now (Swap c.in-Swap.cell) next.0 c.index.ensures c.in-Swap.is in
     (going_parts slots c.in-Swap.cell (hand slots) (subst (λ (a : Act). is_some (going slots a) ≡ true) is next.1)).0
 
 pub swap-requires-clause-kind : goal.swap-requires-clause-kind
@@ -64,9 +64,9 @@ swap-requires-clause-kind c =
     let t = c.args.self.now in
     let v = c.args.table.now in
     let r = c.requires in
-    let slots = t.course.holdings.slots.items in
-    let next : IsNext Brought t.course = subst (λ (h : Half). IsNext h t.course) r.half r.fits.next in
-    let is = act_here t.course c.index.result.now (Swap c.in-Swap.cell) next.0 c.index.ensures c.in-Swap.is in
+    let slots = t.frame.registers.slots.items in
+    let next : IsNext Brought t.frame = subst (λ (h : PendingCall). IsNext h t.frame) r.pending_call r.fits.next in
+    let is = act_here t.frame c.index.result.now (Swap c.in-Swap.cell) next.0 c.index.ensures c.in-Swap.is in
     (going_parts slots c.in-Swap.cell (hand slots) (subst (λ (a : Act). is_some (going slots a) ≡ true) is next.1)).1
 
 pub swap-requires-clause-owes : goal.swap-requires-clause-owes
@@ -75,10 +75,10 @@ swap-requires-clause-owes c =
     let t = c.args.self.now in
     let v = c.args.table.now in
     let r = c.requires in
-    let slots = t.course.holdings.slots.items in
-    let next : IsNext Brought t.course = subst (λ (h : Half). IsNext h t.course) r.half r.fits.next in
-    let is = act_here t.course c.index.result.now (Swap c.in-Swap.cell) next.0 c.index.ensures c.in-Swap.is in
-    subst (λ (a : Act). pending v d ≡ owing_for (story_state v) (new_of slots a) 256) is (half_here d t v Brought r.fits r.half)
+    let slots = t.frame.registers.slots.items in
+    let next : IsNext Brought t.frame = subst (λ (h : PendingCall). IsNext h t.frame) r.pending_call r.fits.next in
+    let is = act_here t.frame c.index.result.now (Swap c.in-Swap.cell) next.0 c.index.ensures c.in-Swap.is in
+    subst (λ (a : Act). pending v d ≡ owing_for (model_state v) (new_of slots a) 256) is (pending_call_here d t v Brought r.fits r.pending_call)
 
 pub returns-in-Swap-clause-stepped : goal.returns-in-Swap-clause-stepped
 returns-in-Swap-clause-stepped c = c.swap.ensures.stepped
@@ -89,8 +89,8 @@ returns-in-Swap-clause-fits c = c.swap.ensures.fits
 pub exchange-requires-clause-fits : goal.exchange-requires-clause-fits
 exchange-requires-clause-fits c = c.requires.fits
 
-pub exchange-requires-clause-half : goal.exchange-requires-clause-half
-exchange-requires-clause-half c = inr c.requires.half
+pub exchange-requires-clause-pending_call : goal.exchange-requires-clause-pending_call
+exchange-requires-clause-pending_call c = inr c.requires.pending_call
 
 pub exchange-requires-clause-none : goal.exchange-requires-clause-none
 exchange-requires-clause-none c =
@@ -98,8 +98,8 @@ exchange-requires-clause-none c =
     let t = c.args.self.now in
     let v = c.args.table.now in
     let r = c.requires in
-    let slots = t.course.holdings.slots.items in
-    let next : IsNext Brought t.course = subst (λ (h : Half). IsNext h t.course) r.half r.fits.next in
+    let slots = t.frame.registers.slots.items in
+    let next : IsNext Brought t.frame = subst (λ (h : PendingCall). IsNext h t.frame) r.pending_call r.fits.next in
     next.2
 
 pub exchange-requires-clause-within : goal.exchange-requires-clause-within
@@ -108,8 +108,8 @@ exchange-requires-clause-within c =
     let t = c.args.self.now in
     let v = c.args.table.now in
     let r = c.requires in
-    let slots = t.course.holdings.slots.items in
-    let next : IsNext Brought t.course = subst (λ (h : Half). IsNext h t.course) r.half r.fits.next in
+    let slots = t.frame.registers.slots.items in
+    let next : IsNext Brought t.frame = subst (λ (h : PendingCall). IsNext h t.frame) r.pending_call r.fits.next in
     next.0
 
 pub exchange-requires-clause-act : goal.exchange-requires-clause-act
@@ -118,9 +118,9 @@ exchange-requires-clause-act c =
     let t = c.args.self.now in
     let v = c.args.table.now in
     let r = c.requires in
-    let slots = t.course.holdings.slots.items in
-    let next : IsNext Brought t.course = subst (λ (h : Half). IsNext h t.course) r.half r.fits.next in
-    act_here t.course c.index.result.now (Exchange c.in-Exchange.name c.in-Exchange.cell) next.0 c.index.ensures c.in-Exchange.is
+    let slots = t.frame.registers.slots.items in
+    let next : IsNext Brought t.frame = subst (λ (h : PendingCall). IsNext h t.frame) r.pending_call r.fits.next in
+    act_here t.frame c.index.result.now (Exchange c.in-Exchange.name c.in-Exchange.cell) next.0 c.index.ensures c.in-Exchange.is
 
 pub exchange-requires-clause-there : goal.exchange-requires-clause-there
 exchange-requires-clause-there c =
@@ -128,9 +128,9 @@ exchange-requires-clause-there c =
     let t = c.args.self.now in
     let v = c.args.table.now in
     let r = c.requires in
-    let slots = t.course.holdings.slots.items in
-    let next : IsNext Brought t.course = subst (λ (h : Half). IsNext h t.course) r.half r.fits.next in
-    let is = act_here t.course c.index.result.now (Exchange c.in-Exchange.name c.in-Exchange.cell) next.0 c.index.ensures c.in-Exchange.is in
+    let slots = t.frame.registers.slots.items in
+    let next : IsNext Brought t.frame = subst (λ (h : PendingCall). IsNext h t.frame) r.pending_call r.fits.next in
+    let is = act_here t.frame c.index.result.now (Exchange c.in-Exchange.name c.in-Exchange.cell) next.0 c.index.ensures c.in-Exchange.is in
     (going_parts slots c.in-Exchange.cell c.in-Exchange.name (subst (λ (a : Act). is_some (going slots a) ≡ true) is next.1)).0
 
 pub exchange-requires-clause-kind : goal.exchange-requires-clause-kind
@@ -139,9 +139,9 @@ exchange-requires-clause-kind c =
     let t = c.args.self.now in
     let v = c.args.table.now in
     let r = c.requires in
-    let slots = t.course.holdings.slots.items in
-    let next : IsNext Brought t.course = subst (λ (h : Half). IsNext h t.course) r.half r.fits.next in
-    let is = act_here t.course c.index.result.now (Exchange c.in-Exchange.name c.in-Exchange.cell) next.0 c.index.ensures c.in-Exchange.is in
+    let slots = t.frame.registers.slots.items in
+    let next : IsNext Brought t.frame = subst (λ (h : PendingCall). IsNext h t.frame) r.pending_call r.fits.next in
+    let is = act_here t.frame c.index.result.now (Exchange c.in-Exchange.name c.in-Exchange.cell) next.0 c.index.ensures c.in-Exchange.is in
     (going_parts slots c.in-Exchange.cell c.in-Exchange.name (subst (λ (a : Act). is_some (going slots a) ≡ true) is next.1)).1
 
 pub exchange-requires-clause-owes : goal.exchange-requires-clause-owes
@@ -150,10 +150,10 @@ exchange-requires-clause-owes c =
     let t = c.args.self.now in
     let v = c.args.table.now in
     let r = c.requires in
-    let slots = t.course.holdings.slots.items in
-    let next : IsNext Brought t.course = subst (λ (h : Half). IsNext h t.course) r.half r.fits.next in
-    let is = act_here t.course c.index.result.now (Exchange c.in-Exchange.name c.in-Exchange.cell) next.0 c.index.ensures c.in-Exchange.is in
-    subst (λ (a : Act). pending v d ≡ owing_for (story_state v) (new_of slots a) 256) is (half_here d t v Brought r.fits r.half)
+    let slots = t.frame.registers.slots.items in
+    let next : IsNext Brought t.frame = subst (λ (h : PendingCall). IsNext h t.frame) r.pending_call r.fits.next in
+    let is = act_here t.frame c.index.result.now (Exchange c.in-Exchange.name c.in-Exchange.cell) next.0 c.index.ensures c.in-Exchange.is in
+    subst (λ (a : Act). pending v d ≡ owing_for (model_state v) (new_of slots a) 256) is (pending_call_here d t v Brought r.fits r.pending_call)
 
 pub returns-in-Exchange-clause-stepped : goal.returns-in-Exchange-clause-stepped
 returns-in-Exchange-clause-stepped c = c.exchange.ensures.stepped

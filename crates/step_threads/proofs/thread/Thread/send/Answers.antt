@@ -1,19 +1,19 @@
 use Rattle.std.proofs.Common.{inr, ◌≡◌, ◌&&◌, ◌∙◌, ℕ, Bool, true, false, cond, set, refl, sym, ap, subst}
 use Rattle.std.specs.Prelude.{None, Option, Some, is_some}
 use Rattle.step_table.specs.Contents.{is_of, owing_for}
-use Rattle.step_table.specs.declared.cell_steps.cell_deed.CellDeed.TheVariants.{Bring}
-use Rattle.step_table.specs.declared.memory.past.Deed.TheVariants.{OnCell}
-use Rattle.step_table.specs.Holdings.{slot_value}
-use Rattle.step_table.specs.Stories.{Story, pending, story_after_deed, story_state}
+use Rattle.step_table.specs.declared.cell_steps.cell_step.CellStep.TheVariants.{Bring}
+use Rattle.step_table.specs.declared.memory.past.AtomicStep.TheVariants.{OnCell}
+use Rattle.step_table.specs.Registers.{slot_value}
+use Rattle.step_table.specs.GhostStates.{GhostState, pending, ghost_after_step, model_state}
 use Rattle.step_threads.specs.declared.programs.act.Act.{Act}
 use Rattle.step_threads.specs.declared.programs.act.Act.TheVariants.{Exchange}
-use Rattle.step_threads.specs.declared.half.Half.TheVariants.{Rest, Brought}
+use Rattle.step_threads.specs.declared.pending_call.PendingCall.TheVariants.{Rest, Brought}
 use Rattle.step_threads.specs.declared.said.Said.{Said}
 use Rattle.step_threads.specs.declared.said.Stepped.TheVariants.{Quiet}
-use Rattle.step_threads.specs.Courses.{Going, going, new_of, on_going, rest, task_at, walk, walk_settled}
+use Rattle.step_threads.specs.Frames.{Going, going, new_of, on_going, rest, task_at, frame_view, frame_settled}
 use Rattle.step_threads.specs.Programs.{kind_at}
 use Rattle.step_threads.specs.Rows.{may_go}
-use Rattle.step_threads.specs.Scenes.{came}
+use Rattle.step_threads.specs.AbstractStates.{came}
 use Rattle.step_threads.specs.Steps.{brings, sends, silent, step_of_act}
 use Rattle.step_threads.specs.Threads.{FitsThread}
 use Rattle.step_threads.proofs.Acting.{acts_as, went_quiet}
@@ -44,7 +44,7 @@ pub go_on-requires-clause-ready : goal.go_on-requires-clause-ready
 go_on-requires-clause-ready c =
     let t = c.args.self.now in
     let r = c.requires in
-    stays_ready t.course (Exchange c.args.name c.args.cell) r.within r.fits.ready r.act (λ q. q) refl
+    stays_ready t.frame (Exchange c.args.name c.args.cell) r.begins.within r.begins.fits.ready r.act (λ q. q) refl
 
 pub returns-then-not-may_go_in-clause-stepped : goal.returns-then-not-may_go_in-clause-stepped
 returns-then-not-may_go_in-clause-stepped c =
@@ -52,22 +52,22 @@ returns-then-not-may_go_in-clause-stepped c =
     let t = c.args.self.now in
     let v = c.args.table.now in
     let r = c.requires in
-    let slots = t.course.holdings.slots.items in
+    let slots = t.frame.registers.slots.items in
     let k = c.args.name in
     let cell = c.args.cell in
     let a = Exchange k cell in
     let there = sym c.is_there.ensures ∙ c.if-not-is_there.false in
     let fit = may_go_at slots cell k c.from-from.result c.may_go_in.result false c.may_go_in.ensures c.from-from.ensures c.if-not-may_go_in.true in
     let never : may_go slots cell k ≡ false = ap (λ (b : Bool). b && is_of (kind_at cell) (slot_value slots k)) there ∙ fit in
-    let w = walk t.course in
-    let n = (task_at t.course).statement in
-    let ts = rest t.course in
-    acts_as d t v r.fits r.rest r.none r.within a r.act None Rest _ _ _
+    let w = frame_view t.frame in
+    let n = (task_at t.frame).statement in
+    let ts = rest t.frame in
+    acts_as d t v r.begins a r.act None Rest _ _ _
     (ap (λ (b : Bool). on_going (sends v d w n ts a) (step_of_act v d w n ts a None Rest) (cond {A = Option Going} b (Some (cell, k)) None)) never) refl
     (ap (λ (s : Said). Quiet s) (c.silent.ensures ∙ ap silent c.statement-statement.ensures ∙ sym (ap (told_as n) (refusal_none slots cell there)))) refl
-    (c.go_on.ensures.walk
-    ∙ sym (ap (λ (b : Bool). walk_settled (cond b (set slots k (came (story_state v) slots cell)) slots) t.course.taken t.course.endings.list ts) never))
-    r.rest
+    (c.go_on.ensures.frame_view
+    ∙ sym (ap (λ (b : Bool). frame_settled (cond b (set slots k (came (model_state v) slots cell)) slots) t.frame.taken t.frame.endings.list ts) never))
+    r.begins.rest
 
 pub returns-then-not-may_go_in-clause-fits : goal.returns-then-not-may_go_in-clause-fits
 returns-then-not-may_go_in-clause-fits c =
@@ -75,8 +75,8 @@ returns-then-not-may_go_in-clause-fits c =
     let t = c.args.self.now in
     let v = c.args.table.now in
     let r = c.requires in
-    let slots = t.course.holdings.slots.items in
-    went_quiet d t v r.fits r.rest r.none r.within c.go_on.new.self (c.go_on.ensures.on d v r.fits.holds)
+    let slots = t.frame.registers.slots.items in
+    went_quiet d t v r.begins c.go_on.new.self (c.go_on.ensures.on d v r.begins.fits.holds)
 
 pub returns-clause-stepped : goal.returns-clause-stepped
 returns-clause-stepped c =
@@ -84,7 +84,7 @@ returns-clause-stepped c =
     let t = c.args.self.now in
     let v = c.args.table.now in
     let r = c.requires in
-    let slots = t.course.holdings.slots.items in
+    let slots = t.frame.registers.slots.items in
     let k = c.args.name in
     let cell = c.args.cell in
     let a = Exchange k cell in
@@ -93,8 +93,8 @@ returns-clause-stepped c =
     let at = found_at slots k c.from-from.result c.get.result (Some p) c.get.ensures c.from-from.ensures c.in-Some.is in
     let goes = going_is slots cell k there
     (may_go_at slots cell k c.from-from.result c.may_go_in.result true c.may_go_in.ensures c.from-from.ensures c.if-not-may_go_in.false) in
-    stepped_as d t v (brings (walk t.course) (task_at t.course).statement p) _ _ _ (waits_act t v a r.rest r.none r.within r.act)
-    (step_brings d t v a cell k r.none r.within r.act refl p r.rest goes at)
+    stepped_as d t v (brings (frame_view t.frame) (task_at t.frame).statement p) _ _ _ (waits_act t v a r.begins.rest r.begins.none r.begins.within r.act)
+    (step_brings d t v a cell k r.begins.none r.begins.within r.act refl p r.begins.rest goes at)
     (ap (λ (s : Said). Quiet s) (c.silent-2.ensures ∙ ap silent c.statement-statement.ensures)) c.bring.ensures.table refl refl
 
 pub returns-clause-fits : goal.returns-clause-fits
@@ -103,7 +103,7 @@ returns-clause-fits c =
     let t = c.args.self.now in
     let v = c.args.table.now in
     let r = c.requires in
-    let slots = t.course.holdings.slots.items in
+    let slots = t.frame.registers.slots.items in
     let k = c.args.name in
     let cell = c.args.cell in
     let a = Exchange k cell in
@@ -112,14 +112,15 @@ returns-clause-fits c =
     let at = found_at slots k c.from-from.result c.get.result (Some p) c.get.ensures c.from-from.ensures c.in-Some.is in
     let goes = going_is slots cell k there
     (may_go_at slots cell k c.from-from.result c.may_go_in.result true c.may_go_in.ensures c.from-from.ensures c.if-not-may_go_in.false) in
-    let deed = OnCell (Bring p.kind p.block p.place 256) in
+    let atomic_step = OnCell (Bring p.kind p.block p.place 256) in
     let is = c.bring.ensures.table in
-    let some : is_some (going slots (task_at t.course).act) ≡ true =
+    let some : is_some (going slots (task_at t.frame).act) ≡ true =
     ap (λ (y : Act). is_some (going slots y)) r.act ∙ ap (λ (o : Option Going). is_some o) goes in
-    let owes : pending c.bring.new.table d ≡ owing_for (story_state c.bring.new.table) (slot_value slots k) 256 =
-    subst (λ (i : ℕ). pending c.bring.new.table d ≡ owing_for (story_state c.bring.new.table) (slot_value slots i) 256) c.from-from.ensures
+    let owes : pending c.bring.new.table d ≡ owing_for (model_state c.bring.new.table) (slot_value slots k) 256 =
+    subst (λ (i : ℕ). pending c.bring.new.table d ≡ owing_for (model_state c.bring.new.table) (slot_value slots i) 256) c.from-from.ensures
     c.bring.ensures.owes in
-    subst (λ (u : Story). FitsThread d (record { course = t.course; stock = t.stock; half = Brought }) u) (sym is)
-    (fits_quiet d t v Rest Brought r.fits r.rest (λ b. refl) (λ b. refl) deed refl
-    (subst (λ (y : Act). pending (story_after_deed v d deed) d ≡ owing_for (story_state (story_after_deed v d deed)) (new_of slots y) 256) (sym r.act)
-    (subst (λ (u : Story). pending u d ≡ owing_for (story_state u) (slot_value slots k) 256) is owes)) (r.within, some, r.none))
+    subst (λ (u : GhostState). FitsThread d (record { frame = t.frame; stock = t.stock; pending_call = Brought }) u) (sym is)
+    (fits_quiet d t v Rest Brought r.begins.fits r.begins.rest (λ b. refl) (λ b. refl) atomic_step refl
+    (subst (λ (y : Act). pending (ghost_after_step v d atomic_step) d ≡ owing_for (model_state (ghost_after_step v d atomic_step)) (new_of slots y) 256)
+    (sym r.act)
+    (subst (λ (u : GhostState). pending u d ≡ owing_for (model_state u) (slot_value slots k) 256) is owes)) (r.begins.within, some, r.begins.none))

@@ -1,21 +1,21 @@
 use Rattle.std.proofs.Common.{◌∙◌, refl, sym, ap, subst, cond}
-use Rattle.step_table.specs.Holdings.{slot_pointer}
+use Rattle.step_table.specs.Registers.{slot_pointer}
 use Rattle.step_threads.specs.declared.said.Said.{Said}
 use Rattle.step_threads.specs.declared.said.Stepped.TheVariants.{Event, Quiet}
 use Rattle.step_threads.specs.declared.said.Stepped.{Stepped}
 use Rattle.step_threads.specs.Steps.{silent}
 use Rattle.step_threads.proofs.Acting.{acts_on, can_act}
 use Rattle.step_threads.specs.Threads.{FitsThread}
-use Rattle.step_threads.specs.declared.half.Half.{Half}
+use Rattle.step_threads.specs.declared.pending_call.PendingCall.{PendingCall}
 use Rattle.step_threads.proofs.StoreFits.{fits_done, share_calm, share_stores}
 use Rattle.step_threads.specs.declared.programs.act.Act.TheVariants.{Share}
-use Rattle.step_table.specs.Deeds.{share}
+use Rattle.step_table.specs.AtomicSteps.{share}
 use Rattle.step_threads.proofs.StoreSteps.{share_event}
 use Rattle.step_threads.proofs.thread.Thread.share.Goals as goal
 
 pub share-event-requires-clause-can : goal.share-event-requires-clause-can
 share-event-requires-clause-can c =
-    let r = c.requires in can_act c.args.desk c.args.self.now c.args.table.now r.fits r.rest r.none r.within
+    let r = c.requires in can_act c.args.desk c.args.self.now c.args.table.now r.begins
 
 pub returns-clause-stepped : goal.returns-clause-stepped
 returns-clause-stepped c =
@@ -23,13 +23,13 @@ returns-clause-stepped c =
     let t = c.args.self.now in
     let v = c.args.table.now in
     let r = c.requires in
-    let slots = t.course.holdings.slots.items in
+    let slots = t.frame.registers.slots.items in
     let b = c.share-event.result in
     let on = c.share-event.ensures in
-    acts_on d t v r.fits r.rest r.none r.within (Share c.args.name) r.act share (slot_pointer slots c.args.name) b _ _ _ _ refl refl (λ p.
+    acts_on d t v r.begins (Share c.args.name) r.act share (slot_pointer slots c.args.name) b _ _ _ _ refl refl (λ p.
     share_event v p p.kind)
     (c.says.ensures ∙ ap (λ (s : Said). cond {A = Stepped} b (Event s) (Quiet s)) (c.silent.ensures ∙ ap silent c.statement-statement.ensures))
-    on.event refl on.table on.walk r.rest
+    on.event refl on.table on.frame_view r.begins.rest
 
 pub returns-clause-fits : goal.returns-clause-fits
 returns-clause-fits c =
@@ -37,6 +37,7 @@ returns-clause-fits c =
     let t = c.args.self.now in
     let v = c.args.table.now in
     let on = c.share-event.ensures in
-    subst (λ (h : Half). FitsThread d (record { course = c.share-event.new.self; stock = t.stock; half = h }) c.share-event.new.table) (sym c.requires.rest)
-    (fits_done share d t v c.share-event.new.table (slot_pointer t.course.holdings.slots.items c.args.name) c.share-event.new.self
-    c.known.ensures c.requires.fits c.requires.rest c.requires.none (λ x. share_calm v d x x.kind) (λ x. share_stores v d x x.kind) on.table on.on)
+    subst (λ (h : PendingCall). FitsThread d (record { frame = c.share-event.new.self; stock = t.stock; pending_call = h }) c.share-event.new.table)
+    (sym c.requires.begins.rest)
+    (fits_done share d t v c.share-event.new.table (slot_pointer t.frame.registers.slots.items c.args.name) c.share-event.new.self
+    c.known.ensures c.requires.begins.fits c.requires.begins.rest c.requires.begins.none (λ x. share_calm v d x x.kind) (λ x. share_stores v d x x.kind) on.table on.on)

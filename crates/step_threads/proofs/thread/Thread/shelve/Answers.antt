@@ -1,13 +1,13 @@
 use Rattle.std.proofs.Common.{ℕ, refl, sym, subst, ap}
 use Rattle.std.specs.Prelude.{Some, None}
-use Rattle.step_table.specs.declared.memory.past.Deed.TheVariants as deed
-use Rattle.step_table.specs.declared.memory.shelf.ShelfDeed.TheVariants as shelf
-use Rattle.step_table.specs.Stories.{Story, story_after_deed}
+use Rattle.step_table.specs.declared.memory.past.AtomicStep.TheVariants as atomic_step
+use Rattle.step_table.specs.declared.memory.shelf.ShelfStep.TheVariants as shelf
+use Rattle.step_table.specs.GhostStates.{GhostState, ghost_after_step}
 use Rattle.step_threads.specs.Actors.{Stocks}
 use Rattle.step_threads.specs.Threads.{FitsThread}
 use Rattle.step_threads.specs.declared.programs.act.ShelfAct.TheVariants.{Shelve}
-use Rattle.step_threads.specs.declared.half.Half.{Half}
-use Rattle.step_threads.specs.declared.half.Half.TheVariants.{Rest}
+use Rattle.step_threads.specs.declared.pending_call.PendingCall.{PendingCall}
+use Rattle.step_threads.specs.declared.pending_call.PendingCall.TheVariants.{Rest}
 use Rattle.step_threads.specs.declared.said.Stepped.TheVariants.{Event, Quiet}
 use Rattle.step_threads.proofs.ShelfSteps.{fits_moved, stepped_shelf, stocks_shelve}
 use Rattle.step_threads.proofs.Threads.{least_here, least_nowhere, resting}
@@ -17,25 +17,25 @@ use Rattle.step_threads.proofs.thread.Thread.shelve.Goals as goal
 pub shelve-requires-clause-stored : goal.shelve-requires-clause-stored
 shelve-requires-clause-stored c =
     taken_stored c.args.desk c.args.self.now.stock.blocks c.take_least.new.self.blocks c.args.self.now.stock.room c.args.table.now c.in-Some.block
-    (resting c.args.desk c.args.self.now c.args.table.now c.requires.fits c.requires.rest) c.in-Some.ensures.least.0
+    (resting c.args.desk c.args.self.now c.args.table.now c.requires.begins.fits c.requires.begins.rest) c.in-Some.ensures.least.0
 
 pub returns-in-None-clause-stepped : goal.returns-in-None-clause-stepped
 returns-in-None-clause-stepped c =
     let t = c.args.self.now in
     let v = c.args.table.now in
-    stepped_shelf c.args.desk t _ v _ _ Shelve None c.statement-statement.result c.statement-statement.ensures c.requires.rest c.requires.none
-    c.requires.within c.requires.act (least_nowhere c.args.desk t v c.requires.fits c.requires.rest c.in-None.ensures.least)
-    (ap Quiet c.silent.ensures) refl c.go_on.ensures.walk c.requires.rest
+    stepped_shelf c.args.desk t _ v _ _ Shelve None c.statement-statement.result c.statement-statement.ensures c.requires.begins.rest c.requires.begins.none
+    c.requires.begins.within c.requires.act (least_nowhere c.args.desk t v c.requires.begins.fits c.requires.begins.rest c.in-None.ensures.least)
+    (ap Quiet c.silent.ensures) refl c.go_on.ensures.frame_view c.requires.begins.rest
 
 pub returns-in-Some-clause-stepped : goal.returns-in-Some-clause-stepped
 returns-in-Some-clause-stepped c =
     let t = c.args.self.now in
     let v = c.args.table.now in
     let s = c.in-Some.ensures.least in
-    stepped_shelf c.args.desk t _ v _ _ Shelve (Some c.in-Some.block.0) c.statement-statement.result c.statement-statement.ensures c.requires.rest
-    c.requires.none c.requires.within c.requires.act
-    (least_here c.args.desk t v c.in-Some.block c.take_least.new.self c.requires.fits c.requires.rest s.0 s.1)
-    (ap Event c.silent-in-Some.ensures) c.shelve.ensures c.go_on-in-Some.ensures.walk c.requires.rest
+    stepped_shelf c.args.desk t _ v _ _ Shelve (Some c.in-Some.block.0) c.statement-statement.result c.statement-statement.ensures c.requires.begins.rest
+    c.requires.begins.none c.requires.begins.within c.requires.act
+    (least_here c.args.desk t v c.in-Some.block c.take_least.new.self c.requires.begins.fits c.requires.begins.rest s.0 s.1)
+    (ap Event c.silent-in-Some.ensures) c.shelve.ensures c.go_on-in-Some.ensures.frame_view c.requires.begins.rest
 
 pub returns-in-Some-clause-fits : goal.returns-in-Some-clause-fits
 returns-in-Some-clause-fits c =
@@ -43,13 +43,13 @@ returns-in-Some-clause-fits c =
     let t = c.args.self.now in
     let v = c.args.table.now in
     let b = c.in-Some.block in
-    let w = story_after_deed v d (deed.OnShelf b shelf.Shelve) in
+    let w = ghost_after_step v d (atomic_step.OnShelf b shelf.Shelve) in
     let s = c.take_least.new.self in
-    let course = c.go_on-in-Some.new.self in
-    let holds = c.requires.fits.holds in
-    let stocks = stocks_shelve d t.stock.blocks s.blocks t.stock.room v b (resting d t v c.requires.fits c.requires.rest) c.in-Some.ensures.least.0 in
-    subst (λ (h : Half). FitsThread d (record { course = course; stock = s; half = h }) c.shelve.new.self) (sym c.requires.rest)
-    (subst (λ (u : Story). FitsThread d (record { course = course; stock = s; half = Rest }) u) (sym c.shelve.ensures)
-    (fits_moved d t v b shelf.Shelve course s c.known.ensures c.requires.fits c.requires.none
+    let frame = c.go_on-in-Some.new.self in
+    let holds = c.requires.begins.fits.holds in
+    let stocks = stocks_shelve d t.stock.blocks s.blocks t.stock.room v b (resting d t v c.requires.begins.fits c.requires.begins.rest) c.in-Some.ensures.least.0 in
+    subst (λ (h : PendingCall). FitsThread d (record { frame = frame; stock = s; pending_call = h }) c.shelve.new.self) (sym c.requires.begins.rest)
+    (subst (λ (u : GhostState). FitsThread d (record { frame = frame; stock = s; pending_call = Rest }) u) (sym c.shelve.ensures)
+    (fits_moved d t v b shelf.Shelve frame s c.known.ensures c.requires.begins.fits c.requires.begins.none
     (c.go_on-in-Some.ensures.on d w (record { owned = holds.owned; size = holds.size; formed = holds.formed }))
     (subst (λ (n : ℕ). Stocks d s.blocks n Rest w) (sym c.take_least.ensures.room) stocks)))

@@ -2,8 +2,8 @@ use Rattle.std.proofs.Common.{refl, sym, ap, ◌∙◌}
 use Rattle.step_threads.specs.declared.programs.act.Act.TheVariants.{Swap}
 use Rattle.step_threads.specs.declared.said.Said.{Said}
 use Rattle.step_threads.specs.declared.said.Stepped.TheVariants.{Quiet}
-use Rattle.step_threads.specs.Courses.{hand, task_at, walk}
-use Rattle.step_table.specs.Holdings.{slot_pointer}
+use Rattle.step_threads.specs.Frames.{hand, task_at, frame_view}
+use Rattle.step_table.specs.Registers.{slot_pointer}
 use Rattle.step_threads.specs.Steps.{brings, silent}
 use Rattle.step_threads.proofs.Steps.{stepped_as, waits_act}
 use Rattle.step_threads.proofs.StoreFits.{going_is, swap_goes}
@@ -15,13 +15,13 @@ returns-clause-stepped c =
     let d = c.args.desk in
     let t = c.args.self.now in
     let v = c.args.table.now in
-    let slots = t.course.holdings.slots.items in
-    let n = (task_at t.course).statement in
+    let slots = t.frame.registers.slots.items in
+    let n = (task_at t.frame).statement in
     let x = c.in-Some.pointer in
-    let may = swap_goes t.course c.args.cell c.requires.within c.requires.fits.still c.requires.act in
+    let may = swap_goes t.frame c.args.cell c.requires.begins.within c.requires.begins.fits.still c.requires.act in
     let goes = going_is slots c.args.cell (hand slots) may.0 may.1 in
     let at = sym (c.get.ensures ∙ ap (slot_pointer slots) c.hand-hand.ensures) ∙ c.in-Some.is in
-    stepped_as d t v (brings (walk t.course) n x) _ _ _
-    (waits_act t v (Swap c.args.cell) c.requires.rest c.requires.none c.requires.within c.requires.act)
-    (step_brings d t v (Swap c.args.cell) c.args.cell (hand slots) c.requires.none c.requires.within c.requires.act refl x c.requires.rest goes at)
+    stepped_as d t v (brings (frame_view t.frame) n x) _ _ _
+    (waits_act t v (Swap c.args.cell) c.requires.begins.rest c.requires.begins.none c.requires.begins.within c.requires.act)
+    (step_brings d t v (Swap c.args.cell) c.args.cell (hand slots) c.requires.begins.none c.requires.begins.within c.requires.act refl x c.requires.begins.rest goes at)
     (ap (λ (s : Said). Quiet s) (c.silent.ensures ∙ ap silent c.statement-statement.ensures)) c.bring.ensures.table refl refl

@@ -1,17 +1,17 @@
 use Rattle.std.proofs.lemmas.Grind.{common_steps}
 use Rattle.std.proofs.Common.{arith}
 use Rattle.std.proofs.Common.{◌≡◌, Bool, cond, sym, ap, subst, ◌∙◌}
-use Rattle.step_threads.specs.declared.half.Half.{Half}
-use Rattle.step_threads.specs.declared.half.Half.TheVariants.{Refill}
-use Rattle.step_table.specs.declared.cell_steps.cell_deed.Cell.{Cell}
-use Rattle.step_table.specs.declared.cell_steps.cell_deed.CellDeed.TheVariants.{Take}
+use Rattle.step_threads.specs.declared.pending_call.PendingCall.{PendingCall}
+use Rattle.step_threads.specs.declared.pending_call.PendingCall.TheVariants.{Refill}
+use Rattle.step_table.specs.declared.cell_steps.cell_step.Cell.{Cell}
+use Rattle.step_table.specs.declared.cell_steps.cell_step.CellStep.TheVariants.{Take}
 use Rattle.std.specs.Prelude.{None}
-use Rattle.step_table.specs.declared.memory.past.Deed.TheVariants.{OnCell}
+use Rattle.step_table.specs.declared.memory.past.AtomicStep.TheVariants.{OnCell}
 use Rattle.step_table.specs.declared.cell_steps.refill.Stage.TheVariants.{Turning}
 use Rattle.step_table.specs.Refills.{more_taken}
-use Rattle.step_threads.specs.Courses.{cell_of_name}
+use Rattle.step_threads.specs.Frames.{cell_of_name}
 use Rattle.step_threads.specs.Passing.{HasGoneOn}
-use Rattle.step_table.specs.Stories.{Story, story_after_deed, story_state}
+use Rattle.step_table.specs.GhostStates.{GhostState, ghost_after_step, model_state}
 use Rattle.step_threads.specs.Threads.{FitsThread}
 use Rattle.step_threads.proofs.LoadFits.{fits_taken, saw_next, saw_there}
 use Rattle.step_threads.proofs.thread.Thread.take.Goals as goal
@@ -25,29 +25,29 @@ returns-clause-fits c =
     let x = c.args.found in
     let n = c.statement-statement.result in
     let c' = c.take_fund.new.self in
-    let w = story_after_deed v d (OnCell (Take (cell_of_name (story_state v) t.course.holdings.slots.items c.args.cell) x None)) in
+    let w = ghost_after_step v d (OnCell (Take (cell_of_name (model_state v) t.frame.registers.slots.items c.args.cell) x None)) in
     let is : c.take_fund.new.table ≡ w = c.take_fund.ensures.table ∙ ap (λ (b : Bool). cond b w v) c.if-not-take_fund.false in
-    let half : c.turning-self.result ≡ Refill Turning (cell_of_name (story_state v) t.course.holdings.slots.items c.args.cell) (more_taken x) n =
+    let pending_call : c.turning-self.result ≡ Refill Turning (cell_of_name (model_state v) t.frame.registers.slots.items c.args.cell) (more_taken x) n =
     c.turning-self.ensures ∙ ap (λ (y : Cell). Refill Turning y (more_taken x) n) c.cell-at.ensures in
-    subst (λ (h : Half). FitsThread d (record { course = c'; stock = t.stock; half = h }) c.take_fund.new.table) (sym half)
-    (subst (λ (u : Story). FitsThread d (record {
-      course = c';
+    subst (λ (h : PendingCall). FitsThread d (record { frame = c'; stock = t.stock; pending_call = h }) c.take_fund.new.table) (sym pending_call)
+    (subst (λ (u : GhostState). FitsThread d (record {
+      frame = c';
       stock = t.stock;
-      half = Refill Turning (cell_of_name (story_state v) t.course.holdings.slots.items c.args.cell)
+      pending_call = Refill Turning (cell_of_name (model_state v) t.frame.registers.slots.items c.args.cell)
           (more_taken x) n;
     }) u) (sym is)
-    (fits_taken d t v c.args.cell x c.requires.fits c' n c.known.ensures c.requires.half c.requires.act
-    (subst (λ (u : Story). HasGoneOn d t.course c' u) is (c.take_fund.ensures.on c.if-not-take_fund.false))))
+    (fits_taken d t v c.args.cell x c.requires.fits c' n c.known.ensures c.requires.pending_call c.requires.act
+    (subst (λ (u : GhostState). HasGoneOn d t.frame c' u) is (c.take_fund.ensures.on c.if-not-take_fund.false))))
 
 pub cell-at-requires-clause-named : goal.cell-at-requires-clause-named
 cell-at-requires-clause-named c =
     let t = c.args.self.now in
     let r = c.requires in
-    named_load t.course c.args.cell (saw_next c.args.desk t c.args.table.now c.args.found r.fits r.half).0 r.fits.ready r.act
+    named_load t.frame c.args.cell (saw_next c.args.desk t c.args.table.now c.args.found r.fits r.pending_call).0 r.fits.ready r.act
 
 pub cell-at-requires-clause-there : goal.cell-at-requires-clause-there
 cell-at-requires-clause-there c =
-    let r = c.requires in saw_there c.args.desk c.args.self.now c.args.table.now c.args.cell c.args.found r.fits r.half r.act
+    let r = c.requires in saw_there c.args.desk c.args.self.now c.args.table.now c.args.cell c.args.found r.fits r.pending_call r.act
 
 pub returns-then-not-take_fund-clause-stepped : goal.returns-then-not-take_fund-clause-stepped
 returns-then-not-take_fund-clause-stepped c = grind (arith, common_steps)

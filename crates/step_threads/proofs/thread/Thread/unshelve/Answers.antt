@@ -1,10 +1,10 @@
 use Rattle.std.proofs.Common.{sym, subst, ap}
-use Rattle.step_table.specs.declared.memory.past.Deed.TheVariants as deed
-use Rattle.step_table.specs.declared.memory.shelf.ShelfDeed.TheVariants as shelf
-use Rattle.step_table.specs.Stories.{Story, story_after_deed, story_state}
+use Rattle.step_table.specs.declared.memory.past.AtomicStep.TheVariants as atomic_step
+use Rattle.step_table.specs.declared.memory.shelf.ShelfStep.TheVariants as shelf
+use Rattle.step_table.specs.GhostStates.{GhostState, ghost_after_step, model_state}
 use Rattle.step_threads.specs.Threads.{FitsThread}
-use Rattle.step_threads.specs.declared.half.Half.{Half}
-use Rattle.step_threads.specs.declared.half.Half.TheVariants.{Rest}
+use Rattle.step_threads.specs.declared.pending_call.PendingCall.{PendingCall}
+use Rattle.step_threads.specs.declared.pending_call.PendingCall.TheVariants.{Rest}
 use Rattle.step_threads.proofs.ShelfSteps.{fits_moved, room_unshelve, stocks_missed, stocks_unshelve, shelf_ready, stepped_shelf}
 use Rattle.step_threads.proofs.Threads.{resting}
 use Rattle.std.proofs.lemmas.Bool.{cond-true, cond-false}
@@ -15,7 +15,7 @@ use Rattle.step_threads.proofs.thread.Thread.unshelve.Goals as goal
 
 pub put-requires : goal.put-requires
 put-requires c =
-    room_unshelve c.args.desk c.args.self.now c.args.table.now c.unshelve-got.new.self c.args.block c.requires.fits c.requires.rest
+    room_unshelve c.args.desk c.args.self.now c.args.table.now c.unshelve-got.new.self c.args.block c.requires.begins.fits c.requires.begins.rest
     c.if-not-got.ensures.after c.known-2.ensures
 
 pub returns-then-not-got-clause-fits : goal.returns-then-not-got-clause-fits
@@ -24,13 +24,13 @@ returns-then-not-got-clause-fits c =
     let t = c.args.self.now in
     let v = c.args.table.now in
     let b = c.args.block in
-    let w = story_after_deed v d (deed.OnShelf b shelf.Miss) in
-    let course = c.go_on.new.self in
-    let holds = c.requires.fits.holds in
-    let stocks = stocks_missed d t.stock.blocks t.stock.room v b (resting d t v c.requires.fits c.requires.rest) in
-    subst (λ (h : Half). FitsThread d (record { course = course; stock = t.stock; half = h }) c.unshelve-got.new.self) (sym c.requires.rest)
-    (subst (λ (u : Story). FitsThread d (record { course = course; stock = t.stock; half = Rest }) u) (sym c.if-not-got.ensures.after)
-    (fits_moved d t v b shelf.Miss course t.stock c.known.ensures c.requires.fits c.requires.none
+    let w = ghost_after_step v d (atomic_step.OnShelf b shelf.Miss) in
+    let frame = c.go_on.new.self in
+    let holds = c.requires.begins.fits.holds in
+    let stocks = stocks_missed d t.stock.blocks t.stock.room v b (resting d t v c.requires.begins.fits c.requires.begins.rest) in
+    subst (λ (h : PendingCall). FitsThread d (record { frame = frame; stock = t.stock; pending_call = h }) c.unshelve-got.new.self) (sym c.requires.begins.rest)
+    (subst (λ (u : GhostState). FitsThread d (record { frame = frame; stock = t.stock; pending_call = Rest }) u) (sym c.if-not-got.ensures.after)
+    (fits_moved d t v b shelf.Miss frame t.stock c.known.ensures c.requires.begins.fits c.requires.begins.none
     (c.go_on.ensures.on d w (record { owned = holds.owned; size = holds.size; formed = holds.formed })) stocks))
 
 pub returns-clause-fits : goal.returns-clause-fits
@@ -39,27 +39,27 @@ returns-clause-fits c =
     let t = c.args.self.now in
     let v = c.args.table.now in
     let b = c.args.block in
-    let w = story_after_deed v d (deed.OnShelf b shelf.Unshelve) in
+    let w = ghost_after_step v d (atomic_step.OnShelf b shelf.Unshelve) in
     let s = c.put.new.self in
-    let course = c.go_on-2.new.self in
-    let holds = c.requires.fits.holds in
-    let stocks = stocks_unshelve d t.stock s v b (resting d t v c.requires.fits c.requires.rest) c.put.ensures.blocks c.put.ensures.room in
-    subst (λ (h : Half). FitsThread d (record { course = course; stock = s; half = h }) c.unshelve-got.new.self) (sym c.requires.rest)
-    (subst (λ (u : Story). FitsThread d (record { course = course; stock = s; half = Rest }) u) (sym c.if-not-got.ensures.after)
-    (fits_moved d t v b shelf.Unshelve course s c.known.ensures c.requires.fits c.requires.none
+    let frame = c.go_on-2.new.self in
+    let holds = c.requires.begins.fits.holds in
+    let stocks = stocks_unshelve d t.stock s v b (resting d t v c.requires.begins.fits c.requires.begins.rest) c.put.ensures.blocks c.put.ensures.room in
+    subst (λ (h : PendingCall). FitsThread d (record { frame = frame; stock = s; pending_call = h }) c.unshelve-got.new.self) (sym c.requires.begins.rest)
+    (subst (λ (u : GhostState). FitsThread d (record { frame = frame; stock = s; pending_call = Rest }) u) (sym c.if-not-got.ensures.after)
+    (fits_moved d t v b shelf.Unshelve frame s c.known.ensures c.requires.begins.fits c.requires.begins.none
     (c.go_on-2.ensures.on d w (record { owned = holds.owned; size = holds.size; formed = holds.formed })) stocks))
 
 pub go_on-requires-clause-ready : goal.go_on-requires-clause-ready
 go_on-requires-clause-ready c =
     let t = c.args.self.now in
     let r = c.requires in
-    shelf_ready t.course (Unshelve c.args.block) r.within r.fits.ready r.act
+    shelf_ready t.frame (Unshelve c.args.block) r.begins.within r.begins.fits.ready r.act
 
 pub go_on-requires-2-clause-ready : goal.go_on-requires-2-clause-ready
 go_on-requires-2-clause-ready c =
     let t = c.args.self.now in
     let r = c.requires in
-    shelf_ready t.course (Unshelve c.args.block) r.within r.fits.ready r.act
+    shelf_ready t.frame (Unshelve c.args.block) r.begins.within r.begins.fits.ready r.act
 
 pub returns-then-not-got-clause-stepped : goal.returns-then-not-got-clause-stepped
 returns-then-not-got-clause-stepped c =
@@ -67,9 +67,9 @@ returns-then-not-got-clause-stepped c =
     let v = c.args.table.now in
     let r = c.requires in
     let b = c.args.block in
-    stepped_shelf c.args.desk t _ v _ _ (Unshelve b) None c.statement-statement.result c.statement-statement.ensures r.rest r.none r.within r.act
-    (cond-false ((story_state v).shelved b.0) (Some b.0) None (sym c.if-not-got.ensures.got))
-    (ap Quiet c.silent.ensures) c.if-not-got.ensures.after c.go_on.ensures.walk r.rest
+    stepped_shelf c.args.desk t _ v _ _ (Unshelve b) None c.statement-statement.result c.statement-statement.ensures r.begins.rest r.begins.none r.begins.within r.act
+    (cond-false ((model_state v).shelved b.0) (Some b.0) None (sym c.if-not-got.ensures.got))
+    (ap Quiet c.silent.ensures) c.if-not-got.ensures.after c.go_on.ensures.frame_view r.begins.rest
 
 pub returns-clause-stepped : goal.returns-clause-stepped
 returns-clause-stepped c =
@@ -77,6 +77,6 @@ returns-clause-stepped c =
     let v = c.args.table.now in
     let r = c.requires in
     let b = c.args.block in
-    stepped_shelf c.args.desk t _ v _ _ (Unshelve b) (Some b.0) c.statement-statement.result c.statement-statement.ensures r.rest r.none r.within r.act
-    (cond-true ((story_state v).shelved b.0) (Some b.0) None (sym c.if-not-got.ensures.got))
-    (ap Event c.silent-2.ensures) c.if-not-got.ensures.after c.go_on-2.ensures.walk r.rest
+    stepped_shelf c.args.desk t _ v _ _ (Unshelve b) (Some b.0) c.statement-statement.result c.statement-statement.ensures r.begins.rest r.begins.none r.begins.within r.act
+    (cond-true ((model_state v).shelved b.0) (Some b.0) None (sym c.if-not-got.ensures.got))
+    (ap Event c.silent-2.ensures) c.if-not-got.ensures.after c.go_on-2.ensures.frame_view r.begins.rest

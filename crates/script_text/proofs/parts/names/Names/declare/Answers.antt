@@ -8,6 +8,7 @@ returns c =
     let none : find_name c.args.name.now (names_in c.self.inside.table.entries) ≡ None =
     rw (c.self.view_is) (search rules) in
     rw (← c.self.view_is)
-    (declared_new c.self.inside.table.entries c.insert.new.self.entries c.in_ok-name.name c.args.kind
+    (declared_new c.self.inside.table.entries c.insert.new.self.entries c.in_ok-name.name
+    c.args.kind
     c.args.name.now c.len-number.result
     (search rules) none (search rules) (omega arith) (search rules))

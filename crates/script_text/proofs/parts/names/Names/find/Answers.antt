@@ -8,11 +8,14 @@ returns-in_err-number c =
     (c.from_residual.ensures
     ∙ sym
     (none_found _
-    (number-find_name c.args.name.now c.self.inside.table.entries ∙ sym c.in_err-number.ensures.index)))
+    (number-find_name c.args.name.now c.self.inside.table.entries
+    ∙ sym c.in_err-number.ensures.index)))
 
 pub returns : goal.returns
 returns c =
     rw (← c.self.view_is)
     (sym (both_found _ c.in_ok-number.number c.in_ok-number.kind.now
-    (number-find_name c.args.name.now c.self.inside.table.entries ∙ sym c.in_ok-number.ensures.index)
-    (kind-find_name c.args.name.now c.self.inside.table.entries ∙ sym c.in_ok-number.ensures.value)))
+    (number-find_name c.args.name.now c.self.inside.table.entries
+    ∙ sym c.in_ok-number.ensures.index)
+    (kind-find_name c.args.name.now c.self.inside.table.entries
+    ∙ sym c.in_ok-number.ensures.value)))

@@ -10,5 +10,6 @@ returns c =
     items_from_collect _ c.collect.ensures.ran
     (YieldsList-from_copied {s = c.copied.result}
     (YieldsList-from_rest _
-    (c.copied.ensures.source ∙ c.values.ensures.rest ∙ values_of-names_in c.self.inside.table.entries
+    (c.copied.ensures.source ∙ c.values.ensures.rest
+    ∙ values_of-names_in c.self.inside.table.entries
     ∙ ap (λ (names : NameList). map (λ name. name.1) names) c.self.view_is)))

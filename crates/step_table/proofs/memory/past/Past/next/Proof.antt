@@ -1,4 +1,4 @@
--- `next` picks what is known after a deed. Assumes `Logic`.
+-- `next` picks what is known after an atomic step. Assumes `Logic`.
 use Rattle.std.proofs.Common.{List, [], ◌∷◌, ◌++◌, refl}
 use seplogic.Ra.Ura.{Ura}
 use mir.Syntax.{Fn}
@@ -25,11 +25,11 @@ use denote.Triple.Entry.{alive}
 use denote.Triple.Spec.{Meets, triple_of}
 use denote.Triple.Table.{entered}
 use denote.Triple.Walked.{says, Stays, stay_dropped, walk_of, ends_at, walk_Meets, Goes-dropped}
-use Rattle.step_table.proofs.Walks.{none, none_made}
+use Rattle.step_table.proofs.FrameViews.{none, none_made}
 use Rattle.step_table.specs.contracts.memory.past.Past as Past
 use Rattle.step_table.specs.contracts.memory.past.Done as Done
 use Rattle.step_table.specs.contracts.memory.table.Table as Table
-use Rattle.step_table.specs.Stories.{history_after, views_after}
+use Rattle.step_table.specs.GhostStates.{history_after, views_after}
 use Rattle.step_table.specs.contracts.memory.past.Past.next as F
 use Rattle.step_table.specs.contracts.memory.past.Past.next.Key.{name as #self}
 use Rattle.step_table.proofs.memory.past.Past.next.Statement as stated
@@ -57,16 +57,16 @@ module _ {M : Type 1} {𝓤 : Ura M} (𝓛 : Logic 𝓤) (at_mem : Memory → SP
     abbrev toks : SProp 𝓤
     toks = alive 𝓛 ended.signature z.0.0 z.0.1
 
-    walks : ent 𝓤 ((walk_of 𝓛 ended stayed held).pre z) (WpFn 𝓤 H C Λ function ((walk_of 𝓛 ended stayed held).args z) Post)
-    walks =
+    frame_views : ent 𝓤 ((walk_of 𝓛 ended stayed held).pre z) (WpFn 𝓤 H C Λ function ((walk_of 𝓛 ended stayed held).args z) Post)
+    frame_views =
         let a = z.0.3 in
         let vss = z.0.4 in
         let u : Val = vptr a.0.ref_ptr.0 a.0.ref_ptr.1 in
         let v : Val = vptr a.1.0.ref_ptr.0 a.1.0.ref_ptr.1 in
         let log : (Past.the_row).Denot = record {
-          history = history_after a.0.now a.1.0.now.desk a.1.0.now.deed;
+          history = history_after a.0.now a.1.0.now.desk a.1.0.now.atomic_step;
           views = views_after a.0.now
-              a.1.0.now.desk a.1.0.now.deed;
+              a.1.0.now.desk a.1.0.now.atomic_step;
         } in
         qed 𝓛 ((raw toks ⊛ ‵ (owns (types_at ended.signature.params z.0.0) a vss)) ∷ raw ((held z.0.0 a).requires z.1) ∷ []) ∵
         keep ! (0 ∷ []) $ split ! $ move ! (1 ∷ []) $ fsplit ! $ fsplit ! $ feq_l ! (λ is₀. drop ! $ fsplit ! $ fsplit ! $ feq_l !
@@ -87,7 +87,7 @@ module _ {M : Type 1} {𝓤 : Ura M} (𝓛 : Logic 𝓤) (at_mem : Memory → SP
             (λ κs x f. refl),
         (Goes-dropped 𝓛 2 (RefOf (1 ∷ []) tt (plain (λ _. Done.the_row)) (λ _. tt)) yes (λ κs x f. refl), tt),
       ) held
-      (WpFn 𝓤 H 𝓣.C 𝓣.Λ function) (WpFn-mono 𝓤 H 𝓛.laws 𝓣 function) (walks 𝓣.C 𝓣.Λ)
+      (WpFn 𝓤 H 𝓣.C 𝓣.Λ function) (WpFn-mono 𝓤 H 𝓛.laws 𝓣 function) (frame_views 𝓣.C 𝓣.Λ)
 
 pub next_spec : {M : Type 1} → stated.statement M
 unfolding tables_of

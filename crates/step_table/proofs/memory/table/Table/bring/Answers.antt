@@ -1,9 +1,9 @@
 use Rattle.std.proofs.Common.{◌≡◌, ◌+◌, ◌*◌, ℕ, ap, get_or, length, arith}
 use Rattle.control_word.specs.Layout.{spot}
 use Rattle.control_word.specs.Words.{slot}
-use Rattle.step_table.specs.declared.cell_steps.cell_deed.CellDeed.TheVariants.{Bring}
-use Rattle.step_table.specs.declared.memory.past.Deed.TheVariants.{OnCell}
-use Rattle.step_table.specs.Stories.{Story, Kept}
+use Rattle.step_table.specs.declared.cell_steps.cell_step.CellStep.TheVariants.{Bring}
+use Rattle.step_table.specs.declared.memory.past.AtomicStep.TheVariants.{OnCell}
+use Rattle.step_table.specs.GhostStates.{GhostState, Kept}
 use Rattle.step_table.proofs.tables.Funds.{kept_bring, slot_few}
 use Rattle.step_table.proofs.tables.Owners.{room_above}
 use Rattle.step_table.proofs.tables.Places.{handle_busy, inside, there}
@@ -27,7 +27,7 @@ count_word-requires-2 c =
 pub get-found-requires : goal.get-found-requires
 get-found-requires c =
     let k : Kept c.args.self.now = kept_now _ _ _ _ c.args.self.now c.self.invariant c.self.view_is in
-    let w : c.self.inside.words ≡ c.args.self.now.words = ap (λ (s : Story). s.words) c.self.view_is in
+    let w : c.self.inside.words ≡ c.args.self.now.words = ap (λ (s : GhostState). s.words) c.self.view_is in
     let h = there c.args.self.now c.args.pointer.block k
     (handle_busy c.args.self.now c.args.desk c.args.pointer.kind c.args.pointer.block _ k c.requires.held) in
     let i = inside c.args.self.now c.args.pointer.block (slot c.args.pointer.kind) k h.1 (slot_few c.args.pointer.kind) in
@@ -37,7 +37,7 @@ get-found-requires c =
 pub set-requires : goal.set-requires
 set-requires c =
     let k : Kept c.args.self.now = kept_now _ _ _ _ c.args.self.now c.self.invariant c.self.view_is in
-    let w : c.self.inside.words ≡ c.args.self.now.words = ap (λ (s : Story). s.words) c.self.view_is in
+    let w : c.self.inside.words ≡ c.args.self.now.words = ap (λ (s : GhostState). s.words) c.self.view_is in
     let h = there c.args.self.now c.args.pointer.block k
     (handle_busy c.args.self.now c.args.desk c.args.pointer.kind c.args.pointer.block _ k c.requires.held) in
     let i = inside c.args.self.now c.args.pointer.block (slot c.args.pointer.kind) k h.1 (slot_few c.args.pointer.kind) in
@@ -47,7 +47,7 @@ set-requires c =
 pub with_funds-requires : goal.with_funds-requires
 with_funds-requires c =
     let k : Kept c.args.self.now = kept_now _ _ _ _ c.args.self.now c.self.invariant c.self.view_is in
-    let w : c.self.inside.words ≡ c.args.self.now.words = ap (λ (s : Story). s.words) c.self.view_is in
+    let w : c.self.inside.words ≡ c.args.self.now.words = ap (λ (s : GhostState). s.words) c.self.view_is in
     let h = there c.args.self.now c.args.pointer.block k
     (handle_busy c.args.self.now c.args.desk c.args.pointer.kind c.args.pointer.block _ k c.requires.held) in
     let f = found c.self.inside.words c.args.self.now.words c.count_word.result _ _ w c.count_word.ensures c.get-found.ensures in
@@ -58,14 +58,14 @@ with_funds-requires c =
 pub invariant_of-self : goal.invariant_of-self
 invariant_of-self c =
     let k : Kept c.args.self.now = kept_now _ _ _ _ c.args.self.now c.self.invariant c.self.view_is in
-    let w : c.self.inside.words ≡ c.args.self.now.words = ap (λ (s : Story). s.words) c.self.view_is in
+    let w : c.self.inside.words ≡ c.args.self.now.words = ap (λ (s : GhostState). s.words) c.self.view_is in
     let h = there c.args.self.now c.args.pointer.block k
     (handle_busy c.args.self.now c.args.desk c.args.pointer.kind c.args.pointer.block _ k c.requires.held) in
     let f = found c.self.inside.words c.args.self.now.words c.count_word.result _ _ w c.count_word.ensures c.get-found.ensures in
     kept_as c.args.self.now c.args.desk (OnCell (Bring c.args.pointer.kind c.args.pointer.block c.args.pointer.place c.args.funds)) _ _ _ _
     (kept_bring c.args.self.now c.args.desk c.args.pointer.kind c.args.pointer.block c.args.pointer.place c.args.funds k c.requires.seat c.requires.idle
     c.requires.held c.requires.few)
-    (ap (λ (s : Story). s.extent) c.self.view_is)
+    (ap (λ (s : GhostState). s.extent) c.self.view_is)
     (let e = c.count_word-2.ensures in
     let g : c.with_funds.result ≡ get_or c.args.self.now.words (spot c.args.pointer.block.0 (slot c.args.pointer.kind)) 0 + 4294967296 * c.args.funds =
     let q = c.with_funds.ensures.word in omega (arith, f, q) in let s = c.set.ensures in cc)

@@ -1,6 +1,6 @@
 use Rattle.std.proofs.Common.{◌≡◌, ◌==◌, ◌∙◌, ℕ, ap, length, arith}
-use Rattle.step_table.specs.declared.memory.past.Deed.TheVariants.{Finish}
-use Rattle.step_table.specs.Stories.{Story, Kept}
+use Rattle.step_table.specs.declared.memory.past.AtomicStep.TheVariants.{Finish}
+use Rattle.step_table.specs.GhostStates.{GhostState, Kept}
 use Rattle.step_table.proofs.tables.Endings.{kept_finish, finished_vacant, some_weak}
 use Rattle.step_table.proofs.tables.Owners.{whole_one}
 use Rattle.step_table.proofs.tables.Places.{inside, ending_busy, there}
@@ -17,7 +17,7 @@ get-found-requires c =
     let k : Kept c.args.self.now = kept_now _ _ _ _ c.args.self.now c.self.invariant c.self.view_is in
     let i = inside c.args.self.now c.args.block 1 k (there c.args.self.now c.args.block k
     (ending_busy c.args.self.now c.args.desk c.args.block c.requires.ending)).1 (let q = c.requires in omega arith) in
-    let w : c.self.inside.words ≡ c.args.self.now.words = ap (λ (s : Story). s.words) c.self.view_is in
+    let w : c.self.inside.words ≡ c.args.self.now.words = ap (λ (s : GhostState). s.words) c.self.view_is in
     let b = c.block_word.ensures in
     omega (arith, i, b, ap (length {A = ℕ}) w)
 
@@ -31,14 +31,14 @@ set-requires c =
     let k : Kept c.args.self.now = kept_now _ _ _ _ c.args.self.now c.self.invariant c.self.view_is in
     let i = inside c.args.self.now c.args.block 1 k (there c.args.self.now c.args.block k
     (ending_busy c.args.self.now c.args.desk c.args.block c.requires.ending)).1 (let q = c.requires in omega arith) in
-    let w : c.self.inside.words ≡ c.args.self.now.words = ap (λ (s : Story). s.words) c.self.view_is in
+    let w : c.self.inside.words ≡ c.args.self.now.words = ap (λ (s : GhostState). s.words) c.self.view_is in
     let b = c.block_word-2.ensures in
     omega (arith, i, b, ap (length {A = ℕ}) w)
 
 pub overflow_sub-found : goal.overflow_sub-found
 overflow_sub-found c =
     let k : Kept c.args.self.now = kept_now _ _ _ _ c.args.self.now c.self.invariant c.self.view_is in
-    let w : c.self.inside.words ≡ c.args.self.now.words = ap (λ (s : Story). s.words) c.self.view_is in
+    let w : c.self.inside.words ≡ c.args.self.now.words = ap (λ (s : GhostState). s.words) c.self.view_is in
     let f = found c.self.inside.words c.args.self.now.words c.block_word.result _ _ w c.block_word.ensures c.get-found.ensures in
     let s = some_weak c.args.self.now c.args.desk c.args.block k c.requires.seat c.requires.idle c.requires.ending c.requires.cleared in
     omega arith
@@ -46,19 +46,19 @@ overflow_sub-found c =
 pub invariant_of-self : goal.invariant_of-self
 invariant_of-self c =
     let k : Kept c.args.self.now = kept_now _ _ _ _ c.args.self.now c.self.invariant c.self.view_is in
-    let w : c.self.inside.words ≡ c.args.self.now.words = ap (λ (s : Story). s.words) c.self.view_is in
+    let w : c.self.inside.words ≡ c.args.self.now.words = ap (λ (s : GhostState). s.words) c.self.view_is in
     let f = found c.self.inside.words c.args.self.now.words c.block_word.result _ _ w c.block_word.ensures c.get-found.ensures in
     kept_as c.args.self.now c.args.desk (Finish c.args.block c.is_last-vacant.result) _ _ _ _
     (kept_finish c.args.self.now c.args.desk c.args.block c.is_last-vacant.result k c.requires.seat c.requires.idle c.requires.ending c.requires.cleared
     (whole_one c.is_last-vacant.result c.get-found.result c.is_last-vacant.ensures ∙ ap (λ (n : ℕ). n == 1) f))
-    (ap (λ (s : Story). s.extent) c.self.view_is)
+    (ap (λ (s : GhostState). s.extent) c.self.view_is)
     (let e = c.block_word-2.ensures in let s = c.set.ensures in cc)
     c.then-past.ensures
 
 pub returns-clause-vacant : goal.returns-clause-vacant
 returns-clause-vacant c =
     let k : Kept c.args.self.now = kept_now _ _ _ _ c.args.self.now c.self.invariant c.self.view_is in
-    let w : c.self.inside.words ≡ c.args.self.now.words = ap (λ (s : Story). s.words) c.self.view_is in
+    let w : c.self.inside.words ≡ c.args.self.now.words = ap (λ (s : GhostState). s.words) c.self.view_is in
     let f = found c.self.inside.words c.args.self.now.words c.block_word.result _ _ w c.block_word.ensures c.get-found.ensures in
     finished_vacant c.args.self.now c.args.desk c.args.block _
     (kept_finish c.args.self.now c.args.desk c.args.block c.is_last-vacant.result k c.requires.seat c.requires.idle c.requires.ending c.requires.cleared

@@ -1,9 +1,9 @@
 use Rattle.std.proofs.Common.{◌≡◌, ◌-◌, ◌*◌, ℕ, ap, get_or, length, arith}
 use Rattle.control_word.specs.Layout.{spot}
 use Rattle.control_word.specs.Words.{slot}
-use Rattle.step_table.specs.declared.cell_steps.cell_deed.CellDeed.TheVariants.{GiveBack}
-use Rattle.step_table.specs.declared.memory.past.Deed.TheVariants.{OnCell}
-use Rattle.step_table.specs.Stories.{Story, Kept}
+use Rattle.step_table.specs.declared.cell_steps.cell_step.CellStep.TheVariants.{GiveBack}
+use Rattle.step_table.specs.declared.memory.past.AtomicStep.TheVariants.{OnCell}
+use Rattle.step_table.specs.GhostStates.{GhostState, Kept}
 use Rattle.step_table.proofs.tables.Funds.{funds_there, kept_give, paying_there, slot_few}
 use Rattle.step_table.proofs.tables.Places.{inside}
 use Rattle.step_table.proofs.tables.Standing.{found, kept_as, kept_now}
@@ -24,7 +24,7 @@ count_word-requires-2 c =
 pub get-found-requires : goal.get-found-requires
 get-found-requires c =
     let k : Kept c.args.self.now = kept_now _ _ _ _ c.args.self.now c.self.invariant c.self.view_is in
-    let w : c.self.inside.words ≡ c.args.self.now.words = ap (λ (s : Story). s.words) c.self.view_is in
+    let w : c.self.inside.words ≡ c.args.self.now.words = ap (λ (s : GhostState). s.words) c.self.view_is in
     let h = paying_there c.args.self.now c.args.desk c.args.kind c.args.block c.requires.owes.0 c.args.funds 0 k c.requires.seat c.requires.owes.1 in
     let i = inside c.args.self.now c.args.block (slot c.args.kind) k h.1 (slot_few c.args.kind) in
     let b = c.count_word.ensures in
@@ -33,7 +33,7 @@ get-found-requires c =
 pub set-requires : goal.set-requires
 set-requires c =
     let k : Kept c.args.self.now = kept_now _ _ _ _ c.args.self.now c.self.invariant c.self.view_is in
-    let w : c.self.inside.words ≡ c.args.self.now.words = ap (λ (s : Story). s.words) c.self.view_is in
+    let w : c.self.inside.words ≡ c.args.self.now.words = ap (λ (s : GhostState). s.words) c.self.view_is in
     let h = paying_there c.args.self.now c.args.desk c.args.kind c.args.block c.requires.owes.0 c.args.funds 0 k c.requires.seat c.requires.owes.1 in
     let i = inside c.args.self.now c.args.block (slot c.args.kind) k h.1 (slot_few c.args.kind) in
     let b = c.count_word-2.ensures in
@@ -42,7 +42,7 @@ set-requires c =
 pub without_funds-requires : goal.without_funds-requires
 without_funds-requires c =
     let k : Kept c.args.self.now = kept_now _ _ _ _ c.args.self.now c.self.invariant c.self.view_is in
-    let w : c.self.inside.words ≡ c.args.self.now.words = ap (λ (s : Story). s.words) c.self.view_is in
+    let w : c.self.inside.words ≡ c.args.self.now.words = ap (λ (s : GhostState). s.words) c.self.view_is in
     let h = paying_there c.args.self.now c.args.desk c.args.kind c.args.block c.requires.owes.0 c.args.funds 0 k c.requires.seat c.requires.owes.1 in
     let f = found c.self.inside.words c.args.self.now.words c.count_word.result _ _ w c.count_word.ensures c.get-found.ensures in
     let q = funds_there c.args.self.now c.args.desk c.args.kind c.args.block c.requires.owes.0 c.args.funds k c.requires.seat c.requires.owes.1 in
@@ -51,12 +51,12 @@ without_funds-requires c =
 pub invariant_of-self : goal.invariant_of-self
 invariant_of-self c =
     let k : Kept c.args.self.now = kept_now _ _ _ _ c.args.self.now c.self.invariant c.self.view_is in
-    let w : c.self.inside.words ≡ c.args.self.now.words = ap (λ (s : Story). s.words) c.self.view_is in
+    let w : c.self.inside.words ≡ c.args.self.now.words = ap (λ (s : GhostState). s.words) c.self.view_is in
     let h = paying_there c.args.self.now c.args.desk c.args.kind c.args.block c.requires.owes.0 c.args.funds 0 k c.requires.seat c.requires.owes.1 in
     let f = found c.self.inside.words c.args.self.now.words c.count_word.result _ _ w c.count_word.ensures c.get-found.ensures in
     kept_as c.args.self.now c.args.desk (OnCell (GiveBack c.args.kind c.args.block c.args.funds)) _ _ _ _
     (kept_give c.args.self.now c.args.desk c.args.kind c.args.block c.requires.owes.0 c.args.funds k c.requires.seat c.requires.owes.1)
-    (ap (λ (s : Story). s.extent) c.self.view_is)
+    (ap (λ (s : GhostState). s.extent) c.self.view_is)
     (let e = c.count_word-2.ensures in
     let g : c.without_funds.result ≡ get_or c.args.self.now.words (spot c.args.block.0 (slot c.args.kind)) 0 - 4294967296 * c.args.funds =
     let q = c.without_funds.ensures.word in omega (arith, f, q) in let s = c.set.ensures in cc)

@@ -1,5 +1,5 @@
 use Rattle.std.proofs.Common.{◌∙◌}
-use Rattle.step_table.specs.Stories.{object_of_block, story_state}
+use Rattle.step_table.specs.GhostStates.{object_of_block, model_state}
 use Rattle.step_table.proofs.tables.Places.{handle_busy, there}
 use Rattle.step_table.proofs.tables.Reading.{flags_read}
 use Rattle.step_table.proofs.memory.table.Table.is_enabled.Goals as goal
@@ -21,6 +21,6 @@ returns c =
     let v = c.args.self.now in
     let b = c.args.pointer.block in
     let k = c.known.ensures in
-    let x = (story_state v).object (object_of_block v b) in
+    let x = (model_state v).object (object_of_block v b) in
     c.is_enabled.ensures x.enabled x.null
     (c.word.ensures ∙ flags_read v b k (handle_busy v c.args.desk c.args.pointer.kind b c.args.pointer.place k c.requires))

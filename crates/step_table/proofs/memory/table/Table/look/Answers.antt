@@ -1,6 +1,6 @@
 use Rattle.std.proofs.Common.{◌≡◌, ◌+◌, ◌∙◌, ℕ, ap, length, arith}
 use Rattle.control_word.specs.Layout.{spot}
-use Rattle.step_table.specs.Stories.{Story, Kept}
+use Rattle.step_table.specs.GhostStates.{GhostState, Kept}
 use Rattle.step_table.proofs.tables.Making.{known_word}
 use Rattle.step_table.proofs.tables.Places.{inside, making_place}
 use Rattle.step_table.proofs.tables.Standing.{found, kept_now}
@@ -16,14 +16,14 @@ get-requires c =
     let k : Kept c.args.self.now = kept_now _ _ _ _ c.args.self.now c.self.invariant c.self.view_is in
     let i = inside c.args.self.now c.args.block (2 + c.args.index) k
     (making_place c.args.self.now c.args.desk c.args.block _ k c.requires.seat c.requires.making.making) (let q = c.requires in omega arith) in
-    let w : c.self.inside.words ≡ c.args.self.now.words = ap (λ (s : Story). s.words) c.self.view_is in
+    let w : c.self.inside.words ≡ c.args.self.now.words = ap (λ (s : GhostState). s.words) c.self.view_is in
     let b = (c.block_word.ensures ∙ ap (λ (m : ℕ). spot c.args.block.0 (2 + m)) c.from.ensures) in
     omega (arith, i, b, ap (length {A = ℕ}) w)
 
 pub returns : goal.returns
 returns c =
     let k : Kept c.args.self.now = kept_now _ _ _ _ c.args.self.now c.self.invariant c.self.view_is in
-    let w : c.self.inside.words ≡ c.args.self.now.words = ap (λ (s : Story). s.words) c.self.view_is in
+    let w : c.self.inside.words ≡ c.args.self.now.words = ap (λ (s : GhostState). s.words) c.self.view_is in
     let i = inside c.args.self.now c.args.block (2 + c.args.index) k
     (making_place c.args.self.now c.args.desk c.args.block _ k c.requires.seat c.requires.making.making) (let q = c.requires in omega arith) in
     let f = found c.self.inside.words c.args.self.now.words c.block_word.result _ _ w (c.block_word.ensures

@@ -1,7 +1,7 @@
 use Rattle.std.proofs.Common.{◌≡◌, ◌+◌, ◌∙◌, ℕ, ap, length, sym, arith}
 use Rattle.control_word.specs.Layout.{spot}
-use Rattle.step_table.specs.declared.memory.past.Deed.TheVariants.{Clear}
-use Rattle.step_table.specs.Stories.{Story, Kept}
+use Rattle.step_table.specs.declared.memory.past.AtomicStep.TheVariants.{Clear}
+use Rattle.step_table.specs.GhostStates.{GhostState, Kept}
 use Rattle.step_table.proofs.tables.Endings.{kept_clear, member_shows}
 use Rattle.step_table.proofs.tables.Places.{ending_busy, inside, there}
 use Rattle.step_table.proofs.tables.Standing.{found, kept_as, kept_now}
@@ -17,14 +17,14 @@ get-found-requires c =
     let k : Kept c.args.self.now = kept_now _ _ _ _ c.args.self.now c.self.invariant c.self.view_is in
     let i = inside c.args.self.now c.args.block (7 + c.args.member) k (there c.args.self.now c.args.block k
     (ending_busy c.args.self.now c.args.desk c.args.block c.requires.ending)).1 (let q = c.requires in omega arith) in
-    let w : c.self.inside.words ≡ c.args.self.now.words = ap (λ (s : Story). s.words) c.self.view_is in
+    let w : c.self.inside.words ≡ c.args.self.now.words = ap (λ (s : GhostState). s.words) c.self.view_is in
     let b = (c.block_word.ensures ∙ ap (λ (m : ℕ). spot c.args.block.0 (7 + m)) c.from.ensures) in
     omega (arith, i, b, ap (length {A = ℕ}) w)
 
 pub returns-then-found-gt0-clause-found : goal.returns-then-found-gt0-clause-found
 returns-then-found-gt0-clause-found c =
     let k : Kept c.args.self.now = kept_now _ _ _ _ c.args.self.now c.self.invariant c.self.view_is in
-    let w : c.self.inside.words ≡ c.args.self.now.words = ap (λ (s : Story). s.words) c.self.view_is in
+    let w : c.self.inside.words ≡ c.args.self.now.words = ap (λ (s : GhostState). s.words) c.self.view_is in
     let i = inside c.args.self.now c.args.block (7 + c.args.member) k (there c.args.self.now c.args.block k
     (ending_busy c.args.self.now c.args.desk c.args.block c.requires.ending)).1 (let q = c.requires in omega arith) in
     let f = found c.self.inside.words c.args.self.now.words c.block_word.result _ _ w (c.block_word.ensures
@@ -34,7 +34,7 @@ returns-then-found-gt0-clause-found c =
 pub returns-then-found-gt0-clause-empty : goal.returns-then-found-gt0-clause-empty
 returns-then-found-gt0-clause-empty c =
     let k : Kept c.args.self.now = kept_now _ _ _ _ c.args.self.now c.self.invariant c.self.view_is in
-    let w : c.self.inside.words ≡ c.args.self.now.words = ap (λ (s : Story). s.words) c.self.view_is in
+    let w : c.self.inside.words ≡ c.args.self.now.words = ap (λ (s : GhostState). s.words) c.self.view_is in
     let i = inside c.args.self.now c.args.block (7 + c.args.member) k (there c.args.self.now c.args.block k
     (ending_busy c.args.self.now c.args.desk c.args.block c.requires.ending)).1 (let q = c.requires in omega arith) in
     let f = found c.self.inside.words c.args.self.now.words c.block_word.result _ _ w (c.block_word.ensures
@@ -45,7 +45,7 @@ returns-then-found-gt0-clause-empty c =
 pub returns-clause-found : goal.returns-clause-found
 returns-clause-found c =
     let k : Kept c.args.self.now = kept_now _ _ _ _ c.args.self.now c.self.invariant c.self.view_is in
-    let w : c.self.inside.words ≡ c.args.self.now.words = ap (λ (s : Story). s.words) c.self.view_is in
+    let w : c.self.inside.words ≡ c.args.self.now.words = ap (λ (s : GhostState). s.words) c.self.view_is in
     let i = inside c.args.self.now c.args.block (7 + c.args.member) k (there c.args.self.now c.args.block k
     (ending_busy c.args.self.now c.args.desk c.args.block c.requires.ending)).1 (let q = c.requires in omega arith) in
     let f = found c.self.inside.words c.args.self.now.words c.block_word.result _ _ w (c.block_word.ensures
@@ -55,7 +55,7 @@ returns-clause-found c =
 pub returns-clause-empty : goal.returns-clause-empty
 returns-clause-empty c =
     let k : Kept c.args.self.now = kept_now _ _ _ _ c.args.self.now c.self.invariant c.self.view_is in
-    let w : c.self.inside.words ≡ c.args.self.now.words = ap (λ (s : Story). s.words) c.self.view_is in
+    let w : c.self.inside.words ≡ c.args.self.now.words = ap (λ (s : GhostState). s.words) c.self.view_is in
     let i = inside c.args.self.now c.args.block (7 + c.args.member) k (there c.args.self.now c.args.block k
     (ending_busy c.args.self.now c.args.desk c.args.block c.requires.ending)).1 (let q = c.requires in omega arith) in
     let f = found c.self.inside.words c.args.self.now.words c.block_word.result _ _ w (c.block_word.ensures
@@ -66,7 +66,7 @@ returns-clause-empty c =
 pub invariant_of-self : goal.invariant_of-self
 invariant_of-self c =
     let k : Kept c.args.self.now = kept_now _ _ _ _ c.args.self.now c.self.invariant c.self.view_is in
-    let w : c.self.inside.words ≡ c.args.self.now.words = ap (λ (s : Story). s.words) c.self.view_is in
+    let w : c.self.inside.words ≡ c.args.self.now.words = ap (λ (s : GhostState). s.words) c.self.view_is in
     let i = inside c.args.self.now c.args.block (7 + c.args.member) k (there c.args.self.now c.args.block k
     (ending_busy c.args.self.now c.args.desk c.args.block c.requires.ending)).1 (let q = c.requires in omega arith) in
     let f = found c.self.inside.words c.args.self.now.words c.block_word.result _ _ w (c.block_word.ensures
@@ -76,4 +76,4 @@ invariant_of-self c =
     kept_as c.args.self.now c.args.desk (Clear c.args.block c.args.member) _ _ _ _
     (kept_clear c.args.self.now c.args.desk c.args.block c.args.member k c.requires.seat c.requires.idle c.requires.ending c.requires.inside
     (e.0 (omega (arith, f, z))))
-    (ap (λ (s : Story). s.extent) c.self.view_is) (w) c.then-self-inside.ensures
+    (ap (λ (s : GhostState). s.extent) c.self.view_is) (w) c.then-self-inside.ensures

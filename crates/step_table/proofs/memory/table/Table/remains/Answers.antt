@@ -1,19 +1,19 @@
 use Rattle.std.proofs.Common.{◌∙◌, ◌∷◌, [], refl, sym}
-use Rattle.step_table.specs.Stories.{object_of_block, story_state}
+use Rattle.step_table.specs.GhostStates.{object_of_block, model_state}
 use Rattle.step_table.proofs.tables.Places.{ending_busy}
 use Rattle.step_table.proofs.tables.Reading.{flags_read, four_of, remains_fields, remains_null}
 use Rattle.step_table.proofs.memory.table.Table.remains.Goals as goal
 
 pub returns-then-is_null : goal.returns-then-is_null
 returns-then-is_null c =
-    let x = (story_state c.args.self.now).object (object_of_block c.args.self.now c.args.block) in
+    let x = (model_state c.args.self.now).object (object_of_block c.args.self.now c.args.block) in
     let busy = ending_busy c.args.self.now c.args.desk c.args.block c.requires.ending in
     let f = c.body_word.ensures ∙ flags_read c.args.self.now c.args.block c.known.ensures busy in
     sym (remains_null x (sym (c.is_null.ensures x.enabled x.null f) ∙ c.if-is_null.true))
 
 pub returns : goal.returns
 returns c =
-    let x = (story_state c.args.self.now).object (object_of_block c.args.self.now c.args.block) in
+    let x = (model_state c.args.self.now).object (object_of_block c.args.self.now c.args.block) in
     let busy = ending_busy c.args.self.now c.args.desk c.args.block c.requires.ending in
     let f = c.body_word.ensures ∙ flags_read c.args.self.now c.args.block c.known.ensures busy in
     sym (remains_fields c.args.self.now c.args.block

@@ -1,7 +1,7 @@
 use Rattle.std.proofs.Common.{◌≡◌, ◌+◌, ℕ, suc, ap, get_or, length, arith}
 use Rattle.control_word.specs.Layout.{spot}
-use Rattle.step_table.specs.declared.memory.past.Deed.TheVariants.{Share}
-use Rattle.step_table.specs.Stories.{Story, Kept}
+use Rattle.step_table.specs.declared.memory.past.AtomicStep.TheVariants.{Share}
+use Rattle.step_table.specs.GhostStates.{GhostState, Kept}
 use Rattle.step_table.proofs.tables.Owners.{headroom, kept_share}
 use Rattle.step_table.proofs.tables.Places.{inside, owner_busy, there}
 use Rattle.step_table.proofs.tables.Standing.{found, kept_as, kept_now}
@@ -17,7 +17,7 @@ get-found-requires c =
     let k : Kept c.args.self.now = kept_now _ _ _ _ c.args.self.now c.self.invariant c.self.view_is in
     let i = inside c.args.self.now c.args.block 0 k (there c.args.self.now c.args.block k
     (owner_busy c.args.self.now c.args.desk c.args.block _ k c.requires.held)).1 (let q = c.requires in omega arith) in
-    let w : c.self.inside.words ≡ c.args.self.now.words = ap (λ (s : Story). s.words) c.self.view_is in
+    let w : c.self.inside.words ≡ c.args.self.now.words = ap (λ (s : GhostState). s.words) c.self.view_is in
     let b = c.block_word.ensures in
     omega (arith, i, b, ap (length {A = ℕ}) w)
 
@@ -31,14 +31,14 @@ set-requires c =
     let k : Kept c.args.self.now = kept_now _ _ _ _ c.args.self.now c.self.invariant c.self.view_is in
     let i = inside c.args.self.now c.args.block 0 k (there c.args.self.now c.args.block k
     (owner_busy c.args.self.now c.args.desk c.args.block _ k c.requires.held)).1 (let q = c.requires in omega arith) in
-    let w : c.self.inside.words ≡ c.args.self.now.words = ap (λ (s : Story). s.words) c.self.view_is in
+    let w : c.self.inside.words ≡ c.args.self.now.words = ap (λ (s : GhostState). s.words) c.self.view_is in
     let b = c.block_word-2.ensures in
     omega (arith, i, b, ap (length {A = ℕ}) w)
 
 pub overflow_add-found : goal.overflow_add-found
 overflow_add-found c =
     let k : Kept c.args.self.now = kept_now _ _ _ _ c.args.self.now c.self.invariant c.self.view_is in
-    let w : c.self.inside.words ≡ c.args.self.now.words = ap (λ (s : Story). s.words) c.self.view_is in
+    let w : c.self.inside.words ≡ c.args.self.now.words = ap (λ (s : GhostState). s.words) c.self.view_is in
     let f = found c.self.inside.words c.args.self.now.words c.block_word.result _ _ w c.block_word.ensures c.get-found.ensures in
     let h = headroom c.args.self.now c.args.desk c.args.block c.args.of k c.requires.seat c.requires.idle c.requires.held in
     omega arith
@@ -46,12 +46,12 @@ overflow_add-found c =
 pub invariant_of-self : goal.invariant_of-self
 invariant_of-self c =
     let k : Kept c.args.self.now = kept_now _ _ _ _ c.args.self.now c.self.invariant c.self.view_is in
-    let w : c.self.inside.words ≡ c.args.self.now.words = ap (λ (s : Story). s.words) c.self.view_is in
+    let w : c.self.inside.words ≡ c.args.self.now.words = ap (λ (s : GhostState). s.words) c.self.view_is in
     let f = found c.self.inside.words c.args.self.now.words c.block_word.result _ _ w c.block_word.ensures c.get-found.ensures in
     kept_as c.args.self.now c.args.desk (Share c.args.block c.args.of c.args.place) _ _ _ _
     (kept_share c.args.self.now c.args.desk c.args.block c.args.of c.args.place k c.requires.seat c.requires.idle c.requires.held
     c.requires.place c.requires.room)
-    (ap (λ (s : Story). s.extent) c.self.view_is)
+    (ap (λ (s : GhostState). s.extent) c.self.view_is)
     (let e = c.block_word-2.ensures in
     let g : c.get-found.result + 1 ≡ suc (get_or c.args.self.now.words (spot c.args.block.0 0) 0) = omega (arith, f) in let s = c.set.ensures in cc)
     c.then-past.ensures

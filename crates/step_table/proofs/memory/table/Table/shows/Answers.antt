@@ -1,7 +1,7 @@
 use Rattle.std.proofs.Common.{◌≡◌, ◌∙◌, ◌==◌, ℕ, ap, get_or, length, arith}
 use Rattle.step_table.specs.declared.memory.extent.Extent.{Extent}
-use Rattle.step_table.specs.CellDeeds.{word_of}
-use Rattle.step_table.specs.Stories.{Story, Kept}
+use Rattle.step_table.specs.CellAtomicSteps.{word_of}
+use Rattle.step_table.specs.GhostStates.{GhostState, Kept}
 use Rattle.step_table.proofs.tables.Standing.{found, kept_now}
 use Rattle.step_table.proofs.tables.Shown.{kept_cell, somewhere, word_inside}
 use Rattle.step_table.proofs.memory.table.Table.shows.Goals as goal
@@ -15,8 +15,8 @@ place_of-requires c =
 pub get-requires : goal.get-requires
 get-requires c =
     let k : Kept c.args.self.now = kept_now _ _ _ _ c.args.self.now c.self.invariant c.self.view_is in
-    let w : c.self.inside.words ≡ c.args.self.now.words = ap (λ (s : Story). s.words) c.self.view_is in
-    let x : c.self.inside.extent ≡ c.args.self.now.extent = ap (λ (s : Story). s.extent) c.self.view_is in
+    let w : c.self.inside.words ≡ c.args.self.now.words = ap (λ (s : GhostState). s.words) c.self.view_is in
+    let x : c.self.inside.extent ≡ c.args.self.now.extent = ap (λ (s : GhostState). s.extent) c.self.view_is in
     let is = kept_cell c.args.self.now c.args.desk c.args.cell k c.requires.open in
     let i = word_inside c.args.self.now c.args.desk c.args.cell k c.requires.seat is in
     let at : c.place_of.result ≡ word_of c.args.self.now.extent.shape.blocks c.args.cell =
@@ -26,8 +26,8 @@ get-requires c =
 pub returns : goal.returns
 returns c =
     let k : Kept c.args.self.now = kept_now _ _ _ _ c.args.self.now c.self.invariant c.self.view_is in
-    let w : c.self.inside.words ≡ c.args.self.now.words = ap (λ (s : Story). s.words) c.self.view_is in
-    let x : c.self.inside.extent ≡ c.args.self.now.extent = ap (λ (s : Story). s.extent) c.self.view_is in
+    let w : c.self.inside.words ≡ c.args.self.now.words = ap (λ (s : GhostState). s.words) c.self.view_is in
+    let x : c.self.inside.extent ≡ c.args.self.now.extent = ap (λ (s : GhostState). s.extent) c.self.view_is in
     let is = kept_cell c.args.self.now c.args.desk c.args.cell k c.requires.open in
     let at : c.place_of.result ≡ word_of c.args.self.now.extent.shape.blocks c.args.cell =
     c.place_of.ensures ∙ ap (λ (y : Extent). word_of y.shape.blocks c.args.cell) x in

@@ -1,12 +1,12 @@
 use Rattle.std.proofs.Common.{◌≡◌, ◌+◌, ◌∙◌, ℕ, ap, get_or, length, sym, arith}
 use Rattle.step_table.specs.declared.memory.extent.Extent.{Extent}
-use Rattle.step_table.specs.CellDeeds.{word_of}
-use Rattle.step_table.specs.Stories.{Story, Kept}
+use Rattle.step_table.specs.CellAtomicSteps.{word_of}
+use Rattle.step_table.specs.GhostStates.{GhostState, Kept}
 use Rattle.step_table.proofs.tables.Standing.{kept_as, kept_now}
 use Rattle.std.specs.Prelude.{Some}
 use Rattle.std.proofs.lemmas.Bool.{eqb-true}
-use Rattle.step_table.specs.declared.cell_steps.cell_deed.CellDeed.TheVariants.{Take}
-use Rattle.step_table.specs.declared.memory.past.Deed.TheVariants.{OnCell}
+use Rattle.step_table.specs.declared.cell_steps.cell_step.CellStep.TheVariants.{Take}
+use Rattle.step_table.specs.declared.memory.past.AtomicStep.TheVariants.{OnCell}
 use Rattle.step_table.proofs.tables.Shown.{kept_cell, somewhere, word_inside}
 use Rattle.step_table.proofs.tables.Swaps.{cell_bits_few, kept_take_differing}
 use Rattle.step_table.proofs.memory.table.Table.take_differing.Goals as goal
@@ -24,8 +24,8 @@ place_of-requires c =
 pub set-requires : goal.set-requires
 set-requires c =
     let k : Kept c.args.self.now = kept_now _ _ _ _ c.args.self.now c.self.invariant c.self.view_is in
-    let w : c.self.inside.words ≡ c.args.self.now.words = ap (λ (s : Story). s.words) c.self.view_is in
-    let x : c.self.inside.extent ≡ c.args.self.now.extent = ap (λ (s : Story). s.extent) c.self.view_is in
+    let w : c.self.inside.words ≡ c.args.self.now.words = ap (λ (s : GhostState). s.words) c.self.view_is in
+    let x : c.self.inside.extent ≡ c.args.self.now.extent = ap (λ (s : GhostState). s.extent) c.self.view_is in
     let is = kept_cell c.args.self.now c.args.desk c.args.cell k c.requires.open in
     let i = word_inside c.args.self.now c.args.desk c.args.cell k c.requires.seat is in
     let at : c.place_of.result ≡ word_of c.args.self.now.extent.shape.blocks c.args.cell =
@@ -35,8 +35,8 @@ set-requires c =
 pub invariant_of-self : goal.invariant_of-self
 invariant_of-self c =
     let k : Kept c.args.self.now = kept_now _ _ _ _ c.args.self.now c.self.invariant c.self.view_is in
-    let w : c.self.inside.words ≡ c.args.self.now.words = ap (λ (s : Story). s.words) c.self.view_is in
-    let x : c.self.inside.extent ≡ c.args.self.now.extent = ap (λ (s : Story). s.extent) c.self.view_is in
+    let w : c.self.inside.words ≡ c.args.self.now.words = ap (λ (s : GhostState). s.words) c.self.view_is in
+    let x : c.self.inside.extent ≡ c.args.self.now.extent = ap (λ (s : GhostState). s.extent) c.self.view_is in
     let is = kept_cell c.args.self.now c.args.desk c.args.cell k c.requires.open in
     let at : c.place_of.result ≡ word_of c.args.self.now.extent.shape.blocks c.args.cell =
     c.place_of.ensures ∙ ap (λ (y : Extent). word_of y.shape.blocks c.args.cell) x in

@@ -1,10 +1,10 @@
 use Rattle.std.proofs.Common.{◌≡◌, ◌+◌, ◌∙◌, ℕ, ap, length, arith}
-use Rattle.step_table.specs.Stories.{Story, Kept}
+use Rattle.step_table.specs.GhostStates.{GhostState, Kept}
 use Rattle.step_table.proofs.tables.Standing.{kept_as, kept_now}
 use Rattle.control_word.specs.Layout.{spot}
-use Rattle.step_table.specs.declared.cell_steps.cell_deed.Cell.TheVariants.{Member}
-use Rattle.step_table.specs.declared.cell_steps.cell_deed.CellDeed.TheVariants.{TakeOut}
-use Rattle.step_table.specs.declared.memory.past.Deed.TheVariants.{OnCell}
+use Rattle.step_table.specs.declared.cell_steps.cell_step.Cell.TheVariants.{Member}
+use Rattle.step_table.specs.declared.cell_steps.cell_step.CellStep.TheVariants.{TakeOut}
+use Rattle.step_table.specs.declared.memory.past.AtomicStep.TheVariants.{OnCell}
 use Rattle.step_table.proofs.tables.Shown.{somewhere, word_inside}
 use Rattle.step_table.proofs.tables.Swaps.{ending_cell, kept_take_out}
 use Rattle.step_table.proofs.memory.table.Table.take_out.Goals as goal
@@ -18,7 +18,7 @@ block_word-requires-clause-block c =
 pub set-requires : goal.set-requires
 set-requires c =
     let k : Kept c.args.self.now = kept_now _ _ _ _ c.args.self.now c.self.invariant c.self.view_is in
-    let w : c.self.inside.words ≡ c.args.self.now.words = ap (λ (s : Story). s.words) c.self.view_is in
+    let w : c.self.inside.words ≡ c.args.self.now.words = ap (λ (s : GhostState). s.words) c.self.view_is in
     let is = ending_cell c.args.self.now c.args.desk c.args.block c.args.member c.requires.ending c.requires.inside in
     let i = word_inside c.args.self.now c.args.desk (Member c.args.block c.args.member) k c.requires.seat is in
     let at : c.block_word.result ≡ spot c.args.block.0 (7 + c.args.member) =
@@ -28,8 +28,8 @@ set-requires c =
 pub invariant_of-self : goal.invariant_of-self
 invariant_of-self c =
     let k : Kept c.args.self.now = kept_now _ _ _ _ c.args.self.now c.self.invariant c.self.view_is in
-    let w : c.self.inside.words ≡ c.args.self.now.words = ap (λ (s : Story). s.words) c.self.view_is in
-    let x : c.self.inside.extent ≡ c.args.self.now.extent = ap (λ (s : Story). s.extent) c.self.view_is in
+    let w : c.self.inside.words ≡ c.args.self.now.words = ap (λ (s : GhostState). s.words) c.self.view_is in
+    let x : c.self.inside.extent ≡ c.args.self.now.extent = ap (λ (s : GhostState). s.extent) c.self.view_is in
     let is = ending_cell c.args.self.now c.args.desk c.args.block c.args.member c.requires.ending c.requires.inside in
     let at : c.block_word.result ≡ spot c.args.block.0 (7 + c.args.member) =
     c.block_word.ensures ∙ ap (λ (m : ℕ). spot c.args.block.0 (7 + m)) c.from.ensures in

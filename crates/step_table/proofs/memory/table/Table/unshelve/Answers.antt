@@ -1,10 +1,10 @@
 use Rattle.std.proofs.Common.{◌≡◌, ◌%◌, ◌==◌, not, cond, ap, ◌∙◌, arith, subst}
 use Rattle.std.specs.Prelude.{bit_and}
-use Rattle.step_table.specs.declared.memory.past.Deed.TheVariants.{OnShelf}
-use Rattle.step_table.specs.declared.memory.shelf.ShelfDeed.TheVariants.{Unshelve, Miss}
+use Rattle.step_table.specs.declared.memory.past.AtomicStep.TheVariants.{OnShelf}
+use Rattle.step_table.specs.declared.memory.shelf.ShelfStep.TheVariants.{Unshelve, Miss}
 use Rattle.step_table.specs.Openings.{opening}
-use Rattle.step_table.specs.declared.memory.shelf.ShelfDeed.{ShelfDeed}
-use Rattle.step_table.specs.Stories.{Story, Kept, history_after, story_state, views_after}
+use Rattle.step_table.specs.declared.memory.shelf.ShelfStep.{ShelfStep}
+use Rattle.step_table.specs.GhostStates.{GhostState, Kept, history_after, model_state, views_after}
 use Rattle.control_word.proofs.packing.Bits.{bit_tells}
 use Rattle.step_table.proofs.tables.Shelf.{cleared_words, found_on, kept_unshelve, shown_bit}
 use Rattle.step_table.proofs.tables.Standing.{found, kept_as, kept_now}
@@ -15,10 +15,10 @@ returns-clause-got c =
     let v = c.args.self.now in
     let b = c.args.block in
     let k : Kept v = kept_now _ _ _ _ v c.self.invariant c.self.view_is in
-    let w : c.self.inside.words ≡ v.words = ap (λ (s : Story). s.words) c.self.view_is in
+    let w : c.self.inside.words ≡ v.words = ap (λ (s : GhostState). s.words) c.self.view_is in
     let f : c.get-found.result ≡ found_on v b = found c.self.inside.words v.words c.place_on_shelf-word.result _ _ w
     c.place_on_shelf-word.ensures c.get-found.ensures in
-    let t = bit_tells (found_on v b) (b.0 % 64) ((story_state v).shelved b.0) (shown_bit v b.0 k (omega arith)) in
+    let t = bit_tells (found_on v b) (b.0 % 64) ((model_state v).shelved b.0) (shown_bit v b.0 k (omega arith)) in
     let m = c.shelf_bit.ensures in
     (λ i. not (bit_and (f i) (m i) == 0)) ∙ t
 
@@ -27,12 +27,12 @@ invariant_of-self c =
     let v = c.args.self.now in
     let b = c.args.block in
     let k : Kept v = kept_now _ _ _ _ v c.self.invariant c.self.view_is in
-    let w : c.self.inside.words ≡ v.words = ap (λ (s : Story). s.words) c.self.view_is in
+    let w : c.self.inside.words ≡ v.words = ap (λ (s : GhostState). s.words) c.self.view_is in
     let x = not (bit_and c.get-found.result c.shelf_bit.result == 0) in
     kept_as v c.args.desk (OnShelf b (cond x Unshelve Miss)) _ _ _ _
     (kept_unshelve v c.args.desk b x k c.requires.seat c.requires.idle (omega arith) (returns-clause-got c))
-    (ap (λ (s : Story). s.extent) c.self.view_is)
+    (ap (λ (s : GhostState). s.extent) c.self.view_is)
     (let e = c.place_on_shelf-word.ensures in let f = c.get-found.ensures in let m = c.shelf_bit-2.ensures in
     let s = c.set.ensures in let t = cleared_words (opening v.extent) v.words b x in cc)
-    (subst (λ (y : ShelfDeed). (c.then-past.result.history ≡ history_after v c.args.desk (OnShelf b y))
-    × (c.then-past.result.views ≡ views_after v c.args.desk (OnShelf b y))) c.cleared-deed.ensures c.then-past.ensures)
+    (subst (λ (y : ShelfStep). (c.then-past.result.history ≡ history_after v c.args.desk (OnShelf b y))
+    × (c.then-past.result.views ≡ views_after v c.args.desk (OnShelf b y))) c.cleared-atomic_step.ensures c.then-past.ensures)

@@ -1,8 +1,8 @@
 use Rattle.control_word.specs.declared.model.handle.Kind.TheVariants.{Weak}
 use Rattle.std.proofs.Common.{◌≡◌, ◌+◌, ℕ, suc, ap, get_or, length, arith}
 use Rattle.control_word.specs.Layout.{spot}
-use Rattle.step_table.specs.declared.memory.past.Deed.TheVariants.{WeakShare}
-use Rattle.step_table.specs.Stories.{Story, Kept}
+use Rattle.step_table.specs.declared.memory.past.AtomicStep.TheVariants.{WeakShare}
+use Rattle.step_table.specs.GhostStates.{GhostState, Kept}
 use Rattle.step_table.proofs.tables.Owners.{room_above}
 use Rattle.step_table.proofs.tables.Weaks.{kept_weak_share}
 use Rattle.step_table.proofs.tables.Places.{inside, handle_busy, there}
@@ -19,7 +19,7 @@ get-found-requires c =
     let k : Kept c.args.self.now = kept_now _ _ _ _ c.args.self.now c.self.invariant c.self.view_is in
     let i = inside c.args.self.now c.args.pointer.block 1 k (there c.args.self.now c.args.pointer.block k
     (handle_busy c.args.self.now c.args.desk c.args.pointer.kind c.args.pointer.block _ k c.requires.held)).1 (let q = c.requires in omega arith) in
-    let w : c.self.inside.words ≡ c.args.self.now.words = ap (λ (s : Story). s.words) c.self.view_is in
+    let w : c.self.inside.words ≡ c.args.self.now.words = ap (λ (s : GhostState). s.words) c.self.view_is in
     let b = c.block_word.ensures in
     omega (arith, i, b, ap (length {A = ℕ}) w)
 
@@ -33,14 +33,14 @@ set-requires c =
     let k : Kept c.args.self.now = kept_now _ _ _ _ c.args.self.now c.self.invariant c.self.view_is in
     let i = inside c.args.self.now c.args.pointer.block 1 k (there c.args.self.now c.args.pointer.block k
     (handle_busy c.args.self.now c.args.desk c.args.pointer.kind c.args.pointer.block _ k c.requires.held)).1 (let q = c.requires in omega arith) in
-    let w : c.self.inside.words ≡ c.args.self.now.words = ap (λ (s : Story). s.words) c.self.view_is in
+    let w : c.self.inside.words ≡ c.args.self.now.words = ap (λ (s : GhostState). s.words) c.self.view_is in
     let b = c.block_word-2.ensures in
     omega (arith, i, b, ap (length {A = ℕ}) w)
 
 pub overflow_add-found : goal.overflow_add-found
 overflow_add-found c =
     let k : Kept c.args.self.now = kept_now _ _ _ _ c.args.self.now c.self.invariant c.self.view_is in
-    let w : c.self.inside.words ≡ c.args.self.now.words = ap (λ (s : Story). s.words) c.self.view_is in
+    let w : c.self.inside.words ≡ c.args.self.now.words = ap (λ (s : GhostState). s.words) c.self.view_is in
     let f = found c.self.inside.words c.args.self.now.words c.block_word.result _ _ w c.block_word.ensures c.get-found.ensures in
     let h = room_above c.args.self.now c.args.desk Weak c.args.pointer.kind c.args.pointer.block c.args.pointer.place k c.requires.seat
     c.requires.idle c.requires.held in
@@ -49,12 +49,12 @@ overflow_add-found c =
 pub invariant_of-self : goal.invariant_of-self
 invariant_of-self c =
     let k : Kept c.args.self.now = kept_now _ _ _ _ c.args.self.now c.self.invariant c.self.view_is in
-    let w : c.self.inside.words ≡ c.args.self.now.words = ap (λ (s : Story). s.words) c.self.view_is in
+    let w : c.self.inside.words ≡ c.args.self.now.words = ap (λ (s : GhostState). s.words) c.self.view_is in
     let f = found c.self.inside.words c.args.self.now.words c.block_word.result _ _ w c.block_word.ensures c.get-found.ensures in
     kept_as c.args.self.now c.args.desk (WeakShare c.args.pointer.block c.args.place) _ _ _ _
     (kept_weak_share c.args.self.now c.args.desk c.args.pointer.kind c.args.pointer.block c.args.pointer.place c.args.place k c.requires.seat c.requires.held
     c.requires.idle c.requires.place c.requires.room)
-    (ap (λ (s : Story). s.extent) c.self.view_is)
+    (ap (λ (s : GhostState). s.extent) c.self.view_is)
     (let e = c.block_word-2.ensures in
     let g : c.get-found.result + 1 ≡ suc (get_or c.args.self.now.words (spot c.args.pointer.block.0 1) 0) = omega (arith, f) in let s = c.set.ensures in cc)
     c.then-past.ensures

@@ -1,0 +1,69 @@
+-- What a worker sees of its table's slots and of what is left to end.
+use Rattle.std.proofs.Common.{◌≡◌, ℕ, zero, suc, ◌<◌, ◌≤◌, ◌-◌, false, List, [], ◌∷◌, ◌++◌, length, Option, Some, None}
+use Rattle.std.proofs.Common.{is_some, refl, ap, subst, ◌∙◌, arith}
+use Rattle.std.specs.Prelude.{slice_get}
+use Rattle.control_block.specs.Standing.{Standing}
+use Rattle.control_block.specs.declared.handles.Held.{Held}
+use Rattle.control_word.specs.declared.model.handle.Kind.{Kind}
+use Rattle.control_word.specs.declared.place.Block.{Block}
+use Rattle.control_word.specs.declared.place.Place.{Place}
+use Rattle.handle_table.specs.Calls.{WhyNoHandle}
+use Rattle.handle_table.specs.Ends.{IsToEnd}
+use Rattle.handle_table.specs.Parts.{kind_of_held, block_of_held, place_of_held}
+use Rattle.handle_table.specs.Tables as table
+use Rattle.handle_table.specs.Tables.{TableNow}
+use Rattle.handle_table.specs.declared.ends.Remains.{Remains}
+use Rattle.handle_table.specs.declared.fault.Fault.TheVariants as fault
+use Rattle.handle_table.specs.declared.fault.Fault.{Fault}
+use Rattle.script_runner.proofs.Fields.{remains_in}
+use Rattle.script_runner.proofs.Seating as seating
+use Rattle.script_runner.proofs.Stages.{ends_last}
+use Rattle.script_runner.specs.Deals.{IsTop}
+use Rattle.script_runner.specs.EndCalls.{IsFour, remains_ended}
+use Rattle.script_runner.specs.Seats.{shown_slots}
+use Rattle.shared_handle.specs.Piles.{AllEnd}
+use Rattle.step_table.specs.Contents.{slot_by}
+use Rattle.step_table.specs.Registers.{is_full, plain, pointer_of, slot_pointer, slot_value}
+
+full_as : (k : Kind) (b : Option Block) (p : Option Place) → is_full (pointer_of (slot_by k b p)) ≡ is_some b
+full_as k None p = refl
+full_as k (Some b) p = refl
+
+-- a slot has an object where its handle has
+pub full_shown : (m i : ℕ) (t : TableNow ℕ) (h : Held) → i < m → slice_get t.slots i ≡ Some (Some h)
+    → is_full (slot_pointer (shown_slots m t.slots) i) ≡ is_some (block_of_held h)
+full_shown m i t h lt at =
+    ap (λ x. is_full (pointer_of x)) (seating.shown_at m t.slots i (Some h) lt at) ∙ full_as (kind_of_held h) (block_of_held h) (place_of_held h)
+
+beyond : (m : ℕ) (ss : List table.Slot) (i : ℕ) → length ss ≤ i → slot_value (shown_slots m ss) i ≡ plain
+beyond zero ss i le = refl
+beyond (suc m) [] i le = refl
+beyond (suc m) (s ∷ ss) zero le = let no : ⊥ = omega (arith, le) in absurd no
+beyond (suc m) (s ∷ ss) (suc i) le = beyond m ss i (omega (arith, le))
+
+pub none_shown : (m i : ℕ) (t : TableNow ℕ) (why : Fault) → i < m → WhyNoHandle t.slots i why
+    → is_full (slot_pointer (shown_slots m t.slots) i) ≡ false
+none_shown m i t fault.Slot lt e = ap (λ x. is_full (pointer_of x)) (beyond m t.slots i e)
+none_shown m i t fault.Vacant lt e = ap (λ x. is_full (pointer_of x)) (seating.shown_at m t.slots i None lt e)
+none_shown m i t why lt e = absurd e
+
+-- the last of a list
+last_at : {A : Type 0} (xs : List A) (x : A) (n : ℕ) → length xs ≡ suc n → slice_get xs n ≡ Some x → (below : List A) × (xs ≡ below ++ x ∷ [])
+last_at [] x n many e = let no : ⊥ = omega (arith, many) in absurd no
+last_at (y ∷ []) x zero many e = ([], ap (λ z. z ∷ []) (seating.same_some y x e))
+last_at (y ∷ []) x (suc n) many e = let no : ⊥ = omega (arith, many) in absurd no
+last_at (y ∷ z ∷ zs) x zero many e = let no : ⊥ = omega (arith, many) in absurd no
+last_at (y ∷ z ∷ zs) x (suc n) many e =
+    let r = last_at (z ∷ zs) x n (omega (arith, many)) e in (y ∷ r.0, ap (λ l. y ∷ l) r.1)
+
+last_of : {A : Type 0} (xs : List A) (x : A) → slice_get xs (length xs - 1) ≡ Some x → (below : List A) × (xs ≡ below ++ x ∷ [])
+last_of [] x e = absurd cc
+last_of (y ∷ ys) x e = last_at (y ∷ ys) x (length ys) refl (ap (λ n. slice_get (y ∷ ys) n)
+    (let k : length ys ≡ suc (length ys) - 1 = omega arith in k) ∙ e)
+
+-- the object that was last left to end
+pub top_is : (t : TableNow ℕ) (r : Remains) → Standing t.desk → AllEnd t.desk t.endings → IsFour r → IsToEnd t r → IsTop t (remains_ended r)
+top_is t r stands ends four is =
+    let x = last_of t.endings is.top is.last in
+    let ending = (ends_last t.desk x.0 is.top (subst (λ xs. AllEnd t.desk xs) x.1 ends)).ends in
+    (x.0, is.top, x.1, remains_in t.desk is.top.block.0 is.top.value r stands ending four is.made)

@@ -1,0 +1,62 @@
+use Rattle.std.proofs.Common.{◌∙◌, true, refl, sym, ap}
+use Rattle.std.specs.Prelude.{None, Some}
+use Rattle.step_table.specs.AtomicSteps.{is_expired, on, tell_expired}
+use Rattle.step_table.specs.GhostStates.{model_state}
+use Rattle.step_threads.specs.declared.programs.act.Act.TheVariants.{Expired}
+use Rattle.step_threads.specs.Frames.{done_on}
+use Rattle.step_threads.proofs.Going.{comes, found_at, named_slot, stays_ready}
+use Rattle.step_threads.proofs.frame.Frame.is_expired.Goals as goal
+
+pub get-requires : goal.get-requires
+get-requires c =
+    let t = c.args.self.now in
+    let can = c.requires.can in
+    named_slot t.registers.slots.items c.args.name c.from-from.result (comes t (Expired c.args.name) can.within can.ready c.requires.act) c.from-from.ensures
+
+pub go_on-requires-clause-ready : goal.go_on-requires-clause-ready
+go_on-requires-clause-ready c =
+    let can = c.requires.can in
+    stays_ready c.args.self.now (Expired c.args.name) can.within can.ready c.requires.act (λ e. e) refl
+
+pub go_on-requires-in-Some-clause-ready : goal.go_on-requires-in-Some-clause-ready
+go_on-requires-in-Some-clause-ready c =
+    let can = c.requires.can in
+    stays_ready c.args.self.now (Expired c.args.name) can.within can.ready c.requires.act (λ e. e) refl
+
+pub returns-in-None-clause-exact : goal.returns-in-None-clause-exact
+returns-in-None-clause-exact c =
+    let v = c.args.table.now in
+    let slots = c.args.self.now.registers.slots.items in
+    sym (ap (on (is_expired (model_state v)) true) (found_at slots c.args.name c.from-from.result c.get.result None c.get.ensures c.from-from.ensures
+    c.in-None.is))
+
+pub returns-in-None-clause-table : goal.returns-in-None-clause-table
+returns-in-None-clause-table c =
+    let v = c.args.table.now in
+    let slots = c.args.self.now.registers.slots.items in
+    sym (ap (done_on (tell_expired (model_state v)) v c.args.desk) (found_at slots c.args.name c.from-from.result c.get.result None c.get.ensures
+    c.from-from.ensures c.in-None.is))
+
+pub returns-in-None-clause-on : goal.returns-in-None-clause-on
+returns-in-None-clause-on c = c.go_on.ensures.on c.args.desk c.args.table.now c.requires.can.holds
+
+pub returns-in-Some-clause-exact : goal.returns-in-Some-clause-exact
+returns-in-Some-clause-exact c =
+    let v = c.args.table.now in
+    let slots = c.args.self.now.registers.slots.items in
+    let p = c.in-Some.pointer in
+    c.is_expired-expired.ensures.exact
+    ∙ sym (ap (on (is_expired (model_state v)) true) (found_at slots c.args.name c.from-from.result c.get.result (Some p) c.get.ensures
+    c.from-from.ensures c.in-Some.is))
+
+pub returns-in-Some-clause-table : goal.returns-in-Some-clause-table
+returns-in-Some-clause-table c =
+    let v = c.args.table.now in
+    let slots = c.args.self.now.registers.slots.items in
+    let p = c.in-Some.pointer in
+    c.is_expired-expired.ensures.table
+    ∙ sym (ap (done_on (tell_expired (model_state v)) v c.args.desk) (found_at slots c.args.name c.from-from.result c.get.result (Some p)
+    c.get.ensures c.from-from.ensures c.in-Some.is))
+
+pub returns-in-Some-clause-on : goal.returns-in-Some-clause-on
+returns-in-Some-clause-on c = c.go_on-in-Some.ensures.on c.args.desk c.is_expired-expired.new.table c.is_expired-expired.ensures.holds
