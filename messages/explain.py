@@ -36,12 +36,13 @@ OF_REFUSALS = {
 
 @dataclass
 class Asked:
-    """What the program was asked: the script's name and bytes, the list of turns, why it could not be read, and what
-    finds the faults of its lines, by their causes."""
+    """What the program was asked: the script's name and bytes, the list of turns, the words after `--from` and `--to`, why
+    it could not be read, and what finds the faults of its lines, by their causes."""
 
     name: str = 'standard input'
     script: bytes = b''
     turns: str = ''
+    part: dict = field(default_factory=dict)
     reason: str = ''
     finders: dict = field(default_factory=lambda: FINDERS)
 
@@ -64,6 +65,8 @@ def explanation(refusal, asked):
     turn = re.fullmatch(r'refused 11: turn (\d+)', refusal)
     if turn:
         return of_turn(int(turn[1]), asked)
+    if refusal.startswith('refused 4: limit: a picture has '):
+        return of_part(asked)
     if refusal == 'refused 13: input':
         return [f'{asked.name}: {asked.reason or "it could not be read"}']
     return OF_REFUSALS.get(refusal, [])
@@ -78,6 +81,16 @@ def of_turn(position, asked):
         return [f'turn {position} is `{shown(word.encode())}`, which is no number']
     there = f'there are {threads} threads' if threads > 1 else 'there is 1 thread'
     return [f'turn {position} is {word}; {there}']
+
+
+def of_part(asked):
+    """What is wrong with the numbers of a part, where they name none."""
+    for option, word in asked.part.items():
+        if not re.fullmatch(r'\+?[0-9]+', word) or not 0 < int(word) < 2**32:
+            return [f'{option} is `{shown(word.encode())}`, which is no number from 1 to {2**32 - 1}']
+    if {'--from', '--to'} <= set(asked.part) and int(asked.part['--from']) > int(asked.part['--to']):
+        return [f'act {asked.part["--from"]} comes after act {asked.part["--to"]}']
+    return []
 
 
 def shown(text):

@@ -49,6 +49,7 @@ def bytes_of(path):
 def asked_by(options, files, given):
     """What the words ask; `given` is what standard input had, where that is the script."""
     asked = Asked(script=given or b'', turns=options.get('--turns', ''))
+    asked.part = {it: options[it] for it in ('--from', '--to') if it in options}
     if files:
         asked.name = files[0]
         asked.script, asked.reason = bytes_of(files[0])
@@ -111,7 +112,7 @@ def main(program, *words):
         told += made.of_blocks(program, [f'{name}={value}' for name, value in options.items()], asked.script)
         told += uncut(ran.stdout)
     if command in WITHOUT_TURNS and set(TURNS) & set(options):
-        told.append(f'{command} takes no turns; step, fine and left do')
+        told.append(f'{command} takes no turns; step, fine, left and draw do')
     for line in told:
         print(line, file=sys.stderr)
     return ran.returncode if ran.returncode >= 0 else 128 - ran.returncode

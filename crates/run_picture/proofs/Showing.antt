@@ -1,5 +1,6 @@
 -- What is shown, piece by piece.
-pub use Rattle.markup.proofs.Trees.{draws_none, draws_of, draws_then, shows_more, shows_none, shows_then}
+pub use Rattle.markup.proofs.Trees.{draws_none, draws_of, draws_then, shows_more, shows_none}
+pub use Rattle.markup.proofs.Trees.{shows_then}
 use Rattle.std.proofs.Common.{◌≡◌, ℕ, ◌+◌, ◌<◌, List, [], ◌∷◌, ◌++◌, get_or, length, subst, take}
 use Rattle.std.specs.List.{flat_map}
 use Rattle.markup.specs.Trees.{Draws, Shows}
@@ -15,17 +16,22 @@ pub shows_is : (a b v w : List ℕ) → v ≡ w → Shows a b (v ∷ []) → Sho
 shows_is a b v w e p = subst (λ (t : List ℕ). Shows a b (t ∷ [])) e p
 
 -- the same list
-pub shows_list : {A : Type 0} (f : A → List (List ℕ)) (xs ys : List A) (a b : List ℕ) → xs ≡ ys → Shows a b (flat_map f xs)
+pub shows_list : {A : Type 0} (f : A → List (List ℕ)) (xs ys : List A) (a b : List ℕ) → xs ≡ ys
+    → Shows a b (flat_map f xs)
     → Shows a b (flat_map f ys)
 shows_list {A} f xs ys a b e p = subst (λ (l : List A). Shows a b (flat_map f l)) e p
 
 -- one more of a list, which this is
-pub shows_item : {A : Type 0} (f : A → List (List ℕ)) (xs : List A) (i : ℕ) (x : A) (a b c : List ℕ) → i < length xs → x ≡ get_or xs i x
-    → Shows a b (flat_map f (take i xs)) → Shows b c (f x) → Shows a c (flat_map f (take (i + 1) xs))
-shows_item {A} f xs i x a b c lt is p q = shows_more f xs i x a b c lt p (subst (λ (y : A). Shows b c (f y)) is q)
+pub shows_item : {A : Type 0} (f : A → List (List ℕ)) (xs : List A) (i : ℕ) (x : A) (a b c : List ℕ)
+    → i < length xs → x ≡ get_or xs i x
+    → Shows a b (flat_map f (take i xs)) → Shows b c (f x)
+    → Shows a c (flat_map f (take (i + 1) xs))
+shows_item {A} f xs i x a b c lt is p q =
+    shows_more f xs i x a b c lt p (subst (λ (y : A). Shows b c (f y)) is q)
 
 -- rows between what stands above and below them
-pub shows_rows : (rows : List Row) (a b c d : List ℕ) → Draws a b → Shows b c (flat_map row_words rows) → Draws c d → ShowsRows rows a d
+pub shows_rows : (rows : List Row) (a b c d : List ℕ) → Draws a b
+    → Shows b c (flat_map row_words rows) → Draws c d → ShowsRows rows a d
 shows_rows rows a b c d p q r =
     record {
       before = p.shown;
@@ -35,5 +41,6 @@ shows_rows rows a b c d p q r =
     }
 
 -- rows that stand in a group
-pub rows_within : (rows : List Row) (b c : List ℕ) → ShowsRows rows [] b → ((ws : List (List ℕ)) → Shows [] b ws → Shows [] c ws) → ShowsRows rows [] c
+pub rows_within : (rows : List Row) (b c : List ℕ) → ShowsRows rows [] b
+    → ((ws : List (List ℕ)) → Shows [] b ws → Shows [] c ws) → ShowsRows rows [] c
 rows_within rows b c p q = record { before = p.before; after = p.after; shows = q _ p.shows }

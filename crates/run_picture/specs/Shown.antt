@@ -24,14 +24,16 @@ abbrev pub touch_words : Option Touch → List (List ℕ)
 touch_words None = []
 touch_words (Some touch) = string_bytes touch.shown ∷ []
 
--- of an act: its number, its statement, what it did, its cell, the lines that it said, and the counts that it changed
+-- of an act: its number, its statement, what it did, its cell, the lines that it said, and the
+-- counts that it changed
 abbrev pub row_words : Row → List (List ℕ)
 row_words row =
     (decimal row.number ∷ string_bytes row.statement ∷ row.word.now ∷ [])
-    ++ (touch_words row.touch ++ (flat_map line_words row.lines.items ++ flat_map change_words row.changes.items))
+    ++ (touch_words row.touch
+    ++ (flat_map line_words row.lines.items ++ flat_map change_words row.changes.items))
 
--- a text goes on with elements, each closed where it was opened, on which the words of each of these rows are read just
--- once, in their order
+-- a text goes on with elements, each closed where it was opened, on which the words of each of
+-- these rows are read just once, in their order
 pub record ShowsRows (rows : List Row) (old new : List ℕ) : Type 0 where
   pub before : List (List ℕ)
   pub after : List (List ℕ)

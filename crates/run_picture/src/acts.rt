@@ -5,7 +5,7 @@ ghost use Rattle.std.specs.List.{flat_map};
 ghost use Rattle.markup.specs.Trees.{Shows};
 ghost use Rattle.run_picture.specs.Shown.{line_words, row_words, touch_words};
 
-use crate::lanes::put_changes;
+use crate::changes::put_changes;
 use crate::page::{Page, column_of};
 use crate::picture::{Row, Touch};
 use crate::sheet::{
@@ -15,7 +15,8 @@ use std::alloc::{AllocError, Global};
 
 /// Adds lines below a point. Answers where the last stands.
 fn put_lines(text: &mut String, lines: &[String], point: Point) -> Result<u32, AllocError>
-    ensures { OnOk result (Shows (string_bytes text.old) (string_bytes text.new) (flat_map line_words lines.now)) }
+    ensures { OnOk result (Shows (string_bytes text.old) (string_bytes text.new)
+        (flat_map line_words lines.now)) }
 {
     let Point { x, mut y } = point;
     for line in lines {
@@ -56,7 +57,8 @@ fn put_touch(
     lane: u32,
 ) -> Result<(), AllocError>
     ensures { OnOk result
-        (Shows (string_bytes text.old) (string_bytes text.new) (string_bytes touch.now.shown ∷ [])) }
+        (Shows (string_bytes text.old) (string_bytes text.new)
+        (string_bytes touch.now.shown ∷ [])) }
 {
     put_shaft(alloc, text, touch, from, lane)?;
     let end = at(lane.saturating_sub(10), from.y.saturating_sub(5));
@@ -108,7 +110,8 @@ fn put_row(
     row: &Row,
     y: u32,
 ) -> Result<u32, AllocError>
-    ensures { OnOk result (Shows (string_bytes text.old) (string_bytes text.new) (row_words row.now)) }
+    ensures { OnOk result (Shows (string_bytes text.old) (string_bytes text.new)
+        (row_words row.now)) }
 {
     let index = usize::from(row.thread.saturating_sub(1));
     let x = column_of(page.columns.as_slice(), index).saturating_add(6);
@@ -130,7 +133,8 @@ pub(crate) fn put_rows(
     text: &mut String,
     rows: &[Row],
 ) -> Result<u32, AllocError>
-    ensures { OnOk result (Shows (string_bytes text.old) (string_bytes text.new) (flat_map row_words rows.now)) }
+    ensures { OnOk result (Shows (string_bytes text.old) (string_bytes text.new)
+        (flat_map row_words rows.now)) }
 {
     let mut y = TOP;
     for row in rows {

@@ -105,7 +105,8 @@ fn put_body(
     picture: &Picture,
     text: &mut String,
 ) -> Result<Size, AllocError>
-    ensures { OnOk result (ShowsRows picture.now.rows.items (string_bytes text.old) (string_bytes text.new)) }
+    ensures { OnOk result (ShowsRows picture.now.rows.items (string_bytes text.old)
+        (string_bytes text.new)) }
 {
     put_top(alloc, page, picture.threads, text)?;
     let bottom = put_rows(alloc, page, text, picture.rows.as_slice())?;
@@ -135,8 +136,9 @@ fn document_of(alloc: Global, body: &str, size: Size) -> Result<String, AllocErr
     Ok(text)
 }
 
-/// A picture as the text of one SVG (own): elements, each closed where it was opened. On them the words of each row are
-/// read just once, in their order. Where things stand is not told. Refused where a growth was.
+/// A picture as the text of one SVG (own): elements, each closed where it was opened. On them the
+/// words of each row are read just once, in their order. Where things stand is not told. Refused
+/// where a growth was.
 #[tactic(auto, using(crate::proofs::Showing::rows_within))]
 pub fn draw(alloc: Global, picture: &Picture) -> Result<String, AllocError>
     ensures { IfOk result (λ text. ShowsRows picture.now.rows.items [] (string_bytes text)) }

@@ -1,9 +1,11 @@
-//! What stands above and below the rows: titles, the rest of the lanes, and what is left at the end.
+//! What stands above and below the rows: titles, the rest of the lanes, and what is left at the
+//! end.
 
 ghost use Rattle.std.specs.Prelude.{OnOk, string_bytes};
 ghost use Rattle.markup.specs.Trees.{Draws};
 
-use crate::lanes::{Lanes, put_piece};
+use crate::changes::put_piece;
+use crate::lanes::Lanes;
 use crate::page::{Page, column_of};
 use crate::picture::{Left, LeftBlock};
 use crate::sheet::{

@@ -1,7 +1,9 @@
-//! The picture of a run: its acts in their order, the counts of blocks after each, and what is left at the end.
+//! The picture of a run: its acts in their order, the counts of blocks after each, and what is left
+//! at the end.
 #![tactic(auto)]
 
 mod acts;
+mod changes;
 mod document;
 mod ends;
 mod lanes;

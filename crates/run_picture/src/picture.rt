@@ -1,7 +1,7 @@
 //! What a picture shows.
 
 use control_word::Counts;
-use step_table::cell_steps::cell_deed::Cell;
+use step_table::cell_steps::cell_step::Cell;
 
 /// What a block's counts are from an act on: its owners and weak pointers; none where it is vacant.
 #[derive(Clone, Copy)]
@@ -18,8 +18,8 @@ pub struct Touch {
     pub shown: String,
 }
 
-/// An act: its number in the run, its thread, its statement, what it did, the lines that it said, the cell that it wrote
-/// or read, and the counts that changed by it.
+/// An act: its number in the run, its thread, its statement, what it did, the lines that it said,
+/// the cell that it wrote or read, and the counts that changed by it.
 #[derive(Drop)]
 pub struct Row {
     pub number: u32,
@@ -45,7 +45,8 @@ pub struct Left {
     pub totals: String,
 }
 
-/// The acts of so many threads, in order, and what is left where the last of them is the run's last.
+/// The acts of so many threads, in order, and what is left where the last of them is the run's
+/// last.
 #[derive(Drop)]
 pub struct Picture {
     pub threads: u8,

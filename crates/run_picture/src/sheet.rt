@@ -221,7 +221,8 @@ pub(crate) fn put_number(
     number: u32,
     point: Point,
 ) -> Result<(), AllocError>
-    ensures { OnOk result (Shows (string_bytes text.old) (string_bytes text.new) (decimal number ∷ [])) }
+    ensures { OnOk result (Shows (string_bytes text.old) (string_bytes text.new)
+        (decimal number ∷ [])) }
 {
     let words = Words {
         class: "number",

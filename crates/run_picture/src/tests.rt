@@ -3,7 +3,7 @@
 use crate::{Change, Left, LeftBlock, Picture, Row, Touch, draw};
 use control_word::{Block, Counts};
 use std::alloc::{AllocError, Global};
-use step_table::cell_steps::cell_deed::Cell;
+use step_table::cell_steps::cell_step::Cell;
 
 fn row(alloc: Global, number: u32, cell: Cell, counts: Option<Counts>) -> Result<Row, AllocError> {
     let change = Change { block: 1, counts };

@@ -3,19 +3,16 @@ use Rattle.std.proofs.Common.{◌≡◌, ℕ, ◌+◌, ◌-◌, ◌<◌, ◌≤�
 use Rattle.std.proofs.Common.{◌∙◌, ap, subst}
 use Rattle.std.proofs.Common.{arith, append_assoc, length-append}
 use Rattle.std.specs.Prelude.{None, false}
-use Rattle.std.specs.List.{flat_map}
 use Rattle.std.proofs.lemmas.Bool.{cases_eq}
 use Rattle.std.proofs.lemmas.List.{append-nil}
-use Rattle.step_threads.specs.Scenes.{Scene, next, walk_of}
-use Rattle.step_core.specs.Worlds.{Sight, scene}
-use Rattle.step_table.specs.Stories.{Kept}
-use Rattle.script_text.specs.Beginnings.{script_sight}
+use Rattle.step_threads.specs.AbstractStates.{AbstractState, next, frame_of}
+use Rattle.step_core.specs.Worlds.{WorldState, abstraction}
+use Rattle.script_text.specs.Beginnings.{script_world_state}
 use Rattle.script_text.specs.Drafts.{ScriptView}
-use Rattle.script_text.specs.Grammar.{ended}
 use Rattle.script_text.specs.Traces.{IsTrace, in_order}
-use Rattle.script_stepper.specs.Lines.{item_lines}
-use Rattle.script_stepper.specs.Running.{AllOver, RunsOut, items_told}
+use Rattle.script_stepper.specs.Running.{AllOver}
 use Rattle.script_stepper.proofs.EndLemmas.{all_over, in_order-more}
+use Rattle.script_stepper.proofs.RunLemmas.{run_plays}
 use Rattle.script_stepper.proofs.StepLemmas.{traced}
 use Rattle.script_stepper.proofs.TraceLemmas.{plays_over}
 use Rattle.script_picture.specs.declared.part.Part.{Part}
@@ -25,28 +22,28 @@ use Rattle.script_picture.specs.Recording.{HasTaken, IsRecorded, RowsAre, TakesA
 use Rattle.script_picture.proofs.Taking.{taken_same, taken_then}
 
 -- the threads before this one are at their ends, by these turns and some more of each
-pub record Ended (turns : List ℕ) (i : ℕ) (u v : Sight) (r m : Rows) : Type 0 where
+pub record Ended (turns : List ℕ) (i : ℕ) (u v : WorldState) (r m : Rows) : Type 0 where
   pub more : List ℕ
   pub each : length more ≡ i
   pub taken : HasTaken (turns ++ in_order 1 more) u v r m
-  pub over : (d : ℕ) → d < i → next (walk_of (scene v) d) ≡ None
+  pub over : (d : ℕ) → d < i → next (frame_of (abstraction v) d) ≡ None
 
-pub none_ended : (turns : List ℕ) (u v : Sight) (r m : Rows) → HasTaken turns u v r m → Ended turns 0 u v r m
+pub none_ended : (turns : List ℕ) (u v : WorldState) (r m : Rows) → HasTaken turns u v r m → Ended turns 0 u v r m
 none_ended turns u v r m h =
     record { more = []; each = refl; taken = taken_same _ _ u v r m (sym (append-nil turns)) h; over = λ d lt. absurd (omega (arith, lt)) }
 
-over_then : (i : ℕ) (v w : Sight) (m s : Rows) → ((d : ℕ) → d < i → next (walk_of (scene v) d) ≡ None)
-    → TakesAlone (i + 1) v w m s → next (walk_of (scene w) (i + 1 - 1)) ≡ None → (d : ℕ) → d < i + 1 → next (walk_of (scene w) d) ≡ None
+over_then : (i : ℕ) (v w : WorldState) (m s : Rows) → ((d : ℕ) → d < i → next (frame_of (abstraction v) d) ≡ None)
+    → TakesAlone (i + 1) v w m s → next (frame_of (abstraction w) (i + 1 - 1)) ≡ None → (d : ℕ) → d < i + 1 → next (frame_of (abstraction w) d) ≡ None
 over_then i v w m s h alone over d lt =
     elim (cases_eq d i) [
-      | inl same ↦ (let s : i + 1 - 1 ≡ d = omega (arith, same) in subst (λ (z : ℕ). next (walk_of (scene w) z) ≡ None) s over)
-      | inr ne ↦ subst (λ (c : Scene). next (walk_of c d) ≡ None) (sym alone.1.run.scene_is)
-          (plays_over (replicate alone.0 (i + 1)) d (scene v) (h d (omega (arith, lt, ne))))
+      | inl same ↦ (let s : i + 1 - 1 ≡ d = omega (arith, same) in subst (λ (z : ℕ). next (frame_of (abstraction w) z) ≡ None) s over)
+      | inr ne ↦ subst (λ (c : AbstractState). next (frame_of c d) ≡ None) (sym (run_plays (replicate alone.0 (i + 1)) v w [] alone.1.text alone.1.run))
+          (plays_over (replicate alone.0 (i + 1)) d (abstraction v) (h d (omega (arith, lt, ne))))
     ]
 
 -- one thread more at its end
-pub ended_then : (turns : List ℕ) (i : ℕ) (u v w : Sight) (r m s : Rows) → Ended turns i u v r m → TakesAlone (i + 1) v w m s
-    → next (walk_of (scene w) (i + 1 - 1)) ≡ None → Ended turns (i + 1) u w r s
+pub ended_then : (turns : List ℕ) (i : ℕ) (u v w : WorldState) (r m s : Rows) → Ended turns i u v r m → TakesAlone (i + 1) v w m s
+    → next (frame_of (abstraction w) (i + 1 - 1)) ≡ None → Ended turns (i + 1) u w r s
 ended_then turns i u v w r m s p alone over =
     let here : 1 + length p.more ≡ i + 1 = (let n = p.each in omega (arith, n)) in
     let all : (turns ++ in_order 1 p.more) ++ replicate alone.0 (i + 1) ≡ turns ++ in_order 1 (p.more ++ alone.0 ∷ []) =
@@ -60,32 +57,28 @@ ended_then turns i u v w r m s p alone over =
       over = over_then i v w m s p.over alone over;
     }
 
-pub all_ended : (turns : List ℕ) (i : ℕ) (u v : Sight) (r m : Rows) → length u.walks ≤ i → Ended turns i u v r m → AllOver v
+pub all_ended : (turns : List ℕ) (i : ℕ) (u v : WorldState) (r m : Rows) → length u.frame_views ≤ i → Ended turns i u v r m → AllOver v
 all_ended turns i u v r m le h =
-    all_over (turns ++ in_order 1 h.more) i u v [] (ended (flat_map item_lines (items_told (turns ++ in_order 1 h.more) (scene u)))) le h.taken.run h.over
+    all_over (turns ++ in_order 1 h.more) i u v [] h.taken.text le h.taken.run h.over
 
 -- a run to the end is a trace, and its acts were recorded
-pub traced_run : (turns : List ℕ) (u v : Sight) (r m : Rows) (h : TakesOut turns u v r m) → AllOver v → Kept u.story
-    → IsTrace turns (scene u) (items_told (turns ++ in_order 1 h.more) (scene u)) (scene v)
-traced_run turns u v r m h over kept =
-    let all = turns ++ in_order 1 h.more in
-    let out : RunsOut turns u v [] (ended (flat_map item_lines (items_told all (scene u)))) =
-    record { more = h.more; each = h.each; run = h.taken.run } in traced turns u v [] _ out over kept
+pub traced_run : (turns : List ℕ) (u v : WorldState) (r m : Rows) (h : TakesOut turns u v r m) → AllOver v
+    → IsTrace turns (abstraction u) h.taken.run.items (abstraction v)
+traced_run turns u v r m h over = traced turns u v [] h.taken.text (record { more = h.more; each = h.each; run = h.taken.run }) over
 
 -- the rows of a script's run by turns
-pub turns_recorded : (script : ScriptView) (turns : List ℕ) (part : Part) (u v : Sight) (r m : Rows) → u ≡ script_sight script → Kept u.story
+pub turns_recorded : (script : ScriptView) (turns : List ℕ) (part : Part) (u v : WorldState) (r m : Rows) → u ≡ script_world_state script
     → TakesOut turns u v r m → AllOver v → RowsAre r [] → r.part ≡ part → IsRunRecorded false script turns part m.acts m.list.items
-turns_recorded script turns part u v r m is kept h over none part_is =
-    let items = items_told (turns ++ in_order 1 h.more) (scene u) in
+turns_recorded script turns part u v r m is h over none part_is =
+    let items = h.taken.run.items in
     record {
       items = items;
       says = (
-        scene v,
-        subst (λ (w : Sight). IsTrace turns (scene w) (items_told (turns ++ in_order 1 h.more) (scene u)) (scene v)) is
-            (traced_run turns u v r m h over kept),
+        abstraction v,
+        subst (λ (w : WorldState). IsTrace turns (abstraction w) items (abstraction v)) is (traced_run turns u v r m h over),
       );
       recorded =
-          subst (λ (p : Part). IsRecorded p m.acts m.list.items (items_told (turns ++ in_order 1 h.more) (scene u)))
+          subst (λ (p : Part). IsRecorded p m.acts m.list.items items)
           (h.taken.adds.part ∙ part_is)
           (h.taken.adds.adds [] none);
     }

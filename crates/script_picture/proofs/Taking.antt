@@ -1,92 +1,75 @@
 -- Turns of a world whose acts are recorded, one after the other.
-use Rattle.std.proofs.Common.{◌≡◌, ℕ, ◌+◌, ◌-◌, ◌<◌, ◌≤◌, List, [], ◌∷◌, ◌++◌, replicate, length, get_or, refl, sym, ◌∙◌, ap, subst, arith, take}
+use Rattle.std.proofs.Common.{◌≡◌, ℕ, ◌+◌, ◌-◌, ◌<◌, ◌≤◌, List, [], ◌∷◌, ◌++◌, replicate, length, get_or, refl, sym, subst, arith, take}
 use Rattle.std.specs.Prelude.{Option}
 use Rattle.std.specs.List.{flat_map}
 use Rattle.std.proofs.lemmas.List.{replicate_more, take_more}
 use Rattle.step_threads.specs.declared.said.Said.{Said}
-use Rattle.step_threads.specs.Scenes.{Scene}
-use Rattle.step_core.specs.Worlds.{Sight, scene}
+use Rattle.step_core.specs.Worlds.{WorldState, abstraction}
 use Rattle.script_text.specs.Grammar.{ended}
-use Rattle.script_text.specs.Traces.{Item}
 use Rattle.script_stepper.specs.Lines.{item_lines}
-use Rattle.script_stepper.specs.Running.{AllRest, HasRun, IsThread, heard, items_told, turns_left}
-use Rattle.script_stepper.proofs.OneTurn.{Turn, told_one, turn_run}
-use Rattle.script_stepper.proofs.RunLemmas.{run_then, run_thread}
+use Rattle.script_stepper.specs.Running.{AllRest, HasRun, IsThread, heard, turns_left}
+use Rattle.script_stepper.proofs.OneTurn.{Turn, turn_run}
+use Rattle.script_stepper.proofs.RunLemmas.{run_none, run_then, run_thread}
 use Rattle.script_stepper.proofs.StepLemmas.{same_blocks}
-use Rattle.script_stepper.proofs.TraceLemmas.{told-append}
 use Rattle.script_picture.specs.declared.recording.Rows.{Rows}
 use Rattle.script_picture.specs.Recording.{Adds, HasTaken, TakesAlone}
 use Rattle.script_picture.proofs.Recordings.{adds_none, adds_then}
 
-abbrev lines_of : List ℕ → Sight → List ℕ
-lines_of turns u = ended (flat_map item_lines (items_told turns (scene u)))
-
 -- a run whose text begins elsewhere
-moved : (turns : List ℕ) (u v : Sight) (a b z : List ℕ) → HasRun turns u v a b → HasRun turns u v z (z ++ lines_of turns u)
-moved turns u v a b z h = record { rests = h.rests; scene_is = h.scene_is; text_is = refl; most = h.most; legal = h.legal }
+moved : (turns : List ℕ) (u v : WorldState) (a b z : List ℕ) (h : HasRun turns u v a b)
+    → HasRun turns u v z (z ++ ended (flat_map item_lines h.items))
+moved turns u v a b z h = record { rests = h.rests; items = h.items; takes = h.takes; text_is = refl; most = h.most }
 
 -- a turn, and what it said
-pub taken_turn : (thread : ℕ) (u u' : Sight) (x : Option Said) (r r' : Rows) → Turn (thread - 1) u u' x → Adds (heard thread x) r r'
+pub taken_turn : (thread : ℕ) (u u' : WorldState) (x : Option Said) (r r' : Rows) → Turn thread u u' x → Adds (heard thread x) r r'
     → HasTaken (thread ∷ []) u u' r r'
 taken_turn thread u u' x r r' t adds =
-    record {
-      run = moved (thread ∷ []) u u' [] (ended (flat_map item_lines (heard thread x))) [] (turn_run thread u u' x [] _ t refl);
-      adds = subst (λ (items : List Item). Adds items r r') (sym (told_one thread (scene u) x t.says)) adds;
-    }
+    record { text = ended (flat_map item_lines (heard thread x)); run = turn_run thread u u' x [] _ t refl; adds = adds }
 
 -- no turn
-pub taken_none : (u : Sight) (r : Rows) → AllRest u → HasTaken [] u u r r
-taken_none u r rests =
-    record {
-      run = record { rests = rests; scene_is = refl; text_is = refl; most = λ d. omega arith; legal = λ h. h };
-      adds = adds_none r;
-    }
+pub taken_none : (u : WorldState) (r : Rows) → AllRest u → HasTaken [] u u r r
+taken_none u r rests = record { text = []; run = run_none u [] rests; adds = adds_none r }
 
-pub taken_then : (xs ys : List ℕ) (u v w : Sight) (r m s : Rows) → HasTaken xs u v r m → HasTaken ys v w m s → HasTaken (xs ++ ys) u w r s
+pub taken_then : (xs ys : List ℕ) (u v w : WorldState) (r m s : Rows) → HasTaken xs u v r m → HasTaken ys v w m s → HasTaken (xs ++ ys) u w r s
 taken_then xs ys u v w r m s p q =
-    let a = lines_of xs u in
     record {
-      run =
-          moved (xs ++ ys) u w [] (a ++ lines_of ys v) []
-          (run_then xs ys u v w [] a (a ++ lines_of ys v) p.run (moved ys v w [] (lines_of ys v) a q.run));
-      adds =
-          subst (λ (items : List Item). Adds items r s)
-          (ap (λ (c : Scene). items_told xs (scene u) ++ items_told ys c) p.run.scene_is ∙ sym (told-append xs ys (scene u)))
-          (adds_then (items_told xs (scene u)) (items_told ys (scene v)) r m s p.adds q.adds);
+      text = p.text ++ ended (flat_map item_lines q.run.items);
+      run = run_then xs ys u v w [] p.text _ p.run (moved ys v w [] q.text p.text q.run);
+      adds = adds_then p.run.items q.run.items r m s p.adds q.adds;
     }
 
-pub taken_same : (xs ys : List ℕ) (u v : Sight) (r m : Rows) → xs ≡ ys → HasTaken xs u v r m → HasTaken ys u v r m
+pub taken_same : (xs ys : List ℕ) (u v : WorldState) (r m : Rows) → xs ≡ ys → HasTaken xs u v r m → HasTaken ys u v r m
 taken_same xs ys u v r m e h = subst (λ (zs : List ℕ). HasTaken zs u v r m) e h
 
 -- one number more of a list
-pub taken_more : (ts : List ℕ) (i : ℕ) (u v w : Sight) (r m s : Rows) → i < length ts → HasTaken (take i ts) u v r m
+pub taken_more : (ts : List ℕ) (i : ℕ) (u v w : WorldState) (r m s : Rows) → i < length ts → HasTaken (take i ts) u v r m
     → HasTaken (get_or ts i 0 ∷ []) v w m s → HasTaken (take (i + 1) ts) u w r s
 taken_more ts i u v w r m s lt p q = taken_same _ _ u w r s (sym (take_more ts i 0 lt)) (taken_then (take i ts) (get_or ts i 0 ∷ []) u v w r m s p q)
 
-pub taken_thread : (xs : List ℕ) (u v : Sight) (r m : Rows) (thread : ℕ) → HasTaken xs u v r m → IsThread u thread → IsThread v thread
-taken_thread xs u v r m thread h t = run_thread xs u v [] (lines_of xs u) thread h.run t
+pub taken_thread : (xs : List ℕ) (u v : WorldState) (r m : Rows) (thread : ℕ) → HasTaken xs u v r m → IsThread u thread → IsThread v thread
+taken_thread xs u v r m thread h t = run_thread xs u v [] h.text thread h.run t
 
 -- the table and the rows' blocks are as they were
-pub taken_blocks : (xs : List ℕ) (u v : Sight) (r m : Rows) → HasTaken xs u v r m → r.source.blocks ≤ u.story.extent.shape.blocks
-    → m.source.blocks ≤ v.story.extent.shape.blocks
+pub taken_blocks : (xs : List ℕ) (u v : WorldState) (r m : Rows) → HasTaken xs u v r m → r.source.blocks ≤ u.ghost_state.extent.shape.blocks
+    → m.source.blocks ≤ v.ghost_state.extent.shape.blocks
 taken_blocks xs u v r m h le =
-    let same = same_blocks xs u v [] (lines_of xs u) h.run in
+    let same = same_blocks xs u v [] h.text h.run in
     let blocks = h.adds.blocks in
     omega (arith, same, blocks, le)
 
 -- ---- a thread that runs alone
 
 -- so far a thread took turns alone, each of which left it fewer
-pub record Alone (thread : ℕ) (u v : Sight) (r m : Rows) : Type 0 where
+pub record Alone (thread : ℕ) (u v : WorldState) (r m : Rows) : Type 0 where
   pub turns : ℕ
   pub taken : HasTaken (replicate turns thread) u v r m
-  pub less : turns + turns_left (thread - 1) (scene v) ≤ turns_left (thread - 1) (scene u)
+  pub less : turns + turns_left (thread - 1) (abstraction v) ≤ turns_left (thread - 1) (abstraction u)
 
-pub alone_none : (thread : ℕ) (u : Sight) (r : Rows) → AllRest u → Alone thread u u r r
+pub alone_none : (thread : ℕ) (u : WorldState) (r : Rows) → AllRest u → Alone thread u u r r
 alone_none thread u r rests = record { turns = 0; taken = taken_none u r rests; less = omega arith }
 
-pub alone_more : (thread : ℕ) (u v w : Sight) (r m s : Rows) → Alone thread u v r m → HasTaken (thread ∷ []) v w m s
-    → turns_left (thread - 1) (scene w) < turns_left (thread - 1) (scene v) → Alone thread u w r s
+pub alone_more : (thread : ℕ) (u v w : WorldState) (r m s : Rows) → Alone thread u v r m → HasTaken (thread ∷ []) v w m s
+    → turns_left (thread - 1) (abstraction w) < turns_left (thread - 1) (abstraction v) → Alone thread u w r s
 alone_more thread u v w r m s p q k =
     let l = p.less in
     record {
@@ -96,6 +79,6 @@ alone_more thread u v w r m s p q k =
     }
 
 -- and then one more, at its end
-pub alone_ends : (thread : ℕ) (u v w : Sight) (r m s : Rows) → Alone thread u v r m → HasTaken (thread ∷ []) v w m s → TakesAlone thread u w r s
+pub alone_ends : (thread : ℕ) (u v w : WorldState) (r m s : Rows) → Alone thread u v r m → HasTaken (thread ∷ []) v w m s → TakesAlone thread u w r s
 alone_ends thread u v w r m s p q =
     (p.turns + 1, taken_same _ _ u w r s (replicate_more p.turns thread) (taken_then (replicate p.turns thread) (thread ∷ []) u v w r m s p.taken q))

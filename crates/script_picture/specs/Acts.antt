@@ -29,7 +29,8 @@ bytes_of line = string_bytes line
 abbrev pub GoesOnWith : List ℕ → List ℕ → List ℕ → Type 0
 GoesOnWith begun old new = (more : List ℕ) × (new ≡ old ++ (begun ++ more))
 
--- a row is that of an act: it has its number and its thread, its statement, and the lines that it said
+-- a row is that of an act: it has its number and its thread, its statement, and the lines that it
+-- said
 pub record IsRow (act : Numbered) (row : Row) : Type 0 where
   pub number : row.number ≡ act.0
   pub thread : row.thread ≡ act.1.0

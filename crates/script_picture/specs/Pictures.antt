@@ -1,13 +1,14 @@
 -- What a script's picture shows. All of it is own.
-use Rattle.std.specs.Prelude.{◌≡◌, ℕ, ◌+◌, ◌<◌, Bool, true, false, List, [], length, Result, Ok, Err}
+use Rattle.std.specs.Prelude.{◌≡◌, ℕ, ◌+◌, ◌<◌, Bool, true, false, List, [], length, Result, Ok}
+use Rattle.std.specs.Prelude.{Err}
 use Rattle.std.specs.List.{flat_map}
 use Rattle.run_picture.specs.declared.picture.Row.{Row}
 use Rattle.run_picture.specs.Shown.{ShowsRows}
 use Rattle.step_core.specs.declared.trace.TraceStep.{TraceStep}
-use Rattle.step_core.specs.Worlds.{Sight}
-use Rattle.step_threads.specs.Scenes.{Scene}
+use Rattle.step_core.specs.Worlds.{WorldState}
+use Rattle.step_threads.specs.AbstractStates.{AbstractState}
 use Rattle.script_text.specs.declared.fault.Fault.{Fault}
-use Rattle.script_text.specs.Beginnings.{script_scene, script_sight}
+use Rattle.script_text.specs.Beginnings.{script_abstraction, script_world_state}
 use Rattle.script_text.specs.Drafts.{ScriptView}
 use Rattle.script_text.specs.Traces.{IsTrace, Item}
 use Rattle.script_stepper.specs.StepRuns.{IsStepRun}
@@ -19,17 +20,18 @@ use Rattle.script_picture.specs.Recording.{IsRecorded, step_items}
 -- these are the steps of a script's run by single steps, and what they said
 pub record IsFineRun (script : ScriptView) (turns : List ℕ) (items : List Item) : Type 0 where
   pub steps : List TraceStep
-  pub last : Sight
-  pub run : IsStepRun turns (script_sight script) steps last
+  pub last : WorldState
+  pub run : IsStepRun turns (script_world_state script) steps last
   pub says : items ≡ flat_map step_items steps
 
 -- a script's run with these turns says this: by turns, or by single steps where it is fine
 abbrev pub SaysBy : Bool → ScriptView → List ℕ → List Item → Type 0
-SaysBy false script turns items = (last : Scene) × IsTrace turns (script_scene script) items last
+SaysBy false script turns items = (last : AbstractState) × IsTrace turns (script_abstraction script) items last
 SaysBy true script turns items = IsFineRun script turns items
 
 -- the rows are those of a part of a script's run
-pub record IsRunRecorded (fine : Bool) (script : ScriptView) (turns : List ℕ) (part : Part) (acts : ℕ)
+pub record IsRunRecorded (fine : Bool) (script : ScriptView) (turns : List ℕ) (part : Part)
+    (acts : ℕ)
     (list : List Row) : Type 0 where
   pub items : List Item
   pub says : SaysBy fine script turns items
@@ -39,7 +41,8 @@ pub record IsRunRecorded (fine : Bool) (script : ScriptView) (turns : List ℕ) 
 abbrev pub HasMoreActs : Part → List Item → Type 0
 HasMoreActs part items = (part.first + 1999 < part.last) × (part.first + 1999 < length items)
 
--- the text is elements, each closed where it was opened, on which the acts of a part are read: each once, in order
+-- the text is elements, each closed where it was opened, on which the acts of a part are read: each
+-- once, in order
 pub record IsPicture (part : Part) (items : List Item) (text : List ℕ) : Type 0 where
   pub rows : List Row
   pub are : AreRows (acts_in part 1 items) rows
@@ -56,7 +59,8 @@ AnswersMore (Ok answer) more = answer ≡ more
 AnswersMore (Err fault) more = Unit {0}
 
 -- a script's run with these turns says this, and the text is the picture of a part of it
-pub record IsPictureText (fine : Bool) (part : Part) (answer : Result Bool Fault) (script : ScriptView)
+pub record IsPictureText (fine : Bool) (part : Part) (answer : Result Bool Fault)
+    (script : ScriptView)
     (turns text : List ℕ) : Type 0 where
   pub items : List Item
   pub says : SaysBy fine script turns items

@@ -1,19 +1,17 @@
 -- Rows that are recorded as acts come. All of it is own.
 use Rattle.std.specs.Prelude.{◌≡◌, ℕ, ◌+◌, ◌≤◌, ◌++◌, List, [], length, replicate}
-use Rattle.std.specs.List.{flat_map}
 use Rattle.run_picture.specs.declared.picture.Row.{Row}
 use Rattle.step_core.specs.declared.trace.TraceStep.{TraceStep}
 use Rattle.step_core.specs.Following.{said_by}
-use Rattle.step_core.specs.Worlds.{Sight, scene}
-use Rattle.script_text.specs.Grammar.{ended}
+use Rattle.step_core.specs.Worlds.{WorldState}
 use Rattle.script_text.specs.Traces.{Item, in_order}
-use Rattle.script_stepper.specs.Lines.{item_lines}
-use Rattle.script_stepper.specs.Running.{HasRun, heard, items_told}
+use Rattle.script_stepper.specs.Running.{HasRun, heard}
 use Rattle.script_picture.specs.declared.part.Part.{Part}
 use Rattle.script_picture.specs.declared.recording.Rows.{Rows}
 use Rattle.script_picture.specs.Acts.{AreRows, acts_in}
 
--- these acts came, from the first on: they were counted until one was behind the part, and the rows are the part's
+-- these acts came, from the first on: they were counted until one was behind the part, and the rows
+-- are the part's
 pub record IsRecorded (part : Part) (acts : ℕ) (list : List Row) (items : List Item) : Type 0 where
   pub few : acts ≤ part.last + 1
   pub most : acts ≤ length items
@@ -30,18 +28,19 @@ pub record Adds (added : List Item) (r r' : Rows) : Type 0 where
   pub adds : (items : List Item) → RowsAre r items → RowsAre r' (items ++ added)
 
 -- the world took these turns, and what they said came
-pub record HasTaken (turns : List ℕ) (u u' : Sight) (r r' : Rows) : Type 0 where
-  pub run : HasRun turns u u' [] (ended (flat_map item_lines (items_told turns (scene u))))
-  pub adds : Adds (items_told turns (scene u)) r r'
+pub record HasTaken (turns : List ℕ) (u u' : WorldState) (r r' : Rows) : Type 0 where
+  pub text : List ℕ
+  pub run : HasRun turns u u' [] text
+  pub adds : Adds run.items r r'
 
 -- so it did by some turns of one thread
-abbrev pub TakesAlone : ℕ → Sight → Sight → Rows → Rows → Type 0
+abbrev pub TakesAlone : ℕ → WorldState → WorldState → Rows → Rows → Type 0
 TakesAlone thread u u' r r' = (n : ℕ) × HasTaken (replicate n thread) u u' r r'
 
 -- and by these turns, and some more of each thread, in number order, to its end
-pub record TakesOut (turns : List ℕ) (u u' : Sight) (r r' : Rows) : Type 0 where
+pub record TakesOut (turns : List ℕ) (u u' : WorldState) (r r' : Rows) : Type 0 where
   pub more : List ℕ
-  pub each : length more ≡ length u.walks
+  pub each : length more ≡ length u.frame_views
   pub taken : HasTaken (turns ++ in_order 1 more) u u' r r'
 
 -- what a step said, by its thread

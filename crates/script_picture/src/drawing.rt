@@ -1,6 +1,6 @@
 //! From a script's bytes to the picture of its run.
-ghost use Rattle.std.specs.Prelude.{◌≡◌, ◌&&◌, ◌≤◌, [], ℕ, List, All, IfErr, IfOk, false, length, nat_lt};
-ghost use Rattle.std.specs.Prelude.{string_bytes};
+ghost use Rattle.std.specs.Prelude.{◌≡◌, ◌&&◌, ◌≤◌, [], ℕ, List, All, IfErr, IfOk, false, length};
+ghost use Rattle.std.specs.Prelude.{nat_lt, string_bytes};
 ghost use Rattle.run_picture.specs.Shown.{ShowsRows};
 ghost use Rattle.script_text.specs.declared.fault.Fault.TheVariants.{Memory};
 ghost use Rattle.script_text.specs.Traces.{Item};
@@ -19,7 +19,8 @@ use script_stepper::{Sink, write_text};
 use script_text::{Fault, Script, parse};
 use std::alloc::{AllocError, Global};
 
-/// What is to be drawn: a script's run with a list of turns, by acts or by single steps, and which of them.
+/// What is to be drawn: a script's run with a list of turns, by acts or by single steps, and which
+/// of them.
 #[derive(Clone, Copy)]
 pub struct Order<'a> {
     pub script: &'a [u8],
@@ -35,7 +36,8 @@ struct Drawn {
     more: bool,
 }
 
-/// The picture of a run that was recorded; what is left at its end where the last act is one of the part.
+/// The picture of a run that was recorded; what is left at its end where the last act is one of the
+/// part.
 fn picture_of(alloc: Global, recorded: Recorded) -> Result<Picture, AllocError>
     ensures { IfOk result (λ picture. picture.rows.items ≡ recorded.rows.list.items) }
 {
@@ -89,7 +91,8 @@ fn draw_recorded(alloc: Global, asked: Part, recorded: Recorded) -> Result<Drawn
 /// Runs a script, and draws its run.
 fn run_drawn(alloc: Global, script: &Script, turns: &[u8], order: Order<'_>) -> Result<Drawn, Fault>
     requires { All (λ thread. (1 ≤ thread) × (thread ≤ length script.now.threads)) turns.now }
-    ensures ok { IfOk result (λ drawn. IsPictureText order.entry.is_fine order.entry.part (Ok drawn.more) script.now turns.now
+    ensures ok { IfOk result (λ drawn. IsPictureText order.entry.is_fine order.entry.part
+        (Ok drawn.more) script.now turns.now
         (string_bytes drawn.text)) }
     ensures memory { IfErr result (λ fault. fault ≡ Memory) }
 {
@@ -102,27 +105,30 @@ fn run_drawn(alloc: Global, script: &Script, turns: &[u8], order: Order<'_>) -> 
 
 /// Reads a script and a list of turns, and draws the run.
 fn drawn_of(alloc: Global, order: Order<'_>) -> Result<Drawn, Fault>
-    ensures told { IfOk result (λ drawn. TellsRun (IsPictureText order.entry.is_fine order.entry.part (Ok drawn.more))
+    ensures told { IfOk result
+        (λ drawn. TellsRun (IsPictureText order.entry.is_fine order.entry.part (Ok drawn.more))
         order.entry.script.now order.entry.turns.now (Ok (string_bytes drawn.text))) }
-    ensures refused { IfErr result (λ fault. IsRefused order.entry.script.now order.entry.turns.now fault) }
+    ensures refused { IfErr result
+        (λ fault. IsRefused order.entry.script.now order.entry.turns.now fault) }
 {
     let script = parse(alloc, order.script)?;
     let turns = turns_of(alloc, order.turns, script.threads() as u8)?;
     run_drawn(alloc, &script, turns.as_slice(), order)
 }
 
-/// Runs a script with a list of turns, as [`script_stepper::step_text`] does, or by single steps, as
-/// [`script_stepper::fine_text`] does, and writes a part of its run as the text of one SVG (own). On it are the acts of
-/// the run whose numbers, from 1, are in the part, each once and in their order: with its number, its thread, its
-/// statement and the lines that it said. Answers whether the part and the run have more acts than one picture shows;
-/// then nothing is written.
+/// Runs a script with a list of turns, as [`script_stepper::step_text`] does, or by single steps,
+/// as [`script_stepper::fine_text`] does, and writes a part of its run as the text of one SVG
+/// (own). On it are the acts of the run whose numbers, from 1, are in the part, each once and in
+/// their order: with its number, its thread, its statement and the lines that it said. Answers
+/// whether the part and the run have more acts than one picture shows; then nothing is written.
 ///
-/// Refused, in this order: by 1 where a growth was refused, by 10 just where a line of the script is faulty, by 11 just
-/// where a number of the list is, with nothing written; by 12 just where the writer has failed, which then took a
-/// beginning of the text. The writer hasn't failed before.
+/// Refused, in this order: by 1 where a growth was refused, by 10 just where a line of the script
+/// is faulty, by 11 just where a number of the list is, with nothing written; by 12 just where the
+/// writer has failed, which then took a beginning of the text. The writer hasn't failed before.
 pub fn draw_text<S: Sink>(alloc: Global, order: Order<'_>, writer: &mut S) -> Result<bool, Fault>
     requires { S.has_failed writer.old ≡ false }
-    ensures holds { Delivers (TellsRun (IsPictureText order.entry.is_fine order.entry.part result) order.entry.script.now
+    ensures holds { Delivers (TellsRun (IsPictureText order.entry.is_fine order.entry.part result)
+        order.entry.script.now
         order.entry.turns.now) result (S.taken writer.old) (S.taken writer.new) }
     ensures failed { S.has_failed writer.new ≡ is_output result }
 {

@@ -1,7 +1,6 @@
 //! From a script's bytes to the picture of its run.
 #![tactic(auto)]
 
-mod doing;
 mod drawing;
 mod left;
 mod part;
@@ -9,6 +8,7 @@ mod recorded;
 mod recording;
 mod running;
 mod source;
+mod trace_label;
 
 pub use drawing::{Order, draw_text};
 pub use part::{MOST_ACTS, Part};

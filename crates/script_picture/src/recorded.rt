@@ -51,7 +51,8 @@ fn by_turns(
     order: Order<'_>,
 ) -> Result<Recorded, Fault>
     requires { All (λ thread. (1 ≤ thread) × (thread ≤ length script.now.threads)) turns.now }
-    ensures ok { IfOk result (λ r. IsRunRecorded false script.now turns.now (shown_part order.entry.part)
+    ensures ok { IfOk result (λ r. IsRunRecorded false script.now turns.now
+        (shown_part order.entry.part)
         r.rows.acts r.rows.list.items) }
     ensures part { IfOk result (λ r. r.rows.part ≡ shown_part order.entry.part) }
     ensures memory { IfErr result (λ fault. fault ≡ Memory) }
@@ -87,7 +88,8 @@ fn steps_of(alloc: Global, world: &mut World, turns: &[u8]) -> Result<Trace, All
     }
 }
 
-/// Records a run by single steps, which is made twice: once for its steps, and once for what is seen after each.
+/// Records a run by single steps, which is made twice: once for its steps, and once for what is
+/// seen after each.
 fn by_steps(
     alloc: Global,
     script: &Script,
@@ -95,7 +97,8 @@ fn by_steps(
     order: Order<'_>,
 ) -> Result<Recorded, Fault>
     requires { All (λ thread. (1 ≤ thread) × (thread ≤ length script.now.threads)) turns.now }
-    ensures ok { IfOk result (λ r. IsRunRecorded true script.now turns.now (shown_part order.entry.part)
+    ensures ok { IfOk result (λ r. IsRunRecorded true script.now turns.now
+        (shown_part order.entry.part)
         r.rows.acts r.rows.list.items) }
     ensures part { IfOk result (λ r. r.rows.part ≡ shown_part order.entry.part) }
     ensures memory { IfErr result (λ fault. fault ≡ Memory) }
@@ -125,7 +128,8 @@ fn stepped_rows(
     trace: &Trace,
     order: Order<'_>,
 ) -> Result<Rows, AllocError>
-    requires { All (λ step. NamesActor (length script.now.threads) step.actor) trace.now.steps.items }
+    requires { All (λ step. NamesActor (length script.now.threads) step.actor)
+        trace.now.steps.items }
     ensures rows { IfOk result (λ rows. RowsAre rows (flat_map step_items trace.now.steps.items)) }
     ensures part { IfOk result (λ rows. rows.part ≡ shown_part order.entry.part) }
 {
@@ -152,7 +156,8 @@ pub(crate) fn record_run(
     order: Order<'_>,
 ) -> Result<Recorded, Fault>
     requires { All (λ thread. (1 ≤ thread) × (thread ≤ length script.now.threads)) turns.now }
-    ensures ok { IfOk result (λ r. IsRunRecorded order.entry.is_fine script.now turns.now (shown_part order.entry.part)
+    ensures ok { IfOk result (λ r. IsRunRecorded order.entry.is_fine script.now turns.now
+        (shown_part order.entry.part)
         r.rows.acts r.rows.list.items) }
     ensures part { IfOk result (λ r. r.rows.part ≡ shown_part order.entry.part) }
     ensures memory { IfErr result (λ fault. fault ≡ Memory) }

@@ -4,9 +4,9 @@ ghost use Rattle.script_stepper.specs.Lines.{said_lines};
 ghost use Rattle.script_picture.specs.Acts.{IsRow, bytes_of};
 ghost use Rattle.script_picture.specs.Recording.{Adds, RowsAre};
 
-use crate::doing::Aimed;
 use crate::part::Part;
 use crate::source::put_statement;
+use crate::trace_label::Aimed;
 use control_word::{Block, Counts};
 use run_picture::{Change, Row, Touch};
 use script_stepper::put_lines;
@@ -15,7 +15,8 @@ use std::alloc::{AllocError, Global};
 use std::fmt::Write;
 use step_core::{Cell, Said, World};
 
-/// Where acts come from: a script's statements by threads, run in a world of so many threads and blocks.
+/// Where acts come from: a script's statements by threads, run in a world of so many threads and
+/// blocks.
 #[derive(Drop)]
 pub(crate) struct Source {
     pub alloc: Global,
@@ -24,8 +25,8 @@ pub(crate) struct Source {
     pub blocks: u16,
 }
 
-/// The rows of a part of a run so far: how many acts came, but for those behind the part's next one, and the counts of
-/// each block, from 0, as the rows tell them.
+/// The rows of a part of a run so far: how many acts came, but for those behind the part's next
+/// one, and the counts of each block, from 0, as the rows tell them.
 #[derive(Drop)]
 pub(crate) struct Rows {
     pub source: Source,
@@ -69,7 +70,7 @@ fn add_change(
     changes: &mut Vec<Change>,
 ) -> Result<(), AllocError>
     requires some { 1 ≤ block }
-    requires within { block ≤ world.now.story.extent.shape.blocks }
+    requires within { block ≤ world.now.ghost_state.extent.shape.blocks }
 {
     let index = usize::from(block);
     if index < shown.len() {
@@ -95,7 +96,8 @@ fn block_at(blocks: u16, each: usize, thread: usize, number: usize) -> Option<u1
     }
 }
 
-/// Adds the counts of a thread's blocks that have been in use, where they are others than they were.
+/// Adds the counts of a thread's blocks that have been in use, where they are others than they
+/// were.
 fn add_changes(
     world: &World,
     source: &Source,
@@ -103,7 +105,7 @@ fn add_changes(
     shown: &mut Vec<Option<Counts>>,
     changes: &mut Vec<Change>,
 ) -> Result<(), AllocError>
-    requires { source.now.blocks ≤ world.now.story.extent.shape.blocks }
+    requires { source.now.blocks ≤ world.now.ghost_state.extent.shape.blocks }
 {
     let each = usize::from(source.blocks) / usize::from(source.threads.max(1));
     for number in 0..each.min(world.made() as usize) {
@@ -114,14 +116,14 @@ fn add_changes(
     Ok(())
 }
 
-/// The counts of all blocks that are others than they were. Each thread takes its least vacant block, so that no more of
-/// its blocks than objects were made have been in use.
+/// The counts of all blocks that are others than they were. Each thread takes its least vacant
+/// block, so that no more of its blocks than objects were made have been in use.
 fn changes_of(
     world: &World,
     source: &Source,
     shown: &mut Vec<Option<Counts>>,
 ) -> Result<Vec<Change>, AllocError>
-    requires { source.now.blocks ≤ world.now.story.extent.shape.blocks }
+    requires { source.now.blocks ≤ world.now.ghost_state.extent.shape.blocks }
 {
     let mut changes = Vec::new(source.alloc);
     for thread in 0..source.threads {
@@ -130,7 +132,8 @@ fn changes_of(
     Ok(changes)
 }
 
-/// What is said of a cell that was written or read: the member's name, and what was written, `bN` or `empty`.
+/// What is said of a cell that was written or read: the member's name, and what was written, `bN`
+/// or `empty`.
 fn touch_text(alloc: Global, aimed: Aimed) -> Result<String, AllocError> {
     let mut shown = String::new(alloc);
     if let Cell::Member { member, .. } = aimed.cell {
@@ -230,7 +233,7 @@ fn row_of(source: &Source, number: u32, made: Made, changes: Vec<Change>) -> Res
 
 /// Adds an act or a step that was made, if it is one of the part.
 pub(crate) fn add_row(world: &World, made: Made, rows: &mut Rows) -> Result<(), AllocError>
-    requires { rows.old.source.blocks ≤ world.now.story.extent.shape.blocks }
+    requires { rows.old.source.blocks ≤ world.now.ghost_state.extent.shape.blocks }
     ensures { OnOk result (Adds ((made.thread, made.said) ∷ []) rows.old rows.new) }
 {
     if rows.acts > u64::from(rows.part.last) {

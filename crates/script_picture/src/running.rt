@@ -2,15 +2,15 @@
 ghost use Rattle.std.specs.Prelude.{◌≡◌, ◌-◌, ◌<◌, ◌≤◌, ◌∷◌, [], true, None, All, IfOk, OnOk};
 ghost use Rattle.std.specs.Prelude.{is_some, length};
 ghost use Rattle.std.specs.List.{flat_map};
-ghost use Rattle.step_threads.specs.Scenes.{next, said, walk_of};
+ghost use Rattle.step_threads.specs.AbstractStates.{next, frame_of};
 ghost use Rattle.step_core.specs.Runs.{NamesActor};
 ghost use Rattle.step_core.specs.Following.{said_by};
-ghost use Rattle.step_core.specs.Worlds.{IsAsLarge, scene};
+ghost use Rattle.step_core.specs.Worlds.{IsAsLarge, abstraction};
 ghost use Rattle.script_stepper.specs.Running.{AllOver, AllRest, IsThread, turns_left};
 ghost use Rattle.script_picture.specs.Recording.{Adds, HasTaken, TakesAlone, TakesOut, step_items};
 
-use crate::doing::{Aimed, Doing, aimed_at, doing_of, step_word};
 use crate::recording::{Made, Rows, add_row};
+use crate::trace_label::{Aimed, TraceLabel, aimed_at, step_word, trace_label_of};
 use std::alloc::AllocError;
 use step_core::{Said, Stepped, TraceStep, Turned, World};
 
@@ -18,20 +18,20 @@ use step_core::{Said, Stepped, TraceStep, Turned, World};
 fn take_turn(world: &mut World, thread: u8, rows: &mut Rows) -> Result<bool, AllocError>
     requires rests { AllRest world.old }
     requires thread { IsThread world.old thread }
-    requires blocks { rows.old.source.blocks ≤ world.old.story.extent.shape.blocks }
+    requires blocks { rows.old.source.blocks ≤ world.old.ghost_state.extent.shape.blocks }
     ensures taken { OnOk result (HasTaken (thread ∷ []) world.old world.new rows.old rows.new) }
-    ensures acted { IfOk result (λ acted. acted ≡ is_some (said (thread - 1) (scene world.old))) }
+    ensures acted { IfOk result (λ acted. acted ≡ is_some (next (frame_of (abstraction world.old) (thread - 1)))) }
     ensures less { IfOk result (λ acted. acted ≡ true
-        → turns_left (thread - 1) (scene world.new) < turns_left (thread - 1) (scene world.old)) }
+        → turns_left (thread - 1) (abstraction world.new) < turns_left (thread - 1) (abstraction world.old)) }
 {
-    let doing = doing_of(world, thread);
+    let trace_label = trace_label_of(world, thread);
     match world.turn(thread) {
         Turned::Acted(said) => {
             let made = Made {
                 thread,
                 said,
-                word: doing.word,
-                aimed: aimed_at(&doing, &said),
+                word: trace_label.word,
+                aimed: aimed_at(&trace_label, &said),
             };
             add_row(world, made, rows)?;
             Ok(true)
@@ -45,7 +45,7 @@ fn take_turn(world: &mut World, thread: u8, rows: &mut Rows) -> Result<bool, All
 fn take_turns(world: &mut World, turns: &[u8], rows: &mut Rows) -> Result<(), AllocError>
     requires rests { AllRest world.old }
     requires threads { All (IsThread world.old) turns.now }
-    requires blocks { rows.old.source.blocks ≤ world.old.story.extent.shape.blocks }
+    requires blocks { rows.old.source.blocks ≤ world.old.ghost_state.extent.shape.blocks }
     ensures { OnOk result (HasTaken turns.now world.old world.new rows.old rows.new) }
 {
     for thread in turns {
@@ -58,9 +58,9 @@ fn take_turns(world: &mut World, turns: &[u8], rows: &mut Rows) -> Result<(), Al
 fn finish(world: &mut World, thread: u8, rows: &mut Rows) -> Result<(), AllocError>
     requires rests { AllRest world.old }
     requires thread { IsThread world.old thread }
-    requires blocks { rows.old.source.blocks ≤ world.old.story.extent.shape.blocks }
+    requires blocks { rows.old.source.blocks ≤ world.old.ghost_state.extent.shape.blocks }
     ensures taken { OnOk result (TakesAlone thread world.old world.new rows.old rows.new) }
-    ensures over { OnOk result (next (walk_of (scene world.new) (thread - 1)) ≡ None) }
+    ensures over { OnOk result (next (frame_of (abstraction world.new) (thread - 1)) ≡ None) }
 {
     while take_turn(world, thread, rows)? {}
     Ok(())
@@ -74,9 +74,9 @@ pub(crate) fn record_turns(
     rows: &mut Rows,
 ) -> Result<(), AllocError>
     requires rests { AllRest world.old }
-    requires all { threads ≡ length world.old.walks }
+    requires all { threads ≡ length world.old.frame_views }
     requires threads { All (IsThread world.old) turns.now }
-    requires blocks { rows.old.source.blocks ≤ world.old.story.extent.shape.blocks }
+    requires blocks { rows.old.source.blocks ≤ world.old.ghost_state.extent.shape.blocks }
     ensures taken { OnOk result (TakesOut turns.now world.old world.new rows.old rows.new) }
     ensures over { OnOk result (AllOver world.new) }
 {
@@ -98,23 +98,23 @@ fn said_of(stepped: Stepped) -> Option<Said>
 }
 
 /// The cell that a step wrote or read.
-fn aimed_by(doing: &Doing, stepped: Stepped) -> Option<Aimed> {
+fn aimed_by(trace_label: &TraceLabel, stepped: Stepped) -> Option<Aimed> {
     match stepped {
-        Stepped::Event(said) => aimed_at(doing, &said),
+        Stepped::Event(said) => aimed_at(trace_label, &said),
         _ => None,
     }
 }
 
 /// Makes a step that a run of the same world made.
 fn take_step(world: &mut World, step: &TraceStep, rows: &mut Rows) -> Result<(), AllocError>
-    requires actor { NamesActor (length world.old.walks) step.now.actor }
-    requires blocks { rows.old.source.blocks ≤ world.old.story.extent.shape.blocks }
+    requires actor { NamesActor (length world.old.frame_views) step.now.actor }
+    requires blocks { rows.old.source.blocks ≤ world.old.ghost_state.extent.shape.blocks }
     ensures adds { OnOk result (Adds (step_items step.now) rows.old rows.new) }
-    ensures actors { length world.new.walks ≡ length world.old.walks }
+    ensures actors { length world.new.frame_views ≡ length world.old.frame_views }
     ensures extent { IsAsLarge world.old world.new }
 {
     let thread = step.actor;
-    let doing = doing_of(world, thread);
+    let trace_label = trace_label_of(world, thread);
     world.step(thread);
     let Some(said) = said_of(step.stepped) else {
         return Ok(());
@@ -122,8 +122,8 @@ fn take_step(world: &mut World, step: &TraceStep, rows: &mut Rows) -> Result<(),
     let made = Made {
         thread,
         said,
-        word: step_word(&doing, world.half(thread)),
-        aimed: aimed_by(&doing, step.stepped),
+        word: step_word(&trace_label, world.pending_call(thread)),
+        aimed: aimed_by(&trace_label, step.stepped),
     };
     add_row(world, made, rows)
 }
@@ -134,8 +134,8 @@ pub(crate) fn record_steps(
     steps: &[TraceStep],
     rows: &mut Rows,
 ) -> Result<(), AllocError>
-    requires actors { All (λ step. NamesActor (length world.old.walks) step.actor) steps.now }
-    requires blocks { rows.old.source.blocks ≤ world.old.story.extent.shape.blocks }
+    requires actors { All (λ step. NamesActor (length world.old.frame_views) step.actor) steps.now }
+    requires blocks { rows.old.source.blocks ≤ world.old.ghost_state.extent.shape.blocks }
     ensures { OnOk result (Adds (flat_map step_items steps.now) rows.old rows.new) }
 {
     for step in steps {

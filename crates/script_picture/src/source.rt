@@ -101,7 +101,8 @@ fn put_written(
 
 /// Adds `T.S`, or `T.end`.
 fn put_place(text: &mut String, thread: u8, statement: u32) -> Result<(), AllocError>
-    ensures { OnOk result (string_bytes text.new ≡ string_bytes text.old ++ place_start thread statement) }
+    ensures { OnOk result (string_bytes text.new
+        ≡ string_bytes text.old ++ place_start thread statement) }
 {
     if statement == 0 {
         write!(text, "{thread}.end")?;
@@ -119,7 +120,8 @@ pub(crate) fn put_statement(
     statement: u32,
 ) -> Result<(), AllocError>
     ensures { OnOk result
-        (GoesOnWith (place_start thread statement) (string_bytes text.old) (string_bytes text.new)) }
+        (GoesOnWith (place_start thread statement) (string_bytes text.old)
+        (string_bytes text.new)) }
 {
     put_place(text, thread, statement)?;
     put_written(text, statements, thread, statement)?;

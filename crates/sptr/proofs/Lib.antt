@@ -1,7 +1,11 @@
 pub mod Flushing
 pub mod Lines
+pub mod OnLiterals
+pub mod PartWords
+pub mod PlainDraws
 pub mod PlainLines
+pub mod PlainTurns
 pub mod Plainly
 pub mod Programs
 pub mod Reporting
-pub mod Walks
+pub mod FrameViews

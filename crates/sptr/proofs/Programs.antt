@@ -1,60 +1,69 @@
 -- The program's command line is one of which `clap` tells the matches.
-use Rattle.std.proofs.Common.{◌≡◌, ◌≢◌, ◌⊎◌, ◌∙◌, true, refl, sym, ap, ap₂, List, [], ◌∷◌, Option, Some, None}
-use Rattle.std.proofs.Common.{codes, inl, inr, option_map}
+use Rattle.std.proofs.Common.{◌≡◌, ◌≢◌, ◌∙◌, true, refl, sym, ap, ap₂, List, [], ◌∷◌, Option}
+use Rattle.std.proofs.Common.{Some, None, codes, inl, inr, option_map}
 use Rattle.std.specs.Prelude.{Bool, Box, is_some, nat_lt, option_and_then, unwrap_or}
 use Rattle.std.specs.Borrow.{Bor}
 use Rattle.std.specs.Box.{box_value}
 use Rattle.std.proofs.lemmas.Option.{same_Some}
-use Rattle.clap.specs.Words.{Row, Shape, Text, count_of, fault_of, first_of, is_simple, is_simple_and_free, built, subcommand_name_of, subcommand_of}
-use Rattle.clap.specs.Words.{subcommand_rows}
-use Rattle.clap.specs.Words.{subcommand_rows_of}
-use Rattle.clap.specs.Simple.{argument_words, built_leaf, help_shape, inherited, marked_built, with_leaf_noted}
+use Rattle.clap.specs.Words.{Row, Shape, Text, count_of, fault_of, first_of, is_simple}
+use Rattle.clap.specs.Words.{is_simple_and_free, built, subcommand_name_of, subcommand_of}
+use Rattle.clap.specs.Words.{subcommand_rows, subcommand_rows_of}
+use Rattle.clap.specs.Simple.{argument_words, built_leaf, help_shape, inherited, marked_built}
+use Rattle.clap.specs.Simple.{with_leaf_noted}
 use Rattle.clap.specs.declared.parser.matches.ArgMatches.{ArgMatches}
 use Rattle.clap.specs.declared.parser.matches.ArgMatches.TheViews.{out-ArgMatches, out-SubCommand}
 use Rattle.clap.specs.declared.parser.matches.SubCommand.{SubCommand}
-use Rattle.clap.proofs.OnLiterals.{clap_on_literals}
-use Rattle.sptr.proofs.Walks.{enters_own}
-use Rattle.sptr.specs.CommandLine.{AsksFor, IsAskedBy, command_named, count_in, dot_option, draws_given, file_word, left_line}
-use Rattle.sptr.specs.CommandLine.{option_rule, program, script_line}
-use Rattle.sptr.specs.CommandLine.{turns_given, turns_line}
+use Rattle.sptr.proofs.OnLiterals.{lines, sptr_on_literals}
+use Rattle.sptr.proofs.FrameViews.{enters_own}
+use Rattle.script_picture.specs.declared.part.Part.{Part}
+use Rattle.sptr.specs.CommandLine.{AsksFor, IsAskedBy, command_named, count_in, draw_line}
+use Rattle.sptr.specs.CommandLine.{left_line, part_given}
+use Rattle.sptr.specs.CommandLine.{program, script_line, turns_given, turns_line, word_given}
+use Rattle.sptr.specs.Parts.{part_named}
 use Rattle.sptr.specs.declared.command.Asked.{Asked}
-use Rattle.sptr.specs.declared.command.Asked.TheVariants.{Check, Convert, Fine, Left, Run, Step}
+use Rattle.sptr.specs.declared.command.Asked.TheVariants.{Check, Convert, Draw, Fine, Left, Run}
+use Rattle.sptr.specs.declared.command.Asked.TheVariants.{Step}
 
 pub program_is_simple : is_simple program ≡ true
-unfolding program script_line turns_line left_line file_word option_rule dot_option clap_on_literals
+unfolding sptr_on_literals
 program_is_simple = refl
 
 pub program_is_free : is_simple_and_free program ≡ true
-unfolding program script_line turns_line left_line file_word option_rule dot_option clap_on_literals
+unfolding sptr_on_literals
 program_is_free = refl
 
 abbrev built_line : Shape → Shape
 built_line line = built_leaf (inherited (with_leaf_noted (marked_built program.top)) line)
 
--- words with no fault name one of the six commands
-one_of_all : (words : List Text) → fault_of program words ≡ []
-    → (command_named words ≡ Some (codes "check")) ⊎ ((command_named words ≡ Some (codes "convert"))
-    ⊎ ((command_named words ≡ Some (codes "step")) ⊎ ((command_named words ≡ Some (codes "fine"))
-    ⊎ ((command_named words ≡ Some (codes "run")) ⊎ (command_named words ≡ Some (codes "left"))))))
-unfolding program script_line turns_line left_line
-one_of_all words e =
+-- words with no fault that name no other command name `check`
+pub only_check : (words : List Text) → fault_of program words ≡ []
+    → command_named words ≢ Some (codes "convert") → command_named words ≢ Some (codes "step")
+    → command_named words ≢ Some (codes "fine") → command_named words ≢ Some (codes "run")
+    → command_named words ≢ Some (codes "left") → command_named words ≢ Some (codes "draw")
+    → command_named words ≡ Some (codes "check")
+unfolding program lines
+only_check words e not_convert not_step not_fine not_run not_left not_draw =
     let found = enters_own (built program) (argument_words program words)
-    (built_line (script_line (codes "check")) ∷ built_line (script_line (codes "convert")) ∷ built_line (turns_line (codes "step"))
-    ∷ built_line (turns_line (codes "fine")) ∷ built_line (script_line (codes "run")) ∷ built_line left_line ∷ [])
+    (built_line (script_line (codes "check")) ∷ built_line (script_line (codes "convert"))
+    ∷ built_line (turns_line (codes "step")) ∷ built_line (turns_line (codes "fine"))
+    ∷ built_line (script_line (codes "run")) ∷ built_line left_line ∷ built_line draw_line ∷ [])
     (built_leaf help_shape) refl refl refl refl refl e in
     elim found.2 [
-      | inl is ↦ inl (found.1 ∙ ap Some is)
-      | inr rest ↦ elim rest [
-        | inl is ↦ inr (inl (found.1 ∙ ap Some is))
-        | inr others ↦ elim others [
-          | inl is ↦ inr (inr (inl (found.1 ∙ ap Some is)))
-          | inr more ↦ elim more [
-            | inl is ↦ inr (inr (inr (inl (found.1 ∙ ap Some is))))
-            | inr last ↦ elim last [
-              | inl is ↦ inr (inr (inr (inr (inl (found.1 ∙ ap Some is)))))
-              | inr end ↦ elim end [
-                | inl is ↦ inr (inr (inr (inr (inr (found.1 ∙ ap Some is)))))
-                | inr none ↦ absurd none
+      | inl is ↦ found.1 ∙ ap Some is
+      | inr first ↦ elim first [
+        | inl is ↦ absurd (not_convert (found.1 ∙ ap Some is))
+        | inr second ↦ elim second [
+          | inl is ↦ absurd (not_step (found.1 ∙ ap Some is))
+          | inr third ↦ elim third [
+            | inl is ↦ absurd (not_fine (found.1 ∙ ap Some is))
+            | inr fourth ↦ elim fourth [
+              | inl is ↦ absurd (not_run (found.1 ∙ ap Some is))
+              | inr fifth ↦ elim fifth [
+                | inl is ↦ absurd (not_left (found.1 ∙ ap Some is))
+                | inr sixth ↦ elim sixth [
+                  | inl is ↦ absurd (not_draw (found.1 ∙ ap Some is))
+                  | inr none ↦ absurd none
+                ]
               ]
             ]
           ]
@@ -62,46 +71,32 @@ one_of_all words e =
       ]
     ]
 
-pub only_check : (words : List Text) → fault_of program words ≡ [] → command_named words ≢ Some (codes "step")
-    → command_named words ≢ Some (codes "fine") → command_named words ≢ Some (codes "left") → command_named words ≢ Some (codes "convert")
-    → command_named words ≢ Some (codes "run") → command_named words ≡ Some (codes "check")
-only_check words e not_step not_fine not_left not_convert not_run = elim (one_of_all words e) [
-  | inl is ↦ is
-  | inr rest ↦ elim rest [
-    | inl is ↦ absurd (not_convert is)
-    | inr others ↦ elim others [
-      | inl is ↦ absurd (not_step is)
-      | inr last ↦ elim last [
-        | inl is ↦ absurd (not_fine is)
-        | inr end ↦ elim end [
-          | inl is ↦ absurd (not_run is)
-          | inr is ↦ absurd (not_left is)
-        ]
-      ]
-    ]
-  ]
-]
-
 module _ {Z : Type 0} where
   pub name_in_rows : (o : Option (Box SubCommand Z))
-      → option_map (λ b. (out-SubCommand (box_value b)).name.now) o ≡ option_map (λ p. p.0) (subcommand_rows o)
+      → option_map (λ b. (out-SubCommand (box_value b)).name.now) o
+      ≡ option_map (λ p. p.0) (subcommand_rows o)
   name_in_rows None = refl
   name_in_rows (Some b) = refl
 
-both_parts : (o : Option (Text × List Row)) (name : Text) (rows : List Row) → Some name ≡ option_map (λ p. p.0) o
+both_parts : (o : Option (Text × List Row)) (name : Text) (rows : List Row)
+    → Some name ≡ option_map (λ p. p.0) o
     → Some rows ≡ option_map (λ p. p.1) o → o ≡ Some (name, rows)
 both_parts None name rows n r = absurd (some_none name n)
   where
     some_none : (x : Text) → Some x ≡ None → ⊥
     some_none x e = cc
-both_parts (Some p) name rows n r = ap₂ (λ x y. Some (x, y)) (same_Some _ _ (sym n)) (same_Some _ _ (sym r))
+both_parts (Some p) name rows n r =
+    ap₂ (λ x y. Some (x, y)) (same_Some _ _ (sym n)) (same_Some _ _ (sym r))
 
 -- what a subcommand that was met asks for, with its rows, is what the words ask for
-module _ (words : List Text) (m : ArgMatches) (name : Text) (rows : List Row) (is : subcommand_rows_of m ≡ subcommand_of program words)
+module _ (words : List Text) (m : ArgMatches) (name : Text) (rows : List Row)
+    (is : subcommand_rows_of m ≡ subcommand_of program words)
     (faultless : fault_of program words ≡ []) (n : Some name ≡ subcommand_name_of m)
     (r : Some rows ≡ option_map (λ p. p.1) (subcommand_rows_of m)) where
   found : subcommand_of program words ≡ Some (name, rows)
-  found = sym is ∙ both_parts (subcommand_rows_of m) name rows (n ∙ name_in_rows (out-ArgMatches m).subcommand) r
+  found =
+      sym is ∙ both_parts (subcommand_rows_of m) name rows
+      (n ∙ name_in_rows (out-ArgMatches m).subcommand) r
 
   named : command_named words ≡ Some name
   named = ap (option_map (λ (p : Text × List Row). p.0)) found
@@ -112,29 +107,52 @@ module _ (words : List Text) (m : ArgMatches) (name : Text) (rows : List Row) (i
   not_named : (command : Text) → name ≢ command → command_named words ≢ Some command
   not_named command not e = not (same_Some _ _ (sym named ∙ e))
 
-  turns_found : (list : Text) → list ≡ unwrap_or (first_of (codes "turns") rows) [] → list ≡ turns_given words
+  turns_found : (list : Text) → list ≡ unwrap_or (first_of (codes "turns") rows) []
+      → list ≡ turns_given words
   turns_found list given =
-      given ∙ sym (ap (λ (o : Option (Text × List Row)). unwrap_or (option_and_then (λ p. first_of (codes "turns") p.1) o) []) found)
+      given ∙ sym (ap (λ (o : Option (Text × List Row)). unwrap_or
+      (option_and_then (λ p. first_of (codes "turns") p.1) o) []) found)
 
-  draws_found : (draws : Bool) → draws ≡ nat_lt 0 (count_of (codes "dot") rows) → draws ≡ draws_given words
-  draws_found draws given = given ∙ sym (ap (λ (o : Option (Text × List Row)). nat_lt 0 (count_in (codes "dot") o)) found)
+  flag_found : (id : Text) (has : Bool) → has ≡ nat_lt 0 (count_of id rows)
+      → has ≡ nat_lt 0 (count_in id (subcommand_of program words))
+  flag_found id has given =
+      given ∙ sym (ap (λ (o : Option (Text × List Row)). nat_lt 0 (count_in id o)) found)
+
+  part_found : (part : Option Part)
+      → part ≡ part_named (first_of (codes "from") rows) (first_of (codes "to") rows)
+      → part ≡ part_given words
+  part_found part given =
+      given ∙ sym (ap (λ (o : Option (Text × List Row)).
+      part_named (word_given (codes "from") o) (word_given (codes "to") o)) found)
 
   pub asks_by_name : (a : Asked) → IsAskedBy name rows a → AsksFor words a
   asks_by_name Check h =
-      only_check words faultless (not_named _ h.1) (not_named _ h.2) (not_named _ h.4) (not_named _ h.0) (not_named _ h.3)
+      only_check words faultless (not_named _ h.0) (not_named _ h.1) (not_named _ h.2)
+      (not_named _ h.3) (not_named _ h.4) (not_named _ h.5)
   asks_by_name Convert h = named_as _ h
   asks_by_name (Step turns) h = (named_as _ h.0, turns_found _ h.1)
   asks_by_name (Fine turns) h = (named_as _ h.0, turns_found _ h.1)
   asks_by_name Run h = named_as _ h
-  asks_by_name (Left turns draws) h = (named_as _ h.0, turns_found _ h.1, draws_found draws h.2)
+  asks_by_name (Left turns draws) h =
+      (named_as _ h.0, turns_found _ h.1, flag_found (codes "dot") draws h.2)
+  asks_by_name (Draw turns is_fine part) h = (
+    named_as _ h.0,
+    turns_found _ h.1,
+    flag_found (codes "fine") is_fine h.2,
+    part_found part h.3,
+  )
 
 -- where none was met the words would name none
-pub asks_without : (words : List Text) (m : ArgMatches) → subcommand_rows_of m ≡ subcommand_of program words → fault_of program words ≡ []
+pub asks_without : (words : List Text) (m : ArgMatches)
+    → subcommand_rows_of m ≡ subcommand_of program words → fault_of program words ≡ []
     → None ≡ subcommand_name_of m → AsksFor words Check
-asks_without words m is faultless n = only_check words faultless (none _) (none _) (none _) (none _) (none _)
+asks_without words m is faultless n =
+    only_check words faultless (none _) (none _) (none _) (none _) (none _) (none _)
   where
     none : (command : Text) → command_named words ≢ Some command
-    none command e = not_some (n ∙ name_in_rows (out-ArgMatches m).subcommand ∙ ap (option_map (λ (p : Text × List Row). p.0)) is ∙ e)
+    none command e =
+        not_some (n ∙ name_in_rows (out-ArgMatches m).subcommand
+        ∙ ap (option_map (λ (p : Text × List Row). p.0)) is ∙ e)
       where
         not_some : None ≡ Some command → ⊥
         not_some x = cc

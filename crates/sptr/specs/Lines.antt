@@ -4,3 +4,8 @@ use Rattle.std.specs.Prelude.{ℕ, List, [], ◌∷◌, ◌++◌, codes, decimal
 abbrev pub ok_line : ℕ → ℕ → List ℕ
 ok_line threads statements = codes "ok threads " ++ decimal threads ++ codes " statements "
     ++ decimal statements ++ 10 ∷ []
+
+-- the line where no picture is drawn
+abbrev pub picture_line : List ℕ
+picture_line =
+    codes "refused 4: limit: a picture has up to 2000 acts; --from N --to M draw acts N to M\n"

@@ -1,6 +1,6 @@
 -- What commands write, of what is on the input (own).
-use Rattle.std.specs.Prelude.{◌≡◌, ◌≢◌, ◌⊎◌, ℕ, Bool, true, false, List, [], length, Option, None}
-use Rattle.std.specs.Prelude.{Result, Ok, Err, IfSome, IfOk, cond, if◌then◌else◌}
+use Rattle.std.specs.Prelude.{◌≡◌, ◌≢◌, ◌⊎◌, ℕ, Bool, true, false, List, [], length, Option, Some}
+use Rattle.std.specs.Prelude.{None, Result, Ok, Err, IfSome, if◌then◌else◌}
 use Rattle.leak_report.specs.Left.{IsLeftText}
 use Rattle.clap.specs.Words.{IsAmong, Text, fault_of}
 use Rattle.clap.specs.declared.error.kind.ErrorKind.{ErrorKind}
@@ -11,15 +11,22 @@ use Rattle.script_text.specs.Faults.{fault_line}
 use Rattle.script_runner.specs.Telling.{TellsReport}
 use Rattle.script_stepper.specs.Runs.{Delivers, IsFineText, IsRunText, TellsRun, Writes, is_output}
 use Rattle.script_text.specs.declared.fault.Fault.{Fault}
-use Rattle.script_text.specs.declared.fault.Fault.TheVariants.{Memory, Syntax, BadTurn, Output, Input}
+use Rattle.script_text.specs.declared.fault.Fault.TheVariants.{Memory, Syntax, BadTurn, Output}
+use Rattle.script_text.specs.declared.fault.Fault.TheVariants.{Input}
 use Rattle.script_text.specs.Drafts.{ScriptView}
 use Rattle.script_text.specs.Grammar.{ReadsAs, Refuses}
 use Rattle.script_text.specs.Scripts.{converted, statement_count}
 use Rattle.script_text.specs.Canonical.{canonical}
 use Rattle.sptr.specs.CommandLine.{AsksFor, names_file, program}
-use Rattle.sptr.specs.Lines.{ok_line}
+use Rattle.script_picture.specs.Pictures.{IsPictureText}
+use Rattle.script_picture.specs.declared.part.Part.{Part}
+use Rattle.sptr.specs.Lines.{ok_line, picture_line}
+use Rattle.sptr.specs.Outcomes.{FindsIfAsked, exit_status, is_found}
+use Rattle.sptr.specs.declared.answers.Outcome.{Outcome}
+use Rattle.sptr.specs.declared.answers.Outcome.TheVariants.{Done, Leaks, NoPicture}
 use Rattle.sptr.specs.declared.command.Asked.{Asked}
-use Rattle.sptr.specs.declared.command.Asked.TheVariants.{Check, Convert, Fine, Left, Run, Step}
+use Rattle.sptr.specs.declared.command.Asked.TheVariants.{Check, Convert, Draw, Fine, Left, Run}
+use Rattle.sptr.specs.declared.command.Asked.TheVariants.{Step}
 
 -- the line that counts the script which the text reads as, or the refusal that the text has
 abbrev pub CountsScript : List ℕ → Result (List ℕ) Fault → Type 0
@@ -27,9 +34,11 @@ CountsScript bytes (Ok text) = (script : ScriptView) × ReadsAs bytes script
     × (text ≡ ok_line (length script.threads) (statement_count script.threads))
 CountsScript bytes (Err fault) = Refuses fault bytes
 
--- the canonical text in version 2 of the script which the text reads as, or the refusal that the text has
+-- the canonical text in version 2 of the script which the text reads as, or the refusal that the
+-- text has
 abbrev pub Converts : List ℕ → Result (List ℕ) Fault → Type 0
-Converts bytes (Ok text) = (script : ScriptView) × ReadsAs bytes script × (text ≡ canonical (converted script))
+Converts bytes (Ok text) =
+    (script : ScriptView) × ReadsAs bytes script × (text ≡ canonical (converted script))
     × ReadsAs text (converted script)
 Converts bytes (Err fault) = Refuses fault bytes
 
@@ -42,41 +51,34 @@ UnlessInput told (Err (BadTurn position)) = told (Err (BadTurn position))
 UnlessInput told (Err Output) = told (Err Output)
 UnlessInput told (Err Input) = Unit {0}
 
--- what a command answers to the bytes on the input; only `left` answers more than that, whether something is leaked
-abbrev pub AnswersCommand : Asked → Result Bool Fault → List ℕ → Result (List ℕ) Fault → Type 0
+-- nothing is written
+abbrev pub TellsNone : Result Bool Fault → Result (List ℕ) Fault → Type 0
+TellsNone answer (Ok text) = (answer ≡ Ok true) × (text ≡ [])
+TellsNone answer (Err fault) = ⊥
+
+-- the picture of a part of a run, or nothing where it has too many acts or is no part
+abbrev pub TellsPart : Bool → Option Part → Result Bool Fault → List ℕ → List ℕ
+    → Result (List ℕ) Fault → Type 0
+TellsPart is_fine (Some part) answer bytes list =
+    TellsRun (IsPictureText is_fine part answer) bytes list
+TellsPart is_fine None answer bytes list = TellsNone answer
+
+-- what a command answers to the bytes on the input
+abbrev pub AnswersCommand : Asked → Result Outcome Fault → List ℕ → Result (List ℕ) Fault → Type 0
 AnswersCommand Check answer bytes = UnlessInput (CountsScript bytes)
 AnswersCommand Convert answer bytes = UnlessInput (Converts bytes)
 AnswersCommand (Step turns) answer bytes = UnlessInput (TellsRun IsRunText bytes turns.now)
 AnswersCommand (Fine turns) answer bytes = UnlessInput (TellsRun IsFineText bytes turns.now)
 AnswersCommand Run answer bytes = UnlessInput (TellsReport bytes)
-AnswersCommand (Left turns draws) answer bytes = UnlessInput (TellsRun (IsLeftText draws answer) bytes turns.now)
+AnswersCommand (Left turns draws) answer bytes =
+    UnlessInput (TellsRun (IsLeftText draws (is_found answer)) bytes turns.now)
+AnswersCommand (Draw turns is_fine part) answer bytes =
+    UnlessInput (TellsPart is_fine part (is_found answer) bytes turns.now)
 
-abbrev pub asks_left : Asked → Bool
-asks_left Check = false
-asks_left Convert = false
-asks_left (Step turns) = false
-asks_left (Fine turns) = false
-asks_left Run = false
-asks_left (Left turns draws) = true
-
--- the answer of a command that looks for nothing leaked
-abbrev pub none_found : Result Unit Fault → Result Bool Fault
-none_found (Ok done) = Ok false
-none_found (Err fault) = Err fault
-
--- no other command finds something leaked
-abbrev pub FindsIfAsked : Asked → Result Bool Fault → Type 0
-FindsIfAsked asked answer = asks_left asked ≡ false → IfOk answer (λ leaks. leaks ≡ false)
-
--- the exit status
+-- the exit status of a command that tells of no script
 abbrev pub status_of : {A : Type 0} → Result A Fault → ℕ
 status_of (Ok done) = 0
 status_of (Err fault) = 1
-
--- the same where a command was carried out: 3 where something was found to be leaked
-abbrev pub exit_status : Result Bool Fault → ℕ
-exit_status (Ok leaks) = cond leaks 3 0
-exit_status (Err fault) = 1
 
 -- what a sink took, where that is known, and whether it has failed, before and after
 pub record Report : Type 0 where
@@ -86,7 +88,12 @@ pub record Report : Type 0 where
   pub has_failed : Bool
 
 abbrev pub report : Option (List ℕ) → Bool → Option (List ℕ) → Bool → Report
-report old had_failed new has_failed = record { old = old; had_failed = had_failed; new = new; has_failed = has_failed }
+report old had_failed new has_failed = record {
+  old = old;
+  had_failed = had_failed;
+  new = new;
+  has_failed = has_failed;
+}
 
 -- nothing came in
 abbrev pub IsUntouched : Report → Type 0
@@ -97,34 +104,42 @@ abbrev pub IsTaken : Bool → List ℕ → Option (List ℕ) → Option (List �
 IsTaken true text old new = AppendsBeginning old new text
 IsTaken false text old new = Appends old new text
 
--- the line of a fault did, or a beginning of it, or nothing where it had failed before
-pub record IsReported (fault : Fault) (r : Report) : Type 0 where
-  pub takes : IsTaken r.has_failed (fault_line fault) r.old r.new
+-- a line did, or a beginning of it, or nothing where it had failed before
+pub record IsReported (line : List ℕ) (r : Report) : Type 0 where
+  pub takes : IsTaken r.has_failed line r.old r.new
   pub nothing : r.had_failed ≡ true → IsUntouched r
 
 -- the line of a refusal, and else nothing
 abbrev pub Reports : {A : Type 0} → Result A Fault → Report → Type 0
 Reports (Ok done) r = IsUntouched r
-Reports (Err fault) r = IsReported fault r
+Reports (Err fault) r = IsReported (fault_line fault) r
 
--- a command's answer to the bytes of the script went to the output, where it is known which they are, and the line of
--- a refusal to the faults
+-- the same where a command was carried out, which may refuse to draw
+abbrev pub ReportsOutcome : Result Outcome Fault → Report → Type 0
+ReportsOutcome (Ok Done) r = IsUntouched r
+ReportsOutcome (Ok Leaks) r = IsUntouched r
+ReportsOutcome (Ok NoPicture) r = IsReported picture_line r
+ReportsOutcome (Err fault) r = IsReported (fault_line fault) r
+
+-- a command's answer to the bytes of the script went to the output, where it is known which they
+-- are, and the line of a refusal to the faults
 pub record IsAnswered (asked : Asked) (input : Option (List ℕ))
     (status : ℕ) (old new : Option (List ℕ)) (has_failed : Bool) (faults : Report) : Type 0 where
-  pub answer : Result Bool Fault
+  pub answer : Result Outcome Fault
   pub delivers : IfSome input (λ bytes. Delivers (AnswersCommand asked answer bytes) answer old new)
   pub finds : FindsIfAsked asked answer
   pub says : status ≡ exit_status answer
   pub fails : has_failed ≡ is_output answer
-  pub reports : Reports answer faults
+  pub reports : ReportsOutcome answer faults
 
 -- nothing is known of what is in a file
 abbrev pub known_unless : Bool → Option (List ℕ) → Option (List ℕ)
 known_unless has_file input = if has_file then None else input
 
--- a text of `clap` went to the output, but for want of memory and a failed output, whose line went to the faults
-pub record IsShownText (status : ℕ) (old new : Option (List ℕ)) (has_failed : Bool) (faults : Report)
-    : Type 0 where
+-- a text of `clap` went to the output, but for want of memory and a failed output, whose line went
+-- to the faults
+pub record IsShownText (status : ℕ) (old new : Option (List ℕ)) (has_failed : Bool)
+    (faults : Report) : Type 0 where
   pub text : List ℕ
   pub answer : Result Unit Fault
   pub writes : Writes text answer old new
@@ -136,19 +151,21 @@ pub record IsShownText (status : ℕ) (old new : Option (List ℕ)) (has_failed 
 abbrev pub IsSilent : Option (List ℕ) → Option (List ℕ) → Bool → Type 0
 IsSilent old new has_failed = (new ≡ old) × (has_failed ≡ false)
 
--- nothing went to the output, and the status is that of a fault of the words, or of want of memory, whose line went to
--- the faults
+-- nothing went to the output, and the status is that of a fault of the words, or of want of memory,
+-- whose line went to the faults
 abbrev pub IsMistaken : ℕ → Option (List ℕ) → Option (List ℕ) → Bool → Report → Type 0
 IsMistaken status old new has_failed faults =
-    ((status ≡ 2) ⊎ ((status ≡ 1) × IsReported Memory faults)) × IsSilent old new has_failed
+    ((status ≡ 2) ⊎ ((status ≡ 1) × IsReported (fault_line Memory) faults))
+    × IsSilent old new has_failed
 
--- `clap` gives no command for a reason of this kind: help and the version go to the output; want of memory and faults
--- of the words do not
+-- `clap` gives no command for a reason of this kind: help and the version go to the output; want of
+-- memory and faults of the words do not
 pub record IsTurnedAway (reason : ErrorKind)
     (status : ℕ) (old new : Option (List ℕ)) (has_failed : Bool) (faults : Report) : Type 0 where
   pub help : reason ≡ kind.DisplayHelp → IsShownText status old new has_failed faults
   pub version : reason ≡ kind.DisplayVersion → IsShownText status old new has_failed faults
-  pub memory : reason ≡ kind.OutOfMemory → (status ≡ 1) × IsSilent old new has_failed × IsReported Memory faults
+  pub memory : reason ≡ kind.OutOfMemory
+      → (status ≡ 1) × IsSilent old new has_failed × IsReported (fault_line Memory) faults
   pub mistake : reason ≢ kind.DisplayHelp → reason ≢ kind.DisplayVersion → reason ≢ kind.OutOfMemory
       → (status ≡ 2) × IsSilent old new has_failed
 
@@ -156,10 +173,12 @@ pub record IsTurnedAway (reason : ErrorKind)
 abbrev pub IsReason : List Text → ErrorKind → Type 0
 IsReason words reason = (reason ≡ kind.OutOfMemory) ⊎ IsAmong reason (fault_of program words)
 
--- the words have no fault, and what they ask for is answered; or they are turned away for a reason that they give
+-- the words have no fault, and what they ask for is answered; or they are turned away for a reason
+-- that they give
 abbrev pub Serves : List Text → Option (List ℕ) → ℕ → Option (List ℕ) → Option (List ℕ)
     → Bool → Report → Type 0
 Serves words input status old new has_failed faults =
     ((asked : Asked) × AsksFor words asked × (fault_of program words ≡ [])
     × IsAnswered asked (known_unless (names_file words) input) status old new has_failed faults)
-    ⊎ ((reason : ErrorKind) × IsReason words reason × IsTurnedAway reason status old new has_failed faults)
+    ⊎ ((reason : ErrorKind) × IsReason words reason
+    × IsTurnedAway reason status old new has_failed faults)

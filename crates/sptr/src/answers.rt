@@ -4,9 +4,11 @@ ghost use Rattle.std.specs.Prelude.{◌≡◌, ◌⊎◌, ◌||◌, false, IfOk,
 ghost use Rattle.std.specs.Prelude.{string_bytes};
 ghost use Rattle.script_text.specs.declared.fault.Fault.TheVariants.{Input, Memory};
 ghost use Rattle.script_runner.specs.Telling.{TellsReport};
-ghost use Rattle.script_stepper.specs.Runs.{Delivers, IsFineText, IsRunText, TellsRun, Writes, is_output, text_in};
+ghost use Rattle.script_stepper.specs.Runs.{Delivers, IsFineText, IsRunText, TellsRun, Writes};
+ghost use Rattle.script_stepper.specs.Runs.{is_output, text_in};
 ghost use Rattle.std.specs.Io.KnownBytes.{Keeps};
 ghost use Rattle.leak_report.specs.Left.{IsLeftText};
+ghost use Rattle.script_picture.specs.Pictures.{IsPictureText};
 ghost use Rattle.sptr.specs.Lines.{ok_line};
 ghost use Rattle.script_text.specs.Canonical.{canonical};
 ghost use Rattle.script_text.specs.Grammar.{ReadsAs};
@@ -15,6 +17,7 @@ ghost use Rattle.sptr.specs.Serving.{Converts, CountsScript};
 
 use control_word::Refusal;
 use leak_report::left_text;
+use script_picture::{Order, draw_text};
 use script_runner::run_text;
 use script_stepper::{Output, fine_text, step_text, write_text};
 use script_text::{Fault, Script, parse, print};
@@ -23,6 +26,17 @@ use std::fmt::Write as _;
 use std::io::{ErrorKind, Read, Write};
 use std::sync::Wait;
 use std::thread::Threads;
+
+/// What came of a command.
+#[derive(Clone, Copy)]
+pub(crate) enum Outcome {
+    /// What was asked for was written.
+    Done,
+    /// So it was, and something is leaked.
+    Leaks,
+    /// No picture was drawn: the part has too many acts, or is none.
+    NoPicture,
+}
 
 /// All that an input has.
 pub(crate) fn bytes_of<I: Read>(alloc: Global, input: &mut I) -> Result<Vec<u8>, Fault>
@@ -95,7 +109,8 @@ fn flushed<O: Write>(output: &mut Output<O>) -> Result<(), Fault>
 /// Writes a text, and makes sure that it has gone out.
 pub(crate) fn written<O: Write>(text: &[u8], output: &mut Output<O>) -> Result<(), Fault>
     requires { output.old.has_failed ≡ false }
-    ensures writes { Writes text.now result (O.contents output.old.writer) (O.contents output.new.writer) }
+    ensures writes { Writes text.now result (O.contents output.old.writer)
+        (O.contents output.new.writer) }
     ensures failed { output.new.has_failed ≡ is_output result }
 {
     write_text(text, output)?;
@@ -180,8 +195,8 @@ pub(crate) fn run<R: Threads + Wait + Sync, O: Write>(
     flushed(output)
 }
 
-/// Answers `left`: what is left at the end of the script's run, with a list of turns, told or drawn, and whether
-/// something is leaked.
+/// Answers `left`: what is left at the end of the script's run, with a list of turns, told or
+/// drawn, and whether something is leaked.
 pub(crate) fn left<O: Write>(
     alloc: Global,
     turns: &[u8],
@@ -197,6 +212,26 @@ pub(crate) fn left<O: Write>(
     let leaks = left_text(alloc, script, turns, draws, output)?;
     match flushed(output) {
         Ok(()) => Ok(leaks),
+        Err(fault) => Err(fault),
+    }
+}
+
+/// Answers `draw`: the picture of a part of the script's run, with a list of turns, and whether the
+/// part has too many acts for one.
+pub(crate) fn draw<O: Write>(
+    alloc: Global,
+    order: Order<'_>,
+    output: &mut Output<O>,
+) -> Result<bool, Fault>
+    requires { output.old.has_failed ≡ false }
+    ensures told { Delivers (TellsRun (IsPictureText order.entry.is_fine order.entry.part result)
+        order.entry.script.now order.entry.turns.now) result
+        (O.contents output.old.writer) (O.contents output.new.writer) }
+    ensures failed { output.new.has_failed ≡ is_output result }
+{
+    let has_more = draw_text(alloc, order, output)?;
+    match flushed(output) {
+        Ok(()) => Ok(has_more),
         Err(fault) => Err(fault),
     }
 }

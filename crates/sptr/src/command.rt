@@ -1,19 +1,18 @@
-//! The command line, as `clap` reads it.
+//! What a command line asks for, as `clap` reads it.
 
-ghost use Rattle.std.specs.Prelude.{◌≡◌, IfOk, List, [], codes, false, is_some, map, nat_lt, unwrap_or};
-ghost use Rattle.clap.specs.Words.{FailsBy, app_of, count_of, fault_of, first_of, found_of, rows_of, rule_of, shape_of};
-ghost use Rattle.clap.specs.Words.{Text, subcommand_rows_of, subcommand_of};
-ghost use Rattle.clap.specs.declared.builder.command.Command.TheViews.{out-Command};
-ghost use Rattle.sptr.specs.CommandLine.{AddsCommand, AsksFor, IsAskedBy, bare, dot_option, file_word, has_files};
-ghost use Rattle.sptr.specs.CommandLine.{left_line, names_file, names_file_in, option_rule, program, script_line};
-ghost use Rattle.sptr.specs.CommandLine.{turns_line};
+ghost use Rattle.std.specs.Prelude.{◌≡◌, IfOk, List, [], codes, is_some, map, nat_lt, unwrap_or};
+ghost use Rattle.std.specs.Str.Parse.{without_leading_plus};
+ghost use Rattle.clap.specs.Words.{FailsBy, Text, count_of, fault_of, first_of, found_of, rows_of};
+ghost use Rattle.clap.specs.Words.{subcommand_of, subcommand_rows_of};
+ghost use Rattle.sptr.specs.CommandLine.{AsksFor, IsAskedBy, has_files, names_file, names_file_in};
+ghost use Rattle.sptr.specs.CommandLine.{program};
+ghost use Rattle.sptr.specs.Parts.{number_given, number_in, part_named};
 
-use clap::{Arg, ArgAction, ArgMatches, Command, Error};
-use std::alloc::{AllocError, Global};
+use crate::commands::command;
+use clap::{ArgMatches, Error};
+use script_picture::Part;
+use std::alloc::Global;
 use std::convert::AsStr;
-
-/// What `--version` tells.
-const VERSION: &str = "1.1.0";
 
 /// What a command line asks for.
 #[derive(Clone, Copy)]
@@ -23,13 +22,27 @@ pub(crate) enum Asked<'a> {
     /// The script in version 2.
     Convert,
     /// The lines of a script's run, with this list of turns.
-    Step { turns: &'a [u8] },
+    Step {
+        turns: &'a [u8],
+    },
     /// The same by single atomic steps.
-    Fine { turns: &'a [u8] },
+    Fine {
+        turns: &'a [u8],
+    },
     /// The lines of a script's run on real workers, thread by thread.
     Run,
     /// What is left at the end of the run, and who holds it, as text or drawn.
-    Left { turns: &'a [u8], draws: bool },
+    Left {
+        turns: &'a [u8],
+        draws: bool,
+    },
+    /// The picture of a part of the run, by acts or by single steps; no part where its numbers are
+    /// faulty.
+    Draw {
+        turns: &'a [u8],
+        is_fine: bool,
+        part: Option<Part>,
+    },
 }
 
 /// The files that a command line names: the script's, and that of the list of turns.
@@ -46,119 +59,9 @@ pub(crate) struct Line<'a> {
     pub files: Files<'a>,
 }
 
-fn file_argument<'a>(alloc: Global) -> Arg<'a>
-    ensures rule { rule_of result ≡ file_word }
-    ensures local { result.global ≡ false }
-{
-    Arg::new(alloc, "file")
-        .value_name("FILE")
-        .help("The script; where none is named, standard input")
-}
-
-/// `--NAME VALUE`.
-fn option<'a>(alloc: Global, name: &'a str, value: &'a str, help: &'a str) -> Arg<'a>
-    ensures rule { rule_of result ≡ option_rule name.entry.now }
-    ensures local { result.global ≡ false }
-{
-    Arg::new(alloc, name)
-        .long(name)
-        .value_name(value)
-        .help(help)
-}
-
-fn dot_argument<'a>(alloc: Global) -> Arg<'a>
-    ensures rule { rule_of result ≡ dot_option }
-    ensures local { result.global ≡ false }
-{
-    Arg::new(alloc, "dot")
-        .long("dot")
-        .action(ArgAction::Count)
-        .help("As a graph for Graphviz")
-}
-
-/// A command that takes a script.
-fn script_command<'a>(
-    alloc: Global,
-    name: &'a str,
-    about: &'a str,
-) -> Result<Command<'a>, AllocError>
-    ensures shape { IfOk result (λ c. shape_of c ≡ script_line name.entry.now) }
-    ensures local { IfOk result (λ c. (out-Command c).has_globals ≡ false) }
-{
-    Command::new(alloc, name)
-        .about(about)
-        .arg(file_argument(alloc))
-}
-
-/// A command that takes a script and a list of turns.
-fn turns_command<'a>(
-    alloc: Global,
-    name: &'a str,
-    about: &'a str,
-) -> Result<Command<'a>, AllocError>
-    ensures shape { IfOk result (λ c. shape_of c ≡ turns_line name.entry.now) }
-    ensures local { IfOk result (λ c. (out-Command c).has_globals ≡ false) }
-{
-    let turns = "Threads, by their numbers, in the order of their turns";
-    let file = "A file with the list of turns, in place of --turns";
-    script_command(alloc, name, about)?
-        .arg(option(alloc, "turns", "LIST", turns))?
-        .arg(option(alloc, "turns-file", "FILE", file))
-}
-
-fn left_command<'a>(alloc: Global) -> Result<Command<'a>, AllocError>
-    ensures shape { IfOk result (λ c. shape_of c ≡ left_line) }
-    ensures local { IfOk result (λ c. (out-Command c).has_globals ≡ false) }
-{
-    let about = "Runs a script act by act, and tells what is left and who holds it";
-    turns_command(alloc, "left", about)?.arg(dot_argument(alloc))
-}
-
-/// The program with this command too.
-fn with_command<'a>(
-    program: Result<Command<'a>, AllocError>,
-    command: Result<Command<'a>, AllocError>,
-) -> Result<Command<'a>, AllocError>
-    ensures { IfOk result (λ r. AddsCommand program.entry command.entry r) }
-{
-    program?.subcommand(command?)
-}
-
-/// The program with no command yet.
-fn bare_program<'a>(alloc: Global) -> Command<'a>
-    ensures { app_of result ≡ bare }
-{
-    Command::new(alloc, "sptr")
-        .about(
-            "Runs scripts of shared and weak pointers; `sptr owners --help` is on graphs of owners",
-        )
-        .version(VERSION)
-        .subcommand_required(true)
-}
-
-fn command<'a>(alloc: Global) -> Result<Command<'a>, AllocError>
-    ensures { IfOk result (λ c. app_of c ≡ program) }
-{
-    let check = "Reads a script, and says how many threads and statements it has";
-    let program = with_command(
-        Ok(bare_program(alloc)),
-        script_command(alloc, "check", check),
-    );
-    let convert = "Reads a script, and writes the same in version 2, in canonical form";
-    let program = with_command(program, script_command(alloc, "convert", convert));
-    let program = with_command(
-        program,
-        turns_command(alloc, "step", "Runs a script act by act"),
-    );
-    let fine = "Runs a script by single atomic steps";
-    let program = with_command(program, turns_command(alloc, "fine", fine));
-    let run = "Runs a script on real workers, one a thread";
-    let program = with_command(program, script_command(alloc, "run", run));
-    with_command(program, left_command(alloc))
-}
-
 fn matches_of<'a, S: AsStr>(alloc: Global, words: &'a [S]) -> Result<ArgMatches<'a>, Error>
-    ensures matches { IfOk result (λ m. subcommand_rows_of m ≡ subcommand_of program (map S.text words.entry.now)) }
+    ensures matches { IfOk result
+        (λ m. subcommand_rows_of m ≡ subcommand_of program (map S.text words.entry.now)) }
     ensures kinds { FailsBy (fault_of program (map S.text words.entry.now)) result }
 {
     let command = command(alloc)?;
@@ -172,11 +75,46 @@ fn turns_of<'a>(given: &ArgMatches<'a>) -> &'a [u8]
     given.get_str("turns").unwrap_or("").as_bytes()
 }
 
-/// Whether what is left is to be drawn.
-fn is_drawn(given: &ArgMatches<'_>) -> bool
-    ensures { result ≡ nat_lt 0 (count_of (codes "dot") (rows_of (found_of given.now))) }
+/// Whether a flag was given.
+fn has_flag(given: &ArgMatches<'_>, id: &str) -> bool
+    ensures { result ≡ nat_lt 0 (count_of id.now (rows_of (found_of given.now))) }
 {
-    given.get_count("dot") > 0
+    given.get_count(id) > 0
+}
+
+/// The number from 1 that a word is.
+fn number_of(word: &str) -> Option<u32>
+    ensures { result ≡ number_in (without_leading_plus word.now) }
+{
+    match word.parse::<u32>() {
+        Ok(number) => { if number > 0 { Some(number) } else { None } }
+        Err(_) => None,
+    }
+}
+
+/// The number that was given for this, or another where none was.
+fn number_or(given: &ArgMatches<'_>, id: &str, other: u32) -> Option<u32>
+    ensures { result ≡ number_given other (first_of id.now (rows_of (found_of given.now))) }
+{
+    match given.get_str(id) {
+        Some(word) => number_of(word),
+        None => Some(other),
+    }
+}
+
+/// The part that a picture was asked for.
+fn part_of(given: &ArgMatches<'_>) -> Option<Part>
+    ensures { let rows = rows_of (found_of given.now) in
+        result ≡ part_named (first_of (codes "from") rows) (first_of (codes "to") rows) }
+{
+    let whole = Part::whole();
+    let first = number_or(given, "from", whole.first)?;
+    let last = number_or(given, "to", whole.last)?;
+    if first <= last {
+        Some(Part { first, last })
+    } else {
+        None
+    }
 }
 
 /// Whether a word was given for this, and which.
@@ -212,7 +150,12 @@ fn asked_by_name<'a>(name: &str, given: &ArgMatches<'a>) -> Asked<'a>
         "fine" => Asked::Fine { turns },
         "left" => Asked::Left {
             turns,
-            draws: is_drawn(given),
+            draws: has_flag(given, "dot"),
+        },
+        "draw" => Asked::Draw {
+            turns,
+            is_fine: has_flag(given, "fine"),
+            part: part_of(given),
         },
         "convert" => Asked::Convert,
         "run" => Asked::Run,
@@ -234,7 +177,8 @@ fn asked_by<'a>(matches: &ArgMatches<'a>) -> Asked<'a>
 /// What the words of a command line ask for.
 pub(crate) fn asked_of<'a, S: AsStr>(alloc: Global, words: &'a [S]) -> Result<Line<'a>, Error>
     ensures asks { IfOk result (λ line. AsksFor (map S.text words.entry.now) line.asked) }
-    ensures files { IfOk result (λ line. has_files line.files ≡ names_file (map S.text words.entry.now)) }
+    ensures files { IfOk result
+        (λ line. has_files line.files ≡ names_file (map S.text words.entry.now)) }
     ensures kinds { FailsBy (fault_of program (map S.text words.entry.now)) result }
 {
     let matches = matches_of(alloc, words)?;

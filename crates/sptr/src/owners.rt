@@ -44,7 +44,8 @@ enum Mistake {
 
 /// The line with a word more.
 fn with_word<'a>(line: Line<'a>, word: &'a str) -> Result<Line<'a>, Mistake>
-    ensures dot { word.now ≡ codes "--dot" → line.entry.draws ≡ false → line.entry.file ≡ None → result ≡ Ok (plain_line true) }
+    ensures dot { word.now ≡ codes "--dot" → line.entry.draws ≡ false → line.entry.file ≡ None
+        → result ≡ Ok (plain_line true) }
 {
     if word == "--help" || word == "-h" {
         return Err(Mistake::Help);
@@ -66,7 +67,8 @@ fn with_word<'a>(line: Line<'a>, word: &'a str) -> Result<Line<'a>, Mistake>
 
 /// What words ask for.
 fn line_of<S: AsStr>(words: &[S]) -> Result<Line<'_>, Mistake>
-    ensures plain { (draws : Bool) → map S.text words.now ≡ plain_words draws → result ≡ Ok (plain_line draws) }
+    ensures plain { (draws : Bool) → map S.text words.now ≡ plain_words draws
+        → result ≡ Ok (plain_line draws) }
 {
     let line = Line {
         draws: false,
@@ -100,7 +102,8 @@ fn answer_bytes<O: Write>(
     output: &mut Output<O>,
 ) -> Result<bool, Lost>
     requires { output.old.has_failed ≡ false }
-    ensures delivers { IsDelivered draws bytes.now result (O.contents output.old.writer) (O.contents output.new.writer) }
+    ensures delivers { IsDelivered draws bytes.now result (O.contents output.old.writer)
+        (O.contents output.new.writer) }
 {
     let told = match owners_text(alloc, bytes, draws) {
         Ok(told) => told,
@@ -121,7 +124,8 @@ fn answer<I: Read, O: Write>(
 ) -> Result<bool, Lost>
     requires { output.old.has_failed ≡ false }
     ensures delivers { IfSome (I.remaining input.old) (λ bytes.
-        IsDelivered draws bytes result (O.contents output.old.writer) (O.contents output.new.writer)) }
+        IsDelivered draws bytes result (O.contents output.old.writer)
+        (O.contents output.new.writer)) }
 {
     match bytes_of(alloc, input) {
         Ok(bytes) => answer_bytes(alloc, draws, bytes.as_slice(), output),
@@ -139,7 +143,8 @@ fn answer_line<R: rt::Files, I: Read, O: Write>(
 ) -> Result<bool, Lost>
     requires { output.old.has_failed ≡ false }
     ensures delivers { line.entry.file ≡ None → IfSome (I.remaining input.old) (λ bytes.
-        IsDelivered line.entry.draws bytes result (O.contents output.old.writer) (O.contents output.new.writer)) }
+        IsDelivered line.entry.draws bytes result (O.contents output.old.writer)
+        (O.contents output.new.writer)) }
 {
     let Some(path) = line.file else {
         return answer(alloc, line.draws, input, output);
@@ -156,7 +161,8 @@ fn put_fault<F: Write>(line: usize, cause: Cause, faults: &mut Output<F>) {
     let _ = write!(faults, "refused 10: line {line}: {words}\n");
 }
 
-/// Writes the line of a refusal, and answers the exit status 1. A line that can't be written changes nothing.
+/// Writes the line of a refusal, and answers the exit status 1. A line that can't be written
+/// changes nothing.
 fn refuse<F: Write>(lost: Lost, faults: &mut Output<F>) -> u8
     ensures status { result ≡ 1 }
 {
@@ -200,9 +206,10 @@ fn found_status(leaks: bool) -> u8
     if leaks { 3 } else { 0 }
 }
 
-/// Serves the words after `owners`: reads a graph from `input`, or from the file that the words name, and writes the
-/// answer on `output`, which hasn't failed before. Answers the exit status: 0; 1 for a refusal, with its line on
-/// `faults`; 2 for a fault of the words, which are named on `faults`; 3 where something leaks.
+/// Serves the words after `owners`: reads a graph from `input`, or from the file that the words
+/// name, and writes the answer on `output`, which hasn't failed before. Answers the exit status: 0;
+/// 1 for a refusal, with its line on `faults`; 2 for a fault of the words, which are named on
+/// `faults`; 3 where something leaks.
 pub(crate) fn serve_owners<R: rt::Files, S: AsStr, I: Read, O: Write, F: Write>(
     rt: &R,
     alloc: Global,
@@ -212,7 +219,8 @@ pub(crate) fn serve_owners<R: rt::Files, S: AsStr, I: Read, O: Write, F: Write>(
     faults: &mut Output<F>,
 ) -> u8
     requires { output.old.has_failed ≡ false }
-    ensures serves { (draws : Bool) → map S.text words.now ≡ plain_words draws → IfSome (I.remaining input.old) (λ bytes.
+    ensures serves { (draws : Bool) → map S.text words.now ≡ plain_words draws
+        → IfSome (I.remaining input.old) (λ bytes.
         IsServed draws bytes result (O.contents output.old.writer) (O.contents output.new.writer)) }
     ensures status { result ≤ 3 }
 {

@@ -1,18 +1,21 @@
 //! One command line, served.
 
-ghost use Rattle.std.specs.Prelude.{◌≡◌, ◌≤◌, false, map};
+ghost use Rattle.std.specs.Prelude.{◌≡◌, ◌≤◌, Ok, false, map};
 ghost use Rattle.clap.specs.Words.{kind_of};
 ghost use Rattle.sptr.specs.declared.command.Asked.{Asked};
-ghost use Rattle.sptr.specs.CommandLine.{AsksHelp, AsksPlainly, AsksVersion, NamesNoCommand, has_files};
-ghost use Rattle.sptr.specs.Serving.{IsAnswered, IsMistaken, IsReported, IsShownText, IsTurnedAway, Serves};
-ghost use Rattle.sptr.specs.Serving.{exit_status};
-ghost use Rattle.sptr.specs.Serving.{known_unless, report};
+ghost use Rattle.sptr.specs.CommandLine.{AsksHelp, AsksPlainly, AsksVersion, NamesNoCommand};
+ghost use Rattle.sptr.specs.CommandLine.{has_files};
+ghost use Rattle.sptr.specs.Serving.{IsAnswered, IsMistaken, IsReported, IsShownText, IsTurnedAway};
+ghost use Rattle.sptr.specs.Serving.{ReportsOutcome, Serves, known_unless, report};
+ghost use Rattle.sptr.specs.Lines.{picture_line};
+ghost use Rattle.sptr.specs.Outcomes.{exit_status};
+ghost use Rattle.script_text.specs.Faults.{fault_line};
 
-use crate::answers::written;
+use crate::answers::{Outcome, written};
 use crate::command::{Line, asked_of};
 use crate::sources::answer_line;
 use clap::error::ErrorKind;
-use script_stepper::{Output, write_fault};
+use script_stepper::{Output, Sink, write_all, write_fault};
 use script_text::Fault;
 use std::alloc::Global;
 use std::convert::AsStr;
@@ -22,10 +25,11 @@ use std::rt;
 use std::sync::Wait;
 use std::thread::Threads;
 
-/// Writes the line of a refusal, and answers the exit status 1. A line that can't be written changes nothing.
+/// Writes the line of a refusal, and answers the exit status 1. A line that can't be written
+/// changes nothing.
 fn refuse<F: Write>(fault: Fault, faults: &mut Output<F>) -> u8
     ensures status { result ≡ 1 }
-    ensures line { IsReported fault
+    ensures line { IsReported (fault_line fault)
         (report (F.contents faults.old.writer) faults.old.has_failed
         (F.contents faults.new.writer) faults.new.has_failed) }
 {
@@ -77,7 +81,8 @@ fn refuse_words<O: Write, F: Write>(
     faults: &mut Output<F>,
 ) -> u8
     requires { output.old.has_failed ≡ false }
-    ensures away { IsTurnedAway (kind_of error.now) result (O.contents output.old.writer) (O.contents output.new.writer)
+    ensures away { IsTurnedAway (kind_of error.now) result (O.contents output.old.writer)
+        (O.contents output.new.writer)
         output.new.has_failed
         (report (F.contents faults.old.writer) faults.old.has_failed
         (F.contents faults.new.writer) faults.new.has_failed) }
@@ -95,11 +100,37 @@ fn refuse_words<O: Write, F: Write>(
     }
 }
 
-/// The exit status where something is leaked, or nothing.
-fn found_status(leaks: bool) -> u8
-    ensures { result ≡ exit_status (Ok leaks) }
+/// Writes the line of a picture that isn't drawn, and answers the exit status 1.
+fn refuse_picture<F: Write>(faults: &mut Output<F>) -> u8
+    ensures status { result ≡ 1 }
+    ensures line { IsReported picture_line
+        (report (F.contents faults.old.writer) faults.old.has_failed
+        (F.contents faults.new.writer) faults.new.has_failed) }
 {
-    if leaks { 3 } else { 0 }
+    if faults.failed() {
+        return 1;
+    }
+    let _ = write_all(
+        faults,
+        b"refused 4: limit: a picture has up to 2000 acts; --from N --to M draw acts N to M\n",
+    );
+    1
+}
+
+/// Answers the exit status of a command that was carried out, and writes the line of a picture that
+/// isn't drawn.
+fn conclude<F: Write>(outcome: Outcome, faults: &mut Output<F>) -> u8
+    ensures status { result ≡ exit_status (Ok outcome) }
+    ensures line { ReportsOutcome (Ok outcome)
+        (report (F.contents faults.old.writer) faults.old.has_failed
+        (F.contents faults.new.writer) faults.new.has_failed) }
+    ensures quiet { result ≡ 0 → F.contents faults.new.writer ≡ F.contents faults.old.writer }
+{
+    match outcome {
+        Outcome::Done => 0,
+        Outcome::Leaks => 3,
+        Outcome::NoPicture => refuse_picture(faults),
+    }
 }
 
 /// Does what a command line asks for, and answers the exit status.
@@ -121,19 +152,21 @@ fn carry_out<R: rt::Files + Threads + Wait + Sync, I: Read, O: Write, F: Write>(
     ensures status { result ≤ 3 }
 {
     match answer_line(rt, alloc, line, input, output) {
-        Ok(leaks) => found_status(leaks),
+        Ok(outcome) => conclude(outcome, faults),
         Err(fault) => refuse(fault, faults),
     }
 }
 
-/// Serves one command line, whose first word is the program's name: reads a script from `input`, or from the file that
-/// the words name, and writes the answer on `output`, which hasn't failed before. Answers the exit status: 0; 1 for a
-/// refusal, with its line on `faults`; 2 for a fault of the command line, with the text of `clap` on `faults`; 3 where
-/// it was asked what is left, and something is leaked.
+/// Serves one command line, whose first word is the program's name: reads a script from `input`, or
+/// from the file that the words name, and writes the answer on `output`, which hasn't failed
+/// before. Answers the exit status: 0; 1 for a refusal, with its line on `faults`; 2 for a fault of
+/// the command line, with the text of `clap` on `faults`; 3 where it was asked what is left, and
+/// something is leaked.
 ///
-/// The words are looked at first; then come a failed input, or a file that can't be read (13), a fault of the script
-/// (10) and one of the turns (11), each with nothing on `output`, and a failed output (12). A fault line that can't be
-/// written changes no status: `faults` then took a beginning of it, or nothing where it had failed before (own).
+/// The words are looked at first; then come a failed input, or a file that can't be read (13), a
+/// fault of the script (10) and one of the turns (11), each with nothing on `output`, and a failed
+/// output (12). A fault line that can't be written changes no status: `faults` then took a
+/// beginning of it, or nothing where it had failed before (own).
 pub fn serve<R: rt::Files + Threads + Wait + Sync, S: AsStr, I: Read, O: Write, F: Write>(
     rt: &R,
     alloc: Global,
@@ -143,7 +176,8 @@ pub fn serve<R: rt::Files + Threads + Wait + Sync, S: AsStr, I: Read, O: Write, 
     faults: &mut Output<F>,
 ) -> u8
     requires { output.old.has_failed ≡ false }
-    ensures serves { Serves (map S.text words.now) (I.remaining input.old) result (O.contents output.old.writer)
+    ensures serves { Serves (map S.text words.now) (I.remaining input.old) result
+        (O.contents output.old.writer)
         (O.contents output.new.writer) output.new.has_failed
         (report (F.contents faults.old.writer) faults.old.has_failed
         (F.contents faults.new.writer) faults.new.has_failed) }
@@ -152,15 +186,18 @@ pub fn serve<R: rt::Files + Threads + Wait + Sync, S: AsStr, I: Read, O: Write, 
         (O.contents output.new.writer) output.new.has_failed
         (report (F.contents faults.old.writer) faults.old.has_failed
         (F.contents faults.new.writer) faults.new.has_failed) }
-    ensures help { AsksHelp (map S.text words.now) → IsShownText result (O.contents output.old.writer)
+    ensures help { AsksHelp (map S.text words.now)
+        → IsShownText result (O.contents output.old.writer)
         (O.contents output.new.writer) output.new.has_failed
         (report (F.contents faults.old.writer) faults.old.has_failed
         (F.contents faults.new.writer) faults.new.has_failed) }
-    ensures version { AsksVersion (map S.text words.now) → IsShownText result (O.contents output.old.writer)
+    ensures version { AsksVersion (map S.text words.now)
+        → IsShownText result (O.contents output.old.writer)
         (O.contents output.new.writer) output.new.has_failed
         (report (F.contents faults.old.writer) faults.old.has_failed
         (F.contents faults.new.writer) faults.new.has_failed) }
-    ensures missing { NamesNoCommand (map S.text words.now) → IsMistaken result (O.contents output.old.writer)
+    ensures missing { NamesNoCommand (map S.text words.now)
+        → IsMistaken result (O.contents output.old.writer)
         (O.contents output.new.writer) output.new.has_failed
         (report (F.contents faults.old.writer) faults.old.has_failed
         (F.contents faults.new.writer) faults.new.has_failed) }

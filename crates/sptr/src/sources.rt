@@ -3,10 +3,12 @@
 ghost use Rattle.std.specs.Prelude.{◌≡◌, false, is_some, IfSome};
 ghost use Rattle.script_stepper.specs.Runs.{Delivers, is_output};
 ghost use Rattle.sptr.specs.CommandLine.{has_files};
-ghost use Rattle.sptr.specs.Serving.{AnswersCommand, FindsIfAsked, asks_left, known_unless, none_found};
+ghost use Rattle.sptr.specs.Outcomes.{FindsIfAsked, asks_left, asks_picture, found_as, none_found};
+ghost use Rattle.sptr.specs.Serving.{AnswersCommand, known_unless};
 
-use crate::answers::{bytes_of, check, convert, fine, left, run, step};
+use crate::answers::{Outcome, bytes_of, check, convert, draw, fine, left, run, step};
 use crate::command::{Asked, Files, Line};
+use script_picture::Order;
 use script_stepper::Output;
 use script_text::Fault;
 use std::alloc::Global;
@@ -15,25 +17,35 @@ use std::sync::Wait;
 use std::thread::Threads;
 use std::{fs, rt};
 
-/// The answer of a command that looks for no leaks, whose script was read: nothing was found to be leaked.
-fn none_leaked(done: Result<(), Fault>) -> Result<bool, Fault>
-    ensures { result ≡ none_found done }
+/// What came of a command that finds nothing.
+fn done(written: Result<(), Fault>) -> Result<Outcome, Fault>
+    ensures { result ≡ none_found written }
 {
-    match done {
-        Ok(()) => Ok(false),
+    match written {
+        Ok(()) => Ok(Outcome::Done),
         Err(fault) => Err(fault),
     }
 }
 
-/// The answer to what a command line asks for, of a script: whether something was found to be leaked, for which only
-/// one command looks.
+/// What came of one that looks for something: this, where it found it.
+fn done_or(outcome: Outcome, found: Result<bool, Fault>) -> Result<Outcome, Fault>
+    ensures { result ≡ found_as outcome found }
+{
+    match found {
+        Ok(true) => Ok(outcome),
+        Ok(false) => Ok(Outcome::Done),
+        Err(fault) => Err(fault),
+    }
+}
+
+/// The answer to what a command line asks for, of a script. Nothing is drawn of no part.
 fn answer_bytes<R: Threads + Wait + Sync, O: Write>(
     rt: &R,
     alloc: Global,
     asked: Asked<'_>,
     script: &[u8],
     output: &mut Output<O>,
-) -> Result<bool, Fault>
+) -> Result<Outcome, Fault>
     requires { output.old.has_failed ≡ false }
     ensures delivers { Delivers (AnswersCommand asked.entry result script.now) result
         (O.contents output.old.writer) (O.contents output.new.writer) }
@@ -41,12 +53,30 @@ fn answer_bytes<R: Threads + Wait + Sync, O: Write>(
     ensures failed { output.new.has_failed ≡ is_output result }
 {
     match asked {
-        Asked::Check => none_leaked(check(alloc, script, output)),
-        Asked::Convert => none_leaked(convert(alloc, script, output)),
-        Asked::Step { turns } => none_leaked(step(alloc, turns, script, output)),
-        Asked::Fine { turns } => none_leaked(fine(alloc, turns, script, output)),
-        Asked::Run => none_leaked(run(rt, alloc, script, output)),
-        Asked::Left { turns, draws } => left(alloc, turns, draws, script, output),
+        Asked::Check => done(check(alloc, script, output)),
+        Asked::Convert => done(convert(alloc, script, output)),
+        Asked::Step { turns } => done(step(alloc, turns, script, output)),
+        Asked::Fine { turns } => done(fine(alloc, turns, script, output)),
+        Asked::Run => done(run(rt, alloc, script, output)),
+        Asked::Left { turns, draws } => {
+            done_or(Outcome::Leaks, left(alloc, turns, draws, script, output))
+        }
+        Asked::Draw {
+            turns,
+            is_fine,
+            part,
+        } => match part {
+            Some(part) => {
+                let order = Order {
+                    script,
+                    turns,
+                    is_fine,
+                    part,
+                };
+                done_or(Outcome::NoPicture, draw(alloc, order, output))
+            }
+            None => Ok(Outcome::NoPicture),
+        },
     }
 }
 
@@ -57,7 +87,7 @@ fn answer<R: Threads + Wait + Sync, I: Read, O: Write>(
     asked: Asked<'_>,
     input: &mut I,
     output: &mut Output<O>,
-) -> Result<bool, Fault>
+) -> Result<Outcome, Fault>
     requires { output.old.has_failed ≡ false }
     ensures delivers { IfSome (I.remaining input.old) (λ bytes.
         Delivers (AnswersCommand asked.entry result bytes) result (O.contents output.old.writer)
@@ -77,9 +107,10 @@ fn answer_script<R: rt::Files + Threads + Wait + Sync, I: Read, O: Write>(
     script: Option<&str>,
     input: &mut I,
     output: &mut Output<O>,
-) -> Result<bool, Fault>
+) -> Result<Outcome, Fault>
     requires { output.old.has_failed ≡ false }
-    ensures delivers { IfSome (known_unless (is_some script.entry) (I.remaining input.old)) (λ bytes.
+    ensures delivers { IfSome (known_unless (is_some script.entry) (I.remaining input.old))
+        (λ bytes.
         Delivers (AnswersCommand asked.entry result bytes) result (O.contents output.old.writer)
         (O.contents output.new.writer)) }
     ensures finds { FindsIfAsked asked.entry result }
@@ -105,7 +136,8 @@ fn line_of(list: &[u8]) -> &[u8] {
 
 /// What a command asks for with this list of turns.
 fn with_turns<'a>(asked: Asked<'_>, turns: &'a [u8]) -> Asked<'a>
-    ensures { asks_left result ≡ asks_left asked.entry }
+    ensures left { asks_left result ≡ asks_left asked.entry }
+    ensures picture { asks_picture result ≡ asks_picture asked.entry }
 {
     match asked {
         Asked::Check => Asked::Check,
@@ -114,6 +146,11 @@ fn with_turns<'a>(asked: Asked<'_>, turns: &'a [u8]) -> Asked<'a>
         Asked::Fine { .. } => Asked::Fine { turns },
         Asked::Run => Asked::Run,
         Asked::Left { draws, .. } => Asked::Left { turns, draws },
+        Asked::Draw { is_fine, part, .. } => Asked::Draw {
+            turns,
+            is_fine,
+            part,
+        },
     }
 }
 
@@ -126,7 +163,7 @@ fn answer_turns<R: rt::Files + Threads + Wait + Sync, I: Read, O: Write>(
     script: Option<&str>,
     input: &mut I,
     output: &mut Output<O>,
-) -> Result<bool, Fault>
+) -> Result<Outcome, Fault>
     requires { output.old.has_failed ≡ false }
     ensures finds { FindsIfAsked asked.entry result }
     ensures failed { output.new.has_failed ≡ is_output result }
@@ -139,17 +176,20 @@ fn answer_turns<R: rt::Files + Threads + Wait + Sync, I: Read, O: Write>(
     answer_script(rt, alloc, asked, script, input, output)
 }
 
-/// The answer to a command line: of the script on the input, or of files that it names, of which nothing is known.
+/// The answer to a command line: of the script on the input, or of files that it names, of which
+/// nothing is known.
 pub(crate) fn answer_line<R: rt::Files + Threads + Wait + Sync, I: Read, O: Write>(
     rt: &R,
     alloc: Global,
     line: Line<'_>,
     input: &mut I,
     output: &mut Output<O>,
-) -> Result<bool, Fault>
+) -> Result<Outcome, Fault>
     requires { output.old.has_failed ≡ false }
-    ensures delivers { IfSome (known_unless (has_files line.entry.files) (I.remaining input.old)) (λ bytes.
-        Delivers (AnswersCommand line.entry.asked result bytes) result (O.contents output.old.writer)
+    ensures delivers { IfSome (known_unless (has_files line.entry.files) (I.remaining input.old))
+        (λ bytes.
+        Delivers (AnswersCommand line.entry.asked result bytes) result
+        (O.contents output.old.writer)
         (O.contents output.new.writer)) }
     ensures finds { FindsIfAsked line.entry.asked result }
     ensures failed { output.new.has_failed ≡ is_output result }

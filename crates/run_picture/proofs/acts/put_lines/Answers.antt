@@ -12,5 +12,7 @@ loop-line-preserved c =
     let t = string_bytes c.loop-line.text in
     let u = string_bytes c.put_words.new.text in
     let line = c.line-item.result in
-    shows_item line_words c.args.lines.now c.loop-line.line-index line a t u c.loop-line-test.true c.line-item.is c.loop-line.invariant
-    (shows_is t u c.as_bytes.result.now (string_bytes line) c.as_bytes.ensures.value c.in_ok-put_words.ensures)
+    shows_item line_words c.args.lines.now c.loop-line.line-index line a t u c.loop-line-test.true
+    c.line-item.is c.loop-line.invariant
+    (shows_is t u c.as_bytes.result.now (string_bytes line) c.as_bytes.ensures.value
+    c.in_ok-put_words.ensures)

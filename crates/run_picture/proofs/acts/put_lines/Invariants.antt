@@ -7,4 +7,5 @@ use Rattle.run_picture.proofs.acts.put_lines.Given as goal
 
 abbrev pub invariant-loop-line : goal.invariant-loop-line
 invariant-loop-line l =
-    Shows (string_bytes l.fn.text) (string_bytes l.text) (flat_map line_words (take l.line-index l.lines))
+    Shows (string_bytes l.fn.text) (string_bytes l.text)
+    (flat_map line_words (take l.line-index l.lines))

@@ -7,4 +7,5 @@ use Rattle.run_picture.proofs.acts.put_rows.Given as goal
 
 abbrev pub invariant-loop-row : goal.invariant-loop-row
 invariant-loop-row l =
-    Shows (string_bytes l.fn.text) (string_bytes l.text) (flat_map row_words (take l.row-index l.rows))
+    Shows (string_bytes l.fn.text) (string_bytes l.text)
+    (flat_map row_words (take l.row-index l.rows))

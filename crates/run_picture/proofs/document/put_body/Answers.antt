@@ -11,4 +11,5 @@ returns c =
     let t2 = string_bytes c.put_rows.new.text in
     let t3 = string_bytes c.put_bottom.new.text in
     shows_rows rows t0 t1 t2 t3 c.in_ok-put_top.ensures
-    (shows_list row_words c.as_slice.result.now rows t1 t2 c.as_slice.ensures.value c.in_ok-bottom.ensures) c.in_ok-put_bottom.ensures
+    (shows_list row_words c.as_slice.result.now rows t1 t2 c.as_slice.ensures.value
+    c.in_ok-bottom.ensures) c.in_ok-put_bottom.ensures

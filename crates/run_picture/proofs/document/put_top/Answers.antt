@@ -11,4 +11,5 @@ returns c =
     let t4 = string_bytes c.put_threads.new.text in
     draws_then t0 t1 t4 (draws_of t0 t1 _ c.in_ok-put_label.ensures.shows)
     (draws_then t1 t2 t4 (draws_of t1 t2 _ c.in_ok-put_words.ensures)
-    (draws_then t2 t3 t4 (draws_of t2 t3 _ c.in_ok-put_words-2.ensures) c.in_ok-put_threads.ensures))
+    (draws_then t2 t3 t4 (draws_of t2 t3 _ c.in_ok-put_words-2.ensures)
+    c.in_ok-put_threads.ensures))

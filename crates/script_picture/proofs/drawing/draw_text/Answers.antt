@@ -7,6 +7,7 @@ pub returns-clause-holds : goal.returns-clause-holds
 returns-clause-holds g c = (
   string_bytes c.in_ok-drawn.drawn.text,
   c.in_ok-drawn.ensures.told,
-  subst (λ (t : List ℕ). Appends (g.S.Sink.taken c.args.writer.now) (g.S.Sink.taken c.write_text.new.writer) t) c.as_bytes.ensures.value
+  subst (λ (t : List ℕ). Appends (g.S.Sink.taken c.args.writer.now)
+      (g.S.Sink.taken c.write_text.new.writer) t) c.as_bytes.ensures.value
       c.in_ok-write_text.ensures.writes,
 )

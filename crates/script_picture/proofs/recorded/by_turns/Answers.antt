@@ -1,7 +1,7 @@
 use Rattle.std.proofs.Common.{◌≡◌, ◌∙◌, ◌+◌, ℕ, ap, subst, sym}
 use Rattle.std.specs.Prelude.{◌≤◌, All}
 use Rattle.control_word.specs.declared.shape.Shape.{Shape}
-use Rattle.step_core.specs.Worlds.{Sight}
+use Rattle.step_core.specs.Worlds.{WorldState}
 use Rattle.script_text.specs.Beginnings.{script_shape}
 use Rattle.script_stepper.proofs.Overs.{at_end}
 use Rattle.script_stepper.proofs.StepLemmas.{same_blocks, same_shape}
@@ -18,8 +18,8 @@ invariant_of-result c =
     let u = c.in_ok-world.field-0.world in
     let v = c.record_turns.new.world in
     let run = c.in-Ok-record_turns.ensures.taken.taken.run in
-    let same : v.story.extent.shape ≡ script_shape c.args.script.now =
-    same_shape _ u v _ _ run ∙ ap (λ (x : Sight). x.story.extent.shape) c.in_ok-world.ensures.sight in
+    let same : v.ghost_state.extent.shape ≡ script_shape c.args.script.now =
+    same_shape _ u v _ _ run ∙ ap (λ (x : WorldState). x.ghost_state.extent.shape) c.in_ok-world.ensures.world_state in
     record {
       ended = at_end v run.rests c.in-Ok-record_turns.ensures.over;
       all = c.in_ok-world.ensures.blocks ∙ sym (same_blocks _ u v _ _ run);
@@ -30,5 +30,5 @@ invariant_of-result c =
 pub returns-in-Ok-record_turns-clause-ok : goal.returns-in-Ok-record_turns-clause-ok
 returns-in-Ok-record_turns-clause-ok c =
     turns_recorded c.args.script.now c.args.turns.now (shown_part c.args.order.part) c.in_ok-world.field-0.world c.record_turns.new.world
-    c.in-Ok.rows c.record_turns.new.rows c.in_ok-world.ensures.sight c.in_ok-world.ensures.kept c.in-Ok-record_turns.ensures.taken
+    c.in-Ok.rows c.record_turns.new.rows c.in_ok-world.ensures.world_state c.in-Ok-record_turns.ensures.taken
     c.in-Ok-record_turns.ensures.over c.in-Ok.ensures.none c.in-Ok.ensures.part

@@ -13,6 +13,8 @@ add_line-requires-2 c = few_over c.args.thread c.args.said.statement c.args.said
 
 pub returns : goal.returns
 returns c =
-    both_lines c.args.thread c.args.said (map bytes_of c.new-lines.result.items) (map bytes_of c.add_line.new.lines.items)
-    (map bytes_of c.add_line-2.new.lines.items) (ap (λ (l : List (String Global)). map bytes_of l) c.new-lines.ensures.items)
+    both_lines c.args.thread c.args.said (map bytes_of c.new-lines.result.items)
+    (map bytes_of c.add_line.new.lines.items)
+    (map bytes_of c.add_line-2.new.lines.items)
+    (ap (λ (l : List (String Global)). map bytes_of l) c.new-lines.ensures.items)
     c.in_ok-add_line.ensures c.in_ok-add_line-2.ensures

@@ -9,17 +9,26 @@ use Rattle.script_picture.proofs.Stepping.{adds_step}
 use Rattle.script_picture.proofs.running.record_steps.Goals as goal
 
 nothing : TraceStep
-nothing = record { actor = 0; stepped = Event (record { statement = 0; answer = None; ended = None }) }
+nothing = record {
+  actor = 0;
+  stepped = Event (record { statement = 0; answer = None; ended = None });
+}
 
 pub loop-step-init : goal.loop-step-init
-loop-step-init c = record { adds = adds_none c.args.rows.now; actors = refl; blocks = c.requires.blocks }
+loop-step-init c = record {
+  adds = adds_none c.args.rows.now;
+  actors = refl;
+  blocks = c.requires.blocks;
+}
 
 pub take_step-requires-clause-actor : goal.take_step-requires-clause-actor
 unfolding nothing
 take_step-requires-clause-actor c =
     let here : c.loop-step.step-index < length c.args.steps.now = omega arith in
-    subst (λ (n : ℕ). NamesActor n (get_or c.args.steps.now c.loop-step.step-index nothing).actor) (sym c.loop-step.invariant.actors)
-    (All-get_or (λ (x : TraceStep). NamesActor (length c.args.world.now.walks) x.actor) c.args.steps.now c.loop-step.step-index nothing here
+    subst (λ (n : ℕ). NamesActor n (get_or c.args.steps.now c.loop-step.step-index nothing).actor)
+    (sym c.loop-step.invariant.actors)
+    (All-get_or (λ (x : TraceStep). NamesActor (length c.args.world.now.frame_views) x.actor)
+    c.args.steps.now c.loop-step.step-index nothing here
     c.requires.actors)
 
 pub loop-step-preserved : goal.loop-step-preserved
@@ -32,7 +41,9 @@ loop-step-preserved c =
     let extent = ap (λ (x : Extent). x.shape.blocks) e.extent in
     let before = i.blocks in
     record {
-      adds = adds_step c.args.steps.now c.loop-step.step-index nothing c.args.rows.now c.loop-step.rows c.take_step.new.rows here i.adds e.adds;
+      adds =
+          adds_step c.args.steps.now c.loop-step.step-index nothing c.args.rows.now c.loop-step.rows
+          c.take_step.new.rows here i.adds e.adds;
       actors = e.actors ∙ i.actors;
       blocks = omega (arith, blocks, extent, before);
     }

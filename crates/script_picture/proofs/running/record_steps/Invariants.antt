@@ -6,6 +6,6 @@ use Rattle.script_picture.proofs.running.record_steps.Given as goal
 abbrev pub invariant-loop-step : goal.invariant-loop-step
 invariant-loop-step l = record {
   adds : Adds (flat_map step_items (take l.step-index l.steps)) l.fn.rows l.rows;
-  actors : length l.world.walks ≡ length l.fn.world.walks;
-  blocks : l.rows.source.blocks ≤ l.world.story.extent.shape.blocks;
+  actors : length l.world.frame_views ≡ length l.fn.world.frame_views;
+  blocks : l.rows.source.blocks ≤ l.world.ghost_state.extent.shape.blocks;
 }

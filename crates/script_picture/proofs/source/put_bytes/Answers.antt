@@ -8,5 +8,6 @@ loop-byte-init c = goes_none (string_bytes c.args.text.now)
 
 pub loop-byte-preserved : goal.loop-byte-preserved
 loop-byte-preserved c =
-    goes_both [] (string_bytes c.args.text.now) (string_bytes c.loop-byte.text) (string_bytes c.put_byte.new.text) c.loop-byte.invariant
+    goes_both [] (string_bytes c.args.text.now) (string_bytes c.loop-byte.text)
+    (string_bytes c.put_byte.new.text) c.loop-byte.invariant
     c.in_ok-put_byte.ensures

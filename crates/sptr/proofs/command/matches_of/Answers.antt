@@ -8,11 +8,13 @@ pub returns-clause-matches : goal.returns-clause-matches
 returns-clause-matches g c =
     let is = c.in_ok-command.ensures in
     IfOk-weaker c.try_get_matches_from.result _ _ (λ m h.
-    (h (ap is_simple is ∙ program_is_simple)).1 ∙ ap (λ (a : App). subcommand_of a (map g.S.AsStr.text c.args.words.now)) is)
+    (h (ap is_simple is ∙ program_is_simple)).1
+    ∙ ap (λ (a : App). subcommand_of a (map g.S.AsStr.text c.args.words.now)) is)
     c.try_get_matches_from.ensures.matches
 
 pub returns-clause-kinds : goal.returns-clause-kinds
 returns-clause-kinds g c =
     let is = c.in_ok-command.ensures in
-    subst (λ (a : App). FailsBy (fault_of a (map g.S.AsStr.text c.args.words.now)) c.try_get_matches_from.result) is
+    subst (λ (a : App). FailsBy (fault_of a (map g.S.AsStr.text c.args.words.now))
+    c.try_get_matches_from.result) is
     (c.try_get_matches_from.ensures.kinds (ap is_simple_and_free is ∙ program_is_free))

@@ -6,4 +6,6 @@ use Rattle.sptr.proofs.Programs.{is_some_text}
 use Rattle.sptr.proofs.command.word_of.Goals as goal
 
 pub returns : goal.returns
-returns c = is_some_text c.get_str.result ∙ ap is_some (c.get_str.ensures ∙ first_value-rows (found_of c.args.given.now) c.args.id.now)
+returns c =
+    is_some_text c.get_str.result ∙ ap is_some
+    (c.get_str.ensures ∙ first_value-rows (found_of c.args.given.now) c.args.id.now)

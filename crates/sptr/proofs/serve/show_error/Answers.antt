@@ -4,4 +4,11 @@ use Rattle.sptr.proofs.serve.show_error.Goals as goal
 
 pub returns-in-Err-clause-shows : goal.returns-in-Err-clause-shows
 returns-in-Err-clause-shows g c =
-    record { text = []; answer = Err Memory; writes = refl; says = c.refuse.ensures.status; fails = c.requires; reports = c.refuse.ensures.line }
+    record {
+      text = [];
+      answer = Err Memory;
+      writes = refl;
+      says = c.refuse.ensures.status;
+      fails = c.requires;
+      reports = c.refuse.ensures.line;
+    }

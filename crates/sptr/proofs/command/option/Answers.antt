@@ -1,7 +1,0 @@
-use Rattle.std.proofs.Common.{rules}
-use Rattle.sptr.specs.CommandLine.{option_rule}
-use Rattle.sptr.proofs.command.option.Goals as goal
-
-pub returns-clause-rule : goal.returns-clause-rule
-unfolding option_rule
-returns-clause-rule c = search rules
