@@ -2,39 +2,57 @@
 use Rattle.std.proofs.Common.{◌≡◌, ℕ, ◌+◌, ◌-◌, ◌<◌, ◌≤◌, List, [], ◌∷◌, ◌++◌, replicate, length, get_or, refl, sym, subst, arith, take}
 use Rattle.std.specs.Prelude.{Option}
 use Rattle.std.specs.List.{flat_map}
-use Rattle.std.proofs.lemmas.List.{replicate_more, take_more}
+use Rattle.std.proofs.lemmas.List.{append-nil, replicate_more, take_more}
 use Rattle.step_threads.specs.declared.said.Said.{Said}
 use Rattle.step_core.specs.Worlds.{WorldState, abstraction}
 use Rattle.script_text.specs.Grammar.{ended}
 use Rattle.script_stepper.specs.Lines.{item_lines}
-use Rattle.script_stepper.specs.Running.{AllRest, HasRun, IsThread, heard, turns_left}
+use Rattle.script_stepper.specs.Running.{AllRest, IsThread, heard, turns_left}
 use Rattle.script_stepper.proofs.OneTurn.{Turn, turn_run}
-use Rattle.script_stepper.proofs.RunLemmas.{run_none, run_then, run_thread}
+use Rattle.script_stepper.proofs.RunLemmas.{run_thread, takes_then}
 use Rattle.script_stepper.proofs.StepLemmas.{same_blocks}
 use Rattle.script_picture.specs.declared.recording.Rows.{Rows}
 use Rattle.script_picture.specs.Recording.{Adds, HasTaken, TakesAlone}
 use Rattle.script_picture.proofs.Recordings.{adds_none, adds_then}
 
--- a run whose text begins elsewhere
-moved : (turns : List ℕ) (u v : WorldState) (a b z : List ℕ) (h : HasRun turns u v a b)
-    → HasRun turns u v z (z ++ ended (flat_map item_lines h.items))
-moved turns u v a b z h = record { rests = h.rests; items = h.items; takes = h.takes; text_is = refl; most = h.most }
-
 -- a turn, and what it said
-pub taken_turn : (thread : ℕ) (u u' : WorldState) (x : Option Said) (r r' : Rows) → Turn thread u u' x → Adds (heard thread x) r r'
-    → HasTaken (thread ∷ []) u u' r r'
+pub taken_turn : (thread : ℕ) (u u' : WorldState) (x : Option Said) (r r' : Rows) → Turn thread u u' x
+    → Adds (heard thread x) r r' → HasTaken (thread ∷ []) u u' r r'
 taken_turn thread u u' x r r' t adds =
-    record { text = ended (flat_map item_lines (heard thread x)); run = turn_run thread u u' x [] _ t refl; adds = adds }
+    record {
+      text = ended (flat_map item_lines (heard thread x));
+      run = record {
+        rests = t.rests;
+        items = heard thread x;
+        takes = (heard thread x, [], abstraction u', t.takes, (refl, refl), sym (append-nil (heard thread x)));
+        text_is = refl;
+        most = (turn_run thread u u' x [] _ t refl).most;
+      };
+      adds = adds;
+    }
 
 -- no turn
 pub taken_none : (u : WorldState) (r : Rows) → AllRest u → HasTaken [] u u r r
-taken_none u r rests = record { text = []; run = run_none u [] rests; adds = adds_none r }
+taken_none u r rests =
+    record {
+      text = [];
+      run = record { rests = rests; items = []; takes = (refl, refl); text_is = refl; most = λ d. omega arith };
+      adds = adds_none r;
+    }
 
-pub taken_then : (xs ys : List ℕ) (u v w : WorldState) (r m s : Rows) → HasTaken xs u v r m → HasTaken ys v w m s → HasTaken (xs ++ ys) u w r s
+pub taken_then : (xs ys : List ℕ) (u v w : WorldState) (r m s : Rows) → HasTaken xs u v r m
+    → HasTaken ys v w m s → HasTaken (xs ++ ys) u w r s
 taken_then xs ys u v w r m s p q =
     record {
-      text = p.text ++ ended (flat_map item_lines q.run.items);
-      run = run_then xs ys u v w [] p.text _ p.run (moved ys v w [] q.text p.text q.run);
+      text = ended (flat_map item_lines (p.run.items ++ q.run.items));
+      run = record {
+        rests = q.run.rests;
+        items = p.run.items ++ q.run.items;
+        takes = takes_then xs ys (abstraction u) (abstraction v) (abstraction w) p.run.items q.run.items p.run.takes
+            q.run.takes;
+        text_is = refl;
+        most = λ d. let l = p.run.most d in let m = q.run.most d in omega (arith, l, m);
+      };
       adds = adds_then p.run.items q.run.items r m s p.adds q.adds;
     }
 
