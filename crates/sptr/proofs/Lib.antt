@@ -8,4 +8,4 @@ pub mod PlainTurns
 pub mod Plainly
 pub mod Programs
 pub mod Reporting
-pub mod FrameViews
+pub mod Walks

@@ -14,7 +14,7 @@ use Rattle.clap.specs.declared.parser.matches.ArgMatches.{ArgMatches}
 use Rattle.clap.specs.declared.parser.matches.ArgMatches.TheViews.{out-ArgMatches, out-SubCommand}
 use Rattle.clap.specs.declared.parser.matches.SubCommand.{SubCommand}
 use Rattle.sptr.proofs.OnLiterals.{lines, sptr_on_literals}
-use Rattle.sptr.proofs.FrameViews.{enters_own}
+use Rattle.sptr.proofs.Walks.{enters_own}
 use Rattle.script_picture.specs.declared.part.Part.{Part}
 use Rattle.sptr.specs.CommandLine.{AsksFor, IsAskedBy, command_named, count_in, draw_line}
 use Rattle.sptr.specs.CommandLine.{left_line, part_given}

@@ -9,12 +9,12 @@ use Rattle.std.proofs.lemmas.Slice.Eq.{bytes_eq-Decides}
 use Rattle.clap.specs.Words.{App, Kinds, Row, Rule, Shape, Text}
 use Rattle.clap.specs.Lexer.{long_of, short_of}
 use Rattle.clap.specs.Kinds.{check_kinds, or_else}
-use Rattle.clap.specs.FrameView.{Held, Names, Outcome, Step, Waiting, FrameView, after_flag, after_step}
-use Rattle.clap.specs.FrameView.{answers_to, arg_by_index, done, finished, idle, long_or_other, next}
-use Rattle.clap.specs.FrameView.{nothing_held, option, plain, plain_word, positional, refused, settled}
-use Rattle.clap.specs.FrameView.{short_or_plain, stop_after, subcommand, subcommand_met}
-use Rattle.clap.specs.FrameView.{subcommand_or_other, to_positional, trailing, value, waits, walk}
-use Rattle.clap.specs.FrameView.{walk_from, walked, walked_from, word_met}
+use Rattle.clap.specs.Walk.{Held, Names, Outcome, Step, Waiting, Walk, after_flag, after_step}
+use Rattle.clap.specs.Walk.{answers_to, arg_by_index, done, finished, idle, long_or_other, next}
+use Rattle.clap.specs.Walk.{nothing_held, option, plain, plain_word, positional, refused, settled}
+use Rattle.clap.specs.Walk.{short_or_plain, stop_after, subcommand, subcommand_met}
+use Rattle.clap.specs.Walk.{subcommand_or_other, to_positional, trailing, value, waits, walk}
+use Rattle.clap.specs.Walk.{walk_from, walked, walked_from, word_met}
 use Rattle.clap.specs.Simple.{entered, label_of, names_of, rows_at}
 use Rattle.clap.specs.Facts.{explicit_source}
 use Rattle.clap.specs.Takes.{is_given}
@@ -105,12 +105,12 @@ own_word s names false w position word h d e =
 
 -- ---- the walk
 
-own_value : (c : List Rule) (a : Option Rule) (word : Text) (w : FrameView) (h : Held) → IsOwn w.stopped
+own_value : (c : List Rule) (a : Option Rule) (word : Text) (w : Walk) (h : Held) → IsOwn w.stopped
     → IsOwn (to_positional c a word w h).stopped
 own_value c None word w h own = own
 own_value c (Some a) word w h own = tt
 
-own_after : (c : List Rule) (word : Text) (w : FrameView) (h : Held) (step : Step) → IsOwnStep step
+own_after : (c : List Rule) (word : Text) (w : Walk) (h : Held) (step : Step) → IsOwnStep step
     → IsOwn w.stopped
     → IsOwn (after_step c word w h step).stopped
 own_after c word w h (next waiting) here own = own
@@ -118,7 +118,7 @@ own_after c word w h (trailing position) here own = own
 own_after c word w h (subcommand name) here own = here
 own_after c word w h value here own = own_value c (arg_by_index c w.position) word w h own
 
-own_from : (s : Shape) (names : Names) (stop : Option (Text × List Text)) (w : FrameView) (word : Text)
+own_from : (s : Shape) (names : Names) (stop : Option (Text × List Text)) (w : Walk) (word : Text)
     (later : Kinds) → s.disable_help_subcommand ≡ false
     → IsOwn stop → IsOwn w.stopped → (if is_some stop then [] else or_else
     (word_fault s names w.is_trailing w.waiting word w.held) later) ≡ []
@@ -128,13 +128,13 @@ own_from s names None w word later d here own e =
     own_after s.rules word w _ _ (own_word s names w.is_trailing w.waiting w.position word w.held d
     (first_none _ later e)) own
 
-own_walked : (s : Shape) (names : Names) (w : FrameView) (word : Text)
+own_walked : (s : Shape) (names : Names) (w : Walk) (word : Text)
     → s.disable_help_subcommand ≡ false → IsOwn w.stopped
     → turn_fault s names w word ≡ [] → IsOwn (walked s.rules names w word).stopped
 unfolding walked
 own_walked s names w word d own e = own_from s names w.stopped w word _ d own own e
 
-own_walk : (s : Shape) (names : Names) (words : List Text) (w : FrameView)
+own_walk : (s : Shape) (names : Names) (words : List Text) (w : Walk)
     → s.disable_help_subcommand ≡ false → IsOwn w.stopped
     → walk_fault s names w words ≡ [] → IsOwn (fold (walked s.rules names) w words).stopped
 unfolding walk_fault
