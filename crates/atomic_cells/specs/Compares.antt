@@ -2,7 +2,7 @@
 use Rattle.std.specs.Prelude.{◌≡◌, Bool, cond, List, true, false, Option}
 use Rattle.control_word.specs.declared.model.event.Cell.{Cell}
 use Rattle.control_word.specs.declared.model.event.Event.TheVariants.{Compare}
-use Rattle.control_word.specs.declared.model.handle.Handle.{Handle}
+use Rattle.control_word.specs.declared.model.handle.NumberedHandle.{NumberedHandle}
 use Rattle.control_word.specs.declared.model.handle.Kind.{Kind}
 use Rattle.control_word.specs.declared.place.Block.{Block}
 use Rattle.control_word.specs.declared.place.Place.{Place}
@@ -27,7 +27,7 @@ GivesBackDesired d (Differs held desired) = desired ≡ d
 
 -- a bag after a compare: where it swapped, (b, p) went out of it; and what the cell held, (c, q), is in it
 abbrev pub bag_compared : Bool → Kind → Option Block → Option Place → Option Block → Option Place
-    → List Handle → List Handle
+    → List NumberedHandle → List NumberedHandle
 bag_compared swapped k b p c q l = with_handle k c q (cond swapped (without_handle k b p l) l)
 
 module _ {V : Type 0} where

@@ -131,8 +131,13 @@ impl<'a> SharedAt<'a> {
         ensures count { endings_of desk.new ≡ endings_of desk.old + more_ending result }
         ensures apart { IsApart desk.old result }
     {
-        let site = self.cell().site;
-        let (old, value) = store_calls::store_shared::<V, Brand>(domain, desk, site, handle);
-        Left::of_parts(old.block, value)
+        let (block, place) = handle.into_parts();
+        let new = Content {
+            kind: Kind::Owner,
+            block,
+            place,
+        };
+        let (old, released) = store_calls::store::<V, Brand>(domain, desk, self.cell().site, new);
+        Left::of_parts(old.block, released.value)
     }
 }

@@ -12,7 +12,7 @@ use crate::compared::Compared;
 use crate::shared_at::SharedAt;
 use control_block::cell_calls::{Content, Offer};
 use control_block::cell_compare_calls;
-use control_block::cell_plays::Aimed;
+use control_block::cell_step_kinds::CellArgs;
 use control_block::desk::Desk;
 use control_block::domain::Domain;
 use control_word::model::handle::Kind;
@@ -22,7 +22,7 @@ use std::marker::Brand;
 use std::sync::Wait;
 
 impl<'a> SharedAt<'a> {
-    fn compare_as<V: Drop, A: Aimed, R: Wait>(
+    fn compare_as<V: Drop, A: CellArgs, R: Wait>(
         &self,
         rt: &R,
         domain: &Domain<V>,

@@ -141,11 +141,14 @@ impl<'a> WeakAt<'a> {
         ensures endings { KeepsEndings desk.old desk.new }
         ensures count { endings_of desk.new ≡ endings_of desk.old }
     {
+        let (block, place) = handle.into_parts();
+        let new = Content {
+            kind: Kind::Weak,
+            block,
+            place,
+        };
         let site = self.cell(domain).site;
-        let (old, _) = store_calls::store_weak::<V, Brand>(domain, desk, site, handle);
-        match old.block {
-            None => Left::Empty,
-            Some(_) => Left::Others,
-        }
+        let (old, released) = store_calls::store::<V, Brand>(domain, desk, site, new);
+        Left::of_parts(old.block, released.value)
     }
 }

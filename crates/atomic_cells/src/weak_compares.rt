@@ -11,7 +11,7 @@ ghost use Rattle.atomic_cells.specs.Sites.{IsOpenWeakly, weak_cell};
 use crate::compared::Compared;
 use crate::weak_at::WeakAt;
 use control_block::cell_calls::{Content, Offer};
-use control_block::cell_plays::Aimed;
+use control_block::cell_step_kinds::CellArgs;
 use control_block::desk::Desk;
 use control_block::domain::Domain;
 use control_block::{cell_compare_calls, handles};
@@ -21,7 +21,7 @@ use std::marker::Brand;
 use std::sync::Wait;
 
 impl<'a> WeakAt<'a> {
-    fn compare_as<V: Drop, A: Aimed, R: Wait>(
+    fn compare_as<V: Drop, A: CellArgs, R: Wait>(
         &self,
         rt: &R,
         domain: &Domain<V>,

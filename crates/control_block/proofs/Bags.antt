@@ -13,16 +13,16 @@ use Rattle.control_word.specs.Histories.{IsLegal, leads}
 use Rattle.control_word.specs.State.{Has, Held, Opening, State, bag, held, same_held, without}
 use Rattle.control_word.specs.Words.{blocks_of}
 use Rattle.control_word.specs.declared.model.event.Entry.{Entry}
-use Rattle.control_word.specs.declared.model.handle.Handle.{Handle}
+use Rattle.control_word.specs.declared.model.handle.NumberedHandle.{NumberedHandle}
 use Rattle.control_word.specs.declared.model.handle.Kind.{Kind}
 use Rattle.control_word.specs.declared.place.Place.{Place}
 use Rattle.control_block.specs.Desks.{by_block, in_block}
 
 -- what a bag is seen as
-abbrev pub seen_as : State → Held → Handle
+abbrev pub seen_as : State → Held → NumberedHandle
 seen_as s x = by_block (blocks_of s) x.handle
 
-abbrev pub shown : State → ℕ → List Handle
+abbrev pub shown : State → ℕ → List NumberedHandle
 shown s n = map (seen_as s) (bag s n)
 
 has_map : {A B : Type 0} (f : A → B) (y : B) (l : List A) → Has y (map f l) → (x : A) × Has x l × (f x ≡ y)
@@ -56,10 +56,10 @@ module _ {V : Type 0} where
       let s = leads z h in
       let t = has_map (seen_as s) (handle k (Some b) p) (bag s n) has in let x = t.0 in
       let mine = part_has (λ (y : Held). y.desk) n x s.hands t.1 in
-      let o = some_of (blocks_of s) x.handle.object b (ap (λ (y : Handle). y.object) t.2) in
+      let o = some_of (blocks_of s) x.handle.object b (ap (λ (y : NumberedHandle). y.object) t.2) in
       let is : x ≡ held n (handle k (Some o.0) p) = λ i. record {
         desk = mine.1 i;
-        handle = record { kind = ap (λ (y : Handle). y.kind) t.2 i; object = o.1 i; place = ap (λ (y : Handle). y.place) t.2 i };
+        handle = record { kind = ap (λ (y : NumberedHandle). y.kind) t.2 i; object = o.1 i; place = ap (λ (y : NumberedHandle). y.place) t.2 i };
       } in
       let there : Has (held n (handle k (Some o.0) p)) s.hands = subst (λ y. Has y s.hands) is mine.0 in
       let last : s.latest b ≡ o.0 = ap s.latest (sym o.2) ∙ (names_an_object z h legal n k (handle k (Some o.0) p) (there, refl, refl)).2 in (
@@ -127,5 +127,5 @@ module _ {V : Type 0} where
           && (same_number (Some (s.object o).block) (in_block (blocks_of s) (sym e i)) && same_place p y.handle.place)))
 
 -- the first handle is taken out
-pub taken_out : (h : Handle) (l : List Handle) → without same_handle h (h ∷ l) ≡ l
+pub taken_out : (h : NumberedHandle) (l : List NumberedHandle) → without same_handle h (h ∷ l) ≡ l
 taken_out h l = cond-true (same_handle h h) l (h ∷ without same_handle h l) (handle_self h)

@@ -32,8 +32,8 @@ use Rattle.control_word.specs.declared.model.event.Event.TheVariants.{Shelve, Un
 use Rattle.control_word.specs.declared.model.handle.Kind.TheVariants.{Owner}
 use Rattle.control_word.specs.declared.shape.Shape.{Shape}
 use Rattle.control_block.specs.Rule.{Ruled, opening_of}
-use Rattle.control_block.specs.CellPlays.{IsCellAt, kind_in}
-use Rattle.control_block.specs.declared.board.Sight.{Sight}
+use Rattle.control_block.specs.CellStepKinds.{IsCellAt, kind_in}
+use Rattle.control_block.specs.declared.table.SeatView.{SeatView}
 use Rattle.control_block.proofs.Passage.{held_there, point, ready}
 
 -- cells with one word are one
@@ -75,7 +75,7 @@ module _ {V : Type 0} where
   shared_led z [] = refl
   shared_led z (e ∷ h) = shared_after (leads z h) e.desk e.event ∙ shared_led z h
 
-  module _ (k : Shape) (s : Table.State (Option V) (Sight V)) (r : Ruled k s) (id : ℕ) (v : Sight V) (at : get_elem? s.views id ≡ some v)
+  module _ (k : Shape) (s : Table.State (Option V) (SeatView V)) (r : Ruled k s) (id : ℕ) (v : SeatView V) (at : get_elem? s.views id ≡ some v)
       (awake : v.view.spent ≡ false) where
     -- the cell is there, and its word is this one
     pub record Opened (c : Cell) (i : ℕ) : Type 0 where

@@ -17,7 +17,7 @@ use Rattle.control_word.specs.declared.model.event.Event.{Event}
 use Rattle.control_word.specs.declared.model.event.Event.TheVariants.{ClearMember, Compare, Count, Expired, Finish, Join, Leave, Load, Lock, Make, Read}
 use Rattle.control_word.specs.declared.model.event.Event.TheVariants.{Share, Split, Swap, Visit, WeakLeave, WeakShare}
 use Rattle.control_word.specs.declared.model.event.Event.TheVariants.{Shelve, Unshelve}
-use Rattle.control_word.specs.declared.model.handle.Handle.{Handle}
+use Rattle.control_word.specs.declared.model.handle.NumberedHandle.{NumberedHandle}
 use Rattle.control_word.specs.declared.model.handle.Kind.TheVariants.{Owner}
 use Rattle.control_word.specs.declared.place.Block.{Block}
 use Rattle.control_block.specs.Desks.{ends_with, many_ending}
@@ -87,7 +87,7 @@ module _ (z : Opening) (s : State) (n : ℕ) (fine : Sound z s) where
       λ i. sum_below z.blocks (λ j. ends_with n ((objects i) ((latest i) (suc j))).phase) in
       omega arith
 
-  pub leave_count : (d : ℕ) (h : Handle) (last : Bool) → Holds s d Owner h
+  pub leave_count : (d : ℕ) (h : NumberedHandle) (last : Bool) → Holds s d Owner h
       → many_ending z.blocks (leaves d h last s) n ≡ many_ending z.blocks s n + cond last (cond (d == n) 1 0) 0
   leave_count d h last asks =
       let o = object_of h in let x = s.object o in let alive = owner_lives z s d h fine asks in

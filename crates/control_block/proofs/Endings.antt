@@ -20,7 +20,7 @@ use Rattle.control_word.specs.declared.model.event.Event.{Event}
 use Rattle.control_word.specs.declared.model.event.Event.TheVariants.{ClearMember, Compare, Count, Expired, Finish, Join, Leave, Load, Lock, Make, Read}
 use Rattle.control_word.specs.declared.model.event.Event.TheVariants.{Share, Split, Swap, Visit, WeakLeave, WeakShare}
 use Rattle.control_word.specs.declared.model.event.Event.TheVariants.{Shelve, Unshelve}
-use Rattle.control_word.specs.declared.model.handle.Handle.{Handle}
+use Rattle.control_word.specs.declared.model.handle.NumberedHandle.{NumberedHandle}
 use Rattle.control_word.specs.declared.model.handle.Kind.TheVariants.{Owner}
 
 -- one object for another, but for its number
@@ -51,19 +51,19 @@ alike_is : (x y : Object) → y ≡ x → Alike x y
 alike_is x y e = subst (λ w. Alike x w) (sym e) (alike x)
 
 -- a handle that goes into a cell moves no object
-pub fills_phase : (s : State) (c : Cell) (h : Handle) (o : ℕ) → ((fills c h s).object o).phase ≡ (s.object o).phase
+pub fills_phase : (s : State) (c : Cell) (h : NumberedHandle) (o : ℕ) → ((fills c h s).object o).phase ≡ (s.object o).phase
 fills_phase s (Free c) h o = refl
 fills_phase s (Member q m) h o =
     put_cases (λ i x. x.phase ≡ (s.object i).phase) s.object q (record (s.object q) { member = put (s.object q).member m h }) o
     (λ e. ap (λ i. (s.object i).phase) (sym e)) (λ n. refl)
 
-pub fills_block : (s : State) (c : Cell) (h : Handle) (o : ℕ) → ((fills c h s).object o).block ≡ (s.object o).block
+pub fills_block : (s : State) (c : Cell) (h : NumberedHandle) (o : ℕ) → ((fills c h s).object o).block ≡ (s.object o).block
 fills_block s (Free c) h o = refl
 fills_block s (Member q m) h o =
     put_cases (λ i x. x.block ≡ (s.object i).block) s.object q (record (s.object q) { member = put (s.object q).member m h }) o
     (λ e. ap (λ i. (s.object i).block) (sym e)) (λ n. refl)
 
-pub fills_latest : (s : State) (c : Cell) (h : Handle) → (fills c h s).latest ≡ s.latest
+pub fills_latest : (s : State) (c : Cell) (h : NumberedHandle) → (fills c h s).latest ≡ s.latest
 fills_latest s (Free c) h = refl
 fills_latest s (Member q m) h = refl
 
@@ -80,7 +80,7 @@ handed_other : (other e d : ℕ) (p : Phase) → p ≡ ending d → other ≢ d 
 handed_other other e d p is n =
     subst (λ q. handed other e q ≡ q) (sym is) (ap ending (cond-false _ e d (Rattle.std.proofs.Common.ne_eqb d other (λ q. n (sym q)))))
 
-pub owner_lives : (z : Opening) (s : State) (d : ℕ) (h : Handle) → Sound z s → Holds s d Owner h → (s.object (object_of h)).phase ≡ live
+pub owner_lives : (z : Opening) (s : State) (d : ℕ) (h : NumberedHandle) → Sound z s → Holds s d Owner h → (s.object (object_of h)).phase ≡ live
 owner_lives z s d h fine holds =
     counted_live z s (object_of h) fine (owner_counted s d (object_of h) h.place (written s.hands d Owner h holds.0 holds.1 holds.2))
 
@@ -90,11 +90,11 @@ pub record Stays (s t : State) (b : ℕ) : Type 0 where
   pub object : Alike (s.object (s.latest b)) (t.object (s.latest b))
 
 module _ (z : Opening) (s : State) (b d : ℕ) (fine : Sound z s) (ends : (s.object (s.latest b)).phase ≡ ending d) where
-  pub not_live : (h : Handle) (c : ℕ) → Holds s c Owner h → s.latest b ≢ object_of h
+  pub not_live : (h : NumberedHandle) (c : ℕ) → Holds s c Owner h → s.latest b ≢ object_of h
   not_live h c holds q = ends_live d (sym ends ∙ (ap (λ o. (s.object o).phase) q ∙ owner_lives z s c h fine holds))
 
   -- a member that is open is that of another object
-  pub not_filled : (e q c : ℕ) (x : Handle) → IsOpen s e (Member q c) → Alike (s.object (s.latest b)) ((fills (Member q c) x s).object (s.latest b))
+  pub not_filled : (e q c : ℕ) (x : NumberedHandle) → IsOpen s e (Member q c) → Alike (s.object (s.latest b)) ((fills (Member q c) x s).object (s.latest b))
   not_filled e q c x open' =
       let u = s.object q in
       alike_is _ _ (put_other s.object q (record u { member = put u.member c x }) (s.latest b)

@@ -11,7 +11,7 @@ use Rattle.std.specs.List.{filter, sum_by}
 use Rattle.control_word.proofs.lists.Tallies.{handle_self, num, num_cons, same_handle_true}
 use Rattle.control_word.specs.Handles.{handle, has_object, same_handle}
 use Rattle.control_word.specs.State.{Has, without}
-use Rattle.control_word.specs.declared.model.handle.Handle.{Handle}
+use Rattle.control_word.specs.declared.model.handle.NumberedHandle.{NumberedHandle}
 use Rattle.control_word.specs.declared.model.handle.Kind.{Kind}
 use Rattle.control_word.specs.declared.model.handle.Kind.TheVariants.{Owner, Weak}
 use Rattle.control_word.specs.declared.place.Block.{Block}
@@ -23,33 +23,33 @@ use Rattle.control_block.specs.Parting.{AreIn, HoldsAll, as_listed, listed, numb
 use Rattle.control_block.specs.declared.handles.Held.{Held}
 use Rattle.control_block.specs.declared.handles.Held.TheVariants as held
 use Rattle.control_block.proofs.Bags.{taken_out}
-use Rattle.control_block.proofs.PartingCounts.{are_in, both_in, counted}
+use Rattle.control_block.proofs.partings.PartingCounts.{are_in, both_in, counted}
 use Rattle.control_block.proofs.PartingLists.{length_without}
 use Rattle.control_block.proofs.PartingSplit.{few_listed}
 
 -- n handles, of which these have an object, are among those of a bag and as many more as are counted
-abbrev Covers : ℕ → List Handle → List Handle → ℕ → Type 0
+abbrev Covers : ℕ → List NumberedHandle → List NumberedHandle → ℕ → Type 0
 Covers n l bag m = AreIn l bag × (n - length l ≤ m - length bag)
 
 -- what is listed with one handle more
-abbrev listed_more : Kind → Option Block → Option Place → List Handle → List Handle
+abbrev listed_more : Kind → Option Block → Option Place → List NumberedHandle → List NumberedHandle
 listed_more k b p l = let h = handle k (number_of_block b) p in cond (has_object h) (h ∷ l) l
 
-covers_more : (k : Kind) (b : Option Block) (p : Option Place) (n : ℕ) (l bag : List Handle) (m : ℕ) → Covers n l bag m
+covers_more : (k : Kind) (b : Option Block) (p : Option Place) (n : ℕ) (l bag : List NumberedHandle) (m : ℕ) → Covers n l bag m
     → length bag ≤ m → length l ≤ n
     → Covers (suc n) (listed_more k b p l) (with_handle k b p bag) (m + 1)
 covers_more k None p n l bag m c few le = let x = c.1 in (c.0, omega arith)
 covers_more k (Some b) p n l bag m c few le =
     let h = handle k (Some b.0) p in let x = c.1 in ((inl refl, subst (AreIn l) (sym (taken_out h bag)) c.0), omega arith)
 
-covers_less : (k : Kind) (b : Option Block) (p : Option Place) (n : ℕ) (l bag : List Handle) (m : ℕ) → Covers (suc n) (listed_more k b p l) bag (m + 1)
+covers_less : (k : Kind) (b : Option Block) (p : Option Place) (n : ℕ) (l bag : List NumberedHandle) (m : ℕ) → Covers (suc n) (listed_more k b p l) bag (m + 1)
     → length l ≤ n → Covers n l (without_handle k b p bag) m
 covers_less k None p n l bag m c le = let x = c.1 in (c.0, omega arith)
 covers_less k (Some b) p n l bag m c le =
     let h = handle k (Some b.0) p in let x = c.1 in
     let less = length_without same_handle same_handle_true handle_self h bag c.0.0 in (c.0.1, omega arith)
 
-covers_rest : (k : Kind) (b : Option Block) (p : Option Place) (n : ℕ) (l bag : List Handle) (m : ℕ) → Covers (suc n) (listed_more k b p l) bag m
+covers_rest : (k : Kind) (b : Option Block) (p : Option Place) (n : ℕ) (l bag : List NumberedHandle) (m : ℕ) → Covers (suc n) (listed_more k b p l) bag m
     → length l ≤ n → Covers n l bag m
 covers_rest k None p n l bag m c le = let x = c.1 in (c.0, omega arith)
 covers_rest k (Some b) p n l bag m c le =
@@ -59,25 +59,25 @@ covers_rest k (Some b) p n l bag m c le =
     )
 
 -- in a list that is covered the first handle is in the bag, or one of those that are counted beyond it
-abbrev IsCovered : Kind → Option Block → Option Place → List Handle → ℕ → Type 0
+abbrev IsCovered : Kind → Option Block → Option Place → List NumberedHandle → ℕ → Type 0
 IsCovered k None p bag m = length bag < m
 IsCovered k (Some b) p bag m = Has (handle k (Some b.0) p) bag
 
-covers_first : (k : Kind) (b : Option Block) (p : Option Place) (n : ℕ) (l bag : List Handle) (m : ℕ) → Covers (suc n) (listed_more k b p l) bag m
+covers_first : (k : Kind) (b : Option Block) (p : Option Place) (n : ℕ) (l bag : List NumberedHandle) (m : ℕ) → Covers (suc n) (listed_more k b p l) bag m
     → length l ≤ n → IsCovered k b p bag m
 covers_first k None p n l bag m c le = let x = c.1 in omega arith
 covers_first k (Some b) p n l bag m c le = c.0.0
 
 -- parts of what is in a bag
-part_in : (a b l : List Handle) → AreIn (a ++ b) l → AreIn a l
+part_in : (a b l : List NumberedHandle) → AreIn (a ++ b) l → AreIn a l
 part_in [] b l all = tt
 part_in (x ∷ a) b l all = (all.0, part_in a b (without same_handle x l) all.1)
 
-rest_in : (a b l : List Handle) → AreIn (a ++ b) l → AreIn b (without_all a l)
+rest_in : (a b l : List NumberedHandle) → AreIn (a ++ b) l → AreIn b (without_all a l)
 rest_in [] b l all = all
 rest_in (x ∷ a) b l all = rest_in a b (without same_handle x l) all.1
 
-rest_length : (a l : List Handle) → AreIn a l → length (without_all a l) + length a ≡ length l
+rest_length : (a l : List NumberedHandle) → AreIn a l → length (without_all a l) + length a ≡ length l
 rest_length [] l all = omega arith
 rest_length (x ∷ a) l all =
     let t = rest_length a (without same_handle x l) all.1 in
@@ -87,14 +87,14 @@ listed_append : (hs ks : List Held) → listed (hs ++ ks) ≡ listed hs ++ liste
 listed_append hs ks = ap (filter has_object) (map-append as_listed hs ks) ∙ filter-append has_object (map as_listed hs) (map as_listed ks)
 
 -- how many of the listed ones pass a test, by all of the list
-one_worth : (Handle → Bool) → Held → ℕ
+one_worth : (NumberedHandle → Bool) → Held → ℕ
 one_worth p h = cond (has_object (as_listed h)) (cond (p (as_listed h)) 1 0) 0
 
-num_one : (p : Handle → Bool) (x : Handle) → num p (x ∷ []) ≡ cond (p x) 1 0
+num_one : (p : NumberedHandle → Bool) (x : NumberedHandle) → num p (x ∷ []) ≡ cond (p x) 1 0
 num_one p x =
     cond_both (p x) (x ∷ []) [] (λ l. length l ≡ cond (p x) 1 0) (λ e. sym (cond-true (p x) 1 0 e)) (λ e. sym (cond-false (p x) 1 0 e))
 
-num_listed : (p : Handle → Bool) (hs : List Held) → num p (listed hs) ≡ sum_by (one_worth p) hs
+num_listed : (p : NumberedHandle → Bool) (hs : List Held) → num p (listed hs) ≡ sum_by (one_worth p) hs
 unfolding one_worth
 num_listed p [] = refl
 num_listed p (h ∷ hs) =
@@ -104,7 +104,7 @@ num_listed p (h ∷ hs) =
     let c = num_one p x in omega arith)
     (λ e. let a : one_worth p h ≡ 0 = cond-false (has_object x) (cond (p x) 1 0) 0 e in omega arith)
 
-num_all : (l : List Handle) → num (λ h. true) l ≡ length l
+num_all : (l : List NumberedHandle) → num (λ h. true) l ≡ length l
 num_all [] = refl
 num_all (x ∷ l) = ap suc (num_all l)
 
@@ -116,13 +116,13 @@ module _ {V : Type 0} where
   holds_more d e (held.Owner h) hs stands all bag count =
       let few = stands.bag in let le = few_listed hs in
       let c = covers_more Owner h.block h.place (length hs) (listed hs) (bag_of d) d.held (all.objects, all.empty) few le in
-      let c' = subst (λ (y : List Handle × ℕ). Covers (suc (length hs)) (listed_more Owner h.block h.place (listed hs)) y.0 y.1)
+      let c' = subst (λ (y : List NumberedHandle × ℕ). Covers (suc (length hs)) (listed_more Owner h.block h.place (listed hs)) y.0 y.1)
       (λ i. (sym bag i, sym count i)) c in
       record { objects = c'.0; empty = c'.1 }
   holds_more d e (held.Weak h) hs stands all bag count =
       let few = stands.bag in let le = few_listed hs in
       let c = covers_more Weak h.block h.place (length hs) (listed hs) (bag_of d) d.held (all.objects, all.empty) few le in
-      let c' = subst (λ (y : List Handle × ℕ). Covers (suc (length hs)) (listed_more Weak h.block h.place (listed hs)) y.0 y.1)
+      let c' = subst (λ (y : List NumberedHandle × ℕ). Covers (suc (length hs)) (listed_more Weak h.block h.place (listed hs)) y.0 y.1)
       (λ i. (sym bag i, sym count i)) c in
       record { objects = c'.0; empty = c'.1 }
 
@@ -207,7 +207,7 @@ module _ {V : Type 0} where
   pub holds_in_order : HoldsInOrder V
   holds_in_order d hs ks moved all =
       let size = length_permutation hs ks moved in
-      let same : (p : Handle → Bool) → num p (listed ks) ≡ num p (listed hs) =
+      let same : (p : NumberedHandle → Bool) → num p (listed ks) ≡ num p (listed hs) =
       λ p. num_listed p ks ∙ (sum_by-IsPermutation (one_worth p) hs ks moved ∙ sym (num_listed p hs)) in
       let count = same (λ h. true) in let a = num_all (listed ks) in let b = num_all (listed hs) in let x = all.empty in
       record {

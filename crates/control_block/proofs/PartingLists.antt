@@ -4,11 +4,11 @@ use Rattle.std.proofs.Common.{inl, inr, ⊎_elim, arith}
 use Rattle.std.proofs.lemmas.Bool.{cond_both, cond-true}
 use Rattle.control_word.proofs.lists.Parts.{part, part_mine, part_other, part_without}
 use Rattle.control_word.proofs.lists.Tallies.{handle_self, has_before, same_handle_true}
-use Rattle.control_word.specs.declared.model.handle.Handle.{Handle}
+use Rattle.control_word.specs.declared.model.handle.NumberedHandle.{NumberedHandle}
 use Rattle.control_word.specs.Handles.{same_handle}
 use Rattle.control_word.specs.State.{Has, HasAll, passed, without}
 use Rattle.control_block.specs.Parting.{AreIn, without_all}
-use Rattle.control_block.proofs.Parts.{part_without_mine}
+use Rattle.control_block.proofs.partings.Parts.{part_without_mine}
 
 -- the list without the things that are given, each taken out once
 abbrev pub less_all : {A T : Type 0} → (A → A → Bool) → (T → A) → List T → List A → List A
@@ -85,16 +85,16 @@ module _ {A : Type 0} (same : A → A → Bool) (truth : (x y : A) → same x y 
 
 -- The things of a list are seen by f as handles, and g tells of which thing a handle is
 module _ {A : Type 0} (same : A → A → Bool) (truth : (x y : A) → same x y ≡ true → x ≡ y) (self : (x : A) → same x x ≡ true)
-    (f : A → Handle) (g : Handle → A) where
+    (f : A → NumberedHandle) (g : NumberedHandle → A) where
   abbrev pub Tells : List A → Type 0
   Tells l = (x : A) → Has x l → g (f x) ≡ x
 
-  pub has_back : (h : Handle) (l : List A) → Tells l → Has h (map f l) → Has (g h) l × (f (g h) ≡ h)
+  pub has_back : (h : NumberedHandle) (l : List A) → Tells l → Has h (map f l) → Has (g h) l × (f (g h) ≡ h)
   has_back h [] tells at = absurd at
   has_back h (x ∷ l) tells (inl e) = let is = ap g e ∙ tells x (inl refl) in (inl is, ap f is ∙ sym e)
   has_back h (x ∷ l) tells (inr at) = let t = has_back h l (λ y a. tells y (inr a)) at in (inr t.0, t.1)
 
-  map_without : (h : Handle) (l : List A) → Tells l → f (g h) ≡ h → map f (without same (g h) l) ≡ without same_handle h (map f l)
+  map_without : (h : NumberedHandle) (l : List A) → Tells l → f (g h) ≡ h → map f (without same (g h) l) ≡ without same_handle h (map f l)
   map_without h [] tells is = refl
   map_without h (x ∷ l) tells is =
       cond_both (same (g h) x) l (x ∷ without same (g h) l) (λ r. map f r ≡ without same_handle h (f x ∷ map f l))
@@ -107,7 +107,7 @@ module _ {A : Type 0} (same : A → A → Bool) (truth : (x y : A) → same x y 
       let t : same (g h) x ≡ true = subst (λ z. same (g h) z ≡ true) q (self (g h)) in let u = sym t ∙ e in cc))
       (λ s. ap (λ r. f x ∷ r) (map_without h l (λ y a. tells y (inr a)) is)))
 
-  pub all_back : (hs : List Handle) (l : List A) → Tells l → AreIn hs (map f l)
+  pub all_back : (hs : List NumberedHandle) (l : List A) → Tells l → AreIn hs (map f l)
       → HasAll same g hs l × (map f (less_all same g hs l) ≡ without_all hs (map f l))
   all_back [] l tells all = (tt, refl)
   all_back (h ∷ hs) l tells all =
@@ -116,6 +116,6 @@ module _ {A : Type 0} (same : A → A → Bool) (truth : (x y : A) → same x y 
       ((b.0, rest.0), rest.1 ∙ ap (without_all hs) m)
 
   -- each handle is seen as itself
-  pub each_back : (h : Handle) (hs : List Handle) (l : List A) → Tells l → AreIn hs (map f l) → Has h hs → Has (g h) l × (f (g h) ≡ h)
+  pub each_back : (h : NumberedHandle) (hs : List NumberedHandle) (l : List A) → Tells l → AreIn hs (map f l) → Has h hs → Has (g h) l × (f (g h) ≡ h)
   each_back h hs l tells all at =
-      has_back h l tells (all_has same_handle same_handle_true handle_self (λ (x : Handle). x) h hs (map f l) all at)
+      has_back h l tells (all_has same_handle same_handle_true handle_self (λ (x : NumberedHandle). x) h hs (map f l) all at)

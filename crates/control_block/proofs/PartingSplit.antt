@@ -13,23 +13,23 @@ use Rattle.control_word.specs.State.{Has, HasAll, Held, State, Stored, bag, bag_
 use Rattle.control_word.specs.Words.{blocks_of}
 use Rattle.control_word.specs.declared.model.event.Entry.{Entry}
 use Rattle.control_word.specs.declared.model.event.Event.TheVariants.{Split}
-use Rattle.control_word.specs.declared.model.handle.Handle.{Handle}
+use Rattle.control_word.specs.declared.model.handle.NumberedHandle.{NumberedHandle}
 use Rattle.control_word.specs.declared.place.Block.{Block}
 use Rattle.control_block.specs.Desks.{bag_of, by_block, held_of, many_ending}
 use Rattle.control_block.specs.Inside.{IsDesk, desk_now}
 use Rattle.control_block.specs.Parting.{HoldsAll, Parted, as_listed, free_of, in_history, listed, times, without_all}
-use Rattle.control_block.specs.Plays.{MaySplit, known}
+use Rattle.control_block.specs.StepKinds.{MaySplit, known}
 use Rattle.control_block.specs.Rule.{opening_of}
-use Rattle.control_block.specs.declared.board.Sight.{Sight}
+use Rattle.control_block.specs.declared.table.SeatView.{SeatView}
 use Rattle.control_block.specs.declared.desk.Desk.TheInside.{Inside}
 use Rattle.control_block.specs.declared.handles.Held.{Held as HeldValue}
 use Rattle.control_block.proofs.EndingCounts.{same_count}
-use Rattle.control_block.proofs.EndingNames.{none_named}
-use Rattle.control_block.proofs.Parts.{all_from, all_to}
-use Rattle.control_block.proofs.PartingDesks.{Reached, reached, shown_back}
+use Rattle.control_block.proofs.closings.EndingNames.{none_named}
+use Rattle.control_block.proofs.partings.Parts.{all_from, all_to}
+use Rattle.control_block.proofs.partings.PartingDesks.{Reached, reached, shown_back}
 use Rattle.control_block.proofs.PartingLists.{all_back, all_map, length_less, less_all, less_map}
 use Rattle.control_block.proofs.PartingLists.{part_given, part_got}
-use Rattle.control_block.proofs.PartingStates.{all_stored_of, none_stored, own_tally, tallies_split}
+use Rattle.control_block.proofs.partings.PartingStates.{all_stored_of, none_stored, own_tally, tallies_split}
 
 no_length : {A : Type 0} (l : List A) → length l ≡ 0 → l ≡ []
 no_length [] e = refl
@@ -44,17 +44,17 @@ pub few_listed : (hs : List HeldValue) → length (listed hs) ≤ length hs
 few_listed hs = let a = num_length has_object (map as_listed hs) in let b = length-map hs as_listed in omega arith
 
 module _ {V : Type 0} (d : Inside V) (h : IsDesk d) (hs : List HeldValue) (holds : HoldsAll (desk_now d) hs) where
-  abbrev pub v : Sight V
+  abbrev pub v : SeatView V
   v = d.seat.me.0
 
   abbrev pub n : ℕ
   n = v.view.name
 
   -- how the desk sees what it holds, and back
-  abbrev pub shows : Held → Handle
+  abbrev pub shows : Held → NumberedHandle
   shows x = by_block (blocks_of (known v)) x.handle
 
-  abbrev pub back : Handle → Held
+  abbrev pub back : NumberedHandle → Held
   back x = held n (by_block (known v).latest x)
 
   pub tells : (x : Held) → Has x (bag (known v) n) → back (shows x) ≡ x
@@ -71,14 +71,14 @@ module _ {V : Type 0} (d : Inside V) (h : IsDesk d) (hs : List HeldValue) (holds
       let b = length-map (bag (known v) n) shows in let c = holds.empty in let f = few_listed hs in let e = h.holding in
       (omega arith, omega arith, omega arith)
 
-  abbrev pub handles : List Handle
+  abbrev pub handles : List NumberedHandle
   handles = in_history (known v) hs
 
   pub many_handles : length handles ≡ length (listed hs)
   many_handles = length-map (listed hs) (by_block (known v).latest)
 
-  pub all_held : HasAll same_held (λ (x : Handle). held n x) handles (bag (known v) n)
-  all_held = all_map same_held held_true held_self (by_block (known v).latest) (λ (x : Handle). held n x) (listed hs) (bag (known v) n) gone.0
+  pub all_held : HasAll same_held (λ (x : NumberedHandle). held n x) handles (bag (known v) n)
+  all_held = all_map same_held held_true held_self (by_block (known v).latest) (λ (x : NumberedHandle). held n x) (listed hs) (bag (known v) n) gone.0
 
   pub may_split : (a keep : ℕ) (bs : List Block) → 0 < a → length hs ≤ a → a ≤ d.allowance - keep → 1 ≤ keep → d.held - length hs ≤ keep
       → ((b : ℕ) → times b bs ≤ times b d.store.items) → MaySplit v a handles bs
@@ -89,11 +89,11 @@ module _ {V : Type 0} (d : Inside V) (h : IsDesk d) (hs : List HeldValue) (holds
         few = omega arith;
         less = omega arith;
         fits = omega arith;
-        handles = all_from (λ (x : Held). x.desk) n same_held held_true (λ (x : Handle). held n x) handles (known v).hands (λ x. refl) all_held;
+        handles = all_from (λ (x : Held). x.desk) n same_held held_true (λ (x : NumberedHandle). held n x) handles (known v).hands (λ x. refl) all_held;
         blocks = all_stored_of n bs (known v).stores (λ b. let t = blocks b in let u = h.stored b in omega arith);
       }
 
-  module _ (a : ℕ) (bs : List Block) (w u : Sight V) (p : Parted v a handles bs w u) where
+  module _ (a : ℕ) (bs : List Block) (w u : SeatView V) (p : Parted v a handles bs w u) where
     -- the history before the event, and where it led
     abbrev pub before : List (Entry V)
     before = p.event.between ++ v.view.seen
@@ -102,13 +102,13 @@ module _ {V : Type 0} (d : Inside V) (h : IsDesk d) (hs : List HeldValue) (holds
     then = leads (opening_of v.shape) before
 
     pub seen : w.view.seen ≡ entry n (Split p.to a handles bs) ∷ before
-    seen = ap (λ (y : Sight V). y.view.seen) p.event.now
+    seen = ap (λ (y : SeatView V). y.view.seen) p.event.now
 
     pub shape : w.shape ≡ v.shape
-    shape = ap (λ (y : Sight V). y.shape) p.event.now
+    shape = ap (λ (y : SeatView V). y.shape) p.event.now
 
     pub name : w.view.name ≡ n
-    name = ap (λ (y : Sight V). y.view.name) p.event.now
+    name = ap (λ (y : SeatView V). y.view.name) p.event.now
 
     pub legal : IsLegal (opening_of v.shape) (entry n (Split p.to a handles bs) ∷ before)
     legal = subst (IsLegal (opening_of v.shape)) seen p.event.legal
@@ -137,17 +137,17 @@ module _ {V : Type 0} (d : Inside V) (h : IsDesk d) (hs : List HeldValue) (holds
     pub bag_left : bag (known w) n ≡ less_all same_held back (listed hs) (bag (known v) n)
     bag_left =
         ap (λ (s : State). bag s n) now
-        ∙ (part_given same_held held_true held_self (λ (x : Handle). held n x) (λ x. held p.to x) (λ (x : Held). x.desk) n handles then.hands
+        ∙ (part_given same_held held_true held_self (λ (x : NumberedHandle). held n x) (λ x. held p.to x) (λ (x : Held). x.desk) n handles then.hands
         (λ x. refl) (λ x e. apart (sym e))
-        ∙ (ap (less_all same_held (λ (x : Handle). held n x) handles) at.same.in_bag
-        ∙ less_map same_held held_true held_self (by_block (known v).latest) (λ (x : Handle). held n x) (listed hs) (bag (known v) n)))
+        ∙ (ap (less_all same_held (λ (x : NumberedHandle). held n x) handles) at.same.in_bag
+        ∙ less_map same_held held_true held_self (by_block (known v).latest) (λ (x : NumberedHandle). held n x) (listed hs) (bag (known v) n)))
 
-    pub bag_given : bag (known w) p.to ≡ map (λ (x : Handle). held p.to x) handles
+    pub bag_given : bag (known w) p.to ≡ map (λ (x : NumberedHandle). held p.to x) handles
     bag_given =
         ap (λ (s : State). bag s p.to) now
-        ∙ (part_got same_held held_true held_self (λ (x : Handle). held n x) (λ x. held p.to x) (λ (x : Held). x.desk) p.to handles then.hands
+        ∙ (part_got same_held held_true held_self (λ (x : NumberedHandle). held n x) (λ x. held p.to x) (λ (x : Held). x.desk) p.to handles then.hands
         (λ x e. apart e) (λ x. refl)
-        ∙ append_none (map (λ (x : Handle). held p.to x) handles) (filter (λ (x : Held). x.desk == p.to) then.hands) bag_new)
+        ∙ append_none (map (λ (x : NumberedHandle). held p.to x) handles) (filter (λ (x : Held). x.desk == p.to) then.hands) bag_new)
 
     pub stock_left : stock (known w) n ≡ less_all same_stored (λ (b : Block). stored n b.0) bs (stock (known v) n)
     stock_left =

@@ -26,17 +26,17 @@ use Rattle.control_word.specs.declared.model.event.Cell.{Cell}
 use Rattle.control_word.specs.declared.model.event.Cell.TheVariants.{Member}
 use Rattle.control_word.specs.declared.model.event.Event.{Event}
 use Rattle.control_word.specs.declared.model.event.Event.TheVariants.{ClearMember, Compare, Swap}
-use Rattle.control_word.specs.declared.model.handle.Handle.{Handle}
+use Rattle.control_word.specs.declared.model.handle.NumberedHandle.{NumberedHandle}
 use Rattle.control_word.specs.declared.model.handle.Kind.{Kind}
 use Rattle.control_word.specs.declared.place.Block.{Block}
 use Rattle.control_word.specs.declared.place.Place.{Place}
 use Rattle.control_word.specs.declared.shape.Shape.{Shape}
 use Rattle.control_word.specs.declared.model.view.Pending.{Pending}
 use Rattle.control_block.specs.Rule.{opening_of, view_of, kept, until_gone, IsSlotOf, IsBacked, IsOut, Ruled, seeing}
-use Rattle.control_block.specs.Plays.{Added, At, Ends, HoldingInBlock, HasRoomFor, Moved, known}
-use Rattle.control_block.specs.declared.board.Sight.{Sight}
+use Rattle.control_block.specs.StepKinds.{Added, At, Ends, HoldingInBlock, HasRoomFor, Moved, known}
+use Rattle.control_block.specs.declared.table.SeatView.{SeatView}
 use Rattle.control_block.proofs.Endings.{Alike, fills_block, fills_latest, fills_phase, still_ends}
-use Rattle.control_block.proofs.Lists.{each_set, map_set, set_there}
+use Rattle.control_block.proofs.words.Lists.{each_set, map_set, set_there}
 
 -- what a half-done call needs is still there, where no ending of the desk's was touched
 pub backed_still : {V : Type 0} (s t : State) (d : ℕ) (p : Pending V) (c : Option Block)
@@ -46,7 +46,7 @@ backed_still s t d p (Some c) same b = ⊎_elim inl (λ e. inr (same c.0 e)) b
 
 module _ {V : Type 0} where
   -- what becomes of a block's slot: it is at home with what it keeps, in the seat's hand, or as it was
-  abbrev pub IsPlaced : (k : Shape) (s : Table.State (Option V) (Sight V)) → Ruled k s → Sight V → Sight V
+  abbrev pub IsPlaced : (k : Shape) (s : Table.State (Option V) (SeatView V)) → Ruled k s → SeatView V → SeatView V
       → List (mathlib.Core.Option.Option (Option V)) → List (Entry V) → ℕ → Type 0
   IsPlaced k s r v w homes h b =
       let z = opening_of k in
@@ -55,13 +55,13 @@ module _ {V : Type 0} where
       ⊎ ((get_elem? homes (b - 1) ≡ get_elem? s.homes (b - 1)) × (kept z h b ≡ kept z r.history b) × (IsSlotOf v.hand b → ⊥)))
 
   -- the rule after a step of one seat
-  pub next : (k : Shape) (s : Table.State (Option V) (Sight V)) (r : Ruled k s) (id : ℕ) (v w : Sight V) (words : List ℕ)
+  pub next : (k : Shape) (s : Table.State (Option V) (SeatView V)) (r : Ruled k s) (id : ℕ) (v w : SeatView V) (words : List ℕ)
       (homes : List (mathlib.Core.Option.Option (Option V))) (h : List (Entry V))
       → get_elem? s.views id ≡ some v → w.view.spent ≡ false → w.shape ≡ k
       → Stands (opening_of k) words (set (map view_of s.views) id w.view) h
       → length homes ≡ length s.homes
       → IsBacked (leads (opening_of k) h) w.view.name w.view.pending w.hand
-      → ((j : ℕ) (u : Sight V) → j ≢ id → get_elem? s.views j ≡ some u → u.view.spent ≡ false
+      → ((j : ℕ) (u : SeatView V) → j ≢ id → get_elem? s.views j ≡ some u → u.view.spent ≡ false
       → IsBacked (leads (opening_of k) r.history) u.view.name u.view.pending u.hand
       → IsBacked (leads (opening_of k) h) u.view.name u.view.pending u.hand)
       → ((b : ℕ) → InShape (opening_of k) b → IsPlaced k s r v w homes h b)
@@ -81,7 +81,7 @@ module _ {V : Type 0} where
     where
       still_out : (b : ℕ) → (IsSlotOf v.hand b → ⊥) → IsOut s.views b → IsOut (set s.views id w) b
       still_out b free o = dite (ℕ_discrete o.0 id)
-          (λ (q : o.0 ≡ id). absurd (free (subst (λ (u : Sight V). IsSlotOf u.hand b) (some-injective o.1 v (sym o.2
+          (λ (q : o.0 ≡ id). absurd (free (subst (λ (u : SeatView V). IsSlotOf u.hand b) (some-injective o.1 v (sym o.2
           ∙ (ap (get_elem? s.views) q ∙ at))) o.4)))
           (λ (n : o.0 ≢ id). (o.0, o.1, set_else s.views id o.0 w n ∙ o.2, o.3, o.4))
 
@@ -95,10 +95,10 @@ module _ {V : Type 0} where
           (λ o. inr (still_out b t.2 o)) (r.homes b inside)
 
   -- the point at which the seat makes its step
-  abbrev pub point : (k : Shape) (s : Table.State (Option V) (Sight V)) → Ruled k s → ℕ → Sight V → Point V
+  abbrev pub point : (k : Shape) (s : Table.State (Option V) (SeatView V)) → Ruled k s → ℕ → SeatView V → Point V
   point k s r id v = record { opening = opening_of k; words = s.words; views = map view_of s.views; history = r.history; seat = id; view = v.view }
 
-  module _ (k : Shape) (s : Table.State (Option V) (Sight V)) (r : Ruled k s) (id : ℕ) (v : Sight V) (at : get_elem? s.views id ≡ some v)
+  module _ (k : Shape) (s : Table.State (Option V) (SeatView V)) (r : Ruled k s) (id : ℕ) (v : SeatView V) (at : get_elem? s.views id ≡ some v)
       (awake : v.view.spent ≡ false) where
     pub ready : (p : Pending V) → v.view.pending ≡ p → Ready (point k s r id v) p
     ready p pending = record { stands = r.stands; seated = at_map view_of s.views id v at; awake = awake; pending = pending }
@@ -208,7 +208,7 @@ module _ {V : Type 0} where
         values = values;
       }
 
-  pub quiet_swap : (c : Cell) (new old : Handle) → IsQuiet (Swap c new old)
+  pub quiet_swap : (c : Cell) (new old : NumberedHandle) → IsQuiet (Swap c new old)
   quiet_swap c new old =
       record {
         phases = λ s d o. fills_phase (loses d new s) c new o;
@@ -217,7 +217,7 @@ module _ {V : Type 0} where
         values = λ s f. refl;
       }
 
-  pub quiet_compare : (c : Cell) (expected new old : Handle) (swapped weak : Bool) → IsQuiet (Compare c expected new old swapped weak)
+  pub quiet_compare : (c : Cell) (expected new old : NumberedHandle) (swapped weak : Bool) → IsQuiet (Compare c expected new old swapped weak)
   quiet_compare c expected new old true weak =
       record {
         phases = λ s d o. fills_phase (loses d new s) c new o;
@@ -227,7 +227,7 @@ module _ {V : Type 0} where
       }
   quiet_compare c expected new old false weak = plain (λ s d. refl) (λ s d. refl) (λ s f. refl)
 
-  pub quiet_clear : (o m : ℕ) (h : Handle) → IsQuiet (ClearMember o m h)
+  pub quiet_clear : (o m : ℕ) (h : NumberedHandle) → IsQuiet (ClearMember o m h)
   quiet_clear o m h =
       record {
         phases = λ s d q. fills_phase s (Member o m) (empty (kind_of_member m)) q;
@@ -244,7 +244,7 @@ module _ {V : Type 0} where
       ∙ ((λ i. until_gone (q.phases s d (s.latest b) i) ((v i) (s.latest b))))
 
   -- such an event with the slots left alone
-  pub quiet_next : (k : Shape) (s : Table.State (Option V) (Sight V)) (r : Ruled k s) (id : ℕ) (v : Sight V) (words : List ℕ) (e : Event V)
+  pub quiet_next : (k : Shape) (s : Table.State (Option V) (SeatView V)) (r : Ruled k s) (id : ℕ) (v : SeatView V) (words : List ℕ) (e : Event V)
       (p : Pending V)
       → get_elem? s.views id ≡ some v → v.view.spent ≡ false → v.hand ≡ None → IsQuiet e → let h = entry v.view.name e ∷ r.history in
       Stands (opening_of k) words (set (map view_of s.views) id (sees_as v.view p h)) h
@@ -261,7 +261,7 @@ module _ {V : Type 0} where
   -- a step that makes such an event
   pub allows_telling : (k : Shape) (slots id i : ℕ) (me : At V) (f : ℕ → ℕ) (e : ℕ → Event V) (p : Pending V) (T : ℕ → At V → Type 0)
       → me.0.view.spent ≡ false → me.0.hand ≡ None → ((n : ℕ) → IsQuiet (e n))
-      → ((s : Table.State (Option V) (Sight V)) (r : Ruled k s) → get_elem? s.views id ≡ some me.0 → get_or s.words i 0 < 18446744073709551616
+      → ((s : Table.State (Option V) (SeatView V)) (r : Ruled k s) → get_elem? s.views id ≡ some me.0 → get_or s.words i 0 < 18446744073709551616
       → let n = get_or s.words i 0 in let h = entry me.0.view.name (e n) ∷ r.history in
       Stands (opening_of k) (set s.words i (f n)) (set (map view_of s.views) id (sees_as me.0.view p h)) h
       × (Added me.0 p None (e n) (seeing me.0 p None h) → T n (seeing me.0 p None h, me.1)))
@@ -277,7 +277,7 @@ module _ {V : Type 0} where
 
   pub allows_event : (k : Shape) (slots id i : ℕ) (me : At V) (f : ℕ → ℕ) (e : ℕ → Event V) (p : Pending V)
       → me.0.view.spent ≡ false → me.0.hand ≡ None → ((n : ℕ) → IsQuiet (e n))
-      → ((s : Table.State (Option V) (Sight V)) (r : Ruled k s) → get_elem? s.views id ≡ some me.0 → get_or s.words i 0 < 18446744073709551616
+      → ((s : Table.State (Option V) (SeatView V)) (r : Ruled k s) → get_elem? s.views id ≡ some me.0 → get_or s.words i 0 < 18446744073709551616
       → let n = get_or s.words i 0 in let h = entry me.0.view.name (e n) ∷ r.history in
       Stands (opening_of k) (set s.words i (f n)) (set (map view_of s.views) id (sees_as me.0.view p h)) h)
       → Allows (Ruled k) slots id me i f (λ n after. Added me.0 p None (e n) after.0 × (after.1 ≡ me.1))

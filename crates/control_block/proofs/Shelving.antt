@@ -27,14 +27,14 @@ use Rattle.control_word.specs.declared.model.view.Pending.TheVariants.{Idle}
 use Rattle.control_block.specs.Desks.{AddsEvent, Belongs, DeskNow, DomainNow, IsSameDesk, KeepsEndings, allowance_of, state_of}
 use Rattle.control_block.specs.Inside.{IsDeskWith, desk_now}
 use Rattle.control_block.specs.Own.{IsSole}
-use Rattle.control_block.specs.Plays.{Added, known}
+use Rattle.control_block.specs.StepKinds.{Added, known}
 use Rattle.control_block.specs.Rule.{opening_of}
 use Rattle.control_block.specs.Shelf.{ClearsShelf, Passes, Shelved, Unshelved, shelved_of}
-use Rattle.control_block.specs.ShelfPlays.{IsSo, shelf_at}
-use Rattle.control_block.specs.declared.board.Sight.{Sight}
+use Rattle.control_block.specs.ShelfStepKinds.{IsSo, shelf_at}
+use Rattle.control_block.specs.declared.table.SeatView.{SeatView}
 use Rattle.control_block.specs.declared.desk.Desk.TheInside.{Inside}
-use Rattle.control_block.proofs.DeskBags.{IsCalm, adds_of, bag_stays, before, ends_still, legal_now, now_of, quiet_spares, same_desk}
-use Rattle.control_block.proofs.DeskSteps.{came, ending_same}
+use Rattle.control_block.proofs.desks.DeskBags.{IsCalm, adds_of, bag_stays, before, ends_still, legal_now, now_of, quiet_spares, same_desk}
+use Rattle.control_block.proofs.desks.DeskSteps.{came, ending_same}
 use Rattle.control_block.proofs.Own.{goes_by_call, goes_by_none, goes_in_turn}
 use Rattle.control_block.proofs.Sole.{comes_next}
 
@@ -131,7 +131,7 @@ module _ {V : Type 0} where
       }
 
   -- one block by one event
-  module _ {n' : ℕ} (d : Inside V) (w : Sight V) (x : Block → Event V) (b : Block) (h : IsDeskWith n' d)
+  module _ {n' : ℕ} (d : Inside V) (w : SeatView V) (x : Block → Event V) (b : Block) (h : IsDeskWith n' d)
       (a : Added d.seat.me.0 Idle None (x b) w) (calm : IsCalm (x b))
       (hands : (s : State) (n : ℕ) → (after s n (x b)).hands ≡ s.hands)
       (allowances : (s : State) (n : ℕ) → (after s n (x b)).allowance ≡ s.allowance) where
@@ -196,7 +196,7 @@ module _ {V : Type 0} where
         }
 
   -- what a sole desk is told is so by what it has seen
-  pub so_sole : (v : Sight V) (is : State → Type 0) → IsSo v is → (known v).allowance v.view.name ≡ v.shape.allowance → is (known v)
+  pub so_sole : (v : SeatView V) (is : State → Type 0) → IsSo v is → (known v).allowance v.view.name ≡ v.shape.allowance → is (known v)
   so_sole v is t whole =
       subst (λ l. is (leads (opening_of v.shape) (l ++ v.view.seen)))
       (nothing_unseen (opening_of v.shape) t.between v.view.seen t.legal v.view.name t.quiet whole) t.so

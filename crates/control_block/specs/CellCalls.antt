@@ -5,7 +5,7 @@ use Rattle.control_word.specs.Layout.{cell_place, spot}
 use Rattle.control_word.specs.State.{kind_of_free, kind_of_member, without}
 use Rattle.control_word.specs.declared.model.event.Cell.{Cell}
 use Rattle.control_word.specs.declared.model.event.Cell.TheVariants.{Free, Member}
-use Rattle.control_word.specs.declared.model.handle.Handle.{Handle}
+use Rattle.control_word.specs.declared.model.handle.NumberedHandle.{NumberedHandle}
 use Rattle.control_word.specs.declared.model.handle.Kind.{Kind}
 use Rattle.control_word.specs.declared.model.handle.Kind.TheVariants.{Owner}
 use Rattle.control_word.specs.declared.place.Block.{Block}
@@ -16,11 +16,11 @@ use Rattle.control_block.specs.declared.cell_calls.Site.{Site}
 use Rattle.control_block.specs.declared.cell_calls.Site.TheVariants as site
 
 -- a bag with a handle more, and with one less; an empty handle stands in no bag
-abbrev pub with_handle : Kind → Option Block → Option Place → List Handle → List Handle
+abbrev pub with_handle : Kind → Option Block → Option Place → List NumberedHandle → List NumberedHandle
 with_handle k None p l = l
 with_handle k (Some b) p l = handle k (Some b.0) p ∷ l
 
-abbrev pub without_handle : Kind → Option Block → Option Place → List Handle → List Handle
+abbrev pub without_handle : Kind → Option Block → Option Place → List NumberedHandle → List NumberedHandle
 without_handle k None p l = l
 without_handle k (Some b) p l = without same_handle (handle k (Some b.0) p) l
 
@@ -45,7 +45,7 @@ word_at blocks (site.Member b m) = spot b.0 (7 + m)
 
 module _ {V : Type 0} where
   -- the handle in a block is on the object last made there
-  abbrev pub handle_in : DeskNow V → Kind → Option Block → Option Place → Handle
+  abbrev pub handle_in : DeskNow V → Kind → Option Block → Option Place → NumberedHandle
   handle_in d k b p = handle k (object_by (latest_of d) b) p
 
   -- the cell by the desk's history: a member is that of the object last made in the block

@@ -4,7 +4,7 @@ use Rattle.std.specs.Prelude.{[], ◌∷◌, ◌++◌, map, length, Option, Some
 use Rattle.atomic_table.specs.Seated.{TableId}
 use Rattle.control_word.specs.declared.model.event.Entry.{Entry}
 use Rattle.control_word.specs.declared.model.event.Event.{Event}
-use Rattle.control_word.specs.declared.model.handle.Handle.{Handle}
+use Rattle.control_word.specs.declared.model.handle.NumberedHandle.{NumberedHandle}
 use Rattle.control_word.specs.declared.model.handle.Kind.{Kind}
 use Rattle.control_word.specs.declared.place.Block.{Block}
 use Rattle.control_word.specs.declared.place.Place.{Place}
@@ -51,7 +51,7 @@ abbrev pub in_block : (ℕ → ℕ) → Option ℕ → Option ℕ
 in_block block None = None
 in_block block (Some o) = Some (block o)
 
-abbrev pub by_block : (ℕ → ℕ) → Handle → Handle
+abbrev pub by_block : (ℕ → ℕ) → NumberedHandle → NumberedHandle
 by_block block h = record { kind = h.kind; object = in_block block h.object; place = h.place }
 
 -- an owner of the object in block b with place p may give one with place q: p itself, the object's own, or any proper
@@ -80,7 +80,7 @@ module _ {V : Type 0} where
   held_of d = d.held + min 1 (endings_of d)
 
   -- the handles with an object that it holds, newest first, by their blocks
-  abbrev pub bag_of : DeskNow V → List Handle
+  abbrev pub bag_of : DeskNow V → List NumberedHandle
   bag_of d = map (λ (x : Held). by_block (blocks_of (state_of d)) x.handle) (bag (state_of d) d.name)
 
   -- the desk is one of the domain's
@@ -115,7 +115,7 @@ module _ {V : Type 0} where
   HasHandle d k p b = Has (handle k (Some b) p) (bag_of d)
 
   -- the handle on the object last made in the block
-  abbrev pub on_latest : DeskNow V → Kind → Option Place → ℕ → Handle
+  abbrev pub on_latest : DeskNow V → Kind → Option Place → ℕ → NumberedHandle
   on_latest d k p b = handle k (Some (latest_of d b)) p
 
   -- the object last made in the block ends in the desk's hands, and has this value
@@ -128,7 +128,7 @@ module _ {V : Type 0} where
   object_in d b = (state_of d).object (latest_of d b)
 
   -- what its member m holds, and that this is nothing
-  abbrev pub member_in : DeskNow V → ℕ → ℕ → Handle
+  abbrev pub member_in : DeskNow V → ℕ → ℕ → NumberedHandle
   member_in d b m = (object_in d b).member m
 
   abbrev pub IsCleared : DeskNow V → ℕ → ℕ → Type 0

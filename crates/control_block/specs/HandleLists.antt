@@ -1,7 +1,7 @@
 -- Handles of a desk in a list: all are held, as handles come into the list and go out of it.
 use Rattle.std.specs.Prelude.{◌≡◌, ℕ, ◌+◌, List, [], ◌∷◌, ◌++◌}
 use Rattle.std.specs.List.Sorted.{IsPermutation}
-use Rattle.control_word.specs.declared.model.handle.Handle.{Handle}
+use Rattle.control_word.specs.declared.model.handle.NumberedHandle.{NumberedHandle}
 use Rattle.control_word.specs.declared.model.handle.Kind.TheVariants.{Owner, Weak}
 use Rattle.control_word.specs.State.{Has}
 use Rattle.control_block.specs.CellCalls.{HoldsHandle, with_handle, without_handle}
@@ -12,11 +12,11 @@ use Rattle.control_block.specs.declared.handles.Held.{Held}
 use Rattle.control_block.specs.declared.handles.Held.TheVariants as held
 
 -- a bag with the handle more, and with it less; an empty handle stands in no bag
-abbrev pub with_held : Held → List Handle → List Handle
+abbrev pub with_held : Held → List NumberedHandle → List NumberedHandle
 with_held (held.Owner h) l = with_handle Owner h.block h.place l
 with_held (held.Weak w) l = with_handle Weak w.block w.place l
 
-abbrev pub without_held : Held → List Handle → List Handle
+abbrev pub without_held : Held → List NumberedHandle → List NumberedHandle
 without_held (held.Owner h) l = without_handle Owner h.block h.place l
 without_held (held.Weak w) l = without_handle Weak w.block w.place l
 

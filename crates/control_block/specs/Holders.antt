@@ -6,7 +6,7 @@ use Rattle.std.specs.List.{filter}
 use Rattle.control_word.specs.Handles.{same_kind}
 use Rattle.control_word.specs.State.{State, count, kind_of_free, kind_of_member, tally, weak}
 use Rattle.control_word.specs.Words.{blocks_of, owned_bits}
-use Rattle.control_word.specs.declared.model.handle.Handle.{Handle}
+use Rattle.control_word.specs.declared.model.handle.NumberedHandle.{NumberedHandle}
 use Rattle.control_word.specs.declared.model.handle.Kind.{Kind}
 use Rattle.control_word.specs.declared.model.handle.Kind.TheVariants.{Owner, Weak}
 use Rattle.control_block.specs.CellCalls.{word_at}
@@ -20,7 +20,7 @@ use Rattle.control_block.specs.declared.cell_calls.Site.TheVariants.{Free, Membe
 abbrev pub owned_at : CensusNow → Site → ℕ
 owned_at c x = slice_index c.words (word_at c.blocks x) % 65536
 
-abbrev pub owned_by : State → Handle → ℕ
+abbrev pub owned_by : State → NumberedHandle → ℕ
 owned_by s h = owned_bits (blocks_of s) h.object
 
 abbrev pub frees_in : CensusNow → ℕ

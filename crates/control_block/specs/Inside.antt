@@ -9,7 +9,7 @@ use Rattle.control_word.specs.Layout.{IsWithinLimits, table_size}
 use Rattle.control_word.specs.State.{bag_size, same_stored, stock, stored}
 use Rattle.control_block.specs.declared.desk.Desk.TheInside.{Inside}
 use Rattle.control_block.specs.Desks.{DeskNow, many_ending}
-use Rattle.control_block.specs.Plays.{Rests, known}
+use Rattle.control_block.specs.StepKinds.{Rests, known}
 use Rattle.control_block.specs.Rule.{opening_of}
 
 -- the table is as large as the shape says

@@ -2,7 +2,7 @@
 use Rattle.control_word.specs.Histories.{leads}
 use Rattle.control_word.specs.State.{State}
 use Rattle.control_block.specs.Desks.{DeskNow}
-use Rattle.control_block.specs.LockPlays.{earlier}
+use Rattle.control_block.specs.LockStepKinds.{earlier}
 use Rattle.control_block.specs.Rule.{opening_of}
 
 module _ {V : Type 0} where

@@ -4,20 +4,20 @@ use Rattle.std.specs.Prelude.{◌∷◌, map, length, Option, Some, None}
 use Rattle.std.specs.List.{filter}
 use Rattle.control_word.specs.declared.model.event.Entry.{Entry}
 use Rattle.control_word.specs.declared.model.event.Event.TheVariants.{Join, Split}
-use Rattle.control_word.specs.declared.model.handle.Handle.{Handle}
+use Rattle.control_word.specs.declared.model.handle.NumberedHandle.{NumberedHandle}
 use Rattle.control_word.specs.declared.model.handle.Kind.TheVariants.{Owner, Weak}
 use Rattle.control_word.specs.declared.place.Block.{Block}
 use Rattle.control_word.specs.Handles.{handle, has_object, same_handle}
 use Rattle.control_word.specs.Histories.{entry, IsLegal}
 use Rattle.control_word.specs.State.{Has, HasAll, State, Stored, without}
 use Rattle.control_word.specs.Views.{Knows, comes}
-use Rattle.control_block.specs.declared.board.Sight.{Sight}
+use Rattle.control_block.specs.declared.table.SeatView.{SeatView}
 use Rattle.control_block.specs.declared.handles.Held.{Held}
 use Rattle.control_block.specs.declared.handles.Held.TheVariants as held
 use Rattle.control_block.specs.Desks.{AddsEvent, DeskNow, KeepsEndings, allowance_of, bag_of, endings_of, held_of}
 use Rattle.control_block.specs.Desks.{by_block}
 use Rattle.control_block.specs.Desks.{state_of, stock_of}
-use Rattle.control_block.specs.Plays.{tells}
+use Rattle.control_block.specs.StepKinds.{tells}
 use Rattle.control_block.specs.Rule.{opening_of}
 
 -- how often a block is listed
@@ -29,24 +29,24 @@ number_of_block None = None
 number_of_block (Some b) = Some b.0
 
 -- a handle by its block, as a desk's bag lists it
-abbrev pub as_listed : Held → Handle
+abbrev pub as_listed : Held → NumberedHandle
 as_listed (held.Owner h) = handle Owner (number_of_block h.block) h.place
 as_listed (held.Weak w) = handle Weak (number_of_block w.block) w.place
 
 -- those of them that a bag lists: a handle without an object is empty
-abbrev pub listed : List Held → List Handle
+abbrev pub listed : List Held → List NumberedHandle
 listed hs = filter has_object (map as_listed hs)
 
 -- the same by their objects, as a history has them: of a block that is held the object last made there
-abbrev pub in_history : State → List Held → List Handle
+abbrev pub in_history : State → List Held → List NumberedHandle
 in_history s hs = map (by_block s.latest) (listed hs)
 
 -- each of these is in the list, as often as it is given
-abbrev pub AreIn : List Handle → List Handle → Type 0
-AreIn hs l = HasAll same_handle (λ (h : Handle). h) hs l
+abbrev pub AreIn : List NumberedHandle → List NumberedHandle → Type 0
+AreIn hs l = HasAll same_handle (λ (h : NumberedHandle). h) hs l
 
 -- the list without these, each taken out once
-abbrev pub without_all : List Handle → List Handle → List Handle
+abbrev pub without_all : List NumberedHandle → List NumberedHandle → List NumberedHandle
 without_all [] l = l
 without_all (h ∷ hs) l = without_all hs (without same_handle h l)
 
@@ -88,9 +88,10 @@ module _ {V : Type 0} where
     pub others : Knows other.name before other.seen
     pub legal : IsLegal (opening_of d.shape) e.seen
 
-  -- two chairs after a split: the first has made the event, and the second stands for the new name and has seen the
+  -- two seats after a split: the first has made the event, and the second stands for the new name and has seen the
   -- same
-  pub record Parted (v : Sight V) (a : ℕ) (hs : List Handle) (bs : List Block) (w u : Sight V) : Type 0 where
-    pub to : ℕ
-    pub event : tells (Split to a hs bs) v w
-    pub other : u ≡ record { shape = w.shape; view = comes w.view to; hand = None }
+  pub record Parted (v : SeatView V) (a : ℕ) (hs : List NumberedHandle) (bs : List Block) (w u : SeatView V) : Type 0
+    where
+      pub to : ℕ
+      pub event : tells (Split to a hs bs) v w
+      pub other : u ≡ record { shape = w.shape; view = comes w.view to; hand = None }

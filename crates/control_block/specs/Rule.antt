@@ -14,7 +14,7 @@ use Rattle.control_word.specs.Histories.{leads, value}
 use Rattle.control_word.specs.Layout.{IsWithinLimits, spot}
 use Rattle.control_word.specs.State.{Opening, State, Phase, unmade, live, gone, ending, InShape}
 use Rattle.control_word.specs.Views.{Stands, sees_as}
-use Rattle.control_block.specs.declared.board.Sight.{Sight}
+use Rattle.control_block.specs.declared.table.SeatView.{SeatView}
 
 -- a domain begins with one desk, which has all blocks and the whole allowance
 abbrev pub opening_of : Shape → Opening
@@ -35,7 +35,7 @@ IsSlotOf None b = ⊥
 IsSlotOf (Some c) b = c.0 ≡ b
 
 module _ {V : Type 0} where
-  abbrev pub view_of : Sight V → View V
+  abbrev pub view_of : SeatView V → View V
   view_of u = u.view
 
   abbrev pub until_gone : Phase → Option V → Option V
@@ -60,26 +60,26 @@ module _ {V : Type 0} where
   IsBacked s d p (Some c) = IsUsing p c.0 ⊎ ((s.object (s.latest c.0)).phase ≡ ending d)
 
   -- one unspent seat has the slot of block b
-  abbrev pub IsOut : List (Sight V) → ℕ → Type 0
-  IsOut sights b = (j : ℕ) × (u : Sight V) × (get_elem? sights j ≡ some u)
+  abbrev pub IsOut : List (SeatView V) → ℕ → Type 0
+  IsOut seat_views b = (j : ℕ) × (u : SeatView V) × (get_elem? seat_views j ≡ some u)
       × (u.view.spent ≡ false) × IsSlotOf u.hand b
 
-  pub record Ruled (k : Shape) (s : Table.State (Option V) (Sight V)) : Type 0 where
+  pub record Ruled (k : Shape) (s : Table.State (Option V) (SeatView V)) : Type 0 where
     pub history : List (Entry V)
     -- the words and what the desks know stand for the history
     pub stands : Stands (opening_of k) s.words (map view_of s.views) history
     pub limits : IsWithinLimits k
-    pub shapes : (j : ℕ) (u : Sight V) → get_elem? s.views j ≡ some u → u.view.spent ≡ false → u.shape ≡ k
+    pub shapes : (j : ℕ) (u : SeatView V) → get_elem? s.views j ≡ some u → u.view.spent ≡ false → u.shape ≡ k
     pub sized : length s.homes ≡ k.blocks
     -- each slot is at home with what it keeps, or out with a desk
     pub homes : (b : ℕ) → InShape (opening_of k) b
         → (get_elem? s.homes (b - 1) ≡ some (some (kept (opening_of k) history b))) ⊎ IsOut s.views b
-    pub backed : (j : ℕ) (u : Sight V) → get_elem? s.views j ≡ some u → u.view.spent ≡ false
+    pub backed : (j : ℕ) (u : SeatView V) → get_elem? s.views j ≡ some u → u.view.spent ≡ false
         → IsBacked (leads (opening_of k) history) u.view.name u.view.pending u.hand
 
   -- a seat with this half-done call, this slot in hand, and this history seen
-  abbrev pub seeing : Sight V → Pending V → Option Block → List (Entry V) → Sight V
+  abbrev pub seeing : SeatView V → Pending V → Option Block → List (Entry V) → SeatView V
   seeing v p c h = record { shape = v.shape; view = sees_as v.view p h; hand = c }
 
-  abbrev pub opens_with : Shape → Sight V
+  abbrev pub opens_with : Shape → SeatView V
   opens_with k = record { shape = k; view = record { name = 0; spent = false; pending = Idle; seen = [] }; hand = None }

@@ -2,7 +2,7 @@
 use Rattle.std.specs.Prelude.{ℕ}
 use Rattle.atomic_table.specs.Table.{Allows}
 use Rattle.control_word.specs.declared.shape.Shape.{Shape}
-use Rattle.control_block.specs.Plays.{At}
+use Rattle.control_block.specs.StepKinds.{At}
 use Rattle.control_block.specs.Rule.{Ruled}
 
 -- whatever the table is when the word i becomes f of what it was, the seat may step so, and is told this

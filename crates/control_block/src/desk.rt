@@ -3,15 +3,15 @@ ghost use Rattle.std.specs.Prelude.{◌≡◌, ◌↔◌, ℕ, length, IsTrue};
 ghost use Rattle.control_block.specs.Desks.{Belongs, allowance_of, held_of, stock_of};
 ghost use Rattle.control_block.specs.Standing.{Standing};
 
-use crate::board::Chair;
 use crate::domain::Domain;
+use crate::table::Seat;
 use control_word::Block;
 use std::alloc::Global;
 use std::marker::Model;
 
 /// One thread's part of a domain: a store of vacant blocks, and an allowance of handles. It must be joined or closed.
 pub struct Desk<V: Drop> {
-    pub(crate) seat: Chair<V>,
+    pub(crate) seat: Seat<V>,
     pub(crate) allowance: u32,
     /// Handles that were handed out, empty ones too.
     pub(crate) held: u32,

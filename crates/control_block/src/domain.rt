@@ -4,9 +4,9 @@ ghost use Rattle.std.specs.Prelude.{replicate, vec_capacity, vec_len, None, IfOk
 ghost use Rattle.control_word.specs.Layout.{IsWithinLimits};
 ghost use Rattle.control_block.specs.Desks.{IsFirstDesk, all_blocks};
 
-use crate::board::{Ruling, Sight};
 use crate::desk::Desk;
 use crate::slot::Slot;
+use crate::table::{Ruling, SeatView};
 use atomic_table::Table;
 use control_word::packed::layout::table_words;
 use control_word::{Block, Refusal, Shape};
@@ -17,7 +17,7 @@ use std::marker::Model;
 /// Blocks and cells that desks share between threads, without a lock.
 #[derive(Drop)]
 pub struct Domain<V: Drop> {
-    pub(crate) table: Table<Slot<V>, Sight<V>, Shape, Ruling, Global>,
+    pub(crate) table: Table<Slot<V>, SeatView<V>, Shape, Ruling, Global>,
     pub(crate) shape: Shape,
 }
 

@@ -32,11 +32,3 @@ pub enum Held {
     Owner(Shared),
     Weak(Weak),
 }
-
-/// A handle that isn't empty, as its desk's bag shows it: what the calls of control blocks go by.
-#[derive(Clone, Copy, Drop)]
-pub struct Pointer {
-    pub kind: Kind,
-    pub block: Block,
-    pub place: Option<Place>,
-}

@@ -1,7 +1,6 @@
 //! Control blocks that desks share between threads: the table, its rule, and each kind of atomic step.
 #![tactic(auto)]
 
-mod board;
 pub mod calls;
 pub mod cell_calls;
 pub mod census;
@@ -12,15 +11,17 @@ pub mod in_place;
 pub mod laws;
 mod parting;
 mod pause;
-mod plays;
-mod rounds;
+pub mod released;
+mod retries;
 mod shelf;
 mod slot;
+mod step_kinds;
 mod steps;
+mod table;
 
 pub use calls::{
     clears as clear_calls, compares as cell_compare_calls, locks as lock_calls,
     stores as store_calls, visits,
 };
 pub use parting::split::Lent;
-pub use plays::cells as cell_plays;
+pub use step_kinds::cells as cell_step_kinds;

@@ -4,7 +4,7 @@ ghost use Rattle.control_word.specs.State.{on_shelf};
 ghost use Rattle.control_block.specs.Desks.{Belongs, state_of, stock_of};
 ghost use Rattle.control_block.specs.Own.{IsSole};
 ghost use Rattle.control_block.specs.Shelf.{Shelved, Unshelved, shelved_of};
-ghost use Rattle.control_block.specs.ShelfPlays.{IsShelfWord, shelf_at};
+ghost use Rattle.control_block.specs.ShelfStepKinds.{IsShelfWord, shelf_at};
 
 use crate::desk::Desk;
 use crate::domain::Domain;
@@ -117,8 +117,8 @@ impl<V: Drop> Desk<V> {
             unreachable!()
         };
         let place = domain.shelf_place(block.0 / 64);
-        let board = &domain.table.shared;
-        shelf::shelve::<V, Brand>(board, &mut self.seat, place, block);
+        let table = &domain.table.shared;
+        shelf::shelve::<V, Brand>(table, &mut self.seat, place, block);
     }
 
     /// A word of the shelf.
@@ -141,8 +141,8 @@ impl<V: Drop> Desk<V> {
     {
         let word = block.0 / 64;
         let place = domain.shelf_place(word);
-        let board = &domain.table.shared;
-        if !shelf::unshelve::<V, Brand>(board, &mut self.seat, place, block) {
+        let table = &domain.table.shared;
+        if !shelf::unshelve::<V, Brand>(table, &mut self.seat, place, block) {
             return false;
         }
         self.store.push_reserved(block);

@@ -7,7 +7,7 @@ use Rattle.control_word.specs.declared.model.event.Cell.{Cell}
 use Rattle.control_word.specs.declared.model.event.Cell.TheVariants.{Member}
 use Rattle.control_word.specs.declared.model.event.Event.TheVariants.{Leave, WeakLeave, Load, Swap}
 use Rattle.control_word.specs.declared.model.event.Event.TheVariants.{Compare, ClearMember}
-use Rattle.control_word.specs.declared.model.handle.Handle.{Handle}
+use Rattle.control_word.specs.declared.model.handle.NumberedHandle.{NumberedHandle}
 use Rattle.control_word.specs.declared.model.handle.Kind.{Kind}
 use Rattle.control_word.specs.declared.model.handle.Kind.TheVariants.{Owner, Weak}
 use Rattle.control_word.specs.declared.place.Place.{Place}
@@ -40,7 +40,8 @@ module _ (V : Type 0) where
 
   abbrev pub DiffersEmpty : Type 0
   DiffersEmpty =
-      (at : Point V) (c : Cell) (k : Kind) (p : Option Place) (expected new : Handle) (weak : Bool) → Ready at Idle
+      (at : Point V) (c : Cell) (k : Kind) (p : Option Place) (expected new : NumberedHandle) (weak : Bool)
+      → Ready at Idle
       → handle k None p ≡ cell_of (state at) c
       → Asks {V = V} (state at) (me at) (Compare c expected new (handle k None p) false weak)
       → Tells at (Compare c expected new (handle k None p) false weak) Idle
@@ -77,7 +78,7 @@ module _ (V : Type 0) where
       → handle k (Some o) p ≡ cell_of (state at) c → HasOneMore at
       → let i = cell_word at c in let load = Paying k o p (counts at k o) 1 1 in word at i < 4398046511104
       → (IsOpen (state at) (me at) c → Adds at i (word at i + 17179869184) (Load c (handle k (Some o) p)) load)
-      × ((expected new : Handle) (weak : Bool)
+      × ((expected new : NumberedHandle) (weak : Bool)
       → Asks {V = V} (state at) (me at) (Compare c expected new (handle k (Some o) p) false weak)
       → Adds at i (word at i + 17179869184) (Compare c expected new (handle k (Some o) p) false weak) load)
 
@@ -99,7 +100,7 @@ module _ (V : Type 0) where
   -- swap a cell: the new value with 256 funds goes in, the old one comes out with those that were not taken
   abbrev pub Swaps : Type 0
   Swaps =
-      (at : Point V) (c : Cell) (new : Handle) → let s = state at in let old = cell_of s c in
+      (at : Point V) (c : Cell) (new : NumberedHandle) → let s = state at in let old = cell_of s c in
       Ready at (purse (blocks_of s) new 256) → Asks {V = V} s (me at) (Swap c new old)
       → HasRoom (after {V = V} s (me at) (Swap c new old)) (me at)
       → (taken : ℕ) → let i = cell_word at c in word at i ≡ packed (blocks_of s) old + 17179869184 * taken
@@ -108,7 +109,8 @@ module _ (V : Type 0) where
   -- compare and swap a cell
   abbrev pub CompareSwaps : Type 0
   CompareSwaps =
-      (at : Point V) (c : Cell) (expected new : Handle) (weak : Bool) → let s = state at in let old = cell_of s c in
+      (at : Point V) (c : Cell) (expected new : NumberedHandle) (weak : Bool)
+      → let s = state at in let old = cell_of s c in
       Ready at (purse (blocks_of s) new 256) → equivalent old expected ≡ true
       → Asks {V = V} s (me at) (Compare c expected new old true weak)
       → HasRoom (after {V = V} s (me at) (Compare c expected new old true weak)) (me at)

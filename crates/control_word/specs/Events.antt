@@ -3,7 +3,7 @@ use Rattle.std.specs.Prelude.{◌≡◌, ℕ, suc, ◌+◌, ◌-◌, ◌<◌, �
 use Rattle.std.specs.Prelude.{cond, ◌&&◌, not, ◌==◌, ◌⊎◌}
 use Rattle.std.specs.Prelude.{List, ◌∷◌, map, length, slice_index}
 use Rattle.std.specs.Prelude.{Option, Some, None}
-use Rattle.control_word.specs.declared.model.handle.Handle.{Handle}
+use Rattle.control_word.specs.declared.model.handle.NumberedHandle.{NumberedHandle}
 use Rattle.control_word.specs.declared.place.Place.{Place}
 use Rattle.control_word.specs.declared.place.Block.{Block}
 use Rattle.control_word.specs.declared.model.handle.Kind.{Kind}
@@ -29,10 +29,10 @@ is_gone gone = true
 is_gone (ending d) = false
 
 -- h is in d's bag, is of this kind and has an object
-abbrev pub Holds : State → ℕ → Kind → Handle → Type 0
+abbrev pub Holds : State → ℕ → Kind → NumberedHandle → Type 0
 Holds s d k h = Has (held d h) s.hands × (h.kind ≡ k) × (h.object ≡ Some (object_of h))
 
-abbrev pub cell_of : State → Cell → Handle
+abbrev pub cell_of : State → Cell → NumberedHandle
 cell_of s (Free c) = s.cell c
 cell_of s (Member o m) = (s.object o).member m
 
@@ -43,10 +43,10 @@ kind_of s (Member o m) = kind_of_member m
 -- the cell is free, or a member of an object of which d has an owner (own)
 abbrev pub IsOpen : State → ℕ → Cell → Type 0
 IsOpen s d (Free c) = c < s.cells
-IsOpen s d (Member o m) = (m < 3) × ((h : Handle) × Holds s d Owner h × (object_of h ≡ o))
+IsOpen s d (Member o m) = (m < 3) × ((h : NumberedHandle) × Holds s d Owner h × (object_of h ≡ o))
 
 -- h is well formed and of this kind, and empty or in d's bag
-abbrev pub InHand : State → ℕ → Kind → Handle → Type 0
+abbrev pub InHand : State → ℕ → Kind → NumberedHandle → Type 0
 InHand s d k h = (h.kind ≡ k) × (((h.object ≡ None) × IsFormed h) ⊎ Holds s d k h)
 
 abbrev pub place_at : ℕ → Option Place
@@ -79,7 +79,7 @@ module _ {V : Type 0} where
       × (field ≡ slice_index (s.object (object_of h)).fields p.field))
   -- a weak handle from a handle of the object, with its place or the object's own, or from-this in an ending object
   Asks s d (WeakShare o p) =
-      ((h : Handle) × Holds s d h.kind h × (h.object ≡ Some o)
+      ((h : NumberedHandle) × Holds s d h.kind h × (h.object ≡ Some o)
       × ((p ≡ h.place) ⊎ (p ≡ place_at (s.object o).block)))
       ⊎ (((s.object o).phase ≡ ending d) × ((s.object o).enabled ≡ true) × (p ≡ place_at (s.object o).block))
   -- ending a weak handle ([util.smartptr.weak.dest]); `vacant` where the block is free again (own)
@@ -104,7 +104,7 @@ module _ {V : Type 0} where
   -- a new desk gets an allowance, handles and blocks; each of the two keeps an allowance (own)
   Asks s d (Split to n hs bs) =
       (to ≡ s.names) × (0 < n) × (n < s.allowance d) × (length hs ≤ n)
-      × HasAll same_held (λ (h : Handle). held d h) hs s.hands
+      × HasAll same_held (λ (h : NumberedHandle). held d h) hs s.hands
       × HasAll same_stored (λ (b : Block). stored d b.0) bs s.stores
   Asks s d (Join other) = (other ≢ d) × IsActing s other
   -- a vacant block goes to the shelf, and from it to any desk's store (own)
@@ -112,21 +112,21 @@ module _ {V : Type 0} where
   Asks s d (Unshelve b) = s.shelved b.0 ≡ true
 
 -- d gets the handle, if it has an object
-abbrev pub gets : ℕ → Handle → State → State
+abbrev pub gets : ℕ → NumberedHandle → State → State
 gets d h s = record s { hands = cond (has_object h) (held d h ∷ s.hands) s.hands }
 
-abbrev pub loses : ℕ → Handle → State → State
+abbrev pub loses : ℕ → NumberedHandle → State → State
 loses d h s = record s { hands = cond (has_object h) (without same_held (held d h) s.hands) s.hands }
 
 abbrev pub changes : ℕ → Object → State → State
 changes o x s = record s { object = put s.object o x }
 
-abbrev pub fills : Cell → Handle → State → State
+abbrev pub fills : Cell → NumberedHandle → State → State
 fills (Free c) h s = record s { cell = put s.cell c h }
 fills (Member o m) h s = let x = s.object o in changes o (record x { member = put x.member m h }) s
 
 -- the cell holds the new handle, and d gets the old one
-abbrev pub swaps : ℕ → Cell → Handle → Handle → State → State
+abbrev pub swaps : ℕ → Cell → NumberedHandle → NumberedHandle → State → State
 swaps d c new old s = gets d old (fills c new (loses d new s))
 
 abbrev pub renamed : ℕ → ℕ → ℕ → ℕ
@@ -146,7 +146,7 @@ abbrev pub vacates : Bool → ℕ → ℕ → State → State
 vacates v d b s = record s { stores = cond v (stored d b ∷ s.stores) s.stores }
 
 -- the owner goes, and the last one's object is ending with d
-abbrev pub leaves : ℕ → Handle → Bool → State → State
+abbrev pub leaves : ℕ → NumberedHandle → Bool → State → State
 leaves d h last s =
     let x = s.object (object_of h) in
     record s {
@@ -154,11 +154,11 @@ leaves d h last s =
       object = put s.object (object_of h) (cond last (moved_to (ending d) x) x);
     }
 
-abbrev pub weak_leaves : ℕ → Handle → Bool → State → State
+abbrev pub weak_leaves : ℕ → NumberedHandle → Bool → State → State
 weak_leaves d h vacant s = vacates vacant d (s.object (object_of h)).block (loses d h s)
 
 -- the member is empty, and d gets what it held
-abbrev pub clears : ℕ → ℕ → ℕ → Handle → State → State
+abbrev pub clears : ℕ → ℕ → ℕ → NumberedHandle → State → State
 clears d o m h s =
     let x = s.object o in gets d h (changes o (record x { member = put x.member m (empty (kind_of_member m)) }) s)
 
@@ -166,10 +166,10 @@ abbrev pub finishes : ℕ → ℕ → Bool → State → State
 finishes d o vacant s = let x = s.object o in vacates vacant d x.block (changes o (moved_to gone x) s)
 
 -- a new desk gets an allowance, handles and blocks of d's
-abbrev pub splits_off : ℕ → ℕ → ℕ → List Handle → List Block → State → State
+abbrev pub splits_off : ℕ → ℕ → ℕ → List NumberedHandle → List Block → State → State
 splits_off d to n hs bs s =
     record s {
-      hands = passed same_held (λ (h : Handle). held d h) (λ h. held to h) hs s.hands;
+      hands = passed same_held (λ (h : NumberedHandle). held d h) (λ h. held to h) hs s.hands;
       stores = passed same_stored (λ (b : Block). stored d b.0) (λ b. stored to b.0) bs s.stores;
       names = suc s.names;
       allowance = put (put s.allowance d (s.allowance d - n)) to n;

@@ -8,7 +8,7 @@ use Rattle.std.specs.Prelude.{slice_index}
 use Rattle.control_word.specs.declared.model.event.Entry.{Entry}
 use Rattle.control_word.specs.declared.model.event.Cell.{Cell}
 use Rattle.control_word.specs.declared.model.event.Cell.TheVariants.{Free, Member}
-use Rattle.control_word.specs.declared.model.handle.Handle.{Handle}
+use Rattle.control_word.specs.declared.model.handle.NumberedHandle.{NumberedHandle}
 use Rattle.control_word.specs.declared.model.handle.Kind.{Kind}
 use Rattle.control_word.specs.declared.model.handle.Kind.TheVariants.{Owner, Weak}
 use Rattle.control_word.specs.declared.model.view.View.{View}
@@ -38,7 +38,7 @@ IsCell s (Member o m) = m < 3
 
 -- the desk has a handle of the object, or the object ends in its hands
 abbrev pub IsInHands : State → ℕ → ℕ → Type 0
-IsInHands s d o = ((k : Kind) × (x : Handle) × Holds s d k x × (object_of x ≡ o))
+IsInHands s d o = ((k : Kind) × (x : NumberedHandle) × Holds s d k x × (object_of x ≡ o))
     ⊎ ((s.object o).phase ≡ ending d)
 
 module _ (V : Type 0) where
@@ -85,7 +85,7 @@ module _ (V : Type 0) where
   -- being vacant
   abbrev pub NamesAnObject : Type 0
   NamesAnObject =
-      (z : Opening) (h : List (Entry V)) → IsLegal z h → (d : ℕ) (k : Kind) (x : Handle)
+      (z : Opening) (h : List (Entry V)) → IsLegal z h → (d : ℕ) (k : Kind) (x : NumberedHandle)
       → Holds (leads z h) d k x
       → let s = leads z h in let o = object_of x in
       (1 ≤ o) × (o ≤ s.made) × (s.latest (s.object o).block ≡ o) × InShape z (s.object o).block
@@ -110,7 +110,7 @@ module _ (V : Type 0) where
   AreFormed =
       (z : Opening) (h : List (Entry V)) → IsLegal z h
       → let s = leads z h in
-      ((d : ℕ) (x : Handle) → Has (held d x) s.hands → IsFormed x)
+      ((d : ℕ) (x : NumberedHandle) → Has (held d x) s.hands → IsFormed x)
       × ((c : Cell) → IsCell s c → IsFormed (cell_of s c) × ((cell_of s c).kind ≡ kind_of s c))
 
   -- the allowances of desks are the whole together, each desk that isn't joined has one, and holds no more than that
@@ -132,14 +132,14 @@ module _ (V : Type 0) where
   abbrev pub StaysExpired : Type 0
   StaysExpired =
       (z : Opening) (later seen : List (Entry V)) → IsLegal z (later ++ seen)
-      → (d : ℕ) (x : Handle) → Holds (leads z seen) d Weak x
+      → (d : ℕ) (x : NumberedHandle) → Holds (leads z seen) d Weak x
       → count (leads z seen) (object_of x) ≡ 0 → count (leads z (later ++ seen)) (object_of x) ≡ 0
 
   -- two handles that desks have are equivalent in owner order exactly where they share ownership or are both empty
   abbrev pub OrdersByOwner : Type 0
   OrdersByOwner =
       (z : Opening) (h : List (Entry V)) → IsLegal z h
-      → (d e : ℕ) (k l : Kind) (x y : Handle) → InHand (leads z h) d k x → InHand (leads z h) e l y
+      → (d e : ℕ) (k l : Kind) (x y : NumberedHandle) → InHand (leads z h) d k x → InHand (leads z h) e l y
       → let block = blocks_of (leads z h) in
       ((owner_before block x y ≡ false) × (owner_before block y x ≡ false)) ↔ (x.object ≡ y.object)
 
@@ -188,15 +188,15 @@ module _ (V : Type 0) where
 abbrev pub IsStrictWeakOrder : Type 0
 IsStrictWeakOrder =
     (block : ℕ → ℕ)
-    → ((x : Handle) → owner_before block x x ≡ false)
-    × ((x y w : Handle) → owner_before block x y ≡ true → owner_before block y w ≡ true
+    → ((x : NumberedHandle) → owner_before block x x ≡ false)
+    × ((x y w : NumberedHandle) → owner_before block x y ≡ true → owner_before block y w ≡ true
     → owner_before block x w ≡ true)
-    × ((x y w : Handle) → owner_before block x w ≡ true
+    × ((x y w : NumberedHandle) → owner_before block x w ≡ true
     → (owner_before block x y ≡ true) ⊎ (owner_before block y w ≡ true))
 
 -- equivalence of handles is an equivalence relation
 abbrev pub IsEquivalence : Type 0
 IsEquivalence =
-    ((x : Handle) → equivalent x x ≡ true)
-    × ((x y : Handle) → equivalent x y ≡ true → equivalent y x ≡ true)
-    × ((x y w : Handle) → equivalent x y ≡ true → equivalent y w ≡ true → equivalent x w ≡ true)
+    ((x : NumberedHandle) → equivalent x x ≡ true)
+    × ((x y : NumberedHandle) → equivalent x y ≡ true → equivalent y x ≡ true)
+    × ((x y w : NumberedHandle) → equivalent x y ≡ true → equivalent y w ≡ true → equivalent x w ≡ true)

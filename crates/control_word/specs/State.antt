@@ -3,7 +3,7 @@ use Rattle.std.specs.Prelude.{◌≡◌, ℕ, zero, suc, ◌+◌, ◌<◌, ◌�
 use Rattle.std.specs.Prelude.{◌==◌, nat_lt, ◌⊎◌, List, []}
 use Rattle.std.specs.Prelude.{◌∷◌, ◌++◌, map, length}
 use Rattle.std.specs.List.{filter}
-use Rattle.control_word.specs.declared.model.handle.Handle.{Handle}
+use Rattle.control_word.specs.declared.model.handle.NumberedHandle.{NumberedHandle}
 use Rattle.control_word.specs.declared.model.handle.Kind.{Kind}
 use Rattle.control_word.specs.declared.model.handle.Kind.TheVariants.{Owner, Weak}
 use Rattle.control_word.specs.Handles.{same_handle, is_on, empty}
@@ -47,11 +47,11 @@ pub record Object : Type 0 where
   pub enabled : Bool
   pub null : Bool
   pub phase : Phase
-  pub member : ℕ → Handle
+  pub member : ℕ → NumberedHandle
 
 pub record Held : Type 0 where
   pub desk : ℕ
-  pub handle : Handle
+  pub handle : NumberedHandle
 
 pub record Stored : Type 0 where
   pub desk : ℕ
@@ -69,12 +69,12 @@ pub record State : Type 0 where
   pub latest : ℕ → ℕ
   pub shared : ℕ
   pub cells : ℕ
-  pub cell : ℕ → Handle
+  pub cell : ℕ → NumberedHandle
   pub names : ℕ
   pub joined : ℕ → Bool
   pub allowance : ℕ → ℕ
 
-abbrev pub held : ℕ → Handle → Held
+abbrev pub held : ℕ → NumberedHandle → Held
 held d h = record { desk = d; handle = h }
 
 abbrev pub stored : ℕ → ℕ → Stored
@@ -98,21 +98,21 @@ nobody =
     }
 
 -- f 0 to f (n - 1), one after another
-abbrev pub upto : ℕ → (ℕ → List Handle) → List Handle
+abbrev pub upto : ℕ → (ℕ → List NumberedHandle) → List NumberedHandle
 upto zero f = []
 upto (suc n) f = f n ++ upto n f
 
-abbrev pub members : Object → List Handle
+abbrev pub members : Object → List NumberedHandle
 members x = x.member 0 ∷ x.member 1 ∷ x.member 2 ∷ []
 
-abbrev pub in_cells : State → List Handle
+abbrev pub in_cells : State → List NumberedHandle
 in_cells s = upto s.cells (λ c. s.cell c ∷ []) ++ upto (suc s.made) (λ o. members (s.object o))
 
 -- all handles: those of all bags, then those of all cells
-abbrev pub handles : State → List Handle
+abbrev pub handles : State → List NumberedHandle
 handles s = map (λ x. x.handle) s.hands ++ in_cells s
 
-abbrev pub tally : Kind → ℕ → List Handle → ℕ
+abbrev pub tally : Kind → ℕ → List NumberedHandle → ℕ
 tally k o l = length (filter (is_on k o) l)
 
 -- use_count: how many owner handles an object has ([util.smartptr.shared.obs]); how many weak ones (own)

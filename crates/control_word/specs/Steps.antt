@@ -14,7 +14,7 @@ use Rattle.control_word.specs.declared.model.event.Event.TheVariants.{WeakShare}
 use Rattle.control_word.specs.declared.model.event.Event.TheVariants.{WeakLeave, Lock}
 use Rattle.control_word.specs.declared.model.event.Event.TheVariants.{Finish, Visit, Split, Join, Shelve, Unshelve}
 use Rattle.control_word.specs.declared.model.event.Entry.{Entry}
-use Rattle.control_word.specs.declared.model.handle.Handle.{Handle}
+use Rattle.control_word.specs.declared.model.handle.NumberedHandle.{NumberedHandle}
 use Rattle.control_word.specs.declared.model.handle.Kind.{Kind}
 use Rattle.control_word.specs.declared.model.handle.Kind.TheVariants.{Owner, Weak}
 use Rattle.control_word.specs.declared.place.Place.{Place}
@@ -92,7 +92,7 @@ module _ {V : Type 0} where
       Stands at.opening (slice_set at.words k n) (slice_set at.views at.seat (sees_as at.view p at.history)) at.history
 
   -- the handle that goes in or came out has so many funds out on its count
-  abbrev pub purse : (ℕ → ℕ) → Handle → ℕ → Pending V
+  abbrev pub purse : (ℕ → ℕ) → NumberedHandle → ℕ → Pending V
   purse block h f = elim (h.object)
       [ None ↦ Idle | Some o ↦ Paying h.kind o h.place (counts_at block h.kind o) f 0 ]
 
@@ -202,7 +202,7 @@ module _ (V : Type 0) where
   -- the look of a split, and the cut of the view that follows it
   abbrev pub Splits : Type 0
   Splits =
-      (at : Point V) (to n : ℕ) (hs : List Handle) (bs : List Block) → Ready at Idle
+      (at : Point V) (to n : ℕ) (hs : List NumberedHandle) (bs : List Block) → Ready at Idle
       → Asks {V = V} (state at) (me at) (Split to n hs bs)
       → HasRoom (after {V = V} (state at) (me at) (Split to n hs bs)) (me at)
       → Tells at (Split to n hs bs) (Parting to)

@@ -5,7 +5,7 @@ use Rattle.std.specs.Prelude.{◌⊎◌, List, [], ◌∷◌, length, slice_inde
 use Rattle.std.specs.Int.{bit_at}
 use Rattle.control_word.specs.declared.model.handle.Kind.{Kind}
 use Rattle.control_word.specs.declared.model.handle.Kind.TheVariants.{Owner, Weak}
-use Rattle.control_word.specs.declared.model.handle.Handle.{Handle}
+use Rattle.control_word.specs.declared.model.handle.NumberedHandle.{NumberedHandle}
 use Rattle.control_word.specs.declared.place.Place.{Place}
 use Rattle.control_word.specs.declared.place.Block.{Block}
 use Rattle.control_word.specs.declared.packed.cell.CellWord.{CellWord}
@@ -33,7 +33,7 @@ owned_bits block None = 0
 owned_bits block (Some o) = block o
 
 -- a cell's word with no fund taken; `block` tells where an object is
-unfoldable pub packed : (ℕ → ℕ) → Handle → ℕ
+unfoldable pub packed : (ℕ → ℕ) → NumberedHandle → ℕ
 packed block h = owned_bits block h.object + place_bits h.place
 
 -- what a cell with this handle and so many funds taken shows
@@ -41,7 +41,7 @@ abbrev pub block_of : (ℕ → ℕ) → Option ℕ → Option Block
 block_of block None = None
 block_of block (Some o) = Some record { 0 = block o }
 
-abbrev pub shown : (ℕ → ℕ) → Handle → ℕ → CellWord
+abbrev pub shown : (ℕ → ℕ) → NumberedHandle → ℕ → CellWord
 shown block h t = record { owned = block_of block h.object; place = h.place; taken = t }
 
 abbrev pub blocks_of : State → ℕ → ℕ
@@ -74,7 +74,7 @@ abbrev pub counts_at : (ℕ → ℕ) → Kind → ℕ → ℕ
 counts_at block k o = spot (block o) (slot k)
 
 -- the funds that a cell with this handle keeps on word i, with t of them taken
-abbrev pub worth : (ℕ → ℕ) → Handle → ℕ → ℕ → ℕ
+abbrev pub worth : (ℕ → ℕ) → NumberedHandle → ℕ → ℕ → ℕ
 worth block h t i = elim (h.object) [ None ↦ 0 | Some o ↦ cond (i == counts_at block h.kind o) (256 - t) 0 ]
 
 abbrev pub member_funds : (ℕ → ℕ) → (ℕ → ℕ) → Object → ℕ → ℕ

@@ -7,7 +7,7 @@ use Rattle.control_word.specs.declared.model.event.Event.{Event}
 use Rattle.control_word.specs.declared.model.event.Event.TheVariants.{Make, Share, Leave, Count, Expired, Read}
 use Rattle.control_word.specs.declared.model.event.Event.TheVariants.{WeakShare, WeakLeave, Lock, Load, Swap, Compare}
 use Rattle.control_word.specs.declared.model.event.Event.TheVariants.{ClearMember, Finish, Visit, Split, Join}
-use Rattle.control_word.specs.declared.model.handle.Handle.{Handle}
+use Rattle.control_word.specs.declared.model.handle.NumberedHandle.{NumberedHandle}
 use Rattle.control_word.specs.declared.model.handle.Kind.TheVariants.{Owner, Weak}
 use Rattle.control_word.specs.Handles.{handle, empty, same_place}
 use Rattle.control_word.specs.State.{Opening, State, bag_size, live, gone, count, weak, IsVacant}
@@ -36,10 +36,10 @@ abbrev pub make_in : ℕ → List ℕ → Event ℕ
 make_in b fields = Make (record { 0 = b }) false false fields 0
 
 -- handles of object o that point to it, in block b
-abbrev pub owner_at : ℕ → ℕ → Handle
+abbrev pub owner_at : ℕ → ℕ → NumberedHandle
 owner_at o b = handle Owner (Some o) (place_at b)
 
-abbrev pub weak_at : ℕ → ℕ → Handle
+abbrev pub weak_at : ℕ → ℕ → NumberedHandle
 weak_at o b = handle Weak (Some o) (place_at b)
 
 abbrev pub reached : List (Entry ℕ) → State
@@ -106,7 +106,7 @@ LockKeepsAlive =
     × (s.made ≡ 1) × ((s.object 1).phase ≡ gone) × IsVacant s 1
 
 -- a strong compare at the shared cell. The reply: what the cell held, and whether it was swapped
-abbrev pub compares : Handle → Handle → Handle × Bool → Event ℕ
+abbrev pub compares : NumberedHandle → NumberedHandle → NumberedHandle × Bool → Event ℕ
 compares expected new reply = Compare (Free 0) expected new reply.0 reply.1 false
 
 -- A compare that differs hands out what the cell holds
@@ -144,7 +144,7 @@ FailedCompareHandsOutHeld =
     × ((s.object 1).phase ≡ live) × (s.cell 0 ≡ owner_at 1 1) × Counts compare_ended 1 1 0
 
 -- The next object in a block has the same place. An empty handle that kept the place is not equivalent to its owner
-abbrev pub leftover : Handle
+abbrev pub leftover : NumberedHandle
 leftover = handle Owner None (place_at 1)
 
 abbrev pub reuse_stored : List (Entry ℕ)
@@ -210,7 +210,8 @@ CycleStays =
     × ((s.object 1).phase ≡ live) × ((s.object 2).phase ≡ live)
     × Counts cycle_ended 1 1 0 × Counts cycle_ended 2 1 0
 
--- What is loaded from a member is an owner more, and keeps its object when the member goes out. The value that comes out
+-- What is loaded from a member is an owner more, and keeps its object when the member goes out. The value that comes
+-- out
 -- at an object's end is what a visit left
 abbrev pub member_filled : List (Entry ℕ)
 member_filled =

@@ -1,14 +1,15 @@
 //! Packed words, limits, and the definitions of the shared-ownership runtime.
 #![tactic(auto)]
 
+pub mod handle;
 pub mod laws;
-pub mod limits;
 pub mod model;
 pub mod packed;
 pub mod place;
 pub mod refusal;
 pub mod shape;
 
+pub use handle::Handle;
 pub use packed::cell::CellWord;
 pub use packed::counts::{Count, Counts};
 pub use place::{Block, Place};

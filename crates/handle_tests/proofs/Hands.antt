@@ -9,7 +9,7 @@ use Rattle.std.proofs.lemmas.List.Sorted.{IsPermutation-refl, IsPermutation-cons
 use Rattle.control_word.proofs.lists.Tallies.{handle_self, same_handle_true}
 use Rattle.control_word.specs.Handles.{handle, has_object, same_handle}
 use Rattle.control_word.specs.State.{without}
-use Rattle.control_word.specs.declared.model.handle.Handle.{Handle}
+use Rattle.control_word.specs.declared.model.handle.NumberedHandle.{NumberedHandle}
 use Rattle.control_word.specs.declared.model.handle.Kind.{Kind}
 use Rattle.control_word.specs.declared.model.handle.Kind.TheVariants.{Owner, Weak}
 use Rattle.control_word.specs.declared.place.Block.{Block}
@@ -64,14 +64,14 @@ last_first [] x = IsPermutation-refl _
 last_first (a ∷ l) x = IsPermutation-trans _ _ _ (under a (l ++ x ∷ []) (x ∷ l) (last_first l x)) (flip a x l)
 
 -- n handles, of which these have an object, are among those of a bag and as many more as are counted
-abbrev Covers : ℕ → List Handle → List Handle → ℕ → Type 0
+abbrev Covers : ℕ → List NumberedHandle → List NumberedHandle → ℕ → Type 0
 Covers n l bag m = AreIn l bag × (n - length l ≤ m - length bag)
 
-abbrev listed_more : Kind → Option Block → Option Place → List Handle → List Handle
+abbrev listed_more : Kind → Option Block → Option Place → List NumberedHandle → List NumberedHandle
 listed_more k b p l = let h = handle k (number_of_block b) p in cond (has_object h) (h ∷ l) l
 
 -- one of them was exchanged for another
-covers_other : (k : Kind) (b : Option Block) (p : Option Place) (j : Kind) (c : Option Block) (q : Option Place) (n : ℕ) (l bag : List Handle) (m : ℕ)
+covers_other : (k : Kind) (b : Option Block) (p : Option Place) (j : Kind) (c : Option Block) (q : Option Place) (n : ℕ) (l bag : List NumberedHandle) (m : ℕ)
     → Covers (suc n) (listed_more k b p l) bag m → length bag ≤ m → length l ≤ n
     → Covers (suc n) (listed_more j c q l) (with_handle j c q (without_handle k b p bag)) m
 covers_other k None p j None q n l bag m c few le = c
@@ -86,10 +86,10 @@ covers_other k (Some b) p j (Some z) q n l bag m c few le =
     ((inl refl, subst (AreIn l) (sym (taken_out h rest)) c.0.1), omega arith)
 
 -- a desk has these handles, by the bag and the number that it has
-by_bag : (e : DeskNow ℕ) (hs : List Held) (l : List Handle) (m : ℕ) → bag_of e ≡ l → e.held ≡ m
+by_bag : (e : DeskNow ℕ) (hs : List Held) (l : List NumberedHandle) (m : ℕ) → bag_of e ≡ l → e.held ≡ m
     → AreIn (listed hs) l × (length hs - length (listed hs) ≤ m - length l) → HoldsAll e hs
 by_bag e hs l m bag count all =
-    let t = subst (λ (y : List Handle × ℕ). AreIn (listed hs) y.0 × (length hs - length (listed hs) ≤ y.1 - length y.0))
+    let t = subst (λ (y : List NumberedHandle × ℕ). AreIn (listed hs) y.0 × (length hs - length (listed hs) ≤ y.1 - length y.0))
     (λ i. (sym bag i, sym count i)) all in
     record { objects = t.0; empty = t.1 }
 
@@ -135,7 +135,7 @@ owner_gained d e h b p desk bag f g count =
     record { desk = desk; bag = bag ∙ (λ i. with_handle Owner (sym f i) (sym g i) (bag_of d)); held = count }
 
 -- an empty weak handle has a null place, and stands in no bag
-weakly : (l : List Handle) (b : Option Block) (p q : Option Place) → q ≡ weak_place b p → with_handle Weak b p l ≡ with_handle Weak b q l
+weakly : (l : List NumberedHandle) (b : Option Block) (p q : Option Place) → q ≡ weak_place b p → with_handle Weak b p l ≡ with_handle Weak b q l
 weakly l None p q f = refl
 weakly l (Some b) p q f = ap (λ (x : Option Place). with_handle Weak (Some b) x l) (sym f)
 

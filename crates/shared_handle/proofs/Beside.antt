@@ -1,6 +1,6 @@
 -- Objects that end beside each other in a desk's hands, one out of the other's member.
-use Rattle.std.proofs.Common.{◌≡◌, ◌≢◌, ◌++◌, ℕ, true, cond, Option, None, Some, refl, sym, ap, subst, ◌∙◌}
-use Rattle.std.specs.Prelude.{is_some}
+use Rattle.std.proofs.Common.{◌≡◌, ◌≢◌, ◌++◌, ℕ, true, true≢false, cond, Option, None, Some, refl, sym, ap, subst, ◌∙◌}
+use Rattle.std.specs.Prelude.{IfSome, is_some}
 use Rattle.control_word.proofs.history.Legal.{sound}
 use Rattle.control_word.proofs.lists.Tallies.{put_cases}
 use Rattle.control_word.specs.Events.{after, loses}
@@ -10,15 +10,18 @@ use Rattle.control_word.specs.State.{Object, State, ending, kind_of_member, put}
 use Rattle.control_word.specs.declared.model.event.Cell.{Cell}
 use Rattle.control_word.specs.declared.model.event.Event.{Event}
 use Rattle.control_word.specs.declared.model.event.Event.TheVariants.{ClearMember, Leave, Swap}
-use Rattle.control_word.specs.declared.model.handle.Handle.{Handle}
-use Rattle.control_word.specs.declared.model.handle.Kind.TheVariants.{Owner}
+use Rattle.control_word.specs.declared.model.handle.NumberedHandle.{NumberedHandle}
+use Rattle.control_word.specs.declared.model.handle.Kind.TheVariants.{Owner, Weak}
 use Rattle.control_word.specs.declared.place.Block.{Block}
 use Rattle.control_word.specs.declared.place.Place.{Place}
 use Rattle.control_block.proofs.Endings.{fills_latest, fills_phase, not_live, still_ends}
 use Rattle.control_block.specs.Clearing.{Empties, Lets}
 use Rattle.control_block.specs.Desks.{AddsEvent, DeskNow, IsEnding, KeepsOtherEndings, latest_of, object_in, on_latest, state_of}
+use Rattle.control_block.specs.Leaving.{IsReleasedBy}
 use Rattle.control_block.specs.Rule.{opening_of}
-use Rattle.shared_handle.specs.Endings.{ClearsUp, EndsInHand, IsApart, IsBeside, IsLeft, IsLeftOf, more_ending}
+use Rattle.control_block.specs.declared.released.Released.{Released}
+use Rattle.shared_handle.specs.Calls.{LeavesWeakly}
+use Rattle.shared_handle.specs.Endings.{ClearsUp, EndsInHand, IsApart, IsBeside, IsGone, IsLeft, IsLeftOf, IsUncleared, more_ending}
 use Rattle.shared_handle.specs.declared.endings.Ending.{Ending}
 use Rattle.shared_handle.specs.declared.endings.Left.{Left}
 use Rattle.shared_handle.specs.declared.endings.Left.TheVariants.{Empty, Last, Others}
@@ -52,14 +55,14 @@ module _ {V : Type 0} where
       ∙ (phase s (latest_of d b) ∙ (still.object.phase ∙ (ends ∙ ap ending (sym adds.same.2)))))
 
   -- so after a clear of a member of any object
-  pub ends_through_clear : (d e : DeskNow V) (b o m : ℕ) (h : Handle) → (object_in d b).phase ≡ ending d.name → AddsEvent d (ClearMember o m h) e
+  pub ends_through_clear : (d e : DeskNow V) (b o m : ℕ) (h : NumberedHandle) → (object_in d b).phase ≡ ending d.name → AddsEvent d (ClearMember o m h) e
       → (object_in e b).phase ≡ ending e.name
   ends_through_clear d e b o m h = through d e b (ClearMember o m h) (λ s. refl)
       (λ s i. put_cases (λ j (y : Object). y.phase ≡ (s.object j).phase) s.object o
       (record (s.object o) { member = put (s.object o).member m (empty (kind_of_member m)) }) i (λ q. ap (λ j. (s.object j).phase) (sym q)) (λ n. refl))
 
   -- and after a handle went into a cell
-  pub ends_through_swap : (d e : DeskNow V) (b : ℕ) (c : Cell) (new old : Handle) → (object_in d b).phase ≡ ending d.name
+  pub ends_through_swap : (d e : DeskNow V) (b : ℕ) (c : Cell) (new old : NumberedHandle) → (object_in d b).phase ≡ ending d.name
       → AddsEvent d (Swap c new old) e
       → (object_in e b).phase ≡ ending e.name
   ends_through_swap d e b c new old = through d e b (Swap c new old)
@@ -71,44 +74,52 @@ module _ {V : Type 0} where
   left_apart d e h p Others is b ends = _
   left_apart d e h p (Last x) is b ends = λ same. apart d e b x.block.0 p ends is.1 (sym same)
 
-  -- what came of an owner that left, by the value that came out
-  pub left_of : (d e : DeskNow V) (h : Option Block) (p : Option Place) (r : Option V) (left : Left V) → Lets d h p r e → IsLeftOf h r left
-      → IsLeft d h p left e
-  left_of d e None p r Empty lets is = (refl, lets.1)
-  left_of d e None p r Others lets is = absurd (cc is.1)
-  left_of d e None p r (Last x) lets is = absurd (cc is.0)
-  left_of d e (Some c) p r Empty lets is = absurd (cc is)
-  left_of d e (Some c) p None Others lets is = (c, refl, lets.0)
-  left_of d e (Some c) p (Some v) Others lets is = absurd (cc is.2)
-  left_of d e (Some c) p None (Last x) lets is = absurd (cc is.1)
-  left_of d e (Some c) p (Some v) (Last x) lets (one, two, un) =
-      let same : c ≡ x.block = cc one in let value : v ≡ x.value = cc two in (
-        one,
-        subst (λ (k : Block). AddsEvent d (Leave (on_latest d Owner p k.0) true) e) same lets.0,
-        record {
-          ends = subst (λ (k : Block). IsEnding e k.0 x.value) same (subst (IsEnding e c.0) value lets.1);
-          first = λ t. let n = un.0 in absurd (cc);
-          next = λ t. let n = un.1 in absurd (cc);
-          up = λ t. let n = un.2 in absurd (cc);
-        },
-        un,
+  -- an object that begins to end has no member cleared
+  begins : (d : DeskNow V) (x : Ending V) → IsUncleared x → IsEnding d x.block.0 x.value → EndsInHand d x
+  begins d x none ends =
+      record {
+        ends = ends;
+        first = λ t. absurd (true≢false (sym t ∙ none.0));
+        next = λ t. absurd (true≢false (sym t ∙ none.1));
+        up = λ t. absurd (true≢false (sym t ∙ none.2));
+      }
+
+  -- what came of an owner that left, by what it released
+  pub left_of : (d e : DeskNow V) (h : Option Block) (p : Option Place) (r : Released V) (left : Left V) → Lets Owner d h p r e
+      → IsLeftOf h r.value left → IsLeft d h p left e
+  left_of d e h p r Empty lets is = let t = subst (λ q. Lets Owner d q p r e) is lets in (is, t.1)
+  left_of d e h p r Others lets is =
+      let t = subst (λ q. Lets Owner d q p r e) is.1 lets in
+      (is.0, is.1, subst (λ (y : Option V). AddsEvent d (Leave (on_latest d Owner p is.0.0) (is_some y)) e) is.2 t.0)
+  left_of d e h p r (Last x) lets is =
+      let t = subst (λ q. Lets Owner d q p r e) is.0 lets in (
+        is.0,
+        subst (λ (y : Option V). AddsEvent d (Leave (on_latest d Owner p x.block.0) (is_some y)) e) is.1 t.0,
+        begins e x is.2 (subst (λ (y : Option V). IfSome y (IsEnding e x.block.0)) is.1 t.2),
+        is.2,
       )
 
   -- and how many more end for it
-  pub more_of : (d e : DeskNow V) (h : Option Block) (p : Option Place) (r : Option V) (left : Left V) → Lets d h p r e → IsLeftOf h r left
-      → cond (is_some r) 1 0 ≡ more_ending left
-  more_of d e None p r Empty lets is = ap (λ (x : Option V). cond (is_some x) 1 0) lets.0
-  more_of d e None p r Others lets is = absurd (cc is.1)
-  more_of d e None p r (Last x) lets is = absurd (cc is.0)
-  more_of d e (Some c) p r Empty lets is = absurd (cc is)
-  more_of d e (Some c) p None Others lets is = refl
-  more_of d e (Some c) p (Some v) Others lets is = absurd (cc is.2)
-  more_of d e (Some c) p None (Last x) lets is = absurd (cc is.1)
-  more_of d e (Some c) p (Some v) (Last x) lets is = refl
+  pub more_of : (d e : DeskNow V) (h : Option Block) (p : Option Place) (r : Released V) (left : Left V) → Lets Owner d h p r e
+      → IsLeftOf h r.value left → ◌≡◌ {A = ℕ} (cond (is_some r.value) 1 0) (more_ending left)
+  more_of d e h p r Empty lets is =
+      let t = subst (λ q. Lets Owner d q p r e) is lets in ap (λ (y : Released V). cond (is_some y.value) 1 0) t.0
+  more_of d e h p r Others lets is = ap (λ (y : Option V). cond (is_some y) 1 0) is.2
+  more_of d e h p r (Last x) lets is = ap (λ (y : Option V). cond (is_some y) 1 0) is.1
+
+  -- the same of a weak handle
+  pub weakly_of : (d e : DeskNow V) (h : Option Block) (p : Option Place) (r : Released V) → Lets Weak d h p r e → LeavesWeakly d h p r.vacant e
+  weakly_of d e None p r lets = (lets.1, ap (λ (y : Released V). y.vacant) lets.0)
+  weakly_of d e (Some c) p r lets = lets.0
+
+  pub gone_of : (h : Option Block) (r : Released V) (left : Left V) → IsReleasedBy Weak r → IsLeftOf h r.value left → IsGone h left
+  gone_of h r Empty none is = is
+  gone_of h r Others none is = (is.0, is.1)
+  gone_of h r (Last x) none is = let e : ◌≡◌ {A = Option V} None (Some x.value) = sym none ∙ is.1 in absurd (cc e)
 
   -- what ends when a member is cleared lies in no such block either
-  pub out_apart : (d e : DeskNow V) (b m : ℕ) (h : Option Block) (p : Option Place) (r : Option V) (left : Left V) → Empties d b m h p r e
-      → IsLeftOf h r left → IsApart d left
+  pub out_apart : (d e : DeskNow V) (b m : ℕ) (h : Option Block) (p : Option Place) (r : Released V) (left : Left V) → Empties Owner d b m h p r e
+      → IsLeftOf h r.value left → IsApart d left
   out_apart d e b m h p r left out is k ends =
       left_apart out.between e h p left (left_of out.between e h p r left out.lets is) k
       (ends_through_clear d out.between k _ m _ ends out.takes.event)
@@ -118,6 +129,11 @@ module _ {V : Type 0} where
   up_beside d e x Empty clears b = _
   up_beside d e x Others clears b = _
   up_beside d e x (Last y) clears b = absurd clears.told
+
+  pub up_none : (d e : DeskNow V) (x : Ending V) (left : Left V) → ClearsUp d x left e → ◌≡◌ {A = ℕ} (more_ending left) 0
+  up_none d e x Empty clears = refl
+  up_none d e x Others clears = refl
+  up_none d e x (Last y) clears = absurd clears.told
 
   -- what ends beside another ends still, whatever becomes of the other
   pub ends_beside : (d e : DeskNow V) (x : Ending V) (b : ℕ) → KeepsOtherEndings d b e → x.block.0 ≢ b → EndsInHand d x → EndsInHand e x

@@ -6,3 +6,4 @@ pub mod Rounds
 pub mod Few
 pub mod Goings
 pub mod Owned
+pub mod Tops

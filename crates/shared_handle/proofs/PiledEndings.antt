@@ -8,7 +8,7 @@ use Rattle.control_word.specs.Handles.{empty}
 use Rattle.control_word.specs.Histories.{IsLegal, entry, leads}
 use Rattle.control_word.specs.State.{Object, State, ending, kind_of_member, put}
 use Rattle.control_word.specs.declared.model.event.Event.TheVariants.{ClearMember, Leave}
-use Rattle.control_word.specs.declared.model.handle.Handle.{Handle}
+use Rattle.control_word.specs.declared.model.handle.NumberedHandle.{NumberedHandle}
 use Rattle.control_word.specs.declared.model.handle.Kind.TheVariants.{Owner}
 use Rattle.control_word.specs.declared.place.Block.{Block}
 use Rattle.control_word.specs.declared.place.Place.{Place}
@@ -90,7 +90,7 @@ module _ {V : Type 0} where
       }
 
   -- what ends, ends still when a member was cleared
-  pub ends_through : (d e : DeskNow V) (b c m : ℕ) (h : Handle) → (object_in d b).phase ≡ ending d.name
+  pub ends_through : (d e : DeskNow V) (b c m : ℕ) (h : NumberedHandle) → (object_in d b).phase ≡ ending d.name
       → AddsEvent d (ClearMember (latest_of d c) m h) e → (object_in e b).phase ≡ ending e.name
   ends_through d e b c m h ends adds =
       let z = opening_of d.shape in let o = latest_of d c in
@@ -109,7 +109,7 @@ module _ {V : Type 0} where
       ∙ (ap (λ j. (s.object j).phase) still.latest ∙ (still.object.phase ∙ (ends ∙ ap ending (sym adds.same.2)))))
 
   -- what came out of a member and was an object's last owner, was that of none of them
-  pub out_apart : (d between e : DeskNow V) (b m : ℕ) (h : Handle) (c : ℕ) (p : Option Place) (xs : List (Ending V)) → AllEnd d xs
+  pub out_apart : (d between e : DeskNow V) (b m : ℕ) (h : NumberedHandle) (c : ℕ) (p : Option Place) (xs : List (Ending V)) → AllEnd d xs
       → AddsEvent d (ClearMember (latest_of d b) m h) between → AddsEvent between (Leave (on_latest between Owner p c) true) e → NotAmong c xs
   out_apart d between e b m h c p [] all takes leaves = tt
   out_apart d between e b m h c p (x ∷ xs) all takes leaves = (

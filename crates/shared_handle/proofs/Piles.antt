@@ -21,7 +21,7 @@ use Rattle.shared_handle.specs.declared.pile.Pile.{Pile}
 
 module _ {V : Type 0} where
   -- no more end than there are blocks, and so there is room
-  fits : (domain : DomainNow) (e : DeskNow V) (zs : List (Ending V)) (n : ℕ) → Standing e → e.shape ≡ domain.shape → domain.shape.blocks ≤ n
+  pub fits : (domain : DomainNow) (e : DeskNow V) (zs : List (Ending V)) (n : ℕ) → Standing e → e.shape ≡ domain.shape → domain.shape.blocks ≤ n
       → AllEnd e zs → length zs ≤ n
   fits domain e zs n stands shape room all =
       let a = few_listed e zs stands.legal all in let b = stands.endings in

@@ -6,16 +6,16 @@ use Rattle.control_word.specs.Events.{origin, place_at}
 use Rattle.control_word.specs.Handles.{IsPointer, handle, owner_before}
 use Rattle.control_word.specs.State.{count}
 use Rattle.control_word.specs.declared.model.event.Event.TheVariants.{Count, Expired, Make, Share, WeakLeave, WeakShare}
-use Rattle.control_word.specs.declared.model.handle.Handle.{Handle}
+use Rattle.control_word.specs.declared.model.handle.NumberedHandle.{NumberedHandle}
 use Rattle.control_word.specs.declared.model.handle.Kind.{Kind}
 use Rattle.control_word.specs.declared.model.handle.Kind.TheVariants.{Owner, Weak}
 use Rattle.control_word.specs.declared.place.Block.{Block}
 use Rattle.control_word.specs.declared.place.Place.{Place}
-use Rattle.control_block.specs.declared.handles.Pointer.{Pointer}
+use Rattle.control_word.specs.declared.handle.Handle.{Handle}
 use Rattle.control_block.specs.Desks.{AddsEvent, DeskNow, allowance_of, latest_of, on_latest, state_of}
 
 -- what a handle of this kind, with this block and place, is on
-abbrev pub IsOn : Kind → Option Block → Option Place → Option Pointer → Type 0
+abbrev pub IsOn : Kind → Option Block → Option Place → Option Handle → Type 0
 IsOn k b p None = b ≡ None
 IsOn k b p (Some of) = (of.kind ≡ k) × (b ≡ Some of.block) × (of.place ≡ p)
 
@@ -40,7 +40,7 @@ pointed None = None
 pointed (Some p) = cond (nat_lt 0 p.block.0 && nat_lt p.field 4) (Some p) None
 
 -- owner order goes by blocks, empty first ([util.smartptr.shared.obs], [util.smartptr.weak.obs]; by block: own)
-abbrev pub by_number : Option Block → Handle
+abbrev pub by_number : Option Block → NumberedHandle
 by_number None = handle Owner None None
 by_number (Some b) = handle Owner (Some b.0) None
 

@@ -11,7 +11,6 @@ use control_block::domain::Domain;
 use control_block::handles::Shared;
 use control_block::{calls, handles};
 use control_word::Refusal;
-use std::marker::Brand;
 
 /// A weak pointer from a shared one ([util.smartptr.weak.const]): it shares ownership and points at the same place. Of
 /// an empty one it is empty with a null place, and touches no word. It is refused `Limit` just where the desk is at its
@@ -37,5 +36,5 @@ pub fn downgrade<V: Drop>(
     let Some(block) = handle.block() else {
         return no_object(desk);
     };
-    calls::share_weak::<V, Brand>(domain, desk, block, handle.place())
+    calls::share_weak(domain, desk, block, handle.place())
 }

@@ -12,7 +12,6 @@ use control_block::domain::Domain;
 use control_block::handles::Shared;
 use control_block::{handles, lock_calls};
 use control_word::Refusal;
-use std::marker::Brand;
 use std::sync::Wait;
 
 /// `lock` ([util.smartptr.weak.obs]): a shared pointer that owns, just where an owner remains at its step, and points
@@ -44,7 +43,7 @@ pub fn lock<V: Drop, R: Wait>(
     let Some(of) = weak_pointer(handle) else {
         return empty_at(desk, None);
     };
-    match lock_calls::lock::<V, Brand, R>(rt, domain, desk, of)? {
+    match lock_calls::lock(rt, domain, desk, of)? {
         Some(owner) => Ok(owner),
         None => {
             let Ok(nothing) = empty_at(desk, None) else {
@@ -83,7 +82,7 @@ pub fn upgrade<V: Drop, R: Wait>(
     let Some(of) = weak_pointer(handle) else {
         return Err(Refusal::BadWeak);
     };
-    match lock_calls::lock::<V, Brand, R>(rt, domain, desk, of)? {
+    match lock_calls::lock(rt, domain, desk, of)? {
         Some(owner) => Ok(owner),
         None => Err(Refusal::BadWeak),
     }

@@ -14,7 +14,6 @@ use control_block::desk::Desk;
 use control_block::domain::Domain;
 use control_block::handles::Shared;
 use control_word::{Place, Refusal};
-use std::marker::Brand;
 
 /// How many owners share the handle's object, this one included, or 0 where it is empty
 /// ([util.smartptr.shared.obs]). For a desk that has the whole allowance it is the count itself; else it is 0 just
@@ -30,7 +29,7 @@ pub fn use_count<V: Drop>(domain: &Domain<V>, desk: &mut Desk<V>, handle: &Share
     let Some(of) = owner_pointer(handle) else {
         return 0;
     };
-    calls::count::<V, Brand>(domain, desk, of)
+    calls::count(domain, desk, of)
 }
 
 /// The place that the handle points at, which is in the object that it owns: `Null` where there is none, and `Outside`

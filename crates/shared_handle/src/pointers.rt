@@ -4,16 +4,16 @@ ghost use Rattle.control_word.specs.Handles.{IsPointer};
 ghost use Rattle.control_word.specs.declared.model.handle.Kind.TheVariants.{Owner, Weak};
 ghost use Rattle.shared_handle.specs.Calls.{IsOn, pointed};
 
-use control_block::handles::{self, Pointer, Shared};
-use control_word::Place;
+use control_block::handles::{self, Shared};
 use control_word::model::handle::Kind;
+use control_word::{Handle, Place};
 
 /// What an owner is on, none where it is empty.
-pub(crate) fn owner_pointer(handle: &Shared) -> Option<Pointer>
+pub(crate) fn owner_pointer(handle: &Shared) -> Option<Handle>
     ensures { IsOn Owner handle.now.block handle.now.place result }
 {
     let block = handle.block()?;
-    Some(Pointer {
+    Some(Handle {
         kind: Kind::Owner,
         block,
         place: handle.place(),
@@ -21,11 +21,11 @@ pub(crate) fn owner_pointer(handle: &Shared) -> Option<Pointer>
 }
 
 /// What a weak handle is on, none where it is empty.
-pub(crate) fn weak_pointer(handle: &handles::Weak) -> Option<Pointer>
+pub(crate) fn weak_pointer(handle: &handles::Weak) -> Option<Handle>
     ensures { IsOn Weak handle.now.block handle.now.place result }
 {
     let block = handle.block()?;
-    Some(Pointer {
+    Some(Handle {
         kind: Kind::Weak,
         block,
         place: handle.place(),

@@ -12,10 +12,9 @@ use crate::pointers::{owner_pointer, pointed};
 use control_block::calls;
 use control_block::desk::Desk;
 use control_block::domain::Domain;
-use control_block::handles::{Pointer, Shared};
+use control_block::handles::Shared;
 use control_word::model::handle::Kind;
-use control_word::{Place, Refusal};
-use std::marker::Brand;
+use control_word::{Handle, Place, Refusal};
 
 /// One owner more, which points at a place: the handle's own, the object's or any proper one.
 pub(crate) fn share_to<V: Drop>(
@@ -39,7 +38,7 @@ pub(crate) fn share_to<V: Drop>(
     let Some(of) = owner_pointer(handle) else {
         return empty_at(desk, place);
     };
-    calls::share::<V, Brand>(domain, desk, of, place)
+    calls::share(domain, desk, of, place)
 }
 
 /// A copy: one owner more, which points where the handle does ([util.smartptr.shared.const]). A copy of an empty
@@ -110,11 +109,11 @@ pub fn release<V: Drop>(domain: &Domain<V>, desk: &mut Desk<V>, handle: Shared) 
         calls::spend_empty(desk);
         return Left::Empty;
     };
-    let of = Pointer {
+    let of = Handle {
         kind: Kind::Owner,
         block,
         place,
     };
-    let value = calls::leave::<V, Brand>(domain, desk, of);
-    Left::of_parts(Some(block), value)
+    let released = calls::leave(domain, desk, of);
+    Left::of_parts(Some(block), released.value)
 }

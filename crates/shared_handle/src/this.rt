@@ -13,7 +13,6 @@ use control_block::domain::Domain;
 use control_block::handles::Shared;
 use control_block::{calls, handles};
 use control_word::{Block, Place, Refusal};
-use std::marker::Brand;
 
 /// The block of the object, if the handle points into it and the object gives pointers to itself, and the desk has room
 /// for one.
@@ -82,5 +81,5 @@ pub fn weak_from_this<V: Drop>(
     ensures keeps { OnOk result (Keeps desk.old desk.new) }
 {
     let block = this_block(domain, desk, handle)?;
-    calls::share_weak::<V, Brand>(domain, desk, block, Some(Place { block, field: 0 }))
+    calls::share_weak(domain, desk, block, Some(Place { block, field: 0 }))
 }

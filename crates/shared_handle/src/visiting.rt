@@ -12,7 +12,6 @@ use control_block::domain::Domain;
 use control_block::handles::Shared;
 use control_block::visits;
 use control_word::{Refusal, Refused};
-use std::marker::Brand;
 use std::sync::Wait;
 
 /// The value of the object that the handle owns is worked on (own): while this call has it, another visit of it waits.
@@ -40,5 +39,5 @@ pub fn visit<V: Drop, R, F: FnOnce(&mut V) -> R, W: Wait>(
             back: f,
         });
     };
-    Ok(visits::visit::<V, Brand, _, _, _>(rt, domain, desk, of, f))
+    Ok(visits::visit(rt, domain, desk, of, f))
 }

@@ -11,7 +11,6 @@ use control_block::desk::Desk;
 use control_block::domain::Domain;
 use control_block::{calls, handles};
 use control_word::Block;
-use std::marker::Brand;
 
 impl HasOwner for handles::Weak {
     ghost owned = { λ h. h.block };
@@ -37,7 +36,7 @@ pub fn use_count_weak<V: Drop>(
     let Some(of) = weak_pointer(handle) else {
         return 0;
     };
-    calls::count::<V, Brand>(domain, desk, of)
+    calls::count(domain, desk, of)
 }
 
 /// Whether the weak handle's object has no owner left, or the handle is empty ([util.smartptr.weak.obs]). An empty
@@ -53,5 +52,5 @@ pub fn expired<V: Drop>(domain: &Domain<V>, desk: &mut Desk<V>, handle: &handles
     let Some(of) = weak_pointer(handle) else {
         return true;
     };
-    calls::is_expired::<V, Brand>(domain, desk, of)
+    calls::is_expired(domain, desk, of)
 }

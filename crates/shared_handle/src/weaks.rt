@@ -9,11 +9,9 @@ ghost use Rattle.control_block.specs.CellCalls.{HoldsHandle, with_handle, withou
 use crate::making::no_object;
 use control_block::desk::Desk;
 use control_block::domain::Domain;
-use control_block::handles::Pointer;
 use control_block::{calls, handles};
-use control_word::Refusal;
 use control_word::model::handle::Kind;
-use std::marker::Brand;
+use control_word::{Handle, Refusal};
 
 /// A copy of a weak pointer ([util.smartptr.weak.const]): one weak handle more, which points where the handle does. Of
 /// an empty one it is empty with a null place, and touches no word. It is refused `Limit` just where the desk is at its
@@ -39,7 +37,7 @@ pub fn share_weak<V: Drop>(
     let Some(block) = handle.block() else {
         return no_object(desk);
     };
-    calls::share_weak::<V, Brand>(domain, desk, block, handle.place())
+    calls::share_weak(domain, desk, block, handle.place())
 }
 
 /// A weak pointer leaves ([util.smartptr.weak.dest]). Where it was the last handle of an object that is gone, its block
@@ -60,10 +58,10 @@ pub fn release_weak<V: Drop>(domain: &Domain<V>, desk: &mut Desk<V>, handle: han
         calls::spend_empty(desk);
         return;
     };
-    let of = Pointer {
+    let of = Handle {
         kind: Kind::Weak,
         block,
         place,
     };
-    calls::leave_weak::<V, Brand>(domain, desk, of);
+    calls::leave(domain, desk, of);
 }

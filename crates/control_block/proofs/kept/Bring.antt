@@ -16,10 +16,10 @@ use Rattle.control_word.specs.declared.shape.Shape.{Shape}
 use Rattle.control_word.specs.declared.model.view.Pending.{Pending}
 use Rattle.control_word.specs.declared.model.view.Pending.TheVariants.{Idle, Paying}
 use Rattle.control_block.specs.Rule.{Ruled, opening_of, view_of}
-use Rattle.control_block.specs.Plays.{At, HoldingInBlock, Rests}
-use Rattle.control_block.specs.FundPlays.{brought}
+use Rattle.control_block.specs.StepKinds.{At, HoldingInBlock, Rests}
+use Rattle.control_block.specs.FundStepKinds.{brought}
 use Rattle.control_block.proofs.Passage.{held_there, point, ready}
-use Rattle.control_block.proofs.Still.{allows_move}
+use Rattle.control_block.proofs.words.Still.{allows_move}
 
 adds_funds : (n f : ℕ) → f ≤ 256 → n + 1099511627776 < 18446744073709551616 → (n + f * 4294967296) % 2 ^ 64 ≡ n + 4294967296 * f
 adds_funds n f few room = omega arith

@@ -13,18 +13,18 @@ use Rattle.control_word.specs.declared.packed.cell.CellWord.{CellWord}
 use Rattle.control_word.specs.declared.model.event.Cell.{Cell}
 use Rattle.control_word.specs.declared.model.event.Event.{Event}
 use Rattle.control_word.specs.declared.model.event.Event.TheVariants.{Compare}
-use Rattle.control_word.specs.declared.model.handle.Handle.{Handle}
+use Rattle.control_word.specs.declared.model.handle.NumberedHandle.{NumberedHandle}
 use Rattle.control_word.specs.declared.place.Block.{Block}
 use Rattle.control_word.specs.declared.shape.Shape.{Shape}
 use Rattle.control_word.specs.declared.model.view.Pending.TheVariants.{Idle}
 use Rattle.control_block.specs.Rule.{Ruled, opening_of, seeing}
-use Rattle.control_block.specs.Plays.{At, Rests, known}
-use Rattle.control_block.specs.CellPlays.{IsCellAt, as_differed, differed_empty, kind_in}
-use Rattle.control_block.specs.declared.board.Sight.{Sight}
+use Rattle.control_block.specs.StepKinds.{At, Rests, known}
+use Rattle.control_block.specs.CellStepKinds.{IsCellAt, as_differed, differed_empty, kind_in}
+use Rattle.control_block.specs.declared.table.SeatView.{SeatView}
 use Rattle.control_block.proofs.CellWords.{Decoded, Opened, is_open}
-use Rattle.control_block.proofs.Hands.{hand_there}
+use Rattle.control_block.proofs.words.Hands.{hand_there}
 use Rattle.control_block.proofs.Passage.{adds, plain, point, quiet_next, ready}
-use Rattle.control_block.proofs.Still.{unmoved}
+use Rattle.control_block.proofs.words.Still.{unmoved}
 use Rattle.control_block.proofs.kept.CellLook.{allows_cell_look, is_held, shows_one}
 use Rattle.control_block.proofs.kept.Look.{looked}
 
@@ -35,17 +35,17 @@ not_both b t f = true_false (sym t ∙ f)
     true_false e = cc
 
 module _ {V : Type 0} where
-  pub allows_differ_empty : (k : Shape) (slots id i : ℕ) (c : Cell) (expected new : Handle) (weak' : Bool) (me : At V) → Rests me → IsCellAt me.0 c i
+  pub allows_differ_empty : (k : Shape) (slots id i : ℕ) (c : Cell) (expected new : NumberedHandle) (weak' : Bool) (me : At V) → Rests me → IsCellAt me.0 c i
       → InHand (known me.0) me.0.view.name (kind_in me.0.shape c) expected → InHand (known me.0) me.0.view.name (kind_in me.0.shape c) new
       → Allows (Ruled k) slots id me i (λ n. n) (differed_empty c expected new weak' (step slots i 0 0 none) me)
   allows_differ_empty k slots id i c expected new weak' me rests cell he hn =
       allows_cell_look k slots id i c me (as_differed c expected new weak' me) rests.awake cell (λ s r at is d. go s r at is d _ refl _ refl)
     where
-      go : (s : Table.State (Option V) (Sight V)) (r : Ruled k s) (at : get_elem? s.views id ≡ some me.0) (is : Opened k s r id me.0 at rests.awake c i)
+      go : (s : Table.State (Option V) (SeatView V)) (r : Ruled k s) (at : get_elem? s.views id ≡ some me.0) (is : Opened k s r id me.0 at rests.awake c i)
           (d : Decoded k s r id me.0 at rests.awake c i is) (q : Option ℕ) → (cell_of (leads (opening_of k) r.history) c).object ≡ q
           → (b : Bool) → equivalent (handle (kind_in me.0.shape c) None (cell_of (leads (opening_of k) r.history) c).place) expected ≡ b
           → let t = leads (opening_of k) r.history in
-          (w : Sight V) × Ruled k record { words = set s.words i (get_or s.words i 0); homes = s.homes; views = set s.views id w }
+          (w : SeatView V) × Ruled k record { words = set s.words i (get_or s.words i 0); homes = s.homes; views = set s.views id w }
           × as_differed c expected new weak' me (shown (blocks_of t) (cell_of t c) d.taken) (w, me.1)
       go s r at is d (Some o) e b same =
           let t = leads (opening_of k) r.history in let no = shows_one (blocks_of t) (cell_of t c) o d.taken e in

@@ -13,21 +13,21 @@ use Rattle.control_word.specs.declared.packed.cell.CellWord.{CellWord}
 use Rattle.control_word.specs.declared.model.event.Cell.{Cell}
 use Rattle.control_word.specs.declared.model.event.Event.{Event}
 use Rattle.control_word.specs.declared.model.event.Event.TheVariants.{Load}
-use Rattle.control_word.specs.declared.model.handle.Handle.{Handle}
+use Rattle.control_word.specs.declared.model.handle.NumberedHandle.{NumberedHandle}
 use Rattle.control_word.specs.declared.place.Block.{Block}
 use Rattle.control_word.specs.declared.shape.Shape.{Shape}
 use Rattle.control_word.specs.declared.model.view.Pending.TheVariants.{Idle}
 use Rattle.control_block.specs.Rule.{Ruled, opening_of, seeing}
-use Rattle.control_block.specs.Plays.{At, Rests}
-use Rattle.control_block.specs.CellPlays.{IsCellAt, IsHeld, kind_in, as_loaded, as_peeked, loaded_empty, of_cell, cell_peeked}
-use Rattle.control_block.specs.declared.board.Sight.{Sight}
+use Rattle.control_block.specs.StepKinds.{At, Rests}
+use Rattle.control_block.specs.CellStepKinds.{IsCellAt, IsHeld, kind_in, as_loaded, as_peeked, loaded_empty, of_cell, cell_peeked}
+use Rattle.control_block.specs.declared.table.SeatView.{SeatView}
 use Rattle.control_block.proofs.CellWords.{Decoded, Opened, decoded, found_is, is_open, opened}
 use Rattle.control_block.proofs.Passage.{adds, knows, plain, point, quiet_next, ready}
-use Rattle.control_block.proofs.Still.{unmoved}
+use Rattle.control_block.proofs.words.Still.{unmoved}
 use Rattle.control_block.proofs.kept.Look.{looked}
 
 -- a word that shows an object isn't one that shows none
-pub shows_one : (block : ℕ → ℕ) (h : Handle) (o t : ℕ) → h.object ≡ Some o → (shown block h t).owned ≡ None → ⊥
+pub shows_one : (block : ℕ → ℕ) (h : NumberedHandle) (o t : ℕ) → h.object ≡ Some o → (shown block h t).owned ≡ None → ⊥
 shows_one block h o t e n = some_none (ap (block_of block) (sym e) ∙ n)
   where
     some_none : {b : Block} → Some b ≡ None → ⊥
@@ -35,7 +35,7 @@ shows_one block h o t e n = some_none (ap (block_of block) (sym e) ∙ n)
 
 module _ {V : Type 0} where
   -- what a cell shows is what it holds, in the state that the history leads to
-  pub is_held : (k : Shape) (s : Table.State (Option V) (Sight V)) (r : Ruled k s) (id : ℕ) (v : Sight V) (at : get_elem? s.views id ≡ some v)
+  pub is_held : (k : Shape) (s : Table.State (Option V) (SeatView V)) (r : Ruled k s) (id : ℕ) (v : SeatView V) (at : get_elem? s.views id ≡ some v)
       (awake : v.view.spent ≡ false) (c : Cell) (taken : ℕ) → let t = leads (opening_of k) r.history in
       IsHeld c v (shown (blocks_of t) (cell_of t c) taken)
   is_held k s r id v at awake c taken =
@@ -52,9 +52,9 @@ module _ {V : Type 0} where
   -- a look at a cell, by what the cell shows
   pub allows_cell_look : (k : Shape) (slots id i : ℕ) (c : Cell) (me : At V) (told : CellWord → At V → Type 0) (awake : me.0.view.spent ≡ false)
       → IsCellAt me.0 c i
-      → ((s : Table.State (Option V) (Sight V)) (r : Ruled k s) (at : get_elem? s.views id ≡ some me.0) (is : Opened k s r id me.0 at awake c i)
+      → ((s : Table.State (Option V) (SeatView V)) (r : Ruled k s) (at : get_elem? s.views id ≡ some me.0) (is : Opened k s r id me.0 at awake c i)
       (d : Decoded k s r id me.0 at awake c i is) → let t = leads (opening_of k) r.history in
-      (w : Sight V) × Ruled k record { words = set s.words i (get_or s.words i 0); homes = s.homes; views = set s.views id w }
+      (w : SeatView V) × Ruled k record { words = set s.words i (get_or s.words i 0); homes = s.homes; views = set s.views id w }
       × told (shown (blocks_of t) (cell_of t c) d.taken) (w, me.1))
       → Allows (Ruled k) slots id me i (λ n. n) (λ n after. of_cell (λ x. told x after) n)
   allows_cell_look k slots id i c me told awake cell law s r sized at small =
@@ -80,10 +80,10 @@ module _ {V : Type 0} where
   allows_load_empty k slots id i c me rests cell =
       allows_cell_look k slots id i c me (as_loaded c me) rests.awake cell (λ s r at is d. go s r at is d _ refl)
     where
-      go : (s : Table.State (Option V) (Sight V)) (r : Ruled k s) (at : get_elem? s.views id ≡ some me.0) (is : Opened k s r id me.0 at rests.awake c i)
+      go : (s : Table.State (Option V) (SeatView V)) (r : Ruled k s) (at : get_elem? s.views id ≡ some me.0) (is : Opened k s r id me.0 at rests.awake c i)
           (d : Decoded k s r id me.0 at rests.awake c i is) (q : Option ℕ) → (cell_of (leads (opening_of k) r.history) c).object ≡ q
           → let t = leads (opening_of k) r.history in
-          (w : Sight V) × Ruled k record { words = set s.words i (get_or s.words i 0); homes = s.homes; views = set s.views id w }
+          (w : SeatView V) × Ruled k record { words = set s.words i (get_or s.words i 0); homes = s.homes; views = set s.views id w }
           × as_loaded c me (shown (blocks_of t) (cell_of t c) d.taken) (w, me.1)
       go s r at is d (Some o) e =
           let t = leads (opening_of k) r.history in (

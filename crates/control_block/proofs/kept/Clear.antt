@@ -21,19 +21,19 @@ use Rattle.control_word.specs.declared.packed.cell.CellWord.{CellWord}
 use Rattle.control_word.specs.declared.model.event.Cell.TheVariants.{Member}
 use Rattle.control_word.specs.declared.model.event.Event.{Event}
 use Rattle.control_word.specs.declared.model.event.Event.TheVariants.{ClearMember}
-use Rattle.control_word.specs.declared.model.handle.Handle.{Handle}
+use Rattle.control_word.specs.declared.model.handle.NumberedHandle.{NumberedHandle}
 use Rattle.control_word.specs.declared.shape.Shape.{Shape}
 use Rattle.control_word.specs.declared.model.view.Pending.TheVariants.{Idle}
 use Rattle.control_block.specs.Rule.{Ruled, opening_of, seeing, view_of}
-use Rattle.control_block.specs.Plays.{At, Ends, HasRoomFor, Rests}
-use Rattle.control_block.specs.CellPlays.{Gave, cleared, looked_clear}
-use Rattle.control_block.specs.declared.board.Sight.{Sight}
-use Rattle.control_block.proofs.CellRounds.{no_block}
+use Rattle.control_block.specs.StepKinds.{At, Ends, HasRoomFor, Rests}
+use Rattle.control_block.specs.CellStepKinds.{Gave, cleared, looked_clear}
+use Rattle.control_block.specs.declared.table.SeatView.{SeatView}
+use Rattle.control_block.proofs.cells.CellRetries.{no_block}
 use Rattle.control_block.proofs.CellWords.{Opened, decoded, found_is, one_cell}
 use Rattle.control_block.proofs.Endings.{ends_here}
-use Rattle.control_block.proofs.Hands.{gets_most}
+use Rattle.control_block.proofs.words.Hands.{gets_most}
 use Rattle.control_block.proofs.Passage.{adds, point, quiet_clear, quiet_next, ready, still_ending, still_room}
-use Rattle.control_block.proofs.Still.{unmoved}
+use Rattle.control_block.proofs.words.Still.{unmoved}
 use Rattle.control_block.proofs.kept.Swap.{gives}
 
 -- the word of a member that holds nothing
@@ -41,7 +41,7 @@ abbrev no_cell : CellWord
 no_cell = record { owned = None; place = None; taken = 0 }
 
 module _ {V : Type 0} where
-  module _ (k : Shape) (s : Table.State (Option V) (Sight V)) (r : Ruled k s) (id : ℕ) (v : Sight V) (at : get_elem? s.views id ≡ some v)
+  module _ (k : Shape) (s : Table.State (Option V) (SeatView V)) (r : Ruled k s) (id : ℕ) (v : SeatView V) (at : get_elem? s.views id ≡ some v)
       (awake : v.view.spent ≡ false) (o b m i : ℕ) (ends : Ends v o b) (lt : m < 3) (e : i ≡ spot b (7 + m)) where
     -- the object ends with the desk, and is in the block
     phase : ((leads (opening_of k) r.history).object o).phase ≡ ending v.view.name
@@ -59,7 +59,7 @@ module _ {V : Type 0} where
         let one : common ((leads (opening_of k) r.history).object o).phase ≡ 1 = ap common phase in
         record { kept = (lt, omega arith); there = ap (λ y. spot y (7 + m)) in_block ∙ sym e; kind = refl }
 
-    room : HasRoomFor v → (h : Handle) → HasRoom (after {V = V} (leads (opening_of k) r.history) v.view.name (ClearMember o m h)) v.view.name
+    room : HasRoomFor v → (h : NumberedHandle) → HasRoom (after {V = V} (leads (opening_of k) r.history) v.view.name (ClearMember o m h)) v.view.name
     room more h =
         let a = still_room k s r id v at awake more in let t = leads (opening_of k) r.history in
         let x = t.object o in

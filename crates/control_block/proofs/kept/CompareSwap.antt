@@ -17,29 +17,29 @@ use Rattle.control_word.specs.Words.{blocks_of, shown}
 use Rattle.control_word.specs.declared.packed.cell.CellWord.{CellWord}
 use Rattle.control_word.specs.declared.model.event.Cell.{Cell}
 use Rattle.control_word.specs.declared.model.event.Event.TheVariants.{Compare}
-use Rattle.control_word.specs.declared.model.handle.Handle.{Handle}
+use Rattle.control_word.specs.declared.model.handle.NumberedHandle.{NumberedHandle}
 use Rattle.control_word.specs.declared.shape.Shape.{Shape}
 use Rattle.control_block.specs.Rule.{Ruled, opening_of}
-use Rattle.control_block.specs.Plays.{At, HasRoomFor, known}
-use Rattle.control_block.specs.FundPlays.{Owes}
-use Rattle.control_block.specs.CellPlays.{Gave, IsCellAt, IsWordOf, compare_swapped, debt, kind_in}
-use Rattle.control_block.specs.declared.board.Sight.{Sight}
+use Rattle.control_block.specs.StepKinds.{At, HasRoomFor, known}
+use Rattle.control_block.specs.FundStepKinds.{Owes}
+use Rattle.control_block.specs.CellStepKinds.{Gave, IsCellAt, IsWordOf, compare_swapped, debt, kind_in}
+use Rattle.control_block.specs.declared.table.SeatView.{SeatView}
 use Rattle.control_block.proofs.CellWords.{Opened, cell_keeps, decoded, found_is, is_open, one_cell, opened}
-use Rattle.control_block.proofs.Hands.{hand_block, hand_there, room_swapped, same_object}
+use Rattle.control_block.proofs.words.Hands.{hand_block, hand_there, room_swapped, same_object}
 use Rattle.control_block.proofs.Passage.{point, quiet_compare}
-use Rattle.control_block.proofs.Still.{allows_exchange}
+use Rattle.control_block.proofs.words.Still.{allows_exchange}
 use Rattle.control_block.proofs.kept.Swap.{gives, packs_new, ready_new}
 
 -- handles with one object and one place are equivalent
-pub equivalent_to : (x y : Handle) → x.object ≡ y.object → x.place ≡ y.place → equivalent x y ≡ true
+pub equivalent_to : (x y : NumberedHandle) → x.object ≡ y.object → x.place ≡ y.place → equivalent x y ≡ true
 equivalent_to x y e p =
     subst (λ n. equivalent x (handle y.kind n y.place) ≡ true) e (subst (λ n. equivalent x (handle y.kind x.object n) ≡ true) p (equivalence.0 x))
 
 module _ {V : Type 0} where
   -- a cell that shows what is expected holds an equivalent of it
-  pub is_expected : (k : Shape) (s : Table.State (Option V) (Sight V)) (r : Ruled k s) (id : ℕ) (v : Sight V) (at : get_elem? s.views id ≡ some v)
+  pub is_expected : (k : Shape) (s : Table.State (Option V) (SeatView V)) (r : Ruled k s) (id : ℕ) (v : SeatView V) (at : get_elem? s.views id ≡ some v)
       (awake : v.view.spent ≡ false) (c : Cell) (i : ℕ) (is : Opened k s r id v at awake c i)
-      (expected : Handle) → InHand (known v) v.view.name expected.kind expected
+      (expected : NumberedHandle) → InHand (known v) v.view.name expected.kind expected
       → (x : CellWord) (n : ℕ) → x ≡ shown (blocks_of (leads (opening_of k) r.history)) (cell_of (leads (opening_of k) r.history) c) n
       → IsWordOf v expected x → equivalent (cell_of (leads (opening_of k) r.history) c) expected ≡ true
   is_expected k s r id v at awake c i is expected hand x n same shows =
@@ -49,7 +49,7 @@ module _ {V : Type 0} where
       equivalent_to old expected
       (same_object k s r id v at awake expected.kind expected hand old.object (cell_keeps k s r id v at awake c i is) block) place
 
-  pub allows_compare_swap : (k : Shape) (slots id i found n : ℕ) (c : Cell) (expected new : Handle) (weak' : Bool) (x y : CellWord) (me : At V)
+  pub allows_compare_swap : (k : Shape) (slots id i found n : ℕ) (c : Cell) (expected new : NumberedHandle) (weak' : Bool) (x y : CellWord) (me : At V)
       → Owes (debt new y.owned 256) me
       → IsCellAt me.0 c i → IsCellWord x → found ≡ cell_bits x → IsWordOf me.0 expected x
       → InHand (known me.0) me.0.view.name (kind_in me.0.shape c) expected → IsWordOf me.0 new y → y.taken ≡ 0

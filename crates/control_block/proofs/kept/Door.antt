@@ -34,12 +34,12 @@ use Rattle.control_word.specs.declared.model.view.Pending.{Pending}
 use Rattle.control_word.specs.declared.model.view.Pending.TheVariants.{Idle, Visiting}
 use Rattle.control_word.specs.declared.model.view.View.{View}
 use Rattle.control_block.specs.Rule.{IsSlotOf, Ruled, kept, opening_of, seeing, view_of, until_gone}
-use Rattle.control_block.specs.Plays.{At, HoldingInBlock, Rests}
-use Rattle.control_block.specs.DoorPlays.{opened, shut}
-use Rattle.control_block.specs.declared.board.Sight.{Sight}
+use Rattle.control_block.specs.StepKinds.{At, HoldingInBlock, Rests}
+use Rattle.control_block.specs.DoorStepKinds.{opened, shut}
+use Rattle.control_block.specs.declared.table.SeatView.{SeatView}
 use Rattle.control_block.proofs.Passage.{adds, held_there, moves, next, point, ready}
-use Rattle.control_block.proofs.Slots.{live_home, slots_apart}
-use Rattle.control_block.proofs.Still.{unmoved}
+use Rattle.control_block.proofs.words.Slots.{live_home, slots_apart}
+use Rattle.control_block.proofs.words.Still.{unmoved}
 
 drops_four : (n : ℕ) → 4 ≤ n → n < 18446744073709551616 → (n + (2 ^ 64 - 4)) % 2 ^ 64 ≡ n - 4
 drops_four n enough lt = omega arith
@@ -54,7 +54,7 @@ module _ {V : Type 0} where
         T = shut b o p (step slots i found (found + 4) none) me
 
         miss : get_or s.words i 0 ≢ found
-            → (w : Sight V) × (a : Table.Act (Option V)) × Table.Valid s.homes me.1 a
+            → (w : SeatView V) × (a : Table.Act (Option V)) × Table.Valid s.homes me.1 a
             × Ruled k (Table.stepped s i (either (get_or s.words i 0 == found) (found + 4) (get_or s.words i 0)) id me.1 w a)
             × T (get_or s.words i 0) (w, Table.carried_after me.1 a)
         miss q = (
@@ -67,7 +67,7 @@ module _ {V : Type 0} where
         )
 
         hit : get_or s.words i 0 ≡ found
-            → (w : Sight V) × (a : Table.Act (Option V)) × Table.Valid s.homes me.1 a
+            → (w : SeatView V) × (a : Table.Act (Option V)) × Table.Valid s.homes me.1 a
             × Ruled k (Table.stepped s i (either (get_or s.words i 0 == found) (found + 4) (get_or s.words i 0)) id me.1 w a)
             × T (get_or s.words i 0) (w, Table.carried_after me.1 a)
         hit q =

@@ -15,10 +15,10 @@ use Rattle.control_word.specs.declared.shape.Shape.{Shape}
 use Rattle.control_word.specs.declared.model.view.Pending.{Pending}
 use Rattle.control_word.specs.declared.model.view.Pending.TheVariants.{Idle}
 use Rattle.control_block.specs.Rule.{IsSlotOf, Ruled, opening_of, seeing, view_of}
-use Rattle.control_block.specs.Plays.{At, Ends, Rests, fetched}
-use Rattle.control_block.specs.declared.board.Sight.{Sight}
+use Rattle.control_block.specs.StepKinds.{At, Ends, Rests, fetched}
+use Rattle.control_block.specs.declared.table.SeatView.{SeatView}
 use Rattle.control_block.proofs.Passage.{next, still_ending}
-use Rattle.control_block.proofs.Slots.{ending_home, slots_apart}
+use Rattle.control_block.proofs.words.Slots.{ending_home, slots_apart}
 use Rattle.control_block.proofs.kept.Look.{looked}
 
 module _ {V : Type 0} where
@@ -43,7 +43,7 @@ module _ {V : Type 0} where
         (x, val, refl, ap (λ l. (b.0 - 1, Some x) ∷ l) rests.none),
       )
     where
-      same_views : (s : Table.State (Option V) (Sight V)) → get_elem? s.views id ≡ some me.0
+      same_views : (s : Table.State (Option V) (SeatView V)) → get_elem? s.views id ≡ some me.0
           → set (map view_of s.views) id (sees_as me.0.view Idle me.0.view.seen) ≡ map view_of s.views
       same_views s at =
           ap (λ (y : Pending V). set (map view_of s.views) id (sees_as me.0.view y me.0.view.seen)) (sym rests.idle)

@@ -22,10 +22,10 @@ use Rattle.control_word.specs.Views.{Stands, sees_as}
 use Rattle.control_word.specs.declared.shape.Shape.{Shape}
 use Rattle.control_word.specs.declared.model.view.Pending.TheVariants.{Idle}
 use Rattle.control_block.specs.Rule.{IsSlotOf, Ruled, kept, opening_of, seeing, view_of, until_gone}
-use Rattle.control_block.specs.Plays.{At, Ends, IsClear, finished}
+use Rattle.control_block.specs.StepKinds.{At, Ends, IsClear, finished}
 use Rattle.control_block.proofs.Endings.{ends_here, ends_unmade}
 use Rattle.control_block.proofs.Passage.{adds, next, point, ready, still_ending}
-use Rattle.control_block.proofs.Slots.{kept_else, others_still, slots_apart}
+use Rattle.control_block.proofs.words.Slots.{kept_else, others_still, slots_apart}
 use Rattle.control_block.proofs.kept.MayLeave.{falls}
 
 module _ {V : Type 0} where

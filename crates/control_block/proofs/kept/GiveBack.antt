@@ -19,11 +19,11 @@ use Rattle.control_word.specs.declared.place.Place.{Place}
 use Rattle.control_word.specs.declared.shape.Shape.{Shape}
 use Rattle.control_word.specs.declared.model.view.Pending.TheVariants.{Idle, Paying}
 use Rattle.control_block.specs.Rule.{Ruled, opening_of, view_of}
-use Rattle.control_block.specs.Plays.{At}
-use Rattle.control_block.specs.FundPlays.{Owes, owing, settled}
-use Rattle.control_block.specs.declared.board.Sight.{Sight}
+use Rattle.control_block.specs.StepKinds.{At}
+use Rattle.control_block.specs.FundStepKinds.{Owes, owing, settled}
+use Rattle.control_block.specs.declared.table.SeatView.{SeatView}
 use Rattle.control_block.proofs.Passage.{point, ready}
-use Rattle.control_block.proofs.Still.{allows_move}
+use Rattle.control_block.proofs.words.Still.{allows_move}
 
 takes_funds : (n f : ℕ) → f ≤ 256 → 4294967296 * f ≤ n → n < 18446744073709551616
     → (n + (2 ^ 64 - f * 4294967296)) % 2 ^ 64 ≡ n - 4294967296 * f
@@ -31,7 +31,7 @@ takes_funds n f few enough lt = omega arith
 
 module _ {V : Type 0} where
   -- a desk that owes funds holds a handle, on whose count they are
-  pub owed_there : (k : Shape) (s : Table.State (Option V) (Sight V)) (r : Ruled k s) (id : ℕ) (v : Sight V) → get_elem? s.views id ≡ some v
+  pub owed_there : (k : Shape) (s : Table.State (Option V) (SeatView V)) (r : Ruled k s) (id : ℕ) (v : SeatView V) → get_elem? s.views id ≡ some v
       → v.view.spent ≡ false → (m : Kind) (o : ℕ) (p : Option Place) (j f l : ℕ) → v.view.pending ≡ Paying m o p j f l
       → let t = leads (opening_of k) r.history in
       Has (held v.view.name (handle m (Some o) p)) t.hands × (j ≡ counts_at (blocks_of t) m o) × (f ≤ 256)

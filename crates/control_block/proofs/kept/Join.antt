@@ -18,11 +18,11 @@ use Rattle.control_word.specs.declared.model.event.Event.TheVariants.{Join}
 use Rattle.control_word.specs.declared.shape.Shape.{Shape}
 use Rattle.control_word.specs.declared.model.view.Pending.TheVariants.{Idle, Merging}
 use Rattle.control_block.specs.Rule.{IsBacked, IsOut, IsSlotOf, Ruled, opening_of, seeing, view_of, until_gone}
-use Rattle.control_block.specs.Plays.{At, grown, joined, over}
-use Rattle.control_block.specs.declared.board.Sight.{Sight}
-use Rattle.control_block.proofs.Lists.{each_set, map_set}
+use Rattle.control_block.specs.StepKinds.{At, grown, joined, over}
+use Rattle.control_block.specs.declared.table.SeatView.{SeatView}
+use Rattle.control_block.proofs.words.Lists.{each_set, map_set}
 use Rattle.control_block.proofs.Passage.{adds, next, point, ready}
-use Rattle.control_block.proofs.Slots.{others_still}
+use Rattle.control_block.proofs.words.Slots.{others_still}
 use Rattle.control_block.proofs.kept.Look.{looked}
 
 module _ {V : Type 0} where
@@ -37,7 +37,7 @@ module _ {V : Type 0} where
   handed_keeps other d (ending e) x = refl
 
   -- two seats at rest become one
-  pub allows_glue : (k : Shape) (id j : ℕ) (v w : Sight V) → v.view.spent ≡ false → v.view.pending ≡ Idle → v.hand ≡ None
+  pub allows_glue : (k : Shape) (id j : ℕ) (v w : SeatView V) → v.view.spent ≡ false → v.view.pending ≡ Idle → v.hand ≡ None
       → w.view.spent ≡ false → w.view.pending ≡ Idle → w.hand ≡ None → Joins (Ruled k) id v j w (grown v w) over
   allows_glue k id j v w awake idle free awake' idle' free' s r at ne there₀ =
       let z = opening_of k in let both = grown v w in let there : get_elem? s.views j ≡ some w = sym (set_else s.views id j both ne) ∙ there₀ in
@@ -45,8 +45,8 @@ module _ {V : Type 0} where
       (λ q. ne (sym q)) awake' idle' in
       let views : map view_of (set (set s.views id both) j over) ≡ set (set (map view_of s.views) id (together v.view w.view)) j used_up =
       map_set view_of (set s.views id both) j over ∙ ap (λ l. set l j used_up) (map_set view_of s.views id both) in
-      let all : (P : ℕ → Sight V → Type 0) → P id both → P j over → ((x : ℕ) (u : Sight V) → get_elem? s.views x ≡ some u → P x u)
-      → (x : ℕ) (u : Sight V) → get_elem? (set (set s.views id both) j over) x ≡ some u → P x u =
+      let all : (P : ℕ → SeatView V → Type 0) → P id both → P j over → ((x : ℕ) (u : SeatView V) → get_elem? s.views x ≡ some u → P x u)
+      → (x : ℕ) (u : SeatView V) → get_elem? (set (set s.views id both) j over) x ≡ some u → P x u =
       λ P a b rest. each_set P (set s.views id both) j over b (λ x u n e. each_set P s.views id both a (λ y t m f. rest y t f) x u e) in
       record {
         history = r.history;
@@ -60,9 +60,9 @@ module _ {V : Type 0} where
     where
       out : (b : ℕ) → get_elem? s.views j ≡ some w → IsOut s.views b → IsOut (set (set s.views id (grown v w)) j over) b
       out b there o =
-          let empty : (i : ℕ) (u : Sight V) → get_elem? s.views i ≡ some u → u.hand ≡ None → o.0 ≢ i =
+          let empty : (i : ℕ) (u : SeatView V) → get_elem? s.views i ≡ some u → u.hand ≡ None → o.0 ≢ i =
           λ i u e none q. subst (λ h. IsSlotOf h b) none
-          (subst (λ (y : Sight V). IsSlotOf y.hand b) (some-injective o.1 u (sym o.2 ∙ (ap (get_elem? s.views) q ∙ e))) o.4) in
+          (subst (λ (y : SeatView V). IsSlotOf y.hand b) (some-injective o.1 u (sym o.2 ∙ (ap (get_elem? s.views) q ∙ e))) o.4) in
           let m = empty id v at free in let n = empty j w there free' in
           (o.0, o.1, set_else (set s.views id (grown v w)) j o.0 over n ∙ (set_else s.views id o.0 (grown v w) m ∙ o.2), o.3, o.4)
 
@@ -79,7 +79,7 @@ module _ {V : Type 0} where
       let second : IsSecond v.view.pending other = subst (λ p. IsSecond p other) (sym pending) refl in
       let both : HasBoth d v.view.seen (Merging other mine others) = subst (HasBoth d v.view.seen) pending seated.both in
       let a = adds k s r id v at awake Idle None e told.legal in
-      let quiet : NoneBy other a.between = quiet_too s r at r.history a.between second refl (ap (λ (u : Sight V). tail_of u.view.seen) a.now) in (
+      let quiet : NoneBy other a.between = quiet_too s r at r.history a.between second refl (ap (λ (u : SeatView V). tail_of u.view.seen) a.now) in (
         seeing v Idle None h,
         keeps,
         tt,
@@ -97,7 +97,7 @@ module _ {V : Type 0} where
         (other, mine, others, pending, a, quiet, both.0, both.1, refl),
       )
     where
-      quiet_too : (s : Table.State (Option V) (Sight V)) (r : Ruled k s) (at : get_elem? s.views id ≡ some me.0) (h : List (Entry V)) (l : List (Entry V))
+      quiet_too : (s : Table.State (Option V) (SeatView V)) (r : Ruled k s) (at : get_elem? s.views id ≡ some me.0) (h : List (Entry V)) (l : List (Entry V))
           → IsSecond me.0.view.pending other → h ≡ r.history → h ≡ l ++ me.0.view.seen → NoneBy other l
       quiet_too s r at h l second is e =
           let f = (r.stands.team.seated id me.0.view (at_map view_of s.views id me.0 at) awake).knows other (inr second) in

@@ -28,17 +28,17 @@ use Rattle.control_word.specs.declared.shape.Shape.{Shape}
 use Rattle.control_word.specs.declared.model.view.Pending.{Pending}
 use Rattle.control_word.specs.declared.model.view.Pending.TheVariants.{Idle}
 use Rattle.control_block.specs.Rule.{IsSlotOf, Ruled, kept, opening_of, seeing, view_of, until_gone}
-use Rattle.control_block.specs.Plays.{At, Ends, gave_back, left}
+use Rattle.control_block.specs.StepKinds.{At, Ends, gave_back, left}
 use Rattle.control_block.specs.Leaving.{MayLeave}
-use Rattle.control_block.specs.declared.board.Sight.{Sight}
+use Rattle.control_block.specs.declared.table.SeatView.{SeatView}
 use Rattle.control_block.proofs.Passage.{adds, next, plain, quiet_next, still_ending}
-use Rattle.control_block.proofs.Slots.{kept_else, live_home, live_unmade, others_still, slots_apart}
-use Rattle.control_block.proofs.LastOwners.{unvisited}
+use Rattle.control_block.proofs.words.Slots.{kept_else, live_home, live_unmade, others_still, slots_apart}
+use Rattle.control_block.proofs.leavings.LastOwners.{unvisited}
 use Rattle.control_block.proofs.kept.Look.{looked}
 use Rattle.control_block.proofs.kept.MayLeave.{may_awake, may_empty, may_have, may_stand}
 
 module _ {V : Type 0} where
-  module _ (k : Shape) (s : Table.State (Option V) (Sight V)) (r : Ruled k s) (id : ℕ) (v : Sight V) (at : get_elem? s.views id ≡ some v)
+  module _ (k : Shape) (s : Table.State (Option V) (SeatView V)) (r : Ruled k s) (id : ℕ) (v : SeatView V) (at : get_elem? s.views id ≡ some v)
       (awake : v.view.spent ≡ false) (free : v.hand ≡ None) (o : ℕ) (p : Option Place) (b : Block)
       (mine : Has (held v.view.name (owner o p)) (leads (opening_of k) r.history).hands × (((leads (opening_of k) r.history).object o).block ≡ b.0)) where
     alive : ((leads (opening_of k) r.history).object o).phase ≡ live
@@ -86,7 +86,7 @@ module _ {V : Type 0} where
       free = may_empty me Owner o p b.0 f may
 
       others : get_or s.words i 0 ≢ a
-          → (w : Sight V) × (c : Act (Option V)) × Valid s.homes me.1 c
+          → (w : SeatView V) × (c : Act (Option V)) × Valid s.homes me.1 c
           × Ruled k (stepped s i ((get_or s.words i 0 + (2 ^ 64 - a)) % 2 ^ 64) id me.1 w c)
           × left b o p (step slots i a 0 none) me (get_or s.words i 0) (w, carried_after me.1 c)
       others n =
@@ -100,7 +100,7 @@ module _ {V : Type 0} where
           )
 
       last : get_or s.words i 0 ≡ a
-          → (w : Sight V) × (c : Act (Option V)) × Valid s.homes me.1 c
+          → (w : SeatView V) × (c : Act (Option V)) × Valid s.homes me.1 c
           × Ruled k (stepped s i ((get_or s.words i 0 + (2 ^ 64 - a)) % 2 ^ 64) id me.1 w c)
           × left b o p (step slots i a 0 none) me (get_or s.words i 0) (w, carried_after me.1 c)
       last q =
@@ -157,7 +157,7 @@ module _ {V : Type 0} where
         (refl, ap rest carried),
       )
     where
-      same_views : (s : Table.State (Option V) (Sight V)) → get_elem? s.views id ≡ some me.0
+      same_views : (s : Table.State (Option V) (SeatView V)) → get_elem? s.views id ≡ some me.0
           → set (map view_of s.views) id (sees_as me.0.view Idle me.0.view.seen) ≡ map view_of s.views
       same_views s at =
           ap (λ (y : Pending V). set (map view_of s.views) id (sees_as me.0.view y me.0.view.seen)) (sym idle)

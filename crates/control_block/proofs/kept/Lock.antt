@@ -20,11 +20,11 @@ use Rattle.control_word.specs.declared.place.Place.{Place}
 use Rattle.control_word.specs.declared.shape.Shape.{Shape}
 use Rattle.control_word.specs.declared.model.view.Pending.TheVariants.{Idle}
 use Rattle.control_block.specs.Rule.{Ruled, opening_of, seeing, view_of}
-use Rattle.control_block.specs.Plays.{At, HasRoomFor, HoldingInBlock, Rests, tells}
-use Rattle.control_block.specs.LockPlays.{GotOwner, earlier, locked, sought_owner}
-use Rattle.control_block.specs.declared.board.Sight.{Sight}
+use Rattle.control_block.specs.StepKinds.{At, HasRoomFor, HoldingInBlock, Rests, tells}
+use Rattle.control_block.specs.LockStepKinds.{GotOwner, earlier, locked, sought_owner}
+use Rattle.control_block.specs.declared.table.SeatView.{SeatView}
 use Rattle.control_block.proofs.Passage.{adds, held_there, plain, point, quiet_next, ready, still_room}
-use Rattle.control_block.proofs.Still.{allows_exchange, unmoved}
+use Rattle.control_block.proofs.words.Still.{allows_exchange, unmoved}
 use Rattle.control_block.proofs.kept.Look.{looked}
 
 -- the lower half of a word
@@ -33,9 +33,9 @@ low_part n = omega arith
 
 module _ {V : Type 0} where
   -- what a lock told is what its step found
-  pub got_owner : (v w : Sight V) (o : ℕ) (p : Option Place) (got : Bool) → tells (Lock (weak_of o p) got) v w → GotOwner o got w
+  pub got_owner : (v w : SeatView V) (o : ℕ) (p : Option Place) (got : Bool) → tells (Lock (weak_of o p) got) v w → GotOwner o got w
   got_owner v w o p got a =
-      let seen = ap (λ (u : Sight V). u.view.seen) a.now in let shape = ap (λ (u : Sight V). u.shape) a.now in
+      let seen = ap (λ (u : SeatView V). u.view.seen) a.now in let shape = ap (λ (u : SeatView V). u.shape) a.now in
       subst (λ h. got ≡ not (Rattle.control_word.specs.State.count (leads (opening_of w.shape) (earlier h)) o == 0)) (sym seen)
       (subst (λ k. got ≡ not (Rattle.control_word.specs.State.count (leads (opening_of k) (a.between ++ v.view.seen)) o == 0)) (sym shape)
       (subst (IsLegal (opening_of v.shape)) seen a.legal).1.asks.1)

@@ -23,7 +23,7 @@ use Rattle.control_word.specs.declared.place.Place.{Place}
 use Rattle.control_word.specs.declared.shape.Shape.{Shape}
 use Rattle.control_word.specs.declared.model.view.Pending.TheVariants.{Idle}
 use Rattle.control_block.specs.Rule.{Ruled, opening_of, view_of}
-use Rattle.control_block.specs.Plays.{At, HoldingInBlock, Rests, counted, found_expired, read}
+use Rattle.control_block.specs.StepKinds.{At, HoldingInBlock, Rests, counted, found_expired, read}
 use Rattle.control_block.proofs.Passage.{allows_event, allows_telling, held_there, plain, point, ready}
 
 halved : (n : ℕ) → n ≡ n % 4294967296 + 4294967296 * (n / 4294967296)

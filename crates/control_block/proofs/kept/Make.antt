@@ -27,10 +27,10 @@ use Rattle.control_word.specs.declared.shape.Shape.{Shape}
 use Rattle.control_word.specs.declared.model.view.Pending.{Pending}
 use Rattle.control_word.specs.declared.model.view.Pending.TheVariants.{Idle, Making}
 use Rattle.control_block.specs.Rule.{IsSlotOf, Ruled, kept, opening_of, seeing, view_of, until_gone}
-use Rattle.control_block.specs.Plays.{At, HasRoomFor, Rests, began, known, made, prepared, wrote}
-use Rattle.control_block.specs.declared.board.Sight.{Sight}
+use Rattle.control_block.specs.StepKinds.{At, HasRoomFor, Rests, began, known, made, prepared, wrote}
+use Rattle.control_block.specs.declared.table.SeatView.{SeatView}
 use Rattle.control_block.proofs.Passage.{adds, moves, next, point, ready, still_room, still_stored}
-use Rattle.control_block.proofs.Slots.{others_still, slots_apart, vacant_home}
+use Rattle.control_block.proofs.words.Slots.{others_still, slots_apart, vacant_home}
 
 module _ {V : Type 0} where
   pub allows_begin : (k : Shape) (slots id i : ℕ) (b : Block) (me : At V) → Rests me → Has (stored me.0.view.name b.0) (known me.0).stores
@@ -63,8 +63,8 @@ module _ {V : Type 0} where
       (pending : me.0.view.pending ≡ Making b l)
       (hand : me.0.hand ≡ Some b) (five : length l ≡ 5) (low : j < 5) (e : i ≡ spot b.0 (2 + j)) where
     -- the word becomes n
-    writes : (n : ℕ) (s : Table.State (Option V) (Sight V)) (r : Ruled k s) → get_elem? s.views id ≡ some me.0
-        → (w : Sight V) × (a : Act (Option V)) × Valid s.homes me.1 a × Ruled k (stepped s i n id me.1 w a)
+    writes : (n : ℕ) (s : Table.State (Option V) (SeatView V)) (r : Ruled k s) → get_elem? s.views id ≡ some me.0
+        → (w : SeatView V) × (a : Act (Option V)) × Valid s.homes me.1 a × Ruled k (stepped s i n id me.1 w a)
         × wrote b j (step slots i 0 0 none) me n (w, carried_after me.1 a)
     writes n s r at =
         let v = me.0 in let z = opening_of k in let p : Pending V = Making b (set l j n) in let w = seeing v p (Some b) r.history in
@@ -78,7 +78,7 @@ module _ {V : Type 0} where
               refl (inl refl) (λ q u ne there un back. back)
               (λ c within. ⊎_elim (λ (q : c ≡ b.0). inr (inl (sym q)))
               (λ (q : c ≢ b.0). inr (inr (refl, refl, λ y. q (sym (subst (λ h. IsSlotOf h c) hand y))))) (cases_eq c b.0)),
-          (subst (λ q. Rattle.control_block.specs.Plays.Moved v q (Some b) w) same (moves k s r id v at awake p (Some b)), refl),
+          (subst (λ q. Rattle.control_block.specs.StepKinds.Moved v q (Some b) w) same (moves k s r id v at awake p (Some b)), refl),
         )
 
     pub allows_look : Allows (Ruled k) slots id me i (λ n. n) (wrote b j (step slots i 0 0 none) me)

@@ -24,10 +24,10 @@ use Rattle.control_word.specs.declared.shape.Shape.{Shape}
 use Rattle.control_word.specs.Steps.{Ready}
 use Rattle.control_word.specs.declared.model.view.Pending.TheVariants.{Idle, Paying}
 use Rattle.control_block.specs.Leaving.{MayLeave}
-use Rattle.control_block.specs.Plays.{At}
+use Rattle.control_block.specs.StepKinds.{At}
 use Rattle.control_block.specs.Rule.{Ruled, opening_of, view_of}
-use Rattle.control_block.specs.declared.board.Sight.{Sight}
-use Rattle.control_block.proofs.CellTrades.{slot_low}
+use Rattle.control_block.specs.declared.table.SeatView.{SeatView}
+use Rattle.control_block.proofs.cells.CellTrades.{slot_low}
 use Rattle.control_block.proofs.Passage.{held_there, point, ready}
 use Rattle.control_block.proofs.kept.GiveBack.{owed_there}
 
@@ -55,7 +55,7 @@ module _ {V : Type 0} where
   going Owner o p last = Leave (owner o p) last
   going Weak o p vacant = WeakLeave (weak_of o p) vacant
 
-  module _ (k : Shape) (s : Table.State (Option V) (Sight V)) (r : Ruled k s) (id : ℕ) (me : At V) (at : get_elem? s.views id ≡ some me.0) (m : Kind)
+  module _ (k : Shape) (s : Table.State (Option V) (SeatView V)) (r : Ruled k s) (id : ℕ) (me : At V) (at : get_elem? s.views id ≡ some me.0) (m : Kind)
       (o b f : ℕ) (p : Option Place) where
     abbrev after_by : ℕ → Bool → Type 0
     after_by n c =

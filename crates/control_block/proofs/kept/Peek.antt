@@ -26,10 +26,10 @@ use Rattle.control_word.specs.declared.model.view.Pending.{Pending}
 use Rattle.control_word.specs.declared.model.view.Pending.TheVariants.{Idle, Making, Merging, Parting, Paying, Visiting}
 use Rattle.control_word.specs.declared.model.view.View.{View}
 use Rattle.control_block.specs.Rule.{Ruled, opening_of, view_of}
-use Rattle.control_block.specs.Plays.{At, Ends, HoldingInBlock, IsNearObject, IsTold, known, peeked}
-use Rattle.control_block.specs.declared.board.Sight.{Sight}
+use Rattle.control_block.specs.StepKinds.{At, Ends, HoldingInBlock, IsNearObject, IsTold, known, peeked}
+use Rattle.control_block.specs.declared.table.SeatView.{SeatView}
 use Rattle.control_block.proofs.Endings.{ends_busy, ends_here}
-use Rattle.control_block.proofs.Lists.{set_same}
+use Rattle.control_block.proofs.words.Lists.{set_same}
 use Rattle.control_block.proofs.Passage.{held_there, known_as, knows, legal_known, still_ending}
 use Rattle.control_word.proofs.history.Others.{held_made}
 
@@ -126,7 +126,7 @@ module _ {V : Type 0} where
         v,
         keeps,
         tt,
-        subst (λ (y : List ℕ × List (Sight V)). Ruled k record { words = y.0; homes = s.homes; views = y.1 })
+        subst (λ (y : List ℕ × List (SeatView V)). Ruled k record { words = y.0; homes = s.homes; views = y.1 })
             (λ q. (sym same_words q, sym same_views q)) r,
         (
           refl,
@@ -135,7 +135,7 @@ module _ {V : Type 0} where
         ),
       )
     where
-      near_there : (k : Shape) (s : Table.State (Option V) (Sight V)) (r : Ruled k s) (id : ℕ) (v : Sight V) (at : get_elem? s.views id ≡ some v)
+      near_there : (k : Shape) (s : Table.State (Option V) (SeatView V)) (r : Ruled k s) (id : ℕ) (v : SeatView V) (at : get_elem? s.views id ≡ some v)
           (awake : v.view.spent ≡ false) (o b : ℕ) → IsNearObject v o b
           → (((leads (opening_of k) r.history).object o).block ≡ b) × IsBusy (leads (opening_of k) r.history) o ×
           (o ≤ (leads (opening_of k) v.view.seen).made)

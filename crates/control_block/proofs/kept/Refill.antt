@@ -23,21 +23,21 @@ use Rattle.control_word.specs.declared.place.Place.{Place}
 use Rattle.control_word.specs.declared.shape.Shape.{Shape}
 use Rattle.control_word.specs.declared.model.view.Pending.TheVariants.{Idle}
 use Rattle.control_block.specs.Rule.{Ruled, opening_of, view_of}
-use Rattle.control_block.specs.Plays.{At, goes_on}
-use Rattle.control_block.specs.FundPlays.{Owes, owing}
-use Rattle.control_block.specs.CellPlays.{IsCellAt, kind_in, refilled}
-use Rattle.control_block.specs.declared.board.Sight.{Sight}
+use Rattle.control_block.specs.StepKinds.{At, goes_on}
+use Rattle.control_block.specs.FundStepKinds.{Owes, owing}
+use Rattle.control_block.specs.CellStepKinds.{IsCellAt, kind_in, refilled}
+use Rattle.control_block.specs.declared.table.SeatView.{SeatView}
 use Rattle.control_block.proofs.CellWords.{Decoded, Opened, cell_keeps, decoded, found_is, is_open, opened}
-use Rattle.control_block.proofs.Hands.{same_number}
+use Rattle.control_block.proofs.words.Hands.{same_number}
 use Rattle.control_block.proofs.Passage.{point}
-use Rattle.control_block.proofs.Still.{allows_exchange, moved_on}
+use Rattle.control_block.proofs.words.Still.{allows_exchange, moved_on}
 use Rattle.control_block.proofs.kept.GiveBack.{owed_there}
 
 module _ {V : Type 0} where
   module _ (k : Shape) (slots id i found new : ℕ) (c : Cell) (x : CellWord) (o : ℕ) (p : Option Place) (b : Block) (me : At V)
       (owes : Owes (owing (kind_in me.0.shape c) o p b.0 x.taken 0) me) (cell : IsCellAt me.0 c i) (valid : IsCellWord x)
       (is_found : found ≡ cell_bits x) (owned : x.owned ≡ Some b) (less : new + 17179869184 * x.taken ≡ found) where
-    refilling : (s : Table.State (Option V) (Sight V)) (r : Ruled k s) (at : get_elem? s.views id ≡ some me.0)
+    refilling : (s : Table.State (Option V) (SeatView V)) (r : Ruled k s) (at : get_elem? s.views id ≡ some me.0)
         (is : Opened k s r id me.0 at owes.awake c i) → Decoded k s r id me.0 at owes.awake c i is → get_or s.words i 0 ≡ found
         → (q : Option ℕ) → (cell_of (leads (opening_of k) r.history) c).object ≡ q
         → Ruled k record { words = set s.words i new; homes = s.homes; views = set s.views id (goes_on me.0) }

@@ -15,7 +15,7 @@ use Rattle.control_word.specs.declared.model.handle.Kind.TheVariants.{Owner}
 use Rattle.control_word.specs.declared.place.Place.{Place}
 use Rattle.control_word.specs.declared.shape.Shape.{Shape}
 use Rattle.control_word.specs.declared.model.view.Pending.TheVariants.{Idle}
-use Rattle.control_block.specs.Plays.{At, HasRoomFor, HoldingInBlock, Rests, shared}
+use Rattle.control_block.specs.StepKinds.{At, HasRoomFor, HoldingInBlock, Rests, shared}
 use Rattle.control_block.specs.Rule.{Ruled, opening_of, view_of}
 use Rattle.control_block.proofs.Passage.{allows_event, held_there, plain, point, ready, still_room}
 

@@ -21,13 +21,13 @@ use Rattle.control_word.specs.declared.model.event.Event.TheVariants.{Shelve, Un
 use Rattle.control_word.specs.declared.place.Block.{Block}
 use Rattle.control_word.specs.declared.shape.Shape.{Shape}
 use Rattle.control_word.specs.declared.model.view.Pending.TheVariants.{Idle}
-use Rattle.control_block.specs.Plays.{At, Rests, known}
+use Rattle.control_block.specs.StepKinds.{At, Rests, known}
 use Rattle.control_block.specs.Rule.{Ruled, opening_of, seeing, view_of}
-use Rattle.control_block.specs.ShelfPlays.{IsOff, IsShelfWord, IsSo, shelf_at, shelved, told_shelf, unshelved}
-use Rattle.control_block.specs.declared.board.Sight.{Sight}
-use Rattle.control_block.proofs.CellRounds.{rested}
+use Rattle.control_block.specs.ShelfStepKinds.{IsOff, IsShelfWord, IsSo, shelf_at, shelved, told_shelf, unshelved}
+use Rattle.control_block.specs.declared.table.SeatView.{SeatView}
+use Rattle.control_block.proofs.cells.CellRetries.{rested}
 use Rattle.control_block.proofs.Passage.{adds, allows_event, knows, plain, point, quiet_next, ready, still_stored}
-use Rattle.control_block.proofs.Still.{moved_on, unmoved}
+use Rattle.control_block.proofs.words.Still.{moved_on, unmoved}
 
 pub told_set : (n j a : ℕ) → a ≡ 2 ^ j → not (bit_and n a == 0) ≡ true → bit_at n j ≡ 1
 told_set n j a is e =
@@ -42,7 +42,7 @@ told_clear n j a is e =
     absurd (true≢false (sym (bit_tells n j true one) ∙ (ap (λ y. not (bit_and n y == 0)) (sym is) ∙ e)))) (cases_eq (bit_at n j) 0)
 
 module _ {V : Type 0} where
-  module _ (k : Shape) (s : Table.State (Option V) (Sight V)) (r : Ruled k s) (id : ℕ) (v : Sight V) (at : get_elem? s.views id ≡ some v)
+  module _ (k : Shape) (s : Table.State (Option V) (SeatView V)) (r : Ruled k s) (id : ℕ) (v : SeatView V) (at : get_elem? s.views id ≡ some v)
       (awake : v.view.spent ≡ false) where
     -- what is so where all of the history so far leads
     so_now : (is : State → Type 0) → is (leads (opening_of k) r.history) → IsSo v is
@@ -96,10 +96,10 @@ module _ {V : Type 0} where
 
   -- a bit is cleared, by what it was
   module _ (k : Shape) (slots id i a : ℕ) (b : Block) (me : At V) (rests : Rests me) (e : i ≡ shelf_at me.0.shape (b.0 / 64))
-      (is : a ≡ bit_not w64 (bit_of b.0)) (low : b.0 < 65536) (s : Table.State (Option V) (Sight V)) (r : Ruled k s)
+      (is : a ≡ bit_not w64 (bit_of b.0)) (low : b.0 < 65536) (s : Table.State (Option V) (SeatView V)) (r : Ruled k s)
       (at : get_elem? s.views id ≡ some me.0) where
     abbrev Cleared : Type 0
-    Cleared = (w : Sight V) × Ruled k record { words = set s.words i (bit_and (get_or s.words i 0) a); homes = s.homes; views = set s.views id w }
+    Cleared = (w : SeatView V) × Ruled k record { words = set s.words i (bit_and (get_or s.words i 0) a); homes = s.homes; views = set s.views id w }
         × unshelved b (step slots i a 0 none) me (get_or s.words i 0) (w, me.1)
 
     was_set : bit_at (get_or s.words i 0) (b.0 % 64) ≡ 1 → Cleared
@@ -127,7 +127,7 @@ module _ {V : Type 0} where
         let stands = subst (λ (y : ℕ × ℕ). Stands (opening_of k) (set s.words y.0 (bit_and (get_or s.words y.0 0) y.1))
         (set (map view_of s.views) id (sees_as v.view Idle r.history)) r.history) (λ j. (here j, sym is j)) now in (
           v,
-          subst (λ (u : Sight V). Ruled k record { words = set s.words i (bit_and (get_or s.words i 0) a); homes = s.homes; views = set s.views id u })
+          subst (λ (u : SeatView V). Ruled k record { words = set s.words i (bit_and (get_or s.words i 0) a); homes = s.homes; views = set s.views id u })
               (rested me rests)
               (moved_on k s r id v _ Idle at rests.awake rests.empty record { single = λ d q. q; both = λ d seen. tt } stands),
           (

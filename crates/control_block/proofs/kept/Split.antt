@@ -17,46 +17,46 @@ use Rattle.control_word.specs.State.{HasAll, HasRoom, Held, State, Stored, bag_s
 use Rattle.control_word.specs.Views.{Stands, comes, stays}
 use Rattle.control_word.specs.declared.model.event.Event.{Event}
 use Rattle.control_word.specs.declared.model.event.Event.TheVariants.{Split}
-use Rattle.control_word.specs.declared.model.handle.Handle.{Handle}
+use Rattle.control_word.specs.declared.model.handle.NumberedHandle.{NumberedHandle}
 use Rattle.control_word.specs.declared.place.Block.{Block}
 use Rattle.control_word.specs.declared.shape.Shape.{Shape}
 use Rattle.control_word.specs.declared.model.view.Pending.TheVariants.{Idle, Parting}
 use Rattle.control_block.specs.Rule.{IsBacked, IsOut, IsSlotOf, Ruled, opening_of, seeing, view_of}
-use Rattle.control_block.specs.Plays.{At, MaySplit, Rests, comes_off, goes_on, known, parted, second_name}
-use Rattle.control_block.specs.declared.board.Sight.{Sight}
-use Rattle.control_block.proofs.Lists.{each_set, map_set}
-use Rattle.control_block.proofs.Parts.{all_from, all_to}
+use Rattle.control_block.specs.StepKinds.{At, MaySplit, Rests, comes_off, goes_on, known, parted, second_name}
+use Rattle.control_block.specs.declared.table.SeatView.{SeatView}
+use Rattle.control_block.proofs.words.Lists.{each_set, map_set}
+use Rattle.control_block.proofs.partings.Parts.{all_from, all_to}
 use Rattle.control_block.proofs.Passage.{adds, known_as, plain, point, quiet_next, ready, same}
 use Rattle.control_block.proofs.kept.Look.{looked}
 
 -- the giver's bag has the given handles no more
-bag_given : (d to : ℕ) (hs : List Handle) (l : List Held) → d ≢ to → HasAll same_held (λ (h : Handle). held d h) hs l
-    → length (filter (λ (x : Held). x.desk == d) (passed same_held (λ (h : Handle). held d h) (λ h. held to h) hs l)) + length hs
+bag_given : (d to : ℕ) (hs : List NumberedHandle) (l : List Held) → d ≢ to → HasAll same_held (λ (h : NumberedHandle). held d h) hs l
+    → length (filter (λ (x : Held). x.desk == d) (passed same_held (λ (h : NumberedHandle). held d h) (λ h. held to h) hs l)) + length hs
     ≡ length (filter (λ (x : Held). x.desk == d) l)
 bag_given d to hs l n all =
     let p : Held → Bool = λ x. x.desk == d in
-    let t = num_passes same_held held_true held_self (λ (h : Handle). held d h) (λ (h : Handle). held to h) p hs l all in
-    let a = num_map p (λ (h : Handle). held to h) hs in let b = num_map p (λ (h : Handle). held d h) hs in
-    let c = num_none (λ (h : Handle). to == d) hs (λ h. ne_eqb to d (λ e. n (sym e))) in
+    let t = num_passes same_held held_true held_self (λ (h : NumberedHandle). held d h) (λ (h : NumberedHandle). held to h) p hs l all in
+    let a = num_map p (λ (h : NumberedHandle). held to h) hs in let b = num_map p (λ (h : NumberedHandle). held d h) hs in
+    let c = num_none (λ (h : NumberedHandle). to == d) hs (λ h. ne_eqb to d (λ e. n (sym e))) in
     let e = all_true hs in omega arith
   where
-    all_true : (l : List Handle) → length (filter (λ (h : Handle). d == d) l) ≡ length l
+    all_true : (l : List NumberedHandle) → length (filter (λ (h : NumberedHandle). d == d) l) ≡ length l
     all_true [] = refl
-    all_true (h ∷ l) = ap length (Rattle.std.proofs.lemmas.Bool.cond-true (d == d) (h ∷ filter (λ (h : Handle). d == d) l) (filter
-        (λ (h : Handle). d == d) l) (eq-eqb d d refl)) ∙ ap suc (all_true l)
+    all_true (h ∷ l) = ap length (Rattle.std.proofs.lemmas.Bool.cond-true (d == d) (h ∷ filter (λ (h : NumberedHandle). d == d) l) (filter
+        (λ (h : NumberedHandle). d == d) l) (eq-eqb d d refl)) ∙ ap suc (all_true l)
 
 module _ {V : Type 0} where
-  pub allows_split : (k : Shape) (slots id i n : ℕ) (hs : List Handle) (bs : List Block) (me : At V) → Rests me → MaySplit me.0 n hs bs
+  pub allows_split : (k : Shape) (slots id i n : ℕ) (hs : List NumberedHandle) (bs : List Block) (me : At V) → Rests me → MaySplit me.0 n hs bs
       → Allows (Ruled k) slots id me i (λ x. x) (parted n hs bs (step slots i 0 0 none) me)
   allows_split k slots id i n hs bs me rests may s r sized at small =
       let v = me.0 in let z = opening_of k in let t = leads z r.history in let d = v.view.name in let to = t.names in
       let mine = same k s r id v at rests.awake in let was = known_as k s r id v at rests.awake in
       let now = ready k s r id v at rests.awake Idle rests.idle in
       let acts = (r.stands.team.seated id v.view now.seated rests.awake).acts d (inl refl) in
-      let all : HasAll same_held (λ (h : Handle). held d h) hs t.hands = all_from (λ (x : Held). x.desk) d same_held held_true
-      (λ (h : Handle). held d h) hs t.hands (λ h. refl)
-      (subst (HasAll same_held (λ (h : Handle). held d h) hs) (ap (λ (y : State). filter (λ (x : Held). x.desk == d) y.hands) was ∙ sym mine.in_bag)
-      (all_to (λ (x : Held). x.desk) d same_held held_true (λ (h : Handle). held d h) hs (known v).hands (λ h. refl) may.handles)) in
+      let all : HasAll same_held (λ (h : NumberedHandle). held d h) hs t.hands = all_from (λ (x : Held). x.desk) d same_held held_true
+      (λ (h : NumberedHandle). held d h) hs t.hands (λ h. refl)
+      (subst (HasAll same_held (λ (h : NumberedHandle). held d h) hs) (ap (λ (y : State). filter (λ (x : Held). x.desk == d) y.hands) was ∙ sym mine.in_bag)
+      (all_to (λ (x : Held). x.desk) d same_held held_true (λ (h : NumberedHandle). held d h) hs (known v).hands (λ h. refl) may.handles)) in
       let some' : HasAll same_stored (λ (b : Block). stored d b.0) bs t.stores = all_from (λ (x : Stored). x.desk) d same_stored stored_true
       (λ (b : Block). stored d b.0) bs t.stores (λ h. refl)
       (subst (HasAll same_stored (λ (b : Block). stored d b.0) bs) (ap (λ (y : State). filter (λ (x : Stored). x.desk == d) y.stores) was
@@ -82,7 +82,7 @@ module _ {V : Type 0} where
       )
 
   -- the second step: the new desk's seat
-  pub allows_cut : (k : Shape) (id to : ℕ) (v : Sight V) → v.view.spent ≡ false → v.view.pending ≡ Parting to → v.hand ≡ None
+  pub allows_cut : (k : Shape) (id to : ℕ) (v : SeatView V) → v.view.spent ≡ false → v.view.pending ≡ Parting to → v.hand ≡ None
       → Splits (Ruled k) id v (goes_on v) (comes_off v)
   allows_cut k id to v awake pending free s r at =
       let z = opening_of k in let w = goes_on v in let c = comes_off v in
@@ -97,7 +97,7 @@ module _ {V : Type 0} where
         shapes = λ j u e. ⊎_elim
             (λ (q : get_elem? (set s.views id w) j ≡ some u). each_set (λ x y. y.view.spent ≡ false
             → y.shape ≡ k) s.views id w (λ _. r.shapes id v at awake) (λ x y n there un. r.shapes x y there un) j u q)
-            (λ (q : c ≡ u). λ _. subst (λ (y : Sight V). y.shape ≡ k) q (r.shapes id v at awake)) (at_snoc (set s.views id w) c u j e);
+            (λ (q : c ≡ u). λ _. subst (λ (y : SeatView V). y.shape ≡ k) q (r.shapes id v at awake)) (at_snoc (set s.views id w) c u j e);
         sized = r.sized;
         homes = λ b inside. ⊎_elim inl (λ (o : IsOut s.views b). inr (out b o)) (r.homes b inside);
         backed = λ j u e. ⊎_elim
@@ -106,11 +106,11 @@ module _ {V : Type 0} where
             → IsBacked (leads z r.history) y.view.name y.view.pending y.hand) s.views id w (λ _. tt)
             (λ x y n there un. r.backed x y there un) j u q)
             (λ (q : c ≡ u). λ _. subst
-            (λ (y : Sight V). IsBacked (leads z r.history) y.view.name y.view.pending y.hand) q tt) (at_snoc (set s.views id w) c u j e);
+            (λ (y : SeatView V). IsBacked (leads z r.history) y.view.name y.view.pending y.hand) q tt) (at_snoc (set s.views id w) c u j e);
       }
     where
       out : (b : ℕ) → IsOut s.views b → IsOut (set s.views id (goes_on v) ++ comes_off v ∷ []) b
       out b o =
           let apart : o.0 ≢ id = λ q. subst (λ h. IsSlotOf h b) free (subst
-          (λ (u : Sight V). IsSlotOf u.hand b) (some-injective o.1 v (sym o.2 ∙ (ap (get_elem? s.views) q ∙ at))) o.4) in
+          (λ (u : SeatView V). IsSlotOf u.hand b) (some-injective o.1 v (sym o.2 ∙ (ap (get_elem? s.views) q ∙ at))) o.4) in
           (o.0, o.1, at_longer (set s.views id (goes_on v)) (comes_off v ∷ []) o.0 o.1 (set_else s.views id o.0 (goes_on v) apart ∙ o.2), o.3, o.4)

@@ -18,20 +18,20 @@ use Rattle.control_word.specs.declared.packed.cell.CellWord.{CellWord}
 use Rattle.control_word.specs.declared.model.event.Cell.{Cell}
 use Rattle.control_word.specs.declared.model.event.Event.{Event}
 use Rattle.control_word.specs.declared.model.event.Event.TheVariants.{Swap}
-use Rattle.control_word.specs.declared.model.handle.Handle.{Handle}
+use Rattle.control_word.specs.declared.model.handle.NumberedHandle.{NumberedHandle}
 use Rattle.control_word.specs.declared.shape.Shape.{Shape}
 use Rattle.control_block.specs.Rule.{Ruled, opening_of, seeing, view_of}
-use Rattle.control_block.specs.Plays.{At, HasRoomFor, known}
-use Rattle.control_block.specs.FundPlays.{Owes}
-use Rattle.control_block.specs.CellPlays.{Gave, IsCellAt, IsWordOf, debt, kind_in, swapped}
-use Rattle.control_block.specs.declared.board.Sight.{Sight}
+use Rattle.control_block.specs.StepKinds.{At, HasRoomFor, known}
+use Rattle.control_block.specs.FundStepKinds.{Owes}
+use Rattle.control_block.specs.CellStepKinds.{Gave, IsCellAt, IsWordOf, debt, kind_in, swapped}
+use Rattle.control_block.specs.declared.table.SeatView.{SeatView}
 use Rattle.control_block.proofs.CellWords.{Decoded, Opened, decoded, found_is, is_open, opened}
-use Rattle.control_block.proofs.Hands.{debt_purse, hand_block, hand_there, room_swapped}
+use Rattle.control_block.proofs.words.Hands.{debt_purse, hand_block, hand_there, room_swapped}
 use Rattle.control_block.proofs.Passage.{IsQuiet, adds, point, quiet_next, quiet_swap, ready}
 
 module _ {V : Type 0} where
-  module _ (k : Shape) (s : Table.State (Option V) (Sight V)) (r : Ruled k s) (id : ℕ) (v : Sight V) (at : get_elem? s.views id ≡ some v)
-      (awake : v.view.spent ≡ false) (new : Handle) (y : CellWord) (is_new : IsWordOf v new y) (full : y.taken ≡ 0)
+  module _ (k : Shape) (s : Table.State (Option V) (SeatView V)) (r : Ruled k s) (id : ℕ) (v : SeatView V) (at : get_elem? s.views id ≡ some v)
+      (awake : v.view.spent ≡ false) (new : NumberedHandle) (y : CellWord) (is_new : IsWordOf v new y) (full : y.taken ≡ 0)
       (hand : InHand (known v) v.view.name new.kind new) where
     -- the word of what goes in shows it
     shows_new : y ≡ shown (blocks_of (leads (opening_of k) r.history)) new 0
@@ -51,13 +51,13 @@ module _ {V : Type 0} where
         ready k s r id v at awake (purse (blocks_of t) new 256)
         (owes ∙ (ap (λ x. debt new x.owned 256) shows_new ∙ debt_purse (blocks_of t) new 256))
 
-  module _ (k : Shape) (s : Table.State (Option V) (Sight V)) (r : Ruled k s) (id i : ℕ) (c : Cell) (v : Sight V) (at : get_elem? s.views id ≡ some v)
-      (awake : v.view.spent ≡ false) (free : v.hand ≡ None) (e : Handle → Event V) (quiet : (h : Handle) → IsQuiet (e h))
+  module _ (k : Shape) (s : Table.State (Option V) (SeatView V)) (r : Ruled k s) (id i : ℕ) (c : Cell) (v : SeatView V) (at : get_elem? s.views id ≡ some v)
+      (awake : v.view.spent ≡ false) (free : v.hand ≡ None) (e : NumberedHandle → Event V) (quiet : (h : NumberedHandle) → IsQuiet (e h))
       (is : Opened k s r id v at awake c i) (d : Decoded k s r id v at awake c i is) (n : ℕ) where
     -- what a swap gives, by the law of its kind
     pub gives : (x : CellWord) → let t = leads (opening_of k) r.history in let old = cell_of t c in x ≡ shown (blocks_of t) old d.taken
         → Adds (point k s r id v) (cell_word (point k s r id v) c) n (e old) (purse (blocks_of t) old (256 - d.taken))
-        → (w : Sight V) × Ruled k record { words = set s.words i n; homes = s.homes; views = set s.views id w } × Gave e (kind_in v.shape c) v x w
+        → (w : SeatView V) × Ruled k record { words = set s.words i n; homes = s.homes; views = set s.views id w } × Gave e (kind_in v.shape c) v x w
     gives x same told =
         let z = opening_of k in let t = leads z r.history in let old = cell_of t c in let p = purse (blocks_of t) old (256 - d.taken) in
         let hist = entry v.view.name (e old) ∷ r.history in let w = seeing v p None hist in
@@ -71,11 +71,11 @@ module _ {V : Type 0} where
             old = old;
             kind = d.kind;
             shows = same ∙ (λ j. shown (sym blocks j) old (sym (ap (λ y. y.taken) same) j));
-            event = subst (λ q. Rattle.control_block.specs.Plays.Added v q None (e old) w) (sym owed) (adds k s r id v at awake p None (e old) told.legal);
+            event = subst (λ q. Rattle.control_block.specs.StepKinds.Added v q None (e old) w) (sym owed) (adds k s r id v at awake p None (e old) told.legal);
           },
         )
 
-  pub allows_swap : (k : Shape) (slots id i n : ℕ) (c : Cell) (new : Handle) (y : CellWord) (me : At V) → Owes (debt new y.owned 256) me
+  pub allows_swap : (k : Shape) (slots id i n : ℕ) (c : Cell) (new : NumberedHandle) (y : CellWord) (me : At V) → Owes (debt new y.owned 256) me
       → IsCellAt me.0 c i → IsWordOf me.0 new y → y.taken ≡ 0 → InHand (known me.0) me.0.view.name (kind_in me.0.shape c) new
       → (new.object ≡ None → HasRoomFor me.0) → n ≡ cell_bits y
       → Allows (Ruled k) slots id me i (λ _. n) (swapped c (λ h. Swap c new h) (step slots i n 0 none) me)

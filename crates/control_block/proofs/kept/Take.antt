@@ -22,18 +22,18 @@ use Rattle.control_word.specs.declared.packed.cell.CellWord.{CellWord}
 use Rattle.control_word.specs.declared.model.event.Cell.{Cell}
 use Rattle.control_word.specs.declared.model.event.Event.{Event}
 use Rattle.control_word.specs.declared.model.event.Event.TheVariants.{Compare, Load}
-use Rattle.control_word.specs.declared.model.handle.Handle.{Handle}
+use Rattle.control_word.specs.declared.model.handle.NumberedHandle.{NumberedHandle}
 use Rattle.control_word.specs.declared.shape.Shape.{Shape}
 use Rattle.control_word.specs.declared.model.view.Pending.{Pending}
 use Rattle.control_word.specs.declared.model.view.Pending.TheVariants.{Idle, Paying}
 use Rattle.control_block.specs.Rule.{Ruled, opening_of, seeing, view_of}
-use Rattle.control_block.specs.Plays.{At, HasRoomFor, Rests, known}
-use Rattle.control_block.specs.CellPlays.{IsCellAt, IsWordOf, Took, kind_in, took}
-use Rattle.control_block.specs.declared.board.Sight.{Sight}
+use Rattle.control_block.specs.StepKinds.{At, HasRoomFor, Rests, known}
+use Rattle.control_block.specs.CellStepKinds.{IsCellAt, IsWordOf, Took, kind_in, took}
+use Rattle.control_block.specs.declared.table.SeatView.{SeatView}
 use Rattle.control_block.proofs.CellWords.{Decoded, Opened, decoded, found_is, is_open, one_cell, opened}
-use Rattle.control_block.proofs.Hands.{hand_block, hand_there}
+use Rattle.control_block.proofs.words.Hands.{hand_block, hand_there}
 use Rattle.control_block.proofs.Passage.{IsQuiet, adds, plain, point, quiet_next, ready, still_room}
-use Rattle.control_block.proofs.Still.{allows_exchange}
+use Rattle.control_block.proofs.words.Still.{allows_exchange}
 
 -- of a word that shows less than 256 taken a fund is left
 left_over : (x : CellWord) → IsCellWord x → x.taken < 256 → cell_bits x < 4398046511104
@@ -41,7 +41,7 @@ left_over x h lt =
     let o = owned_fits x.owned h.owned in let b = block_fits x.place h.place in let f = field_fits x.place h.place in omega arith
 
 -- handles that are not of one object and one place are not equivalent
-pub not_equivalent : (x y : Handle) → (x.object ≡ y.object → x.place ≡ y.place → ⊥) → false ≡ equivalent x y
+pub not_equivalent : (x y : NumberedHandle) → (x.object ≡ y.object → x.place ≡ y.place → ⊥) → false ≡ equivalent x y
 not_equivalent x y apart = go (equivalent x y) refl
   where
     go : (b : Bool) → equivalent x y ≡ b → false ≡ b
@@ -51,19 +51,19 @@ not_equivalent x y apart = go (equivalent x y) refl
         absurd (apart (same_number_true x.object y.object t.0) (same_place_true x.place y.place t.1))
 
 module _ {V : Type 0} where
-  module _ (k : Shape) (slots id i found : ℕ) (c : Cell) (x : CellWord) (e : Handle → Event V) (me : At V) (rests : Rests me)
+  module _ (k : Shape) (slots id i found : ℕ) (c : Cell) (x : CellWord) (e : NumberedHandle → Event V) (me : At V) (rests : Rests me)
       (cell : IsCellAt me.0 c i) (valid : IsCellWord x) (is_found : found ≡ cell_bits x) (holds : x.owned ≢ None)
-      (quiet : (h : Handle) → IsQuiet (e h))
-      (law : (s : Table.State (Option V) (Sight V)) (r : Ruled k s) (at : get_elem? s.views id ≡ some me.0)
+      (quiet : (h : NumberedHandle) → IsQuiet (e h))
+      (law : (s : Table.State (Option V) (SeatView V)) (r : Ruled k s) (at : get_elem? s.views id ≡ some me.0)
       (is : Opened k s r id me.0 at rests.awake c i) (o : ℕ) → let t = leads (opening_of k) r.history in
       let h = handle (kind_in me.0.shape c) (Some o) x.place in
       h ≡ cell_of t c → get_or s.words i 0 ≡ cell_bits x
       → Adds (point k s r id me.0) (cell_word (point k s r id me.0) c) (get_or s.words (cell_word (point k s r id me.0) c) 0 + 17179869184) (e h)
       (Paying (kind_in me.0.shape c) o x.place (counts_at (blocks_of t) (kind_in me.0.shape c) o) 1 1)) where
-    taking : (s : Table.State (Option V) (Sight V)) (r : Ruled k s) (at : get_elem? s.views id ≡ some me.0)
+    taking : (s : Table.State (Option V) (SeatView V)) (r : Ruled k s) (at : get_elem? s.views id ≡ some me.0)
         (is : Opened k s r id me.0 at rests.awake c i) → Decoded k s r id me.0 at rests.awake c i is → get_or s.words i 0 ≡ found
         → (q : Option ℕ) → (cell_of (leads (opening_of k) r.history) c).object ≡ q
-        → (w : Sight V) × Ruled k record { words = set s.words i (found + 17179869184); homes = s.homes; views = set s.views id w }
+        → (w : SeatView V) × Ruled k record { words = set s.words i (found + 17179869184); homes = s.homes; views = set s.views id w }
         × Took e (kind_in me.0.shape c) me.0 x w
     taking s r at is d q None bare =
         let t = leads (opening_of k) r.history in let same = found_is k s r id me.0 at rests.awake c i is d x valid (q ∙ is_found) in
@@ -119,7 +119,7 @@ module _ {V : Type 0} where
       (law.takes (point k s r id me.0) c (kind_in me.0.shape c) o x.place (ready k s r id me.0 at rests.awake Idle rests.idle) same
       (still_room k s r id me.0 at rests.awake more) low).0 (is_open k s r id me.0 at rests.awake c i cell))
 
-  pub allows_differ : (k : Shape) (slots id i found : ℕ) (c : Cell) (expected new : Handle) (weak' : Bool) (x : CellWord) (me : At V) → Rests me
+  pub allows_differ : (k : Shape) (slots id i found : ℕ) (c : Cell) (expected new : NumberedHandle) (weak' : Bool) (x : CellWord) (me : At V) → Rests me
       → IsCellAt me.0 c i → IsCellWord x → found ≡ cell_bits x → x.owned ≢ None → x.taken < 256 → HasRoomFor me.0
       → InHand (known me.0) me.0.view.name (kind_in me.0.shape c) expected → InHand (known me.0) me.0.view.name (kind_in me.0.shape c) new
       → (IsWordOf me.0 expected x → ⊥) ⊎ (weak' ≡ true)
@@ -134,7 +134,7 @@ module _ {V : Type 0} where
       let shows = found_is k s r id v at rests.awake c i is (decoded k s r id v at rests.awake c i is) x valid bits in
       let other : (false ≡ equivalent h expected) ⊎ (weak' ≡ true) =
       ⊎_elim (λ n. inl (not_equivalent h expected (λ e p. n (λ j. record {
-        owned = (ap (λ y. y.owned) shows ∙ (ap (λ (y : Handle). block_of (blocks_of t) y.object) (sym same) ∙ (ap (block_of (blocks_of t)) e
+        owned = (ap (λ y. y.owned) shows ∙ (ap (λ (y : NumberedHandle). block_of (blocks_of t) y.object) (sym same) ∙ (ap (block_of (blocks_of t)) e
             ∙ sym (hand_block k s r id v at rests.awake kk expected he)))) j;
         place = p j;
         taken = x.taken;

@@ -11,10 +11,10 @@ use Rattle.control_word.specs.declared.place.Place.{Place}
 use Rattle.control_word.specs.declared.shape.Shape.{Shape}
 use Rattle.control_word.specs.declared.model.view.Pending.TheVariants.{Idle}
 use Rattle.control_block.specs.Rule.{Ruled, opening_of, view_of}
-use Rattle.control_block.specs.Plays.{At}
-use Rattle.control_block.specs.FundPlays.{Owes, owing, settled}
+use Rattle.control_block.specs.StepKinds.{At}
+use Rattle.control_block.specs.FundStepKinds.{Owes, owing, settled}
 use Rattle.control_block.proofs.Passage.{point}
-use Rattle.control_block.proofs.Still.{allows_move}
+use Rattle.control_block.proofs.words.Still.{allows_move}
 use Rattle.control_block.proofs.kept.GiveBack.{owed_there}
 
 turns_one : (n : ℕ) → 4294967295 ≤ n → n < 18446744073709551616 → (n + (2 ^ 64 - 4294967295)) % 2 ^ 64 ≡ n - 4294967295

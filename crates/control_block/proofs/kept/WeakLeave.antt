@@ -10,7 +10,7 @@ use Rattle.control_word.specs.declared.place.Place.{Place}
 use Rattle.control_word.specs.declared.shape.Shape.{Shape}
 use Rattle.control_word.specs.declared.model.view.Pending.TheVariants.{Idle}
 use Rattle.control_block.specs.Leaving.{MayLeave}
-use Rattle.control_block.specs.Plays.{At, weakly_left}
+use Rattle.control_block.specs.StepKinds.{At, weakly_left}
 use Rattle.control_block.specs.Rule.{Ruled}
 use Rattle.control_block.proofs.Passage.{allows_event, plain}
 use Rattle.control_block.proofs.kept.MayLeave.{may_awake, may_empty, may_stand}

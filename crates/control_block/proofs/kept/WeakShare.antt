@@ -21,15 +21,15 @@ use Rattle.control_word.specs.declared.place.Place.{Place}
 use Rattle.control_word.specs.declared.shape.Shape.{Shape}
 use Rattle.control_word.specs.declared.model.view.Pending.TheVariants.{Idle}
 use Rattle.control_block.specs.Rule.{Ruled, opening_of, view_of}
-use Rattle.control_block.specs.Plays.{At, Ends, HasRoomFor, HoldingInBlock, MayShareWeakly, Rests, known, weakly_shared}
-use Rattle.control_block.specs.declared.board.Sight.{Sight}
+use Rattle.control_block.specs.StepKinds.{At, Ends, HasRoomFor, HoldingInBlock, MayShareWeakly, Rests, known, weakly_shared}
+use Rattle.control_block.specs.declared.table.SeatView.{SeatView}
 use Rattle.control_block.proofs.Endings.{ends_busy, ends_here}
 use Rattle.control_block.proofs.Passage.{allows_event, held_there, plain, point, ready, still_ending, still_room}
 use Rattle.control_block.proofs.kept.Share.{wraps}
 
 module _ {V : Type 0} where
   -- what the law asks is so of the whole history
-  module _ (k : Shape) (s : Table.State (Option V) (Sight V)) (r : Ruled k s) (id : ℕ) (v : Sight V) (at : get_elem? s.views id ≡ some v)
+  module _ (k : Shape) (s : Table.State (Option V) (SeatView V)) (r : Ruled k s) (id : ℕ) (v : SeatView V) (at : get_elem? s.views id ≡ some v)
       (awake : v.view.spent ≡ Rattle.std.specs.Prelude.false) (o b : ℕ) (q : Option Place) where
     may_share : MayShareWeakly v o b q
         → (0 < weak_number (leads (opening_of k) r.history) o) × (((leads (opening_of k) r.history).object o).block ≡ b)

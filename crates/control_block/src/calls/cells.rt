@@ -8,15 +8,15 @@ ghost use Rattle.control_block.specs.CellCalls.{without_handle};
 use crate::cell_calls::{CellAt, Content, Site, word_of};
 use crate::desk::Desk;
 use crate::domain::Domain;
-use crate::plays::cells::Aimed;
-use crate::rounds;
+use crate::retries;
+use crate::step_kinds::cells::CellArgs;
 use control_word::{CellWord, Refusal};
 use std::sync::Wait;
 
 /// A copy of what a cell holds ([util.smartptr.atomic.shared], [util.smartptr.atomic.weak]). It is refused `Limit` just
 /// where the desk is at its allowance, and then nothing changes.
 #[inline(always)]
-pub fn load<V: Drop, A: Aimed, R: Wait>(
+pub fn load<V: Drop, A: CellArgs, R: Wait>(
     rt: &R,
     domain: &Domain<V>,
     desk: &mut Desk<V>,
@@ -37,10 +37,10 @@ pub fn load<V: Drop, A: Aimed, R: Wait>(
     if desk.is_full() {
         return Err(Refusal::Limit);
     }
-    let board = &domain.table.shared;
+    let table = &domain.table.shared;
     let word = word_of(domain.shape.blocks, cell.site);
     desk.held += 1; // here, since each locked instruction that follows waits for what was stored before it
-    let seen = rounds::loads::load::<V, A, R>(rt, board, &mut desk.seat, word, cell.kind);
+    let seen = retries::loads::load::<V, A, R>(rt, table, &mut desk.seat, word, cell.kind);
     Ok(Content {
         kind: cell.kind,
         block: seen.owned,
@@ -51,7 +51,7 @@ pub fn load<V: Drop, A: Aimed, R: Wait>(
 /// A handle that the desk has goes into a cell, and what the cell held comes out ([util.smartptr.atomic.shared],
 /// [util.smartptr.atomic.weak]). It waits for nobody.
 #[inline]
-pub fn exchange<V: Drop, A: Aimed>(
+pub fn exchange<V: Drop, A: CellArgs>(
     domain: &Domain<V>,
     desk: &mut Desk<V>,
     site: Site,
@@ -70,7 +70,7 @@ pub fn exchange<V: Drop, A: Aimed>(
     ensures kind { result.kind ≡ new.kind }
     ensures keeps { Keeps desk.old desk.new }
 {
-    let board = &domain.table.shared;
+    let table = &domain.table.shared;
     let seat = &mut desk.seat;
     let word = word_of(domain.shape.blocks, site);
     let full = CellWord {
@@ -78,7 +78,7 @@ pub fn exchange<V: Drop, A: Aimed>(
         place: new.place,
         taken: 0,
     };
-    let old = rounds::cells::swap::<V, A>(board, seat, word, new.kind, full);
+    let old = retries::cells::swap::<V, A>(table, seat, word, new.kind, full);
     Content {
         kind: new.kind,
         block: old.owned,

@@ -9,15 +9,15 @@ ghost use Rattle.control_block.specs.Desks.{AddsEvent, Keeps, allowance_of, bag_
 use crate::cell_calls::{Content, Offer, Site, word_of};
 use crate::desk::Desk;
 use crate::domain::Domain;
-use crate::plays::cells::Aimed;
-use crate::rounds;
+use crate::retries;
+use crate::step_kinds::cells::CellArgs;
 use control_word::{CellWord, Refusal};
 use std::sync::Wait;
 
 /// Where what a cell holds is equivalent to what is expected, the new handle goes in, and what the cell held comes out:
 /// true. Else a copy of what it holds: false ([util.smartptr.atomic.shared], [util.smartptr.atomic.weak]). It is
 /// refused `Limit` just where the desk is at its allowance, before any step, and then nothing changes.
-pub fn compare<V: Drop, A: Aimed, R: Wait>(
+pub fn compare<V: Drop, A: CellArgs, R: Wait>(
     rt: &R,
     domain: &Domain<V>,
     desk: &mut Desk<V>,
@@ -45,7 +45,7 @@ pub fn compare<V: Drop, A: Aimed, R: Wait>(
     if desk.is_full() {
         return Err(Refusal::Limit);
     }
-    let board = &domain.table.shared;
+    let table = &domain.table.shared;
     let word = word_of(domain.shape.blocks, site);
     let there = CellWord {
         owned: offer.expected.block,
@@ -58,9 +58,9 @@ pub fn compare<V: Drop, A: Aimed, R: Wait>(
         taken: 0,
     };
     let seat = &mut desk.seat;
-    let (swapped, seen) = rounds::compares::compare::<V, A, R>(
+    let (swapped, seen) = retries::compares::compare::<V, A, R>(
         rt,
-        board,
+        table,
         seat,
         word,
         offer.new.kind,

@@ -1,67 +1,42 @@
 //! Calls by which handles leave, and objects end.
 ghost use Rattle.std.specs.Prelude.{◌≡◌, ℕ, ◌+◌, ◌<◌, true, [], ◌∷◌, ◌++◌, cond, length};
 ghost use Rattle.std.specs.Prelude.{vec_capacity, vec_len};
-ghost use Rattle.std.specs.Prelude.{Option, Some, is_some, IfSome};
-ghost use Rattle.control_word.specs.Handles.{handle, same_handle};
-ghost use Rattle.control_word.specs.declared.model.event.Event.TheVariants.{Finish, Leave, WeakLeave};
-ghost use Rattle.control_word.specs.declared.model.handle.Kind.TheVariants.{Owner, Weak};
-ghost use Rattle.control_word.specs.State.{count, without};
+ghost use Rattle.std.specs.Prelude.{Some, is_some, IfSome};
+ghost use Rattle.control_word.specs.declared.model.event.Event.TheVariants.{Finish};
+ghost use Rattle.control_block.specs.CellCalls.{without_handle};
+ghost use Rattle.control_block.specs.Clearing.{Lets};
 ghost use Rattle.control_block.specs.Desks.{Belongs, AddsEvent, HasHandle, IsCleared, IsEnding, IsSameDesk};
-ghost use Rattle.control_block.specs.Desks.{KeepsEndings};
-ghost use Rattle.control_block.specs.Desks.{KeepsOtherEndings, KeepsStock, bag_of, endings_of, latest_of, on_latest};
-ghost use Rattle.control_block.specs.Desks.{stock_of};
+ghost use Rattle.control_block.specs.Desks.{KeepsEndings, KeepsOtherEndings, bag_of, endings_of, latest_of, stock_of};
 ghost use Rattle.control_block.specs.Leaving.{freed};
 
-use crate::calls::About;
 use crate::desk::Desk;
 use crate::domain::Domain;
-use crate::handles::Pointer;
-use crate::in_place::InPlace;
+use crate::released::Released;
 use crate::steps::{self, leaving};
-use control_word::Block;
+use control_word::{Block, Handle};
 use std::alloc::Global;
 use std::marker::Brand;
 
-/// An owner leaves ([util.smartptr.shared.dest]). After the last one's leave the object ends in the desk's hands; the
-/// answer knows its value, which stays where it is.
-pub fn leave<V: Drop, A: About>(
-    domain: &Domain<V>,
-    desk: &mut Desk<V>,
-    of: Pointer,
-) -> Option<InPlace<V>>
+/// A handle leaves. Where it was an object's last owner ([util.smartptr.shared.dest]), the object's value is released,
+/// and ends in the desk's hands, where it stays in its cell; a block that is vacant now ([util.smartptr.weak.dest]) is
+/// in the desk's store.
+#[inline(always)]
+pub fn leave<V: Drop>(domain: &Domain<V>, desk: &mut Desk<V>, of: Handle) -> Released<V>
     requires domain { Belongs desk.old domain.now }
-    requires meant { (A.kind ≡ of.kind) × (A.place ≡ of.place) }
-    requires holds { HasHandle desk.old Owner A.place of.block.0 }
-    ensures event { AddsEvent desk.old (Leave (on_latest desk.old Owner A.place of.block.0) (is_some result)) desk.new }
-    ensures ending { IfSome result (IsEnding desk.new of.block.0) }
-    ensures bag { bag_of desk.new ≡ without same_handle (handle Owner (Some of.block.0) A.place) (bag_of desk.old) }
-    ensures held { desk.new.held + 1 ≡ desk.old.held }
-    ensures keeps { KeepsStock desk.old desk.new }
-    ensures count { endings_of desk.new ≡ endings_of desk.old + cond (is_some result) 1 0 }
-{
-    let value = leaving::leave::<V, Brand>(&domain.table.shared, &mut desk.seat, of.block, 0);
-    desk.held -= 1;
-    desk.endings += u32::from(value.is_some());
-    value
-}
-
-/// A weak handle leaves ([util.smartptr.weak.dest]). It says whether the block is vacant now, and in the desk's store.
-pub fn leave_weak<V: Drop, A: About>(domain: &Domain<V>, desk: &mut Desk<V>, of: Pointer) -> bool
-    requires domain { Belongs desk.old domain.now }
-    requires meant { (A.kind ≡ of.kind) × (A.place ≡ of.place) }
-    requires holds { HasHandle desk.old Weak A.place of.block.0 }
-    ensures event { AddsEvent desk.old (WeakLeave (on_latest desk.old Weak A.place of.block.0) result) desk.new }
-    ensures bag { bag_of desk.new ≡ without same_handle (handle Weak (Some of.block.0) A.place) (bag_of desk.old) }
+    requires holds { HasHandle desk.old of.kind of.place of.block.0 }
+    ensures left { Lets of.kind desk.old (Some of.block) of.place result desk.new }
+    ensures bag { bag_of desk.new ≡ without_handle of.kind (Some of.block) of.place (bag_of desk.old) }
     ensures held { desk.new.held + 1 ≡ desk.old.held }
     ensures desk { IsSameDesk desk.old desk.new }
-    ensures stock { length (stock_of desk.new) ≡ length (stock_of desk.old) + cond result 1 0 }
+    ensures stock { length (stock_of desk.new) ≡ length (stock_of desk.old) + cond result.vacant 1 0 }
     ensures endings { KeepsEndings desk.old desk.new }
-    ensures count { endings_of desk.new ≡ endings_of desk.old }
+    ensures count { endings_of desk.new ≡ endings_of desk.old + cond (is_some result.value) 1 0 }
 {
-    let vacant = leaving::leave_weak::<V, Brand>(&domain.table.shared, &mut desk.seat, of.block, 0);
+    let released = leaving::leave::<V, Brand>(&domain.table.shared, &mut desk.seat, of, 0);
     desk.held -= 1;
-    put_by(&mut desk.store, of.block, vacant);
-    vacant
+    desk.endings += u32::from(released.value.is_some());
+    put_by(&mut desk.store, of.block, released.vacant);
+    released
 }
 
 /// An object that ends in the desk's hands is gone, and its value comes out (own). It says whether the block is vacant

@@ -10,12 +10,11 @@ ghost use Rattle.control_block.specs.Desks.{latest_of};
 ghost use Rattle.control_block.specs.Desks.{on_latest, state_of};
 ghost use Rattle.control_block.specs.LockCalls.{state_before};
 
-use crate::calls::About;
 use crate::desk::Desk;
 use crate::domain::Domain;
-use crate::handles::{Pointer, Shared};
+use crate::handles::Shared;
 use crate::steps::locks;
-use control_word::Refusal;
+use control_word::{Handle, Refusal};
 use std::marker::Brand;
 use std::sync::Wait;
 
@@ -23,26 +22,25 @@ use std::sync::Wait;
 /// ([util.smartptr.weak.obs]). Where the desk had seen the object without owner there is none. It is refused `Limit`
 /// just where the desk is at its allowance, and then nothing changes.
 #[inline(always)]
-pub fn lock<V: Drop, A: About, R: Wait>(
+pub fn lock<V: Drop, R: Wait>(
     rt: &R,
     domain: &Domain<V>,
     desk: &mut Desk<V>,
-    of: Pointer,
+    of: Handle,
 ) -> Result<Option<Shared>, Refusal>
     requires domain { Belongs desk.old domain.now }
-    requires meant { (A.kind ≡ of.kind) × (A.place ≡ of.place) }
-    requires holds { HasHandle desk.old Weak A.place of.block.0 }
+    requires holds { HasHandle desk.old Weak of.place of.block.0 }
     ensures limit { IsErr result ↔ (held_of desk.old ≡ allowance_of desk.old) }
     ensures refused { IfErr result (λ why. (why ≡ Refusal.Limit) × (desk.new ≡ desk.old)) }
     ensures handle { IfOk result (λ r. IfSome r (λ h. (h.block ≡ Some of.block) × (h.place ≡ of.place))) }
     ensures event { IfOk result
-        (λ r. AddsEvent desk.old (Lock (on_latest desk.old Weak A.place of.block.0) (is_some r)) desk.new) }
+        (λ r. AddsEvent desk.old (Lock (on_latest desk.old Weak of.place of.block.0) (is_some r)) desk.new) }
     ensures exact { IfOk result
         (λ r. is_some r ≡ not (count (state_before desk.new) (latest_of desk.old of.block.0) == 0)) }
     ensures expired { count (state_of desk.old) (latest_of desk.old of.block.0) ≡ 0
         → IfOk result (λ r. is_some r ≡ false) }
     ensures bag { IfOk result (λ r. bag_of desk.new ≡ cond (is_some r)
-        (handle Owner (Some of.block.0) A.place ∷ bag_of desk.old) (bag_of desk.old)) }
+        (handle Owner (Some of.block.0) of.place ∷ bag_of desk.old) (bag_of desk.old)) }
     ensures held { IfOk result (λ r. desk.new.held ≡ desk.old.held + cond (is_some r) 1 0) }
     ensures keeps { OnOk result (Keeps desk.old desk.new) }
 {
@@ -50,7 +48,7 @@ pub fn lock<V: Drop, A: About, R: Wait>(
         return Err(Refusal::Limit);
     }
     desk.held += 1; // here, since each locked instruction that follows waits for what was stored before it
-    if !locks::lock::<V, Brand, R>(rt, &domain.table.shared, &mut desk.seat, of.block) {
+    if !locks::lock::<V, Brand, R>(rt, &domain.table.shared, &mut desk.seat, of) {
         desk.held -= 1;
         return Ok(None);
     }

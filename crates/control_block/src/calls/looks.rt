@@ -1,7 +1,7 @@
 //! Calls that look at what is fixed of an object.
 ghost use Rattle.std.specs.Prelude.{◌≡◌, ℕ, ◌<◌, slice_index};
 ghost use Rattle.control_block.specs.Desks.{Belongs, IsNear, object_in};
-ghost use Rattle.control_block.specs.Plays.{IsTold};
+ghost use Rattle.control_block.specs.StepKinds.{IsTold};
 
 use crate::desk::Desk;
 use crate::domain::Domain;

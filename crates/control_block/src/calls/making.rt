@@ -11,10 +11,9 @@ ghost use Rattle.control_block.specs.Desks.{held_of, stock_of};
 
 use crate::desk::Desk;
 use crate::domain::Domain;
-use crate::handles::Pointer;
 use crate::steps;
 use control_word::model::handle::Kind;
-use control_word::{Block, Place, Refusal, Refused};
+use control_word::{Block, Handle, Place, Refusal, Refused};
 use std::marker::Brand;
 
 /// Where a new object's owner points: at the object, or nowhere for an owned null pointer.
@@ -39,7 +38,7 @@ pub fn make<V: Drop>(
     null: bool,
     fields: [u64; 4],
     value: V,
-) -> Result<Pointer, Refused<V>>
+) -> Result<Handle, Refused<V>>
     requires domain { Belongs desk.old domain.now }
     ensures refusals { IsFullOrLimit (held_of desk.old ≡ allowance_of desk.old) (stock_of desk.old ≡ []) result }
     ensures refused { IfErr result (λ r. (r.back ≡ value) × (desk.new ≡ desk.old)) }
@@ -65,9 +64,9 @@ pub fn make<V: Drop>(
         });
     };
     desk.held += 1; // here, since each locked instruction that follows waits for what was stored before it
-    let board = &domain.table.shared;
-    steps::make::<V, Brand>(board, &mut desk.seat, block, enabled, null, fields, value);
-    Ok(Pointer {
+    let table = &domain.table.shared;
+    steps::make::<V, Brand>(table, &mut desk.seat, block, enabled, null, fields, value);
+    Ok(Handle {
         kind: Kind::Owner,
         block,
         place: origin_of(block, null),

@@ -1,14 +1,14 @@
 //! Two desks become one.
 ghost use Rattle.std.specs.Prelude.{◌≡◌, ◌+◌, List, ◌++◌, length};
 ghost use Rattle.std.specs.List.Sorted.{IsPermutation};
-ghost use Rattle.control_word.specs.declared.model.handle.Handle.{Handle};
+ghost use Rattle.control_word.specs.declared.model.handle.NumberedHandle.{NumberedHandle};
 ghost use Rattle.control_block.specs.Desks.{Belongs, KeepsEndings, allowance_of, bag_of, endings_of, stock_of};
 ghost use Rattle.control_block.specs.Parting.{AreIn, JoinsWith};
 
 use crate::desk::Desk;
 use crate::domain::Domain;
 use crate::parting::split::append_all;
-use crate::steps::chairs;
+use crate::steps::seats;
 
 impl<V: Drop> Desk<V> {
     /// The other desk's blocks, allowance, handles and endings become this one's, which has then seen all that either
@@ -20,7 +20,7 @@ impl<V: Drop> Desk<V> {
         ensures held { self.new.held ≡ self.old.held + other.held }
         ensures stock { length (stock_of self.new) ≡ length (stock_of self.old) + length (stock_of other) }
         ensures bag { IsPermutation (bag_of self.old ++ bag_of other) (bag_of self.new) }
-        ensures handles { (hs ks : List Handle) → AreIn hs (bag_of self.old) → AreIn ks (bag_of other)
+        ensures handles { (hs ks : List NumberedHandle) → AreIn hs (bag_of self.old) → AreIn ks (bag_of other)
             → AreIn (hs ++ ks) (bag_of self.new) }
         ensures endings { KeepsEndings self.old self.new × KeepsEndings other self.new }
         ensures count { endings_of self.new ≡ endings_of self.old + endings_of other }
@@ -33,7 +33,7 @@ impl<V: Drop> Desk<V> {
             store,
             shelf_word: _,
         } = other;
-        chairs::join(&domain.table.shared, &mut self.seat, seat);
+        seats::join(&domain.table.shared, &mut self.seat, seat);
         append_all(&mut self.store, store.as_slice());
         self.allowance += allowance;
         self.held += held;

@@ -6,15 +6,15 @@ ghost use Rattle.control_word.specs.State.{Has};
 ghost use Rattle.control_word.specs.declared.place.Block.{Block};
 ghost use Rattle.control_block.specs.Desks.{Belongs, stock_of};
 ghost use Rattle.control_block.specs.Parting.{HoldsAll, IsTooMuch, Parted, SplitsOff, free_of, in_history, times};
-ghost use Rattle.control_block.specs.Plays.{MaySplit, Rests, known};
+ghost use Rattle.control_block.specs.StepKinds.{MaySplit, Rests, known};
 ghost use Rattle.control_block.specs.SlotLists.{handles_in};
 
-use crate::board::{Board, Chair};
 use crate::desk::Desk;
 use crate::domain::Domain;
 use crate::handles::Held;
-use crate::plays::Given;
-use crate::steps::chairs;
+use crate::step_kinds::SplitArgs;
+use crate::steps::seats;
+use crate::table::{Seat, Table};
 use control_word::{Block, Refusal, Refused};
 use std::alloc::Global;
 use std::marker::Brand;
@@ -87,29 +87,29 @@ fn count_filled(slots: &[Option<Held>]) -> usize
     count
 }
 
-/// The two steps of a split: a look at which the new desk gets its name, and the cut that gives its chair. The proof of
+/// The two steps of a split: a look at which the new desk gets its name, and the cut that gives its seat. The proof of
 /// each call picks what G gives.
-fn part<V, T: Lent, G: Given>(
-    board: &Board<V>,
-    chair: &mut Chair<V>,
+fn part<V, T: Lent, G: SplitArgs>(
+    table: &Table<V>,
+    seat: &mut Seat<V>,
     allowance: u32,
     handles: &[T],
     blocks: &[Block],
-) -> Chair<V>
-    requires board { chair.old.table_id ≡ board.now.table_id }
-    requires rests { Rests chair.old.me }
-    requires word { 0 < board.now.table_id.words }
+) -> Seat<V>
+    requires table { seat.old.table_id ≡ table.now.table_id }
+    requires rests { Rests seat.old.me }
+    requires word { 0 < table.now.table_id.words }
     requires picked { (G.allowance ≡ allowance)
-        × (G.handles ≡ in_history (known chair.old.me.0) (T.handles handles.now)) × (G.blocks ≡ blocks.now) }
-    requires may { MaySplit chair.old.me.0 allowance
-        (in_history (known chair.old.me.0) (T.handles handles.now)) blocks.now }
-    ensures chair { (chair.new.table_id ≡ chair.old.table_id) × (chair.new.me.1 ≡ []) }
-    ensures other { (result.table_id ≡ chair.old.table_id) × (result.me.1 ≡ []) }
-    ensures event { Parted chair.old.me.0 allowance (in_history (known chair.old.me.0) (T.handles handles.now))
-        blocks.now chair.new.me.0 result.me.0 }
+        × (G.handles ≡ in_history (known seat.old.me.0) (T.handles handles.now)) × (G.blocks ≡ blocks.now) }
+    requires may { MaySplit seat.old.me.0 allowance
+        (in_history (known seat.old.me.0) (T.handles handles.now)) blocks.now }
+    ensures seat { (seat.new.table_id ≡ seat.old.table_id) × (seat.new.me.1 ≡ []) }
+    ensures other { (result.table_id ≡ seat.old.table_id) × (result.me.1 ≡ []) }
+    ensures event { Parted seat.old.me.0 allowance (in_history (known seat.old.me.0) (T.handles handles.now))
+        blocks.now seat.new.me.0 result.me.0 }
 {
-    chairs::note_split::<V, G>(board, chair);
-    chairs::cut(board, chair)
+    seats::note_split::<V, G>(table, seat);
+    seats::cut(table, seat)
 }
 
 impl<V: Drop> Desk<V> {
@@ -160,8 +160,8 @@ impl<V: Drop> Desk<V> {
             return Err(Refusal::Memory);
         };
         pass_least(&mut self.store, blocks as usize, &mut store);
-        let board = &domain.table.shared;
-        let seat = part::<V, T, Brand>(board, &mut self.seat, allowance, handles, store.as_slice());
+        let table = &domain.table.shared;
+        let seat = part::<V, T, Brand>(table, &mut self.seat, allowance, handles, store.as_slice());
         self.held -= given;
         self.allowance -= allowance;
         let other = Desk {

@@ -6,17 +6,17 @@ ghost use Rattle.control_word.specs.Layout.{spot};
 ghost use Rattle.control_word.specs.Packing.{IsCellWord};
 ghost use Rattle.control_word.specs.State.{kind_of_member};
 ghost use Rattle.control_word.specs.declared.model.event.Event.TheVariants.{ClearMember};
-ghost use Rattle.control_word.specs.declared.model.handle.Kind.TheVariants.{Owner, Weak};
-ghost use Rattle.control_block.specs.CellPlays.{Gave};
+ghost use Rattle.control_block.specs.CellStepKinds.{Gave};
 ghost use Rattle.control_block.specs.Inside.{IsSized};
-ghost use Rattle.control_block.specs.Leaving.{OutAndGone, OutAndGoneWeakly};
-ghost use Rattle.control_block.specs.Plays.{Ends, HasRoomFor, Rests, tells};
+ghost use Rattle.control_block.specs.Leaving.{OutAndGone};
+ghost use Rattle.control_block.specs.StepKinds.{Ends, HasRoomFor, Rests, tells};
 
-use crate::board::{Board, Chair};
-use crate::in_place::InPlace;
-use crate::plays::StepArgs;
-use crate::plays::clears::{Clears, LooksClear};
+use crate::released::Released;
+use crate::step_kinds::StepArgs;
+use crate::step_kinds::clears::{Clears, LooksClear};
 use crate::steps::{leaving, words};
+use crate::table::{Seat, Table};
+use control_word::model::handle::Kind;
 use control_word::packed::cell::unpack;
 use control_word::packed::layout::{MEMBERS, block_word};
 use control_word::{Block, CellWord};
@@ -31,105 +31,74 @@ const EMPTY: CellWord = CellWord {
 
 /// Look: whether a member of an object that ends in the desk's hands holds nothing (own). Then this look clears it;
 /// else nothing changes.
-fn is_empty<V, M: StepArgs>(
-    board: &Board<V>,
-    chair: &mut Chair<V>,
-    block: Block,
-    member: u32,
-) -> bool
-    requires board { chair.old.table_id ≡ board.now.table_id }
-    requires rests { Rests chair.old.me }
+fn is_empty<V, M: StepArgs>(table: &Table<V>, seat: &mut Seat<V>, block: Block, member: u32) -> bool
+    requires table { seat.old.table_id ≡ table.now.table_id }
+    requires rests { Rests seat.old.me }
     requires word { (0 < block.0) × (member < 3) × (M.word ≡ member)
-        × (spot block.0 (7 + member) < board.now.table_id.words) }
-    requires ends { Ends chair.old.me.0 M.object block.0 }
-    requires room { HasRoomFor chair.old.me.0 }
-    ensures chair { (chair.new.table_id ≡ chair.old.table_id) × (chair.new.id ≡ chair.old.id) }
+        × (spot block.0 (7 + member) < table.now.table_id.words) }
+    requires ends { Ends seat.old.me.0 M.object block.0 }
+    requires room { HasRoomFor seat.old.me.0 }
+    ensures seat { (seat.new.table_id ≡ seat.old.table_id) × (seat.new.id ≡ seat.old.id) }
     ensures cleared { result ≡ true → tells (ClearMember M.object M.word (empty (kind_of_member M.word)))
-        chair.old.me.0 chair.new.me.0 × (chair.new.me.1 ≡ chair.old.me.1) }
-    ensures same { result ≡ false → chair.new.me ≡ chair.old.me }
+        seat.old.me.0 seat.new.me.0 × (seat.new.me.1 ≡ seat.old.me.1) }
+    ensures same { result ≡ false → seat.new.me ≡ seat.old.me }
 {
-    words::load::<V, LooksClear<M>>(board, chair, block_word(block, MEMBERS + member as usize)) == 0
+    words::load::<V, LooksClear<M>>(table, seat, block_word(block, MEMBERS + member as usize)) == 0
 }
 
 /// Clear: what a member of an object that ends in the desk's hands holds comes out, and its funds that were not taken
 /// are to be given back (own).
 fn swap_out<V, M: StepArgs>(
-    board: &Board<V>,
-    chair: &mut Chair<V>,
+    table: &Table<V>,
+    seat: &mut Seat<V>,
     block: Block,
     member: u32,
 ) -> CellWord
-    requires board { chair.old.table_id ≡ board.now.table_id }
-    requires rests { Rests chair.old.me }
+    requires table { seat.old.table_id ≡ table.now.table_id }
+    requires rests { Rests seat.old.me }
     requires word { (0 < block.0) × (member < 3) × (M.word ≡ member)
-        × (spot block.0 (7 + member) < board.now.table_id.words) }
-    requires ends { Ends chair.old.me.0 M.object block.0 }
-    requires room { HasRoomFor chair.old.me.0 }
-    ensures chair { (chair.new.table_id ≡ chair.old.table_id) × (chair.new.id ≡ chair.old.id)
-        × (chair.new.me.1 ≡ []) }
+        × (spot block.0 (7 + member) < table.now.table_id.words) }
+    requires ends { Ends seat.old.me.0 M.object block.0 }
+    requires room { HasRoomFor seat.old.me.0 }
+    ensures seat { (seat.new.table_id ≡ seat.old.table_id) × (seat.new.id ≡ seat.old.id)
+        × (seat.new.me.1 ≡ []) }
     ensures cell { IsCellWord result }
     ensures gave { Gave (λ h. ClearMember M.object M.word h)
-        (kind_of_member M.word) chair.old.me.0 result chair.new.me.0 }
+        (kind_of_member M.word) seat.old.me.0 result seat.new.me.0 }
 {
     unpack(words::swap::<V, Clears<M>>(
-        board,
-        chair,
+        table,
+        seat,
         block_word(block, MEMBERS + member as usize),
         0,
     ))
 }
 
-/// Clear: a shared member of an object that ends in the desk's hands holds nothing afterwards, and what it held comes
-/// out and leaves (own).
-pub fn clear_shared<V: Drop, M: StepArgs>(
-    board: &Board<V>,
-    chair: &mut Chair<V>,
+/// Clear: a member of an object that ends in the desk's hands holds nothing afterwards, and what it held comes out and
+/// leaves (own).
+pub fn clear<V: Drop, M: StepArgs>(
+    table: &Table<V>,
+    seat: &mut Seat<V>,
     block: Block,
     member: u32,
-) -> (CellWord, Option<InPlace<V>>)
-    requires board { (chair.old.table_id ≡ board.now.table_id) × IsSized chair.old.table_id chair.old.me.0.shape }
-    requires rests { Rests chair.old.me }
+    kind: Kind,
+) -> (CellWord, Released<V>)
+    requires table { (seat.old.table_id ≡ table.now.table_id) × IsSized seat.old.table_id seat.old.me.0.shape }
+    requires rests { Rests seat.old.me }
     requires word { (0 < block.0) × (member < 3) × (M.word ≡ member)
-        × (spot block.0 (7 + member) < board.now.table_id.words) }
-    requires kind { kind_of_member member ≡ Owner }
-    requires ends { Ends chair.old.me.0 M.object block.0 }
-    requires room { HasRoomFor chair.old.me.0 }
-    ensures chair { (chair.new.table_id ≡ chair.old.table_id)
-        × (chair.new.id ≡ chair.old.id) × Rests chair.new.me }
-    ensures cleared { OutAndGone (λ h. ClearMember M.object member h) chair.old.me.0 result.0 result.1 chair.new.me.0 }
+        × (spot block.0 (7 + member) < table.now.table_id.words) }
+    requires kind { kind_of_member member ≡ kind }
+    requires ends { Ends seat.old.me.0 M.object block.0 }
+    requires room { HasRoomFor seat.old.me.0 }
+    ensures seat { (seat.new.table_id ≡ seat.old.table_id)
+        × (seat.new.id ≡ seat.old.id) × Rests seat.new.me }
+    ensures cleared { OutAndGone (λ h. ClearMember M.object member h) kind seat.old.me.0 result.0
+        result.1 seat.new.me.0 }
 {
-    if is_empty::<V, M>(board, chair, block, member) {
-        return (EMPTY, None);
+    if is_empty::<V, M>(table, seat, block, member) {
+        return (EMPTY, Released::nothing());
     }
-    let out = swap_out::<V, M>(board, chair, block, member);
-    let value = leaving::let_go::<V, Brand>(board, chair, out);
-    (out, value)
-}
-
-/// Clear: the weak member of an object that ends in the desk's hands holds nothing afterwards, and what it held comes
-/// out and leaves (own). True where the block of that is vacant now.
-pub fn clear_weak<V, M: StepArgs>(
-    board: &Board<V>,
-    chair: &mut Chair<V>,
-    block: Block,
-    member: u32,
-) -> (CellWord, bool)
-    requires board { (chair.old.table_id ≡ board.now.table_id) × IsSized chair.old.table_id chair.old.me.0.shape }
-    requires rests { Rests chair.old.me }
-    requires word { (0 < block.0) × (member < 3) × (M.word ≡ member)
-        × (spot block.0 (7 + member) < board.now.table_id.words) }
-    requires kind { kind_of_member member ≡ Weak }
-    requires ends { Ends chair.old.me.0 M.object block.0 }
-    requires room { HasRoomFor chair.old.me.0 }
-    ensures chair { (chair.new.table_id ≡ chair.old.table_id)
-        × (chair.new.id ≡ chair.old.id) × Rests chair.new.me }
-    ensures cleared { OutAndGoneWeakly (λ h. ClearMember M.object member h) chair.old.me.0 result.0
-        result.1 chair.new.me.0 }
-{
-    if is_empty::<V, M>(board, chair, block, member) {
-        return (EMPTY, false);
-    }
-    let out = swap_out::<V, M>(board, chair, block, member);
-    let vacant = leaving::let_go_weakly::<V, Brand>(board, chair, out);
-    (out, vacant)
+    let out = swap_out::<V, M>(table, seat, block, member);
+    let released = leaving::let_go::<V, Brand>(table, seat, kind, out);
+    (out, released)
 }

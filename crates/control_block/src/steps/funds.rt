@@ -3,13 +3,13 @@ ghost use Rattle.std.specs.Prelude.{◌≡◌, ℕ, ◌<◌, ◌≤◌, [], Opti
 ghost use Rattle.control_word.specs.Layout.{spot};
 ghost use Rattle.control_word.specs.Words.{slot};
 ghost use Rattle.control_word.specs.declared.place.Place.{Place};
-ghost use Rattle.control_block.specs.Plays.{HoldingInBlock, Rests, goes_on, in_call};
-ghost use Rattle.control_block.specs.FundPlays.{Owes, owing};
+ghost use Rattle.control_block.specs.StepKinds.{HoldingInBlock, Rests, goes_on, in_call};
+ghost use Rattle.control_block.specs.FundStepKinds.{Owes, owing};
 
-use crate::board::{Board, Chair};
-use crate::plays::StepArgs;
-use crate::plays::funds::{Brings, Settles};
+use crate::step_kinds::StepArgs;
+use crate::step_kinds::funds::{Brings, Settles};
 use crate::steps::words;
+use crate::table::{Seat, Table};
 use control_word::Block;
 use control_word::model::handle::Kind;
 use control_word::packed::counts::{FUND_TURNED, ONE_FUND};
@@ -30,24 +30,24 @@ fn count_word(block: Block, kind: Kind) -> usize
 /// Bring: up to 256 funds are put on the count of a handle that the desk holds (own). The call is half done until they
 /// are in a cell or given back. The desk has seen no more.
 pub fn bring<V, M: StepArgs>(
-    board: &Board<V>,
-    chair: &mut Chair<V>,
+    table: &Table<V>,
+    seat: &mut Seat<V>,
     kind: Kind,
     block: Block,
     funds: u32,
 )
-    requires board { chair.old.table_id ≡ board.now.table_id }
-    requires rests { Rests chair.old.me }
-    requires word { (0 < block.0) × (spot block.0 (slot kind) < board.now.table_id.words) }
-    requires holds { (M.kind ≡ kind) × HoldingInBlock chair.old.me.0 M.kind M.object M.place block.0 }
+    requires table { seat.old.table_id ≡ table.now.table_id }
+    requires rests { Rests seat.old.me }
+    requires word { (0 < block.0) × (spot block.0 (slot kind) < table.now.table_id.words) }
+    requires holds { (M.kind ≡ kind) × HoldingInBlock seat.old.me.0 M.kind M.object M.place block.0 }
     requires few { funds ≤ 256 }
-    ensures chair { (chair.new.table_id ≡ chair.old.table_id) × (chair.new.id ≡ chair.old.id)
-        × (chair.new.me.1 ≡ []) }
-    ensures brought { chair.new.me.0 ≡ in_call chair.old.me.0 (owing M.kind M.object M.place block.0 funds 0) }
+    ensures seat { (seat.new.table_id ≡ seat.old.table_id) × (seat.new.id ≡ seat.old.id)
+        × (seat.new.me.1 ≡ []) }
+    ensures brought { seat.new.me.0 ≡ in_call seat.old.me.0 (owing M.kind M.object M.place block.0 funds 0) }
 {
     words::fetch_add::<V, Brings<M>>(
-        board,
-        chair,
+        table,
+        seat,
         count_word(block, kind),
         u64::from(funds) * ONE_FUND,
     );
@@ -55,17 +55,17 @@ pub fn bring<V, M: StepArgs>(
 
 /// Give back: the funds that a half-done cell call owes leave the count (own). The call is over, and the desk has
 /// seen no more.
-pub fn give_back<V>(board: &Board<V>, chair: &mut Chair<V>, kind: Kind, block: Block, funds: u32)
-    requires board { chair.old.table_id ≡ board.now.table_id }
-    requires word { (0 < block.0) × (spot block.0 (slot kind) < board.now.table_id.words) }
-    requires owes { (o : ℕ) × (p : Option Place) × Owes (owing kind o p block.0 funds 0) chair.old.me }
-    ensures chair { (chair.new.table_id ≡ chair.old.table_id) × (chair.new.id ≡ chair.old.id)
-        × (chair.new.me.1 ≡ []) }
-    ensures settled { chair.new.me.0 ≡ goes_on chair.old.me.0 }
+pub fn give_back<V>(table: &Table<V>, seat: &mut Seat<V>, kind: Kind, block: Block, funds: u32)
+    requires table { seat.old.table_id ≡ table.now.table_id }
+    requires word { (0 < block.0) × (spot block.0 (slot kind) < table.now.table_id.words) }
+    requires owes { (o : ℕ) × (p : Option Place) × Owes (owing kind o p block.0 funds 0) seat.old.me }
+    ensures seat { (seat.new.table_id ≡ seat.old.table_id) × (seat.new.id ≡ seat.old.id)
+        × (seat.new.me.1 ≡ []) }
+    ensures settled { seat.new.me.0 ≡ goes_on seat.old.me.0 }
 {
     words::fetch_sub::<V, Settles>(
-        board,
-        chair,
+        table,
+        seat,
         count_word(block, kind),
         u64::from(funds) * ONE_FUND,
     );
@@ -73,13 +73,13 @@ pub fn give_back<V>(board: &Board<V>, chair: &mut Chair<V>, kind: Kind, block: B
 
 /// Turn: the fund that a load took becomes a handle in the number (own). The load is over, and the desk has seen
 /// no more.
-pub fn turn<V>(board: &Board<V>, chair: &mut Chair<V>, kind: Kind, block: Block)
-    requires board { chair.old.table_id ≡ board.now.table_id }
-    requires word { (0 < block.0) × (spot block.0 (slot kind) < board.now.table_id.words) }
-    requires owes { (o : ℕ) × (p : Option Place) × Owes (owing kind o p block.0 1 1) chair.old.me }
-    ensures chair { (chair.new.table_id ≡ chair.old.table_id) × (chair.new.id ≡ chair.old.id)
-        × (chair.new.me.1 ≡ []) }
-    ensures settled { chair.new.me.0 ≡ goes_on chair.old.me.0 }
+pub fn turn<V>(table: &Table<V>, seat: &mut Seat<V>, kind: Kind, block: Block)
+    requires table { seat.old.table_id ≡ table.now.table_id }
+    requires word { (0 < block.0) × (spot block.0 (slot kind) < table.now.table_id.words) }
+    requires owes { (o : ℕ) × (p : Option Place) × Owes (owing kind o p block.0 1 1) seat.old.me }
+    ensures seat { (seat.new.table_id ≡ seat.old.table_id) × (seat.new.id ≡ seat.old.id)
+        × (seat.new.me.1 ≡ []) }
+    ensures settled { seat.new.me.0 ≡ goes_on seat.old.me.0 }
 {
-    words::fetch_sub::<V, Settles>(board, chair, count_word(block, kind), FUND_TURNED);
+    words::fetch_sub::<V, Settles>(table, seat, count_word(block, kind), FUND_TURNED);
 }

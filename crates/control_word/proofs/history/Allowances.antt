@@ -17,13 +17,13 @@ use Rattle.control_word.specs.declared.model.event.Event.{Event}
 use Rattle.control_word.specs.declared.model.event.Event.TheVariants.{ClearMember, Compare, Count, Expired, Finish, Join, Leave, Load, Lock, Make, Read}
 use Rattle.control_word.specs.declared.model.event.Event.TheVariants.{Share, Split, Swap, Visit, WeakLeave, WeakShare}
 use Rattle.control_word.specs.declared.model.event.Event.TheVariants.{Shelve, Unshelve}
-use Rattle.control_word.specs.declared.model.handle.Handle.{Handle}
+use Rattle.control_word.specs.declared.model.handle.NumberedHandle.{NumberedHandle}
 use Rattle.control_word.specs.declared.model.handle.Kind.TheVariants.{Owner, Weak}
 use Rattle.control_word.specs.declared.place.Block.{Block}
 
 -- where only d's bag grows, within its allowance, all stays allowed
 allowed_still : (z : Opening) (s : State) (d : ℕ) (l : List Held) (r : List Stored) (n : ℕ)
-    (f : ℕ → Object) (last : ℕ → ℕ) (g : ℕ → Handle) → Allowed z s
+    (f : ℕ → Object) (last : ℕ → ℕ) (g : ℕ → NumberedHandle) → Allowed z s
     → num (λ x. x.desk == d) l ≤ s.allowance d → ((q : ℕ) → q ≢ d → num (λ x. x.desk == q) l ≤ bag_size s q)
     → Allowed z (record s { hands = l; stores = r; made = n; object = f; latest = last; cell = g })
 allowed_still z s d l r n f last g allowed here else = record {
@@ -39,9 +39,9 @@ allowed_still z s d l r n f last g allowed here else = record {
 abbrev JoinedThere : State → Type 0
 JoinedThere s = (q : ℕ) → s.joined q ≡ true → q < s.names
 
-allowed_split : (z : Opening) (s : State) (d to n : ℕ) (hs : List Handle) (bs : List Block) → Allowed z s
+allowed_split : (z : Opening) (s : State) (d to n : ℕ) (hs : List NumberedHandle) (bs : List Block) → Allowed z s
     → JoinedThere s → IsActing s d → to ≡ s.names → 0 < n → n < s.allowance d → length hs ≤ n
-    → HasAll same_held (λ (h : Handle). held d h) hs s.hands → HasRoom (splits_off d to n hs bs s) d
+    → HasAll same_held (λ (h : NumberedHandle). held d h) hs s.hands → HasRoom (splits_off d to n hs bs s) d
     → Allowed z (splits_off d to n hs bs s)
 allowed_split z s d to n hs bs allowed there acting is some' less few has room =
     let t = splits_off d to n hs bs s in

@@ -10,26 +10,26 @@ use Rattle.control_word.specs.Handles.{has_object}
 use Rattle.control_word.specs.State.{Has, HasAll, Held, State, bag_size, held, passed, same_held, sum_below, without}
 use Rattle.control_word.specs.declared.model.event.Cell.{Cell}
 use Rattle.control_word.specs.declared.model.event.Cell.TheVariants.{Free, Member}
-use Rattle.control_word.specs.declared.model.handle.Handle.{Handle}
+use Rattle.control_word.specs.declared.model.handle.NumberedHandle.{NumberedHandle}
 
-pub bag_others : (q d : ℕ) (h : Handle) (l : List Held) → q ≢ d
+pub bag_others : (q d : ℕ) (h : NumberedHandle) (l : List Held) → q ≢ d
     → num (λ x. x.desk == q) (held d h ∷ l) ≡ num (λ x. x.desk == q) l
 bag_others q d h l ne =
     let rest = filter (λ (x : Held). x.desk == q) l in
     ap length (cond-false (d == q) (held d h ∷ rest) rest (ne_eqb d q (λ e. ne (sym e))))
 
-pub gets_others : (s : State) (q d : ℕ) (h : Handle) → q ≢ d → bag_size (gets d h s) q ≤ bag_size s q
+pub gets_others : (s : State) (q d : ℕ) (h : NumberedHandle) → q ≢ d → bag_size (gets d h s) q ≤ bag_size s q
 gets_others s q d h ne =
     cond_both (has_object h) (held d h ∷ s.hands) s.hands (λ l. num (λ x. x.desk == q) l ≤ bag_size s q)
     (λ e. let t = bag_others q d h s.hands ne in omega arith) (λ e. omega arith)
 
-pub loses_others : (s : State) (q d : ℕ) (h : Handle) → bag_size (loses d h s) q ≤ bag_size s q
+pub loses_others : (s : State) (q d : ℕ) (h : NumberedHandle) → bag_size (loses d h s) q ≤ bag_size s q
 loses_others s q d h =
     cond_both (has_object h) (without same_held (held d h) s.hands) s.hands
     (λ l. num (λ x. x.desk == q) l ≤ bag_size s q)
     (λ e. num_fewer same_held (λ x. x.desk == q) (held d h) s.hands) (λ e. omega arith)
 
-pub swaps_others : (s : State) (q d : ℕ) (c : Cell) (new old : Handle) → q ≢ d
+pub swaps_others : (s : State) (q d : ℕ) (c : Cell) (new old : NumberedHandle) → q ≢ d
     → bag_size (swaps d c new old s) q ≤ bag_size s q
 swaps_others s q d (Free c) new old ne =
     let a = gets_others (loses d new s) q d old ne in let b = loses_others s q d new in omega arith
@@ -37,18 +37,18 @@ swaps_others s q d (Member o m) new old ne =
     let a = gets_others (loses d new s) q d old ne in let b = loses_others s q d new in omega arith
 
 -- a new desk has at most what it was handed, and the others no more than before
-pub split_bag : (d to q : ℕ) (hs : List Handle) (l : List Held)
-    → HasAll same_held (λ (h : Handle). held d h) hs l
-    → let m = passed same_held (λ (h : Handle). held d h) (λ h. held to h) hs l in
+pub split_bag : (d to q : ℕ) (hs : List NumberedHandle) (l : List Held)
+    → HasAll same_held (λ (h : NumberedHandle). held d h) hs l
+    → let m = passed same_held (λ (h : NumberedHandle). held d h) (λ h. held to h) hs l in
     (num (λ x. x.desk == q) m ≤ length hs + num (λ x. x.desk == q) l)
     × (q ≢ to → num (λ x. x.desk == q) m ≤ num (λ x. x.desk == q) l)
 split_bag d to q hs l there =
     let p = λ (x : Held). x.desk == q in
-    let is = λ (h : Handle). held to h in
-    let t = num_passes same_held held_true held_self (λ (h : Handle). held d h) is p hs l there in
+    let is = λ (h : NumberedHandle). held to h in
+    let t = num_passes same_held held_true held_self (λ (h : NumberedHandle). held d h) is p hs l there in
     let u = num_map p is hs in (
-      let w = num_length (λ (h : Handle). to == q) hs in omega arith,
-      λ ne. let w = num_none (λ (h : Handle). to == q) hs (λ h. ne_eqb to q (λ e. ne (sym e))) in omega arith,
+      let w = num_length (λ (h : NumberedHandle). to == q) hs in omega arith,
+      λ ne. let w = num_none (λ (h : NumberedHandle). to == q) hs (λ h. ne_eqb to q (λ e. ne (sym e))) in omega arith,
     )
 
 renamed_here : (other d : ℕ) (b : Bool) (x : ℕ) → (x == other) ≡ b

@@ -6,7 +6,7 @@ use Rattle.control_word.proofs.lists.Tallies.{held_true}
 use Rattle.control_word.specs.Events.{gets, loses, renamed, vacates}
 use Rattle.control_word.specs.Handles.{has_object}
 use Rattle.control_word.specs.State.{Held, State, Stored, bag, held, same_held, stock, stored, without}
-use Rattle.control_word.specs.declared.model.handle.Handle.{Handle}
+use Rattle.control_word.specs.declared.model.handle.NumberedHandle.{NumberedHandle}
 
 abbrev pub desk_of : Held → ℕ
 desk_of x = x.desk
@@ -15,11 +15,11 @@ abbrev pub keeper : Stored → ℕ
 keeper x = x.desk
 
 -- a handle that another desk gets or loses is not in the bag
-pub bag_gets : (s : State) (e d : ℕ) (x : Handle) → e ≢ d → bag (gets e x s) d ≡ bag s d
+pub bag_gets : (s : State) (e d : ℕ) (x : NumberedHandle) → e ≢ d → bag (gets e x s) d ≡ bag s d
 bag_gets s e d x n = cond_both (has_object x) (held e x ∷ s.hands) s.hands (λ l. part desk_of d l ≡ part desk_of d s.hands)
     (λ t. part_other desk_of d (held e x) s.hands n) (λ t. refl)
 
-pub bag_loses : (s : State) (e d : ℕ) (x : Handle) → e ≢ d → bag (loses e x s) d ≡ bag s d
+pub bag_loses : (s : State) (e d : ℕ) (x : NumberedHandle) → e ≢ d → bag (loses e x s) d ≡ bag s d
 bag_loses s e d x n =
     cond_both (has_object x) (without same_held (held e x) s.hands) s.hands (λ l. part desk_of d l ≡ part desk_of d s.hands)
     (λ t. part_without desk_of d same_held held_true (held e x) s.hands n) (λ t. refl)

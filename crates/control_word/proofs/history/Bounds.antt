@@ -10,7 +10,7 @@ use Rattle.control_word.specs.Handles.{empty, handle, is_on}
 use Rattle.control_word.specs.State.{Object, Opening, Phase, State, common, ending, gone, in_cells, kind_of_member, live, members, sum_below, tally}
 use Rattle.control_word.specs.State.{unmade, upto}
 use Rattle.control_word.specs.Views.{more}
-use Rattle.control_word.specs.declared.model.handle.Handle.{Handle}
+use Rattle.control_word.specs.declared.model.handle.NumberedHandle.{NumberedHandle}
 use Rattle.control_word.specs.declared.model.handle.Kind.{Kind}
 use Rattle.control_word.specs.declared.model.handle.Kind.TheVariants.{Owner, Weak}
 
@@ -31,20 +31,20 @@ common_one live = omega arith
 common_one gone = omega arith
 common_one (ending d) = omega arith
 
-pub tally_length : (k : Kind) (q : ℕ) (l : List Handle) → tally k q l ≤ length l
+pub tally_length : (k : Kind) (q : ℕ) (l : List NumberedHandle) → tally k q l ≤ length l
 tally_length k q l = num_length (is_on k q) l
 
-one_few : (k : Kind) (q : ℕ) (x : Handle) → tally k q (x ∷ []) ≤ 1
+one_few : (k : Kind) (q : ℕ) (x : NumberedHandle) → tally k q (x ∷ []) ≤ 1
 one_few k q x = tally_length k q (x ∷ [])
 
 -- a handle of the other kind isn't counted
-weak_uncounted : (q : ℕ) (x : Handle) → x.kind ≡ Weak → tally Owner q (x ∷ []) ≡ 0
+weak_uncounted : (q : ℕ) (x : NumberedHandle) → x.kind ≡ Weak → tally Owner q (x ∷ []) ≡ 0
 weak_uncounted q x e = ap (λ k. tally Owner q (handle k x.object x.place ∷ [])) e
 
-owner_uncounted : (q : ℕ) (x : Handle) → x.kind ≡ Owner → tally Weak q (x ∷ []) ≡ 0
+owner_uncounted : (q : ℕ) (x : NumberedHandle) → x.kind ≡ Owner → tally Weak q (x ∷ []) ≡ 0
 owner_uncounted q x e = ap (λ k. tally Weak q (handle k x.object x.place ∷ [])) e
 
-free_few : (k : Kind) (q : ℕ) (f : ℕ → Handle) (n : ℕ) → tally k q (upto n (λ c. f c ∷ [])) ≤ n
+free_few : (k : Kind) (q : ℕ) (f : ℕ → NumberedHandle) (n : ℕ) → tally k q (upto n (λ c. f c ∷ [])) ≤ n
 free_few k q f zero = omega arith
 free_few k q f (suc n) =
     omega (arith, tally_append k q (f n ∷ []) (upto n (λ c. f c ∷ [])), one_few k q (f n), free_few k q f n)

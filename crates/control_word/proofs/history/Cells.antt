@@ -13,7 +13,7 @@ use Rattle.control_word.specs.State.{Has, Held, Object, Opening, State, common, 
 use Rattle.control_word.specs.State.{same_held, tally, unmade, upto, weak, without}
 use Rattle.control_word.specs.declared.model.event.Cell.{Cell}
 use Rattle.control_word.specs.declared.model.event.Cell.TheVariants.{Free, Member}
-use Rattle.control_word.specs.declared.model.handle.Handle.{Handle}
+use Rattle.control_word.specs.declared.model.handle.NumberedHandle.{NumberedHandle}
 use Rattle.control_word.specs.declared.model.handle.Kind.{Kind}
 use Rattle.control_word.specs.declared.model.handle.Kind.TheVariants.{Owner, Weak}
 use Rattle.control_word.specs.declared.place.Place.{Place}
@@ -30,13 +30,13 @@ member_counted k r x (suc (suc zero)) lt = omega (
 )
 member_counted k r x (suc (suc (suc m))) lt = absurd (omega arith)
 
-pub tally_upto : (k : Kind) (r n j : ℕ) (f : ℕ → List Handle) → j < n → tally k r (f j) ≤ tally k r (upto n f)
+pub tally_upto : (k : Kind) (r n j : ℕ) (f : ℕ → List NumberedHandle) → j < n → tally k r (f j) ≤ tally k r (upto n f)
 tally_upto k r zero j f lt = absurd (omega arith)
 tally_upto k r (suc n) j f lt =
     ⊎_elim (λ (e : j ≡ n). let t = ap (λ x. tally k r (f x)) e in omega (arith, tally_append k r (f n) (upto n f)))
     (λ (ne : j ≢ n). let t = tally_upto k r n j f (omega arith) in omega (arith, tally_append k r (f n) (upto n f))) (cases_eq j n)
 
-pub one_of : (k : Kind) (r : ℕ) (x : Handle) → x.kind ≡ k → x.object ≡ Some r → tally k r (x ∷ []) ≡ 1
+pub one_of : (k : Kind) (r : ℕ) (x : NumberedHandle) → x.kind ≡ k → x.object ≡ Some r → tally k r (x ∷ []) ≡ 1
 one_of k r x kind object =
     subst (λ j. tally k r (handle j x.object x.place ∷ []) ≡ 1) (sym kind) (subst
     (λ n. tally k r (handle k n x.place ∷ []) ≡ 1) (sym object) (tally_here k r x.place []))
@@ -82,7 +82,7 @@ sound_gets z s d Weak (Some o) p sound h =
     let c : 0 < weak s o = omega arith in sound_weak z s d o p sound (omega arith)
 
 -- one of n lists changes
-upto_change : (k : Kind) (q n o : ℕ) (f g : ℕ → List Handle) → o < n → ((i : ℕ) → i ≢ o → g i ≡ f i)
+upto_change : (k : Kind) (q n o : ℕ) (f g : ℕ → List NumberedHandle) → o < n → ((i : ℕ) → i ≢ o → g i ≡ f i)
     → tally k q (upto n g) + tally k q (f o) ≡ tally k q (upto n f) + tally k q (g o)
 upto_change k q zero o f g lt same = absurd (omega arith)
 upto_change k q (suc n) o f g lt same =
@@ -98,7 +98,7 @@ upto_change k q (suc n) o f g lt same =
     omega (arith, tally_append k q (g n) (upto n g), tally_append k q (f n) (upto n f)))
     (cases_eq n o)
 
-member_put : (x : Object) (m : ℕ) (h : Handle) → m < 3 → (k : Kind) (q : ℕ)
+member_put : (x : Object) (m : ℕ) (h : NumberedHandle) → m < 3 → (k : Kind) (q : ℕ)
     → tally k q (members (record x { member = put x.member m h })) + tally k q (x.member m ∷ []) ≡ tally k q (members x) + tally k q (h ∷ [])
 member_put x zero h lt k q =
     let a = x.member 0 in let b = x.member 1 in let c = x.member 2 in
@@ -116,14 +116,14 @@ abbrev pub InState : State → Cell → Type 0
 InState s (Free c) = c < s.cells
 InState s (Member o m) = (m < 3) × (o < suc s.made)
 
-cells_change : (s : State) (c : Cell) (x : Handle) → InState s c → (k : Kind) (q : ℕ)
+cells_change : (s : State) (c : Cell) (x : NumberedHandle) → InState s c → (k : Kind) (q : ℕ)
     → tally k q (in_cells (fills c x s)) + tally k q (cell_of s c ∷ []) ≡ tally k q (in_cells s) + tally k q (x ∷ [])
 cells_change s (Free c) x there k q =
     let f = λ (j : ℕ). s.cell j ∷ [] in
     let g = λ (j : ℕ). put s.cell c x j ∷ [] in
     let rest = upto (suc s.made) (λ o. members (s.object o)) in
-    let t = upto_change k q s.cells c f g there (λ i n. ap (λ (h : Handle). h ∷ []) (put_other s.cell c x i n)) in
-    let u = ap (λ (h : Handle). tally k q (h ∷ [])) (put_same s.cell c x c refl) in
+    let t = upto_change k q s.cells c f g there (λ i n. ap (λ (h : NumberedHandle). h ∷ []) (put_other s.cell c x i n)) in
+    let u = ap (λ (h : NumberedHandle). tally k q (h ∷ [])) (put_same s.cell c x c refl) in
     omega (arith, tally_append k q (upto s.cells g) rest, tally_append k q (upto s.cells f) rest)
 cells_change s (Member o m) x there k q =
     let y = record (s.object o) { member = put (s.object o).member m x } in
@@ -135,11 +135,11 @@ cells_change s (Member o m) x there k q =
     let w = member_put (s.object o) m x there.0 k q in
     omega (arith, tally_append k q cells (upto (suc s.made) g), tally_append k q cells (upto (suc s.made) f))
 
-none_there : (x : Handle) → x.object ≡ None → has_object x ≡ false
+none_there : (x : NumberedHandle) → x.object ≡ None → has_object x ≡ false
 none_there x e = ap (λ n. has_object (handle x.kind n x.place)) e
 
 -- a handle that goes into a cell is in no bag any more
-loses_tally : (s : State) (d : ℕ) (m : Kind) (x : Handle) (r : List Handle) → InHand s d m x → (k : Kind) (q : ℕ)
+loses_tally : (s : State) (d : ℕ) (m : Kind) (x : NumberedHandle) (r : List NumberedHandle) → InHand s d m x → (k : Kind) (q : ℕ)
     → tally k q (map (λ y. y.handle) s.hands ++ r) ≡ tally k q (x ∷ []) + tally k q (map (λ y. y.handle) (loses d x s).hands ++ r)
 loses_tally s d m x r hand k q =
     cond_both (has_object x) (without same_held (held d x) s.hands) s.hands (λ l. tally k q (map
@@ -148,7 +148,7 @@ loses_tally s d m x r hand k q =
     (λ e. let t = no_object k x.kind q x.object x.place e in omega arith)
 
 -- a swap moves handles, and the counts stay
-swap_tally : (s : State) (d : ℕ) (c : Cell) (new : Handle) → InState s c → InHand s d (kind_of s c) new → (k : Kind) (q : ℕ)
+swap_tally : (s : State) (d : ℕ) (c : Cell) (new : NumberedHandle) → InState s c → InHand s d (kind_of s c) new → (k : Kind) (q : ℕ)
     → tally k q (handles (swaps d c new (cell_of s c) s)) ≡ tally k q (handles s)
 swap_tally s d (Free c) new there hand k q =
     let old = s.cell c in
@@ -175,12 +175,12 @@ swap_tally s d (Member o m) new there hand k q =
       tally_append k q (map (λ (y : Held). y.handle) s.hands) (in_cells s),
     )
 
-pub swap_count : (s : State) (d : ℕ) (c : Cell) (new : Handle) → InState s c → InHand s d (kind_of s c) new → (q : ℕ)
+pub swap_count : (s : State) (d : ℕ) (c : Cell) (new : NumberedHandle) → InState s c → InHand s d (kind_of s c) new → (q : ℕ)
     → count (swaps d c new (cell_of s c) s) q ≡ count s q
 unfolding count
 swap_count s d c new there hand q = swap_tally s d c new there hand Owner q
 
-pub swap_weak : (s : State) (d : ℕ) (c : Cell) (new : Handle) → InState s c → InHand s d (kind_of s c) new → (q : ℕ)
+pub swap_weak : (s : State) (d : ℕ) (c : Cell) (new : NumberedHandle) → InState s c → InHand s d (kind_of s c) new → (q : ℕ)
     → weak (swaps d c new (cell_of s c) s) q ≡ weak s q
 unfolding weak
 swap_weak s d c new there hand q = swap_tally s d c new there hand Weak q
@@ -226,7 +226,7 @@ pub sound_load : (z : Opening) (s : State) (d : ℕ) (c : Cell) → Sound z s �
 sound_load z s d c sound open' =
     let x = cell_of s c in sound_gets z s d x.kind x.object x.place sound (cell_counted s c (open_in z s d c sound open'))
 
-pub sound_swap : (z : Opening) (s : State) (d : ℕ) (c : Cell) (new : Handle) → Sound z s → IsOpen s d c → InHand s d (kind_of s c) new
+pub sound_swap : (z : Opening) (s : State) (d : ℕ) (c : Cell) (new : NumberedHandle) → Sound z s → IsOpen s d c → InHand s d (kind_of s c) new
     → Sound z (swaps d c new (cell_of s c) s)
 sound_swap z s d (Free c) new sound open' hand =
     let t = swaps d (Free c) new (s.cell c) s in

@@ -11,7 +11,7 @@ use Rattle.control_word.specs.Events.{changes, clears, gets}
 use Rattle.control_word.specs.Handles.{empty, handle, has_object}
 use Rattle.control_word.specs.State.{Held, Object, Opening, State, common, count, ending, handles, held, kind_of_member, members, put, tally, unmade}
 use Rattle.control_word.specs.State.{upto, weak}
-use Rattle.control_word.specs.declared.model.handle.Handle.{Handle}
+use Rattle.control_word.specs.declared.model.handle.NumberedHandle.{NumberedHandle}
 use Rattle.control_word.specs.declared.model.handle.Kind.{Kind}
 use Rattle.control_word.specs.declared.model.handle.Kind.TheVariants.{Owner, Weak}
 use Rattle.control_word.specs.declared.place.Place.{Place}
@@ -82,7 +82,7 @@ no_object Weak Owner q None p e = refl
 no_object Weak Weak q None p e = refl
 no_object k m q (Some n) p e = cc
 
-pub gets_tally : (k : Kind) (q d : ℕ) (h : Handle) (l : List Held) (r : List Handle)
+pub gets_tally : (k : Kind) (q d : ℕ) (h : NumberedHandle) (l : List Held) (r : List NumberedHandle)
     → tally k q (map (λ x. x.handle) (cond (has_object h) (held d h ∷ l) l) ++ r) ≡ tally k q (h ∷ []) + tally k q (map (λ x. x.handle) l ++ r)
 gets_tally k q d h l r =
     cond_both (has_object h) (held d h ∷ l) l

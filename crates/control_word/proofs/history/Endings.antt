@@ -24,7 +24,7 @@ use Rattle.control_word.specs.declared.model.event.Event.TheVariants.{ClearMembe
 use Rattle.control_word.specs.declared.model.event.Event.TheVariants.{Leave, Load, Lock, Make, Read}
 use Rattle.control_word.specs.declared.model.event.Event.TheVariants.{Share, Split, Swap, Visit, WeakLeave, WeakShare}
 use Rattle.control_word.specs.declared.model.event.Event.TheVariants.{Shelve, Unshelve}
-use Rattle.control_word.specs.declared.model.handle.Handle.{Handle}
+use Rattle.control_word.specs.declared.model.handle.NumberedHandle.{NumberedHandle}
 use Rattle.control_word.specs.declared.model.handle.Kind.TheVariants.{Owner}
 
 ends_same : (d e : ℕ) → ending d ≡ ending e → d ≡ e
@@ -47,7 +47,7 @@ put_free s o x free here q d =
     put_cases (λ j y. y.phase ≡ ending d → IsFree s d) s.object o x q (λ e. here d) (λ n. free q d)
 
 -- a member of an object changes, and no object's phase
-filled : (s : State) (q m : ℕ) (x : Handle) (o : ℕ)
+filled : (s : State) (q m : ℕ) (x : NumberedHandle) (o : ℕ)
     → (put s.object q (record (s.object q) { member = put (s.object q).member m x }) o).phase ≡ (s.object o).phase
 filled s q m x o =
     put_cases (λ j u. u.phase ≡ (s.object j).phase) s.object q

@@ -21,22 +21,22 @@ use Rattle.control_word.specs.declared.model.event.Event.{Event}
 use Rattle.control_word.specs.declared.model.event.Event.TheVariants.{ClearMember, Compare, Count, Expired, Finish, Join, Leave, Load, Lock, Make, Read}
 use Rattle.control_word.specs.declared.model.event.Event.TheVariants.{Share, Split, Swap, Visit, WeakLeave, WeakShare}
 use Rattle.control_word.specs.declared.model.event.Event.TheVariants.{Shelve, Unshelve}
-use Rattle.control_word.specs.declared.model.handle.Handle.{Handle}
+use Rattle.control_word.specs.declared.model.handle.NumberedHandle.{NumberedHandle}
 use Rattle.control_word.specs.declared.model.handle.Kind.{Kind}
 use Rattle.control_word.specs.declared.model.handle.Kind.TheVariants.{Owner, Weak}
 use Rattle.control_word.specs.declared.place.Place.{Place}
 
 -- the handle is well formed, and has an object
-abbrev IsGood : Handle → Type 0
+abbrev IsGood : NumberedHandle → Type 0
 IsGood h = IsFormed h × (has_object h ≡ true)
 
 abbrev AllGood : List Held → Type 0
 AllGood l = (x : Held) → Has x l → IsGood x.handle
 
-good_cons : (d : ℕ) (h : Handle) (l : List Held) → AllGood l → IsGood h → AllGood (held d h ∷ l)
+good_cons : (d : ℕ) (h : NumberedHandle) (l : List Held) → AllGood l → IsGood h → AllGood (held d h ∷ l)
 good_cons d h l all good x has = ⊎_elim (λ e. subst (λ (y : Held). IsGood y.handle) (sym e) good) (all x) has
 
-good_gets : (s : State) (d : ℕ) (h : Handle) → AllGood s.hands → IsFormed h → AllGood (gets d h s).hands
+good_gets : (s : State) (d : ℕ) (h : NumberedHandle) → AllGood s.hands → IsFormed h → AllGood (gets d h s).hands
 good_gets s d h all good =
     cond_both (has_object h) (held d h ∷ s.hands) s.hands AllGood
     (λ e. good_cons d h s.hands all (good, e)) (λ e. all)
@@ -44,18 +44,18 @@ good_gets s d h all good =
 good_without : (x : Held) (l : List Held) → AllGood l → AllGood (without same_held x l)
 good_without x l all y has = all y (has_before same_held held_true held_self y x l has)
 
-good_loses : (s : State) (d : ℕ) (h : Handle) → AllGood s.hands → AllGood (loses d h s).hands
+good_loses : (s : State) (d : ℕ) (h : NumberedHandle) → AllGood s.hands → AllGood (loses d h s).hands
 good_loses s d h all =
     cond_both (has_object h) (without same_held (held d h) s.hands) s.hands AllGood
     (λ e. good_without (held d h) s.hands all) (λ e. all)
 
-good_passed : (d to : ℕ) (hs : List Handle) (l : List Held) → AllGood l
-    → HasAll same_held (λ (h : Handle). held d h) hs l
-    → AllGood (passed same_held (λ (h : Handle). held d h) (λ h. held to h) hs l)
+good_passed : (d to : ℕ) (hs : List NumberedHandle) (l : List Held) → AllGood l
+    → HasAll same_held (λ (h : NumberedHandle). held d h) hs l
+    → AllGood (passed same_held (λ (h : NumberedHandle). held d h) (λ h. held to h) hs l)
 good_passed d to [] l all there = all
 good_passed d to (h ∷ hs) l all there =
     let rest = without same_held (held d h) l in
-    let m = passed same_held (λ (h : Handle). held d h) (λ h. held to h) hs rest in
+    let m = passed same_held (λ (h : NumberedHandle). held d h) (λ h. held to h) hs rest in
     good_cons to h m (good_passed d to hs rest (good_without (held d h) l all) there.1) (all (held d h) there.0)
 
 good_joined : (other d : ℕ) (l : List Held) → AllGood l
@@ -72,7 +72,7 @@ good_owner o p place = ((place, tt), refl)
 good_weak : (o : ℕ) (p : Option Place) → IsPointer p → IsGood (handle Weak (Some o) p)
 good_weak o p place = ((place, tt), refl)
 
-good_shared : (h : Handle) (p : Option Place) → h.object ≡ Some (object_of h) → IsPointer p
+good_shared : (h : NumberedHandle) (p : Option Place) → h.object ≡ Some (object_of h) → IsPointer p
     → IsGood (handle Owner h.object p)
 good_shared h p e place = subst (λ n. IsGood (handle Owner n p)) (sym e) (good_owner (object_of h) p place)
 
@@ -93,7 +93,7 @@ cell_formed : (s : State) (d : ℕ) (c : Cell) → Formed s → IsOpen s d c
 cell_formed s d (Free c) formed open' = formed.frees c open'
 cell_formed s d (Member o m) formed open' = formed.members o m open'.0
 
-hand_formed : (s : State) (d : ℕ) (k : Kind) (h : Handle) → Formed s → InHand s d k h → IsFormed h
+hand_formed : (s : State) (d : ℕ) (k : Kind) (h : NumberedHandle) → Formed s → InHand s d k h → IsFormed h
 hand_formed s d k h formed hand = ⊎_elim (λ t. t.1) (λ t. (formed.bags (held d h) t.0).0) hand.1
 
 -- the hands change, and objects in other ways than in their members
@@ -108,7 +108,7 @@ formed_hands s l r f n j a formed all same = record {
 }
 
 -- one member of an object, or one free cell, changes
-formed_member : (s : State) (l : List Held) (o i : ℕ) (h : Handle) → Formed s → AllGood l → IsFormed h
+formed_member : (s : State) (l : List Held) (o i : ℕ) (h : NumberedHandle) → Formed s → AllGood l → IsFormed h
     → h.kind ≡ kind_of_member i
     → let x = record (s.object o) { member = put (s.object o).member i h } in
     Formed (record s { hands = l; object = put s.object o x })
@@ -124,7 +124,7 @@ formed_member s l o i h formed all good kind =
           (λ ne. formed.members q m lt);
     }
 
-formed_free : (s : State) (l : List Held) (i : ℕ) (h : Handle) → Formed s → AllGood l → IsFormed h
+formed_free : (s : State) (l : List Held) (i : ℕ) (h : NumberedHandle) → Formed s → AllGood l → IsFormed h
     → h.kind ≡ kind_of_free s.shared i → Formed (record s { hands = l; cell = put s.cell i h })
 formed_free s l i h formed all good kind = record {
   bags = all;
@@ -133,7 +133,7 @@ formed_free s l i h formed all good kind = record {
   members = formed.members;
 }
 
-formed_swap : (s : State) (d : ℕ) (c : Cell) (new old : Handle) → Formed s → IsOpen s d c
+formed_swap : (s : State) (d : ℕ) (c : Cell) (new old : NumberedHandle) → Formed s → IsOpen s d c
     → InHand s d (kind_of s c) new → old ≡ cell_of s c → Formed (swaps d c new old s)
 formed_swap s d (Free c) new old formed open' hand is =
     let was = subst (λ h. IsFormed h) (sym is) (cell_formed s d (Free c) formed open').0 in
@@ -145,7 +145,7 @@ formed_swap s d (Member o m) new old formed open' hand is =
     formed_member s (gets d old (loses d new s)).hands o m new formed all
     (hand_formed s d _ new formed hand) hand.0
 
-formed_load : (s : State) (d : ℕ) (c : Cell) (got : Handle) → Formed s → IsOpen s d c → got ≡ cell_of s c
+formed_load : (s : State) (d : ℕ) (c : Cell) (got : NumberedHandle) → Formed s → IsOpen s d c → got ≡ cell_of s c
     → Formed (gets d got s)
 formed_load s d c got formed open' is =
     let was = subst (λ h. IsFormed h) (sym is) (cell_formed s d c formed open').0 in
@@ -169,7 +169,7 @@ formed_make z s d b enabled null fields formed low high =
 
 -- a weak handle has the place of another handle of the object, or the object's own
 weak_place : (z : Opening) (s : State) (d o : ℕ) (p : Option Place) → z.blocks ≤ 65535 → Sound z s → Formed s
-    → ((h : Handle) × Holds s d h.kind h × (h.object ≡ Some o)
+    → ((h : NumberedHandle) × Holds s d h.kind h × (h.object ≡ Some o)
     × ((p ≡ h.place) ⊎ (p ≡ place_at (s.object o).block)))
     ⊎ (((s.object o).phase ≡ ending d) × ((s.object o).enabled ≡ true) × (p ≡ place_at (s.object o).block))
     → IsPointer p
@@ -184,7 +184,7 @@ weak_place z s d o p few fine formed asks = ⊎_elim
     own : IsBusy s o → IsPointer (place_at (s.object o).block)
     own busy = let there = (fine.placed o busy).1 in place_formed (s.object o).block there.0 (omega arith)
 
-    held_of : ((h : Handle) × Holds s d h.kind h × (h.object ≡ Some o)
+    held_of : ((h : NumberedHandle) × Holds s d h.kind h × (h.object ≡ Some o)
         × ((p ≡ h.place) ⊎ (p ≡ place_at (s.object o).block))) → IsBusy s o
     held_of t =
         let h = t.0 in let hold = t.1 in

@@ -22,7 +22,7 @@ use Rattle.control_word.specs.State.{kind_of_member, live, members, put, same_he
 use Rattle.control_word.specs.Views.{more}
 use Rattle.control_word.specs.declared.model.event.Cell.{Cell}
 use Rattle.control_word.specs.declared.model.event.Cell.TheVariants.{Free, Member}
-use Rattle.control_word.specs.declared.model.handle.Handle.{Handle}
+use Rattle.control_word.specs.declared.model.handle.NumberedHandle.{NumberedHandle}
 use Rattle.control_word.specs.declared.model.handle.Kind.{Kind}
 use Rattle.control_word.specs.declared.model.handle.Kind.TheVariants.{Owner, Weak}
 use Rattle.control_word.specs.declared.place.Block.{Block}
@@ -72,7 +72,7 @@ kept_freed z s t d o kept is same block low b shape vacant =
     (cases_eq b c)
 
 -- a handle of an object, written out
-pub written_out : (h : Handle) (k : Kind) → h.kind ≡ k → h.object ≡ Some (object_of h)
+pub written_out : (h : NumberedHandle) (k : Kind) → h.kind ≡ k → h.object ≡ Some (object_of h)
     → h ≡ handle k (Some (object_of h)) h.place
 written_out h k kind object = λ i. record { kind = kind i; object = object i; place = h.place }
 
@@ -83,7 +83,7 @@ weak_beside : (s : State) (l : List Held) (r : List Stored) (n : ℕ) (j : ℕ �
 unfolding weak
 weak_beside s l r n j a q = refl
 
-weak_gets : (s : State) (d : ℕ) (h : Handle) (q : ℕ) → weak (gets d h s) q ≡ tally Weak q (h ∷ []) + weak s q
+weak_gets : (s : State) (d : ℕ) (h : NumberedHandle) (q : ℕ) → weak (gets d h s) q ≡ tally Weak q (h ∷ []) + weak s q
 unfolding weak
 weak_gets s d h q = gets_tally Weak q d h s.hands (in_cells s)
 
@@ -108,7 +108,7 @@ kept_hands z s l kept more =
     kept_still z s (record s { hands = l }) kept (λ b. omega arith) (λ q. refl)
     (λ q e. let t = more q in omega arith)
 
-pub kept_load : (z : Opening) (s : State) (d : ℕ) (h : Handle) → Kept z s → Kept z (gets d h s)
+pub kept_load : (z : Opening) (s : State) (d : ℕ) (h : NumberedHandle) → Kept z s → Kept z (gets d h s)
 kept_load z s d h kept = kept_hands z s (gets d h s).hands kept (λ q. let t = weak_gets s d h q in omega arith)
 
 -- one object changes, and keeps its block and its common count
@@ -130,7 +130,7 @@ members_put s o q x e =
     put_cases (λ j y. members y ≡ members (s.object j)) s.object o x q
     (λ t. e ∙ ap (λ m. members (s.object m)) (sym t)) (λ ne. refl)
 
-pub kept_swap : (z : Opening) (s : State) (d : ℕ) (c : Cell) (new : Handle) → Kept z s → InState s c
+pub kept_swap : (z : Opening) (s : State) (d : ℕ) (c : Cell) (new : NumberedHandle) → Kept z s → InState s c
     → InHand s d (kind_of s c) new → Kept z (swaps d c new (cell_of s c) s)
 kept_swap z s d (Free c) new kept there hand =
     kept_still z s (swaps d (Free c) new (s.cell c) s) kept (λ b. omega arith) (λ q. refl)
@@ -260,8 +260,8 @@ kept_finish z s d o vacant kept is = go vacant is
         let some' = eqb-false (weak s o) 0 (sym e) in let u = ap (weak s) t in absurd (some' (omega arith)))
         (λ (ne : q ≢ o). let c = other q ne in omega arith) (cases_eq q o))
 
-pub kept_split : (z : Opening) (s : State) (d to n : ℕ) (hs : List Handle) (bs : List Block) → Kept z s
-    → HasAll same_held (λ (h : Handle). held d h) hs s.hands
+pub kept_split : (z : Opening) (s : State) (d to n : ℕ) (hs : List NumberedHandle) (bs : List Block) → Kept z s
+    → HasAll same_held (λ (h : NumberedHandle). held d h) hs s.hands
     → HasAll same_stored (λ (b : Block). stored d b.0) bs s.stores
     → Kept z (splits_off d to n hs bs s)
 kept_split z s d to n hs bs kept hh hb =
@@ -276,8 +276,8 @@ kept_split z s d to n hs bs kept hh hb =
     (λ q. refl)
     (λ q e.
     let p = λ (x : Held). is_on Weak q x.handle in
-    let was = λ (h : Handle). held d h in
-    let is = λ (h : Handle). held to h in
+    let was = λ (h : NumberedHandle). held d h in
+    let is = λ (h : NumberedHandle). held to h in
     let a = num_passes same_held held_true held_self was is p hs s.hands hh in
     let same : num p t.hands ≡ num p s.hands = omega (arith, num_map p was hs, num_map p is hs) in
     let b = weak_beside s t.hands t.stores t.names t.joined t.allowance q in

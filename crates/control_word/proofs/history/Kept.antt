@@ -22,7 +22,7 @@ use Rattle.control_word.specs.declared.model.event.Event.TheVariants.{ClearMembe
 use Rattle.control_word.specs.declared.model.event.Event.TheVariants.{Leave, Load, Lock, Make, Read}
 use Rattle.control_word.specs.declared.model.event.Event.TheVariants.{Share, Split, Swap, Visit, WeakLeave, WeakShare}
 use Rattle.control_word.specs.declared.model.event.Event.TheVariants.{Shelve, Unshelve}
-use Rattle.control_word.specs.declared.model.handle.Handle.{Handle}
+use Rattle.control_word.specs.declared.model.handle.NumberedHandle.{NumberedHandle}
 use Rattle.control_word.specs.declared.model.handle.Kind.TheVariants.{Owner, Weak}
 use Rattle.control_word.specs.declared.place.Block.{Block}
 
@@ -52,7 +52,7 @@ same_both s t u d a b =
       known = omega arith;
     }
 
-swap_same : (s : State) (e d : ℕ) (c : Cell) (new old : Handle) → e ≢ d → Same s (swaps e c new old s) d
+swap_same : (s : State) (e d : ℕ) (c : Cell) (new old : NumberedHandle) → e ≢ d → Same s (swaps e c new old s) d
 swap_same s e d (Free c) new old n = record {
   in_bag = bag_gets (loses e new s) e d old n
       ∙ bag_loses s e d new n;
@@ -75,9 +75,9 @@ stores_only : (s : State) (r : List Stored) (f : ℕ → Bool) (d : ℕ) → par
     → Same s (record s { stores = r; shelved = f }) d
 stores_only s r f d e = record { in_bag = refl; in_stock = e; may_hold = refl; is_joined = refl; known = omega arith }
 
-split_same : (s : State) (e to amount d : ℕ) (hs : List Handle) (bs : List Block) → e ≢ d → to ≢ d → Same s (splits_off e to amount hs bs s) d
+split_same : (s : State) (e to amount d : ℕ) (hs : List NumberedHandle) (bs : List Block) → e ≢ d → to ≢ d → Same s (splits_off e to amount hs bs s) d
 split_same s e to amount d hs bs n m = record {
-  in_bag = part_passed desk_of d same_held held_true (λ (h : Handle). held e h) (λ h. held to h) hs s.hands (λ t. n) (λ t. m);
+  in_bag = part_passed desk_of d same_held held_true (λ (h : NumberedHandle). held e h) (λ h. held to h) hs s.hands (λ t. n) (λ t. m);
   in_stock = part_passed keeper d same_stored stored_true (λ (b : Block). stored e b.0) (λ b. stored to b.0) bs s.stores (λ t. n) (λ t. m);
   may_hold = put_other (put s.allowance e (s.allowance e - amount)) to amount d (λ q. m (sym q))
       ∙ put_other s.allowance e (s.allowance e - amount) d (λ q. n (sym q));
@@ -153,7 +153,7 @@ module _ {V : Type 0} where
       same_both (leads z seen) (leads z (later ++ seen)) (leads z (e ∷ (later ++ seen))) d (same_kept z later seen d n.2)
       (same_after (leads z (later ++ seen)) d e.desk e.event n.0 n.1)
 
-pub has_same : (s t : State) (d : ℕ) (x : Handle) → Same s t d → Has (held d x) s.hands → Has (held d x) t.hands
+pub has_same : (s t : State) (d : ℕ) (x : NumberedHandle) → Same s t d → Has (held d x) s.hands → Has (held d x) t.hands
 has_same s t d x same h =
     (part_has desk_of d (held d x) t.hands (subst (λ l. Has (held d x) l) (sym same.in_bag) (has_part desk_of d (held d x) s.hands refl h))).0
 
@@ -179,7 +179,7 @@ module _ {V : Type 0} where
   made_kept z (e ∷ later) seen =
       let a = made_kept z later seen in let b = made_after (leads z (later ++ seen)) e.desk e.event in omega arith
 
-module _ {A : Type 0} (f : Object → A) (members : (x : Object) (m : ℕ → Handle) → f (record x { member = m }) ≡ f x)
+module _ {A : Type 0} (f : Object → A) (members : (x : Object) (m : ℕ → NumberedHandle) → f (record x { member = m }) ≡ f x)
     (phases : (x : Object) (p : Phase) → f (moved_to p x) ≡ f x) where
   -- another object in o's place, of which the same is so
   put_alike : (s : State) (q o : ℕ) (x : Object) → f x ≡ f (s.object q) → f (put s.object q x o) ≡ f (s.object o)
@@ -187,7 +187,7 @@ module _ {A : Type 0} (f : Object → A) (members : (x : Object) (m : ℕ → Ha
       put_cases (λ j u. f u ≡ f (s.object j)) s.object q x o (λ i. e ∙ ap (λ n. f (s.object n)) (sym i)) (λ n. refl)
 
   -- one of its members becomes another
-  member_alike : (s : State) (q o m : ℕ) (x : Handle)
+  member_alike : (s : State) (q o m : ℕ) (x : NumberedHandle)
       → f (put s.object q (record (s.object q) { member = put (s.object q).member m x }) o) ≡ f (s.object o)
   member_alike s q o m x =
       let u = put (s.object q).member m x in

@@ -24,13 +24,13 @@ use Rattle.control_word.specs.declared.model.event.Event.{Event}
 use Rattle.control_word.specs.declared.model.event.Event.TheVariants.{ClearMember, Compare, Count, Expired, Finish, Join, Leave, Load, Lock, Make, Read}
 use Rattle.control_word.specs.declared.model.event.Event.TheVariants.{Share, Split, Swap, Visit, WeakLeave, WeakShare}
 use Rattle.control_word.specs.declared.model.event.Event.TheVariants.{Shelve, Unshelve}
-use Rattle.control_word.specs.declared.model.handle.Handle.{Handle}
+use Rattle.control_word.specs.declared.model.handle.NumberedHandle.{NumberedHandle}
 use Rattle.control_word.specs.declared.model.handle.Kind.{Kind}
 use Rattle.control_word.specs.declared.model.handle.Kind.TheVariants.{Owner, Weak}
 use Rattle.control_word.specs.declared.place.Place.{Place}
 
 -- a handle that is held, written out
-pub written : (l : List Held) (d : ℕ) (k : Kind) (h : Handle) → Has (held d h) l → h.kind ≡ k → h.object ≡ Some (object_of h)
+pub written : (l : List Held) (d : ℕ) (k : Kind) (h : NumberedHandle) → Has (held d h) l → h.kind ≡ k → h.object ≡ Some (object_of h)
     → Has (held d (handle k (Some (object_of h)) h.place)) l
 written l d k h has kind object =
     subst (λ n. Has (held d (handle k n h.place)) l) object (subst (λ j. Has (held d (handle j h.object h.place)) l) kind has)
@@ -41,7 +41,7 @@ held_busy z s d o Owner p sound h = live_busy s o (counted_live z s o sound (own
 held_busy z s d o Weak p sound h = let t = weak_counted s d o p h in omega arith
 
 -- an event on a handle may be read with the handle written out
-rebuilt : (P : Handle → Type 0) (k : Kind) (h : Handle) → h.kind ≡ k → h.object ≡ Some (object_of h)
+rebuilt : (P : NumberedHandle → Type 0) (k : Kind) (h : NumberedHandle) → h.kind ≡ k → h.object ≡ Some (object_of h)
     → P (handle k (Some (object_of h)) h.place) → P h
 rebuilt P k h kind object p = subst (λ j. P (handle j h.object h.place)) (sym kind) (subst (λ n. P (handle k n h.place)) (sym object) p)
 

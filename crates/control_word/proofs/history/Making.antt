@@ -10,11 +10,11 @@ use Rattle.control_word.specs.Events.{new_object, origin}
 use Rattle.control_word.specs.Handles.{empty, handle}
 use Rattle.control_word.specs.State.{Has, InShape, Object, Opening, State, Stored, common, count, handles, held, kind_of_member, members, put}
 use Rattle.control_word.specs.State.{same_stored, stored, tally, unmade, upto, weak, without, on_shelf}
-use Rattle.control_word.specs.declared.model.handle.Handle.{Handle}
+use Rattle.control_word.specs.declared.model.handle.NumberedHandle.{NumberedHandle}
 use Rattle.control_word.specs.declared.model.handle.Kind.{Kind}
 use Rattle.control_word.specs.declared.model.handle.Kind.TheVariants.{Owner, Weak}
 
-pub empty_counts : (k m : Kind) (o : ℕ) (l : List Handle) → tally k o (empty m ∷ l) ≡ tally k o l
+pub empty_counts : (k m : Kind) (o : ℕ) (l : List NumberedHandle) → tally k o (empty m ∷ l) ≡ tally k o l
 empty_counts Owner Owner o l = refl
 empty_counts Owner Weak o l = refl
 empty_counts Weak Owner o l = refl

@@ -10,13 +10,13 @@ use Rattle.control_word.specs.Handles.{empty, handle}
 use Rattle.control_word.specs.Laws.{times_kept}
 use Rattle.control_word.specs.State.{Has, Held, InShape, IsVacant, Object, Opening, Phase, State, Stored, common, count, ending, gone, handles, held}
 use Rattle.control_word.specs.State.{in_cells, kind_of_member, live, members, same_held, stored, tally, unmade, upto, weak, weak_number, without}
-use Rattle.control_word.specs.declared.model.handle.Handle.{Handle}
+use Rattle.control_word.specs.declared.model.handle.NumberedHandle.{NumberedHandle}
 use Rattle.control_word.specs.declared.model.handle.Kind.TheVariants.{Owner, Weak}
 use Rattle.control_word.specs.declared.place.Place.{Place}
 use Rattle.control_word.specs.State.{on_shelf}
 
 -- a change of the hands and of objects, in their blocks
-pub record Moves (s : State) (hs : List Held) (f : ℕ → Object) (g : ℕ → Handle) : Type 0 where
+pub record Moves (s : State) (hs : List Held) (f : ℕ → Object) (g : ℕ → NumberedHandle) : Type 0 where
   pub owners : (o : ℕ) → OwnersFit (f o).phase (count (record s { hands = hs; object = f; cell = g }) o)
   pub weaks : (o : ℕ) → 0 < weak_number (record s { hands = hs; object = f; cell = g }) o → 0 < weak_number s o
   pub block : (o : ℕ) → (f o).block ≡ (s.object o).block
@@ -30,7 +30,7 @@ zero_from a b f e = go a refl
     go zero p = refl
     go (suc n) p = absurd (let t = f (omega arith) in omega arith)
 
-pub sound_moves : (z : Opening) (s : State) (hs : List Held) (f : ℕ → Object) (g : ℕ → Handle) → Sound z s → Moves s hs f g
+pub sound_moves : (z : Opening) (s : State) (hs : List Held) (f : ℕ → Object) (g : ℕ → NumberedHandle) → Sound z s → Moves s hs f g
     → Sound z (record s { hands = hs; object = f; cell = g })
 sound_moves z s hs f g sound moves =
     let s' : State = record s { hands = hs; object = f; cell = g } in

@@ -11,7 +11,7 @@ use Rattle.control_word.specs.Laws.{IsEquivalence, IsStrictWeakOrder, OrdersByOw
 use Rattle.control_word.specs.State.{Opening}
 use Rattle.control_word.specs.Words.{blocks_of}
 use Rattle.control_word.specs.declared.model.event.Entry.{Entry}
-use Rattle.control_word.specs.declared.model.handle.Handle.{Handle}
+use Rattle.control_word.specs.declared.model.handle.NumberedHandle.{NumberedHandle}
 use Rattle.control_word.specs.declared.model.handle.Kind.{Kind}
 
 -- the test says false exactly where its numbers are the other way round
@@ -39,12 +39,12 @@ strict_weak_order block = (
 )
 
 -- handles are equivalent where their objects and their places are the same
-equivalent_same : (x y : Handle) → equivalent x y ≡ true → (x.object ≡ y.object) × (x.place ≡ y.place)
+equivalent_same : (x y : NumberedHandle) → equivalent x y ≡ true → (x.object ≡ y.object) × (x.place ≡ y.place)
 equivalent_same x y e =
     let t = and_parts (same_number x.object y.object) (same_place x.place y.place) e in
     (same_number_true x.object y.object t.0, same_place_true x.place y.place t.1)
 
-same_equivalent : (x y : Handle) → x.object ≡ y.object → x.place ≡ y.place → equivalent x y ≡ true
+same_equivalent : (x y : NumberedHandle) → x.object ≡ y.object → x.place ≡ y.place → equivalent x y ≡ true
 same_equivalent x y e p =
     let self = and_parts (same_kind x.kind x.kind) (equivalent x x) (handle_self x) in
     subst (λ n. equivalent x (handle y.kind n y.place) ≡ true) e
@@ -60,18 +60,18 @@ equivalence = (
 )
 
 -- the rank of a handle by its object
-rank_none : (block : ℕ → ℕ) (x : Handle) → x.object ≡ None → rank block x ≡ 0
+rank_none : (block : ℕ → ℕ) (x : NumberedHandle) → x.object ≡ None → rank block x ≡ 0
 rank_none block x e = ap (λ n. rank block (handle x.kind n x.place)) e
 
-rank_some : (block : ℕ → ℕ) (x : Handle) → x.object ≡ Some (object_of x) → rank block x ≡ block (object_of x)
+rank_some : (block : ℕ → ℕ) (x : NumberedHandle) → x.object ≡ Some (object_of x) → rank block x ≡ block (object_of x)
 rank_some block x e = ap (λ n. rank block (handle x.kind n x.place)) e
 
-same_rank : (block : ℕ → ℕ) (x y : Handle) → x.object ≡ y.object → rank block x ≡ rank block y
+same_rank : (block : ℕ → ℕ) (x y : NumberedHandle) → x.object ≡ y.object → rank block x ≡ rank block y
 same_rank block x y e = ap (λ n. rank block (handle x.kind n x.place)) e
 
 module _ {V : Type 0} where
   -- the rank of a handle with an object is its block, where the object is the latest
-  held_rank : (z : Opening) (h : List (Entry V)) → IsLegal z h → (d : ℕ) (k : Kind) (x : Handle)
+  held_rank : (z : Opening) (h : List (Entry V)) → IsLegal z h → (d : ℕ) (k : Kind) (x : NumberedHandle)
       → Holds (leads z h) d k x
       → let s = leads z h in let b = rank (blocks_of s) x in (1 ≤ b) × (s.latest b ≡ object_of x)
   held_rank z h legal d k x hold =
@@ -80,7 +80,7 @@ module _ {V : Type 0} where
       let e = rank_some (blocks_of s) x hold.2 in
       let low = named.3.0 in (omega arith, ap s.latest e ∙ named.2)
 
-  ranks_apart : (z : Opening) (h : List (Entry V)) → IsLegal z h → (d e : ℕ) (k l : Kind) (x y : Handle)
+  ranks_apart : (z : Opening) (h : List (Entry V)) → IsLegal z h → (d e : ℕ) (k l : Kind) (x y : NumberedHandle)
       → InHand (leads z h) d k x → InHand (leads z h) e l y
       → rank (blocks_of (leads z h)) x ≡ rank (blocks_of (leads z h)) y
       → x.object ≡ y.object

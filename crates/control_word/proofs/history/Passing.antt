@@ -11,7 +11,7 @@ use Rattle.control_word.specs.Handles.{is_on}
 use Rattle.control_word.specs.Laws.{how_often, times_kept}
 use Rattle.control_word.specs.State.{HasAll, Held, Opening, Phase, State, Stored, common, count, ending, gone, held, in_cells, live, passed, put}
 use Rattle.control_word.specs.State.{same_held, same_stored, stored, tally, unmade, weak, without}
-use Rattle.control_word.specs.declared.model.handle.Handle.{Handle}
+use Rattle.control_word.specs.declared.model.handle.NumberedHandle.{NumberedHandle}
 use Rattle.control_word.specs.declared.model.handle.Kind.{Kind}
 use Rattle.control_word.specs.declared.model.handle.Kind.TheVariants.{Owner, Weak}
 use Rattle.control_word.specs.declared.place.Block.{Block}
@@ -53,7 +53,7 @@ sound_stores z s r f n j a sound same = record {
   cleared = sound.cleared;
 }
 
-hands_tally : (k : Kind) (q : ℕ) (l m : List Held) (r : List Handle)
+hands_tally : (k : Kind) (q : ℕ) (l m : List Held) (r : List NumberedHandle)
     → num (λ (x : Held). is_on k q x.handle) l ≡ num (λ (x : Held). is_on k q x.handle) m
     → tally k q (map (λ x. x.handle) l ++ r) ≡ tally k q (map (λ x. x.handle) m ++ r)
 hands_tally k q l m r e =
@@ -76,15 +76,15 @@ pub hands_weak : (s : State) (l : List Held) (q : ℕ) → num (λ (x : Held). i
 unfolding weak
 hands_weak s l q e = hands_tally Weak q l s.hands (in_cells s) e
 
-pub sound_split : (z : Opening) (s : State) (d e amount : ℕ) (hs : List Handle) (bs : List Block) → Sound z s
-    → HasAll same_held (λ (h : Handle). held d h) hs s.hands → HasAll same_stored (λ (b : Block). stored d b.0) bs s.stores
+pub sound_split : (z : Opening) (s : State) (d e amount : ℕ) (hs : List NumberedHandle) (bs : List Block) → Sound z s
+    → HasAll same_held (λ (h : NumberedHandle). held d h) hs s.hands → HasAll same_stored (λ (b : Block). stored d b.0) bs s.stores
     → Sound z (splits_off d e amount hs bs s)
 sound_split z s d e amount hs bs sound hh hb =
-    let l = passed same_held (λ (h : Handle). held d h) (λ h. held e h) hs s.hands in
+    let l = passed same_held (λ (h : NumberedHandle). held d h) (λ h. held e h) hs s.hands in
     let r = passed same_stored (λ (b : Block). stored d b.0) (λ b. stored e b.0) bs s.stores in
     let t : State = record s { hands = l } in
     let same : (k : Kind) (q : ℕ) → num (λ (x : Held). is_on k q x.handle) l ≡ num (λ (x : Held). is_on k q x.handle) s.hands =
-    λ k q. num_passed same_held held_true held_self (λ (h : Handle). held d h) (λ h. held e h) (λ (x : Held). is_on k q x.handle)
+    λ k q. num_passed same_held held_true held_self (λ (h : NumberedHandle). held d h) (λ h. held e h) (λ (x : Held). is_on k q x.handle)
     (λ u. refl) hs s.hands hh in
     sound_stores z t r s.shelved (suc s.names) s.joined (put (put s.allowance d (s.allowance d - amount)) e amount)
     (sound_hands z s l sound (λ q. fits_same _ _ _ (sound.owners q) (hands_count s l q (same Owner q)))

@@ -9,7 +9,7 @@ use mathlib.Core.Path.{fun_ext}
 use Rattle.control_word.specs.Handles.{equivalent, handle, is_on, same_handle, same_kind, same_number, same_place}
 use Rattle.control_word.specs.Laws.{how_often}
 use Rattle.control_word.specs.State.{Has, Held, Stored, put, same_held, same_stored, stored, tally, upto, without}
-use Rattle.control_word.specs.declared.model.handle.Handle.{Handle}
+use Rattle.control_word.specs.declared.model.handle.NumberedHandle.{NumberedHandle}
 use Rattle.control_word.specs.declared.model.handle.Kind.{Kind}
 use Rattle.control_word.specs.declared.model.handle.Kind.TheVariants.{Owner, Weak}
 use Rattle.control_word.specs.declared.place.Place.{Place}
@@ -51,7 +51,7 @@ same_place_true None (Some y) e = cc
 same_place_true (Some x) None e = cc
 same_place_true (Some x) (Some y) e = ap Some (place_true x y e)
 
-pub same_handle_true : (a b : Handle) → same_handle a b ≡ true → a ≡ b
+pub same_handle_true : (a b : NumberedHandle) → same_handle a b ≡ true → a ≡ b
 same_handle_true a b e =
     let t = and_parts (same_kind a.kind b.kind) (equivalent a b) e in
     let u = and_parts (same_number a.object b.object) (same_place a.place b.place) t.1 in
@@ -70,20 +70,20 @@ place_self : (a : Option Place) → same_place a a ≡ true
 place_self None = refl
 place_self (Some x) = and_from _ _ (eq-eqb x.block.0 x.block.0 refl) (eq-eqb x.field x.field refl)
 
-pub handle_self : (a : Handle) → same_handle a a ≡ true
+pub handle_self : (a : NumberedHandle) → same_handle a a ≡ true
 handle_self a = and_from _ _ (kind_self a.kind) (and_from _ _ (number_self a.object) (place_self a.place))
 
-pub tally_append : (k : Kind) (o : ℕ) (xs ys : List Handle) → tally k o (xs ++ ys) ≡ tally k o xs + tally k o ys
+pub tally_append : (k : Kind) (o : ℕ) (xs ys : List NumberedHandle) → tally k o (xs ++ ys) ≡ tally k o xs + tally k o ys
 tally_append k o xs ys = ap length (filter-append (is_on k o) xs ys) ∙ length-append (filter (is_on k o) xs) (filter (is_on k o) ys)
 
-pub tally_cons : (k : Kind) (o : ℕ) (h : Handle) (l : List Handle) → tally k o (h ∷ l) ≡ tally k o (h ∷ []) + tally k o l
+pub tally_cons : (k : Kind) (o : ℕ) (h : NumberedHandle) (l : List NumberedHandle) → tally k o (h ∷ l) ≡ tally k o (h ∷ []) + tally k o l
 tally_cons k o h l = tally_append k o (h ∷ []) l
 
 -- of an owner of o only the owners of o are more
-pub tally_here : (k : Kind) (o : ℕ) (p : Option Place) (l : List Handle) → tally k o (handle k (Some o) p ∷ l) ≡ suc (tally k o l)
+pub tally_here : (k : Kind) (o : ℕ) (p : Option Place) (l : List NumberedHandle) → tally k o (handle k (Some o) p ∷ l) ≡ suc (tally k o l)
 tally_here k o p l = ap length (cond-true _ _ _ (and_from _ _ (kind_self k) (eq-eqb o o refl)))
 
-pub tally_other : (k m : Kind) (o q : ℕ) (p : Option Place) (l : List Handle) → o ≢ q → tally k o (handle m (Some q) p ∷ l) ≡ tally k o l
+pub tally_other : (k m : Kind) (o q : ℕ) (p : Option Place) (l : List NumberedHandle) → o ≢ q → tally k o (handle m (Some q) p ∷ l) ≡ tally k o l
 tally_other Owner Owner o q p l n = ap length (cond-false _ _ _ (ne_eqb o q n))
 tally_other Owner Weak o q p l n = refl
 tally_other Weak Owner o q p l n = refl
@@ -153,7 +153,7 @@ num_map p f [] = refl
 num_map p f (x ∷ xs) = omega (arith, num_cons p (f x) (map f xs), num_map p f xs, num_cons (λ y. p (f y)) x xs, one_cond (p (f x)) (f x) x)
 
 -- taking a handle out of the hands counts it once less
-pub tally_without : (k : Kind) (o : ℕ) (x : Held) (l : List Held) (r : List Handle) → Has x l
+pub tally_without : (k : Kind) (o : ℕ) (x : Held) (l : List Held) (r : List NumberedHandle) → Has x l
     → tally k o (map (λ y. y.handle) l ++ r) ≡ tally k o (x.handle ∷ []) + tally k o (map (λ y. y.handle) (without same_held x l) ++ r)
 tally_without k o x l r h =
     omega (
@@ -167,15 +167,15 @@ tally_without k o x l r h =
     )
 
 -- a handle in the hands is counted
-pub tally_has : (k : Kind) (o : ℕ) (x : Held) (l : List Held) (r : List Handle) → Has x l → 0 < tally k o (x.handle ∷ [])
+pub tally_has : (k : Kind) (o : ℕ) (x : Held) (l : List Held) (r : List NumberedHandle) → Has x l → 0 < tally k o (x.handle ∷ [])
     → 0 < tally k o (map (λ y. y.handle) l ++ r)
 tally_has k o x l r h one = omega (arith, tally_without k o x l r h)
 
-pub upto_same : (n : ℕ) (f g : ℕ → List Handle) → ((i : ℕ) → i < n → f i ≡ g i) → upto n f ≡ upto n g
+pub upto_same : (n : ℕ) (f g : ℕ → List NumberedHandle) → ((i : ℕ) → i < n → f i ≡ g i) → upto n f ≡ upto n g
 upto_same zero f g e = refl
 upto_same (suc n) f g e = let here = e n (omega arith) in let rest = upto_same n f g (λ i h. e i (omega arith)) in λ i. here i ++ rest i
 
-pub tally_upto_empty : (k : Kind) (o n : ℕ) (f : ℕ → List Handle) → ((i : ℕ) → i < n → tally k o (f i) ≡ 0) → tally k o (upto n f) ≡ 0
+pub tally_upto_empty : (k : Kind) (o n : ℕ) (f : ℕ → List NumberedHandle) → ((i : ℕ) → i < n → tally k o (f i) ≡ 0) → tally k o (upto n f) ≡ 0
 tally_upto_empty k o zero f e = refl
 tally_upto_empty k o (suc n) f e = omega (arith, tally_append k o (f n) (upto n f), e n (omega arith), tally_upto_empty k o n f (λ i h. e i (omega arith)))
 

@@ -30,7 +30,7 @@ use Rattle.control_word.specs.Words.{Says, bank, block_words, blocks_of, cell_sp
 use Rattle.control_word.specs.Words.{place_bits, slot, worth}
 use Rattle.control_word.specs.declared.model.event.Entry.{Entry}
 use Rattle.control_word.specs.declared.model.event.Event.TheVariants.{Make}
-use Rattle.control_word.specs.declared.model.handle.Handle.{Handle}
+use Rattle.control_word.specs.declared.model.handle.NumberedHandle.{NumberedHandle}
 use Rattle.control_word.specs.declared.model.handle.Kind.{Kind}
 use Rattle.control_word.specs.declared.model.handle.Kind.TheVariants.{Owner, Weak}
 use Rattle.control_word.specs.declared.place.Block.{Block}
@@ -42,7 +42,7 @@ owned_put : (f g : ℕ → ℕ) (n : Option ℕ) → ((r : ℕ) → n ≡ Some r
 owned_put f g None e = refl
 owned_put f g (Some r) e = e r refl
 
-packed_put : (f g : ℕ → ℕ) (x : Handle) → ((r : ℕ) → x.object ≡ Some r → f r ≡ g r) → packed f x ≡ packed g x
+packed_put : (f g : ℕ → ℕ) (x : NumberedHandle) → ((r : ℕ) → x.object ≡ Some r → f r ≡ g r) → packed f x ≡ packed g x
 unfolding packed
 packed_put f g x e = ap (λ n. n + place_bits x.place) (owned_put f g x.object e)
 

@@ -17,14 +17,14 @@ use Rattle.control_word.specs.Words.{blocks_of, cell_at, packed}
 use Rattle.control_word.specs.declared.model.event.Cell.{Cell}
 use Rattle.control_word.specs.declared.model.event.Entry.{Entry}
 use Rattle.control_word.specs.declared.model.event.Event.TheVariants.{Compare}
-use Rattle.control_word.specs.declared.model.handle.Handle.{Handle}
+use Rattle.control_word.specs.declared.model.handle.NumberedHandle.{NumberedHandle}
 use Rattle.control_word.specs.declared.model.view.View.{View}
 
 module _ {V : Type 0} where
   module _ (z : Opening) (words : List ℕ) (views : List (View V)) (h : List (Entry V)) (stands : Stands z words views h)
       (i : ℕ) (v : View V) (at : get_elem? views i ≡ some v) (awake : v.spent ≡ false) (c : Cell) (kept : IsKept (leads z h) c) where
     -- a compare that swaps
-    pub compare_step : (expected new : Handle) (weak' : Bool) → IsOpen (leads z h) v.name c → InHand (leads z h) v.name (kind_of (leads z h) c) expected
+    pub compare_step : (expected new : NumberedHandle) (weak' : Bool) → IsOpen (leads z h) v.name c → InHand (leads z h) v.name (kind_of (leads z h) c) expected
         → true ≡ equivalent (cell_of (leads z h) c) expected
         → v.pending ≡ purse (blocks_of (leads z h)) new 256 → InHand (leads z h) v.name (kind_of (leads z h) c) new
         → let s = leads z h in let k = cell_at z s c in let old = cell_of s c in

@@ -33,7 +33,7 @@ use Rattle.control_word.specs.declared.model.event.Cell.{Cell}
 use Rattle.control_word.specs.declared.model.event.Entry.{Entry}
 use Rattle.control_word.specs.declared.model.event.Event.{Event}
 use Rattle.control_word.specs.declared.model.event.Event.TheVariants.{Compare, Count, Expired, Load, Lock, Read}
-use Rattle.control_word.specs.declared.model.handle.Handle.{Handle}
+use Rattle.control_word.specs.declared.model.handle.NumberedHandle.{NumberedHandle}
 use Rattle.control_word.specs.declared.model.handle.Kind.{Kind}
 use Rattle.control_word.specs.declared.model.handle.Kind.TheVariants.{Owner, Weak}
 use Rattle.control_word.specs.declared.place.Place.{Place}
@@ -217,7 +217,7 @@ module _ {V : Type 0} where
         → let e = entry v.name (Load c (handle k None p)) in Stands z words (set views i (sees v (e ∷ h))) (e ∷ h)
     load_empty_step c k p open' is = look_event z words views h stands i v at awake idle 0 None (Load c (handle k None p)) tt (open', is) tt refl refl
 
-    pub differs_empty_step : (c : Cell) (k : Kind) (p : Option Place) (expected new : Handle) (weak' : Bool) → IsOpen (leads z h) v.name c
+    pub differs_empty_step : (c : Cell) (k : Kind) (p : Option Place) (expected new : NumberedHandle) (weak' : Bool) → IsOpen (leads z h) v.name c
         → handle k None p ≡ cell_of (leads z h) c
         → InHand (leads z h) v.name (kind_of (leads z h) c) expected → InHand (leads z h) v.name (kind_of (leads z h) c) new
         → false ≡ equivalent (handle k None p) expected

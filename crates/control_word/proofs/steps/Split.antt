@@ -19,7 +19,7 @@ use Rattle.control_word.specs.Views.{Stands, adds, more, owed, owes, pays, sees_
 use Rattle.control_word.specs.Words.{cell_spot}
 use Rattle.control_word.specs.declared.model.event.Entry.{Entry}
 use Rattle.control_word.specs.declared.model.event.Event.TheVariants.{Split}
-use Rattle.control_word.specs.declared.model.handle.Handle.{Handle}
+use Rattle.control_word.specs.declared.model.handle.NumberedHandle.{NumberedHandle}
 use Rattle.control_word.specs.declared.place.Block.{Block}
 use Rattle.control_word.specs.declared.model.view.Pending.TheVariants.{Idle, Parting}
 use Rattle.control_word.specs.declared.model.view.View.{View}
@@ -28,7 +28,7 @@ module _ {V : Type 0} where
   module _ (z : Opening) (words : List ℕ) (views : List (View V)) (h : List (Entry V)) (stands : Stands z words views h)
       (i : ℕ) (v : View V) (at : get_elem? views i ≡ some v) (awake : v.spent ≡ false) where
     -- the look of a split: the new desk has its name, its allowance and what it was given
-    pub split_step : (to n : ℕ) (hs : List Handle) (bs : List Block) → v.pending ≡ Idle → Asks {V = V} (leads z h) v.name (Split to n hs bs)
+    pub split_step : (to n : ℕ) (hs : List NumberedHandle) (bs : List Block) → v.pending ≡ Idle → Asks {V = V} (leads z h) v.name (Split to n hs bs)
         → HasRoom (after {V = V} (leads z h) v.name (Split to n hs bs)) v.name
         → let e = entry v.name (Split to n hs bs) in Stands z words (set views i (sees_as v (Parting to) (e ∷ h))) (e ∷ h)
     split_step to n hs bs idle asks room =

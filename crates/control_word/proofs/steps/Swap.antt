@@ -29,14 +29,14 @@ use Rattle.control_word.specs.declared.model.event.Cell.TheVariants.{Free, Membe
 use Rattle.control_word.specs.declared.model.event.Entry.{Entry}
 use Rattle.control_word.specs.declared.model.event.Event.{Event}
 use Rattle.control_word.specs.declared.model.event.Event.TheVariants.{Swap}
-use Rattle.control_word.specs.declared.model.handle.Handle.{Handle}
+use Rattle.control_word.specs.declared.model.handle.NumberedHandle.{NumberedHandle}
 use Rattle.control_word.specs.declared.model.view.View.{View}
 
 module _ {V : Type 0} where
   module _ (z : Opening) (words : List ℕ) (views : List (View V)) (h : List (Entry V)) (stands : Stands z words views h)
       (i : ℕ) (v : View V) (at : get_elem? views i ≡ some v) (awake : v.spent ≡ false) (c : Cell) (kept : IsKept (leads z h) c) where
     -- the new value goes in with 256 funds, and the old one comes out with those that were not taken
-    pub exchange_step : (a : Event V) (new : Handle) → IsPlain a → Asks (leads z h) v.name a → Values (value z h) a
+    pub exchange_step : (a : Event V) (new : NumberedHandle) → IsPlain a → Asks (leads z h) v.name a → Values (value z h) a
         → after (leads z h) v.name a ≡ swaps v.name c new (cell_of (leads z h) c) (leads z h)
         → v.pending ≡ purse (blocks_of (leads z h)) new 256 → InHand (leads z h) v.name (kind_of (leads z h) c) new
         → let s = leads z h in let k = cell_at z s c in let old = cell_of s c in
@@ -88,7 +88,7 @@ module _ {V : Type 0} where
         (λ y z'. absurd (plain_visits a' plain y z'))
         (λ b has y lt. same_known z words views h stands i v at awake c kept n b y (fine.stores d b has).1 lt) f)
       where
-        bare_swap : (d : Cell) → IsKept (leads z h) d → (new : Handle)
+        bare_swap : (d : Cell) → IsKept (leads z h) d → (new : NumberedHandle)
             → Bare z (swaps v.name d new (cell_of (leads z h) d) (leads z h)) (put stands.taken (cell_at z (leads z h) d) 0)
         bare_swap (Free d) op new =
             let s = leads z h in
@@ -96,7 +96,7 @@ module _ {V : Type 0} where
               members = b.members;
               frees = λ x hx e. ⊎_elim
                   (λ (q : x ≡ d). put_same stands.taken (cell_spot z d) 0 (cell_spot z x) (ap (cell_spot z) q))
-                  (λ (q : x ≢ d). b.frees x hx (ap (λ (y : Handle). y.object) (sym (put_other s.cell d new x q)) ∙ e)) (cases_eq x d);
+                  (λ (q : x ≢ d). b.frees x hx (ap (λ (y : NumberedHandle). y.object) (sym (put_other s.cell d new x q)) ∙ e)) (cases_eq x d);
             }
         bare_swap (Member o l) op new =
             let s = leads z h in
@@ -109,14 +109,14 @@ module _ {V : Type 0} where
                   b.members c m hc lt
                   (sym (put_cases (λ j y. j ≡ s.latest c → (y.member m).object ≡ ((s.object j).member m).object) s.object o x (s.latest c)
                   (λ r r2. let bl = latest_is z s c o (sound z h stands.legal) op.1 (r) in
-                  ap (λ (y : Handle). y.object) (put_other (s.object o).member l new m (λ w. q (λ i. spot (bl i) (7 + w i))))
+                  ap (λ (y : NumberedHandle). y.object) (put_other (s.object o).member l new m (λ w. q (λ i. spot (bl i) (7 + w i))))
                   ∙ ap (λ n. ((s.object n).member m).object) (sym r)) (λ r r2. refl) refl)
                   ∙ e)) (cases_eq (spot c (7 + m)) (spot (s.object o).block (7 + l)));
               frees = b.frees;
             }
 
         -- where two functions of a word differ by what was taken
-        shows_swap : (d : Cell) (op : IsKept (leads z h) d) (new : Handle) (n : ℕ) (u g : ℕ → ℕ)
+        shows_swap : (d : Cell) (op : IsKept (leads z h) d) (new : NumberedHandle) (n : ℕ) (u g : ℕ → ℕ)
             → InHand (leads z h) v.name (kind_of (leads z h) d) new
             → let s = leads z h in let k = cell_at z s d in n ≡ packed (blocks_of s) new
             → get_or words k 0 ≡ packed (blocks_of s) (cell_of s d) + 17179869184 * stands.taken k
@@ -186,7 +186,7 @@ module _ {V : Type 0} where
             (shelf_kept z words s k n (cell_low z words views h stands i v at awake (Member o l) op) stands.shows.shelf)
 
     -- Swap: an open cell
-    pub swap_step : (new : Handle) → IsOpen (leads z h) v.name c → v.pending ≡ purse (blocks_of (leads z h)) new 256
+    pub swap_step : (new : NumberedHandle) → IsOpen (leads z h) v.name c → v.pending ≡ purse (blocks_of (leads z h)) new 256
         → InHand (leads z h) v.name (kind_of (leads z h) c) new
         → let s = leads z h in let k = cell_at z s c in let old = cell_of s c in
         HasRoom (after {V = V} s v.name (Swap c new old)) v.name

@@ -33,7 +33,7 @@ use Rattle.control_word.specs.declared.model.event.Cell.TheVariants.{Free, Membe
 use Rattle.control_word.specs.declared.model.event.Entry.{Entry}
 use Rattle.control_word.specs.declared.model.event.Event.{Event}
 use Rattle.control_word.specs.declared.model.event.Event.TheVariants.{Compare, Load}
-use Rattle.control_word.specs.declared.model.handle.Handle.{Handle}
+use Rattle.control_word.specs.declared.model.handle.NumberedHandle.{NumberedHandle}
 use Rattle.control_word.specs.declared.model.handle.Kind.{Kind}
 use Rattle.control_word.specs.declared.place.Place.{Place}
 use Rattle.control_word.specs.declared.model.view.Pending.TheVariants.{Idle, Paying}
@@ -67,7 +67,7 @@ module _ {V : Type 0} where
           let t : State = record s { hands = held v.name x ∷ s.hands } in
           let one = one_of k o x refl refl in
           let busy : IsBusy s o = counted_busy z s fine k o (let a = cell_counted s c (kept_in z s c fine kept) k o in
-          let b = ap (λ (y : Handle). tally k o (y ∷ [])) is in omega arith) in
+          let b = ap (λ (y : NumberedHandle). tally k o (y ∷ [])) is in omega arith) in
           let was = stands.taken j in
           let taken : ℕ → ℕ = put stands.taken j (suc was) in
           let bank' : (m : ℕ) → bank z t taken m + one_at w m ≡ bank z s stands.taken m =
@@ -109,7 +109,7 @@ module _ {V : Type 0} where
           (subst (λ y. Bare z y taken) (sym same) (bare_hands (bare_put z words views h stands i v at awake c kept (suc was) (inr (
             o,
             ap
-                (λ (y : Handle). y.object) (sym is),
+                (λ (y : NumberedHandle). y.object) (sym is),
           )))))
           (subst (λ y. Fits (set words j n) y (valued s a' (value z h)) v.name new) (sym same) (inl refl, refl, omega arith, omega arith, omega arith))
           (λ d q ne f. fits_after z s words (set words j n) (value z h) v.name a' fine d q (λ r. ne (sym r)) (plain_names a' plain d)
@@ -137,7 +137,7 @@ module _ {V : Type 0} where
       load_step k o p open' idle is left room = take_step (Load c (handle k (Some o) p)) k o p tt (open', is) tt refl idle is left room
 
       -- a compare that finds another value
-      pub differs_step : (k : Kind) (o : ℕ) (p : Option Place) (expected new : Handle) (weak' : Bool) → IsOpen (leads z h) v.name c
+      pub differs_step : (k : Kind) (o : ℕ) (p : Option Place) (expected new : NumberedHandle) (weak' : Bool) → IsOpen (leads z h) v.name c
           → InHand (leads z h) v.name (kind_of (leads z h) c) expected → InHand (leads z h) v.name (kind_of (leads z h) c) new
           → (false ≡ equivalent (cell_of (leads z h) c) expected) ⊎ (weak' ≡ true)
           → v.pending ≡ Idle → handle k (Some o) p ≡ cell_of (leads z h) c → stands.taken (cell_at z (leads z h) c) < 256

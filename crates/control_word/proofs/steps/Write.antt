@@ -23,7 +23,7 @@ use Rattle.control_word.specs.Steps.{WritesWeakWord, WritesWord, counts, known_o
 use Rattle.control_word.specs.Views.{Fits, Stands, added, adds, more, owed, owes, paid, pays}
 use Rattle.control_word.specs.Words.{blocks_of, cell_spot, counts_at, slot}
 use Rattle.control_word.specs.declared.model.event.Entry.{Entry}
-use Rattle.control_word.specs.declared.model.handle.Handle.{Handle}
+use Rattle.control_word.specs.declared.model.handle.NumberedHandle.{NumberedHandle}
 use Rattle.control_word.specs.declared.model.handle.Kind.{Kind}
 use Rattle.control_word.specs.declared.model.handle.Kind.TheVariants.{Owner}
 use Rattle.control_word.specs.declared.place.Block.{Block}
@@ -142,7 +142,7 @@ module _ {V : Type 0} where
         let w : stands.taken (spot b k) ≡ 0 = ⊎_elim (λ (low : k < 7). stands.blank b k u.1 low)
         (λ (high : 7 ≤ k). let m = k - 7 in let e : 7 + m ≡ k = omega arith in
         subst (λ x. stands.taken (spot b x) ≡ 0) e (stands.bare.members b m u.1 (omega arith) (ap
-        (λ (y : Handle). y.object) (fine.cleared (s.latest b) m (omega arith) (omega arith))))) (cases_lt k 7) in
+        (λ (y : NumberedHandle). y.object) (fine.cleared (s.latest b) m (omega arith) (omega arith))))) (cases_lt k 7) in
         (a, omega arith, w)
       where
         no_owes : ((m : Kind) (o : ℕ) → 0 < weak_number (leads z h) o → spot b k ≢ counts_at (blocks_of (leads z h)) m o) → (d : ℕ) (p : Pending V)

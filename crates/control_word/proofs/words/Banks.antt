@@ -18,7 +18,7 @@ use Rattle.control_word.specs.State.{Held, Object, Opening, State, common, put, 
 use Rattle.control_word.specs.Words.{bank, blocks_of, cell_at, cell_spot, counts_at, member_funds, worth}
 use Rattle.control_word.specs.declared.model.event.Cell.{Cell}
 use Rattle.control_word.specs.declared.model.event.Cell.TheVariants.{Free, Member}
-use Rattle.control_word.specs.declared.model.handle.Handle.{Handle}
+use Rattle.control_word.specs.declared.model.handle.NumberedHandle.{NumberedHandle}
 use Rattle.control_word.specs.declared.model.handle.Kind.{Kind}
 use Rattle.control_word.specs.declared.place.Place.{Place}
 
@@ -52,9 +52,9 @@ module _ (z : Opening) (s : State) (fine : Sound z s) (taken : ℕ → ℕ) (i :
   gone_funds : (u : ℕ → ℕ) (q : ℕ) → common (s.object q).phase ≡ 0 → member_funds (blocks_of s) u (s.object q) i ≡ 0
   gone_funds u q e =
       let c = λ (m : ℕ) (lt : m < 3). fine.cleared q m lt e in
-      let a = ap (λ (x : Handle). worth (blocks_of s) x (u (spot (s.object q).block 7)) i) (c 0 (omega arith)) in
-      let b = ap (λ (x : Handle). worth (blocks_of s) x (u (spot (s.object q).block 8)) i) (c 1 (omega arith)) in
-      let d = ap (λ (x : Handle). worth (blocks_of s) x (u (spot (s.object q).block 9)) i) (c 2 (omega arith)) in
+      let a = ap (λ (x : NumberedHandle). worth (blocks_of s) x (u (spot (s.object q).block 7)) i) (c 0 (omega arith)) in
+      let b = ap (λ (x : NumberedHandle). worth (blocks_of s) x (u (spot (s.object q).block 8)) i) (c 1 (omega arith)) in
+      let d = ap (λ (x : NumberedHandle). worth (blocks_of s) x (u (spot (s.object q).block 9)) i) (c 2 (omega arith)) in
       omega arith
 
   -- an object of which no cell's word is k
@@ -70,7 +70,7 @@ module _ (z : Opening) (s : State) (fine : Sound z s) (taken : ℕ → ℕ) (i :
       let c = ap (λ y. worth (blocks_of s) (x.member 2) y i) (put_other taken k t (spot x.block 9) (n 9 (omega arith) (omega arith))) in
       omega arith) (cases_eq (common (s.object q).phase) 0)
 
-  bank_free : (c : ℕ) (new : Handle) (hs : List Held) (t : ℕ) → c < s.cells → s.cells ≡ z.cells
+  bank_free : (c : ℕ) (new : NumberedHandle) (hs : List Held) (t : ℕ) → c < s.cells → s.cells ≡ z.cells
       → bank z (record s { hands = hs; cell = put s.cell c new }) (put taken (cell_spot z c) t) i + worth (blocks_of s) (s.cell c) (taken (cell_spot z c)) i
       ≡ bank z s taken i + worth (blocks_of s) new t i
   unfolding bank
@@ -86,7 +86,7 @@ module _ (z : Opening) (s : State) (fine : Sound z s) (taken : ℕ → ℕ) (i :
       omega arith
 
   -- of one object one member changes
-  own_funds : (x : Object) (m t : ℕ) (new : Handle) → m < 3 → 1 ≤ x.block → let k = spot x.block (7 + m) in
+  own_funds : (x : Object) (m t : ℕ) (new : NumberedHandle) → m < 3 → 1 ≤ x.block → let k = spot x.block (7 + m) in
       member_funds (blocks_of s) (put taken k t) (record x { member = put x.member m new }) i + worth (blocks_of s) (x.member m) (taken k) i
       ≡ member_funds (blocks_of s) taken x i + worth (blocks_of s) new t i
   own_funds x m t new lt pos =
@@ -106,13 +106,13 @@ module _ (z : Opening) (s : State) (fine : Sound z s) (taken : ℕ → ℕ) (i :
       (λ (n' : 1 ≢ m). let e : 2 ≡ m = omega arith in let p = same 2 e in let q = else' 0 n in let r = else' 1 n' in
       let o = old 2 e in omega arith) (cases_eq 1 m)) (cases_eq 0 m)
 
-  pub member_blocks : (o m : ℕ) (new : Handle) → ◌≡◌ {A = ℕ
+  pub member_blocks : (o m : ℕ) (new : NumberedHandle) → ◌≡◌ {A = ℕ
       → ℕ} (λ q. (put s.object o (record (s.object o) { member = put (s.object o).member m new }) q).block) (blocks_of s)
   member_blocks o m new = fun_ext (λ q. put_cases
       (λ j y. y.block ≡ (s.object j).block) s.object o (record (s.object o) { member = put (s.object o).member m new }) q
       (λ e. ap (λ n. (s.object n).block) (sym e)) (λ n. refl))
 
-  bank_member : (o m : ℕ) (new : Handle) (hs : List Held) (t : ℕ) → m < 3 → IsBusy s o → s.cells ≡ z.cells
+  bank_member : (o m : ℕ) (new : NumberedHandle) (hs : List Held) (t : ℕ) → m < 3 → IsBusy s o → s.cells ≡ z.cells
       → let x = s.object o in let k = spot x.block (7 + m) in
       bank z (record s { hands = hs; object = put s.object o (record x { member = put x.member m new }) }) (put taken k t) i + worth (blocks_of s)
       (x.member m) (taken k) i
@@ -146,7 +146,7 @@ module _ (z : Opening) (s : State) (fine : Sound z s) (taken : ℕ → ℕ) (i :
       omega arith
 
   -- one cell gets another value, or other funds
-  pub bank_fill : (c : Cell) (new : Handle) (hs : List Held) (t : ℕ) → IsKept s c → s.cells ≡ z.cells
+  pub bank_fill : (c : Cell) (new : NumberedHandle) (hs : List Held) (t : ℕ) → IsKept s c → s.cells ≡ z.cells
       → bank z (fills c new (record s { hands = hs })) (put taken (cell_at z s c) t) i + worth (blocks_of s) (cell_of s c) (taken (cell_at z s c)) i
       ≡ bank z s taken i + worth (blocks_of s) new t i
   bank_fill (Free c) new hs t kept cells = bank_free c new hs t kept cells

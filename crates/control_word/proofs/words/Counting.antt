@@ -23,7 +23,7 @@ use Rattle.control_word.specs.Views.{Fits, Stands, added, adds, more, owed, owes
 use Rattle.control_word.specs.Words.{bank, blocks_of, counts_at, slot}
 use Rattle.control_word.specs.declared.model.event.Entry.{Entry}
 use Rattle.control_word.specs.declared.model.event.Event.{Event}
-use Rattle.control_word.specs.declared.model.handle.Handle.{Handle}
+use Rattle.control_word.specs.declared.model.handle.NumberedHandle.{NumberedHandle}
 use Rattle.control_word.specs.declared.model.handle.Kind.{Kind}
 use Rattle.control_word.specs.declared.model.handle.Kind.TheVariants.{Owner, Weak}
 use Rattle.control_word.specs.declared.place.Place.{Place}
@@ -44,10 +44,10 @@ module _ {V : Type 0} where
       get_or-set_other words (spot b k) (spot c (2 + j)) n 0
       (λ e. let t = spot_apart c (2 + j) b k hc.0 hb.0 (omega arith) (omega arith) e in omega arith)) fits
 
-pub bag_one : (d : ℕ) (x : Handle) (l : List Held) → num (λ (y : Held). y.desk == d) (held d x ∷ l) ≡ suc (num (λ (y : Held). y.desk == d) l)
+pub bag_one : (d : ℕ) (x : NumberedHandle) (l : List Held) → num (λ (y : Held). y.desk == d) (held d x ∷ l) ≡ suc (num (λ (y : Held). y.desk == d) l)
 bag_one d x l = ap length (cond-true _ (held d x ∷ filter (λ (y : Held). y.desk == d) l) (filter (λ (y : Held). y.desk == d) l) (eq-eqb d d refl))
 
-pub bag_fewer : (d : ℕ) (x : Handle) (l : List Held) → Has (held d x) l
+pub bag_fewer : (d : ℕ) (x : NumberedHandle) (l : List Held) → Has (held d x) l
     → num (λ (y : Held). y.desk == d) (without same_held (held d x) l) ≤ num (λ (y : Held). y.desk == d) l
 bag_fewer d x l h = let t = num_without same_held held_true held_self (λ (y : Held). y.desk == d) (held d x) l h in omega arith
 

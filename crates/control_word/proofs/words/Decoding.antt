@@ -22,7 +22,7 @@ use Rattle.control_word.specs.Words.{block_of, blocks_of, cell_at, packed, shown
 use Rattle.control_word.specs.declared.model.event.Cell.{Cell}
 use Rattle.control_word.specs.declared.model.event.Cell.TheVariants.{Free, Member}
 use Rattle.control_word.specs.declared.model.event.Entry.{Entry}
-use Rattle.control_word.specs.declared.model.handle.Handle.{Handle}
+use Rattle.control_word.specs.declared.model.handle.NumberedHandle.{NumberedHandle}
 use Rattle.control_word.specs.declared.model.handle.Kind.{Kind}
 use Rattle.control_word.specs.declared.place.Place.{Place}
 use Rattle.control_word.specs.declared.model.view.View.{View}
@@ -36,7 +36,7 @@ shown_parts block k (Some o) None t = omega arith
 shown_parts block k (Some o) (Some p) t = omega arith
 
 -- a cell's word is that of what it shows
-pub cell_shown : (block : ℕ → ℕ) (h : Handle) (t : ℕ) → packed block h + 17179869184 * t ≡ cell_bits (shown block h t)
+pub cell_shown : (block : ℕ → ℕ) (h : NumberedHandle) (t : ℕ) → packed block h + 17179869184 * t ≡ cell_bits (shown block h t)
 cell_shown block h t = shown_parts block h.kind h.object h.place t
 
 owned_fits : (block : ℕ → ℕ) (o : Option ℕ) → ((r : ℕ) → o ≡ Some r → (1 ≤ block r) × (block r ≤ 65535))
@@ -48,7 +48,7 @@ place_fits : (p : Option Place) → IsPointer p → IfSome p IsPlace
 place_fits None f = tt
 place_fits (Some p) f = let a = f.0 in let b = f.2 in ((omega arith, f.1), omega arith)
 
-pub shown_fits : (block : ℕ → ℕ) (h : Handle) (t : ℕ) → IsFormed h
+pub shown_fits : (block : ℕ → ℕ) (h : NumberedHandle) (t : ℕ) → IsFormed h
     → ((r : ℕ) → h.object ≡ Some r → (1 ≤ block r) × (block r ≤ 65535)) → t ≤ 256
     → IsCellWord (shown block h t)
 shown_fits block h t formed blocks few = record { owned = owned_fits block h.object blocks; place = place_fits h.place formed.0; taken = few }

@@ -15,7 +15,7 @@ use Rattle.control_word.specs.Layout.{spot}
 use Rattle.control_word.specs.State.{Held, InShape, IsVacant, Object, Opening, State, Stored, count, on_shelf, unmade, weak, weak_number}
 use Rattle.control_word.specs.Views.{total}
 use Rattle.control_word.specs.Words.{Says, Shows, ShowsShelf, block_words, blocks_of, cell_spot, object_words, packed, shelf_spot}
-use Rattle.control_word.specs.declared.model.handle.Handle.{Handle}
+use Rattle.control_word.specs.declared.model.handle.NumberedHandle.{NumberedHandle}
 
 pub spot_apart : (b k c j : ℕ) → 1 ≤ b → 1 ≤ c → k < 10 → j < 10 → spot b k ≡ spot c j → (b ≡ c) × (k ≡ j)
 spot_apart b k c j hb hc hk hj e = (omega arith, omega arith)
@@ -72,7 +72,7 @@ words_still f g q e =
     sym (words_phase (λ j. (f j).block) (f q)) ∙ (ap (object_words (λ j. (f j).block)) (e q) ∙ (words_phase (λ j. (f j).block) (g q) ∙ ap (λ (b : ℕ
     → ℕ). object_words b (g q)) (blocks_still f g e)))
 
-pub packed_still : (f g : ℕ → Object) (x : Handle) → ((j : ℕ) → moved_to unmade (f j) ≡ moved_to unmade (g j))
+pub packed_still : (f g : ℕ → Object) (x : NumberedHandle) → ((j : ℕ) → moved_to unmade (f j) ≡ moved_to unmade (g j))
     → packed (λ j. (f j).block) x ≡ packed (λ j. (g j).block) x
 packed_still f g x e = ap (λ (b : ℕ → ℕ). packed b x) (blocks_still f g e)
 

@@ -13,7 +13,7 @@ use Rattle.control_word.specs.State.{IsVacant, Object, Opening, State, common, p
 use Rattle.control_word.specs.Words.{block_words, blocks_of, object_words, packed}
 use Rattle.control_word.specs.declared.model.event.Cell.{Cell}
 use Rattle.control_word.specs.declared.model.event.Cell.TheVariants.{Free, Member}
-use Rattle.control_word.specs.declared.model.handle.Handle.{Handle}
+use Rattle.control_word.specs.declared.model.handle.NumberedHandle.{NumberedHandle}
 use Rattle.control_word.specs.declared.model.handle.Kind.{Kind}
 
 pub packed_empty : (f : ℕ → ℕ) (k : Kind) → packed f (empty k) ≡ 0
@@ -30,7 +30,7 @@ member_word s b o (suc (suc zero)) lt e = ap (λ n. packed (blocks_of s) ((s.obj
 member_word s b o (suc (suc (suc m))) lt e = absurd (omega arith)
 
 -- the other words of an object of which one member changed
-words_member : (f : ℕ → ℕ) (x : Object) (m : ℕ) (h : Handle) (j : ℕ) → m < 3 → j ≢ 5 + m
+words_member : (f : ℕ → ℕ) (x : Object) (m : ℕ) (h : NumberedHandle) (j : ℕ) → m < 3 → j ≢ 5 + m
     → get_or (object_words f (record x { member = put x.member m h })) j 0 ≡ get_or (object_words f x) j 0
 unfolding object_words
 words_member f x m h zero lt n = refl
@@ -43,7 +43,7 @@ words_member f x m h (suc (suc (suc (suc (suc (suc zero)))))) lt n = ap (packed 
 words_member f x m h (suc (suc (suc (suc (suc (suc (suc zero))))))) lt n = ap (packed f) (put_other x.member m h 2 (λ e. n (omega arith)))
 words_member f x m h (suc (suc (suc (suc (suc (suc (suc (suc j)))))))) lt n = refl
 
-module _ (z : Opening) (s : State) (sound : Sound z s) (d : ℕ) (new : Handle) where
+module _ (z : Opening) (s : State) (sound : Sound z s) (d : ℕ) (new : NumberedHandle) where
   -- in a free cell
   module _ (c : ℕ) (open' : c < s.cells) (hand : InHand s d (kind_of s (Free c)) new) where
     pub free_words : (b j : ℕ) → get_or (block_words (swaps d (Free c) new (s.cell c) s) b) j 0 ≡ get_or (block_words s b) j 0
@@ -93,7 +93,7 @@ module _ (z : Opening) (s : State) (sound : Sound z s) (d : ℕ) (new : Handle) 
         )) ∙ ap (λ q. get_or (object_words (blocks_of s) (s.object q)) j 0) (sym e)) (λ ne e2. refl) refl
 
 -- a swap leaves the blocks
-pub swap_blocks : (s : State) (d : ℕ) (c : Cell) (new old : Handle) → blocks_of (swaps d c new old s) ≡ blocks_of s
+pub swap_blocks : (s : State) (d : ℕ) (c : Cell) (new old : NumberedHandle) → blocks_of (swaps d c new old s) ≡ blocks_of s
 swap_blocks s d (Free c) new old = refl
 swap_blocks s d (Member o m) new old = fun_ext (λ q. put_cases
     (λ j y. y.block ≡ (s.object j).block) s.object o (record (s.object o) { member = put (s.object o).member m new }) q

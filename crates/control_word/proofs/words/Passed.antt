@@ -11,7 +11,7 @@ use Rattle.control_word.specs.State.{HasAll, Held, IsVacant, Opening, State, com
 use Rattle.control_word.specs.Views.{Stands, added, adds, owed, owes, paid, pays}
 use Rattle.control_word.specs.Words.{bank, block_words, object_words}
 use Rattle.control_word.specs.declared.model.event.Entry.{Entry}
-use Rattle.control_word.specs.declared.model.handle.Handle.{Handle}
+use Rattle.control_word.specs.declared.model.handle.NumberedHandle.{NumberedHandle}
 use Rattle.control_word.specs.declared.model.handle.Kind.{Kind}
 use Rattle.control_word.specs.declared.model.handle.Kind.TheVariants.{Owner, Weak}
 use Rattle.control_word.specs.declared.place.Block.{Block}
@@ -19,21 +19,23 @@ use Rattle.control_word.specs.declared.model.view.View.{View}
 
 -- what a split and a join leave of the counts
 module _ (s : State) where
-  split_held : (d to : ℕ) (hs : List Handle) → HasAll same_held (λ (h : Handle). held d h) hs s.hands → (k : Kind) (q : ℕ)
-      → num (λ (x : Held). is_on k q x.handle) (passed same_held (λ (h : Handle). held d h) (λ h. held to h) hs s.hands) ≡ num
+  split_held : (d to : ℕ) (hs : List NumberedHandle) → HasAll same_held (λ (h : NumberedHandle). held d h) hs s.hands → (k : Kind) (q : ℕ)
+      → num (λ (x : Held). is_on k q x.handle) (passed same_held (λ (h : NumberedHandle). held d h) (λ h. held to h) hs s.hands) ≡ num
       (λ (x : Held). is_on k q x.handle) s.hands
-  split_held d to hs has k q = num_passed same_held held_true held_self (λ (h : Handle). held d h) (λ h. held to h) (λ (x : Held). is_on k q x.handle)
+  split_held d to hs has k q = num_passed same_held held_true held_self (λ (h : NumberedHandle). held d h) (λ h. held to h) (λ (x : Held). is_on k q x.handle)
       (λ u. refl) hs s.hands has
 
-  split_count : (d to n : ℕ) (hs : List Handle) (bs : List Block) → HasAll same_held (λ (h : Handle). held d h) hs s.hands → (q : ℕ)
+  split_count : (d to n : ℕ) (hs : List NumberedHandle) (bs : List Block) → HasAll same_held (λ (h : NumberedHandle). held d h) hs s.hands → (q : ℕ)
       → count (splits_off d to n hs bs s) q ≡ count s q
   unfolding count
-  split_count d to n hs bs has q = hands_count s (passed same_held (λ (h : Handle). held d h) (λ h. held to h) hs s.hands) q (split_held d to hs has Owner q)
+  split_count d to n hs bs has q = hands_count s (passed same_held (λ (h : NumberedHandle). held d h) (λ h. held to h) hs s.hands) q
+      (split_held d to hs has Owner q)
 
-  split_weak : (d to n : ℕ) (hs : List Handle) (bs : List Block) → HasAll same_held (λ (h : Handle). held d h) hs s.hands → (q : ℕ)
+  split_weak : (d to n : ℕ) (hs : List NumberedHandle) (bs : List Block) → HasAll same_held (λ (h : NumberedHandle). held d h) hs s.hands → (q : ℕ)
       → weak (splits_off d to n hs bs s) q ≡ weak s q
   unfolding weak
-  split_weak d to n hs bs has q = hands_weak s (passed same_held (λ (h : Handle). held d h) (λ h. held to h) hs s.hands) q (split_held d to hs has Weak q)
+  split_weak d to n hs bs has q = hands_weak s (passed same_held (λ (h : NumberedHandle). held d h) (λ h. held to h) hs s.hands) q
+      (split_held d to hs has Weak q)
 
   join_held : (d e : ℕ) (k : Kind) (q : ℕ)
       → num (λ (x : Held). is_on k q x.handle) (map (λ (x : Held). held (renamed e d x.desk) x.handle) s.hands)
@@ -49,7 +51,7 @@ module _ (s : State) where
   join_weak d e q = hands_weak s (map (λ (x : Held). held (renamed e d x.desk) x.handle) s.hands) q (join_held d e Weak q)
 
   -- what a block's words say, after both
-  pub split_words : (d to n : ℕ) (hs : List Handle) (bs : List Block) → HasAll same_held (λ (h : Handle). held d h) hs s.hands → (b j : ℕ)
+  pub split_words : (d to n : ℕ) (hs : List NumberedHandle) (bs : List Block) → HasAll same_held (λ (h : NumberedHandle). held d h) hs s.hands → (b j : ℕ)
       → get_or (block_words (splits_off d to n hs bs s) b) j 0 ≡ get_or (block_words s b) j 0
   split_words d to n hs bs has b zero = split_count d to n hs bs has (s.latest b)
   split_words d to n hs bs has b (suc zero) = ap (λ m. m + common (s.object (s.latest b)).phase) (split_weak d to n hs bs has (s.latest b))
@@ -61,7 +63,7 @@ module _ (s : State) where
   join_words d e b (suc zero) = let t = join_weak d e (s.latest b) in let u = handed_common e d (s.object (s.latest b)).phase in omega arith
   join_words d e b (suc (suc j)) = refl
 
-  pub split_vacant : (d to n : ℕ) (hs : List Handle) (bs : List Block) → HasAll same_held (λ (h : Handle). held d h) hs s.hands
+  pub split_vacant : (d to n : ℕ) (hs : List NumberedHandle) (bs : List Block) → HasAll same_held (λ (h : NumberedHandle). held d h) hs s.hands
       → (b : ℕ) → IsVacant s b
       → IsVacant (splits_off d to n hs bs s) b
   split_vacant d to n hs bs has b v q e = ap (λ m. m + common (s.object q).phase) (split_weak d to n hs bs has q) ∙ v q e
@@ -69,7 +71,7 @@ module _ (s : State) where
   pub join_vacant : (d e b : ℕ) → IsVacant s b → IsVacant (joins_up d e s) b
   join_vacant d e b v q f = let t = join_weak d e q in let u = handed_common e d (s.object q).phase in let w = v q f in omega arith
 
-  pub split_bank : (z : Opening) (d to n : ℕ) (hs : List Handle) (bs : List Block) (taken : ℕ → ℕ) (i : ℕ)
+  pub split_bank : (z : Opening) (d to n : ℕ) (hs : List NumberedHandle) (bs : List Block) (taken : ℕ → ℕ) (i : ℕ)
       → bank z (splits_off d to n hs bs s) taken i ≡ bank z s taken i
   unfolding bank
   split_bank z d to n hs bs taken i = refl

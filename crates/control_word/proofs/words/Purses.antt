@@ -10,7 +10,7 @@ use Rattle.control_word.specs.Steps.{purse}
 use Rattle.control_word.specs.Views.{Fits, adds, owes, pays}
 use Rattle.control_word.specs.Words.{blocks_of, counts_at, worth}
 use Rattle.control_word.specs.declared.model.event.Cell.{Cell}
-use Rattle.control_word.specs.declared.model.handle.Handle.{Handle}
+use Rattle.control_word.specs.declared.model.handle.NumberedHandle.{NumberedHandle}
 use Rattle.control_word.specs.declared.model.handle.Kind.{Kind}
 use Rattle.control_word.specs.declared.model.handle.Kind.TheVariants.{Owner, Weak}
 use Rattle.control_word.specs.declared.place.Place.{Place}
@@ -42,7 +42,7 @@ module _ (V : Type 0) where
 module _ {V : Type 0} where
   -- the funds of what came out are under a handle in the bag
   pub purse_fits : (words : List ℕ) (s : State) (values : ℕ
-      → Option V) (d : ℕ) (c : Cell) (new : Handle) (k : Kind) (n : Option ℕ) (p : Option Place) (f : ℕ) → f ≤ 256
+      → Option V) (d : ℕ) (c : Cell) (new : NumberedHandle) (k : Kind) (n : Option ℕ) (p : Option Place) (f : ℕ) → f ≤ 256
       → Fits words (swaps d c new (handle k n p) s) values d (purse (blocks_of s) (handle k n p) f)
   purse_fits words s values d c new k None p f few = tt
   purse_fits words s values d c new k (Some o) p f few = (

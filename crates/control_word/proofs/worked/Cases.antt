@@ -15,7 +15,7 @@ use Rattle.control_word.specs.Worked.{MembersGoOut, SplitAndJoined, member_clear
 use Rattle.control_word.specs.Worked.{reuse_copied}
 use Rattle.control_word.specs.Worked.{reuse_ended, split_joined}
 use Rattle.control_word.specs.declared.model.event.Entry.{Entry}
-use Rattle.control_word.specs.declared.model.handle.Handle.{Handle}
+use Rattle.control_word.specs.declared.model.handle.NumberedHandle.{NumberedHandle}
 use Rattle.control_word.specs.declared.model.handle.Kind.TheVariants.{Owner}
 use Rattle.control_word.specs.declared.place.Place.{Place}
 use Rattle.control_word.proofs.worked.Coming.{◌▸◌, comes, opening_fits, vacant}
@@ -83,7 +83,7 @@ lock_keeps_alive = (
 )
 
 -- what a strong compare replies
-compare_reply : (h : List (Entry ℕ)) (expected new : Handle) (reply : Handle × Bool)
+compare_reply : (h : List (Entry ℕ)) (expected new : NumberedHandle) (reply : NumberedHandle × Bool)
     → MayCome four_blocks h 0 (compares expected new reply)
     → let x = (reached h).cell 0 in reply ≡ (x, equivalent x expected)
 compare_reply h expected new reply next =

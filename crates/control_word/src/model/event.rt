@@ -1,6 +1,6 @@
 //! What a call did at its deciding step, with its reply. Values of these types live in proofs alone.
 
-use crate::model::handle::Handle;
+use crate::model::handle::NumberedHandle;
 use crate::place::{Block, Place};
 use std::collections::LinkedList;
 
@@ -21,23 +21,23 @@ pub enum Event<V> {
         value: V,
     },
     Share {
-        of: Handle,
+        of: NumberedHandle,
         place: Option<Place>,
     },
     Leave {
-        of: Handle,
+        of: NumberedHandle,
         last: bool,
     },
     Count {
-        of: Handle,
+        of: NumberedHandle,
         owners: u64,
     },
     Expired {
-        of: Handle,
+        of: NumberedHandle,
         expired: bool,
     },
     Read {
-        of: Handle,
+        of: NumberedHandle,
         field: u64,
     },
     WeakShare {
@@ -45,34 +45,34 @@ pub enum Event<V> {
         place: Option<Place>,
     },
     WeakLeave {
-        of: Handle,
+        of: NumberedHandle,
         vacant: bool,
     },
     Lock {
-        of: Handle,
+        of: NumberedHandle,
         got: bool,
     },
     Load {
         cell: Cell,
-        got: Handle,
+        got: NumberedHandle,
     },
     Swap {
         cell: Cell,
-        new: Handle,
-        old: Handle,
+        new: NumberedHandle,
+        old: NumberedHandle,
     },
     Compare {
         cell: Cell,
-        expected: Handle,
-        new: Handle,
-        held: Handle,
+        expected: NumberedHandle,
+        new: NumberedHandle,
+        held: NumberedHandle,
         swapped: bool,
         weak: bool,
     },
     ClearMember {
         object: u64,
         member: u64,
-        held: Handle,
+        held: NumberedHandle,
     },
     Finish {
         object: u64,
@@ -80,14 +80,14 @@ pub enum Event<V> {
         value: V,
     },
     Visit {
-        of: Handle,
+        of: NumberedHandle,
         was: V,
         becomes: V,
     },
     Split {
         to: u64,
         allowance: u64,
-        handles: LinkedList<Handle>,
+        handles: LinkedList<NumberedHandle>,
         blocks: LinkedList<Block>,
     },
     Join {

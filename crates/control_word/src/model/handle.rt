@@ -11,7 +11,7 @@ pub enum Kind {
 
 /// A shared or weak pointer value: its kind, the number of its object if it has one, and its place.
 #[derive(Clone, Copy, Drop)]
-pub struct Handle {
+pub struct NumberedHandle {
     pub kind: Kind,
     pub object: Option<u64>,
     pub place: Option<Place>,

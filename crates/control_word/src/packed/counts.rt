@@ -150,7 +150,7 @@ pub fn is_last(word: u64) -> bool
 /// What `use_count` tells of this owner word ([util.smartptr.shared.obs]): the number, but 1 where
 /// only loads under way hold the object.
 #[inline]
-pub fn told_count(word: u64) -> u32
+pub fn use_count_of(word: u64) -> u32
     ensures counted { 0 < number_of word → result ≡ number_of word }
     ensures under_way { number_of word ≡ 0 → 0 < funds_of word → result ≡ 1 }
     ensures none { number_of word ≡ 0 → funds_of word ≡ 0 → result ≡ 0 }

@@ -10,9 +10,11 @@ use crate::endings::{Ending, Left, Member};
 use control_block::clear_calls;
 use control_block::desk::Desk;
 use control_block::domain::Domain;
+use control_word::model::handle::Kind;
 
 impl<V: Drop> Ending<V> {
     // A shared member is emptied; which one is cleared by then is noted by the caller.
+    #[inline(always)]
     fn clear_shared(&self, domain: &Domain<V>, desk: &mut Desk<V>, member: u32) -> Left<V>
         requires domain { Belongs desk.old domain.now }
         requires ends { EndsInHand desk.old self.now }
@@ -29,12 +31,12 @@ impl<V: Drop> Ending<V> {
         ensures beside { IsBeside self.now.block.0 result }
         ensures apart { IsApart desk.old result }
     {
-        let (held, value) = clear_calls::clear_shared(domain, desk, self.block, member);
-        Left::of_parts(held.block, value)
+        let (held, released) = clear_calls::clear(domain, desk, self.block, member, Kind::Owner);
+        Left::of_parts(held.block, released.value)
     }
 
     // The weak member is emptied.
-    #[tactic(auto, using(crate::proofs::Beside::up_beside))]
+    #[inline(always)]
     fn clear_up(&self, domain: &Domain<V>, desk: &mut Desk<V>) -> Left<V>
         requires domain { Belongs desk.old domain.now }
         requires ends { EndsInHand desk.old self.now }
@@ -49,18 +51,15 @@ impl<V: Drop> Ending<V> {
         ensures beside { IsBeside self.now.block.0 result }
         ensures apart { IsApart desk.old result }
     {
-        let (held, _) = clear_calls::clear_weak(domain, desk, self.block);
-        match held.block {
-            None => Left::Empty,
-            Some(_) => Left::Others,
-        }
+        let (held, released) = clear_calls::clear(domain, desk, self.block, 2, Kind::Weak);
+        Left::of_parts(held.block, released.value)
     }
 
     /// A member is emptied, and what it held leaves (own): it answers what a release of that answers, and for `up`
     /// never `Last`. An object that ends for it is another than this one and than all that end in the desk's hands, and
     /// they may be finished in any order. It refuses
     /// nothing, at the allowance too: the desk keeps one place of its allowance free while an object ends in its hands.
-    #[inline]
+    #[inline(always)]
     pub fn clear_member(
         &mut self,
         domain: &Domain<V>,

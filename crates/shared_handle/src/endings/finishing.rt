@@ -18,7 +18,6 @@ use control_block::handles::Shared;
 use control_block::in_place::InPlace;
 use control_block::{calls, handles};
 use control_word::{Block, Place, Refusal};
-use std::marker::Brand;
 
 impl<V: Drop> Ending<V> {
     /// The object's four fields (own).
@@ -109,7 +108,7 @@ impl<V: Drop> Ending<V> {
             return Err(Refusal::NotEnabled);
         }
         let block = self.block;
-        calls::share_weak::<V, Brand>(domain, desk, block, Some(Place { block, field: 0 }))
+        calls::share_weak(domain, desk, block, Some(Place { block, field: 0 }))
     }
 
     /// The end ([util.smartptr.shared.dest]). Condition: all three members were cleared. The value comes out, which is

@@ -57,17 +57,16 @@ impl<V: Drop> Pile<V> {
         ensures held { desk.new.held ≡ desk.old.held }
         ensures desk { IsSameDesk desk.old desk.new }
     {
-        let Some(top) = self.endings.pop() else {
+        let Some(top) = self.endings.last_mut() else {
             return Round::Settled;
         };
         let Some(member) = top.next_member() else {
+            let top = self.endings.take_last();
             return Round::Ended(top.finish(domain, desk));
         };
-        let mut top = top;
         let left = top.clear_member(domain, desk, member);
         desk.stands();
         let gone = Gone::of(&left);
-        self.endings.push_reserved(top);
         self.put(left);
         Round::Cleared(member, gone)
     }

@@ -3,7 +3,7 @@ use Rattle.std.proofs.lemmas.Grind.{common_steps}
 use lib.ListN.{length-replicate}
 use Rattle.atomic_table.specs.Table.{opening}
 use Rattle.control_block.specs.Rule.{Ruled, opens_with}
-use Rattle.control_block.proofs.Opening.{opens, first_desk}
+use Rattle.control_block.proofs.words.Opening.{opens, first_desk}
 use Rattle.control_block.proofs.domain.open.Goals as goal
 
 pub new-requires-2 : goal.new-requires-2

@@ -5,24 +5,24 @@ use Rattle.control_word.specs.Histories.{value}
 use Rattle.control_word.specs.declared.model.event.Event.TheVariants.{Finish}
 use Rattle.control_word.specs.declared.place.Block.{Block}
 use Rattle.control_word.specs.declared.model.view.Pending.TheVariants.{Idle}
-use Rattle.control_block.specs.Plays.{Added, Ends, IsClear, fetched, tells}
+use Rattle.control_block.specs.StepKinds.{Added, Ends, IsClear, fetched, tells}
 use Rattle.control_block.specs.Rule.{Ruled, opening_of}
-use Rattle.control_block.specs.declared.board.Sight.{Sight}
-use Rattle.control_block.proofs.Chairs.{added_at, first_slot, some_same}
+use Rattle.control_block.specs.declared.table.SeatView.{SeatView}
+use Rattle.control_block.proofs.words.Seats.{added_at, first_slot, some_same}
 use Rattle.control_block.proofs.kept.Fetch.{allows_fetch}
 use Rattle.control_block.proofs.kept.Finish.{allows_finish}
 use Rattle.control_block.proofs.steps.finish.Goals as goal
 
 pub load-requires : goal.load-requires
 load-requires g c =
-    let r = c.requires in let e = c.block_word-word.ensures in let i = c.block_word-word.result in let board = c.args.board.now in
-    let chair = c.args.chair.now in let o = g.M.StepArgs.object in (
-      r.board,
-      subst (λ x. x < board.table_id.words) (sym e) r.word.2,
+    let r = c.requires in let e = c.block_word-word.ensures in let i = c.block_word-word.result in let table = c.args.table.now in
+    let seat = c.args.seat.now in let o = g.M.StepArgs.object in (
+      r.table,
+      subst (λ x. x < table.table_id.words) (sym e) r.word.2,
       record {
-        allows = subst (λ (b : Block). Allows (Ruled board.key) board.table_id.slots chair.id chair.me i (λ n. n)
-            (fetched b o (step board.table_id.slots i 0 0 none) chair.me)) (sym r.ends.0)
-            (allows_fetch board.key board.table_id.slots chair.id i o c.args.block r.value.0 chair.me r.rests (r.word.0, r.word.1) r.ends.1 r.value.1);
+        allows = subst (λ (b : Block). Allows (Ruled table.key) table.table_id.slots seat.id seat.me i (λ n. n)
+            (fetched b o (step table.table_id.slots i 0 0 none) seat.me)) (sym r.ends.0)
+            (allows_fetch table.key table.table_id.slots seat.id i o c.args.block r.value.0 seat.me r.rests (r.word.0, r.word.1) r.ends.1 r.value.1);
       },
     )
 
@@ -32,17 +32,17 @@ take-value-requires-clause-hand g c =
 
 pub fetch_sub-found-requires : goal.fetch_sub-found-requires
 fetch_sub-found-requires g c =
-    let r = c.requires in let e = c.block_word-word.ensures in let i = c.block_word-word.result in let board = c.args.board.now in
-    let o = g.M.StepArgs.object in let f = c.load.ensures.2 in let x = c.take-value.ensures in let chair = c.take-value.new.chair in
+    let r = c.requires in let e = c.block_word-word.ensures in let i = c.block_word-word.result in let table = c.args.table.now in
+    let o = g.M.StepArgs.object in let f = c.load.ensures.2 in let x = c.take-value.ensures in let seat = c.take-value.new.seat in
     let now = ap (λ m. m.0) x.emptied ∙ f.2 in (
-      x.chair.0 ∙ (c.load.ensures.0 ∙ r.board),
-      subst (λ y. y < board.table_id.words) (sym e) r.word.2,
+      x.seat.0 ∙ (c.load.ensures.0 ∙ r.table),
+      subst (λ y. y < table.table_id.words) (sym e) r.word.2,
       record {
-        allows = allows_finish board.key board.table_id.slots chair.id o i c.args.block f.0 chair.me (ap (λ w. w.view.spent) now ∙ r.rests.awake)
+        allows = allows_finish table.key table.table_id.slots seat.id o i c.args.block f.0 seat.me (ap (λ w. w.view.spent) now ∙ r.rests.awake)
             (ap (λ w. w.view.pending) now) (ap (λ w. w.hand) now ∙ ap Some r.ends.0) (ap (λ m. m.1) x.emptied) (r.word.0, r.word.1)
-            (subst (λ (w : Sight g.row.V.Denot). Ends w o c.args.block.0) (sym now) r.ends.1)
-            (subst (λ (w : Sight g.row.V.Denot). IsClear w o) (sym now) r.clear)
-            (subst (λ (w : Sight g.row.V.Denot). value (opening_of w.shape) w.view.seen o ≡ Some f.0) (sym now) f.1) e;
+            (subst (λ (w : SeatView g.row.V.Denot). Ends w o c.args.block.0) (sym now) r.ends.1)
+            (subst (λ (w : SeatView g.row.V.Denot). IsClear w o) (sym now) r.clear)
+            (subst (λ (w : SeatView g.row.V.Denot). value (opening_of w.shape) w.view.seen o ≡ Some f.0) (sym now) f.1) e;
       },
     )
 
@@ -52,8 +52,8 @@ returns-clause-value g c =
 
 pub returns-clause-event : goal.returns-clause-event
 returns-clause-event g c = λ x is.
-    let v = c.args.chair.now.me.0 in let w = c.fetch_sub-found.new.seat.me.0 in let o = g.M.StepArgs.object in let t = c.fetch_sub-found.ensures.2 in
+    let v = c.args.seat.now.me.0 in let w = c.fetch_sub-found.new.seat.me.0 in let o = g.M.StepArgs.object in let t = c.fetch_sub-found.ensures.2 in
     let n = c.fetch_sub-found.result in let now = ap (λ m. m.0) c.take-value.ensures.emptied ∙ c.load.ensures.2.2 in
-    let same = some_same t.0 x (sym t.1 ∙ (ap (λ (u : Sight g.row.V.Denot). value (opening_of u.shape) u.view.seen o) now ∙ is)) in
+    let same = some_same t.0 x (sym t.1 ∙ (ap (λ (u : SeatView g.row.V.Denot). value (opening_of u.shape) u.view.seen o) now ∙ is)) in
     subst (λ y. tells (Finish o (n == 1) y) v w) same
     (added_at v w (Some g.M.StepArgs.block) (Finish o (n == 1) t.0) (subst (λ u. Added u Idle None (Finish o (n == 1) t.0) w) now t.2))

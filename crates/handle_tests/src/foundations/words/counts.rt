@@ -4,7 +4,7 @@ ghost use Rattle.control_word.specs.Packing.{count_bits};
 
 use crate::same::same;
 use control_word::packed::counts::{
-    Count, Counts, FUND_TURNED, ONE_FUND, is_last, told_count, unpack_count, with_fund_turned,
+    Count, Counts, FUND_TURNED, ONE_FUND, is_last, unpack_count, use_count_of, with_fund_turned,
     with_funds, with_handle, without_funds, without_handle,
 };
 
@@ -117,7 +117,7 @@ const TOLD: [(u64, bool, u32); 8] = [
 fn words_tell_the_last_and_the_count(rt: HostRuntime) {
     for wanted in TOLD {
         let word = wanted.0;
-        let shown = (word, is_last(word), told_count(word));
+        let shown = (word, is_last(word), use_count_of(word));
         same(&rt, shown, wanted);
     }
 }

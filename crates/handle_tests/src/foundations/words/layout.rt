@@ -1,6 +1,5 @@
 //! Rows of the layout, and the limits.
 use crate::same::same;
-use control_word::limits;
 use control_word::packed::layout::{
     DOOR, ENABLED, FIELDS, FLAGS, MEMBERS, NULL, OWNERS, WEAKS, block_word, cell_word, table_words,
     words_lie_apart,
@@ -80,21 +79,9 @@ fn limits_have_their_numbers(rt: HostRuntime) {
         shape::MOST_WEAKS,
         shape::CELL_FUNDS,
     ];
-    let of_scripts = [
-        limits::SCRIPT_BLOCKS,
-        limits::SCRIPT_THREADS,
-        limits::SCRIPT_NAMES,
-        limits::SCRIPT_STATEMENTS,
-        limits::SCRIPT_SHARED_CELLS,
-        limits::SCRIPT_WEAK_CELLS,
-        limits::SCRIPT_ALLOWANCE,
-        limits::WORKER_ALLOWANCE,
-        limits::MOST_ACTORS,
-    ];
-    let wanted = (
+    same(
+        &rt,
+        of_domains,
         [65_535, 256, 4_194_304, 4_325_630, 4_260_096, 256],
-        [4_095, 16, 32, 65_536, 128, 128, 1_048_576, 65_535, 64],
-        16,
     );
-    same(&rt, (of_domains, of_scripts, limits::NAME_BYTES), wanted);
 }

@@ -24,7 +24,7 @@ returns-then-swapped-clause-keeps g c =
 pub returns-then-swapped-clause-compared : goal.returns-then-swapped-clause-compared
 returns-then-swapped-clause-compared g c =
     let m = c.requires.meant in let out = c.of_parts-found.ensures in
-    event_told Weak c.args.desk.now c.compare.new.desk g.A.Aimed.weak c.in-Ok.ensures.event m.0 m.1 m.2 out.0 out.1 c.if-swapped.true
+    event_told Weak c.args.desk.now c.compare.new.desk g.A.CellArgs.weak c.in-Ok.ensures.event m.0 m.1 m.2 out.0 out.1 c.if-swapped.true
 
 pub returns-then-swapped-clause-bag : goal.returns-then-swapped-clause-bag
 returns-then-swapped-clause-bag g c =
@@ -51,7 +51,7 @@ returns-else-swapped-clause-keeps g c =
 pub returns-else-swapped-clause-compared : goal.returns-else-swapped-clause-compared
 returns-else-swapped-clause-compared g c =
     let m = c.requires.meant in let out = c.of_parts-found.ensures in
-    event_told Weak c.args.desk.now c.compare.new.desk g.A.Aimed.weak c.in-Ok.ensures.event m.0 m.1 m.2 out.0 out.1 c.if-swapped.false
+    event_told Weak c.args.desk.now c.compare.new.desk g.A.CellArgs.weak c.in-Ok.ensures.event m.0 m.1 m.2 out.0 out.1 c.if-swapped.false
 
 pub returns-else-swapped-clause-bag : goal.returns-else-swapped-clause-bag
 returns-else-swapped-clause-bag g c =

@@ -1,5 +1,5 @@
 use Rattle.control_block.specs.Desks.{DeskNow}
-use Rattle.control_block.proofs.DeskBags.{not_limit}
+use Rattle.control_block.proofs.desks.DeskBags.{not_limit}
 use Rattle.std.proofs.Common.{◌+◌, refl, ap}
 use Rattle.control_block.proofs.calls.empties.count_empty.Goals as goal
 

@@ -7,13 +7,13 @@ use Rattle.control_word.proofs.history.Legal.{sound}
 use Rattle.control_block.specs.Desks.{bag_of, endings_of, latest_of, stock_of}
 use Rattle.control_block.specs.Inside.{desk_now}
 use Rattle.control_block.specs.Rule.{opening_of}
-use Rattle.control_block.proofs.DeskBags.{adds_of, bag_stays, before, ends_still, legal_now, same_desk}
-use Rattle.control_block.proofs.Chairs.{some_same}
-use Rattle.control_block.proofs.OwnCounts.{shrunk_count}
-use Rattle.control_block.proofs.DeskSteps.{as_many, came, desk_after}
-use Rattle.control_block.proofs.DeskStores.{put_back, room_back, stock_grows}
-use Rattle.control_block.proofs.OwnEndings.{clear_in, ending_before, ends_in, ends_value, finish_spares}
-use Rattle.control_block.proofs.StoreBlocks.{ending_slot, ending_word, finish_block}
+use Rattle.control_block.proofs.desks.DeskBags.{adds_of, bag_stays, before, ends_still, legal_now, same_desk}
+use Rattle.control_block.proofs.words.Seats.{some_same}
+use Rattle.control_block.proofs.desks.OwnCounts.{shrunk_count}
+use Rattle.control_block.proofs.desks.DeskSteps.{as_many, came, desk_after}
+use Rattle.control_block.proofs.desks.DeskStores.{put_back, room_back, stock_grows}
+use Rattle.control_block.proofs.desks.OwnEndings.{clear_in, ending_before, ends_in, ends_value, finish_spares}
+use Rattle.control_block.proofs.desks.StoreBlocks.{ending_slot, ending_word, finish_block}
 use Rattle.control_block.proofs.calls.leaving.finish.Goals as goal
 
 pub finish-value-requires-clause-ends : goal.finish-value-requires-clause-ends
@@ -37,7 +37,7 @@ finish-value-requires-clause-word g c =
 
 pub put_by-requires : goal.put_by-requires
 put_by-requires g c =
-    let d = c.desk.inside in let h = c.desk.invariant in let v = d.seat.me.0 in let w = c.finish-value.new.chair.me.0 in
+    let d = c.desk.inside in let h = c.desk.invariant in let v = d.seat.me.0 in let w = c.finish-value.new.seat.me.0 in
     let s = c.finish-value.ensures in
     let e = Finish (latest_of (desk_now d) c.args.block.0) c.finish-value.result.1 c.requires.ending.0 in
     let a = s.event c.requires.ending.0 (ends_value d c.args.desk.now c.args.block.0 c.requires.ending.0 c.desk.view_is c.requires.ending.1) in
@@ -49,7 +49,7 @@ put_by-requires g c =
 
 pub invariant_of-desk : goal.invariant_of-desk
 invariant_of-desk g c =
-    let d = c.desk.inside in let h = c.desk.invariant in let v = d.seat.me.0 in let w = c.finish-value.new.chair.me.0 in
+    let d = c.desk.inside in let h = c.desk.invariant in let v = d.seat.me.0 in let w = c.finish-value.new.seat.me.0 in
     let s = c.finish-value.ensures in
     let e = Finish (latest_of (desk_now d) c.args.block.0) c.finish-value.result.1 c.requires.ending.0 in
     let a = s.event c.requires.ending.0 (ends_value d c.args.desk.now c.args.block.0 c.requires.ending.0 c.desk.view_is c.requires.ending.1) in
@@ -58,7 +58,7 @@ invariant_of-desk g c =
     c.requires.ending.1) in
     let stores = ap (λ n. cond c.finish-value.result.1 (stored v.view.name n ∷ t.state.stores) t.state.stores) same in
     let size = as_many v w e t refl in
-    desk_after d _ e h a s.chair.0 s.chair.2 (λ y x. refl) refl
+    desk_after d _ e h a s.seat.0 s.seat.2 (λ y x. refl) refl
     (put_back d h t.state _ c.args.block c.finish-value.result.1 t.same c.put_by.ensures.items _ stores) c.put_by.ensures.capacity
     (omega (arith, size, h.holding)) (let f = shrunk_count d w _ _ _ a in omega (arith, h.within, h.ended))
     (let f = shrunk_count d w _ _ _ a in omega (arith, h.ended))
@@ -69,13 +69,13 @@ returns-clause-value g c = λ x ends.
 
 pub returns-clause-event : goal.returns-clause-event
 returns-clause-event g c = λ x ends.
-    adds_of c.desk.inside c.args.desk.now c.finish-value.new.chair.me.0 _ _ (λ z. Finish (latest_of z c.args.block.0) c.finish-value.result.1 x)
-    c.desk.view_is c.finish-value.ensures.chair.0
+    adds_of c.desk.inside c.args.desk.now c.finish-value.new.seat.me.0 _ _ (λ z. Finish (latest_of z c.args.block.0) c.finish-value.result.1 x)
+    c.desk.view_is c.finish-value.ensures.seat.0
     (c.finish-value.ensures.event x (ends_value c.desk.inside c.args.desk.now c.args.block.0 x c.desk.view_is ends))
 
 pub returns-clause-bag : goal.returns-clause-bag
 returns-clause-bag g c =
-    let d = c.desk.inside in let h = c.desk.invariant in let v = d.seat.me.0 in let w = c.finish-value.new.chair.me.0 in
+    let d = c.desk.inside in let h = c.desk.invariant in let v = d.seat.me.0 in let w = c.finish-value.new.seat.me.0 in
     let s = c.finish-value.ensures in
     let e = Finish (latest_of (desk_now d) c.args.block.0) c.finish-value.result.1 c.requires.ending.0 in
     let a = s.event c.requires.ending.0 (ends_value d c.args.desk.now c.args.block.0 c.requires.ending.0 c.desk.view_is c.requires.ending.1) in
@@ -84,30 +84,30 @@ returns-clause-bag g c =
 
 pub returns-clause-desk : goal.returns-clause-desk
 returns-clause-desk g c =
-    let d = c.desk.inside in let h = c.desk.invariant in let v = d.seat.me.0 in let w = c.finish-value.new.chair.me.0 in
+    let d = c.desk.inside in let h = c.desk.invariant in let v = d.seat.me.0 in let w = c.finish-value.new.seat.me.0 in
     let s = c.finish-value.ensures in
     let e = Finish (latest_of (desk_now d) c.args.block.0) c.finish-value.result.1 c.requires.ending.0 in
     let a = s.event c.requires.ending.0 (ends_value d c.args.desk.now c.args.block.0 c.requires.ending.0 c.desk.view_is c.requires.ending.1) in
     let t = came v w Idle None e a in
-    same_desk d w e h a _ _ c.args.desk.now c.desk.view_is c.finish-value.ensures.chair.0 (λ s n. refl)
+    same_desk d w e h a _ _ c.args.desk.now c.desk.view_is c.finish-value.ensures.seat.0 (λ s n. refl)
 
 pub overflow_sub-desk : goal.overflow_sub-desk
 overflow_sub-desk g c =
-    let d = c.desk.inside in let h = c.desk.invariant in let w = c.finish-value.new.chair.me.0 in
+    let d = c.desk.inside in let h = c.desk.invariant in let w = c.finish-value.new.seat.me.0 in
     let a = c.finish-value.ensures.event c.requires.ending.0
     (ends_value d c.args.desk.now c.args.block.0 c.requires.ending.0 c.desk.view_is c.requires.ending.1) in
     let f = shrunk_count d w _ _ _ a in omega (arith, h.ended)
 
 pub returns-clause-count : goal.returns-clause-count
 returns-clause-count g c =
-    let d = c.desk.inside in let w = c.finish-value.new.chair.me.0 in
+    let d = c.desk.inside in let w = c.finish-value.new.seat.me.0 in
     let a = c.finish-value.ensures.event c.requires.ending.0
     (ends_value d c.args.desk.now c.args.block.0 c.requires.ending.0 c.desk.view_is c.requires.ending.1) in
     shrunk_count d w _ _ _ a ∙ ap endings_of c.desk.view_is
 
 pub returns-clause-stock : goal.returns-clause-stock
 returns-clause-stock g c =
-    let d = c.desk.inside in let h = c.desk.invariant in let v = d.seat.me.0 in let w = c.finish-value.new.chair.me.0 in
+    let d = c.desk.inside in let h = c.desk.invariant in let v = d.seat.me.0 in let w = c.finish-value.new.seat.me.0 in
     let s = c.finish-value.ensures in
     let e = Finish (latest_of (desk_now d) c.args.block.0) c.finish-value.result.1 c.requires.ending.0 in
     let a = s.event c.requires.ending.0 (ends_value d c.args.desk.now c.args.block.0 c.requires.ending.0 c.desk.view_is c.requires.ending.1) in
@@ -120,7 +120,7 @@ returns-clause-stock g c =
 
 pub returns-clause-endings : goal.returns-clause-endings
 returns-clause-endings g c = λ b x apart ends.
-    let d = c.desk.inside in let h = c.desk.invariant in let v = d.seat.me.0 in let w = c.finish-value.new.chair.me.0 in
+    let d = c.desk.inside in let h = c.desk.invariant in let v = d.seat.me.0 in let w = c.finish-value.new.seat.me.0 in
     let s = c.finish-value.ensures in
     let e = Finish (latest_of (desk_now d) c.args.block.0) c.finish-value.result.1 c.requires.ending.0 in
     let a = s.event c.requires.ending.0 (ends_value d c.args.desk.now c.args.block.0 c.requires.ending.0 c.desk.view_is c.requires.ending.1) in

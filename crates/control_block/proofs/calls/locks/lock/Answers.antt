@@ -1,5 +1,5 @@
 use Rattle.control_word.specs.State.{count}
-use Rattle.control_block.specs.LockPlays.{before}
+use Rattle.control_block.specs.LockStepKinds.{before}
 use Rattle.std.proofs.Common.{refl, sym, ap, ◌∙◌, arith, ◌∷◌, Some, None, true, false, ◌+◌, ◌==◌, not}
 use Rattle.control_word.specs.Handles.{handle}
 use Rattle.control_word.specs.declared.model.event.Event.TheVariants.{Lock}
@@ -7,63 +7,63 @@ use Rattle.control_word.specs.declared.model.handle.Kind.TheVariants.{Owner, Wea
 use Rattle.control_word.specs.declared.model.view.Pending.TheVariants.{Idle}
 use Rattle.control_block.specs.Desks.{bag_of, on_latest, DeskNow, latest_of}
 use Rattle.control_block.specs.Inside.{desk_now}
-use Rattle.control_block.proofs.DeskBags.{not_full, bag_gets, bag_stays, block_still, holding_in, calm, keeps_quietly, adds_of, room_left, not_limit}
+use Rattle.control_block.proofs.desks.DeskBags.{not_full, bag_gets, bag_stays, block_still, holding_in, calm, keeps_quietly, adds_of, room_left, not_limit}
 use Rattle.control_block.proofs.Passage.{plain}
-use Rattle.control_block.proofs.DeskSteps.{ending_same, as_many, came, one_more, quiet_desk, word_inside}
-use Rattle.control_block.proofs.DeskLocks.{none_after}
+use Rattle.control_block.proofs.desks.DeskSteps.{ending_same, as_many, came, one_more, quiet_desk, word_inside}
+use Rattle.control_block.proofs.desks.DeskLocks.{none_after}
 use Rattle.control_block.proofs.calls.locks.lock.Goals as goal
 
 pub lock-requires-clause-holds : goal.lock-requires-clause-holds
 lock-requires-clause-holds g c =
-    holding_in c.desk.inside c.args.desk.now Weak g.A.About.place c.args.of.block.0 c.desk.invariant c.desk.view_is c.requires.holds
+    holding_in c.desk.inside c.args.desk.now Weak c.args.of.place c.args.of.block.0 c.desk.invariant c.desk.view_is c.requires.holds
 
 pub lock-requires-clause-word : goal.lock-requires-clause-word
 lock-requires-clause-word g c =
-    word_inside c.desk.inside c.domain.inside.table.shared.table_id Weak _ g.A.About.place c.args.of.block.0 0 c.desk.invariant
+    word_inside c.desk.inside c.domain.inside.table.shared.table_id Weak _ c.args.of.place c.args.of.block.0 0 c.desk.invariant
     (ap (λ z. z.domain) c.desk.view_is ∙ (c.requires.domain.table ∙ sym (ap (λ z. z.id) c.domain.view_is)))
-    (holding_in c.desk.inside c.args.desk.now Weak g.A.About.place c.args.of.block.0 c.desk.invariant c.desk.view_is c.requires.holds) (omega arith)
+    (holding_in c.desk.inside c.args.desk.now Weak c.args.of.place c.args.of.block.0 c.desk.invariant c.desk.view_is c.requires.holds) (omega arith)
 
 pub invariant_of-desk : goal.invariant_of-desk
 invariant_of-desk g c =
-    let d = c.desk.inside in let h = c.desk.invariant in let v = d.seat.me.0 in let w = c.lock.new.chair.me.0 in
+    let d = c.desk.inside in let h = c.desk.invariant in let v = d.seat.me.0 in let w = c.lock.new.seat.me.0 in
     let s = c.if-not-lock.ensures in
-    let e = Lock (on_latest (desk_now d) Weak g.A.About.place c.args.of.block.0) false in let t = came v w Idle None e s.event in
+    let e = Lock (on_latest (desk_now d) Weak c.args.of.place c.args.of.block.0) false in let t = came v w Idle None e s.event in
     let size = as_many v w e t refl in
-    quiet_desk d _ e h s.event s.chair.0 (s.chair.2 ∙ h.rests.none) (λ y x. refl) (λ y x. refl) refl refl (omega (arith, size, h.holding))
+    quiet_desk d _ e h s.event s.seat.0 (s.seat.2 ∙ h.rests.none) (λ y x. refl) (λ y x. refl) refl refl (omega (arith, size, h.holding))
     (omega (arith, h.within))
     (h.ended ∙ sym (ending_same v w e t (plain (λ y x. refl) (λ y x. refl) (λ y f. refl))))
 
 pub returns-then-not-lock-clause-bag : goal.returns-then-not-lock-clause-bag
 returns-then-not-lock-clause-bag g c =
     let d = c.desk.inside in
-    bag_stays d c.lock.new.chair.me.0 (Lock (on_latest (desk_now d) Weak g.A.About.place c.args.of.block.0) false) c.desk.invariant
+    bag_stays d c.lock.new.seat.me.0 (Lock (on_latest (desk_now d) Weak c.args.of.place c.args.of.block.0) false) c.desk.invariant
     c.if-not-lock.ensures.event refl ∙ ap bag_of c.desk.view_is
 
 pub returns-then-not-lock-clause-keeps : goal.returns-then-not-lock-clause-keeps
 returns-then-not-lock-clause-keeps g c =
     let d = c.desk.inside in
-    keeps_quietly d c.lock.new.chair.me.0 (Lock (on_latest (desk_now d) Weak g.A.About.place c.args.of.block.0) false) c.desk.invariant
-    c.if-not-lock.ensures.event _ _ c.args.desk.now c.desk.view_is c.lock.ensures.chair.0
+    keeps_quietly d c.lock.new.seat.me.0 (Lock (on_latest (desk_now d) Weak c.args.of.place c.args.of.block.0) false) c.desk.invariant
+    c.if-not-lock.ensures.event _ _ c.args.desk.now c.desk.view_is c.lock.ensures.seat.0
     (calm (λ s n. refl) (λ s n. refl) (λ s f. refl)) (λ s n. refl) (λ s n. refl)
 
 pub invariant_of-desk-else-not-lock : goal.invariant_of-desk-else-not-lock
 invariant_of-desk-else-not-lock g c =
-    let d = c.desk.inside in let h = c.desk.invariant in let v = d.seat.me.0 in let w = c.lock.new.chair.me.0 in
+    let d = c.desk.inside in let h = c.desk.invariant in let v = d.seat.me.0 in let w = c.lock.new.seat.me.0 in
     let s = c.if-not-lock.ensures in
-    let e = Lock (on_latest (desk_now d) Weak g.A.About.place c.args.of.block.0) true in let t = came v w Idle None e s.event in
-    let size = one_more v w e t (on_latest (desk_now d) Owner g.A.About.place c.args.of.block.0) refl in
+    let e = Lock (on_latest (desk_now d) Weak c.args.of.place c.args.of.block.0) true in let t = came v w Idle None e s.event in
+    let size = one_more v w e t (on_latest (desk_now d) Owner c.args.of.place c.args.of.block.0) refl in
     let ne = (not_full c.desk.inside c.args.desk.now _ c.desk.invariant c.desk.view_is c.if-is_full.ensures refl) in
-    quiet_desk d _ e h s.event s.chair.0 (s.chair.2 ∙ h.rests.none) (λ y x. refl) (λ y x. refl) refl refl (omega (arith, size, h.holding))
+    quiet_desk d _ e h s.event s.seat.0 (s.seat.2 ∙ h.rests.none) (λ y x. refl) (λ y x. refl) refl refl (omega (arith, size, h.holding))
     (omega (arith, h.within, ne)) (h.ended ∙ sym (ending_same v w e t (plain (λ y x. refl) (λ y x. refl) (λ y f. refl))))
 
 pub returns-clause-expired : goal.returns-clause-expired
 returns-clause-expired g c =
-    none_after c.desk.inside c.args.desk.now c.lock.new.chair.me.0 g.A.About.place c.args.of.block.0 true c.desk.invariant c.desk.view_is
+    none_after c.desk.inside c.args.desk.now c.lock.new.seat.me.0 c.args.of.place c.args.of.block.0 true c.desk.invariant c.desk.view_is
     c.requires.holds c.if-not-lock.ensures.event
 
 pub returns-clause-bag : goal.returns-clause-bag
 returns-clause-bag g c =
-    let d = c.desk.inside in let w = c.lock.new.chair.me.0 in let b = c.args.of.block.0 in let q = g.A.About.place in
+    let d = c.desk.inside in let w = c.lock.new.seat.me.0 in let b = c.args.of.block.0 in let q = c.args.of.place in
     let e = Lock (on_latest (desk_now d) Weak q b) true in
     let holds = holding_in d c.args.desk.now Weak q b c.desk.invariant c.desk.view_is c.requires.holds in
     bag_gets d w e c.desk.invariant c.if-not-lock.ensures.event (on_latest (desk_now d) Owner q b) (handle Owner (Some b) q) refl
@@ -73,8 +73,8 @@ returns-clause-bag g c =
 pub returns-clause-keeps : goal.returns-clause-keeps
 returns-clause-keeps g c =
     let d = c.desk.inside in
-    keeps_quietly d c.lock.new.chair.me.0 (Lock (on_latest (desk_now d) Weak g.A.About.place c.args.of.block.0) true) c.desk.invariant
-    c.if-not-lock.ensures.event _ _ c.args.desk.now c.desk.view_is c.lock.ensures.chair.0
+    keeps_quietly d c.lock.new.seat.me.0 (Lock (on_latest (desk_now d) Weak c.args.of.place c.args.of.block.0) true) c.desk.invariant
+    c.if-not-lock.ensures.event _ _ c.args.desk.now c.desk.view_is c.lock.ensures.seat.0
     (calm (λ s n. refl) (λ s n. refl) (λ s f. refl)) (λ s n. refl) (λ s n. refl)
 
 pub returns-then-is_full-clause-limit : goal.returns-then-is_full-clause-limit
@@ -104,8 +104,8 @@ returns-then-is_full-clause-keeps g c = tt
 pub returns-then-is_full-clause-expired : goal.returns-then-is_full-clause-expired
 returns-then-is_full-clause-expired g c = λ _. tt
 
-pub lock-requires-clause-board : goal.lock-requires-clause-board
-lock-requires-clause-board g c = ap (λ z. z.domain) c.desk.view_is ∙ (c.requires.domain.table ∙ sym (ap (λ z. z.id) c.domain.view_is))
+pub lock-requires-clause-table : goal.lock-requires-clause-table
+lock-requires-clause-table g c = ap (λ z. z.domain) c.desk.view_is ∙ (c.requires.domain.table ∙ sym (ap (λ z. z.id) c.domain.view_is))
 
 pub lock-requires-clause-rests : goal.lock-requires-clause-rests
 lock-requires-clause-rests g c = c.desk.invariant.rests
@@ -122,13 +122,13 @@ returns-then-not-lock-clause-refused g c = tt
 
 pub returns-then-not-lock-clause-event : goal.returns-then-not-lock-clause-event
 returns-then-not-lock-clause-event g c =
-    adds_of c.desk.inside c.args.desk.now c.lock.new.chair.me.0 _ _ (λ z. Lock (on_latest z Weak g.A.About.place c.args.of.block.0) false) c.desk.view_is
-    c.if-not-lock.ensures.chair.0 c.if-not-lock.ensures.event
+    adds_of c.desk.inside c.args.desk.now c.lock.new.seat.me.0 _ _ (λ z. Lock (on_latest z Weak c.args.of.place c.args.of.block.0) false) c.desk.view_is
+    c.if-not-lock.ensures.seat.0 c.if-not-lock.ensures.event
 
 pub returns-then-not-lock-clause-exact : goal.returns-then-not-lock-clause-exact
 returns-then-not-lock-clause-exact g c =
     c.if-not-lock.ensures.owner
-    ∙ ap (λ (z : DeskNow g.row.V.Denot). not (count (before c.lock.new.chair.me.0) (latest_of z c.args.of.block.0) == 0)) c.desk.view_is
+    ∙ ap (λ (z : DeskNow g.row.V.Denot). not (count (before c.lock.new.seat.me.0) (latest_of z c.args.of.block.0) == 0)) c.desk.view_is
 
 pub returns-clause-limit : goal.returns-clause-limit
 returns-clause-limit g c = not_limit c.args.desk.now c.is_full.result c.is_full.ensures c.if-is_full.false
@@ -138,13 +138,13 @@ returns-clause-refused g c = tt
 
 pub returns-clause-event : goal.returns-clause-event
 returns-clause-event g c =
-    adds_of c.desk.inside c.args.desk.now c.lock.new.chair.me.0 _ _ (λ z. Lock (on_latest z Weak g.A.About.place c.args.of.block.0) true) c.desk.view_is
-    c.if-not-lock.ensures.chair.0 c.if-not-lock.ensures.event
+    adds_of c.desk.inside c.args.desk.now c.lock.new.seat.me.0 _ _ (λ z. Lock (on_latest z Weak c.args.of.place c.args.of.block.0) true) c.desk.view_is
+    c.if-not-lock.ensures.seat.0 c.if-not-lock.ensures.event
 
 pub returns-clause-exact : goal.returns-clause-exact
 returns-clause-exact g c =
     c.if-not-lock.ensures.owner
-    ∙ ap (λ (z : DeskNow g.row.V.Denot). not (count (before c.lock.new.chair.me.0) (latest_of z c.args.of.block.0) == 0)) c.desk.view_is
+    ∙ ap (λ (z : DeskNow g.row.V.Denot). not (count (before c.lock.new.seat.me.0) (latest_of z c.args.of.block.0) == 0)) c.desk.view_is
 
 pub returns-then-not-lock-clause-handle : goal.returns-then-not-lock-clause-handle
 returns-then-not-lock-clause-handle g c = tt

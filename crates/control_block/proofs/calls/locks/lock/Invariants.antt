@@ -1,15 +1,15 @@
 use Rattle.std.proofs.Common.{None}
 use Rattle.control_word.specs.declared.model.handle.Kind.TheVariants.{Weak}
-use Rattle.control_block.specs.Plays.{known}
+use Rattle.control_block.specs.StepKinds.{known}
 use Rattle.control_block.proofs.calls.locks.lock.Given as goal
 
 abbrev pub ghosts-lock : goal.ghosts-lock
 ghosts-lock g a =
     record {
       kind = Weak;
-      object = (known a.chair.now.me.0).latest a.block.0;
-      place = g.A.About.place;
+      object = (known a.seat.now.me.0).latest a.of.block.0;
+      place = a.of.place;
       wanted = None;
-      block = a.block;
+      block = a.of.block;
       word = 0;
     }

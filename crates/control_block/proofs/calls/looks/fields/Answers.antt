@@ -1,5 +1,5 @@
-use Rattle.control_block.proofs.Near.{four_told}
-use Rattle.control_block.specs.Plays.{IsTold}
+use Rattle.control_block.proofs.desks.Near.{four_told}
+use Rattle.control_block.specs.StepKinds.{IsTold}
 use Rattle.control_block.specs.Desks.{Belongs, DeskNow, IsNear, object_in}
 use Rattle.std.proofs.Common.{sym, subst, ◌∙◌}
 use Rattle.control_block.proofs.calls.looks.fields.Goals as goal

@@ -1,7 +1,7 @@
 use Rattle.std.proofs.Common.{refl, sym, ap, subst, ◌∙◌, arith, ◌+◌}
 use Rattle.control_block.specs.Desks.{DeskNow, object_in}
-use Rattle.control_block.specs.Plays.{IsTold}
-use Rattle.control_block.proofs.Near.{near_in, near_word}
+use Rattle.control_block.specs.StepKinds.{IsTold}
+use Rattle.control_block.proofs.desks.Near.{near_in, near_word}
 use Rattle.control_block.proofs.calls.looks.peek.Goals as goal
 
 pub peek-requires-clause-near : goal.peek-requires-clause-near

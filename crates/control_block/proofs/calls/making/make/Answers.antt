@@ -8,12 +8,12 @@ use Rattle.control_word.specs.declared.model.view.Pending.TheVariants.{Idle}
 use Rattle.control_word.proofs.history.Legal.{sound}
 use Rattle.control_block.specs.Desks.{endings_of, bag_of, stock_of, DeskNow}
 use Rattle.control_block.specs.Rule.{opening_of}
-use Rattle.control_block.proofs.DeskBags.{not_full, adds_of, bag_gets, before, ends_still, legal_now, room_left, same_desk}
-use Rattle.control_block.proofs.OwnCounts.{made_count}
-use Rattle.control_block.proofs.DeskSteps.{came, desk_after, one_more}
-use Rattle.control_block.proofs.OwnEndings.{make_spares}
-use Rattle.control_block.proofs.DeskStores.{last_stored, popped, stock_shrinks, stored_word}
-use Rattle.control_block.proofs.OwnEndings.{made_block}
+use Rattle.control_block.proofs.desks.DeskBags.{not_full, adds_of, bag_gets, before, ends_still, legal_now, room_left, same_desk}
+use Rattle.control_block.proofs.desks.OwnCounts.{made_count}
+use Rattle.control_block.proofs.desks.DeskSteps.{came, desk_after, one_more}
+use Rattle.control_block.proofs.desks.OwnEndings.{make_spares}
+use Rattle.control_block.proofs.desks.DeskStores.{last_stored, popped, stock_shrinks, stored_word}
+use Rattle.control_block.proofs.desks.OwnEndings.{made_block}
 use Rattle.control_block.proofs.calls.making.make.Goals as goal
 
 pub make-requires-clause-planned : goal.make-requires-clause-planned
@@ -34,22 +34,22 @@ make-requires-clause-room g c =
 
 pub invariant_of-desk-2 : goal.invariant_of-desk-2
 invariant_of-desk-2 g c =
-    let d = c.desk.inside in let h = c.desk.invariant in let v = d.seat.me.0 in let w = c.make.new.chair.me.0 in let s = c.make.ensures in
+    let d = c.desk.inside in let h = c.desk.invariant in let v = d.seat.me.0 in let w = c.make.new.seat.me.0 in let s = c.make.ensures in
     let e = Make c.in-Some.block c.args.enabled c.args.null c.args.fields c.args.value in let t = came v w Idle None e s.event in
     let size = one_more v w e t (handle Owner _ (origin c.in-Some.block.0 c.args.null)) refl in
     let ne = (not_full c.desk.inside c.args.desk.now _ c.desk.invariant c.desk.view_is c.if-is_full.ensures refl) in
-    desk_after d _ e h s.event s.chair.0 s.chair.2 (λ y x. refl) refl
+    desk_after d _ e h s.event s.seat.0 s.seat.2 (λ y x. refl) refl
     (popped d h t.state _ c.in-Some.block t.same c.in-Some.ensures.items t.asks.0) c.in-Some.ensures.capacity
     (omega (arith, size, h.holding)) (omega (arith, h.within, ne)) (h.ended ∙ sym (made_count d w _ _ _ _ _ s.event))
 
 pub returns-clause-event : goal.returns-clause-event
 returns-clause-event g c =
-    adds_of c.desk.inside c.args.desk.now c.make.new.chair.me.0 _ _ (λ z. Make c.in-Some.block c.args.enabled c.args.null c.args.fields c.args.value)
-    c.desk.view_is c.make.ensures.chair.0 c.make.ensures.event
+    adds_of c.desk.inside c.args.desk.now c.make.new.seat.me.0 _ _ (λ z. Make c.in-Some.block c.args.enabled c.args.null c.args.fields c.args.value)
+    c.desk.view_is c.make.ensures.seat.0 c.make.ensures.event
 
 pub returns-clause-bag : goal.returns-clause-bag
 returns-clause-bag g c =
-    let d = c.desk.inside in let w = c.make.new.chair.me.0 in let b = c.in-Some.block.0 in let q = origin b c.args.null in
+    let d = c.desk.inside in let w = c.make.new.seat.me.0 in let b = c.in-Some.block.0 in let q = origin b c.args.null in
     let e = Make c.in-Some.block c.args.enabled c.args.null c.args.fields c.args.value in
     bag_gets d w e c.desk.invariant c.make.ensures.event (handle Owner _ q) (handle Owner (Some b) q) refl
     (ap (λ n. handle Owner (Some n) q) (made_block (leads (opening_of d.seat.me.0.shape) (before d w e c.desk.invariant c.make.ensures.event))
@@ -58,22 +58,22 @@ returns-clause-bag g c =
 
 pub returns-clause-desk : goal.returns-clause-desk
 returns-clause-desk g c =
-    let d = c.desk.inside in let h = c.desk.invariant in let v = d.seat.me.0 in let w = c.make.new.chair.me.0 in let s = c.make.ensures in
+    let d = c.desk.inside in let h = c.desk.invariant in let v = d.seat.me.0 in let w = c.make.new.seat.me.0 in let s = c.make.ensures in
     let e = Make c.in-Some.block c.args.enabled c.args.null c.args.fields c.args.value in let t = came v w Idle None e s.event in
-    same_desk d w e h s.event _ _ c.args.desk.now c.desk.view_is c.make.ensures.chair.0 (λ s n. refl)
+    same_desk d w e h s.event _ _ c.args.desk.now c.desk.view_is c.make.ensures.seat.0 (λ s n. refl)
 
 pub returns-clause-count : goal.returns-clause-count
-returns-clause-count g c = made_count c.desk.inside c.make.new.chair.me.0 _ _ _ _ _ c.make.ensures.event ∙ ap endings_of c.desk.view_is
+returns-clause-count g c = made_count c.desk.inside c.make.new.seat.me.0 _ _ _ _ _ c.make.ensures.event ∙ ap endings_of c.desk.view_is
 
 pub returns-clause-stock : goal.returns-clause-stock
 returns-clause-stock g c =
-    let d = c.desk.inside in let h = c.desk.invariant in let v = d.seat.me.0 in let w = c.make.new.chair.me.0 in let s = c.make.ensures in
+    let d = c.desk.inside in let h = c.desk.invariant in let v = d.seat.me.0 in let w = c.make.new.seat.me.0 in let s = c.make.ensures in
     let e = Make c.in-Some.block c.args.enabled c.args.null c.args.fields c.args.value in let t = came v w Idle None e s.event in
     stock_shrinks d h w e t c.in-Some.block.0 refl t.asks.0 ∙ ap (λ z. length (stock_of z)) c.desk.view_is
 
 pub returns-clause-endings : goal.returns-clause-endings
 returns-clause-endings g c = λ b x ends.
-    let d = c.desk.inside in let h = c.desk.invariant in let v = d.seat.me.0 in let w = c.make.new.chair.me.0 in let s = c.make.ensures in
+    let d = c.desk.inside in let h = c.desk.invariant in let v = d.seat.me.0 in let w = c.make.new.seat.me.0 in let s = c.make.ensures in
     let e = Make c.in-Some.block c.args.enabled c.args.null c.args.fields c.args.value in let t = came v w Idle None e s.event in
     let z = opening_of v.shape in let hist = before d w e h s.event in let now = legal_now d w e h s.event in
     ends_still d w e h s.event _ _ b x c.args.desk.now c.desk.view_is

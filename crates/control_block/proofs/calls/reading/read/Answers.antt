@@ -2,11 +2,12 @@ use Rattle.std.proofs.Common.{◌+◌, refl, sym, ap, ◌∙◌, arith, None, So
 use Rattle.control_word.specs.declared.model.event.Event.TheVariants.{Read}
 use Rattle.control_word.specs.declared.model.handle.Kind.TheVariants.{Owner}
 use Rattle.control_word.specs.declared.model.view.Pending.TheVariants.{Idle}
-use Rattle.control_block.specs.Desks.{bag_of, on_latest}
+use Rattle.control_block.specs.Desks.{on_latest}
 use Rattle.control_block.specs.Inside.{desk_now}
-use Rattle.control_block.proofs.DeskBags.{adds_of, bag_stays, holding_in, calm, keeps_quietly, field_low}
+use Rattle.control_block.proofs.desks.DeskBags.{adds_of, holding_in, calm, field_low}
+use Rattle.control_block.proofs.desks.Outcomes.{stays}
 use Rattle.control_block.proofs.Passage.{plain}
-use Rattle.control_block.proofs.DeskSteps.{ending_same, as_many, came, quiet_desk, word_inside}
+use Rattle.control_block.proofs.desks.DeskSteps.{ending_same, as_many, came, quiet_desk, word_inside}
 use Rattle.control_block.proofs.calls.reading.read.Goals as goal
 
 pub read-requires-clause-holds : goal.read-requires-clause-holds
@@ -25,29 +26,20 @@ read-requires-clause-word g c =
 
 pub invariant_of-desk : goal.invariant_of-desk
 invariant_of-desk g c =
-    let d = c.desk.inside in let h = c.desk.invariant in let v = d.seat.me.0 in let w = c.read.new.chair.me.0 in let s = c.read.ensures in
+    let d = c.desk.inside in let h = c.desk.invariant in let v = d.seat.me.0 in let w = c.read.new.seat.me.0 in let s = c.read.ensures in
     let e = Read (on_latest (desk_now d) Owner (Some c.args.place) c.args.place.block.0) c.read.result in let t = came v w Idle None e s.event in
     let size = as_many v w e t refl in
-    quiet_desk d _ e h s.event s.chair.0 (s.chair.2 ∙ h.rests.none) (λ y x. refl) (λ y x. refl) refl refl (omega (arith, size, h.holding))
+    quiet_desk d _ e h s.event s.seat.0 (s.seat.2 ∙ h.rests.none) (λ y x. refl) (λ y x. refl) refl refl (omega (arith, size, h.holding))
     (omega (arith, h.within))
     (h.ended ∙ sym (ending_same v w e t (plain (λ y x. refl) (λ y x. refl) (λ y f. refl))))
 
 pub returns-clause-event : goal.returns-clause-event
 returns-clause-event g c =
-    adds_of c.desk.inside c.args.desk.now c.read.new.chair.me.0 _ _
+    adds_of c.desk.inside c.args.desk.now c.read.new.seat.me.0 _ _
     (λ z. Read (on_latest z Owner (Some c.args.place) c.args.place.block.0) c.read.result)
-    c.desk.view_is c.read.ensures.chair.0 c.read.ensures.event
+    c.desk.view_is c.read.ensures.seat.0 c.read.ensures.event
 
-pub returns-clause-bag : goal.returns-clause-bag
-returns-clause-bag g c =
-    let d = c.desk.inside in
-    bag_stays d c.read.new.chair.me.0 (Read (on_latest (desk_now d) Owner (Some c.args.place) c.args.place.block.0) c.read.result) c.desk.invariant
-    c.read.ensures.event refl ∙ ap bag_of c.desk.view_is
-
-pub returns-clause-keeps : goal.returns-clause-keeps
-returns-clause-keeps g c =
-    let d = c.desk.inside in
-    keeps_quietly d c.read.new.chair.me.0 (Read (on_latest (desk_now d) Owner (Some c.args.place) c.args.place.block.0) c.read.result)
-    c.desk.invariant
-    c.read.ensures.event _ _ c.args.desk.now c.desk.view_is c.read.ensures.chair.0
-    (calm (λ s n. refl) (λ s n. refl) (λ s f. refl)) (λ s n. refl) (λ s n. refl)
+pub returns-clause-outcome : goal.returns-clause-outcome
+returns-clause-outcome g c =
+    stays c.desk.inside c.read.new.seat.me.0 _ c.desk.invariant c.read.ensures.event _ c.args.desk.now c.desk.view_is c.read.ensures.seat.0
+    (calm (λ s n. refl) (λ s n. refl) (λ s f. refl)) (λ s n. refl) (λ s n. refl) (λ s n. refl)

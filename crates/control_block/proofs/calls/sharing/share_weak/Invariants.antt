@@ -1,8 +1,8 @@
 use Rattle.std.proofs.Common.{None}
 use Rattle.control_word.specs.declared.model.handle.Kind.TheVariants.{Weak}
-use Rattle.control_block.specs.Plays.{known}
+use Rattle.control_block.specs.StepKinds.{known}
 use Rattle.control_block.proofs.calls.sharing.share_weak.Given as goal
 
 abbrev pub ghosts-share_weak : goal.ghosts-share_weak
 ghosts-share_weak g a =
-    record { kind = Weak; object = (known a.chair.now.me.0).latest a.block.0; place = None; wanted = g.A.About.wanted; block = a.block; word = 0 }
+    record { kind = Weak; object = (known a.seat.now.me.0).latest a.block.0; place = None; wanted = a.wanted; block = a.block; word = 0 }

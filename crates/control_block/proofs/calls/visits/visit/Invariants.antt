@@ -1,13 +1,13 @@
 use Rattle.std.proofs.Common.{None}
 use Rattle.control_word.specs.declared.model.handle.Kind.TheVariants.{Owner}
-use Rattle.control_block.specs.Plays.{known}
-use Rattle.control_block.proofs.Visiting.{visited, visited_at}
+use Rattle.control_block.specs.StepKinds.{known}
+use Rattle.control_block.proofs.desks.Visiting.{visited, visited_at}
 use Rattle.control_block.proofs.calls.visits.visit.Given as goal
 
 abbrev pub ghosts-shut : goal.ghosts-shut
 ghosts-shut g a =
-    record { kind = Owner; object = (known a.chair.now.me.0).latest a.block.0; place = g.A.About.place; wanted = None; block = a.block; word = 0 }
+    record { kind = Owner; object = (known a.seat.now.me.0).latest a.of.block.0; place = a.of.place; wanted = None; block = a.of.block; word = 0 }
 
 abbrev pub ghosts-open : goal.ghosts-open
 ghosts-open g a =
-    let p = a.chair.now.me.0.view.pending in record { kind = Owner; object = visited p; place = visited_at p; wanted = None; block = a.block; word = 0 }
+    let p = a.seat.now.me.0.view.pending in record { kind = Owner; object = visited p; place = visited_at p; wanted = None; block = a.block; word = 0 }

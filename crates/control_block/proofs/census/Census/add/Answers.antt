@@ -4,8 +4,8 @@ use Rattle.std.specs.Prelude.{slice_index}
 use Rattle.std.specs.Slots.{slots_items}
 use Rattle.control_block.specs.CellCalls.{word_at}
 use Rattle.control_block.specs.Census.{CensusNow}
-use Rattle.control_block.proofs.Closing.{index_at}
-use Rattle.control_block.proofs.HolderLists.{none_more, one_more}
+use Rattle.control_block.proofs.closings.Closing.{index_at}
+use Rattle.control_block.proofs.closings.HolderLists.{none_more, one_more}
 use Rattle.control_block.proofs.census.Census.add.Goals as goal
 
 pub returns-in_ok-push : goal.returns-in_ok-push

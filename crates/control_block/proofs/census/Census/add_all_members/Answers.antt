@@ -1,5 +1,5 @@
 use Rattle.std.proofs.Common.{◌+◌, arith}
-use Rattle.control_block.proofs.HolderLists.{next_block}
+use Rattle.control_block.proofs.closings.HolderLists.{next_block}
 use Rattle.control_block.proofs.census.Census.add_all_members.Goals as goal
 
 pub loop-before-preserved : goal.loop-before-preserved

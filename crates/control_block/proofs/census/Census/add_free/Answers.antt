@@ -1,6 +1,6 @@
 use Rattle.std.proofs.Common.{ap, ◌∙◌, ◌++◌}
 use Rattle.control_block.specs.Holders.{if_holds}
-use Rattle.control_block.proofs.HolderLists.{next_free}
+use Rattle.control_block.proofs.closings.HolderLists.{next_free}
 use Rattle.control_block.proofs.census.Census.add_free.Goals as goal
 
 pub loop-number-preserved : goal.loop-number-preserved

@@ -4,7 +4,7 @@ use Rattle.std.specs.Slots.{slots_items}
 use Rattle.control_word.specs.Layout.{spot}
 use Rattle.control_word.specs.Packing.{number_of}
 use Rattle.control_block.specs.Census.{CensusNow, owners_in}
-use Rattle.control_block.proofs.Closing.{index_at, none_less, one_less}
+use Rattle.control_block.proofs.closings.Closing.{index_at, none_less, one_less}
 use Rattle.control_block.proofs.census.Census.counts_in.Goals as goal
 
 pub returns-then-owners-eq0 : goal.returns-then-owners-eq0

@@ -4,7 +4,7 @@ use Rattle.std.specs.Slots.{slots_items}
 use Rattle.control_word.specs.Layout.{spot}
 use Rattle.control_word.specs.Packing.{number_of}
 use Rattle.control_block.specs.Census.{CensusNow}
-use Rattle.control_block.proofs.Closing.{index_at}
+use Rattle.control_block.proofs.closings.Closing.{index_at}
 use Rattle.control_block.proofs.census.Census.is_free.Goals as goal
 
 pub returns : goal.returns

@@ -4,14 +4,14 @@ use Rattle.control_word.specs.declared.place.Block.{Block}
 use Rattle.control_block.specs.Desks.{DeskNow, stock_of}
 use Rattle.control_block.specs.Inside.{IsDesk, desk_now}
 use Rattle.control_block.specs.Parting.{HoldsAll, Parted, SplitsOff, free_of, in_history}
-use Rattle.control_block.specs.Plays.{MaySplit, known}
+use Rattle.control_block.specs.StepKinds.{MaySplit, known}
 use Rattle.control_block.specs.Rule.{opening_of}
 use Rattle.control_block.specs.declared.desk.Desk.TheInside.{Inside}
 use Rattle.control_block.specs.declared.handles.Held.{Held}
-use Rattle.control_block.proofs.PartingDesks.{allowance_most}
+use Rattle.control_block.proofs.partings.PartingDesks.{allowance_most}
 use Rattle.control_block.proofs.PartingSplit.{Keeps, keeps, may_split, sizes}
-use Rattle.control_block.proofs.PartingSplitDesks.{new_desk, old_desk, splits}
-use Rattle.control_block.proofs.Stores.{stock_few}
+use Rattle.control_block.proofs.partings.PartingSplitDesks.{new_desk, old_desk, splits}
+use Rattle.control_block.proofs.words.Stores.{stock_few}
 use Rattle.control_block.proofs.desk.Desk.cut_off.Goals as goal
 
 kept : (V : Type 0) (d : Inside V) → IsDesk d → (now : DeskNow V) (a n : ℕ) (hs : List Held) → HoldsAll (desk_now d) hs → length hs ≡ n
@@ -66,7 +66,7 @@ invariant_of-other g c =
     let d = c.self.inside in let hs = g.T.Lent.handles c.args.handles.now in let bs = c.pass_least.new.to.items in
     let holds = subst (λ z. HoldsAll z hs) (sym c.self.view_is) c.requires.held.0 in
     let size : length hs ≡ c.args.count = c.requires.held.1 in
-    let w = c.part-seat.new.chair.me.0 in let u = c.part-seat.result.me.0 in
+    let w = c.part-seat.new.seat.me.0 in let u = c.part-seat.result.me.0 in
     let p : Parted d.seat.me.0 c.args.allowance (in_history (known d.seat.me.0) hs) bs w u =
     subst (λ (y : List Block). Parted d.seat.me.0 c.args.allowance (in_history (known d.seat.me.0) hs) y w u) c.as_slice.ensures.value
     c.part-seat.ensures.event in
@@ -81,12 +81,12 @@ invariant_of-self g c =
     let d = c.self.inside in let hs = g.T.Lent.handles c.args.handles.now in let bs = c.pass_least.new.to.items in
     let holds = subst (λ z. HoldsAll z hs) (sym c.self.view_is) c.requires.held.0 in
     let size : length hs ≡ c.args.count = c.requires.held.1 in
-    let w = c.part-seat.new.chair.me.0 in let u = c.part-seat.result.me.0 in
+    let w = c.part-seat.new.seat.me.0 in let u = c.part-seat.result.me.0 in
     let p : Parted d.seat.me.0 c.args.allowance (in_history (known d.seat.me.0) hs) bs w u =
     subst (λ (y : List Block). Parted d.seat.me.0 c.args.allowance (in_history (known d.seat.me.0) hs) y w u) c.as_slice.ensures.value
     c.part-seat.ensures.event in
-    old_desk d c.self.invariant hs holds c.args.allowance bs w u p _ c.part-seat.ensures.chair.0
-    (λ i. (w, c.part-seat.ensures.chair.1 i)) refl (ap (λ x. d.held - x) (sym size)) refl
+    old_desk d c.self.invariant hs holds c.args.allowance bs w u p _ c.part-seat.ensures.seat.0
+    (λ i. (w, c.part-seat.ensures.seat.1 i)) refl (ap (λ x. d.held - x) (sym size)) refl
     (let k = kept g.row.V.Denot d c.self.invariant c.args.self.now c.args.allowance c.args.count hs holds size c.self.view_is
     (c.gives.ensures.gives c.if-not-gives.false) in
     k.within)
@@ -97,12 +97,12 @@ returns-clause-parts g c =
     let d = c.self.inside in let hs = g.T.Lent.handles c.args.handles.now in let bs = c.pass_least.new.to.items in
     let holds = subst (λ z. HoldsAll z hs) (sym c.self.view_is) c.requires.held.0 in
     let size : length hs ≡ c.args.count = c.requires.held.1 in
-    let w = c.part-seat.new.chair.me.0 in let u = c.part-seat.result.me.0 in
+    let w = c.part-seat.new.seat.me.0 in let u = c.part-seat.result.me.0 in
     let p : Parted d.seat.me.0 c.args.allowance (in_history (known d.seat.me.0) hs) bs w u =
     subst (λ (y : List Block). Parted d.seat.me.0 c.args.allowance (in_history (known d.seat.me.0) hs) y w u) c.as_slice.ensures.value
     c.part-seat.ensures.event in
     let e : Inside g.row.V.Denot = record {
-      seat = c.part-seat.new.chair;
+      seat = c.part-seat.new.seat;
       allowance = d.allowance - c.args.allowance;
       held = d.held - c.args.count;
       endings = d.endings;
@@ -118,7 +118,7 @@ returns-clause-parts g c =
       shelf_word = d.shelf_word;
     } in
     subst (λ (y : DeskNow g.row.V.Denot). SplitsOff y c.args.allowance c.args.blocks hs (desk_now e) (desk_now new)) c.self.view_is
-    (splits d e new c.self.invariant hs holds c.args.allowance c.args.blocks p (c.part-seat.ensures.chair.0, c.part-seat.ensures.other.0)
+    (splits d e new c.self.invariant hs holds c.args.allowance c.args.blocks p (c.part-seat.ensures.seat.0, c.part-seat.ensures.other.0)
     (ap (λ x. d.held - x) (sym size), sym size) c.pass_least.ensures.count.0 c.pass_least.ensures.same c.pass_least.ensures.least)
 
 pub returns-then-not-gives-clause-parts : goal.returns-then-not-gives-clause-parts
@@ -142,8 +142,8 @@ returns-in_default-clause-refused g c = inr refl
 pub returns-in_default-clause-limit : goal.returns-in_default-clause-limit
 returns-in_default-clause-limit g c = (λ e. absurd (cc e), λ much. absurd (c.if-not-gives.ensures.fits.0 refl much))
 
-pub part-seat-requires-clause-board : goal.part-seat-requires-clause-board
-part-seat-requires-clause-board g c =
+pub part-seat-requires-clause-table : goal.part-seat-requires-clause-table
+part-seat-requires-clause-table g c =
     ap (λ z. z.domain) c.self.view_is ∙ (c.requires.domain.table ∙ sym (ap (λ z. z.id) c.domain.view_is))
 
 pub part-seat-requires-clause-rests : goal.part-seat-requires-clause-rests

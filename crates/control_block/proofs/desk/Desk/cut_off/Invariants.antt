@@ -1,6 +1,6 @@
 use Rattle.control_block.specs.Parting.{in_history}
-use Rattle.control_block.specs.Plays.{known}
+use Rattle.control_block.specs.StepKinds.{known}
 use Rattle.control_block.proofs.desk.Desk.cut_off.Given as goal
 
 abbrev pub ghosts-part : goal.ghosts-part
-ghosts-part g a = record { allowance = a.allowance; handles = in_history (known a.chair.now.me.0) (g.T.Lent.handles a.handles.now); blocks = a.blocks.now }
+ghosts-part g a = record { allowance = a.allowance; handles = in_history (known a.seat.now.me.0) (g.T.Lent.handles a.handles.now); blocks = a.blocks.now }

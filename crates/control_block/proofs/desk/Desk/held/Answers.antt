@@ -1,5 +1,5 @@
 use Rattle.std.proofs.Common.{arith}
-use Rattle.control_block.proofs.PartingDesks.{allowance_most}
+use Rattle.control_block.proofs.partings.PartingDesks.{allowance_most}
 use Rattle.control_block.proofs.desk.Desk.held.Goals as goal
 
 pub overflow_add-result : goal.overflow_add-result

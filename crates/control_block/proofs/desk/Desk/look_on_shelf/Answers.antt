@@ -1,10 +1,10 @@
 use Rattle.control_block.specs.Inside.{desk_now}
-use Rattle.control_block.proofs.DeskBags.{now_of}
+use Rattle.control_block.proofs.desks.DeskBags.{now_of}
 use Rattle.std.proofs.Common.{◌≡◌, ◌-◌, sym, ap, subst, ◌∙◌, arith}
 use Rattle.control_block.specs.Desks.{DeskNow, state_of}
 use Rattle.control_block.specs.Own.{IsSole}
-use Rattle.control_block.specs.Plays.{known}
-use Rattle.control_block.specs.ShelfPlays.{IsShelfWord, shelf_at}
+use Rattle.control_block.specs.StepKinds.{known}
+use Rattle.control_block.specs.ShelfStepKinds.{IsShelfWord, shelf_at}
 use Rattle.control_block.proofs.Shelving.{so_sole}
 use Rattle.control_block.proofs.desk.Desk.look_on_shelf.Goals as goal
 
@@ -18,8 +18,8 @@ returns-clause-told g c =
     (λ whole. subst (λ j. IsShelfWord j c.look.result (known v)) same
     (so_sole v (IsShelfWord (i - shelf_at v.shape 0) c.look.result) c.look.ensures.told whole))
 
-pub look-requires-clause-board : goal.look-requires-clause-board
-look-requires-clause-board g c =
+pub look-requires-clause-table : goal.look-requires-clause-table
+look-requires-clause-table g c =
     ap (λ z. z.domain) c.self.view_is ∙ (c.requires.domain.table ∙ sym (ap (λ z. z.id) c.domain.view_is))
 
 pub look-requires-clause-rests : goal.look-requires-clause-rests
@@ -27,6 +27,6 @@ look-requires-clause-rests g c = c.self.invariant.rests
 
 pub returns-clause-same : goal.returns-clause-same
 returns-clause-same g c =
-    let d = c.self.inside in let t = c.look.ensures.chair in
-    let same : now_of c.look.new.chair.table_id c.look.new.chair.me.0 d.held ≡ desk_now d = λ i. now_of (t.0 i) (t.2 i).0 d.held in
+    let d = c.self.inside in let t = c.look.ensures.seat in
+    let same : now_of c.look.new.seat.table_id c.look.new.seat.me.0 d.held ≡ desk_now d = λ i. now_of (t.0 i) (t.2 i).0 d.held in
     same ∙ c.self.view_is

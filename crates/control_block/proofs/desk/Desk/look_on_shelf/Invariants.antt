@@ -1,6 +1,6 @@
 use Rattle.std.proofs.Common.{◌-◌, None}
 use Rattle.control_word.specs.declared.model.handle.Kind.TheVariants.{Owner}
-use Rattle.control_block.specs.ShelfPlays.{shelf_at}
+use Rattle.control_block.specs.ShelfStepKinds.{shelf_at}
 use Rattle.control_block.proofs.desk.Desk.look_on_shelf.Given as goal
 
 abbrev pub ghosts-look : goal.ghosts-look
@@ -11,5 +11,5 @@ ghosts-look g a =
       place = None;
       wanted = None;
       block = record { 0 = 0 };
-      word = a.place - shelf_at a.chair.now.me.0.shape 0;
+      word = a.place - shelf_at a.seat.now.me.0.shape 0;
     }

@@ -2,9 +2,9 @@ use Rattle.std.proofs.Common.{◌/◌, refl, sym, ap, ◌∙◌, arith, None, le
 use Rattle.control_word.specs.declared.model.event.Event.TheVariants.{Shelve}
 use Rattle.control_word.specs.declared.model.view.Pending.TheVariants.{Idle}
 use Rattle.control_block.specs.Desks.{stock_of}
-use Rattle.control_block.proofs.DeskBags.{calm}
-use Rattle.control_block.proofs.DeskSteps.{as_many, came, desk_after, ending_same}
-use Rattle.control_block.proofs.DeskStores.{last_stored, popped, stock_shrinks}
+use Rattle.control_block.proofs.desks.DeskBags.{calm}
+use Rattle.control_block.proofs.desks.DeskSteps.{as_many, came, desk_after, ending_same}
+use Rattle.control_block.proofs.desks.DeskStores.{last_stored, popped, stock_shrinks}
 use Rattle.control_block.proofs.Passage.{plain}
 use Rattle.control_block.proofs.Shelving.{passed_one, shelf_inside}
 use Rattle.control_block.proofs.desk.Desk.shelve_last.Goals as goal
@@ -26,21 +26,21 @@ shelve-requires-clause-place g c =
 
 pub invariant_of-self : goal.invariant_of-self
 invariant_of-self g c =
-    let d = c.self.inside in let h = c.self.invariant in let v = d.seat.me.0 in let w = c.shelve.new.chair.me.0 in let s = c.shelve.ensures in
+    let d = c.self.inside in let h = c.self.invariant in let v = d.seat.me.0 in let w = c.shelve.new.seat.me.0 in let s = c.shelve.ensures in
     let e = Shelve c.in-Some.block in let t = came v w Idle None e s.event in
     let size = as_many v w e t refl in
-    desk_after d _ e h s.event s.chair.0 (s.chair.2 ∙ h.rests.none) (λ y x. refl) refl
+    desk_after d _ e h s.event s.seat.0 (s.seat.2 ∙ h.rests.none) (λ y x. refl) refl
     (popped d h t.state _ c.in-Some.block t.same c.in-Some.ensures.items t.asks) c.in-Some.ensures.capacity
     (omega (arith, size, h.holding)) h.within (h.ended ∙ sym (ending_same v w e t (plain (λ y x. refl) (λ y x. refl) (λ y f. refl))))
 
 pub returns : goal.returns
 returns g c =
-    let d = c.self.inside in let h = c.self.invariant in let v = d.seat.me.0 in let w = c.shelve.new.chair.me.0 in let s = c.shelve.ensures in
+    let d = c.self.inside in let h = c.self.invariant in let v = d.seat.me.0 in let w = c.shelve.new.seat.me.0 in let s = c.shelve.ensures in
     let b = c.in-Some.block in let t = came v w Idle None (Shelve b) s.event in
     record {
       shelved = record {
         passes = passed_one d w Shelve b h s.event (calm (λ y n. refl) (λ y n. refl) (λ y f. refl)) (λ y n. refl) (λ y n. refl)
-            c.shelve.new.chair.table_id s.chair.0 c.args.self.now c.self.view_is;
+            c.shelve.new.seat.table_id s.seat.0 c.args.self.now c.self.view_is;
         stock = stock_shrinks d h w (Shelve b) t b.0 refl t.asks ∙ ap (λ z. length (stock_of z)) c.self.view_is;
       };
     }

@@ -1,8 +1,8 @@
 use Rattle.std.proofs.Common.{arith}
 use Rattle.control_word.proofs.history.Legal.{sound}
-use Rattle.control_block.specs.Plays.{known}
+use Rattle.control_block.specs.StepKinds.{known}
 use Rattle.control_block.specs.Rule.{opening_of}
-use Rattle.control_block.proofs.Stores.{stock_few}
+use Rattle.control_block.proofs.words.Stores.{stock_few}
 use Rattle.control_block.proofs.desk.Desk.stock.Goals as goal
 
 pub overflow_cast-result : goal.overflow_cast-result

@@ -6,7 +6,7 @@ use Rattle.control_word.specs.declared.place.Block.{Block}
 use Rattle.control_block.specs.Desks.{Belongs, DeskNow, state_of}
 use Rattle.control_block.specs.Own.{IsSole}
 use Rattle.control_block.specs.Shelf.{Unshelved}
-use Rattle.control_block.proofs.OwnCounts.{byte_few, one_if}
+use Rattle.control_block.proofs.desks.OwnCounts.{byte_few, one_if}
 use Rattle.control_block.proofs.Shelving.{belongs_on, bits_on, fewer_bits, not_one, unshelved_none, unshelved_on}
 use Rattle.control_block.proofs.desk.Desk.unshelve_from.Goals as goal
 

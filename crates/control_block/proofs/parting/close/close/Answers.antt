@@ -8,11 +8,11 @@ use Rattle.control_word.specs.State.{InShape}
 use Rattle.control_block.specs.Census.{EndsNot, TellsBlock}
 use Rattle.control_block.specs.Desks.{DeskNow, allowance_of, endings_of, state_of}
 use Rattle.control_block.specs.Holders.{TellsCells, TellsHolders}
-use Rattle.control_block.specs.Plays.{known}
+use Rattle.control_block.specs.StepKinds.{known}
 use Rattle.control_block.specs.Rule.{opening_of}
-use Rattle.control_block.proofs.ClosedCells.{census_of, tells_cells}
-use Rattle.control_block.proofs.Closing.{exact_counts, nothing_ends, tells_of}
-use Rattle.control_block.proofs.ClosingHolders.{tells_holders}
+use Rattle.control_block.proofs.closings.ClosedCells.{census_of, tells_cells}
+use Rattle.control_block.proofs.closings.Closing.{exact_counts, nothing_ends, tells_of}
+use Rattle.control_block.proofs.closings.ClosingHolders.{tells_holders}
 use Rattle.control_block.proofs.parting.close.close.Goals as goal
 
 pub returns-clause-census : goal.returns-clause-census

@@ -5,7 +5,7 @@ use Rattle.std.specs.Ordering.{is_lt, nat_cmp}
 use Rattle.control_word.specs.declared.place.Block.{Block}
 use Rattle.control_word.specs.State.{Has}
 use Rattle.control_block.specs.Parting.{times}
-use Rattle.control_block.proofs.PartingOrder.{far, tail_is, times_cut, times_permutation}
+use Rattle.control_block.proofs.partings.PartingOrder.{far, tail_is, times_cut, times_permutation}
 use Rattle.control_block.proofs.parting.split.pass_least.Goals as goal
 
 pub returns-clause-same : goal.returns-clause-same

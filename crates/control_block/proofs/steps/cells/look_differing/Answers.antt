@@ -1,16 +1,16 @@
 use Rattle.std.proofs.Common.{None, ◌∙◌, sym}
 use Rattle.control_word.specs.Handles.{equivalent, handle}
-use Rattle.control_block.specs.CellPlays.{kind_in}
+use Rattle.control_block.specs.CellStepKinds.{kind_in}
 use Rattle.control_block.proofs.kept.CellDiffer.{allows_differ_empty, slots_differed}
 use Rattle.control_block.proofs.steps.cells.look_differing.Goals as goal
 
 pub load-requires : goal.load-requires
 load-requires g c =
-    let r = c.requires in let board = c.args.board.now in let chair = c.args.chair.now in let a = g.A.Aimed in (
-      r.board,
+    let r = c.requires in let table = c.args.table.now in let seat = c.args.seat.now in let a = g.A.CellArgs in (
+      r.table,
       r.word,
       record {
-        allows = allows_differ_empty board.key board.table_id.slots chair.id c.args.word a.cell a.expected a.new a.weak chair.me r.rests
+        allows = allows_differ_empty table.key table.table_id.slots seat.id c.args.word a.cell a.expected a.new a.weak seat.me r.rests
             r.cell r.expected r.hand;
       },
     )
@@ -18,10 +18,10 @@ load-requires g c =
 pub unpack-requires : goal.unpack-requires
 unpack-requires g c = c.load.ensures.2.0
 
-pub returns-clause-chair : goal.returns-clause-chair
-returns-clause-chair g c =
-    let t = c.load.ensures in let u = c.unpack.ensures in let x = c.unpack.result in let q = t.2.1 x u.valid (sym u.bits) in let me = c.args.chair.now.me in
-    let b = equivalent (handle (kind_in me.0.shape g.A.Aimed.cell) None x.place) g.A.Aimed.expected in
+pub returns-clause-seat : goal.returns-clause-seat
+returns-clause-seat g c =
+    let t = c.load.ensures in let u = c.unpack.ensures in let x = c.unpack.result in let q = t.2.1 x u.valid (sym u.bits) in let me = c.args.seat.now.me in
+    let b = equivalent (handle (kind_in me.0.shape g.A.CellArgs.cell) None x.place) g.A.CellArgs.expected in
     (t.0, t.1, slots_differed x me c.load.new.seat.me _ b q.1 q.2 q.3 ∙ c.requires.rests.none)
 
 pub returns-clause-event : goal.returns-clause-event

@@ -4,14 +4,14 @@ use Rattle.control_block.proofs.steps.cells.peek.Goals as goal
 
 pub load-requires : goal.load-requires
 load-requires g c =
-    let r = c.requires in let board = c.args.board.now in let chair = c.args.chair.now in
-    (r.board, r.word, record { allows = allows_peek board.key board.table_id.slots chair.id c.args.word g.A.Aimed.cell chair.me r.awake r.cell })
+    let r = c.requires in let table = c.args.table.now in let seat = c.args.seat.now in
+    (r.table, r.word, record { allows = allows_peek table.key table.table_id.slots seat.id c.args.word g.A.CellArgs.cell seat.me r.awake r.cell })
 
 pub unpack-requires : goal.unpack-requires
 unpack-requires g c = c.load.ensures.2.0
 
-pub returns-clause-chair : goal.returns-clause-chair
-returns-clause-chair g c =
+pub returns-clause-seat : goal.returns-clause-seat
+returns-clause-seat g c =
     let t = c.load.ensures in let u = c.unpack.ensures in (t.0, t.1, (t.2.1 c.unpack.result u.valid (sym u.bits)).1)
 
 pub returns-clause-held : goal.returns-clause-held

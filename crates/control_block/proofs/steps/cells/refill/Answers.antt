@@ -5,14 +5,14 @@ use Rattle.control_block.proofs.steps.cells.refill.Goals as goal
 
 pub compare_exchange-requires : goal.compare_exchange-requires
 compare_exchange-requires g c =
-    let r = c.requires in let board = c.args.board.now in let chair = c.args.chair.now in let w = r.owes in let x = c.args.seen in
+    let r = c.requires in let table = c.args.table.now in let seat = c.args.seat.now in let w = r.owes in let x = c.args.seen in
     let less : c.pack-full.result + 17179869184 * x.taken ≡ c.pack-found.result =
     ap (λ n. n + 17179869184 * x.taken) c.pack-full.ensures ∙ (none_taken x ∙ sym c.pack-found.ensures) in (
-      r.board,
+      r.table,
       r.word,
       record {
-        allows = allows_refill board.key board.table_id.slots chair.id c.args.word c.pack-found.result c.pack-full.result g.A.Aimed.cell x w.0 w.1 w.2
-            chair.me w.4 r.cell
+        allows = allows_refill table.key table.table_id.slots seat.id c.args.word c.pack-found.result c.pack-full.result g.A.CellArgs.cell x w.0 w.1 w.2
+            seat.me w.4 r.cell
             r.seen c.pack-found.ensures w.3 less;
       },
     )

@@ -5,17 +5,17 @@ use Rattle.control_block.proofs.steps.cells.take.Goals as goal
 
 pub compare_exchange-requires : goal.compare_exchange-requires
 compare_exchange-requires g c =
-    let r = c.requires in let board = c.args.board.now in let chair = c.args.chair.now in let x = r.seen in (
-      r.board,
+    let r = c.requires in let table = c.args.table.now in let seat = c.args.seat.now in let x = r.seen in (
+      r.table,
       r.word,
       record {
-        allows = allows_load board.key board.table_id.slots chair.id c.args.word c.pack-found.result g.A.Aimed.cell c.args.seen chair.me r.rests r.cell x.0
+        allows = allows_load table.key table.table_id.slots seat.id c.args.word c.pack-found.result g.A.CellArgs.cell c.args.seen seat.me r.rests r.cell x.0
             c.pack-found.ensures x.1 x.2 r.room;
       },
     )
 
-pub returns-clause-chair : goal.returns-clause-chair
-returns-clause-chair g c =
+pub returns-clause-seat : goal.returns-clause-seat
+returns-clause-seat g c =
     let r = c.requires in let t = c.compare_exchange.ensures in let n = c.compare_exchange.result in let found = c.pack-found.result in (
       t.0,
       t.1,

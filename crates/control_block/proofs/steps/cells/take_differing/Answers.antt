@@ -5,18 +5,18 @@ use Rattle.control_block.proofs.steps.cells.take_differing.Goals as goal
 
 pub compare_exchange-requires : goal.compare_exchange-requires
 compare_exchange-requires g c =
-    let r = c.requires in let board = c.args.board.now in let chair = c.args.chair.now in let x = r.seen in let a = g.A.Aimed in (
-      r.board,
+    let r = c.requires in let table = c.args.table.now in let seat = c.args.seat.now in let x = r.seen in let a = g.A.CellArgs in (
+      r.table,
       r.word,
       record {
-        allows = allows_differ board.key board.table_id.slots chair.id c.args.word c.pack-found.result a.cell a.expected a.new a.weak c.args.seen
-            chair.me r.rests r.cell x.0
+        allows = allows_differ table.key table.table_id.slots seat.id c.args.word c.pack-found.result a.cell a.expected a.new a.weak c.args.seen
+            seat.me r.rests r.cell x.0
             c.pack-found.ensures x.1 x.2 r.room r.expected r.hand r.differs;
       },
     )
 
-pub returns-clause-chair : goal.returns-clause-chair
-returns-clause-chair g c =
+pub returns-clause-seat : goal.returns-clause-seat
+returns-clause-seat g c =
     let r = c.requires in let t = c.compare_exchange.ensures in let n = c.compare_exchange.result in let found = c.pack-found.result in (
       t.0,
       t.1,

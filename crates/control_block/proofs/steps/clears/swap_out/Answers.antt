@@ -5,11 +5,11 @@ use Rattle.control_block.proofs.steps.clears.swap_out.Goals as goal
 
 pub swap-requires : goal.swap-requires
 swap-requires g c =
-    let r = c.requires in let e = c.block_word.ensures in let board = c.args.board.now in let chair = c.args.chair.now in (
-      r.board,
-      subst (λ x. x < board.table_id.words) (sym e) r.word.3,
+    let r = c.requires in let e = c.block_word.ensures in let table = c.args.table.now in let seat = c.args.seat.now in (
+      r.table,
+      subst (λ x. x < table.table_id.words) (sym e) r.word.3,
       record {
-        allows = allows_clear board.key board.table_id.slots chair.id c.args.block.0 g.M.StepArgs.object g.M.StepArgs.word c.block_word.result chair.me
+        allows = allows_clear table.key table.table_id.slots seat.id c.args.block.0 g.M.StepArgs.object g.M.StepArgs.word c.block_word.result seat.me
             r.rests r.ends
             (subst (λ x. x < 3) (sym r.word.2) r.word.1) (e ∙ ap (λ x. spot c.args.block.0 (7 + x)) (sym r.word.2)) r.room;
       },
@@ -18,8 +18,8 @@ swap-requires g c =
 pub unpack-requires : goal.unpack-requires
 unpack-requires g c = c.swap.ensures.2.0
 
-pub returns-clause-chair : goal.returns-clause-chair
-returns-clause-chair g c =
+pub returns-clause-seat : goal.returns-clause-seat
+returns-clause-seat g c =
     let t = c.swap.ensures in let u = c.unpack.ensures in (t.0, t.1, (t.2.1 c.unpack.result u.valid (sym u.bits)).1 ∙ c.requires.rests.none)
 
 pub returns-clause-gave : goal.returns-clause-gave

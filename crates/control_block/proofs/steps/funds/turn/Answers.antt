@@ -4,8 +4,8 @@ use Rattle.control_block.proofs.steps.funds.turn.Goals as goal
 
 pub fetch_sub-requires : goal.fetch_sub-requires
 fetch_sub-requires g c =
-    let r = c.requires in let e = c.count_word.ensures in let board = c.args.board.now in let chair = c.args.chair.now in let q = r.owes in (
-      r.board,
-      subst (λ x. x < board.table_id.words) (sym e) r.word.1,
-      record { allows = allows_turn board.key board.table_id.slots chair.id c.args.block.0 q.0 c.count_word.result c.args.kind q.1 chair.me q.2 e },
+    let r = c.requires in let e = c.count_word.ensures in let table = c.args.table.now in let seat = c.args.seat.now in let q = r.owes in (
+      r.table,
+      subst (λ x. x < table.table_id.words) (sym e) r.word.1,
+      record { allows = allows_turn table.key table.table_id.slots seat.id c.args.block.0 q.0 c.count_word.result c.args.kind q.1 seat.me q.2 e },
     )

@@ -1,8 +1,8 @@
 use Rattle.std.proofs.Common.{◌≡◌}
 use Rattle.control_block.proofs.steps.locks.lock.Given as goal
 
--- each try that fails leaves the chair as it was
+-- each try that fails leaves the seat as it was
 abbrev pub invariant-loop : goal.invariant-loop
 invariant-loop g l =
-    (goal.iterator-loop g).can_next l.iterator' × (goal.iterator-loop g).is_finite l.iterator' × (l.chair.table_id ≡ l.fn.chair.table_id)
-    × (l.chair.id ≡ l.fn.chair.id) × (l.chair.me ≡ l.fn.chair.me)
+    (goal.iterator-loop g).can_next l.iterator' × (goal.iterator-loop g).is_finite l.iterator' × (l.seat.table_id ≡ l.fn.seat.table_id)
+    × (l.seat.id ≡ l.fn.seat.id) × (l.seat.me ≡ l.fn.seat.me)

@@ -3,26 +3,26 @@ use Rattle.atomic_table.specs.Table.{Allows, step}
 use mathlib.Core.Option.{none}
 use Rattle.control_word.specs.declared.place.Block.{Block}
 use Rattle.control_word.specs.declared.model.view.Pending.TheVariants.{Making}
-use Rattle.control_block.specs.Plays.{Moved, began}
+use Rattle.control_block.specs.StepKinds.{Moved, began}
 use Rattle.control_block.specs.Rule.{Ruled}
 use Rattle.control_block.proofs.kept.Make.{allows_begin}
 use Rattle.control_block.proofs.steps.making.begin.Goals as goal
 
 pub store-requires : goal.store-requires
 store-requires g c =
-    let r = c.requires in let i = c.block_word.result in let e = c.block_word.ensures in let board = c.args.board.now in let chair = c.args.chair.now in (
-      r.board,
-      subst (λ x. x < board.table_id.words) (sym e) r.word.1,
+    let r = c.requires in let i = c.block_word.result in let e = c.block_word.ensures in let table = c.args.table.now in let seat = c.args.seat.now in (
+      r.table,
+      subst (λ x. x < table.table_id.words) (sym e) r.word.1,
       record {
-        allows = subst (λ (b : Block). Allows (Ruled board.key) board.table_id.slots chair.id chair.me i (λ _. 1)
-            (λ _. began b (step board.table_id.slots i 1 0 none) chair.me 1))
-            (sym r.stored.0) (allows_begin board.key board.table_id.slots chair.id i c.args.block chair.me r.rests r.stored.1 e);
+        allows = subst (λ (b : Block). Allows (Ruled table.key) table.table_id.slots seat.id seat.me i (λ _. 1)
+            (λ _. began b (step table.table_id.slots i 1 0 none) seat.me 1))
+            (sym r.stored.0) (allows_begin table.key table.table_id.slots seat.id i c.args.block seat.me r.rests r.stored.1 e);
       },
     )
 
 pub returns-clause-prepared : goal.returns-clause-prepared
 returns-clause-prepared g c =
-    let r = c.requires in let t = c.store.ensures.2 in let me = c.args.chair.now.me in let new = c.store.new.seat.me in (
+    let r = c.requires in let t = c.store.ensures.2 in let me = c.args.seat.now.me in let new = c.store.new.seat.me in (
       t.0,
       record {
         moved = subst (λ (b : Block). Moved me.0 (Making b t.0) (Some b) new.0) r.stored.0 t.2;

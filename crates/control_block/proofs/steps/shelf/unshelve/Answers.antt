@@ -5,40 +5,40 @@ use Rattle.atomic_table.specs.Table.{Allows, step}
 use mathlib.Core.Option.{none}
 use Rattle.control_word.specs.declared.place.Block.{Block}
 use Rattle.control_block.specs.Rule.{Ruled}
-use Rattle.control_block.specs.ShelfPlays.{unshelved}
+use Rattle.control_block.specs.ShelfStepKinds.{unshelved}
 use Rattle.control_block.proofs.kept.Shelf.{allows_unshelve, seats_kept, told_clear, told_set}
 use Rattle.control_block.proofs.steps.shelf.unshelve.Goals as goal
 
 pub fetch_and-requires : goal.fetch_and-requires
 fetch_and-requires g c =
-    let r = c.requires in let board = c.args.board.now in let chair = c.args.chair.now in let i = c.args.place in
+    let r = c.requires in let table = c.args.table.now in let seat = c.args.seat.now in let i = c.args.place in
     let a = bit_not w64 c.shelf_bit-bit.result in
     let low : c.args.block.0 < 65536 = omega arith in (
-      r.board,
+      r.table,
       r.place.1,
       record {
-        allows = subst (λ (x : Block). Allows (Ruled board.key) board.table_id.slots chair.id chair.me i (λ n. bit_and n a)
-            (unshelved x (step board.table_id.slots i a 0 none) chair.me)) (sym r.meant)
-            (allows_unshelve board.key board.table_id.slots chair.id i a c.args.block chair.me r.rests r.place.0
+        allows = subst (λ (x : Block). Allows (Ruled table.key) table.table_id.slots seat.id seat.me i (λ n. bit_and n a)
+            (unshelved x (step table.table_id.slots i a 0 none) seat.me)) (sym r.meant)
+            (allows_unshelve table.key table.table_id.slots seat.id i a c.args.block seat.me r.rests r.place.0
             (ap (bit_not w64) c.shelf_bit-bit.ensures) low);
       },
     )
 
 pub returns-clause-event : goal.returns-clause-event
 returns-clause-event g c =
-    let t = subst (λ (x : Block). unshelved x (step 0 0 0 0 none) c.args.chair.now.me c.fetch_and.result c.fetch_and.new.seat.me)
+    let t = subst (λ (x : Block). unshelved x (step 0 0 0 0 none) c.args.seat.now.me c.fetch_and.result c.fetch_and.new.seat.me)
     c.requires.meant c.fetch_and.ensures.2 in
     λ e. (t.0 (told_set c.fetch_and.result (c.args.block.0 % 64) c.shelf_bit-bit.result c.shelf_bit-bit.ensures e)).0
 
 pub returns-clause-missed : goal.returns-clause-missed
 returns-clause-missed g c =
-    let t = subst (λ (x : Block). unshelved x (step 0 0 0 0 none) c.args.chair.now.me c.fetch_and.result c.fetch_and.new.seat.me)
+    let t = subst (λ (x : Block). unshelved x (step 0 0 0 0 none) c.args.seat.now.me c.fetch_and.result c.fetch_and.new.seat.me)
     c.requires.meant c.fetch_and.ensures.2 in
     λ e. t.1 (told_clear c.fetch_and.result (c.args.block.0 % 64) c.shelf_bit-bit.result c.shelf_bit-bit.ensures e)
 
-pub returns-clause-chair : goal.returns-clause-chair
-returns-clause-chair g c = (
+pub returns-clause-seat : goal.returns-clause-seat
+returns-clause-seat g c = (
   c.fetch_and.ensures.0,
   c.fetch_and.ensures.1,
-  seats_kept g.M.StepArgs.block c.args.chair.now.me c.fetch_and.new.seat.me c.fetch_and.result c.fetch_and.ensures.2,
+  seats_kept g.M.StepArgs.block c.args.seat.now.me c.fetch_and.new.seat.me c.fetch_and.result c.fetch_and.ensures.2,
 )

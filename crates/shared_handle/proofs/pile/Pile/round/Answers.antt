@@ -1,38 +1,46 @@
-use Rattle.std.proofs.Common.{◌∙◌, ◌++◌, ◌∷◌, [], ap, sym}
-use Rattle.shared_handle.specs.Piles.{IsParting, piled}
+use Rattle.std.proofs.Common.{◌≡◌, ◌∙◌, ◌++◌, ◌∷◌, [], ap, refl, subst, sym, None}
+use Rattle.shared_handle.specs.Piles.{AllEnd, IsParting, next_member, piled}
 use Rattle.shared_handle.specs.declared.endings.Ending.{Ending}
 use Rattle.shared_handle.proofs.Goings.{clearing_does, does_one}
-use Rattle.shared_handle.proofs.PiledEndings.{popped}
-use Rattle.shared_handle.proofs.Piles.{back_elsewhere, clear_all, finished, finished_elsewhere, from_top, put_back, room_above}
+use Rattle.shared_handle.proofs.PiledEndings.{all_last, popped}
+use Rattle.shared_handle.proofs.Piles.{back_elsewhere, clear_all, finished, finished_elsewhere, from_top}
+use Rattle.shared_handle.proofs.Tops.{taken, top_back, top_of_pile, top_room}
 use Rattle.shared_handle.proofs.pile.Pile.round.Goals as goal
 
 pub finish-requires-clause-ends : goal.finish-requires-clause-ends
 finish-requires-clause-ends g c =
-    (popped c.args.domain.now c.args.desk.now c.args.self.now record { endings = c.pop.new.self } c.in-Some.top c.requires.carries c.in-Some.ensures.items
-    c.pop.ensures.capacity).ends
+    let o = top_of_pile c.args.self.now c.in-Some.top.now (c.in-Some.ensures.variant.0 refl) c.in-Some.ensures.value in
+    let t = taken _ _ _ _ _ o c.take_last-top.ensures.items in
+    (popped c.args.domain.now c.args.desk.now c.args.self.now record { endings = c.take_last-top.new.self } c.take_last-top.result
+    c.requires.carries t.0 c.take_last-top.ensures.capacity).ends
 
 pub returns-in_default-next_member-clause-carries : goal.returns-in_default-next_member-clause-carries
 returns-in_default-next_member-clause-carries g c =
-    let e = c.finish.ensures in
-    finished c.args.domain.now c.args.desk.now c.finish.new.desk record { endings = c.pop.new.self } c.in-Some.top
-    (popped c.args.domain.now c.args.desk.now c.args.self.now record { endings = c.pop.new.self } c.in-Some.top c.requires.carries
-    c.in-Some.ensures.items c.pop.ensures.capacity)
+    let o = top_of_pile c.args.self.now c.in-Some.top.now (c.in-Some.ensures.variant.0 refl) c.in-Some.ensures.value in
+    let t = taken _ _ _ _ _ o c.take_last-top.ensures.items in let e = c.finish.ensures in
+    finished c.args.domain.now c.args.desk.now c.finish.new.desk record { endings = c.take_last-top.new.self } c.take_last-top.result
+    (popped c.args.domain.now c.args.desk.now c.args.self.now record { endings = c.take_last-top.new.self } c.take_last-top.result
+    c.requires.carries t.0 c.take_last-top.ensures.capacity)
     e.endings e.desk
 
 pub returns-in_default-next_member-clause-elsewhere : goal.returns-in_default-next_member-clause-elsewhere
 returns-in_default-next_member-clause-elsewhere g c =
-    let e = c.finish.ensures in let xs = c.pop.new.self.items in
-    from_top c.args.desk.now c.finish.new.desk c.in-Some.top xs c.args.self.now.endings.items xs c.in-Some.ensures.items
-    (finished_elsewhere c.args.desk.now c.finish.new.desk c.in-Some.top xs e.endings e.count)
+    let o = top_of_pile c.args.self.now c.in-Some.top.now (c.in-Some.ensures.variant.0 refl) c.in-Some.ensures.value in
+    let t = taken _ _ _ _ _ o c.take_last-top.ensures.items in let e = c.finish.ensures in
+    let xs = c.take_last-top.new.self.items in let x = c.take_last-top.result in
+    from_top c.args.desk.now c.finish.new.desk x xs c.args.self.now.endings.items xs t.0
+    (finished_elsewhere c.args.desk.now c.finish.new.desk x xs e.endings e.count)
 
 pub returns-in_default-next_member-clause-round : goal.returns-in_default-next_member-clause-round
 returns-in_default-next_member-clause-round g c =
-    let e = c.finish.ensures in
+    let o = top_of_pile c.args.self.now c.in-Some.top.now (c.in-Some.ensures.variant.0 refl) c.in-Some.ensures.value in
+    let t = taken _ _ _ _ _ o c.take_last-top.ensures.items in let e = c.finish.ensures in
     record {
-      top = c.in-Some.top;
-      were = c.in-Some.ensures.items;
+      top = c.take_last-top.result;
+      were = t.0;
       finish = record {
-        clear = clear_all c.in-Some.top (sym c.in_default-next_member.ensures);
+        clear = clear_all c.take_last-top.result
+            (subst (λ (x : Ending g.row.V.Denot). next_member x ≡ None) t.1 (sym c.in_default-next_member.ensures));
         value = e.value.0;
         vacant = e.event.0;
         event = e.event.1;
@@ -45,54 +53,54 @@ returns-in_default-next_member-clause-parting g c = does_one IsParting c.args.de
 
 pub clear_member-left-requires-clause-ends : goal.clear_member-left-requires-clause-ends
 clear_member-left-requires-clause-ends g c =
-    (popped c.args.domain.now c.args.desk.now c.args.self.now record { endings = c.pop.new.self } c.in-Some.top c.requires.carries c.in-Some.ensures.items
-    c.pop.ensures.capacity).ends
+    let o = top_of_pile c.args.self.now c.in-Some.top.now (c.in-Some.ensures.variant.0 refl) c.in-Some.ensures.value in
+    (all_last c.args.desk.now o.below c.in-Some.top.now (subst (AllEnd c.args.desk.now) o.are c.requires.carries.ends)).1
 
 pub put-requires : goal.put-requires
 put-requires g c = record {
-  room = (let t = c.clear_member-left in let e = t.ensures in
-      room_above c.args.domain.now c.args.desk.now t.new.desk record { endings = c.pop.new.self } c.push_reserved.new.self.items
-      c.in-Some.top t.new.self c.in-Some-next_member.member t.result _
-      (popped c.args.domain.now c.args.desk.now c.args.self.now record { endings = c.pop.new.self } c.in-Some.top c.requires.carries
-      c.in-Some.ensures.items c.pop.ensures.capacity)
-      e.clears e.endings e.beside e.object.0 e.ends e.desk.shape c.stands.ensures c.push_reserved.ensures.items c.push_reserved.ensures.capacity);
+  room = (let o = top_of_pile c.args.self.now c.in-Some.top.now (c.in-Some.ensures.variant.0 refl) c.in-Some.ensures.value in
+      let t = c.clear_member-left in let e = t.ensures in
+      top_room c.args.domain.now c.args.desk.now t.new.desk o.below _ c.in-Some.top.now t.new.self c.in-Some-next_member.member t.result _
+      c.requires.carries.belongs (subst (AllEnd c.args.desk.now) o.are c.requires.carries.ends) c.requires.carries.room
+      e.clears e.endings e.beside e.object.0 e.ends e.desk.shape c.stands.ensures (o.set t.new.self));
 }
 
 pub returns-clause-carries : goal.returns-clause-carries
 returns-clause-carries g c =
+    let o = top_of_pile c.args.self.now c.in-Some.top.now (c.in-Some.ensures.variant.0 refl) c.in-Some.ensures.value in
     let t = c.clear_member-left in let e = t.ensures in
-    put_back c.args.domain.now c.args.desk.now t.new.desk record { endings = c.pop.new.self } c.put.new.self c.in-Some.top t.new.self
-    c.in-Some-next_member.member t.result
-    (popped c.args.domain.now c.args.desk.now c.args.self.now record { endings = c.pop.new.self } c.in-Some.top c.requires.carries
-    c.in-Some.ensures.items c.pop.ensures.capacity)
+    top_back c.args.domain.now c.args.desk.now t.new.desk c.put.new.self o.below c.in-Some.top.now t.new.self
+    c.in-Some-next_member.member t.result _
+    c.requires.carries.belongs (subst (AllEnd c.args.desk.now) o.are c.requires.carries.ends) c.requires.carries.room
     e.clears e.endings e.beside e.object.0 e.ends e.desk
-    (c.put.ensures.endings ∙ ap (λ l. piled l t.result) c.push_reserved.ensures.items)
-    (c.put.ensures.room ∙ c.push_reserved.ensures.capacity)
+    (c.put.ensures.endings ∙ ap (λ l. piled l t.result) (o.set t.new.self)) c.put.ensures.room
 
 pub returns-clause-elsewhere : goal.returns-clause-elsewhere
 returns-clause-elsewhere g c =
+    let o = top_of_pile c.args.self.now c.in-Some.top.now (c.in-Some.ensures.variant.0 refl) c.in-Some.ensures.value in
     let t = c.clear_member-left in let e = t.ensures in
-    back_elsewhere c.args.desk.now t.new.desk c.in-Some.top t.new.self c.in-Some-next_member.member t.result
-    c.pop.new.self.items c.args.self.now.endings.items c.put.new.self.endings.items c.in-Some.ensures.items
+    back_elsewhere c.args.desk.now t.new.desk c.in-Some.top.now t.new.self c.in-Some-next_member.member t.result
+    o.below c.args.self.now.endings.items c.put.new.self.endings.items o.are
     e.clears e.endings e.count e.beside e.object.0 e.ends
-    (c.put.ensures.endings ∙ ap (λ l. piled l t.result) c.push_reserved.ensures.items)
+    (c.put.ensures.endings ∙ ap (λ l. piled l t.result) (o.set t.new.self))
 
 pub returns-clause-round : goal.returns-clause-round
 returns-clause-round g c =
+    let o = top_of_pile c.args.self.now c.in-Some.top.now (c.in-Some.ensures.variant.0 refl) c.in-Some.ensures.value in
     let t = c.clear_member-left in
     record {
-      below = c.pop.new.self.items;
-      top = c.in-Some.top;
-      were = c.in-Some.ensures.items;
+      below = o.below;
+      top = c.in-Some.top.now;
+      were = o.are;
       next = sym c.in-Some-next_member.ensures;
       left = t.result;
       clears = t.ensures.clears;
       told = c.of-gone.ensures;
-      are = c.put.ensures.endings ∙ (ap (λ l. piled l t.result) c.push_reserved.ensures.items
-          ∙ ap (λ (y : Ending g.row.V.Denot). piled (c.pop.new.self.items ++ y ∷ []) t.result) t.ensures.noted);
+      are = c.put.ensures.endings ∙ (ap (λ l. piled l t.result) (o.set t.new.self)
+          ∙ ap (λ (y : Ending g.row.V.Denot). piled (o.below ++ y ∷ []) t.result) t.ensures.noted);
     }
 
 pub returns-clause-parting : goal.returns-clause-parting
 returns-clause-parting g c =
     let t = c.clear_member-left in
-    clearing_does c.args.desk.now t.new.desk c.in-Some.top c.in-Some-next_member.member t.result t.ensures.clears
+    clearing_does c.args.desk.now t.new.desk c.in-Some.top.now c.in-Some-next_member.member t.result t.ensures.clears

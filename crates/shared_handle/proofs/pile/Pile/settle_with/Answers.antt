@@ -25,7 +25,8 @@ loop-init g c =
 
 pub work_off-requires : goal.work_off-requires
 work_off-requires g c = record {
-  stacked = (popped c.args.domain.now c.loop.desk c.loop.self record { endings = c.pop.new.self } c.in-Some-pop.top c.loop.invariant.0 c.in-Some-pop.ensures.items
+  stacked = (popped c.args.domain.now c.loop.desk c.loop.self record { endings = c.pop.new.self } c.in-Some-pop.top c.loop.invariant.0
+      c.in-Some-pop.ensures.items
       c.pop.ensures.capacity);
 }
 

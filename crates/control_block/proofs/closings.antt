@@ -1,0 +1,6 @@
+pub mod ClosedCells
+pub mod Closing
+pub mod ClosingHolders
+pub mod Holders
+pub mod HolderLists
+pub mod EndingNames

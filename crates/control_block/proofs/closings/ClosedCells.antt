@@ -1,0 +1,108 @@
+-- What the words of cells are where no call is half done.
+use Rattle.std.proofs.Common.{◌≡◌, ℕ, ◌+◌, ◌*◌, ◌%◌, ◌<◌, ◌≤◌, Option, None, Some, List, map, false, refl}
+use Rattle.std.proofs.Common.{sym, ap, subst, ◌∙◌, ⊎_elim, arith}
+use Rattle.std.specs.Prelude.{slice_index}
+use mathlib.Core.Option.{some}
+use lib.ListN.{get_elem?}
+use Rattle.atomic_table.specs.Table as Table
+use Rattle.control_word.proofs.history.Allowances.{opened}
+use Rattle.control_word.proofs.history.Kept.{cells_led}
+use Rattle.control_word.proofs.history.Legal.{sound}
+use Rattle.control_word.proofs.history.Soundness.{IsBusy}
+use Rattle.control_word.proofs.words.Banks.{bank_none}
+use Rattle.control_word.proofs.words.Frames.{spot_apart, spot_fits, total_none}
+use Rattle.control_word.proofs.words.Funds.{cell_busy, member_busy, slot_low}
+use Rattle.control_word.proofs.words.Members.{member_word}
+use Rattle.control_word.specs.Histories.{leads}
+use Rattle.control_word.specs.Layout.{spot}
+use Rattle.control_word.specs.State.{InShape, Opening}
+use Rattle.control_word.specs.Views.{Stands, added, adds, owed, owes, paid, pays}
+use Rattle.control_word.specs.Words.{blocks_of, cell_spot, owned_bits, packed, place_bits, slot}
+use Rattle.control_word.specs.declared.model.event.Entry.{Entry}
+use Rattle.control_word.specs.declared.model.handle.NumberedHandle.{NumberedHandle}
+use Rattle.control_word.specs.declared.place.Place.{Place}
+use Rattle.control_word.specs.declared.model.view.Pending.TheVariants.{Idle}
+use Rattle.control_word.specs.declared.model.view.View.{View}
+use Rattle.control_word.specs.declared.shape.Shape.{Shape}
+use Rattle.control_block.specs.Census.{CensusNow}
+use Rattle.control_block.specs.Holders.{TellsCells, owned_by}
+use Rattle.control_block.specs.StepKinds.{known}
+use Rattle.control_block.specs.Rule.{Ruled, opening_of, view_of}
+use Rattle.control_block.specs.declared.table.SeatView.{SeatView}
+use Rattle.control_block.proofs.closings.Closing.{all_idle, all_seen}
+
+low_part : (n : ℕ) (p : Option Place) (t : ℕ) → n < 65536 → (n + place_bits p + 17179869184 * t) % 65536 ≡ n
+low_part n None t lt = omega arith
+low_part n (Some p) t lt = omega arith
+
+-- the low part of a cell's word is the block of the handle's object
+low_of : (f : ℕ → ℕ) (h : NumberedHandle) (t : ℕ) → owned_bits f h.object < 65536 → (packed f h + 17179869184 * t) % 65536 ≡ owned_bits f h.object
+unfolding packed
+low_of f h t lt = low_part (owned_bits f h.object) h.place t lt
+
+bits_fit : (f : ℕ → ℕ) (o : Option ℕ) → ((r : ℕ) → o ≡ Some r → f r ≤ 65535) → owned_bits f o < 65536
+bits_fit f None fit = omega arith
+bits_fit f (Some o) fit = let t = fit o refl in omega arith
+
+module _ {V : Type 0} where
+  module _ (z : Opening) (words : List ℕ) (views : List (View V)) (h : List (Entry V)) (stands : Stands z words views h)
+      (idle : (i : ℕ) (v : View V) → get_elem? views i ≡ some v → v.pending ≡ Idle) where
+    none_half : (k : ℕ) → (owed views k ≡ 0) × (added views k ≡ 0) × (paid views k ≡ 0)
+    none_half k = (
+      total_none (λ (v : View V). owes v.pending k) views (λ i v e. ap (λ q. owes q k) (idle i v e)),
+      total_none (λ (v : View V). adds v.pending k) views (λ i v e. ap (λ q. adds q k) (idle i v e)),
+      total_none (λ (v : View V). pays v.pending k) views (λ i v e. ap (λ q. pays q k) (idle i v e)),
+    )
+
+    busy_fits : (r : ℕ) → IsBusy (leads z h) r → blocks_of (leads z h) r ≤ 65535
+    busy_fits r busy =
+        let p = ((sound z h stands.legal).placed r busy).1 in let l = (opened z h stands.legal).limits.0 in let p1 = p.1 in omega arith
+
+    pub free_word : (c : ℕ) → c < z.cells → slice_index words (cell_spot z c) % 65536 ≡ owned_by (leads z h) ((leads z h).cell c)
+    free_word c lt =
+        let s = leads z h in let fine = sound z h stands.legal in let k = cell_spot z c in
+        let none = none_half k in let n1 = none.1 in let n2 = none.2 in
+        let bank = bank_none z s fine stands.taken k
+        (λ m o busy e. let p = (fine.placed o busy).1 in let l = slot_low m in
+        let f = spot_fits z (s.object o).block (slot m) p (omega arith) in omega arith) in
+        let word : slice_index words k ≡ packed (blocks_of s) (s.cell c) + 17179869184 * stands.taken k = let w = stands.shows.free c lt in omega arith in
+        ap (λ n. n % 65536) word
+        ∙ low_of (blocks_of s) (s.cell c) (stands.taken k)
+        (bits_fit (blocks_of s) (s.cell c).object (λ r e. busy_fits r (cell_busy z s fine c r (let q = cells_led z h in omega arith) e)))
+
+    pub member_at : (b m : ℕ) → InShape z b → m < 3
+        → slice_index words (spot b (7 + m)) % 65536 ≡ owned_by (leads z h) (((leads z h).object ((leads z h).latest b)).member m)
+    member_at b m inside lt =
+        let s = leads z h in let fine = sound z h stands.legal in let k = spot b (7 + m) in let o = s.latest b in let x = (s.object o).member m in
+        let none = none_half k in let n0 = none.0 in let n1 = none.1 in let n2 = none.2 in
+        let bank = bank_none z s fine stands.taken k
+        (λ j q busy e. let p = (fine.placed q busy).1 in let l = slot_low j in
+        let t = spot_apart b (7 + m) (s.object q).block (slot j) inside.0 p.0 (omega arith) (omega arith) e in let t1 = t.1 in omega arith) in
+        let same = member_word s b o m lt refl in
+        let word : slice_index words k ≡ packed (blocks_of s) x + 17179869184 * stands.taken k =
+        ⊎_elim (λ l. absurd (let l1 = l.1 in omega arith)) (λ t. omega arith) (stands.shows.blocks b (7 + m) inside (omega arith)) in
+        ap (λ n. n % 65536) word
+        ∙ low_of (blocks_of s) x (stands.taken k)
+        (bits_fit (blocks_of s) x.object (λ r e. busy_fits r (member_busy z s fine o m r (let q = fine.latest_made b in omega arith) lt e)))
+
+abbrev pub census_of : Shape → List ℕ → CensusNow
+census_of k l = record { blocks = k.blocks; shared_cells = k.shared_cells; weak_cells = k.weak_cells; words = l }
+
+module _ {V : Type 0} where
+  module _ (k : Shape) (s : Table.State (Rattle.std.specs.Prelude.Option V) (SeatView V)) (r : Ruled k s) (id : ℕ) (v : SeatView V)
+      (at : get_elem? s.views id ≡ some v)
+      (awake : v.view.spent ≡ false) (idle : v.view.pending ≡ Idle) (whole : (known v).allowance v.view.name ≡ v.shape.allowance) where
+    told_by_words : TellsCells (leads (opening_of k) r.history) (census_of k s.words)
+    told_by_words =
+        let z = opening_of k in let h = r.history in let none = all_idle k s r id v at awake idle whole in
+        record {
+          frees = λ i lt. free_word z s.words (map view_of s.views) h r.stands none i lt;
+          members = λ b m has lt. member_at z s.words (map view_of s.views) h r.stands none b m has lt;
+        }
+
+    -- what the cells hold where a sole desk closes its domain
+    pub tells_cells : (z : Shape) (l : List ℕ) → k ≡ z → s.words ≡ l → TellsCells (known v) (census_of z l)
+    tells_cells z l shape words =
+        subst (λ y. TellsCells (known v) (census_of y l)) shape
+        (subst (λ y. TellsCells (known v) (census_of k y)) words
+        (subst (λ y. TellsCells y (census_of k s.words)) (sym (all_seen k s r id v at awake idle whole)) told_by_words))

@@ -1,0 +1,130 @@
+-- What the words are once a sole desk closes its domain.
+use Rattle.std.proofs.Common.{◌≡◌, ◌≢◌, ℕ, zero, suc, ◌+◌, ◌-◌, ◌==◌, Bool, true, false, List, [], ◌∷◌, map, refl, sym, ap}
+use Rattle.std.proofs.Common.{subst, ◌∙◌, ⊎_elim, arith}
+use Rattle.std.proofs.Common.{cond, eq-eqb, ne_eqb}
+use Rattle.std.proofs.lemmas.Bool.{cases_eq, cond-true, cond-false}
+use Rattle.std.specs.Prelude.{slice_index}
+use mathlib.Core.Option.{some, some-injective, some-ne-none}
+use lib.ListN.{get_elem?}
+use Rattle.atomic_table.specs.Table as Table
+use Rattle.atomic_table.proofs.Lists.{at_map}
+use Rattle.control_word.proofs.history.Endings.{ends_in_hands}
+use Rattle.control_word.proofs.history.Sole.{alone}
+use Rattle.control_word.proofs.history.Soundness.{OwnersFit, Sound}
+use Rattle.control_word.proofs.views.Resting.{rests_exactly, sole_has_seen_all}
+use Rattle.control_word.specs.Histories.{IsLegal, leads}
+use Rattle.control_word.specs.Layout.{spot}
+use Rattle.control_word.specs.Packing.{number_of}
+use Rattle.control_word.specs.State.{InShape, IsVacant, Opening, Phase, State, common, count, ending, gone, live, unmade, weak, weak_number}
+use Rattle.control_word.specs.Views.{NamesBlock}
+use Rattle.control_word.specs.declared.model.event.Entry.{Entry}
+use Rattle.control_word.specs.declared.shape.Shape.{Shape}
+use Rattle.control_word.specs.declared.model.view.Pending.TheVariants.{Idle}
+use Rattle.control_word.specs.declared.model.view.View.{View}
+use Rattle.control_block.specs.Census.{CensusNow, EndsNot, TellsBlock, owners_in}
+use Rattle.control_block.specs.Desks.{many_ending}
+use Rattle.control_block.specs.StepKinds.{known}
+use Rattle.control_block.specs.Rule.{Ruled, opening_of, view_of}
+use Rattle.control_block.specs.declared.table.SeatView.{SeatView}
+use Rattle.control_block.proofs.EndingCounts.{some_ending}
+use Rattle.control_block.proofs.kept.Look as looks
+
+pub index_at : (l : List ℕ) (i x : ℕ) → get_elem? l i ≡ some x → x ≡ slice_index l i
+index_at [] i x e = absurd (some-ne-none x (sym e))
+index_at (y ∷ ys) zero x e = sym (some-injective y x e)
+index_at (y ∷ ys) (suc i) x e = index_at ys i x e
+
+-- a block is vacant where its latest object has no weak number
+pub vacant_by_latest : (z : Opening) (s : State) (b : ℕ) → Sound z s → weak_number s (s.latest b) ≡ 0 → IsVacant s b
+vacant_by_latest z s b fine none o here = go (weak_number s o) refl
+  where
+    go : (n : ℕ) → weak_number s o ≡ n → weak_number s o ≡ 0
+    go zero e = e
+    go (suc n) e =
+        let p = (fine.placed o (omega arith)).0 in
+        let q : s.latest b ≡ o = ap s.latest (sym here) ∙ p in ap (weak_number s) (sym q) ∙ none
+
+module _ {V : Type 0} where
+  module _ (k : Shape) (s : Table.State (Rattle.std.specs.Prelude.Option V) (SeatView V)) (r : Ruled k s) (id : ℕ) (v : SeatView V)
+      (at : get_elem? s.views id ≡ some v)
+      (awake : v.view.spent ≡ false) (idle : v.view.pending ≡ Idle) (whole : (known v).allowance v.view.name ≡ v.shape.allowance) where
+    same_shape : v.shape ≡ k
+    same_shape = r.shapes id v at awake
+
+    pub all_seen : known v ≡ leads (opening_of k) r.history
+    all_seen =
+        let w = subst (λ y. (leads (opening_of y) v.view.seen).allowance v.view.name ≡ y.allowance) same_shape whole in
+        let e = sole_has_seen_all (opening_of k) s.words (map view_of s.views) r.history r.stands id v.view
+        (at_map view_of s.views id v at) awake w in
+        λ i. leads (opening_of (same_shape i)) (e i)
+
+    -- no call is half done
+    pub all_idle : (j : ℕ) (u : View V) → get_elem? (map view_of s.views) j ≡ some u → u.pending ≡ Idle
+    all_idle j u there = go u.spent refl
+      where
+        go : (t : Bool) → u.spent ≡ t → u.pending ≡ Idle
+        go true t = r.stands.team.rests j u there t
+        go false t =
+            let w = subst (λ y. (leads (opening_of y) v.view.seen).allowance v.view.name ≡ y.allowance) same_shape whole in
+            let whole' : (leads (opening_of k) r.history).allowance v.view.name ≡ k.allowance = ap
+            (λ (y : State). y.allowance v.view.name) (sym all_seen) ∙ (whole ∙ ap (λ y. y.allowance) same_shape) in
+            let same = looks.alone (opening_of k) s.words (map view_of s.views) r.history r.stands id v.view
+            (at_map view_of s.views id v at) awake whole' j u there t in
+            let e = some-injective u v.view (sym there ∙ (ap (get_elem? (map view_of s.views)) same ∙ at_map view_of s.views id v at)) in
+            ap (λ (y : View V). y.pending) e ∙ idle
+
+    nobody_names : (b j : ℕ) (u : View V) → get_elem? (map view_of s.views) j ≡ some u → NamesBlock (leads (opening_of k) r.history) u.pending b → ⊥
+    nobody_names b j u there names = subst (λ p. NamesBlock (leads (opening_of k) r.history) p b) (all_idle j u there) names
+
+    -- the counts of a block of which no object is ending
+    pub exact_counts : (b : ℕ) → InShape (opening_of k) b
+        → ((o d : ℕ) → ((known v).object o).block ≡ b → ((known v).object o).phase ≡ ending d → ⊥)
+        → (number_of (slice_index s.words (spot b 0)) ≡ count (known v) ((known v).latest b))
+        × (number_of (slice_index s.words (spot b 1)) ≡ weak (known v) ((known v).latest b) + common ((known v).object ((known v).latest b)).phase)
+    exact_counts b inside still =
+        subst (λ (y : State). (number_of (slice_index s.words (spot b 0)) ≡ count y (y.latest b))
+        × (number_of (slice_index s.words (spot b 1)) ≡ weak y (y.latest b) + common (y.object (y.latest b)).phase)) (sym all_seen)
+        (rests_exactly (opening_of k) s.words (map view_of s.views) r.history r.stands b inside record {
+          still = subst (λ (y : State). (o d : ℕ) → (y.object o).block ≡ b → (y.object o).phase ≡ ending d → ⊥) all_seen still;
+          unnamed = nobody_names b;
+        })
+
+  -- where nothing ends with a sole desk, nothing ends at all
+  pub nothing_ends : (z : Opening) (h : List (Entry V)) → IsLegal z h → (n : ℕ) → (leads z h).allowance n ≡ z.allowance
+      → many_ending z.blocks (leads z h) n ≡ 0 → (b : ℕ) → InShape z b → EndsNot (leads z h) b
+  nothing_ends z h legal n whole none b inside o d here ends =
+      let s = leads z h in let in_hands = ends_in_hands z h legal o d ends in
+      let mine = alone z h legal n d whole in_hands.0 in let last : s.latest b ≡ o = ap s.latest (sym here) ∙ in_hands.3 in
+      let some' = some_ending z.blocks s n b inside.0 inside.1 (ap (λ q. (s.object q).phase) last ∙ (ends ∙ ap ending mine)) in omega arith
+
+one_live : (p : Phase) (n : ℕ) → OwnersFit p n → ((d : ℕ) → p ≡ ending d → ⊥) → ◌≡◌ {A = ℕ} (cond (n == 0) 0 1) (common p)
+one_live unmade n fit not = cond-true (n == 0) 0 1 (eq-eqb n 0 fit)
+one_live live n fit not = cond-false (n == 0) 0 1 (ne_eqb n 0 (λ e. omega arith))
+one_live gone n fit not = cond-true (n == 0) 0 1 (eq-eqb n 0 fit)
+one_live (ending d) n fit not = absurd (not d refl)
+
+-- the counts of the words are those of the state
+pub tells_of : (z : Opening) (t : State) (b : ℕ) (c : CensusNow) → Sound z t → EndsNot t b → owners_in c b ≡ count t (t.latest b)
+    → number_of (slice_index c.words (spot b 1)) ≡ weak t (t.latest b) + common (t.object (t.latest b)).phase → TellsBlock t b c
+tells_of z t b c fine still owners number =
+    let o = t.latest b in
+    let here : (t.object o).phase ≢ unmade → (t.object o).block ≡ b = λ n. fine.latest_in b (λ e. n (ap (λ x. (t.object x).phase) e ∙ fine.none)) in
+    let not : (d : ℕ) → (t.object o).phase ≡ ending d → ⊥ = λ d e. still o d (here (λ u. ends_unmade d (sym e ∙ u))) e in
+    let one = ap (λ (n : ℕ). cond (n == 0) 0 1) owners ∙ one_live (t.object o).phase (count t o) (fine.owners o) not in
+    let none : IsVacant t b → weak_number t o ≡ 0 = λ v. ⊎_elim
+    (λ (e : o ≡ 0). ap (weak_number t) e ∙ fine.unmade_free 0 fine.none)
+    (λ (n : o ≢ 0). v o (fine.latest_in b n)) (cases_eq o 0) in
+    record {
+      owners = owners;
+      weaks = let one' = one in omega arith;
+      vacant = (λ e. vacant_by_latest z t b fine (let n = number in omega arith), λ v. let n = number in let w = none v in omega arith);
+    }
+  where
+    ends_unmade : (d : ℕ) → ending d ≡ unmade → ⊥
+    ends_unmade d e = cc
+
+pub one_less : (o n : ℕ) → o ≢ 0 → n - 1 ≡ n - cond (o == 0) 0 1
+one_less o n ne = let e = cond-false {A = ℕ} (o == 0) 0 1 (ne_eqb o 0 ne) in omega arith
+
+pub none_less : (o n : ℕ) → o ≡ 0 → n ≡ n - cond (o == 0) 0 1
+none_less o n e = let e = cond-true {A = ℕ} (o == 0) 0 1 (eq-eqb o 0 e) in omega arith

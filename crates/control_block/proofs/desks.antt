@@ -1,0 +1,11 @@
+pub mod DeskSteps
+pub mod DeskBags
+pub mod DeskLocks
+pub mod DeskStores
+pub mod StoreBlocks
+pub mod WeakGifts
+pub mod OwnCounts
+pub mod OwnEndings
+pub mod Near
+pub mod Outcomes
+pub mod Visiting

@@ -1,0 +1,45 @@
+-- Owners of two desks are two, so nobody visits an object whose last owner leaves.
+use Rattle.std.proofs.Common.{◌≡◌, ◌≢◌, ◌==◌, ℕ, ◌<◌, true, false, [], Option, None, Some, refl, sym, ap, subst, ◌∙◌, inl, arith}
+use mathlib.Core.Option.{some, some-injective}
+use lib.ListN.{get_elem?}
+use Rattle.std.proofs.lemmas.Bool.{eqb-true}
+use Rattle.atomic_table.specs.Table as Table
+use Rattle.atomic_table.proofs.Lists.{at_map}
+use Rattle.control_word.proofs.history.Given.{names_an_object}
+use Rattle.control_word.proofs.lists.Tallies.{has_without, held_self, held_true, tally_has, tally_here, tally_without}
+use Rattle.control_word.specs.Handles.{handle}
+use Rattle.control_word.specs.Histories.{leads}
+use Rattle.control_word.specs.State.{Has, Held, State, count, held, in_cells, same_held, without}
+use Rattle.control_word.specs.declared.model.handle.Kind.TheVariants.{Owner}
+use Rattle.control_word.specs.declared.place.Place.{Place}
+use Rattle.control_word.specs.declared.shape.Shape.{Shape}
+use Rattle.control_block.specs.Rule.{IsSlotOf, Ruled, opening_of, view_of}
+use Rattle.control_block.specs.declared.table.SeatView.{SeatView}
+use Rattle.control_block.proofs.words.Slots.{Visits}
+
+pub two_owners : (s : State) (d e o : ℕ) (p q : Option Place) → d ≢ e → Has (held d (handle Owner (Some o) p)) s.hands
+    → Has (held e (handle Owner (Some o) q)) s.hands → 1 < count s o
+unfolding count
+two_owners s d e o p q apart mine his =
+    let x = held d (handle Owner (Some o) p) in
+    let rest = has_without same_held held_true held_self (held e (handle Owner (Some o) q)) x s.hands his (λ y. apart (sym (ap (λ (z : Held). z.desk) y))) in
+    let one = tally_has Owner o (held e (handle Owner (Some o) q)) (without same_held x s.hands) (in_cells s) rest (omega (arith, tally_here Owner o q [])) in
+    let two = tally_without Owner o x s.hands (in_cells s) mine in let here = tally_here Owner o p [] in omega arith
+
+module _ {V : Type 0} where
+  -- where the last owner leaves nobody visits
+  pub unvisited : (k : Shape) (s : Table.State (Option V) (SeatView V)) (r : Ruled k s) (id : ℕ) (v : SeatView V) → get_elem? s.views id ≡ some v
+      → v.view.spent ≡ false → v.hand ≡ None → (o b : ℕ) (p : Option Place) → let t = leads (opening_of k) r.history in
+      Has (held v.view.name (handle Owner (Some o) p)) t.hands → t.latest b ≡ o → true ≡ (count t o == 1)
+      → (j : ℕ) (u : SeatView V) → get_elem? s.views j ≡ some u → u.view.spent ≡ false → IsSlotOf u.hand b
+      → Visits t u.view.name b u.view.pending → ⊥
+  unvisited k s r id v at awake free o b p mine last one j u there un out m =
+      let z = opening_of k in let t = leads z r.history in
+      let name = names_an_object z r.history r.stands.legal u.view.name Owner (handle Owner (Some m.object) m.place) (m.has, refl, refl) in
+      let same : m.object ≡ o = sym name.2 ∙ (ap t.latest m.there ∙ last) in
+      let his = subst (λ q. Has (held u.view.name (handle Owner (Some q) m.place)) t.hands) same m.has in
+      let other : j ≢ id = λ q. subst (λ c. IsSlotOf c b) free (subst (λ (y : SeatView V). IsSlotOf y.hand b) (some-injective u v (sym there
+      ∙ (ap (get_elem? s.views) q ∙ at))) out) in
+      let apart : v.view.name ≢ u.view.name = λ q. other (r.stands.team.names j id u.view v.view (at_map view_of s.views j u there)
+      (at_map view_of s.views id v at) un awake u.view.name (inl refl) (inl q)) in
+      let two = two_owners t v.view.name u.view.name o p m.place apart mine his in let e = eqb-true (count t o) 1 (sym one) in omega arith

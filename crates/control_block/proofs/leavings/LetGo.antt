@@ -1,0 +1,142 @@
+-- What the steps of a call come to by which a handle comes out of a cell and leaves.
+use Rattle.std.proofs.Common.{◌≡◌, ℕ, ◌-◌, ◌≤◌, false, [], Option, Some, None, refl, sym, ap, subst, ◌∙◌, inr, arith}
+use Rattle.std.specs.Prelude.{IfSome}
+use Rattle.atomic_table.specs.Seated.{TableId}
+use Rattle.control_word.specs.Handles.{handle, object_of}
+use Rattle.control_word.specs.Histories.{value}
+use Rattle.control_word.specs.Words.{blocks_of}
+use Rattle.control_word.specs.declared.packed.cell.CellWord.{CellWord}
+use Rattle.control_word.specs.declared.model.event.Event.{Event}
+use Rattle.control_word.specs.declared.model.handle.NumberedHandle.{NumberedHandle}
+use Rattle.control_word.specs.declared.model.handle.Kind.{Kind}
+use Rattle.control_word.specs.declared.place.Block.{Block}
+use Rattle.control_word.specs.declared.place.Place.{Place}
+use Rattle.control_word.specs.declared.model.view.Pending.{Pending}
+use Rattle.control_word.specs.declared.model.view.Pending.TheVariants.{Idle}
+use Rattle.control_block.specs.CellCalls.{object_by}
+use Rattle.control_block.specs.CellStepKinds.{Gave, debt}
+use Rattle.control_block.specs.CellRetries.{CameOut, IsCounted}
+use Rattle.control_block.specs.FundStepKinds.{Owes, owing}
+use Rattle.control_block.specs.Inside.{IsSized}
+use Rattle.control_block.specs.Leaving.{IsReleasedBy, LetGo, MayLeave, OutAndGone, OwesFor, block_out, leave_of, nothing, shown_handle}
+use Rattle.control_block.specs.StepKinds.{Added, At, Rests, goes_on, in_call, known}
+use Rattle.control_block.specs.Rule.{opening_of}
+use Rattle.control_block.specs.declared.table.SeatView.{SeatView}
+use Rattle.control_block.specs.declared.released.Released.{Released}
+use Rattle.control_block.proofs.cells.CellRetries.{added_owes, came_object, given_back, object_shown}
+use Rattle.control_block.proofs.words.Seats.{added_as}
+use Rattle.control_block.proofs.cells.CellTrades.{Trades, came_in_shape, came_inside}
+
+module _ {V : Type 0} where
+  pub owes_rests : (me : At V) → Owes Idle me → Rests me
+  owes_rests me o = record { awake = o.awake; idle = o.pending; empty = o.empty; none = o.none }
+
+  -- a desk that owes nothing and tells an event rests
+  pub gone_rests : (v : SeatView V) (me : At V) (e : Event V) → Added v Idle None e me.0 → v.view.spent ≡ false → me.1 ≡ [] → Rests me
+  gone_rests v me e a awake none = owes_rests me (added_owes v me Idle e a awake none)
+
+  -- what owes its funds may leave
+  pub may_go : (k : Kind) (x : CellWord) (me : At V) (b : Block) (o : ℕ) (p : Option Place) (f : ℕ) → OwesFor k x me → x.owned ≡ Some b
+      → o ≡ (known me.0).latest b.0 → p ≡ x.place → f ≡ 256 - x.taken → MayLeave me k o p b.0 f
+  may_go k x me b o p f owes is object place left =
+      let now = subst (λ q. Owes (debt (handle k (object_by (known me.0).latest q) x.place) q (256 - x.taken)) me) is owes in
+      inr (subst (λ (y : ℕ × Option Place × ℕ). Owes (owing k y.0 y.1 b.0 y.2 0) me) (λ i. (sym object i, sym place i, sym left i)) now)
+
+  pub meant_out : (k : Kind) (v : SeatView V) (x : CellWord)
+      → IfSome x.owned (λ b. (block_out x ≡ b) × (object_of (shown_handle v k x) ≡ (known v).latest b.0))
+  meant_out k v x = go x.owned
+    where
+      go : (q : Option Block) → IfSome q (λ b. ((elim q as (λ _. Block) [ None ↦ record { 0 = 0 } | Some c ↦ c ]) ≡ b)
+          × (object_of (handle k (object_by (known v).latest q) x.place) ≡ (known v).latest b.0))
+      go None = tt
+      go (Some b) = (refl, refl)
+
+  -- an empty handle owes nothing
+  pub none_owed : (k : Kind) (x : CellWord) (me : At V) → OwesFor k x me → x.owned ≡ None → Rests me
+  none_owed k x me owes is =
+      owes_rests me (subst (λ q. Owes (debt (handle k (object_by (known me.0).latest q) x.place) q (256 - x.taken)) me) is owes)
+
+  pub none_gone : (k : Kind) (v : SeatView V) (x : CellWord) (r : Released V) → x.owned ≡ None → r ≡ nothing → LetGo k v x.owned x.place r v
+  none_gone k v x r is none = subst (λ q. LetGo k v q x.place r v) (sym is) (none, refl)
+
+  -- what left is the handle that was shown
+  pub some_gone : (k : Kind) (v u : SeatView V) (x : CellWord) (b : Block) (o : ℕ) (p : Option Place) (r : Released V) → x.owned ≡ Some b
+      → o ≡ (known v).latest b.0 → p ≡ x.place → Added v Idle None (leave_of k (handle k (Some o) p) r) u → IsReleasedBy k r
+      → IfSome r.value (λ y. value (opening_of v.shape) u.view.seen o ≡ Some y) → LetGo k v x.owned x.place r u
+  some_gone k v u x b o p r is object place a only kept =
+      subst (λ q. LetGo k v q x.place r u) (sym is)
+      (subst (λ (y : ℕ × Option Place). Added v Idle None (leave_of k (handle k (Some y.0) y.1) r) u × IsReleasedBy k r
+      × IfSome r.value (λ c. value (opening_of v.shape) u.view.seen y.0 ≡ Some c)) (λ i. (object i, place i)) (a, only, kept))
+
+  -- bringing funds adds nothing to what the desk has seen
+  pub gave_from : (e : NumberedHandle → Event V) (k : Kind) (v w u : SeatView V) (p : Pending V) (x : CellWord) → w ≡ in_call v p
+      → Gave e k w x u → Gave e k v x u
+  gave_from e k v w u p x is g =
+      let d = subst (λ (y : SeatView V). Gave e k y x u) is g in let a = d.event in
+      record {
+        old = d.old;
+        kind = d.kind;
+        shows = d.shows;
+        event = record { between = a.between; now = a.now; quiet = a.quiet; legal = a.legal };
+      }
+
+  module _ (e : NumberedHandle → Event V) (k : Kind) (v : SeatView V) (x : CellWord) (lost : NumberedHandle) (trades : Trades e lost) where
+    -- the handle that came out owes its funds
+    pub gave_owes : (me : At V) → Gave e k v x me.0 → v.view.spent ≡ false → me.1 ≡ [] → OwesFor k x me
+    gave_owes me g awake none = go x.owned refl
+      where
+        go : (q : Option Block) → x.owned ≡ q → Owes (debt (handle k (object_by (known me.0).latest q) x.place) q (256 - x.taken)) me
+        go None is =
+            added_owes v me Idle (e g.old) (subst (λ q. Added v (debt g.old q (256 - x.taken)) None (e g.old) me.0) is g.event) awake none
+        go (Some b) is =
+            let w = me.0 in
+            let c : CameOut e k v x (goes_on w) = record {
+              handle = g.old;
+              kind = g.kind;
+              shows = g.shows;
+              event = added_as v w (goes_on w) (debt g.old x.owned (256 - x.taken)) Idle None None (e g.old) g.event refl;
+            } in
+            let o = (came_object e k v (goes_on w) x lost b trades c is).0 in
+            let object : object_of g.old ≡ (known w).latest b.0 = ap (λ (q : Option ℕ). object_of (handle k q None)) o in
+            let place : g.old.place ≡ x.place = sym (ap (λ y. y.place) g.shows) in
+            let now = added_owes v me _ (e g.old) (subst (λ q. Added v (debt g.old q (256 - x.taken)) None (e g.old) w) is g.event) awake none in
+            subst (λ (y : Kind × ℕ × Option Place). Owes (owing y.0 y.1 y.2 b.0 (256 - x.taken) 0) me) (λ i. (g.kind i, object i, place i)) now
+
+    -- and its block and count are the table's
+    pub gave_there : (w : SeatView V) (id : TableId) → Gave e k v x w → IsSized id v.shape → IfSome x.owned (λ b. IsCounted k b id × (b.0 ≤ id.slots))
+    gave_there w id g sized = go x.owned refl
+      where
+        go : (q : Option Block) → x.owned ≡ q → IfSome q (λ b. IsCounted k b id × (b.0 ≤ id.slots))
+        go None is = tt
+        go (Some b) is =
+            let o = object_shown (blocks_of (known w)) g.old.object b (sym (ap (λ y. y.owned) g.shows) ∙ is) in
+            let p = debt g.old x.owned (256 - x.taken) in
+            let inside = came_in_shape v w p e lost g.old k o.0 b trades g.event g.kind o.1 o.2 in let low = inside.1 in let slots = sized.slots in
+            (came_inside v w p e lost g.old k o.0 b id trades g.event g.kind o.1 o.2 sized, omega arith)
+
+  over_already : (w : SeatView V) → w.view.pending ≡ Idle → w.hand ≡ None → goes_on w ≡ w
+  over_already w idle empty =
+      λ i. record {
+        shape = w.shape;
+        view = record { name = w.view.name; spent = w.view.spent; pending = sym idle i; seen = w.view.seen };
+        hand = sym empty i;
+      }
+
+  module _ (e : NumberedHandle → Event V) (k : Kind) (v w : SeatView V) (x : CellWord) (g : Gave e k v x w) (is : x.owned ≡ None) where
+    none_over : goes_on w ≡ w
+    none_over =
+        let now = subst (λ q. Added v (debt g.old q (256 - x.taken)) None (e g.old) w) is g.event in
+        over_already w (ap (λ (u : SeatView V). u.view.pending) now.now) (ap (λ (u : SeatView V). u.hand) now.now)
+
+  again : (v u : SeatView V) (a : Event V) → Added v Idle None a u → Added (goes_on v) Idle None a u
+  again v u a t = record { between = t.between; now = t.now; quiet = t.quiet; legal = t.legal }
+
+  -- it came out and left
+  pub out_and_gone : (e : NumberedHandle → Event V) (k : Kind) (v w u : SeatView V) (x : CellWord) (r : Released V) → Gave e k v x w
+      → LetGo k w x.owned x.place r u → OutAndGone e k v x r u
+  out_and_gone e k v w u x r g gone =
+      record { between = goes_on w; out = given_back e k v w (goes_on w) x g refl; gone = go x.owned refl gone }
+    where
+      go : (q : Option Block) → x.owned ≡ q → LetGo k w q x.place r u → LetGo k (goes_on w) q x.place r u
+      go None is t = (t.0, t.1 ∙ sym (none_over e k v w x g is))
+      go (Some b) is t = (again w u _ t.0, t.1, t.2)
