@@ -47,7 +47,7 @@ pointer_shares = search sendable
 
 module _ (V A : RattleType) (g : Ghosts A.Denot) where
   blocks : Frees g g.dealloc_token → (a : A.Denot) (p : Ptr) → Keyless (block_owns V p (g.dealloc_token a))
-  blocks f a p = (f.frees a (block_type V) p, (room (raw (lone V.mir)) p, room (block_type V) p))
+  blocks f a p = f.frees a (block_type V) p
 
   pub Empty-send : IsSend A → Frees g g.dealloc_token → IsSend (E-type.the_row V A g)
   Empty-send s f =

@@ -1,5 +1,4 @@
 pub mod Cells
 pub mod CellSteps
-pub mod Blocks
 pub mod Crossing
 pub mod Pairs

@@ -7,14 +7,6 @@ use std::alloc::Allocator;
 use std::marker::{Model, Send, Sync};
 use std::mem::{align_of, size_of};
 
-/// How a cell lies in memory: behind the value are 64 bytes that nobody uses, so at any address the
-/// values of two cells share no cache line of 64 bytes. No value of it is made.
-#[repr(C)]
-struct Spaced<V> {
-    value: V,
-    apart: [u64; 8],
-}
-
 /// A cell without a value.
 pub(crate) struct EmptyCell<V, A: Allocator> {
     at: *mut V,
@@ -43,7 +35,7 @@ impl<V, A: Allocator> EmptyCell<V, A> {
     pub(crate) fn allocate(alloc: A) -> Result<EmptyCell<V, A>, A>
         ensures { MatchResult result (λ c. c.alloc ≡ alloc) (λ h. h ≡ alloc) }
     {
-        match alloc.allocate(size_of::<Spaced<V>>(), align_of::<Spaced<V>>()) {
+        match alloc.allocate(size_of::<V>(), align_of::<V>()) {
             Ok(block) => Ok(EmptyCell {
                 at: block as *mut V,
                 alloc,
@@ -56,11 +48,8 @@ impl<V, A: Allocator> EmptyCell<V, A> {
         ensures { result ≡ self.alloc }
     {
         unsafe {
-            self.alloc.deallocate(
-                self.at as *mut u8,
-                size_of::<Spaced<V>>(),
-                align_of::<Spaced<V>>(),
-            );
+            self.alloc
+                .deallocate(self.at as *mut u8, size_of::<V>(), align_of::<V>());
         }
         let EmptyCell { at: _, alloc } = self;
         alloc

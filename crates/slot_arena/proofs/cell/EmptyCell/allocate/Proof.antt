@@ -10,7 +10,7 @@ use mir.MapTy.{inst_fn}
 use mir.Raw.{raw as bare}
 use mir.Val.{Val, vcons, vnil}
 use base.Logic.{SProp, ent, sep, emp, via, fst∗, wand, id⊢, apply∗}
-use base.Fml.{Fml, Lft, Share, ftrue, fat, flft, froom, fwand, Incl-trans}
+use base.Fml.{Fml, Lft, Share, ftrue, fat, flft, Incl-trans}
 use prog.Memory.{Memory, size, align, capped}
 use prog.Capped.{capped_fits}
 use prog.RawLaws.{size-raw, align-raw}
@@ -50,12 +50,10 @@ use Rattle.std.specs.contracts.result.Result as RS
 use Rattle.std.proofs.alloc.Calls.{second, Answer-typed, α, Fits, seen, Lent, lends, handle_tells, takes_key, Takes}
 use Rattle.std.proofs.alloc.Calls.{at_takes}
 use Rattle.std.proofs.alloc.Calls.{Answered, Takes-goes, Takes-gives, answers}
-use Rattle.std.proofs.BoxSteps.Form.{Bx, args, P, R, τ}
+use Rattle.std.proofs.BoxSteps.Form.{Bx, args, P, τ}
 use Rattle.std.proofs.RcSteps.{first_Good, some_Good}
 use Rattle.std.proofs.ResultValues.{ok_of, err_of}
 use Rattle.std.proofs.VecSteps.Shapes.{after, head, arm_body}
-use Rattle.slot_arena.specs.Ownership.{block_type}
-use Rattle.slot_arena.proofs.Blocks.{block_ty, cuts}
 use Rattle.slot_arena.proofs.Cells.{Empty, empty_ty, word, empty_typed}
 use Rattle.slot_arena.proofs.CellSteps.{empty_in}
 use Rattle.slot_arena.specs.contracts.cell.EmptyCell.allocate as F
@@ -110,7 +108,7 @@ module _ (E : Bx) {M : Type 1} {𝓤 : Ura M} (𝓛 : Logic 𝓤) (at_mem : Memo
       let both : Body = head (after 3 (fn' E).body) in
       let Then : After 𝓤 H =
       any_q (after_seq 𝓤 H (Wp 𝓤 H C Λ En (after 4 (fn' E).body) (at_return 𝓤 H En Post)) (at_return 𝓤 H En Post)) in
-      let σ : Ty = block_ty E in
+      let σ : Ty = τ E in
       let s : ℕ = capped (size σ) in
       let al : ℕ = capped (align σ) in
       let hp : ℕ × ℕ = (l 2, 0) in
@@ -141,7 +139,6 @@ module _ (E : Bx) {M : Type 1} {𝓤 : Ura M} (𝓛 : Logic 𝓤) (at_mem : Memo
       let u : Val = word E hv' b o in
       let ok = first_Good (empty_ty E) u made in
       let d : (Empty E).Denot = record { at = block_ptr b o; alloc = a } in
-      let way : Fml = fwand (froom (bare (τ E)) b o) (froom (block_type (R E)) b o) in
       lands_as ! e refl (Answer-typed true b o) $ first ! $
       switches_on ! (get_tag ! (vrt ! refl (fld ! refl (stop !))) (whole !)) $ exec ! C Λ En (arm_body 0 both) Then $
       sets ! (of_opd ! (get_in ! (vrt ! refl (fld ! refl (stop !))) (in_variant ! 0 0 refl refl (whole !)))) refl
@@ -150,8 +147,7 @@ module _ (E : Bx) {M : Type 1} {𝓤 : Ura M} (𝓛 : Logic 𝓤) (at_mem : Memo
       sets ! (agg ! (and_then ! (get ! refl) (and_then ! (get ! refl) (no_more !)))) refl made $
       sets_last ! (agg ! (and_then ! (lit ! tt) (and_then ! (get ! refl) (no_more !)))) refl ok $
       exec ! C Λ En (after 4 (fn' E).body) (at_ret En Post) $ sets ! (of_opd ! (get ! refl)) refl ok $
-      use1 𝓛 (‵ (froom (bare (τ E)) b o) ⊛ ‵ way) (cuts E 𝓛 b o) $ split ! $
-      move ! (2 ∷ 1 ∷ []) $ fjoin ! $ move ! (1 ∷ 0 ∷ []) $ empty_in E ! a b o $
+      empty_in E ! a b o $
       use1 𝓛 (‵ ((Out E).own_val (Ok d) (live 0 (vcons u vnil) ∷ []))) (ok_of 𝓛 (Empty E) (P E) d u) $
       returns ! (look_at ! 0 refl) $ free_all ! refl $ keep ! (0 ∷ 2 ∷ 1 ∷ []) $
       by ! (exits (Ok d) (live 0 (vcons u vnil)) refl))

@@ -9,14 +9,14 @@ use mir.MapTy.{inst_fn}
 use mir.Raw.{raw as bare}
 use mir.Val.{Val, Vals, vunit, vptr, vcons, vnil, has_ty, WT}
 use base.Logic.{SProp, ent, sep, emp, via, fst∗}
-use base.Fml.{Fml, Lft, Share, ftrue, flft, froom, fwand, Incl-trans}
+use base.Fml.{Lft, Share, ftrue, flft, froom, Incl-trans}
 use prog.Memory.{Memory, size, align, capped, up}
 use prog.Capped.{capped_fits}
 use prog.RawLaws.{size-raw, align-raw}
 use prog.Routine.{Routine}
 use prog.Wp.{Env, Calls, Loops, WpFn, Tables}
 use types.Logic.{Logic, sem}
-use types.Kit.{‵, raw, ◌⊛◌, later, given, at_ret, ◌$◌, ◌∵◌, !, qed, by, move, keep, use1, use2, use3, learn, split3}
+use types.Kit.{‵, raw, ◌⊛◌, later, given, at_ret, ◌$◌, ◌∵◌, !, qed, by, move, keep, use1, use3, learn, split3}
 use types.Kit.{join}
 use types.Kit.{fsplit, fjoin, suffices, await, done}
 use types.Part.{whole, sub}
@@ -41,10 +41,8 @@ use denote.Triple.Table.{entered}
 use denote.Triple.Walked.{says, Stays, stay_dropped, walk_of, ends_at, walk_Meets}
 use Rattle.std.proofs.alloc.Calls.{second, α, Fits, gives_key, Gives, at_gives, Gives-goes, Gives-Gives, lends_field}
 use Rattle.std.proofs.alloc.Calls.{takes_back, Goes-blank}
-use Rattle.std.proofs.BoxSteps.Form.{Bx, args, R, τ}
+use Rattle.std.proofs.BoxSteps.Form.{Bx, args, τ}
 use Rattle.std.proofs.VecSteps.Shapes.{after}
-use Rattle.slot_arena.specs.Ownership.{block_type}
-use Rattle.slot_arena.proofs.Blocks.{block_ty, joins}
 use Rattle.slot_arena.proofs.Cells.{Empty, block, empty, word, empty_typed}
 use Rattle.slot_arena.proofs.CellSteps.{empty_out}
 use Rattle.slot_arena.specs.contracts.cell.EmptyCell.free as F
@@ -95,11 +93,9 @@ module _ (E : Bx) {M : Type 1} {𝓤 : Ura M} (𝓛 : Logic 𝓤) (at_mem : Memo
 
   walk : (hv : Val) (b o : ℕ) → Fits E.al hv → ent 𝓤 (Had hv b o) (WpFn 𝓤 H C Λ (fn' E) (word E hv b o ∷ []) Post)
   walk hv b o fa =
-      let typed = empty_typed E hv b o fa in let σ : Ty = block_ty E in
-      let way : Fml = fwand (froom (bare (τ E)) b o) (froom (block_type (R E)) b o) in
+      let typed = empty_typed E hv b o fa in let σ : Ty = τ E in
       qed 𝓛 (‵ (froom (bare (τ E)) b o) ∷ ‵ (block E a (block_ptr b o)) ∷ ‵ (E.al.row.own_val a (hv ∷ []))
       ∷ ‵ (flft ρ qρ) ∷ ‵ (flft κT qT) ∷ []) ∵
-      move ! (1 ∷ []) $ fsplit ! $ move ! (2 ∷ 1 ∷ []) $ use2 𝓛 (‵ (froom (bare σ) b o)) (joins E 𝓛 b o) $
       enter ! C Λ (fn' E) (word E hv b o ∷ []) _ $ alloc_all ! (λ l. pass_all ! refl (typed, tt) $
       let En : Env 𝓤 H = env (fn' E).locals l in
       let s : ℕ = capped (size σ) in
