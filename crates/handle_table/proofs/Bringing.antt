@@ -1,6 +1,6 @@
 -- What a handle that comes does to a table.
 use Rattle.std.proofs.Common.{◌≡◌, ℕ, List, Option, Some, None, Result, Ok, Err, OnOk, IfErr, IsErr, refl, sym, ap, subst, ◌∙◌}
-use Rattle.control_word.specs.declared.model.handle.Handle.{Handle}
+use Rattle.control_word.specs.declared.model.handle.NumberedHandle.{NumberedHandle}
 use Rattle.control_word.specs.declared.model.handle.Kind.TheVariants as kind
 use Rattle.control_word.specs.declared.place.Block.{Block}
 use Rattle.control_word.specs.declared.place.Place.{Place}
@@ -109,7 +109,7 @@ module _ {V : Type 0} where
   swaps_of d e ss xs from k old s = record { site = s.site; is = s.is; of = s.of; at = s.at; kinds = s.kinds; exchanges = s.exchanges }
 
 -- a weak copy in a bag
-pub weakly : (l : List Handle) (h : weak_handle.Weak) (c : Option Block) (p : Option Place) → h.block ≡ c → h.place ≡ weak_place c p
+pub weakly : (l : List NumberedHandle) (h : weak_handle.Weak) (c : Option Block) (p : Option Place) → h.block ≡ c → h.place ≡ weak_place c p
     → with_handle kind.Weak c p l ≡ with_held (Weak h) l
 weakly l h c p e f =
     subst (λ (b : Option Block). with_handle kind.Weak c p l ≡ with_handle kind.Weak b h.place l) (sym e) (go c h.place f)

@@ -3,7 +3,7 @@ use Rattle.std.proofs.Common.{◌≡◌, ℕ, ◌+◌, ◌<◌, List, Option, So
 use Rattle.std.proofs.lemmas.Bool.{cond-true, cond-false}
 use Rattle.std.specs.Prelude.{slice_get, Err, Ok}
 use Rattle.control_word.specs.State.{kind_of_free, kind_of_member}
-use Rattle.control_word.specs.declared.model.handle.Handle.{Handle}
+use Rattle.control_word.specs.declared.model.handle.NumberedHandle.{NumberedHandle}
 use Rattle.control_word.specs.declared.model.handle.Kind.{Kind}
 use Rattle.control_word.specs.declared.model.handle.Kind.TheVariants as kind
 use Rattle.control_word.specs.declared.place.Block.{Block}
@@ -35,20 +35,20 @@ pub by_parts : (P : Kind → Option Block → Option Place → Type 0) (k l : Ki
 by_parts P k l b c p q e f g x = subst (λ z. P z b p) (sym e) (subst (λ z. P l z p) (sym f) (subst (λ z. P l c z) (sym g) x))
 
 -- a list of handles with this one more, and with it less, by its parts
-pub with_parts : (h : Held) (l : List Handle) → with_held h l ≡ with_handle (kind_of_held h) (block_of_held h) (place_of_held h) l
+pub with_parts : (h : Held) (l : List NumberedHandle) → with_held h l ≡ with_handle (kind_of_held h) (block_of_held h) (place_of_held h) l
 with_parts (Owner h) l = refl
 with_parts (Weak w) l = refl
 
-pub without_parts : (h : Held) (l : List Handle) → without_held h l ≡ without_handle (kind_of_held h) (block_of_held h) (place_of_held h) l
+pub without_parts : (h : Held) (l : List NumberedHandle) → without_held h l ≡ without_handle (kind_of_held h) (block_of_held h) (place_of_held h) l
 without_parts (Owner h) l = refl
 without_parts (Weak w) l = refl
 
-pub with_named : (h : Held) (k : Kind) (b : Option Block) (p : Option Place) (l : List Handle) → kind_of_held h ≡ k → block_of_held h ≡ b
+pub with_named : (h : Held) (k : Kind) (b : Option Block) (p : Option Place) (l : List NumberedHandle) → kind_of_held h ≡ k → block_of_held h ≡ b
     → place_of_held h ≡ p
     → with_held h l ≡ with_handle k b p l
 with_named h k b p l e f g = with_parts h l ∙ (λ i. with_handle (e i) (f i) (g i) l)
 
-pub without_named : (h : Held) (k : Kind) (b : Option Block) (p : Option Place) (l : List Handle) → kind_of_held h ≡ k → block_of_held h ≡ b
+pub without_named : (h : Held) (k : Kind) (b : Option Block) (p : Option Place) (l : List NumberedHandle) → kind_of_held h ≡ k → block_of_held h ≡ b
     → place_of_held h ≡ p
     → without_held h l ≡ without_handle k b p l
 without_named h k b p l e f g = without_parts h l ∙ (λ i. without_handle (e i) (f i) (g i) l)

@@ -12,7 +12,7 @@ use Rattle.control_word.proofs.lists.Tallies.{same_handle_true, handle_self}
 use Rattle.control_word.specs.Handles.{handle, has_object, same_handle}
 use Rattle.control_word.specs.State.{Has, without}
 use Rattle.control_word.specs.Views.{total}
-use Rattle.control_word.specs.declared.model.handle.Handle.{Handle}
+use Rattle.control_word.specs.declared.model.handle.NumberedHandle.{NumberedHandle}
 use Rattle.control_word.specs.declared.model.handle.Kind.{Kind}
 use Rattle.control_word.specs.declared.model.handle.Kind.TheVariants as kind
 use Rattle.control_word.specs.declared.place.Block.{Block}
@@ -45,26 +45,26 @@ total_sum : {A : Type 0} (f : A → ℕ) (l : List A) → total f l ≡ sum_by f
 total_sum f [] = refl
 total_sum f (x ∷ l) = let ih = total_sum f l in let a = sum_by-cons f x l in omega arith
 
-pub bags_joined : (a b l : List Handle) → IsPermutation (a ++ b) l → (f : Handle → ℕ) → total f l ≡ total f a + total f b
+pub bags_joined : (a b l : List NumberedHandle) → IsPermutation (a ++ b) l → (f : NumberedHandle → ℕ) → total f l ≡ total f a + total f b
 bags_joined a b l same f =
     let p = sum_by-IsPermutation f (a ++ b) l same in let q = sum_by-append f a b in
     let x = total_sum f l in let y = total_sum f a in let z = total_sum f b in omega arith
 
 -- what is taken out of a bag
-pub total_without : (f : Handle → ℕ) (h : Handle) (l : List Handle) → Has h l → total f l ≡ f h + total f (without same_handle h l)
+pub total_without : (f : NumberedHandle → ℕ) (h : NumberedHandle) (l : List NumberedHandle) → Has h l → total f l ≡ f h + total f (without same_handle h l)
 total_without f h [] has = absurd has
 total_without f h (y ∷ l) has =
-    cond_both (same_handle h y) l (y ∷ without same_handle h l) (λ (r : List Handle). total f (y ∷ l) ≡ f h + total f r)
+    cond_both (same_handle h y) l (y ∷ without same_handle h l) (λ (r : List NumberedHandle). total f (y ∷ l) ≡ f h + total f r)
     (λ e. ap (λ u. f u + total f l) (sym (same_handle_true h y e)))
     (λ e. ⊎_elim
     (λ (s : h ≡ y). absurd (cc (e, handle_self h, ap (same_handle h) s)))
     (λ t. let ih = total_without f h l t in omega arith) has)
 
-abbrev pub one_like : Handle → Handle → ℕ
+abbrev pub one_like : NumberedHandle → NumberedHandle → ℕ
 one_like h x = cond (same_handle h x) 1 0
 
 -- what is counted in a bag is there
-pub counted_has : (h : Handle) (l : List Handle) → 0 < total (one_like h) l → Has h l
+pub counted_has : (h : NumberedHandle) (l : List NumberedHandle) → 0 < total (one_like h) l → Has h l
 counted_has h [] lt = absurd (omega arith)
 counted_has h (y ∷ l) lt =
     ⊎_elim (λ (e : same_handle h y ≡ true). inl (same_handle_true h y e))
@@ -100,7 +100,7 @@ spread_less (s ∷ ss) zero h e bare =
 spread_less (s ∷ ss) (suc i) h e bare = let ih = spread_less ss i h e bare in let one = worth_one s in omega arith
 
 -- a bag with a handle more
-came : (f : Handle → ℕ) (h : Held) (l : List Handle) → total f (with_held h l) ≡ slot_worth f (Some h) + total f l
+came : (f : NumberedHandle → ℕ) (h : Held) (l : List NumberedHandle) → total f (with_held h l) ≡ slot_worth f (Some h) + total f l
 came f (Owner h) l = go kind.Owner h.block h.place
   where
     go : (k : Kind) (b : Option Block) (p : Option Place)
@@ -129,7 +129,7 @@ module _ {V : Type 0} where
           let a = fits.bag (one_like h) in
           let c = total_at (slot_worth (one_like h)) ss i (Some x) at in
           let one : one_like h h ≡ 1 = cond-true (same_handle h h) 1 0 (handle_self h) in
-          let w : slot_worth (one_like h) (Some x) ≡ one_like h h = ap (λ (y : Handle). cond (has_object y) (one_like h y) 0) is in
+          let w : slot_worth (one_like h) (Some x) ≡ one_like h h = ap (λ (y : NumberedHandle). cond (has_object y) (one_like h y) 0) is in
           counted_has h (bag_of d) (omega arith)
   fits_at d ss i (Weak h) fits at = go kind.Weak h.block h.place (Weak h) at refl
     where
@@ -143,10 +143,10 @@ module _ {V : Type 0} where
           let a = fits.bag (one_like h) in
           let c = total_at (slot_worth (one_like h)) ss i (Some x) at in
           let one : one_like h h ≡ 1 = cond-true (same_handle h h) 1 0 (handle_self h) in
-          let w : slot_worth (one_like h) (Some x) ≡ one_like h h = ap (λ (y : Handle). cond (has_object y) (one_like h y) 0) is in
+          let w : slot_worth (one_like h) (Some x) ≡ one_like h h = ap (λ (y : NumberedHandle). cond (has_object y) (one_like h y) 0) is in
           counted_has h (bag_of d) (omega arith)
 
-  went : (d : DeskNow V) (f : Handle → ℕ) (h : Held) → IsHeldByDesk d h
+  went : (d : DeskNow V) (f : NumberedHandle → ℕ) (h : Held) → IsHeldByDesk d h
       → total f (bag_of d) ≡ slot_worth f (Some h) + total f (without_held h (bag_of d))
   went d f (Owner h) held = go kind.Owner h.block h.place held
     where
@@ -240,7 +240,7 @@ pub vacant_filled : (l : List Slot) → AllVacant l → total is_filled l ≡ 0
 vacant_filled [] all = refl
 vacant_filled (x ∷ l) all = let ih = vacant_filled l all.1 in let a : is_filled x ≡ 0 = ap is_filled all.0 in omega arith
 
-pub vacant_worth : (f : Handle → ℕ) (l : List Slot) → AllVacant l → total (slot_worth f) l ≡ 0
+pub vacant_worth : (f : NumberedHandle → ℕ) (l : List Slot) → AllVacant l → total (slot_worth f) l ≡ 0
 vacant_worth f [] all = refl
 vacant_worth f (x ∷ l) all = let ih = vacant_worth f l all.1 in let a : slot_worth f x ≡ 0 = ap (slot_worth f) all.0 in omega arith
 

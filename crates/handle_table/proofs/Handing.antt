@@ -9,7 +9,7 @@ use Rattle.control_word.proofs.lists.Tallies.{handle_self}
 use Rattle.control_word.specs.Handles.{has_object, same_handle}
 use Rattle.control_word.specs.State.{Has, without}
 use Rattle.control_word.specs.Views.{total}
-use Rattle.control_word.specs.declared.model.handle.Handle.{Handle}
+use Rattle.control_word.specs.declared.model.handle.NumberedHandle.{NumberedHandle}
 use Rattle.control_block.specs.Desks.{Belongs, DeskNow, DomainNow, bag_of, endings_of}
 use Rattle.control_block.specs.Parting.{AreIn, HoldsAll, SplitsOff, as_listed, listed, without_all}
 use Rattle.control_block.specs.SlotLists.{handles_in}
@@ -21,12 +21,12 @@ use Rattle.handle_table.specs.Parting.{HandsOver, handles_from}
 use Rattle.handle_table.specs.Tables.{AllVacant, FitsSlots, IsWhole, Slot, is_filled, slot_worth}
 
 -- what is listed of the slots
-listed_total : (f : Handle → ℕ) (r : List Slot) → total f (listed (handles_in r)) ≡ total (slot_worth f) r
+listed_total : (f : NumberedHandle → ℕ) (r : List Slot) → total f (listed (handles_in r)) ≡ total (slot_worth f) r
 listed_total f [] = refl
 listed_total f (None ∷ r) = let ih = listed_total f r in omega arith
 listed_total f (Some h ∷ r) =
     let ih = listed_total f r in let x = as_listed h in
-    cond_both (has_object x) (x ∷ listed (handles_in r)) (listed (handles_in r)) (λ (l : List Handle). total f l ≡ slot_worth f (Some h) + total
+    cond_both (has_object x) (x ∷ listed (handles_in r)) (listed (handles_in r)) (λ (l : List NumberedHandle). total f l ≡ slot_worth f (Some h) + total
     (slot_worth f) r)
     (λ e. let a : slot_worth f (Some h) ≡ f x = cond-true (has_object x) (f x) 0 e in omega arith)
     (λ e. let a : slot_worth f (Some h) ≡ 0 = ap (λ (b : Bool). cond b (f x) 0) e in omega arith)
@@ -37,7 +37,7 @@ handles_filled (None ∷ r) = let ih = handles_filled r in omega arith
 handles_filled (Some h ∷ r) = let ih = handles_filled r in omega arith
 
 -- a list that counts no more of anything is in the other
-are_in : (hs l : List Handle) → ((f : Handle → ℕ) → total f hs ≤ total f l) → AreIn hs l
+are_in : (hs l : List NumberedHandle) → ((f : NumberedHandle → ℕ) → total f hs ≤ total f l) → AreIn hs l
 are_in [] l less = tt
 are_in (h ∷ hs) l less =
     let one : one_like h h ≡ 1 = cond-true (same_handle h h) 1 0 (handle_self h) in
@@ -46,7 +46,7 @@ are_in (h ∷ hs) l less =
     (has, are_in hs (without same_handle h l) (λ f. let b = less f in let c = total_without f h l has in omega arith))
 
 -- and what is left of it
-left_total : (f : Handle → ℕ) (hs l : List Handle) → AreIn hs l → total f (without_all hs l) + total f hs ≡ total f l
+left_total : (f : NumberedHandle → ℕ) (hs l : List NumberedHandle) → AreIn hs l → total f (without_all hs l) + total f hs ≡ total f l
 left_total f [] l all = omega arith
 left_total f (h ∷ hs) l all =
     let ih = left_total f hs (without same_handle h l) all.1 in let c = total_without f h l all.0 in omega arith

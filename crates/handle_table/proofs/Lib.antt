@@ -13,6 +13,7 @@ pub mod Letting
 pub mod Absorbing
 pub mod Crews
 pub mod Manning
+pub mod Needing
 pub mod Sharing
 pub mod Regained
 pub mod Lasts

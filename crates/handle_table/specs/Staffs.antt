@@ -2,7 +2,8 @@
 use Rattle.std.specs.Prelude.{◌≡◌, ℕ, ◌*◌, ◌<◌, ◌≤◌, All, List, [], ◌∷◌, length}
 use Rattle.control_word.specs.declared.shape.Shape.{Shape}
 use Rattle.control_block.specs.Census.{CensusNow}
-use Rattle.control_block.specs.Desks.{Belongs, IsFirstDesk, DeskNow, DomainNow, allowance_of, stock_of}
+use Rattle.control_block.specs.Desks.{Belongs, IsFirstDesk, DeskNow, DomainNow}
+use Rattle.control_block.specs.Desks.{allowance_of, bag_of, endings_of, stock_of}
 use Rattle.control_block.specs.Own.{IsSole}
 use Rattle.control_block.specs.Parting.{free_of}
 use Rattle.handle_table.specs.Parting.{AbsorbsAll, IsNew, IsPartedInto, WindsUp}
@@ -14,6 +15,10 @@ use Rattle.handle_table.specs.declared.staff.Share.{Share}
 abbrev pub WorkerRelation : Type 0 → Type 0 → Type 1
 WorkerRelation V W = W → TableNow V → W → TableNow V → Type 0
 
+-- what a worker needs of the table that it gets
+abbrev pub WorkerNeeds : Type 0 → Type 0 → Type 1
+WorkerNeeds V W = W → TableNow V → Type 0
+
 -- a domain of this shape has such a share for each of n workers, and a handle's allowance more for its first desk
 abbrev pub HasShares : Shape → Share → ℕ → Type 0
 HasShares z share n = (0 < share.allowance) × (n * share.allowance < z.allowance) × (n * share.blocks ≤ z.blocks)
@@ -23,7 +28,19 @@ abbrev pub CanShare : {V : Type 0} → DeskNow V → Share → ℕ → Type 0
 CanShare d share n =
     (0 < share.allowance) × (n * share.allowance ≤ free_of d 0) × (n * share.blocks ≤ length (stock_of d))
 
+-- a table that can be lent to a worker with this share: a new one, of a domain of this shape
+pub record IsLent {V : Type 0} (shape : Shape) (share : Share) (t : TableNow V) : Type 0 where
+  pub new : IsNew share.slots t
+  pub of : t.desk.shape ≡ shape
+  pub allowance : allowance_of t.desk ≡ share.allowance
+  pub stock : length (stock_of t.desk) ≡ share.blocks
+  pub bare : (bag_of t.desk ≡ []) × (t.desk.held ≡ 0) × (endings_of t.desk ≡ 0)
+
 module _ {V W : Type 0} where
+  -- each worker has what it needs, whichever table it is lent
+  abbrev pub MeetsNeeds : WorkerNeeds V W → Shape → Share → List W → Type 0
+  MeetsNeeds needs shape share ws = All (λ w. (t : TableNow V) → IsLent shape share t → needs w t) ws
+
   -- whoever works so leaves its table the allowance that it had
   abbrev pub KeepsAllowance : WorkerRelation V W → Type 0
   KeepsAllowance does = (w x : W) (t u : TableNow V) → does w t x u → allowance_of u.desk ≡ allowance_of t.desk

@@ -2,7 +2,7 @@
 use Rattle.std.specs.Prelude.{◌≡◌, ℕ, cond, List, [], ◌∷◌, slice_get, Option, None, Some}
 use Rattle.control_word.specs.Handles.{has_object}
 use Rattle.control_word.specs.Views.{total}
-use Rattle.control_word.specs.declared.model.handle.Handle.{Handle}
+use Rattle.control_word.specs.declared.model.handle.NumberedHandle.{NumberedHandle}
 use Rattle.control_block.specs.Desks.{DeskNow, DomainNow, bag_of}
 use Rattle.control_block.specs.Parting.{as_listed}
 use Rattle.control_block.specs.declared.handles.Held.{Held}
@@ -15,7 +15,7 @@ abbrev pub Slot : Type 0
 Slot = Option Held
 
 -- what a slot's handle comes to, if it has an object
-abbrev pub slot_worth : (Handle → ℕ) → Slot → ℕ
+abbrev pub slot_worth : (NumberedHandle → ℕ) → Slot → ℕ
 slot_worth f None = 0
 slot_worth f (Some h) = cond (has_object (as_listed h)) (f (as_listed h)) 0
 
@@ -52,7 +52,7 @@ module _ {V : Type 0} where
 
   -- the desk has just the handles in the slots: whatever is counted of them comes to the same in its bag
   pub record FitsSlots (d : DeskNow V) (ss : List Slot) : Type 0 where
-    pub bag : (f : Handle → ℕ) → total f (bag_of d) ≡ total (slot_worth f) ss
+    pub bag : (f : NumberedHandle → ℕ) → total f (bag_of d) ≡ total (slot_worth f) ss
     pub held : d.held ≡ total is_filled ss
 
   -- the table's domain is the one that its type names; the pile has what ends with the desk, and the slots its handles

@@ -5,7 +5,7 @@ ghost use Rattle.control_word.specs.Layout.{IsWithinLimits};
 ghost use Rattle.control_block.specs.Desks.{IsFirstDesk, Belongs, DeskNow, endings_of};
 ghost use Rattle.shared_handle.specs.Piles.{Bears};
 ghost use Rattle.handle_table.specs.Parting.{IsRefusedPart};
-ghost use Rattle.handle_table.specs.Staffs.{CanShare, HasShares, IsParted, KeepsAllowance, Shifts};
+ghost use Rattle.handle_table.specs.Staffs.{CanShare, HasShares, IsParted, KeepsAllowance, MeetsNeeds, Shifts};
 ghost use Rattle.handle_table.specs.Staffs.{Staffs, StaffsIn, StaffsOpen, StaffsOut};
 ghost use Rattle.handle_table.specs.Tables.{AllVacant, FitsSlots, on_pile};
 
@@ -28,14 +28,18 @@ use std::thread::Threads;
 mod jobs;
 pub(crate) mod posts;
 
-/// What a worker with a state of its own does, in a thread with a table of its own. `does` says what comes of it: by
-/// the worker and its table before and after. A worker that gives no such member says nothing.
+/// What a worker with a state of its own does, in a thread with a table of its own. `needs` says what has to be true of
+/// the worker and its table before, and `does` what comes of it: by both before and after. A worker that gives no such
+/// member says nothing, and needs nothing.
 pub trait Work<V: Drop, R: Threads + Wait + Sync> {
     ghost use Rattle.handle_table.specs.Tables.{TableNow};
+
+    ghost needs: { Self → TableNow V → Type 0 } = { λ _ _. Unit {0} };
 
     ghost does: { Self → TableNow V → Self → TableNow V → Type 0 } = { λ _ _ _ _. Unit {0} };
 
     fn work<H: Home>(&mut self, rt: &R, table: &mut HandleTable<'_, V, H>)
+        requires needs { needs self.old table.old }
         ensures { does self.old table.old self.new table.new };
 }
 
@@ -58,6 +62,7 @@ impl<'d, V: Drop + Send, H: Home + Send + Sync> HandleTable<'d, V, H> {
         share: Share,
         workers: &mut Vec<W>,
     ) -> Option<Refusal>
+        requires needs { MeetsNeeds W.needs self.old.desk.shape share workers.old.items }
         ensures staffs { IfNone result (Staffs W.does self.old share workers.old.items workers.new.items self.new) }
         ensures refused { IfSome result (λ why. IsRefusedPart why × (workers.new.items ≡ workers.old.items)) }
         ensures shared { CanShare self.old.desk share (length workers.old.items)
@@ -93,6 +98,7 @@ fn staff_at<V: Drop + Send, H: Home + Send + Sync, R: Threads + Wait + Sync, W: 
     share: Share,
     workers: &mut Vec<W>,
 ) -> (Desk<V>, Option<Refusal>)
+    requires needs { MeetsNeeds W.needs table.desk.shape share workers.old.items }
     ensures here { Belongs result.0 H.domain }
     ensures none { FitsSlots result.0 [] × (endings_of result.0 ≡ 0) }
     ensures works { IfNone result.1
@@ -122,6 +128,7 @@ fn staff_in<V: Drop + Send, H: Home + Send + Sync, R: Threads + Wait + Sync, W: 
     requires slots { AllVacant slots.items × (length slots.items ≡ share.slots) }
     requires pile { (d : DeskNow V) → Belongs d domain.now → endings_of d ≡ 0 → Bears domain.now d pile }
     requires empty { on_pile pile ≡ [] }
+    requires needs { MeetsNeeds W.needs domain.now.shape share workers.old.items }
     ensures here { Belongs result.0 domain.now }
     ensures none { FitsSlots result.0 [] × (endings_of result.0 ≡ 0) }
     ensures works { IfNone result.1
@@ -140,6 +147,10 @@ fn staff_in<V: Drop + Send, H: Home + Send + Sync, R: Threads + Wait + Sync, W: 
 /// and what is left to end does so. What `Work::does` says of a worker and its table holds of each,
 /// and the tables are parts of a first one, which has all again at the end.
 ///
+/// It has one condition: each worker has what it says by `Work::needs`, whichever table it is lent.
+/// Such a table is a new one, without a handle, with the slots, the allowance and as many blocks as
+/// the share has, of a domain of this shape. A worker that says nothing of its needs has all.
+///
 /// It is refused `Shape` just where the shape is outside the limits, `Memory` only where a growth or
 /// the start of a thread was really refused, `Limit` or `Full` where there is no such share for
 /// each, and `NotSole` where a worker kept a table for itself. Only with the last has any worked,
@@ -152,6 +163,7 @@ pub fn run_workers_open<V: Drop + Send, R: Threads + Wait + Sync, W: Work<V, R> 
     share: Share,
     workers: &mut Vec<W>,
 ) -> Result<(Domain<V>, Desk<V>), Refusal>
+    requires needs { MeetsNeeds W.needs shape share workers.old.items }
     ensures works { IfOk result
         (λ r. StaffsOpen W.does shape share workers.old.items workers.new.items r.0 r.1) }
     ensures within { IfOk result (λ _. IsWithinLimits shape) }
@@ -192,6 +204,10 @@ pub fn run_workers_open<V: Drop + Send, R: Threads + Wait + Sync, W: Work<V, R> 
 /// The handles that a worker leaves in its slots leave, and what is left to end does so. What `Work::does` says of a
 /// worker and its table holds of each, and the tables are parts of a first one, which has all again at the end.
 ///
+/// It has one condition: each worker has what it says by `Work::needs`, whichever table it is lent. Such a table is a
+/// new one, without a handle, with the slots, the allowance and as many blocks as the share has, of a domain of this
+/// shape. A worker that says nothing of its needs has all.
+///
 /// It is refused `Shape` just where the shape is outside the limits, `Memory` only where a growth or the start of a
 /// thread was really refused, `Limit` or `Full` where there is no such share for each, and `NotSole` where a worker
 /// kept a table for itself. Only with the last has any worked, and then `Work::does` holds of each too: a worker begins
@@ -203,6 +219,7 @@ pub fn run_workers<V: Drop + Send, R: Threads + Wait + Sync, W: Work<V, R> + Sen
     share: Share,
     workers: &mut Vec<W>,
 ) -> Result<Census<V>, Refusal>
+    requires needs { MeetsNeeds W.needs shape share workers.old.items }
     ensures works { IfOk result
         (Shifts V W.does shape share workers.old.items workers.new.items) }
     ensures within { IfOk result (λ _. IsWithinLimits shape) }

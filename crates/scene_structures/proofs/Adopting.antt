@@ -6,7 +6,7 @@ use Rattle.control_word.specs.Handles.{handle, object_of, owner}
 use Rattle.control_word.specs.declared.model.event.Cell.{Cell}
 use Rattle.control_word.specs.declared.model.event.Cell.TheVariants.{Member}
 use Rattle.control_word.specs.declared.model.event.Event.TheVariants.{Load}
-use Rattle.control_word.specs.declared.model.handle.Handle.{Handle}
+use Rattle.control_word.specs.declared.model.handle.NumberedHandle.{NumberedHandle}
 use Rattle.control_word.specs.declared.model.handle.Kind.TheVariants.{Owner}
 use Rattle.control_word.specs.declared.place.Block.{Block}
 use Rattle.control_word.specs.declared.place.Place.{Place}
@@ -57,7 +57,7 @@ module _ {V : Type 0} where
         subst (Lists node.block node.place) (sym bag_s) (lists_first node.block node.place (bag_of n)) in
         (same_node s l node keeps_l c_s ∙ (same_node n s node keeps_s c_n ∙ same_left m n node hung c_n), c_n)
 
-    pub adopts : (at : SharedAt) (fields : List ℕ) (x : V) (k : Cell) (got : Handle)
+    pub adopts : (at : SharedAt) (fields : List ℕ) (x : V) (k : Cell) (got : NumberedHandle)
         → Makes d false false fields x node.block node.place m → bag_of m ≡ with_handle Owner node.block node.place (bag_of d)
         → Watches m (object_of (node_in m node)) (weak_of_owner m parent) n → KeepsHeld m n → bag_of n ≡ bag_of m
         → SharesOwner n node.block node.place node.place s → copy.block ≡ node.block → copy.place ≡ node.place
@@ -81,7 +81,7 @@ module _ {V : Type 0} where
             let cell : shared_cell l at.site ≡ Member (object_of (node_in d parent)) 0 =
             ap (shared_cell l) is
             ∙ (sym (ap (λ (y : Option Block). Member (object_of (handle_in l Owner y parent.place)) 0) block)
-            ∙ ap (λ (h : Handle). Member (object_of h) 0) parent_l.0) in
+            ∙ ap (λ (h : NumberedHandle). Member (object_of h) 0) parent_l.0) in
             let up = weak_same d m parent.block parent.place keeps_m lists in
             let c = Member (object_of (node_in d parent)) 0 in (
               record {
@@ -90,11 +90,11 @@ module _ {V : Type 0} where
                 made = m;
                 makes = makes'.1;
                 hung = n;
-                watches = subst (λ (h : Handle). Watches m (latest_of m b.0) h n) up
-                    (subst (λ (h : Handle). Watches m (object_of h) (weak_of_owner m parent) n) made watches);
+                watches = subst (λ (h : NumberedHandle). Watches m (latest_of m b.0) h n) up
+                    (subst (λ (h : NumberedHandle). Watches m (object_of h) (weak_of_owner m parent) n) made watches);
                 rises = rises_later n l e c there
                     (does_both (PutsOnly (NextOf (latest_of m b.0))) n s l shared.0 (does_one (PutsOnly (NextOf (latest_of m b.0))) s l _ loads tt))
-                    (subst (λ (h : Handle). Rises l c h e) copied (subst (λ (y : Cell). Rises l y (node_in l copy) e) cell rises));
+                    (subst (λ (h : NumberedHandle). Rises l c h e) copied (subst (λ (y : Cell). Rises l y (node_in l copy) e) cell rises));
               },
               refl,
             )
@@ -105,7 +105,7 @@ module _ {V : Type 0} where
   makes_latest d m fields x (Some b) p makes = calls_keep_latest d _ m makes.1
 
   -- what a list has still, after the node rose
-  pub these_node : (d e : DeskNow V) (base : List Handle) (h : Shared) → KeepsThese base d e → Lists h.block h.place base → node_in e h ≡ node_in d h
+  pub these_node : (d e : DeskNow V) (base : List NumberedHandle) (h : Shared) → KeepsThese base d e → Lists h.block h.place base → node_in e h ≡ node_in d h
   these_node d e base h keeps lists = go h.block refl
     where
       go : (b : Option Block) → h.block ≡ b → handle_in e Owner h.block h.place ≡ handle_in d Owner h.block h.place

@@ -15,7 +15,7 @@ use Rattle.control_word.specs.declared.model.event.Event.{Event}
 use Rattle.control_word.specs.declared.model.event.Event.TheVariants.{ClearMember, Compare, Count, Expired, Finish, Join, Leave, Load, Lock, Make, Read}
 use Rattle.control_word.specs.declared.model.event.Event.TheVariants.{Share, Split, Swap, Visit, WeakLeave, WeakShare}
 use Rattle.control_word.specs.declared.model.event.Event.TheVariants.{Shelve, Unshelve}
-use Rattle.control_word.specs.declared.model.handle.Handle.{Handle}
+use Rattle.control_word.specs.declared.model.handle.NumberedHandle.{NumberedHandle}
 use Rattle.control_word.specs.declared.place.Place.{Place}
 use Rattle.control_word.specs.declared.shape.Shape.{Shape}
 use Rattle.control_block.specs.Desks.{DeskNow, state_of}
@@ -59,7 +59,7 @@ module _ {V : Type 0} where
   all_wider at bt f xs all = All-weaker (PutsOnly at) (PutsOnly bt) (puts_wider at bt f) xs all
 
   -- where a node that rises is put
-  pub rises_puts : (d e : DeskNow V) (c : Cell) (node : Handle) → Rises d c node e
+  pub rises_puts : (d e : DeskNow V) (c : Cell) (node : NumberedHandle) → Rises d c node e
       → Does (PutsOnly (λ k. (k ≡ Member (object_of node) 1) ⊎ (k ≡ c))) d e
   rises_puts d e c node r =
       let at = λ (k : Cell). (k ≡ Member (object_of node) 1) ⊎ (k ≡ c) in
@@ -73,7 +73,7 @@ module _ {V : Type 0} where
             (All-cons (PutsOnly at) y r.before (inl refl) (all_wider (NextOf (object_of node)) at (λ k p. inl p) r.before r.early))));
       }
 
-  pub hangs_puts : (d e : DeskNow V) (o : ℕ) (up : Handle) → Watches d o up e → Does (PutsOnly (λ k. k ≡ Member o 2)) d e
+  pub hangs_puts : (d e : DeskNow V) (o : ℕ) (up : NumberedHandle) → Watches d o up e → Does (PutsOnly (λ k. k ≡ Member o 2)) d e
   hangs_puts d e o up r =
       let at = λ (k : Cell). k ≡ Member o 2 in let y = Swap (Member o 2) up r.was in
       record {
@@ -140,7 +140,7 @@ module _ {V : Type 0} where
       (legal_is d e puts.own r.goes keep legal sole) r.early r.leaves r.late head there (subst (λ (t : State). Lives t c) state lives) apart made block list)
 
   -- what an object's `up` holds after it was put there
-  pub hung_up : (d e : DeskNow V) (o : ℕ) (up : Handle) → Watches d o up e → IsLegal (opening_of d.shape) d.seen → IsSole d
+  pub hung_up : (d e : DeskNow V) (o : ℕ) (up : NumberedHandle) → Watches d o up e → IsLegal (opening_of d.shape) d.seen → IsSole d
       → InState (state_of d) (Member o 2) → Lives (state_of e) (Member o 2) → ((state_of e).object o).member 2 ≡ up
   unfolding hangs_puts
   hung_up d e o up r legal sole there lives =

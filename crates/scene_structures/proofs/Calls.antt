@@ -8,7 +8,7 @@ use Rattle.control_word.specs.Histories.{IsLegal}
 use Rattle.control_word.specs.declared.model.event.Cell.{Cell}
 use Rattle.control_word.specs.declared.model.event.Cell.TheVariants.{Free}
 use Rattle.control_word.specs.declared.model.event.Event.TheVariants.{Load}
-use Rattle.control_word.specs.declared.model.handle.Handle.{Handle}
+use Rattle.control_word.specs.declared.model.handle.NumberedHandle.{NumberedHandle}
 use Rattle.control_word.specs.declared.model.handle.Kind.TheVariants.{Owner}
 use Rattle.control_word.specs.declared.place.Block.{Block}
 use Rattle.control_block.proofs.Latest.{calls_keep_latest}
@@ -42,7 +42,7 @@ module _ {V : Type 0} where
   hands_one d e h few bag held = record { bag = bag; few = omega arith }
 
   -- a new node, a look at the cell, and the rise
-  pub pushes : (d m l e : DeskNow V) (c k : Cell) (fields : List ℕ) (x : V) (node : Shared) (got : Handle)
+  pub pushes : (d m l e : DeskNow V) (c k : Cell) (fields : List ℕ) (x : V) (node : Shared) (got : NumberedHandle)
       → Makes d false false fields x node.block node.place m → bag_of m ≡ with_handle Owner node.block node.place (bag_of d)
       → AddsEvent m (Load k got) l
       → Rises l c (node_in l node) e → Pushes d c fields x e
@@ -59,11 +59,11 @@ module _ {V : Type 0} where
             made = m;
             makes = made.1;
             rises = rises_later m l e c there (does_one (PutsOnly (NextOf (object_of there))) m l _ loads tt)
-                (subst (λ (h : Handle). Rises l c h e) (same ∙ here) rises);
+                (subst (λ (h : NumberedHandle). Rises l c h e) (same ∙ here) rises);
           }
 
   -- what a pop gave, on a sole desk
-  pub popped_or_bare : (d e : DeskNow V) (m : ℕ) (base : List Handle) (r : Option Shared)
+  pub popped_or_bare : (d e : DeskNow V) (m : ℕ) (base : List NumberedHandle) (r : Option Shared)
       → MatchOption r (FindsNone d (Free m) e) (λ h. TakesNode d (Free m) h e)
       → MatchOption r (HasHands base [] e) (λ h. HasHands base (h ∷ []) e) → IsLegal (opening_of d.shape) d.seen
       → m < (opening_of d.shape).cells → IsSole d

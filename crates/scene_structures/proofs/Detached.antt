@@ -7,7 +7,7 @@ use Rattle.control_word.specs.Histories.{IsLegal}
 use Rattle.control_word.specs.declared.model.event.Cell.{Cell}
 use Rattle.control_word.specs.declared.model.event.Cell.TheVariants.{Member}
 use Rattle.control_word.specs.declared.model.event.Event.TheVariants.{Compare, Load}
-use Rattle.control_word.specs.declared.model.handle.Handle.{Handle}
+use Rattle.control_word.specs.declared.model.handle.NumberedHandle.{NumberedHandle}
 use Rattle.control_word.specs.State.{Has}
 use Rattle.control_word.specs.declared.model.handle.Kind.TheVariants.{Owner}
 use Rattle.control_word.specs.declared.place.Block.{Block}
@@ -52,26 +52,26 @@ module _ {V : Type 0} where
   puts_none d e does = does_wider IsParting (PutsOnly in_no_cell) d e (parting_puts in_no_cell) does
 
   -- the node was skipped
-  pub skips : (d m u e : DeskNow V) (c : Cell) (node below : Shared) (old : Handle) (member : SharedAt)
+  pub skips : (d m u e : DeskNow V) (c : Cell) (node below : Shared) (old : NumberedHandle) (member : SharedAt)
       → IsMember (λ k (x : SharedAt). x.site ≡ shared.Of k Next) node.block node.place (Ok member)
       → AddsEvent d (Load (shared_cell d member.site) (node_in m below)) m → SameNode d node m
       → AddsEvent m (Compare c (node_in m node) (node_in m below) old true true) u → Does IsParting u e → Skips d c (node_in d node) e
   skips d m u e c node below old member is loads same swaps leaves =
       let n : node_in d node ≡ handle_in d Owner (Some is.0.block) node.place = ap (λ b. handle_in d Owner b node.place) is.2 in
       let cell : shared_cell d member.site ≡ Member (object_of (node_in d node)) 1 =
-      ap (shared_cell d) is.3 ∙ sym (ap (λ (h : Handle). Member (object_of h) 1) n) in
+      ap (shared_cell d) is.3 ∙ sym (ap (λ (h : NumberedHandle). Member (object_of h) 1) n) in
       record {
         below = node_in m below;
         old = old;
         read = m;
         reads = subst (λ (k : Cell). AddsEvent d (Load k (node_in m below)) m) cell loads;
         cut = u;
-        swaps = subst (λ (h : Handle). AddsEvent m (Compare c h (node_in m below) old true true) u) same swaps;
+        swaps = subst (λ (h : NumberedHandle). AddsEvent m (Compare c h (node_in m below) old true true) u) same swaps;
         leaves = leaves;
       }
 
   -- or not
-  pub missed : (d m u e : DeskNow V) (k c : Cell) (h ex new held : Handle) → AddsEvent d (Load k h) m → AddsEvent m (Compare c ex new held false true) u
+  pub missed : (d m u e : DeskNow V) (k c : Cell) (h ex new held : NumberedHandle) → AddsEvent d (Load k h) m → AddsEvent m (Compare c ex new held false true) u
       → Does IsParting u e → Does (PutsOnly in_no_cell) d e
   missed d m u e k c h ex new held loads differs leaves =
       does_both (PutsOnly in_no_cell) d u e (does_both (PutsOnly in_no_cell) d m u (does_one (PutsOnly in_no_cell) d m _ loads tt)
@@ -176,7 +176,7 @@ module _ {V : Type 0} where
       → shared_cell l member.site ≡ Member (object_of (node_in l node)) 1
   next_cell l node member is =
       let n : node_in l node ≡ handle_in l Owner (Some is.0.block) node.place = ap (λ k. handle_in l Owner k node.place) is.2 in
-      ap (shared_cell l) is.3 ∙ sym (ap (λ (h : Handle). Member (object_of h) 1) n)
+      ap (shared_cell l) is.3 ∙ sym (ap (λ (h : NumberedHandle). Member (object_of h) 1) n)
 
   -- one more node was passed
   pub reaches_on : (d l t e : DeskNow V) (c : Cell) (o : ℕ) (bs : List ℕ) (node h : Shared) (member : SharedAt)
@@ -192,14 +192,14 @@ module _ {V : Type 0} where
   seeks_on d l t e c o bs node member found is reaches ends leaves =
       (node, l, t, reaches, refl, subst (λ (k : Cell). IsEnd l k o found t) (next_cell l node member is) ends, leaves)
 
-  pub sought_left : (d t : DeskNow V) (base : List Handle) (node : Shared) (s : Sought) → HasHands base (node ∷ []) d
+  pub sought_left : (d t : DeskNow V) (base : List NumberedHandle) (node : Shared) (s : Sought) → HasHands base (node ∷ []) d
       → HandsSought (stacked (node ∷ []) base) s t → HeldSought d s t → Left base node (beyond s) t
   sought_left d t base node End has hands held = let f = has.few in record { bag = hands.bag; few = omega arith }
   sought_left d t base node Cut has hands held = let f = has.few in record { bag = hands.bag; few = omega arith }
   sought_left d t base node (Other h) has hands held = let f = has.few in record { bag = hands.bag; few = omega arith }
 
   -- what more than a list keeps, the list keeps
-  pub these_fewer : (d e : DeskNow V) (hs : List Shared) (base : List Handle) → KeepsThese (stacked hs base) d e → KeepsThese base d e
+  pub these_fewer : (d e : DeskNow V) (hs : List Shared) (base : List NumberedHandle) → KeepsThese (stacked hs base) d e → KeepsThese base d e
   these_fewer d e hs base keeps k p b in' = keeps k p b (below_all hs base (handle k (Some b) p) in')
 
   -- an owner that points into its block is held where it is listed
@@ -208,7 +208,7 @@ module _ {V : Type 0} where
       subst (λ (b : Option Block). HoldsHandle d Owner b h.place) (sym within.2) (subst (λ (b : Option Block). Lists b h.place (bag_of d)) within.2 lists)
 
   -- one of those below as a handle in hand
-  pub hands_above : (d e : DeskNow V) (base : List Handle) (h : Shared) → HasHands base (h ∷ []) d → HasHands (stacked (h ∷ []) base) [] e
+  pub hands_above : (d e : DeskNow V) (base : List NumberedHandle) (h : Shared) → HasHands base (h ∷ []) d → HasHands (stacked (h ∷ []) base) [] e
       → e.held ≡ d.held → HasHands base (h ∷ []) e
   hands_above d e base h has below held = let f = has.few in record { bag = below.bag; few = omega arith }
 
@@ -219,13 +219,13 @@ module _ {V : Type 0} where
   holds_kept d e (Some b) p bag held holds = subst (Has (handle Owner (Some b.0) p)) (sym bag) holds
 
   -- the node above left, and nothing came in its place
-  pub below_left : (l t e : DeskNow V) (base : List Handle) (before : Shared) (s : Sought) → HasHands base (before ∷ []) l
+  pub below_left : (l t e : DeskNow V) (base : List NumberedHandle) (before : Shared) (s : Sought) → HasHands base (before ∷ []) l
       → HandsSought (stacked (before ∷ []) base) s t → HeldSought l s t → beyond s ≡ None
       → bag_of e ≡ without_handle Owner before.block before.place (bag_of t) → e.held + 1 ≡ t.held → HasHands base [] e
   below_left l t e base before s has hands held none bag less =
       hands_first t e base before [] (subst (λ (o : Option Shared). Left base before o t) none (sought_left l t base before s has hands held)) bag less
 
-  pub below_these : (d l t e : DeskNow V) (base : List Handle) (before : Shared) (hs : List Shared) → KeepsThese base d l
+  pub below_these : (d l t e : DeskNow V) (base : List NumberedHandle) (before : Shared) (hs : List Shared) → KeepsThese base d l
       → KeepsThese (stacked (before ∷ []) base) l t → KeepsHeld t e → HasHands base hs e → KeepsThese base d e
   below_these d l t e base before hs one two three has =
       these_both d l e base one (these_both l t e base (these_fewer l t (before ∷ []) base two) (these_after t e base hs three has))
@@ -235,4 +235,4 @@ module _ {V : Type 0} where
       → shared_cell l member.site ≡ Member (object_of (node_in l node)) 0
   first_cell l node member is =
       let n : node_in l node ≡ handle_in l Owner (Some is.0.block) node.place = ap (λ k. handle_in l Owner k node.place) is.2 in
-      ap (shared_cell l) is.3 ∙ sym (ap (λ (h : Handle). Member (object_of h) 0) n)
+      ap (shared_cell l) is.3 ∙ sym (ap (λ (h : NumberedHandle). Member (object_of h) 0) n)

@@ -8,7 +8,7 @@ use Rattle.control_word.specs.Events.{clears, finishes, moved_to, weak_leaves}
 use Rattle.control_word.specs.Handles.{empty}
 use Rattle.control_word.specs.State.{Has, Object, Opening, State, ending, gone, held, kind_of_member, live, put}
 use Rattle.control_word.specs.declared.model.event.Event.TheVariants.{ClearMember, Finish, WeakLeave}
-use Rattle.control_word.specs.declared.model.handle.Handle.{Handle}
+use Rattle.control_word.specs.declared.model.handle.NumberedHandle.{NumberedHandle}
 use Rattle.control_word.specs.declared.model.handle.Kind.TheVariants.{Weak}
 use Rattle.control_word.specs.declared.place.Block.{Block}
 use Rattle.control_word.specs.declared.place.Place.{Place}
@@ -25,16 +25,16 @@ use Rattle.scene_structures.proofs.Pending.{Frame, Pends, Pend, pends_map, value
 
 module _ {V : Type 0} where
   -- a member of the top went out
-  pub record Empties (s t : State) (f : Frame V) (fs : List (Frame V)) (m : ℕ) (h : Handle) : Type 0 where
+  pub record Empties (s t : State) (f : Frame V) (fs : List (Frame V)) (m : ℕ) (h : NumberedHandle) : Type 0 where
     pub held : h ≡ (s.object f.object).member m
-    pub tree : (x : Handle) (tree : Tree) → IsTree s x tree → IsTree t x tree
+    pub tree : (x : NumberedHandle) (tree : Tree) → IsTree s x tree → IsTree t x tree
     pub member : (j : ℕ) → j ≢ m → (t.object f.object).member j ≡ (s.object f.object).member j
     pub none : ((t.object f.object).member m).object ≡ None
     pub phase : (t.object f.object).phase ≡ (s.object f.object).phase
     pub latest : t.latest ≡ s.latest
     pub rest : Pend t fs
 
-  pub empties : (z : Opening) (s : State) (d m : ℕ) (h : Handle) (f : Frame V) (fs : List (Frame V)) → Sound z s
+  pub empties : (z : Opening) (s : State) (d m : ℕ) (h : NumberedHandle) (f : Frame V) (fs : List (Frame V)) → Sound z s
       → (s.object f.object).phase ≡ ending d → m < 3
       → h ≡ (s.object f.object).member m → Pend s (f ∷ fs) → Empties s (clears d f.object m h s) f fs m h
   empties z s d m h f fs fine ends lt was pend =
@@ -42,7 +42,7 @@ module _ {V : Type 0} where
         held = was;
         tree = trees;
         member = λ j ne. clear_member s d f.object m h f.object j (λ e. ne);
-        none = ap (λ (y : Object). (y.member m).object) now ∙ ap (λ (y : Handle). y.object) (put_same x.member m (empty (kind_of_member m)) m refl);
+        none = ap (λ (y : Object). (y.member m).object) now ∙ ap (λ (y : NumberedHandle). y.object) (put_same x.member m (empty (kind_of_member m)) m refl);
         phase = ap (λ (y : Object). y.phase) now;
         latest = refl;
         rest = pends_map s t f.object others fs pend.1 pend.2;
@@ -57,7 +57,7 @@ module _ {V : Type 0} where
       now : t.object f.object ≡ record x { member = put x.member m (empty (kind_of_member m)) }
       now = put_same s.object f.object (record x { member = put x.member m (empty (kind_of_member m)) }) f.object refl
 
-      trees : (y : Handle) (tree : Tree) → IsTree s y tree → IsTree t y tree
+      trees : (y : NumberedHandle) (tree : Tree) → IsTree s y tree → IsTree t y tree
       trees y tree is = subst (λ k. IsTree (clears d f.object m k s) y tree) (sym was) (tree_cleared z s d f.object m fine ends lt y tree is)
 
       others : (g : Frame V) → g.object ≢ f.object → Pends s g → Pends t g
@@ -72,7 +72,7 @@ module _ {V : Type 0} where
             no_next = pd.no_next;
           }
 
-  pub emptied : (d e : DeskNow V) (m : ℕ) (h : Handle) (f : Frame V) (fs : List (Frame V))
+  pub emptied : (d e : DeskNow V) (m : ℕ) (h : NumberedHandle) (f : Frame V) (fs : List (Frame V))
       → AddsEvent d (ClearMember (latest_of d f.top.block.0) m h) e → IsAlone d
       → Pend (state_of d) (f ∷ fs) → Empties (state_of d) (state_of e) f fs m h × (value_of e ≡ value_of d)
   emptied d e m h f fs adds a pend =
@@ -97,11 +97,11 @@ module _ {V : Type 0} where
   abbrev pub without_up : Frame V → Frame V
   without_up f = record { top = with_clear Up f.top; object = f.object; first = f.first; next = f.next }
 
-  pub ends_still : (s t : State) (f : Frame V) (fs : List (Frame V)) (m : ℕ) (h : Handle) → Empties s t f fs m h → Pends s f
+  pub ends_still : (s t : State) (f : Frame V) (fs : List (Frame V)) (m : ℕ) (h : NumberedHandle) → Empties s t f fs m h → Pends s f
       → (t.object f.object).phase ≢ live
   ends_still s t f fs m h em pd e = pd.ends (sym em.phase ∙ e)
 
-  pub first_pends : (s t : State) (f : Frame V) (fs : List (Frame V)) (h : Handle) → Empties s t f fs 0 h → Pend s (f ∷ fs)
+  pub first_pends : (s t : State) (f : Frame V) (fs : List (Frame V)) (h : NumberedHandle) → Empties s t f fs 0 h → Pend s (f ∷ fs)
       → Pend t (without_first f ∷ fs)
   first_pends s t f fs h em pend = (
     record {
@@ -116,7 +116,7 @@ module _ {V : Type 0} where
     em.rest,
   )
 
-  pub next_pends : (s t : State) (f : Frame V) (fs : List (Frame V)) (h : Handle) → f.first ≡ bare → Empties s t f fs 1 h → Pend s (f ∷ fs)
+  pub next_pends : (s t : State) (f : Frame V) (fs : List (Frame V)) (h : NumberedHandle) → f.first ≡ bare → Empties s t f fs 1 h → Pend s (f ∷ fs)
       → Pend t (without_next f ∷ fs)
   next_pends s t f fs h nothing em pend = (
     record {
@@ -132,7 +132,7 @@ module _ {V : Type 0} where
     em.rest,
   )
 
-  pub up_pends : (s t : State) (f : Frame V) (fs : List (Frame V)) (h : Handle) → Empties s t f fs 2 h → Pend s (f ∷ fs) → Pend t (without_up f ∷ fs)
+  pub up_pends : (s t : State) (f : Frame V) (fs : List (Frame V)) (h : NumberedHandle) → Empties s t f fs 2 h → Pend s (f ∷ fs) → Pend t (without_up f ∷ fs)
   up_pends s t f fs h em pend = (
     record {
       is = ap (λ l. l f.top.block.0) em.latest ∙ pend.0.is;
@@ -159,7 +159,7 @@ module _ {V : Type 0} where
       s : State
       s = state_of d
 
-      h : Handle
+      h : NumberedHandle
       h = on_latest d Weak p c.0
 
       t : State

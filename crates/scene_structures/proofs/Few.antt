@@ -11,7 +11,7 @@ use Rattle.control_word.proofs.lists.Tallies.{put_cases, put_other}
 use Rattle.control_word.specs.Histories.{IsLegal}
 use Rattle.control_word.specs.State.{Has, Opening, State, common, live, put, sum_below}
 use Rattle.control_word.specs.declared.model.event.Cell.TheVariants.{Free}
-use Rattle.control_word.specs.declared.model.handle.Handle.{Handle}
+use Rattle.control_word.specs.declared.model.handle.NumberedHandle.{NumberedHandle}
 use Rattle.control_block.specs.Desks.{DeskNow, state_of}
 use Rattle.control_block.specs.Rule.{opening_of}
 use Rattle.scene_structures.specs.Chains.{Chain}
@@ -24,7 +24,7 @@ abbrev IsSingle : List ℕ → Type 0
 IsSingle [] = Unit {0}
 IsSingle (o ∷ os) = (Has o os → ⊥) × IsSingle os
 
-single : (s : State) (h : Handle) (os : List ℕ) → Chain s h os → IsSingle os
+single : (s : State) (h : NumberedHandle) (os : List ℕ) → Chain s h os → IsSingle os
 single s h [] chain = tt
 single s h (o ∷ os) chain = (not_below s h [] os o chain, single s ((s.object o).member 1) os chain.1)
 
@@ -71,7 +71,7 @@ module _ (z : Opening) (s : State) (fine : Sound z s) where
       single'.0 (subst (λ n. Has n os) (sym is) has)) in
       let sum = (sum_put z.blocks (b - 1) 1 (marks s os)).0 (omega arith) in omega arith
 
-  pub few : (h : Handle) (os : List ℕ) → AllLive s os → Chain s h os → length os ≤ z.blocks
+  pub few : (h : NumberedHandle) (os : List ℕ) → AllLive s os → Chain s h os → length os ≤ z.blocks
   few h os all chain =
       let a = marked os all (single s h os chain) in let b = sum_ones z.blocks (marks s os) (once s os) in omega arith
 

@@ -19,7 +19,7 @@ use Rattle.control_word.specs.declared.model.event.Event.{Event}
 use Rattle.control_word.specs.declared.model.event.Event.TheVariants.{ClearMember, Compare, Count, Expired, Finish, Join, Leave, Load, Lock, Make, Read}
 use Rattle.control_word.specs.declared.model.event.Event.TheVariants.{Share, Split, Swap, Visit, WeakLeave, WeakShare}
 use Rattle.control_word.specs.declared.model.event.Event.TheVariants.{Shelve, Unshelve}
-use Rattle.control_word.specs.declared.model.handle.Handle.{Handle}
+use Rattle.control_word.specs.declared.model.handle.NumberedHandle.{NumberedHandle}
 use Rattle.control_word.specs.declared.model.handle.Kind.TheVariants.{Owner}
 use Rattle.scene_structures.specs.Chains.{Chain, IsList}
 use Rattle.scene_structures.specs.Puts.{PutsOnly}
@@ -35,11 +35,11 @@ abbrev pub AllKept : State → State → List ℕ → Type 0
 AllKept s t [] = Unit {0}
 AllKept s t (o ∷ os) = Keeps s t o × AllKept s t os
 
-pub chain_kept : (s t : State) (h : Handle) (os : List ℕ) → AllKept s t os → Chain s h os → Chain t h os
+pub chain_kept : (s t : State) (h : NumberedHandle) (os : List ℕ) → AllKept s t os → Chain s h os → Chain t h os
 chain_kept s t h [] all chain = chain
 chain_kept s t h (o ∷ os) all chain = (
   (chain.0.0, chain.0.1, chain.0.2 ∙ sym all.0.block),
-  subst (λ (x : Handle). Chain t x os) (sym all.0.next) (chain_kept s t ((s.object o).member 1) os all.1 chain.1),
+  subst (λ (x : NumberedHandle). Chain t x os) (sym all.0.next) (chain_kept s t ((s.object o).member 1) os all.1 chain.1),
 )
 
 -- none of them is named by the cells
@@ -70,7 +70,7 @@ pub chain_live : (z : Opening) (s : State) (c : Cell) (os : List ℕ) → Sound 
 chain_live z s c [] sound there chain = tt
 chain_live z s c (o ∷ os) sound there chain =
     let is = chain.0.1 in
-    let lives = owned_live z s c o sound there (ap (λ (h : Handle). h.kind) is) (ap (λ (h : Handle). h.object) is) in
+    let lives = owned_live z s c o sound there (ap (λ (h : NumberedHandle). h.kind) is) (ap (λ (h : NumberedHandle). h.object) is) in
     let made = was_made z s o sound (λ e. let t = lives in cc) in
     (lives, omega arith, chain_live z s (Member o 1) os sound (omega arith, made) chain.1)
 
@@ -87,7 +87,7 @@ Stays x y = (y.block ≡ x.block) × (y.member 1 ≡ x.member 1)
 kept_at : (s t : State) (o : ℕ) → Stays (s.object o) (t.object o) → Keeps s t o
 kept_at s t o x = record { block = x.0; next = x.1 }
 
-put_in : (at : Cell → Type 0) (q m o : ℕ) (h : Handle) (f : ℕ → Handle) → at (Member q m) → (at (Member o 1) → ⊥)
+put_in : (at : Cell → Type 0) (q m o : ℕ) (h : NumberedHandle) (f : ℕ → NumberedHandle) → at (Member q m) → (at (Member o 1) → ⊥)
     → o ≡ q → put f m h 1 ≡ f 1
 put_in at q m o h f p not e = put_other f m h 1 (λ k. not (subst (λ j. at (Member j 1)) (sym e) (subst (λ j. at (Member q j)) (sym k) p)))
 
@@ -177,5 +177,5 @@ module _ {V : Type 0} where
       let was = frames z d at own seen n os legal.0 (All-tail (PutsOnly at) x own puts) lt not apart list in
       let cells = cells_led z h in
       let lives = chain_live z s (Free n) os (sound z h legal.0) (omega arith) was in
-      subst (λ (y : Handle). Chain (after s d x) y os) (sym (cell_after s d x at n first not))
+      subst (λ (y : NumberedHandle). Chain (after s d x) y os) (sym (cell_after s d x at n first not))
       (chain_kept s (after s d x) (s.cell n) os (all_kept s d x at os legal.1.asks first apart lives) was)

@@ -17,7 +17,7 @@ use Rattle.control_word.specs.declared.model.event.Cell.TheVariants.{Member}
 use Rattle.control_word.specs.declared.model.event.Entry.{Entry}
 use Rattle.control_word.specs.declared.model.event.Event.{Event}
 use Rattle.control_word.specs.declared.model.event.Event.TheVariants.{Compare, Swap}
-use Rattle.control_word.specs.declared.model.handle.Handle.{Handle}
+use Rattle.control_word.specs.declared.model.handle.NumberedHandle.{NumberedHandle}
 use Rattle.control_word.specs.declared.model.handle.Kind.{Kind}
 use Rattle.control_word.specs.declared.model.handle.Kind.TheVariants.{Owner}
 use Rattle.control_word.specs.declared.place.Place.{Place}
@@ -47,11 +47,11 @@ all_same s t [] e = tt
 all_same s t (o ∷ os) e = (record { block = ap (λ f. (f o).block) e; next = ap (λ f. (f o).member 1) e }, all_same s t os e)
 
 -- what is equivalent to an owner is that owner, if it is an owner
-pub same_owner : (a b : Handle) → equivalent a b ≡ true → a.kind ≡ Owner → b.kind ≡ Owner → a ≡ b
+pub same_owner : (a b : NumberedHandle) → equivalent a b ≡ true → a.kind ≡ Owner → b.kind ≡ Owner → a ≡ b
 same_owner a b same ka kb =
     same_handle_true a b (ap (λ (k : Kind). same_kind k b.kind && equivalent a b) ka ∙ (ap (λ (k : Kind). same_kind Owner k && equivalent a b) kb ∙ same))
 
-pub none_alike : (a b : Handle) → equivalent a b ≡ true → a.object ≡ None → b.object ≡ None
+pub none_alike : (a b : NumberedHandle) → equivalent a b ≡ true → a.object ≡ None → b.object ≡ None
 none_alike a b same none = go b.object refl
   where
     go : (x : Option ℕ) → b.object ≡ x → b.object ≡ None
@@ -60,10 +60,10 @@ none_alike a b same none = go b.object refl
         (e i) && Rattle.control_word.specs.Handles.same_place a.place b.place) in let u : true ≡ false = sym same ∙ t in cc)
 
 -- a chain from what is equivalent
-pub chain_alike : (s : State) (a b : Handle) (os : List ℕ) → equivalent a b ≡ true → b.kind ≡ Owner → Chain s a os → Chain s b os
+pub chain_alike : (s : State) (a b : NumberedHandle) (os : List ℕ) → equivalent a b ≡ true → b.kind ≡ Owner → Chain s a os → Chain s b os
 chain_alike s a b [] same kind chain = none_alike a b same chain
 chain_alike s a b (o ∷ os) same kind chain =
-    let e : a ≡ b = same_owner a b same (ap (λ (h : Handle). h.kind) chain.0.1) kind in ((chain.0.0, sym e ∙ chain.0.1, chain.0.2), chain.1)
+    let e : a ≡ b = same_owner a b same (ap (λ (h : NumberedHandle). h.kind) chain.0.1) kind in ((chain.0.0, sym e ∙ chain.0.1, chain.0.2), chain.1)
 
 -- what goes in or is expected by a compare, and has an object, is held
 pub given_holds : (s : State) (d : ℕ) (k : Kind) (o : ℕ) (p : Option Place) → Rattle.control_word.specs.Events.InHand s d k (owner o p)
@@ -78,7 +78,7 @@ module _ {V : Type 0} where
   in_front d a b seen = ap (λ l. l ++ seen) (map-append (entry d) a b) ∙ append_assoc (map (entry d) a) (map (entry d) b) seen
 
   -- the state after the node rose in front of the list in a cell
-  pub risen : (z : Opening) (d o : ℕ) (c : Cell) (q : Place) (below was old : Handle) (w : Bool)
+  pub risen : (z : Opening) (d o : ℕ) (c : Cell) (q : Place) (below was old : NumberedHandle) (w : Bool)
       (before between late : List (Event V)) (seen : List (Entry V))
       (os : List ℕ)
       → IsLegal z (map (entry d) (late ++ Compare c below (owner o (Some q)) old true w ∷ (between ++ Swap (Member o 1) below was ∷ before)) ++ seen)
@@ -115,7 +115,7 @@ module _ {V : Type 0} where
       let alike = ⊎_elim (λ (e : true ≡ equivalent old below). sym e) (λ t. absurd (let e : true ≡ false = t.1 in cc)) asks.4 in
       let cell : cell_of s c ≡ old = sym asks.3 in
       let kind : below.kind ≡ Owner = asks.1.0 ∙ sym asks.2.0 in
-      let tail : Chain s below os = chain_alike s old below os alike kind (subst (λ (h : Handle). Chain s h os) cell n) in
+      let tail : Chain s below os = chain_alike s old below os alike kind (subst (λ (h : NumberedHandle). Chain s h os) cell n) in
       let A = map (entry d) (Swap (Member o 1) below was ∷ before) ++ seen in
       let inner = in_front d between (Swap (Member o 1) below was ∷ before) seen in
       let holds = given_holds s d _ o (Some q) asks.2 in
@@ -133,9 +133,9 @@ module _ {V : Type 0} where
       let listed = chain_live z s c os (sound z T legalC.0) there_s n in
       let chain_u : Chain u node (o ∷ os) = (
         (q, refl, here),
-        subst (λ (h : Handle). Chain u h os) (sym (stays.next ∙ next))
+        subst (λ (h : NumberedHandle). Chain u h os) (sym (stays.next ∙ next))
             (chain_kept s u below os (all_kept s d x only os asks refl (apart_head c os head) listed) tail),
       ) in
-      let list_u : IsList u c (o ∷ os) = subst (λ (h : Handle). Chain u h (o ∷ os)) (sym (cell_put s d c node old)) chain_u in
+      let list_u : IsList u c (o ∷ os) = subst (λ (h : NumberedHandle). Chain u h (o ∷ os)) (sym (cell_put s d c node old)) chain_u in
       subst (λ l. IsList (leads z l) c (o ∷ os)) (sym split)
       (frames_at z d in_no_cell late C c (o ∷ os) legal' ends there_u alive' (λ e. e) (apart_nowhere (o ∷ os)) list_u)

@@ -18,7 +18,7 @@ use Rattle.control_word.specs.declared.model.event.Event.{Event}
 use Rattle.control_word.specs.declared.model.event.Event.TheVariants.{ClearMember, Compare, Count, Expired, Finish, Join, Leave, Load, Lock, Make, Read}
 use Rattle.control_word.specs.declared.model.event.Event.TheVariants.{Share, Split, Swap, Visit, WeakLeave, WeakShare}
 use Rattle.control_word.specs.declared.model.event.Event.TheVariants.{Shelve, Unshelve}
-use Rattle.control_word.specs.declared.model.handle.Handle.{Handle}
+use Rattle.control_word.specs.declared.model.handle.NumberedHandle.{NumberedHandle}
 use Rattle.scene_structures.specs.Chains.{Chain, IsList}
 use Rattle.scene_structures.specs.Puts.{PutsOnly}
 use Rattle.scene_structures.proofs.Frames.{Apart, all_kept, cell_after, chain_kept, chain_live}
@@ -34,7 +34,7 @@ abbrev pub IsHead : Cell → Type 0
 IsHead c = (o : ℕ) → c ≡ Member o 1 → ⊥
 
 -- what a swap puts in
-pub cell_put : (s : State) (d : ℕ) (c : Cell) (new old : Handle) → cell_of (swaps d c new old s) c ≡ new
+pub cell_put : (s : State) (d : ℕ) (c : Cell) (new old : NumberedHandle) → cell_of (swaps d c new old s) c ≡ new
 cell_put s d (Free n) new old = put_same s.cell n new n refl
 cell_put s d (Member o k) new old =
     ap (λ (u : Object). u.member k) (put_same s.object o (record (s.object o) { member = put (s.object o).member k new }) o refl)
@@ -165,5 +165,5 @@ module _ {V : Type 0} where
       let lives_s = lives_before s d x at c first in_s lives in
       let was = frames_at z d at own seen c os legal.0 (All-tail (PutsOnly at) x own puts) there lives_s not apart list in
       let all = chain_live z s c os (sound z h legal.0) in_s was in
-      subst (λ (y : Handle). Chain (after s d x) y os) (sym (cell_stays s d x at c legal.1.asks first not in_s lives_s))
+      subst (λ (y : NumberedHandle). Chain (after s d x) y os) (sym (cell_stays s d x at c legal.1.asks first not in_s lives_s))
       (chain_kept s (after s d x) (cell_of s c) os (all_kept s d x at os legal.1.asks first apart all) was)

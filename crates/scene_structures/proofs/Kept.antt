@@ -1,7 +1,7 @@
 -- What a call that ends nothing leaves as it is, members of what is held, and calls that aren't refused.
 use Rattle.std.proofs.Common.{◌≡◌, ◌↔◌, ◌+◌, ◌<◌, ◌∙◌, List, Option, Result, Ok, Err, refl, sym, ap, subst, arith}
 use Rattle.std.specs.Prelude.{IsErr}
-use Rattle.control_word.specs.declared.model.handle.Handle.{Handle}
+use Rattle.control_word.specs.declared.model.handle.NumberedHandle.{NumberedHandle}
 use Rattle.control_word.specs.declared.model.handle.Kind.TheVariants.{Owner}
 use Rattle.control_word.specs.declared.place.Block.{Block}
 use Rattle.control_word.specs.declared.shape.Shape.{Shape}
@@ -23,7 +23,7 @@ use Rattle.scene_structures.specs.declared.lists.cutting.Sought.{Sought}
 use Rattle.scene_structures.specs.declared.lists.cutting.Sought.TheVariants.{Cut, End, Other}
 
 -- a member of what the bag lists
-pub open_listed : (base : List Handle) (h : Shared) (at : SharedAt) (m : SharedMember) (z : Shape)
+pub open_listed : (base : List NumberedHandle) (h : Shared) (at : SharedAt) (m : SharedMember) (z : Shape)
     → IsMember (λ k (x : SharedAt). x.site ≡ shared.Of k m) h.block h.place (Ok at) → Lists h.block h.place base → IsOpenBy base z at.site
 open_listed base h at m z is lists = subst (IsOpenBy base z) (sym is.3) (h.place, subst (λ (b : Option Block). Lists b h.place base) is.2 lists)
 

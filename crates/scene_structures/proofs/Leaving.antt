@@ -8,7 +8,7 @@ use Rattle.control_word.specs.Histories.{IsLegal}
 use Rattle.control_word.specs.State.{Has, count, live}
 use Rattle.control_word.specs.declared.model.event.Cell.{Cell}
 use Rattle.control_word.specs.declared.model.event.Cell.TheVariants.{Member}
-use Rattle.control_word.specs.declared.model.handle.Handle.{Handle}
+use Rattle.control_word.specs.declared.model.handle.NumberedHandle.{NumberedHandle}
 use Rattle.control_word.specs.declared.model.handle.Kind.TheVariants.{Owner}
 use Rattle.control_word.specs.declared.place.Block.{Block}
 use Rattle.control_word.specs.declared.place.Place.{Place}
@@ -124,7 +124,7 @@ module _ {V : Type 0} where
   stood_at d o m legal sole lives lt = record { legal = legal; sole = sole; there = in_there d (Member o m) legal (lt, lives) }
 
   -- what has an owner lives
-  owned_lives : (d : DeskNow V) (h : Handle) (p : ℕ) → IsLegal (opening_of d.shape) d.seen → h.object ≡ Some p → is_owned (state_of d) h ≡ true
+  owned_lives : (d : DeskNow V) (h : NumberedHandle) (p : ℕ) → IsLegal (opening_of d.shape) d.seen → h.object ≡ Some p → is_owned (state_of d) h ≡ true
       → ((state_of d).object p).phase ≡ live
   owned_lives d h p legal is owned =
       live_if ((state_of d).object p).phase (count (state_of d) p) ((sound (opening_of d.shape) d.seen legal).owners p)
@@ -172,7 +172,7 @@ module _ {V : Type 0} where
       nobody (Some b) is rest none =
           let up = ((state_of d).object o).member 2 in
           let there : None ≡ (handle_in m Owner (Some b) a.parent.place).object =
-          sym (owner_none (state_of d) up none) ∙ (ap (λ (h : Handle). h.object) (sym parent)
+          sym (owner_none (state_of d) up none) ∙ (ap (λ (h : NumberedHandle). h.object) (sym parent)
           ∙ ap (λ (x : Option Block). (handle_in m Owner x a.parent.place).object) is) in
           absurd (cc there)
 
@@ -182,12 +182,12 @@ module _ {V : Type 0} where
           → MatchOption b (Does IsParting m e) (λ x. LeavesParent m (object_of (node_in m a.parent)) o e) → WentOut d p o os e
       somebody p os up owned list None is rest =
           let there : None ≡ Some p =
-          sym (ap (λ (x : Option Block). (handle_in m Owner x a.parent.place).object) is) ∙ (ap (λ (h : Handle). h.object) parent
+          sym (ap (λ (x : Option Block). (handle_in m Owner x a.parent.place).object) is) ∙ (ap (λ (h : NumberedHandle). h.object) parent
           ∙ owner_some (state_of d) (((state_of d).object o).member 2) p up owned) in
           absurd (cc there)
       somebody p os up owned list (Some b) is rest =
           let on : (node_in m a.parent).object ≡ Some p =
-          ap (λ (h : Handle). h.object) parent ∙ owner_some (state_of d) (((state_of d).object o).member 2) p up owned in
+          ap (λ (h : NumberedHandle). h.object) parent ∙ owner_some (state_of d) (((state_of d).object o).member 2) p up owned in
           let x = subst (λ j. LeavesParent m j o e) (object_is (node_in m a.parent) p on) rest in
           let lives_p = owned_lives d (((state_of d).object o).member 2) p legal up owned in
           let zero : 0 < 3 = omega arith in let one : 1 < 3 = omega arith in let two : 2 < 3 = omega arith in

@@ -2,6 +2,7 @@ pub mod Others
 pub mod Orders
 pub mod Hands
 pub mod Latest
+pub mod Rounds
 pub mod Sites
 pub mod Kept
 pub mod Rooms

@@ -7,7 +7,7 @@ use Rattle.control_word.specs.declared.model.event.Cell.{Cell}
 use Rattle.control_word.specs.declared.model.event.Cell.TheVariants.{Member}
 use Rattle.control_word.specs.declared.model.event.Event.{Event}
 use Rattle.control_word.specs.declared.model.event.Event.TheVariants.{Compare, Load}
-use Rattle.control_word.specs.declared.model.handle.Handle.{Handle}
+use Rattle.control_word.specs.declared.model.handle.NumberedHandle.{NumberedHandle}
 use Rattle.control_word.specs.declared.model.handle.Kind.TheVariants.{Owner}
 use Rattle.control_word.specs.declared.place.Block.{Block}
 use Rattle.control_word.specs.declared.place.Place.{Place}
@@ -41,11 +41,11 @@ module _ {V : Type 0} where
   within_held d h legal lists o owns = go h.block h.place lists owns
     where
       go : (b : Option Block) (p : Option Place) → Lists b p (bag_of d) → OwnsObject (state_of d) (handle_in d Owner b p) o → IsWithin b p
-      go None p lists owns = absurd (let e : None ≡ Some o = ap (λ (x : Handle). x.object) owns.1 in cc)
+      go None p lists owns = absurd (let e : None ≡ Some o = ap (λ (x : NumberedHandle). x.object) owns.1 in cc)
       go (Some c) p lists owns =
           let q = owns.0 in
-          let place : p ≡ Some q = ap (λ (x : Handle). x.place) owns.1 in
-          let object : Some (latest_of d c.0) ≡ Some o = ap (λ (x : Handle). x.object) owns.1 in
+          let place : p ≡ Some q = ap (λ (x : NumberedHandle). x.place) owns.1 in
+          let object : Some (latest_of d c.0) ≡ Some o = ap (λ (x : NumberedHandle). x.object) owns.1 in
           let number : latest_of d c.0 ≡ o = cc in
           let held = shown_held (opening_of d.shape) d.seen d.name Owner p c.0 legal lists in
           let block : c.0 ≡ q.block.0 = sym held.1 ∙ (ap (λ n. ((state_of d).object n).block) number ∙ sym owns.2) in
@@ -70,7 +70,7 @@ module _ {V : Type 0} where
         within = within_held e h (legal_after d e _ adds) lists;
       }
 
-  pub sees_none : (c : Cell) (h : Handle) (x : Event V) → Sees c h x → PutsOnly in_no_cell x
+  pub sees_none : (c : Cell) (h : NumberedHandle) (x : Event V) → Sees c h x → PutsOnly in_no_cell x
   sees_none c h (Load k got) sees = tt
   sees_none c h (Compare k expected new got false weak) sees = tt
   sees_none c h x sees = absurd sees
@@ -106,7 +106,7 @@ module _ {V : Type 0} where
       }
 
   -- a load and a compare that differs
-  pub looks_again : (d e m u f : DeskNow V) (c : Cell) (h held : Shared) (k : Cell) (below ex new : Handle) (w : Bool) → Looks d c h e
+  pub looks_again : (d e m u f : DeskNow V) (c : Cell) (h held : Shared) (k : Cell) (below ex new : NumberedHandle) (w : Bool) → Looks d c h e
       → AddsEvent e (Load k below) m
       → AddsEvent m (Compare c ex new (node_in u held) false w) u → Lists held.block held.place (bag_of u) → Does IsParting u f → Looks d c held f
   looks_again d e m u f c h held k below ex new w l loads differs lists does =
@@ -127,7 +127,7 @@ module _ {V : Type 0} where
       }
 
   -- a load and a compare that swaps
-  pub takes : (d e m u f : DeskNow V) (c : Cell) (h : Shared) (o : ℕ) (q : Place) (below old : Handle) (w : Bool) → Looks d c h e
+  pub takes : (d e m u f : DeskNow V) (c : Cell) (h : Shared) (o : ℕ) (q : Place) (below old : NumberedHandle) (w : Bool) → Looks d c h e
       → AddsEvent e (Load (Member o 1) below) m
       → AddsEvent m (Compare c (owner o (Some q)) below old true w) u → Does IsParting u f → PopsNode d c o q f
   takes d e m u f c h o q below old w l loads swaps does =

@@ -12,10 +12,9 @@ use Rattle.shared_handle.proofs.Goings.{does_both, does_none, does_one}
 use Rattle.shared_handle.specs.Calls.{IsExpiry, LeavesWeakly, Makes, SharesOwner, SharesWeakly, counting}
 use Rattle.shared_handle.specs.Endings.{IsRead}
 use Rattle.shared_handle.specs.Locks.{LocksHandle}
-use Rattle.shared_handle.specs.Piles.{AreRounds, Drops, IsRound, Past}
+use Rattle.shared_handle.specs.Piles.{AreRounds, Drops, Past}
 use Rattle.shared_handle.specs.declared.endings.Ending.{Ending}
 use Rattle.shared_handle.specs.declared.pile.Gone.{Gone}
-use Rattle.shared_handle.specs.declared.pile.Round.{Round}
 use Rattle.scene_structures.specs.Orders.{AreSteps, Before, EndsInOrder, EndsNothing, IsStep}
 use Rattle.scene_structures.specs.Parents.{LocksUp}
 use Rattle.scene_structures.specs.Prunes.{AsksExpired}
@@ -126,11 +125,6 @@ module _ {V : Type 0} where
 
   pub order_asked : (d e : DeskNow V) (c : _) (gone : Bool) (xs : List (Ending V)) → AsksExpired d c gone e → EndsInOrder d xs e xs
   order_asked d e c gone xs is = order_still d e xs (still_asked d e c gone is)
-
-  -- one round more
-  pub next_round : (d e f : DeskNow V) (xs ys zs : List (Ending V)) (r : Round V) → ((rs : List (Past V)) × AreRounds d xs rs e ys)
-      → IsRound e ys r f zs → (rs : List (Past V)) × AreRounds d xs rs f zs
-  next_round d e f xs ys zs r before is = (record { round = r; desk = e; pile = ys } ∷ before.0, (before.1, is))
 
   -- an owner left, and the pile was settled
   pub order_left : (d m e : DeskNow V) (xs ys zs : List (Ending V)) (b : Option Block) (p : Option Place) (gone : Gone) (rounds : List (Past V))

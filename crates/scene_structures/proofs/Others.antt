@@ -1,23 +1,24 @@
 -- What ends in the desk's hands elsewhere than on a pile stays as it is, call by call.
-use Rattle.std.proofs.Common.{◌≡◌, ◌≢◌, ℕ, ◌++◌, ◌∷◌, Bool, true, false, length, List, [], None, Some}
+use Rattle.std.proofs.Common.{◌≡◌, ◌≢◌, ℕ, ◌++◌, ◌∷◌, false, length, List, [], None, Some}
 use Rattle.std.proofs.Common.{refl, sym, ap, subst, ◌∙◌, arith}
 use Rattle.control_word.proofs.history.Given.{legal_seen}
 use Rattle.control_word.proofs.history.Legal.{sound}
-use Rattle.control_word.proofs.lists.Tallies.{put_again, put_cases, put_other}
-use Rattle.control_word.specs.Events.{after, moved_to}
-use Rattle.control_word.specs.Handles.{empty, object_of}
+use Rattle.control_word.proofs.lists.Tallies.{put_again, put_other}
+use Rattle.control_word.specs.Events.{after}
 use Rattle.control_word.specs.Histories.{IsLegal, leads}
-use Rattle.control_word.specs.State.{Object, State, ending, gone, kind_of_member, put}
+use Rattle.control_word.specs.State.{Object, State, ending}
 use Rattle.control_word.specs.declared.model.event.Event.{Event}
-use Rattle.control_word.specs.declared.model.event.Event.TheVariants.{ClearMember, Finish, Leave, WeakLeave}
-use Rattle.control_word.specs.declared.model.handle.Handle.{Handle}
-use Rattle.control_block.proofs.Endings.{ends_here, still_ends}
+use Rattle.control_word.specs.declared.model.event.Event.TheVariants.{ClearMember, Finish}
+use Rattle.control_word.specs.declared.model.handle.NumberedHandle.{NumberedHandle}
+use Rattle.control_word.specs.declared.place.Block.{Block}
+use Rattle.control_block.proofs.Endings.{ends_here, ends_unmade, still_ends}
 use Rattle.control_block.specs.Desks.{AddsEvent, DeskNow, IsEnding, Keeps, KeepsEndings, endings_of, latest_of, member_in, object_in, state_of}
 use Rattle.control_block.specs.Rule.{opening_of}
-use Rattle.shared_handle.proofs.Beside.{ends_through_clear}
+use Rattle.shared_handle.proofs.Beside.{apart, left_apart, up_beside}
+use Rattle.shared_handle.proofs.PiledEndings.{among_append, among_before, piled_apart}
 use Rattle.shared_handle.specs.Calls.{LeavesWeakly, counting}
-use Rattle.shared_handle.specs.Endings.{EndsInHand, IsClearing, IsLeft}
-use Rattle.shared_handle.specs.Piles.{AllEnd, IsRound, KeepsElsewhere, NotAmong}
+use Rattle.shared_handle.specs.Endings.{ClearsMember, EndsInHand, IsBeside, IsClearing, IsLeft, with_clear}
+use Rattle.shared_handle.specs.Piles.{AllEnd, AreRounds, IsRound, KeepsElsewhere, NotAmong, Past}
 use Rattle.shared_handle.specs.declared.endings.Ending.{Ending}
 use Rattle.shared_handle.specs.declared.endings.Left.{Left}
 use Rattle.shared_handle.specs.declared.endings.Left.TheVariants.{Empty, Last, Others}
@@ -74,103 +75,140 @@ module _ {V : Type 0} where
   others_left d e xs ys all elsewhere keeps =
       record { count = elsewhere.count; still = λ b x ends n. ((still_there d e xs ys b x all elsewhere ends n).0, keeps b x ends) }
 
-  -- a call by which the members of what ends in the block hang nowhere
-  members_through : (d e : DeskNow V) (b : ℕ) (x : Event V) → ((s : State) → (after s d.name x).latest b ≡ s.latest b)
-      → ((s : State) (m : ℕ) → ((after s d.name x).object (latest_of d b)).member m ≡ (s.object (latest_of d b)).member m)
-      → (object_in d b).phase ≡ ending d.name → AddsEvent d x e → (m : ℕ) → member_in e b m ≡ member_in d b m
-  members_through d e b x block member ends adds m =
+  -- what is left of an object that ends in the block
+  record Lasts (d e : DeskNow V) (b : ℕ) : Type 0 where
+    phase : (object_in e b).phase ≡ ending e.name
+    members : (m : ℕ) → member_in e b m ≡ member_in d b m
+
+  lasts_both : (d e f : DeskNow V) (b : ℕ) → Lasts d e b → Lasts e f b → Lasts d f b
+  lasts_both d e f b one two = record { phase = two.phase; members = λ m. two.members m ∙ one.members m }
+
+  -- another block's latest object is another one
+  apart_latest : (d : DeskNow V) (b c : ℕ) → IsLegal (opening_of d.shape) d.seen → (object_in d b).phase ≡ ending d.name → c ≢ b
+      → latest_of d b ≢ latest_of d c
+  apart_latest d b c legal ends other same =
+      let z = opening_of d.shape in let s = state_of d in let fine = sound z d.seen legal in
+      let some : s.latest c ≢ 0 = λ q. ends_unmade d.name
+      (sym ends ∙ (ap (λ o. (s.object o).phase) (same ∙ q) ∙ fine.none)) in
+      other (sym (fine.latest_in c some) ∙ (ap (λ o. (s.object o).block) (sym same) ∙ ends_here z s b d.name fine ends))
+
+  -- a call of the desk on another object
+  lasts_through : (d e : DeskNow V) (b : ℕ) (x : Event V) → ((s : State) → (after s d.name x).latest b ≡ s.latest b)
+      → ((s : State) → (after s d.name x).object (latest_of d b) ≡ s.object (latest_of d b))
+      → (object_in d b).phase ≡ ending d.name → AddsEvent d x e → Lasts d e b
+  lasts_through d e b x block object ends adds =
       let z = opening_of d.shape in
       let legal = subst (IsLegal z) adds.seen adds.legal in
       let s = leads z (adds.between ++ d.seen) in
       let still = still_ends z adds.between d.seen b d.name legal.0 adds.quiet ends in
       let now : state_of e ≡ after s d.name x = (λ i. leads (opening_of (adds.same.1 i)) (adds.seen i)) in
-      ap (λ (u : State). (u.object (u.latest b)).member m) now
-      ∙ (ap (λ o. ((after s d.name x).object o).member m) (block s ∙ still.latest)
-      ∙ (member s m ∙ still.object.member m))
+      let is : object_in e b ≡ s.object (latest_of d b) =
+      ap (λ (u : State). u.object (u.latest b)) now ∙ (ap (after s d.name x).object (block s ∙ still.latest) ∙ object s) in
+      record {
+        phase = ap (λ (y : Object). y.phase) is ∙ (still.object.phase ∙ (ends ∙ ap ending (sym adds.same.2)));
+        members = λ m. ap (λ (y : Object). y.member m) is ∙ still.object.member m;
+      }
 
-  member_leave : (d e : DeskNow V) (b : ℕ) (h : Handle) (last : Bool) → (object_in d b).phase ≡ ending d.name
-      → AddsEvent d (Leave h last) e → (m : ℕ)
-      → member_in e b m ≡ member_in d b m
-  member_leave d e b h false = members_through d e b (Leave h false) (λ s. refl)
-      (λ s m. ap (λ f. (f (latest_of d b)).member m) (put_again s.object (object_of h)))
-  member_leave d e b h true = members_through d e b (Leave h true) (λ s. refl)
-      (λ s m. put_cases (λ j (y : Object). y.member m ≡ (s.object j).member m) s.object (object_of h)
-      (moved_to (ending d.name) (s.object (object_of h))) (latest_of d b) (λ q. ap (λ j. (s.object j).member m) (sym q)) (λ n. refl))
+  legal_before : (d e : DeskNow V) (x : Event V) → AddsEvent d x e → IsLegal (opening_of d.shape) d.seen
+  legal_before d e x adds =
+      let z = opening_of d.shape in legal_seen z adds.between d.seen (subst (IsLegal z) adds.seen adds.legal).0
 
-  member_weak : (d e : DeskNow V) (b : ℕ) (h : Handle) (v : _) → (object_in d b).phase ≡ ending d.name → AddsEvent d (WeakLeave h v) e → (m : ℕ)
-      → member_in e b m ≡ member_in d b m
-  member_weak d e b h v = members_through d e b (WeakLeave h v) (λ s. refl) (λ s m. refl)
+  lasts_clear : (d e : DeskNow V) (b c j : ℕ) (h : NumberedHandle) → c ≢ b → (object_in d b).phase ≡ ending d.name
+      → AddsEvent d (ClearMember (latest_of d c) j h) e → Lasts d e b
+  lasts_clear d e b c j h other ends adds =
+      lasts_through d e b _ (λ s. refl)
+      (λ s. put_other s.object (latest_of d c) _ (latest_of d b) (apart_latest d b c (legal_before d e _ adds) ends other)) ends adds
 
-  member_finish : (d e : DeskNow V) (b o : ℕ) (v : _) (y : V) → (object_in d b).phase ≡ ending d.name → AddsEvent d (Finish o v y) e → (m : ℕ)
-      → member_in e b m ≡ member_in d b m
-  member_finish d e b o v y = members_through d e b (Finish o v y) (λ s. refl)
-      (λ s m. put_cases (λ j (w : Object). w.member m ≡ (s.object j).member m) s.object o
-      (moved_to gone (s.object o)) (latest_of d b) (λ q. ap (λ j. (s.object j).member m) (sym q)) (λ n. refl))
+  lasts_finish : (d e : DeskNow V) (b c : ℕ) (v : _) (y : V) → c ≢ b → (object_in d b).phase ≡ ending d.name
+      → AddsEvent d (Finish (latest_of d c) v y) e → Lasts d e b
+  lasts_finish d e b c v y other ends adds =
+      lasts_through d e b _ (λ s. refl)
+      (λ s. put_other s.object (latest_of d c) _ (latest_of d b) (apart_latest d b c (legal_before d e _ adds) ends other)) ends adds
 
-  -- objects that end in two blocks are two
-  apart_objects : (d : DeskNow V) (b c : ℕ) → IsLegal (opening_of d.shape) d.seen → (object_in d b).phase ≡ ending d.name
-      → (object_in d c).phase ≡ ending d.name → c ≢ b → latest_of d b ≢ latest_of d c
-  apart_objects d b c legal one two other same =
-      let z = opening_of d.shape in let s = state_of d in let fine = sound z d.seen legal in
-      other (sym (ends_here z s c d.name fine two) ∙ (ap (λ o. (s.object o).block) (sym same) ∙ ends_here z s b d.name fine one))
+  -- an owner left, and what ended for it was another object
+  lasts_left : (d e : DeskNow V) (b : ℕ) (h : _) (p : _) (left : Left V) → (object_in d b).phase ≡ ending d.name → IsLeft d h p left e
+      → Lasts d e b
+  lasts_left d e b h p Empty ends is =
+      subst (λ (u : DeskNow V). Lasts d u b) (sym is.1) (record { phase = ends; members = λ m. refl })
+  lasts_left d e b h p Others ends is =
+      lasts_through d e b _ (λ s. refl) (λ s. ap (λ f. f (latest_of d b)) (put_again s.object _)) ends is.2
+  lasts_left d e b h p (Last x) ends is =
+      let other : x.block.0 ≢ b = λ q. apart d e b x.block.0 p ends is.1 (sym q) in
+      lasts_through d e b _ (λ s. refl)
+      (λ s. put_other s.object (latest_of d x.block.0) _ (latest_of d b)
+      (apart_latest d b x.block.0 (legal_before d e _ is.1) ends other)) ends is.1
 
-  member_clear : (d e : DeskNow V) (b c j : ℕ) (h : Handle) → c ≢ b → (object_in d b).phase ≡ ending d.name
-      → (object_in d c).phase ≡ ending d.name → AddsEvent d (ClearMember (latest_of d c) j h) e → (m : ℕ) → member_in e b m ≡ member_in d b m
-  member_clear d e b c j h other one two adds =
-      let z = opening_of d.shape in let o = latest_of d c in
-      let legal = subst (IsLegal z) adds.seen adds.legal in
-      let apart = apart_objects d b c (legal_seen z adds.between d.seen legal.0) one two other in
-      members_through d e b (ClearMember o j h) (λ s. refl)
-      (λ s m. ap (λ (y : Object). y.member m) (put_other s.object o
-      (record (s.object o) { member = put (s.object o).member j (empty (kind_of_member j)) }) (latest_of d b) apart)) one adds
+  lasts_weakly : (d e : DeskNow V) (b : ℕ) (h : _) (p : _) (v : _) → (object_in d b).phase ≡ ending d.name → LeavesWeakly d h p v e
+      → Lasts d e b
+  lasts_weakly d e b None p v ends is =
+      subst (λ (u : DeskNow V). Lasts d u b) (sym is.0) (record { phase = ends; members = λ m. refl })
+  lasts_weakly d e b (Some c) p v ends is = lasts_through d e b _ (λ s. refl) (λ s. refl) ends is
 
-  member_left : (d e : DeskNow V) (b : ℕ) (h : _) (p : _) (left : Left V) → (object_in d b).phase ≡ ending d.name → IsLeft d h p left e → (m : ℕ)
-      → member_in e b m ≡ member_in d b m
-  member_left d e b h p Empty ends is m = ap (λ (u : DeskNow V). member_in u b m) is.1
-  member_left d e b h p Others ends is m = member_leave d e b _ _ ends is.2 m
-  member_left d e b h p (Last x) ends is m = member_leave d e b _ _ ends is.1 m
+  lasts_shared : (d e : DeskNow V) (b : ℕ) (x : Ending V) (j : ℕ) (left : Left V) → x.block.0 ≢ b → (object_in d b).phase ≡ ending d.name
+      → ClearsMember d x j left e → Lasts d e b × IsBeside b left
+  lasts_shared d e b x j left other ends c =
+      let one = lasts_clear d c.between b x.block.0 j _ other ends c.takes.event in (
+        lasts_both d c.between e b one (lasts_left c.between e b c.block c.place left one.phase c.leaves),
+        left_apart c.between e c.block c.place left c.leaves b one.phase,
+      )
 
-  member_left_weakly : (d e : DeskNow V) (b : ℕ) (h : _) (p : _) (v : _) → (object_in d b).phase ≡ ending d.name → LeavesWeakly d h p v e → (m : ℕ)
-      → member_in e b m ≡ member_in d b m
-  member_left_weakly d e b None p v ends is m = ap (λ (u : DeskNow V). member_in u b m) is.0
-  member_left_weakly d e b (Some c) p v ends is m = member_weak d e b _ v ends is m
+  lasts_clearing : (d e : DeskNow V) (b : ℕ) (x : Ending V) (m : Member) (left : Left V) → x.block.0 ≢ b
+      → (object_in d b).phase ≡ ending d.name → IsClearing d x m left e → Lasts d e b × IsBeside b left
+  lasts_clearing d e b x First left other ends is = lasts_shared d e b x 0 left other ends is.0
+  lasts_clearing d e b x Next left other ends is = lasts_shared d e b x 1 left other ends is.0
+  lasts_clearing d e b x Up left other ends c =
+      let one = lasts_clear d c.between b x.block.0 2 _ other ends c.takes.event in (
+        lasts_both d c.between e b one (lasts_weakly c.between e b c.block c.place c.vacant one.phase c.leaves),
+        up_beside d e x left c b,
+      )
 
-  member_clearing : (d e : DeskNow V) (b : ℕ) (x : Ending V) (m : Member) (left : Left V) → x.block.0 ≢ b
-      → (object_in d b).phase ≡ ending d.name → (object_in d x.block.0).phase ≡ ending d.name → IsClearing d x m left e → (k : ℕ)
-      → member_in e b k ≡ member_in d b k
-  member_clearing d e b x First left other one two is k =
-      let c = is.0 in let t = c.takes.event in
-      member_left c.between e b c.block c.place left (ends_through_clear d c.between b _ 0 _ one t) c.leaves k
-      ∙ member_clear d c.between b x.block.0 0 _ other one two t k
-  member_clearing d e b x Next left other one two is k =
-      let c = is.0 in let t = c.takes.event in
-      member_left c.between e b c.block c.place left (ends_through_clear d c.between b _ 1 _ one t) c.leaves k
-      ∙ member_clear d c.between b x.block.0 1 _ other one two t k
-  member_clearing d e b x Up left other one two c k =
-      let t = c.takes.event in
-      member_left_weakly c.between e b c.block c.place c.vacant (ends_through_clear d c.between b _ 2 _ one t) c.leaves k
-      ∙ member_clear d c.between b x.block.0 2 _ other one two t k
+  block_with : (x : Ending V) (m : Member) → (with_clear m x).block ≡ x.block
+  block_with x First = refl
+  block_with x Next = refl
+  block_with x Up = refl
 
-  last_ends : (d : DeskNow V) (b : ℕ) (xs : List (Ending V)) (y : Ending V) → AllEnd d (xs ++ y ∷ []) → NotAmong b (xs ++ y ∷ [])
-      → ((object_in d y.block.0).phase ≡ ending d.name) × (y.block.0 ≢ b)
-  last_ends d b [] y all n = (all.0.ends.phase, n.0)
-  last_ends d b (x ∷ xs) y all n = last_ends d b xs y all.2 n.1
+  -- a round of a pile on which it doesn't lie
+  lasts_round : (d e : DeskNow V) (b : ℕ) (ys zs : List (Ending V)) (r : Round V) → NotAmong b ys
+      → (object_in d b).phase ≡ ending d.name → IsRound d ys r e zs → Lasts d e b × NotAmong b zs
+  lasts_round d e b ys zs Settled n ends is = (
+    subst (λ (u : DeskNow V). Lasts d u b) (sym is.2) (record { phase = ends; members = λ m. refl }),
+    subst (NotAmong b) (sym is.1) tt,
+  )
+  lasts_round d e b ys zs (Cleared m gone) n ends c =
+      let t = among_before b c.below c.top (subst (NotAmong b) c.were n) in
+      let l = lasts_clearing d e b c.top m c.left t.1 ends c.clears in
+      let top : (with_clear m c.top).block.0 ≢ b = subst (λ (k : Block). k.0 ≢ b) (sym (block_with c.top m)) t.1 in (
+        l.0,
+        subst (NotAmong b) (sym c.are) (piled_apart b (c.below ++ with_clear m c.top ∷ []) c.left (among_append b c.below _ t.0 top) l.1),
+      )
+  lasts_round d e b ys zs (Ended v) n ends f =
+      let t = among_before b zs f.top (subst (NotAmong b) f.were n) in
+      (lasts_finish d e b f.top.block.0 _ v t.1 ends f.finish.event, t.0)
 
-  member_round : (d e : DeskNow V) (b : ℕ) (ys zs : List (Ending V)) (r : Round V) → AllEnd d ys → NotAmong b ys
-      → (object_in d b).phase ≡ ending d.name → IsRound d ys r e zs → (m : ℕ) → member_in e b m ≡ member_in d b m
-  member_round d e b ys zs Settled all n ends is m = ap (λ (u : DeskNow V). member_in u b m) is.2
-  member_round d e b ys zs (Cleared k how) all n ends c m =
-      let t = last_ends d b c.below c.top (subst (AllEnd d) c.were all) (subst (NotAmong b) c.were n) in
-      member_clearing d e b c.top k c.left t.1 ends t.0 c.clears m
-  member_round d e b ys zs (Ended v) all n ends f m = member_finish d e b _ _ v ends f.finish.event m
+  lasts_rounds : (d e : DeskNow V) (b : ℕ) (xs ys : List (Ending V)) (rs : List (Past V)) → NotAmong b xs
+      → (object_in d b).phase ≡ ending d.name → AreRounds d xs rs e ys → Lasts d e b × NotAmong b ys
+  lasts_rounds d e b xs ys [] n ends is = (
+    subst (λ (u : DeskNow V). Lasts d u b) (sym is.0) (record { phase = ends; members = λ m. refl }),
+    subst (NotAmong b) (sym is.1) n,
+  )
+  lasts_rounds d e b xs ys (r ∷ rs) n ends is =
+      let one = lasts_rounds d r.desk b xs r.pile rs n ends is.0 in
+      let two = lasts_round r.desk e b r.pile ys r.round one.1 one.0.phase is.1 in
+      (lasts_both d r.desk e b one.0 two.0, two.1)
 
-  -- a round of a pile
-  pub others_round : (d e : DeskNow V) (ys zs : List (Ending V)) (r : Round V) → AllEnd d ys
-      → KeepsElsewhere d ys e zs → IsRound d ys r e zs → KeepsOthers d ys e zs
-  others_round d e ys zs r all elsewhere is =
+  -- rounds of a pile
+  pub others_rounds : (d e : DeskNow V) (xs ys : List (Ending V)) (rs : List (Past V)) → AllEnd d xs
+      → KeepsElsewhere d xs e ys → AreRounds d xs rs e ys → KeepsOthers d xs e ys
+  others_rounds d e xs ys rs all elsewhere are =
       record {
         count = elsewhere.count;
         still = λ b x ends n.
-            let t = still_there d e ys zs b x all elsewhere ends n in
-            (t.0, record { ends = t.1; members = member_round d e b ys zs r all n ends.phase is });
+            let t = still_there d e xs ys b x all elsewhere ends n in
+            (t.0, record { ends = t.1; members = (lasts_rounds d e b xs ys rs n ends.phase are).0.members });
       }
+
+  -- and one of them
+  pub others_round : (d e : DeskNow V) (ys zs : List (Ending V)) (r : Round V) → AllEnd d ys
+      → KeepsElsewhere d ys e zs → IsRound d ys r e zs → KeepsOthers d ys e zs
+  others_round d e ys zs r all elsewhere is =
+      others_rounds d e ys zs (record { round = r; desk = d; pile = ys } ∷ []) all elsewhere ((refl, refl), is)

@@ -11,7 +11,7 @@ use Rattle.control_word.specs.declared.model.event.Cell.{Cell}
 use Rattle.control_word.specs.declared.model.event.Cell.TheVariants.{Member}
 use Rattle.control_word.specs.declared.model.event.Event.{Event}
 use Rattle.control_word.specs.declared.model.event.Event.TheVariants.{Load}
-use Rattle.control_word.specs.declared.model.handle.Handle.{Handle}
+use Rattle.control_word.specs.declared.model.handle.NumberedHandle.{NumberedHandle}
 use Rattle.control_word.specs.declared.model.handle.Kind.TheVariants.{Owner, Weak}
 use Rattle.control_word.specs.declared.place.Block.{Block}
 use Rattle.control_word.specs.declared.place.Place.{Place}
@@ -20,7 +20,7 @@ use Rattle.control_block.proofs.Sole.{comes_next}
 use Rattle.control_block.specs.CellCalls.{handle_in, with_handle}
 use Rattle.control_block.specs.Desks.{AddsEvent, DeskNow, bag_of, latest_of, state_of}
 use Rattle.control_block.specs.LockCalls.{state_before}
-use Rattle.control_block.specs.LockPlays.{earlier}
+use Rattle.control_block.specs.LockStepKinds.{earlier}
 use Rattle.control_block.specs.Own.{IsSole, KeepsLatest}
 use Rattle.control_block.specs.Rule.{opening_of}
 use Rattle.control_block.specs.declared.handles.Shared.{Shared}
@@ -49,7 +49,7 @@ weak_counts s d q n p =
 
 module _ {V : Type 0} where
   -- what a sole desk loads is what it has seen there
-  pub looked_up : (d m : DeskNow V) (c : Cell) (h : Handle) → AddsEvent d (Load c h) m → IsLegal (opening_of d.shape) d.seen → IsSole d
+  pub looked_up : (d m : DeskNow V) (c : Cell) (h : NumberedHandle) → AddsEvent d (Load c h) m → IsLegal (opening_of d.shape) d.seen → IsSole d
       → (h ≡ cell_of (state_of d) c) × (state_of m ≡ gets d.name h (state_of d))
   looked_up d m c h loads legal sole =
       let z = opening_of d.shape in
@@ -99,7 +99,7 @@ module _ {V : Type 0} where
       s : State
       s = state_of d
 
-      up : Handle
+      up : NumberedHandle
       up = (s.object o).member 2
 
       none : h.block ≡ None → h.place ≡ None → node_in e h ≡ empty Owner

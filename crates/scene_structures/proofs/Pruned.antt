@@ -6,7 +6,7 @@ use Rattle.control_word.specs.declared.model.event.Cell.{Cell}
 use Rattle.control_word.specs.declared.model.event.Cell.TheVariants.{Member}
 use Rattle.control_word.specs.declared.model.event.Event.{Event}
 use Rattle.control_word.specs.declared.model.event.Event.TheVariants.{Load, Swap}
-use Rattle.control_word.specs.declared.model.handle.Handle.{Handle}
+use Rattle.control_word.specs.declared.model.handle.NumberedHandle.{NumberedHandle}
 use Rattle.control_word.specs.declared.model.handle.Kind.TheVariants.{Owner, Weak}
 use Rattle.control_word.specs.declared.place.Block.{Block}
 use Rattle.control_word.specs.declared.place.Place.{Place}
@@ -33,7 +33,7 @@ use Rattle.scene_structures.proofs.Hands.{holds_first, holds_second, lists_first
 use Rattle.scene_structures.proofs.Latest.{has_over, weak_latest}
 
 -- the node's `next` is open by the node
-pub open_next : (base : List Handle) (node : Shared) (member : SharedAt) (z : Shape)
+pub open_next : (base : List NumberedHandle) (node : Shared) (member : SharedAt) (z : Shape)
     → IsMember (λ k (x : SharedAt). x.site ≡ shared.Of k Next) node.block node.place (Ok member) → IsOpenBy (stacked (node ∷ []) base) z member.site
 open_next base node member z is =
     subst (IsOpenBy (stacked (node ∷ []) base) z) (sym is.3)
@@ -62,10 +62,10 @@ module _ {V : Type 0} where
   finds d m e c top up gone loads is asks same =
       let n : node_in m top ≡ handle_in m Owner (Some is.0.block) top.place = ap (λ b. handle_in m Owner b top.place) is.2 in
       let cell : weak_cell m up.site ≡ Member (object_of (node_in e top)) 2 =
-      ap (weak_cell m) is.3 ∙ sym (ap (λ (h : Handle). Member (object_of h) 2) (same ∙ n)) in (
+      ap (weak_cell m) is.3 ∙ sym (ap (λ (h : NumberedHandle). Member (object_of h) 2) (same ∙ n)) in (
         record {
           loaded = m;
-          loads = subst (λ (h : Handle). AddsEvent d (Load c h) m) (sym same) loads;
+          loads = subst (λ (h : NumberedHandle). AddsEvent d (Load c h) m) (sym same) loads;
           asks = subst (λ (k : Cell). AsksExpired m k gone e) cell asks;
         },
         (is.0, is.1, is.2),
@@ -79,7 +79,7 @@ module _ {V : Type 0} where
   passes d m u e c node next old member is loads swaps leaves =
       let n : node_in d node ≡ handle_in d Owner (Some is.0.block) node.place = ap (λ b. handle_in d Owner b node.place) is.2 in
       let cell : shared_cell d member.site ≡ Member (object_of (node_in d node)) 1 =
-      ap (shared_cell d) is.3 ∙ sym (ap (λ (h : Handle). Member (object_of h) 1) n) in
+      ap (shared_cell d) is.3 ∙ sym (ap (λ (h : NumberedHandle). Member (object_of h) 1) n) in
       record {
         next = node_in m next;
         seen = m;
@@ -91,21 +91,21 @@ module _ {V : Type 0} where
       }
 
   -- a handle in hand as one of those below
-  pub hands_below : (d : DeskNow V) (base : List Handle) (node : Shared) → HasHands base (node ∷ []) d → HasHands (stacked (node ∷ []) base) [] d
+  pub hands_below : (d : DeskNow V) (base : List NumberedHandle) (node : Shared) → HasHands base (node ∷ []) d → HasHands (stacked (node ∷ []) base) [] d
   hands_below d base node has = let m = most node.block node.place base in let f = has.few in record { bag = has.bag; few = omega arith }
 
   -- and what is in hand then
-  abbrev pub Left : List Handle → Shared → Option Shared → DeskNow V → Type 0
+  abbrev pub Left : List NumberedHandle → Shared → Option Shared → DeskNow V → Type 0
   Left base node None t = HasHands base (node ∷ []) t
   Left base node (Some h) t = HasHands base (h ∷ node ∷ []) t
 
-  pub left_in_hand : (d t : DeskNow V) (base : List Handle) (node : Shared) (last : Option Shared) → HasHands base (node ∷ []) d
+  pub left_in_hand : (d t : DeskNow V) (base : List NumberedHandle) (node : Shared) (last : Option Shared) → HasHands base (node ∷ []) d
       → MatchOption last (HasHands (stacked (node ∷ []) base) [] t) (λ h. HasHands (stacked (node ∷ []) base) (h ∷ []) t)
       → MatchOption last (t.held ≡ d.held) (λ h. t.held ≡ d.held + 1) → Left base node last t
   left_in_hand d t base node None has hands held = let f = has.few in record { bag = hands.bag; few = omega arith }
   left_in_hand d t base node (Some h) has hands held = let f = has.few in record { bag = hands.bag; few = omega arith }
 
-  pub left_holds : (t : DeskNow V) (base : List Handle) (node : Shared) (last : Option Shared) → Left base node last t
+  pub left_holds : (t : DeskNow V) (base : List NumberedHandle) (node : Shared) (last : Option Shared) → Left base node last t
       → HoldsHandle t Owner node.block node.place
   left_holds t base node None left = holds_first t base node [] left
   left_holds t base node (Some h) left = holds_second t base h node [] left
@@ -118,5 +118,5 @@ module _ {V : Type 0} where
   descends d l t e c os a b node member last is prunes clears leaves same =
       let n : node_in l node ≡ handle_in l Owner (Some is.0.block) node.place = ap (λ k. handle_in l Owner k node.place) is.2 in
       let cell : shared_cell l member.site ≡ Member (object_of (node_in l node)) 1 =
-      ap (shared_cell l) is.3 ∙ sym (ap (λ (h : Handle). Member (object_of h) 1) n) in
+      ap (shared_cell l) is.3 ∙ sym (ap (λ (h : NumberedHandle). Member (object_of h) 1) n) in
       (a, b, node, l, t, prunes, refl, subst (λ (k : Cell). ClearsFront l k b last t) cell clears, leaves, same, refl)

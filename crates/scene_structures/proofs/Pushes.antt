@@ -6,7 +6,7 @@ use Rattle.control_word.specs.State.{Has}
 use Rattle.control_word.specs.declared.model.event.Cell.TheVariants.{Member}
 use Rattle.control_word.specs.declared.model.event.Cell.{Cell}
 use Rattle.control_word.specs.declared.model.event.Event.TheVariants.{Compare, Swap}
-use Rattle.control_word.specs.declared.model.handle.Handle.{Handle}
+use Rattle.control_word.specs.declared.model.handle.NumberedHandle.{NumberedHandle}
 use Rattle.control_word.specs.declared.model.handle.Kind.TheVariants.{Owner}
 use Rattle.control_word.specs.declared.place.Block.{Block}
 use Rattle.control_word.specs.declared.place.Place.{Place}
@@ -35,12 +35,12 @@ use Rattle.shared_handle.proofs.Goings.{does_both, does_one}
 use Rattle.scene_structures.proofs.Rows.{partings_put}
 use Rattle.scene_structures.proofs.Latest.{has_all, latest_none}
 
-pub listed_some : (h : Shared) (l : List Handle) (b : Block) → h.block ≡ Some b → Lists h.block h.place l → Has (handle Owner (Some b.0) h.place) l
+pub listed_some : (h : Shared) (l : List NumberedHandle) (b : Block) → h.block ≡ Some b → Lists h.block h.place l → Has (handle Owner (Some b.0) h.place) l
 listed_some h l b is lists = subst (λ (x : Option Block). Lists x h.place l) is lists
 
 module _ {V : Type 0} where
   -- a store into the node's `next`
-  pub fills : (d m e : DeskNow V) (node : Shared) (at : SharedAt) (below old : Handle)
+  pub fills : (d m e : DeskNow V) (node : Shared) (at : SharedAt) (below old : NumberedHandle)
       → IsMember (λ c (x : SharedAt). x.site ≡ site.Of c Next) node.block node.place (Ok at)
       → AddsEvent d (Swap (shared_cell d at.site) below old) m → Does IsParting m e → Fills d (object_of (node_in d node)) below e
   fills d m e node at below old (q, place, block, is) adds does =
@@ -73,7 +73,7 @@ module _ {V : Type 0} where
   same_left d e h keeps lists = same_listed d e h (λ b is. keeps Owner h.place b.0 (listed_some h (bag_of e) b is lists))
 
   -- over the two steps of a store, which put in what lay above the rest
-  pub held_stored : (d m e : DeskNow V) (b ob : Option Block) (p op : Option Place) (c : Cell) (x y : Handle) → AddsEvent d (Swap c x y) m
+  pub held_stored : (d m e : DeskNow V) (b ob : Option Block) (p op : Option Place) (c : Cell) (x y : NumberedHandle) → AddsEvent d (Swap c x y) m
       → bag_of m ≡ with_handle Owner ob op (without_handle Owner b p (bag_of d)) → bag_of e ≡ without_handle Owner ob op (bag_of m)
       → KeepsHeld m e → KeepsHeld d e
   held_stored d m e b ob p op c x y adds bag left keeps k q n has =
@@ -94,7 +94,7 @@ module _ {V : Type 0} where
   shares_does at d e (Some b) p q is = (does_one (PutsOnly at) d e _ is tt, calls_keep_latest d _ e is)
 
   -- the whole of a try that swapped
-  pub rises : (d s t u v : DeskNow V) (c : Cell) (node below top old : Handle) (w : Bool)
+  pub rises : (d s t u v : DeskNow V) (c : Cell) (node below top old : NumberedHandle) (w : Bool)
       → Does (PutsOnly (NextOf (object_of node))) d s → Fills s (object_of node) below t → AddsEvent t (Compare c top node old true w) u → top ≡ below
       → Does IsParting u v
       → Rises d c node v
@@ -107,7 +107,7 @@ module _ {V : Type 0} where
         before = a.own;
         between = f.between;
         after = b.own;
-        goes = let swapped = subst (λ (x : Handle). AddsEvent t (Compare c x node old true w) u) same adds in
+        goes = let swapped = subst (λ (x : NumberedHandle). AddsEvent t (Compare c x node old true w) u) same adds in
             let one = goes_in_turn d a.own s (f.between ++ Swap (Member (object_of node) 1) below f.was ∷ []) t a.goes f.goes in
             let path : ((f.between ++ Swap (Member (object_of node) 1) below f.was ∷ []) ++ a.own) ≡
             (f.between ++ Swap (Member (object_of node) 1) below f.was ∷ a.own) =
@@ -119,7 +119,7 @@ module _ {V : Type 0} where
       }
 
   -- and of one that differed
-  pub tries : (d s t u v : DeskNow V) (c : Cell) (o : ℕ) (ex new below got : Handle) (w : Bool)
+  pub tries : (d s t u v : DeskNow V) (c : Cell) (o : ℕ) (ex new below got : NumberedHandle) (w : Bool)
       → Does (PutsOnly (NextOf o)) d s → Fills s o below t → AddsEvent t (Compare c ex new got false w) u → Does IsParting u v
       → Does (PutsOnly (NextOf o)) d v
   tries d s t u v c o ex new below got w a f adds b =
@@ -145,7 +145,7 @@ module _ {V : Type 0} where
     pub swapped_held : (old : Shared) → r ≡ Swapped old → u.held ≡ t.held + cond (has_swapped r) 0 1 → u.held ≡ t.held
     swapped_held old is held = let a = subst (λ (x : Compared Shared). u.held ≡ t.held + cond (has_swapped x) 0 1) is held in omega arith
 
-    pub swapped_event : (at : Cell) (ex new : Handle) (old : Shared) → r ≡ Swapped old
+    pub swapped_event : (at : Cell) (ex new : NumberedHandle) (old : Shared) → r ≡ Swapped old
         → AddsEvent t (Compare at ex new (handle_in u Owner (came_out r).block (came_out r).place) (has_swapped r) true) u
         → AddsEvent t (Compare at ex new (handle_in u Owner old.block old.place) true true) u
     swapped_event at ex new old is adds =
@@ -162,7 +162,7 @@ module _ {V : Type 0} where
     pub differs_held : (held desired : Shared) → r ≡ Differs held desired → u.held ≡ t.held + cond (has_swapped r) 0 1 → u.held ≡ t.held + 1
     differs_held held desired is many = subst (λ (x : Compared Shared). u.held ≡ t.held + cond (has_swapped x) 0 1) is many
 
-    pub differs_event : (at : Cell) (ex new : Handle) (held desired : Shared) → r ≡ Differs held desired
+    pub differs_event : (at : Cell) (ex new : NumberedHandle) (held desired : Shared) → r ≡ Differs held desired
         → AddsEvent t (Compare at ex new (handle_in u Owner (came_out r).block (came_out r).place) (has_swapped r) true) u
         → AddsEvent t (Compare at ex new (handle_in u Owner held.block held.place) false true) u
     differs_event at ex new held desired is adds =
@@ -173,7 +173,7 @@ module _ {V : Type 0} where
     differs_back held desired is back = subst (GivesBackDesired node) is back
 
   -- a node that rises after tries
-  pub rises_later : (d e f : DeskNow V) (c : Cell) (node : Handle) → Does (PutsOnly (NextOf (object_of node))) d e → Rises e c node f → Rises d c node f
+  pub rises_later : (d e f : DeskNow V) (c : Cell) (node : NumberedHandle) → Does (PutsOnly (NextOf (object_of node))) d e → Rises e c node f → Rises d c node f
   rises_later d e f c node a r =
       let x = Compare c r.below node r.old true r.weak in let y = Swap (Member (object_of node) 1) r.below r.was in
       let path : ((r.after ++ x ∷ (r.between ++ y ∷ r.before)) ++ a.own) ≡ (r.after ++ x ∷ (r.between ++ y ∷ (r.before ++ a.own))) =

@@ -6,7 +6,7 @@ use Rattle.std.proofs.lemmas.Bool.{iff_false}
 use Rattle.std.specs.Prelude.{IfSome, IsTrue, MatchOption, vec_capacity}
 use Rattle.control_word.specs.Handles.{handle}
 use Rattle.control_word.specs.State.{Has}
-use Rattle.control_word.specs.declared.model.handle.Handle.{Handle}
+use Rattle.control_word.specs.declared.model.handle.NumberedHandle.{NumberedHandle}
 use Rattle.control_word.specs.declared.model.handle.Kind.{Kind}
 use Rattle.control_word.specs.declared.model.handle.Kind.TheVariants.{Owner}
 use Rattle.control_word.specs.declared.place.Block.{Block}
@@ -55,23 +55,23 @@ module _ {V : Type 0} where
   -- what is held is so still, when one more comes
   pub holds_more : (k : Kind) (d m : DeskNow V) (b c : Option Block) (p q : Option Place) → HoldsHandle d k b p
       → bag_of m ≡ with_handle Owner c q (bag_of d) → m.held ≡ d.held + 1 → HoldsHandle m k b p
-  holds_more k d m None c p q holds bag held = let t = most c q (bag_of d) in subst (λ (l : List Handle). length l < m.held) (sym bag) (omega arith)
+  holds_more k d m None c p q holds bag held = let t = most c q (bag_of d) in subst (λ (l : List NumberedHandle). length l < m.held) (sym bag) (omega arith)
   holds_more k d m (Some b) c p q holds bag held =
       subst (Has (handle k (Some b.0) p)) (sym bag) (under c q (handle k (Some b.0) p) (bag_of d) holds)
 
   -- and when none comes and none goes
   pub holds_still : (k : Kind) (d e : DeskNow V) (b : Option Block) (p : Option Place) → HoldsHandle d k b p → bag_of e ≡ bag_of d → e.held ≡ d.held
       → HoldsHandle e k b p
-  holds_still k d e None p holds bag held = subst (λ (l : List Handle). length l < e.held) (sym bag) (omega arith)
+  holds_still k d e None p holds bag held = subst (λ (l : List NumberedHandle). length l < e.held) (sym bag) (omega arith)
   holds_still k d e (Some b) p holds bag held = subst (Has (handle k (Some b.0) p)) (sym bag) holds
 
   -- what was taken
-  pub bag_taken : (e : DeskNow V) (base : List Handle) (r : Option Shared) → MatchOption r (HasHands base [] e) (λ h. HasHands base (h ∷ []) e)
+  pub bag_taken : (e : DeskNow V) (base : List NumberedHandle) (r : Option Shared) → MatchOption r (HasHands base [] e) (λ h. HasHands base (h ∷ []) e)
       → MatchOption r (bag_of e ≡ base) (λ h. bag_of e ≡ with_handle Owner h.block h.place base)
   bag_taken e base None has = has.bag
   bag_taken e base (Some h) has = has.bag
 
-  pub holds_taken : (e : DeskNow V) (base : List Handle) (r : Option Shared) → MatchOption r (HasHands base [] e) (λ h. HasHands base (h ∷ []) e)
+  pub holds_taken : (e : DeskNow V) (base : List NumberedHandle) (r : Option Shared) → MatchOption r (HasHands base [] e) (λ h. HasHands base (h ∷ []) e)
       → IfSome r (λ h. HoldsHandle e Owner h.block h.place)
   holds_taken e base None has = tt
   holds_taken e base (Some h) has = holds_first e base h [] has

@@ -14,7 +14,7 @@ use Rattle.control_word.specs.declared.model.event.Cell.TheVariants.{Free, Membe
 use Rattle.control_word.specs.declared.model.event.Entry.{Entry}
 use Rattle.control_word.specs.declared.model.event.Event.{Event}
 use Rattle.control_word.specs.declared.model.event.Event.TheVariants.{Compare, Load}
-use Rattle.control_word.specs.declared.model.handle.Handle.{Handle}
+use Rattle.control_word.specs.declared.model.handle.NumberedHandle.{NumberedHandle}
 use Rattle.control_word.specs.declared.place.Place.{Place}
 use Rattle.scene_structures.specs.Chains.{Chain, IsList, OwnsObject}
 use Rattle.shared_handle.specs.Piles.{IsParting}
@@ -26,12 +26,12 @@ use Rattle.scene_structures.proofs.Lives.{keeps_run}
 use Rattle.scene_structures.proofs.Rows.{partings_put}
 
 -- a chain that begins with what is equivalent to a node has the node in front
-front : (s : State) (old : Handle) (o : ℕ) (q : Place) (os : List ℕ) → Chain s old os → equivalent old (owner o (Some q)) ≡ true
+front : (s : State) (old : NumberedHandle) (o : ℕ) (q : Place) (os : List ℕ) → Chain s old os → equivalent old (owner o (Some q)) ≡ true
     → (rest : List ℕ) × (os ≡ o ∷ rest) × OwnsObject s (owner o (Some q)) o × Chain s ((s.object o).member 1) rest
 front s old o q [] chain alike = absurd (let e : Some o ≡ None = none_alike old (owner o (Some q)) alike chain in cc)
 front s old o q (p ∷ rest) chain alike =
-    let e : old ≡ owner o (Some q) = same_owner old (owner o (Some q)) alike (ap (λ (h : Handle). h.kind) chain.0.1) refl in
-    let number : Some p ≡ Some o = ap (λ (h : Handle). h.object) (sym chain.0.1 ∙ e) in
+    let e : old ≡ owner o (Some q) = same_owner old (owner o (Some q)) alike (ap (λ (h : NumberedHandle). h.kind) chain.0.1) refl in
+    let number : Some p ≡ Some o = ap (λ (h : NumberedHandle). h.object) (sym chain.0.1 ∙ e) in
     let same : p ≡ o = cc in
     let owns : OwnsObject s (owner o (Some q)) p = (chain.0.0, sym e ∙ chain.0.1, chain.0.2) in (
       rest,
@@ -42,11 +42,11 @@ front s old o q (p ∷ rest) chain alike =
 
 module _ {V : Type 0} where
   -- the row of a pop's own events
-  abbrev pub taking : ℕ → ℕ → Place → Handle → Handle → Bool → List (Event V) → List (Event V) → List (Event V)
+  abbrev pub taking : ℕ → ℕ → Place → NumberedHandle → NumberedHandle → Bool → List (Event V) → List (Event V) → List (Event V)
   taking m o q below old w before late = late ++ Compare (Free m) (owner o (Some q)) below old true w ∷ (Load (Member o 1) below ∷ before)
 
   -- the state after it: o lives still, since its owner is in hand
-  pub taken : (z : Opening) (d o m : ℕ) (q : Place) (below old : Handle) (w : Bool) (before late : List (Event V)) (seen : List (Entry V)) (os : List ℕ)
+  pub taken : (z : Opening) (d o m : ℕ) (q : Place) (below old : NumberedHandle) (w : Bool) (before late : List (Event V)) (seen : List (Entry V)) (os : List ℕ)
       → IsLegal z (map (entry d) (taking m o q below old w before late) ++ seen) → All (PutsOnly in_no_cell) before → All IsParting late → m < z.cells
       → ((leads z (map (entry d) (taking m o q below old w before late) ++ seen)).object o).phase ≡ live → IsList (leads z seen) (Free m) os
       → (rest : List ℕ) × (os ≡ o ∷ rest) × IsList (leads z (map (entry d) (taking m o q below old w before late) ++ seen)) (Free m) rest
@@ -66,12 +66,12 @@ module _ {V : Type 0} where
       let alike : equivalent old node ≡ true =
       ⊎_elim (λ (e : true ≡ equivalent old node). sym e) (λ t. absurd (let e : true ≡ false = t.1 in cc)) asks.4 in
       let cell : s.cell m ≡ old = sym asks.3 in
-      let f = front s old o q os (subst (λ (h : Handle). Chain s h os) cell n) alike in
+      let f = front s old o q os (subst (λ (h : NumberedHandle). Chain s h os) cell n) alike in
       let rest = f.0 in
       let below_is : (s.object o).member 1 ≡ below = sym legalC.0.1.asks.1 in
       let cell_now : u.cell m ≡ below = put_same s.cell m below m refl in
       let tail = chain_kept s u ((s.object o).member 1) rest (all_same s u rest refl) f.3 in
-      let list_u : IsList u (Free m) rest = subst (λ (h : Handle). Chain u h rest) (below_is ∙ sym cell_now) tail in
+      let list_u : IsList u (Free m) rest = subst (λ (h : NumberedHandle). Chain u h rest) (below_is ∙ sym cell_now) tail in
       let puts = partings_put in_no_cell late last in
       let kept = keeps_run z d o late C legal' last (subst (λ l. ((leads z l).object o).phase ≡ live) split lives) in
       let F = map (entry d) late ++ C in
@@ -86,14 +86,14 @@ module _ {V : Type 0} where
       )
 
   -- the look found what is in the cell
-  pub seen_there : (z : Opening) (d : ℕ) (c : Cell) (found : Handle) (x : Event V) (h : List (Entry V)) → IsLegal z (entry d x ∷ h) → Sees c found x
+  pub seen_there : (z : Opening) (d : ℕ) (c : Cell) (found : NumberedHandle) (x : Event V) (h : List (Entry V)) → IsLegal z (entry d x ∷ h) → Sees c found x
       → (cell_of (leads z h) c ≡ found) × ((leads z (entry d x ∷ h)).object ≡ (leads z h).object)
   seen_there z d c found (Load k got) h legal sees = (sym (ap (cell_of (leads z h)) sees.0) ∙ (sym legal.1.asks.1 ∙ sees.1), refl)
   seen_there z d c found (Compare k ex new got false w) h legal sees = (sym (ap (cell_of (leads z h)) sees.0) ∙ (sym legal.1.asks.3 ∙ sees.1), refl)
   seen_there z d c found x h legal sees = absurd sees
 
   -- where the last look found no node, the list is empty
-  pub none_found : (z : Opening) (d m : ℕ) (found : Handle) (look : Event V) (before : List (Event V)) (seen : List (Entry V)) (os : List ℕ)
+  pub none_found : (z : Opening) (d m : ℕ) (found : NumberedHandle) (look : Event V) (before : List (Event V)) (seen : List (Entry V)) (os : List ℕ)
       → IsLegal z (entry d look ∷ (map (entry d) before ++ seen)) → Sees (Free m) found look → All (PutsOnly in_no_cell) before → m < z.cells
       → ((o : ℕ) → OwnsObject (leads z (entry d look ∷ (map (entry d) before ++ seen))) found o → ⊥)
       → IsList (leads z seen) (Free m) os → os ≡ []

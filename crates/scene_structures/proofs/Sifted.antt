@@ -9,7 +9,7 @@ use Rattle.control_word.specs.Histories.{IsLegal, entry, leads}
 use Rattle.control_word.specs.State.{State}
 use Rattle.control_word.specs.declared.model.event.Cell.{Cell}
 use Rattle.control_word.specs.declared.model.event.Cell.TheVariants.{Free, Member}
-use Rattle.control_word.specs.declared.model.handle.Handle.{Handle}
+use Rattle.control_word.specs.declared.model.handle.NumberedHandle.{NumberedHandle}
 use Rattle.control_word.specs.declared.model.handle.Kind.TheVariants.{Owner, Weak}
 use Rattle.control_word.specs.declared.place.Block.{Block}
 use Rattle.control_block.specs.CellCalls.{handle_in}
@@ -60,7 +60,7 @@ module _ {V : Type 0} where
       let chain = chain_below s (cell_of s c) kept rest st.list in
       let here : n.object ≡ Some o = ap (λ (b : Option Block). (handle_in e Owner b h.place).object) within.2
       ∙ ap Some (sym (ap (λ (b : Option Block). object_of (handle_in e Owner b h.place)) within.2)) in
-      let held : (below s (cell_of s c) kept).object ≡ Some o = ap (λ (x : Handle). x.object) (sym (look.0 ∙ end_holds s c kept)) ∙ here in
+      let held : (below s (cell_of s c) kept).object ≡ Some o = ap (λ (x : NumberedHandle). x.object) (sym (look.0 ∙ end_holds s c kept)) ∙ here in
       let first = found_first s (below s (cell_of s c) kept) rest chain o held in
       let does_u = does_one (PutsOnly in_no_cell) l u _ a.loads tt in
       let st_u = stands_on m (onto kept rest) l u does_u st_l in
@@ -191,7 +191,7 @@ module _ {V : Type 0} where
       let chain = chain_below s (cell_of s c) kept rest list in
       let here : below s (cell_of s c) kept ≡ found = sym (end_holds s c kept) ∙ seen.0 in
       nothing_there s (state_of l.at) found rest none.none (ap (λ (u : State). u.object) state ∙ seen.1)
-      (subst (λ (h : Handle). Chain s h rest) here chain)
+      (subst (λ (h : NumberedHandle). Chain s h rest) here chain)
 
   -- what came of a part of the walk
   abbrev Reached : DeskNow V → ℕ → List ℕ → List ℕ → ℕ → Option Shared → DeskNow V → Type 0

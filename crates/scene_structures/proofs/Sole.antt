@@ -16,7 +16,7 @@ use Rattle.control_word.specs.declared.model.event.Cell.TheVariants.{Free, Membe
 use Rattle.control_word.specs.declared.model.event.Entry.{Entry}
 use Rattle.control_word.specs.declared.model.event.Event.{Event}
 use Rattle.control_word.specs.declared.model.event.Event.TheVariants.{Compare, Load, Make, Swap}
-use Rattle.control_word.specs.declared.model.handle.Handle.{Handle}
+use Rattle.control_word.specs.declared.model.handle.NumberedHandle.{NumberedHandle}
 use Rattle.control_word.specs.declared.model.handle.Kind.TheVariants.{Owner}
 use Rattle.control_word.specs.declared.place.Block.{Block}
 use Rattle.control_word.specs.declared.place.Place.{Place}
@@ -122,11 +122,11 @@ module _ {V : Type 0} where
     where
       go : (b : Option Block) (p : Option Place) → Lists b p (bag_of e) → handle_in e Owner b p ≡ owner o (Some q)
           → ((state_of e).object o).phase ≡ live
-      go None p lists same = absurd (let t : None ≡ Some o = ap (λ (k : Handle). k.object) same in cc)
+      go None p lists same = absurd (let t : None ≡ Some o = ap (λ (k : NumberedHandle). k.object) same in cc)
       go (Some b) p lists same =
           let z = opening_of e.shape in let k = handle Owner (Some (latest_of e b.0)) p in
           let there = shown_held z e.seen e.name Owner p b.0 legal lists in
-          let object : Some (latest_of e b.0) ≡ Some o = ap (λ (k : Handle). k.object) same in
+          let object : Some (latest_of e b.0) ≡ Some o = ap (λ (k : NumberedHandle). k.object) same in
           let number : latest_of e b.0 ≡ o = cc in
           subst (λ j. ((state_of e).object j).phase ≡ live) number
           (open_live z (state_of e) e.name (latest_of e b.0) 0 (sound z e.seen legal) (omega arith, (k, (there.0, refl, refl), refl)))
@@ -152,7 +152,7 @@ module _ {V : Type 0} where
         done.0,
         done.1,
         subst (λ (s : State). IsList s (Free m) done.0) (sym state) done.2,
-        subst (λ (s : State). OwnsObject s (node_in e h) o) (sym state) (subst (λ (k : Handle). OwnsObject (leads z H) k o) (sym node.node) done.3),
+        subst (λ (s : State). OwnsObject s (node_in e h) o) (sym state) (subst (λ (k : NumberedHandle). OwnsObject (leads z H) k o) (sym node.node) done.3),
         subst (λ (s : State). (s.object o).member 1 ≡ s.cell m) (sym state) done.4,
       )
 

@@ -11,7 +11,7 @@ use Rattle.control_word.specs.Histories.{IsLegal, entry, leads}
 use Rattle.control_word.specs.State.{Has, State}
 use Rattle.control_word.specs.declared.model.event.Cell.{Cell}
 use Rattle.control_word.specs.declared.model.event.Cell.TheVariants.{Member}
-use Rattle.control_word.specs.declared.model.handle.Handle.{Handle}
+use Rattle.control_word.specs.declared.model.handle.NumberedHandle.{NumberedHandle}
 use Rattle.control_block.specs.Desks.{DeskNow, state_of}
 use Rattle.control_block.specs.Own.{Does, IsSole}
 use Rattle.control_block.specs.Rule.{opening_of}
@@ -45,7 +45,7 @@ after_onto c [] rest = refl
 after_onto c (o ∷ os) rest = after_onto c os (o ∷ rest)
 
 -- an object of a list isn't listed below itself
-pub not_below : (s : State) (h : Handle) (os rest : List ℕ) (o : ℕ) → Chain s h (onto os (o ∷ rest)) → Has o rest → ⊥
+pub not_below : (s : State) (h : NumberedHandle) (os rest : List ℕ) (o : ℕ) → Chain s h (onto os (o ∷ rest)) → Has o rest → ⊥
 not_below s h os rest o chain has =
     let here = (chain_below s h os (o ∷ rest) chain).1 in
     let r = shorter s ((s.object o).member 1) rest o here has in
@@ -63,7 +63,7 @@ apart_next o [] not = tt
 apart_next o (x ∷ os) not =
     (λ e. let t : Member x 1 ≡ Member o 1 = e in let n : o ≡ x = cc in not (inl n), apart_next o os (λ h. not (inr h)))
 
-pub object_is : (h : Handle) (o : ℕ) → h.object ≡ Some o → object_of h ≡ o
+pub object_is : (h : NumberedHandle) (o : ℕ) → h.object ≡ Some o → object_of h ≡ o
 object_is h o is = go h.object is
   where
     go : (x : Option ℕ) → x ≡ Some o → elim x [ None ↦ 0 | Some p ↦ p ] ≡ o
@@ -137,7 +137,7 @@ module _ {V : Type 0} where
       let look = looked_up t e (end_of c kept) n m.loads st_t.legal st_t.sole in
       let chain = chain_below s (cell_of s c) kept rest list_t in
       let held : (below s (cell_of s c) kept).object ≡ Some (object_of n) =
-      ap (λ (x : Handle). x.object) (sym (look.0 ∙ end_holds s c kept)) ∙ on_some e h m.within in
+      ap (λ (x : NumberedHandle). x.object) (sym (look.0 ∙ end_holds s c kept)) ∙ on_some e h m.within in
       let first = found_first s (below s (cell_of s c) kept) rest chain (object_of n) held in
       (first.0, first.1, list_stays c all t e does_e st_t lives list_t)
 
@@ -193,7 +193,7 @@ module _ {V : Type 0} where
       let chain = chain_below s (cell_of s c) kept rest list_s in
       let here : below s (cell_of s c) kept ≡ found = sym (end_holds s c kept) ∙ seen.0 in
       nothing_there s (state_of l.at) found rest none.none (ap (λ (u : State). u.object) state ∙ seen.1)
-      (subst (λ (h : Handle). Chain s h rest) here chain)
+      (subst (λ (h : NumberedHandle). Chain s h rest) here chain)
 
   pub cuts_does : (d e : DeskNow V) (k : Cell) (o : ℕ) → CutsOut d k o e → Does (PutsOnly (λ j. j ≡ k)) d e
   cuts_does d e k o x =
@@ -232,7 +232,7 @@ module _ {V : Type 0} where
       let s = state_of t in
       let look = looked_up t n k x.node x.loads st_t.legal st_t.sole in
       let chain = chain_below s (cell_of s c) kept rest list_t in
-      let held : (below s (cell_of s c) kept).object ≡ Some o = ap (λ (h : Handle). h.object) (sym (look.0 ∙ end_holds s c kept)) ∙ x.is in
+      let held : (below s (cell_of s c) kept).object ≡ Some o = ap (λ (h : NumberedHandle). h.object) (sym (look.0 ∙ end_holds s c kept)) ∙ x.is in
       let first = found_first s (below s (cell_of s c) kept) rest chain o held in
       let number = object_is x.node o x.is in
       let read = looked_up n r (Member (object_of x.node) 1) y.below y.reads st_n.legal st_n.sole in

@@ -14,7 +14,7 @@ use Rattle.control_word.specs.Histories.{IsLegal, leads}
 use Rattle.control_word.specs.State.{Object, Opening, Phase, State, common, ending, gone, live, put, sum_below, unmade}
 use Rattle.control_word.specs.declared.model.event.Event.{Event}
 use Rattle.control_word.specs.declared.model.event.Event.TheVariants.{ClearMember, Finish, Leave, WeakLeave}
-use Rattle.control_word.specs.declared.model.handle.Handle.{Handle}
+use Rattle.control_word.specs.declared.model.handle.NumberedHandle.{NumberedHandle}
 use Rattle.control_word.specs.declared.model.handle.Kind.TheVariants.{Owner}
 use Rattle.control_word.specs.declared.place.Block.{Block}
 use Rattle.control_word.specs.declared.place.Place.{Place}
@@ -93,7 +93,7 @@ module _ (z : Opening) (s : State) (fine : Sound z s) where
       λ i. sum_below z.blocks (λ j. common ((objects i) ((latest i) (suc j))).phase) in
       omega arith
 
-  leave_stands : (d : ℕ) (h : Handle) (last : Bool) → Holds s d Owner h → many_standing z.blocks (leaves d h last s) ≡ many_standing z.blocks s
+  leave_stands : (d : ℕ) (h : NumberedHandle) (last : Bool) → Holds s d Owner h → many_standing z.blocks (leaves d h last s) ≡ many_standing z.blocks s
   leave_stands d h last asks =
       let o = object_of h in let x = s.object o in let alive = owner_lives z s d h fine asks in
       let y = cond last (moved_to (ending d) x) x in
@@ -158,7 +158,7 @@ module _ {V : Type 0} where
   by_counting d e n is a =
       subst (Loses d 0) (sym is) (record { alone = record { legal = a.legal; sole = a.sole }; shape = refl; fewer = omega arith })
 
-  by_leave : (d e : DeskNow V) (h : Handle) (last : Bool) → AddsEvent d (Leave h last) e → IsAlone d → Loses d 0 e
+  by_leave : (d e : DeskNow V) (h : NumberedHandle) (last : Bool) → AddsEvent d (Leave h last) e → IsAlone d → Loses d 0 e
   by_leave d e h last adds a =
       by_event d e (Leave h last) 0 adds tt a
       (λ asks. let t = leave_stands (opening_of d.shape) (state_of d) (sound (opening_of d.shape) d.seen a.legal) d.name h last asks.0 in omega arith)
@@ -172,7 +172,7 @@ module _ {V : Type 0} where
   weak_loses d e None p vacant l a = by_counting d e _ l.0 a
   weak_loses d e (Some c) p vacant l a = by_event d e (WeakLeave _ vacant) 0 l tt a (λ asks. omega arith)
 
-  pub takes_loses : (d e : DeskNow V) (o m : ℕ) (h : Handle) → AddsEvent d (ClearMember o m h) e → IsAlone d → Loses d 0 e
+  pub takes_loses : (d e : DeskNow V) (o m : ℕ) (h : NumberedHandle) → AddsEvent d (ClearMember o m h) e → IsAlone d → Loses d 0 e
   takes_loses d e o m h adds a =
       by_event d e (ClearMember o m h) 0 adds tt a
       (λ asks. let t = clear_stands d.shape.blocks (state_of d) d.name (ClearMember o m h) (quiet_clear o m h) in omega arith)

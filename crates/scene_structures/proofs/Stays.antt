@@ -9,7 +9,7 @@ use Rattle.control_word.specs.declared.model.event.Cell.{Cell}
 use Rattle.control_word.specs.declared.model.event.Cell.TheVariants.{Free}
 use Rattle.control_word.specs.declared.model.event.Event.{Event}
 use Rattle.control_word.specs.declared.model.event.Event.TheVariants.{Expired, Swap}
-use Rattle.control_word.specs.declared.model.handle.Handle.{Handle}
+use Rattle.control_word.specs.declared.model.handle.NumberedHandle.{NumberedHandle}
 use Rattle.control_word.specs.declared.model.handle.Kind.TheVariants.{Weak}
 use Rattle.control_word.specs.declared.place.Block.{Block}
 use Rattle.control_word.specs.declared.place.Place.{Place}
@@ -31,14 +31,14 @@ use Rattle.scene_structures.proofs.Grows.{apart_nowhere}
 use Rattle.scene_structures.proofs.Rows.{does_wider, parting_puts}
 
 -- a node that was found is what the list below goes on by
-pub found_first : (s : State) (h : Handle) (rest : List ℕ) → Chain s h rest → (o : ℕ) → h.object ≡ Some o
+pub found_first : (s : State) (h : NumberedHandle) (rest : List ℕ) → Chain s h rest → (o : ℕ) → h.object ≡ Some o
     → (after : List ℕ) × (rest ≡ o ∷ after)
 found_first s h [] chain o is = absurd (let e : None ≡ Some o = sym chain ∙ is in cc)
 found_first s h (p ∷ rest) chain o is =
-    let e : Some p ≡ Some o = sym (ap (λ (k : Handle). k.object) chain.0.1) ∙ is in (rest, ap (λ n. n ∷ rest) (same_Some _ _ e))
+    let e : Some p ≡ Some o = sym (ap (λ (k : NumberedHandle). k.object) chain.0.1) ∙ is in (rest, ap (λ n. n ∷ rest) (same_Some _ _ e))
 
 -- what is no node has nothing below it
-pub nothing_there : (s u : State) (h : Handle) (os : List ℕ) → ((o : ℕ) → OwnsObject u h o → ⊥) → u.object ≡ s.object
+pub nothing_there : (s u : State) (h : NumberedHandle) (os : List ℕ) → ((o : ℕ) → OwnsObject u h o → ⊥) → u.object ≡ s.object
     → Chain s h os → os ≡ []
 nothing_there s u h [] none same chain = refl
 nothing_there s u h (o ∷ os) none same chain = absurd (none o (chain.0.0, chain.0.1, chain.0.2 ∙ sym (ap (λ f. (f o).block) same)))
@@ -75,7 +75,7 @@ module _ {V : Type 0} where
       let next = comes_next d x e adds sole in λ i. leads (opening_of (adds.same.1 i)) (next i)
 
   -- a node went out of the cell that comes after these
-  pub stands_cut : (m : ℕ) (kept rest : List ℕ) (p : ℕ) (d e : DeskNow V) (new old : Handle) → AddsEvent d (Swap (end_of (Free m) kept) new old) e
+  pub stands_cut : (m : ℕ) (kept rest : List ℕ) (p : ℕ) (d e : DeskNow V) (new old : NumberedHandle) → AddsEvent d (Swap (end_of (Free m) kept) new old) e
       → new ≡ ((state_of d).object p).member 1 → Stands m (onto kept (p ∷ rest)) d → Stands m (onto kept rest) e
   stands_cut m kept rest p d e new old adds is st =
       let k = end_of (Free m) kept in let at = λ (c : Cell). c ≡ k in

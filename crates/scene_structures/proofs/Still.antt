@@ -26,7 +26,7 @@ use Rattle.control_word.specs.declared.model.event.Cell.TheVariants.{Free, Membe
 use Rattle.control_word.specs.declared.model.event.Entry.{Entry}
 use Rattle.control_word.specs.declared.model.event.Event.{Event}
 use Rattle.control_word.specs.declared.model.event.Event.TheVariants.{ClearMember, Finish, Leave, Load, Lock, Read, Share, WeakLeave}
-use Rattle.control_word.specs.declared.model.handle.Handle.{Handle}
+use Rattle.control_word.specs.declared.model.handle.NumberedHandle.{NumberedHandle}
 use Rattle.control_word.specs.declared.model.handle.Kind.TheVariants.{Owner}
 use Rattle.control_word.specs.Words.{blocks_of}
 use Rattle.control_word.specs.declared.place.Place.{Place}
@@ -66,7 +66,7 @@ same_cells : (s t : State) → Still s t → in_cells t ≡ in_cells s
 same_cells s t st = λ i. upto (st.cells i) (λ c. st.cell i c ∷ []) ++ upto (suc (st.made i)) (λ o. members (st.objects i o))
 
 -- an owner that is the only one is in no cell
-last_alone : (t : State) (d : ℕ) (h : Handle) → Has (held d h) t.hands → h.kind ≡ Owner → h.object ≡ Some (object_of h)
+last_alone : (t : State) (d : ℕ) (h : NumberedHandle) → Has (held d h) t.hands → h.kind ≡ Owner → h.object ≡ Some (object_of h)
     → count t (object_of h) ≡ 1
     → tally Owner (object_of h) (in_cells t) ≡ 0
 unfolding count

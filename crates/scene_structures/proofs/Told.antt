@@ -15,7 +15,7 @@ use Rattle.control_word.specs.declared.model.event.Cell.TheVariants.{Free, Membe
 use Rattle.control_word.specs.declared.model.event.Entry.{Entry}
 use Rattle.control_word.specs.declared.model.event.Event.{Event}
 use Rattle.control_word.specs.declared.model.event.Event.TheVariants.{Load, Lock, Read}
-use Rattle.control_word.specs.declared.model.handle.Handle.{Handle}
+use Rattle.control_word.specs.declared.model.handle.NumberedHandle.{NumberedHandle}
 use Rattle.control_word.specs.declared.model.handle.Kind.{Kind}
 use Rattle.control_word.specs.declared.place.Place.{Place}
 use Rattle.control_block.specs.Desks.{DeskNow, KeepsEndings, bag_of, state_of}
@@ -81,7 +81,8 @@ module _ {V : Type 0} where
         ∙ ap (λ y. y ∷ before) (sym (field.2 ∙ ap (slice_index ((leads z seen).object o).fields) first))
 
     -- the nodes that were visited are the first of the list
-    walk_told : (h : Handle) (stops : List SeenNode) (end : Handle) (looks : List (Event V)) → Walks h stops end looks → All True looks → (os : List ℕ)
+    walk_told : (h : NumberedHandle) (stops : List SeenNode) (end : NumberedHandle) (looks : List (Event V)) → Walks h stops end looks → All True looks
+        → (os : List ℕ)
         → Chain (leads z seen) h os → AllLive (leads z seen) os
         → (rest : List ℕ) × Chain (leads z seen) end rest × AllLive (leads z seen) rest
         × (told_by (leads z seen) [] os ≡ told_by (leads z seen) (told_of stops) rest)
@@ -99,14 +100,14 @@ module _ {V : Type 0} where
         next [] none' lives' same true' = absurd (let e : None ≡ Some t.object = sym none' ∙ node in cc)
         next (o ∷ rest) chain' lives' same true' =
             let s = leads z seen in let up = Load (Member t.object 2) t.up in let load = Load (Member t.object 1) t.next in
-            let number : Some o ≡ Some t.object = sym (ap (λ (k : Handle). k.object) chain'.0.1) ∙ node in
+            let number : Some o ≡ Some t.object = sym (ap (λ (k : NumberedHandle). k.object) chain'.0.1) ∙ node in
             let same_o : o ≡ t.object = same_Some _ _ number in
             let loaded = All-head True load (is.asked ++ up ∷ []) true' in
             let parts = both_true is.asked (up ∷ []) (All-tail True load (is.asked ++ up ∷ []) true') in
             let held' : t.up ≡ (s.object o).member 2 = All-head True up [] parts.1 ∙ ap (λ j. (s.object j).member 2) (sym same_o) in
             let on : end ≡ (s.object o).member 1 = goes_on ∙ (loaded ∙ ap (λ j. (s.object j).member 1) (sym same_o)) in
             let told : told_at s ((s.object o).member 2).object (told_of stops) ≡ told_onto t.told (told_of stops) =
-            ap (λ (k : Handle). told_at s k.object (told_of stops)) (sym held')
+            ap (λ (k : NumberedHandle). told_at s k.object (told_of stops)) (sym held')
             ∙ asked_told t.up.kind t.up.object t.up.place t.told is.asked is.asks parts.0 (told_of stops) in (
               rest,
               subst (λ k. Chain s k rest) (sym on) chain'.1,

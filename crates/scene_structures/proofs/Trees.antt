@@ -14,17 +14,17 @@ use Rattle.control_word.specs.State.{Has, Held, Object, Opening, State, common, 
 use Rattle.control_word.specs.State.{members}
 use Rattle.control_word.specs.State.{put, same_held, tally, upto, without}
 use Rattle.control_word.specs.declared.model.event.Cell.TheVariants.{Member}
-use Rattle.control_word.specs.declared.model.handle.Handle.{Handle}
+use Rattle.control_word.specs.declared.model.handle.NumberedHandle.{NumberedHandle}
 use Rattle.control_word.specs.declared.model.handle.Kind.{Kind}
 use Rattle.control_word.specs.declared.model.handle.Kind.TheVariants.{Owner, Weak}
 use Rattle.control_word.specs.declared.place.Place.{Place}
 use Rattle.scene_structures.specs.Trees.{IsTree, Tree, bare, node}
 
 -- what keeps the only owners of a tree keeps the tree
-pub tree_kept : (s t : State) (P : Handle → Type 0)
-    → ((r : ℕ) (h : Handle) → P h → h.object ≡ Some r → count s r ≡ 1
+pub tree_kept : (s t : State) (P : NumberedHandle → Type 0)
+    → ((r : ℕ) (h : NumberedHandle) → P h → h.object ≡ Some r → count s r ≡ 1
     → (count t r ≡ 1) × ((j : ℕ) → j < 2 → ((t.object r).member j ≡ (s.object r).member j) × P ((s.object r).member j)))
-    → (h : Handle) (tree : Tree) → P h → IsTree s h tree → IsTree t h tree
+    → (h : NumberedHandle) (tree : Tree) → P h → IsTree s h tree → IsTree t h tree
 tree_kept s t P kept h bare p is = is
 tree_kept s t P kept h (node r first next) p (is, one, below, beside) =
     let k = kept r h p is one in
@@ -35,7 +35,7 @@ tree_kept s t P kept h (node r first next) p (is, one, below, beside) =
       subst (λ x. IsTree t x next) (sym b.0) (tree_kept s t P kept ((s.object r).member 1) next b.1 beside),
     )
 
-abbrev Any : Handle → Type 0
+abbrev Any : NumberedHandle → Type 0
 Any h = Unit {0}
 
 -- a tree's object lives
@@ -58,7 +58,7 @@ clear_count : (s : State) (d o m : ℕ) → m < 3 → o < suc s.made → (q : �
 clear_count s d o m lt made q =
     swap_count s d (Member o m) (empty (kind_of_member m)) (lt, made) (refl, inl (refl, empty_formed (kind_of_member m))) q
 
-pub clear_member : (s : State) (d o m : ℕ) (h : Handle) (r j : ℕ) → (r ≡ o → j ≢ m)
+pub clear_member : (s : State) (d o m : ℕ) (h : NumberedHandle) (r j : ℕ) → (r ≡ o → j ≢ m)
     → ((clears d o m h s).object r).member j ≡ (s.object r).member j
 clear_member s d o m h r j ne =
     let x = s.object o in
@@ -66,7 +66,7 @@ clear_member s d o m h r j ne =
     (λ e. put_other x.member m (empty (kind_of_member m)) j (ne e) ∙ ap (λ i. (s.object i).member j) (sym e)) (λ n. refl)
 
 pub tree_cleared : (z : Opening) (s : State) (d o m : ℕ) → Sound z s → (s.object o).phase ≡ ending d → m < 3
-    → (h : Handle) (tree : Tree) → IsTree s h tree
+    → (h : NumberedHandle) (tree : Tree) → IsTree s h tree
     → IsTree (clears d o m ((s.object o).member m) s) h tree
 tree_cleared z s d o m sound ends lt h tree is =
     let made = was_made z s o sound (λ u. let t = sym ends ∙ u in cc) in
@@ -82,7 +82,7 @@ unfolding count
 weak_count s d o p vacant has r = (less_weaks s d o p has r).2
 
 -- a weak handle goes
-pub tree_weakly : (s : State) (d o : ℕ) (p : Option Place) (vacant : Bool) → Has (held d (handle Weak (Some o) p)) s.hands → (h : Handle) (tree : Tree)
+pub tree_weakly : (s : State) (d o : ℕ) (p : Option Place) (vacant : Bool) → Has (held d (handle Weak (Some o) p)) s.hands → (h : NumberedHandle) (tree : Tree)
     → IsTree s h tree → IsTree (weak_leaves d (handle Weak (Some o) p) vacant s) h tree
 tree_weakly s d o p vacant has h tree is =
     tree_kept s (weak_leaves d (handle Weak (Some o) p) vacant s) Any
@@ -103,7 +103,7 @@ finish_count : (s : State) (d o : ℕ) (vacant : Bool) (r : ℕ) → count (fini
 unfolding count
 finish_count s d o vacant r = count_same s s.hands (put s.object o (moved_to gone (s.object o))) (finish_members s o) r
 
-pub tree_finished : (s : State) (d o : ℕ) (vacant : Bool) (h : Handle) (tree : Tree) → IsTree s h tree → IsTree (finishes d o vacant s) h tree
+pub tree_finished : (s : State) (d o : ℕ) (vacant : Bool) (h : NumberedHandle) (tree : Tree) → IsTree s h tree → IsTree (finishes d o vacant s) h tree
 tree_finished s d o vacant h tree is =
     tree_kept s (finishes d o vacant s) Any
     (λ r x q at one. (finish_count s d o vacant r ∙ one, λ j low. (finish_member s d o vacant r j, tt))) h tree tt is
@@ -121,7 +121,7 @@ in_no_member z s d q p sound formed has one r j low is =
     ⊎_elim
     (λ (gt : s.made < r).
     let e = sound.cleared r j (omega arith) (ap common (sound.fresh r gt)) in
-    let n : Some q ≡ None = sym is ∙ (ap (λ (h : Handle). h.object) e) in cc n)
+    let n : Some q ≡ None = sym is ∙ (ap (λ (h : NumberedHandle). h.object) e) in cc n)
     (λ le.
     let kind = (formed.members r j (omega arith)).1 ∙ owner_kind j low in
     let cells = upto s.cells (λ c. s.cell c ∷ []) in
@@ -157,7 +157,7 @@ leave_count s d q p has r ne =
     ∙ sym ((less_owners s d q p has r).1 ne)
 
 pub tree_left : (z : Opening) (s : State) (d q : ℕ) (p : Option Place) → Sound z s → Formed s → Has (held d (owner q p)) s.hands → count s q ≡ 1
-    → (h : Handle) (tree : Tree) → h.object ≢ Some q → IsTree s h tree → IsTree (leaves d (owner q p) true s) h tree
+    → (h : NumberedHandle) (tree : Tree) → h.object ≢ Some q → IsTree s h tree → IsTree (leaves d (owner q p) true s) h tree
 tree_left z s d q p sound formed has one h tree other is =
     tree_kept s (leaves d (owner q p) true s) (λ x. x.object ≢ Some q)
     (λ r x apart at single. (

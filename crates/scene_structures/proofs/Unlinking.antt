@@ -14,7 +14,7 @@ use Rattle.control_word.specs.State.{Has, State, count}
 use Rattle.control_word.specs.declared.model.event.Cell.{Cell}
 use Rattle.control_word.specs.declared.model.event.Cell.TheVariants.{Free, Member}
 use Rattle.control_word.specs.declared.model.event.Event.TheVariants.{Swap}
-use Rattle.control_word.specs.declared.model.handle.Handle.{Handle}
+use Rattle.control_word.specs.declared.model.handle.NumberedHandle.{NumberedHandle}
 use Rattle.control_word.specs.declared.model.handle.Kind.TheVariants.{Owner, Weak}
 use Rattle.control_word.specs.declared.place.Place.{Place}
 use Rattle.control_block.specs.Desks.{DeskNow, state_of}
@@ -38,8 +38,8 @@ use Rattle.scene_structures.proofs.Sought.{Stood, apart_next, list_stays, lived}
 use Rattle.scene_structures.proofs.Sought.{stood_on}
 
 -- what owner a lock gives
-pub owner_none : (s : State) (h : Handle) → is_owned s h ≡ false → (owner_of s h).object ≡ None
-owner_none s h is = ap (λ (x : Handle). x.object) (sym (go h.object is))
+pub owner_none : (s : State) (h : NumberedHandle) → is_owned s h ≡ false → (owner_of s h).object ≡ None
+owner_none s h is = ap (λ (x : NumberedHandle). x.object) (sym (go h.object is))
   where
     at_none : (n : ℕ) (q : Option Place) (b : Bool) → (count s n == 0) ≡ b → not b ≡ false
         → empty Owner ≡ cond (count s n == 0) (empty Owner) (owner n q)
@@ -51,8 +51,8 @@ owner_none s h is = ap (λ (x : Handle). x.object) (sym (go h.object is))
     go None e = refl
     go (Some o) e = at_none o h.place (count s o == 0) refl e
 
-pub owner_some : (s : State) (h : Handle) (p : ℕ) → h.object ≡ Some p → is_owned s h ≡ true → (owner_of s h).object ≡ Some p
-owner_some s h p is owned = ap (λ (x : Handle). x.object) (sym (go h.object is owned))
+pub owner_some : (s : State) (h : NumberedHandle) (p : ℕ) → h.object ≡ Some p → is_owned s h ≡ true → (owner_of s h).object ≡ Some p
+owner_some s h p is owned = ap (λ (x : NumberedHandle). x.object) (sym (go h.object is owned))
   where
     at_some : (n : ℕ) (q : Option Place) (b : Bool) → (count s n == 0) ≡ b → not b ≡ true
         → owner n q ≡ cond (count s n == 0) (empty Owner) (owner n q)
@@ -64,7 +64,7 @@ owner_some s h p is owned = ap (λ (x : Handle). x.object) (sym (go h.object is 
     go None e t = absurd (cc t)
     go (Some o) e t = ap (λ n. owner n h.place) (sym (same_Some _ _ e)) ∙ at_some o h.place (count s o == 0) refl t
 
-pub counts : (s : State) (h : Handle) (p : ℕ) → h.object ≡ Some p → is_owned s h ≡ true → 0 < count s p
+pub counts : (s : State) (h : NumberedHandle) (p : ℕ) → h.object ≡ Some p → is_owned s h ≡ true → 0 < count s p
 counts s h p is owned = go h.object is owned
   where
     some_left : (n : ℕ) → not (n == 0) ≡ true → 0 < n
@@ -102,7 +102,7 @@ module _ {V : Type 0} where
   pub none_wider : (bt : Cell → Type 0) (d e : DeskNow V) → Does (PutsOnly in_no_cell) d e → Does (PutsOnly bt) d e
   none_wider bt d e does = wider in_no_cell bt d e (λ k p. absurd p) does
 
-  pub fills_puts : (d e : DeskNow V) (o : ℕ) (below : Handle) → Fills d o below e → Does (PutsOnly (NextOf o)) d e
+  pub fills_puts : (d e : DeskNow V) (o : ℕ) (below : NumberedHandle) → Fills d o below e → Does (PutsOnly (NextOf o)) d e
   fills_puts d e o below f =
       let at = NextOf o in let y = Swap (Member o 1) below f.was in
       record {
@@ -113,7 +113,7 @@ module _ {V : Type 0} where
       }
 
   -- what the object's `next` holds when this has gone into it
-  pub filled : (d e : DeskNow V) (o : ℕ) (below : Handle) → Fills d o below e → Stood (Member o 1) d → Lives (state_of e) (Member o 1)
+  pub filled : (d e : DeskNow V) (o : ℕ) (below : NumberedHandle) → Fills d o below e → Stood (Member o 1) d → Lives (state_of e) (Member o 1)
       → cell_of (state_of e) (Member o 1) ≡ below
   unfolding fills_puts
   filled d e o below f st lives =

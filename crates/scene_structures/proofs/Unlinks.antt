@@ -2,7 +2,7 @@
 use Rattle.std.proofs.Common.{◌≡◌, ℕ, ◌+◌, ◌≤◌, Bool, [], ◌∷◌, length, MatchOption, Option, None, Some, refl}
 use Rattle.std.proofs.Common.{sym, ap, subst, ◌∙◌, arith}
 use Rattle.control_word.specs.Handles.{empty, handle, object_of}
-use Rattle.control_word.specs.declared.model.handle.Handle.{Handle}
+use Rattle.control_word.specs.declared.model.handle.NumberedHandle.{NumberedHandle}
 use Rattle.control_word.specs.State.{Has}
 use Rattle.control_word.specs.declared.model.handle.Kind.TheVariants.{Owner, Weak}
 use Rattle.control_word.specs.declared.place.Block.{Block}
@@ -44,10 +44,10 @@ module _ {V : Type 0} where
         began = b;
         begins = first.0;
         orphan = g;
-        watches = subst (λ (h : Handle). Watches b (object_of (node_in d node)) h g) weakly
-            (subst (λ (h : Handle). Watches b (object_of h) (weak_of_owner b nothing) g) node_b watches);
-        fills = subst (λ (h : Handle). Fills g (object_of (node_in d node)) h e) owned
-            (subst (λ (h : Handle). Fills g (object_of h) (handle_in g Owner nothing.block nothing.place) e) node_g fills);
+        watches = subst (λ (h : NumberedHandle). Watches b (object_of (node_in d node)) h g) weakly
+            (subst (λ (h : NumberedHandle). Watches b (object_of h) (weak_of_owner b nothing) g) node_b watches);
+        fills = subst (λ (h : NumberedHandle). Fills g (object_of (node_in d node)) h e) owned
+            (subst (λ (h : NumberedHandle). Fills g (object_of h) (handle_in g Owner nothing.block nothing.place) e) node_g fills);
       }
 
   pub unlinked_latest : (d b g e : DeskNow V) (n : Option Block) (q : Option Place) → b ≡ counting (d.held + 1) d → KeepsHeld b g → KeepsHeld g e

@@ -9,7 +9,7 @@ use Rattle.control_word.specs.Handles.{empty, object_of, same_handle}
 use Rattle.control_word.specs.State.{Object, Opening, State, count, ending, gone, kind_of_member, live, put}
 use Rattle.control_word.specs.declared.model.event.Event.{Event}
 use Rattle.control_word.specs.declared.model.event.Event.TheVariants.{ClearMember, Finish, Leave, Load, Lock, Read, Share, WeakLeave}
-use Rattle.control_word.specs.declared.model.handle.Handle.{Handle}
+use Rattle.control_word.specs.declared.model.handle.NumberedHandle.{NumberedHandle}
 use Rattle.scene_structures.specs.Puts.{PutsOnly, in_no_cell}
 use Rattle.scene_structures.specs.Walks.{IsLooking}
 use Rattle.scene_structures.proofs.Heads.{live_before}
@@ -32,7 +32,7 @@ gone_live : gone ≡ live → ⊥
 gone_live e = cc
 
 -- a handle is an empty one, or not
-pub is_empty : (h f : Handle) → (h ≡ f) ⊎ (h ≢ f)
+pub is_empty : (h f : NumberedHandle) → (h ≡ f) ⊎ (h ≢ f)
 is_empty h f = go (same_handle h f) refl
   where
     go : (b : Bool) → same_handle h f ≡ b → (h ≡ f) ⊎ (h ≢ f)
@@ -48,7 +48,7 @@ cleared_again t o m e =
     (λ i. put t.object o (record (t.object o) { member = same i })) ∙ put_again t.object o
 
 -- a member that held something was emptied
-pub used_clear : (V : Type 0) (s t : State) (d o m : ℕ) (h : Handle) → t.object ≡ s.object → o ≤ s.made → (t.object o).phase ≡ ending d
+pub used_clear : (V : Type 0) (s t : State) (d o m : ℕ) (h : NumberedHandle) → t.object ≡ s.object → o ≤ s.made → (t.object o).phase ≡ ending d
     → (t.object o).member m ≢ empty (kind_of_member m) → Used s (after {V = V} t d (ClearMember o m h)) d
 used_clear V s t d o m h same le ends full =
     let x = record (t.object o) { member = put (t.object o).member m (empty (kind_of_member m)) } in
@@ -115,7 +115,7 @@ module _ {V : Type 0} where
   empty_on t d o m (ClearMember q k h) p e =
       put_cases (λ j (y : Object). (t.object j).member m ≡ empty (kind_of_member m) → y.member m ≡ empty (kind_of_member m)) t.object q
       (record (t.object q) { member = put (t.object q).member k (empty (kind_of_member k)) }) o
-      (λ same e'. put_cases (λ i (y : Handle). (t.object q).member i ≡ empty (kind_of_member i) → y ≡ empty (kind_of_member i)) (t.object q).member k
+      (λ same e'. put_cases (λ i (y : NumberedHandle). (t.object q).member i ≡ empty (kind_of_member i) → y ≡ empty (kind_of_member i)) (t.object q).member k
       (empty (kind_of_member k)) m (λ here w. ap (λ i. empty (kind_of_member i)) (sym here)) (λ n w. w) (ap (λ i. (t.object i).member m) (sym same) ∙ e'))
       (λ n e'. e') e
   empty_on t d o m (Finish q v y) p e =

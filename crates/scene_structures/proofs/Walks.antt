@@ -11,7 +11,7 @@ use Rattle.control_word.specs.declared.model.event.Cell.{Cell}
 use Rattle.control_word.specs.declared.model.event.Cell.TheVariants.{Member}
 use Rattle.control_word.specs.declared.model.event.Event.{Event}
 use Rattle.control_word.specs.declared.model.event.Event.TheVariants.{ClearMember, Finish, Leave, Load, Lock, Read, Share, WeakLeave}
-use Rattle.control_word.specs.declared.model.handle.Handle.{Handle}
+use Rattle.control_word.specs.declared.model.handle.NumberedHandle.{NumberedHandle}
 use Rattle.control_word.specs.declared.model.handle.Kind.TheVariants.{Owner, Weak}
 use Rattle.control_word.specs.declared.place.Block.{Block}
 use Rattle.control_word.specs.declared.place.Place.{Place}
@@ -115,7 +115,7 @@ module _ {V : Type 0} where
       λ i. handle Owner (Some (latest i)) (sym place i) in
       looked_then d n e _
       (looked_both d m n [] _ (looked_call d m _ shares tt)
-      (looked_call m n _ (subst (λ (h : Handle). AddsEvent m (Read h x) n) is reads) tt)) does
+      (looked_call m n _ (subst (λ (h : NumberedHandle). AddsEvent m (Read h x) n) is reads) tt)) does
 
   pub told_latest : (d m n e : DeskNow V) (x y : Event V) (b : Option Block) (p : Option Place) → AddsEvent d x m
       → bag_of m ≡ with_handle Owner b p (bag_of d)
@@ -143,7 +143,7 @@ module _ {V : Type 0} where
   pub asks : (d m n t u e : DeskNow V) (c : Cell) (wb : Option Block) (wp : Option Place) (o : Shared) (told : Option ℕ) (v : Bool)
       → AddsEvent d (Load c (handle_in m Weak wb wp)) m → bag_of m ≡ with_handle Weak wb wp (bag_of d) → LocksHandle m wb wp (is_some o.block) n
       → IsOwnerOf wb wp (is_some o.block) o → TellsField n o.block told t → Does IsParting t u → LeavesWeakly u wb wp v e
-      → (h : Handle) × (asked : List (Event V)) × IsAsked h told asked × HasLooked d (asked ++ Load c h ∷ []) e
+      → (h : NumberedHandle) × (asked : List (Event V)) × IsAsked h told asked × HasLooked d (asked ++ Load c h ∷ []) e
   asks d m n t u e c wb wp o told v loads bag locks is tells' does leaves =
       let h = handle_in m Weak wb wp in
       let r = go o.block refl wb told bag locks is tells' in (
@@ -197,7 +197,7 @@ module _ {V : Type 0} where
   pub visits : (d a l e : DeskNow V) (node next : Shared) (up : WeakAt) (at : SharedAt) (told : Option ℕ)
       → IsMember (λ c (x : WeakAt). x.site ≡ weak.Up c) node.block node.place (Ok up)
       → IsMember (λ c (x : SharedAt). x.site ≡ shared.Of c Next) node.block node.place (Ok at)
-      → ((h : Handle) × (asked : List (Event V)) × IsAsked h told asked × HasLooked d (asked ++ Load (weak_cell d up.site) h ∷ []) a)
+      → ((h : NumberedHandle) × (asked : List (Event V)) × IsAsked h told asked × HasLooked d (asked ++ Load (weak_cell d up.site) h ∷ []) a)
       → node_in a node ≡ node_in d node → AddsEvent a (Load (shared_cell a at.site) (node_in l next)) l → Does IsParting l e
       → node_in e next ≡ node_in l next → VisitsNode d (node_in d node) told next e
   visits d a l e node next up at told (q, place, block, is) (q', place', block', is') (h, asked, asks', looked) same loads does after =
@@ -208,7 +208,7 @@ module _ {V : Type 0} where
       let next_cell : shared_cell a at.site ≡ Member o 1 =
       ap (shared_cell a) is'
       ∙ (ap (λ (b : Option Block). Member (object_of (handle_in a Owner b node.place)) 1) (sym block')
-      ∙ ap (λ (k : Handle). Member (object_of k) 1) same) in
+      ∙ ap (λ (k : NumberedHandle). Member (object_of k) 1) same) in
       let first = subst (λ (c : Cell). HasLooked d (asked ++ Load c h ∷ []) a) up_cell looked in
       let look = Load (Member o 1) (node_in l next) in
       let second = looked_call a l look (subst (λ (c : Cell). AddsEvent a (Load c (node_in l next)) l) next_cell loads) tt in
@@ -217,14 +217,14 @@ module _ {V : Type 0} where
         stop = record { object = o; up = h; told = told; next = node_in l next };
         looks = look ∷ before;
         is = record { asked = asked; asks = asks'; are = refl };
-        node = ap (λ (k : Handle). k.object) within ∙ ap Some (sym (ap object_of within));
+        node = ap (λ (k : NumberedHandle). k.object) within ∙ ap Some (sym (ap object_of within));
         tells = refl;
         goes_on = after;
         looked = looked_then d l e (look ∷ before) (looked_both d a l before (look ∷ []) first second) does;
       }
 
   -- the walk goes on by a visit
-  pub walks_on : (h at : Handle) (stops : List SeenNode) (before : List (Event V)) (d m e : DeskNow V) (told : Option ℕ) (next : Shared)
+  pub walks_on : (h at : NumberedHandle) (stops : List SeenNode) (before : List (Event V)) (d m e : DeskNow V) (told : Option ℕ) (next : Shared)
       → Walks h stops at before → HasLooked d before m → (v : VisitsNode m at told next e)
       → Walks h (v.stop ∷ stops) (node_in e next) (v.looks ++ before) × HasLooked d (v.looks ++ before) e
   walks_on h at stops before d m e told next walks looked v =

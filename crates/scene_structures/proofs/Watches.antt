@@ -7,7 +7,7 @@ use Rattle.control_word.specs.State.{Has}
 use Rattle.control_word.specs.declared.model.event.Cell.{Cell}
 use Rattle.control_word.specs.declared.model.event.Cell.TheVariants.{Member}
 use Rattle.control_word.specs.declared.model.event.Event.TheVariants.{Load, Swap}
-use Rattle.control_word.specs.declared.model.handle.Handle.{Handle}
+use Rattle.control_word.specs.declared.model.handle.NumberedHandle.{NumberedHandle}
 use Rattle.control_word.specs.declared.model.handle.Kind.TheVariants.{Owner, Weak}
 use Rattle.control_word.specs.declared.place.Block.{Block}
 use Rattle.control_word.specs.declared.place.Place.{Place}
@@ -34,7 +34,7 @@ use Rattle.scene_structures.proofs.Latest.{has_over, latest_none, weak_latest}
 use Rattle.scene_structures.proofs.Pushes.{rises_later, same_left, same_node}
 
 -- what came last leaves, by its place as a weak handle
-weak_out : (b : Option Block) (p : Option Place) (l : List Handle) → without_handle Weak b (weak_place b p) (with_handle Weak b p l) ≡ l
+weak_out : (b : Option Block) (p : Option Place) (l : List NumberedHandle) → without_handle Weak b (weak_place b p) (with_handle Weak b p l) ≡ l
 weak_out None p l = refl
 weak_out (Some b) p l = first_out Weak (Some b) p l
 
@@ -77,11 +77,11 @@ module _ {V : Type 0} where
       let old = handle_in n Weak ob op in
       let cell : weak_cell m at.site ≡ Member (object_of (node_in d node)) 2 =
       ap (weak_cell m) is ∙ (ap (λ (b : Option Block). Member (object_of (handle_in m Owner b node.place)) 2) (sym block)
-      ∙ ap (λ (h : Handle). Member (object_of h) 2) (same_node d m node first.1 (lists_of d node.block node.place has))) in
+      ∙ ap (λ (h : NumberedHandle). Member (object_of h) 2) (same_node d m node first.1 (lists_of d node.block node.place has))) in
       let up : handle_in m Weak wb wp ≡ weak_of_owner d subject =
       (λ i. handle_in m Weak (eb i) (ep i)) ∙ weak_same d m subject.block subject.place first.1 (lists_of d subject.block subject.place holds) in
       let here : AddsEvent m (Swap (Member (object_of (node_in d node)) 2) (weak_of_owner d subject) old) n =
-      subst (λ (h : Handle). AddsEvent m (Swap (Member (object_of (node_in d node)) 2) h old) n) up
+      subst (λ (h : NumberedHandle). AddsEvent m (Swap (Member (object_of (node_in d node)) 2) h old) n) up
       (subst (λ (c : Cell). AddsEvent m (Swap c (handle_in m Weak wb wp) old) n) cell swaps) in
       record {
         was = old;
@@ -93,7 +93,8 @@ module _ {V : Type 0} where
       }
 
   -- and what the desk has is on the object that it was on
-  pub watched_latest : (d m n e : DeskNow V) (sb ob : Option Block) (sp op : Option Place) (wb : Option Block) (wp : Option Place) (c : Cell) (x y : Handle)
+  pub watched_latest : (d m n e : DeskNow V) (sb ob : Option Block) (sp op : Option Place) (wb : Option Block) (wp : Option Place) (c : Cell)
+      (x y : NumberedHandle)
       (v : Bool)
       → SharesWeakly d sb sp m → wb ≡ sb → wp ≡ weak_place sb sp → bag_of m ≡ with_handle Weak sb sp (bag_of d) → AddsEvent m (Swap c x y) n
       → bag_of n ≡ with_handle Weak ob op (without_handle Weak wb wp (bag_of m)) → LeavesWeakly n ob op v e
@@ -110,7 +111,7 @@ module _ {V : Type 0} where
       weak_latest n e ob op v leaves k q b in_n ∙ (calls_keep_latest m _ n swaps k q b in_m ∙ (weakly_does in_no_cell d m sb sp shares).1 k q b had)
 
   -- a new node whose `up` was filled, a look at the cell, and the rise
-  pub attaches : (d m h l e : DeskNow V) (c k : Cell) (x : V) (node subject : Shared) (got : Handle)
+  pub attaches : (d m h l e : DeskNow V) (c k : Cell) (x : V) (node subject : Shared) (got : NumberedHandle)
       → Makes d false false (0 ∷ 0 ∷ 0 ∷ 0 ∷ []) x node.block node.place m → bag_of m ≡ with_handle Owner node.block node.place (bag_of d)
       → HoldsHandle d Owner subject.block subject.place → Watches m (object_of (node_in m node)) (weak_of_owner m subject) h → KeepsHeld m h
       → bag_of h ≡ bag_of m
@@ -132,8 +133,8 @@ module _ {V : Type 0} where
             made = m;
             makes = made.1;
             hung = h;
-            watches = subst (λ (w : Handle). Watches m (latest_of m b.0) w h) up
-                (subst (λ (y : Handle). Watches m (object_of y) (weak_of_owner m subject) h) here watch);
+            watches = subst (λ (w : NumberedHandle). Watches m (latest_of m b.0) w h) up
+                (subst (λ (y : NumberedHandle). Watches m (object_of y) (weak_of_owner m subject) h) here watch);
             rises = rises_later h l e c there (does_one (PutsOnly (NextOf (object_of there))) h l _ loads tt)
-                (subst (λ (y : Handle). Rises l c y e) (one ∙ (two ∙ here)) rises);
+                (subst (λ (y : NumberedHandle). Rises l c y e) (one ∙ (two ∙ here)) rises);
           }

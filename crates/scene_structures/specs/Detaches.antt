@@ -6,7 +6,7 @@ use Rattle.control_word.specs.State.{live}
 use Rattle.control_word.specs.declared.model.event.Cell.{Cell}
 use Rattle.control_word.specs.declared.model.event.Cell.TheVariants.{Member}
 use Rattle.control_word.specs.declared.model.event.Event.TheVariants.{Compare, Load}
-use Rattle.control_word.specs.declared.model.handle.Handle.{Handle}
+use Rattle.control_word.specs.declared.model.handle.NumberedHandle.{NumberedHandle}
 use Rattle.control_word.specs.declared.model.handle.Kind.TheVariants.{Owner, Weak}
 use Rattle.control_block.specs.Desks.{AddsEvent, DeskNow, state_of}
 use Rattle.control_block.specs.Own.{Does}
@@ -28,9 +28,9 @@ module _ {V : Type 0} where
   IsFound d c (Some h) e = AddsEvent d (Load c (node_in e h)) e × IsWithin h.block h.place
 
   -- the object's `next` was loaded, and went by a compare into the cell, which held an owner of it; then handles left
-  pub record Skips (d : DeskNow V) (c : Cell) (node : Handle) (e : DeskNow V) : Type 0 where
-    pub below : Handle
-    pub old : Handle
+  pub record Skips (d : DeskNow V) (c : Cell) (node : NumberedHandle) (e : DeskNow V) : Type 0 where
+    pub below : NumberedHandle
+    pub old : NumberedHandle
     pub read : DeskNow V
     pub reads : AddsEvent d (Load (Member (object_of node) 1) below) read
     pub cut : DeskNow V
@@ -38,7 +38,7 @@ module _ {V : Type 0} where
     pub leaves : Does IsParting cut e
 
   -- or nothing was put anywhere
-  abbrev pub MaySkip : DeskNow V → Cell → Handle → Bool → DeskNow V → Type 0
+  abbrev pub MaySkip : DeskNow V → Cell → NumberedHandle → Bool → DeskNow V → Type 0
   MaySkip d c node true e = Skips d c node e
   MaySkip d c node false e = Does (PutsOnly in_no_cell) d e
 
@@ -54,7 +54,7 @@ module _ {V : Type 0} where
   pub record CutsOut (d : DeskNow V) (c : Cell) (o : ℕ) (e : DeskNow V) : Type 0 where
     pub tried : DeskNow V
     pub tries : Does (PutsOnly in_no_cell) d tried
-    pub node : Handle
+    pub node : NumberedHandle
     pub is : node.object ≡ Some o
     pub seen : DeskNow V
     pub loads : AddsEvent tried (Load c node) seen
@@ -66,7 +66,7 @@ module _ {V : Type 0} where
   IsSought d c o Cut e = CutsOut d c o e
   IsSought d c o (Other h) e = Meets d c o h e
 
-  abbrev pub HandsSought : List Handle → Sought → DeskNow V → Type 0
+  abbrev pub HandsSought : List NumberedHandle → Sought → DeskNow V → Type 0
   HandsSought base (Other h) e = HasHands base (h ∷ []) e
   HandsSought base s e = HasHands base [] e
 

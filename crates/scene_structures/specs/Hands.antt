@@ -3,7 +3,7 @@ use Rattle.std.specs.Prelude.{◌≡◌, ℕ, ◌+◌, ◌<◌, ◌≤◌, List,
 use Rattle.std.specs.Prelude.{None}
 use Rattle.control_word.specs.Handles.{handle}
 use Rattle.control_word.specs.State.{Has}
-use Rattle.control_word.specs.declared.model.handle.Handle.{Handle}
+use Rattle.control_word.specs.declared.model.handle.NumberedHandle.{NumberedHandle}
 use Rattle.control_word.specs.declared.model.handle.Kind.{Kind}
 use Rattle.control_word.specs.declared.model.handle.Kind.TheVariants.{Owner}
 use Rattle.control_word.specs.declared.place.Block.{Block}
@@ -16,27 +16,27 @@ use Rattle.control_block.specs.Desks.{DeskNow, HasHandle, bag_of, latest_of}
 use Rattle.control_block.specs.declared.handles.Shared.{Shared}
 
 -- these handles lie on a bag
-abbrev pub stacked : List Shared → List Handle → List Handle
+abbrev pub stacked : List Shared → List NumberedHandle → List NumberedHandle
 stacked [] base = base
 stacked (h ∷ hs) base = with_handle Owner h.block h.place (stacked hs base)
 
 -- the list has the owner, if that has an object
-abbrev pub Lists : Option Block → Option Place → List Handle → Type 0
+abbrev pub Lists : Option Block → Option Place → List NumberedHandle → Type 0
 Lists None p l = Unit {0}
 Lists (Some b) p l = Has (handle Owner (Some b.0) p) l
 
 -- the cell is a free one of the shape, or a member of an object of which the list has an owner
-abbrev pub IsOpenBy : List Handle → Shape → SharedSite → Type 0
+abbrev pub IsOpenBy : List NumberedHandle → Shape → SharedSite → Type 0
 IsOpenBy l z (Free n) = n < z.shared_cells
 IsOpenBy l z (Of b m) = (p : Option Place) × Has (handle Owner (Some b.0) p) l
 
 module _ {V : Type 0} where
   -- what the handle is, by the object that it is on
-  abbrev pub node_in : DeskNow V → Shared → Handle
+  abbrev pub node_in : DeskNow V → Shared → NumberedHandle
   node_in d h = handle_in d Owner h.block h.place
 
   -- the desk has just these above the others, and all are counted
-  pub record HasHands (base : List Handle) (hs : List Shared) (d : DeskNow V) : Type 0 where
+  pub record HasHands (base : List NumberedHandle) (hs : List Shared) (d : DeskNow V) : Type 0 where
     pub bag : bag_of d ≡ stacked hs base
     pub few : length base + length hs ≤ d.held
 
@@ -49,6 +49,6 @@ module _ {V : Type 0} where
   KeepsHeld d e = (k : Kind) (p : Option Place) (b : ℕ) → HasHandle e k p b → latest_of e b ≡ latest_of d b
 
   -- what the list has still is on the object that it was on
-  abbrev pub KeepsThese : List Handle → DeskNow V → DeskNow V → Type 0
+  abbrev pub KeepsThese : List NumberedHandle → DeskNow V → DeskNow V → Type 0
   KeepsThese l d e = (k : Kind) (p : Option Place) (b : ℕ) → Has (handle k (Some b) p) l
       → latest_of e b ≡ latest_of d b

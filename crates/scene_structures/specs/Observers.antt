@@ -5,7 +5,7 @@ use Rattle.control_word.specs.Handles.{owner}
 use Rattle.control_word.specs.State.{State}
 use Rattle.control_word.specs.declared.model.event.Cell.{Cell}
 use Rattle.control_word.specs.declared.model.event.Event.TheVariants.{Make}
-use Rattle.control_word.specs.declared.model.handle.Handle.{Handle}
+use Rattle.control_word.specs.declared.model.handle.NumberedHandle.{NumberedHandle}
 use Rattle.control_word.specs.declared.place.Block.{Block}
 use Rattle.control_block.specs.Desks.{AddsEvent, DeskNow, latest_of, state_of}
 use Rattle.control_block.specs.declared.handles.Shared.{Shared}
@@ -14,7 +14,7 @@ use Rattle.scene_structures.specs.Stacks.{Rises}
 use Rattle.scene_structures.specs.Watches.{Watches, weak_of_owner}
 
 -- what the objects' `up` hold
-abbrev pub ups : State → List ℕ → List Handle
+abbrev pub ups : State → List ℕ → List NumberedHandle
 ups s os = map (λ o. (s.object o).member 2) os
 
 module _ {V : Type 0} where

@@ -3,7 +3,7 @@ use Rattle.std.specs.Prelude.{◌≡◌, ℕ, ◌==◌, cond, is_some, Bool, Opt
 use Rattle.control_word.specs.Handles.{empty, owner}
 use Rattle.control_word.specs.State.{State, count}
 use Rattle.control_word.specs.declared.model.event.Cell.TheVariants.{Member}
-use Rattle.control_word.specs.declared.model.handle.Handle.{Handle}
+use Rattle.control_word.specs.declared.model.handle.NumberedHandle.{NumberedHandle}
 use Rattle.control_word.specs.declared.model.handle.Kind.TheVariants.{Owner, Weak}
 use Rattle.control_word.specs.declared.place.Block.{Block}
 use Rattle.control_word.specs.declared.place.Place.{Place}
@@ -19,7 +19,7 @@ use Rattle.scene_structures.specs.Hands.{SameNode, node_in}
 use Rattle.scene_structures.specs.Scenes.{IsNearLimit}
 
 -- an owner of what the handle is on, which points where that does, or an empty one where that has no owner
-abbrev pub owner_of : State → Handle → Handle
+abbrev pub owner_of : State → NumberedHandle → NumberedHandle
 owner_of s h = elim h.object [ None ↦ empty Owner | Some o ↦ cond (count s o == 0) (empty Owner) (owner o h.place) ]
 
 module _ {V : Type 0} where

@@ -1,7 +1,7 @@
 -- What came of tries to take the top node (own).
 use Rattle.std.specs.Prelude.{◌≡◌, ℕ, ◌+◌, List, [], ◌∷◌, Some}
 use Rattle.control_word.specs.declared.model.event.Cell.{Cell}
-use Rattle.control_word.specs.declared.model.handle.Handle.{Handle}
+use Rattle.control_word.specs.declared.model.handle.NumberedHandle.{NumberedHandle}
 use Rattle.control_word.specs.Handles.{owner}
 use Rattle.control_word.specs.declared.place.Place.{Place}
 use Rattle.control_block.specs.Desks.{DeskNow}
@@ -19,7 +19,7 @@ module _ {V : Type 0} where
     pub node : node_in e h ≡ owner object (Some place)
     pub takes : PopsNode d c object place e
 
-  abbrev pub HandsAfter : List Handle → Tried → DeskNow V → Type 0
+  abbrev pub HandsAfter : List NumberedHandle → Tried → DeskNow V → Type 0
   HandsAfter base (Took h) e = HasHands base (h ∷ []) e
   HandsAfter base Found e = HasHands base [] e
   HandsAfter base (Again h) e = HasHands base (h ∷ []) e

@@ -8,7 +8,7 @@ use Rattle.control_word.specs.declared.model.event.Cell.{Cell}
 use Rattle.control_word.specs.declared.model.event.Cell.TheVariants.{Member}
 use Rattle.control_word.specs.declared.model.event.Event.{Event}
 use Rattle.control_word.specs.declared.model.event.Event.TheVariants.{Load, Swap}
-use Rattle.control_word.specs.declared.model.handle.Handle.{Handle}
+use Rattle.control_word.specs.declared.model.handle.NumberedHandle.{NumberedHandle}
 use Rattle.control_word.specs.declared.model.handle.Kind.TheVariants.{Weak}
 use Rattle.control_word.specs.declared.place.Block.{Block}
 use Rattle.control_word.specs.declared.place.Place.{Place}
@@ -26,7 +26,7 @@ use Rattle.scene_structures.specs.declared.lists.pruning.Front.{Front}
 use Rattle.scene_structures.specs.declared.lists.pruning.Front.TheVariants.{End, Gone, Stays}
 
 -- what the handle is on has an owner
-abbrev pub is_owned : State → Handle → Bool
+abbrev pub is_owned : State → NumberedHandle → Bool
 is_owned s h = elim h.object [ None ↦ false | Some o ↦ not (count s o == 0) ]
 
 -- those of the objects that are marked
@@ -59,7 +59,7 @@ module _ {V : Type 0} where
   IsFront d c (Stays h) e = Finds d c h false e × IsWithin h.block h.place
   IsFront d c (Gone h) e = Finds d c h true e × IsWithin h.block h.place
 
-  abbrev pub HandsFront : List Handle → Front → DeskNow V → Type 0
+  abbrev pub HandsFront : List NumberedHandle → Front → DeskNow V → Type 0
   HandsFront base End e = HasHands base [] e
   HandsFront base (Stays h) e = HasHands base (h ∷ []) e
   HandsFront base (Gone h) e = HasHands base (h ∷ []) e
@@ -70,10 +70,10 @@ module _ {V : Type 0} where
 
   -- the object's `next` was loaded, and went into the cell; and then handles left
   pub record PassesNode (d : DeskNow V) (c : Cell) (o : ℕ) (e : DeskNow V) : Type 0 where
-    pub next : Handle
+    pub next : NumberedHandle
     pub seen : DeskNow V
     pub loads : AddsEvent d (Load (Member o 1) next) seen
-    pub old : Handle
+    pub old : NumberedHandle
     pub cut : DeskNow V
     pub swaps : AddsEvent seen (Swap c next old) cut
     pub leaves : Does IsParting cut e

@@ -7,7 +7,7 @@ use Rattle.control_word.specs.declared.model.event.Cell.{Cell}
 use Rattle.control_word.specs.declared.model.event.Cell.TheVariants.{Member}
 use Rattle.control_word.specs.declared.model.event.Event.{Event}
 use Rattle.control_word.specs.declared.model.event.Event.TheVariants.{Compare, Load, Make, Swap}
-use Rattle.control_word.specs.declared.model.handle.Handle.{Handle}
+use Rattle.control_word.specs.declared.model.handle.NumberedHandle.{NumberedHandle}
 use Rattle.control_word.specs.declared.place.Block.{Block}
 use Rattle.control_word.specs.declared.place.Place.{Place}
 use Rattle.control_block.specs.Desks.{AddsEvent, DeskNow, DomainNow, latest_of, state_of}
@@ -36,18 +36,18 @@ NextOf o c = c ≡ Member o 1
 
 module _ {V : Type 0} where
   -- this went into the object's `next`, and what was there left
-  pub record Fills (d : DeskNow V) (o : ℕ) (below : Handle) (e : DeskNow V) : Type 0 where
-    pub was : Handle
+  pub record Fills (d : DeskNow V) (o : ℕ) (below : NumberedHandle) (e : DeskNow V) : Type 0 where
+    pub was : NumberedHandle
     pub between : List (Event V)
     pub goes : Goes d (between ++ Swap (Member o 1) below was ∷ []) e
     pub leaves : All IsParting between
 
   -- the node went into the cell by a compare, for what had gone into its `next` before; nothing else was put anywhere,
   -- but into that `next`, and after it handles left
-  pub record Rises (d : DeskNow V) (c : Cell) (node : Handle) (e : DeskNow V) : Type 0 where
-    pub below : Handle
-    pub was : Handle
-    pub old : Handle
+  pub record Rises (d : DeskNow V) (c : Cell) (node : NumberedHandle) (e : DeskNow V) : Type 0 where
+    pub below : NumberedHandle
+    pub was : NumberedHandle
+    pub old : NumberedHandle
     pub weak : Bool
     pub before : List (Event V)
     pub between : List (Event V)
@@ -67,8 +67,8 @@ module _ {V : Type 0} where
 
   -- pop: the node went out of the cell by a compare, for what was loaded from its `next`; nothing else was put anywhere
   pub record PopsNode (d : DeskNow V) (c : Cell) (o : ℕ) (q : Place) (e : DeskNow V) : Type 0 where
-    pub below : Handle
-    pub old : Handle
+    pub below : NumberedHandle
+    pub old : NumberedHandle
     pub weak : Bool
     pub before : List (Event V)
     pub after : List (Event V)
@@ -78,7 +78,7 @@ module _ {V : Type 0} where
     pub late : All IsParting after
 
   -- the event saw this in the cell, and left it there
-  abbrev pub Sees : Cell → Handle → Event V → Type 0
+  abbrev pub Sees : Cell → NumberedHandle → Event V → Type 0
   Sees c h (Load k got) = (k ≡ c) × (got ≡ h)
   Sees c h (Compare k expected new got false weak) = (k ≡ c) × (got ≡ h)
   Sees c h _ = ⊥

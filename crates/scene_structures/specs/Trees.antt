@@ -2,7 +2,7 @@
 use Rattle.std.specs.Prelude.{◌≡◌, ℕ, List, [], ◌∷◌, ◌++◌, map, Some, None}
 use Rattle.control_word.specs.Histories.{value}
 use Rattle.control_word.specs.State.{State, count}
-use Rattle.control_word.specs.declared.model.handle.Handle.{Handle}
+use Rattle.control_word.specs.declared.model.handle.NumberedHandle.{NumberedHandle}
 use Rattle.control_block.specs.Desks.{DeskNow, state_of}
 use Rattle.control_block.specs.Rule.{opening_of}
 use Rattle.control_block.specs.declared.handles.Shared.{Shared}
@@ -19,7 +19,7 @@ objects_in_order bare = []
 objects_in_order (node o first next) = o ∷ (objects_in_order first ++ objects_in_order next)
 
 -- the handle is the only owner of the tree's top, and that of what its `first` and its `next` own, and so on down
-abbrev pub IsTree : State → Handle → Tree → Type 0
+abbrev pub IsTree : State → NumberedHandle → Tree → Type 0
 IsTree s h bare = h.object ≡ None
 IsTree s h (node o first next) =
     (h.object ≡ Some o) × (count s o ≡ 1)

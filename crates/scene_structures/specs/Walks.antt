@@ -10,7 +10,7 @@ use Rattle.control_word.specs.declared.model.event.Event.{Event}
 use Rattle.control_word.specs.declared.model.event.Event.TheVariants.{ClearMember, Finish, Leave, Load, Lock, Read}
 use Rattle.control_word.specs.declared.model.event.Event.TheVariants.{Share}
 use Rattle.control_word.specs.declared.model.event.Event.TheVariants.{WeakLeave}
-use Rattle.control_word.specs.declared.model.handle.Handle.{Handle}
+use Rattle.control_word.specs.declared.model.handle.NumberedHandle.{NumberedHandle}
 use Rattle.control_word.specs.declared.place.Block.{Block}
 use Rattle.control_block.specs.Desks.{AddsEvent, DeskNow, latest_of, state_of}
 use Rattle.control_block.specs.Own.{Does, Goes}
@@ -25,9 +25,9 @@ use Rattle.scene_structures.specs.declared.lists.walking.Visited.TheVariants.{En
 -- held
 pub record SeenNode : Type 0 where
   pub object : ℕ
-  pub up : Handle
+  pub up : NumberedHandle
   pub told : Option ℕ
-  pub next : Handle
+  pub next : NumberedHandle
 
 abbrev pub told_onto : Option ℕ → List ℕ → List ℕ
 told_onto None told = told
@@ -82,7 +82,7 @@ module _ {V : Type 0} where
   TellsField d b told e = ⊥
 
   -- the looks for a subject: none where `up` is empty, else a lock, and where that gave an owner, a look at its field 0
-  abbrev pub IsAsked : Handle → Option ℕ → List (Event V) → Type 0
+  abbrev pub IsAsked : NumberedHandle → Option ℕ → List (Event V) → Type 0
   IsAsked up None looks = looks ≡ cond (has_object up) (Lock up false ∷ []) []
   IsAsked up (Some x) looks =
       (b : ℕ) × (looks ≡ Read (owner (object_of up) (place_at b)) x ∷ Lock up true ∷ [])
@@ -94,29 +94,30 @@ module _ {V : Type 0} where
     pub are : looks ≡ Load (Member s.object 1) s.next ∷ (asked ++ Load (Member s.object 2) s.up ∷ [])
 
   -- visits to the nodes from a handle on, each through the `next` before it, down to this handle; the newest first
-  abbrev pub Walks : Handle → List SeenNode → Handle → List (Event V) → Type 0
+  abbrev pub Walks : NumberedHandle → List SeenNode → NumberedHandle → List (Event V) → Type 0
   Walks h [] end looks = (end ≡ h) × (looks ≡ [])
   Walks h (s ∷ stops) end looks =
-      (at : Handle) × (before here : List (Event V)) × Walks h stops at before × (at.object ≡ Some s.object)
+      (at : NumberedHandle) × (before here : List (Event V)) × Walks h stops at before × (at.object ≡ Some s.object)
       × IsStop s here × (end ≡ s.next)
       × (looks ≡ here ++ before)
 
   -- one visit to what a handle owns, which tells this and goes on to that
-  pub record VisitsNode (d : DeskNow V) (h : Handle) (told : Option ℕ) (next : Shared) (e : DeskNow V) : Type 0 where
-    pub stop : SeenNode
-    pub looks : List (Event V)
-    pub is : IsStop stop looks
-    pub node : h.object ≡ Some stop.object
-    pub tells : stop.told ≡ told
-    pub goes_on : node_in e next ≡ stop.next
-    pub looked : HasLooked d looks e
+  pub record VisitsNode (d : DeskNow V) (h : NumberedHandle) (told : Option ℕ) (next : Shared) (e : DeskNow V) : Type 0
+    where
+      pub stop : SeenNode
+      pub looks : List (Event V)
+      pub is : IsStop stop looks
+      pub node : h.object ≡ Some stop.object
+      pub tells : stop.told ≡ told
+      pub goes_on : node_in e next ≡ stop.next
+      pub looked : HasLooked d looks e
 
-  abbrev pub IsNodeVisit : DeskNow V → Handle → Visited → DeskNow V → Type 0
+  abbrev pub IsNodeVisit : DeskNow V → NumberedHandle → Visited → DeskNow V → Type 0
   IsNodeVisit d h End e = Does IsParting d e × ((o : ℕ) → OwnsObject (state_of d) h o → ⊥)
   IsNodeVisit d h (Passed next) e = VisitsNode d h None next e
   IsNodeVisit d h (Told x next) e = VisitsNode d h (Some x) next e
 
-  abbrev pub HandsVisited : List Handle → Visited → DeskNow V → Type 0
+  abbrev pub HandsVisited : List NumberedHandle → Visited → DeskNow V → Type 0
   HandsVisited base End e = HasHands base [] e
   HandsVisited base (Passed next) e = HasHands base (next ∷ []) e
   HandsVisited base (Told x next) e = HasHands base (next ∷ []) e
@@ -127,10 +128,10 @@ module _ {V : Type 0} where
 
   -- from a handle on all nodes were visited, down to what owns no object that it points into; what they told, the
   -- newest first
-  pub record WalksFrom (d : DeskNow V) (first : Handle) (told : List ℕ) (e : DeskNow V) : Type 0 where
+  pub record WalksFrom (d : DeskNow V) (first : NumberedHandle) (told : List ℕ) (e : DeskNow V) : Type 0 where
     pub stops : List SeenNode
     pub looks : List (Event V)
-    pub end : Handle
+    pub end : NumberedHandle
     pub at : DeskNow V
     pub walks : Walks first stops end looks
     pub looked : HasLooked d looks at
@@ -140,7 +141,7 @@ module _ {V : Type 0} where
 
   -- each: the cell was loaded, and all nodes from there on visited
   pub record WalksOver (d : DeskNow V) (c : Cell) (told : List ℕ) (e : DeskNow V) : Type 0 where
-    pub first : Handle
+    pub first : NumberedHandle
     pub loaded : DeskNow V
     pub loads : AddsEvent d (Load c first) loaded
     pub walks : WalksFrom loaded first told e

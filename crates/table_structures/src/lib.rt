@@ -1,4 +1,5 @@
-//! A stack, observers and trees of nodes, for the handle tables of one domain. Their calls ask nothing of their callers.
+//! A stack, observers and trees of nodes, for the handle tables of one domain. Their calls ask nothing of their
+//! callers.
 #![tactic(auto)]
 
 ghost use Rattle.std.specs.Prelude.{◌≡◌};

@@ -3,7 +3,7 @@
 //! What a thread writes into a value that it borrows no clause says, so a job goes to its thread by value and comes
 //! back as the thread's result, by which its promise is kept. A started job waits for a signal: it is given once all
 //! are started, and says that they run; or where one can't be started, and says that none does.
-ghost use Rattle.std.specs.Prelude.{◌≡◌, ◌≤◌, ℕ, List, [], length, reverse, vec_capacity};
+ghost use Rattle.std.specs.Prelude.{◌≡◌, ◌≤◌, ℕ, All, List, [], length, reverse, vec_capacity};
 ghost use Rattle.std.specs.List.{AllZip};
 ghost use Rattle.handle_table.specs.Jobs.{IsStarted, Keeps};
 
@@ -14,11 +14,14 @@ use std::snapshot::Snapshot;
 use std::sync::{OnceLock, OnceToken, Wait};
 use std::thread::{self, Promise, PromisedHandle, Scope, Threads};
 
-/// What a thread does with a value of its own.
+/// What a thread does with a value of its own, and what it needs of that.
 pub(crate) trait Job<R> {
+    ghost needs: { Self → Type 0 };
+
     ghost does: { Self → Self → Type 0 };
 
     fn run(&mut self, rt: &R)
+        requires needs { needs self.old }
         ensures { does self.old self.new };
 }
 
@@ -73,6 +76,7 @@ fn run_told<'g, J: Job<R>, R: Wait>(
     signal: &'g OnceLock<bool>,
     job: ManuallyDrop<J>,
 ) -> Back<'g, J>
+    requires needs { J.needs job.value }
     ensures { (result.all.of ≡ signal.now.id) × Keeps J.does result.all.value job.value result.job.value }
 {
     let mut job = ManuallyDrop::into_inner(job);
@@ -93,6 +97,7 @@ fn start<'g, 's, E, J: Job<R> + Send + 's, R: Wait + Sync>(
 ) -> Started<'g, J, R>
 where
     'g: 's,
+    requires needs { J.needs job }
     ensures { IsStarted J.does signal.now.id job result }
 {
     let before = Before {
@@ -132,6 +137,7 @@ fn start_all<'g, 's, E, J: Job<R> + Send + 's, R: Wait + Sync>(
 where
     'g: 's,
     requires room { (started.old.items ≡ []) × (length jobs.old.items ≤ vec_capacity started.old) }
+    requires needs { All J.needs jobs.old.items }
     ensures jobs { (went : List J) × (jobs.old.items ≡ reverse went)
         × AllZip (IsStarted J.does signal.now.id) went started.new.items }
     ensures none { (jobs.new.items ≡ []) × (vec_capacity jobs.new ≡ vec_capacity jobs.old) }
@@ -179,6 +185,7 @@ fn run_in<'g, 's, E, J: Job<R> + Send + 's, R: Threads + Wait + Sync>(
 where
     'g: 's,
     requires room { (jobs.started.items ≡ []) × (length jobs.jobs.items ≤ vec_capacity jobs.started) }
+    requires needs { All J.needs jobs.jobs.items }
     ensures { AllZip (Keeps J.does result.0) jobs.entry.jobs.items result.1.items }
 {
     let Jobs {
@@ -201,6 +208,7 @@ fn in_scope<'g, R: Threads + Wait + Sync, J: Job<R> + Send>(
     jobs: Jobs<'g, J, R>,
 ) -> (bool, Vec<J>)
     requires room { (jobs.started.items ≡ []) × (length jobs.jobs.items ≤ vec_capacity jobs.started) }
+    requires needs { All J.needs jobs.jobs.items }
     ensures { AllZip (Keeps J.does result.0) jobs.entry.jobs.items result.1.items }
 {
     let held = carried(jobs);
@@ -209,7 +217,8 @@ fn in_scope<'g, R: Threads + Wait + Sync, J: Job<R> + Send>(
         rt,
         move |scope| -> (bool, Vec<J>)
             requires { (held.value.started.items ≡ [])
-                × (length held.value.jobs.items ≤ vec_capacity held.value.started) }
+                × (length held.value.jobs.items ≤ vec_capacity held.value.started)
+                × All J.needs held.value.jobs.items }
             ensures { AllZip (Keeps J.does result.0) held.entry.value.jobs.items result.1.items }
         { run_in(scope, ManuallyDrop::into_inner(held)) },
     )
@@ -221,6 +230,7 @@ pub(crate) fn run_all<R: Threads + Wait + Sync, J: Job<R> + Send>(
     alloc: Global,
     jobs: Vec<J>,
 ) -> (bool, Vec<J>)
+    requires needs { All J.needs jobs.items }
     ensures { AllZip (Keeps J.does result.0) jobs.items result.1.items }
 {
     let Ok(started) = Vec::with_capacity(alloc, jobs.len()) else {

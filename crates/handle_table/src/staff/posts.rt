@@ -1,5 +1,5 @@
 //! Workers at their posts.
-ghost use Rattle.std.specs.Prelude.{◌≡◌, ◌≤◌, [], false, length, map, reverse, true, vec_capacity};
+ghost use Rattle.std.specs.Prelude.{◌≡◌, ◌≤◌, [], All, false, length, map, reverse, true, vec_capacity};
 ghost use Rattle.handle_table.specs.Staffs.{EachDoes};
 
 use crate::staff::Work;
@@ -59,6 +59,8 @@ fn dismiss<'d, V: Drop, H: Home, W>(
 impl<'d, V: Drop + Send, H: Home + Send + Sync, R: Threads + Wait + Sync, W: Work<V, R> + Send> Job<
     R,
 > for Post<'d, V, H, W> {
+    ghost needs = { λ p. W.needs p.worker p.table };
+
     ghost does = { λ p q. W.does p.worker p.table q.worker q.table };
 
     fn run(&mut self, rt: &R) {
@@ -67,7 +69,7 @@ impl<'d, V: Drop + Send, H: Home + Send + Sync, R: Threads + Wait + Sync, W: Wor
 }
 
 /// Each worker works, in a thread with the table of its number, or none, where memory is refused for one: then whether
-/// all worked is false.
+/// all worked is false. Each has what it needs in any of these tables.
 pub(crate) fn worked<
     'd,
     V: Drop + Send,
@@ -76,6 +78,7 @@ pub(crate) fn worked<
     W: Work<V, R> + Send,
 >(rt: &R, alloc: Global, tables: &mut Vec<HandleTable<'d, V, H>>, workers: &mut Vec<W>) -> bool
     requires many { length tables.old.items ≡ length workers.old.items }
+    requires needs { All (λ w. All (W.needs w) tables.old.items) workers.old.items }
     ensures worked { result ≡ true
         → EachDoes W.does workers.old.items tables.old.items workers.new.items tables.new.items }
     ensures same { result ≡ false

@@ -4,7 +4,7 @@ ghost use Rattle.std.specs.Prelude.{IsTrue, MatchOption};
 ghost use Rattle.control_word.specs.Handles.{object_of};
 ghost use Rattle.control_word.specs.declared.model.event.Cell.{Cell};
 ghost use Rattle.control_word.specs.declared.model.event.Cell.TheVariants.{Member};
-ghost use Rattle.control_word.specs.declared.model.handle.Handle.{Handle};
+ghost use Rattle.control_word.specs.declared.model.handle.NumberedHandle.{NumberedHandle};
 ghost use Rattle.control_block.specs.Desks.{DeskNow, IsSameDesk, allowance_of};
 ghost use Rattle.control_block.specs.Own.{Does};
 ghost use Rattle.shared_handle.specs.Endings.{IsWithin};
@@ -52,16 +52,16 @@ fn find<V: Drop, R: Wait>(
 ) -> Option<Shared>
     requires carries { Carries domain.now desk.old pile.old }
     requires empty { pile.old.endings.items ≡ [] }
-    requires bag { (base : List Handle) × HasHands base [] desk.old × IsOpenBy base desk.old.shape at.now.site }
+    requires bag { (base : List NumberedHandle) × HasHands base [] desk.old × IsOpenBy base desk.old.shape at.now.site }
     requires room { desk.old.held + 1 < allowance_of desk.old }
     ensures carries { Carries domain.now desk.new pile.new }
     ensures others { KeepsOthers desk.old pile.old.endings.items desk.new pile.new.endings.items }
     ensures order { EndsInOrder desk.old pile.old.endings.items desk.new pile.new.endings.items }
     ensures none { pile.new.endings.items ≡ [] }
     ensures desk { IsSameDesk desk.old desk.new }
-    ensures bag { (base : List Handle) → HasHands base [] desk.old
+    ensures bag { (base : List NumberedHandle) → HasHands base [] desk.old
         → MatchOption result (HasHands base [] desk.new) (λ h. HasHands base (h ∷ []) desk.new) }
-    ensures latest { (base : List Handle) → HasHands base [] desk.old → KeepsThese base desk.old desk.new }
+    ensures latest { (base : List NumberedHandle) → HasHands base [] desk.old → KeepsThese base desk.old desk.new }
     ensures held { MatchOption result (desk.new.held ≡ desk.old.held) (λ h. desk.new.held ≡ desk.old.held + 1) }
     ensures own { IsFound desk.old (shared_cell desk.old at.now.site) result desk.new }
 {
@@ -88,7 +88,7 @@ fn skip<V: Drop, R: Wait>(
     requires carries { Carries domain.now desk.old pile.old }
     requires empty { pile.old.endings.items ≡ [] }
     requires node { IsWithin node.block node.place }
-    requires bag { (base : List Handle) × HasHands base (node ∷ []) desk.old
+    requires bag { (base : List NumberedHandle) × HasHands base (node ∷ []) desk.old
         × IsOpenBy base desk.old.shape at.now.site }
     requires room { desk.old.held + 2 < allowance_of desk.old }
     ensures carries { Carries domain.now desk.new pile.new }
@@ -96,8 +96,8 @@ fn skip<V: Drop, R: Wait>(
     ensures order { EndsInOrder desk.old pile.old.endings.items desk.new pile.new.endings.items }
     ensures none { pile.new.endings.items ≡ [] }
     ensures desk { IsSameDesk desk.old desk.new }
-    ensures bag { (base : List Handle) → HasHands base (node ∷ []) desk.old → HasHands base [] desk.new }
-    ensures latest { (base : List Handle) → HasHands base (node ∷ []) desk.old
+    ensures bag { (base : List NumberedHandle) → HasHands base (node ∷ []) desk.old → HasHands base [] desk.new }
+    ensures latest { (base : List NumberedHandle) → HasHands base (node ∷ []) desk.old
         → KeepsThese base desk.old desk.new }
     ensures held { desk.new.held + 1 ≡ desk.old.held }
     ensures own { MaySkip desk.old (shared_cell desk.old at.now.site) (node_in desk.old node) result desk.new }
@@ -136,7 +136,7 @@ fn try_cut<V: Drop, R: Wait>(
     requires carries { Carries domain.now desk.old pile.old }
     requires empty { pile.old.endings.items ≡ [] }
     requires node { IsWithin node.now.block node.now.place }
-    requires bag { (base : List Handle) × HasHands base [] desk.old × IsOpenBy base desk.old.shape at.now.site
+    requires bag { (base : List NumberedHandle) × HasHands base [] desk.old × IsOpenBy base desk.old.shape at.now.site
         × Lists node.now.block node.now.place base }
     requires room { desk.old.held + 3 < allowance_of desk.old }
     ensures carries { Carries domain.now desk.new pile.new }
@@ -144,9 +144,9 @@ fn try_cut<V: Drop, R: Wait>(
     ensures order { EndsInOrder desk.old pile.old.endings.items desk.new pile.new.endings.items }
     ensures none { pile.new.endings.items ≡ [] }
     ensures desk { IsSameDesk desk.old desk.new }
-    ensures bag { (base : List Handle) → HasHands base [] desk.old
+    ensures bag { (base : List NumberedHandle) → HasHands base [] desk.old
         → MatchOption result (HasHands base [] desk.new) (λ s. HandsSought base s desk.new) }
-    ensures latest { (base : List Handle) → HasHands base [] desk.old → KeepsThese base desk.old desk.new }
+    ensures latest { (base : List NumberedHandle) → HasHands base [] desk.old → KeepsThese base desk.old desk.new }
     ensures held { MatchOption result (desk.new.held ≡ desk.old.held) (λ s. HeldSought desk.old s desk.new) }
     ensures own { MatchOption result (Does (PutsOnly in_no_cell) desk.old desk.new)
         (λ s. IsSought desk.old (shared_cell desk.old at.now.site)
@@ -178,7 +178,7 @@ fn cut<V: Drop, R: Wait>(
     requires carries { Carries domain.now desk.old pile.old }
     requires empty { pile.old.endings.items ≡ [] }
     requires node { IsWithin node.now.block node.now.place }
-    requires bag { (base : List Handle) × HasHands base [] desk.old × IsOpenBy base desk.old.shape at.now.site
+    requires bag { (base : List NumberedHandle) × HasHands base [] desk.old × IsOpenBy base desk.old.shape at.now.site
         × Lists node.now.block node.now.place base }
     requires room { desk.old.held + 3 < allowance_of desk.old }
     ensures carries { Carries domain.now desk.new pile.new }
@@ -186,8 +186,8 @@ fn cut<V: Drop, R: Wait>(
     ensures order { EndsInOrder desk.old pile.old.endings.items desk.new pile.new.endings.items }
     ensures none { pile.new.endings.items ≡ [] }
     ensures desk { IsSameDesk desk.old desk.new }
-    ensures bag { (base : List Handle) → HasHands base [] desk.old → HandsSought base result desk.new }
-    ensures latest { (base : List Handle) → HasHands base [] desk.old → KeepsThese base desk.old desk.new }
+    ensures bag { (base : List NumberedHandle) → HasHands base [] desk.old → HandsSought base result desk.new }
+    ensures latest { (base : List NumberedHandle) → HasHands base [] desk.old → KeepsThese base desk.old desk.new }
     ensures held { HeldSought desk.old result desk.new }
     ensures own { IsSought desk.old (shared_cell desk.old at.now.site)
         (object_of (node_in desk.old node.now)) result desk.new }
@@ -215,7 +215,7 @@ fn cut_below<V: Drop, R: Wait>(
     requires empty { pile.old.endings.items ≡ [] }
     requires first { IsWithin first.block first.place }
     requires node { IsWithin node.now.block node.now.place }
-    requires bag { (base : List Handle) × HasHands base (first ∷ []) desk.old
+    requires bag { (base : List NumberedHandle) × HasHands base (first ∷ []) desk.old
         × Lists node.now.block node.now.place base }
     requires room { desk.old.held + 3 < allowance_of desk.old }
     ensures carries { Carries domain.now desk.new pile.new }
@@ -223,8 +223,8 @@ fn cut_below<V: Drop, R: Wait>(
     ensures order { EndsInOrder desk.old pile.old.endings.items desk.new pile.new.endings.items }
     ensures none { pile.new.endings.items ≡ [] }
     ensures desk { IsSameDesk desk.old desk.new }
-    ensures bag { (base : List Handle) → HasHands base (first ∷ []) desk.old → HasHands base [] desk.new }
-    ensures latest { (base : List Handle) → HasHands base (first ∷ []) desk.old
+    ensures bag { (base : List NumberedHandle) → HasHands base (first ∷ []) desk.old → HasHands base [] desk.new }
+    ensures latest { (base : List NumberedHandle) → HasHands base (first ∷ []) desk.old
         → KeepsThese base desk.old desk.new }
     ensures held { desk.new.held + 1 ≡ desk.old.held }
     ensures own { (d : DeskNow V) (c : Cell) (bs : List ℕ)
@@ -260,7 +260,8 @@ pub(crate) fn cut_child<V: Drop, R: Wait>(
     requires empty { pile.old.endings.items ≡ [] }
     requires parent { IsWithin parent.now.block parent.now.place }
     requires node { IsWithin node.now.block node.now.place }
-    requires bag { (base : List Handle) × HasHands base [] desk.old × Lists parent.now.block parent.now.place base
+    requires bag { (base : List NumberedHandle) × HasHands base [] desk.old
+        × Lists parent.now.block parent.now.place base
         × Lists node.now.block node.now.place base }
     requires room { desk.old.held + 4 < allowance_of desk.old }
     ensures carries { Carries domain.now desk.new pile.new }
@@ -268,8 +269,8 @@ pub(crate) fn cut_child<V: Drop, R: Wait>(
     ensures order { EndsInOrder desk.old pile.old.endings.items desk.new pile.new.endings.items }
     ensures none { pile.new.endings.items ≡ [] }
     ensures desk { IsSameDesk desk.old desk.new }
-    ensures bag { (base : List Handle) → HasHands base [] desk.old → HasHands base [] desk.new }
-    ensures latest { (base : List Handle) → HasHands base [] desk.old → KeepsThese base desk.old desk.new }
+    ensures bag { (base : List NumberedHandle) → HasHands base [] desk.old → HasHands base [] desk.new }
+    ensures latest { (base : List NumberedHandle) → HasHands base [] desk.old → KeepsThese base desk.old desk.new }
     ensures held { desk.new.held ≡ desk.old.held }
     ensures own { (passed : List ℕ) × Seeks desk.old (Member (object_of (node_in desk.old parent.now)) 0)
         (object_of (node_in desk.old node.now)) passed result desk.new }

@@ -1,7 +1,7 @@
 //! Tries to take the top node.
 ghost use Rattle.std.specs.Prelude.{◌≡◌, ◌<◌, ◌+◌, List, [], ◌∷◌, MatchOption};
 ghost use Rattle.control_word.specs.declared.model.event.Cell.TheVariants.{Free};
-ghost use Rattle.control_word.specs.declared.model.handle.Handle.{Handle};
+ghost use Rattle.control_word.specs.declared.model.handle.NumberedHandle.{NumberedHandle};
 ghost use Rattle.control_block.specs.Desks.{DeskNow, IsSameDesk, allowance_of};
 ghost use Rattle.scene_structures.specs.Hands.{HasHands};
 ghost use Rattle.shared_handle.specs.Piles.{Carries};
@@ -39,7 +39,7 @@ fn try_pop<V: Drop, R: Wait>(
 ) -> Tried
     requires carries { Carries domain.now desk.old pile.old }
     requires cell { cell < desk.old.shape.shared_cells }
-    requires bag { (base : List Handle) × HasHands base (top ∷ []) desk.old }
+    requires bag { (base : List NumberedHandle) × HasHands base (top ∷ []) desk.old }
     requires room { desk.old.held + 2 < allowance_of desk.old }
     requires empty { pile.old.endings.items ≡ [] }
     ensures carries { Carries domain.now desk.new pile.new }
@@ -47,7 +47,7 @@ fn try_pop<V: Drop, R: Wait>(
     ensures order { EndsInOrder desk.old pile.old.endings.items desk.new pile.new.endings.items }
     ensures none { pile.new.endings.items ≡ [] }
     ensures desk { IsSameDesk desk.old desk.new }
-    ensures bag { (base : List Handle) → HasHands base (top ∷ []) desk.old → HandsAfter base result desk.new }
+    ensures bag { (base : List NumberedHandle) → HasHands base (top ∷ []) desk.old → HandsAfter base result desk.new }
     ensures held { HeldAfter desk.old result desk.new }
     ensures own { (d : DeskNow V) → Looks d (Free cell) top desk.old → Tries d (Free cell) result desk.new }
 {
@@ -84,7 +84,7 @@ pub(crate) fn take<V: Drop, R: Wait>(
 ) -> Option<Shared>
     requires carries { Carries domain.now desk.old pile.old }
     requires cell { cell < desk.old.shape.shared_cells }
-    requires bag { (base : List Handle) × HasHands base (first ∷ []) desk.old }
+    requires bag { (base : List NumberedHandle) × HasHands base (first ∷ []) desk.old }
     requires room { desk.old.held + 2 < allowance_of desk.old }
     requires empty { pile.old.endings.items ≡ [] }
     ensures carries { Carries domain.now desk.new pile.new }
@@ -92,7 +92,7 @@ pub(crate) fn take<V: Drop, R: Wait>(
     ensures order { EndsInOrder desk.old pile.old.endings.items desk.new pile.new.endings.items }
     ensures none { pile.new.endings.items ≡ [] }
     ensures desk { IsSameDesk desk.old desk.new }
-    ensures bag { (base : List Handle) → HasHands base (first ∷ []) desk.old
+    ensures bag { (base : List NumberedHandle) → HasHands base (first ∷ []) desk.old
         → MatchOption result (HasHands base [] desk.new) (λ h. HasHands base (h ∷ []) desk.new) }
     ensures held { MatchOption result (desk.new.held + 1 ≡ desk.old.held) (λ h. desk.new.held ≡ desk.old.held) }
     ensures own { (d : DeskNow V) → Looks d (Free cell) first desk.old

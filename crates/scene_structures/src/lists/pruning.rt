@@ -4,7 +4,7 @@ ghost use Rattle.std.specs.Prelude.{IfSome, MatchOption, None, Some};
 ghost use Rattle.control_word.specs.Handles.{object_of};
 ghost use Rattle.control_word.specs.declared.model.event.Cell.{Cell};
 ghost use Rattle.control_word.specs.declared.model.event.Cell.TheVariants.{Free};
-ghost use Rattle.control_word.specs.declared.model.handle.Handle.{Handle};
+ghost use Rattle.control_word.specs.declared.model.handle.NumberedHandle.{NumberedHandle};
 ghost use Rattle.control_block.specs.Desks.{Belongs, DeskNow, IsSameDesk, KeepsEndings, allowance_of, bag_of};
 ghost use Rattle.control_block.specs.Desks.{endings_of};
 ghost use Rattle.shared_handle.specs.Endings.{IsWithin};
@@ -64,15 +64,15 @@ fn look_in<V: Drop, R: Wait>(
 ) -> Front
     requires carries { Carries domain.now desk.old pile.old }
     requires empty { pile.old.endings.items ≡ [] }
-    requires bag { (base : List Handle) × HasHands base [] desk.old × IsOpenBy base desk.old.shape at.now.site }
+    requires bag { (base : List NumberedHandle) × HasHands base [] desk.old × IsOpenBy base desk.old.shape at.now.site }
     requires room { desk.old.held + 3 < allowance_of desk.old }
     ensures carries { Carries domain.now desk.new pile.new }
     ensures others { KeepsOthers desk.old pile.old.endings.items desk.new pile.new.endings.items }
     ensures order { EndsInOrder desk.old pile.old.endings.items desk.new pile.new.endings.items }
     ensures none { pile.new.endings.items ≡ [] }
     ensures desk { IsSameDesk desk.old desk.new }
-    ensures bag { (base : List Handle) → HasHands base [] desk.old → HandsFront base result desk.new }
-    ensures latest { (base : List Handle) → HasHands base [] desk.old → KeepsThese base desk.old desk.new }
+    ensures bag { (base : List NumberedHandle) → HasHands base [] desk.old → HandsFront base result desk.new }
+    ensures latest { (base : List NumberedHandle) → HasHands base [] desk.old → KeepsThese base desk.old desk.new }
     ensures held { HeldFront desk.old result desk.new }
     ensures own { IsFront desk.old (shared_cell desk.old at.now.site) result desk.new }
 {
@@ -102,7 +102,7 @@ fn pass<V: Drop, R: Wait>(
     requires carries { Carries domain.now desk.old pile.old }
     requires empty { pile.old.endings.items ≡ [] }
     requires node { IsWithin node.block node.place }
-    requires bag { (base : List Handle) × HasHands base (node ∷ []) desk.old
+    requires bag { (base : List NumberedHandle) × HasHands base (node ∷ []) desk.old
         × IsOpenBy base desk.old.shape at.now.site }
     requires room { desk.old.held + 2 < allowance_of desk.old }
     ensures carries { Carries domain.now desk.new pile.new }
@@ -110,8 +110,8 @@ fn pass<V: Drop, R: Wait>(
     ensures order { EndsInOrder desk.old pile.old.endings.items desk.new pile.new.endings.items }
     ensures none { pile.new.endings.items ≡ [] }
     ensures desk { IsSameDesk desk.old desk.new }
-    ensures bag { (base : List Handle) → HasHands base (node ∷ []) desk.old → HasHands base [] desk.new }
-    ensures latest { (base : List Handle) → HasHands base (node ∷ []) desk.old
+    ensures bag { (base : List NumberedHandle) → HasHands base (node ∷ []) desk.old → HasHands base [] desk.new }
+    ensures latest { (base : List NumberedHandle) → HasHands base (node ∷ []) desk.old
         → KeepsThese base desk.old desk.new }
     ensures held { desk.new.held + 1 ≡ desk.old.held }
     ensures own { PassesNode desk.old (shared_cell desk.old at.now.site) (object_of (node_in desk.old node)) desk.new }
@@ -138,16 +138,16 @@ fn clear_front<V: Drop, R: Wait>(
 ) -> (u32, Option<Shared>)
     requires carries { Carries domain.now desk.old pile.old }
     requires empty { pile.old.endings.items ≡ [] }
-    requires bag { (base : List Handle) × HasHands base [] desk.old × IsOpenBy base desk.old.shape at.now.site }
+    requires bag { (base : List NumberedHandle) × HasHands base [] desk.old × IsOpenBy base desk.old.shape at.now.site }
     requires room { desk.old.held + 3 < allowance_of desk.old }
     ensures carries { Carries domain.now desk.new pile.new }
     ensures others { KeepsOthers desk.old pile.old.endings.items desk.new pile.new.endings.items }
     ensures order { EndsInOrder desk.old pile.old.endings.items desk.new pile.new.endings.items }
     ensures none { pile.new.endings.items ≡ [] }
     ensures desk { IsSameDesk desk.old desk.new }
-    ensures bag { (base : List Handle) → HasHands base [] desk.old
+    ensures bag { (base : List NumberedHandle) → HasHands base [] desk.old
         → MatchOption result.1 (HasHands base [] desk.new) (λ h. HasHands base (h ∷ []) desk.new) }
-    ensures latest { (base : List Handle) → HasHands base [] desk.old → KeepsThese base desk.old desk.new }
+    ensures latest { (base : List NumberedHandle) → HasHands base [] desk.old → KeepsThese base desk.old desk.new }
     ensures held { MatchOption result.1 (desk.new.held ≡ desk.old.held) (λ h. desk.new.held ≡ desk.old.held + 1) }
     ensures node { IfSome result.1 (λ h. IsWithin h.block h.place) }
     ensures own { (n : ℕ) × (result.0 ≡ n % 2 ^ 32)
@@ -176,14 +176,14 @@ fn clear_below<V: Drop, R: Wait>(
     requires carries { Carries domain.now desk.old pile.old }
     requires empty { pile.old.endings.items ≡ [] }
     requires node { IsWithin first.block first.place }
-    requires bag { (base : List Handle) × HasHands base (first ∷ []) desk.old }
+    requires bag { (base : List NumberedHandle) × HasHands base (first ∷ []) desk.old }
     requires room { desk.old.held + 3 < allowance_of desk.old }
     ensures carries { Carries domain.now desk.new pile.new }
     ensures others { KeepsOthers desk.old pile.old.endings.items desk.new pile.new.endings.items }
     ensures order { EndsInOrder desk.old pile.old.endings.items desk.new pile.new.endings.items }
     ensures none { pile.new.endings.items ≡ [] }
     ensures desk { IsSameDesk desk.old desk.new }
-    ensures bag { (base : List Handle) → HasHands base (first ∷ []) desk.old → HasHands base [] desk.new }
+    ensures bag { (base : List NumberedHandle) → HasHands base (first ∷ []) desk.old → HasHands base [] desk.new }
     ensures held { desk.new.held + 1 ≡ desk.old.held }
     ensures own { (d : DeskNow V) (c : Cell) (os : List ℕ) (a : ℕ) → Prunes d c os a (Some first) desk.old
         → (n : ℕ) × (result ≡ n % 2 ^ 32) × ((kept : List ℕ) × Prunes d c kept (a + n) None desk.new) }
@@ -216,14 +216,14 @@ pub(crate) fn clear_list<V: Drop, R: Wait>(
     requires carries { Carries domain.now desk.old pile.old }
     requires empty { pile.old.endings.items ≡ [] }
     requires cell { cell < desk.old.shape.shared_cells }
-    requires bag { (base : List Handle) × HasHands base [] desk.old }
+    requires bag { (base : List NumberedHandle) × HasHands base [] desk.old }
     requires room { desk.old.held + 5 < allowance_of desk.old }
     ensures carries { Carries domain.now desk.new pile.new }
     ensures others { KeepsOthers desk.old pile.old.endings.items desk.new pile.new.endings.items }
     ensures order { EndsInOrder desk.old pile.old.endings.items desk.new pile.new.endings.items }
     ensures none { pile.new.endings.items ≡ [] }
     ensures desk { IsSameDesk desk.old desk.new }
-    ensures bag { (base : List Handle) → HasHands base [] desk.old → HasHands base [] desk.new }
+    ensures bag { (base : List NumberedHandle) → HasHands base [] desk.old → HasHands base [] desk.new }
     ensures held { desk.new.held ≡ desk.old.held }
     ensures own { (n : ℕ) × (result ≡ n % 2 ^ 32)
         × ((kept : List ℕ) × Prunes desk.old (Free cell) kept n None desk.new) }

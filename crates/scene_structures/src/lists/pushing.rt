@@ -1,7 +1,7 @@
 //! Tries to put a node in front of what a shared cell holds.
 ghost use Rattle.std.specs.Prelude.{◌≡◌, ◌<◌, ◌+◌, List, [], ◌∷◌, MatchOption, IfSome};
 ghost use Rattle.control_word.specs.Handles.{object_of};
-ghost use Rattle.control_word.specs.declared.model.handle.Handle.{Handle};
+ghost use Rattle.control_word.specs.declared.model.handle.NumberedHandle.{NumberedHandle};
 ghost use Rattle.control_word.specs.declared.model.handle.Kind.TheVariants.{Owner};
 ghost use Rattle.control_block.specs.CellCalls.{handle_in};
 ghost use Rattle.control_block.specs.Desks.{IsSameDesk, allowance_of, bag_of};
@@ -72,7 +72,7 @@ fn try_push<V: Drop, R: Wait>(
 ) -> Option<Attempt>
     requires carries { Carries domain.now desk.old pile.old }
     requires node { IsWithin attempt.node.block attempt.node.place }
-    requires bag { (base : List Handle) × HasHands base (attempt.top ∷ attempt.node ∷ []) desk.old
+    requires bag { (base : List NumberedHandle) × HasHands base (attempt.top ∷ attempt.node ∷ []) desk.old
         × IsOpenBy base desk.old.shape at.now.site }
     requires room { desk.old.held + 2 < allowance_of desk.old }
     ensures carries { Carries domain.now desk.new pile.new }
@@ -81,9 +81,9 @@ fn try_push<V: Drop, R: Wait>(
     ensures none { pile.new.endings.items ≡ [] }
     ensures desk { IsSameDesk desk.old desk.new }
     ensures node { IfSome result (λ a. (a.node ≡ attempt.node) × SameNode desk.old attempt.node desk.new) }
-    ensures bag { (base : List Handle) → HasHands base (attempt.top ∷ attempt.node ∷ []) desk.old
+    ensures bag { (base : List NumberedHandle) → HasHands base (attempt.top ∷ attempt.node ∷ []) desk.old
         → MatchOption result (HasHands base [] desk.new) (λ a. HasHands base (a.top ∷ a.node ∷ []) desk.new) }
-    ensures latest { (base : List Handle) → HasHands base (attempt.top ∷ attempt.node ∷ []) desk.old
+    ensures latest { (base : List NumberedHandle) → HasHands base (attempt.top ∷ attempt.node ∷ []) desk.old
         → KeepsThese base desk.old desk.new }
     ensures held { MatchOption result (desk.new.held + 2 ≡ desk.old.held) (λ a. desk.new.held ≡ desk.old.held) }
     ensures own { MatchOption result
@@ -123,7 +123,7 @@ pub(crate) fn raise<V: Drop, R: Wait>(
 )
     requires carries { Carries domain.now desk.old pile.old }
     requires node { IsWithin first.node.block first.node.place }
-    requires bag { (base : List Handle) × HasHands base (first.top ∷ first.node ∷ []) desk.old
+    requires bag { (base : List NumberedHandle) × HasHands base (first.top ∷ first.node ∷ []) desk.old
         × IsOpenBy base desk.old.shape at.now.site }
     requires room { desk.old.held + 2 < allowance_of desk.old }
     ensures carries { Carries domain.now desk.new pile.new }
@@ -131,9 +131,9 @@ pub(crate) fn raise<V: Drop, R: Wait>(
     ensures order { EndsInOrder desk.old pile.old.endings.items desk.new pile.new.endings.items }
     ensures none { pile.new.endings.items ≡ [] }
     ensures desk { IsSameDesk desk.old desk.new }
-    ensures bag { (base : List Handle) → HasHands base (first.top ∷ first.node ∷ []) desk.old
+    ensures bag { (base : List NumberedHandle) → HasHands base (first.top ∷ first.node ∷ []) desk.old
         → HasHands base [] desk.new }
-    ensures latest { (base : List Handle) → HasHands base (first.top ∷ first.node ∷ []) desk.old
+    ensures latest { (base : List NumberedHandle) → HasHands base (first.top ∷ first.node ∷ []) desk.old
         → KeepsThese base desk.old desk.new }
     ensures held { desk.new.held + 2 ≡ desk.old.held }
     ensures own { Rises desk.old (shared_cell desk.old at.now.site) (node_in desk.old first.node) desk.new }

@@ -1,8 +1,8 @@
 //! A walk over the nodes of a cell, each of which may have a subject.
-ghost use Rattle.std.specs.Prelude.{◌≡◌, ◌+◌, ◌<◌, ℕ, List, [], ◌∷◌, ◌++◌};
+ghost use Rattle.std.specs.Prelude.{◌≡◌, ◌+◌, ◌<◌, ℕ, List, [], ◌∷◌, ◌++◌, true, Some};
 ghost use Rattle.control_word.specs.declared.model.event.Event.{Event};
 ghost use Rattle.control_word.specs.declared.model.event.Event.TheVariants.{Load};
-ghost use Rattle.control_word.specs.declared.model.handle.Handle.{Handle};
+ghost use Rattle.control_word.specs.declared.model.handle.NumberedHandle.{NumberedHandle};
 ghost use Rattle.control_word.specs.declared.model.handle.Kind.TheVariants.{Owner};
 ghost use Rattle.control_block.specs.Desks.{IsSameDesk, allowance_of, bag_of};
 ghost use Rattle.control_block.specs.CellCalls.{HoldsHandle};
@@ -16,13 +16,22 @@ ghost use Rattle.scene_structures.specs.Orders.{EndsInOrder};
 
 use crate::tree::endings::let_go;
 use atomic_cells::{SharedAt, SharedMember, WeakAt};
+use control_block::calls;
 use control_block::desk::Desk;
 use control_block::domain::Domain;
 use control_word::Place;
 use shared_handle::{Pile, Shared, alias, lock, read, release_weak};
 use std::sync::Wait;
 
-/// Field 0 of the object that the handle owns, or none where it is empty.
+/// Whether the handle points there.
+fn is_at(owner: &Shared, place: Place) -> bool
+    ensures { result ≡ true → owner.now.place ≡ Some place }
+{
+    owner.place() == Some(place)
+}
+
+/// Field 0 of the object that the handle owns, or none where it is empty. An owner that points elsewhere lends another
+/// for it.
 fn first_field<V: Drop, R: Wait>(
     rt: &R,
     domain: &Domain<V>,
@@ -47,7 +56,11 @@ fn first_field<V: Drop, R: Wait>(
     let Some(block) = owner.block() else {
         return None;
     };
-    let Ok(first) = alias(domain, desk, owner, Some(Place { block, field: 0 })) else {
+    let start = Place { block, field: 0 };
+    if is_at(owner, start) {
+        return Some(calls::read(domain, desk, start));
+    }
+    let Ok(first) = alias(domain, desk, owner, Some(start)) else {
         unreachable!()
     };
     let Ok(told) = read(domain, desk, &first) else {
@@ -77,7 +90,7 @@ fn ask<V: Drop, R: Wait>(
     ensures held { desk.new.held ≡ desk.old.held }
     ensures desk { IsSameDesk desk.old desk.new }
     ensures latest { KeepsHeld desk.old desk.new }
-    ensures own { (h : Handle) × (asked : List (Event V)) × IsAsked h result asked
+    ensures own { (h : NumberedHandle) × (asked : List (Event V)) × IsAsked h result asked
         × HasLooked desk.old (asked ++ Load (weak_cell desk.old up.now.site) h ∷ []) desk.new }
 {
     let Ok(weak) = up.load(rt, domain, desk) else {
@@ -113,14 +126,15 @@ fn visit<V: Drop, R: Wait>(
     requires carries { Carries domain.now desk.old pile.old }
     requires empty { pile.old.endings.items ≡ [] }
     requires holds { HoldsHandle desk.old Owner node.block node.place }
-    requires bag { (base : List Handle) × HasHands base (node ∷ []) desk.old }
+    requires bag { (base : List NumberedHandle) × HasHands base (node ∷ []) desk.old }
     requires room { desk.old.held + 3 < allowance_of desk.old }
     ensures carries { Carries domain.now desk.new pile.new }
     ensures others { KeepsOthers desk.old pile.old.endings.items desk.new pile.new.endings.items }
     ensures order { EndsInOrder desk.old pile.old.endings.items desk.new pile.new.endings.items }
     ensures none { pile.new.endings.items ≡ [] }
     ensures desk { IsSameDesk desk.old desk.new }
-    ensures bag { (base : List Handle) → HasHands base (node ∷ []) desk.old → HandsVisited base result desk.new }
+    ensures bag { (base : List NumberedHandle) → HasHands base (node ∷ []) desk.old
+        → HandsVisited base result desk.new }
     ensures held { HeldVisited desk.old result desk.new }
     ensures own { IsNodeVisit desk.old (node_in desk.old node) result desk.new }
 {
@@ -154,7 +168,7 @@ pub(crate) fn walk<V: Drop, R: Wait, F: FnMut(u64)>(
 )
     requires carries { Carries domain.now desk.old pile.old }
     requires empty { pile.old.endings.items ≡ [] }
-    requires bag { (base : List Handle) × HasHands base (first ∷ []) desk.old }
+    requires bag { (base : List NumberedHandle) × HasHands base (first ∷ []) desk.old }
     requires room { desk.old.held + 3 < allowance_of desk.old }
     requires callable { F.IsAlwaysCallable tell }
     ensures carries { Carries domain.now desk.new pile.new }
@@ -162,7 +176,7 @@ pub(crate) fn walk<V: Drop, R: Wait, F: FnMut(u64)>(
     ensures order { EndsInOrder desk.old pile.old.endings.items desk.new pile.new.endings.items }
     ensures none { pile.new.endings.items ≡ [] }
     ensures desk { IsSameDesk desk.old desk.new }
-    ensures bag { (base : List Handle) → HasHands base (first ∷ []) desk.old → HasHands base [] desk.new }
+    ensures bag { (base : List NumberedHandle) → HasHands base (first ∷ []) desk.old → HasHands base [] desk.new }
     ensures held { desk.new.held + 1 ≡ desk.old.held }
     ensures own { (told : List ℕ) × WalksFrom desk.old (node_in desk.old first) told desk.new
         × ((last : F) × FoldsBack (λ p x q. F.step p x tt q) tell told last) }

@@ -1,7 +1,7 @@
 //! A node goes out of a scene tree.
 ghost use Rattle.std.specs.Prelude.{◌≡◌, ◌+◌, ◌<◌, List, [], ◌∷◌, IfErr, OnOk};
 ghost use Rattle.control_word.specs.Handles.{object_of};
-ghost use Rattle.control_word.specs.declared.model.handle.Handle.{Handle};
+ghost use Rattle.control_word.specs.declared.model.handle.NumberedHandle.{NumberedHandle};
 ghost use Rattle.control_word.specs.declared.model.handle.Kind.TheVariants.{Owner};
 ghost use Rattle.control_block.specs.Desks.{IsSameDesk, allowance_of, bag_of};
 ghost use Rattle.control_block.specs.Own.{IsSole};
@@ -73,7 +73,7 @@ fn leave<V: Drop, R: Wait>(
     requires empty { pile.old.endings.items ≡ [] }
     requires parent { IsWithin parent.block parent.place }
     requires node { IsWithin node.now.block node.now.place }
-    requires bag { (base : List Handle) × HasHands base (parent ∷ []) desk.old
+    requires bag { (base : List NumberedHandle) × HasHands base (parent ∷ []) desk.old
         × Lists node.now.block node.now.place base }
     requires room { desk.old.held + 4 < allowance_of desk.old }
     ensures carries { Carries domain.now desk.new pile.new }
@@ -81,8 +81,8 @@ fn leave<V: Drop, R: Wait>(
     ensures order { EndsInOrder desk.old pile.old.endings.items desk.new pile.new.endings.items }
     ensures none { pile.new.endings.items ≡ [] }
     ensures desk { IsSameDesk desk.old desk.new }
-    ensures bag { (base : List Handle) → HasHands base (parent ∷ []) desk.old → HasHands base [] desk.new }
-    ensures latest { (base : List Handle) → HasHands base (parent ∷ []) desk.old
+    ensures bag { (base : List NumberedHandle) → HasHands base (parent ∷ []) desk.old → HasHands base [] desk.new }
+    ensures latest { (base : List NumberedHandle) → HasHands base (parent ∷ []) desk.old
         → KeepsThese base desk.old desk.new }
     ensures held { desk.new.held + 1 ≡ desk.old.held }
     ensures own { LeavesParent desk.old (object_of (node_in desk.old parent))

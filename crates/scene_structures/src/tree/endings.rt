@@ -14,7 +14,8 @@ use control_block::domain::Domain;
 use shared_handle::{Pile, Round, Shared, drop_shared};
 use std::sync::Wait;
 
-/// All of the pile ends, and what the desk holds meanwhile stays on its object.
+/// All of the pile ends, and what the desk holds meanwhile stays on its object. Mostly nothing lies there.
+#[inline(always)]
 fn settle<V: Drop, R: Wait>(rt: &R, domain: &Domain<V>, desk: &mut Desk<V>, pile: &mut Pile<V>)
     requires carries { Carries domain.now desk.old pile.old }
     ensures carries { Carries domain.now desk.new pile.new }
@@ -28,17 +29,13 @@ fn settle<V: Drop, R: Wait>(rt: &R, domain: &Domain<V>, desk: &mut Desk<V>, pile
     ensures own { Does IsParting desk.old desk.new }
     ensures latest { KeepsHeld desk.old desk.new }
 {
-    for _ in rt.forever() {
-        match pile.round(domain, desk) {
-            Round::Settled => return,
-            Round::Cleared(_, _) => {}
-            Round::Ended(value) => drop(value),
-        }
+    if !pile.is_empty() {
+        pile.settle(rt, domain, desk);
     }
-    unreachable!()
 }
 
 /// An owner leaves. Where it was the last, its object ends, and all that ends by that.
+#[inline]
 pub(crate) fn let_go<V: Drop, R: Wait>(
     rt: &R,
     domain: &Domain<V>,

@@ -3,6 +3,7 @@ use Rattle.std.proofs.lemmas.Result.{IfErr-weaker}
 use Rattle.control_word.specs.declared.refusal.Refusal.{Refusal}
 use Rattle.control_word.specs.declared.refusal.Refusal.TheVariants.{Memory}
 use Rattle.handle_table.proofs.Manning.{for_memory, never_sole, not_opened, not_shape, opened, part_shape, part_sole}
+use Rattle.handle_table.proofs.Needing.{same_needs}
 use Rattle.handle_table.proofs.Regained.{never_parted, sole_again}
 use Rattle.handle_table.proofs.staff.run_workers_open.Goals as goal
 use Rattle.control_word.specs.declared.shape.Shape.{Shape}
@@ -11,6 +12,10 @@ use Rattle.handle_table.specs.Staffs.{HasShares, StaffsIn}
 
 refused : (P : Refusal → Type 0) {o : Option Refusal} (why : Refusal) → o ≡ Some why → IfSome o P → P why
 refused P {o} why is p = subst (λ (x : Option Refusal). IfSome x P) is p
+
+pub staff_in-desk-requires-clause-needs : goal.staff_in-desk-requires-clause-needs
+staff_in-desk-requires-clause-needs g c κs within =
+    same_needs g.W.Work.needs c.args.shape c.in-Ok.opened.domain.shape c.args.share c.args.workers.now.items c.in-Ok.ensures.of c.requires.needs
 
 pub returns-in-None-clause-sole : goal.returns-in-None-clause-sole
 returns-in-None-clause-sole g c = λ keeps.

@@ -1,5 +1,5 @@
 use Rattle.std.proofs.Common.{◌∙◌, List, ap, refl, subst, sym}
-use Rattle.control_word.specs.declared.model.handle.Handle.{Handle}
+use Rattle.control_word.specs.declared.model.handle.NumberedHandle.{NumberedHandle}
 use Rattle.control_word.specs.declared.model.handle.Kind.{Kind}
 use Rattle.control_block.specs.CellCalls.{HoldsHandle, IsOpenAt, cell_of_site, with_handle}
 use Rattle.control_block.specs.Desks.{bag_of}
@@ -42,7 +42,7 @@ pub returns-clause-bag : goal.returns-clause-bag
 returns-clause-bag g c =
     let x = c.into_content-new in let y = c.exchange-old in let k = x.result.kind in let l = bag_of c.args.desk.now in let h = c.args.handle in
     y.ensures.bag
-    ∙ ap (λ (m : List Handle). with_handle k y.result.block y.result.place m)
+    ∙ ap (λ (m : List NumberedHandle). with_handle k y.result.block y.result.place m)
     (sym (without_named h k x.result.block x.result.place l x.ensures.0 x.ensures.1 x.ensures.2))
     ∙ sym (with_named c.held_of.result k y.result.block y.result.place (without_held h l)
     (c.held_of.ensures.0 ∙ y.ensures.kind) c.held_of.ensures.1 c.held_of.ensures.2)

@@ -1,5 +1,6 @@
-use Rattle.std.proofs.Common.{◌∙◌, ap, arith, length, refl}
+use Rattle.std.proofs.Common.{◌∙◌, Some, ap, arith, length, refl}
 use Rattle.std.proofs.lemmas.List.{nil_from_length}
+use Rattle.std.proofs.lemmas.List.Elements.{All-pop}
 use Rattle.handle_table.specs.Jobs.{IsStarted}
 use Rattle.handle_table.proofs.Starting.{all_started, begun, started_more}
 use Rattle.handle_table.proofs.staff.jobs.start_all.Goals as goal
@@ -10,7 +11,12 @@ loop-job-init g c =
       begun (IsStarted {R = g.row.R.Denot} g.J.Job.does c.args.signal.now.id) c.args.jobs.now.items c.args.started.now.items room.0,
       omega (arith, none, room.1),
       refl,
+      c.requires.needs,
     )
+
+pub start-requires-clause-needs : goal.start-requires-clause-needs
+start-requires-clause-needs g c κs within =
+    (All-pop g.J.Job.needs c.loop-job.jobs.items c.pop.new.self.items (Some c.in-Some.job) c.in-Some.ensures.items c.loop-job.invariant.3).1
 
 pub loop-job-preserved : goal.loop-job-preserved
 loop-job-preserved g c =
@@ -21,6 +27,7 @@ loop-job-preserved g c =
       (let x = a.cases in let z = i.1 in let k = js.ok.0 in let m = c.pop.new.self.ok.0 in let o = p.capacity in let q = p.len in
           let r = ss.ok.0 in let s = c.push_reserved.new.self.ok.0 in omega arith),
       a.capacity ∙ i.2,
+      (All-pop g.J.Job.needs js.items c.pop.new.self.items (Some c.in-Some.job) a.items i.3).0,
     )
 
 pub returns-clause-jobs : goal.returns-clause-jobs

@@ -1,8 +1,14 @@
 use Rattle.std.proofs.Common.{◌∙◌, ap, arith, map, reverse, sym}
 use Rattle.handle_table.specs.Jobs.{Keeps}
 use Rattle.handle_table.proofs.Manning.{as_many, each_worked}
+use Rattle.handle_table.proofs.Needing.{posts_meet}
 use Rattle.handle_table.proofs.Starting.{all_ran, none_ran}
 use Rattle.handle_table.proofs.staff.posts.worked.Goals as goal
+
+pub run_all-all-requires-clause-needs : goal.run_all-all-requires-clause-needs
+run_all-all-requires-clause-needs g c κs within =
+    posts_meet (λ p. p.worker) (λ p. p.table) g.W.Work.needs c.args.workers.now.items c.args.tables.now.items c.man.new.posts.items
+    c.man.ensures.tables c.man.ensures.workers c.requires.needs
 
 pub dismiss-requires-clause-tables : goal.dismiss-requires-clause-tables
 dismiss-requires-clause-tables g c =

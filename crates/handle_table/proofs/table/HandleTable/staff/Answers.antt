@@ -1,10 +1,17 @@
 use Rattle.std.proofs.Common.{IfSome, Option, arith, length, subst}
 use Rattle.control_word.specs.declared.refusal.Refusal.{Refusal}
 use Rattle.handle_table.proofs.Manning.{staffed}
+use Rattle.handle_table.proofs.Needing.{lent_meet}
 use Rattle.handle_table.proofs.Sharing.{only_memory}
 use Rattle.handle_table.specs.Parting.{WhyFewer}
 use Rattle.handle_table.specs.Programs.{IsManned}
 use Rattle.handle_table.proofs.table.HandleTable.staff.Goals as goal
+
+pub worked-requires-clause-needs : goal.worked-requires-clause-needs
+worked-requires-clause-needs g c κs within =
+    let t = c.team-crew.ensures in
+    lent_meet g.W.Work.needs c.args.self.now.desk c.team-crew.new.self.desk c.args.share c.team-crew.result.tables.items c.args.workers.now.items
+    t.parts t.new c.requires.needs
 
 pub returns-clause-staffs : goal.returns-clause-staffs
 returns-clause-staffs g c =

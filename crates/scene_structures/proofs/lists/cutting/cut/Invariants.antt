@@ -1,5 +1,5 @@
 use Rattle.std.proofs.Common.{◌≡◌, [], List}
-use Rattle.control_word.specs.declared.model.handle.Handle.{Handle}
+use Rattle.control_word.specs.declared.model.handle.NumberedHandle.{NumberedHandle}
 use Rattle.control_block.specs.Desks.{IsSameDesk}
 use Rattle.control_block.specs.Own.{Does}
 use Rattle.shared_handle.specs.Piles.{Carries}
@@ -17,7 +17,7 @@ invariant-loop g l = record {
   none : l.pile.endings.items ≡ [];
   held : l.desk.held ≡ l.initial.desk.held;
   same : IsSameDesk l.initial.desk l.desk;
-  bag : (base : List Handle) → HasHands base [] l.initial.desk → HasHands base [] l.desk;
-  latest : (base : List Handle) → HasHands base [] l.initial.desk → KeepsThese base l.initial.desk l.desk;
+  bag : (base : List NumberedHandle) → HasHands base [] l.initial.desk → HasHands base [] l.desk;
+  latest : (base : List NumberedHandle) → HasHands base [] l.initial.desk → KeepsThese base l.initial.desk l.desk;
   tried : Does (PutsOnly in_no_cell) l.initial.desk l.desk;
 }

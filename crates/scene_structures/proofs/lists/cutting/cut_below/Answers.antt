@@ -1,6 +1,6 @@
 use Rattle.std.proofs.Common.{◌≡◌, ℕ, ◌+◌, true, false, List, [], ◌∷◌, refl, ap, subst, arith}
 use Rattle.control_word.specs.Handles.{object_of}
-use Rattle.control_word.specs.declared.model.handle.Handle.{Handle}
+use Rattle.control_word.specs.declared.model.handle.NumberedHandle.{NumberedHandle}
 use Rattle.shared_handle.proofs.Piles.{same_both, same_desk}
 use Rattle.atomic_cells.specs.Sites.{shared_cell}
 use Rattle.scene_structures.specs.Detaches.{HeldSought, IsEnd, IsSought, Meets}
@@ -107,7 +107,7 @@ loop-preserved g c =
     let node = c.args.node.now in let b = c.requires.bag in let cell = shared_cell l c.in-Ok.next.site in
     let number = ap object_of (these_node d l b.0 node (i.latest b.0 b.1) b.2) in
     let found = subst (λ (s : Sought). IsSought l cell (object_of (node_in l node)) s t) is m.ensures.own in
-    let has_e : (base : List Handle) → HasHands base (c.args.first ∷ []) d → HasHands base (after ∷ []) e = λ base has'.
+    let has_e : (base : List NumberedHandle) → HasHands base (c.args.first ∷ []) d → HasHands base (after ∷ []) e = λ base has'.
     let has = i.bag base has' in
     let left = sought_left l t base before m.result has (m.ensures.bag (stacked (before ∷ []) base) (hands_below l base before has)) m.ensures.held in
     hands_second t e base after before [] (subst (λ (s : Sought). Left base before (beyond s) t) is left) c.let_go.ensures.bag c.let_go.ensures.held in

@@ -1,7 +1,7 @@
 use Rattle.std.proofs.Common.{◌≡◌, ℕ, [], ◌∷◌, List}
 use Rattle.control_word.specs.Handles.{object_of}
 use Rattle.control_word.specs.declared.model.event.Cell.{Cell}
-use Rattle.control_word.specs.declared.model.handle.Handle.{Handle}
+use Rattle.control_word.specs.declared.model.handle.NumberedHandle.{NumberedHandle}
 use Rattle.control_block.specs.Desks.{DeskNow, IsSameDesk}
 use Rattle.shared_handle.specs.Endings.{IsWithin}
 use Rattle.shared_handle.specs.Piles.{Carries}
@@ -20,8 +20,8 @@ invariant-loop g l = record {
   held : l.desk.held ≡ l.initial.desk.held;
   same : IsSameDesk l.initial.desk l.desk;
   node : IsWithin l.before.block l.before.place;
-  bag : (base : List Handle) → HasHands base (l.initial.before ∷ []) l.initial.desk → HasHands base (l.before ∷ []) l.desk;
-  latest : (base : List Handle) → HasHands base (l.initial.before ∷ []) l.initial.desk → KeepsThese base l.initial.desk l.desk;
+  bag : (base : List NumberedHandle) → HasHands base (l.initial.before ∷ []) l.initial.desk → HasHands base (l.before ∷ []) l.desk;
+  latest : (base : List NumberedHandle) → HasHands base (l.initial.before ∷ []) l.initial.desk → KeepsThese base l.initial.desk l.desk;
   own : (d : DeskNow g.row.V.Denot) (c : Cell) (bs : List ℕ)
       → ReachesNode d c (object_of (node_in l.initial.desk l.node)) bs l.initial.before l.initial.desk
       → (passed : List ℕ) × ReachesNode d c (object_of (node_in l.initial.desk l.node)) passed l.before l.desk;

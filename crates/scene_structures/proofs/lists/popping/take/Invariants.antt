@@ -1,6 +1,6 @@
 use Rattle.std.proofs.Common.{◌≡◌, [], ◌∷◌, List}
 use Rattle.control_word.specs.declared.model.event.Cell.TheVariants.{Free}
-use Rattle.control_word.specs.declared.model.handle.Handle.{Handle}
+use Rattle.control_word.specs.declared.model.handle.NumberedHandle.{NumberedHandle}
 use Rattle.control_block.specs.Desks.{DeskNow, IsSameDesk}
 use Rattle.scene_structures.specs.Hands.{HasHands}
 use Rattle.shared_handle.specs.Piles.{Carries}
@@ -17,6 +17,6 @@ invariant-loop g l = record {
   none : l.pile.endings.items ≡ [];
   held : l.desk.held ≡ l.initial.desk.held;
   same : IsSameDesk l.initial.desk l.desk;
-  bag : (base : List Handle) → HasHands base (l.initial.top ∷ []) l.initial.desk → HasHands base (l.top ∷ []) l.desk;
+  bag : (base : List NumberedHandle) → HasHands base (l.initial.top ∷ []) l.initial.desk → HasHands base (l.top ∷ []) l.desk;
   own : (d : DeskNow g.row.V.Denot) → Looks d (Free l.cell) l.initial.top l.initial.desk → Looks d (Free l.cell) l.top l.desk;
 }

@@ -2,7 +2,7 @@ use Rattle.std.proofs.Common.{◌≡◌, [], ◌∷◌, true, false, subst, ap, 
 use Rattle.control_word.specs.declared.model.event.Cell.{Cell}
 use Rattle.control_word.specs.declared.model.event.Cell.TheVariants.{Free}
 use Rattle.control_word.specs.declared.model.event.Event.TheVariants.{Compare, Load}
-use Rattle.control_word.specs.declared.model.handle.Handle.{Handle}
+use Rattle.control_word.specs.declared.model.handle.NumberedHandle.{NumberedHandle}
 use Rattle.control_word.specs.declared.model.handle.Kind.TheVariants.{Owner}
 use Rattle.control_block.proofs.Latest.{calls_keep_latest}
 use Rattle.control_block.specs.CellCalls.{handle_in, without_handle}
@@ -81,7 +81,7 @@ returns-in-Ok-Swapped-clause-own g c z l =
     let loads = subst (λ (y : Cell). AddsEvent d (Load y (node_in m b)) m) (ap (shared_cell d) k.3) c.in-Ok-load.ensures.event in
     let at = subst (λ (y : Cell). AddsEvent m (Compare y (node_in m top) (node_in m b) old true true) u) (ap (shared_cell m) c.free-at.ensures)
     (swapped_event m u b x.field-0 _ _ _ x.old x.field-0-is x.ensures.compared) in
-    let swaps = subst (λ (y : Handle). AddsEvent m (Compare (Free c.args.cell) y (node_in m b) old true true) u) here at in
+    let swaps = subst (λ (y : NumberedHandle). AddsEvent m (Compare (Free c.args.cell) y (node_in m b) old true true) u) here at in
     let two = same_node m u top (calls_keep_latest m _ u at) (second_lists m base b top [] h) in
     let three = same_left u f.new.desk top f.ensures.latest (first_lists f.new.desk base top [] j) in
     record {

@@ -1,6 +1,6 @@
 use Rattle.std.proofs.Common.{◌≡◌, ℕ, ◌+◌, ◌%◌, ◌^◌, [], ◌∷◌, List, Some}
 use Rattle.control_word.specs.declared.model.event.Cell.{Cell}
-use Rattle.control_word.specs.declared.model.handle.Handle.{Handle}
+use Rattle.control_word.specs.declared.model.handle.NumberedHandle.{NumberedHandle}
 use Rattle.control_block.specs.Desks.{DeskNow, IsSameDesk}
 use Rattle.shared_handle.specs.Endings.{IsWithin}
 use Rattle.shared_handle.specs.Piles.{Carries}
@@ -19,7 +19,7 @@ invariant-loop g l = record {
   held : l.desk.held ≡ l.initial.desk.held;
   same : IsSameDesk l.initial.desk l.desk;
   node : IsWithin l.node.block l.node.place;
-  bag : (base : List Handle) → HasHands base (l.initial.node ∷ []) l.initial.desk → HasHands base (l.node ∷ []) l.desk;
+  bag : (base : List NumberedHandle) → HasHands base (l.initial.node ∷ []) l.initial.desk → HasHands base (l.node ∷ []) l.desk;
   own : (d : DeskNow g.row.V.Denot) (c : Cell) (os : List ℕ) (a : ℕ) → Prunes d c os a (Some l.initial.node) l.initial.desk
       → (n : ℕ) × (l.count ≡ n % 2 ^ 32) × ((kept : List ℕ) × Prunes d c kept (a + n) (Some l.node) l.desk);
 }

@@ -1,7 +1,7 @@
 use Rattle.std.proofs.Common.{refl, sym, ap, subst, ◌∙◌}
 use Rattle.control_word.specs.Handles.{object_of}
 use Rattle.control_word.specs.declared.model.event.Cell.{Cell}
-use Rattle.control_word.specs.declared.model.handle.Handle.{Handle}
+use Rattle.control_word.specs.declared.model.handle.NumberedHandle.{NumberedHandle}
 use Rattle.control_block.specs.Own.{Does}
 use Rattle.control_block.specs.declared.handles.Shared.{Shared}
 use Rattle.shared_handle.specs.Endings.{IsWithin}
@@ -49,7 +49,7 @@ loop-preserved g c =
       same = same_both d l f i.same e.desk;
       bag = λ base has. e.bag base (i.bag base has);
       own = does_both (PutsOnly (NextOf (object_of (node_in d first.node)))) d l f i.own
-          (subst (λ (h : Handle). Does (PutsOnly (NextOf (object_of h))) l f) here e.own);
+          (subst (λ (h : NumberedHandle). Does (PutsOnly (NextOf (object_of h))) l f) here e.own);
     }
 
 pub try_push-requires-clause-node : goal.try_push-requires-clause-node
@@ -69,7 +69,7 @@ returns-in-None-try_push-clause-own g c =
     rises_later d l f (shared_cell d c.args.at.now.site) (node_in d c.args.first.node) i.own
     (subst (λ (k : Cell). Rises l k (node_in d c.args.first.node) f)
     (cell_these d l d.shape c.requires.bag.0 c.args.at.now.site (i.latest c.requires.bag.0 c.requires.bag.1) c.requires.bag.2)
-    (subst (λ (h : Handle). Rises l (shared_cell l c.args.at.now.site) h f) (ap (node_in l) i.node.0 ∙ i.node.1) c.in-None-try_push.ensures.own))
+    (subst (λ (h : NumberedHandle). Rises l (shared_cell l c.args.at.now.site) h f) (ap (node_in l) i.node.0 ∙ i.node.1) c.in-None-try_push.ensures.own))
 
 pub returns-in-None-try_push-clause-latest : goal.returns-in-None-try_push-clause-latest
 returns-in-None-try_push-clause-latest g c base has =

@@ -1,6 +1,6 @@
 use Rattle.std.proofs.Common.{◌≡◌, [], ◌∷◌, List}
 use Rattle.control_word.specs.Handles.{object_of}
-use Rattle.control_word.specs.declared.model.handle.Handle.{Handle}
+use Rattle.control_word.specs.declared.model.handle.NumberedHandle.{NumberedHandle}
 use Rattle.control_block.specs.Desks.{IsSameDesk}
 use Rattle.control_block.specs.Own.{Does}
 use Rattle.scene_structures.specs.Hands.{HasHands, KeepsThese, SameNode, node_in}
@@ -18,10 +18,10 @@ invariant-loop g l = record {
   order : EndsInOrder l.initial.desk l.initial.pile.endings.items l.desk l.pile.endings.items;
   node : (l.attempt.node ≡ l.initial.attempt.node) × SameNode l.initial.desk l.initial.attempt.node l.desk;
   held : l.desk.held ≡ l.initial.desk.held;
-  latest : (base : List Handle) → HasHands base (l.initial.attempt.top ∷ l.initial.attempt.node ∷ []) l.initial.desk
+  latest : (base : List NumberedHandle) → HasHands base (l.initial.attempt.top ∷ l.initial.attempt.node ∷ []) l.initial.desk
       → KeepsThese base l.initial.desk l.desk;
   same : IsSameDesk l.initial.desk l.desk;
-  bag : (base : List Handle) → HasHands base (l.initial.attempt.top ∷ l.initial.attempt.node ∷ []) l.initial.desk
+  bag : (base : List NumberedHandle) → HasHands base (l.initial.attempt.top ∷ l.initial.attempt.node ∷ []) l.initial.desk
       → HasHands base (l.attempt.top ∷ l.attempt.node ∷ []) l.desk;
   own : Does (PutsOnly (NextOf (object_of (node_in l.initial.desk l.initial.attempt.node)))) l.initial.desk l.desk;
 }

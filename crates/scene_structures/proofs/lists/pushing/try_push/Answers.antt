@@ -2,7 +2,7 @@ use Rattle.std.proofs.Common.{[], ◌∷◌, true, subst, sym, ◌∙◌}
 use Rattle.control_word.specs.Handles.{object_of}
 use Rattle.control_word.specs.declared.model.event.Cell.{Cell}
 use Rattle.control_word.specs.declared.model.event.Event.TheVariants.{Compare}
-use Rattle.control_word.specs.declared.model.handle.Handle.{Handle}
+use Rattle.control_word.specs.declared.model.handle.NumberedHandle.{NumberedHandle}
 use Rattle.control_word.specs.declared.model.handle.Kind.TheVariants.{Owner}
 use Rattle.control_block.specs.CellCalls.{handle_in}
 use Rattle.control_block.specs.Desks.{AddsEvent}
@@ -104,7 +104,7 @@ returns-in-Ok-Swapped-clause-own g c =
     let top = same_left s t a.top c.store_next.ensures.latest (first_lists t base a.top (a.node ∷ [])
     (hands_first s t base copy (a.top ∷ a.node ∷ []) h c.store_next.ensures.bag c.store_next.ensures.held)) in
     let below = node_in s copy in
-    let fill = subst (λ (y : Handle). Fills s (object_of y) below t) one c.store_next.ensures.own in
+    let fill = subst (λ (y : NumberedHandle). Fills s (object_of y) below t) one c.store_next.ensures.own in
     let old = handle_in u Owner x.old.block x.old.place in
     let z = d.shape in let site = c.args.at.now.site in let open' = c.requires.bag.2 in
     let h' = hands_first s t base copy (a.top ∷ a.node ∷ []) h c.store_next.ensures.bag c.store_next.ensures.held in
@@ -112,7 +112,7 @@ returns-in-Ok-Swapped-clause-own g c =
     (these_after s t base (a.top ∷ a.node ∷ []) c.store_next.ensures.latest h')) open' in
     let at = subst (λ (k : Cell). AddsEvent t (Compare k (node_in t a.top) (node_in t a.node) old true true) u) cell
     (swapped_event t u a.node x.field-0 _ _ _ x.old x.field-0-is x.ensures.compared) in
-    let here = subst (λ (n : Handle). AddsEvent t (Compare (shared_cell d site) (node_in t a.top) n old true true) u) (two ∙ one) at in
+    let here = subst (λ (n : NumberedHandle). AddsEvent t (Compare (shared_cell d site) (node_in t a.top) n old true true) u) (two ∙ one) at in
     rises d s t u l.new.desk (shared_cell d site) node below (node_in t a.top) old true shared.0 fill here
     (top ∙ (λ i. handle_in s Owner (sym e.handle.0 i) (sym e.handle.1 i)))
     (does_both IsParting u c.let_go.new.desk l.new.desk c.let_go.ensures.own l.ensures.own)
@@ -155,7 +155,7 @@ returns-in-Ok-Differs-clause-own g c =
     let x = c.in-Ok-Differs in let u = c.compare_exchange_weak.new.desk in let l = c.let_go-in-Ok-Differs in let copy = c.in-Ok.copy in
     let shared = shares_does (NextOf (object_of (node_in d a.node))) d s a.top.block a.top.place a.top.place e.event in
     let one = same_node d s a.node shared.1 (second_lists d base a.top a.node [] c.requires.bag.1) in
-    let fill = subst (λ (y : Handle). Fills s (object_of y) (node_in s copy) t) one c.store_next.ensures.own in
+    let fill = subst (λ (y : NumberedHandle). Fills s (object_of y) (node_in s copy) t) one c.store_next.ensures.own in
     tries d s t u l.new.desk _ (object_of (node_in d a.node)) _ _ _ _ true shared.0 fill
     (differs_event t u a.node x.field-0 _ _ _ x.held x.desired x.field-0-is x.ensures.compared) l.ensures.own
 

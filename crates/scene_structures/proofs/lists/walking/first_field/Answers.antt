@@ -1,4 +1,4 @@
-use Rattle.std.proofs.Common.{◌≡◌, Option, Some, refl, inl, inr, sym, subst, ◌∙◌}
+use Rattle.std.proofs.Common.{◌≡◌, Option, Some, refl, inl, inr, sym, subst, ◌∙◌, rules}
 use Rattle.control_word.specs.Events.{place_at}
 use Rattle.control_word.specs.declared.model.handle.Kind.TheVariants.{Owner}
 use Rattle.control_word.specs.declared.place.Block.{Block}
@@ -8,19 +8,21 @@ use Rattle.control_block.specs.Desks.{bag_of}
 use Rattle.shared_handle.specs.Calls.{IsOfThis, SharesOwner}
 use Rattle.control_block.specs.CellCalls.{HoldsHandle}
 use Rattle.scene_structures.specs.Walks.{TellsField}
-use Rattle.scene_structures.proofs.Walks.{tells, told_latest}
+use Rattle.scene_structures.proofs.Walks.{looked_call, tells, told_latest}
 use Rattle.scene_structures.proofs.Others.{others_both, others_call, others_none}
 use Rattle.std.proofs.Common.{ap, arith}
 use Rattle.scene_structures.proofs.Kept.{same_call, same_then, carries_call, granted}
 use Rattle.control_block.specs.CellCalls.{without_handle}
 use Rattle.scene_structures.proofs.Rooms.{holds_still}
 use Rattle.shared_handle.proofs.Callers.{first_out}
-use Rattle.scene_structures.proofs.Orders.{order_both, order_none, order_read, order_shares}
+use Rattle.scene_structures.proofs.Orders.{order_both, order_event, order_none, order_read, order_shares}
+use Rattle.scene_structures.proofs.Latest.{keeps_same}
+use Rattle.control_block.proofs.Latest.{calls_keep_latest}
 use Rattle.scene_structures.proofs.lists.walking.first_field.Goals as goal
 
 pub returns-clause-latest : goal.returns-clause-latest
 returns-clause-latest g c =
-    let d = c.args.desk.now in let m = c.alias.new.desk in let n = c.read.new.desk in let e = c.let_go.new.desk in
+    let d = c.args.desk.now in let m = c.alias.new.desk in let n = c.read-2.new.desk in let e = c.let_go.new.desk in
     let b = c.in-Some.block in let p = c.args.owner.now.place in let r = c.in-Ok-read.ensures in let a = c.in-Ok.ensures in let first = c.in-Ok.first in
     let is : c.args.owner.now.block ≡ Some b = sym c.in-Some.ensures in
     let same = a.given (inr (inl (subst (λ (k : Option Block). IsOfThis k (place_at b.0)) (sym is) refl))) in
@@ -32,7 +34,7 @@ returns-clause-latest g c =
 
 pub returns-clause-own : goal.returns-clause-own
 returns-clause-own g c =
-    let d = c.args.desk.now in let m = c.alias.new.desk in let n = c.read.new.desk in let e = c.let_go.new.desk in
+    let d = c.args.desk.now in let m = c.alias.new.desk in let n = c.read-2.new.desk in let e = c.let_go.new.desk in
     let b = c.in-Some.block in let p = c.args.owner.now.place in let r = c.in-Ok-read.ensures.read in let a = c.in-Ok.ensures in
     let is : c.args.owner.now.block ≡ Some b = sym c.in-Some.ensures in
     let same = a.given (inr (inl (subst (λ (k : Option Block). IsOfThis k (place_at b.0)) (sym is) refl))) in
@@ -56,7 +58,7 @@ returns-clause-others g c =
 pub returns-clause-order : goal.returns-clause-order
 returns-clause-order g c =
     order_both (order_shares c.args.desk.now c.alias.new.desk c.args.owner.now.block c.args.owner.now.place _ _ c.in-Ok.ensures.event)
-    (order_both (order_read c.alias.new.desk c.read.new.desk _ _ c.read.result _ c.read.ensures.read) c.let_go.ensures.order)
+    (order_both (order_read c.alias.new.desk c.read-2.new.desk _ _ c.read-2.result _ c.read-2.ensures.read) c.let_go.ensures.order)
 
 pub let_go-requires-clause-carries : goal.let_go-requires-clause-carries
 let_go-requires-clause-carries g c =
@@ -65,7 +67,7 @@ let_go-requires-clause-carries g c =
 pub let_go-requires-clause-holds : goal.let_go-requires-clause-holds
 let_go-requires-clause-holds g c =
     let first = c.in-Ok.first in let r = c.in-Ok-read.ensures in
-    holds_still Owner c.alias.new.desk c.read.new.desk first.block first.place c.in-Ok.ensures.holds r.bag r.held
+    holds_still Owner c.alias.new.desk c.read-2.new.desk first.block first.place c.in-Ok.ensures.holds r.bag r.held
 
 pub returns-clause-carries : goal.returns-clause-carries
 returns-clause-carries g c = c.let_go.ensures.carries
@@ -91,3 +93,27 @@ returns-clause-bag g c =
 pub unreachable-requires : goal.unreachable-requires
 unreachable-requires g c =
     let room = c.requires.room in granted c.args.desk.now c.alias.result c.alias.ensures.limit (omega arith) c.in_default-alias.not-Ok
+
+pub read-requires-clause-holds : goal.read-requires-clause-holds
+read-requires-clause-holds g c =
+    let d = c.args.desk.now in let b = c.in-Some.block in let p = c.args.owner.now.place in
+    let is : c.args.owner.now.block ≡ Some b = sym c.in-Some.ensures in
+    let holds = subst (λ (k : Option Block). HoldsHandle d Owner k p) is c.requires.holds in
+    subst (λ (q : Option Place). HoldsHandle d Owner (Some b) q) (c.is_at.ensures (search rules)) holds
+
+pub returns-then-is_at-clause-own : goal.returns-then-is_at-clause-own
+returns-then-is_at-clause-own g c =
+    let d = c.args.desk.now in let e = c.read.new.desk in
+    let is : c.args.owner.now.block ≡ Some c.in-Some.block = sym c.in-Some.ensures in
+    subst (λ (k : Option Block). TellsField d k (Some c.read.result) e) (sym is) (looked_call d e _ c.read.ensures.event tt)
+
+pub returns-then-is_at-clause-others : goal.returns-then-is_at-clause-others
+returns-then-is_at-clause-others g c = others_call _ c.read.ensures.outcome.keeps
+
+pub returns-then-is_at-clause-order : goal.returns-then-is_at-clause-order
+returns-then-is_at-clause-order g c = order_event c.args.desk.now c.read.new.desk _ _ c.read.ensures.event tt
+
+pub returns-then-is_at-clause-latest : goal.returns-then-is_at-clause-latest
+returns-then-is_at-clause-latest g c =
+    let d = c.args.desk.now in let e = c.read.new.desk in
+    keeps_same d e c.read.ensures.outcome.bag (calls_keep_latest d _ e c.read.ensures.event)

@@ -1,6 +1,6 @@
 use Rattle.std.proofs.Common.{◌≡◌, [], ◌∷◌, List}
 use Rattle.control_word.specs.declared.model.event.Event.{Event}
-use Rattle.control_word.specs.declared.model.handle.Handle.{Handle}
+use Rattle.control_word.specs.declared.model.handle.NumberedHandle.{NumberedHandle}
 use Rattle.control_block.specs.Desks.{IsSameDesk}
 use Rattle.shared_handle.specs.Piles.{Carries, FoldsBack}
 use Rattle.scene_structures.specs.Others.{KeepsOthers}
@@ -17,7 +17,7 @@ invariant-loop g l = record {
   none : l.pile.endings.items ≡ [];
   held : l.desk.held ≡ l.initial.desk.held;
   same : IsSameDesk l.initial.desk l.desk;
-  bag : (base : List Handle) → HasHands base (l.initial.node ∷ []) l.initial.desk → HasHands base (l.node ∷ []) l.desk;
+  bag : (base : List NumberedHandle) → HasHands base (l.initial.node ∷ []) l.initial.desk → HasHands base (l.node ∷ []) l.desk;
   walked : (stops : List SeenNode) × (looks : List (Event g.row.V.Denot))
       × Walks (node_in l.initial.desk l.initial.node) stops (node_in l.desk l.node) looks × HasLooked l.initial.desk looks l.desk
       × FoldsBack (λ p x q. goal.F-step g p x tt q) l.initial.tell (told_of stops) l.tell;
